@@ -1,0 +1,4 @@
+pub mod PartLaws
+pub mod FieldLaws
+pub mod BlockLaws
+pub mod TableLaws

@@ -1,0 +1,4 @@
+pub mod Bytes
+pub mod Texts
+pub mod Blocks
+pub mod Tables
