@@ -1,0 +1,11 @@
+pub mod Examples
+pub mod TestLaws
+pub mod PlaceLaws
+pub mod SelectionLaws
+pub mod FixedLaws
+pub mod RefusalExamples
+pub mod EditLaws
+pub mod WithinLaws
+pub mod CountLaws
+pub mod TextExamples
+pub mod ValueFrames
