@@ -18,3 +18,14 @@ pub mod Text
 pub mod Script
 pub mod Sound
 pub mod Codes
+pub mod Superblock
+pub mod Messages
+pub mod Heap
+pub mod Rows
+pub mod Nodes
+pub mod Symbols
+pub mod Links
+pub mod Chunks
+pub mod Cells
+pub mod Reads
+pub mod Empty
