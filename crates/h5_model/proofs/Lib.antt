@@ -10,3 +10,6 @@ pub mod CountLaws
 pub mod TextExamples
 pub mod ValueFrames
 pub mod EmptyReads
+pub mod RowLaws
+pub mod OneTree
+pub mod OneReading
