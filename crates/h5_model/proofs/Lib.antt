@@ -13,3 +13,4 @@ pub mod EmptyReads
 pub mod RowLaws
 pub mod OneTree
 pub mod OneReading
+pub mod Frames
