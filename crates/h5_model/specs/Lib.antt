@@ -10,6 +10,8 @@ pub mod Tree
 pub mod AttributeBody
 pub mod Paths
 pub mod Edits
+pub mod EditFaults
+pub mod ViewFaults
 pub mod Refusal
 pub mod Reading
 pub mod Views

@@ -10,13 +10,13 @@ use Rattle.h5_model.specs.Places.{cells, extent_cells}
 use Rattle.h5_model.specs.Selection.{Slab, axes_of, has_rank, has_no_stride, overlaps, is_within, selected_cells}
 use Rattle.h5_model.specs.Tree.{Tree, Soft, Dataset, Storage, Chunked, Object, hard_links}
 use Rattle.h5_model.specs.Paths.{names_of, Located, Here, Missing, NoParent, NoGroup, located, object_at, dataset_at, links_at}
-use Rattle.h5_model.specs.declared.AttrSpec.{AttrSpec}
-use Rattle.h5_model.specs.declared.Store.{Store}
-use Rattle.h5_model.specs.declared.Store.TheVariants as store
-use Rattle.h5_model.specs.declared.Edit.{Edit}
-use Rattle.h5_model.specs.declared.Edit.TheVariants.{CreateGroup, CreateDataset, HardLink, SoftLink, Unlink, SetAttr, RemoveAttr, Write, Resize}
-use Rattle.h5_model.specs.declared.EditFault.{EditFault}
-use Rattle.h5_model.specs.declared.EditFault.TheVariants as fault
+use Rattle.h5_model.specs.declared.attribute.AttrSpec.{AttrSpec}
+use Rattle.h5_model.specs.declared.dataset.Store.{Store}
+use Rattle.h5_model.specs.declared.dataset.Store.TheVariants as store
+use Rattle.h5_model.specs.declared.edits.Edit.{Edit}
+use Rattle.h5_model.specs.declared.edits.Edit.TheVariants.{CreateGroup, CreateDataset, HardLink, SoftLink, Unlink, SetAttr, RemoveAttr, Write, Resize}
+use Rattle.h5_model.specs.declared.edit_fault.EditFault.{EditFault}
+use Rattle.h5_model.specs.declared.edit_fault.EditFault.TheVariants as fault
 
 -- ---- paths
 
