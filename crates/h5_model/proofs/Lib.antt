@@ -9,3 +9,4 @@ pub mod WithinLaws
 pub mod CountLaws
 pub mod TextExamples
 pub mod ValueFrames
+pub mod PathLaws

@@ -30,7 +30,7 @@ impl<T> Items<T> {
     pub fn as_slice(&self) -> &[T]
         ensures { result.now ≡ self.now }
     {
-        self.items.as_slice()
+        &self.items
     }
 
     /// The items as a vector.
