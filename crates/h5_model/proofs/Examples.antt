@@ -3,7 +3,7 @@ use Rattle.std.proofs.Common.{◌≡◌, ℕ, List, [], ◌∷◌, refl, Bool, t
 use Rattle.h5_model.specs.Fixed.{Fixed, value_at, value_of, raw_at, bytes_of, fits}
 use Rattle.h5_model.specs.Places.{place_of}
 use Rattle.h5_model.specs.Selection.{Slab, selection_of, selected_cells, is_within, is_one_run, is_selected}
-use Rattle.h5_model.specs.Places.{corner_of, inner_of}
+use Rattle.h5_model.specs.Grid.{corner_of, inner_of}
 use Rattle.h5_model.specs.Views.{met_boxes}
 use Rattle.h5_model.specs.Places.{is_inside}
 use Rattle.h5_model.specs.Extent.{extent_of}

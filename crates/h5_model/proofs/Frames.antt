@@ -22,7 +22,8 @@ use Rattle.h5_model.specs.Symbols.{Target, IsSymbolNode, symbol_block, symbol_by
 use Rattle.h5_model.specs.Links.{HasLinks, AreLinks}
 use Rattle.h5_model.specs.Chunks.{Chunks, HasChunks, AreChunks}
 use Rattle.h5_model.specs.Fixed.{Fixed}
-use Rattle.h5_model.specs.Places.{cells, index_of, place_of, corner_of, inner_of}
+use Rattle.h5_model.specs.Places.{cells, index_of, place_of}
+use Rattle.h5_model.specs.Grid.{corner_of, inner_of}
 use Rattle.h5_model.specs.Layout.{Layout, InMessage, InBlock, InChunks}
 use Rattle.h5_model.specs.Cells.{cell_of, cells_of, value_in, value_in_chunk}
 use Rattle.h5_model.specs.Tree.{Object, Content, Group, Array, Dataset}

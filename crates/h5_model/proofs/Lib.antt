@@ -14,3 +14,4 @@ pub mod RowLaws
 pub mod OneTree
 pub mod OneReading
 pub mod Frames
+pub mod PathLaws

@@ -4,7 +4,8 @@ use Rattle.std.specs.FinMap.{get}
 use Rattle.std.specs.List.{range_with_len}
 use Rattle.h5_bytes.specs.Bytes.{part}
 use Rattle.h5_model.specs.Fixed.{Fixed, value_at}
-use Rattle.h5_model.specs.Places.{cells, place_of, index_of, corner_of, inner_of}
+use Rattle.h5_model.specs.Places.{cells, place_of, index_of}
+use Rattle.h5_model.specs.Grid.{corner_of, inner_of}
 use Rattle.h5_model.specs.Layout.{Layout, InMessage, InBlock, InChunks}
 use Rattle.h5_model.specs.Chunks.{Chunks}
 

@@ -13,6 +13,7 @@ pub record Extent : Type 0 where
 abbrev pub numbers_at : List ℕ → ℕ → ℕ → List ℕ
 numbers_at bytes at n = map (λ i. number_at bytes (at + 8 * i) 8) (range_with_len 0 n)
 
+-- a maximum in the message: all ones say unlimited
 abbrev pub maximum_from : ℕ → Option ℕ
 maximum_from n = if n == undefined then None else Some n
 
@@ -22,12 +23,13 @@ rank_in body = byte_at body 1
 abbrev pub has_maxima : List ℕ → Bool
 has_maxima body = byte_at body 2 == 1
 
--- size k, and maximum k, which is the size where no maxima stand
+-- size k
 abbrev pub size_in : List ℕ → ℕ → ℕ
 size_in body k = number_at body (8 + 8 * k) 8
 
-abbrev pub maximum_in : List ℕ → ℕ → ℕ
-maximum_in body k = if has_maxima body then number_at body (8 + 8 * rank_in body + 8 * k) 8 else size_in body k
+-- maximum k, which is size k where no maxima stand
+abbrev pub maximum_in : List ℕ → ℕ → Option ℕ
+maximum_in body k = if has_maxima body then maximum_from (number_at body (8 + 8 * rank_in body + 8 * k) 8) else Some (size_in body k)
 
 -- maximum k is not below size k
 unfoldable pub maximum_fits : List ℕ → ℕ → Bool
@@ -44,7 +46,7 @@ is_dataspace body =
 abbrev pub extent_in : List ℕ → Extent
 extent_in body = record {
   sizes = map (size_in body) (range_with_len 0 (rank_in body));
-  maxima = map (λ k. maximum_from (maximum_in body k)) (range_with_len 0 (rank_in body));
+  maxima = map (maximum_in body) (range_with_len 0 (rank_in body));
 }
 
 -- what a dataspace message says

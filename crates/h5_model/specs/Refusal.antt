@@ -1,22 +1,23 @@
--- When an edit is refused: the lowest rule that holds.
+-- When an edit is refused: the lowest rule that holds. Beside these rules stand the image's and memory's (ImageAnswers), and NotYet:
+-- until every edit is carried, an edit that isn't is answered NotYet, before any rule is looked at.
 use Rattle.std.specs.Prelude.{ℕ, ◌+◌, ◌*◌, ◌^◌, ◌==◌, ◌&&◌, ◌||◌, Bool, true, false, not, nat_lt, nat_le, if◌then◌else◌, Option, Some, None, List, [], ◌∷◌, length, is_some, is_none}
 use Rattle.std.specs.FinMap.{get, contains_key, len}
 use Rattle.std.specs.List.{list_any, list_all}
 use Rattle.std.specs.Option.{option_map_or, option_and_then}
 use Rattle.h5_bytes.specs.Bytes.{undefined}
-use Rattle.h5_bytes.specs.Texts.{pad8}
 use Rattle.h5_model.specs.Fixed.{fits}
 use Rattle.h5_model.specs.Places.{cells, extent_cells}
 use Rattle.h5_model.specs.Selection.{Slab, axes_of, has_rank, has_no_stride, overlaps, is_within, selected_cells}
-use Rattle.h5_model.specs.Tree.{Tree, Soft, Dataset, Storage, Chunked, Object, hard_links}
+use Rattle.h5_model.specs.Tree.{Tree, Soft, Dataset, Storage, Chunked, Object, hard_links, are_sizes}
+use Rattle.h5_model.specs.Sizes.{attribute_size}
 use Rattle.h5_model.specs.Paths.{names_of, Located, Here, Missing, NoParent, NoGroup, located, object_at, dataset_at, links_at}
-use Rattle.h5_model.specs.declared.AttrSpec.{AttrSpec}
-use Rattle.h5_model.specs.declared.Store.{Store}
-use Rattle.h5_model.specs.declared.Store.TheVariants as store
-use Rattle.h5_model.specs.declared.Edit.{Edit}
-use Rattle.h5_model.specs.declared.Edit.TheVariants.{CreateGroup, CreateDataset, HardLink, SoftLink, Unlink, SetAttr, RemoveAttr, Write, Resize}
-use Rattle.h5_model.specs.declared.EditFault.{EditFault}
-use Rattle.h5_model.specs.declared.EditFault.TheVariants as fault
+use Rattle.h5_model.specs.declared.attribute.AttrSpec.{AttrSpec}
+use Rattle.h5_model.specs.declared.dataset.Store.{Store}
+use Rattle.h5_model.specs.declared.dataset.Store.TheVariants as store
+use Rattle.h5_model.specs.declared.edits.Edit.{Edit}
+use Rattle.h5_model.specs.declared.edits.Edit.TheVariants.{CreateGroup, CreateDataset, HardLink, SoftLink, Unlink, SetAttr, RemoveAttr, Write, Resize}
+use Rattle.h5_model.specs.declared.edit_fault.EditFault.{EditFault}
+use Rattle.h5_model.specs.declared.edit_fault.EditFault.TheVariants as fault
 
 -- ---- paths
 
@@ -135,13 +136,6 @@ are_maxima [] (m ∷ ms) = false
 are_maxima (d ∷ ds) [] = false
 are_maxima (d ∷ ds) (m ∷ ms) = is_maximum d m && are_maxima ds ms
 
--- each maximum is the size
-abbrev pub are_sizes : List ℕ → List (Option ℕ) → Bool
-are_sizes [] [] = true
-are_sizes [] (m ∷ ms) = false
-are_sizes (d ∷ ds) [] = false
-are_sizes (d ∷ ds) (m ∷ ms) = option_map_or (λ n. n == d) m false && are_sizes ds ms
-
 -- a chunk size for each dimension: not 0, and not above a maximum other than 0
 abbrev pub is_chunk_size : ℕ → Option ℕ → Bool
 is_chunk_size c None = nat_lt 0 c
@@ -206,6 +200,7 @@ abbrev pub has_large_chunk : Edit → Bool
 has_large_chunk (CreateDataset path s) = chunk_is_large s.store (s.fixed).size
 has_large_chunk _ = false
 
+-- a layout message's body with the data has at most 65528 bytes
 abbrev pub compact_is_large : Store → ℕ → Bool
 compact_is_large store.Compact bytes = nat_lt 65524 bytes
 compact_is_large _ bytes = false
@@ -220,6 +215,8 @@ has_many_cells (SetAttr path attr) = nat_lt (2 ^ 40) (extent_cells attr.dims)
 has_many_cells (Resize path dims) = nat_lt (2 ^ 40) (extent_cells dims)
 has_many_cells _ = false
 
+-- Not one value for each cell. Where the rules before this one don't hold, the product of an edit's axes is the number of its selected
+-- cells (proved as `length-selection`).
 abbrev pub has_other_count : Edit → Bool
 has_other_count (SetAttr path attr) = not (length attr.values == cells attr.dims)
 has_other_count (Write path hyper values) = not (length values == selected_cells (axes_of hyper))
@@ -231,12 +228,8 @@ some_value_outside tree (SetAttr path attr) = not (list_all (fits attr.fixed) at
 some_value_outside tree (Write path hyper values) = option_map_or (λ (d : Dataset). not (list_all (fits d.fixed) values)) (dataset_at tree path) false
 some_value_outside tree _ = false
 
--- the bytes of an attribute message, version 1, without maxima
-abbrev pub attribute_size : AttrSpec → ℕ
-attribute_size a = 8 + pad8 (length a.name + 1) + 16 + (8 + 8 * length a.dims) + cells a.dims * (a.fixed).size
-
 abbrev pub has_large_body : Edit → Bool
-has_large_body (SetAttr path attr) = nat_lt 65528 (attribute_size attr)
+has_large_body (SetAttr path attr) = nat_lt 65528 (attribute_size (length attr.name) attr.dims (attr.fixed).size)
 has_large_body _ = false
 
 abbrev pub has_no_attribute : Tree → Edit → Bool

@@ -1,0 +1,65 @@
+//! Fixed-point types.
+
+ghost use Rattle.std.specs.Prelude.{◌≡◌};
+ghost use Rattle.h5_model.specs.Fixed.{fixed_from, IsFixed};
+
+use std::marker::Model;
+
+/// A fixed-point type: its size in bytes, whether it is signed, and whether the high byte stands first.
+#[derive(Clone, Copy, PartialEq, Eq)]
+pub struct Fixed {
+    size: u8,
+    signed: bool,
+    big: bool,
+}
+
+impl Model for Fixed {
+    ghost use Rattle.h5_model.specs.Fixed as fixed;
+
+    ghost Value = { fixed.Fixed };
+
+    ghost view = { λ a. record { size = a.size; signed = a.signed; big = a.big } };
+
+    ghost invariant = { λ a. fixed.IsFixed (record { size = a.size; signed = a.signed; big = a.big }) };
+
+    ghost inverse = { λ t. record { size = t.size; signed = t.signed; big = t.big } };
+}
+
+impl Fixed {
+    /// The type, or `None` where there is none of this size. One byte has no order.
+    pub fn new(size: u8, signed: bool, big: bool) -> Option<Fixed>
+        ensures { result ≡ fixed_from size signed big }
+    {
+        match size {
+            1 => Some(Fixed {
+                size,
+                signed,
+                big: false,
+            }),
+            2 | 4 | 8 => Some(Fixed { size, signed, big }),
+            _ => None,
+        }
+    }
+
+    /// The size of a value in bytes.
+    pub fn size(&self) -> usize
+        ensures size { result ≡ self.now.size }
+        ensures one_of { IsFixed self.now }
+    {
+        usize::from(self.size)
+    }
+
+    /// Whether a value is signed.
+    pub fn is_signed(&self) -> bool
+        ensures { result ≡ self.now.signed }
+    {
+        self.signed
+    }
+
+    /// Whether the high byte of a value stands first.
+    pub fn is_big(&self) -> bool
+        ensures { result ≡ self.now.big }
+    {
+        self.big
+    }
+}
