@@ -1,0 +1,136 @@
+//! The sizes of an array, and the row-major places of its cells (File Format Specification 3.0, section IV.A.2.b).
+ghost use Rattle.std.specs.Prelude.{◌≡◌, ◌-◌, ◌^◌, ◌<◌, ◌≤◌, ◌↔◌, IsTrue, IsSome, IfSome, length, min, nat_le};
+ghost use Rattle.h5_model.specs.Places.{cells as cells_of, extent_cells, place_of, IsInside, is_inside as inside};
+
+use smallvec::SmallVec;
+use std::alloc::Global;
+use std::marker::Model;
+
+/// The largest number of dimensions.
+pub const MAX_RANK: usize = 32;
+
+/// The largest product of an array's sizes, those of 0 left out.
+pub const MAX_CELLS: u64 = 1 << 40;
+
+/// The sizes of an array in elements, at most 32, which stand in the value itself. No size makes a scalar, of one cell.
+#[derive(Drop)]
+pub struct Dims {
+    sizes: SmallVec<u64, 32>,
+}
+
+impl Model for Dims {
+    ghost use Rattle.std.specs.Prelude.{List, ℕ, ◌≤◌, length};
+
+    ghost Value = { List ℕ };
+
+    ghost view = { λ d. d.sizes.items };
+
+    ghost invariant = { λ d. length d.sizes.items ≤ 32 };
+}
+
+impl Dims {
+    /// These sizes, or `None` where there are more than 32. It takes no memory.
+    pub fn new(alloc: Global, sizes: &[u64]) -> Option<Dims>
+        ensures exact { IsSome result ↔ (length sizes.now ≤ 32) }
+        ensures numbers { IfSome result (λ dims. dims ≡ sizes.now) }
+    {
+        if sizes.len() > MAX_RANK {
+            return None;
+        }
+        let sizes = SmallVec::from_slice(alloc, sizes).ok()?;
+        Some(Dims { sizes })
+    }
+
+    /// The sizes, the one that runs slowest first.
+    pub fn sizes(&self) -> &[u64]
+        ensures numbers { result.now ≡ self.now }
+        ensures rank { length self.now ≤ 32 }
+    {
+        self.sizes.as_slice()
+    }
+
+    /// How many cells there are, or `u64::MAX` where there are more.
+    pub fn cells(&self) -> u64
+        ensures { result ≡ min (cells_of self.now) (2 ^ 64 - 1) }
+    {
+        product(self.sizes())
+    }
+
+    /// Whether the product of the sizes other than 0 is at most 2^40. Then there are at most so many cells.
+    #[tactic(auto, using(crate::proofs::Products::cells_few))]
+    pub fn is_small(&self) -> bool
+        ensures product { result ≡ nat_le (extent_cells self.now) (2 ^ 40) }
+        ensures cells { IsTrue result → cells_of self.now ≤ 2 ^ 40 }
+    {
+        positive_product(self.sizes()) <= MAX_CELLS
+    }
+
+    /// Whether the index has as many numbers as there are sizes, each below its size.
+    pub fn is_inside(&self, index: &[u64]) -> bool
+        ensures value { result ≡ inside self.now index.now }
+        ensures inside { IsTrue result ↔ IsInside self.now index.now }
+    {
+        is_inside(self.sizes(), index)
+    }
+
+    /// The place of an index in row-major order.
+    pub fn place(&self, index: &[u64]) -> u64
+        requires inside { IsInside self.now index.now }
+        requires small { cells_of self.now < 2 ^ 64 }
+        ensures { result ≡ place_of self.now index.now }
+    {
+        place(self.sizes(), index)
+    }
+}
+
+/// The product of the sizes, or `u64::MAX` where it is larger.
+fn product(sizes: &[u64]) -> u64
+    ensures { result ≡ min (cells_of sizes.now) (2 ^ 64 - 1) }
+{
+    let [size, rest @ ..] = sizes else {
+        return 1;
+    };
+    size.saturating_mul(product(rest))
+}
+
+/// The product of the sizes other than 0, or `u64::MAX` where it is larger.
+fn positive_product(sizes: &[u64]) -> u64
+    ensures { result ≡ min (extent_cells sizes.now) (2 ^ 64 - 1) }
+{
+    let [size, rest @ ..] = sizes else {
+        return 1;
+    };
+    let rest = positive_product(rest);
+    if *size == 0 {
+        rest
+    } else {
+        size.saturating_mul(rest)
+    }
+}
+
+/// Whether each number of the index is below its size.
+fn is_inside(sizes: &[u64], index: &[u64]) -> bool
+    ensures value { result ≡ inside sizes.now index.now }
+    ensures inside { IsTrue result ↔ IsInside sizes.now index.now }
+{
+    let [size, sizes @ ..] = sizes else {
+        return index.is_empty();
+    };
+    let [at, index @ ..] = index else {
+        return false;
+    };
+    at < size && is_inside(sizes, index)
+}
+
+/// The place of an index.
+fn place(sizes: &[u64], index: &[u64]) -> u64
+    requires inside { IsInside sizes.now index.now }
+    requires small { cells_of sizes.now < 2 ^ 64 }
+    ensures { result ≡ place_of sizes.now index.now }
+{
+    let mut place = 0;
+    for k in 0..sizes.len() {
+        place = place * sizes[k] + index[k];
+    }
+    place
+}

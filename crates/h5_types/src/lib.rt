@@ -1,0 +1,78 @@
+//! Values of the fixed-point types, and their bytes (File Format Specification 3.0, section IV.A.2.d, class 0).
+#![tactic(auto)]
+
+ghost use Rattle.std.specs.Prelude.{◌≡◌, ◌↔◌, length, IsOk, IsTrue, OnOk, OnErr, true};
+ghost use Rattle.h5_model.specs.Fixed.{value_of, bytes_of, IsFixed, fits as is_of_type};
+
+use byteorder::{BigEndian, ByteOrder, LittleEndian};
+use h5_model::Fixed;
+use thiserror::Error;
+
+#[cfg(test)]
+mod tests;
+
+/// The value is not one of the type's.
+#[derive(Clone, Copy, PartialEq, Eq, Debug, Error)]
+#[error("the value is outside the type")]
+pub struct ValueRange;
+
+/// The value that the bytes stand for, which are as many as the type's size.
+#[tactic(auto, unfolding(h5_model::specs::Fixed::value_at, h5_model::specs::Fixed::raw_at))]
+pub fn decode(fixed: &Fixed, bytes: &[u8]) -> i128
+    requires { length bytes.now ≡ fixed.now.size }
+    ensures { result ≡ value_of fixed.now bytes.now }
+{
+    let size = fixed.size();
+    match (fixed.is_signed(), fixed.is_big()) {
+        (true, true) => i128::from(BigEndian::read_int(bytes, size)),
+        (true, false) => i128::from(LittleEndian::read_int(bytes, size)),
+        (false, true) => i128::from(BigEndian::read_uint(bytes, size)),
+        (false, false) => i128::from(LittleEndian::read_uint(bytes, size)),
+    }
+}
+
+/// Whether the value is one of the type's.
+pub fn fits(fixed: &Fixed, value: i128) -> bool
+    ensures { result ≡ is_of_type fixed.now value }
+{
+    let bits = 8 * fixed.size() as u32;
+    if fixed.is_signed() {
+        let half = 1i128 << (bits - 1);
+        -half <= value && value < half
+    } else {
+        0 <= value && value < (1i128 << bits)
+    }
+}
+
+/// Writes the bytes of a value, which are as many as the type's size: two's complement or unsigned, in the type's order.
+/// A refused value leaves them.
+#[tactic(auto, using(crate::proofs::Values::value_of_bytes))]
+pub fn encode(fixed: &Fixed, value: i128, bytes: &mut [u8]) -> Result<(), ValueRange>
+    requires { length bytes.old ≡ fixed.now.size }
+    ensures exact { IsOk result ↔ IsTrue (is_of_type fixed.now value) }
+    ensures ok { OnOk result (bytes.new ≡ bytes_of fixed.now value) }
+    ensures reads_back { OnOk result (value_of fixed.now bytes.new ≡ value) }
+    ensures err { OnErr result (bytes.new ≡ bytes.old) }
+{
+    if !fits(fixed, value) {
+        return Err(ValueRange);
+    }
+    write(fixed, value, bytes);
+    Ok(())
+}
+
+/// Writes the bytes of a value of the type.
+#[tactic(auto, unfolding(h5_model::specs::Fixed::bytes_of))]
+fn write(fixed: &Fixed, value: i128, bytes: &mut [u8])
+    requires room { length bytes.old ≡ fixed.now.size }
+    requires of_type { is_of_type fixed.now value ≡ true }
+    ensures written { bytes.new ≡ bytes_of fixed.now value }
+    ensures sound { IsFixed fixed.now }
+{
+    let size = fixed.size();
+    if fixed.is_big() {
+        BigEndian::write_int128(bytes, value, size);
+    } else {
+        LittleEndian::write_int128(bytes, value, size);
+    }
+}
