@@ -13,6 +13,7 @@ use Rattle.h5_bytes.specs.declared.Block.{Block}
 use Rattle.h5_bytes.proofs.BlockLaws.{run_separate, holds-le}
 use Rattle.h5_model.specs.Tree.{Link, Object, Group, ToObject, follow, hard_links}
 use Rattle.h5_model.specs.Superblock.{IsSuperblock}
+use Rattle.h5_model.specs.Addresses.{symbol_table_of}
 use Rattle.h5_model.specs.Messages.{Message, HasMessages}
 use Rattle.h5_model.specs.Nodes.{HasTree, group_kind, node_of}
 use Rattle.h5_model.specs.Heap.{IsHeap, HasNames, heap_header, segment_of}
@@ -56,7 +57,7 @@ messages = record {
   filled = ((record { kind = refl; place = refl; body = refl; whole = omega arith; padded = refl; own = refl }, refl), tt);
   all = refl;
   total = refl;
-  continued = (λ e. omega arith, tt);
+  continued = (λ e. cc, tt);
   laid = refl;
 }
 
@@ -128,13 +129,12 @@ links = record {
 }
 
 group : HasGroup empty_file (table_message ∷ []) [] (block 136 544 ∷ block 680 32 ∷ block 712 88 ∷ [])
-unfolding empty_file number_at table_message
+unfolding empty_file number_at table_message symbol_table_of
 group = record {
   known = (refl, tt);
   once = refl;
-  symbol_table = table_message.body;
+  symbol_table = record { tree = 136; heap = 680 };
   chosen = refl;
-  long = omega arith;
   linked = links;
 }
 

@@ -27,7 +27,7 @@ use Rattle.h5_model.specs.Grid.{corner_of, inner_of}
 use Rattle.h5_model.specs.Layout.{Layout, InMessage, InBlock, InChunks}
 use Rattle.h5_model.specs.Cells.{cell_of, cells_of, value_in, value_in_chunk}
 use Rattle.h5_model.specs.Tree.{Object, Content, Group, Array, Dataset}
-use Rattle.h5_model.specs.Reads.{HasData, HasGroup, HasDataset, HasContent, HasObject, tree_in, heap_in}
+use Rattle.h5_model.specs.Reads.{HasData, HasGroup, HasDataset, HasContent, HasObject}
 use Rattle.h5_model.proofs.RowLaws.{only-same}
 
 module _ (old new : List ℕ) where
@@ -254,8 +254,7 @@ module _ (old new : List ℕ) where
       once = has.once;
       symbol_table = has.symbol_table;
       chosen = has.chosen;
-      long = has.long;
-      linked = rw (leaf_stays, internal_stays) (links-same (leaf_k old) (internal_k old) (tree_in has.symbol_table) (heap_in has.symbol_table) links blocks kept has.linked);
+      linked = rw (leaf_stays, internal_stays) (links-same (leaf_k old) (internal_k old) (has.symbol_table).tree (has.symbol_table).heap links blocks kept has.linked);
     }
 
     content-same : (table : FinMap nat_cmp ℕ) (messages : List Message) (content : Content) (blocks : List Block) → Keeps old new blocks

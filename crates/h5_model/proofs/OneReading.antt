@@ -9,6 +9,7 @@ use Rattle.h5_bytes.specs.Bytes.{number_at, part}
 use Rattle.h5_bytes.specs.Blocks.{block}
 use Rattle.h5_bytes.specs.declared.Block.{Block}
 use Rattle.h5_model.specs.Messages.{Message, IsMessage, Fills, FillBlocks, continuations, HasMessages, first_block, first_body, count_of}
+use Rattle.h5_model.specs.Addresses.{SymbolTable}
 use Rattle.h5_model.specs.Heap.{segment_of}
 use Rattle.h5_model.specs.Nodes.{group_kind, chunk_kind, reading_of}
 use Rattle.h5_model.specs.Rows.{bottom}
@@ -23,7 +24,7 @@ use Rattle.h5_model.specs.Chunks.{Chunks, HasChunks, chunks_at}
 use Rattle.h5_model.specs.Cells.{cells_of}
 use Rattle.h5_model.specs.Tree.{Tree, Object, Content, Group, Array, Dataset, Link, ToObject, Soft, Links, Attribute, Attributes, Kept}
 use Rattle.h5_model.specs.Superblock.{leaf_k, internal_k, chunk_k}
-use Rattle.h5_model.specs.Reads.{IsSame, IsFill, storage_of, HasData, HasAttributes, HasGroup, HasDataset, HasContent, HasObject, Placed, IsPlaced, ReadsAs, Reads, is_kept, kept_of, is_attribute_message, tree_in, heap_in, InDataset}
+use Rattle.h5_model.specs.Reads.{IsSame, IsFill, storage_of, HasData, HasAttributes, HasGroup, HasDataset, HasContent, HasObject, Placed, IsPlaced, ReadsAs, Reads, is_kept, kept_of, is_attribute_message, InDataset}
 use Rattle.h5_model.proofs.OneTree.{one_level, one_owned, one_children}
 
 -- ---- messages
@@ -97,9 +98,9 @@ one_group : (image : List ℕ) (messages : List Message) (l m : List (List ℕ �
     → HasGroup image messages l bs → HasGroup image messages m cs → l ≡ m
 one_group image messages l m bs cs has has' =
     let chosen : has.symbol_table ≡ has'.symbol_table = some_same _ _ _ has.chosen has'.chosen in
-    let right : HasLinks image (leaf_k image) (internal_k image) (tree_in has.symbol_table) (heap_in has.symbol_table) m cs
-    = subst (λ (body : List ℕ). HasLinks image (leaf_k image) (internal_k image) (tree_in body) (heap_in body) m cs) (sym chosen) has'.linked in
-    one_links image (leaf_k image) (internal_k image) (tree_in has.symbol_table) (heap_in has.symbol_table) l m bs cs has.linked right
+    let right : HasLinks image (leaf_k image) (internal_k image) (has.symbol_table).tree (has.symbol_table).heap m cs
+    = subst (λ (s : SymbolTable). HasLinks image (leaf_k image) (internal_k image) s.tree s.heap m cs) (sym chosen) has'.linked in
+    one_links image (leaf_k image) (internal_k image) (has.symbol_table).tree (has.symbol_table).heap l m bs cs has.linked right
 
 -- two links that are one link of the file
 one_link : (table : FinMap nat_cmp ℕ) → ((a b header : ℕ) → get table a ≡ Some header → get table b ≡ Some header → a ≡ b)

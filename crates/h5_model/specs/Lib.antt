@@ -39,3 +39,4 @@ pub mod Chunks
 pub mod Cells
 pub mod Reads
 pub mod Empty
+pub mod Addresses

@@ -1,9 +1,11 @@
 -- Object headers, version 1 (File Format Specification 3.0, section IV.A.1.a), with Continuation messages (IV.A.2.q).
-use Rattle.std.specs.Prelude.{◌≡◌, ℕ, ◌+◌, ◌%◌, ◌≤◌, ◌==◌, if◌then◌else◌, bit_and, List, [], ◌∷◌, ◌++◌, length, Option, option_map}
+use Rattle.std.specs.Prelude.{◌≡◌, ℕ, ◌+◌, ◌%◌, ◌≤◌, ◌==◌, if◌then◌else◌, bit_and, List, [], ◌∷◌, ◌++◌, length, Option, IsSome, option_map}
+use Rattle.std.specs.Option.{option_map_or}
 use Rattle.std.specs.List.{flat_map, find, AllByRecursion}
 use Rattle.h5_bytes.specs.Bytes.{number_at, byte_at, part}
 use Rattle.h5_bytes.specs.Blocks.{block}
 use Rattle.h5_bytes.specs.declared.Block.{Block}
+use Rattle.h5_model.specs.Addresses.{continuation_of}
 
 -- a message: its type, where its body stands in the image, and the body
 pub record Message : Type 0 where
@@ -27,7 +29,7 @@ Fills block_at bytes at (m ∷ ms) = IsMessage block_at bytes at m × Fills bloc
 
 -- the block that a Continuation message names; other messages name none
 abbrev pub continuation : Message → List Block
-continuation m = if m.kind == 16 then block (number_at m.body 0 8) (number_at m.body 8 8) ∷ [] else []
+continuation m = if m.kind == 16 then option_map_or (λ b. b ∷ []) (continuation_of m.body) [] else []
 
 abbrev pub continuations : List Message → List Block
 continuations ms = flat_map continuation ms
@@ -58,9 +60,9 @@ first_size prefix = number_at prefix 8 4
 abbrev pub first_block : List ℕ → ℕ → Block
 first_block image header = block (header + 16) (first_size (prefix_at image header))
 
--- a Continuation has room for an address and a length
-abbrev pub HasAddresses : Message → Type 0
-HasAddresses m = m.kind ≡ 16 → 16 ≤ length m.body
+-- a Continuation names a block
+abbrev pub IsContinued : Message → Type 0
+IsContinued m = m.kind ≡ 16 → IsSome (continuation_of m.body)
 
 -- The object header at this place has these messages, in these blocks. Its prefix lies with the first block.
 pub record HasMessages (image : List ℕ) (header : ℕ) (messages : List Message) (blocks : List Block) : Type 0 where
@@ -69,7 +71,7 @@ pub record HasMessages (image : List ℕ) (header : ℕ) (messages : List Messag
   pub filled : FillBlocks image (first_block image header ∷ []) parts
   pub all : messages ≡ flat_map (λ ms. ms) parts
   pub total : total_in (prefix_at image header) ≡ length messages
-  pub continued : AllByRecursion HasAddresses messages
+  pub continued : AllByRecursion IsContinued messages
   pub laid : blocks ≡ block header (16 + first_size (prefix_at image header)) ∷ continuations messages
 
 -- how many messages are of this type

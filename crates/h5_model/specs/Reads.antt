@@ -5,11 +5,11 @@ use Rattle.std.specs.Ordering.{nat_cmp, eq_by_cmp}
 use Rattle.std.specs.Cmp.Lexicographic.{slice_cmp}
 use Rattle.std.specs.FinMap.{FinMap, get, entries, from_entries, empty}
 use Rattle.std.specs.List.{flat_map, filter, find, AllByRecursion, AllZip, IsDistinct}
-use Rattle.h5_bytes.specs.Bytes.{number_at}
 use Rattle.h5_bytes.specs.Blocks.{block, Separate, Inside}
 use Rattle.h5_bytes.specs.declared.Block.{Block}
 use Rattle.h5_model.specs.Superblock.{IsSuperblock, superblock_length, leaf_k, internal_k, chunk_k, end_of_file, root_header}
 use Rattle.h5_model.specs.Messages.{Message, HasMessages, count_of, first_body, prefix_at, reference_count}
+use Rattle.h5_model.specs.Addresses.{SymbolTable, symbol_table_of}
 use Rattle.h5_model.specs.Symbols.{Target, Header, Text}
 use Rattle.h5_model.specs.Links.{HasLinks}
 use Rattle.h5_model.specs.Fixed.{Fixed}
@@ -53,21 +53,13 @@ pub record HasAttributes (messages : List Message) (attributes : Attributes) : T
 abbrev pub InGroup : Message → Type 0
 InGroup m = IsTrue (m.kind == 17 || is_common m)
 
--- the addresses of the B-tree and of the heap in a Symbol Table message
-abbrev pub tree_in : List ℕ → ℕ
-tree_in body = number_at body 0 8
-
-abbrev pub heap_in : List ℕ → ℕ
-heap_in body = number_at body 8 8
-
 -- The messages of a header are those of a group with these links.
 pub record HasGroup (image : List ℕ) (messages : List Message) (links : List (List ℕ × Target)) (blocks : List Block) : Type 0 where
   pub known : AllByRecursion InGroup messages
   pub once : count_of 17 messages ≡ 1
-  pub symbol_table : List ℕ
-  pub chosen : first_body 17 messages ≡ Some symbol_table
-  pub long : 16 ≤ length symbol_table
-  pub linked : HasLinks image (leaf_k image) (internal_k image) (tree_in symbol_table) (heap_in symbol_table) links blocks
+  pub symbol_table : SymbolTable
+  pub chosen : option_and_then symbol_table_of (first_body 17 messages) ≡ Some symbol_table
+  pub linked : HasLinks image (leaf_k image) (internal_k image) symbol_table.tree symbol_table.heap links blocks
 
 -- a link of the tree is the one that the file has, where the table says which object stands at which header
 abbrev pub IsSame : FinMap nat_cmp ℕ → (List ℕ × Link) → (List ℕ × Target) → Type 0
