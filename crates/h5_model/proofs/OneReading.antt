@@ -12,7 +12,7 @@ use Rattle.h5_model.specs.Messages.{Message, IsMessage, Fills, FillBlocks, conti
 use Rattle.h5_model.specs.Addresses.{SymbolTable}
 use Rattle.h5_model.specs.Heap.{segment_of}
 use Rattle.h5_model.specs.Nodes.{group_kind, chunk_kind, reading_of}
-use Rattle.h5_model.specs.Rows.{bottom}
+use Rattle.h5_model.specs.Rows.{row_below}
 use Rattle.h5_model.specs.Symbols.{Target, Header, Text, link_of, symbols_of, Entry}
 use Rattle.h5_model.specs.Links.{HasLinks}
 use Rattle.h5_model.specs.Fixed.{Fixed}
@@ -127,7 +127,7 @@ one_chunks image k sizes bytes root c d bs cs h g =
     let level = one_level image (chunk_kind k (length sizes)) root h.level g.level h.owned g.owned _ _ h.tree g.tree in
     let owned = one_owned image (chunk_kind k (length sizes)) root h.level g.level h.owned g.owned _ _ h.tree g.tree in
     same_entries_map c d (h.listed.listed
-    ∙ ap₂ (λ ns n. chunks_at (reading_of image (chunk_kind k (length sizes)) ns) (length sizes) (bottom (reading_of image (chunk_kind k (length sizes)) ns) n (root ∷ []))) owned level
+    ∙ ap₂ (λ ns n. chunks_at (reading_of image (chunk_kind k (length sizes)) ns) (length sizes) (row_below (reading_of image (chunk_kind k (length sizes)) ns) n (root ∷ []))) owned level
     ∙ sym g.listed.listed)
 
 one_data : (image : List ℕ) (t : Fixed) (layout : Layout) (c d : Chunks) (bs cs : List Block) → HasData image t layout c bs → HasData image t layout d cs → c ≡ d

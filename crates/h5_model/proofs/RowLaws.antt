@@ -5,7 +5,7 @@ use Rattle.std.specs.List.{AllByRecursion, list_any, flat_map}
 use Rattle.std.proofs.lemmas.Bool.Decides.{nat_tests}
 use Rattle.h5_bytes.specs.Bytes.{undefined}
 use Rattle.h5_bytes.proofs.BlockLaws.{all_left, all_right}
-use Rattle.h5_model.specs.Rows.{Node, Reading, blank, only, next_row, first_or_undefined, IsRow, AreRows, bottom, leaves, nodes}
+use Rattle.h5_model.specs.Rows.{Node, Reading, blank, only, next_row, first_or_undefined, IsRow, AreRows, row_below, leaves, nodes}
 
 -- ---- readings of some addresses alone
 
@@ -90,21 +90,21 @@ module _ (V W : Reading) where
       let below = under row (nodes V level (next_row V row)) same in
       ap (λ r. row ++ nodes W level r) (next_row-same row above) ∙ ap (λ ns. row ++ ns) (nodes-same level (next_row V row) below)
 
-  pub bottom-same : (level : ℕ) (row : List ℕ) → Agree V W (nodes V level row) → bottom W level row ≡ bottom V level row
-  bottom-same zero row same = refl
-  bottom-same (suc level) row same =
+  pub row_below-same : (level : ℕ) (row : List ℕ) → Agree V W (nodes V level row) → row_below W level row ≡ row_below V level row
+  row_below-same zero row same = refl
+  row_below-same (suc level) row same =
       let above = here row (nodes V level (next_row V row)) same in
       let below = under row (nodes V level (next_row V row)) same in
-      ap (λ r. bottom W level r) (next_row-same row above) ∙ bottom-same level (next_row V row) below
+      ap (λ r. row_below W level r) (next_row-same row above) ∙ row_below-same level (next_row V row) below
 
-  -- the row at the bottom is one of the rows
-  bottom_agrees : (level : ℕ) (row : List ℕ) → Agree V W (nodes V level row) → Agree V W (bottom V level row)
-  bottom_agrees zero row same = same
-  bottom_agrees (suc level) row same = bottom_agrees level (next_row V row) (under row (nodes V level (next_row V row)) same)
+  -- each row below is one of the rows
+  row_below_agrees : (level : ℕ) (row : List ℕ) → Agree V W (nodes V level row) → Agree V W (row_below V level row)
+  row_below_agrees zero row same = same
+  row_below_agrees (suc level) row same = row_below_agrees level (next_row V row) (under row (nodes V level (next_row V row)) same)
 
   pub leaves-same : (level : ℕ) (row : List ℕ) → Agree V W (nodes V level row) → leaves W level row ≡ leaves V level row
   leaves-same level row same =
-      ap (next_row W) (bottom-same level row same) ∙ next_row-same (bottom V level row) (bottom_agrees level row same)
+      ap (next_row W) (row_below-same level row same) ∙ next_row-same (row_below V level row) (row_below_agrees level row same)
 
 -- the root says the level
 pub root_level : (V : Reading) (level root : ℕ) → AreRows V level (root ∷ []) → (V root).level ≡ level

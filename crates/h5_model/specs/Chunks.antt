@@ -7,7 +7,7 @@ use Rattle.std.specs.List.{flat_map, zip, AllByRecursion, AllZip}
 use Rattle.h5_bytes.specs.Bytes.{number_at}
 use Rattle.h5_bytes.specs.Blocks.{block}
 use Rattle.h5_bytes.specs.declared.Block.{Block}
-use Rattle.h5_model.specs.Rows.{Node, Reading, bottom}
+use Rattle.h5_model.specs.Rows.{Node, Reading, row_below}
 use Rattle.h5_model.specs.Nodes.{chunk_kind, reading_of, HasTree, tree_blocks}
 use Rattle.h5_model.specs.Extent.{numbers_at}
 
@@ -46,7 +46,7 @@ abbrev pub chunks_below : Reading → ℕ → Node → ℕ → List (List ℕ ×
 chunks_below V rank node i = below node.level where
   below : ℕ → List (List ℕ × ℕ)
   below zero = take 1 (drop i (chunks_in rank node))
-  below (suc level) = chunks_at V rank (bottom V level (slice_index_or node.children i 0 ∷ []))
+  below (suc level) = chunks_at V rank (row_below V level (slice_index_or node.children i 0 ∷ []))
 
 -- the chunk, whose offset for the element is 0, is at or above key i of the node and below key i+1
 abbrev pub IsChunkBetween : ℕ → Node → ℕ → (List ℕ × ℕ) → Type 0
@@ -64,8 +64,8 @@ HasChunkKeys sizes bytes node = AllByRecursion (IsChunkKey sizes bytes) (take (l
 
 -- These chunks stand in a tree that is read as V: chunk sizes, bytes of a chunk. Offsets ascend over the whole tree.
 pub record AreChunks (V : Reading) (sizes : List ℕ) (bytes root level : ℕ) (owned : List ℕ) (chunks : Chunks) : Type 0 where
-  pub listed : entries chunks ≡ chunks_at V (length sizes) (bottom V level (root ∷ []))
-  pub keyed : AllByRecursion (λ at. HasChunkKeys sizes bytes (V at)) (bottom V level (root ∷ []))
+  pub listed : entries chunks ≡ chunks_at V (length sizes) (row_below V level (root ∷ []))
+  pub keyed : AllByRecursion (λ at. HasChunkKeys sizes bytes (V at)) (row_below V level (root ∷ []))
   pub ordered : AllByRecursion (λ at. IsChunkOrdered V (length sizes) (V at)) owned
 
 -- These chunks stand in the tree at this root, in these blocks.

@@ -40,3 +40,8 @@ pub mod Cells
 pub mod Reads
 pub mod Empty
 pub mod Addresses
+pub mod OpenFaults
+pub mod Reached
+pub mod HeaderFaults
+pub mod TreeFaults
+pub mod Faults

@@ -44,14 +44,14 @@ abbrev pub AreRows : Reading → ℕ → List ℕ → Type 0
 AreRows V zero row = IsRow V 0 undefined row
 AreRows V (suc level) row = IsRow V (suc level) undefined row × AreRows V level (next_row V row)
 
--- the row at level 0 below a row of this level
-abbrev pub bottom : Reading → ℕ → List ℕ → List ℕ
-bottom V zero row = row
-bottom V (suc level) row = bottom V level (next_row V row)
+-- the row so many levels below a row
+abbrev pub row_below : Reading → ℕ → List ℕ → List ℕ
+row_below V zero row = row
+row_below V (suc depth) row = row_below V depth (next_row V row)
 
 -- the children of the nodes at level 0, below a row of this level
 abbrev pub leaves : Reading → ℕ → List ℕ → List ℕ
-leaves V level row = next_row V (bottom V level row)
+leaves V level row = next_row V (row_below V level row)
 
 -- all nodes from a row of this level down
 abbrev pub nodes : Reading → ℕ → List ℕ → List ℕ
