@@ -15,3 +15,4 @@ pub mod OneTree
 pub mod OneReading
 pub mod Frames
 pub mod PathLaws
+pub mod BreachLaws
