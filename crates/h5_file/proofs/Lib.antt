@@ -1,0 +1,3 @@
+pub mod Literal
+pub mod Signed
+pub mod Root
