@@ -12,7 +12,7 @@ use Rattle.h5_model.proofs.OneReading.{one_reading}
 use Rattle.std.proofs.Math.Logic.{∥∥₁_elim}
 use Rattle.std.specs.Coded.{Coded-set}
 use Rattle.h5_model.specs.Codes.{coded_tree}
-use Rattle.h5_file.specs.State.{Reading, IsReading}
+use Rattle.h5_file.specs.State.{FileState, created_state, Reading, IsReading}
 use Rattle.h5_model.specs.Tree.{Tree}
 use Rattle.h5_model.specs.Superblock.{IsSuperblock}
 use Rattle.h5_model.specs.Faults.{cut, SuperblockBreach}
@@ -25,7 +25,7 @@ unfolding empty_file
 empty_literal = refl
 
 -- one entry was put into an empty map
-one_header : (before after : List (ℕ × ℕ)) → before ≡ [] → after ≡ insert_entry nat_cmp before 0 96 → from_entries {R = nat_cmp} after ≡ root_table
+pub one_header : (before after : List (ℕ × ℕ)) → before ≡ [] → after ≡ insert_entry nat_cmp before 0 96 → from_entries {R = nat_cmp} after ≡ root_table
 unfolding root_table
 one_header before after none put = rw (put, none) refl
 
@@ -39,6 +39,10 @@ created image before after bytes none put =
 pub went_well : {T F P : Type 0} (r : Result T F) → is_err r ≡ false → OnOk r P → P
 went_well (Ok x) e p = p
 went_well (Err x) e p = cc
+
+-- the bytes that were kept are the empty file
+pub cut_to : (image now items : List ℕ) (end : ℕ) → image ≡ take end items → now ≡ items → take end now ≡ empty_file → image ≡ empty_file
+cut_to image now items end short same whole = short ∙ ap (take end) (sym same) ∙ whole
 
 pub opened : (image now items : List ℕ) (end : ℕ) (before after : List (ℕ × ℕ)) → image ≡ take end items → now ≡ items → take end now ≡ empty_file
     → before ≡ [] → after ≡ insert_entry nat_cmp before 0 96 → Reads image (from_entries {R = nat_cmp} after) root_tree
@@ -54,3 +58,7 @@ only_root_by image table tree reads is = ∥∥₁_elim is (Coded-set coded_tree
 -- bytes that are cut to the empty file break no rule of the superblock
 pub no_breach_of_empty : (bytes : List ℕ) (cause : Cause) (at : ℕ) → cut bytes ≡ empty_file → SuperblockBreach bytes cause at → ⊥
 no_breach_of_empty bytes cause at e breach = no_breach bytes (subst IsSuperblock (sym e) empty_reads.1.superblock) cause at breach
+
+-- the state of a file whose parts are those of a new one
+pub is_created : (s : FileState) → s.image ≡ empty_file → s.table ≡ root_table → s.next ≡ 1 → s.tree ≡ root_tree → s ≡ created_state
+is_created s image table next tree = λ i. record { image = image i; table = table i; next = next i; tree = tree i }

@@ -10,6 +10,7 @@ use Rattle.h5_model.specs.Tree.{Tree}
 use Rattle.h5_model.specs.Codes.{coded_tree}
 use Rattle.h5_model.specs.Reads.{Reads}
 use Rattle.h5_model.specs.Edits.{State}
+use Rattle.h5_model.specs.Empty.{empty_file, root_table, root_tree}
 use Rattle.h5_model.proofs.OneReading.{one_reading}
 
 -- the bytes, with the headers where the table says, read as the tree
@@ -29,6 +30,10 @@ pub record FileState : Type 0 where
   pub table : FinMap nat_cmp ℕ
   pub next : ℕ
   pub tree : Tree
+
+-- a file with an empty root group, as `create` makes it
+abbrev pub created_state : FileState
+created_state = record { image = empty_file; table = root_table; next = 1; tree = root_tree }
 
 -- the tree and the next number alone
 abbrev pub state_of : FileState → State

@@ -1,6 +1,6 @@
 //! A file in memory.
 
-ghost use Rattle.std.specs.Prelude.{◌≡◌, ◌↔◌, IfOk, IfErr, IsTrue, MatchResult, Some, map};
+ghost use Rattle.std.specs.Prelude.{◌≡◌, ◌↔◌, IfOk, IfErr, IsTrue, MatchResult, OnOk, Some, map};
 ghost use Rattle.std.specs.FinMap.{from_entries};
 ghost use Rattle.std.specs.Coded.{Coded-set};
 ghost use Rattle.h5_model.specs.Empty.{empty_file, root_tree};
@@ -8,7 +8,7 @@ ghost use Rattle.h5_model.specs.Codes.{coded_tree};
 ghost use Rattle.h5_model.specs.Faults.{cut};
 ghost use Rattle.h5_model.specs.Refusal.{first_holding};
 ghost use Rattle.h5_model.specs.Reading.{path_rules, list_rules};
-ghost use Rattle.h5_file.specs.State.{Reading, Reading-prop, IsReading};
+ghost use Rattle.h5_file.specs.State.{Reading, Reading-prop, IsReading, created_state};
 ghost use Rattle.h5_file.specs.Look.{HasKind, HasNames};
 ghost use Rattle.h5_file.specs.Opening.{Refused};
 
@@ -59,8 +59,7 @@ impl File {
     ///
     /// Fails where memory is refused.
     pub fn create(alloc: Global) -> Result<File, AllocError>
-        ensures bytes { IfOk result (λ f. f.image ≡ empty_file) }
-        ensures tree { IfOk result (λ f. f.tree ≡ root_tree) }
+        ensures { IfOk result (λ f. f ≡ created_state) }
     {
         let image = Vec::from_slice(alloc, &EMPTY_FILE)?;
         let mut headers = BTreeMap::new(alloc);
@@ -78,8 +77,8 @@ impl File {
     /// section II.A) and where it stands, and gives the bytes back whole. Bytes that are well begun
     /// and are not the empty file are refused as [`Cause::NotYet`] at 0.
     pub fn open(alloc: Global, mut bytes: Vec<u8>) -> Result<File, (OpenFault, Vec<u8>)>
-        ensures bytes { IfOk result (λ f. f.image ≡ cut bytes.items) }
-        ensures tree { IfOk result (λ f. f.tree ≡ root_tree) }
+        ensures opened { IfOk result (λ f. f ≡ created_state) }
+        ensures exact { OnOk result (cut bytes.items ≡ empty_file) }
         ensures refused { IfErr result (λ e. Refused bytes.items e.0) }
         // Bytes that are cut to the empty file are refused for want of memory alone.
         ensures only { cut bytes.items ≡ empty_file → IfErr result (λ e. e.0.cause ≡ Cause.NoMemory) }
