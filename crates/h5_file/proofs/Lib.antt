@@ -1,0 +1,4 @@
+pub mod Literal
+pub mod Signed
+pub mod Root
+pub mod NoReading

@@ -1,0 +1,4 @@
+pub mod State
+pub mod CauseNames
+pub mod Breach
+pub mod Look

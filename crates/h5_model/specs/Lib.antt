@@ -1,0 +1,12 @@
+pub mod Bytes
+pub mod Blocks
+pub mod Superblock
+pub mod Messages
+pub mod Heap
+pub mod Nodes
+pub mod Tree
+pub mod Links
+pub mod Reads
+pub mod Empty
+pub mod Paths
+pub mod FaultNames
