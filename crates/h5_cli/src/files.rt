@@ -1,5 +1,9 @@
 //! Files of the system, read and written whole.
 
+ghost use Rattle.std.specs.Prelude.{◌≡◌, ◌↔◌, ◌≤◌, ◌^◌, IfOk, length};
+ghost use Rattle.std.specs.IoError.{error_kind};
+ghost use Rattle.std.specs.declared.io.ErrorKind.TheVariants.{OutOfMemory};
+
 use std::alloc::Global;
 use std::fs::{self, OpenFile};
 use std::io::{self, Read};
@@ -18,6 +22,10 @@ pub enum ReadFault {
 }
 
 impl From<io::Error> for ReadFault {
+    ghost use Rattle.h5_cli.specs.declared.files.ReadFault.TheVariants.{NoMemory};
+
+    ghost from_gives = { λ error fault. (fault ≡ NoMemory) ↔ (error_kind error ≡ OutOfMemory) };
+
     fn from(error: io::Error) -> ReadFault {
         if error.kind() == io::ErrorKind::OutOfMemory {
             ReadFault::NoMemory
@@ -28,7 +36,9 @@ impl From<io::Error> for ReadFault {
 }
 
 /// The bytes of the file of this name.
-pub fn read_whole<R: Files>(rt: &R, alloc: Global, file: &str) -> Result<Vec<u8>, ReadFault> {
+pub fn read_whole<R: Files>(rt: &R, alloc: Global, file: &str) -> Result<Vec<u8>, ReadFault>
+    ensures { IfOk result (λ bytes. length bytes.items ≤ 2 ^ 31) }
+{
     let opened = fs::open(rt, file)?;
     if opened.metadata()?.len() > MAXIMUM_IMAGE {
         return Err(ReadFault::Unreadable);

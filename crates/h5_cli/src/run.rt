@@ -1,12 +1,12 @@
 //! The whole run of the program.
 
-ghost use Rattle.std.specs.Prelude.{◌≡◌, ◌≤◌, OnOk, map, true};
+ghost use Rattle.std.specs.Prelude.{◌≡◌, ◌≢◌, ◌≤◌, ◌⊎◌, IsSome, OnOk, map, true};
 ghost use Rattle.std.specs.Io.KnownBytes.{Appends};
 ghost use Rattle.clap.specs.Words.{subcommand_of, takes};
 ghost use Rattle.h5_cli.specs.Words.{h5i_app, wanted};
-ghost use Rattle.h5_cli.specs.Output.{Prints, root_listing};
+ghost use Rattle.h5_cli.specs.Output.{Prints, IsOrderStatus, root_listing};
 ghost use Rattle.h5_cli.specs.Status.{status_code};
-ghost use Rattle.h5_cli.specs.declared.status.Status.TheVariants.{Done};
+ghost use Rattle.h5_cli.specs.declared.status.Status.TheVariants.{Done, WrongWords};
 
 use crate::files::{ReadFault, read_whole};
 use crate::orders::{Order, OrderFault};
@@ -21,7 +21,9 @@ use std::rt::Files;
 
 /// The status of a run that ended in a message: the message's own, or that it could not be told.
 fn told(message: io::Result<()>, status: Status) -> Status
-    ensures { result ≡ Done → status ≡ Done }
+    ensures done { result ≡ Done → status ≡ Done }
+    ensures order { IsOrderStatus status → IsOrderStatus result }
+    ensures kept { IsOrderStatus result ⊎ (result ≡ status) }
 {
     match message {
         Ok(()) => status,
@@ -31,12 +33,15 @@ fn told(message: io::Result<()>, status: Status) -> Status
 }
 
 fn no_memory<E: Write>(errors: &mut E) -> Status
-    ensures { result ≡ Done → ⊥ }
+    ensures done { result ≡ Done → ⊥ }
+    ensures order { IsOrderStatus result }
 {
     told(writeln!(errors, "h5i: out of memory"), Status::NoMemory)
 }
 
-fn new<R: Files, E: Write>(rt: &R, alloc: Global, file: &str, errors: &mut E) -> Status {
+fn new<R: Files, E: Write>(rt: &R, alloc: Global, file: &str, errors: &mut E) -> Status
+    ensures { IsOrderStatus result }
+{
     let Ok(made) = File::create(alloc) else {
         return no_memory(errors);
     };
@@ -57,7 +62,8 @@ fn write_listing<O: Write>(_file: &File, output: &mut O) -> io::Result<()>
 }
 
 fn refused<E: Write>(fault: OpenFault, errors: &mut E) -> Status
-    ensures { result ≡ Done → ⊥ }
+    ensures done { result ≡ Done → ⊥ }
+    ensures order { IsOrderStatus result }
 {
     if fault.cause == Cause::NoMemory {
         return no_memory(errors);
@@ -78,7 +84,8 @@ fn ls<R: Files, O: Write, E: Write>(
     output: &mut O,
     errors: &mut E,
 ) -> Status
-    ensures { result ≡ Done → Appends (O.contents output.old) (O.contents output.new) root_listing }
+    ensures printed { result ≡ Done → Appends (O.contents output.old) (O.contents output.new) root_listing }
+    ensures order { IsOrderStatus result }
 {
     let bytes = match read_whole(rt, alloc, file) {
         Ok(bytes) => bytes,
@@ -91,17 +98,16 @@ fn ls<R: Files, O: Write, E: Write>(
     match File::open(alloc, bytes) {
         Ok(opened) => match write_listing(&opened, output) {
             Ok(()) => Status::Done,
-            Err(_) => told(
-                writeln!(errors, "h5i: cannot print"),
-                Status::StreamFailed,
-            ),
+            Err(_) => told(writeln!(errors, "h5i: cannot print"), Status::StreamFailed),
         },
         Err((fault, _bytes)) => refused(fault, errors),
     }
 }
 
 /// Tells what clap says of the words: help on `output`, else what is wrong on `errors`.
-fn explain<O: Write, E: Write>(error: &clap::Error, output: &mut O, errors: &mut E) -> Status {
+fn explain<O: Write, E: Write>(error: &clap::Error, output: &mut O, errors: &mut E) -> Status
+    ensures { IsOrderStatus result ⊎ (result ≡ WrongWords) }
+{
     if error.exit_code() == 0 {
         told(write!(output, "{error}"), Status::Done)
     } else {
@@ -116,7 +122,9 @@ fn carry_out<R: Files, S: AsStr, O: Write, E: Write>(
     output: &mut O,
     errors: &mut E,
 ) -> Status
-    ensures { takes h5i_app (map S.text words.now) ≡ true → result ≡ Done → Prints (wanted (subcommand_of h5i_app (map S.text words.now))) (O.contents output.old) (O.contents output.new) }
+    ensures known { IsOrderStatus result ⊎ (result ≡ WrongWords) }
+    ensures order { takes h5i_app (map S.text words.now) ≡ true → IsSome (wanted (subcommand_of h5i_app (map S.text words.now))) → IsOrderStatus result }
+    ensures printed { takes h5i_app (map S.text words.now) ≡ true → result ≡ Done → Prints (wanted (subcommand_of h5i_app (map S.text words.now))) (O.contents output.old) (O.contents output.new) }
 {
     match order(alloc, words) {
         Ok(Some(Order::New { file })) => new(rt, alloc, file, errors),
@@ -141,6 +149,9 @@ pub fn program<R: Files, S: AsStr, I: Read, O: Write, E: Write>(
     errors: &mut E,
 ) -> u8
     ensures code { result ≤ 5 }
+    // No order runs a script yet.
+    ensures no_script { result ≢ 1 }
+    ensures order { takes h5i_app (map S.text words.now) ≡ true → IsSome (wanted (subcommand_of h5i_app (map S.text words.now))) → result ≢ 2 }
     ensures printed { takes h5i_app (map S.text words.now) ≡ true → result ≡ 0 → Prints (wanted (subcommand_of h5i_app (map S.text words.now))) (O.contents output.old) (O.contents output.new) }
 {
     carry_out(rt, alloc, words, output, errors).code()

@@ -1,9 +1,9 @@
 -- Where a rule of the superblock is broken, the bytes up to the end of file address read as no tree.
-use Rattle.std.proofs.Common.{◌≡◌, ◌≢◌, ◌⊎◌, inl, inr, ℕ, ◌+◌, ◌<◌, ◌≤◌, List, take, length, slice_index, refl, sym, ◌∙◌, ap, subst, arith}
+use Rattle.std.proofs.Common.{◌≡◌, inl, inr, ℕ, ◌+◌, ◌<◌, ◌≤◌, List, length, slice_index, sym, ◌∙◌, subst, arith}
 use Rattle.std.proofs.lemmas.List.{get_or-take, length-take}
 use Rattle.std.specs.Ordering.{nat_cmp}
 use Rattle.std.specs.FinMap.{FinMap}
-use Rattle.h5_model.specs.Bytes.{number_at, Stands}
+use Rattle.h5_model.specs.Bytes.{number_at}
 use Rattle.h5_model.specs.Superblock.{IsSuperblock, signature, leaf_k, internal_k, end_of_file}
 use Rattle.h5_model.specs.Tree.{Tree}
 use Rattle.h5_model.specs.Reads.{Reads}

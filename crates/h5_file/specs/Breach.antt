@@ -1,5 +1,5 @@
 -- What an image breaks, and where (the superblock's rules).
-use Rattle.std.specs.Prelude.{◌≡◌, ◌≢◌, ◌⊎◌, ℕ, ◌^◌, ◌<◌, ◌≤◌, List, length, take}
+use Rattle.std.specs.Prelude.{◌≡◌, ◌≢◌, ◌⊎◌, ℕ, ◌^◌, ◌<◌, List, length, take}
 use Rattle.h5_model.specs.Bytes.{number_at, byte_at, Stands, undefined}
 use Rattle.h5_model.specs.Superblock.{signature, leaf_k, internal_k, end_of_file}
 use Rattle.h5_model.specs.Superblock.{IsSuperblock}

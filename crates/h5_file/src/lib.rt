@@ -11,6 +11,8 @@ mod fault;
 mod file;
 mod look;
 mod superblock;
+#[cfg(test)]
+mod tests;
 
 pub use fault::{Cause, OpenFault};
 pub use file::File;

@@ -1,4 +1,4 @@
-use Rattle.std.proofs.Common.{◌≡◌, sym, ◌∙◌, arith}
+use Rattle.std.proofs.Common.{sym, ◌∙◌, arith}
 use Rattle.h5_file.proofs.Signed.{signed}
 use Rattle.h5_file.proofs.superblock.superblock_fault.Goals as goal
 
