@@ -1,0 +1,158 @@
+//! The whole run of the program.
+
+ghost use Rattle.std.specs.Prelude.{◌≡◌, ◌≢◌, ◌≤◌, ◌⊎◌, IsSome, OnOk, map, true};
+ghost use Rattle.std.specs.Io.KnownBytes.{Appends};
+ghost use Rattle.clap.specs.Words.{subcommand_of, takes};
+ghost use Rattle.h5_cli.specs.Words.{h5i_app, wanted};
+ghost use Rattle.h5_cli.specs.Output.{Prints, IsOrderStatus, root_listing};
+ghost use Rattle.h5_cli.specs.Status.{status_code};
+ghost use Rattle.h5_cli.specs.declared.status.Status.TheVariants.{Done, WrongWords};
+
+use crate::files::{ReadFault, read_whole};
+use crate::orders::{Order, OrderFault};
+use crate::read::order;
+use crate::status::Status;
+use h5_file::{Cause, File, OpenFault};
+use std::alloc::Global;
+use std::convert::AsStr;
+use std::fs;
+use std::io::{self, Read, Write};
+use std::rt::Files;
+
+/// The status of a run that ended in a message: the message's own, or that it could not be told.
+fn told(message: io::Result<()>, status: Status) -> Status
+    ensures done { result ≡ Done → status ≡ Done }
+    ensures order { IsOrderStatus status → IsOrderStatus result }
+    ensures kept { IsOrderStatus result ⊎ (result ≡ status) }
+{
+    match message {
+        Ok(()) => status,
+        Err(_) if status == Status::NoMemory => status,
+        Err(_) => Status::StreamFailed,
+    }
+}
+
+fn no_memory<E: Write>(errors: &mut E) -> Status
+    ensures done { result ≡ Done → ⊥ }
+    ensures order { IsOrderStatus result }
+{
+    told(writeln!(errors, "h5i: out of memory"), Status::NoMemory)
+}
+
+fn new<R: Files, E: Write>(rt: &R, alloc: Global, file: &str, errors: &mut E) -> Status
+    ensures { IsOrderStatus result }
+{
+    let Ok(made) = File::create(alloc) else {
+        return no_memory(errors);
+    };
+    match fs::write(rt, file, made.image()) {
+        Ok(()) => Status::Done,
+        Err(_) => told(
+            writeln!(errors, "h5i: cannot write {file}"),
+            Status::StreamFailed,
+        ),
+    }
+}
+
+/// Writes the listing of the file, which has no link but the root: this version opens no other.
+fn write_listing<O: Write>(_file: &File, output: &mut O) -> io::Result<()>
+    ensures { OnOk result (Appends (O.contents output.old) (O.contents output.new) root_listing) }
+{
+    output.write_all(b"/ group\n")
+}
+
+fn refused<E: Write>(fault: OpenFault, errors: &mut E) -> Status
+    ensures done { result ≡ Done → ⊥ }
+    ensures order { IsOrderStatus result }
+{
+    if fault.cause == Cause::NoMemory {
+        return no_memory(errors);
+    }
+    let number = fault.number();
+    let name = fault.name();
+    let address = fault.address();
+    told(
+        writeln!(errors, "h5i: refused {number} {name} at {address}"),
+        Status::ImageRefused,
+    )
+}
+
+fn ls<R: Files, O: Write, E: Write>(
+    rt: &R,
+    alloc: Global,
+    file: &str,
+    output: &mut O,
+    errors: &mut E,
+) -> Status
+    ensures printed { result ≡ Done → Appends (O.contents output.old) (O.contents output.new) root_listing }
+    ensures order { IsOrderStatus result }
+{
+    let bytes = match read_whole(rt, alloc, file) {
+        Ok(bytes) => bytes,
+        Err(ReadFault::NoMemory) => return no_memory(errors),
+        Err(ReadFault::Unreadable) => {
+            let message = writeln!(errors, "h5i: cannot read {file}");
+            return told(message, Status::StreamFailed);
+        }
+    };
+    match File::open(alloc, bytes) {
+        Ok(opened) => match write_listing(&opened, output) {
+            Ok(()) => Status::Done,
+            Err(_) => told(writeln!(errors, "h5i: cannot print"), Status::StreamFailed),
+        },
+        Err((fault, _bytes)) => refused(fault, errors),
+    }
+}
+
+/// Tells what clap says of the words: help on `output`, else what is wrong on `errors`.
+fn explain<O: Write, E: Write>(error: &clap::Error, output: &mut O, errors: &mut E) -> Status
+    ensures { IsOrderStatus result ⊎ (result ≡ WrongWords) }
+{
+    if error.exit_code() == 0 {
+        told(write!(output, "{error}"), Status::Done)
+    } else {
+        told(write!(errors, "{error}"), Status::WrongWords)
+    }
+}
+
+fn carry_out<R: Files, S: AsStr, O: Write, E: Write>(
+    rt: &R,
+    alloc: Global,
+    words: &[S],
+    output: &mut O,
+    errors: &mut E,
+) -> Status
+    ensures known { IsOrderStatus result ⊎ (result ≡ WrongWords) }
+    ensures order { takes h5i_app (map S.text words.now) ≡ true → IsSome (wanted (subcommand_of h5i_app (map S.text words.now))) → IsOrderStatus result }
+    ensures printed { takes h5i_app (map S.text words.now) ≡ true → result ≡ Done → Prints (wanted (subcommand_of h5i_app (map S.text words.now))) (O.contents output.old) (O.contents output.new) }
+{
+    match order(alloc, words) {
+        Ok(Some(Order::New { file })) => new(rt, alloc, file, errors),
+        Ok(Some(Order::Ls { file })) => ls(rt, alloc, file, output, errors),
+        Ok(None) => Status::WrongWords,
+        Err(OrderFault::NoMemory) => no_memory(errors),
+        Err(OrderFault::Words(error)) => explain(&error, output, errors),
+    }
+}
+
+/// The whole run of the program on these words, its own name first, and its status, 0 to 5.
+///
+/// Files are read and written through `rt`. Answers are printed on `output`, and what went wrong
+/// on `errors`; `input` is for scripts, and is not read yet. A file is written only where the order
+/// succeeds so far, and then whole.
+pub fn program<R: Files, S: AsStr, I: Read, O: Write, E: Write>(
+    rt: &R,
+    alloc: Global,
+    words: &[S],
+    _input: &mut I,
+    output: &mut O,
+    errors: &mut E,
+) -> u8
+    ensures code { result ≤ 5 }
+    // No order runs a script yet.
+    ensures no_script { result ≢ 1 }
+    ensures order { takes h5i_app (map S.text words.now) ≡ true → IsSome (wanted (subcommand_of h5i_app (map S.text words.now))) → result ≢ 2 }
+    ensures printed { takes h5i_app (map S.text words.now) ≡ true → result ≡ 0 → Prints (wanted (subcommand_of h5i_app (map S.text words.now))) (O.contents output.old) (O.contents output.new) }
+{
+    carry_out(rt, alloc, words, output, errors).code()
+}

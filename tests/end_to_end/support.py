@@ -1,0 +1,85 @@
+"""The program under test and its two judges: the reference reader and the usual library."""
+
+import os
+import subprocess
+import sys
+import tempfile
+import unittest
+
+TOP = os.path.dirname(os.path.dirname(os.path.dirname(os.path.abspath(__file__))))
+PROGRAM = os.path.abspath(os.environ.get("H5I", os.path.join(TOP, "build", "h5i")))
+REFERENCE = os.path.join(TOP, "tests", "reference", "h5oracle.py")
+# The Python that Debian's h5py belongs to, whatever stands first on PATH.
+LIBRARY_PYTHON = os.environ.get("LIBRARY_PYTHON", "/usr/bin/python3")
+
+# The empty file, from the tables of its format: every byte that is not named is 0.
+EMPTY_FIELDS = {
+    0: "894844460d0a1a0a00000000000808000400100000000000",
+    32: "ffffffffffffffff2003000000000000ffffffffffffffff",
+    64: "600000000000000001000000000000008800000000000000a802000000000000",
+    96: "0100010001000000180000000000000011001000000000008800000000000000a802000000000000",
+    136: "5452454500000000ffffffffffffffffffffffffffffffff",
+    680: "484541500000000058000000000000000800000000000000c802000000000000",
+    720: "01000000000000005000000000000000",
+}
+
+
+def empty_image():
+    """The 800 bytes of a file with an empty root group."""
+    image = bytearray(800)
+    for place, digits in EMPTY_FIELDS.items():
+        field = bytes.fromhex(digits)
+        image[place:place + len(field)] = field
+    return bytes(image)
+
+
+def patched(image, place, digits):
+    """The image with these bytes at the place."""
+    field = bytes.fromhex(digits)
+    return image[:place] + field + image[place + len(field):]
+
+
+def run_command(*words, script=b"", stdout=subprocess.PIPE):
+    """Runs a command: its status, output and errors."""
+    done = subprocess.run(words, input=script, stdout=stdout, stderr=subprocess.PIPE, check=False, timeout=60)
+    return done.returncode, done.stdout, done.stderr
+
+
+def h5i(*words, **options):
+    """Runs the program under test."""
+    return run_command(PROGRAM, *words, **options)
+
+
+def reference(*words):
+    """Runs the reference implementation, as it is without the forms that are not read yet."""
+    return run_command(sys.executable, REFERENCE, "--stage", "14", *words)
+
+
+def library(code, *words):
+    """Runs Python code with the usual library's h5py."""
+    return run_command(LIBRARY_PYTHON, "-c", code, *words)
+
+
+class InFolder(unittest.TestCase):
+    """Tests with a folder of their own."""
+
+    def setUp(self):
+        folder = tempfile.TemporaryDirectory()
+        self.addCleanup(folder.cleanup)
+        self.folder = folder.name
+
+    def path(self, name):
+        """A path in the folder."""
+        return os.path.join(self.folder, name)
+
+    def written(self, name, data):
+        """The path of a new file with these bytes."""
+        path = self.path(name)
+        with open(path, "wb") as file:
+            file.write(data)
+        return path
+
+    def read(self, path):
+        """The bytes of a file."""
+        with open(path, "rb") as file:
+            return file.read()

@@ -1,0 +1,81 @@
+"""Bytes that are refused: the cause, its number and the address, as the tables of the format say."""
+
+from .support import InFolder, empty_image, h5i, patched, reference
+
+# bytes kept of the empty file: number, name, address
+CUTS = {
+    799: (2, "Truncated", 40),
+    95: (2, "Truncated", 0),
+    8: (2, "Truncated", 0),
+    7: (1, "NotHdf5", 0),
+    0: (1, "NotHdf5", 0),
+}
+
+# place and bytes: number, name, address
+CHANGES = {
+    (0, "88"): (1, "NotHdf5", 0),
+    (8, "02"): (3, "SuperblockVersion", 8),
+    (9, "01"): (3, "SuperblockVersion", 9),
+    (10, "01"): (3, "SuperblockVersion", 10),
+    (12, "01"): (3, "SuperblockVersion", 12),
+    (13, "04"): (4, "FieldSizes", 13),
+    (14, "04"): (4, "FieldSizes", 14),
+    (24, "01"): (5, "BaseAddress", 24),
+    (48, "00"): (6, "Driver", 48),
+    (16, "00"): (7, "KRange", 16),
+    (17, "80"): (7, "KRange", 16),
+    (18, "0000"): (7, "KRange", 18),
+    (40, "0100008000000000"): (34, "TooLarge", 40),
+    (40, "5f00000000000000"): (2, "Truncated", 40),
+    (40, "2103000000000000"): (2, "Truncated", 40),
+}
+
+# two rules broken at once: the first along the walk is named
+TWO_CHANGES = {
+    ((14, "04"), (8, "01")): (3, "SuperblockVersion", 8),
+    ((48, "00"), (13, "02")): (4, "FieldSizes", 13),
+    ((16, "0000"), (48, "00")): (6, "Driver", 48),
+    ((40, "ffffffff00000000"), (16, "0000")): (7, "KRange", 16),
+}
+
+# bytes that the rules do not look at
+PASSED_OVER = ((11, "ff"), (15, "ff"), (20, "ffffffff"), (32, "00"))
+
+
+class RefusedImages(InFolder):
+    """Changes to the empty file."""
+
+    def assert_refused(self, image, number, name, address):
+        """The program and the reference refuse the image by this cause at this address."""
+        path = self.written("changed.h5", image)
+        text = f"refused {number} {name} at {address}\n".encode()
+        self.assertEqual(h5i("ls", path), (3, b"", b"h5i: " + text))
+        status, output, errors = reference("check", path)
+        self.assertEqual((status, output + errors), (3, text))
+        self.assertEqual(self.read(path), image)
+
+    def test_cuts(self):
+        for length, verdict in CUTS.items():
+            with self.subTest(length=length):
+                self.assert_refused(empty_image()[:length], *verdict)
+
+    def test_changes(self):
+        for change, verdict in CHANGES.items():
+            with self.subTest(change=change):
+                self.assert_refused(patched(empty_image(), *change), *verdict)
+
+    def test_the_first_of_two_is_named(self):
+        for changes, verdict in TWO_CHANGES.items():
+            with self.subTest(changes=changes):
+                image = empty_image()
+                for change in changes:
+                    image = patched(image, *change)
+                self.assert_refused(image, *verdict)
+
+    def test_what_is_passed_over_is_no_fault(self):
+        for change in PASSED_OVER:
+            with self.subTest(change=change):
+                path = self.written("changed.h5", patched(empty_image(), *change))
+                self.assertEqual(reference("check", path)[0], 0)
+                # A well begun image other than the empty file is not read yet.
+                self.assertEqual(h5i("ls", path), (3, b"", b"h5i: refused 37 NotYet at 0\n"))
