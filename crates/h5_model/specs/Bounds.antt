@@ -6,10 +6,10 @@ use Rattle.h5_bytes.specs.Texts.{pad8}
 use Rattle.h5_model.specs.Places.{cells}
 use Rattle.h5_model.specs.Grid.{boxes_of, in_box, some_in_box}
 use Rattle.h5_model.specs.Selection.{Slab, axes_of, selection_of}
-use Rattle.h5_model.specs.Tree.{Tree, Array, Dataset, Storage, Compact, Contiguous, Chunked}
+use Rattle.h5_model.specs.Tree.{Tree, Dataset, Storage, Compact, Contiguous, Chunked}
 use Rattle.h5_model.specs.Paths.{names_of, dataset_at}
-use Rattle.h5_model.specs.Edits.{new_object, new_dataset}
-use Rattle.h5_model.specs.Sizes.{group_node, chunk_node, symbol_node, text_span, attribute_size, header_size}
+use Rattle.h5_model.specs.Edits.{new_storage}
+use Rattle.h5_model.specs.Sizes.{group_node, chunk_node, symbol_node, text_span, attribute_size, array_messages}
 use Rattle.h5_model.specs.Views.{is_touched}
 use Rattle.h5_model.specs.declared.attribute.AttrSpec.{AttrSpec}
 use Rattle.h5_model.specs.declared.dataset.Spec.{Spec}
@@ -40,9 +40,9 @@ name_span path = option_map_or (λ names. text_span (last_of names)) (names_of p
 abbrev pub link_bound : Room → ℕ → ℕ
 link_bound r occupied = 17 * group_node r.internal_k + symbol_node r.leaf_k + 2 * r.heap + occupied + 16
 
--- the header of a new dataset, and its data
+-- the header of a new dataset with its prefix, and its data
 abbrev pub new_header : Spec → ℕ
-new_header s = header_size (new_object (Array (new_dataset s)))
+new_header s = 16 + array_messages 0 s.dims s.maxima (new_storage s.dims s.store) (s.fixed).size
 
 abbrev pub contiguous_data : Spec → ℕ
 contiguous_data s = of_store s.store where

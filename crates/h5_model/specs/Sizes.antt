@@ -1,6 +1,6 @@
 -- How many bytes structures have as they are written (File Format Specification 3.0, sections III.A.1, III.B, III.D, IV.A.1.a and
 -- IV.A.2).
-use Rattle.std.specs.Prelude.{ℕ, ◌+◌, ◌*◌, Bool, true, not, nat_lt, if◌then◌else◌, List, length, sum_by}
+use Rattle.std.specs.Prelude.{ℕ, ◌+◌, ◌*◌, Bool, true, not, nat_lt, if◌then◌else◌, Option, List, length, sum_by}
 use Rattle.std.specs.FinMap.{entries, len}
 use Rattle.h5_bytes.specs.Texts.{pad8}
 use Rattle.h5_model.specs.Places.{cells}
@@ -43,31 +43,32 @@ abbrev pub kept_message : Kept → ℕ
 kept_message k = message_size (length k.body)
 
 -- maxima are written where the store is chunked or one differs from its size
-abbrev pub writes_maxima : Dataset → Bool
-writes_maxima d = of_storage d.storage where
-  of_storage : Storage → Bool
-  of_storage (Chunked chunk) = true
-  of_storage _ = not (are_sizes d.sizes d.maxima)
+abbrev pub writes_maxima : List ℕ → List (Option ℕ) → Storage → Bool
+writes_maxima sizes maxima (Chunked chunk) = true
+writes_maxima sizes maxima _ = not (are_sizes sizes maxima)
 
-abbrev pub extent_message : Dataset → ℕ
-extent_message d = message_size (dataspace_size (length d.sizes) + (if writes_maxima d then 8 * length d.sizes else 0))
+abbrev pub extent_size : List ℕ → List (Option ℕ) → Storage → ℕ
+extent_size sizes maxima storage =
+    dataspace_size (length sizes) + (if writes_maxima sizes maxima storage then 8 * length sizes else 0)
 
-abbrev pub layout_size : Dataset → ℕ
-layout_size d = of_storage d.storage where
-  of_storage : Storage → ℕ
-  of_storage Compact = 4 + cells d.sizes * (d.fixed).size
-  of_storage (Contiguous stored) = 18
-  of_storage (Chunked chunk) = 11 + 4 * (length chunk + 1)
+-- a layout body, of elements of so many bytes
+abbrev pub layout_size : List ℕ → Storage → ℕ → ℕ
+layout_size sizes Compact size = 4 + cells sizes * size
+layout_size sizes (Contiguous stored) size = 18
+layout_size sizes (Chunked chunk) size = 11 + 4 * (length chunk + 1)
 
 -- ---- headers
 
--- The messages of the content: a Symbol Table; or dataspace, datatype, fill and layout. The fill is left out where a header with so
--- many other messages would have more than 65535.
+-- Dataspace, datatype, fill and layout. The fill is left out where a header with so many other messages would have more than 65535.
+abbrev pub array_messages : ℕ → List ℕ → List (Option ℕ) → Storage → ℕ → ℕ
+array_messages others sizes maxima storage size =
+    message_size (extent_size sizes maxima storage) + message_size 12 + (if nat_lt 65535 (4 + others) then 0 else message_size (8 + size))
+    + message_size (layout_size sizes storage size)
+
+-- the messages of the content: a Symbol Table, or those of an array
 abbrev pub content_messages : ℕ → Content → ℕ
 content_messages others (Group links) = message_size 16
-content_messages others (Array d) =
-    extent_message d + message_size 12 + (if nat_lt 65535 (4 + others) then 0 else message_size (8 + (d.fixed).size))
-    + message_size (layout_size d)
+content_messages others (Array d) = array_messages others d.sizes d.maxima d.storage (d.fixed).size
 
 -- an object's header, its prefix with it
 abbrev pub header_size : Object → ℕ
