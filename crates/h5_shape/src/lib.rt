@@ -2,7 +2,9 @@
 #![tactic(auto)]
 
 mod dims;
+mod slab;
 #[cfg(test)]
 mod tests;
 
 pub use dims::{Dims, MAX_CELLS, MAX_RANK};
+pub use slab::{Slab, SlabFault};

@@ -1,5 +1,8 @@
 //! Sizes at the limits, and places as NumPy's `ravel_multi_index` gives them.
 use super::*;
+use h5_model::{Hyper, Items};
+use std::alloc::{AllocError, Global};
+use std::test::Fail;
 
 const LARGE: u64 = 1 << 32;
 
@@ -56,4 +59,84 @@ fn places_cells(rt: HostRuntime) {
         let found = Dims::new(rt.alloc(), sizes).and_then(|dims| place_in(&dims, index));
         assert_eq!(rt; found, place);
     }
+}
+
+/// A hyperslab of four lists: starts, strides, counts and blocks.
+fn hyper(alloc: Global, lists: [&[u64]; 4]) -> Result<Hyper, AllocError> {
+    Ok(Hyper {
+        start: Items::new(lists[0].to_vec(alloc)?),
+        stride: Items::new(lists[1].to_vec(alloc)?),
+        count: Items::new(lists[2].to_vec(alloc)?),
+        block: Items::new(lists[3].to_vec(alloc)?),
+    })
+}
+
+#[test]
+fn names_the_first_fault(rt: HostRuntime) -> Result<(), Fail> {
+    let ones: [u64; 33] = [1; 33];
+    let rows: [([&[u64]; 4], Option<SlabFault>); 11] = [
+        ([&[], &[], &[], &[]], None),
+        ([&[1], &[3], &[2], &[2]], None),
+        ([&[0], &[2], &[3], &[2]], None),
+        ([&[0], &[1], &[1], &[5]], None),
+        ([&[0, 0], &[0], &[1], &[1]], Some(SlabFault::RankMismatch)),
+        ([&[0], &[1], &[1], &[]], Some(SlabFault::RankMismatch)),
+        ([&ones, &ones, &ones, &ones], Some(SlabFault::RankMismatch)),
+        ([&ones[1..], &ones[1..], &ones[1..], &ones[1..]], None),
+        (
+            [&[0, 0], &[1, 0], &[2, 1], &[5, 1]],
+            Some(SlabFault::StrideZero),
+        ),
+        ([&[0], &[0], &[0], &[0]], Some(SlabFault::StrideZero)),
+        (
+            [&[0, 0], &[1, 1], &[1, 2], &[5, 2]],
+            Some(SlabFault::BlocksOverlap),
+        ),
+    ];
+    for (lists, fault) in rows {
+        assert_eq!(rt; Slab::new(&hyper(rt.alloc(), lists)?).err(), fault);
+    }
+    Ok(())
+}
+
+/// Whether the selection is within the sizes, which are as many as its axes.
+fn is_within(slab: &Slab, dims: &Dims) -> bool {
+    slab.axes().len() == dims.sizes().len() && slab.within(dims)
+}
+
+#[test]
+fn bounds_and_counts_a_selection(rt: HostRuntime) -> Result<(), Fail> {
+    // Sizes, the four lists, whether the selection is within, how many cells it has.
+    let rows: [(&[u64], [&[u64]; 4], bool, u64); 11] = [
+        (&[], [&[], &[], &[], &[]], true, 1),
+        (&[6], [&[1], &[3], &[2], &[2]], true, 4),
+        (&[5], [&[1], &[3], &[2], &[2]], false, 4),
+        (&[4, 6], [&[0, 1], &[2, 3], &[2, 2], &[1, 2]], true, 8),
+        (&[2, 6], [&[0, 1], &[2, 3], &[2, 2], &[1, 2]], false, 8),
+        (&[5], [&[100], &[1], &[0], &[1]], true, 0),
+        (&[5], [&[100], &[1], &[1], &[0]], true, 0),
+        (&[0], [&[0], &[1], &[1], &[1]], false, 1),
+        (
+            &[u64::MAX],
+            [&[u64::MAX - 1], &[u64::MAX], &[1], &[1]],
+            true,
+            1,
+        ),
+        (&[u64::MAX], [&[1], &[u64::MAX], &[3], &[1]], false, 3),
+        (
+            &[u64::MAX],
+            [&[0], &[LARGE], &[LARGE], &[LARGE]],
+            false,
+            u64::MAX,
+        ),
+    ];
+    for (sizes, lists, within, cells) in rows {
+        let slab = Slab::new(&hyper(rt.alloc(), lists)?).ok();
+        let dims = Dims::new(rt.alloc(), sizes);
+        let right = slab.zip(dims).is_some_and(|(slab, dims)| {
+            is_within(&slab, &dims) == within && slab.cells() == cells
+        });
+        assert!(rt; right, "{cells} cells");
+    }
+    Ok(())
 }

@@ -17,18 +17,13 @@ mod tests;
 pub struct ValueRange;
 
 /// The value that the bytes stand for, which are as many as the type's size.
-#[tactic(auto, unfolding(h5_model::specs::Fixed::value_at, h5_model::specs::Fixed::raw_at))]
+#[tactic(auto, using(crate::proofs::Values::fits_value_of))]
 pub fn decode(fixed: &Fixed, bytes: &[u8]) -> i128
     requires { length bytes.now ≡ fixed.now.size }
-    ensures { result ≡ value_of fixed.now bytes.now }
+    ensures value { result ≡ value_of fixed.now bytes.now }
+    ensures of_type { IsTrue (is_of_type fixed.now result) }
 {
-    let size = fixed.size();
-    match (fixed.is_signed(), fixed.is_big()) {
-        (true, true) => i128::from(BigEndian::read_int(bytes, size)),
-        (true, false) => i128::from(LittleEndian::read_int(bytes, size)),
-        (false, true) => i128::from(BigEndian::read_uint(bytes, size)),
-        (false, false) => i128::from(LittleEndian::read_uint(bytes, size)),
-    }
+    read(fixed, bytes)
 }
 
 /// Whether the value is one of the type's.
@@ -74,5 +69,21 @@ fn write(fixed: &Fixed, value: i128, bytes: &mut [u8])
         BigEndian::write_int128(bytes, value, size);
     } else {
         LittleEndian::write_int128(bytes, value, size);
+    }
+}
+
+/// Reads the bytes of a value.
+#[tactic(auto, unfolding(h5_model::specs::Fixed::value_at, h5_model::specs::Fixed::raw_at))]
+fn read(fixed: &Fixed, bytes: &[u8]) -> i128
+    requires { length bytes.now ≡ fixed.now.size }
+    ensures value { result ≡ value_of fixed.now bytes.now }
+    ensures sound { IsFixed fixed.now }
+{
+    let size = fixed.size();
+    match (fixed.is_signed(), fixed.is_big()) {
+        (true, true) => i128::from(BigEndian::read_int(bytes, size)),
+        (true, false) => i128::from(LittleEndian::read_int(bytes, size)),
+        (false, true) => i128::from(BigEndian::read_uint(bytes, size)),
+        (false, false) => i128::from(LittleEndian::read_uint(bytes, size)),
     }
 }
