@@ -1,0 +1,5 @@
+pub mod FitLaws
+pub mod SpacedLaws
+pub mod GivingLaws
+pub mod PartLaws
+pub mod WholeLaws

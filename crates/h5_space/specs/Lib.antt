@@ -1,0 +1,4 @@
+pub mod Space
+pub mod Room
+pub mod Lending
+pub mod Whole

@@ -1,0 +1,9 @@
+//! The bytes of a file image, its free blocks, and the blocks that a walk over it has claimed.
+//!
+//! Places and lengths are in bytes.
+#![tactic(auto)]
+
+mod free_list;
+mod image;
+
+pub use image::{Image, SpaceFault};
