@@ -3,3 +3,4 @@ pub mod SpacedLaws
 pub mod GivingLaws
 pub mod PartLaws
 pub mod WholeLaws
+pub mod IslandLaws

@@ -1,5 +1,5 @@
 -- What `take` and `give` leave of the blocks in use and the free ones.
-use Rattle.std.proofs.Common.{◌≡◌, ◌≤◌, ℕ, ◌+◌, List, ◌∷◌, arith, zero-add}
+use Rattle.std.proofs.Common.{◌≡◌, ℕ, ◌+◌, List, ◌∷◌, arith, zero-add}
 use Rattle.h5_bytes.specs.Blocks.{holds, cover}
 use Rattle.h5_bytes.specs.declared.Block.{Block}
 use Rattle.h5_bytes.proofs.BlockLaws.{holds_join}

@@ -2,3 +2,5 @@ pub mod Space
 pub mod Room
 pub mod Lending
 pub mod Whole
+pub mod Claimed
+pub mod Islands

@@ -3,7 +3,9 @@
 //! Places and lengths are in bytes.
 #![tactic(auto)]
 
+mod claims;
 mod free_list;
 mod image;
 
+pub use claims::{ClaimFault, Claims};
 pub use image::{Image, SpaceFault};
