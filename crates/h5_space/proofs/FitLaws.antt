@@ -1,0 +1,24 @@
+-- Whether a free block is as long as a request.
+use Rattle.std.proofs.Common.{◌≡◌, ℕ, ◌≤◌, Bool, true, false, Some, None, List, length, cond, position, arith, ap, nat_le}
+use Rattle.std.specs.List.{list_any, position_or_len}
+use Rattle.std.proofs.lemmas.Bool.Decides.{nat_tests}
+use Rattle.std.proofs.lemmas.List.Folds.{list_any_at, list_any_none}
+use Rattle.std.proofs.lemmas.List.Sums.{fails_before_first}
+use Rattle.std.proofs.lemmas.List.Quantifiers.{position-Some}
+use Rattle.h5_bytes.specs.declared.Block.{Block}
+use Rattle.h5_space.specs.Space.{growth}
+
+pub any_found : {X : Type 0} (p : X → Bool) (xs : List X) (k : ℕ) (d : X) → position p xs ≡ Some k → list_any p xs ≡ true
+any_found p xs k d is = let found = position-Some p xs k d is in list_any_at p xs k d found.0 found.1
+
+pub any_missing : {X : Type 0} (p : X → Bool) (xs : List X) → position p xs ≡ None → list_any p xs ≡ false
+any_missing p xs is =
+    let all : length xs ≤ position_or_len p xs = grind (arith, nat_tests, is) in
+    list_any_none p xs (λ k d l. fails_before_first p xs k d (omega arith))
+
+-- the end stays where a free block is as long, and else rises by all of the request
+pub growth_found : (len : ℕ) (free : List Block) (k : ℕ) (d : Block) → position (λ (b : Block). nat_le len b.len) free ≡ Some k → growth len free ≡ 0
+growth_found len free k d is = ap (λ b. cond b 0 len) (any_found (λ (b : Block). nat_le len b.len) free k d is)
+
+pub growth_missing : (len : ℕ) (free : List Block) → position (λ (b : Block). nat_le len b.len) free ≡ None → growth len free ≡ len
+growth_missing len free is = ap (λ b. cond b 0 len) (any_missing (λ (b : Block). nat_le len b.len) free is)

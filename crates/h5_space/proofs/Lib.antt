@@ -1,0 +1,6 @@
+pub mod FitLaws
+pub mod SpacedLaws
+pub mod GivingLaws
+pub mod PartLaws
+pub mod WholeLaws
+pub mod IslandLaws

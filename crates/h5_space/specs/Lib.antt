@@ -1,0 +1,6 @@
+pub mod Space
+pub mod Room
+pub mod Lending
+pub mod Whole
+pub mod Claimed
+pub mod Islands

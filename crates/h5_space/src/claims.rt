@@ -1,0 +1,130 @@
+ghost use Rattle.std.specs.Prelude.{◌≡◌, ℕ, ◌+◌, ◌<◌, ◌≤◌, ◌^◌, [], ◌↔◌, OnOk, OnErr, IsOk, Err, IfSome, IfNone, IsSome, Some, None};
+ghost use Rattle.std.specs.BTreeMap.{get, IsOrdered};
+ghost use Rattle.std.specs.Ordering.{nat_cmp};
+ghost use Rattle.h5_bytes.specs.Blocks.{holds, cover, Separate};
+ghost use Rattle.h5_space.specs.Claimed.{Shares};
+ghost use Rattle.h5_space.specs.Islands.{IsIslands, blocks_of, length_at};
+
+use h5_bytes::Block;
+use std::alloc::Global;
+use std::collections::BTreeMap;
+use std::marker::Model;
+
+/// Why a block cannot be claimed.
+#[derive(Clone, Copy, Debug, PartialEq, Eq)]
+pub enum ClaimFault {
+    /// The block passes the end.
+    Truncated,
+    /// The block shares a byte with a claimed one.
+    Overlap,
+    /// A growth was refused.
+    NoMemory,
+}
+
+/// The blocks that a walk has claimed below an end.
+///
+/// What matters of them is which bytes they hold, so neighbours are kept as one block. A claim takes
+/// time logarithmic in their number, in whatever order they come.
+#[derive(Drop)]
+pub struct Claims {
+    end: u64,
+    // From the place of a block to its length.
+    held: BTreeMap<u64, u64>,
+}
+
+impl Model for Claims {
+    ghost use Rattle.h5_space.specs.Claimed.{Claimed};
+
+    ghost Value = { Claimed };
+
+    ghost use Rattle.h5_space.specs.Islands.{IsIslands, blocks_of};
+
+    ghost view = { λ s. record { end = s.end; held = blocks_of s.held.entries } };
+
+    ghost invariant = { λ s. IsIslands s.held s.end };
+}
+
+impl Claims {
+    /// Nothing is claimed of the bytes below `end`. Takes no memory.
+    pub fn new(alloc: Global, end: u64) -> Claims
+        ensures { result ≡ record { end = end; held = [] } }
+    {
+        Claims {
+            end,
+            held: BTreeMap::new(alloc),
+        }
+    }
+
+    /// Claims the `len` bytes from place `at`.
+    ///
+    /// `Truncated` where they pass the end; else `Overlap` where one of them is claimed already; else
+    /// `NoMemory` where a growth is refused. A block of 0 bytes shares none, and takes no memory. A
+    /// refused claim changes nothing.
+    pub fn claim(&mut self, at: u64, len: u64) -> Result<(), ClaimFault>
+        ensures inside { OnOk result (at + len ≤ self.old.end) }
+        ensures claimed { OnOk result ((p : ℕ) → cover p self.new.held ≡ cover p self.old.held + holds p at len) }
+        ensures separate { Separate self.new.held }
+        ensures end { self.new.end ≡ self.old.end }
+        ensures truncated { (result ≡ Err ClaimFault.Truncated) ↔ (self.old.end < at + len) }
+        ensures overlap { (result ≡ Err ClaimFault.Overlap) ↔ ((at + len ≤ self.old.end) × Shares self.old.held at len) }
+        ensures empty { len ≡ 0 → at ≤ self.old.end → IsOk result }
+        ensures err { OnErr result (self.new ≡ self.old) }
+    {
+        if at > self.end || len > self.end - at {
+            return Err(ClaimFault::Truncated);
+        }
+        if len == 0 {
+            return Ok(());
+        }
+        let Some(joined) = joined_before(&self.held, at, len) else {
+            return Err(ClaimFault::Overlap);
+        };
+        let past = at + len;
+        let after = self.held.get(&past).copied().unwrap_or(0);
+        if self.held.insert(joined.at, joined.len + after).is_err() {
+            return Err(ClaimFault::NoMemory);
+        }
+        self.held.remove(&past);
+        Ok(())
+    }
+}
+
+/// The block that these bytes make, with the one that ends where they begin where there is one;
+/// `None` where one of them is held already.
+fn joined_before(held: &BTreeMap<u64, u64>, at: u64, len: u64) -> Option<Block>
+    requires filled { 0 < len }
+    requires islands { (end : ℕ) × (end < 2 ^ 64) × (at + len ≤ end) × IsIslands held.now end }
+    ensures shared { IfNone result (Shares (blocks_of held.now.entries) at len) }
+    ensures apart { IfSome result (λ b. (p : ℕ) → cover p (blocks_of held.now.entries) + holds p at len ≤ 1) }
+    ensures ends { IfSome result (λ b. (b.at ≤ at) × (b.at + b.len ≡ at + len)) }
+    ensures joined { IfSome result (λ b. (p : ℕ) → holds p b.at b.len ≡ holds p b.at (length_at held.now b.at) + holds p at len) }
+{
+    let alone = Block { at, len };
+    match last_before(held, at + len) {
+        None => Some(alone),
+        Some(before) => {
+            let end = before.at + before.len;
+            if end > at {
+                None
+            } else if end == at {
+                Some(Block {
+                    at: before.at,
+                    len: before.len + len,
+                })
+            } else {
+                Some(alone)
+            }
+        }
+    }
+}
+
+/// The last block that begins before `past`.
+fn last_before(held: &BTreeMap<u64, u64>, past: u64) -> Option<Block>
+    ensures found { IfSome result (λ b. (b.at < past) × (get nat_cmp held.now b.at ≡ Some b.len)) }
+    ensures last { IfSome result (λ b. (k : ℕ) → k < past → IsSome (get nat_cmp held.now k) → k ≤ b.at) }
+    ensures none { IfNone result ((k : ℕ) → k < past → get nat_cmp held.now k ≡ None) }
+    ensures ordered { IsOrdered nat_cmp held.now }
+{
+    let (&at, &len) = held.range(..past).next_back()?;
+    Some(Block { at, len })
+}

@@ -1,0 +1,13 @@
+//! The bytes of a file image, its free blocks, and the blocks that a walk over it has claimed.
+//!
+//! Places and lengths are in bytes.
+#![tactic(auto)]
+
+mod claims;
+mod free_list;
+mod image;
+#[cfg(test)]
+mod tests;
+
+pub use claims::{ClaimFault, Claims};
+pub use image::{Image, SpaceFault};
