@@ -45,3 +45,4 @@ pub mod Reached
 pub mod HeaderFaults
 pub mod TreeFaults
 pub mod Faults
+pub mod Plain
