@@ -12,6 +12,7 @@ cells_le (d ∷ ds) = elim (d == 0) as (λ b. (d == 0) ≡ b → d * cells ds �
   | false ↦ λ _. mul-le-mul_left d (cells_le ds)
 ] refl
 
+-- the same, from the test of a saturated product
 pub cells_few : (sizes : List ℕ) (most top : ℕ) → most < top → IsTrue (nat_le (min (extent_cells sizes) top) most) → cells sizes ≤ most
 cells_few sizes most top room h =
     let product : min (extent_cells sizes) top ≤ most = grind (arith, nat_tests) in

@@ -10,13 +10,16 @@ use Rattle.byteorder.proofs.Bytes.{pow256}
 use Rattle.h5_model.specs.Fixed.{Fixed, IsFixed, raw_at, value_at, value_of, bytes_of, fits}
 use Rattle.h5_model.proofs.FixedLaws.{value_back}
 
+-- a type has at least one byte
 some_byte : (t : Fixed) → IsFixed t → 1 ≤ t.size
 some_byte t sound = grind (arith, nat_tests, sound.size)
 
+-- a value of the type is read from its own bytes
 pub value_of_bytes : (t : Fixed) (v : ℤ) (bytes : List ℕ) → IsFixed t → fits t v ≡ true → bytes ≡ bytes_of t v → value_of t bytes ≡ v
 value_of_bytes t v bytes sound fit same =
     ap (value_of t) (same ∙ sym (append-nil (bytes_of t v))) ∙ value_back t v [] (some_byte t sound) fit
 
+-- the unsigned number of a type has no more bits than the type
 raw_low : (t : Fixed) (bytes : List ℕ) → ((i : ℕ) → slice_index bytes i < 256) → raw_at t bytes 0 < 256 ^ t.size
 unfolding raw_at
 raw_low t bytes low = elim (t.big) as (λ b. cond b (big_from 0 t.size bytes) (little_from 0 t.size bytes) < 256 ^ t.size) [
@@ -38,11 +41,13 @@ module _ (half full : ℕ) (twice : full ≡ half + half) where
         rw below (grind (arith, nat_tests))
   ] refl
 
+-- the two tests of a value say the same
 same_test : (t : Fixed) (twice : 2 ^ (8 * t.size) ≡ 2 ^ (8 * t.size - 1) + 2 ^ (8 * t.size - 1)) (v : ℤ)
     → is_of (2 ^ (8 * t.size - 1)) (2 ^ (8 * t.size)) twice t.signed v ≡ fits t v
 same_test t twice (pos n) = refl
 same_test t twice (negsuc n) = refl
 
+-- what any bytes stand for is a value of the type
 pub fits_value_of : (t : Fixed) (bytes : List ℕ) → IsFixed t → ((i : ℕ) → slice_index bytes i < 256) → fits t (value_of t bytes) ≡ true
 unfolding value_at
 fits_value_of t bytes sound low =
