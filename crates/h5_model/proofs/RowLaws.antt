@@ -13,7 +13,7 @@ use Rattle.h5_model.specs.Rows.{Node, Reading, blank, only, next_row, first_or_u
 abbrev AreListed : List ℕ → List ℕ → Type 0
 AreListed owned xs = AllByRecursion (λ at. list_any (λ n. n == at) owned ≡ true) xs
 
-same_number : (n : ℕ) → (n == n) ≡ true
+pub same_number : (n : ℕ) → (n == n) ≡ true
 same_number n = grind (arith, nat_tests)
 
 equal_number : (n at : ℕ) → (n == at) ≡ true → n ≡ at
