@@ -77,3 +77,16 @@ part-appended bytes more = same_lists _ _ (search (rules, places)) (λ k d l. gr
 pub part-whole : (bytes : List ℕ) → part 0 (length bytes) bytes ≡ bytes
 unfolding part
 part-whole bytes = same_lists _ _ (search (rules, places)) (λ k d l. grind (arith, places))
+
+-- a part that is written into a part of the whole, which is then put back
+pub with_part-with_part : (at len a : ℕ) (new bytes : List ℕ) → at + len ≤ length bytes → a + length new ≤ len
+    → with_part at (with_part a new (part at len bytes)) bytes ≡ with_part (at + a) new bytes
+unfolding part
+with_part-with_part at len a new bytes h inner =
+    let long : length (part at len bytes) ≡ len = length-part at len bytes h in
+    let same : length (with_part a new (part at len bytes)) ≡ len = length-with_part a new (part at len bytes) (omega arith) ∙ long in
+    with_part_is at (with_part a new (part at len bytes)) bytes (omega arith)
+    ∙ ap (λ n. take at bytes ++ (with_part a new (part at len bytes) ++ drop (at + n) bytes)) same
+    ∙ ap (λ w. take at bytes ++ (w ++ drop (at + len) bytes)) (with_part_is a new (part at len bytes) (omega arith))
+    ∙ same_lists _ _ (search (rules, places)) (λ k d l. grind (arith, places))
+    ∙ sym (with_part_is (at + a) new bytes (omega arith))

@@ -62,11 +62,13 @@ impl Claims {
     /// refused claim changes nothing.
     pub fn claim(&mut self, at: u64, len: u64) -> Result<(), ClaimFault>
         ensures inside { OnOk result (at + len ≤ self.old.end) }
-        ensures claimed { OnOk result ((p : ℕ) → cover p self.new.held ≡ cover p self.old.held + holds p at len) }
+        ensures claimed { OnOk result ((p : ℕ)
+            → cover p self.new.held ≡ cover p self.old.held + holds p at len) }
         ensures separate { Separate self.new.held }
         ensures end { self.new.end ≡ self.old.end }
         ensures truncated { (result ≡ Err ClaimFault.Truncated) ↔ (self.old.end < at + len) }
-        ensures overlap { (result ≡ Err ClaimFault.Overlap) ↔ ((at + len ≤ self.old.end) × Shares self.old.held at len) }
+        ensures overlap { (result ≡ Err ClaimFault.Overlap)
+            ↔ ((at + len ≤ self.old.end) × Shares self.old.held at len) }
         ensures empty { len ≡ 0 → at ≤ self.old.end → IsOk result }
         ensures err { OnErr result (self.new ≡ self.old) }
     {
@@ -95,9 +97,11 @@ fn joined_before(held: &BTreeMap<u64, u64>, at: u64, len: u64) -> Option<Block>
     requires filled { 0 < len }
     requires islands { (end : ℕ) × (end < 2 ^ 64) × (at + len ≤ end) × IsIslands held.now end }
     ensures shared { IfNone result (Shares (blocks_of held.now.entries) at len) }
-    ensures apart { IfSome result (λ b. (p : ℕ) → cover p (blocks_of held.now.entries) + holds p at len ≤ 1) }
+    ensures apart { IfSome result (λ b. (p : ℕ)
+        → cover p (blocks_of held.now.entries) + holds p at len ≤ 1) }
     ensures ends { IfSome result (λ b. (b.at ≤ at) × (b.at + b.len ≡ at + len)) }
-    ensures joined { IfSome result (λ b. (p : ℕ) → holds p b.at b.len ≡ holds p b.at (length_at held.now b.at) + holds p at len) }
+    ensures joined { IfSome result (λ b. (p : ℕ)
+        → holds p b.at b.len ≡ holds p b.at (length_at held.now b.at) + holds p at len) }
 {
     let alone = Block { at, len };
     match last_before(held, at + len) {

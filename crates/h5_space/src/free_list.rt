@@ -17,7 +17,8 @@ pub(crate) fn first_fit(free: &[Block], len: u64) -> Option<usize>
 pub(crate) fn cut(free: &mut Vec<Block>, k: usize, len: u64) -> u64
     requires place { k < vec_len free.old }
     requires fits { (d : Block) → len ≤ (slice_index_or free.old.items k d).len }
-    requires small { (d : Block) → (slice_index_or free.old.items k d).at + (slice_index_or free.old.items k d).len < 2 ^ 64 }
+    requires small { (d : Block) → (slice_index_or free.old.items k d).at
+        + (slice_index_or free.old.items k d).len < 2 ^ 64 }
     ensures taken { (p : ℕ) → cover p free.new.items + holds p result len ≡ cover p free.old.items }
     ensures inside { (end : ℕ) → IsSpaced free.old.items end → result + len ≤ end }
     ensures joined { (end : ℕ) → IsSpaced free.old.items end → IsSpaced free.new.items end }
@@ -84,8 +85,12 @@ pub(crate) fn put_back(free: &mut Vec<Block>, end: u64, at: u64, len: u64)
 /// The block before place `k`, where it ends at `at`.
 fn ends_at(free: &[Block], k: usize, at: u64) -> Option<Block>
     requires place { k ≤ length free.now }
-    requires small { (d : Block) → 0 < k → (slice_index_or free.now (k - 1) d).at + (slice_index_or free.now (k - 1) d).len < 2 ^ 64 }
-    ensures { MatchOption result ((d : Block) → 0 < k → (slice_index_or free.now (k - 1) d).at + (slice_index_or free.now (k - 1) d).len ≢ at) (λ x. (0 < k) × (x ≡ slice_index_or free.now (k - 1) x) × (x.at + x.len ≡ at)) }
+    requires small { (d : Block) → 0 < k → (slice_index_or free.now (k - 1) d).at
+        + (slice_index_or free.now (k - 1) d).len < 2 ^ 64 }
+    ensures { MatchOption result
+        ((d : Block) → 0 < k → (slice_index_or free.now (k - 1) d).at
+        + (slice_index_or free.now (k - 1) d).len ≢ at)
+        (λ x. (0 < k) × (x ≡ slice_index_or free.now (k - 1) x) × (x.at + x.len ≡ at)) }
 {
     if k == 0 {
         return None;
@@ -100,7 +105,9 @@ fn ends_at(free: &[Block], k: usize, at: u64) -> Option<Block>
 
 /// The block at place `k`, where it begins at `at`.
 fn begins_at(free: &[Block], k: usize, at: u64) -> Option<Block>
-    ensures { MatchOption result ((d : Block) → k < length free.now → at ≢ (slice_index_or free.now k d).at) (λ x. (k < length free.now) × (x ≡ slice_index_or free.now k x) × (at ≡ x.at)) }
+    ensures { MatchOption result
+        ((d : Block) → k < length free.now → at ≢ (slice_index_or free.now k d).at)
+        (λ x. (k < length free.now) × (x ≡ slice_index_or free.now k x) × (at ≡ x.at)) }
 {
     if k >= free.len() {
         return None;
@@ -114,7 +121,8 @@ fn place_of(free: &[Block], at: u64) -> usize
     requires { (end : ℕ) × IsSpaced free.now end }
     ensures bound { result ≤ length free.now }
     ensures before { (k : ℕ) (d : Block) → k < result → (slice_index_or free.now k d).at < at }
-    ensures after { (k : ℕ) (d : Block) → result ≤ k → k < length free.now → at ≤ (slice_index_or free.now k d).at }
+    ensures after { (k : ℕ) (d : Block) → result ≤ k → k < length free.now
+        → at ≤ (slice_index_or free.now k d).at }
 {
     free.partition_point(|b| b.at < at)
 }

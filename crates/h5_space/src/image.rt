@@ -92,6 +92,7 @@ impl Image {
     pub fn part(&self, at: u64, len: u64) -> Option<&[u8]>
         ensures inside { IsSome result ↔ (at + len ≤ length self.now.bytes) }
         ensures value { IfSome result (λ x. x.now ≡ part at len self.now.bytes) }
+        ensures size { IfSome result (λ x. length x.now ≡ len) }
     {
         if !self.has(at, len) {
             return None;
@@ -107,6 +108,7 @@ impl Image {
         requires { at + len ≤ length self.old.bytes }
         ensures* lends { sem 𝓛 (LendsPart self.entry at result) }
         ensures value { result.now ≡ part at len self.old.bytes }
+        ensures size { length result.now ≡ len }
     {
         self.bytes.slice_mut(at as usize..(at + len) as usize)
     }
@@ -119,7 +121,10 @@ impl Image {
     /// nothing.
     pub fn reserve(&mut self, bytes: u64, blocks: u64) -> Result<(), SpaceFault>
         ensures full { (result ≡ Err SpaceFault.ImageFull) ↔ (2 ^ 31 < length self.old.bytes + bytes) }
-        ensures ok { OnOk result (self.new ≡ record self.old { room_bytes = max self.old.room_bytes bytes; room_blocks = max self.old.room_blocks blocks }) }
+        ensures ok { OnOk result (self.new ≡ record self.old {
+          room_bytes = max self.old.room_bytes bytes;
+          room_blocks = max self.old.room_blocks blocks;
+        }) }
         ensures err { OnErr result (self.new ≡ self.old) }
         ensures covered { bytes ≤ self.old.room_bytes → blocks ≤ self.old.room_blocks
             → length self.old.bytes + bytes ≤ 2 ^ 31 → IsOk result }

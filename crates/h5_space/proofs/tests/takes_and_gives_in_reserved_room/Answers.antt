@@ -1,6 +1,6 @@
-use Rattle.std.proofs.Common.{◌≡◌, ℕ, ◌≤◌, ◌+◌, Result, Ok, Err, max, length, ap, ◌∙◌, arith}
+use Rattle.std.proofs.Common.{◌≡◌, ℕ, Result, Ok, Err, length, ap, arith}
 use Rattle.std.specs.Result.{OnOk, OnErr}
-use Rattle.h5_bytes.specs.Blocks.{holds, cover}
+use Rattle.h5_bytes.specs.Blocks.{cover}
 use Rattle.h5_bytes.proofs.BlockLaws.{holds-le}
 use Rattle.h5_space.specs.Space.{Space, growth}
 use Rattle.h5_space.proofs.tests.takes_and_gives_in_reserved_room.Goals as goal
