@@ -1,14 +1,12 @@
 -- Edits keep a state: object 0 stays a group, and each object's number was given out.
-use Rattle.std.proofs.Common.{◌≡◌, ℕ, ◌+◌, ◌<◌, ◌≤◌, Bool, true, false, cond, List, refl, sym, ◌∙◌, ap, Option, Some, None, is_some, nat_le, arith}
+use Rattle.std.proofs.Common.{◌≡◌, ℕ, ◌+◌, ◌<◌, ◌≤◌, Bool, true, false, cond, List, refl, sym, ◌∙◌, ap, Some, None, is_some, nat_le, arith}
 use Rattle.std.proofs.lemmas.Bool.Decides.{nat_tests}
-use Rattle.std.specs.Prelude.{IsSome}
 use Rattle.std.specs.Ordering.{nat_cmp, eq_by_cmp}
 use Rattle.std.specs.Cmp.{nat_cmp_total}
-use Rattle.std.specs.declared.cmp.Ordering.{Ordering}
 use Rattle.std.specs.declared.cmp.Ordering.TheVariants.{Less, Equal, Greater}
 use Rattle.std.specs.FinMap.{get, insert, remove, retain_keys, empty, get-insert, get_tied, get-retain_keys, nat_cmp-IsAntisymmetric}
 use Rattle.std.specs.Option.{option_map_or, option_and_then}
-use Rattle.h5_model.specs.Tree.{Tree, Link, ToObject, Soft, Links, Object, Content, Group, Array, Dataset, Attributes, links_in, links_of, with_object, only_reached, is_reached, within_names}
+use Rattle.h5_model.specs.Tree.{Tree, Link, ToObject, Soft, Links, Object, Group, Array, Dataset, links_in, with_object, only_reached, is_reached, within_names}
 use Rattle.h5_model.specs.Paths.{parent_at, object_at}
 use Rattle.h5_model.specs.Edits.{State, state_after, applied, linked, unlinked, linked_to, with_links, with_dataset, with_attributes, with_object_at, new_object, new_dataset, attribute_from, written, resized, makes_object}
 use Rattle.h5_model.specs.Selection.{axes_of}
@@ -39,13 +37,13 @@ passes-with_object : (test : Object → Bool) (change : Object → Object) → (
     → passes test (with_object tree number change) m ≡ passes test tree m
 passes-with_object test change keeps tree number m = elim (get tree number) as (λ found. get tree number ≡ found
     → option_map_or test (get (option_map_or (λ o. insert tree number (change o)) found tree) m) false ≡ passes test tree m) [
-  | None ↦ λ _. refl
-  | Some o ↦ λ there. ap (λ found. option_map_or test found false) (get-insert nat_cmp_total tree number (change o) m)
-      ∙ elim (eq_by_cmp nat_cmp m number) as (λ b. eq_by_cmp nat_cmp m number ≡ b → option_map_or test (cond b (Some (change o)) (get tree m)) false ≡ passes test tree m) [
-        | true ↦ λ same. keeps o ∙ ap (λ found. option_map_or test found false) (sym there ∙ get_tied nat_cmp_total tree m number (same_number m number same))
-        | false ↦ λ _. refl
-      ] refl
-] refl
+      | None ↦ λ _. refl
+      | Some o ↦ λ there. ap (λ found. option_map_or test found false) (get-insert nat_cmp_total tree number (change o) m)
+          ∙ elim (eq_by_cmp nat_cmp m number) as (λ b. eq_by_cmp nat_cmp m number ≡ b → option_map_or test (cond b (Some (change o)) (get tree m)) false ≡ passes test tree m) [
+            | true ↦ λ same. keeps o ∙ ap (λ found. option_map_or test found false) (sym there ∙ get_tied nat_cmp_total tree m number (same_number m number same))
+            | false ↦ λ _. refl
+          ] refl
+    ] refl
 
 group-with_links : (change : Links → Links) (o : Object) → is_group (with_links change o) ≡ is_group o
 group-with_links change o = elim (o.content) as (λ content. is_some (links_in ((with_links change (record o { content = content })).content)) ≡ is_some (links_in content)) [

@@ -1,4 +1,5 @@
--- How a script's bytes are read: lines, words, numbers and lists, and what each line asks for.
+-- How a script's bytes are read: lines, words, numbers and lists, and what each line asks for. Lines end with a line feed, which the
+-- last may lack; words are separated by one space, so none is empty. What is of no form is a bad line.
 use Rattle.std.specs.Prelude.{ℕ, zero, suc, ◌+◌, ◌-◌, ◌*◌, ◌^◌, ◌==◌, ◌&&◌, ◌||◌, Bool, true, false, not, nat_le, nat_lt, if◌then◌else◌, ℤ, pos, neg_ℤ, Option, Some, None, List, [], ◌∷◌, ◌++◌, map, filter_map, length, drop, take, slice_index, codes, find, option_map, option_and_then, unwrap_or}
 use Rattle.std.specs.Str.{bytes_eq}
 use Rattle.std.specs.List.{list_any, list_all, slice_split, suffix_len}

@@ -4,7 +4,7 @@ use Rattle.std.specs.Prelude.{ℕ, ◌+◌, ◌*◌, Bool, true, not, nat_lt, if
 use Rattle.std.specs.FinMap.{entries, len}
 use Rattle.h5_bytes.specs.Texts.{pad8}
 use Rattle.h5_model.specs.Places.{cells}
-use Rattle.h5_model.specs.Tree.{Object, Content, Group, Array, Dataset, Storage, Compact, Contiguous, Chunked, Attribute, Kept, are_sizes}
+use Rattle.h5_model.specs.Tree.{Object, Content, Group, Array, Storage, Compact, Contiguous, Chunked, Attribute, Kept, are_sizes}
 
 -- ---- nodes and heaps
 
