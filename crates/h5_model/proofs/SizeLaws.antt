@@ -3,7 +3,7 @@ use Rattle.std.proofs.Common.{◌≡◌, ℕ, ◌+◌, ◌*◌, List, length, re
 use Rattle.h5_model.specs.Places.{cells}
 use Rattle.h5_model.specs.Tree.{Array}
 use Rattle.h5_model.specs.AttributeBody as body
-use Rattle.h5_model.specs.Sizes.{attribute_size, dataspace_size, header_size}
+use Rattle.h5_model.specs.Sizes.{attribute_size, dataspace_length, header_size}
 use Rattle.h5_model.specs.Bounds.{new_header}
 use Rattle.h5_model.specs.Edits.{new_object, new_dataset}
 use Rattle.h5_model.specs.declared.dataset.Spec.{Spec}
@@ -11,7 +11,7 @@ use Rattle.h5_model.proofs.MapSteps.{known}
 
 -- the data of an attribute body whose parts have the lengths that are written end where the body does
 pub attribute_size-data_place : (bytes : List ℕ) (name : ℕ) (sizes : List ℕ) (size : ℕ)
-    → body.name_size bytes ≡ name + 1 → body.datatype_size bytes ≡ 12 → body.dataspace_size bytes ≡ dataspace_size (length sizes)
+    → body.name_size bytes ≡ name + 1 → body.datatype_size bytes ≡ 12 → body.dataspace_size bytes ≡ dataspace_length (length sizes)
     → body.data_place bytes + cells sizes * size ≡ attribute_size name sizes size
 attribute_size-data_place bytes name sizes size n t s = rw (n, t, s) refl
 
