@@ -4,9 +4,10 @@ use Rattle.h5_model.specs.Fixed.{Fixed, value_at, value_of, raw_at, bytes_of, fi
 use Rattle.h5_model.specs.Places.{place_of}
 use Rattle.h5_model.specs.Selection.{Slab, selection_of, selected_cells, is_within, is_one_run, is_selected}
 use Rattle.h5_model.specs.Grid.{corner_of, inner_of}
-use Rattle.h5_model.specs.Views.{met_boxes}
+use Rattle.h5_model.specs.Views.{met_boxes, is_lent}
+use Rattle.h5_model.specs.Tree.{Dataset, Storage, Compact, Contiguous, Chunked}
 use Rattle.h5_model.specs.Places.{is_inside}
-use Rattle.h5_model.specs.Extent.{extent_of}
+use Rattle.h5_model.specs.Extent.{extent_of, maximum_fits}
 use Rattle.h5_model.specs.Datatype.{fixed_of}
 use Rattle.h5_model.specs.Fill.{fill_value}
 use Rattle.h5_model.specs.Layout.{layout_of, InBlock}
@@ -128,12 +129,43 @@ shrunk_other : length (met_boxes (5 ∷ 4 ∷ []) (2 ∷ 3 ∷ []) lost every_ot
 unfolding met_boxes
 shrunk_other = refl
 
+-- ---- views
+
+abbrev three_bytes : Storage → Dataset
+three_bytes storage = record { fixed = u8; sizes = 3 ∷ []; maxima = Some 3 ∷ []; storage = storage; fill = pos 0; cells = pos 7 ∷ pos 8 ∷ pos 9 ∷ [] }
+
+lent_run : is_lent (three_bytes (Contiguous true)) (record { start = 1; stride = 1; count = 2; block = 1 } ∷ []) ≡ true
+unfolding selection_of
+lent_run = refl
+
+-- cells that are not stored are not lent, nor are chunks, nor cells of which one lies outside
+not_stored : is_lent (three_bytes (Contiguous false)) (record { start = 1; stride = 1; count = 2; block = 1 } ∷ []) ≡ false
+unfolding selection_of
+not_stored = refl
+
+in_chunks : is_lent (three_bytes (Chunked (3 ∷ []))) (record { start = 1; stride = 1; count = 2; block = 1 } ∷ []) ≡ false
+unfolding selection_of
+in_chunks = refl
+
+lent_outside : is_lent (three_bytes Compact) (record { start = 2; stride = 1; count = 2; block = 1 } ∷ []) ≡ false
+unfolding selection_of
+lent_outside = refl
+
 -- ---- message bodies
 
 -- one size of 3, without maxima
 space : extent_of (1 ∷ 1 ∷ 0 ∷ 0 ∷ 0 ∷ 0 ∷ 0 ∷ 0 ∷ 3 ∷ 0 ∷ 0 ∷ 0 ∷ 0 ∷ 0 ∷ 0 ∷ 0 ∷ []) ≡ Some (record { sizes = 3 ∷ []; maxima = Some 3 ∷ [] })
 unfolding extent_of number_at
 space = refl
+
+-- a size alone is its own maximum, all ones too; only a maximum of all ones is unlimited
+largest_size : extent_of (1 ∷ 1 ∷ 0 ∷ 0 ∷ 0 ∷ 0 ∷ 0 ∷ 0 ∷ replicate 8 255) ≡ Some (record { sizes = 18446744073709551615 ∷ []; maxima = Some 18446744073709551615 ∷ [] })
+unfolding extent_of number_at
+largest_size = refl
+
+unlimited : extent_of (1 ∷ 1 ∷ 1 ∷ 0 ∷ 0 ∷ 0 ∷ 0 ∷ 0 ∷ 3 ∷ 0 ∷ 0 ∷ 0 ∷ 0 ∷ 0 ∷ 0 ∷ 0 ∷ replicate 8 255) ≡ Some (record { sizes = 3 ∷ []; maxima = None ∷ [] })
+unfolding extent_of maximum_fits number_at
+unlimited = refl
 
 -- rank 33
 too_many_dimensions : extent_of (1 ∷ 33 ∷ 0 ∷ 0 ∷ 0 ∷ 0 ∷ 0 ∷ 0 ∷ replicate 264 0) ≡ None

@@ -1,12 +1,11 @@
 -- Maps of known entries, step by step: what `simp` computes a worked example by.
-use Rattle.std.proofs.Common.{◌≡◌, ℕ, Bool, true, List, [], ◌∷◌, refl, sym, ◌∙◌, ap, subst, length, cond, Option, None, not, false}
-use Rattle.std.specs.Prelude.{IsTrue}
+use Rattle.std.proofs.Common.{◌≡◌, ℕ, Bool, true, List, [], refl, sym, ◌∙◌, ap, subst, length, cond, Option, None, not, false}
 use Rattle.std.specs.Ordering.{nat_cmp, eq_by_cmp}
 use Rattle.std.specs.Cmp.{IsTotalOrder, nat_cmp_total, eq_by_cmp_equiv}
 use Rattle.std.specs.Cmp.Lexicographic.{slice_cmp, nat_list_cmp_total}
 use Rattle.std.specs.declared.cmp.Ordering.{Ordering}
 use Rattle.std.specs.declared.cmp.Ordering.TheVariants.{Equal}
-use Rattle.std.specs.FinMap.{FinMap, IsAntisymmetric, nat_cmp-IsAntisymmetric, slice_cmp-IsAntisymmetric, find, put, is_sorted, get, insert, retain_keys, remove, entries, len, empty, from_sorted, same_entries_map, same_map, get-from_sorted, entries-from_sorted, entries-insert, get-retain_keys, get-remove, empty_of_len, len-entries}
+use Rattle.std.specs.FinMap.{IsAntisymmetric, nat_cmp-IsAntisymmetric, slice_cmp-IsAntisymmetric, find, put, is_sorted, get, insert, retain_keys, remove, entries, len, empty, from_sorted, same_entries_map, same_map, get-from_sorted, entries-from_sorted, entries-insert, get-retain_keys, get-remove, empty_of_len, len-entries}
 use Rattle.std.specs.FinMap.Entries.{where_key, find-where_key, is_sorted-where_key, is_sorted-put}
 use Rattle.std.specs.Prelude.{T}
 

@@ -1,5 +1,5 @@
 -- A script's answers, piece by piece.
-use Rattle.std.proofs.Common.{◌≡◌, ℕ, List, [], ◌∷◌, ◌++◌, refl, sym, ◌∙◌, ap, append_assoc, length, arith}
+use Rattle.std.proofs.Common.{◌≡◌, List, [], ◌∷◌, ◌++◌, refl, sym, ◌∙◌, ap, append_assoc, length, arith}
 use Rattle.h5_model.specs.States.{Session}
 use Rattle.h5_model.specs.Lines.{Command}
 use Rattle.h5_model.specs.Script.{Given, answer_of, transcript_of, session_after, outcomes_of}

@@ -1,19 +1,13 @@
 -- Sessions of known entries, and what a script leads to in them: for the worked transcripts.
-use Rattle.std.proofs.Common.{◌≡◌, ℕ, List, [], ◌∷◌, refl, true, false, Bool, Some, None, Option, ℤ, pos, negsuc, codes}
+use Rattle.std.proofs.Common.{◌≡◌, ℕ, List, [], ◌∷◌, true, false, Some, None, ℤ, pos}
 use Rattle.std.specs.Prelude.{unwrap_or}
-use Rattle.std.specs.Fmt.{digits}
 use Rattle.std.specs.FinMap.{from_sorted}
-use Rattle.h5_model.specs.Fixed.{Fixed, value_at, raw_at, bytes_of}
-use Rattle.h5_model.specs.Tree.{Link, ToObject, Soft, Object, Content, Group, Array, Dataset, Storage, Compact, Contiguous, Chunked, Attribute, within_names, is_reached}
-use Rattle.h5_model.specs.Paths.{names_of}
-use Rattle.h5_model.specs.Edits.{applied}
-use Rattle.h5_model.specs.Refusal.{refusal_of}
-use Rattle.h5_model.specs.Selection.{selection_of}
-use Rattle.h5_model.specs.Views.{View, met_boxes}
+use Rattle.h5_model.specs.Fixed.{Fixed}
+use Rattle.h5_model.specs.Tree.{Link, Object, Content, Group, Array, Dataset, Storage}
+use Rattle.h5_model.specs.Views.{View}
 use Rattle.h5_model.specs.States.{Session}
-use Rattle.h5_model.specs.Lines.{unescaped, type_from, line_asks, Command, Unread}
+use Rattle.h5_model.specs.Lines.{line_asks, Command, Unread}
 use Rattle.h5_model.specs.Script.{Answer, answer_of}
-use Rattle.h5_model.specs.Text.{lines_below}
 
 -- a session whose tree and views have these entries
 abbrev pub session_of : List (ℕ × Object) → ℕ → List (ℕ × View) → ℕ → Session

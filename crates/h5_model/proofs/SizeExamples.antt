@@ -1,20 +1,19 @@
 -- Lengths of images and bounds of edits, by computation.
-use Rattle.std.proofs.Common.{◌≡◌, ℕ, List, [], ◌∷◌, refl, true, false, Bool, Some, None, pos, negsuc, codes}
+use Rattle.std.proofs.Common.{◌≡◌, ℕ, [], ◌∷◌, refl, true, false, Some, pos, negsuc, codes}
 use Rattle.std.specs.FinMap.{from_sorted}
-use Rattle.h5_model.specs.Tree.{ToObject, Object, Content, Group, Array, Contiguous, Chunked}
+use Rattle.h5_model.specs.Tree.{ToObject, Group, Array, Contiguous}
 use Rattle.h5_model.specs.Paths.{names_of}
 use Rattle.h5_model.specs.Sizes.{attribute_size, header_size}
-use Rattle.h5_model.specs.PlainLength.{plain_length, nodes_over, rows_of}
+use Rattle.h5_model.specs.PlainLength.{plain_length, nodes_over}
 use Rattle.h5_model.specs.Bounds.{Room, bound_of, new_header}
 use Rattle.h5_model.specs.ImageAnswers.{Facts, is_image_full, is_header_full}
 use Rattle.h5_model.specs.Edits.{new_object, new_dataset}
 use Rattle.h5_model.specs.States.{Session}
 use Rattle.h5_model.specs.declared.dataset.Spec.{Spec}
 use Rattle.h5_model.specs.declared.dataset.Store.TheVariants as store
-use Rattle.h5_model.specs.declared.edits.Edit.{Edit}
 use Rattle.h5_model.specs.declared.edits.Edit.TheVariants.{CreateGroup, CreateDataset, SetAttr, Resize}
 use Rattle.h5_model.proofs.MapSteps.{known}
-use Rattle.h5_model.proofs.Sessions.{session_of, plain_object, group_at, array_at, row_of, u8, i32le, new_file}
+use Rattle.h5_model.proofs.Sessions.{session_of, group_at, array_at, row_of, u8, i32le, new_file}
 
 -- how long the session's tree is written anew, with the K values of `create` and one chunk stored at most
 length_of : Session → ℕ

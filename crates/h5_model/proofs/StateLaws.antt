@@ -1,14 +1,12 @@
 -- Edits keep a state: object 0 stays a group, and each object's number was given out.
-use Rattle.std.proofs.Common.{◌≡◌, ℕ, ◌+◌, ◌<◌, ◌≤◌, Bool, true, false, cond, List, refl, sym, ◌∙◌, ap, Option, Some, None, is_some, nat_le, arith}
+use Rattle.std.proofs.Common.{◌≡◌, ℕ, ◌+◌, ◌<◌, ◌≤◌, Bool, true, false, cond, List, refl, sym, ◌∙◌, ap, Some, None, is_some, nat_le, arith}
 use Rattle.std.proofs.lemmas.Bool.Decides.{nat_tests}
-use Rattle.std.specs.Prelude.{IsSome}
 use Rattle.std.specs.Ordering.{nat_cmp, eq_by_cmp}
 use Rattle.std.specs.Cmp.{nat_cmp_total}
-use Rattle.std.specs.declared.cmp.Ordering.{Ordering}
 use Rattle.std.specs.declared.cmp.Ordering.TheVariants.{Less, Equal, Greater}
 use Rattle.std.specs.FinMap.{get, insert, remove, retain_keys, empty, get-insert, get_tied, get-retain_keys, nat_cmp-IsAntisymmetric}
 use Rattle.std.specs.Option.{option_map_or, option_and_then}
-use Rattle.h5_model.specs.Tree.{Tree, Link, ToObject, Soft, Links, Object, Content, Group, Array, Dataset, Attributes, links_in, links_of, with_object, only_reached, is_reached, within_names}
+use Rattle.h5_model.specs.Tree.{Tree, Link, ToObject, Soft, Links, Object, Group, Array, Dataset, links_in, with_object, only_reached, is_reached, within_names}
 use Rattle.h5_model.specs.Paths.{parent_at, object_at}
 use Rattle.h5_model.specs.Edits.{State, state_after, applied, linked, unlinked, linked_to, with_links, with_dataset, with_attributes, with_object_at, new_object, new_dataset, attribute_from, written, resized, makes_object}
 use Rattle.h5_model.specs.Selection.{axes_of}
@@ -18,7 +16,7 @@ use Rattle.h5_model.specs.declared.edits.Edit.{Edit}
 use Rattle.h5_model.specs.declared.edits.Edit.TheVariants.{CreateGroup, CreateDataset, HardLink, SoftLink, Unlink, SetAttr, RemoveAttr, Write, Resize}
 
 -- an object of this number passes
-abbrev passes : (Object → Bool) → Tree → ℕ → Bool
+abbrev pub passes : (Object → Bool) → Tree → ℕ → Bool
 passes test tree number = option_map_or test (get tree number) false
 
 abbrev stands : Object → Bool
@@ -27,25 +25,25 @@ stands o = true
 abbrev is_group : Object → Bool
 is_group o = is_some (links_in o.content)
 
-same_number : (x y : ℕ) → eq_by_cmp nat_cmp x y ≡ true → nat_cmp x y ≡ Equal
+pub same_number : (x y : ℕ) → eq_by_cmp nat_cmp x y ≡ true → nat_cmp x y ≡ Equal
 same_number x y h = elim (nat_cmp x y) as (λ r. Rattle.std.specs.Ordering.is_eq r ≡ true → r ≡ Equal) [
   | Less ↦ λ no. absurd (cc)
   | Equal ↦ λ _. refl
   | Greater ↦ λ no. absurd (cc)
 ] h
 
--- a change that keeps a test of each object
-passes-with_object : (test : Object → Bool) (change : Object → Object) → ((o : Object) → test (change o) ≡ test o) → (tree : Tree) (number m : ℕ)
+-- a change that keeps a test of the object changed
+pub passes-with_object : (test : Object → Bool) (change : Object → Object) (tree : Tree) (number m : ℕ) → ((o : Object) → get tree number ≡ Some o → test (change o) ≡ test o)
     → passes test (with_object tree number change) m ≡ passes test tree m
-passes-with_object test change keeps tree number m = elim (get tree number) as (λ found. get tree number ≡ found
+passes-with_object test change tree number m keeps = elim (get tree number) as (λ found. get tree number ≡ found
     → option_map_or test (get (option_map_or (λ o. insert tree number (change o)) found tree) m) false ≡ passes test tree m) [
-  | None ↦ λ _. refl
-  | Some o ↦ λ there. ap (λ found. option_map_or test found false) (get-insert nat_cmp_total tree number (change o) m)
-      ∙ elim (eq_by_cmp nat_cmp m number) as (λ b. eq_by_cmp nat_cmp m number ≡ b → option_map_or test (cond b (Some (change o)) (get tree m)) false ≡ passes test tree m) [
-        | true ↦ λ same. keeps o ∙ ap (λ found. option_map_or test found false) (sym there ∙ get_tied nat_cmp_total tree m number (same_number m number same))
-        | false ↦ λ _. refl
-      ] refl
-] refl
+      | None ↦ λ _. refl
+      | Some o ↦ λ there. ap (λ found. option_map_or test found false) (get-insert nat_cmp_total tree number (change o) m)
+          ∙ elim (eq_by_cmp nat_cmp m number) as (λ b. eq_by_cmp nat_cmp m number ≡ b → option_map_or test (cond b (Some (change o)) (get tree m)) false ≡ passes test tree m) [
+            | true ↦ λ same. keeps o there ∙ ap (λ found. option_map_or test found false) (sym there ∙ get_tied nat_cmp_total tree m number (same_number m number same))
+            | false ↦ λ _. refl
+          ] refl
+    ] refl
 
 group-with_links : (change : Links → Links) (o : Object) → is_group (with_links change o) ≡ is_group o
 group-with_links change o = elim (o.content) as (λ content. is_some (links_in ((with_links change (record o { content = content })).content)) ≡ is_some (links_in content)) [
@@ -67,8 +65,8 @@ record Alike (old new : Tree) : Type 0 where
 
 Alike-with_object : (change : Object → Object) → ((o : Object) → is_group (change o) ≡ is_group o) → (tree : Tree) (number : ℕ) → Alike tree (with_object tree number change)
 Alike-with_object change keeps tree number = record {
-  objects = λ m. passes-with_object stands change (λ o. refl) tree number m;
-  groups = λ m. passes-with_object is_group change keeps tree number m;
+  objects = λ m. passes-with_object stands change tree number m (λ o there. refl);
+  groups = λ m. passes-with_object is_group change tree number m (λ o there. keeps o);
 }
 
 Alike-itself : (tree : Tree) → Alike tree tree

@@ -1,21 +1,19 @@
 -- Transcripts of scripts, from their bytes: types and refusals.
-use Rattle.std.proofs.Common.{◌≡◌, ℕ, List, [], ◌∷◌, refl, true, false, Bool, Some, None, Option, ℤ, pos, negsuc, codes}
-use Rattle.std.specs.Prelude.{unwrap_or}
+use Rattle.std.proofs.Common.{List, [], ◌∷◌, refl, true, Bool, ℤ, pos, negsuc, codes}
 use Rattle.std.specs.Fmt.{digits}
 use Rattle.std.specs.FinMap.{from_sorted}
-use Rattle.h5_model.specs.Fixed.{Fixed, value_at, raw_at, bytes_of}
-use Rattle.h5_model.specs.Tree.{Link, ToObject, Soft, Object, Content, Group, Array, Dataset, Storage, Compact, Contiguous, Chunked, Attribute, within_names, is_reached}
+use Rattle.h5_model.specs.Fixed.{value_at, raw_at, bytes_of}
+use Rattle.h5_model.specs.Tree.{ToObject, Soft, Group, Compact, Contiguous, within_names, is_reached}
 use Rattle.h5_model.specs.Paths.{names_of}
 use Rattle.h5_model.specs.Edits.{applied}
 use Rattle.h5_model.specs.Refusal.{refusal_of}
 use Rattle.h5_model.specs.Selection.{selection_of}
-use Rattle.h5_model.specs.Views.{View, met_boxes}
+use Rattle.h5_model.specs.Views.{met_boxes}
 use Rattle.h5_model.specs.States.{Session}
-use Rattle.h5_model.specs.Lines.{unescaped, type_from, line_asks, Command, Unread}
-use Rattle.h5_model.specs.Script.{Answer, answer_of}
+use Rattle.h5_model.specs.Lines.{unescaped, type_from, line_asks}
 use Rattle.h5_model.specs.Text.{lines_below}
 use Rattle.h5_model.proofs.MapSteps.{known}
-use Rattle.h5_model.proofs.Sessions.{session_of, plain_object, group_at, array_at, row_of, i8, u8, i16le, u16be, i32le, i64be, new_file, OneLine, TwoLines, ThreeLines}
+use Rattle.h5_model.proofs.Sessions.{session_of, group_at, array_at, row_of, i8, u8, u16be, i32le, new_file, OneLine, TwoLines, ThreeLines}
 
 -- `/d`, three cells of i32le
 abbrev d_file : Bool → List ℤ → Session
@@ -184,4 +182,3 @@ dumps_refused : ThreeLines (session_of (group_at 0 ((codes "g", ToObject 1) ∷ 
     (session_of (group_at 0 ((codes "g", ToObject 1) ∷ []) ∷ group_at 1 ((codes "h", ToObject 2) ∷ (codes "s", Soft (codes "a b")) ∷ []) ∷ group_at 2 ((codes "x", ToObject 3) ∷ []) ∷ array_at 3 (record { fixed = u8; sizes = []; maxima = []; storage = Compact; fill = pos 7; cells = pos 7 ∷ [] }) ∷ []) 4 [] 0)
 unfolding line_asks unescaped type_from refusal_of names_of applied within_names is_reached selection_of met_boxes bytes_of value_at raw_at lines_below digits
 dumps_refused = (simp known, refl, simp known, simp known)
-

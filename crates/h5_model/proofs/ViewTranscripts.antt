@@ -1,21 +1,18 @@
 -- Transcripts of scripts, from their bytes: arrays, selections and views.
-use Rattle.std.proofs.Common.{◌≡◌, ℕ, List, [], ◌∷◌, refl, true, false, Bool, Some, None, Option, ℤ, pos, negsuc, codes}
-use Rattle.std.specs.Prelude.{unwrap_or}
+use Rattle.std.proofs.Common.{ℕ, List, [], ◌∷◌, true, false, Some, None, ℤ, pos, negsuc, codes}
 use Rattle.std.specs.Fmt.{digits}
-use Rattle.std.specs.FinMap.{from_sorted}
-use Rattle.h5_model.specs.Fixed.{Fixed, value_at, raw_at, bytes_of}
-use Rattle.h5_model.specs.Tree.{Link, ToObject, Soft, Object, Content, Group, Array, Dataset, Storage, Compact, Contiguous, Chunked, Attribute, within_names, is_reached}
+use Rattle.h5_model.specs.Fixed.{value_at, raw_at, bytes_of}
+use Rattle.h5_model.specs.Tree.{ToObject, Dataset, Contiguous, Chunked, within_names, is_reached}
 use Rattle.h5_model.specs.Paths.{names_of}
 use Rattle.h5_model.specs.Edits.{applied}
 use Rattle.h5_model.specs.Refusal.{refusal_of}
 use Rattle.h5_model.specs.Selection.{selection_of}
 use Rattle.h5_model.specs.Views.{View, met_boxes}
 use Rattle.h5_model.specs.States.{Session}
-use Rattle.h5_model.specs.Lines.{unescaped, type_from, line_asks, Command, Unread}
-use Rattle.h5_model.specs.Script.{Answer, answer_of}
+use Rattle.h5_model.specs.Lines.{unescaped, type_from, line_asks}
 use Rattle.h5_model.specs.Text.{lines_below}
 use Rattle.h5_model.proofs.MapSteps.{known}
-use Rattle.h5_model.proofs.Sessions.{session_of, plain_object, group_at, array_at, row_of, i8, u8, i16le, u16be, i32le, i64be, new_file, OneLine, TwoLines, ThreeLines}
+use Rattle.h5_model.proofs.Sessions.{session_of, group_at, array_at, row_of, u8, i16le, i32le, i64be, new_file, OneLine, TwoLines, ThreeLines}
 
 -- `/c`, five rows of four cells in chunks of two by three; the rows may grow without end
 abbrev c_data : List ℕ → List ℤ → Dataset
@@ -240,4 +237,3 @@ a_column_gained : TwoLines (c_file (5 ∷ 3 ∷ []) (pos 1 ∷ pos 2 ∷ pos 3 �
     (c_file (5 ∷ 4 ∷ []) (pos 1 ∷ pos 2 ∷ pos 3 ∷ pos 0 ∷ pos 9 ∷ pos 9 ∷ pos 9 ∷ pos 0 ∷ pos 51 ∷ pos 52 ∷ pos 53 ∷ pos 0 ∷ pos 13 ∷ pos 14 ∷ pos 15 ∷ pos 0 ∷ pos 17 ∷ pos 18 ∷ pos 19 ∷ pos 0 ∷ []) ((0, record { object = 1; slab = record { start = 0; stride = 1; count = 5; block = 1 } ∷ record { start = 0; stride = 1; count = 4; block = 1 } ∷ [] }) ∷ (1, record { object = 1; slab = record { start = 0; stride = 2; count = 3; block = 1 } ∷ record { start = 0; stride = 2; count = 2; block = 1 } ∷ [] }) ∷ []) 2)
 unfolding line_asks unescaped type_from refusal_of names_of applied within_names is_reached selection_of met_boxes bytes_of value_at raw_at lines_below digits
 a_column_gained = (simp known, simp known, simp known)
-

@@ -1,13 +1,13 @@
 -- How many bytes at most an edit in place adds to the image. What the tree doesn't say of the image is given: the K values,
 -- the parent's heap segment, which chunks are stored, and whether a dataspace message has maxima.
-use Rattle.std.specs.Prelude.{ℕ, ◌+◌, ◌*◌, ◌==◌, ◌&&◌, Bool, not, nat_lt, if◌then◌else◌, List, [], ◌∷◌, map, filter, length}
+use Rattle.std.specs.Prelude.{ℕ, ◌+◌, ◌*◌, ◌==◌, ◌&&◌, Bool, not, nat_lt, if◌then◌else◌, List, map, filter, length}
 use Rattle.std.specs.Option.{option_map_or}
 use Rattle.h5_bytes.specs.Texts.{pad8}
 use Rattle.h5_model.specs.Places.{cells}
 use Rattle.h5_model.specs.Grid.{boxes_of, in_box, some_in_box}
 use Rattle.h5_model.specs.Selection.{Slab, axes_of, selection_of}
 use Rattle.h5_model.specs.Tree.{Tree, Dataset, Storage, Compact, Contiguous, Chunked}
-use Rattle.h5_model.specs.Paths.{names_of, dataset_at}
+use Rattle.h5_model.specs.Paths.{names_of, last_of, dataset_at}
 use Rattle.h5_model.specs.Edits.{new_storage}
 use Rattle.h5_model.specs.Sizes.{group_node, chunk_node, symbol_node, text_span, attribute_size, array_messages}
 use Rattle.h5_model.specs.Views.{is_touched}
@@ -26,11 +26,6 @@ pub record Room : Type 0 where
   pub heap : ℕ
   pub is_stored : List ℕ → Bool
   pub has_maxima : Bool
-
-abbrev pub last_of : List (List ℕ) → List ℕ
-last_of [] = []
-last_of (name ∷ []) = name
-last_of (name ∷ names) = last_of names
 
 -- what the last name of a path occupies
 abbrev pub name_span : List ℕ → ℕ

@@ -1,5 +1,5 @@
 -- When an edit is refused for the image: what the image says decides, beside the tree.
-use Rattle.std.specs.Prelude.{◌≡◌, ℕ, ◌+◌, ◌^◌, ◌&&◌, ◌||◌, Bool, true, false, not, Option, Some, None, IsTrue, IsFalse, nat_lt, is_none, if◌then◌else◌, List, [], ◌∷◌, length}
+use Rattle.std.specs.Prelude.{◌≡◌, ℕ, ◌+◌, ◌^◌, ◌&&◌, Bool, true, false, not, Option, Some, None, IsTrue, IsFalse, nat_lt, is_none, if◌then◌else◌, List, [], ◌∷◌, length}
 use Rattle.std.specs.Option.{option_map_or}
 use Rattle.h5_model.specs.Tree.{Tree, Dataset, Storage, Chunked}
 use Rattle.h5_model.specs.Paths.{dataset_at}

@@ -1,4 +1,5 @@
--- How a script's bytes are read: lines, words, numbers and lists, and what each line asks for.
+-- How a script's bytes are read: lines, words, numbers and lists, and what each line asks for. Lines end with a line feed, which the
+-- last may lack; words are separated by one space, so none is empty. What is of no form is a bad line.
 use Rattle.std.specs.Prelude.{ℕ, zero, suc, ◌+◌, ◌-◌, ◌*◌, ◌^◌, ◌==◌, ◌&&◌, ◌||◌, Bool, true, false, not, nat_le, nat_lt, if◌then◌else◌, ℤ, pos, neg_ℤ, Option, Some, None, List, [], ◌∷◌, ◌++◌, map, filter_map, length, drop, take, slice_index, codes, find, option_map, option_and_then, unwrap_or}
 use Rattle.std.specs.Str.{bytes_eq}
 use Rattle.std.specs.List.{list_any, list_all, slice_split, suffix_len}
@@ -59,15 +60,15 @@ abbrev pub list_from : {Y : Type 0} → (List ℕ → Option Y) → List ℕ →
 list_from read word = if bytes_eq word (codes "-") then Some [] else all_read read (slice_split (λ c. c == 44) word)
 
 -- a maximum: `inf`, or a number
-abbrev pub maximum_from : List ℕ → Option (Option ℕ)
-maximum_from word = if bytes_eq word (codes "inf") then Some None else option_map (λ n. Some n) (u64_from word)
+abbrev pub maximum_read : List ℕ → Option (Option ℕ)
+maximum_read word = if bytes_eq word (codes "inf") then Some None else option_map (λ n. Some n) (u64_from word)
 
 -- a size, which is its own maximum, or a size and its maximum
 abbrev pub size_from : List ℕ → Option (ℕ × Option ℕ)
 size_from item = parts (slice_split (λ c. c == 47) item) where
   parts : List (List ℕ) → Option (ℕ × Option ℕ)
   parts (size ∷ []) = option_map (λ d. (d, Some d)) (u64_from size)
-  parts (size ∷ most ∷ []) = option_and_then (λ d. option_map (λ m. (d, m)) (maximum_from most)) (u64_from size)
+  parts (size ∷ most ∷ []) = option_and_then (λ d. option_map (λ m. (d, m)) (maximum_read most)) (u64_from size)
   parts _ = None
 
 -- ---- names, types, stores

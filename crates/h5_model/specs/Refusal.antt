@@ -1,6 +1,6 @@
 -- When an edit is refused: the lowest rule that holds. Beside these rules stand the image's and memory's (ImageAnswers), and NotYet:
 -- until every edit is carried, an edit that isn't is answered NotYet, before any rule is looked at.
-use Rattle.std.specs.Prelude.{ℕ, ◌+◌, ◌*◌, ◌^◌, ◌==◌, ◌&&◌, ◌||◌, Bool, true, false, not, nat_lt, nat_le, if◌then◌else◌, Option, Some, None, List, [], ◌∷◌, length, is_some, is_none}
+use Rattle.std.specs.Prelude.{ℕ, ◌*◌, ◌^◌, ◌==◌, ◌&&◌, ◌||◌, Bool, true, false, not, nat_lt, nat_le, if◌then◌else◌, Option, Some, None, List, [], ◌∷◌, length, is_some, is_none}
 use Rattle.std.specs.FinMap.{get, contains_key, len}
 use Rattle.std.specs.List.{list_any, list_all}
 use Rattle.std.specs.Option.{option_map_or, option_and_then}
@@ -10,8 +10,7 @@ use Rattle.h5_model.specs.Places.{cells, extent_cells}
 use Rattle.h5_model.specs.Selection.{Slab, axes_of, has_rank, has_no_stride, overlaps, is_within, selected_cells}
 use Rattle.h5_model.specs.Tree.{Tree, Soft, Dataset, Storage, Chunked, Object, hard_links, are_sizes}
 use Rattle.h5_model.specs.Sizes.{attribute_size}
-use Rattle.h5_model.specs.Paths.{names_of, Located, Here, Missing, NoParent, NoGroup, located, object_at, dataset_at, links_at}
-use Rattle.h5_model.specs.declared.attribute.AttrSpec.{AttrSpec}
+use Rattle.h5_model.specs.Paths.{names_of, last_of, Located, Here, Missing, NoParent, NoGroup, located, object_at, dataset_at, links_at}
 use Rattle.h5_model.specs.declared.dataset.Store.{Store}
 use Rattle.h5_model.specs.declared.dataset.Store.TheVariants as store
 use Rattle.h5_model.specs.declared.edits.Edit.{Edit}
@@ -94,9 +93,7 @@ abbrev pub not_found : Tree → Edit → Bool
 not_found tree edit = list_any (λ p. is_missing (located tree p) || (needs_object edit && is_soft (located tree p))) (old_path edit)
 
 abbrev pub last_is_long : List (List ℕ) → Bool
-last_is_long [] = false
-last_is_long (name ∷ []) = nat_lt 1023 (length name)
-last_is_long (name ∷ names) = last_is_long names
+last_is_long names = nat_lt 1023 (length (last_of names))
 
 -- the new name, the attribute's name, or the soft link's text is too long
 abbrev pub is_long : Edit → Bool

@@ -4,7 +4,7 @@ use Rattle.std.specs.Prelude.{ℕ, ◌+◌, ◌*◌, Bool, true, not, nat_lt, if
 use Rattle.std.specs.FinMap.{entries, len}
 use Rattle.h5_bytes.specs.Texts.{pad8}
 use Rattle.h5_model.specs.Places.{cells}
-use Rattle.h5_model.specs.Tree.{Object, Content, Group, Array, Dataset, Storage, Compact, Contiguous, Chunked, Attribute, Kept, are_sizes}
+use Rattle.h5_model.specs.Tree.{Object, Content, Group, Array, Storage, Compact, Contiguous, Chunked, Attribute, Kept, are_sizes}
 
 -- ---- nodes and heaps
 
@@ -25,12 +25,12 @@ text_span text = pad8 (length text + 1)
 -- ---- messages
 
 -- a dataspace body of so many dimensions, without maxima
-abbrev pub dataspace_size : ℕ → ℕ
-dataspace_size rank = 8 + 8 * rank
+abbrev pub dataspace_length : ℕ → ℕ
+dataspace_length rank = 8 + 8 * rank
 
 -- an attribute's body, version 1, of a name of so many bytes: its parts padded, and the data
 abbrev pub attribute_size : ℕ → List ℕ → ℕ → ℕ
-attribute_size name sizes size = 8 + pad8 (name + 1) + pad8 12 + pad8 (dataspace_size (length sizes)) + cells sizes * size
+attribute_size name sizes size = 8 + pad8 (name + 1) + pad8 12 + pad8 (dataspace_length (length sizes)) + cells sizes * size
 
 -- a message with a body of so many bytes
 abbrev pub message_size : ℕ → ℕ
@@ -49,7 +49,7 @@ writes_maxima sizes maxima _ = not (are_sizes sizes maxima)
 
 abbrev pub extent_size : List ℕ → List (Option ℕ) → Storage → ℕ
 extent_size sizes maxima storage =
-    dataspace_size (length sizes) + (if writes_maxima sizes maxima storage then 8 * length sizes else 0)
+    dataspace_length (length sizes) + (if writes_maxima sizes maxima storage then 8 * length sizes else 0)
 
 -- a layout body, of elements of so many bytes
 abbrev pub layout_size : List ℕ → Storage → ℕ → ℕ
