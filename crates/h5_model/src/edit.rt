@@ -3,10 +3,12 @@
 ghost use Rattle.std.specs.Prelude.{◌≡◌};
 ghost use Rattle.h5_model.specs.FaultNames.{fault_number, fault_name};
 
-/// Why an edit or a look at a path is refused. Of several reasons that hold, the one with the lowest number is answered.
+/// Why an edit or a look at a path is refused. Of several that hold, the one with the lowest
+/// number is answered.
 #[derive(Clone, Copy, PartialEq, Eq, Debug)]
 pub enum EditFault {
-    /// A path is not of the form `/`, or `/` before each of one or more names; or a soft link's text is empty or has a zero byte.
+    /// A path is neither `/`, nor `/` before each of one or more names; or a soft link's text is
+    /// empty or has a zero byte.
     BadPath,
     /// A path has more than 64 names.
     PathTooDeep,
@@ -28,7 +30,8 @@ pub enum EditFault {
     GroupLink,
     /// The group to unlink has links.
     GroupNotEmpty,
-    /// The sizes, maxima or chunk sizes do not fit each other or the store; or an attribute's name is empty or has a zero byte.
+    /// The sizes, maxima or chunk sizes do not fit each other or the store; or an attribute's name
+    /// is empty or has a zero byte.
     BadSpec,
     /// The lists of a selection differ in length, or a rank is not the dataset's.
     RankMismatch,
