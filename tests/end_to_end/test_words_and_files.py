@@ -1,9 +1,11 @@
 """Words that are no order, and files that cannot be read or written."""
 
 import os
+import resource
+import subprocess
 import unittest
 
-from .support import InFolder, empty_image, h5i
+from .support import PROGRAM, InFolder, empty_image, h5i
 
 
 class Words(unittest.TestCase):
@@ -59,3 +61,14 @@ class Files(InFolder):
         with open("/dev/full", "wb") as full:
             status, _, errors = h5i("ls", path, stdout=full)
         self.assertEqual((status, errors), (4, b"h5i: cannot print\n"))
+
+    def test_out_of_memory(self):
+        path = self.written("long.h5", empty_image())
+        os.truncate(path, 1 << 30)
+        limit = 1 << 28
+
+        def limited():
+            resource.setrlimit(resource.RLIMIT_AS, (limit, limit))
+
+        done = subprocess.run([PROGRAM, "ls", path], preexec_fn=limited, capture_output=True, check=False)
+        self.assertEqual((done.returncode, done.stdout, done.stderr), (5, b"", b"h5i: out of memory\n"))

@@ -1,9 +1,8 @@
 //! The whole run of the program.
 
-ghost use Rattle.std.specs.Prelude.{◌≡◌, ◌≢◌, ◌≤◌, ◌⊎◌, IsSome, OnOk, map, true};
+ghost use Rattle.std.specs.Prelude.{◌≡◌, ◌≢◌, ◌≤◌, ◌⊎◌, IsSome, OnOk, map};
 ghost use Rattle.std.specs.Io.KnownBytes.{Appends};
-ghost use Rattle.clap.specs.Words.{subcommand_of, takes};
-ghost use Rattle.h5_cli.specs.Words.{h5i_app, wanted};
+ghost use Rattle.h5_cli.specs.Words.{Taken, asked};
 ghost use Rattle.h5_cli.specs.Output.{Prints, IsOrderStatus, root_listing};
 ghost use Rattle.h5_cli.specs.Status.{status_code};
 ghost use Rattle.h5_cli.specs.declared.status.Status.TheVariants.{Done, WrongWords};
@@ -54,8 +53,8 @@ fn new<R: Files, E: Write>(rt: &R, alloc: Global, file: &str, errors: &mut E) ->
     }
 }
 
-/// Writes the listing of the file, which has no link but the root: this version opens no other.
-fn write_listing<O: Write>(_file: &File, output: &mut O) -> io::Result<()>
+/// Writes the listing of a file whose root group is empty: this version opens no other.
+fn write_listing<O: Write>(output: &mut O) -> io::Result<()>
     ensures { OnOk result (Appends (O.contents output.old) (O.contents output.new) root_listing) }
 {
     output.write_all(b"/ group\n")
@@ -96,7 +95,7 @@ fn ls<R: Files, O: Write, E: Write>(
         }
     };
     match File::open(alloc, bytes) {
-        Ok(opened) => match write_listing(&opened, output) {
+        Ok(_opened) => match write_listing(output) {
             Ok(()) => Status::Done,
             Err(_) => told(writeln!(errors, "h5i: cannot print"), Status::StreamFailed),
         },
@@ -123,8 +122,8 @@ fn carry_out<R: Files, S: AsStr, O: Write, E: Write>(
     errors: &mut E,
 ) -> Status
     ensures known { IsOrderStatus result ⊎ (result ≡ WrongWords) }
-    ensures order { takes h5i_app (map S.text words.now) ≡ true → IsSome (wanted (subcommand_of h5i_app (map S.text words.now))) → IsOrderStatus result }
-    ensures printed { takes h5i_app (map S.text words.now) ≡ true → result ≡ Done → Prints (wanted (subcommand_of h5i_app (map S.text words.now))) (O.contents output.old) (O.contents output.new) }
+    ensures order { Taken (map S.text words.now) → IsSome (asked (map S.text words.now)) → IsOrderStatus result }
+    ensures printed { Taken (map S.text words.now) → result ≡ Done → Prints (asked (map S.text words.now)) (O.contents output.old) (O.contents output.new) }
 {
     match order(alloc, words) {
         Ok(Some(Order::New { file })) => new(rt, alloc, file, errors),
@@ -151,8 +150,8 @@ pub fn program<R: Files, S: AsStr, I: Read, O: Write, E: Write>(
     ensures code { result ≤ 5 }
     // No order runs a script yet.
     ensures no_script { result ≢ 1 }
-    ensures order { takes h5i_app (map S.text words.now) ≡ true → IsSome (wanted (subcommand_of h5i_app (map S.text words.now))) → result ≢ 2 }
-    ensures printed { takes h5i_app (map S.text words.now) ≡ true → result ≡ 0 → Prints (wanted (subcommand_of h5i_app (map S.text words.now))) (O.contents output.old) (O.contents output.new) }
+    ensures order { Taken (map S.text words.now) → IsSome (asked (map S.text words.now)) → result ≢ 2 }
+    ensures printed { Taken (map S.text words.now) → result ≡ 0 → Prints (asked (map S.text words.now)) (O.contents output.old) (O.contents output.new) }
 {
     carry_out(rt, alloc, words, output, errors).code()
 }

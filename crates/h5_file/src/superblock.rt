@@ -14,9 +14,10 @@ static SIGNATURE: [u8; 8] = [137, 72, 68, 70, 13, 10, 26, 10];
 /// Bytes of the superblock of version 0.
 const SUPERBLOCK: usize = 96;
 
-/// The greatest group K, and the most bytes of an image.
+/// The greatest K of a group's nodes.
 const MAXIMUM_K: u16 = 32767;
 
+/// The most bytes of an image.
 const MAXIMUM_IMAGE: u64 = 2147483648;
 
 fn broken(cause: Cause, address: u64) -> Option<OpenFault>

@@ -45,7 +45,8 @@ pub enum Cause {
     NewStyleGroup,
     /// A header is neither a group's nor a whole dataset's; or the root's is no group's.
     MissingMessage,
-    /// A message stands twice that may stand once, or beside one that excludes it; or two attributes have one name.
+    /// A message stands twice that may stand once, or beside one that excludes it; or two attributes
+    /// have one name.
     DuplicateMessage,
     /// A dataspace message is not of the accepted form.
     DataspaceForm,
