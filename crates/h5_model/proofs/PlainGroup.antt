@@ -36,6 +36,7 @@ use Rattle.h5_model.specs.Nodes.{HasTree, group_kind, node_of, reading_of}
 use Rattle.h5_model.specs.Links.{Before, NotAfter, IsBetween, IsOrdered, AreLinks, HasLinks, key_name, names_in, symbol_nodes_below}
 use Rattle.h5_model.specs.Symbols.{Target, Header, Text, Entry, entry_of, entries_of, symbols_of, symbol_bytes, IsSymbolNode}
 use Rattle.h5_model.proofs.RowLaws.{same_number}
+use Rattle.h5_model.proofs.TextOrder.{same_text}
 use Rattle.h5_model.specs.Heap.{IsHeap, HasNames, FreeFrom, IsFree, span_of, heap_header, segment_of, segment_block, segment_size, free_head, segment_place}
 
 -- ---- numbers in appended lists
@@ -298,16 +299,9 @@ module _ (image : List ℕ) (at header : ℕ) (small : header < 2 ^ 64)
 
 -- ---- the links
 
-own_reverse : (r : Ordering) → r ≡ ordering_reverse r → r ≡ Equal
-own_reverse Less e = cc
-own_reverse Equal e = refl
-own_reverse Greater e = cc
-
 -- a name is not after itself
 not_after_itself : (name : List ℕ) → NotAfter name name
-not_after_itself name =
-    let tied : slice_cmp nat_cmp name name ≡ Equal = own_reverse (slice_cmp nat_cmp name name) (nat_list_cmp_total.antisymm name name) in
-    rw tied refl
+not_after_itself name = rw (same_text name) refl
 
 empty_not_after : (name : List ℕ) → NotAfter [] name
 empty_not_after [] = refl
