@@ -174,14 +174,16 @@ sized t len size value v some few long is read =
     let same : (t.size == t.size) ≡ true = grind (arith, nat_tests) in
     rw (long, is, read, other, same, roomy) refl
 
+pub length-fill_body : (time : ℕ) (t : Fixed) (v : ℤ) → t.size ≤ 8 → length (fill_body time t v) ≡ 16
+length-fill_body time t v few = simp (length-append, length-replicate, length-bytes_of) (omega arith)
+
 -- a fill value reads back from its message
 pub fill_value-fill_body : (time : ℕ) (t : Fixed) (v : ℤ) → IsFixed t → fits t v ≡ true → fill_value t (fill_body time t v) ≡ Some v
 unfolding fill_value number_at
 fill_value-fill_body time t v is of =
     let some : 1 ≤ t.size = size-low t is in
     let few : t.size ≤ 8 = size-high t is in
-    let long : length (fill_body time t v) ≡ 16 = simp (length-append, length-replicate, length-bytes_of) (omega arith) in
     let low : t.size < 256 ^ 4 = omega arith in
     let read : value_at t (fill_body time t v) 8 ≡ v
     = value_at-behind t (2 ∷ time ∷ 2 ∷ 1 ∷ middle t.size) (bytes_of t v ++ zeros (8 - t.size)) 0 ∙ value_back t v (zeros (8 - t.size)) some of in
-    sized t _ _ _ v some few long (little_number-reads_back 4 t.size [] low) read
+    sized t _ _ _ v some few (length-fill_body time t v few) (little_number-reads_back 4 t.size [] low) read
