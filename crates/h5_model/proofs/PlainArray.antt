@@ -41,7 +41,7 @@ abbrev line_bodies : Fixed → ℕ → ℤ → ℕ → List (ℕ × List ℕ)
 line_bodies t size fill address =
     (1, extent_body (size ∷ [])) ∷ (3, type_body t) ∷ (5, fill_body 1 t fill) ∷ (8, contiguous_body address (size * t.size)) ∷ []
 
-module _ (image : List ℕ) (at : ℕ) (t : Fixed) (size : ℕ) (fill : ℤ) (address : ℕ) (is : IsFixed t) where
+module _ (t : Fixed) (size : ℕ) (fill : ℤ) (address : ℕ) (is : IsFixed t) where
   plain : AllByRecursion IsPlain (line_bodies t size fill address)
   plain =
       let long : length (fill_body 1 t fill) ≡ 16 = length-fill_body 1 t fill (size-high t is) in
@@ -54,20 +54,22 @@ module _ (image : List ℕ) (at : ℕ) (t : Fixed) (size : ℕ) (fill : ℤ) (ad
   messages-long : length (messages_bytes (line_bodies t size fill address)) ≡ 104
   messages-long = simp (length-append, length-replicate, length-bytes_of) (omega (arith, size-high t is))
 
-  pub header-long : length (line_header_bytes t size fill address) ≡ 120
-  header-long = omega (arith, messages-long)
+  -- its header has 120 bytes
+  pub length-line_header_bytes : length (line_header_bytes t size fill address) ≡ 120
+  length-line_header_bytes = omega (arith, messages-long)
 
+module _ (image : List ℕ) (at : ℕ) (t : Fixed) (size : ℕ) (fill : ℤ) (address : ℕ) (is : IsFixed t) where
   -- the header has four messages
   module _ (there : part at 120 image ≡ line_header_bytes t size fill address) where
     whole : part at (length (line_header_bytes t size fill address)) image ≡ line_header_bytes t size fill address
-    whole = ap (λ n. part at n image) header-long ∙ there
+    whole = ap (λ n. part at n image) (length-line_header_bytes t size fill address is) ∙ there
 
     messages : HasMessages image at (messages_from (at + 16) (line_bodies t size fill address)) (block at 120 ∷ [])
-    messages = subst (λ n. HasMessages image at (messages_from (at + 16) (line_bodies t size fill address)) (block at n ∷ [])) header-long
-        (header_reads image at 1 (line_bodies t size fill address) whole plain (omega arith) (omega (arith, messages-long)))
+    messages = subst (λ n. HasMessages image at (messages_from (at + 16) (line_bodies t size fill address)) (block at n ∷ [])) (length-line_header_bytes t size fill address is)
+        (header_reads image at 1 (line_bodies t size fill address) whole (plain t size fill address is) (omega arith) (omega (arith, messages-long t size fill address is)))
 
     -- and is counted once
-    pub counted_once : reference_count (prefix_at image at) ≡ 1
+    counted_once : reference_count (prefix_at image at) ≡ 1
     counted_once = header_counted image at 1 (line_bodies t size fill address) whole (omega arith)
 
   bounded : size ≤ 2 ^ 40 → extent_cells (size ∷ []) ≤ 2 ^ 40
@@ -150,17 +152,21 @@ module _ (image : List ℕ) (table : FinMap nat_cmp ℕ) (at place : ℕ) (t : F
       object image at t size fill place is (Some (block place (size * t.size))) (block place (size * t.size) ∷ []) cs table there
       (dataset image at t size fill place is (Some (block place (size * t.size))) (block place (size * t.size) ∷ []) cs of low laid refl (refl, refl) read)
 
-  -- a header of the plain layout with its cells is the array of one size that it was written for
-  pub line_reads : AreOf t cs → place + size * t.size < 2 ^ 64 - 1
-      → part at 120 image ≡ line_header_bytes t size fill (if size == 0 then undefined else place)
-      → part place (size * t.size) image ≡ cells_bytes t cs
-      → HasObject image table at (line_object t size fill cs) (block at 120 ∷ (if size == 0 then [] else block place (size * t.size) ∷ []))
-  line_reads all room there stored = elim (eqb_tells size 0) [
-    | inl none ↦ subst (λ b. HasObject image table at (line_object t size fill cs) (block at 120 ∷ cond b [] (block place (size * t.size) ∷ []))) (sym none.0)
-        (line_none none.1 (there ∙ ap (λ b. line_header_bytes t size fill (cond b undefined place)) none.0))
-    | inr some ↦ subst (λ b. HasObject image table at (line_object t size fill cs) (block at 120 ∷ cond b [] (block place (size * t.size) ∷ []))) (sym some.0)
-        (line_some all room (there ∙ ap (λ b. line_header_bytes t size fill (cond b undefined place)) some.0) stored)
-  ]
+-- A header of the plain layout, with its cells at its address, is the array of one size that it was written for.
+pub line_reads : (image : List ℕ) (table : FinMap nat_cmp ℕ) (at place : ℕ) (t : Fixed) (size : ℕ) (fill : ℤ) (cs : List ℤ)
+    → IsFixed t → fits t fill ≡ true → AreOf t cs → length cs ≡ size → size ≤ 2 ^ 40 → place + size * t.size < 2 ^ 64 - 1
+    → part at 120 image ≡ line_header_bytes t size fill (if size == 0 then undefined else place)
+    → part place (size * t.size) image ≡ cells_bytes t cs
+    → HasObject image table at (line_object t size fill cs) (block at 120 ∷ (if size == 0 then [] else block place (size * t.size) ∷ []))
+line_reads image table at place t size fill cs is of all counted low room there stored = elim (eqb_tells size 0) [
+  | inl none ↦ subst (λ b. HasObject image table at (line_object t size fill cs) (block at 120 ∷ cond b [] (block place (size * t.size) ∷ []))) (sym none.0)
+      (line_none image table at place t size fill cs is of counted low none.1 (there ∙ ap (λ b. line_header_bytes t size fill (cond b undefined place)) none.0))
+  | inr some ↦ subst (λ b. HasObject image table at (line_object t size fill cs) (block at 120 ∷ cond b [] (block place (size * t.size) ∷ []))) (sym some.0)
+      (line_some image table at place t size fill cs is of counted low all room (there ∙ ap (λ b. line_header_bytes t size fill (cond b undefined place)) some.0) stored)
+]
 
-  pub line_counted : part at 120 image ≡ line_header_bytes t size fill (if size == 0 then undefined else place) → reference_count (prefix_at image at) ≡ 1
-  line_counted there = counted_once image at t size fill (if size == 0 then undefined else place) is there
+-- its reference count is 1
+pub line_counted : (image : List ℕ) (at place : ℕ) (t : Fixed) (size : ℕ) (fill : ℤ) → IsFixed t
+    → part at 120 image ≡ line_header_bytes t size fill (if size == 0 then undefined else place)
+    → reference_count (prefix_at image at) ≡ 1
+line_counted image at place t size fill is there = counted_once image at t size fill (if size == 0 then undefined else place) is there
