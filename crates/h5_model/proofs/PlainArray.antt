@@ -1,5 +1,5 @@
 -- The header of an array of one size in the plain layout, with its cells, reads as that array.
-use Rattle.std.proofs.Common.{◌≡◌, ℕ, zero, suc, ◌+◌, ◌-◌, ◌*◌, ◌%◌, ◌^◌, ◌<◌, ◌≤◌, ◌==◌, inl, inr, true, false, Bool, cond, ◌&&◌, List, [], ◌∷◌, ◌++◌, length, refl, sym, ap, ◌∙◌, subst, arith, rules, Option, Some, None, ℤ}
+use Rattle.std.proofs.Common.{◌≡◌, ℕ, ◌+◌, ◌-◌, ◌*◌, ◌%◌, ◌^◌, ◌<◌, ◌≤◌, ◌==◌, inl, inr, true, false, cond, ◌&&◌, List, [], ◌∷◌, length, refl, sym, ap, ◌∙◌, subst, arith, Option, Some, None, ℤ}
 use Rattle.std.proofs.lemmas.Bool.Decides.{nat_tests, eqb_tells}
 use Rattle.std.proofs.lemmas.List.{length-append, length-replicate, nil_from_length}
 use Rattle.std.specs.Prelude.{if◌then◌else◌, nat_lt, is_some}
@@ -12,8 +12,8 @@ use Rattle.h5_bytes.specs.declared.Block.{Block}
 use Rattle.h5_model.specs.Fixed.{Fixed, IsFixed, fits}
 use Rattle.h5_model.specs.Places.{cells, extent_cells}
 use Rattle.h5_model.specs.Sound.{AreOf}
-use Rattle.h5_model.specs.Messages.{Message, HasMessages, prefix_at, reference_count}
-use Rattle.h5_model.specs.Layout.{Layout, InBlock, layout_of}
+use Rattle.h5_model.specs.Messages.{HasMessages, prefix_at, reference_count}
+use Rattle.h5_model.specs.Layout.{InBlock, layout_of}
 use Rattle.h5_model.specs.Cells.{cells_of}
 use Rattle.h5_model.specs.Tree.{Dataset, Contiguous, Object, Array}
 use Rattle.h5_model.specs.Reads.{HasObject, HasDataset, HasAttributes, HasData}
@@ -44,12 +44,19 @@ line_bodies t size fill address =
 module _ (t : Fixed) (size : ℕ) (fill : ℤ) (address : ℕ) (is : IsFixed t) where
   plain : AllByRecursion IsPlain (line_bodies t size fill address)
   plain =
-      let long : length (fill_body 1 t fill) ≡ 16 = length-fill_body 1 t fill (size-high t is) in
-      (record { kind = omega arith; own = refl; padded = refl; low = omega arith },
-      (record { kind = omega arith; own = refl; padded = refl; low = omega arith },
-      (record { kind = omega arith; own = refl; padded = ap (λ n. n % 8) long; low = omega arith },
-      (record { kind = omega arith; own = refl; padded = refl; low = omega arith },
-      tt))))
+      let long : length (fill_body 1 t fill) ≡ 16 = length-fill_body 1 t fill (size-high t is) in (
+        record { kind = omega arith; own = refl; padded = refl; low = omega arith },
+        (
+          record { kind = omega arith; own = refl; padded = refl; low = omega arith },
+          (
+            record { kind = omega arith; own = refl; padded = ap (λ n. n % 8) long; low = omega arith },
+            (
+              record { kind = omega arith; own = refl; padded = refl; low = omega arith },
+              tt,
+            ),
+          ),
+        ),
+      )
 
   messages-long : length (messages_bytes (line_bodies t size fill address)) ≡ 104
   messages-long = simp (length-append, length-replicate, length-bytes_of) (omega (arith, size-high t is))

@@ -2,14 +2,14 @@
 use Rattle.std.proofs.Common.{◌≡◌, ℕ, suc, ◌+◌, ◌%◌, ◌^◌, ◌<◌, ◌≤◌, true, false, List, [], ◌∷◌, ◌++◌, length, append-nil, append_assoc, refl, sym, ap, ◌∙◌, subst, arith, rules}
 use Rattle.std.proofs.lemmas.List.{same_lists, places, length-append, take_all, get_or-append-add}
 use Rattle.std.specs.Prelude.{◌==◌, bit_and}
-use Rattle.std.specs.List.{AllByRecursion, flat_map}
+use Rattle.std.specs.List.{AllByRecursion}
 use Rattle.byteorder.specs.Numbers.{little_number-reads_back}
 use Rattle.h5_bytes.specs.Bytes.{number_at, byte_at, part}
 use Rattle.h5_bytes.specs.Blocks.{block}
 use Rattle.h5_bytes.proofs.PartLaws.{part-part, part-appended}
 use Rattle.h5_bytes.proofs.FieldLaws.{number_at-part}
 use Rattle.h5_model.specs.Messages.{Message, IsMessage, Fills, FillBlocks, HasMessages, continuations, prefix_at, reference_count, first_size, total_in, IsContinued}
-use Rattle.h5_model.specs.Plain.{short, middle, zeros, message_bytes, messages_bytes, header_bytes}
+use Rattle.h5_model.specs.Plain.{short, zeros, message_bytes, messages_bytes, header_bytes}
 
 -- ---- bytes one after another
 
@@ -100,10 +100,11 @@ fills-plain block_at at bytes front (m ∷ ms) are e all =
     let long : at + 8 + length m.1 ≡ length (front ++ message_bytes m) = simp length-append (omega arith) in
     let rest : Fills block_at bytes (at + 8 + length m.1) (messages_from (block_at + (at + 8 + length m.1)) ms)
     = fills-plain block_at (at + 8 + length m.1) bytes (front ++ message_bytes m) ms on long all.1 in
-    let up : block_at + (at + 8 + length m.1) ≡ block_at + at + 8 + length m.1 = omega arith in
-    (is-message front (messages_bytes ms) m all.0 bytes at are e block_at,
-    subst (λ n. Fills block_at bytes (at + 8 + n) (messages_from (block_at + at + 8 + length m.1) ms)) (sym size)
-    (subst (λ n. Fills block_at bytes (at + 8 + length m.1) (messages_from n ms)) up rest))
+    let up : block_at + (at + 8 + length m.1) ≡ block_at + at + 8 + length m.1 = omega arith in (
+      is-message front (messages_bytes ms) m all.0 bytes at are e block_at,
+      subst (λ n. Fills block_at bytes (at + 8 + n) (messages_from (block_at + at + 8 + length m.1) ms)) (sym size)
+          (subst (λ n. Fills block_at bytes (at + 8 + length m.1) (messages_from n ms)) up rest),
+    )
 
 pub length-messages_from : (at : ℕ) (ms : List (ℕ × List ℕ)) → length (messages_from at ms) ≡ length ms
 length-messages_from at [] = refl
@@ -115,9 +116,10 @@ no_continuations at (m ∷ ms) all = rw (all.0.own, no_continuations (at + 8 + l
 
 none_continued : (at : ℕ) (ms : List (ℕ × List ℕ)) → AllByRecursion IsPlain ms → AllByRecursion IsContinued (messages_from at ms)
 none_continued at [] all = tt
-none_continued at (m ∷ ms) all =
-    (λ e. let other : (m.0 == 16) ≡ false = all.0.own in let sixteen : (m.0 == 16) ≡ true = ap (λ k. k == 16) e in absurd (cc),
-    none_continued (at + 8 + length m.1) ms all.1)
+none_continued at (m ∷ ms) all = (
+  λ e. let other : (m.0 == 16) ≡ false = all.0.own in let sixteen : (m.0 == 16) ≡ true = ap (λ k. k == 16) e in absurd (cc),
+  none_continued (at + 8 + length m.1) ms all.1,
+)
 
 -- ---- the header
 

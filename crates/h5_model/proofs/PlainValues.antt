@@ -1,5 +1,5 @@
 -- The bodies of messages and the cells that the plain layout writes are read back.
-use Rattle.std.proofs.Common.{◌≡◌, ℕ, zero, suc, ◌+◌, ◌-◌, ◌*◌, ◌^◌, ◌<◌, ◌≤◌, ◌==◌, inl, inr, true, false, Bool, cond, ◌&&◌, List, [], ◌∷◌, ◌++◌, length, get_or, refl, sym, ap, ◌∙◌, subst, arith, rules, Option, Some, None, ℤ, pos}
+use Rattle.std.proofs.Common.{◌≡◌, ℕ, zero, suc, ◌+◌, ◌-◌, ◌*◌, ◌^◌, ◌<◌, ◌≤◌, ◌==◌, inl, inr, true, false, Bool, cond, ◌&&◌, List, [], ◌∷◌, ◌++◌, length, get_or, refl, sym, ap, ◌∙◌, subst, arith, Option, Some, None, ℤ, pos}
 use Rattle.std.proofs.lemmas.Bool.Decides.{nat_tests}
 use Rattle.std.proofs.lemmas.List.{length-append, length-replicate, get_or-append-add}
 use Rattle.std.proofs.lemmas.List.FromFn.{fill_by_all}
@@ -9,12 +9,12 @@ use Rattle.byteorder.specs.Numbers.{little_number-reads_back}
 use Rattle.h5_bytes.specs.Bytes.{number_at, part, undefined}
 use Rattle.h5_bytes.specs.Blocks.{block}
 use Rattle.h5_bytes.specs.declared.Block.{Block}
-use Rattle.h5_model.specs.Fixed.{Fixed, IsFixed, is_size, raw_at, value_at, fits, bytes_of}
+use Rattle.h5_model.specs.Fixed.{Fixed, IsFixed, raw_at, value_at, fits, bytes_of}
 use Rattle.h5_model.specs.Places.{cells, place_of, index_of}
 use Rattle.h5_model.specs.Extent.{Extent, extent_of}
 use Rattle.h5_model.specs.Datatype.{fixed_of}
 use Rattle.h5_model.specs.Fill.{fill_value}
-use Rattle.h5_model.specs.Layout.{Layout, InBlock, layout_of}
+use Rattle.h5_model.specs.Layout.{InBlock, layout_of}
 use Rattle.h5_model.specs.Chunks.{Chunks}
 use Rattle.h5_model.specs.Cells.{cells_of}
 use Rattle.h5_model.specs.Sound.{AreOf}
