@@ -1,4 +1,5 @@
 -- The header of an array of one size in the plain layout, with its cells, reads as that array.
+use Rattle.h5_model.specs.OneArray.{line_dataset, line_object}
 use Rattle.std.proofs.Common.{◌≡◌, ℕ, ◌+◌, ◌-◌, ◌*◌, ◌%◌, ◌^◌, ◌<◌, ◌≤◌, ◌==◌, inl, inr, true, false, cond, ◌&&◌, List, [], ◌∷◌, length, refl, sym, ap, ◌∙◌, subst, arith, Option, Some, None, ℤ}
 use Rattle.std.proofs.lemmas.Bool.Decides.{nat_tests, eqb_tells}
 use Rattle.std.proofs.lemmas.List.{length-append, length-replicate, nil_from_length}
@@ -22,21 +23,7 @@ use Rattle.h5_model.proofs.FixedLaws.{length-bytes_of}
 use Rattle.h5_model.proofs.PlainMessages.{IsPlain, messages_from, header_reads, header_counted}
 use Rattle.h5_model.proofs.PlainValues.{fixed_of-type_body, size-low, size-high, extent_of-extent_body, layout_of-contiguous_body, layout_of-undefined, length-fill_body, fill_value-fill_body, cells_of-cells_bytes}
 
--- the array of one size whose cells are these
-abbrev pub line_dataset : Fixed → ℕ → ℤ → List ℤ → Dataset
-line_dataset t size fill cs = record {
-  fixed = t;
-  sizes = size ∷ [];
-  maxima = Some size ∷ [];
-  storage = Contiguous (nat_lt 0 (cells (size ∷ [])));
-  fill = fill;
-  cells = cs;
-}
-
-abbrev pub line_object : Fixed → ℕ → ℤ → List ℤ → Object
-line_object t size fill cs = record { content = Array (line_dataset t size fill cs); attributes = empty; kept = [] }
-
--- its messages
+-- the messages of the array
 abbrev line_bodies : Fixed → ℕ → ℤ → ℕ → List (ℕ × List ℕ)
 line_bodies t size fill address =
     (1, extent_body (size ∷ [])) ∷ (3, type_body t) ∷ (5, fill_body 1 t fill) ∷ (8, contiguous_body address (size * t.size)) ∷ []

@@ -138,6 +138,11 @@ module _ (name : List ℕ) (is : is_name name ≡ true) where
       let rest : length (zeros (72 - length used)) ≡ 72 - length used = length-replicate (72 - length used) 0 in
       omega arith
 
+  -- the used bytes are part of the segment
+  pub segment_holds : (b : Bool) → length used ≤ length (segment_by b)
+  segment_holds true = omega (arith, length-append used (word 1 ++ (word (88 - length used) ++ zeros (72 - length used))))
+  segment_holds false = omega arith
+
   length-segment_true : nat_le (length used) 72 ≡ true → length (segment_by true) ≡ 88
   length-segment_true h =
       let low = low_of h in
