@@ -1,6 +1,7 @@
 -- A part of a list of bytes after another part was written.
 use Rattle.std.proofs.Common.{◌≡◌, ℕ, ◌+◌, ◌-◌, ◌<◌, ◌≤◌, List, ◌++◌, length, take, drop, sym, ap, ◌∙◌, arith, ◌⊎◌, rules}
 use Rattle.std.proofs.lemmas.List.{same_lists, places, length-take, length-drop, length-append, take_all}
+use Rattle.std.proofs.Math.Seq.{drop-append-add}
 use Rattle.std.specs.List.{copy_within}
 use borrow.Rule.Slice.PartMut.{put_mid}
 use Rattle.h5_bytes.specs.Bytes.{part, with_part}
@@ -90,3 +91,13 @@ with_part-with_part at len a new bytes h inner =
     ∙ ap (λ w. take at bytes ++ (w ++ drop (at + len) bytes)) (with_part_is a new (part at len bytes) (omega arith))
     ∙ same_lists _ _ (search (rules, places)) (λ k d l. grind (arith, places))
     ∙ sym (with_part_is (at + a) new bytes (omega arith))
+
+-- a part behind some bytes
+pub part-behind : (xs ys : List ℕ) (k n : ℕ) → part (length xs + k) n (xs ++ ys) ≡ part k n ys
+unfolding part
+part-behind xs ys k n = ap (take n) (drop-append-add xs ys k)
+
+-- the bytes in front
+pub part-front : (xs ys : List ℕ) → part 0 (length xs) (xs ++ ys) ≡ xs
+unfolding part
+part-front xs ys = same_lists _ _ (search (rules, places)) (λ k d l. grind (arith, places))

@@ -36,6 +36,7 @@ use Rattle.h5_model.specs.Nodes.{HasTree, group_kind, node_of, reading_of}
 use Rattle.h5_model.specs.Links.{Before, NotAfter, IsBetween, IsOrdered, AreLinks, HasLinks, key_name, names_in, symbol_nodes_below}
 use Rattle.h5_model.specs.Symbols.{Target, Header, Text, Entry, entry_of, entries_of, symbols_of, symbol_bytes, IsSymbolNode}
 use Rattle.h5_model.proofs.RowLaws.{same_number}
+use Rattle.h5_model.proofs.TextOrder.{same_text}
 use Rattle.h5_model.specs.Heap.{IsHeap, HasNames, FreeFrom, IsFree, span_of, heap_header, segment_of, segment_block, segment_size, free_head, segment_place}
 
 -- ---- numbers in appended lists
@@ -136,6 +137,11 @@ module _ (name : List ℕ) (is : is_name name ≡ true) where
   length-free =
       let rest : length (zeros (72 - length used)) ≡ 72 - length used = length-replicate (72 - length used) 0 in
       omega arith
+
+  -- the used bytes are part of the segment
+  pub segment_holds : (b : Bool) → length used ≤ length (segment_by b)
+  segment_holds true = omega (arith, length-append used (word 1 ++ (word (88 - length used) ++ zeros (72 - length used))))
+  segment_holds false = omega arith
 
   length-segment_true : nat_le (length used) 72 ≡ true → length (segment_by true) ≡ 88
   length-segment_true h =
@@ -298,16 +304,9 @@ module _ (image : List ℕ) (at header : ℕ) (small : header < 2 ^ 64)
 
 -- ---- the links
 
-own_reverse : (r : Ordering) → r ≡ ordering_reverse r → r ≡ Equal
-own_reverse Less e = cc
-own_reverse Equal e = refl
-own_reverse Greater e = cc
-
 -- a name is not after itself
 not_after_itself : (name : List ℕ) → NotAfter name name
-not_after_itself name =
-    let tied : slice_cmp nat_cmp name name ≡ Equal = own_reverse (slice_cmp nat_cmp name name) (nat_list_cmp_total.antisymm name name) in
-    rw tied refl
+not_after_itself name = rw (same_text name) refl
 
 empty_not_after : (name : List ℕ) → NotAfter [] name
 empty_not_after [] = refl

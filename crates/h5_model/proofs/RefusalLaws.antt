@@ -42,7 +42,7 @@ has_number tree next edit h =
 pub IsState-accepted : (s : State) (edit : Edit) → IsState s → refusal_of s.tree s.next edit ≡ None → IsState (state_after s edit)
 IsState-accepted s edit is h = IsState-state_after s edit is (has_number s.tree s.next edit h)
 
-not_refused : (refusal given : Option EditFault) → is_none (chosen refusal given) ≡ true → refusal ≡ None
+pub not_refused : (refusal given : Option EditFault) → is_none (chosen refusal given) ≡ true → refusal ≡ None
 not_refused None given h = refl
 not_refused (Some f) None h = absurd (cc)
 not_refused (Some f) (Some fault.NoMemory) h = absurd (cc)
@@ -72,18 +72,18 @@ pub length-axes_of : (rank : ℕ) (hyper : Hyper) → has_rank rank hyper ≡ tr
 length-axes_of rank hyper h =
     length-axes_from rank hyper.start hyper.stride hyper.count hyper.block (grind (arith, nat_tests)) (grind (arith, nat_tests)) (grind (arith, nat_tests)) (grind (arith, nat_tests))
 
-here : (at : Located) → is_place at ≡ true → has_no_parent at ≡ false → has_no_group at ≡ false → is_missing at ≡ false → is_here at ≡ true
+pub here : (at : Located) → is_place at ≡ true → has_no_parent at ≡ false → has_no_group at ≡ false → is_missing at ≡ false → is_here at ≡ true
 here (Here link) place parent group missing = refl
 here Missing place parent group missing = absurd (cc)
 here NoParent place parent group missing = absurd (cc)
 here NoGroup place parent group missing = absurd (cc)
 here NoPath place parent group missing = absurd (cc)
 
-first_of_or : (b c : Bool) → (b || c) ≡ false → b ≡ false
+pub first_of_or : (b c : Bool) → (b || c) ≡ false → b ≡ false
 first_of_or true c h = absurd (cc)
 first_of_or false c h = refl
 
-some_of : {X : Type 0} (b : Bool) (o : Option X) → b ≡ true → (b && is_none o) ≡ false → (x : X) × (o ≡ Some x)
+pub some_of : {X : Type 0} (b : Bool) (o : Option X) → b ≡ true → (b && is_none o) ≡ false → (x : X) × (o ≡ Some x)
 some_of b None holds h = absurd (cc)
 some_of b (Some x) holds h = (x, refl)
 
@@ -94,7 +94,7 @@ pub record Writes (d : Dataset) (slab : Slab) (values : List ℤ) : Type 0 where
   pub counted : length values ≡ length (selection_of d.sizes slab)
   pub fitting : list_all (fits d.fixed) values ≡ true
 
-true_of : (b : Bool) → not b ≡ false → b ≡ true
+pub true_of : (b : Bool) → not b ≡ false → b ≡ true
 true_of true h = refl
 true_of false h = absurd (cc)
 

@@ -46,3 +46,4 @@ pub mod HeaderFaults
 pub mod TreeFaults
 pub mod Faults
 pub mod Plain
+pub mod OneArray
