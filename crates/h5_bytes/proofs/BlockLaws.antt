@@ -2,8 +2,7 @@
 use Rattle.std.proofs.Common.{◌≡◌, ℕ, ◌+◌, ◌-◌, ◌<◌, ◌≤◌, ◌⊎◌, inl, inr, List, [], ◌∷◌, ◌++◌, length, refl, sym, ap, ◌∙◌, arith}
 use Rattle.std.proofs.lemmas.Bool.Decides.{nat_tests}
 use Rattle.std.specs.List.{AllByRecursion}
-use Rattle.h5_bytes.specs.Bytes.{part}
-use Rattle.h5_bytes.specs.Blocks.{block, holds, cover, Separate, Inside, CoverOnce, Run, IsKept, Keeps}
+use Rattle.h5_bytes.specs.Blocks.{holds, cover, Separate, Inside, CoverOnce, Run, Keeps}
 use Rattle.h5_bytes.specs.declared.Block.{Block}
 use Rattle.h5_bytes.proofs.PartLaws.{part-append}
 

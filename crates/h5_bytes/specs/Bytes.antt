@@ -1,6 +1,6 @@
 -- Bytes of an image, which is the list of its bytes: parts of it, and the numbers that stand in them. All numbers are
 -- little-endian (File Format Specification 3.0, section I.B).
-use Rattle.std.specs.Prelude.{ℕ, ◌+◌, ◌-◌, ◌^◌, ◌≤◌, List, ◌++◌, length, take, drop, slice_index, Option, Some, None, if◌then◌else◌, nat_le}
+use Rattle.std.specs.Prelude.{ℕ, ◌+◌, ◌-◌, ◌^◌, List, ◌++◌, length, take, drop, slice_index, Option, Some, None, if◌then◌else◌, nat_le}
 use Rattle.byteorder.specs.Endian.{little_from}
 pub use Rattle.byteorder.specs.Endian.{little_bytes}
 

@@ -1,13 +1,13 @@
 -- Where a rule of the superblock is broken, the bytes up to the end of file address read as no tree.
-use Rattle.std.proofs.Common.{◌≡◌, ◌≢◌, ◌⊎◌, inl, inr, ℕ, ◌+◌, ◌<◌, ◌≤◌, ◌==◌, List, [], ◌∷◌, take, drop, length, slice_index, refl, sym, ◌∙◌, ap, subst, arith, rules, ◌||◌, eqb, false}
+use Rattle.std.proofs.Common.{◌≡◌, ◌⊎◌, inl, inr, ℕ, ◌+◌, ◌<◌, ◌≤◌, List, length, sym, ◌∙◌, ap, arith, rules, ◌||◌, eqb, false}
 use Rattle.std.proofs.lemmas.List.{get_or-take, length-take, same_lists, places}
-use Rattle.std.specs.Prelude.{Bool, true}
+use Rattle.std.specs.Prelude.{true}
 use Rattle.std.proofs.lemmas.Bool.Decides.{nat_tests}
 use Rattle.std.specs.Ordering.{nat_cmp}
 use Rattle.std.specs.FinMap.{FinMap}
 use Rattle.h5_bytes.specs.Bytes.{number_at, byte_at, part}
 use Rattle.h5_bytes.proofs.FieldLaws.{number_at-part}
-use Rattle.h5_model.specs.Superblock.{IsSuperblock, signature, leaf_k, internal_k, end_of_file}
+use Rattle.h5_model.specs.Superblock.{IsSuperblock, end_of_file}
 use Rattle.h5_model.specs.Tree.{Tree}
 use Rattle.h5_model.specs.Reads.{Reads}
 use Rattle.h5_model.specs.Faults.{cut, FieldBreach, StartBreach, SuperblockBreach}

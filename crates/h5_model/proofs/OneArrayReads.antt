@@ -1,12 +1,10 @@
 -- A file with one array of one size, in the plain layout, reads as that tree.
-use Rattle.std.proofs.Common.{◌≡◌, ℕ, ◌+◌, ◌*◌, ◌^◌, ◌<◌, ◌≤◌, ◌==◌, List, [], ◌∷◌, ◌++◌, length, refl, sym, ap, ◌∙◌, subst, arith, Bool, true, false, ℤ, Some, append_assoc, append-nil, length-append}
+use Rattle.std.proofs.Common.{◌≡◌, ℕ, ◌+◌, ◌*◌, ◌^◌, ◌≤◌, ◌==◌, List, [], ◌∷◌, ◌++◌, length, refl, sym, ap, ◌∙◌, arith, Bool, true, false, ℤ, Some, append_assoc, length-append}
 use Rattle.std.specs.Prelude.{nat_le, if◌then◌else◌}
-use Rattle.std.specs.List.{AllByRecursion}
 use Rattle.std.proofs.lemmas.Bool.Decides.{nat_tests}
-use Rattle.byteorder.specs.Endian.{little_from}
 use Rattle.byteorder.specs.Numbers.{little_number-reads_back}
 use Rattle.h5_bytes.specs.Bytes.{number_at, part, undefined}
-use Rattle.h5_bytes.specs.Blocks.{block, Separate, Inside, Run, CoverOnce, cover, holds}
+use Rattle.h5_bytes.specs.Blocks.{block, Inside, Run, CoverOnce, cover, holds}
 use Rattle.h5_bytes.specs.declared.Block.{Block}
 use Rattle.h5_bytes.proofs.PartLaws.{part-behind, part-front, part-whole}
 use Rattle.h5_bytes.proofs.BlockLaws.{run_covers, once_separate, cover-append}
@@ -17,11 +15,11 @@ use Rattle.h5_model.specs.Superblock.{IsSuperblock, end_of_file, leaf_k, interna
 use Rattle.h5_model.specs.Nodes.{group_kind}
 use Rattle.h5_model.specs.Messages.{prefix_at, reference_count}
 use Rattle.h5_model.specs.Plain.{word, superblock_bytes, header_bytes, symbol_table_body, node_bytes_of, heap_header_bytes, segment_bytes, free_head_of, symbol_node_bytes, line_header_bytes, cells_bytes}
-use Rattle.h5_model.specs.OneArray.{one_image, one_front, one_table, one_tree, symbols_place, header_place, data_place, data_address, one_end, linking_object, line_object}
-use Rattle.h5_model.specs.Reads.{Reads, ReadsAs, HasObject, Placed, IsPlaced, IsCounted, all_blocks}
+use Rattle.h5_model.specs.OneArray.{one_image, one_table, one_tree, symbols_place, header_place, data_place, data_address, one_end, linking_object, line_object}
+use Rattle.h5_model.specs.Reads.{Reads, ReadsAs, HasObject, Placed, all_blocks}
 use Rattle.h5_model.proofs.PlainArray.{line_reads, line_counted, length-line_header_bytes}
 use Rattle.h5_model.proofs.PlainValues.{length-cells_bytes}
-use Rattle.h5_model.proofs.PlainGroup.{segment_by, segment_holds, head_by, used, root_reads, root_count}
+use Rattle.h5_model.proofs.PlainGroup.{segment_holds, used, root_reads, root_count}
 use Rattle.h5_model.proofs.OneTreeLaws.{own, reached, shallow, table_entries, tree_entries, links_to_root, links_to_array, get-table_0, get-table_1, get-tree_0}
 
 joined : (a b c d s n h v : List ℕ) → (a ++ (b ++ (c ++ (d ++ (s ++ (n ++ h)))))) ++ v ≡ (a ++ (b ++ (c ++ d))) ++ (s ++ (n ++ (h ++ v)))

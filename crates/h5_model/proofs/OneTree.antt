@@ -1,7 +1,6 @@
 -- A root is that of one tree at most.
-use Rattle.std.proofs.Common.{◌≡◌, ℕ, List, [], ◌∷◌, refl, sym, ap, ◌∙◌, subst}
-use Rattle.std.specs.List.{AllByRecursion}
-use Rattle.h5_model.specs.Rows.{Node, Reading, blank, only, leaves, nodes}
+use Rattle.std.proofs.Common.{◌≡◌, ℕ, List, [], ◌∷◌, sym, ap, ◌∙◌, subst}
+use Rattle.h5_model.specs.Rows.{Node, blank, leaves, nodes}
 use Rattle.h5_model.specs.Nodes.{Kind, HasTree, node_at, reading_of}
 use Rattle.h5_model.proofs.RowLaws.{Agree, only_here, nodes-same, leaves-same, root_level, root_agrees}
 

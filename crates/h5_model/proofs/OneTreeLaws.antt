@@ -1,18 +1,17 @@
 -- The tree of a root with one link to an array.
-use Rattle.std.proofs.Common.{◌≡◌, ◌≢◌, eqb, ℕ, zero, suc, ◌≤◌, ◌<◌, List, [], ◌∷◌, map, length, refl, sym, ap, ◌∙◌, arith, Some, None, Option, IsSome, cond, Bool, true, false, ℤ, inl, inr, ◌⊎◌}
+use Rattle.std.proofs.Common.{◌≡◌, ◌≢◌, eqb, ℕ, zero, suc, ◌≤◌, List, [], ◌∷◌, length, refl, sym, ap, ◌∙◌, arith, Some, None, IsSome, cond, Bool, true, false, ℤ, inl, inr, ◌⊎◌}
 use Rattle.std.specs.Prelude.{unwrap_or, option_and_then}
-use Rattle.std.specs.FinMap.{FinMap, get, entries, empty, insert, entries-insert, get-insert, get-empty, put}
+use Rattle.std.specs.FinMap.{get, entries, empty, insert, entries-insert, get-insert, get-empty, put}
 use Rattle.std.specs.Ordering.{nat_cmp, eq_by_cmp, is_eq}
 use Rattle.std.specs.Cmp.Lexicographic.{slice_cmp, nat_list_cmp_total}
 use Rattle.std.specs.Cmp.{nat_cmp_total, unsigned_tied}
-use Rattle.std.proofs.Math.Dec.{eqb-suc-zero}
 use Rattle.std.proofs.lemmas.Bool.Decides.{nat_tests}
 use Rattle.h5_model.specs.Fixed.{Fixed}
-use Rattle.h5_model.specs.Tree.{Tree, Object, Link, Links, ToObject, Group, Array, follow, link_in, links_of, hard_links}
-use Rattle.h5_model.specs.Empty.{root_table, root_tree, root_object}
+use Rattle.h5_model.specs.Tree.{Tree, Links, ToObject, follow, hard_links}
+use Rattle.h5_model.specs.Empty.{root_table, root_tree}
 use Rattle.h5_model.specs.OneArray.{one_table, one_tree, header_place, linking_object, line_object}
 use Rattle.h5_model.proofs.TextOrder.{same_text}
-use Rattle.h5_model.proofs.EmptyReads.{entries-empty, get-root_tree, get-root_tree_other, get-root_table, get-root_table_other, table-entries, tree-entries}
+use Rattle.h5_model.proofs.EmptyReads.{entries-empty, get-root_tree_other, get-root_table, get-root_table_other, table-entries, tree-entries}
 
 untied : (a b : ℕ) → a ≢ b → eq_by_cmp nat_cmp a b ≡ false
 untied a b other = unsigned_tied a b ∙ unequal where

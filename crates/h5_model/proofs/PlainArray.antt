@@ -16,7 +16,7 @@ use Rattle.h5_model.specs.Sound.{AreOf}
 use Rattle.h5_model.specs.Messages.{HasMessages, prefix_at, reference_count}
 use Rattle.h5_model.specs.Layout.{InBlock, layout_of}
 use Rattle.h5_model.specs.Cells.{cells_of}
-use Rattle.h5_model.specs.Tree.{Dataset, Contiguous, Object, Array}
+use Rattle.h5_model.specs.Tree.{Contiguous}
 use Rattle.h5_model.specs.Reads.{HasObject, HasDataset, HasAttributes, HasData}
 use Rattle.h5_model.specs.Plain.{extent_body, type_body, fill_body, contiguous_body, cells_bytes, line_header_bytes, messages_bytes}
 use Rattle.h5_model.proofs.FixedLaws.{length-bytes_of}

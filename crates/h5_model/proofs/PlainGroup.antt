@@ -1,23 +1,20 @@
 -- A root group with one link, as the plain layout writes it, reads as that group.
-use Rattle.std.proofs.Common.{◌≡◌, ◌≢◌, ℕ, zero, suc, ◌+◌, ◌-◌, ◌*◌, ◌/◌, ◌%◌, ◌^◌, ◌<◌, ◌≤◌, ◌==◌, ◌⊎◌, inl, inr, List, [], ◌∷◌, ◌++◌, map, length, take, drop, replicate, slice_index, get_or, refl, sym, ap, ◌∙◌, subst, arith, rules, Bool, true, false, IsTrue, Some, None, append-nil, length-append}
+use Rattle.std.proofs.Common.{◌≡◌, ℕ, zero, suc, ◌+◌, ◌-◌, ◌%◌, ◌^◌, ◌<◌, ◌≤◌, ◌==◌, inl, inr, List, [], ◌∷◌, ◌++◌, length, slice_index, refl, sym, ap, ◌∙◌, subst, arith, Bool, true, false, Some, append-nil, length-append}
 use Rattle.std.specs.Prelude.{if◌then◌else◌, nat_le, ◌||◌, ◌&&◌, not}
-use Rattle.std.specs.List.{AllByRecursion, list_any, Contains, flat_map}
+use Rattle.std.specs.List.{AllByRecursion, list_any, flat_map}
 use Rattle.std.proofs.lemmas.Bool.Decides.{nat_tests}
-use Rattle.std.proofs.Common.{Ordering, Less, Equal, Greater}
-use Rattle.std.specs.Ordering.{nat_cmp, ordering_reverse}
+use Rattle.std.specs.Ordering.{nat_cmp}
 use Rattle.std.specs.Cmp.Lexicographic.{slice_cmp, nat_list_cmp_total}
 use Rattle.std.proofs.lemmas.List.{length-replicate}
 use Rattle.std.proofs.lemmas.List.{get_or-append-add}
 use Rattle.byteorder.specs.Endian.{little_from}
-use Rattle.byteorder.specs.Numbers.{little_number-reads_back, length-bytes_low_first}
+use Rattle.byteorder.specs.Numbers.{little_number-reads_back}
 use Rattle.h5_bytes.specs.Bytes.{number_at, byte_at, part, little_bytes, undefined}
 use Rattle.h5_bytes.specs.Texts.{until_zero, text_at, pad8}
-use Rattle.h5_bytes.specs.Blocks.{block, Separate, Inside, Run}
+use Rattle.h5_bytes.specs.Blocks.{block, Separate, Inside}
 use Rattle.h5_bytes.specs.declared.Block.{Block}
-use Rattle.h5_bytes.proofs.PartLaws.{part-part}
-use Rattle.h5_bytes.proofs.FieldLaws.{number_at-part}
-use Rattle.h5_bytes.proofs.BlockLaws.{run_separate, holds-le, once_separate}
-use Rattle.h5_model.specs.Plain.{header_bytes, symbol_table_body, zeros, word, short, middle, segment_bytes, segment_with, texts_bytes, padded_text, head_of, free_head_of, heap_header_bytes, node_bytes_of, symbol_node_bytes, entry_bytes}
+use Rattle.h5_bytes.proofs.BlockLaws.{run_separate, holds-le}
+use Rattle.h5_model.specs.Plain.{header_bytes, symbol_table_body, zeros, word, middle, texts_bytes, padded_text, heap_header_bytes, node_bytes_of, symbol_node_bytes, entry_bytes}
 use Rattle.h5_model.specs.Sizes.{text_span}
 use Rattle.h5_model.specs.Paths.{is_name}
 use Rattle.std.specs.List.{IsDistinct}
@@ -34,10 +31,10 @@ use Rattle.h5_model.proofs.Frames.{messages-same, prefix-same}
 use Rattle.h5_model.specs.Rows.{Node}
 use Rattle.h5_model.specs.Nodes.{HasTree, group_kind, node_of, reading_of}
 use Rattle.h5_model.specs.Links.{Before, NotAfter, IsBetween, IsOrdered, AreLinks, HasLinks, key_name, names_in, symbol_nodes_below}
-use Rattle.h5_model.specs.Symbols.{Target, Header, Text, Entry, entry_of, entries_of, symbols_of, symbol_bytes, IsSymbolNode}
+use Rattle.h5_model.specs.Symbols.{Target, Header, Entry, entry_of, entries_of, symbols_of, symbol_bytes, IsSymbolNode}
 use Rattle.h5_model.proofs.RowLaws.{same_number}
 use Rattle.h5_model.proofs.TextOrder.{same_text}
-use Rattle.h5_model.specs.Heap.{IsHeap, HasNames, FreeFrom, IsFree, span_of, heap_header, segment_of, segment_block, segment_size, free_head, segment_place}
+use Rattle.h5_model.specs.Heap.{IsHeap, HasNames, span_of, heap_header, segment_of, segment_size, free_head, segment_place}
 
 -- ---- numbers in appended lists
 

@@ -15,7 +15,7 @@ use Rattle.h5_model.specs.Heap.{heap_header, segment_of, IsHeap}
 use Rattle.h5_model.specs.Symbols.{symbol_bytes, symbols_in}
 use Rattle.h5_model.specs.Tree.{Tree}
 use Rattle.h5_model.specs.Reads.{Reads}
-use Rattle.h5_model.specs.Reached.{Named, Role, ObjectHeader, Continuation, GroupNode, SymbolNode, HeapHeader, Segment, Data, ChunkNode, Chunk, Reached, AllMessages, shape_kind, length_of, block_of}
+use Rattle.h5_model.specs.Reached.{Named, Role, ObjectHeader, GroupNode, SymbolNode, HeapHeader, ChunkNode, Reached, AllMessages, shape_kind, length_of, block_of}
 use Rattle.h5_model.specs.HeaderFaults.{HeaderBreach, SomeMessage}
 use Rattle.h5_model.specs.TreeFaults.{NodeBreach, SymbolBreach, SiblingBreach, NameBreach, HeapNameBreach, BadNameBreach, KeyBreach, ChunkOrderBreach, ChunkKeyBreach}
 use Rattle.h5_model.specs.declared.open_fault.Cause.{Cause}

@@ -1,5 +1,5 @@
 -- Rules that an object header breaks (File Format Specification 3.0, sections IV.A.1.a and IV.A.2).
-use Rattle.std.specs.Prelude.{◌≡◌, ◌≢◌, ℕ, ◌+◌, ◌*◌, ◌^◌, ◌%◌, ◌<◌, ◌≤◌, ◌==◌, ◌||◌, ◌⊎◌, Bool, IsTrue, not, bit_and, Option, Some, None, List, [], ◌∷◌, map, length}
+use Rattle.std.specs.Prelude.{◌≡◌, ◌≢◌, ℕ, ◌+◌, ◌*◌, ◌^◌, ◌%◌, ◌<◌, ◌==◌, ◌||◌, ◌⊎◌, Bool, IsTrue, not, bit_and, Option, Some, None, List, [], ◌∷◌, map, length}
 use Rattle.std.specs.Ordering.{nat_cmp, eq_by_cmp}
 use Rattle.std.specs.Cmp.Lexicographic.{slice_cmp}
 use Rattle.std.specs.List.{list_any, filter, filter_map, Contains, IsDistinct}
@@ -62,7 +62,7 @@ IsLarge ms =
     SomeBody 1 ms (λ body. (e : Extent) × (extent_of body ≡ Some e) × (2 ^ 40 < extent_cells e.sizes))
     ⊎ (SomeBody 12 ms (λ body. (a : List ℕ × Attribute) × (attribute_of body ≡ Some a) × (2 ^ 40 < extent_cells (a.1).sizes))
     ⊎ ((t : Fixed) × (sizes : List ℕ) × (root : Option ℕ) × (type_among ms ≡ Some t)
-        × (layout_among ms ≡ Some (InChunks sizes root)) × (2 ^ 30 < cells sizes * t.size)))
+    × (layout_among ms ≡ Some (InChunks sizes root)) × (2 ^ 30 < cells sizes * t.size)))
 
 -- a rule on all messages of a header
 abbrev pub ListBreach : List ℕ → ℕ → List Message → Cause → Type 0

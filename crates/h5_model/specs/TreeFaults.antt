@@ -8,7 +8,7 @@ use Rattle.h5_bytes.specs.Texts.{text_at}
 use Rattle.h5_bytes.specs.declared.Block.{Block}
 use Rattle.h5_model.specs.Superblock.{leaf_k, internal_k}
 use Rattle.h5_model.specs.Heap.{heap_header, segment_of, IsHeap, HasNames}
-use Rattle.h5_model.specs.Rows.{Reading, first_or_undefined, row_below, nodes}
+use Rattle.h5_model.specs.Rows.{first_or_undefined, row_below, nodes}
 use Rattle.h5_model.specs.Nodes.{Kind, group_kind, node_signature, node_bytes, node_at, entries_in, key_in, HasTree}
 use Rattle.h5_model.specs.Symbols.{Entry, symbol_signature, symbol_bytes, symbols_in, symbols_at, texts_of}
 use Rattle.h5_model.specs.Links.{Before, IsOrdered, key_offsets}
@@ -57,7 +57,7 @@ all_entries image symbol_nodes = flat_map (symbols_at image (leaf_k image)) symb
 abbrev pub NameBreach : List ℕ → ℕ → ℕ → ℕ → Type 0
 NameBreach image root heap at = (before : List ℕ) × (after : List ℕ) × HasSymbolNodes image root (before ++ at ∷ after)
     × Falls (λ (e : Entry) (f : Entry). Before (text_at (segment_of image heap) e.name) (text_at (segment_of image heap) f.name))
-      (all_entries image before) (symbols_at image (leaf_k image) at)
+    (all_entries image before) (symbols_at image (leaf_k image) at)
 
 -- the offsets in all keys of a group's tree
 abbrev pub all_key_offsets : List ℕ → ℕ → List ℕ
@@ -68,8 +68,8 @@ all_key_offsets image root =
 abbrev pub HeapNameBreach : List ℕ → ℕ → ℕ → Type 0
 HeapNameBreach image root heap = (symbol_nodes : List ℕ) × HasSymbolNodes image root symbol_nodes
     × ((free : List Block) (loose : List ℕ) → IsHeap (heap_header image heap) (segment_of image heap) free
-      → HasNames (segment_of image heap) free (map (λ (e : Entry). e.name) (all_entries image symbol_nodes))
-        (texts_of (all_entries image symbol_nodes)) (all_key_offsets image root) loose → ⊥)
+    → HasNames (segment_of image heap) free (map (λ (e : Entry). e.name) (all_entries image symbol_nodes))
+    (texts_of (all_entries image symbol_nodes)) (all_key_offsets image root) loose → ⊥)
 
 abbrev pub BadNameBreach : List ℕ → ℕ → ℕ → Type 0
 BadNameBreach image root heap = (symbol_nodes : List ℕ) × (e : Entry) × HasSymbolNodes image root symbol_nodes
@@ -86,7 +86,7 @@ abbrev pub ChunksDescend : List ℕ → Shape → ℕ → ℕ → Type 0
 ChunksDescend image shape root at = (before : List ℕ) × (after : List ℕ)
     × (row_below (node_at image (shape_kind image shape)) (level_at image (shape_kind image shape) root) (root ∷ []) ≡ before ++ at ∷ after)
     × Falls (λ (c : List ℕ × ℕ) (d : List ℕ × ℕ). IsTrue (is_lt (slice_cmp nat_cmp c.0 d.0)))
-      (chunks_at (node_at image (shape_kind image shape)) (length shape.sizes) before) (chunks_in (length shape.sizes) (node_at image (shape_kind image shape) at))
+    (chunks_at (node_at image (shape_kind image shape)) (length shape.sizes) before) (chunks_in (length shape.sizes) (node_at image (shape_kind image shape) at))
 
 -- the chunks below a node's children are not between its keys, or chunks do not ascend
 abbrev pub ChunkOrderBreach : List ℕ → Shape → ℕ → ℕ → ℕ → Type 0

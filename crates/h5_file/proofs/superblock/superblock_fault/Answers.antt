@@ -1,4 +1,4 @@
-use Rattle.std.proofs.Common.{◌≡◌, sym, ◌∙◌, arith, inl, refl}
+use Rattle.std.proofs.Common.{sym, ◌∙◌, arith, inl, refl}
 use Rattle.h5_file.proofs.Signed.{signed, unsigned}
 use Rattle.h5_file.proofs.superblock.superblock_fault.Goals as goal
 

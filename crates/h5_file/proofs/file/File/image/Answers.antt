@@ -1,4 +1,4 @@
-use Rattle.std.proofs.Common.{subst, sym}
+use Rattle.std.proofs.Common.{subst}
 use Rattle.h5_file.specs.State.{FileState, IsReading}
 use Rattle.h5_file.proofs.file.File.image.Goals as goal
 
