@@ -5,7 +5,7 @@ use Rattle.std.specs.List.{flat_map, find}
 use Rattle.h5_bytes.specs.Bytes.{number_at, part}
 use Rattle.h5_bytes.specs.Blocks.{block}
 use Rattle.h5_bytes.specs.declared.Block.{Block}
-use Rattle.h5_model.specs.Superblock.{leaf_k, internal_k, chunk_k, root_header}
+use Rattle.h5_model.specs.Superblock.{superblock_length, leaf_k, internal_k, chunk_k, root_header}
 use Rattle.h5_model.specs.Messages.{Message, FillBlocks, prefix_at, first_size, first_block, first_body}
 use Rattle.h5_model.specs.Nodes.{Kind, group_kind, chunk_kind, node_bytes, node_length, entries_in, key_place, child_in, node_at}
 use Rattle.h5_model.specs.Symbols.{Entry, symbol_bytes, symbols_in, entry_of}
@@ -158,10 +158,10 @@ Names image (Chunk bytes) at depth y = ⊥
 
 -- ---- what is reached
 
--- the superblock names it, or a field of a block that is reached does
+-- The superblock names it, or a field of a block that is reached does. Each such field is an address of 8 bytes, and is there.
 pub data Reached (image : List ℕ) : Named → Type 0 where
-  by_superblock : {x : Named} → x ≡ named 64 ObjectHeader (root_header image) 0 → Reached image x
-  by_block : {x : Named} → {y : Named} → Reached image x → Names image x.role x.at x.depth y → Reached image y
+  by_superblock : {x : Named} → superblock_length image ≤ length image → x ≡ named 64 ObjectHeader (root_header image) 0 → Reached image x
+  by_block : {x : Named} → {y : Named} → Reached image x → Names image x.role x.at x.depth y → y.field + 8 ≤ length image → Reached image y
 
 -- the length of the block that a field names
 abbrev pub length_by : List ℕ → Named → Role → ℕ
@@ -180,3 +180,8 @@ length_of image x = length_by image x x.role
 
 abbrev pub block_of : List ℕ → Named → Block
 block_of image x = block x.at (length_of image x)
+
+-- the bytes that a block's rules speak of are there: a header's prefix, else the whole block
+abbrev pub IsThere : List ℕ → Named → Role → Type 0
+IsThere image x ObjectHeader = x.at + 16 ≤ length image
+IsThere image x _ = x.at + length_of image x ≤ length image
