@@ -15,7 +15,7 @@ use Rattle.h5_model.specs.Heap.{heap_header, segment_of, IsHeap}
 use Rattle.h5_model.specs.Symbols.{symbol_bytes, symbols_in}
 use Rattle.h5_model.specs.Tree.{Tree}
 use Rattle.h5_model.specs.Reads.{Reads}
-use Rattle.h5_model.specs.Reached.{Named, Role, ObjectHeader, GroupNode, SymbolNode, HeapHeader, ChunkNode, Reached, AllMessages, shape_kind, length_of, block_of}
+use Rattle.h5_model.specs.Reached.{Named, Role, ObjectHeader, GroupNode, SymbolNode, HeapHeader, ChunkNode, Reached, AllMessages, shape_kind, length_of, block_of, IsThere}
 use Rattle.h5_model.specs.HeaderFaults.{HeaderBreach, SomeMessage}
 use Rattle.h5_model.specs.TreeFaults.{NodeBreach, SymbolBreach, SiblingBreach, NameBreach, HeapNameBreach, BadNameBreach, KeyBreach, ChunkOrderBreach, ChunkKeyBreach}
 use Rattle.h5_model.specs.declared.open_fault.Cause.{Cause}
@@ -105,15 +105,19 @@ IsMiscounted image x = IsTrue (is_header x.role) × ((fields : List ℕ) × AreA
 abbrev pub IsLinkedTooOften : List ℕ → Named → Type 0
 IsLinkedTooOften image x = IsTrue (is_header x.role) × ((fields : List ℕ) × AreLinks image x.at fields × (65535 < length fields))
 
+-- a reached block, as far as it is there, breaks a rule of its form or of the links to it
+abbrev pub FormBreach : List ℕ → Named → Cause → Type 0
+FormBreach image x GroupLinkedTwice = IsLinkedTwice image x
+FormBreach image x LinkCount = IsMiscounted image x
+FormBreach image x TooLarge = IsLinkedTooOften image x ⊎ BlockBreach image x x.role TooLarge
+FormBreach image x MissingMessage = IsNoRoot image x ⊎ BlockBreach image x x.role MissingMessage
+FormBreach image x cause = BlockBreach image x x.role cause
+
 -- a cause holds of a reached block
 abbrev pub ReachedBreach : List ℕ → Named → Cause → Type 0
 ReachedBreach image x Truncated = length image < x.at + length_of image x
 ReachedBreach image x Overlap = IsOverlap image x
-ReachedBreach image x GroupLinkedTwice = IsLinkedTwice image x
-ReachedBreach image x LinkCount = IsMiscounted image x
-ReachedBreach image x TooLarge = IsLinkedTooOften image x ⊎ BlockBreach image x x.role TooLarge
-ReachedBreach image x MissingMessage = IsNoRoot image x ⊎ BlockBreach image x x.role MissingMessage
-ReachedBreach image x cause = BlockBreach image x x.role cause
+ReachedBreach image x cause = IsThere image x x.role × FormBreach image x cause
 
 -- the bytes up to the end of file address
 abbrev pub cut : List ℕ → List ℕ

@@ -3,10 +3,10 @@
 use Rattle.std.specs.Prelude.{◌≡◌, ◌≢◌, ℕ, ◌+◌, ◌-◌, ◌*◌, ◌%◌, ◌<◌, ◌≤◌, ◌==◌, ◌⊎◌, if◌then◌else◌, Option, Some, List, [], ◌∷◌, length, option_and_then}
 use Rattle.std.specs.List.{flat_map, find}
 use Rattle.h5_bytes.specs.Bytes.{number_at, part}
-use Rattle.h5_bytes.specs.Blocks.{block}
+use Rattle.h5_bytes.specs.Blocks.{block, Inside}
 use Rattle.h5_bytes.specs.declared.Block.{Block}
-use Rattle.h5_model.specs.Superblock.{leaf_k, internal_k, chunk_k, root_header}
-use Rattle.h5_model.specs.Messages.{Message, FillBlocks, prefix_at, first_size, first_block, first_body}
+use Rattle.h5_model.specs.Superblock.{superblock_length, leaf_k, internal_k, chunk_k, root_header}
+use Rattle.h5_model.specs.Messages.{Message, FillBlocks, continuations, prefix_at, first_size, first_block, first_body}
 use Rattle.h5_model.specs.Nodes.{Kind, group_kind, chunk_kind, node_bytes, node_length, entries_in, key_place, child_in, node_at}
 use Rattle.h5_model.specs.Symbols.{Entry, symbol_bytes, symbols_in, entry_of}
 use Rattle.h5_model.specs.Heap.{heap_header, segment_place, segment_size}
@@ -44,10 +44,11 @@ pub record MessageAt (image : List ℕ) (header at : ℕ) : Type 0 where
 abbrev pub FittingAt : List ℕ → ℕ → ℕ → Type 0
 FittingAt image header at = (m : MessageAt image header at) × (at + 8 + size_at image at ≤ m.end)
 
--- all messages of the header, whatever their total says
+-- all messages of the header, whatever their total says; its blocks are there
 abbrev pub AllMessages : List ℕ → ℕ → List Message → Type 0
 AllMessages image header messages = (parts : List (List Message))
     × FillBlocks image (first_block image header ∷ []) parts × (messages ≡ flat_map (λ ms. ms) parts)
+    × Inside (length image) (first_block image header ∷ continuations messages)
 
 -- what the messages say of sizes, of the type, and of the layout
 abbrev pub extent_among : List Message → Option Extent
@@ -158,10 +159,10 @@ Names image (Chunk bytes) at depth y = ⊥
 
 -- ---- what is reached
 
--- the superblock names it, or a field of a block that is reached does
+-- The superblock names it, or a field of a block that is reached does. Each such field is an address of 8 bytes, and is there.
 pub data Reached (image : List ℕ) : Named → Type 0 where
-  by_superblock : {x : Named} → x ≡ named 64 ObjectHeader (root_header image) 0 → Reached image x
-  by_block : {x : Named} → {y : Named} → Reached image x → Names image x.role x.at x.depth y → Reached image y
+  by_superblock : {x : Named} → superblock_length image ≤ length image → x ≡ named 64 ObjectHeader (root_header image) 0 → Reached image x
+  by_block : {x : Named} → {y : Named} → Reached image x → Names image x.role x.at x.depth y → y.field + 8 ≤ length image → Reached image y
 
 -- the length of the block that a field names
 abbrev pub length_by : List ℕ → Named → Role → ℕ
@@ -180,3 +181,8 @@ length_of image x = length_by image x x.role
 
 abbrev pub block_of : List ℕ → Named → Block
 block_of image x = block x.at (length_of image x)
+
+-- the bytes that a block's rules speak of are there: a header's prefix, else the whole block
+abbrev pub IsThere : List ℕ → Named → Role → Type 0
+IsThere image x ObjectHeader = x.at + 16 ≤ length image
+IsThere image x _ = x.at + length_of image x ≤ length image

@@ -64,11 +64,11 @@ abbrev pub all_key_offsets : List ℕ → ℕ → List ℕ
 all_key_offsets image root =
     key_offsets (node_at image (group_kind (internal_k image))) (nodes (node_at image (group_kind (internal_k image))) (level_at image (group_kind (internal_k image)) root) (root ∷ []))
 
--- however the keys that name no link's span are listed, the spans are not separate, or not in the segment
+-- however the keys that name no link's span are listed, the spans are not separate, or not in the segment; the free list is sound
 abbrev pub HeapNameBreach : List ℕ → ℕ → ℕ → Type 0
 HeapNameBreach image root heap = (symbol_nodes : List ℕ) × HasSymbolNodes image root symbol_nodes
-    × ((free : List Block) (loose : List ℕ) → IsHeap (heap_header image heap) (segment_of image heap) free
-    → HasNames (segment_of image heap) free (map (λ (e : Entry). e.name) (all_entries image symbol_nodes))
+    × (free : List Block) × IsHeap (heap_header image heap) (segment_of image heap) free
+    × ((loose : List ℕ) → HasNames (segment_of image heap) free (map (λ (e : Entry). e.name) (all_entries image symbol_nodes))
     (texts_of (all_entries image symbol_nodes)) (all_key_offsets image root) loose → ⊥)
 
 abbrev pub BadNameBreach : List ℕ → ℕ → ℕ → Type 0
