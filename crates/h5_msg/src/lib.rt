@@ -1,0 +1,16 @@
+//! Bodies of header messages: dataspace, datatype, fill value, data layout, attribute, symbol table and continuation
+//! (File Format Specification 3.0, section IV.A.2).
+//!
+//! Each reader takes a message's body, which may be followed by padding, and answers what it says or the fault of its
+//! kind. It takes no memory; what it answers borrows the body. Each writer fills the bytes it is given: the body in
+//! its written form, and zeros behind it.
+#![tactic(auto)]
+
+mod addresses;
+mod fault;
+
+pub use addresses::{
+    SymbolTable, CONTINUATION_LENGTH, SYMBOL_TABLE_LENGTH, read_continuation, read_symbol_table,
+    write_continuation, write_symbol_table,
+};
+pub use fault::FormFault;
