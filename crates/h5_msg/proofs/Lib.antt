@@ -1,1 +1,4 @@
 pub mod AddressLaws
+pub mod DatatypeLaws
+pub mod ValueLaws
+pub mod FillLaws
