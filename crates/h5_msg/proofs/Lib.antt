@@ -2,3 +2,4 @@ pub mod AddressLaws
 pub mod DatatypeLaws
 pub mod ValueLaws
 pub mod FillLaws
+pub mod ExtentLaws

@@ -21,7 +21,7 @@ first n xs ys a b same =
     let right : a + 0 ≡ a = omega arith in
     rw (left, right) at (same 0 (omega arith))
 
-little_moved : (n : ℕ) (xs ys : List ℕ) (a b : ℕ) → Moved xs ys a b n → little_from b n ys ≡ little_from a n xs
+pub little_moved : (n : ℕ) (xs ys : List ℕ) (a b : ℕ) → Moved xs ys a b n → little_from b n ys ≡ little_from a n xs
 little_moved zero xs ys a b same = refl
 little_moved (suc n) xs ys a b same = rw (first n xs ys a b same, little_moved n xs ys (suc a) (suc b) (next n xs ys a b same)) refl
 
@@ -34,13 +34,10 @@ unfolding value_at raw_at
 value_at-moved t xs ys a b same = rw (little_moved t.size xs ys a b same, big_moved t.size xs ys a b same) refl
 
 -- the value of a part of the bytes is the value at the part's place
-pub value_of-part : (t : Fixed) (bytes : List ℕ) (at : ℕ) → value_of t (slice_range bytes at (at + t.size)) ≡ value_at t bytes at
-value_of-part t bytes at = value_at-moved t bytes (slice_range bytes at (at + t.size)) at 0 (λ k low.
+pub decoded_at : (t : Fixed) (bytes : List ℕ) (at : ℕ) → value_of t (slice_range bytes at (at + t.size)) ≡ value_at t bytes at
+decoded_at t bytes at = value_at-moved t bytes (slice_range bytes at (at + t.size)) at 0 (λ k low.
     let zero_left : 0 + k ≡ k = omega arith in
     rw zero_left (get_or-take (at + t.size - at) (drop at bytes) k 0 (omega arith) ∙ get_or-drop at bytes k 0))
-
-pub decoded_at : (t : Fixed) (bytes : List ℕ) (at : ℕ) → value_at t (slice_range bytes at (at + t.size)) 0 ≡ value_at t bytes at
-decoded_at t bytes at = value_of-part t bytes at
 
 -- the value at a place is the first value of what begins there
 pub value_at-drop : (t : Fixed) (bytes : List ℕ) (at : ℕ) → value_at t bytes at ≡ value_of t (drop at bytes)
