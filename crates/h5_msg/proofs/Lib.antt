@@ -3,3 +3,5 @@ pub mod DatatypeLaws
 pub mod ValueLaws
 pub mod FillLaws
 pub mod ExtentLaws
+pub mod WordLaws
+pub mod DataspaceLaws

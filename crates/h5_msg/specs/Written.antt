@@ -1,6 +1,7 @@
 -- Bodies of messages as they are written (File Format Specification 3.0, section IV.A.2).
-use Rattle.std.specs.Prelude.{ℕ, ℤ, ◌+◌, ◌-◌, ◌*◌, if◌then◌else◌, List, [], ◌∷◌, ◌++◌, length, replicate}
-use Rattle.h5_bytes.specs.Bytes.{little_bytes}
+use Rattle.std.specs.Prelude.{ℕ, ℤ, ◌+◌, ◌-◌, ◌*◌, if◌then◌else◌, Option, Some, None, List, [], ◌∷◌, ◌++◌, length, map, replicate}
+use Rattle.std.specs.List.{flat_map}
+use Rattle.h5_bytes.specs.Bytes.{little_bytes, undefined}
 use Rattle.h5_model.specs.Fixed.{Fixed, bytes_of}
 
 -- bytes with zeros behind them, so many in all
@@ -22,3 +23,20 @@ datatype_bytes t = 16 ∷ class_bits t ∷ 0 ∷ 0 ∷ t.size ∷ 0 ∷ 0 ∷ 0 
 -- version 2, when storage is allocated, when the fill is written (if it was set), defined, size and value
 abbrev pub fill_bytes : ℕ → Fixed → ℤ → List ℕ
 fill_bytes time t value = 2 ∷ time ∷ 2 ∷ 1 ∷ t.size ∷ 0 ∷ 0 ∷ 0 ∷ bytes_of t value
+
+-- numbers of 8 bytes, one after another
+abbrev pub words : List ℕ → List ℕ
+words numbers = flat_map (little_bytes 8) numbers
+
+-- the number for a maximum: all ones say unlimited
+abbrev pub maximum_number : Option ℕ → ℕ
+maximum_number None = undefined
+maximum_number (Some n) = n
+
+-- version 1, rank, no flag, and the sizes
+abbrev pub dataspace_bytes : List ℕ → List ℕ
+dataspace_bytes sizes = 1 ∷ length sizes ∷ 0 ∷ 0 ∷ 0 ∷ 0 ∷ 0 ∷ 0 ∷ words sizes
+
+-- the same with the flag for maxima, and these behind the sizes
+abbrev pub bounded_bytes : List ℕ → List (Option ℕ) → List ℕ
+bounded_bytes sizes maxima = 1 ∷ length sizes ∷ 1 ∷ 0 ∷ 0 ∷ 0 ∷ 0 ∷ 0 ∷ (words sizes ++ words (map maximum_number maxima))

@@ -1,9 +1,11 @@
 //! Dataspace messages, version 1 (File Format Specification 3.0, section IV.A.2.b).
 
-ghost use Rattle.std.specs.Prelude.{◌≡◌, ◌+◌, ◌-◌, ◌*◌, ◌^◌, ◌<◌, ◌≤◌, Some, length, ok_or, min, slice_index, slice_get, map, if◌then◌else◌};
-ghost use Rattle.std.specs.List.{range_with_len};
+ghost use Rattle.std.specs.Prelude.{◌≡◌, ◌+◌, ◌-◌, ◌*◌, ◌^◌, ◌<◌, ◌≤◌, ◌++◌, Some, length, ok_or, min, slice_index, slice_get, map, if◌then◌else◌, true};
+ghost use Rattle.std.specs.List.{range_with_len, AllByRecursion};
 ghost use Rattle.h5_bytes.specs.Bytes.{number_at};
 ghost use Rattle.h5_model.specs.Extent.{extent_of, is_dataspace as has_form, maximum_fits, size_in};
+ghost use Rattle.h5_model.specs.Refusal.{are_maxima as bound_sizes};
+ghost use Rattle.h5_msg.specs.Written.{bounded_bytes, dataspace_bytes, maximum_number, padded, words};
 ghost use Rattle.h5_model.specs.Places.{cells as cells_of};
 ghost use Rattle.h5_model.specs.Sizes.{dataspace_size};
 ghost use Rattle.h5_model.specs.Tests.{each_below};
@@ -172,4 +174,64 @@ fn number(body: &[u8], at: usize) -> u64
     ensures { result ≡ number_at body.now at 8 }
 {
     LittleEndian::read_u64(&body[at..])
+}
+
+/// Writes a Dataspace message without maxima, which are then the sizes, and zeros behind it.
+#[tactic(auto, using(crate::proofs::WordLaws::words_long))]
+pub fn write_dataspace(sizes: &[u64], bytes: &mut [u8])
+    requires rank { length sizes.now ≤ 32 }
+    requires room { dataspace_size (length sizes.now) ≤ length bytes.old }
+    ensures written { bytes.new ≡ padded (dataspace_bytes sizes.now) (length bytes.old) }
+    ensures reads { extent_of bytes.new ≡ Some (record { sizes = sizes.now; maxima = map Some sizes.now }) }
+{
+    let rank = sizes.len();
+    let (head, behind) = bytes.split_at_mut(SIZES);
+    let (numbers, padding) = behind.split_at_mut(8 * rank);
+    head.copy_from_slice(&[1, rank as u8, 0, 0, 0, 0, 0, 0]);
+    LittleEndian::write_u64_into(sizes, numbers);
+    padding.fill(0);
+}
+
+/// Writes a Dataspace message with maxima, of which `None` is unlimited, and zeros behind it.
+#[tactic(auto, using(crate::proofs::WordLaws::bounds_long, crate::proofs::WordLaws::as_many_maxima))]
+pub fn write_bounded_dataspace(sizes: &[u64], maxima: &[Option<u64>], bytes: &mut [u8])
+    requires rank { length sizes.now ≤ 32 }
+    requires bounds { bound_sizes sizes.now maxima.now ≡ true }
+    requires room { dataspace_size (length sizes.now) + 8 * length sizes.now ≤ length bytes.old }
+    ensures written { bytes.new ≡ padded (bounded_bytes sizes.now maxima.now) (length bytes.old) }
+    ensures reads { extent_of bytes.new ≡ Some (record { sizes = sizes.now; maxima = maxima.now }) }
+{
+    let rank = sizes.len();
+    let (head, behind) = bytes.split_at_mut(SIZES);
+    let (numbers, padding) = behind.split_at_mut(16 * rank);
+    head.copy_from_slice(&[1, rank as u8, 1, 0, 0, 0, 0, 0]);
+    write_bounds(sizes, maxima, numbers);
+    padding.fill(0);
+}
+
+/// Writes sizes and then the numbers of maxima.
+fn write_bounds(sizes: &[u64], maxima: &[Option<u64>], bytes: &mut [u8])
+    requires rank { length sizes.now ≤ 32 }
+    requires same { length maxima.now ≡ length sizes.now }
+    requires room { length bytes.old ≡ 16 * length sizes.now }
+    ensures written { bytes.new ≡ words sizes.now ++ words (map maximum_number maxima.now) }
+    ensures small { AllByRecursion (λ n. n < 2 ^ 64) (map maximum_number maxima.now) }
+{
+    let (first, behind) = bytes.split_at_mut(8 * sizes.len());
+    LittleEndian::write_u64_into(sizes, first);
+    write_maxima(maxima, behind);
+}
+
+/// Writes the numbers of maxima.
+fn write_maxima(maxima: &[Option<u64>], bytes: &mut [u8])
+    requires { length bytes.old ≡ 8 * length maxima.now }
+    ensures written { bytes.new ≡ words (map maximum_number maxima.now) }
+    ensures small { AllByRecursion (λ n. n < 2 ^ 64) (map maximum_number maxima.now) }
+{
+    let [maximum, rest @ ..] = maxima else {
+        return;
+    };
+    let (first, behind) = bytes.split_at_mut(8);
+    LittleEndian::write_u64(first, maximum.unwrap_or(UNDEF));
+    write_maxima(rest, behind);
 }

@@ -17,7 +17,9 @@ pub use addresses::{
     SymbolTable, CONTINUATION_LENGTH, SYMBOL_TABLE_LENGTH, read_continuation, read_symbol_table,
     write_continuation, write_symbol_table,
 };
-pub use dataspace::{Dataspace, dataspace_length, read_dataspace};
+pub use dataspace::{
+    Dataspace, dataspace_length, read_dataspace, write_bounded_dataspace, write_dataspace,
+};
 pub use datatype::{DATATYPE_LENGTH, read_datatype, write_datatype};
 pub use fault::FormFault;
 pub use fill::{AllocationTime, fill_length, read_fill, read_old_fill, write_fill};
