@@ -9,7 +9,7 @@ use Rattle.h5_bytes.specs.Bytes.{number_at, byte_at, undefined}
 use Rattle.h5_model.specs.Refusal.{are_maxima, is_maximum}
 use Rattle.h5_model.specs.Tests.{each_below}
 use Rattle.h5_model.specs.Extent.{Extent, extent_of, extent_in, is_dataspace, rank_in, size_in, maximum_in, maximum_from, maximum_fits}
-use Rattle.h5_msg.specs.Written.{padded, dataspace_bytes, bounded_bytes, maximum_number, words}
+use Rattle.h5_msg.specs.Written.{padded, dataspace_bytes, bounded_bytes, or_undefined, words}
 use Rattle.h5_msg.proofs.WordLaws.{words_long, bounds_long, as_many_maxima, length-numbers, number_at-drop, number_at-words, and_left, and_right}
 
 -- numbers that fit in 8 bytes
@@ -55,7 +55,7 @@ plain_back sizes n bytes rank small same =
 
 -- the maximum that stands in place k, as a number and as a maximum
 number_of : (maxima : List (Option ℕ)) (sizes : List ℕ) (k : ℕ) → are_maxima sizes maxima ≡ true → k < length maxima
-    → maximum_from (get_or (map maximum_number maxima) k 0) ≡ get_or maxima k None
+    → maximum_from (get_or (map or_undefined maxima) k 0) ≡ get_or maxima k None
 number_of [] sizes k fit low = absurd (omega arith)
 number_of (m ∷ ms) [] k fit low = absurd (cc)
 number_of (None ∷ ms) (d ∷ ds) zero fit low = refl
@@ -66,7 +66,7 @@ number_of (Some n ∷ ms) (d ∷ ds) zero fit low =
 number_of (m ∷ ms) (d ∷ ds) (suc k) fit low = number_of ms ds k (and_right (is_maximum d m) (are_maxima ds ms) fit) (omega arith)
 
 above_size : (sizes : List ℕ) (maxima : List (Option ℕ)) (k : ℕ) → Small sizes → are_maxima sizes maxima ≡ true → k < length sizes
-    → nat_le (get_or sizes k 0) (get_or (map maximum_number maxima) k 0) ≡ true
+    → nat_le (get_or sizes k 0) (get_or (map or_undefined maxima) k 0) ≡ true
 above_size [] maxima k small fit low = absurd (omega arith)
 above_size (d ∷ ds) [] k small fit low = absurd (cc)
 above_size (d ∷ ds) (None ∷ ms) zero small fit low = let fits : d < 2 ^ 64 = small 0 in grind (arith, nat_tests)
@@ -82,20 +82,20 @@ small_from [] all k = omega arith
 small_from (x ∷ xs) all zero = all.0
 small_from (x ∷ xs) all (suc k) = small_from xs all.1 k
 
-module _ (sizes : List ℕ) (maxima : List (Option ℕ)) (rest : List ℕ) (rank : length sizes ≤ 32) (small : Small sizes) (fit : are_maxima sizes maxima ≡ true) (numbers : Small (map maximum_number maxima)) where
+module _ (sizes : List ℕ) (maxima : List (Option ℕ)) (rest : List ℕ) (rank : length sizes ≤ 32) (small : Small sizes) (fit : are_maxima sizes maxima ≡ true) (numbers : Small (map or_undefined maxima)) where
   abbrev bounded : List ℕ
-  bounded = 1 ∷ length sizes ∷ 1 ∷ 0 ∷ 0 ∷ 0 ∷ 0 ∷ 0 ∷ ((words sizes ++ words (map maximum_number maxima)) ++ rest)
+  bounded = 1 ∷ length sizes ∷ 1 ∷ 0 ∷ 0 ∷ 0 ∷ 0 ∷ 0 ∷ ((words sizes ++ words (map or_undefined maxima)) ++ rest)
 
   abbrev behind : List ℕ
-  behind = words (map maximum_number maxima) ++ rest
+  behind = words (map or_undefined maxima) ++ rest
 
-  joined : (words sizes ++ words (map maximum_number maxima)) ++ rest ≡ words sizes ++ behind
-  joined = append_assoc (words sizes) (words (map maximum_number maxima)) rest
+  joined : (words sizes ++ words (map or_undefined maxima)) ++ rest ≡ words sizes ++ behind
+  joined = append_assoc (words sizes) (words (map or_undefined maxima)) rest
 
   seam : drop (8 * length sizes) (words sizes ++ behind) ≡ behind
   seam = ap (λ (n : ℕ). drop n (words sizes ++ behind)) (sym (words_long sizes)) ∙ drop-append_seam (words sizes) behind
 
-  maximum_read : (k : ℕ) → k < length maxima → number_at bounded (8 + 8 * length sizes + 8 * k) 8 ≡ get_or (map maximum_number maxima) k 0
+  maximum_read : (k : ℕ) → k < length maxima → number_at bounded (8 + 8 * length sizes + 8 * k) 8 ≡ get_or (map or_undefined maxima) k 0
   maximum_read k low =
       let place : 8 + 8 * length sizes + 8 * k ≡ 8 + (8 * length sizes + 8 * k) = omega arith in
       let many = length-numbers maxima in
@@ -103,7 +103,7 @@ module _ (sizes : List ℕ) (maxima : List (Option ℕ)) (rest : List ℕ) (rank
       ∙ ap (λ (bytes : List ℕ). number_at bytes (8 * length sizes + 8 * k) 8) joined
       ∙ number_at-drop (words sizes ++ behind) (8 * length sizes) (8 * k) 8
       ∙ ap (λ (bytes : List ℕ). number_at bytes (8 * k) 8) seam
-      ∙ number_at-words (map maximum_number maxima) rest k (omega arith) (numbers k)
+      ∙ number_at-words (map or_undefined maxima) rest k (omega arith) (numbers k)
 
   size_read : (k : ℕ) → k < length sizes → number_at bounded (8 + 8 * k) 8 ≡ get_or sizes k 0
   size_read k low = number_at-drop bounded 8 (8 * k) 8 ∙ ap (λ (bytes : List ℕ). number_at bytes (8 * k) 8) joined ∙ number_at-words sizes behind k low (small k)
@@ -117,10 +117,10 @@ module _ (sizes : List ℕ) (maxima : List (Option ℕ)) (rest : List ℕ) (rank
   bounded_form : is_dataspace bounded ≡ true
   bounded_form =
       let same = as_many_maxima sizes maxima fit in
-      let both : length (words sizes ++ words (map maximum_number maxima)) ≡ 16 * length sizes = bounds_long sizes maxima same in
+      let both : length (words sizes ++ words (map or_undefined maxima)) ≡ 16 * length sizes = bounds_long sizes maxima same in
       let twice : length sizes * (1 + 1) ≡ 2 * length sizes = omega arith in
-      let long : length ((words sizes ++ words (map maximum_number maxima)) ++ rest) ≡ 16 * length sizes + length rest
-      = length-append (words sizes ++ words (map maximum_number maxima)) rest ∙ ap (λ (k : ℕ). k + length rest) both in
+      let long : length ((words sizes ++ words (map or_undefined maxima)) ++ rest) ≡ 16 * length sizes + length rest
+      = length-append (words sizes ++ words (map or_undefined maxima)) rest ∙ ap (λ (k : ℕ). k + length rest) both in
       let head : nat_le 8 (length bounded) ≡ true = grind (arith, nat_tests) in
       let few : nat_le (length sizes) 32 ≡ true = grind (arith, nat_tests) in
       let whole : nat_le (8 + 8 * (length sizes * (1 + 1))) (length bounded) ≡ true = grind (arith, nat_tests) in
@@ -137,7 +137,7 @@ module _ (sizes : List ℕ) (maxima : List (Option ℕ)) (rest : List ℕ) (rank
       rw (bounded_form, read, bounds) refl
 
 pub bounded_back : (sizes : List ℕ) (maxima : List (Option ℕ)) (n : ℕ) (bytes : List ℕ) → length sizes ≤ 32 → Small sizes → are_maxima sizes maxima ≡ true
-    → AllByRecursion (λ n. n < 2 ^ 64) (map maximum_number maxima) → bytes ≡ padded (bounded_bytes sizes maxima) n
+    → AllByRecursion (λ n. n < 2 ^ 64) (map or_undefined maxima) → bytes ≡ padded (bounded_bytes sizes maxima) n
     → extent_of bytes ≡ Some (record { sizes = sizes; maxima = maxima })
 bounded_back sizes maxima n bytes rank small fit numbers same =
-    ap extent_of same ∙ bounded_reads sizes maxima (replicate (n - length (bounded_bytes sizes maxima)) 0) rank small fit (small_from (map maximum_number maxima) numbers)
+    ap extent_of same ∙ bounded_reads sizes maxima (replicate (n - length (bounded_bytes sizes maxima)) 0) rank small fit (small_from (map or_undefined maxima) numbers)

@@ -5,3 +5,4 @@ pub mod FillLaws
 pub mod ExtentLaws
 pub mod WordLaws
 pub mod DataspaceLaws
+pub mod LayoutLaws

@@ -4,7 +4,7 @@ use Rattle.std.proofs.lemmas.List.{get_or-drop}
 use Rattle.byteorder.specs.Endian.{little_from}
 use Rattle.byteorder.specs.Numbers.{little_number-reads_back}
 use Rattle.h5_bytes.specs.Bytes.{number_at}
-use Rattle.h5_msg.specs.Written.{words, maximum_number}
+use Rattle.h5_msg.specs.Written.{words, or_undefined}
 use Rattle.h5_model.specs.Refusal.{are_maxima}
 use Rattle.h5_msg.proofs.ValueLaws.{little_moved}
 
@@ -26,12 +26,12 @@ as_many_maxima [] (m ∷ ms) h = absurd (cc)
 as_many_maxima (d ∷ ds) [] h = absurd (cc)
 as_many_maxima (d ∷ ds) (m ∷ ms) h = let rest = as_many_maxima ds ms (and_right _ _ h) in omega arith
 
-pub length-numbers : (maxima : List (Option ℕ)) → length (map maximum_number maxima) ≡ length maxima
+pub length-numbers : (maxima : List (Option ℕ)) → length (map or_undefined maxima) ≡ length maxima
 length-numbers [] = refl
 length-numbers (m ∷ ms) = omega (arith, length-numbers ms)
 
-pub bounds_long : (sizes : List ℕ) (maxima : List (Option ℕ)) → length maxima ≡ length sizes → length (words sizes ++ words (map maximum_number maxima)) ≡ 16 * length sizes
-bounds_long sizes maxima same = simp length-append (omega (arith, words_long sizes, words_long (map maximum_number maxima), length-numbers maxima))
+pub bounds_long : (sizes : List ℕ) (maxima : List (Option ℕ)) → length maxima ≡ length sizes → length (words sizes ++ words (map or_undefined maxima)) ≡ 16 * length sizes
+bounds_long sizes maxima same = simp length-append (omega (arith, words_long sizes, words_long (map or_undefined maxima), length-numbers maxima))
 
 -- a number behind the first bytes
 pub number_at-drop : (bytes : List ℕ) (a k n : ℕ) → number_at bytes (a + k) n ≡ number_at (drop a bytes) k n

@@ -28,10 +28,10 @@ fill_bytes time t value = 2 ∷ time ∷ 2 ∷ 1 ∷ t.size ∷ 0 ∷ 0 ∷ 0 �
 abbrev pub words : List ℕ → List ℕ
 words numbers = flat_map (little_bytes 8) numbers
 
--- the number for a maximum: all ones say unlimited
-abbrev pub maximum_number : Option ℕ → ℕ
-maximum_number None = undefined
-maximum_number (Some n) = n
+-- a number, or all ones where there is none: an unlimited maximum, the undefined address
+abbrev pub or_undefined : Option ℕ → ℕ
+or_undefined None = undefined
+or_undefined (Some n) = n
 
 -- version 1, rank, no flag, and the sizes
 abbrev pub dataspace_bytes : List ℕ → List ℕ
@@ -39,4 +39,20 @@ dataspace_bytes sizes = 1 ∷ length sizes ∷ 0 ∷ 0 ∷ 0 ∷ 0 ∷ 0 ∷ 0 �
 
 -- the same with the flag for maxima, and these behind the sizes
 abbrev pub bounded_bytes : List ℕ → List (Option ℕ) → List ℕ
-bounded_bytes sizes maxima = 1 ∷ length sizes ∷ 1 ∷ 0 ∷ 0 ∷ 0 ∷ 0 ∷ 0 ∷ (words sizes ++ words (map maximum_number maxima))
+bounded_bytes sizes maxima = 1 ∷ length sizes ∷ 1 ∷ 0 ∷ 0 ∷ 0 ∷ 0 ∷ 0 ∷ (words sizes ++ words (map or_undefined maxima))
+
+-- version 3, class 0, how many bytes of data there are, and these
+abbrev pub compact_bytes : List ℕ → List ℕ
+compact_bytes bytes = 3 ∷ 0 ∷ (little_bytes 2 (length bytes) ++ bytes)
+
+-- version 3, class 1, the address and how many bytes of data there are
+abbrev pub contiguous_bytes : Option ℕ → ℕ → List ℕ
+contiguous_bytes address len = 3 ∷ 1 ∷ (little_bytes 8 (or_undefined address) ++ little_bytes 8 len)
+
+-- numbers of 4 bytes, one after another
+abbrev pub short_words : List ℕ → List ℕ
+short_words numbers = flat_map (little_bytes 4) numbers
+
+-- version 3, class 2, one more than the rank, the tree's address, the chunk sizes and the size of an element
+abbrev pub chunked_bytes : List ℕ → Option ℕ → ℕ → List ℕ
+chunked_bytes chunk tree size = 3 ∷ 2 ∷ (length chunk + 1) ∷ (little_bytes 8 (or_undefined tree) ++ (short_words chunk ++ little_bytes 4 size))

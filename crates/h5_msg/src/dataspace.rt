@@ -5,7 +5,7 @@ ghost use Rattle.std.specs.List.{range_with_len, AllByRecursion};
 ghost use Rattle.h5_bytes.specs.Bytes.{number_at};
 ghost use Rattle.h5_model.specs.Extent.{extent_of, is_dataspace as has_form, maximum_fits, size_in};
 ghost use Rattle.h5_model.specs.Refusal.{are_maxima as bound_sizes};
-ghost use Rattle.h5_msg.specs.Written.{bounded_bytes, dataspace_bytes, maximum_number, padded, words};
+ghost use Rattle.h5_msg.specs.Written.{bounded_bytes, dataspace_bytes, or_undefined, padded, words};
 ghost use Rattle.h5_model.specs.Places.{cells as cells_of};
 ghost use Rattle.h5_model.specs.Sizes.{dataspace_size};
 ghost use Rattle.h5_model.specs.Tests.{each_below};
@@ -214,8 +214,8 @@ fn write_bounds(sizes: &[u64], maxima: &[Option<u64>], bytes: &mut [u8])
     requires rank { length sizes.now ≤ 32 }
     requires same { length maxima.now ≡ length sizes.now }
     requires room { length bytes.old ≡ 16 * length sizes.now }
-    ensures written { bytes.new ≡ words sizes.now ++ words (map maximum_number maxima.now) }
-    ensures small { AllByRecursion (λ n. n < 2 ^ 64) (map maximum_number maxima.now) }
+    ensures written { bytes.new ≡ words sizes.now ++ words (map or_undefined maxima.now) }
+    ensures small { AllByRecursion (λ n. n < 2 ^ 64) (map or_undefined maxima.now) }
 {
     let (first, behind) = bytes.split_at_mut(8 * sizes.len());
     LittleEndian::write_u64_into(sizes, first);
@@ -225,8 +225,8 @@ fn write_bounds(sizes: &[u64], maxima: &[Option<u64>], bytes: &mut [u8])
 /// Writes the numbers of maxima.
 fn write_maxima(maxima: &[Option<u64>], bytes: &mut [u8])
     requires { length bytes.old ≡ 8 * length maxima.now }
-    ensures written { bytes.new ≡ words (map maximum_number maxima.now) }
-    ensures small { AllByRecursion (λ n. n < 2 ^ 64) (map maximum_number maxima.now) }
+    ensures written { bytes.new ≡ words (map or_undefined maxima.now) }
+    ensures small { AllByRecursion (λ n. n < 2 ^ 64) (map or_undefined maxima.now) }
 {
     let [maximum, rest @ ..] = maxima else {
         return;

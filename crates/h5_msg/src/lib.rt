@@ -11,6 +11,7 @@ mod dataspace;
 mod datatype;
 mod fault;
 mod fill;
+mod layout;
 mod values;
 
 pub use addresses::{
@@ -23,3 +24,4 @@ pub use dataspace::{
 pub use datatype::{DATATYPE_LENGTH, read_datatype, write_datatype};
 pub use fault::FormFault;
 pub use fill::{AllocationTime, fill_length, read_fill, read_old_fill, write_fill};
+pub use layout::{CONTIGUOUS_LENGTH, ChunkSizes, Layout, read_layout};
