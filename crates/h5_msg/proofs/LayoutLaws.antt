@@ -1,9 +1,9 @@
 -- A layout that was written reads as that layout.
-use Rattle.std.proofs.Common.{◌≡◌, ◌≢◌, ℕ, zero, suc, ◌+◌, ◌-◌, ◌*◌, ◌^◌, ◌<◌, ◌≤◌, inl, inr, min, List, [], ◌∷◌, ◌++◌, map, length, length-append, append_assoc, replicate, get_or, take, drop, refl, sym, ap, ◌∙◌, arith, ◌||◌, ◌&&◌, Bool, true, false, Option, Some, None, eq-eqb}
+use Rattle.std.proofs.Common.{◌≡◌, ◌≢◌, ℕ, zero, suc, ◌+◌, ◌-◌, ◌*◌, ◌^◌, ◌<◌, ◌≤◌, inl, inr, min, List, [], ◌∷◌, ◌++◌, map, length, length-append, append_assoc, replicate, get_or, slice_index, take, drop, refl, sym, ap, ◌∙◌, arith, ◌||◌, ◌&&◌, Bool, true, false, Option, Some, None, eq-eqb}
 use Rattle.std.proofs.lemmas.Bool.Decides.{nat_tests}
 use Rattle.std.proofs.lemmas.Bool.{cases_lt}
 use Rattle.std.proofs.lemmas.List.{take_all}
-use Rattle.std.proofs.lemmas.List.FromFn.{fill_by_all}
+use Rattle.std.proofs.lemmas.List.FromFn.{fill_by_all, length-map-range_with_len, get_or-map-range_with_len}
 use Rattle.std.proofs.Math.Nat.{mul_assoc, mul-le-mul_left}
 use Rattle.std.proofs.Math.Seq.{take-append_seam, drop-append_seam}
 use Rattle.std.specs.Prelude.{◌==◌, nat_le, slice_range, option_map}
@@ -175,3 +175,26 @@ pub chunked_back : (chunk : List ℕ) (tree : Option ℕ) (size n : ℕ) (bytes 
     → layout_of sizes size bytes ≡ Some (InChunks chunk tree)
 chunked_back chunk tree size n bytes sizes small some there rank fits same long =
     ap (layout_of sizes size) same ∙ chunked_reads chunk tree size (replicate (n - length (chunked_bytes chunk tree size)) 0) small some there rank fits sizes long
+
+-- ---- chunk sizes that are read
+
+pub length-chunk : (body value : List ℕ) (rank : ℕ) → short_numbers_at body 11 rank ≡ value → length value ≡ rank
+length-chunk body value rank is = ap length (sym is) ∙ length-map-range_with_len (λ i. number_at body (11 + 4 * i) 4) 0 rank
+
+pub chunk_size_at : (body value : List ℕ) (rank k : ℕ) → short_numbers_at body 11 rank ≡ value → k < length value → slice_index value k ≡ number_at body (11 + 4 * k) 4
+chunk_size_at body value rank k is low =
+    let long = length-chunk body value rank is in
+    ap (λ (xs : List ℕ). slice_index xs k) (sym is) ∙ get_or-map-range_with_len (λ i. number_at body (11 + 4 * i) 4) 0 rank k k 0 (omega arith) (omega arith)
+
+or_left : (a b : Bool) → (a || b) ≡ false → a ≡ false
+or_left true b h = h
+or_left false b h = refl
+
+or_right : (a b : Bool) → (a || b) ≡ false → b ≡ false
+or_right true b h = absurd (cc)
+or_right false b h = h
+
+pub none_is_zero : (xs : List ℕ) (k : ℕ) → list_any (λ n. n == 0) xs ≡ false → k < length xs → 1 ≤ slice_index xs k
+none_is_zero [] k none low = absurd (omega arith)
+none_is_zero (x ∷ xs) zero none low = let own : (x == 0) ≡ false = or_left (x == 0) (list_any (λ n. n == 0) xs) none in grind (arith, nat_tests)
+none_is_zero (x ∷ xs) (suc k) none low = none_is_zero xs k (or_right (x == 0) (list_any (λ n. n == 0) xs) none) (omega arith)
