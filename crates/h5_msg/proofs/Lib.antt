@@ -6,3 +6,4 @@ pub mod ExtentLaws
 pub mod WordLaws
 pub mod DataspaceLaws
 pub mod LayoutLaws
+pub mod AttributeLaws

@@ -1,3 +1,4 @@
 pub mod Written
 pub mod Times
 pub mod Layouts
+pub mod Parts
