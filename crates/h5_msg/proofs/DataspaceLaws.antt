@@ -1,5 +1,5 @@
 -- A dataspace that was written reads as its sizes and maxima.
-use Rattle.std.proofs.Common.{◌≡◌, ℕ, zero, suc, ◌+◌, ◌-◌, ◌*◌, ◌^◌, ◌<◌, ◌≤◌, List, [], ◌∷◌, ◌++◌, length, length-append, map, get_or, drop, Option, Some, None, refl, sym, ap, ◌∙◌, arith, true, false, Bool, eq-eqb, replicate, append_assoc}
+use Rattle.std.proofs.Common.{◌≡◌, ℕ, zero, suc, ◌+◌, ◌-◌, ◌*◌, ◌^◌, ◌<◌, ◌≤◌, List, [], ◌∷◌, ◌++◌, length, length-append, map, get_or, drop, Option, Some, None, refl, sym, ap, ◌∙◌, arith, true, false, Bool, eq-eqb, replicate, append_assoc, append-nil}
 use Rattle.std.proofs.lemmas.Bool.Decides.{nat_tests}
 use Rattle.std.proofs.lemmas.List.FromFn.{fill_by_all}
 use Rattle.std.specs.Prelude.{nat_le, ◌==◌, ◌&&◌}
@@ -141,3 +141,10 @@ pub bounded_back : (sizes : List ℕ) (maxima : List (Option ℕ)) (n : ℕ) (by
     → extent_of bytes ≡ Some (record { sizes = sizes; maxima = maxima })
 bounded_back sizes maxima n bytes rank small fit numbers same =
     ap extent_of same ∙ bounded_reads sizes maxima (replicate (n - length (bounded_bytes sizes maxima)) 0) rank small fit (small_from (map or_undefined maxima) numbers)
+
+-- a dataspace that fills its room has no zeros behind it
+pub plain_alone : (sizes : List ℕ) (n : ℕ) → n ≡ 8 + 8 * length sizes → padded (dataspace_bytes sizes) n ≡ dataspace_bytes sizes
+plain_alone sizes n full =
+    let numbers = words_long sizes in
+    let none : n - length (dataspace_bytes sizes) ≡ 0 = omega arith in
+    ap (λ (k : ℕ). dataspace_bytes sizes ++ replicate k 0) none ∙ append-nil (dataspace_bytes sizes)

@@ -7,3 +7,5 @@ pub mod WordLaws
 pub mod DataspaceLaws
 pub mod LayoutLaws
 pub mod AttributeLaws
+pub mod CellLaws
+pub mod AttributeBack

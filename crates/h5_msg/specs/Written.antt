@@ -2,6 +2,8 @@
 use Rattle.std.specs.Prelude.{ℕ, ℤ, ◌+◌, ◌-◌, ◌*◌, if◌then◌else◌, Option, Some, None, List, [], ◌∷◌, ◌++◌, length, map, replicate}
 use Rattle.std.specs.List.{flat_map}
 use Rattle.h5_bytes.specs.Bytes.{little_bytes, undefined}
+use Rattle.h5_bytes.specs.Texts.{pad8}
+use Rattle.h5_model.specs.Sizes.{attribute_size, dataspace_size}
 use Rattle.h5_model.specs.Fixed.{Fixed, bytes_of}
 
 -- bytes with zeros behind them, so many in all
@@ -56,3 +58,22 @@ short_words numbers = flat_map (little_bytes 4) numbers
 -- version 3, class 2, one more than the rank, the tree's address, the chunk sizes and the size of an element
 abbrev pub chunked_bytes : List ℕ → Option ℕ → ℕ → List ℕ
 chunked_bytes chunk tree size = 3 ∷ 2 ∷ (length chunk + 1) ∷ (little_bytes 8 (or_undefined tree) ++ (short_words chunk ++ little_bytes 4 size))
+
+-- a name with at least one zero behind it, raised to a multiple of 8
+abbrev pub name_bytes : List ℕ → List ℕ
+name_bytes name = padded name (pad8 (length name + 1))
+
+-- the values of cells, one after another
+abbrev pub value_bytes : Fixed → List ℤ → List ℕ
+value_bytes t values = flat_map (bytes_of t) values
+
+-- version 1, the lengths of the name with its zero, of the datatype and of the dataspace
+abbrev pub attribute_head : ℕ → ℕ → List ℕ
+attribute_head name rank = 1 ∷ 0 ∷ (little_bytes 2 (name + 1) ++ (12 ∷ 0 ∷ little_bytes 2 (dataspace_size rank)))
+
+-- the same, then name, datatype and dataspace, each padded to a multiple of 8, the values, and zeros, so many bytes in all
+abbrev pub attribute_bytes : List ℕ → Fixed → List ℕ → List ℤ → ℕ → List ℕ
+attribute_bytes name t sizes values n =
+    attribute_head (length name) (length sizes)
+    ++ (name_bytes name ++ (padded (datatype_bytes t) 16 ++ (dataspace_bytes sizes
+    ++ (value_bytes t values ++ replicate (n - attribute_size (length name) sizes t.size) 0))))

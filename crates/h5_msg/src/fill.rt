@@ -8,10 +8,9 @@ ghost use Rattle.h5_msg.specs.Times.{time_number};
 
 use byteorder::{ByteOrder, LittleEndian};
 use h5_model::Fixed;
-use h5_types::encode;
 
 use crate::fault::FormFault;
-use crate::values::value_at;
+use crate::values::{value_at, write_value};
 
 /// When a dataset's storage is allocated: with the dataset, or chunk by chunk as they are written.
 #[derive(Clone, Copy, PartialEq, Eq, Debug)]
@@ -85,5 +84,5 @@ pub fn write_fill(time: AllocationTime, fixed: &Fixed, value: i128, bytes: &mut 
     };
     bytes.fill(0);
     bytes[..8].copy_from_slice(&[2, time, 2, 1, size as u8, 0, 0, 0]);
-    let _of_type = encode(fixed, value, &mut bytes[8..8 + size]);
+    write_value(fixed, value, &mut bytes[8..8 + size]);
 }
