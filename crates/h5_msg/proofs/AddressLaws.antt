@@ -1,11 +1,8 @@
 -- A pair of numbers that was written reads as that pair.
-use Rattle.std.proofs.Common.{◌≡◌, ℕ, ◌+◌, ◌^◌, ◌<◌, ◌≤◌, List, ◌++◌, length, Some, refl, ap, sym, ◌∙◌, arith, true, replicate, length-append}
-use Rattle.std.proofs.lemmas.Bool.Decides.{nat_tests}
-use Rattle.std.specs.Prelude.{nat_le, ◌-◌}
+use Rattle.std.proofs.Common.{◌≡◌, ℕ, ◌^◌, ◌<◌, List, ◌++◌, replicate}
+use Rattle.std.specs.Prelude.{◌-◌}
 use Rattle.byteorder.specs.Numbers.{little_number-reads_back}
 use Rattle.h5_bytes.specs.Bytes.{number_at, little_bytes}
-use Rattle.h5_bytes.specs.declared.Block.{Block}
-use Rattle.h5_model.specs.Addresses.{SymbolTable, symbol_table_of, continuation_of}
 use Rattle.h5_msg.specs.Written.{pair_bytes}
 
 pub first_back : (a b n : ℕ) (bytes : List ℕ) → a < 2 ^ 64 → bytes ≡ pair_bytes a b n → number_at bytes 0 8 ≡ a
@@ -15,4 +12,3 @@ first_back a b n bytes small same = rw same (little_number-reads_back 8 a (littl
 pub second_back : (a b n : ℕ) (bytes : List ℕ) → b < 2 ^ 64 → bytes ≡ pair_bytes a b n → number_at bytes 8 8 ≡ b
 unfolding number_at
 second_back a b n bytes small same = rw same (little_number-reads_back 8 b (replicate (n - 16) 0) small)
-

@@ -1,5 +1,5 @@
 -- An attribute that was written reads as its name, type, sizes and values.
-use Rattle.std.proofs.Common.{◌≡◌, ℕ, zero, suc, ◌+◌, ◌-◌, ◌*◌, ◌/◌, ◌^◌, ◌<◌, ◌≤◌, List, [], ◌∷◌, ◌++◌, length, length-append, append_assoc, append-nil, map, replicate, take, drop, refl, sym, ap, ◌∙◌, arith, Bool, true, false, ◌||◌, ℤ, Option, Some, None}
+use Rattle.std.proofs.Common.{◌≡◌, ℕ, zero, suc, ◌+◌, ◌-◌, ◌*◌, ◌<◌, ◌≤◌, List, [], ◌∷◌, ◌++◌, length, length-append, map, replicate, take, drop, refl, sym, ap, ◌∙◌, arith, Bool, true, false, ◌||◌, ℤ, Some}
 use Rattle.std.proofs.lemmas.Bool.Decides.{nat_tests}
 use Rattle.std.proofs.lemmas.List.{drop-drop, length-replicate}
 use Rattle.std.proofs.Math.Seq.{take-append_seam, drop-append_seam}
@@ -130,7 +130,7 @@ module _ (name sizes : List ℕ) (t : Fixed) (values : List ℤ) (rest : List �
   extent_is =
       (λ i. extent_of (slice_range body (extent_at i) (extent_at i + extent_length i)))
       ∙ ap extent_of (part_of (8 + name_room + 16) (8 + 8 * length sizes) body from_dataspace extent_part
-        ∙ ap (λ (n : ℕ). take n from_dataspace) (sym long_extent) ∙ take-append_seam (dataspace_bytes sizes) from_cells)
+      ∙ ap (λ (n : ℕ). take n from_dataspace) (sym long_extent) ∙ take-append_seam (dataspace_bytes sizes) from_cells)
       ∙ plain_back sizes (8 + 8 * length sizes) (dataspace_bytes sizes) rank small (sym (plain_alone sizes (8 + 8 * length sizes) refl))
 
   long_body : length body ≡ 8 + name_room + 16 + (8 + 8 * length sizes) + length values * t.size + length rest

@@ -1,13 +1,12 @@
 -- Values that were written one after another are read as those values.
-use Rattle.std.proofs.Common.{◌≡◌, ℕ, zero, suc, ◌+◌, ◌-◌, ◌*◌, ◌<◌, ◌≤◌, List, [], ◌∷◌, ◌++◌, length, length-append, append_assoc, append-nil, take, drop, get_or, refl, sym, ap, ◌∙◌, arith, Bool, true, false, ◌&&◌, ℤ, pos}
+use Rattle.std.proofs.Common.{◌≡◌, ℕ, zero, suc, ◌+◌, ◌-◌, ◌*◌, ◌<◌, ◌≤◌, List, [], ◌∷◌, ◌++◌, length, length-append, append_assoc, append-nil, take, drop, get_or, refl, sym, ap, ◌∙◌, arith, true, ℤ, pos}
 use Rattle.std.proofs.lemmas.List.{take_more, take_all, drop_all, drop-drop, length-take, length-drop}
 use Rattle.std.proofs.Math.Nat.{mul-le-mul_right}
 use Rattle.std.proofs.lemmas.List.FromFn.{fill_by_all}
 use Rattle.std.proofs.lemmas.Grind.{flat_map-append}
-use Rattle.std.proofs.Math.Seq.{take-append_seam, drop-append_seam, drop-append-add}
+use Rattle.std.proofs.Math.Seq.{take-append_seam, drop-append-add}
 use Rattle.std.specs.List.{list_all}
 use borrow.Rule.Slice.PartMut.{put_mid}
-use Rattle.h5_bytes.specs.Bytes.{with_part}
 use Rattle.h5_bytes.proofs.PartLaws.{put_mid_is, with_part_is}
 use Rattle.h5_model.specs.Fixed.{Fixed, value_at, value_of, fits, bytes_of}
 use Rattle.h5_model.specs.AttributeBody.{values_at}
@@ -82,4 +81,4 @@ pub values_back : (t : Fixed) (values : List ℤ) (bytes rest : List ℕ) (place
     → drop place bytes ≡ value_bytes t values ++ rest → values_at t bytes place (length values) ≡ values
 values_back t values bytes rest place some all start = sym (fill_by_all (λ k. value_at t bytes (place + k * t.size)) values (length values) (pos 0) refl (λ k low.
     sym (value_at-drop t bytes (place + k * t.size) ∙ ap (value_of t) (sym (drop-drop (k * t.size) place bytes)) ∙ ap (λ (xs : List ℕ). value_of t (drop (k * t.size) xs)) start
-      ∙ sym (value_at-drop t (value_bytes t values ++ rest) (k * t.size)) ∙ value_back_at t values rest k some all low)))
+    ∙ sym (value_at-drop t (value_bytes t values ++ rest) (k * t.size)) ∙ value_back_at t values rest k some all low)))

@@ -1,9 +1,9 @@
 -- A type that was written reads as that type.
-use Rattle.std.proofs.Common.{◌≡◌, ℕ, ◌⊎◌, inl, inr, List, length, Some, refl, ap, sym, ◌∙◌, arith, true, false, Bool, replicate}
+use Rattle.std.proofs.Common.{◌≡◌, ℕ, inl, inr, List, length, Some, refl, ap, sym, ◌∙◌, arith, true, false, Bool}
 use Rattle.std.proofs.lemmas.Bool.Decides.{nat_tests}
-use Rattle.std.specs.Prelude.{nat_le, ◌-◌}
+use Rattle.std.specs.Prelude.{nat_le}
 use Rattle.h5_bytes.specs.Bytes.{number_at}
-use Rattle.h5_model.specs.Fixed.{Fixed, IsFixed, is_size}
+use Rattle.h5_model.specs.Fixed.{Fixed, IsFixed}
 use Rattle.h5_model.specs.Datatype.{fixed_of}
 use Rattle.h5_model.proofs.FixedLaws.{sizes_of}
 use Rattle.h5_msg.specs.Written.{datatype_bytes, padded}

@@ -1,5 +1,5 @@
 -- A fill value that was written reads as that value.
-use Rattle.std.proofs.Common.{◌≡◌, ℕ, ◌+◌, ◌<◌, ◌≤◌, List, ◌++◌, length, Some, refl, ap, ◌∙◌, arith, true, false, ℤ, replicate, length-append, eq-eqb}
+use Rattle.std.proofs.Common.{◌≡◌, ℕ, ◌+◌, ◌≤◌, List, length, Some, refl, ◌∙◌, arith, true, false, ℤ, replicate, length-append, eq-eqb}
 use Rattle.std.proofs.lemmas.Bool.Decides.{nat_tests}
 use Rattle.std.specs.Prelude.{nat_le, ◌-◌, ◌==◌}
 use Rattle.h5_bytes.specs.Bytes.{number_at}

@@ -1,5 +1,5 @@
 -- A layout that was written reads as that layout.
-use Rattle.std.proofs.Common.{◌≡◌, ◌≢◌, ℕ, zero, suc, ◌+◌, ◌-◌, ◌*◌, ◌^◌, ◌<◌, ◌≤◌, inl, inr, min, List, [], ◌∷◌, ◌++◌, map, length, length-append, append_assoc, replicate, get_or, slice_index, take, drop, refl, sym, ap, ◌∙◌, arith, ◌||◌, ◌&&◌, Bool, true, false, Option, Some, None, eq-eqb}
+use Rattle.std.proofs.Common.{◌≡◌, ◌≢◌, ℕ, zero, suc, ◌+◌, ◌-◌, ◌*◌, ◌^◌, ◌<◌, ◌≤◌, inl, inr, min, List, [], ◌∷◌, ◌++◌, map, length, length-append, append_assoc, replicate, get_or, slice_index, take, drop, refl, sym, ap, ◌∙◌, arith, ◌||◌, Bool, true, false, Option, Some, None, eq-eqb}
 use Rattle.std.proofs.lemmas.Bool.Decides.{nat_tests}
 use Rattle.std.proofs.lemmas.Bool.{cases_lt}
 use Rattle.std.proofs.lemmas.List.{take_all}
@@ -13,7 +13,7 @@ use Rattle.byteorder.specs.Numbers.{little_number-reads_back}
 use Rattle.h5_bytes.specs.Bytes.{number_at, little_bytes, undefined}
 use Rattle.h5_bytes.specs.Blocks.{block}
 use Rattle.h5_model.specs.Places.{cells}
-use Rattle.h5_model.specs.Layout.{Layout, InMessage, InBlock, InChunks, layout_of, contiguous_layout, short_numbers_at, address_from}
+use Rattle.h5_model.specs.Layout.{InMessage, InBlock, InChunks, layout_of, contiguous_layout, short_numbers_at, address_from}
 use Rattle.h5_msg.specs.Written.{padded, compact_bytes, contiguous_bytes, chunked_bytes, short_words, or_undefined}
 use Rattle.h5_msg.proofs.WordLaws.{number_at-drop}
 
@@ -105,7 +105,7 @@ contiguous_back at len n bytes sizes size there small same enough =
     let two : nat_le 2 (length (contiguous_bytes at len ++ rest)) ≡ true = grind (arith, nat_tests) in
     let long : nat_le 18 (length (contiguous_bytes at len ++ rest)) ≡ true = grind (arith, nat_tests) in
     rw (same, two) (contiguous_found at len (cells sizes * size) (contiguous_bytes at len ++ rest) there long
-      (contiguous_at at len rest (address_small at there)) (contiguous_len at len rest small) enough)
+    (contiguous_at at len rest (address_small at there)) (contiguous_len at len rest small) enough)
 
 -- ---- chunks
 

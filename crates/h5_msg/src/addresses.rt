@@ -6,11 +6,10 @@ ghost use Rattle.h5_bytes.specs.Bytes.{number_at};
 ghost use Rattle.h5_model.specs.Addresses.{symbol_table_of, continuation_of};
 ghost use Rattle.h5_msg.specs.Written.{pair_bytes};
 
+use crate::fault::FormFault;
 use byteorder::{ByteOrder, LittleEndian};
 use h5_bytes::Block;
 use std::marker::Model;
-
-use crate::fault::FormFault;
 
 /// How many bytes a Symbol Table message's body has as it is written.
 pub const SYMBOL_TABLE_LENGTH: usize = 16;

@@ -11,16 +11,15 @@ ghost use Rattle.h5_model.specs.Places.{cells as cells_of};
 ghost use Rattle.h5_model.specs.Sizes.{attribute_size, dataspace_size};
 ghost use Rattle.h5_msg.specs.Written.{attribute_bytes, attribute_head, dataspace_bytes, datatype_bytes, name_bytes, padded, value_bytes};
 
+use crate::dataspace::{Dataspace, dataspace_length, read_dataspace, write_dataspace};
+use crate::datatype::{DATATYPE_LENGTH, read_datatype, write_datatype};
+use crate::fault::FormFault;
+use crate::values::{value_at, write_value};
 use byteorder::{ByteOrder, LittleEndian};
 use h5_model::Fixed;
 use h5_shape::Dims;
 use std::alloc::Global;
 use std::marker::Model;
-
-use crate::dataspace::{Dataspace, dataspace_length, read_dataspace, write_dataspace};
-use crate::datatype::{DATATYPE_LENGTH, read_datatype, write_datatype};
-use crate::fault::FormFault;
-use crate::values::{value_at, write_value};
 
 /// Where the name begins.
 const NAME: usize = 8;
@@ -84,7 +83,11 @@ impl<'a> AttributeBody<'a> {
         requires { k < length self.now.1.values }
         ensures { slice_get self.now.1.values k ≡ Some result }
     {
-        value_at(&self.fixed, self.body, self.place + k as usize * self.fixed.size())
+        value_at(
+            &self.fixed,
+            self.body,
+            self.place + k as usize * self.fixed.size(),
+        )
     }
 }
 
@@ -96,10 +99,12 @@ pub fn read_attribute(body: &[u8]) -> Result<AttributeBody<'_>, FormFault>
     let Some(parts) = read_parts(body) else {
         return Err(FormFault::AttributeForm);
     };
-    let Ok(fixed) = read_datatype(&body[parts.datatype..parts.datatype + parts.datatype_size]) else {
+    let Ok(fixed) = read_datatype(&body[parts.datatype..parts.datatype + parts.datatype_size])
+    else {
         return Err(FormFault::AttributeForm);
     };
-    let Ok(extent) = read_dataspace(&body[parts.dataspace..parts.dataspace + parts.dataspace_size]) else {
+    let Ok(extent) = read_dataspace(&body[parts.dataspace..parts.dataspace + parts.dataspace_size])
+    else {
         return Err(FormFault::AttributeForm);
     };
     let need = u128::from(extent.cells()) * fixed.size() as u128;

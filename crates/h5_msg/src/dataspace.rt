@@ -10,13 +10,12 @@ ghost use Rattle.h5_model.specs.Places.{cells as cells_of};
 ghost use Rattle.h5_model.specs.Sizes.{dataspace_size};
 ghost use Rattle.h5_model.specs.Tests.{each_below};
 
+use crate::fault::FormFault;
 use byteorder::{ByteOrder, LittleEndian};
 use h5_bytes::UNDEF;
 use h5_shape::{Dims, MAX_RANK};
 use std::alloc::Global;
 use std::marker::Model;
-
-use crate::fault::FormFault;
 
 /// Where the sizes begin.
 const SIZES: usize = 8;
@@ -74,7 +73,11 @@ impl<'a> Dataspace<'a> {
             return Some(self.size(k));
         }
         let maximum = number(self.body, SIZES + 8 * usize::from(self.body[1]) + 8 * k);
-        if maximum == UNDEF { None } else { Some(maximum) }
+        if maximum == UNDEF {
+            None
+        } else {
+            Some(maximum)
+        }
     }
 
     /// The sizes. It takes no memory.

@@ -4,10 +4,9 @@ ghost use Rattle.std.specs.Prelude.{◌≡◌, ◌≤◌, Some, length, ok_or};
 ghost use Rattle.h5_model.specs.Datatype.{fixed_of, is_fixed_point as has_form};
 ghost use Rattle.h5_msg.specs.Written.{class_bits as bits_of, datatype_bytes, padded};
 
+use crate::fault::FormFault;
 use byteorder::{ByteOrder, LittleEndian};
 use h5_model::Fixed;
-
-use crate::fault::FormFault;
 
 /// How many bytes a Datatype message's body has as it is written.
 pub const DATATYPE_LENGTH: usize = 12;
@@ -62,7 +61,20 @@ pub fn write_datatype(fixed: &Fixed, bytes: &mut [u8])
     let size = fixed.size() as u8;
     let bits = class_bits(fixed);
     let (body, padding) = bytes.split_at_mut(DATATYPE_LENGTH);
-    body.copy_from_slice(&[VERSION_AND_CLASS, bits, 0, 0, size, 0, 0, 0, 0, 0, 8 * size, 0]);
+    body.copy_from_slice(&[
+        VERSION_AND_CLASS,
+        bits,
+        0,
+        0,
+        size,
+        0,
+        0,
+        0,
+        0,
+        0,
+        8 * size,
+        0,
+    ]);
     padding.fill(0);
 }
 

@@ -6,11 +6,10 @@ ghost use Rattle.h5_model.specs.Fixed.{fits};
 ghost use Rattle.h5_msg.specs.Written.{fill_bytes, padded};
 ghost use Rattle.h5_msg.specs.Times.{time_number};
 
-use byteorder::{ByteOrder, LittleEndian};
-use h5_model::Fixed;
-
 use crate::fault::FormFault;
 use crate::values::{value_at, write_value};
+use byteorder::{ByteOrder, LittleEndian};
+use h5_model::Fixed;
 
 /// When a dataset's storage is allocated: with the dataset, or chunk by chunk as they are written.
 #[derive(Clone, Copy, PartialEq, Eq, Debug)]

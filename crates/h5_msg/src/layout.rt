@@ -10,14 +10,13 @@ ghost use Rattle.h5_msg.specs.Written.{chunked_bytes, compact_bytes, contiguous_
 ghost use Rattle.h5_msg.specs.Layouts.{layout_in};
 ghost use Rattle.h5_model.specs.Places.{cells as cells_of};
 
+use crate::fault::FormFault;
 use byteorder::{ByteOrder, LittleEndian};
 use h5_bytes::{Block, UNDEF};
 use h5_model::Fixed;
 use h5_shape::{Dims, MAX_RANK};
 use std::alloc::Global;
 use std::marker::Model;
-
-use crate::fault::FormFault;
 
 /// Where the chunk sizes begin.
 const CHUNK_SIZES: usize = 11;

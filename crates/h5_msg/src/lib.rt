@@ -16,7 +16,7 @@ mod layout;
 mod values;
 
 pub use addresses::{
-    SymbolTable, CONTINUATION_LENGTH, SYMBOL_TABLE_LENGTH, read_continuation, read_symbol_table,
+    CONTINUATION_LENGTH, SYMBOL_TABLE_LENGTH, SymbolTable, read_continuation, read_symbol_table,
     write_continuation, write_symbol_table,
 };
 pub use attribute::{AttributeBody, attribute_length, read_attribute, write_attribute};

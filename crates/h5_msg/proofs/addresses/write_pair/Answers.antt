@@ -1,7 +1,6 @@
-use Rattle.std.proofs.Common.{rules, length, arith, ◌<◌, ◌^◌, ◌≡◌}
+use Rattle.std.proofs.Common.{rules, length, arith}
 use Rattle.std.proofs.lemmas.Grind.{common_steps}
 use Rattle.h5_msg.proofs.AddressLaws.{first_back, second_back}
-use Rattle.h5_msg.specs.Written.{pair_bytes}
 use Rattle.h5_msg.proofs.addresses.write_pair.Goals as goal
 
 pub returns-clause-first : goal.returns-clause-first

@@ -1,4 +1,4 @@
-use Rattle.std.proofs.Common.{rules, ◌≡◌, ◌≤◌, ◌+◌, ◌-◌, ◌*◌, ℕ, ℤ, pos, List, length, get_or, sym, ap, ◌∙◌, arith, true, to_z, of_z, take, drop, ◌++◌}
+use Rattle.std.proofs.Common.{rules, ◌≡◌, ◌+◌, ◌-◌, ◌*◌, ℕ, ℤ, pos, length, get_or, sym, ap, ◌∙◌, arith, to_z, of_z, take, drop, ◌++◌}
 use mir.Syntax.{w128}
 use borrow.Rule.Slice.PartMut.{put_mid}
 use Rattle.h5_model.specs.Fixed.{bytes_of, fits}

@@ -1,4 +1,4 @@
-use Rattle.std.proofs.Common.{◌<◌, ◌^◌, rules, length, arith}
+use Rattle.std.proofs.Common.{rules, length, arith}
 use Rattle.std.proofs.lemmas.Grind.{common_steps}
 use Rattle.h5_msg.proofs.LayoutLaws.{short_words_long, chunked_back}
 use Rattle.h5_msg.proofs.layout.write_chunked_layout.Goals as goal

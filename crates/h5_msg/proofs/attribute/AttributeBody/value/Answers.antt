@@ -1,4 +1,4 @@
-use Rattle.std.proofs.Common.{rules, ◌≡◌, ◌≤◌, ◌<◌, ◌+◌, ◌*◌, ◌^◌, ℕ, ℤ, List, length, slice_get, ap, sym, ◌∙◌, arith, Some}
+use Rattle.std.proofs.Common.{rules, ◌≡◌, ◌≤◌, ◌<◌, ◌+◌, ◌*◌, ℕ, ℤ, List, length, slice_get, ap, sym, ◌∙◌, arith, Some}
 use Rattle.h5_model.specs.Places.{cells}
 use Rattle.h5_model.specs.Tree.{Attribute}
 use Rattle.h5_model.specs.Fixed.{value_at}
