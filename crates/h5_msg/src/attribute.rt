@@ -49,7 +49,7 @@ impl<'a> Model for AttributeBody<'a> {
 
 impl<'a> AttributeBody<'a> {
     /// The name.
-    pub fn name(&self) -> &[u8]
+    pub fn name(&self) -> &'a [u8]
         ensures { result.now ≡ self.now.0 }
     {
         self.name

@@ -13,6 +13,8 @@ mod datatype;
 mod fault;
 mod fill;
 mod layout;
+#[cfg(test)]
+mod tests;
 mod values;
 
 pub use addresses::{
