@@ -1,5 +1,5 @@
 -- An attribute that was written reads as its name, type, sizes and values.
-use Rattle.std.proofs.Common.{◌≡◌, ℕ, zero, suc, ◌+◌, ◌-◌, ◌*◌, ◌<◌, ◌≤◌, List, [], ◌∷◌, ◌++◌, length, length-append, map, replicate, take, drop, refl, sym, ap, ◌∙◌, arith, Bool, true, false, ◌||◌, ℤ, Some}
+use Rattle.std.proofs.Common.{◌≡◌, ℕ, zero, suc, ◌+◌, ◌-◌, ◌*◌, ◌<◌, ◌≤◌, List, [], ◌∷◌, ◌++◌, length, length-append, map, replicate, take, drop, refl, sym, ap, ◌∙◌, arith, true, false, ℤ, Some}
 use Rattle.std.proofs.lemmas.Bool.Decides.{nat_tests}
 use Rattle.std.proofs.lemmas.List.{drop-drop, length-replicate}
 use Rattle.std.proofs.Math.Seq.{take-append_seam, drop-append_seam}
@@ -19,6 +19,7 @@ use Rattle.h5_msg.proofs.WordLaws.{words_long}
 use Rattle.h5_msg.proofs.DatatypeLaws.{fixed_of-written}
 use Rattle.h5_msg.proofs.DataspaceLaws.{Small, plain_alone, plain_back}
 use Rattle.h5_msg.proofs.AttributeLaws.{size_positive}
+use Rattle.h5_msg.proofs.LayoutLaws.{or_left, or_right}
 use Rattle.h5_msg.proofs.CellLaws.{length-value_bytes, values_back}
 
 -- ---- over any body
@@ -39,14 +40,6 @@ behind a n bytes x y start long = sym (drop-drop n a bytes) ∙ ap (drop n) star
 -- a part by its place and length
 part_of : (a n : ℕ) (bytes x : List ℕ) → drop a bytes ≡ x → slice_range bytes a (a + n) ≡ take n x
 part_of a n bytes x start = let long : a + n - a ≡ n = omega arith in (λ i. take (long i) (start i))
-
-or_left : (a b : Bool) → (a || b) ≡ false → a ≡ false
-or_left true b h = h
-or_left false b h = refl
-
-or_right : (a b : Bool) → (a || b) ≡ false → b ≡ false
-or_right true b h = absurd (cc)
-or_right false b h = h
 
 -- a name with a zero behind it ends there
 named : (name : List ℕ) (m : ℕ) (rest : List ℕ) → 1 ≤ m → list_any (λ b. b == 0) name ≡ false → until_zero (take (length name + 1) ((name ++ replicate m 0) ++ rest)) ≡ name

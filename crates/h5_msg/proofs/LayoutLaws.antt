@@ -186,11 +186,11 @@ chunk_size_at body value rank k is low =
     let long = length-chunk body value rank is in
     ap (λ (xs : List ℕ). slice_index xs k) (sym is) ∙ get_or-map-range_with_len (λ i. number_at body (11 + 4 * i) 4) 0 rank k k 0 (omega arith) (omega arith)
 
-or_left : (a b : Bool) → (a || b) ≡ false → a ≡ false
+pub or_left : (a b : Bool) → (a || b) ≡ false → a ≡ false
 or_left true b h = h
 or_left false b h = refl
 
-or_right : (a b : Bool) → (a || b) ≡ false → b ≡ false
+pub or_right : (a b : Bool) → (a || b) ≡ false → b ≡ false
 or_right true b h = absurd (cc)
 or_right false b h = h
 

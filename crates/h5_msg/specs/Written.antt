@@ -11,8 +11,8 @@ abbrev pub padded : List ℕ → ℕ → List ℕ
 padded bytes n = bytes ++ replicate (n - length bytes) 0
 
 -- two numbers of 8 bytes: addresses or lengths
-abbrev pub pair_bytes : ℕ → ℕ → ℕ → List ℕ
-pair_bytes first second n = little_bytes 8 first ++ (little_bytes 8 second ++ replicate (n - 16) 0)
+abbrev pub pair_bytes : ℕ → ℕ → List ℕ
+pair_bytes first second = little_bytes 8 first ++ little_bytes 8 second
 
 -- bit 0 of the class bits: the high byte first; bit 3: signed
 abbrev pub class_bits : Fixed → ℕ
