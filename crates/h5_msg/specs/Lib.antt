@@ -1,0 +1,4 @@
+pub mod Written
+pub mod Times
+pub mod Layouts
+pub mod Parts

@@ -1,0 +1,305 @@
+//! Attribute messages, version 1 (File Format Specification 3.0, section IV.A.2.m).
+
+ghost use Rattle.std.specs.Prelude.{◌≡◌, ℕ, List, false, true, ◌+◌, ◌-◌, ◌*◌, ◌^◌, ◌<◌, ◌≤◌, ◌==◌, IfSome, Some, is_some, length, ok_or, position, slice_get};
+ghost use Rattle.std.specs.List.{list_all, list_any};
+ghost use Rattle.h5_bytes.specs.Bytes.{number_at};
+ghost use Rattle.h5_bytes.specs.Texts.{pad8 as padded_to_8, until_zero as text_of};
+ghost use Rattle.h5_model.specs.AttributeBody.{attribute_of, is_attribute};
+ghost use Rattle.h5_msg.specs.Parts.{ArePartsOf};
+ghost use Rattle.h5_model.specs.Fixed.{IsFixed, fits};
+ghost use Rattle.h5_model.specs.Places.{cells as cells_of};
+ghost use Rattle.h5_model.specs.Sizes.{attribute_size, dataspace_size};
+ghost use Rattle.h5_msg.specs.Written.{attribute_bytes, attribute_head, dataspace_bytes, datatype_bytes, name_bytes, padded, value_bytes};
+
+use crate::dataspace::{Dataspace, dataspace_length, read_dataspace, write_dataspace};
+use crate::datatype::{DATATYPE_LENGTH, read_datatype, write_datatype};
+use crate::fault::FormFault;
+use crate::values::{value_at, write_value};
+use byteorder::{ByteOrder, LittleEndian};
+use h5_model::Fixed;
+use h5_shape::Dims;
+use std::alloc::Global;
+use std::marker::Model;
+
+/// Where the name begins.
+const NAME: usize = 8;
+
+/// What an Attribute message says: a name, a type, sizes and values.
+#[derive(Drop)]
+pub struct AttributeBody<'a> {
+    body: &'a [u8],
+    name: &'a [u8],
+    fixed: Fixed,
+    extent: Dataspace<'a>,
+    place: usize,
+}
+
+impl<'a> Model for AttributeBody<'a> {
+    ghost use Rattle.std.specs.Prelude.{◌+◌, ◌*◌, ◌≤◌, ℕ, List, length};
+    ghost use Rattle.h5_model.specs.AttributeBody.{values_at};
+    ghost use Rattle.h5_model.specs.Places.{cells};
+    ghost use Rattle.h5_model.specs.Tree.{Attribute};
+
+    ghost Value = { List ℕ × Attribute };
+
+    ghost view = { λ a. (a.name.now, record { fixed = a.fixed; sizes = a.extent.sizes; values = values_at a.fixed a.body.now a.place (cells a.extent.sizes) }) };
+
+    ghost invariant = { λ a. a.place + cells a.extent.sizes * a.fixed.size ≤ length a.body.now };
+}
+
+impl<'a> AttributeBody<'a> {
+    /// The name.
+    pub fn name(&self) -> &'a [u8]
+        ensures { result.now ≡ self.now.0 }
+    {
+        self.name
+    }
+
+    /// The type of the values.
+    pub fn fixed(&self) -> Fixed
+        ensures { result ≡ self.now.1.fixed }
+    {
+        self.fixed
+    }
+
+    /// The sizes. It takes no memory.
+    pub fn dims(&self, alloc: Global) -> Dims
+        ensures { result ≡ self.now.1.sizes }
+    {
+        self.extent.dims(alloc)
+    }
+
+    /// How many values there are.
+    pub fn cells(&self) -> u64
+        ensures cells { result ≡ cells_of self.now.1.sizes }
+        ensures values { result ≡ length self.now.1.values }
+    {
+        let _size = self.fixed.size();
+        self.extent.cells()
+    }
+
+    /// The value of a cell, by its place in row-major order.
+    pub fn value(&self, k: u64) -> i128
+        requires { k < length self.now.1.values }
+        ensures { slice_get self.now.1.values k ≡ Some result }
+    {
+        value_at(
+            &self.fixed,
+            self.body,
+            self.place + k as usize * self.fixed.size(),
+        )
+    }
+}
+
+/// Reads an Attribute message; `AttributeForm` where it has another form.
+#[tactic(auto, unfolding(h5_model::specs::AttributeBody::attribute_of))]
+pub fn read_attribute(body: &[u8]) -> Result<AttributeBody<'_>, FormFault>
+    ensures { result ≡ ok_or (attribute_of body.now) FormFault.AttributeForm }
+{
+    let Some(parts) = read_parts(body) else {
+        return Err(FormFault::AttributeForm);
+    };
+    let Ok(fixed) = read_datatype(&body[parts.datatype..parts.datatype + parts.datatype_size])
+    else {
+        return Err(FormFault::AttributeForm);
+    };
+    let Ok(extent) = read_dataspace(&body[parts.dataspace..parts.dataspace + parts.dataspace_size])
+    else {
+        return Err(FormFault::AttributeForm);
+    };
+    let need = u128::from(extent.cells()) * fixed.size() as u128;
+    if (body.len() as u128) < parts.values as u128 + need {
+        return Err(FormFault::AttributeForm);
+    }
+    Ok(AttributeBody {
+        body,
+        name: parts.name,
+        fixed,
+        extent,
+        place: parts.values,
+    })
+}
+
+/// The parts of an Attribute message before its values.
+#[derive(Drop)]
+struct Parts<'a> {
+    name: &'a [u8],
+    datatype: usize,
+    datatype_size: usize,
+    dataspace: usize,
+    dataspace_size: usize,
+    values: usize,
+}
+
+/// Where the parts are, or `None` where one is not there or the name is not one.
+fn read_parts(body: &[u8]) -> Option<Parts<'_>>
+    ensures found { IfSome result (λ parts. ArePartsOf body.now parts) }
+    ensures exact { is_some result ≡ is_attribute body.now }
+{
+    if body.len() < NAME || body[0] != 1 {
+        return None;
+    }
+    let name_size = short_at(body, 2);
+    let datatype_size = short_at(body, 4);
+    let dataspace_size = short_at(body, 6);
+    let datatype = NAME + pad8(name_size);
+    let dataspace = datatype + pad8(datatype_size);
+    let values = dataspace + pad8(dataspace_size);
+    if body.len() < values {
+        return None;
+    }
+    let name = before_zero(&body[NAME..NAME + name_size]);
+    if name.is_empty() || name.len() >= name_size {
+        return None;
+    }
+    Some(Parts {
+        name,
+        datatype,
+        datatype_size,
+        dataspace,
+        dataspace_size,
+        values,
+    })
+}
+
+/// The number of 2 bytes at a place.
+#[tactic(auto, unfolding(h5_bytes::specs::Bytes::number_at))]
+fn short_at(body: &[u8], at: usize) -> usize
+    requires { at + 2 ≤ length body.now }
+    ensures number { result ≡ number_at body.now at 2 }
+    ensures small { result < 2 ^ 16 }
+{
+    usize::from(LittleEndian::read_u16(&body[at..]))
+}
+
+/// The next multiple of 8.
+fn pad8(n: usize) -> usize
+    requires { n < 2 ^ 16 }
+    ensures value { result ≡ padded_to_8 n }
+    ensures above { n ≤ result }
+    ensures below { result ≤ n + 7 }
+{
+    (n + 7) / 8 * 8
+}
+
+/// The bytes before the first zero.
+fn before_zero(bytes: &[u8]) -> &[u8]
+    ensures { result.now ≡ text_of bytes.now }
+{
+    match zero_at(bytes) {
+        Some(end) => &bytes[..end],
+        None => bytes,
+    }
+}
+
+/// Where the first zero is.
+fn zero_at(bytes: &[u8]) -> Option<usize>
+    ensures place { result ≡ position (λ b. b == 0) bytes.now }
+    ensures inside { IfSome result (λ end. end < length bytes.now) }
+{
+    bytes.iter().position(|byte| *byte == 0)
+}
+
+/// How many bytes the body of an Attribute message has as it is written: of a name of so many bytes, and of so many
+/// values of a type in an array of so many dimensions.
+pub fn attribute_length(name: usize, rank: usize, values: usize, fixed: &Fixed) -> usize
+    requires name { name < 2 ^ 16 - 1 }
+    requires rank { rank ≤ 32 }
+    requires values { values ≤ 2 ^ 40 }
+    ensures { (sizes : List ℕ) → length sizes ≡ rank → cells_of sizes ≡ values → result ≡ attribute_size name sizes fixed.now.size }
+{
+    NAME + pad8(name + 1) + DATATYPE + dataspace_length(rank, false) + values * fixed.size()
+}
+
+/// How many bytes a datatype has in an attribute, with its padding.
+const DATATYPE: usize = 16;
+
+/// Writes an Attribute message, and zeros behind it.
+pub fn write_attribute(name: &[u8], fixed: &Fixed, sizes: &[u64], values: &[i128], bytes: &mut [u8])
+    requires name { 1 ≤ length name.now }
+    requires short { length name.now < 2 ^ 16 - 1 }
+    requires text { list_any (λ b. b == 0) name.now ≡ false }
+    requires rank { length sizes.now ≤ 32 }
+    requires values { length values.now ≡ cells_of sizes.now }
+    requires of_type { list_all (fits fixed.now) values.now ≡ true }
+    requires room { attribute_size (length name.now) sizes.now fixed.now.size ≤ length bytes.old }
+    ensures written { bytes.new ≡ attribute_bytes name.now fixed.now sizes.now values.now (length bytes.old) }
+    ensures reads { attribute_of bytes.new ≡ Some (name.now, record { fixed = fixed.now; sizes = sizes.now; values = values.now }) }
+{
+    write_parts(name, fixed, sizes, values, bytes);
+}
+
+/// Writes the parts one behind another, and zeros behind them.
+fn write_parts(name: &[u8], fixed: &Fixed, sizes: &[u64], values: &[i128], bytes: &mut [u8])
+    requires short { length name.now < 2 ^ 16 - 1 }
+    requires rank { length sizes.now ≤ 32 }
+    requires values { length values.now ≡ cells_of sizes.now }
+    requires of_type { list_all (fits fixed.now) values.now ≡ true }
+    requires room { attribute_size (length name.now) sizes.now fixed.now.size ≤ length bytes.old }
+    ensures written { bytes.new ≡ attribute_bytes name.now fixed.now sizes.now values.now (length bytes.old) }
+    ensures sound { IsFixed fixed.now }
+{
+    let (head, behind) = bytes.split_at_mut(NAME);
+    let (text, behind) = behind.split_at_mut(pad8(name.len() + 1));
+    let (datatype, behind) = behind.split_at_mut(DATATYPE);
+    let (dataspace, behind) = behind.split_at_mut(dataspace_length(sizes.len(), false));
+    let (cells, padding) = behind.split_at_mut(values.len() * fixed.size());
+    write_head(name.len(), sizes.len(), head);
+    write_name(name, text);
+    write_type(fixed, datatype);
+    write_extent(sizes, dataspace);
+    write_values(fixed, values, cells);
+    padding.fill(0);
+}
+
+/// Writes the version and the lengths of the parts.
+fn write_head(name: usize, rank: usize, bytes: &mut [u8])
+    requires name { name < 2 ^ 16 - 1 }
+    requires rank { rank ≤ 32 }
+    requires room { length bytes.old ≡ 8 }
+    ensures { bytes.new ≡ attribute_head name rank }
+{
+    bytes.copy_from_slice(&[1, 0, 0, 0, DATATYPE_LENGTH as u8, 0, 0, 0]);
+    LittleEndian::write_u16(&mut bytes[2..4], name as u16 + 1);
+    LittleEndian::write_u16(&mut bytes[6..], dataspace_length(rank, false) as u16);
+}
+
+/// Writes a name, and zeros behind it.
+fn write_name(name: &[u8], bytes: &mut [u8])
+    requires { length bytes.old ≡ padded_to_8 (length name.now + 1) }
+    ensures { bytes.new ≡ name_bytes name.now }
+{
+    let (text, padding) = bytes.split_at_mut(name.len());
+    text.copy_from_slice(name);
+    padding.fill(0);
+}
+
+/// Writes a datatype with its padding.
+fn write_type(fixed: &Fixed, bytes: &mut [u8])
+    requires { length bytes.old ≡ 16 }
+    ensures { bytes.new ≡ padded (datatype_bytes fixed.now) 16 }
+{
+    write_datatype(fixed, bytes);
+}
+
+/// Writes a dataspace, which needs no padding.
+fn write_extent(sizes: &[u64], bytes: &mut [u8])
+    requires rank { length sizes.now ≤ 32 }
+    requires room { length bytes.old ≡ dataspace_size (length sizes.now) }
+    ensures { bytes.new ≡ dataspace_bytes sizes.now }
+{
+    write_dataspace(sizes, bytes);
+}
+
+/// Writes values one after another.
+fn write_values(fixed: &Fixed, values: &[i128], bytes: &mut [u8])
+    requires room { length bytes.old ≡ length values.now * fixed.now.size }
+    requires of_type { list_all (fits fixed.now) values.now ≡ true }
+    ensures written { bytes.new ≡ value_bytes fixed.now values.now }
+    ensures sound { IsFixed fixed.now }
+{
+    let size = fixed.size();
+    for k in 0..values.len() {
+        write_value(fixed, values[k], &mut bytes[k * size..k * size + size]);
+    }
+}

@@ -1,0 +1,87 @@
+//! Fill values (File Format Specification 3.0, sections IV.A.2.e and IV.A.2.f).
+
+ghost use Rattle.std.specs.Prelude.{◌≡◌, ◌+◌, ◌≤◌, Some, length, ok_or, true};
+ghost use Rattle.h5_model.specs.Fill.{fill_value, old_fill_value, sized_value as value_after_size};
+ghost use Rattle.h5_model.specs.Fixed.{fits};
+ghost use Rattle.h5_msg.specs.Written.{fill_bytes, padded};
+ghost use Rattle.h5_msg.specs.Times.{time_number};
+
+use crate::fault::FormFault;
+use crate::values::{value_at, write_value};
+use byteorder::{ByteOrder, LittleEndian};
+use h5_model::Fixed;
+
+/// When a dataset's storage is allocated: with the dataset, or chunk by chunk as they are written.
+#[derive(Clone, Copy, PartialEq, Eq, Debug)]
+pub enum AllocationTime {
+    Early,
+    Incremental,
+}
+
+/// How many bytes a Fill Value message's body has as it is written for this type.
+pub fn fill_length(fixed: &Fixed) -> usize
+    ensures { result ≡ 8 + fixed.now.size }
+{
+    8 + fixed.size()
+}
+
+/// Reads a Fill Value message, version 2, of a dataset of this type: the value, or 0 where none is defined; `FillForm`
+/// where the message has another form.
+#[tactic(auto, unfolding(h5_model::specs::Fill::fill_value))]
+pub fn read_fill(fixed: &Fixed, body: &[u8]) -> Result<i128, FormFault>
+    ensures { result ≡ ok_or (fill_value fixed.now body.now) FormFault.FillForm }
+{
+    if body.len() < 4 || body[0] != 2 {
+        return Err(FormFault::FillForm);
+    }
+    match body[3] {
+        0 => Ok(0),
+        1 => read_sized(fixed, body, 4),
+        _ => Err(FormFault::FillForm),
+    }
+}
+
+/// Reads an old Fill Value message of a dataset of this type: the value, or 0 where its size is 0; `FillForm` where the
+/// message has another form.
+#[tactic(auto, unfolding(h5_model::specs::Fill::old_fill_value))]
+pub fn read_old_fill(fixed: &Fixed, body: &[u8]) -> Result<i128, FormFault>
+    ensures { result ≡ ok_or (old_fill_value fixed.now body.now) FormFault.FillForm }
+{
+    read_sized(fixed, body, 0)
+}
+
+/// The value whose size stands at a place, and 0 where that size is 0.
+#[tactic(auto, unfolding(h5_bytes::specs::Bytes::number_at))]
+fn read_sized(fixed: &Fixed, body: &[u8], at: usize) -> Result<i128, FormFault>
+    requires { at ≤ 4 }
+    ensures { result ≡ ok_or (value_after_size fixed.now body.now at) FormFault.FillForm }
+{
+    if body.len() < at + 4 {
+        return Err(FormFault::FillForm);
+    }
+    let size = LittleEndian::read_u32(&body[at..]) as usize;
+    if size == 0 {
+        return Ok(0);
+    }
+    if size != fixed.size() || body.len() < at + 4 + size {
+        return Err(FormFault::FillForm);
+    }
+    Ok(value_at(fixed, body, at + 4))
+}
+
+/// Writes a Fill Value message, version 2, with a value of the type, and zeros behind it.
+pub fn write_fill(time: AllocationTime, fixed: &Fixed, value: i128, bytes: &mut [u8])
+    requires room { 8 + fixed.now.size ≤ length bytes.old }
+    requires of_type { fits fixed.now value ≡ true }
+    ensures written { bytes.new ≡ padded (fill_bytes (time_number time) fixed.now value) (length bytes.old) }
+    ensures reads { fill_value fixed.now bytes.new ≡ Some value }
+{
+    let size = fixed.size();
+    let time = match time {
+        AllocationTime::Early => 1,
+        AllocationTime::Incremental => 3,
+    };
+    bytes.fill(0);
+    bytes[..8].copy_from_slice(&[2, time, 2, 1, size as u8, 0, 0, 0]);
+    write_value(fixed, value, &mut bytes[8..8 + size]);
+}

@@ -1,0 +1,281 @@
+//! Data Layout messages, version 3 (File Format Specification 3.0, section IV.A.2.i).
+
+ghost use Rattle.std.specs.Prelude.{◌≡◌, ℕ, ◌+◌, ◌-◌, ◌*◌, ◌^◌, ◌<◌, ◌≤◌, ◌==◌, List, None, Some, MatchResult, false, length, map, min, option_map, slice_index};
+ghost use Rattle.std.specs.Option.{ForSome};
+ghost use Rattle.std.specs.List.{list_any, range_with_len};
+ghost use Rattle.h5_bytes.specs.Bytes.{number_at};
+ghost use Rattle.h5_bytes.specs.Blocks.{block};
+ghost use Rattle.h5_model.specs.Layout.{InBlock, InChunks, InMessage, chunked_layout, compact_layout, contiguous_layout, layout_of, short_numbers_at};
+ghost use Rattle.h5_msg.specs.Written.{chunked_bytes, compact_bytes, contiguous_bytes, padded};
+ghost use Rattle.h5_msg.specs.Layouts.{layout_in};
+ghost use Rattle.h5_model.specs.Places.{cells as cells_of};
+
+use crate::fault::FormFault;
+use byteorder::{ByteOrder, LittleEndian};
+use h5_bytes::{Block, UNDEF};
+use h5_model::Fixed;
+use h5_shape::{Dims, MAX_RANK};
+use std::alloc::Global;
+use std::marker::Model;
+
+/// Where the chunk sizes begin.
+const CHUNK_SIZES: usize = 11;
+
+/// Where compact data begin.
+const COMPACT_DATA: usize = 4;
+
+/// How many bytes the body of a contiguous array's Data Layout message has as it is written.
+pub const CONTIGUOUS_LENGTH: usize = 18;
+
+/// How many bytes the body of a compact array's Data Layout message has as it is written, with so many bytes of data.
+pub fn compact_length(bytes: usize) -> usize
+    requires { bytes < 2 ^ 16 }
+    ensures { result ≡ 4 + bytes }
+{
+    COMPACT_DATA + bytes
+}
+
+/// How many bytes the body of a chunked array's Data Layout message has as it is written.
+pub fn chunked_length(rank: usize) -> usize
+    requires { rank ≤ 32 }
+    ensures { result ≡ 11 + 4 * (rank + 1) }
+{
+    CHUNK_SIZES + 4 * (rank + 1)
+}
+
+/// The chunk sizes that a Data Layout message names, in elements.
+#[derive(Drop)]
+pub struct ChunkSizes<'a> {
+    body: &'a [u8],
+    rank: usize,
+}
+
+impl<'a> Model for ChunkSizes<'a> {
+    ghost use Rattle.h5_model.specs.Layout.{short_numbers_at};
+    ghost use Rattle.std.specs.Prelude.{◌≡◌, ◌==◌, ◌+◌, ◌*◌, ◌≤◌, ℕ, List, length, false};
+    ghost use Rattle.std.specs.List.{list_any};
+
+    ghost Value = { List ℕ };
+
+    ghost view = { λ a. short_numbers_at a.body.now 11 a.rank };
+
+    ghost invariant = { λ a. (11 + 4 * a.rank ≤ length a.body.now) × (a.rank ≤ 32) × (list_any (λ n. n == 0) (short_numbers_at a.body.now 11 a.rank) ≡ false) };
+}
+
+impl<'a> ChunkSizes<'a> {
+    /// How many dimensions there are.
+    pub fn rank(&self) -> usize
+        ensures rank { result ≡ length self.now }
+        ensures most { result ≤ 32 }
+    {
+        self.rank
+    }
+
+    /// The chunk size in a dimension.
+    pub fn size(&self, k: usize) -> u32
+        requires { k < length self.now }
+        ensures size { result ≡ slice_index self.now k }
+        ensures some { 1 ≤ result }
+    {
+        short_number(self.body, CHUNK_SIZES + 4 * k)
+    }
+
+    /// The chunk sizes. It takes no memory.
+    pub fn dims(&self, alloc: Global) -> Dims
+        ensures { result ≡ self.now }
+    {
+        let mut sizes = [0; MAX_RANK];
+        read_sizes(self.body, self.rank, &mut sizes[..self.rank]);
+        Dims::new(alloc, &sizes[..self.rank]).unwrap()
+    }
+}
+
+/// Reads so many chunk sizes.
+fn read_sizes(body: &[u8], rank: usize, sizes: &mut [u64])
+    requires there { 11 + 4 * rank ≤ length body.now }
+    requires room { length sizes.old ≡ rank }
+    ensures { sizes.new ≡ short_numbers_at body.now 11 rank }
+{
+    for k in 0..rank {
+        sizes[k] = u64::from(short_number(body, CHUNK_SIZES + 4 * k));
+    }
+}
+
+/// Where a dataset's cells are: in the message, in a block, or in chunks.
+#[derive(Drop)]
+pub enum Layout<'a> {
+    /// The bytes of the cells.
+    Compact(&'a [u8]),
+    /// The block that the cells stand in, where they are stored.
+    Contiguous(Option<Block>),
+    /// The chunk sizes, and the address of the chunks' B-tree where there is one.
+    Chunked {
+        sizes: ChunkSizes<'a>,
+        tree: Option<u64>,
+    },
+}
+
+/// How many bytes cells of these sizes need, or 2^128 - 1 where that is more.
+fn bytes_needed(sizes: &[u64], size: usize) -> u128
+    ensures { result ≡ min (cells_of sizes.now * size) (2 ^ 128 - 1) }
+{
+    let [first, rest @ ..] = sizes else {
+        return size as u128;
+    };
+    u128::from(*first).saturating_mul(bytes_needed(rest, size))
+}
+
+/// Reads a Data Layout message of an array of these sizes and this type; `LayoutForm` where it has another form.
+#[tactic(auto, unfolding(h5_model::specs::Layout::layout_of))]
+pub fn read_layout<'a>(dims: &Dims, fixed: &Fixed, body: &'a [u8]) -> Result<Layout<'a>, FormFault>
+    ensures { MatchResult result
+        (λ layout. layout_of dims.now fixed.now.size body.now ≡ Some (layout_in layout))
+        (λ fault. (fault ≡ FormFault.LayoutForm) × (layout_of dims.now fixed.now.size body.now ≡ None)) }
+{
+    if body.len() < 2 || body[0] != 3 {
+        return Err(FormFault::LayoutForm);
+    }
+    match body[1] {
+        0 => read_compact(bytes_needed(dims.sizes(), fixed.size()), body),
+        1 => read_contiguous(bytes_needed(dims.sizes(), fixed.size()), body),
+        2 => read_chunked(dims.sizes().len(), fixed.size(), body),
+        _ => Err(FormFault::LayoutForm),
+    }
+}
+
+/// Class 0: a size and that many bytes.
+#[tactic(auto, unfolding(h5_bytes::specs::Bytes::number_at))]
+fn read_compact(need: u128, body: &[u8]) -> Result<Layout<'_>, FormFault>
+    ensures { MatchResult result
+        (λ layout. compact_layout need body.now ≡ Some (layout_in layout))
+        (λ fault. (fault ≡ FormFault.LayoutForm) × (compact_layout need body.now ≡ None)) }
+{
+    if body.len() < 4 {
+        return Err(FormFault::LayoutForm);
+    }
+    let size = usize::from(LittleEndian::read_u16(&body[2..]));
+    if body.len() < 4 + size || need > size as u128 {
+        return Err(FormFault::LayoutForm);
+    }
+    Ok(Layout::Compact(&body[4..4 + need as usize]))
+}
+
+/// Class 1: an address and a size, which counts where there is an address.
+#[tactic(auto, unfolding(h5_bytes::specs::Bytes::number_at))]
+fn read_contiguous(need: u128, body: &[u8]) -> Result<Layout<'_>, FormFault>
+    ensures { MatchResult result
+        (λ layout. contiguous_layout need body.now ≡ Some (layout_in layout))
+        (λ fault. (fault ≡ FormFault.LayoutForm) × (contiguous_layout need body.now ≡ None)) }
+{
+    if body.len() < CONTIGUOUS_LENGTH {
+        return Err(FormFault::LayoutForm);
+    }
+    let at = LittleEndian::read_u64(&body[2..]);
+    let len = LittleEndian::read_u64(&body[10..]);
+    if at == UNDEF {
+        return Ok(Layout::Contiguous(None));
+    }
+    if need > u128::from(len) {
+        return Err(FormFault::LayoutForm);
+    }
+    Ok(Layout::Contiguous(Some(Block { at, len })))
+}
+
+/// Class 2: one more than the rank, the tree's address, the chunk sizes and last the size of an element.
+#[tactic(auto, unfolding(h5_bytes::specs::Bytes::number_at))]
+fn read_chunked(rank: usize, size: usize, body: &[u8]) -> Result<Layout<'_>, FormFault>
+    requires { rank ≤ 32 }
+    ensures { MatchResult result
+        (λ layout. chunked_layout rank size body.now ≡ Some (layout_in layout))
+        (λ fault. (fault ≡ FormFault.LayoutForm) × (chunked_layout rank size body.now ≡ None)) }
+{
+    if rank == 0 || body.len() < CHUNK_SIZES + 4 * (rank + 1) || usize::from(body[2]) != rank + 1 {
+        return Err(FormFault::LayoutForm);
+    }
+    let element = short_number(body, CHUNK_SIZES + 4 * rank) as usize;
+    if element != size || has_zero(body, 0, rank) {
+        return Err(FormFault::LayoutForm);
+    }
+    let tree = LittleEndian::read_u64(&body[3..]);
+    Ok(Layout::Chunked {
+        sizes: ChunkSizes { body, rank },
+        tree: if tree == UNDEF { None } else { Some(tree) },
+    })
+}
+
+/// Whether one of so many chunk sizes from dimension `k` on is 0.
+#[tactic(auto, using(crate::proofs::LayoutLaws::zero_step))]
+fn has_zero(body: &[u8], k: usize, count: usize) -> bool
+    requires { 11 + 4 * (k + count) ≤ length body.now }
+    ensures { result ≡ list_any (λ n. n == 0) (map (λ i. number_at body.now (11 + 4 * i) 4) (range_with_len k count)) }
+{
+    if count == 0 {
+        return false;
+    }
+    short_number(body, CHUNK_SIZES + 4 * k) == 0 || has_zero(body, k + 1, count - 1)
+}
+
+/// The number of 4 bytes at a place.
+#[tactic(auto, unfolding(h5_bytes::specs::Bytes::number_at))]
+fn short_number(body: &[u8], at: usize) -> u32
+    requires { at + 4 ≤ length body.now }
+    ensures { result ≡ number_at body.now at 4 }
+{
+    LittleEndian::read_u32(&body[at..])
+}
+
+/// Writes the Data Layout message of a compact array with these data, and zeros behind it.
+pub fn write_compact_layout(data: &[u8], bytes: &mut [u8])
+    requires short { length «data».now < 2 ^ 16 }
+    requires room { 4 + length «data».now ≤ length bytes.old }
+    ensures written { bytes.new ≡ padded (compact_bytes «data».now) (length bytes.old) }
+    ensures reads { (sizes : List ℕ) (size : ℕ) → cells_of sizes * size ≡ length «data».now
+        → layout_of sizes size bytes.new ≡ Some (InMessage «data».now) }
+{
+    let (head, behind) = bytes.split_at_mut(COMPACT_DATA);
+    let (stored, padding) = behind.split_at_mut(data.len());
+    head.copy_from_slice(&[3, 0, 0, 0]);
+    LittleEndian::write_u16(&mut head[2..], data.len() as u16);
+    stored.copy_from_slice(data);
+    padding.fill(0);
+}
+
+/// Writes the Data Layout message of a contiguous array whose block has this address, where there is one, and this
+/// length, and zeros behind it.
+pub fn write_contiguous_layout(address: Option<u64>, len: u64, bytes: &mut [u8])
+    requires address { ForSome address (λ at. at < 2 ^ 64 - 1) }
+    requires room { 18 ≤ length bytes.old }
+    ensures written { bytes.new ≡ padded (contiguous_bytes address len) (length bytes.old) }
+    ensures reads { (sizes : List ℕ) (size : ℕ) → cells_of sizes * size ≤ len
+        → layout_of sizes size bytes.new ≡ Some (InBlock (option_map (λ at. block at len) address)) }
+{
+    let (head, behind) = bytes.split_at_mut(2);
+    head.copy_from_slice(&[3, 1]);
+    behind.fill(0);
+    LittleEndian::write_u64(behind, address.unwrap_or(UNDEF));
+    LittleEndian::write_u64(&mut behind[8..], len);
+}
+
+/// Writes the Data Layout message of a chunked array of this type, of these chunk sizes, whose B-tree has this address
+/// where there is one, and zeros behind it.
+#[tactic(auto, using(crate::proofs::LayoutLaws::short_words_long))]
+pub fn write_chunked_layout(chunk: &[u32], tree: Option<u64>, fixed: &Fixed, bytes: &mut [u8])
+    requires dimensions { 1 ≤ length chunk.now }
+    requires rank { length chunk.now ≤ 32 }
+    requires sizes { list_any (λ n. n == 0) chunk.now ≡ false }
+    requires address { ForSome tree (λ at. at < 2 ^ 64 - 1) }
+    requires room { 11 + 4 * (length chunk.now + 1) ≤ length bytes.old }
+    ensures written { bytes.new ≡ padded (chunked_bytes chunk.now tree fixed.now.size) (length bytes.old) }
+    ensures reads { (sizes : List ℕ) → length sizes ≡ length chunk.now
+        → layout_of sizes fixed.now.size bytes.new ≡ Some (InChunks chunk.now tree) }
+{
+    let (head, behind) = bytes.split_at_mut(3);
+    let (root, behind) = behind.split_at_mut(8);
+    let (sizes, behind) = behind.split_at_mut(4 * chunk.len());
+    let (element, padding) = behind.split_at_mut(4);
+    head.copy_from_slice(&[3, 2, chunk.len() as u8 + 1]);
+    LittleEndian::write_u64(root, tree.unwrap_or(UNDEF));
+    LittleEndian::write_u32_into(chunk, sizes);
+    LittleEndian::write_u32(element, fixed.size() as u32);
+    padding.fill(0);
+}
