@@ -1,0 +1,4 @@
+pub mod Numbers
+pub mod Splits
+pub mod Lists
+pub mod EscapeLaws
