@@ -8,27 +8,53 @@ use h5_model::{Fixed, Items, Store};
 use std::alloc::{AllocError, Global};
 
 /// The type of this text: `i8`, `u8`, or `i` or `u` with 16, 32 or 64 and `le` or `be`.
-#[tactic(auto, unfolding(h5_model::specs::Lines::type_from))]
+#[tactic(auto, using(crate::proofs::TypeTexts::type_from_is))]
 pub fn type_from(word: &[u8]) -> Option<Fixed>
     ensures { result ≡ type_read word.now }
 {
-    match word {
-        b"i8" => Fixed::new(1, true, false),
-        b"u8" => Fixed::new(1, false, false),
-        b"i16le" => Fixed::new(2, true, false),
-        b"u16le" => Fixed::new(2, false, false),
-        b"i16be" => Fixed::new(2, true, true),
-        b"u16be" => Fixed::new(2, false, true),
-        b"i32le" => Fixed::new(4, true, false),
-        b"u32le" => Fixed::new(4, false, false),
-        b"i32be" => Fixed::new(4, true, true),
-        b"u32be" => Fixed::new(4, false, true),
-        b"i64le" => Fixed::new(8, true, false),
-        b"u64le" => Fixed::new(8, false, false),
-        b"i64be" => Fixed::new(8, true, true),
-        b"u64be" => Fixed::new(8, false, true),
-        _ => None,
+    if b"i8".as_slice() == word {
+        return Fixed::new(1, true, false);
     }
+    if b"u8".as_slice() == word {
+        return Fixed::new(1, false, false);
+    }
+    if b"i16le".as_slice() == word {
+        return Fixed::new(2, true, false);
+    }
+    if b"u16le".as_slice() == word {
+        return Fixed::new(2, false, false);
+    }
+    if b"i16be".as_slice() == word {
+        return Fixed::new(2, true, true);
+    }
+    if b"u16be".as_slice() == word {
+        return Fixed::new(2, false, true);
+    }
+    if b"i32le".as_slice() == word {
+        return Fixed::new(4, true, false);
+    }
+    if b"u32le".as_slice() == word {
+        return Fixed::new(4, false, false);
+    }
+    if b"i32be".as_slice() == word {
+        return Fixed::new(4, true, true);
+    }
+    if b"u32be".as_slice() == word {
+        return Fixed::new(4, false, true);
+    }
+    if b"i64le".as_slice() == word {
+        return Fixed::new(8, true, false);
+    }
+    if b"u64le".as_slice() == word {
+        return Fixed::new(8, false, false);
+    }
+    if b"i64be".as_slice() == word {
+        return Fixed::new(8, true, true);
+    }
+    if b"u64be".as_slice() == word {
+        return Fixed::new(8, false, true);
+    }
+    None
 }
 
 /// How a dataset is to be stored: `compact`, `contiguous`, or `chunked:` and the chunk sizes.
