@@ -1,5 +1,5 @@
 -- The bytes that a word stands for, byte by byte.
-use Rattle.std.proofs.Common.{◌≡◌, ℕ, zero, suc, ◌+◌, ◌<◌, true, false, List, [], ◌∷◌, ◌++◌, length, get_or, drop, eqb, Option, Some, None, option_map, refl, sym, ap, ◌∙◌, add-one, append-nil, ◌≤◌, arith}
+use Rattle.std.proofs.Common.{◌≡◌, ℕ, zero, suc, ◌+◌, ◌<◌, true, false, List, [], ◌∷◌, ◌++◌, length, get_or, drop, eqb, Some, None, option_map, refl, sym, ap, ◌∙◌, add-one, append-nil, ◌≤◌, arith}
 use Rattle.std.proofs.lemmas.Bool.{cond-true, cond-false}
 use Rattle.std.proofs.Math.Seq.{drop-cons, drop-nil}
 use Rattle.std.proofs.lemmas.List.{drop-drop, drop_all}

@@ -1,5 +1,5 @@
 -- The items of a list, item by item.
-use Rattle.std.proofs.Common.{◌≡◌, List, [], ◌∷◌, ◌++◌, Option, Some, None, option_map, refl, ap, append_assoc, append-nil}
+use Rattle.std.proofs.Common.{◌≡◌, List, [], ◌∷◌, ◌++◌, Option, Some, None, option_map, refl, ap, append_assoc}
 
 -- items behind items
 abbrev pub behind : {Y : Type 0} → List Y → Option (List Y) → Option (List Y)

@@ -2,10 +2,10 @@
 use Rattle.std.proofs.Common.{◌≡◌, ℕ, ◌+◌, ◌<◌, Bool, true, false, List, [], ◌∷◌, ◌++◌, length, get_or, take, drop, All, cond, eqb, refl, sym, ap, ◌∙◌, take-append-drop, add-one, Bor, Option, Some, None, is_some}
 use Rattle.std.proofs.lemmas.Bool.{false≢true}
 use Rattle.std.specs.Option.{option_map_or}
-use Rattle.h5_model.specs.Lines.{size_from}
+use Rattle.h5_model.specs.Lines.{size_from, words_ask}
 use Rattle.std.proofs.Math.Seq.{drop-cons}
 use Rattle.std.specs.List.{slice_split, onto_first}
-use Rattle.std.proofs.lemmas.List.Splits.{slice_split_at, slice_split_none}
+use Rattle.std.proofs.lemmas.List.Splits.{slice_split_at}
 
 -- the first part ends at the first byte sought
 pub slice_split_read : (at i : ℕ) (xs : List ℕ) → i < length xs → eqb (get_or xs i 0) at ≡ true → All (λ b. eqb b at ≡ false) (take i xs) → slice_split (λ b. eqb b at) xs ≡ take i xs ∷ slice_split (λ b. eqb b at) (drop (i + 1) xs)
@@ -40,3 +40,14 @@ size_from_three word size most behind third rest first some second more =
     let left = left_some (λ b. eqb b 47) third more in
     let parts : slice_split (λ b. eqb b 47) word ≡ size ∷ most ∷ left.0 ∷ left.1 = first ∙ ap (λ o. size ∷ parts_left 47 o) some ∙ ap (λ ps. size ∷ ps) (second ∙ ap (λ ps. most ∷ ps) left.2) in
     rw parts refl
+
+-- one more part stands behind the first
+pub part_more : (at : ℕ) (xs first : List ℕ) (left : Option (Bor (List ℕ))) (rest : Bor (List ℕ)) → slice_split (λ b. eqb b at) xs ≡ first ∷ parts_left at left → left ≡ Some rest → slice_split (λ b. eqb b at) xs ≡ first ∷ slice_split (λ b. eqb b at) rest.now
+part_more at xs first left rest parts some = parts ∙ ap (λ o. first ∷ parts_left at o) some
+
+-- no form has so many words
+pub words_ask_many : (words : List (List ℕ)) (w a b c d e v : List ℕ) (left : Option (Bor (List ℕ))) → words ≡ w ∷ a ∷ b ∷ c ∷ d ∷ e ∷ v ∷ parts_left 32 left → is_some left ≡ true → None ≡ words_ask words
+words_ask_many words w a b c d e v left parts more =
+    let rest = left_some (λ b. eqb b 32) left more in
+    let all : words ≡ w ∷ a ∷ b ∷ c ∷ d ∷ e ∷ v ∷ rest.0 ∷ rest.1 = parts ∙ ap (λ ps. w ∷ a ∷ b ∷ c ∷ d ∷ e ∷ v ∷ ps) rest.2 in
+    rw all refl

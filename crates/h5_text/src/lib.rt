@@ -1,12 +1,17 @@
 //! The texts of the program: lines of a script are read, and answers are written.
 #![tactic(auto)]
 
+mod command;
 mod escapes;
+mod forms;
 mod kinds;
+mod lines;
 mod number;
 mod words;
 
+pub use crate::command::Command;
 pub use crate::escapes::unescaped;
 pub use crate::kinds::{fill_from, store_from, type_from};
+pub use crate::lines::{MAX_LINE, read_line};
 pub use crate::number::{u32_from, u64_from, value_from};
 pub use crate::words::{Item, list_from, size_from};

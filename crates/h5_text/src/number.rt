@@ -14,7 +14,9 @@ fn number_upto(most: u128, word: &[u8]) -> Option<u128>
         if !digit.is_ascii_digit() {
             return None;
         }
-        number = number.checked_mul(10)?.checked_add(u128::from(*digit - b'0'))?;
+        number = number
+            .checked_mul(10)?
+            .checked_add(u128::from(*digit - b'0'))?;
         if number > most {
             return None;
         }
