@@ -3,3 +3,4 @@ pub mod Splits
 pub mod Lists
 pub mod EscapeLaws
 pub mod TypeTexts
+pub mod Appending

@@ -7,7 +7,7 @@ use h5_model::Items;
 use std::alloc::{AllocError, Global};
 
 /// Whether a byte is printed as it stands: from `!` to `~`, and not the backslash.
-fn is_plain(byte: u8) -> bool
+pub(crate) fn is_plain(byte: u8) -> bool
     ensures { result ≡ plain byte }
 {
     b'!' <= byte && byte <= b'~' && byte != b'\\'
