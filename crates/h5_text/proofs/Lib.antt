@@ -4,3 +4,4 @@ pub mod Lists
 pub mod EscapeLaws
 pub mod TypeTexts
 pub mod Appending
+pub mod Joining

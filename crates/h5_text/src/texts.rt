@@ -81,9 +81,7 @@ pub fn push_sizes(out: &mut Vec<u8>, sizes: &[u64]) -> Result<(), AllocError>
 {
     push_text(out, b"{")?;
     for (k, size) in sizes.iter().enumerate() {
-        if k > 0 {
-            push_text(out, b", ")?;
-        }
+        push_text(out, if k > 0 { b", " } else { b"" })?;
         push_number(out, *size)?;
     }
     push_text(out, b"}")
@@ -113,11 +111,9 @@ pub fn push_extent(
     ensures { Appends result out.old.items out.new.items (codes "{" ++ join_by size_text (codes ", ") (pairs sizes.now maxima.now) ++ codes "}") }
 {
     push_text(out, b"{")?;
-    for (k, (size, maximum)) in sizes.iter().zip(maxima).enumerate() {
-        if k > 0 {
-            push_text(out, b", ")?;
-        }
-        push_size(out, *size, *maximum)?;
+    for k in 0..sizes.len().min(maxima.len()) {
+        push_text(out, if k > 0 { b", " } else { b"" })?;
+        push_size(out, sizes[k], maxima[k])?;
     }
     push_text(out, b"}")
 }
