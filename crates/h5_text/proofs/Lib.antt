@@ -5,3 +5,4 @@ pub mod EscapeLaws
 pub mod TypeTexts
 pub mod Appending
 pub mod Joining
+pub mod RowLaws
