@@ -1,9 +1,10 @@
 -- Texts joined by a separator, one more at a time.
-use Rattle.std.proofs.Common.{◌≡◌, ℕ, zero, suc, ◌+◌, ◌<◌, ◌≤◌, List, [], ◌∷◌, ◌++◌, length, get_or, take, drop, min, take_all, Option, None, refl, sym, ap, ◌∙◌, append_assoc, append-nil, add-one, arith}
+use Rattle.std.proofs.Common.{◌≡◌, ℕ, zero, suc, ◌+◌, ◌<◌, ◌≤◌, List, [], ◌∷◌, ◌++◌, length, get_or, take, drop, min, take_all, Option, None, ℤ, pos, codes, refl, sym, ap, ◌∙◌, append_assoc, append-nil, add-one, arith}
+use Rattle.std.specs.Fmt.{signed_decimal}
 use Rattle.std.specs.List.{join_by, flat_map}
 use Rattle.std.proofs.lemmas.List.{take_more, length-take-le}
 use Rattle.std.proofs.lemmas.List.Concat.{flat_map-append}
-use Rattle.h5_model.specs.Text.{pairs}
+use Rattle.h5_model.specs.Text.{pairs, values_text}
 
 -- what stands before the k-th text
 abbrev pub before : List ℕ → ℕ → List ℕ
@@ -52,3 +53,9 @@ pairs_all [] maxima k h = take_all k [] (omega arith)
 pairs_all (d ∷ ds) [] k h = take_all k [] (omega arith)
 pairs_all (d ∷ ds) (m ∷ ms) zero h = absurd (omega (arith, h))
 pairs_all (d ∷ ds) (m ∷ ms) (suc k) h = ap (λ ps. (d, m) ∷ ps) (pairs_all ds ms k (omega arith))
+
+-- one more value behind its space
+pub values_more : (values : List ℤ) (k : ℕ) → k < length values → values_text (take (k + 1) values) ≡ values_text (take k values) ++ (codes " " ++ signed_decimal (get_or values k (pos 0)))
+values_more values k lt =
+    ap values_text (take_more values k (pos 0) lt) ∙ flat_map-append (λ v. codes " " ++ signed_decimal v) (take k values) (get_or values k (pos 0) ∷ [])
+    ∙ ap (λ t. values_text (take k values) ++ t) (append-nil (codes " " ++ signed_decimal (get_or values k (pos 0))))

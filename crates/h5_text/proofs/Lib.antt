@@ -6,3 +6,4 @@ pub mod TypeTexts
 pub mod Appending
 pub mod Joining
 pub mod RowLaws
+pub mod RowTexts

@@ -6,7 +6,7 @@ use Rattle.h5_model.specs.Fixed.{Fixed, raw_at, value_at, value_of}
 use Rattle.byteorder.specs.Endian.{little_from, big_from}
 use Rattle.h5_text.specs.Rows.{cell_text, cells_from}
 
-next_after : (width column n : ℕ) → ((column + 1) % width + n) % width ≡ (column + suc n) % width
+pub next_after : (width column n : ℕ) → ((column + 1) % width + n) % width ≡ (column + suc n) % width
 next_after width column n =
     let sum : column + 1 + n ≡ column + suc n = omega arith in
     mod-add-mod (column + 1) width n ∙ ap (λ k. k % width) sum

@@ -1,3 +1,4 @@
 pub mod Appends
 pub mod Commands
 pub mod Rows
+pub mod Layouts

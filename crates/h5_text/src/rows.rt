@@ -1,6 +1,7 @@
 //! Rows of cells, which may come in pieces.
 ghost use Rattle.std.specs.Prelude.{◌≡◌, ◌+◌, ◌/◌, ◌%◌, ◌<◌, ◌==◌, [], length, replicate, codes, OnOk, OnErr, if◌then◌else◌};
 ghost use Rattle.h5_model.specs.Script.{stored_values};
+ghost use Rattle.h5_model.specs.Text.{rows_text};
 ghost use Rattle.h5_text.specs.Appends.{Appends};
 ghost use Rattle.h5_text.specs.Rows.{cell_text, cells_from};
 
@@ -76,6 +77,19 @@ impl Rows {
         }
         Ok(())
     }
+}
+
+/// Appends values in rows of so many, of which the last is whole.
+pub fn push_rows(out: &mut Vec<u8>, width: u64, values: &[i128]) -> Result<(), AllocError>
+    requires width { 0 < width }
+    requires whole { length values.now % width ≡ 0 }
+    ensures { Appends result out.old.items out.new.items (rows_text (length values.now / width) width values.now) }
+{
+    let mut rows = Rows::new(width);
+    for value in values {
+        rows.push(out, *value)?;
+    }
+    Ok(())
 }
 
 /// What stands before a cell.

@@ -1,7 +1,7 @@
 //! Texts of answers. Each function appends to a buffer; where memory is refused, the buffer keeps what it held.
 ghost use Rattle.std.specs.Prelude.{◌≡◌, ◌<◌, ◌++◌, codes};
 ghost use Rattle.std.specs.Fmt.{decimal, signed_decimal};
-ghost use Rattle.h5_model.specs.Text.{escaped as escaped_text, escaped_byte, hex_digit as digit_of, pairs, size_text, sizes_text, type_text};
+ghost use Rattle.h5_model.specs.Text.{escaped as escaped_text, escaped_byte, hex_digit as digit_of, pairs, size_text, sizes_text, type_text, values_text};
 ghost use Rattle.h5_model.specs.EditFaults.{refused_text};
 ghost use Rattle.h5_model.specs.ViewFaults.{view_fault_text};
 ghost use Rattle.std.specs.List.{join_by};
@@ -141,4 +141,41 @@ pub fn push_view_fault(out: &mut Vec<u8>, fault: ViewFault) -> Result<(), AllocE
     push_text(out, b" ")?;
     push_text(out, fault.name().as_bytes())?;
     push_text(out, b"\n")
+}
+
+/// Appends the values of an attribute, a space before each.
+pub fn push_values(out: &mut Vec<u8>, values: &[i128]) -> Result<(), AllocError>
+    ensures { Appends result out.old.items out.new.items (values_text values.now) }
+{
+    for value in values {
+        push_text(out, b" ")?;
+        push_value(out, *value)?;
+    }
+    Ok(())
+}
+
+/// How a dataset's cells are stored; of chunks their sizes.
+#[derive(Clone, Copy, PartialEq, Eq, Debug)]
+pub enum Layout<'a> {
+    Compact,
+    Contiguous,
+    Chunked(&'a [u64]),
+}
+
+impl Layout<'_> {
+    ghost use Rattle.h5_text.specs.Layouts.{layout_text};
+
+    /// Appends the layout's text.
+    pub fn push_to(self, out: &mut Vec<u8>) -> Result<(), AllocError>
+        ensures { Appends result out.old.items out.new.items (layout_text self.entry) }
+    {
+        match self {
+            Layout::Compact => push_text(out, b"compact"),
+            Layout::Contiguous => push_text(out, b"contiguous"),
+            Layout::Chunked(sizes) => {
+                push_text(out, b"chunked ")?;
+                push_sizes(out, sizes)
+            }
+        }
+    }
 }
