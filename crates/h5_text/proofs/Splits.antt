@@ -2,6 +2,7 @@
 use Rattle.std.proofs.Common.{◌≡◌, ℕ, ◌+◌, ◌<◌, Bool, true, false, List, [], ◌∷◌, ◌++◌, length, get_or, take, drop, All, cond, eqb, refl, sym, ap, ◌∙◌, take-append-drop, add-one, Bor, Option, Some, None, is_some}
 use Rattle.std.proofs.lemmas.Bool.{false≢true}
 use Rattle.std.specs.Option.{option_map_or}
+use Rattle.h5_text.specs.Words.{parts_left}
 use Rattle.h5_model.specs.Lines.{size_from, words_ask}
 use Rattle.std.proofs.Math.Seq.{drop-cons}
 use Rattle.std.specs.List.{slice_split, onto_first}
@@ -28,10 +29,6 @@ slice_split_some p (x ∷ xs) = elim (p x) as (λ b. (first : List ℕ) × (rest
 pub left_some : (p : ℕ → Bool) (left : Option (Bor (List ℕ))) → is_some left ≡ true → (first : List ℕ) × (rest : List (List ℕ)) × (option_map_or (λ w. slice_split p w.now) left [] ≡ first ∷ rest)
 left_some p None h = absurd (false≢true h)
 left_some p (Some w) h = slice_split_some p w.now
-
--- the parts behind the first
-abbrev pub parts_left : ℕ → Option (Bor (List ℕ)) → List (List ℕ)
-parts_left at left = option_map_or (λ w. slice_split (λ b. eqb b at) w.now) left []
 
 -- a size has one `/` at most
 pub size_from_three : (word size most : List ℕ) (behind third : Option (Bor (List ℕ))) (rest : Bor (List ℕ)) → slice_split (λ b. eqb b 47) word ≡ size ∷ parts_left 47 behind → behind ≡ Some rest

@@ -1,4 +1,6 @@
 -- What a line asks for, as the script's definition has it.
+use Rattle.std.specs.Prelude.{◌≡◌, Option, option_map, Result, IfOk}
+use Rattle.std.specs.declared.alloc.AllocError.{AllocError}
 use Rattle.h5_model.specs.Lines as lines
 use Rattle.h5_text.specs.declared.command.Command.{Command}
 use Rattle.h5_text.specs.declared.command.Command.TheVariants.{Change, OpenView, Show, Close, ListAll, Dump, Repack, Unread}
@@ -12,3 +14,7 @@ command_of ListAll = lines.ListAll
 command_of (Dump path) = lines.Dump path
 command_of Repack = lines.Repack
 command_of Unread = lines.Unread
+
+-- what was read is what is asked for, unless memory was refused
+abbrev pub Asks : Result (Option Command) AllocError → Option lines.Command → Type 0
+Asks result asked = IfOk result (λ command. option_map command_of command ≡ asked)

@@ -1,11 +1,12 @@
 //! The forms of a script's lines, by how many words stand behind the first.
 ghost use Rattle.std.specs.Prelude.{◌≡◌, IfOk, [], ◌∷◌, codes, map, option_map};
-ghost use Rattle.h5_model.specs.Lines.{dataset_from as dataset_read, fill_from as fill_read, hyper_from as hyper_read, words_ask};
-ghost use Rattle.h5_text.specs.Commands.{command_of};
+ghost use Rattle.h5_model.specs.Lines.{dataset_from as dataset_read, fill_from as fill_read};
+ghost use Rattle.h5_model.specs.Lines.{hyper_from as hyper_read, words_ask};
+ghost use Rattle.h5_text.specs.Commands.{Asks, command_of};
 
 use crate::command::Command;
+use crate::dataset::{fill_from, store_from, type_from};
 use crate::escapes::unescaped;
-use crate::kinds::{fill_from, store_from, type_from};
 use crate::number::u32_from;
 use crate::words::list_from;
 use h5_model::{AttrSpec, Edit, Hyper, Items, Spec};
@@ -25,23 +26,27 @@ pub(crate) fn of_no_argument(word: &[u8]) -> Option<Command>
 }
 
 /// `group`, `unlink`, `dump`, `show` and `close`.
-pub(crate) fn of_one(alloc: Global, word: &[u8], a: &[u8]) -> Result<Option<Command>, AllocError>
-    ensures { IfOk result (λ command. option_map command_of command ≡ words_ask (word.now ∷ a.now ∷ [])) }
+pub(crate) fn of_one(
+    alloc: Global,
+    word: &[u8],
+    first: &[u8],
+) -> Result<Option<Command>, AllocError>
+    ensures { Asks result (words_ask (word.now ∷ first.now ∷ [])) }
 {
     if word == b"group".as_slice() {
-        return Ok(unescaped(alloc, a)?.map(|path| Command::Change(Edit::CreateGroup { path })));
+        return Ok(unescaped(alloc, first)?.map(|path| Command::Change(Edit::CreateGroup { path })));
     }
     if word == b"unlink".as_slice() {
-        return Ok(unescaped(alloc, a)?.map(|path| Command::Change(Edit::Unlink { path })));
+        return Ok(unescaped(alloc, first)?.map(|path| Command::Change(Edit::Unlink { path })));
     }
     if word == b"dump".as_slice() {
-        return Ok(unescaped(alloc, a)?.map(|path| Command::Dump { path }));
+        return Ok(unescaped(alloc, first)?.map(|path| Command::Dump { path }));
     }
     if word == b"show".as_slice() {
-        return Ok(u32_from(a).map(|number| Command::Show(number)));
+        return Ok(u32_from(first).map(|number| Command::Show(number)));
     }
     if word == b"close".as_slice() {
-        return Ok(u32_from(a).map(|number| Command::Close(number)));
+        return Ok(u32_from(first).map(|number| Command::Close(number)));
     }
     Ok(None)
 }
@@ -50,41 +55,35 @@ pub(crate) fn of_one(alloc: Global, word: &[u8], a: &[u8]) -> Result<Option<Comm
 pub(crate) fn of_two(
     alloc: Global,
     word: &[u8],
-    a: &[u8],
-    b: &[u8],
+    first: &[u8],
+    second: &[u8],
 ) -> Result<Option<Command>, AllocError>
-    ensures { IfOk result (λ command. option_map command_of command ≡ words_ask (word.now ∷ a.now ∷ b.now ∷ [])) }
+    ensures { Asks result (words_ask (word.now ∷ first.now ∷ second.now ∷ [])) }
 {
-    let Some(first) = unescaped(alloc, a)? else {
+    let Some(text) = unescaped(alloc, first)? else {
         return Ok(None);
     };
     if word == b"resize".as_slice() {
-        let Some(dims) = list_from(alloc, b)? else {
+        let Some(dims) = list_from(alloc, second)? else {
             return Ok(None);
         };
         return Ok(Some(Command::Change(Edit::Resize {
-            path: first,
+            path: text,
             dims: Items::new(dims),
         })));
     }
-    let Some(second) = unescaped(alloc, b)? else {
+    let Some(name) = unescaped(alloc, second)? else {
         return Ok(None);
     };
     let edit = if word == b"link".as_slice() {
         Edit::HardLink {
-            target: first,
-            path: second,
+            target: text,
+            path: name,
         }
     } else if word == b"soft".as_slice() {
-        Edit::SoftLink {
-            text: first,
-            path: second,
-        }
+        Edit::SoftLink { text, path: name }
     } else if word == b"unattr".as_slice() {
-        Edit::RemoveAttr {
-            path: first,
-            name: second,
-        }
+        Edit::RemoveAttr { path: text, name }
     } else {
         return Ok(None);
     };
@@ -95,15 +94,15 @@ pub(crate) fn of_two(
 pub(crate) fn of_four(
     alloc: Global,
     word: &[u8],
-    a: &[u8],
-    b: &[u8],
-    c: &[u8],
-    d: &[u8],
+    first: &[u8],
+    second: &[u8],
+    third: &[u8],
+    fourth: &[u8],
 ) -> Result<Option<Command>, AllocError>
-    ensures { IfOk result (λ command. option_map command_of command ≡ words_ask (word.now ∷ a.now ∷ b.now ∷ c.now ∷ d.now ∷ [])) }
+    ensures { Asks result (words_ask (word.now ∷ first.now ∷ second.now ∷ third.now ∷ fourth.now ∷ [])) }
 {
     if word == b"dataset".as_slice() {
-        return dataset_from(alloc, a, b, c, d, Some(0));
+        return dataset_from(alloc, first, second, third, fourth, Some(0));
     }
     Ok(None)
 }
@@ -112,22 +111,22 @@ pub(crate) fn of_four(
 pub(crate) fn of_five(
     alloc: Global,
     word: &[u8],
-    a: &[u8],
-    b: &[u8],
-    c: &[u8],
-    d: &[u8],
-    e: &[u8],
+    first: &[u8],
+    second: &[u8],
+    third: &[u8],
+    fourth: &[u8],
+    fifth: &[u8],
 ) -> Result<Option<Command>, AllocError>
-    ensures { IfOk result (λ command. option_map command_of command ≡ words_ask (word.now ∷ a.now ∷ b.now ∷ c.now ∷ d.now ∷ e.now ∷ [])) }
+    ensures { Asks result (words_ask (word.now ∷ first.now ∷ second.now ∷ third.now ∷ fourth.now ∷ fifth.now ∷ [])) }
 {
     if word == b"dataset".as_slice() {
-        return filled_dataset_from(alloc, a, b, c, d, e);
+        return filled_dataset_from(alloc, first, second, third, fourth, fifth);
     }
     if word == b"attr".as_slice() {
-        return attribute_from(alloc, a, b, c, d, e);
+        return attribute_from(alloc, first, second, third, fourth, fifth);
     }
     if word == b"view".as_slice() {
-        return view_from(alloc, a, b, c, d, e);
+        return view_from(alloc, first, second, third, fourth, fifth);
     }
     Ok(None)
 }
@@ -136,22 +135,22 @@ pub(crate) fn of_five(
 pub(crate) fn of_six(
     alloc: Global,
     word: &[u8],
-    a: &[u8],
-    b: &[u8],
-    c: &[u8],
-    d: &[u8],
-    e: &[u8],
+    first: &[u8],
+    second: &[u8],
+    third: &[u8],
+    fourth: &[u8],
+    fifth: &[u8],
     values: &[u8],
 ) -> Result<Option<Command>, AllocError>
-    ensures { IfOk result (λ command. option_map command_of command ≡ words_ask (word.now ∷ a.now ∷ b.now ∷ c.now ∷ d.now ∷ e.now ∷ values.now ∷ [])) }
+    ensures { Asks result (words_ask (word.now ∷ first.now ∷ second.now ∷ third.now ∷ fourth.now ∷ fifth.now ∷ values.now ∷ [])) }
 {
     if word != b"write".as_slice() {
         return Ok(None);
     }
-    let Some(path) = unescaped(alloc, a)? else {
+    let Some(path) = unescaped(alloc, first)? else {
         return Ok(None);
     };
-    let Some(hyper) = hyper_from(alloc, b, c, d, e)? else {
+    let Some(hyper) = hyper_from(alloc, second, third, fourth, fifth)? else {
         return Ok(None);
     };
     let Some(values) = list_from(alloc, values)? else {
@@ -203,7 +202,7 @@ fn view_from(
     count: &[u8],
     block: &[u8],
 ) -> Result<Option<Command>, AllocError>
-    ensures { IfOk result (λ command. option_map command_of command ≡ words_ask (codes "view" ∷ path.now ∷ start.now ∷ stride.now ∷ count.now ∷ block.now ∷ [])) }
+    ensures { Asks result (words_ask (codes "view" ∷ path.now ∷ start.now ∷ stride.now ∷ count.now ∷ block.now ∷ [])) }
 {
     let Some(path) = unescaped(alloc, path)? else {
         return Ok(None);
@@ -223,7 +222,7 @@ fn filled_dataset_from(
     store: &[u8],
     fill: &[u8],
 ) -> Result<Option<Command>, AllocError>
-    ensures { IfOk result (λ command. option_map command_of command ≡ dataset_read path.now kind.now sizes.now store.now (fill_read fill.now)) }
+    ensures { Asks result (dataset_read path.now kind.now sizes.now store.now (fill_read fill.now)) }
 {
     let fill = fill_from(fill);
     dataset_from(alloc, path, kind, sizes, store, fill)
@@ -238,7 +237,7 @@ fn dataset_from(
     store: &[u8],
     fill: Option<i128>,
 ) -> Result<Option<Command>, AllocError>
-    ensures { IfOk result (λ command. option_map command_of command ≡ dataset_read path.now kind.now sizes.now store.now fill) }
+    ensures { Asks result (dataset_read path.now kind.now sizes.now store.now fill) }
 {
     let Some(path) = unescaped(alloc, path)? else {
         return Ok(None);
@@ -292,7 +291,7 @@ fn attribute_from(
     sizes: &[u8],
     values: &[u8],
 ) -> Result<Option<Command>, AllocError>
-    ensures { IfOk result (λ command. option_map command_of command ≡ words_ask (codes "attr" ∷ path.now ∷ name.now ∷ kind.now ∷ sizes.now ∷ values.now ∷ [])) }
+    ensures { Asks result (words_ask (codes "attr" ∷ path.now ∷ name.now ∷ kind.now ∷ sizes.now ∷ values.now ∷ [])) }
 {
     let Some(path) = unescaped(alloc, path)? else {
         return Ok(None);

@@ -1,8 +1,9 @@
 //! Lines of a script, and what each asks for.
-ghost use Rattle.std.specs.Prelude.{◌≡◌, ◌==◌, IfOk, option_map};
-ghost use Rattle.std.specs.List.{list_any, slice_split};
+ghost use Rattle.std.specs.Prelude.{◌≡◌, IfOk};
+ghost use Rattle.std.specs.List.{list_any};
 ghost use Rattle.h5_model.specs.Lines.{asked as asked_by, is_empty_word, line_asks, words_ask};
-ghost use Rattle.h5_text.specs.Commands.{command_of};
+ghost use Rattle.h5_text.specs.Commands.{Asks, command_of};
+ghost use Rattle.h5_text.specs.Words.{parts};
 
 use crate::command::Command;
 use crate::forms::{of_five, of_four, of_no_argument, of_one, of_six, of_two};
@@ -15,7 +16,7 @@ pub const MAX_LINE: usize = 1 << 20;
 /// What a line of a script asks for, the line without its end; `None` of an empty line and of one that begins with `#`.
 #[tactic(auto, unfolding(h5_model::specs::Lines::line_asks))]
 pub fn read_line(alloc: Global, line: &[u8]) -> Result<Option<Command>, AllocError>
-    ensures { IfOk result (λ command. option_map command_of command ≡ line_asks line.now) }
+    ensures { Asks result (line_asks line.now) }
 {
     if line.len() > MAX_LINE {
         return Ok(Some(Command::Unread));
@@ -28,7 +29,7 @@ pub fn read_line(alloc: Global, line: &[u8]) -> Result<Option<Command>, AllocErr
 
 /// What the words of a line ask for.
 fn asked(alloc: Global, line: &[u8]) -> Result<Command, AllocError>
-    ensures { IfOk result (λ command. command_of command ≡ asked_by (slice_split (λ c. c == 32) line.now)) }
+    ensures { IfOk result (λ command. command_of command ≡ asked_by (parts 32 line.now)) }
 {
     if has_empty_word(line) {
         return Ok(Command::Unread);
@@ -41,7 +42,7 @@ fn asked(alloc: Global, line: &[u8]) -> Result<Command, AllocError>
 
 /// Whether two spaces stand together, or one at an end.
 fn has_empty_word(line: &[u8]) -> bool
-    ensures { result ≡ list_any is_empty_word (slice_split (λ c. c == 32) line.now) }
+    ensures { result ≡ list_any is_empty_word (parts 32 line.now) }
 {
     let mut left = Some(line);
     'words: while let Some(rest) = left {
@@ -56,35 +57,35 @@ fn has_empty_word(line: &[u8]) -> bool
 
 /// What the words ask for, where they are of one of the forms.
 fn command_from(alloc: Global, line: &[u8]) -> Result<Option<Command>, AllocError>
-    ensures { IfOk result (λ command. option_map command_of command ≡ words_ask (slice_split (λ c. c == 32) line.now)) }
+    ensures { Asks result (words_ask (parts 32 line.now)) }
 {
     let (word, rest) = cut(line, b' ');
     let Some(rest) = rest else {
         return Ok(of_no_argument(word));
     };
-    let (a, rest) = cut(rest, b' ');
+    let (first, rest) = cut(rest, b' ');
     let Some(rest) = rest else {
-        return of_one(alloc, word, a);
+        return of_one(alloc, word, first);
     };
-    let (b, rest) = cut(rest, b' ');
+    let (second, rest) = cut(rest, b' ');
     let Some(rest) = rest else {
-        return of_two(alloc, word, a, b);
+        return of_two(alloc, word, first, second);
     };
-    let (c, rest) = cut(rest, b' ');
+    let (third, rest) = cut(rest, b' ');
     let Some(rest) = rest else {
         return Ok(None);
     };
-    let (d, rest) = cut(rest, b' ');
+    let (fourth, rest) = cut(rest, b' ');
     let Some(rest) = rest else {
-        return of_four(alloc, word, a, b, c, d);
+        return of_four(alloc, word, first, second, third, fourth);
     };
-    let (e, rest) = cut(rest, b' ');
+    let (fifth, rest) = cut(rest, b' ');
     let Some(rest) = rest else {
-        return of_five(alloc, word, a, b, c, d, e);
+        return of_five(alloc, word, first, second, third, fourth, fifth);
     };
     let (values, rest) = cut(rest, b' ');
     if rest.is_some() {
         return Ok(None);
     }
-    of_six(alloc, word, a, b, c, d, e, values)
+    of_six(alloc, word, first, second, third, fourth, fifth, values)
 }

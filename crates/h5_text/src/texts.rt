@@ -40,7 +40,11 @@ fn hex_digit(number: u8) -> u8
     requires { number < 16 }
     ensures { result ≡ digit_of number }
 {
-    if number < 10 { b'0' + number } else { b'a' + (number - 10) }
+    if number < 10 {
+        b'0' + number
+    } else {
+        b'a' + (number - 10)
+    }
 }
 
 /// Appends a byte of a name, or its escape.
@@ -50,7 +54,10 @@ fn push_byte(out: &mut Vec<u8>, byte: u8) -> Result<(), AllocError>
     if is_plain(byte) {
         return push_text(out, &[byte]);
     }
-    push_text(out, &[b'\\', b'x', hex_digit(byte / 16), hex_digit(byte % 16)])
+    push_text(
+        out,
+        &[b'\\', b'x', hex_digit(byte / 16), hex_digit(byte % 16)],
+    )
 }
 
 /// Appends a name or a text; bytes that are not printable, spaces and backslashes are escaped.

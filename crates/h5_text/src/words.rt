@@ -1,15 +1,16 @@
-//! Words and lists of a script's lines.
-ghost use Rattle.std.specs.Prelude.{◌≡◌, ◌<◌, ◌==◌, IfOk, IfSome, IfNone, length, [], ◌∷◌, option_map};
-ghost use Rattle.std.specs.List.{slice_split};
-ghost use Rattle.std.specs.Option.{option_map_or};
-ghost use Rattle.h5_model.specs.Lines.{list_from as list_read, u32_from as u32_read, u64_from as u64_read, value_from as value_read, maximum_from as maximum_read, size_from as size_read};
+//! Words of a line, and lists in them.
+ghost use Rattle.std.specs.Prelude.{◌≡◌, ◌<◌, ◌∷◌, ℕ, List, Option, IfOk, IfSome, length, option_map};
+ghost use Rattle.h5_model.specs.Lines.{maximum_from as maximum_read, size_from as size_read};
+ghost use Rattle.h5_model.specs.Lines.{u32_from as u32_read, u64_from as u64_read};
+ghost use Rattle.h5_model.specs.Lines.{list_from as list_read, value_from as value_read};
+ghost use Rattle.h5_text.specs.Words.{parts, parts_left};
 
 use crate::number::{u32_from, u64_from, value_from};
 use std::alloc::{AllocError, Global};
 
 /// What stands before the first such byte, and what stands behind it if there is one.
 pub fn cut(bytes: &[u8], at: u8) -> (&[u8], Option<&[u8]>)
-    ensures parts { slice_split (λ b. b == at) bytes.now ≡ result.0.now ∷ option_map_or (λ rest. slice_split (λ b. b == at) rest.now) result.1 [] }
+    ensures parts { parts at bytes.now ≡ result.0.now ∷ parts_left at result.1 }
     ensures shorter { IfSome result.1 (λ rest. length rest.now < length bytes.now) }
 {
     for (k, byte) in bytes.iter().enumerate() {
@@ -22,7 +23,7 @@ pub fn cut(bytes: &[u8], at: u8) -> (&[u8], Option<&[u8]>)
 
 /// A kind of items of a list.
 pub trait Item: Drop {
-    ghost read: { Rattle.std.specs.Prelude.List Rattle.std.specs.Prelude.ℕ → Rattle.std.specs.Prelude.Option Self };
+    ghost read: { List ℕ → Option Self };
 
     /// The item that a word stands for.
     fn from_word(word: &[u8]) -> Option<Self>

@@ -2,7 +2,7 @@ use Rattle.std.proofs.Common.{◌≡◌, ◌+◌, length, eqb}
 use Rattle.std.specs.List.{list_any, slice_split}
 use Rattle.std.specs.Option.{option_map_or}
 use Rattle.h5_model.specs.Lines.{is_empty_word}
-use Rattle.h5_text.proofs.Splits.{parts_left}
+use Rattle.h5_text.specs.Words.{parts_left}
 use Rattle.h5_text.proofs.lines.has_empty_word.Given as goal
 
 abbrev pub decreases-words : goal.decreases-words

@@ -23,9 +23,9 @@ loop-value-preserved c =
     let value = get_or values k (pos 0) in
     record {
       text =
-      row_step width 0 c.loop-value.rows.width c.loop-value.rows.column k (take k values) (take (k + 1) values) value c.args.out.now.items c.loop-value.out.items c.push.new.out.items
-      c.requires.width c.loop-value.invariant.width c.loop-value.invariant.column (length-take-le k values (omega (arith, c.loop-value-test.true))) (take_more values k (pos 0) c.loop-value-test.true) c.loop-value.invariant.text
-      (c.in_ok-push.ensures.text ∙ ap (λ v. c.loop-value.out.items ++ cell_text c.loop-value.rows.width c.loop-value.rows.column v) (to_z-of_z w128 value (search rules)));
+          row_step width 0 c.loop-value.rows.width c.loop-value.rows.column k (take k values) (take (k + 1) values) value c.args.out.now.items c.loop-value.out.items c.push.new.out.items
+          c.requires.width c.loop-value.invariant.width c.loop-value.invariant.column (length-take-le k values (omega (arith, c.loop-value-test.true))) (take_more values k (pos 0) c.loop-value-test.true) c.loop-value.invariant.text
+          (c.in_ok-push.ensures.text ∙ ap (λ v. c.loop-value.out.items ++ cell_text c.loop-value.rows.width c.loop-value.rows.column v) (to_z-of_z w128 value (search rules)));
       width = c.in_ok-push.ensures.width ∙ c.loop-value.invariant.width;
       column = column_step width 0 c.loop-value.rows.width c.loop-value.rows.column c.push.new.self.column k c.loop-value.invariant.width c.loop-value.invariant.column c.in_ok-push.ensures.column;
     }

@@ -19,8 +19,8 @@ loop-preserved c =
     let k = c.loop.counter in
     record {
       text =
-      row_step width column c.loop.self.width c.loop.self.column k (replicate k v) (replicate (k + 1) v) v c.args.out.now.items c.loop.out.items c.push.new.out.items
-      c.args.self.now.in_row c.loop.invariant.width c.loop.invariant.column (length-replicate k v) (replicate_more k v) c.loop.invariant.text c.in_ok-push.ensures.text;
+          row_step width column c.loop.self.width c.loop.self.column k (replicate k v) (replicate (k + 1) v) v c.args.out.now.items c.loop.out.items c.push.new.out.items
+          c.args.self.now.in_row c.loop.invariant.width c.loop.invariant.column (length-replicate k v) (replicate_more k v) c.loop.invariant.text c.in_ok-push.ensures.text;
       width = c.in_ok-push.ensures.width ∙ c.loop.invariant.width;
       column = column_step width column c.loop.self.width c.loop.self.column c.push.new.self.column k c.loop.invariant.width c.loop.invariant.column c.in_ok-push.ensures.column;
     }

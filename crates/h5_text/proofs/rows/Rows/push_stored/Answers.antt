@@ -22,9 +22,9 @@ loop-k-preserved c =
     let at : c.decode.result ≡ value k = c.decode.ensures ∙ value_of_part fixed c.args.bytes.now _ (k * fixed.size) part in
     record {
       text =
-      row_step width column c.loop-k.self.width c.loop-k.self.column k (map value (range_with_len 0 k)) (map value (range_with_len 0 (k + 1))) (value k) c.args.out.now.items c.loop-k.out.items c.push.new.out.items
-      c.args.self.now.in_row c.loop-k.invariant.width c.loop-k.invariant.column (length-map-range_with_len value 0 k) (map-range_with_len_more value 0 k k (omega arith)) c.loop-k.invariant.text
-      (c.in_ok-push.ensures.text ∙ ap (λ v. c.loop-k.out.items ++ cell_text c.loop-k.self.width c.loop-k.self.column v) (to_z-of_z w128 c.decode.result (search rules) ∙ at));
+          row_step width column c.loop-k.self.width c.loop-k.self.column k (map value (range_with_len 0 k)) (map value (range_with_len 0 (k + 1))) (value k) c.args.out.now.items c.loop-k.out.items c.push.new.out.items
+          c.args.self.now.in_row c.loop-k.invariant.width c.loop-k.invariant.column (length-map-range_with_len value 0 k) (map-range_with_len_more value 0 k k (omega arith)) c.loop-k.invariant.text
+          (c.in_ok-push.ensures.text ∙ ap (λ v. c.loop-k.out.items ++ cell_text c.loop-k.self.width c.loop-k.self.column v) (to_z-of_z w128 c.decode.result (search rules) ∙ at));
       width = c.in_ok-push.ensures.width ∙ c.loop-k.invariant.width;
       column = column_step width column c.loop-k.self.width c.loop-k.self.column c.push.new.self.column k c.loop-k.invariant.width c.loop-k.invariant.column c.in_ok-push.ensures.column;
     }
