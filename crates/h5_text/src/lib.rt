@@ -8,6 +8,8 @@ mod forms;
 mod lines;
 mod number;
 mod rows;
+#[cfg(test)]
+mod tests;
 mod texts;
 mod words;
 
