@@ -35,7 +35,8 @@ fn escape_from(bytes: &[u8]) -> Option<u8>
     Some(16 * hex_from(*high)? + hex_from(*low)?)
 }
 
-/// The bytes that a word stands for. `None` where a byte may not stand as it is, or an escape is wrong.
+/// The bytes that a word stands for. `None` where a byte may not stand as it is, or an escape is
+/// wrong.
 pub fn unescaped(alloc: Global, word: &[u8]) -> Result<Option<Items<u8>>, AllocError>
     ensures { IfOk result (λ bytes. bytes ≡ unescaped_read word.now) }
 {

@@ -99,7 +99,8 @@ pub(crate) fn of_four(
     third: &[u8],
     fourth: &[u8],
 ) -> Result<Option<Command>, AllocError>
-    ensures { Asks result (words_ask (word.now ∷ first.now ∷ second.now ∷ third.now ∷ fourth.now ∷ [])) }
+    ensures { Asks result (words_ask (
+        word.now ∷ first.now ∷ second.now ∷ third.now ∷ fourth.now ∷ [])) }
 {
     if word == b"dataset".as_slice() {
         return dataset_from(alloc, first, second, third, fourth, Some(0));
@@ -117,7 +118,8 @@ pub(crate) fn of_five(
     fourth: &[u8],
     fifth: &[u8],
 ) -> Result<Option<Command>, AllocError>
-    ensures { Asks result (words_ask (word.now ∷ first.now ∷ second.now ∷ third.now ∷ fourth.now ∷ fifth.now ∷ [])) }
+    ensures { Asks result (words_ask (
+        word.now ∷ first.now ∷ second.now ∷ third.now ∷ fourth.now ∷ fifth.now ∷ [])) }
 {
     if word == b"dataset".as_slice() {
         return filled_dataset_from(alloc, first, second, third, fourth, fifth);
@@ -142,7 +144,8 @@ pub(crate) fn of_six(
     fifth: &[u8],
     values: &[u8],
 ) -> Result<Option<Command>, AllocError>
-    ensures { Asks result (words_ask (word.now ∷ first.now ∷ second.now ∷ third.now ∷ fourth.now ∷ fifth.now ∷ values.now ∷ [])) }
+    ensures { Asks result (words_ask (
+        word.now ∷ first.now ∷ second.now ∷ third.now ∷ fourth.now ∷ fifth.now ∷ values.now ∷ [])) }
 {
     if word != b"write".as_slice() {
         return Ok(None);
@@ -202,7 +205,8 @@ fn view_from(
     count: &[u8],
     block: &[u8],
 ) -> Result<Option<Command>, AllocError>
-    ensures { Asks result (words_ask (codes "view" ∷ path.now ∷ start.now ∷ stride.now ∷ count.now ∷ block.now ∷ [])) }
+    ensures { Asks result (words_ask (
+        codes "view" ∷ path.now ∷ start.now ∷ stride.now ∷ count.now ∷ block.now ∷ [])) }
 {
     let Some(path) = unescaped(alloc, path)? else {
         return Ok(None);
@@ -222,7 +226,8 @@ fn filled_dataset_from(
     store: &[u8],
     fill: &[u8],
 ) -> Result<Option<Command>, AllocError>
-    ensures { Asks result (dataset_read path.now kind.now sizes.now store.now (fill_read fill.now)) }
+    ensures { Asks result (
+        dataset_read path.now kind.now sizes.now store.now (fill_read fill.now)) }
 {
     let fill = fill_from(fill);
     dataset_from(alloc, path, kind, sizes, store, fill)
@@ -291,7 +296,8 @@ fn attribute_from(
     sizes: &[u8],
     values: &[u8],
 ) -> Result<Option<Command>, AllocError>
-    ensures { Asks result (words_ask (codes "attr" ∷ path.now ∷ name.now ∷ kind.now ∷ sizes.now ∷ values.now ∷ [])) }
+    ensures { Asks result (words_ask (
+        codes "attr" ∷ path.now ∷ name.now ∷ kind.now ∷ sizes.now ∷ values.now ∷ [])) }
 {
     let Some(path) = unescaped(alloc, path)? else {
         return Ok(None);

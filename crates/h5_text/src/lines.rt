@@ -13,7 +13,8 @@ use std::alloc::{AllocError, Global};
 /// The most bytes of a line, its end left out.
 pub const MAX_LINE: usize = 1 << 20;
 
-/// What a line of a script asks for, the line without its end; `None` of an empty line and of one that begins with `#`.
+/// What a line of a script asks for, the line without its end; `None` of an empty line and of one
+/// that begins with `#`.
 #[tactic(auto, unfolding(h5_model::specs::Lines::line_asks))]
 pub fn read_line(alloc: Global, line: &[u8]) -> Result<Option<Command>, AllocError>
     ensures { Asks result (line_asks line.now) }

@@ -3,7 +3,8 @@ ghost use Rattle.std.specs.Prelude.{◌≡◌};
 ghost use Rattle.h5_model.specs.Lines.{number_upto as number_read, value_from as value_read};
 ghost use Rattle.h5_model.specs.Lines.{u32_from as u32_read, u64_from as u64_read};
 
-/// The number that a word stands for: one decimal digit or more, leading zeros allowed, and at most so much.
+/// The number that a word stands for: one decimal digit or more, leading zeros allowed, and at most
+/// so much.
 fn number_upto(most: u128, word: &[u8]) -> Option<u128>
     ensures { result ≡ number_read most word.now }
 {

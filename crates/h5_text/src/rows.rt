@@ -1,5 +1,6 @@
 //! Rows of cells, which may come in pieces.
-ghost use Rattle.std.specs.Prelude.{◌≡◌, ◌+◌, ◌/◌, ◌%◌, ◌<◌, ◌==◌, [], length, replicate, codes, OnOk, OnErr, if◌then◌else◌};
+ghost use Rattle.std.specs.Prelude.{◌≡◌, ◌+◌, ◌/◌, ◌%◌, ◌<◌, ◌==◌, if◌then◌else◌, OnOk, OnErr};
+ghost use Rattle.std.specs.Prelude.{[], length, replicate, codes};
 ghost use Rattle.h5_model.specs.Script.{stored_values};
 ghost use Rattle.h5_model.specs.Text.{rows_text};
 ghost use Rattle.h5_text.specs.Appends.{Appends};
@@ -30,7 +31,8 @@ impl Rows {
 
     /// Appends the next cell. Refused memory leaves the column.
     pub fn push(&mut self, out: &mut Vec<u8>, value: i128) -> Result<(), AllocError>
-        ensures text { Appends result out.old.items out.new.items (cell_text self.old.width self.old.column value) }
+        ensures text { Appends result out.old.items out.new.items
+            (cell_text self.old.width self.old.column value) }
         ensures width { self.new.width ≡ self.old.width }
         ensures column { OnOk result (self.new.column ≡ (self.old.column + 1) % self.old.width) }
         ensures err { OnErr result (self.new ≡ self.old) }
@@ -49,9 +51,11 @@ impl Rows {
         fixed: &Fixed,
         bytes: &[u8],
     ) -> Result<(), AllocError>
-        ensures text { Appends result out.old.items out.new.items (cells_from self.old.width self.old.column (stored_values fixed.now bytes.now)) }
+        ensures text { Appends result out.old.items out.new.items
+            (cells_from self.old.width self.old.column (stored_values fixed.now bytes.now)) }
         ensures width { self.new.width ≡ self.old.width }
-        ensures column { OnOk result (self.new.column ≡ (self.old.column + length bytes.now / fixed.now.size) % self.old.width) }
+        ensures column { OnOk result (self.new.column
+            ≡ (self.old.column + length bytes.now / fixed.now.size) % self.old.width) }
     {
         let size = fixed.size();
         for k in 0..bytes.len() / size {
@@ -68,9 +72,11 @@ impl Rows {
         value: i128,
         count: u64,
     ) -> Result<(), AllocError>
-        ensures text { Appends result out.old.items out.new.items (cells_from self.old.width self.old.column (replicate count value)) }
+        ensures text { Appends result out.old.items out.new.items
+            (cells_from self.old.width self.old.column (replicate count value)) }
         ensures width { self.new.width ≡ self.old.width }
-        ensures column { OnOk result (self.new.column ≡ (self.old.column + count) % self.old.width) }
+        ensures column { OnOk result (self.new.column
+            ≡ (self.old.column + count) % self.old.width) }
     {
         for _ in 0..count {
             self.push(out, value)?;
@@ -83,7 +89,8 @@ impl Rows {
 pub fn push_rows(out: &mut Vec<u8>, width: u64, values: &[i128]) -> Result<(), AllocError>
     requires width { 0 < width }
     requires whole { length values.now % width ≡ 0 }
-    ensures { Appends result out.old.items out.new.items (rows_text (length values.now / width) width values.now) }
+    ensures { Appends result out.old.items out.new.items
+        (rows_text (length values.now / width) width values.now) }
 {
     let mut rows = Rows::new(width);
     for value in values {

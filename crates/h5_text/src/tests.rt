@@ -1,10 +1,11 @@
 //! Lines of a script and texts of answers, as the grammar's table and worked sessions have them.
 use super::*;
-use h5_model::{Edit, EditFault, Fixed, Hyper, Store, ViewFault};
+use h5_model::{Edit, EditFault, Fixed, Hyper, Spec, Store, ViewFault};
 use std::alloc::Global;
 use std::test::Fail;
 
-/// The keyword of the form that a line was read as; `#` for a line that is passed over, `?` for one of no form.
+/// The keyword of the form that a line was read as; `#` for a line that is passed over, `?` for
+/// one of no form.
 fn form(command: &Option<Command>) -> &'static str {
     match command {
         None => "#",
@@ -84,16 +85,23 @@ fn asks_for_chunks(alloc: Global, line: &[u8], maxima: &[Option<u64>]) -> Result
     let Some(Command::Change(Edit::CreateDataset { path, spec })) = read_line(alloc, line)? else {
         return Ok(false);
     };
-    let Store::Chunked(chunk) = spec.store else {
+    let Spec {
+        fixed,
+        dims,
+        maxima: read,
+        store,
+        fill,
+    } = spec;
+    let Store::Chunked(chunk) = store else {
         return Ok(false);
     };
     Ok(
         path.as_slice() == b"/c d".as_slice()
-            && spec.fixed == Fixed::new(2, true, true).ok_or("no type")?
-            && spec.dims.as_slice() == [5, 4].as_slice()
-            && spec.maxima.as_slice() == maxima
+            && fixed == Fixed::new(2, true, true).ok_or("no type")?
+            && dims.as_slice() == [5, 4].as_slice()
+            && read.as_slice() == maxima
             && chunk.as_slice() == [2, 3].as_slice()
-            && spec.fill == -7,
+            && fill == -7,
     )
 }
 

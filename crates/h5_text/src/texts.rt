@@ -1,7 +1,9 @@
-//! Texts of answers. Each function appends to a buffer; where memory is refused, the buffer keeps what it held.
+//! Texts of answers. Each function appends to a buffer; where memory is refused, the buffer keeps
+//! what it held, and may have a part of the text behind it.
 ghost use Rattle.std.specs.Prelude.{◌≡◌, ◌<◌, ◌++◌, codes};
 ghost use Rattle.std.specs.Fmt.{decimal, signed_decimal};
-ghost use Rattle.h5_model.specs.Text.{escaped as escaped_text, escaped_byte, hex_digit as digit_of, pairs, size_text, sizes_text, type_text, values_text};
+ghost use Rattle.h5_model.specs.Text.{escaped as escaped_text, escaped_byte, hex_digit as digit_of};
+ghost use Rattle.h5_model.specs.Text.{pairs, size_text, sizes_text, type_text, values_text};
 ghost use Rattle.h5_model.specs.EditFaults.{refused_text};
 ghost use Rattle.h5_model.specs.ViewFaults.{view_fault_text};
 ghost use Rattle.std.specs.List.{join_by};
@@ -115,7 +117,8 @@ pub fn push_extent(
     sizes: &[u64],
     maxima: &[Option<u64>],
 ) -> Result<(), AllocError>
-    ensures { Appends result out.old.items out.new.items (codes "{" ++ join_by size_text (codes ", ") (pairs sizes.now maxima.now) ++ codes "}") }
+    ensures { Appends result out.old.items out.new.items
+        (codes "{" ++ join_by size_text (codes ", ") (pairs sizes.now maxima.now) ++ codes "}") }
 {
     push_text(out, b"{")?;
     for k in 0..sizes.len().min(maxima.len()) {

@@ -1,5 +1,6 @@
 //! Words of a line, and lists in them.
-ghost use Rattle.std.specs.Prelude.{◌≡◌, ◌<◌, ◌∷◌, ℕ, List, Option, IfOk, IfSome, length, option_map};
+ghost use Rattle.std.specs.Prelude.{◌≡◌, ◌<◌, ◌∷◌, ℕ, List, Option, length, option_map};
+ghost use Rattle.std.specs.Prelude.{IfOk, IfSome};
 ghost use Rattle.h5_model.specs.Lines.{maximum_from as maximum_read, size_from as size_read};
 ghost use Rattle.h5_model.specs.Lines.{u32_from as u32_read, u64_from as u64_read};
 ghost use Rattle.h5_model.specs.Lines.{list_from as list_read, value_from as value_read};
@@ -89,7 +90,8 @@ pub fn size_from(word: &[u8]) -> Option<(u64, Option<u64>)>
     Some((u64_from(size)?, maximum_from(most)?))
 }
 
-/// The list that a word stands for: `-`, or items joined by commas. `None` where it stands for no list.
+/// The list that a word stands for: `-`, or items joined by commas. `None` where it stands for no
+/// list.
 pub fn list_from<T: Item>(alloc: Global, word: &[u8]) -> Result<Option<Vec<T>>, AllocError>
     ensures { IfOk result (λ list. option_map (λ v. v.items) list ≡ list_read T.read word.now) }
 {
