@@ -1,5 +1,5 @@
 -- Texts joined by a separator, one more at a time.
-use Rattle.std.proofs.Common.{◌≡◌, ℕ, zero, suc, ◌+◌, ◌<◌, ◌≤◌, List, [], ◌∷◌, ◌++◌, length, get_or, take, drop, min, take_all, Option, None, ℤ, pos, codes, refl, sym, ap, ◌∙◌, append_assoc, append-nil, add-one, arith}
+use Rattle.std.proofs.Common.{◌≡◌, ℕ, zero, suc, ◌+◌, ◌<◌, ◌≤◌, List, [], ◌∷◌, ◌++◌, length, get_or, take, min, take_all, Option, None, ℤ, codes, refl, sym, ap, ◌∙◌, append_assoc, append-nil, arith}
 use Rattle.std.specs.Fmt.{signed_decimal}
 use Rattle.std.specs.List.{join_by, flat_map}
 use Rattle.std.proofs.lemmas.List.{take_more, length-take-le}
@@ -55,7 +55,11 @@ pairs_all (d ∷ ds) (m ∷ ms) zero h = absurd (omega (arith, h))
 pairs_all (d ∷ ds) (m ∷ ms) (suc k) h = ap (λ ps. (d, m) ∷ ps) (pairs_all ds ms k (omega arith))
 
 -- one more value behind its space
-pub values_more : (values : List ℤ) (k : ℕ) → k < length values → values_text (take (k + 1) values) ≡ values_text (take k values) ++ (codes " " ++ signed_decimal (get_or values k (pos 0)))
-values_more values k lt =
-    ap values_text (take_more values k (pos 0) lt) ∙ flat_map-append (λ v. codes " " ++ signed_decimal v) (take k values) (get_or values k (pos 0) ∷ [])
-    ∙ ap (λ t. values_text (take k values) ++ t) (append-nil (codes " " ++ signed_decimal (get_or values k (pos 0))))
+pub values_push : (values : List ℤ) (v : ℤ) → values_text (values ++ v ∷ []) ≡ values_text values ++ (codes " " ++ signed_decimal v)
+values_push values v = flat_map-append (λ x. codes " " ++ signed_decimal x) values (v ∷ []) ∙ ap (λ t. values_text values ++ t) (append-nil (codes " " ++ signed_decimal v))
+
+-- a value is appended behind others
+pub values_step : (values more : List ℤ) (v : ℤ) (old out new : List ℕ) → more ≡ values ++ v ∷ [] → out ≡ old ++ values_text values → new ≡ out ++ (codes " " ++ signed_decimal v) → new ≡ old ++ values_text more
+values_step values more v old out new is so_far written =
+    written ∙ ap (λ t. t ++ (codes " " ++ signed_decimal v)) so_far ∙ append_assoc old (values_text values) (codes " " ++ signed_decimal v)
+    ∙ ap (λ t. old ++ t) (sym (ap values_text is ∙ values_push values v))

@@ -20,7 +20,8 @@ pub use crate::lines::{MAX_LINE, read_line};
 pub use crate::number::{u32_from, u64_from, value_from};
 pub use crate::rows::{Rows, push_rows};
 pub use crate::texts::{
-    Layout, push_escaped, push_extent, push_number, push_refused, push_size, push_sizes, push_text,
-    push_type, push_value, push_values, push_view_fault,
+    Layout, push_accepted, push_escaped, push_extent, push_number, push_opened, push_refused,
+    push_size, push_sizes, push_stored_values, push_text, push_type, push_value, push_values,
+    push_view_fault,
 };
 pub use crate::words::{Item, list_from, size_from};

@@ -196,12 +196,22 @@ fn writes_types(rt: HostRuntime) -> Result<(), Fail> {
 }
 
 #[test]
-fn writes_refusals(rt: HostRuntime) -> Result<(), Fail> {
+fn writes_answers(rt: HostRuntime) -> Result<(), Fail> {
     let mut out = Vec::new(rt.alloc());
+    push_accepted(&mut out, 12)?;
+    push_opened(&mut out, 4294967294)?;
+    push_text(&mut out, b"kept")?;
+    push_stored_values(
+        &mut out,
+        &type_from(b"i16le").ok_or("no type")?,
+        b"\x01\x00\xfe\xff",
+    )?;
+    push_text(&mut out, b"\n")?;
     push_refused(&mut out, EditFault::ValueRange)?;
     push_view_fault(&mut out, ViewFault::OutsideNow)?;
     push_view_fault(&mut out, ViewFault::Path(EditFault::BlocksOverlap))?;
-    let wanted = b"refused 23 ValueRange\nfault 3 OutsideNow\nrefused 15 BlocksOverlap\n";
+    let wanted =
+        b"ok 12\nview 4294967294\nkept 1 -2\nrefused 23 ValueRange\nfault 3 OutsideNow\nrefused 15 BlocksOverlap\n";
     assert_eq!(rt; out.as_slice(), wanted.as_slice());
     Ok(())
 }

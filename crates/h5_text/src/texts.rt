@@ -4,6 +4,7 @@ ghost use Rattle.std.specs.Prelude.{◌≡◌, ◌<◌, ◌++◌, codes};
 ghost use Rattle.std.specs.Fmt.{decimal, signed_decimal};
 ghost use Rattle.h5_model.specs.Text.{escaped as escaped_text, escaped_byte, hex_digit as digit_of};
 ghost use Rattle.h5_model.specs.Text.{pairs, size_text, sizes_text, type_text, values_text};
+ghost use Rattle.h5_model.specs.Script.{stored_values};
 ghost use Rattle.h5_model.specs.EditFaults.{refused_text};
 ghost use Rattle.h5_model.specs.ViewFaults.{view_fault_text};
 ghost use Rattle.std.specs.List.{join_by};
@@ -11,6 +12,7 @@ ghost use Rattle.h5_text.specs.Appends.{Appends};
 
 use crate::escapes::is_plain;
 use h5_model::{EditFault, Fixed, ViewFault};
+use h5_types::decode;
 use itoa::Buffer;
 use std::alloc::AllocError;
 
@@ -153,13 +155,33 @@ pub fn push_view_fault(out: &mut Vec<u8>, fault: ViewFault) -> Result<(), AllocE
     push_text(out, b"\n")
 }
 
+/// Appends a space and a value.
+fn push_spaced(out: &mut Vec<u8>, value: i128) -> Result<(), AllocError>
+    ensures { Appends result out.old.items out.new.items (codes " " ++ signed_decimal value) }
+{
+    push_text(out, b" ")?;
+    push_value(out, value)
+}
+
 /// Appends the values of an attribute, a space before each.
 pub fn push_values(out: &mut Vec<u8>, values: &[i128]) -> Result<(), AllocError>
     ensures { Appends result out.old.items out.new.items (values_text values.now) }
 {
     for value in values {
-        push_text(out, b" ")?;
-        push_value(out, *value)?;
+        push_spaced(out, *value)?;
+    }
+    Ok(())
+}
+
+/// Appends the values of stored bytes of the type, a space before each.
+pub fn push_stored_values(out: &mut Vec<u8>, fixed: &Fixed, bytes: &[u8]) -> Result<(), AllocError>
+    ensures { Appends result out.old.items out.new.items
+        (values_text (stored_values fixed.now bytes.now)) }
+{
+    let size = fixed.size();
+    for k in 0..bytes.len() / size {
+        let at = k * size;
+        push_spaced(out, decode(fixed, &bytes[at..at + size]))?;
     }
     Ok(())
 }
@@ -188,4 +210,24 @@ impl Layout<'_> {
             }
         }
     }
+}
+
+/// Appends the answer to an accepted edit: how many chunks were refreshed.
+pub fn push_accepted(out: &mut Vec<u8>, refreshed: u64) -> Result<(), AllocError>
+    ensures { Appends result out.old.items out.new.items
+        (codes "ok " ++ (decimal refreshed ++ codes "\n")) }
+{
+    push_text(out, b"ok ")?;
+    push_number(out, refreshed)?;
+    push_text(out, b"\n")
+}
+
+/// Appends the answer to a view that was opened: its number.
+pub fn push_opened(out: &mut Vec<u8>, number: u32) -> Result<(), AllocError>
+    ensures { Appends result out.old.items out.new.items
+        (codes "view " ++ (decimal number ++ codes "\n")) }
+{
+    push_text(out, b"view ")?;
+    push_number(out, u64::from(number))?;
+    push_text(out, b"\n")
 }

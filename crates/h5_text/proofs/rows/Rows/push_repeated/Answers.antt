@@ -1,4 +1,4 @@
-use Rattle.std.proofs.Common.{◌≡◌, ◌+◌, ◌∙◌, replicate, refl, arith, to_z, of_z}
+use Rattle.std.proofs.Common.{◌+◌, ◌∙◌, replicate, to_z, of_z}
 use Rattle.std.specs.Int.{w128}
 use Rattle.std.proofs.lemmas.List.{length-replicate}
 use Rattle.h5_text.specs.Rows.{cells_from}
