@@ -1,0 +1,15 @@
+-- How a dataset's cells are stored, as `dump` tells it.
+use Rattle.std.specs.Prelude.{ℕ, true, List}
+use Rattle.h5_model.specs.Text.{storage_text}
+use Rattle.h5_model.specs.Tree as tree
+use Rattle.h5_text.specs.declared.texts.Layout.{Layout}
+use Rattle.h5_text.specs.declared.texts.Layout.TheVariants.{Compact, Contiguous, Chunked}
+
+-- it is not told whether contiguous cells are stored yet
+abbrev pub storage_of : Layout → tree.Storage
+storage_of Compact = tree.Compact
+storage_of Contiguous = tree.Contiguous true
+storage_of (Chunked sizes) = tree.Chunked sizes.now
+
+abbrev pub layout_text : Layout → List ℕ
+layout_text layout = storage_text (storage_of layout)

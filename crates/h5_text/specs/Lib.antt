@@ -1,0 +1,5 @@
+pub mod Appends
+pub mod Commands
+pub mod Layouts
+pub mod Rows
+pub mod Words
