@@ -1,0 +1,10 @@
+//! Object headers: the messages of an object, over the blocks that Continuation messages name (File
+//! Format Specification 3.0, section IV.A.1.a).
+//!
+//! Places and sizes are in bytes.
+#![tactic(auto)]
+
+mod message;
+mod numbers;
+
+pub use message::Message;
