@@ -4,6 +4,7 @@
 //! Places and sizes are in bytes.
 #![tactic(auto)]
 
+mod block;
 mod message;
 mod numbers;
 

@@ -1,8 +1,9 @@
 //! One message of an object header (File Format Specification 3.0, section IV.A.1.a).
 
-ghost use Rattle.std.specs.Prelude.{◌≡◌, ◌+◌, ◌<◌, ◌≤◌, length, IfOk, IfErr, MatchOption, IsTrue};
-ghost use Rattle.h5_bytes.specs.Blocks.{block};
-ghost use Rattle.h5_bytes.specs.Bytes.{number_at};
+ghost use Rattle.std.specs.Prelude.{◌≡◌, ◌+◌, ◌<◌, ◌≤◌, [], ◌∷◌, length, IfOk, IfErr, MatchOption, IsTrue};
+ghost use Rattle.std.specs.Option.{option_map_or};
+ghost use Rattle.h5_model.specs.Messages.{continuation};
+ghost use Rattle.h5_header.specs.Listed.{message_in};
 ghost use Rattle.h5_header.specs.Heads.{IsHead, HeadBreach, KindBreach, is_read};
 
 use crate::numbers::{u16_at, u64_at};
@@ -24,6 +25,23 @@ pub struct Message {
     pub kind: u16,
     pub at: u64,
     pub size: u16,
+}
+
+impl Message {
+    /// The block that it names, where it is a Continuation.
+    pub fn named_block(self, image: &[u8]) -> Option<Block>
+        requires inside { self.at + self.size ≤ length image.now }
+        requires continued { self.kind ≡ 16 → 16 ≤ self.size }
+        ensures { option_map_or (λ b. b ∷ []) result [] ≡ continuation (message_in image.now self) }
+    {
+        if self.kind != CONTINUATION {
+            return None;
+        }
+        Some(Block {
+            at: u64_at(image, self.at),
+            len: u64_at(image, self.at + 8),
+        })
+    }
 }
 
 /// The message whose head begins at `at`, in a block that ends at `end`.
@@ -68,16 +86,5 @@ fn kind_fault(kind: u16) -> Option<Cause>
         7 => Some(Cause::ExternalFiles),
         11 => Some(Cause::Filtered),
         _ => Some(Cause::UnknownMessage),
-    }
-}
-
-/// The block that the body of a Continuation names.
-pub fn named_block(image: &[u8], at: u64) -> Block
-    requires { at + 16 ≤ length image.now }
-    ensures { result ≡ block (number_at image.now at 8) (number_at image.now (at + 8) 8) }
-{
-    Block {
-        at: u64_at(image, at),
-        len: u64_at(image, at + 8),
     }
 }
