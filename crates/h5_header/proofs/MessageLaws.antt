@@ -16,7 +16,7 @@ use Rattle.h5_header.specs.Listed.{message_in}
 use Rattle.h5_header.specs.Progress.{IsTaken}
 use Rattle.h5_header.specs.declared.message.Message.{Message as Placed}
 
-byte_at-part : (k at len : ℕ) (bytes : List ℕ) → k < len → byte_at (part at len bytes) k ≡ byte_at bytes (at + k)
+pub byte_at-part : (k at len : ℕ) (bytes : List ℕ) → k < len → byte_at (part at len bytes) k ≡ byte_at bytes (at + k)
 unfolding part
 byte_at-part k at len bytes low = get_or-take len (drop at bytes) k 0 low ∙ get_or-drop at bytes k 0
 

@@ -1,3 +1,4 @@
 pub mod Heads
 pub mod Listed
+pub mod Refused
 pub mod Progress

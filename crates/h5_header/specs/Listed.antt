@@ -2,8 +2,15 @@
 -- IV.A.1.a).
 use Rattle.std.specs.Prelude.{ℕ, List, map}
 use Rattle.h5_bytes.specs.Bytes.{part}
+use Rattle.h5_bytes.specs.declared.Block.{Block}
 use Rattle.h5_model.specs.Messages.{Message}
 use Rattle.h5_header.specs.declared.message.Message.{Message as Placed}
+
+-- what is kept of a header: its address, its messages in order, and the blocks in which they stand, its own first
+pub record Listed : Type 0 where
+  pub header : ℕ
+  pub list : List Placed
+  pub blocks : List Block
 
 -- the message whose body stands at a place of the image
 abbrev pub message_in : List ℕ → Placed → Message

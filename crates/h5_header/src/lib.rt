@@ -5,7 +5,10 @@
 #![tactic(auto)]
 
 mod block;
+mod claim;
+mod header;
 mod message;
 mod numbers;
 
+pub use header::Messages;
 pub use message::Message;
