@@ -3,3 +3,9 @@ pub mod FillLaws
 pub mod Unheld
 pub mod PrefixLaws
 pub mod ThroughLaws
+pub mod SameLaws
+pub mod WholeLaws
+pub mod MetLaws
+pub mod CrossLaws
+pub mod RefusedLaws
+pub mod ReadableLaws

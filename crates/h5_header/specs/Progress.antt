@@ -4,10 +4,9 @@ use Rattle.std.specs.List.{AllByRecursion, flat_map}
 use Rattle.h5_bytes.specs.Bytes.{number_at, byte_at, part}
 use Rattle.h5_bytes.specs.Blocks.{cover, Separate, Inside}
 use Rattle.h5_bytes.specs.declared.Block.{Block}
-use Rattle.h5_model.specs.Messages.{Message, IsMessage, Fills, IsContinued, continuations, prefix_at, first_size, total_in, first_block}
-use Rattle.h5_model.specs.Reached.{AllMessages}
+use Rattle.h5_model.specs.Messages.{Message, IsMessage, Fills, IsContinued, continuations, prefix_at, first_size, first_block}
 use Rattle.h5_model.specs.declared.open_fault.Cause.{Cause}
-use Rattle.h5_model.specs.declared.open_fault.Cause.TheVariants.{Truncated, HeaderVersion, MessageCount, Overlap, NoMemory}
+use Rattle.h5_model.specs.declared.open_fault.Cause.TheVariants.{Truncated, HeaderVersion, Overlap, NoMemory}
 use Rattle.h5_space.specs.Claimed.{Shares}
 use Rattle.h5_header.specs.Heads.{HeadBreach, is_read}
 use Rattle.h5_header.specs.Listed.{messages_in}
@@ -113,5 +112,3 @@ pub data Stops (image : List ℕ) (header : ℕ) (held : List Block) (cause : Ca
   at_prefix : PrefixBreach image header held cause address → Stops image header held cause address
   at_message : address ≡ header → StopsAtMessage image header cause → Stops image header held cause address
   at_block : StopsAtBlock image header held cause address → Stops image header held cause address
-  at_total : cause ≡ MessageCount → address ≡ header → (messages : List Message) → AllMessages image header messages
-      → total_in (prefix_at image header) ≢ length messages → Stops image header held cause address
