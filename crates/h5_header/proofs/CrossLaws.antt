@@ -1,16 +1,16 @@
 -- A block that is named from one place and shares a byte with another block of the header shares it with one that is named from
 -- another place.
-use Rattle.std.proofs.Common.{◌≡◌, ◌≢◌, ℕ, ◌+◌, ◌-◌, ◌<◌, ◌≤◌, ◌⊎◌, inl, inr, List, [], ◌∷◌, ◌++◌, length, refl, sym, ◌∙◌, ap, ap₂, subst, arith}
-use Rattle.std.specs.Prelude.{◌==◌, true, false, if◌then◌else◌}
+use Rattle.std.proofs.Common.{◌≡◌, ◌≢◌, ℕ, ◌+◌, ◌-◌, ◌≤◌, inl, inr, List, [], ◌∷◌, ◌++◌, length, refl, sym, ◌∙◌, ap, ap₂, subst, arith}
+use Rattle.std.specs.Prelude.{◌==◌, true, if◌then◌else◌}
 use Rattle.std.specs.List.{AllByRecursion, flat_map}
 use Rattle.std.proofs.lemmas.List.Concat.{flat_map-append}
 use Rattle.std.proofs.lemmas.Bool.Decides.{nat_tests}
 use Rattle.std.proofs.lemmas.Bool.{cases_lt}
 use Rattle.h5_bytes.specs.Bytes.{number_at, part}
-use Rattle.h5_bytes.specs.Blocks.{block, holds, cover, Separate}
+use Rattle.h5_bytes.specs.Blocks.{holds, cover, Separate}
 use Rattle.h5_bytes.specs.declared.Block.{Block}
-use Rattle.h5_bytes.proofs.BlockLaws.{holds_in, holds_join, holds-inner, holds-le, cover-append, all_left, all_right}
-use Rattle.h5_model.specs.Messages.{Message, IsMessage, Fills, continuation, continuations, first_block, prefix_at, first_size}
+use Rattle.h5_bytes.proofs.BlockLaws.{holds_join, holds-inner, holds-le, cover-append, all_left, all_right}
+use Rattle.h5_model.specs.Messages.{Message, Fills, continuation, continuations, first_block, prefix_at, first_size}
 use Rattle.h5_space.specs.Claimed.{Shares}
 use Rattle.h5_header.specs.Refused.{NamesBlock, header_block, Crosses}
 use Rattle.h5_header.specs.Progress.{FilledTo, Partly, IsClaimed}

@@ -1,8 +1,9 @@
 -- A message that was read from its place in the image is the one that the definition gives.
-use Rattle.std.proofs.Common.{◌≡◌, ◌≢◌, ℕ, ◌+◌, ◌%◌, ◌<◌, ◌≤◌, drop, List, [], ◌∷◌, length, Option, Some, None, refl, sym, ◌∙◌, ap, arith, eq-eqb, IsTrue}
-use Rattle.std.specs.Prelude.{◌==◌, true, false, nat_le, bit_and, if◌then◌else◌}
-use Rattle.std.specs.Option.{option_map_or}
+use Rattle.std.proofs.Common.{◌≡◌, ◌≢◌, ℕ, ◌+◌, ◌<◌, ◌≤◌, drop, List, [], ◌∷◌, length, Some, refl, sym, ◌∙◌, ap, arith, get_or}
+use Rattle.std.specs.Prelude.{◌==◌, true, false, nat_le, option_map, slice_get}
 use Rattle.std.proofs.lemmas.List.{get_or-take, get_or-drop}
+use Rattle.std.proofs.lemmas.Option.{slice_get-map}
+use Rattle.std.proofs.lemmas.Option.{slice_get_read}
 use Rattle.std.proofs.lemmas.Bool.Decides.{nat_tests}
 use Rattle.h5_bytes.specs.Bytes.{number_at, byte_at, part}
 use Rattle.h5_bytes.specs.Blocks.{block}
@@ -12,7 +13,7 @@ use Rattle.h5_bytes.proofs.FieldLaws.{number_at-part}
 use Rattle.h5_model.specs.Addresses.{continuation_of}
 use Rattle.h5_model.specs.Messages.{Message, IsMessage, continuation}
 use Rattle.h5_header.specs.Heads.{IsHead}
-use Rattle.h5_header.specs.Listed.{message_in}
+use Rattle.h5_header.specs.Listed.{message_in, messages_in}
 use Rattle.h5_header.specs.Progress.{IsTaken}
 use Rattle.h5_header.specs.declared.message.Message.{Message as Placed}
 
@@ -78,3 +79,10 @@ taken-is image b to m inside head = record {
   continued = λ kind. rw (continuation_of-part image m.at m.size (head.continued kind) (omega (arith, head.place, head.whole))) refl;
   read = head.read;
 }
+
+-- the body of the message at a place of the list
+pub body-of : (image : List ℕ) (list : List Placed) (k : ℕ) (m : Placed) → k < length list → m ≡ get_or list k m
+    → option_map (λ (x : Message). x.body) (slice_get (messages_in image list) k) ≡ Some (part m.at m.size image)
+body-of image list k m low is =
+    let at : slice_get list k ≡ Some m = slice_get_read list (length list) k m refl low is in
+    ap (option_map (λ (x : Message). x.body)) (slice_get-map (message_in image) list k ∙ ap (option_map (message_in image)) at)

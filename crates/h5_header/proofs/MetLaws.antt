@@ -1,19 +1,18 @@
 -- Where messages of a header are met: in its own first block, and in blocks that its Continuations name.
-use Rattle.std.proofs.Common.{◌≡◌, ◌≢◌, ℕ, ◌+◌, ◌%◌, ◌<◌, ◌≤◌, ◌⊎◌, inl, inr, List, [], ◌∷◌, ◌++◌, length, refl, sym, ◌∙◌, ap, ap₂, subst, arith, IsTrue, append_assoc, Option, Some, None, drop}
+use Rattle.std.proofs.Common.{◌≡◌, ℕ, ◌+◌, ◌≤◌, ◌⊎◌, inl, inr, List, [], ◌∷◌, ◌++◌, length, refl, sym, ◌∙◌, ap, ap₂, subst, arith, Option, Some, None, drop}
 use Rattle.std.specs.Prelude.{◌==◌, Bool, true, false, nat_le, if◌then◌else◌}
 use Rattle.std.proofs.lemmas.List.{length-take}
 use Rattle.std.proofs.lemmas.Bool.Decides.{nat_tests}
 use Rattle.std.specs.List.{AllByRecursion, flat_map}
-use Rattle.std.proofs.lemmas.List.Concat.{flat_map-append}
-use Rattle.h5_bytes.specs.Bytes.{number_at, byte_at, part}
+use Rattle.h5_bytes.specs.Bytes.{number_at, part}
 use Rattle.h5_bytes.specs.Blocks.{block}
 use Rattle.h5_bytes.specs.declared.Block.{Block}
-use Rattle.h5_bytes.proofs.PartLaws.{length-part, part-part}
+use Rattle.h5_bytes.proofs.PartLaws.{part-part}
 use Rattle.h5_bytes.proofs.FieldLaws.{number_at-part}
-use Rattle.h5_bytes.proofs.BlockLaws.{all_append, all_left, all_right}
+use Rattle.h5_bytes.proofs.BlockLaws.{all_append}
 use Rattle.h5_model.specs.Addresses.{continuation_of}
-use Rattle.h5_model.specs.Messages.{Message, IsMessage, Fills, FillBlocks, continuation, continuations, first_block, prefix_at, first_size}
-use Rattle.h5_model.specs.Reached.{Met, at_start, behind, in_continuation, MessageAt, FittingAt, kind_at, size_at}
+use Rattle.h5_model.specs.Messages.{Message, IsMessage, Fills, continuation, continuations, first_block}
+use Rattle.h5_model.specs.Reached.{Met, at_start, behind, in_continuation, kind_at, size_at}
 use Rattle.h5_header.specs.Refused.{NamesBlock}
 use Rattle.h5_header.specs.Progress.{FillsTo, FilledTo}
 

@@ -1,24 +1,23 @@
 -- A header that has messages, in blocks that can be claimed, is refused for want of memory alone.
-use Rattle.std.proofs.Common.{◌≡◌, ◌≢◌, ℕ, ◌+◌, ◌%◌, ◌<◌, ◌≤◌, ◌⊎◌, inl, inr, List, [], ◌∷◌, ◌++◌, length, refl, sym, ◌∙◌, ap, subst, arith, IsTrue, append_assoc, Option, Some, None}
+use Rattle.std.proofs.Common.{◌≡◌, ℕ, ◌+◌, ◌≤◌, inl, inr, List, [], ◌∷◌, ◌++◌, length, refl, sym, ◌∙◌, ap, subst, arith, IsTrue, append-nil, Option, Some, None}
 use Rattle.std.specs.Prelude.{◌==◌, not, IsSome, true, false}
 use Rattle.std.specs.List.{AllByRecursion, flat_map}
 use Rattle.std.proofs.lemmas.List.Concat.{flat_map-append}
 use Rattle.std.proofs.lemmas.Bool.Decides.{nat_tests}
-use Rattle.h5_bytes.specs.Bytes.{number_at, byte_at, part}
+use Rattle.h5_bytes.specs.Bytes.{byte_at, part}
 use Rattle.h5_bytes.specs.Blocks.{holds, cover, Inside}
 use Rattle.h5_bytes.specs.declared.Block.{Block}
 use Rattle.h5_bytes.proofs.PartLaws.{length-part}
-use Rattle.h5_bytes.proofs.FieldLaws.{number_at-part}
 use Rattle.h5_bytes.proofs.BlockLaws.{cover-append, all_left, all_right}
-use Rattle.h5_model.specs.Messages.{Message, IsMessage, IsContinued, FillBlocks, Fills, HasMessages, continuation, continuations, first_block, prefix_at}
-use Rattle.h5_model.specs.Reached.{Met, AllMessages, kind_at, size_at}
+use Rattle.h5_model.specs.Messages.{Message, IsMessage, IsContinued, FillBlocks, continuation, continuations, first_block}
+use Rattle.h5_model.specs.Reached.{Met, kind_at, size_at}
 use Rattle.h5_model.specs.Addresses.{continuation_of}
 use Rattle.h5_model.specs.HeaderFaults.{is_known, is_new_style}
 use Rattle.h5_model.specs.declared.open_fault.Cause.{Cause}
 use Rattle.h5_model.specs.declared.open_fault.Cause.TheVariants.{Truncated, HeaderVersion, MessageSize, SharedMessage, UnknownMessage, Filtered, ExternalFiles, NewStyleGroup, Overlap, NoMemory}
-use Rattle.h5_header.specs.Heads.{HeadBreach, KindBreach, is_read}
+use Rattle.h5_header.specs.Heads.{HeadBreach, is_read}
 use Rattle.h5_header.specs.Refused.{header_block, IsReadable}
-use Rattle.h5_header.specs.Progress.{FillsTo, FilledTo, IsTaken, Partly, IsClaimed, StopsIn, PrefixBreach, ClaimBreach, StopsAtMessage, StopsAtBlock, Stops, without_memory, at_prefix, at_message, at_block}
+use Rattle.h5_header.specs.Progress.{FilledTo, IsTaken, PrefixBreach, StopsAtMessage, StopsAtBlock, Stops, without_memory, at_prefix, at_message, at_block}
 use Rattle.h5_header.proofs.SameLaws.{parts_go_on, message_goes_on}
 use Rattle.h5_header.proofs.MetLaws.{long_body, length-part-le, kind, size, fits, body, inside, stop_met}
 use Rattle.h5_header.proofs.MessageLaws.{byte_at-part}
@@ -155,3 +154,13 @@ module _ (image : List ℕ) (header : ℕ) (held : List Block) (r : IsReadable i
   stops_readable cause address (at_prefix breach) = no_prefix cause address breach
   stops_readable cause address (at_message e s) = absurd (no_message cause s)
   stops_readable cause address (at_block s) = no_block cause address s
+
+  -- messages that were read to the end are these
+  pub same_messages : (messages : List Message) (parts : List (List Message)) → FilledTo image (first_block image header ∷ []) parts []
+      → messages ≡ flat_map (λ (x : List Message). x) parts → messages ≡ r.messages
+  same_messages messages parts filled all =
+      let on = parts_go_on image (first_block image header ∷ []) parts [] (r.has).parts filled (r.has).filled in
+      go on.0 on.1 on.2 where
+      go : (more : List (List Message)) → (r.has).parts ≡ parts ++ more → FillBlocks image [] more → messages ≡ r.messages
+      go [] split fills = all ∙ ap (flat_map (λ (x : List Message). x)) (sym (split ∙ append-nil parts)) ∙ sym (r.has).all
+      go (ms ∷ more) split fills = absurd fills

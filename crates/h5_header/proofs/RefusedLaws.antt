@@ -1,15 +1,12 @@
 -- Where the reading of a header stops, a rule of the header is broken at the address that is named.
-use Rattle.std.proofs.Common.{◌≡◌, ◌≢◌, ℕ, ◌+◌, ◌<◌, ◌≤◌, ◌⊎◌, inl, inr, List, [], ◌∷◌, length, refl, sym, ◌∙◌, ap, subst, arith}
-use Rattle.h5_bytes.specs.Bytes.{number_at}
+use Rattle.std.proofs.Common.{◌≡◌, ◌≢◌, ℕ, ◌+◌, inl, inr, List, refl, sym, subst, arith}
 use Rattle.h5_bytes.specs.declared.Block.{Block}
-use Rattle.h5_model.specs.Messages.{prefix_at, total_in}
-use Rattle.h5_model.specs.Reached.{Met, AllMessages}
-use Rattle.h5_model.specs.HeaderFaults.{HeaderBreach}
+use Rattle.h5_model.specs.Reached.{Met}
 use Rattle.h5_model.specs.declared.open_fault.Cause.{Cause}
 use Rattle.h5_model.specs.declared.open_fault.Cause.TheVariants.{Truncated, HeaderVersion, MessageSize, SharedMessage, UnknownMessage, Filtered, ExternalFiles, NewStyleGroup, Overlap, NoMemory}
 use Rattle.h5_header.specs.Heads.{HeadBreach}
 use Rattle.h5_header.specs.Refused.{header_block, IsRefused}
-use Rattle.h5_header.specs.Progress.{PrefixBreach, StopsAtMessage, StopsAtBlock, Stops, without_memory, at_prefix, at_message, at_block}
+use Rattle.h5_header.specs.Progress.{PrefixBreach, StopsAtBlock, Stops, without_memory, at_prefix, at_message, at_block}
 use Rattle.h5_header.proofs.MetLaws.{stop_met}
 use Rattle.h5_header.proofs.CrossLaws.{is_named, crosses}
 

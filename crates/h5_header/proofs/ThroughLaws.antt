@@ -1,19 +1,19 @@
 -- What has been read of a header after one block more.
-use Rattle.std.proofs.Common.{◌≡◌, ℕ, ◌+◌, ◌-◌, ◌*◌, ◌<◌, ◌≤◌, List, [], ◌∷◌, ◌++◌, map, length, get_or, refl, sym, ◌∙◌, ap, ap₂, subst, arith, append_assoc, append-nil, length-append, lit≤}
+use Rattle.std.proofs.Common.{◌≡◌, ℕ, ◌+◌, ◌-◌, ◌<◌, ◌≤◌, List, [], ◌∷◌, ◌++◌, length, get_or, refl, sym, ◌∙◌, ap, ap₂, subst, arith, append_assoc, append-nil, length-append, lit≤}
 use Rattle.std.proofs.lemmas.List.{map-append}
 use Rattle.std.proofs.Math.Seq.{get_or-append_seam}
 use Rattle.std.specs.List.{AllByRecursion, flat_map}
 use Rattle.std.proofs.lemmas.List.Concat.{flat_map-append}
 use Rattle.h5_bytes.specs.Bytes.{number_at, part}
-use Rattle.h5_bytes.specs.Blocks.{block, holds, cover, Separate, Inside}
+use Rattle.h5_bytes.specs.Blocks.{holds, cover, Separate}
 use Rattle.h5_bytes.specs.declared.Block.{Block}
 use Rattle.h5_bytes.proofs.PartLaws.{length-part}
 use Rattle.h5_bytes.proofs.BlockLaws.{all_append, cover-append}
-use Rattle.h5_model.specs.Messages.{Message, Fills, continuation, continuations, first_block, prefix_at, first_size}
+use Rattle.h5_model.specs.Messages.{Message, Fills, continuation, continuations, first_block}
 use Rattle.h5_model.specs.declared.open_fault.Cause.{Cause}
-use Rattle.h5_header.specs.Listed.{message_in, messages_in}
+use Rattle.h5_header.specs.Listed.{message_in, messages_in, IsWithin}
 use Rattle.h5_header.specs.Refused.{header_block}
-use Rattle.h5_header.specs.Progress.{FillsTo, FilledTo, IsTaken, ReadTo, StopsIn, Partly, IsClaimed, ReadThrough, ClaimBreach, StopsAtMessage, StopsAtBlock}
+use Rattle.h5_header.specs.Progress.{FillsTo, IsTaken, ReadTo, StopsIn, Partly, ReadThrough, ClaimBreach, StopsAtMessage, StopsAtBlock}
 use Rattle.h5_header.specs.declared.message.Message.{Message as Placed}
 use Rattle.h5_header.proofs.FillLaws.{fills_whole, filled_more}
 use Rattle.h5_header.proofs.Unheld.{unheld, unheld-claim}
@@ -85,6 +85,7 @@ first_through image header held held' list blocks whole behind whole_is behind_i
         inside = (inside, tt);
         covered = λ p. omega (arith, covered p);
       };
+      within = subst (λ (xs : List Placed). IsWithin (length image) xs) (sym read.listed) read.within;
     }
 
 -- a message of the first block breaks a rule
@@ -154,6 +155,8 @@ module _ (image : List ℕ) (header : ℕ) (held held' : List Block) (list : Lis
             inside = all_append (λ (x : Block). x.at + x.len ≤ length image) through.done (b ∷ []) through.claimed.inside (inside, tt);
             covered = λ p. omega (arith, covered p, through.claimed.covered p, cover-append p through.done (b ∷ []));
           };
+          within = subst (λ (xs : List Placed). IsWithin (length image) xs) (sym read.listed)
+            (all_append (λ (x : Placed). x.at + x.size ≤ length image) list read.more through.within read.within);
         }
 
     -- fewer bytes are free, or fewer blocks wait

@@ -1,7 +1,7 @@
 -- A header that was read to its end has the messages of the definition.
-use Rattle.std.proofs.Common.{◌≡◌, ℕ, ◌+◌, ◌<◌, ◌≤◌, List, [], ◌∷◌, ◌++◌, length, refl, sym, ◌∙◌, ap, ap₂, subst, arith, append-nil, length-append}
+use Rattle.std.proofs.Common.{◌≡◌, ℕ, ◌+◌, List, [], ◌∷◌, ◌++◌, length, refl, sym, ◌∙◌, ap, subst, arith, append-nil, length-append}
 use Rattle.std.specs.Prelude.{IsTrue}
-use Rattle.std.specs.List.{AllByRecursion, flat_map}
+use Rattle.std.specs.List.{AllByRecursion}
 use Rattle.h5_bytes.specs.Bytes.{byte_at}
 use Rattle.h5_bytes.specs.Blocks.{cover, Inside}
 use Rattle.h5_bytes.specs.declared.Block.{Block}
@@ -17,9 +17,10 @@ all_continued : (ms : List Message) → AllByRecursion IsTaken ms → AllByRecur
 all_continued [] all = tt
 all_continued (m ∷ ms) all = (all.0.continued, all_continued ms all.1)
 
-all_read : (ms : List Message) → AllByRecursion IsTaken ms → AllByRecursion (λ m. IsTrue (is_read m.kind)) ms
-all_read [] all = tt
-all_read (m ∷ ms) all = (all.0.read, all_read ms all.1)
+-- the types of the messages, as they were read
+pub kinds_of : (image : List ℕ) (list : List Placed) → AllByRecursion IsTaken (messages_in image list) → AllByRecursion (λ (x : Placed). IsTrue (is_read x.kind)) list
+kinds_of image [] all = tt
+kinds_of image (m ∷ ms) all = (all.0.read, kinds_of image ms all.1)
 
 none_left : (done waiting blocks : List Block) → blocks ≡ done ++ waiting → length blocks ≡ length done → waiting ≡ []
 none_left done [] blocks split count = refl
@@ -52,11 +53,14 @@ module _ (image : List ℕ) (header : ℕ) (held held' : List Block) (list : Lis
     laid = through.split ∙ (through.partly).laid;
   }
 
-  pub kinds_read : AllByRecursion (λ m. IsTrue (is_read m.kind)) (messages_in image list)
-  kinds_read = all_read (messages_in image list) (through.partly).taken
+  pub kinds_read : AllByRecursion (λ (x : Placed). IsTrue (is_read x.kind)) list
+  kinds_read = kinds_of image list (through.partly).taken
 
   pub blocks_inside : Inside (length image) blocks
   blocks_inside = subst (Inside (length image)) (sym done_is) (through.claimed).inside
 
   pub blocks_covered : (p : ℕ) → cover p held' ≡ cover p held + cover p blocks
   blocks_covered p = (through.claimed).covered p ∙ ap (λ bs. cover p held + cover p bs) (sym done_is)
+
+  pub filled_to_end : FilledTo image (first_block image header ∷ []) (through.partly).parts []
+  filled_to_end = subst (FilledTo image (first_block image header ∷ []) (through.partly).parts) none (through.partly).filled

@@ -9,7 +9,7 @@ use Rattle.h5_model.specs.declared.open_fault.Cause.{Cause}
 use Rattle.h5_model.specs.declared.open_fault.Cause.TheVariants.{Truncated, HeaderVersion, Overlap, NoMemory}
 use Rattle.h5_space.specs.Claimed.{Shares}
 use Rattle.h5_header.specs.Heads.{HeadBreach, is_read}
-use Rattle.h5_header.specs.Listed.{messages_in}
+use Rattle.h5_header.specs.Listed.{messages_in, IsWithin}
 use Rattle.h5_header.specs.Refused.{header_block}
 use Rattle.h5_header.specs.declared.message.Message.{Message as Placed}
 
@@ -37,6 +37,7 @@ pub record ReadTo (image : List ℕ) (b : Block) (list list' : List Placed) (blo
   pub named : blocks' ≡ blocks ++ continuations (messages_in image more)
   pub filled : FillsTo b.at (part b.at b.len image) 0 (messages_in image more) to
   pub taken : AllByRecursion IsTaken (messages_in image more)
+  pub within : IsWithin (length image) more
 
 -- the message behind those that were read breaks a rule
 pub record StopsIn (image : List ℕ) (b : Block) (cause : Cause) : Type 0 where
@@ -68,6 +69,7 @@ pub record ReadThrough (image : List ℕ) (header : ℕ) (held held' : List Bloc
   pub begun : 1 ≤ length done
   pub partly : Partly image header (messages_in image list) done waiting
   pub claimed : IsClaimed image held held' done
+  pub within : IsWithin (length image) list
 
 -- why a block cannot be claimed, and its address
 abbrev pub ClaimBreach : ℕ → List Block → Block → Cause → ℕ → Type 0

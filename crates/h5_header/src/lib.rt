@@ -9,6 +9,8 @@ mod claim;
 mod header;
 mod message;
 mod numbers;
+mod read;
 
 pub use header::Messages;
 pub use message::Message;
+pub use read::messages;

@@ -1,9 +1,7 @@
-use Rattle.std.proofs.Common.{◌≡◌, ◌+◌, ◌≤◌, List, [], ◌∷◌, ◌++◌, arith, rules, refl, sym, ◌∙◌, ap, subst, append-nil}
-use Rattle.h5_bytes.specs.declared.Block.{Block}
+use Rattle.std.proofs.Common.{◌≡◌, ◌+◌, ◌≤◌, [], ◌∷◌, ◌++◌, arith, rules, sym, ◌∙◌, ap, subst, append-nil}
 use Rattle.h5_model.specs.Messages.{continuation}
 use Rattle.h5_header.specs.Listed.{message_in}
 use Rattle.h5_header.specs.Heads.{IsHead}
-use Rattle.h5_header.specs.Progress.{ReadTo}
 use Rattle.h5_header.proofs.FillLaws.{read_more}
 use Rattle.h5_header.proofs.block.read_block.Goals as goal
 use Rattle.h5_header.proofs.block.read_block.Goals.{in-Some+else-is_err, in_default}

@@ -1,10 +1,10 @@
-use Rattle.std.proofs.Common.{◌≡◌, ℕ, ◌+◌, ◌-◌, ◌<◌, ◌≤◌, ◌⊎◌, inl, inr, List, [], ◌∷◌, length, refl, sym, ◌∙◌, ap, ap₂, subst, rules, arith}
+use Rattle.std.proofs.Common.{◌≡◌, ◌+◌, ◌-◌, ◌<◌, ◌≤◌, inl, inr, [], ◌∷◌, length, refl, ◌∙◌, ap, rules, arith}
 use Rattle.std.proofs.lemmas.Result.{err_from_is_err_and}
 use Rattle.h5_bytes.specs.Blocks.{block}
 use Rattle.h5_bytes.specs.declared.Block.{Block}
-use Rattle.h5_model.specs.Messages.{first_block, prefix_at, first_size}
-use Rattle.h5_header.specs.Progress.{ReadTo, ReadThrough, StopsIn, StopsAtMessage, without_memory, at_prefix, at_message, at_block}
-use Rattle.h5_header.proofs.ThroughLaws.{first_through, first_stops, stops_at_message, stops_at_block, next_through, next_smaller}
+use Rattle.h5_model.specs.Messages.{prefix_at, first_size}
+use Rattle.h5_header.specs.Progress.{ReadTo, without_memory, at_message, at_block}
+use Rattle.h5_header.proofs.ThroughLaws.{first_through, first_stops, stops_at_block, next_through, next_smaller}
 use Rattle.h5_header.proofs.header.read_header.Goals as goal
 use Rattle.h5_header.proofs.header.read_header.Goals.{In_default-read_block}
 

@@ -1,4 +1,4 @@
-use Rattle.std.proofs.Common.{◌-◌, ◌≡◌, ◌+◌, ℕ, length}
+use Rattle.std.proofs.Common.{◌-◌, ◌≡◌, ◌+◌, length}
 use Rattle.h5_bytes.specs.Blocks.{Separate}
 use Rattle.h5_header.specs.Progress.{ReadThrough}
 use Rattle.h5_header.proofs.Unheld.{unheld}

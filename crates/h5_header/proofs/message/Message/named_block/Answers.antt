@@ -1,5 +1,5 @@
-use Rattle.std.proofs.Common.{◌≡◌, refl, sym, ◌∙◌, ap}
-use Rattle.h5_header.proofs.MessageLaws.{continuation-is, continuation-none}
+use Rattle.std.proofs.Common.{sym}
+use Rattle.h5_header.proofs.MessageLaws.{continuation-is}
 use Rattle.h5_header.proofs.message.Message.named_block.Goals as goal
 
 pub returns : goal.returns
