@@ -47,7 +47,7 @@ fills_heads q b bytes from (m ∷ ms) short low fills =
 
 filled_heads : (image : List ℕ) (q : ℕ) (waiting : List Block) (parts : List (List Message)) (rest : List Block) → FilledTo image waiting parts rest
     → heads q (flat_map (λ (ms : List Message). ms) parts) + cover q rest
-      ≤ cover q waiting + cover q (continuations (flat_map (λ (ms : List Message). ms) parts))
+    ≤ cover q waiting + cover q (continuations (flat_map (λ (ms : List Message). ms) parts))
 unfolding heads
 filled_heads image q waiting [] rest filled = let same : cover q waiting ≡ cover q rest = ap (cover q) filled in omega arith
 filled_heads image q [] (ms ∷ parts) rest filled = absurd filled
@@ -102,15 +102,15 @@ split_at [] b rest [] e = absurd (let no : b ∷ rest ≡ [] = e in cc)
 split_at [] b rest (x ∷ d) e = absurd (let no : x ∷ (d ++ b ∷ rest) ≡ [] = e in cc)
 split_at (m ∷ ms) b rest d e = elim (continuation_cases m) [
   | inl none ↦
-    let next : IsSplit ms d b = split_at ms b rest d (e ∙ ap (λ bs. bs ++ continuations ms) none) in
-    record {
-      before = m ∷ next.before;
-      m = next.m;
-      after = next.after;
-      split = ap (λ (xs : List Message). m ∷ xs) next.split;
-      names = next.names;
-      earlier = ap (λ bs. bs ++ continuations next.before) none ∙ next.earlier;
-    }
+      let next : IsSplit ms d b = split_at ms b rest d (e ∙ ap (λ bs. bs ++ continuations ms) none) in
+      record {
+        before = m ∷ next.before;
+        m = next.m;
+        after = next.after;
+        split = ap (λ (xs : List Message). m ∷ xs) next.split;
+        names = next.names;
+        earlier = ap (λ bs. bs ++ continuations next.before) none ∙ next.earlier;
+      }
   | inr some ↦ split_found m ms d b rest some.0 some.3 (e ∙ ap (λ bs. bs ++ continuations ms) some.3) (split_at ms b rest)
 ]
 
@@ -136,26 +136,26 @@ find_holder image header p (m ∷ ms) naming some =
       | inl here ↦ elim (continuation_cases m) [
         | inl none ↦ absurd (let zero : cover p (continuation m) ≡ 0 = ap (cover p) none in omega arith)
         | inr one ↦
-          let by : IsNamedBy image header m one.0 = (subst (AllByRecursion (IsNamedBy image header m)) one.3 naming.0).0 in
-          let only : cover p (continuation m) ≡ holds p one.0.at one.0.len + 0 = ap (cover p) one.3 in
-          let head : heads by.0 (m ∷ ms) ≡ 1 + heads by.0 ms = head_here by.0 m ms by.1 in
-          record {
-            other = by.0;
-            c = one.0;
-            names = by.2;
-            shared = omega (arith, only, here, holds-le p one.0.at one.0.len);
-            one = omega (arith, head);
-          }
+            let by : IsNamedBy image header m one.0 = (subst (AllByRecursion (IsNamedBy image header m)) one.3 naming.0).0 in
+            let only : cover p (continuation m) ≡ holds p one.0.at one.0.len + 0 = ap (cover p) one.3 in
+            let head : heads by.0 (m ∷ ms) ≡ 1 + heads by.0 ms = head_here by.0 m ms by.1 in
+            record {
+              other = by.0;
+              c = one.0;
+              names = by.2;
+              shared = omega (arith, only, here, holds-le p one.0.at one.0.len);
+              one = omega (arith, head);
+            }
       ]
       | inr none ↦
-        let next : IsFound image header p ms = find_holder image header p ms naming.1 (omega (arith, covered, none)) in
-        record {
-          other = next.other;
-          c = next.c;
-          names = next.names;
-          shared = next.shared;
-          one = omega (arith, next.one);
-        }
+          let next : IsFound image header p ms = find_holder image header p ms naming.1 (omega (arith, covered, none)) in
+          record {
+            other = next.other;
+            c = next.c;
+            names = next.names;
+            shared = next.shared;
+            one = omega (arith, next.one);
+          }
     ]
 
 module _ (image : List ℕ) (header : ℕ) (held : List Block) (messages : List Message) (done : List Block) (b : Block) (rest : List Block)
@@ -215,12 +215,12 @@ module _ (image : List ℕ) (header : ℕ) (held : List Block) (messages : List 
     | inr new ↦ elim (cases_lt 0 (holds p header (16 + first_size (prefix_at image header)))) [
       | inl first ↦ inr (inl (p, inside, omega (arith, first, holds-le p header (16 + first_size (prefix_at image header)))))
       | inr other ↦
-        let covered : cover p done ≡ holds p header (16 + first_size (prefix_at image header)) + cover p own.0 = ap (cover p) own.1 in
-        let before : cover p (continuations (splits.before)) ≡ cover p own.0 = ap (cover p) splits.earlier in
-        let all = subst (AllByRecursion (IsNaming image header)) splits.split naming in
-        let earlier = all_left (IsNaming image header) splits.before (splits.m ∷ splits.after) all in
-        let found : IsFound image header p (splits.before) = find_holder image header p splits.before earlier (omega (arith, taken, claimed.covered p, covered, before)) in
-        inr (inr (found.other, found.c, elsewhere found.other found.one, found.names, (p, inside, omega (arith, found.shared))))
+          let covered : cover p done ≡ holds p header (16 + first_size (prefix_at image header)) + cover p own.0 = ap (cover p) own.1 in
+          let before : cover p (continuations (splits.before)) ≡ cover p own.0 = ap (cover p) splits.earlier in
+          let all = subst (AllByRecursion (IsNaming image header)) splits.split naming in
+          let earlier = all_left (IsNaming image header) splits.before (splits.m ∷ splits.after) all in
+          let found : IsFound image header p (splits.before) = find_holder image header p splits.before earlier (omega (arith, taken, claimed.covered p, covered, before)) in
+          inr (inr (found.other, found.c, elsewhere found.other found.one, found.names, (p, inside, omega (arith, found.shared))))
     ]
   ]
 

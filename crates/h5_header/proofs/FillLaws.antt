@@ -40,11 +40,11 @@ read_more image b list list' blocks blocks' to m inside read head =
       listed = rw read.listed (append_assoc list read.more (m ∷ []));
       named = rw (blocks_more, read.named) (append_assoc blocks (continuations (messages_in image read.more)) (continuation (message_in image m)));
       filled = subst (λ (x : List Message). FillsTo b.at (part b.at b.len image) 0 x (to + 8 + m.size)) (sym more)
-        (subst (λ (n : ℕ). FillsTo b.at (part b.at b.len image) 0 (ms ++ message_in image m ∷ []) (to + 8 + n)) (size-is image b to m head)
-        (fills_more b.at (part b.at b.len image) 0 ms to (message_in image m) read.filled (message-is image b to m inside head)));
+          (subst (λ (n : ℕ). FillsTo b.at (part b.at b.len image) 0 (ms ++ message_in image m ∷ []) (to + 8 + n)) (size-is image b to m head)
+          (fills_more b.at (part b.at b.len image) 0 ms to (message_in image m) read.filled (message-is image b to m inside head)));
       within =
-        let whole : b.at + to + 8 + m.size ≤ b.at + b.len = head.whole in
-        all_append (λ (x : Placed). x.at + x.size ≤ length image) read.more (m ∷ []) read.within (omega (arith, whole, inside, head.place), tt);
+          let whole : b.at + to + 8 + m.size ≤ b.at + b.len = head.whole in
+          all_append (λ (x : Placed). x.at + x.size ≤ length image) read.more (m ∷ []) read.within (omega (arith, whole, inside, head.place), tt);
       taken = rw more (all_append IsTaken ms (message_in image m ∷ []) read.taken (taken-is image b to m inside head, tt));
     }
 

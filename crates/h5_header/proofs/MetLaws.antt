@@ -129,9 +129,10 @@ module _ (image : List ℕ) (header : ℕ) where
   pub fills_naming : (b : Block) (from : ℕ) (ms : List Message) → Fills b.at (part b.at b.len image) from ms → Met image header (b.at + from) (b.at + b.len)
       → AllByRecursion (IsNaming image header) ms
   fills_naming b from [] fills met = tt
-  fills_naming b from (m ∷ ms) fills met =
-      (names image header b from m fills.0 met,
-      fills_naming b (from + 8 + number_at (part b.at b.len image) (from + 2) 2) ms fills.1 (next_met image header b from m fills.0 met))
+  fills_naming b from (m ∷ ms) fills met = (
+    names image header b from m fills.0 met,
+    fills_naming b (from + 8 + number_at (part b.at b.len image) (from + 2) 2) ms fills.1 (next_met image header b from m fills.0 met),
+  )
 
   -- where the message behind those that were read begins
   pub fills_met : (b : Block) (from : ℕ) (ms : List Message) (to : ℕ) → FillsTo b.at (part b.at b.len image) from ms to
@@ -152,7 +153,7 @@ module _ (image : List ℕ) (header : ℕ) where
   filled_met (b ∷ waiting) (ms ∷ parts) rest filled met =
       let here = fills_naming b 0 ms filled.0 (start b met.0) in
       let there = filled_met (waiting ++ continuations ms) parts rest filled.1
-        (all_append (IsMet image header) waiting (continuations ms) met.1 (all_met (continuations ms) (all_naming ms here))) in
+      (all_append (IsMet image header) waiting (continuations ms) met.1 (all_met (continuations ms) (all_naming ms here))) in
       (there.0, all_append (IsNaming image header) ms (flat_map (λ (x : List Message). x) parts) here there.1)
 
   -- the place where a reading stops is met

@@ -126,7 +126,7 @@ module _ (image : List ℕ) (header : ℕ) (held : List Block) (r : IsReadable i
     blocks_are =
         let all : r.messages ≡ s.messages ++ later
         = (r.has).all ∙ ap (flat_map (λ (x : List Message). x)) go_on.1 ∙ flat_map-append (λ (x : List Message). x) (s.partly).parts go_on.0
-          ∙ ap (λ xs. xs ++ later) (sym (s.partly).all) in
+        ∙ ap (λ xs. xs ++ later) (sym (s.partly).all) in
         ap (λ xs. header_block image header ∷ continuations xs) all
         ∙ ap (λ bs. header_block image header ∷ bs) (flat_map-append continuation s.messages later)
         ∙ ap (λ bs. bs ++ continuations later) (sym (s.partly).laid)
@@ -161,6 +161,6 @@ module _ (image : List ℕ) (header : ℕ) (held : List Block) (r : IsReadable i
   same_messages messages parts filled all =
       let on = parts_go_on image (first_block image header ∷ []) parts [] (r.has).parts filled (r.has).filled in
       go on.0 on.1 on.2 where
-      go : (more : List (List Message)) → (r.has).parts ≡ parts ++ more → FillBlocks image [] more → messages ≡ r.messages
-      go [] split fills = all ∙ ap (flat_map (λ (x : List Message). x)) (sym (split ∙ append-nil parts)) ∙ sym (r.has).all
-      go (ms ∷ more) split fills = absurd fills
+        go : (more : List (List Message)) → (r.has).parts ≡ parts ++ more → FillBlocks image [] more → messages ≡ r.messages
+        go [] split fills = all ∙ ap (flat_map (λ (x : List Message). x)) (sym (split ∙ append-nil parts)) ∙ sym (r.has).all
+        go (ms ∷ more) split fills = absurd fills

@@ -17,7 +17,7 @@ parts_go_on image (b ∷ waiting) (p ∷ parts) rest [] filled fills = absurd fi
 parts_go_on image (b ∷ waiting) (p ∷ parts) rest (q ∷ whole) filled fills =
     let same : p ≡ q = one_fill b.at (part b.at b.len image) 0 p q filled.0 fills.0 in
     let on = parts_go_on image (waiting ++ continuations p) parts rest whole filled.1
-      (subst (λ (ms : List Message). FillBlocks image (waiting ++ continuations ms) whole) (sym same) fills.1) in
+    (subst (λ (ms : List Message). FillBlocks image (waiting ++ continuations ms) whole) (sym same) fills.1) in
     (on.0, ap₂ (λ (x : List Message) (xs : List (List Message)). x ∷ xs) (sym same) on.1, on.2)
 
 -- the message behind those that were read

@@ -37,8 +37,8 @@ part_more image header messages done b rest ms partly fills taken = record {
   filled = filled_more image (first_block image header ∷ []) partly.parts b rest ms partly.filled fills;
   all = ap (λ xs. xs ++ ms) partly.all ∙ sym (flat_map-one partly.parts ms);
   laid =
-    let left : (done ++ b ∷ []) ++ (rest ++ continuations ms) ≡ (done ++ b ∷ rest) ++ continuations ms = simp append_assoc in
-    left ∙ ap (λ bs. bs ++ continuations ms) partly.laid ∙ ap (λ bs. header_block image header ∷ bs) (sym (flat_map-append continuation messages ms));
+      let left : (done ++ b ∷ []) ++ (rest ++ continuations ms) ≡ (done ++ b ∷ rest) ++ continuations ms = simp append_assoc in
+      left ∙ ap (λ bs. bs ++ continuations ms) partly.laid ∙ ap (λ bs. header_block image header ∷ bs) (sym (flat_map-append continuation messages ms));
   taken = all_append IsTaken messages ms partly.taken taken;
 }
 
@@ -146,17 +146,17 @@ module _ (image : List ℕ) (header : ℕ) (held held' : List Block) (list : Lis
           done = through.done ++ b ∷ [];
           waiting = rest_is.0 ++ continuations ms;
           split = read.named ∙ ap (λ bs. bs ++ continuations ms) (through.split ∙ ap (λ bs. through.done ++ bs) rest_is.1)
-            ∙ simp append_assoc;
+              ∙ simp append_assoc;
           count = omega (arith, through.count, length-append through.done (b ∷ []));
           begun = omega (arith, through.begun, length-append through.done (b ∷ []));
           partly = subst (λ (xs : List Message). Partly image header xs (through.done ++ b ∷ []) (rest_is.0 ++ continuations ms)) (sym list_is)
-            (part_more image header (messages_in image list) through.done b rest_is.0 ms here fills read.taken);
+              (part_more image header (messages_in image list) through.done b rest_is.0 ms here fills read.taken);
           claimed = record {
             inside = all_append (λ (x : Block). x.at + x.len ≤ length image) through.done (b ∷ []) through.claimed.inside (inside, tt);
             covered = λ p. omega (arith, covered p, through.claimed.covered p, cover-append p through.done (b ∷ []));
           };
           within = subst (λ (xs : List Placed). IsWithin (length image) xs) (sym read.listed)
-            (all_append (λ (x : Placed). x.at + x.size ≤ length image) list read.more through.within read.within);
+              (all_append (λ (x : Placed). x.at + x.size ≤ length image) list read.more through.within read.within);
         }
 
     -- fewer bytes are free, or fewer blocks wait

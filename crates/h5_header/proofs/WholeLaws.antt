@@ -36,7 +36,7 @@ module _ (image : List ℕ) (header : ℕ) (held held' : List Block) (list : Lis
 
   filled : FillBlocks image (first_block image header ∷ []) (through.partly).parts
   filled = filled_whole image (first_block image header ∷ []) (through.partly).parts
-    (subst (FilledTo image (first_block image header ∷ []) (through.partly).parts) none (through.partly).filled)
+      (subst (FilledTo image (first_block image header ∷ []) (through.partly).parts) none (through.partly).filled)
 
   pub all_messages : AllMessages image header (messages_in image list)
   all_messages = ((through.partly).parts, filled, (through.partly).all)

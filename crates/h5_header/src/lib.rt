@@ -10,6 +10,8 @@ mod header;
 mod message;
 mod numbers;
 mod read;
+#[cfg(test)]
+mod tests;
 
 pub use header::Messages;
 pub use message::Message;

@@ -15,8 +15,8 @@ loop-at-preserved c =
     let blocks : c.match-named_block.blocks.items ≡ c.loop-at.blocks.items ++ continuation (message_in image m) = elim c.match-named_block.branch [
       | in-Some+else-is_err w ↦ let pushed : c.match-named_block.blocks.items ≡ c.loop-at.blocks.items ++ w.in-Some.named ∷ [] = search rules in pushed ∙ ap (λ bs. c.loop-at.blocks.items ++ bs) w.in-Some.ensures
       | in_default w ↦ let none : [] ≡ continuation (message_in image m) = rw w.in_default.is at c.named_block.ensures in
-        let same : c.match-named_block.blocks.items ≡ c.loop-at.blocks.items = search rules in
-        same ∙ sym (append-nil c.loop-at.blocks.items) ∙ ap (λ bs. c.loop-at.blocks.items ++ bs) none
+          let same : c.match-named_block.blocks.items ≡ c.loop-at.blocks.items = search rules in
+          same ∙ sym (append-nil c.loop-at.blocks.items) ∙ ap (λ bs. c.loop-at.blocks.items ++ bs) none
     ] in
     let list : c.push-in-loop-at.new.self.items ≡ c.loop-at.list.items ++ m ∷ [] = search rules in
     let head : IsHead image (b.at + inv.0) (b.at + b.len) m = subst (λ at. IsHead image at (b.at + b.len) m) inv.1 c.in_ok-message.ensures.read in

@@ -11,7 +11,7 @@ pub returns-then-image-header-ne1-clause-refused : goal.returns-then-image-heade
 returns-then-image-header-ne1-clause-refused c = (refl, λ one. c.if-image-header-ne1.true (sym (version-is c.args.image.now c.args.header) ∙ one))
 
 pub returns-in_err-claim-clause-refused : goal.returns-in_err-claim-clause-refused
-returns-in_err-claim-clause-refused c = 
+returns-in_err-claim-clause-refused c =
     let image = c.args.image.now in
     let size : c.u32_at.result ≡ first_size (prefix_at image c.args.header) = c.u32_at.ensures ∙ sym (first_size-is image c.args.header) in
     let breach : ClaimBreach (length image) c.args.claims.now.held (header_block image c.args.header) (c.in_err-claim.field-0.0).cause (c.in_err-claim.field-0.0).address

@@ -12,19 +12,22 @@ pub returns-in-Err-clause-refused : goal.returns-in-Err-clause-refused
 returns-in-Err-clause-refused c = rw c.fault-in-Err.ensures (elim c.in-Err.ensures.refused [
   | inl none ↦ without_memory none
   | inr stops ↦
-    let header_is = c.in_ok-first.ensures.block in
-    let long : c.in_ok-first.first.len ≡ 16 + first_size (prefix_at c.args.image.now c.args.header) = ap (λ (b : Block). b.len) header_is in
-    at_message refl (first_stops c.args.image.now c.args.header c.in-Err.cause c.in_ok-first.first header_is c.in_ok-first.ensures.inside _ (ap (λ n. block (c.args.header + 16) n) (omega (arith, long))) stops)
+      let header_is = c.in_ok-first.ensures.block in
+      let long : c.in_ok-first.first.len ≡ 16 + first_size (prefix_at c.args.image.now c.args.header) = ap (λ (b : Block). b.len) header_is in
+      at_message refl (first_stops c.args.image.now c.args.header c.in-Err.cause c.in_ok-first.first header_is c.in_ok-first.ensures.inside _ (ap (λ n. block (c.args.header + 16) n) (omega (arith, long))) stops)
 ])
 
 pub loop-next-init : goal.loop-next-init
 loop-next-init c =
     let blocks : c.push.new.self.items ≡ c.in_ok-first.first ∷ [] = search rules in
     let header_is = c.in_ok-first.ensures.block in
-    let long : c.in_ok-first.first.len ≡ 16 + first_size (prefix_at c.args.image.now c.args.header) = ap (λ (b : Block). b.len) header_is in
-    (c.claim_prefix.ensures.end ∙ c.requires, c.in_ok-first.ensures.separate, first_through c.args.image.now c.args.header c.args.claims.now.held c.claim_prefix.new.claims.held
-    c.read_block.new.list.items c.read_block.new.blocks.items c.in_ok-first.first (block (c.args.header + 16) (c.in_ok-first.first.len - 16))
-    header_is (ap (λ n. block (c.args.header + 16) n) (omega (arith, long))) c.in_ok-first.ensures.inside c.in_ok-first.ensures.claimed (rw (c.new-list.ensures.items, blocks) at c.in_default.ensures.read))
+    let long : c.in_ok-first.first.len ≡ 16 + first_size (prefix_at c.args.image.now c.args.header) = ap (λ (b : Block). b.len) header_is in (
+      c.claim_prefix.ensures.end ∙ c.requires,
+      c.in_ok-first.ensures.separate,
+      first_through c.args.image.now c.args.header c.args.claims.now.held c.claim_prefix.new.claims.held
+          c.read_block.new.list.items c.read_block.new.blocks.items c.in_ok-first.first (block (c.args.header + 16) (c.in_ok-first.first.len - 16))
+          header_is (ap (λ n. block (c.args.header + 16) n) (omega (arith, long))) c.in_ok-first.ensures.inside c.in_ok-first.ensures.claimed (rw (c.new-list.ensures.items, blocks) at c.in_default.ensures.read),
+    )
 
 pub returns-in_err-claim-clause-refused : goal.returns-in_err-claim-clause-refused
 returns-in_err-claim-clause-refused c =
@@ -51,6 +54,9 @@ loop-next-smaller c =
     c.claim.ensures.separate
 
 pub loop-next-preserved : goal.loop-next-preserved
-loop-next-preserved c = (c.claim.ensures.end ∙ c.loop-next.invariant.0, c.claim.ensures.separate,
-    next_through c.args.image.now c.args.header c.args.claims.now.held c.loop-next.claims.held c.loop-next.list.items c.loop-next.blocks.items c.loop-next.next c.index-block.result.now
-    c.loop-next.invariant.2 (more c) c.index-block.ensures c.claim.new.claims.held (inside c) c.in_ok-claim.ensures.claimed c.read_block-in-loop-next.new.list.items c.read_block-in-loop-next.new.blocks.items (read c))
+loop-next-preserved c = (
+  c.claim.ensures.end ∙ c.loop-next.invariant.0,
+  c.claim.ensures.separate,
+  next_through c.args.image.now c.args.header c.args.claims.now.held c.loop-next.claims.held c.loop-next.list.items c.loop-next.blocks.items c.loop-next.next c.index-block.result.now
+      c.loop-next.invariant.2 (more c) c.index-block.ensures c.claim.new.claims.held (inside c) c.in_ok-claim.ensures.claimed c.read_block-in-loop-next.new.list.items c.read_block-in-loop-next.new.blocks.items (read c),
+)

@@ -32,8 +32,14 @@ pub returns-then-list-u16_at-clause-refused : goal.returns-then-list-u16_at-clau
 returns-then-list-u16_at-clause-refused c =
     let t = total c.args.image.now.bytes c.args.at c.in_ok-messages.messages.list c.bytes-bytes.result.now c.list.result.now c.u16_at.result c.bytes-bytes.ensures c.u16_at.ensures c.list.ensures in
     let through = rw c.bytes-bytes.ensures at c.in_ok-messages.ensures.read in
-    rw c.fault.ensures (refl, (messages_in c.args.image.now.bytes c.in_ok-messages.messages.list, all_messages _ _ _ _ _ _ through,
-    λ same. c.if-list-u16_at.true (sym t.1 ∙ sym same ∙ t.0)))
+    rw c.fault.ensures (
+      refl,
+      (
+        messages_in c.args.image.now.bytes c.in_ok-messages.messages.list,
+        all_messages _ _ _ _ _ _ through,
+        λ same. c.if-list-u16_at.true (sym t.1 ∙ sym same ∙ t.0),
+      ),
+    )
 
 pub returns-then-list-u16_at-clause-only : goal.returns-then-list-u16_at-clause-only
 returns-then-list-u16_at-clause-only c readable =
@@ -41,7 +47,7 @@ returns-then-list-u16_at-clause-only c readable =
     let through = rw c.bytes-bytes.ensures at c.in_ok-messages.ensures.read in
     let image = c.args.image.now.bytes in
     let same = same_messages image c.args.at c.args.claims.now.held readable (messages_in image c.in_ok-messages.messages.list) (through.partly).parts
-      (filled_to_end _ _ _ _ _ _ through) (through.partly).all in
+    (filled_to_end _ _ _ _ _ _ through) (through.partly).all in
     absurd (c.if-list-u16_at.true (sym t.1 ∙ ap length same ∙ sym (readable.has).total ∙ t.0))
 
 pub returns-clause-read : goal.returns-clause-read
