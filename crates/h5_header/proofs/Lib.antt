@@ -9,3 +9,4 @@ pub mod MetLaws
 pub mod CrossLaws
 pub mod RefusedLaws
 pub mod ReadableLaws
+pub mod KindLaws

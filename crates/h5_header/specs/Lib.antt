@@ -2,3 +2,4 @@ pub mod Heads
 pub mod Listed
 pub mod Refused
 pub mod Progress
+pub mod Kinds

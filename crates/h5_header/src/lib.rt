@@ -7,6 +7,7 @@
 mod block;
 mod claim;
 mod header;
+mod kinds;
 mod message;
 mod numbers;
 mod read;
@@ -14,5 +15,6 @@ mod read;
 mod tests;
 
 pub use header::Messages;
+pub use kinds::ObjectKind;
 pub use message::Message;
 pub use read::messages;
