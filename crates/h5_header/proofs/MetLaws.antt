@@ -11,9 +11,9 @@ use Rattle.h5_bytes.proofs.PartLaws.{part-part}
 use Rattle.h5_bytes.proofs.FieldLaws.{number_at-part}
 use Rattle.h5_bytes.proofs.BlockLaws.{all_append}
 use Rattle.h5_model.specs.Addresses.{continuation_of}
-use Rattle.h5_model.specs.Messages.{Message, IsMessage, Fills, continuation, continuations, first_block}
+use Rattle.h5_model.specs.Messages.{Message, IsMessage, Fills, FillBlocks, HasMessages, continuation, continuations, first_block}
 use Rattle.h5_model.specs.Reached.{Met, at_start, behind, in_continuation, kind_at, size_at}
-use Rattle.h5_header.specs.Refused.{NamesBlock}
+use Rattle.h5_header.specs.Refused.{NamesBlock, IsBlockOf}
 use Rattle.h5_header.specs.Progress.{FillsTo, FilledTo}
 
 pub length-part-le : (at len : ℕ) (bytes : List ℕ) → length (part at len bytes) ≤ len
@@ -167,3 +167,24 @@ module _ (image : List ℕ) (header : ℕ) where
   pub parts_naming : (parts : List (List Message)) (rest : List Block) → FilledTo image (first_block image header ∷ []) parts rest
       → AllByRecursion (IsNaming image header) (flat_map (λ (ms : List Message). ms) parts)
   parts_naming parts rest filled = (filled_met (first_block image header ∷ []) parts rest filled (first_met, tt)).1
+
+whole_filled : (image : List ℕ) (waiting : List Block) (parts : List (List Message)) → FillBlocks image waiting parts → FilledTo image waiting parts []
+whole_filled image [] [] fills = refl
+whole_filled image [] (ms ∷ parts) fills = fills
+whole_filled image (b ∷ waiting) [] fills = absurd fills
+whole_filled image (b ∷ waiting) (ms ∷ parts) fills = (fills.0, whole_filled image (waiting ++ continuations ms) parts fills.1)
+
+-- messages of a header name their blocks from their places
+pub has_naming : (image : List ℕ) (header : ℕ) (messages : List Message) (blocks : List Block) → HasMessages image header messages blocks
+    → AllByRecursion (IsNaming image header) messages
+has_naming image header messages blocks has = subst (AllByRecursion (IsNaming image header)) (sym has.all)
+    (parts_naming image header has.parts [] (whole_filled image (first_block image header ∷ []) has.parts has.filled))
+
+-- a header's blocks are its own and those that its Continuations name
+pub has_blocks : (image : List ℕ) (header : ℕ) (messages : List Message) (blocks : List Block) → HasMessages image header messages blocks
+    → AllByRecursion (IsBlockOf image header) blocks
+has_blocks image header messages blocks has = subst (AllByRecursion (IsBlockOf image header)) (sym has.laid)
+    (inl refl, all_blocks (continuations messages) (all_naming image header messages (has_naming image header messages blocks has))) where
+      all_blocks : (bs : List Block) → AllByRecursion (IsNamed image header) bs → AllByRecursion (IsBlockOf image header) bs
+      all_blocks [] all = tt
+      all_blocks (b ∷ bs) all = (inr all.0, all_blocks bs all.1)

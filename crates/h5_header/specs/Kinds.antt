@@ -1,5 +1,5 @@
 -- What an object is by the types of its messages (File Format Specification 3.0, section IV.A.2).
-use Rattle.std.specs.Prelude.{◌≡◌, ℕ, ◌≤◌, List, [], ◌∷◌}
+use Rattle.std.specs.Prelude.{◌≡◌, ◌≤◌, List, [], ◌∷◌}
 use Rattle.std.specs.List.{AllByRecursion}
 use Rattle.h5_model.specs.Messages.{Message, count_of}
 

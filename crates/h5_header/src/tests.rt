@@ -145,3 +145,34 @@ fn claims_continuations_in_turn(rt: HostRuntime) {
         assert_eq!(rt; fault, wanted, "block at {at} of {len} bytes");
     }
 }
+
+#[test]
+fn tells_groups_from_datasets(rt: HostRuntime) {
+    let missing = Err(Cause::MissingMessage);
+    let duplicate = Err(Cause::DuplicateMessage);
+    // Types of messages without bodies, and what they make.
+    let rows = [
+        ([17, 12, 13, 14, 18], Ok(ObjectKind::Group)),
+        ([1, 3, 8, 12, 12], Ok(ObjectKind::Dataset)),
+        ([8, 4, 5, 3, 1], Ok(ObjectKind::Dataset)),
+        ([0, 0, 0, 0, 0], missing),
+        ([1, 1, 3, 0, 0], missing),
+        ([1, 3, 8, 8, 0], duplicate),
+        ([1, 3, 8, 5, 5], duplicate),
+        ([17, 17, 0, 0, 0], duplicate),
+        ([17, 4, 0, 0, 0], duplicate),
+    ];
+    for (kinds, wanted) in rows {
+        let mut bytes = [0u8; 56];
+        bytes[0] = 1;
+        bytes[2] = 5;
+        bytes[8] = 40;
+        for (k, kind) in kinds.into_iter().enumerate() {
+            assert!(rt; k < 5);
+            bytes[16 + 8 * k] = kind;
+        }
+        let wanted = wanted.map_err(|cause| OpenFault { cause, address: 0 });
+        let found = read(rt.alloc(), &bytes, 0).and_then(|read| read.object_kind());
+        assert_eq!(rt; found, wanted, "{kinds:?}");
+    }
+}

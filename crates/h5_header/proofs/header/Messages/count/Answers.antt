@@ -1,4 +1,4 @@
-use Rattle.std.proofs.Common.{◌≡◌, ℕ, List, sym, ◌∙◌, ap, rules, ◌==◌}
+use Rattle.std.proofs.Common.{◌≡◌, ◌∙◌, rules, ◌==◌}
 use Rattle.std.specs.List.{count_by}
 use Rattle.h5_header.specs.declared.message.Message.{Message as Placed}
 use Rattle.h5_header.proofs.KindLaws.{count_of-is}
