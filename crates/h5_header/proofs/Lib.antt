@@ -1,0 +1,12 @@
+pub mod MessageLaws
+pub mod FillLaws
+pub mod Unheld
+pub mod PrefixLaws
+pub mod ThroughLaws
+pub mod SameLaws
+pub mod WholeLaws
+pub mod MetLaws
+pub mod CrossLaws
+pub mod RefusedLaws
+pub mod ReadableLaws
+pub mod KindLaws

@@ -1,0 +1,5 @@
+pub mod Heads
+pub mod Listed
+pub mod Refused
+pub mod Progress
+pub mod Kinds

@@ -1,0 +1,25 @@
+-- Messages of an object header as places of the image, beside those of the definition (File Format Specification 3.0, section
+-- IV.A.1.a).
+use Rattle.std.specs.Prelude.{ℕ, ◌+◌, ◌≤◌, List, map}
+use Rattle.std.specs.List.{AllByRecursion}
+use Rattle.h5_bytes.specs.Bytes.{part}
+use Rattle.h5_bytes.specs.declared.Block.{Block}
+use Rattle.h5_model.specs.Messages.{Message}
+use Rattle.h5_header.specs.declared.message.Message.{Message as Placed}
+
+-- what is kept of a header: its address, its messages in order, and the blocks in which they stand, its own first
+pub record Listed : Type 0 where
+  pub header : ℕ
+  pub list : List Placed
+  pub blocks : List Block
+
+-- the message whose body stands at a place of the image
+abbrev pub message_in : List ℕ → Placed → Message
+message_in image m = record { kind = m.kind; at = m.at; body = part m.at m.size image }
+
+abbrev pub messages_in : List ℕ → List Placed → List Message
+messages_in image ms = map (message_in image) ms
+
+-- the bodies of these messages lie below an end
+abbrev pub IsWithin : ℕ → List Placed → Type 0
+IsWithin end ms = AllByRecursion (λ m. m.at + m.size ≤ end) ms

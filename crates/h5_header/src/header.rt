@@ -1,0 +1,134 @@
+//! The messages of an object header (File Format Specification 3.0, section IV.A.1.a).
+
+ghost use Rattle.std.specs.Prelude.{◌≡◌, ℕ, ◌+◌, ◌<◌, ◌≤◌, Some, length, slice_get, option_map, IfOk, IfErr, OnOk};
+ghost use Rattle.h5_bytes.specs.Blocks.{Separate};
+ghost use Rattle.h5_bytes.specs.Bytes.{byte_at};
+ghost use Rattle.h5_model.specs.Messages.{prefix_at, reference_count};
+ghost use Rattle.h5_header.specs.Listed.{messages_in, IsWithin};
+ghost use Rattle.h5_header.specs.Progress.{ReadThrough, Stops};
+
+use crate::block::read_block;
+use crate::claim::{PREFIX, claim, claim_prefix};
+use crate::message::Message;
+use crate::numbers::u32_at;
+use h5_bytes::Block;
+use h5_model::{Cause, OpenFault};
+use h5_space::{Claims, Image};
+use std::alloc::Global;
+use std::marker::Model;
+
+/// The messages of an object header, in the order in which they stand in its blocks.
+///
+/// It keeps where the messages stand, and no byte of the image.
+#[derive(Drop)]
+pub struct Messages {
+    header: u64,
+    list: Vec<Message>,
+    blocks: Vec<Block>,
+}
+
+impl Model for Messages {
+    ghost use Rattle.h5_header.specs.Listed.{Listed};
+
+    ghost Value = { Listed };
+
+    ghost view = { λ s. record { header = s.header; list = s.list.items; blocks = s.blocks.items } };
+}
+
+impl Messages {
+    /// The address of the header. Takes no memory.
+    pub fn header(&self) -> u64
+        ensures { result ≡ self.now.header }
+    {
+        self.header
+    }
+
+    /// The messages in order, NIL and Continuation messages among them. Takes no memory.
+    pub fn list(&self) -> &[Message]
+        ensures { result.now ≡ self.now.list }
+    {
+        &self.list
+    }
+
+    /// The blocks: the prefix with the first block of messages, then those that Continuations name, in
+    /// the order of these. Takes no memory.
+    pub fn blocks(&self) -> &[Block]
+        ensures { result.now ≡ self.now.blocks }
+    {
+        &self.blocks
+    }
+
+    /// The body of message `k`. Takes no memory.
+    ///
+    /// That there is such a message, and that it lies in the image, are the caller's conditions; it does
+    /// in the image from which the messages were read.
+    pub fn body<'a>(&self, image: &'a Image, k: usize) -> &'a [u8]
+        requires known { k < length self.now.list }
+        requires within { IsWithin (length image.now.bytes) self.now.list }
+        ensures { option_map (λ m. m.body) (slice_get (messages_in image.now.bytes self.now.list) k) ≡ Some result.now }
+    {
+        let message = self.list[k];
+        &image.bytes()[message.at as usize..message.at as usize + message.size as usize]
+    }
+
+    /// The reference count: how many hard links lead to the header. Takes no memory.
+    ///
+    /// That the header's prefix lies in the image is the caller's condition.
+    pub fn links(&self, image: &Image) -> u32
+        requires { self.now.header + 16 ≤ length image.now.bytes }
+        ensures { result ≡ reference_count (prefix_at image.now.bytes self.now.header) }
+    {
+        u32_at(image.bytes(), self.header + 4)
+    }
+}
+
+/// Reads all blocks of a header, in the order in which they are named.
+pub fn read_header(
+    alloc: Global,
+    image: &[u8],
+    claims: &mut Claims,
+    header: u64,
+) -> Result<Messages, OpenFault>
+    requires { claims.old.end ≡ length image.now }
+    ensures header { IfOk result (λ m. m.header ≡ header) }
+    ensures read { IfOk result (λ m. ReadThrough image.now header claims.old.held claims.new.held m.list m.blocks (length m.blocks)) }
+    ensures within { IfOk result (λ m. IsWithin (length image.now) m.list) }
+    ensures version { OnOk result (byte_at (prefix_at image.now header) 0 ≡ 1) }
+    ensures separate { OnOk result (Separate claims.new.held) }
+    ensures end { claims.new.end ≡ claims.old.end }
+    ensures refused { IfErr result (λ fault. Stops image.now header claims.old.held fault.cause fault.address) }
+{
+    let first = claim_prefix(image, claims, header)?;
+    let mut list = Vec::new(alloc);
+    let mut blocks = Vec::new(alloc);
+    if blocks.push(first).is_err() {
+        return Err(fault(Cause::NoMemory, header));
+    }
+    let behind = Block {
+        at: header + PREFIX,
+        len: first.len - PREFIX,
+    };
+    if let Err(cause) = read_block(image, behind, &mut list, &mut blocks) {
+        return Err(fault(cause, header));
+    }
+    let mut next = 1;
+    while next < blocks.len() {
+        let block = blocks[next];
+        claim(claims, block)?;
+        if let Err(cause) = read_block(image, block, &mut list, &mut blocks) {
+            return Err(fault(cause, header));
+        }
+        next += 1;
+    }
+    Ok(Messages {
+        header,
+        list,
+        blocks,
+    })
+}
+
+pub fn fault(cause: Cause, address: u64) -> OpenFault
+    ensures { result ≡ record { cause = cause; address = address } }
+{
+    OpenFault { cause, address }
+}

@@ -1,0 +1,20 @@
+//! Object headers: the messages of an object, over the blocks that Continuation messages name (File
+//! Format Specification 3.0, section IV.A.1.a).
+//!
+//! Places and sizes are in bytes.
+#![tactic(auto)]
+
+mod block;
+mod claim;
+mod header;
+mod kinds;
+mod message;
+mod numbers;
+mod read;
+#[cfg(test)]
+mod tests;
+
+pub use header::Messages;
+pub use kinds::ObjectKind;
+pub use message::Message;
+pub use read::messages;

@@ -1,0 +1,55 @@
+//! The reading of an object header (File Format Specification 3.0, section IV.A.1.a).
+
+ghost use Rattle.std.specs.Prelude.{◌≡◌, ℕ, ◌+◌, IsTrue, length, IfOk, IfErr, OnOk};
+ghost use Rattle.std.specs.List.{AllByRecursion};
+ghost use Rattle.h5_bytes.specs.Blocks.{cover, Separate, Inside};
+ghost use Rattle.h5_model.specs.Messages.{HasMessages};
+ghost use Rattle.h5_header.specs.Heads.{is_read};
+ghost use Rattle.h5_header.specs.Listed.{messages_in, IsWithin};
+ghost use Rattle.h5_header.specs.Refused.{IsRefused, IsReadable};
+
+use crate::header::{Messages, fault, read_header};
+use crate::numbers::u16_at;
+use h5_model::{Cause, OpenFault};
+use h5_space::{Claims, Image};
+use std::alloc::Global;
+
+/// Reads the messages of the object header at `at`, and claims its blocks.
+///
+/// The prefix has to lie in the image and be of version 1 before it is claimed with its first block of
+/// messages. A block that a Continuation names is claimed when its turn comes, after all messages of the
+/// blocks before it. Each message is judged by its size, then by its shared flag, then by its type. When
+/// all blocks are read their messages are counted.
+///
+/// Refusals: `Truncated` and `Overlap`, at the block that was to be claimed; `HeaderVersion`,
+/// `MessageSize`, `SharedMessage`, `UnknownMessage`, `Filtered`, `ExternalFiles`, `NewStyleGroup` and
+/// `MessageCount`, at the header; and `NoMemory`. After a refusal more or less of the header's blocks is
+/// claimed. The claims end where the image ends, which is the caller's condition.
+///
+/// Takes memory for the messages that are there, whatever the header says of their number, and time for
+/// the bytes that are claimed.
+pub fn messages(
+    alloc: Global,
+    image: &Image,
+    claims: &mut Claims,
+    at: u64,
+) -> Result<Messages, OpenFault>
+    requires { claims.old.end ≡ length image.now.bytes }
+    ensures header { IfOk result (λ m. m.header ≡ at) }
+    ensures read { IfOk result (λ m. HasMessages image.now.bytes at (messages_in image.now.bytes m.list) m.blocks) }
+    ensures known { IfOk result (λ m. AllByRecursion (λ x. IsTrue (is_read x.kind)) m.list) }
+    ensures within { IfOk result (λ m. IsWithin (length image.now.bytes) m.list) }
+    ensures inside { IfOk result (λ m. Inside (length image.now.bytes) m.blocks) }
+    ensures claimed { IfOk result (λ m. (p : ℕ) → cover p claims.new.held ≡ cover p claims.old.held + cover p m.blocks) }
+    ensures separate { OnOk result (Separate claims.new.held) }
+    ensures end { claims.new.end ≡ claims.old.end }
+    ensures refused { IfErr result (λ fault. IsRefused image.now.bytes at claims.old.held fault.cause fault.address) }
+    ensures only { IsReadable image.now.bytes at claims.old.held → IfErr result (λ fault. fault.cause ≡ Cause.NoMemory) }
+{
+    let bytes = image.bytes();
+    let messages = read_header(alloc, bytes, claims, at)?;
+    if messages.list().len() != u16_at(bytes, at + 2) as usize {
+        return Err(fault(Cause::MessageCount, at));
+    }
+    Ok(messages)
+}
