@@ -5,7 +5,7 @@ use Rattle.std.specs.List.{AllByRecursion}
 use Rattle.h5_bytes.specs.Bytes.{byte_at}
 use Rattle.h5_bytes.specs.Blocks.{cover, Inside}
 use Rattle.h5_bytes.specs.declared.Block.{Block}
-use Rattle.h5_model.specs.Messages.{Message, HasMessages, IsContinued, FillBlocks, prefix_at, total_in, first_block}
+use Rattle.h5_model.specs.Messages.{Message, HasMessages, continuations, IsContinued, FillBlocks, prefix_at, total_in, first_block}
 use Rattle.h5_model.specs.Reached.{AllMessages}
 use Rattle.h5_header.specs.Heads.{is_read}
 use Rattle.h5_header.specs.Listed.{messages_in}
@@ -38,8 +38,16 @@ module _ (image : List ℕ) (header : ℕ) (held held' : List Block) (list : Lis
   filled = filled_whole image (first_block image header ∷ []) (through.partly).parts
       (subst (FilledTo image (first_block image header ∷ []) (through.partly).parts) none (through.partly).filled)
 
+  pub blocks_inside : Inside (length image) blocks
+  blocks_inside = subst (Inside (length image)) (sym done_is) (through.claimed).inside
+
+  first_inside : Inside (length image) (first_block image header ∷ continuations (messages_in image list))
+  first_inside =
+      let all = subst (Inside (length image)) (through.split ∙ (through.partly).laid) blocks_inside in
+      (omega (arith, all.0), all.1)
+
   pub all_messages : AllMessages image header (messages_in image list)
-  all_messages = ((through.partly).parts, filled, (through.partly).all)
+  all_messages = ((through.partly).parts, filled, (through.partly).all, first_inside)
 
   pub has_messages : byte_at (prefix_at image header) 0 ≡ 1 → total_in (prefix_at image header) ≡ length (messages_in image list)
       → HasMessages image header (messages_in image list) blocks
@@ -55,9 +63,6 @@ module _ (image : List ℕ) (header : ℕ) (held held' : List Block) (list : Lis
 
   pub kinds_read : AllByRecursion (λ (x : Placed). IsTrue (is_read x.kind)) list
   kinds_read = kinds_of image list (through.partly).taken
-
-  pub blocks_inside : Inside (length image) blocks
-  blocks_inside = subst (Inside (length image)) (sym done_is) (through.claimed).inside
 
   pub blocks_covered : (p : ℕ) → cover p held' ≡ cover p held + cover p blocks
   blocks_covered p = (through.claimed).covered p ∙ ap (λ bs. cover p held + cover p bs) (sym done_is)
