@@ -4,7 +4,8 @@ use Rattle.std.specs.Fmt.{signed_decimal}
 use Rattle.std.specs.List.{join_by, flat_map}
 use Rattle.std.proofs.lemmas.List.{take_more, length-take-le}
 use Rattle.std.proofs.lemmas.List.Concat.{flat_map-append}
-use Rattle.h5_model.specs.Text.{pairs, values_text}
+use Rattle.std.specs.List.{zip}
+use Rattle.h5_model.specs.Text.{values_text}
 
 -- what stands before the k-th text
 abbrev pub before : List ℕ → ℕ → List ℕ
@@ -36,19 +37,19 @@ joined_step old head joined next s t out mid new so_far separated written is =
     written ∙ ap (λ xs. xs ++ t) separated ∙ append_assoc out s t ∙ ap (λ xs. xs ++ (s ++ t)) so_far
     ∙ append_assoc old (head ++ joined) (s ++ t) ∙ ap (λ xs. old ++ xs) (append_assoc head joined (s ++ t)) ∙ ap (λ xs. old ++ (head ++ xs)) (sym is)
 
-pub length-pairs : (sizes : List ℕ) (maxima : List (Option ℕ)) (k : ℕ) → k < length sizes → k < length maxima → k < length (pairs sizes maxima)
+pub length-pairs : (sizes : List ℕ) (maxima : List (Option ℕ)) (k : ℕ) → k < length sizes → k < length maxima → k < length (zip sizes maxima)
 length-pairs [] maxima k a b = a
 length-pairs (d ∷ ds) [] k a b = b
 length-pairs (d ∷ ds) (m ∷ ms) zero a b = omega arith
 length-pairs (d ∷ ds) (m ∷ ms) (suc k) a b = omega (arith, length-pairs ds ms k (omega arith) (omega arith))
 
-pub pair_at : (sizes : List ℕ) (maxima : List (Option ℕ)) (k : ℕ) → k < length sizes → k < length maxima → get_or (pairs sizes maxima) k (0, None) ≡ (get_or sizes k 0, get_or maxima k None)
+pub pair_at : (sizes : List ℕ) (maxima : List (Option ℕ)) (k : ℕ) → k < length sizes → k < length maxima → get_or (zip sizes maxima) k (0, None) ≡ (get_or sizes k 0, get_or maxima k None)
 pair_at [] maxima k a b = absurd (omega (arith, a))
 pair_at (d ∷ ds) [] k a b = absurd (omega (arith, b))
 pair_at (d ∷ ds) (m ∷ ms) zero a b = refl
 pair_at (d ∷ ds) (m ∷ ms) (suc k) a b = pair_at ds ms k (omega arith) (omega arith)
 
-pub pairs_all : (sizes : List ℕ) (maxima : List (Option ℕ)) (k : ℕ) → min (length sizes) (length maxima) ≤ k → take k (pairs sizes maxima) ≡ pairs sizes maxima
+pub pairs_all : (sizes : List ℕ) (maxima : List (Option ℕ)) (k : ℕ) → min (length sizes) (length maxima) ≤ k → take k (zip sizes maxima) ≡ zip sizes maxima
 pairs_all [] maxima k h = take_all k [] (omega arith)
 pairs_all (d ∷ ds) [] k h = take_all k [] (omega arith)
 pairs_all (d ∷ ds) (m ∷ ms) zero h = absurd (omega (arith, h))

@@ -3,11 +3,11 @@
 ghost use Rattle.std.specs.Prelude.{◌≡◌, ◌<◌, ◌++◌, codes};
 ghost use Rattle.std.specs.Fmt.{decimal, signed_decimal};
 ghost use Rattle.h5_model.specs.Text.{escaped as escaped_text, escaped_byte, hex_digit as digit_of};
-ghost use Rattle.h5_model.specs.Text.{pairs, size_text, sizes_text, type_text, values_text};
+ghost use Rattle.h5_model.specs.Text.{size_text, sizes_text, type_text, values_text};
 ghost use Rattle.h5_model.specs.Script.{stored_values};
 ghost use Rattle.h5_model.specs.EditFaults.{refused_text};
 ghost use Rattle.h5_model.specs.ViewFaults.{view_fault_text};
-ghost use Rattle.std.specs.List.{join_by};
+ghost use Rattle.std.specs.List.{join_by, zip};
 ghost use Rattle.h5_text.specs.Appends.{Appends};
 
 use crate::escapes::is_plain;
@@ -120,7 +120,7 @@ pub fn push_extent(
     maxima: &[Option<u64>],
 ) -> Result<(), AllocError>
     ensures { Appends result out.old.items out.new.items
-        (codes "{" ++ join_by size_text (codes ", ") (pairs sizes.now maxima.now) ++ codes "}") }
+        (codes "{" ++ join_by size_text (codes ", ") (zip sizes.now maxima.now) ++ codes "}") }
 {
     push_text(out, b"{")?;
     for k in 0..sizes.len().min(maxima.len()) {

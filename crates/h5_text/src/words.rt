@@ -1,7 +1,7 @@
 //! Words of a line, and lists in them.
 ghost use Rattle.std.specs.Prelude.{◌≡◌, ◌<◌, ◌∷◌, ℕ, List, Option, length, option_map};
 ghost use Rattle.std.specs.Prelude.{IfOk, IfSome};
-ghost use Rattle.h5_model.specs.Lines.{maximum_from as maximum_read, size_from as size_read};
+ghost use Rattle.h5_model.specs.Lines.{maximum_read, size_from as size_read};
 ghost use Rattle.h5_model.specs.Lines.{u32_from as u32_read, u64_from as u64_read};
 ghost use Rattle.h5_model.specs.Lines.{list_from as list_read, value_from as value_read};
 ghost use Rattle.h5_text.specs.Words.{parts, parts_left};
