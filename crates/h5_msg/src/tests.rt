@@ -8,6 +8,7 @@ use std::alloc::Global;
 
 mod corpus_attributes_1;
 mod corpus_attributes_2;
+mod corpus_attributes_3;
 mod corpus_continuations;
 mod corpus_datasets_1;
 mod corpus_datasets_2;
@@ -16,6 +17,7 @@ mod corpus_datasets_4;
 mod corpus_datasets_5;
 mod corpus_datasets_6;
 mod corpus_datasets_7;
+mod corpus_datasets_8;
 mod corpus_refused;
 mod corpus_symbol_tables;
 mod forms;
@@ -103,13 +105,22 @@ fn wrong_dataset(alloc: Global, datasets: &[Dataset]) -> Option<usize> {
 fn reads_datasets_of_the_library(rt: HostRuntime) {
     let alloc = rt.alloc();
     for (part, wrong) in [
-        wrong_dataset(alloc, &corpus_datasets_1::datasets()),
-        wrong_dataset(alloc, &corpus_datasets_2::datasets()),
-        wrong_dataset(alloc, &corpus_datasets_3::datasets()),
-        wrong_dataset(alloc, &corpus_datasets_4::datasets()),
-        wrong_dataset(alloc, &corpus_datasets_5::datasets()),
-        wrong_dataset(alloc, &corpus_datasets_6::datasets()),
-        wrong_dataset(alloc, &corpus_datasets_7::datasets()),
+        wrong_dataset(alloc, &corpus_datasets_1::datasets_1()),
+        wrong_dataset(alloc, &corpus_datasets_1::datasets_2()),
+        wrong_dataset(alloc, &corpus_datasets_2::datasets_3()),
+        wrong_dataset(alloc, &corpus_datasets_2::datasets_4()),
+        wrong_dataset(alloc, &corpus_datasets_3::datasets_5()),
+        wrong_dataset(alloc, &corpus_datasets_3::datasets_6()),
+        wrong_dataset(alloc, &corpus_datasets_4::datasets_7()),
+        wrong_dataset(alloc, &corpus_datasets_4::datasets_8()),
+        wrong_dataset(alloc, &corpus_datasets_5::datasets_9()),
+        wrong_dataset(alloc, &corpus_datasets_5::datasets_10()),
+        wrong_dataset(alloc, &corpus_datasets_6::datasets_11()),
+        wrong_dataset(alloc, &corpus_datasets_6::datasets_12()),
+        wrong_dataset(alloc, &corpus_datasets_7::datasets_13()),
+        wrong_dataset(alloc, &corpus_datasets_7::datasets_14()),
+        wrong_dataset(alloc, &corpus_datasets_8::datasets_15()),
+        wrong_dataset(alloc, &corpus_datasets_8::datasets_16()),
     ]
     .iter()
     .enumerate()
@@ -147,8 +158,13 @@ fn wrong_attribute(alloc: Global, attributes: &[Attribute]) -> Option<usize> {
 fn reads_attributes_of_the_library(rt: HostRuntime) {
     let alloc = rt.alloc();
     for (part, wrong) in [
-        wrong_attribute(alloc, &corpus_attributes_1::attributes()),
-        wrong_attribute(alloc, &corpus_attributes_2::attributes()),
+        wrong_attribute(alloc, &corpus_attributes_1::attributes_1()),
+        wrong_attribute(alloc, &corpus_attributes_1::attributes_2()),
+        wrong_attribute(alloc, &corpus_attributes_1::attributes_3()),
+        wrong_attribute(alloc, &corpus_attributes_2::attributes_4()),
+        wrong_attribute(alloc, &corpus_attributes_2::attributes_5()),
+        wrong_attribute(alloc, &corpus_attributes_3::attributes_6()),
+        wrong_attribute(alloc, &corpus_attributes_3::attributes_7()),
     ]
     .iter()
     .enumerate()
