@@ -8,7 +8,7 @@ ghost use Rattle.h5_model.specs.AttributeBody.{attribute_of, is_attribute};
 ghost use Rattle.h5_msg.specs.Parts.{ArePartsOf};
 ghost use Rattle.h5_model.specs.Fixed.{IsFixed, fits};
 ghost use Rattle.h5_model.specs.Places.{cells as cells_of};
-ghost use Rattle.h5_model.specs.Sizes.{attribute_size, dataspace_size};
+ghost use Rattle.h5_model.specs.Sizes.{attribute_size, dataspace_length as dataspace_size};
 ghost use Rattle.h5_msg.specs.Written.{attribute_bytes, attribute_head, dataspace_bytes, datatype_bytes, name_bytes, padded, value_bytes};
 
 use crate::dataspace::{Dataspace, dataspace_length, read_dataspace, write_dataspace};

@@ -7,7 +7,7 @@ ghost use Rattle.h5_model.specs.Extent.{extent_of, is_dataspace as has_form, max
 ghost use Rattle.h5_model.specs.Refusal.{are_maxima as bound_sizes};
 ghost use Rattle.h5_msg.specs.Written.{bounded_bytes, dataspace_bytes, or_undefined, padded, words};
 ghost use Rattle.h5_model.specs.Places.{cells as cells_of};
-ghost use Rattle.h5_model.specs.Sizes.{dataspace_size};
+ghost use Rattle.h5_model.specs.Sizes.{dataspace_length as dataspace_size};
 ghost use Rattle.h5_model.specs.Tests.{each_below};
 
 use crate::fault::FormFault;

@@ -6,10 +6,24 @@ use h5_shape::Dims;
 use h5_types::fits;
 use std::alloc::Global;
 
+mod corpus_attributes_1;
+mod corpus_attributes_2;
+mod corpus_attributes_3;
+mod corpus_continuations;
+mod corpus_datasets_1;
+mod corpus_datasets_2;
+mod corpus_datasets_3;
+mod corpus_datasets_4;
+mod corpus_datasets_5;
+mod corpus_datasets_6;
+mod corpus_datasets_7;
+mod corpus_datasets_8;
+mod corpus_refused;
+mod corpus_symbol_tables;
 mod forms;
 mod library;
 
-use library::{Attribute, Dataset, Storage, attributes, datasets};
+use library::{Attribute, Dataset, Storage};
 
 /// Whether this is the type of this size, sign and order.
 fn is_type(fixed: &Fixed, (size, signed, high_first): (u8, bool, bool)) -> bool {
@@ -80,10 +94,38 @@ fn is_dataset(alloc: Global, dataset: &Dataset) -> bool {
         && is_stored(alloc, &layout, &dataset.storage)
 }
 
+/// The place of the first dataset whose messages are read otherwise.
+fn wrong_dataset(alloc: Global, datasets: &[Dataset]) -> Option<usize> {
+    datasets
+        .iter()
+        .position(|dataset| !is_dataset(alloc, dataset))
+}
+
 #[test]
 fn reads_datasets_of_the_library(rt: HostRuntime) {
-    for (k, dataset) in datasets().iter().enumerate() {
-        assert!(rt; is_dataset(rt.alloc(), dataset), "dataset {k}");
+    let alloc = rt.alloc();
+    for (part, wrong) in [
+        wrong_dataset(alloc, &corpus_datasets_1::datasets_1()),
+        wrong_dataset(alloc, &corpus_datasets_1::datasets_2()),
+        wrong_dataset(alloc, &corpus_datasets_2::datasets_3()),
+        wrong_dataset(alloc, &corpus_datasets_2::datasets_4()),
+        wrong_dataset(alloc, &corpus_datasets_3::datasets_5()),
+        wrong_dataset(alloc, &corpus_datasets_3::datasets_6()),
+        wrong_dataset(alloc, &corpus_datasets_4::datasets_7()),
+        wrong_dataset(alloc, &corpus_datasets_4::datasets_8()),
+        wrong_dataset(alloc, &corpus_datasets_5::datasets_9()),
+        wrong_dataset(alloc, &corpus_datasets_5::datasets_10()),
+        wrong_dataset(alloc, &corpus_datasets_6::datasets_11()),
+        wrong_dataset(alloc, &corpus_datasets_6::datasets_12()),
+        wrong_dataset(alloc, &corpus_datasets_7::datasets_13()),
+        wrong_dataset(alloc, &corpus_datasets_7::datasets_14()),
+        wrong_dataset(alloc, &corpus_datasets_8::datasets_15()),
+        wrong_dataset(alloc, &corpus_datasets_8::datasets_16()),
+    ]
+    .iter()
+    .enumerate()
+    {
+        assert!(rt; wrong.is_none(), "part {part} {wrong:?}");
     }
 }
 
@@ -105,10 +147,77 @@ fn is_attribute(alloc: Global, attribute: &Attribute) -> bool {
         && read.dims(alloc).sizes() == attribute.sizes
 }
 
+/// The place of the first attribute whose message is read otherwise.
+fn wrong_attribute(alloc: Global, attributes: &[Attribute]) -> Option<usize> {
+    attributes
+        .iter()
+        .position(|attribute| !is_attribute(alloc, attribute))
+}
+
 #[test]
 fn reads_attributes_of_the_library(rt: HostRuntime) {
-    for (k, attribute) in attributes().iter().enumerate() {
-        assert!(rt; is_attribute(rt.alloc(), attribute), "attribute {k}");
+    let alloc = rt.alloc();
+    for (part, wrong) in [
+        wrong_attribute(alloc, &corpus_attributes_1::attributes_1()),
+        wrong_attribute(alloc, &corpus_attributes_1::attributes_2()),
+        wrong_attribute(alloc, &corpus_attributes_1::attributes_3()),
+        wrong_attribute(alloc, &corpus_attributes_2::attributes_4()),
+        wrong_attribute(alloc, &corpus_attributes_2::attributes_5()),
+        wrong_attribute(alloc, &corpus_attributes_3::attributes_6()),
+        wrong_attribute(alloc, &corpus_attributes_3::attributes_7()),
+    ]
+    .iter()
+    .enumerate()
+    {
+        assert!(rt; wrong.is_none(), "part {part} {wrong:?}");
+    }
+}
+
+#[test]
+fn reads_addresses_of_the_library(rt: HostRuntime) {
+    for (body, tree, heap) in corpus_symbol_tables::symbol_tables() {
+        let read = read_symbol_table(body);
+        assert!(rt;
+            read.is_ok_and(|table| table.tree() == tree && table.heap() == heap),
+            "{tree}"
+        );
+    }
+    for (body, at, len) in corpus_continuations::continuations() {
+        assert!(rt; read_continuation(body) == Ok(Block { at, len }), "{at}");
+    }
+}
+
+/// Whether the layout of a dataset with this dataspace and type is refused.
+fn refuses_layout(alloc: Global, dataspace: &[u8], datatype: &[u8], layout: &[u8]) -> bool {
+    let (Ok(extent), Ok(fixed)) = (read_dataspace(dataspace), read_datatype(datatype)) else {
+        return false;
+    };
+    let read = read_layout(&extent.dims(alloc), &fixed, layout);
+    read.is_err_and(|fault| fault == FormFault::LayoutForm)
+}
+
+#[test]
+fn refuses_other_forms_of_the_library(rt: HostRuntime) {
+    for body in corpus_refused::dataspaces() {
+        let read = read_dataspace(body);
+        assert!(rt; read.is_err_and(|fault| fault == FormFault::DataspaceForm));
+    }
+    for (k, body) in corpus_refused::datatypes().iter().enumerate() {
+        let read = read_datatype(body);
+        assert!(rt;
+            read.is_err_and(|fault| fault == FormFault::DatatypeForm),
+            "datatype {k}"
+        );
+    }
+    for (k, body) in corpus_refused::attributes().iter().enumerate() {
+        let read = read_attribute(body);
+        assert!(rt;
+            read.is_err_and(|fault| fault == FormFault::AttributeForm),
+            "attribute {k}"
+        );
+    }
+    for (dataspace, datatype, layout) in corpus_refused::layouts() {
+        assert!(rt; refuses_layout(rt.alloc(), dataspace, datatype, layout));
     }
 }
 
