@@ -1,0 +1,5 @@
+pub mod Nodes
+pub mod Copies
+pub mod LineParts
+pub mod Segments
+pub mod Front

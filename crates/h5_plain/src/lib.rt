@@ -1,0 +1,18 @@
+//! The plain layout: the blocks of a file one behind the other, without gaps (File Format Specification 3.0).
+//!
+//! Addresses are computed first, then blocks are appended. Where memory is refused, how many bytes have been appended is not said.
+#![tactic(auto)]
+
+mod cells;
+mod empty;
+mod entry;
+mod fields;
+mod group;
+mod header;
+mod line;
+mod places;
+mod superblock;
+mod symbols;
+
+pub use crate::empty::write_empty;
+pub use crate::line::{line_length, write_line};
