@@ -10,9 +10,13 @@ mod fields;
 mod group;
 mod header;
 mod line;
+mod line_file;
 mod places;
+mod read;
 mod superblock;
 mod symbols;
 
 pub use crate::empty::write_empty;
 pub use crate::line::{line_length, write_line};
+pub use crate::line_file::Line;
+pub use crate::read::read_line;

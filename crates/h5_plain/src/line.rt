@@ -1,7 +1,7 @@
 //! A file whose root has one link, to a contiguous array of one size (File Format Specification 3.0, sections II.A, III and IV.A).
 ghost use Rattle.std.specs.Prelude.{◌≡◌, ◌^◌, ◌<◌, ◌≤◌, ◌++◌, OnOk, IfOk, IsTrue, true, length, replicate};
 ghost use Rattle.h5_model.specs.Fixed.{fits};
-ghost use Rattle.h5_model.specs.OneArray.{one_end, one_front, one_image};
+ghost use Rattle.h5_model.specs.OneArray.{header_place, one_end, one_front, one_image};
 ghost use Rattle.h5_plain.specs.Places.{ArePlaces};
 
 use crate::cells::push_cells;
@@ -14,6 +14,14 @@ use crate::symbols::push_symbol_node;
 use h5_bytes::UNDEF;
 use h5_model::Fixed;
 use std::alloc::{AllocError, Global};
+
+/// Where the array's header begins.
+pub(crate) fn line_header_place(name: &[u8]) -> u64
+    requires { length name.now < 2 ^ 32 }
+    ensures { result ≡ header_place name.now }
+{
+    SEGMENT + segment_length(8 + text_span(name) as u64) + 328
+}
 
 /// Where the blocks begin.
 fn line_places(name: &[u8], fixed: &Fixed, size: u64) -> LinePlaces
@@ -37,7 +45,7 @@ fn line_places(name: &[u8], fixed: &Fixed, size: u64) -> LinePlaces
 }
 
 /// All but the data.
-fn push_front(out: &mut Vec<u8>, name: &[u8], fixed: &Fixed, size: u64, fill: i128) -> Result<(), AllocError>
+pub(crate) fn push_front(out: &mut Vec<u8>, name: &[u8], fixed: &Fixed, size: u64, fill: i128) -> Result<(), AllocError>
     requires name { length name.now < 2 ^ 32 }
     requires size { size ≤ 2 ^ 40 }
     requires of_type { fits fixed.now fill ≡ true }
