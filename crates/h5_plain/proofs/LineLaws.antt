@@ -1,5 +1,5 @@
 -- What stands in a file with one array: its length, its name, and its header.
-use Rattle.std.proofs.Common.{◌≡◌, ℕ, suc, ◌+◌, ◌-◌, ◌*◌, ◌^◌, ◌%◌, ◌<◌, ◌≤◌, ◌==◌, List, [], ◌∷◌, ◌++◌, length, take, drop, ℤ, Bool, true, false, inl, inr, Option, Some, None, refl, ap, ◌∙◌, sym, subst, arith, append_assoc, append-nil, length-append, eqb}
+use Rattle.std.proofs.Common.{◌≡◌, ℕ, ◌+◌, ◌-◌, ◌*◌, ◌^◌, ◌%◌, ◌<◌, ◌≤◌, List, [], ◌∷◌, ◌++◌, length, take, drop, ℤ, Bool, true, false, inl, inr, Some, None, refl, ap, ◌∙◌, sym, subst, arith, append_assoc, append-nil, length-append, eqb}
 use Rattle.std.specs.List.{starts_with}
 use Rattle.std.proofs.lemmas.List.{take_at, take_rest, length-drop, get_or-drop}
 use Rattle.std.proofs.lemmas.Slice.Eq.{starts_is}
@@ -19,7 +19,7 @@ use Rattle.h5_model.specs.Plain.{word, zeros, superblock_bytes, header_bytes, sy
 use Rattle.h5_model.specs.OneArray.{one_image, one_front, one_end, symbols_place, header_place, data_place, data_address}
 use Rattle.h5_model.proofs.FixedLaws.{sizes_of, length-bytes_of}
 use Rattle.h5_model.proofs.PlainArray.{length-line_header_bytes}
-use Rattle.h5_model.proofs.PlainValues.{length-cells_bytes, size-high}
+use Rattle.h5_model.proofs.PlainValues.{length-cells_bytes}
 use Rattle.h5_model.proofs.PlainGroup.{name_is}
 use Rattle.h5_types.proofs.Values.{value_of_bytes}
 use Rattle.h5_plain.specs.Parts.{free_rest}
@@ -161,7 +161,7 @@ module _ (name : List ℕ) (t : Fixed) (size : ℕ) (fill : ℤ) where
         let there : drop 720 (one_image name t size fill values) ≡ drop 8 (segment ++ (symbols ++ (header ++ cells_bytes t values)))
         = ap (drop 720) image_is ∙ drop-append-add root (segment ++ (symbols ++ (header ++ cells_bytes t values))) 8 in
         let spread : drop 8 (segment ++ (symbols ++ (header ++ cells_bytes t values)))
-            ≡ padded_text name ++ (free_rest (8 + text_span name) ++ (symbols ++ (header ++ cells_bytes t values)))
+        ≡ padded_text name ++ (free_rest (8 + text_span name) ++ (symbols ++ (header ++ cells_bytes t values)))
         = ap (λ bytes. drop 8 (bytes ++ (symbols ++ (header ++ cells_bytes t values)))) (segment_is name) ∙ simp (append_assoc, append-nil) in
         ap until_zero (there ∙ spread)
         ∙ until_padding name (text_span name - length name) (free_rest (8 + text_span name) ++ (symbols ++ (header ++ cells_bytes t values))) (name_is name is.named).1 some
@@ -212,14 +212,17 @@ line_found image name t size fill named short sound of bounded small long begins
     let parts : image ≡ front ++ drop (length front) image = (starts_is Decides-eqb image front true (sym begins)).0 refl in
     let rest_long : length (drop (length front) image) ≡ size * t.size = length-drop (length front) image ∙ omega (arith, length-front name t size fill sound, long) in
     let rest_low : AreBytes (drop (length front) image) = λ i. rw (get_or-drop (length front) image i 0) (low (length front + i)) in
-    let there = values_there t size (drop (length front) image) sound rest_long rest_low in
-    (there.0, record {
-      named = named;
-      short = short;
-      sound = sound;
-      of_type = of;
-      values_of_type = there.1.of_type;
-      counted = there.1.counted;
-      bounded = bounded;
-      small = omega (arith, small, long);
-    }, parts ∙ ap (λ rest. front ++ rest) (sym there.1.same))
+    let there = values_there t size (drop (length front) image) sound rest_long rest_low in (
+      there.0,
+      record {
+        named = named;
+        short = short;
+        sound = sound;
+        of_type = of;
+        values_of_type = there.1.of_type;
+        counted = there.1.counted;
+        bounded = bounded;
+        small = omega (arith, small, long);
+      },
+      parts ∙ ap (λ rest. front ++ rest) (sym there.1.same),
+    )

@@ -1,8 +1,8 @@
 -- The header of an array of one size, as it is appended: a prefix, and each message's head and body.
-use Rattle.std.proofs.Common.{◌≡◌, ℕ, ◌+◌, ◌*◌, ◌-◌, ℤ, List, [], ◌∷◌, ◌++◌, length, refl, ap, ◌∙◌, sym, arith}
+use Rattle.std.proofs.Common.{◌≡◌, ℕ, ◌*◌, ℤ, List, [], ◌∷◌, ◌++◌, length, ap, ◌∙◌, arith}
 use Rattle.std.proofs.lemmas.List.{length-append, length-replicate}
 use Rattle.h5_model.specs.Fixed.{Fixed, IsFixed}
-use Rattle.h5_model.specs.Plain.{line_header_bytes, extent_body, type_body, fill_body, contiguous_body, messages_bytes, zeros, short, middle}
+use Rattle.h5_model.specs.Plain.{line_header_bytes, extent_body, type_body, fill_body, contiguous_body, messages_bytes}
 use Rattle.h5_model.proofs.FixedLaws.{length-bytes_of}
 use Rattle.h5_model.proofs.PlainValues.{length-fill_body, size-high}
 use Rattle.h5_plain.specs.Parts.{prefix_bytes, message_head}

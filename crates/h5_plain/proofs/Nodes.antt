@@ -1,10 +1,10 @@
 -- Nodes and symbol nodes as they are appended: a head, rows or entries, and zeros.
-use Rattle.std.proofs.Common.{◌≡◌, ℕ, zero, suc, ◌+◌, ◌-◌, ◌*◌, ◌≤◌, ◌<◌, List, [], ◌∷◌, ◌++◌, length, map, drop, replicate, get_or, slice_index, refl, ap, ◌∙◌, sym, arith, append_assoc}
+use Rattle.std.proofs.Common.{◌≡◌, ℕ, ◌+◌, ◌-◌, ◌*◌, ◌≤◌, ◌<◌, List, [], ◌∷◌, ◌++◌, length, map, drop, get_or, slice_index, refl, ap, arith}
 use Rattle.std.proofs.lemmas.List.{drop_more, drop_all}
 use Rattle.std.specs.List.{flat_map}
 use Rattle.h5_model.specs.Nodes.{group_kind}
 use Rattle.h5_model.specs.Symbols as symbols
-use Rattle.h5_model.specs.Plain.{word, short, zeros, rows_bytes, node_bytes_of, entry_bytes, symbol_node_bytes}
+use Rattle.h5_model.specs.Plain.{word, short, zeros, node_bytes_of, entry_bytes, symbol_node_bytes}
 use Rattle.h5_plain.specs.Parts.{node_head, group_rows}
 
 -- the rows from one place on

@@ -4,7 +4,7 @@ use Rattle.std.specs.Prelude.{nat_le, if◌then◌else◌}
 use Rattle.std.proofs.lemmas.Bool.Decides.{leb_tells}
 use Rattle.std.proofs.lemmas.List.{length-append, length-replicate}
 use Rattle.h5_model.specs.Sizes.{text_span}
-use Rattle.h5_model.specs.Plain.{word, zeros, padded_text, texts_bytes, segment_with, segment_bytes, head_of, free_head_of}
+use Rattle.h5_model.specs.Plain.{word, zeros, padded_text, texts_bytes, segment_with, segment_bytes, free_head_of}
 use Rattle.h5_plain.specs.Parts.{free_rest}
 
 pub length-used : (name : List ℕ) → length (texts_bytes (name ∷ [])) ≡ 8 + text_span name
@@ -29,8 +29,8 @@ segment_is name = with_rest (texts_bytes (name ∷ [])) ∙ ap (λ n. texts_byte
 length-free_rest : (n : ℕ) → n + length (free_rest n) ≡ (if nat_le n 72 then 88 else n)
 length-free_rest n = elim (leb_tells n 72) [
   | inl few ↦
-    let zeros_are : length (zeros (72 - n)) ≡ 72 - n = length-replicate (72 - n) 0 in
-    rw few.0 (omega (arith, few.1))
+      let zeros_are : length (zeros (72 - n)) ≡ 72 - n = length-replicate (72 - n) 0 in
+      rw few.0 (omega (arith, few.1))
   | inr many ↦ rw many.0 (omega arith)
 ]
 

@@ -1,17 +1,16 @@
 -- Any bytes of the right number are the bytes of a value, and of a list of values.
-use Rattle.std.proofs.Common.{◌≡◌, ℕ, zero, suc, ◌+◌, ◌-◌, ◌*◌, ◌/◌, ◌%◌, ◌^◌, ◌<◌, ◌≤◌, List, [], ◌∷◌, ◌++◌, length, take, drop, slice_index, get_or, inl, inr, Bool, true, false, cond, ℤ, pos, negsuc, ◌-ℤ◌, refl, ap, sym, ◌∙◌, arith, mod-eq_of_lt}
-use Rattle.std.proofs.lemmas.Bool.Decides.{nat_tests}
+use Rattle.std.proofs.Common.{◌≡◌, ℕ, zero, suc, ◌+◌, ◌-◌, ◌*◌, ◌/◌, ◌%◌, ◌^◌, ◌<◌, ◌≤◌, List, [], ◌∷◌, length, take, drop, slice_index, inl, inr, Bool, true, false, cond, ℤ, pos, negsuc, ◌-ℤ◌, refl, ap, sym, ◌∙◌, arith, mod-eq_of_lt}
 use Rattle.std.proofs.lemmas.Int.{ints}
 use Rattle.std.proofs.lemmas.Nat.{div-mul-add, mod-pow-add}
 use Rattle.std.proofs.lemmas.List.{length-take, length-drop, get_or-take, get_or-drop, take-append-drop, nil_from_length, get_or_past}
 use Rattle.std.proofs.lemmas.Bool.{cases_lt}
 use Rattle.std.proofs.Math.Nat.{pow-suc, div-div-eq-div-mul}
 use Rattle.std.specs.Prelude.{nat_lt}
-use Rattle.byteorder.specs.Endian.{big_from, little_from, big_bytes, little_bytes, twos_complement}
+use Rattle.byteorder.specs.Endian.{big_from, little_from, big_bytes, little_bytes}
 use Rattle.byteorder.specs.Numbers.{big_from-cons, little_from-cons, big_from-lt, little_from-lt}
 use Rattle.byteorder.proofs.Bytes.{pow256}
 use Rattle.std.specs.Int.{bytes_low_first, bytes_high_first, byte_at}
-use Rattle.h5_model.specs.Fixed.{Fixed, IsFixed, raw_at, value_at, value_of, bytes_of, fits, residue_of}
+use Rattle.h5_model.specs.Fixed.{Fixed, IsFixed, raw_at, value_at, value_of, bytes_of, residue_of}
 use Rattle.h5_model.specs.Sound.{AreOf}
 use Rattle.h5_model.specs.Plain.{cells_bytes}
 use Rattle.h5_model.proofs.PlainValues.{size-low}
@@ -134,12 +133,14 @@ values_there t (suc count) bytes sound long low =
     let first_low : AreBytes (take t.size bytes) = λ i. taken i in
     let rest_long : length (drop t.size bytes) ≡ count * t.size = length-drop t.size bytes ∙ omega arith in
     let rest_low : AreBytes (drop t.size bytes) = λ i. rw (get_or-drop t.size bytes i 0) (low (t.size + i)) in
-    let rest = values_there t count (drop t.size bytes) sound rest_long rest_low in
-    (value_of t (take t.size bytes) ∷ rest.0, record {
-      of_type = (fits_value_of t (take t.size bytes) sound first_low, rest.1.of_type);
-      counted = ap suc rest.1.counted;
-      same = rw (bytes_back t (take t.size bytes) sound first_long first_low, rest.1.same) (take-append-drop t.size bytes);
-    }) where
+    let rest = values_there t count (drop t.size bytes) sound rest_long rest_low in (
+      value_of t (take t.size bytes) ∷ rest.0,
+      record {
+        of_type = (fits_value_of t (take t.size bytes) sound first_low, rest.1.of_type);
+        counted = ap suc rest.1.counted;
+        same = rw (bytes_back t (take t.size bytes) sound first_long first_low, rest.1.same) (take-append-drop t.size bytes);
+      },
+    ) where
       taken : (i : ℕ) → slice_index (take t.size bytes) i < 256
       taken i = elim (cases_lt i t.size) [
         | inl within ↦ rw (get_or-take t.size bytes i 0 within) (low i)

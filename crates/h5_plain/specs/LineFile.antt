@@ -1,5 +1,5 @@
 -- Files in the plain layout with one array of one size (File Format Specification 3.0, sections II.A, III and IV.A).
-use Rattle.std.specs.Prelude.{◌≡◌, ℕ, ◌+◌, ◌^◌, ◌≤◌, ◌==◌, true, false, if◌then◌else◌, ℤ, Option, None, List, length}
+use Rattle.std.specs.Prelude.{◌≡◌, ℕ, ◌^◌, ◌≤◌, ◌==◌, true, false, if◌then◌else◌, ℤ, Option, None, List, length}
 use Rattle.std.specs.Option.{option_map}
 use Rattle.h5_bytes.specs.Bytes.{number_at, byte_at, part}
 use Rattle.h5_model.specs.Fixed.{Fixed, IsFixed, fits, fixed_from, value_of}

@@ -60,7 +60,12 @@ pub(crate) fn push_group_node(
 }
 
 /// The header of a heap whose segment has this size, first free block and address.
-pub(crate) fn push_heap_header(out: &mut Vec<u8>, size: u64, head: u64, segment: u64) -> Result<(), AllocError>
+pub(crate) fn push_heap_header(
+    out: &mut Vec<u8>,
+    size: u64,
+    head: u64,
+    segment: u64,
+) -> Result<(), AllocError>
     ensures { OnOk result (out.new.items ≡ out.old.items ++ heap_header_bytes size head segment) }
 {
     push_bytes(out, b"HEAP")?;

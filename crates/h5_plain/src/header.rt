@@ -11,7 +11,12 @@ use h5_model::Fixed;
 use std::alloc::AllocError;
 
 /// The prefix of a header: its count of messages, its reference count and the bytes of its messages.
-pub(crate) fn push_prefix(out: &mut Vec<u8>, messages: u16, references: u32, size: u32) -> Result<(), AllocError>
+pub(crate) fn push_prefix(
+    out: &mut Vec<u8>,
+    messages: u16,
+    references: u32,
+    size: u32,
+) -> Result<(), AllocError>
     ensures { OnOk result (out.new.items ≡ out.old.items ++ prefix_bytes references messages size) }
 {
     push_bytes(out, &[1, 0])?;

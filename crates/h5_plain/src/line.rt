@@ -8,7 +8,9 @@ use crate::cells::push_cells;
 use crate::entry::Entry;
 use crate::group::{push_group_node, push_heap_header, push_segment, text_span};
 use crate::header::{push_group_header, push_line_header};
-use crate::places::{HEAP, INTERNAL, LEAF, LinePlaces, ROOT, SEGMENT, TREE, data_address, free_head, segment_length};
+use crate::places::{
+    HEAP, INTERNAL, LEAF, LinePlaces, ROOT, SEGMENT, TREE, data_address, free_head, segment_length,
+};
 use crate::superblock::{Superblock, push_superblock};
 use crate::symbols::push_symbol_node;
 use h5_bytes::UNDEF;
@@ -45,7 +47,13 @@ fn line_places(name: &[u8], fixed: &Fixed, size: u64) -> LinePlaces
 }
 
 /// All but the data.
-pub(crate) fn push_front(out: &mut Vec<u8>, name: &[u8], fixed: &Fixed, size: u64, fill: i128) -> Result<(), AllocError>
+pub(crate) fn push_front(
+    out: &mut Vec<u8>,
+    name: &[u8],
+    fixed: &Fixed,
+    size: u64,
+    fill: i128,
+) -> Result<(), AllocError>
     requires name { length name.now < 2 ^ 32 }
     requires size { size ≤ 2 ^ 40 }
     requires of_type { fits fixed.now fill ≡ true }
@@ -86,7 +94,13 @@ pub fn line_length(name: &[u8], fixed: &Fixed, size: u64) -> u64
 }
 
 /// The file with an array of this type and size, each cell the fill value.
-pub fn write_line(alloc: Global, name: &[u8], fixed: &Fixed, size: u64, fill: i128) -> Result<Vec<u8>, AllocError>
+pub fn write_line(
+    alloc: Global,
+    name: &[u8],
+    fixed: &Fixed,
+    size: u64,
+    fill: i128,
+) -> Result<Vec<u8>, AllocError>
     requires name { length name.now < 2 ^ 32 }
     requires size { size ≤ 2 ^ 40 }
     requires of_type { IsTrue (fits fixed.now fill) }

@@ -21,7 +21,11 @@ fn push_entry(out: &mut Vec<u8>, entry: &Entry) -> Result<(), AllocError>
 }
 
 /// A symbol node with room for 2 `leaf` entries, filled from the left.
-pub(crate) fn push_symbol_node(out: &mut Vec<u8>, leaf: u16, entries: &[Entry]) -> Result<(), AllocError>
+pub(crate) fn push_symbol_node(
+    out: &mut Vec<u8>,
+    leaf: u16,
+    entries: &[Entry],
+) -> Result<(), AllocError>
     requires room { length entries.now ≤ 2 * leaf }
     requires counted { length entries.now < 2 ^ 16 }
     ensures { OnOk result (out.new.items ≡ out.old.items ++ symbol_node_bytes leaf (map entry_from entries.now)) }

@@ -1,4 +1,4 @@
-use Rattle.std.proofs.Common.{◌≡◌, ◌+◌, ◌-◌, ◌<◌, ◌≤◌, arith, rules, to_z, of_z, ap, sym, ◌∙◌, true, false, Some, length}
+use Rattle.std.proofs.Common.{◌≡◌, arith, rules, to_z, of_z, ap, sym, ◌∙◌, true, false, Some, length}
 use Rattle.std.specs.Int.{w128}
 use Rattle.h5_model.specs.Paths.{is_name}
 use Rattle.h5_model.specs.OneArray.{header_place, one_end, one_front}
@@ -22,11 +22,11 @@ returns-then-not-is_link_name c name t size fill values is e =
     let same : c.until_zero-name.result.now ≡ name = name_read name t size fill values is c.args.image.now e c.until_zero-name.result.now c.until_zero-name.ensures in
     elim c.then-not-is_link_name.branch [
       | then-not-is_link_name-via-then-not-is_link_name w ↦
-        let both : false ≡ true = sym w.if-not-is_link_name.true ∙ c.is_link_name.ensures ∙ ap is_name same ∙ is.named in
-        cc
+          let both : false ≡ true = sym w.if-not-is_link_name.true ∙ c.is_link_name.ensures ∙ ap is_name same ∙ is.named in
+          cc
       | then-not-is_link_name-via-else-not-is_link_name+then-name-gt-MAX_NAME w ↦
-        let long : length c.until_zero-name.result.now ≡ length name = ap length same in
-        omega (arith, w.if-name-gt-MAX_NAME.true, is.short)
+          let long : length c.until_zero-name.result.now ≡ length name = ap length same in
+          omega (arith, w.if-name-gt-MAX_NAME.true, is.short)
     ]
 
 pub returns-then-image-at : goal.returns-then-image-at
@@ -51,9 +51,9 @@ returns-then-told c name t size fill values is e =
     elim c.then-told.branch [
       | then-told-via-then-told w ↦ omega (arith, w.if-told.true, is.bounded)
       | then-told-via-else-told+then-image-line_length w ↦
-        let ends : one_end c.until_zero-name.result.now c.in-Some.told.fixed c.in-Some.told.size ≡ one_end name t size
-        = ap (λ text. one_end text c.in-Some.told.fixed c.in-Some.told.size) same ∙ ap (λ (x : Told). one_end name x.fixed x.size) told in
-        w.if-image-line_length.true (long_as name t size fill values is c.args.image.now e ∙ sym (w.line_length.ensures ∙ ends))
+          let ends : one_end c.until_zero-name.result.now c.in-Some.told.fixed c.in-Some.told.size ≡ one_end name t size
+          = ap (λ text. one_end text c.in-Some.told.fixed c.in-Some.told.size) same ∙ ap (λ (x : Told). one_end name x.fixed x.size) told in
+          w.if-image-line_length.true (long_as name t size fill values is c.args.image.now e ∙ sym (w.line_length.ensures ∙ ends))
     ]
 
 pub returns-then-not-branch : goal.returns-then-not-branch

@@ -1,4 +1,4 @@
-use Rattle.std.proofs.Common.{◌≡◌, ◌+◌, ◌-◌, rules, to_z, of_z, sym, ap, ◌∙◌, take, drop, Some}
+use Rattle.std.proofs.Common.{◌≡◌, ◌+◌, ◌-◌, rules, to_z, of_z, sym, ap, ◌∙◌, take, drop}
 use Rattle.std.specs.Int.{w128}
 use Rattle.h5_model.specs.Fixed.{value_of}
 use Rattle.h5_plain.proofs.LineLaws.{told_is, told_none}
