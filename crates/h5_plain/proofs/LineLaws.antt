@@ -203,6 +203,10 @@ module _ (name : List ℕ) (t : Fixed) (size : ℕ) (fill : ℤ) where
 
 -- ---- an image that begins so, and has as many bytes
 
+-- bytes that go on as others do
+same_end : (image front rest more : List ℕ) → image ≡ front ++ rest → more ≡ rest → image ≡ front ++ more
+same_end image front rest more parts same = rw same parts
+
 pub line_found : (image name : List ℕ) (t : Fixed) (size : ℕ) (fill : ℤ) → is_name name ≡ true → length name ≤ 1023 → IsFixed t → fits t fill ≡ true
     → size ≤ 2 ^ 40 → length image ≤ 2 ^ 31 → length image ≡ one_end name t size → starts_with eqb image (one_front name t size fill) ≡ true → AreBytes image
     → (values : List ℤ) × IsLineFile name t size fill values × (image ≡ one_image name t size fill values)
@@ -224,5 +228,5 @@ line_found image name t size fill named short sound of bounded small long begins
         bounded = bounded;
         small = omega (arith, small, long);
       },
-      parts ∙ ap (λ rest. front ++ rest) (sym there.1.same),
+      same_end image front (drop (length front) image) (cells_bytes t there.0) parts there.1.same)
     )

@@ -17,12 +17,18 @@ use h5_bytes::UNDEF;
 use h5_model::Fixed;
 use std::alloc::{AllocError, Global};
 
+/// The bytes of a symbol node.
+const SYMBOLS_LENGTH: u64 = 328;
+
+/// The bytes of the array's header.
+const HEADER_LENGTH: u64 = 120;
+
 /// Where the array's header begins.
 pub(crate) fn line_header_place(name: &[u8]) -> u64
     requires { length name.now < 2 ^ 32 }
     ensures { result ≡ header_place name.now }
 {
-    SEGMENT + segment_length(8 + text_span(name) as u64) + 328
+    SEGMENT + segment_length(8 + text_span(name) as u64) + SYMBOLS_LENGTH
 }
 
 /// Where the blocks begin.
@@ -34,8 +40,8 @@ fn line_places(name: &[u8], fixed: &Fixed, size: u64) -> LinePlaces
     let used = 8 + text_span(name) as u64;
     let segment = segment_length(used);
     let symbols = SEGMENT + segment;
-    let header = symbols + 328;
-    let data = header + 120;
+    let header = symbols + SYMBOLS_LENGTH;
+    let data = header + HEADER_LENGTH;
     LinePlaces {
         segment,
         head: free_head(used),
@@ -84,7 +90,8 @@ pub(crate) fn push_front(
     Ok(())
 }
 
-/// The bytes of the file, data and all.
+/// How many bytes the file has whose root's one link has this name and leads to an array of this type and count of cells
+/// (File Format Specification 3.0, sections II.A, III and IV.A).
 pub fn line_length(name: &[u8], fixed: &Fixed, size: u64) -> u64
     requires name { length name.now < 2 ^ 32 }
     requires size { size ≤ 2 ^ 40 }
@@ -93,7 +100,8 @@ pub fn line_length(name: &[u8], fixed: &Fixed, size: u64) -> u64
     line_places(name, fixed, size).end
 }
 
-/// The file with an array of this type and size, each cell the fill value.
+/// The file whose root has one link of this name, to a contiguous array of this type and count of cells, each cell the fill
+/// value. It fails only where memory is refused.
 pub fn write_line(
     alloc: Global,
     name: &[u8],

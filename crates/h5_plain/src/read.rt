@@ -14,6 +14,9 @@ use h5_model::Fixed;
 use h5_types::decode;
 use std::alloc::{AllocError, Global};
 
+/// Where the name of the root's link begins in its heap.
+const NAME: usize = 720;
+
 /// The most bytes that a name may have here.
 const MAX_NAME: usize = 1023;
 
@@ -89,14 +92,14 @@ fn begins_as(alloc: Global, image: &[u8], name: &[u8], told: &Told) -> Result<bo
 }
 
 /// The file with one array that the image is, with cells of any values, or `None` where it is none. A name has at most 1023 bytes,
-/// the array at most 2^40 cells, and the file at most 2^31 bytes.
+/// the array at most 2^40 cells, and the file at most 2^31 bytes. It fails only where memory is refused.
 pub fn read_line(alloc: Global, image: &[u8]) -> Result<Option<Line>, AllocError>
     ensures { IfOk result (λ line. MatchOption line (IsNoLine image.now) (λ l. IsLine image.now l)) }
 {
-    if image.len() < 720 || image.len() > 1 << 31 {
+    if image.len() < NAME || image.len() > 1 << 31 {
         return Ok(None);
     }
-    let name = until_zero(&image[720..]);
+    let name = until_zero(&image[NAME..]);
     if !is_link_name(name) || name.len() > MAX_NAME {
         return Ok(None);
     }

@@ -7,14 +7,14 @@ use Rattle.std.proofs.Common.{eqb}
 use Rattle.h5_plain.specs.declared.line_file.Told.{Told}
 use Rattle.h5_plain.proofs.LineLaws.{telling, long_as, begins_as, name_read, told_read, line_found}
 use Rattle.h5_plain.proofs.read.read_line.Goals as goal
-use Rattle.h5_plain.proofs.read.read_line.Goals.{then-image-lt720-via-then-image-lt720, then-image-lt720-via-else-image-lt720+then-image, then-not-is_link_name-via-then-not-is_link_name, then-not-is_link_name-via-else-not-is_link_name+then-name-gt-MAX_NAME, then-told-via-then-told, then-told-via-else-told+then-image-line_length}
+use Rattle.h5_plain.proofs.read.read_line.Goals.{then-image-lt-NAME-via-then-image-lt-NAME, then-image-lt-NAME-via-else-image-lt-NAME+then-image, then-not-is_link_name-via-then-not-is_link_name, then-not-is_link_name-via-else-not-is_link_name+then-name-gt-MAX_NAME, then-told-via-then-told, then-told-via-else-told+then-image-line_length}
 
-pub returns-then-image-lt720 : goal.returns-then-image-lt720
-returns-then-image-lt720 c name t size fill values is e =
+pub returns-then-image-lt-NAME : goal.returns-then-image-lt-NAME
+returns-then-image-lt-NAME c name t size fill values is e =
     let long = long_as name t size fill values is c.args.image.now e in
-    elim c.then-image-lt720.branch [
-      | then-image-lt720-via-then-image-lt720 w ↦ omega (arith, w.if-image-lt720.true, long)
-      | then-image-lt720-via-else-image-lt720+then-image w ↦ omega (arith, w.if-image.true, long, is.small)
+    elim c.then-image-lt-NAME.branch [
+      | then-image-lt-NAME-via-then-image-lt-NAME w ↦ omega (arith, w.if-image-lt-NAME.true, long)
+      | then-image-lt-NAME-via-else-image-lt-NAME+then-image w ↦ omega (arith, w.if-image.true, long, is.small)
     ]
 
 pub returns-then-not-is_link_name : goal.returns-then-not-is_link_name
