@@ -228,5 +228,5 @@ line_found image name t size fill named short sound of bounded small long begins
         bounded = bounded;
         small = omega (arith, small, long);
       },
-      same_end image front (drop (length front) image) (cells_bytes t there.0) parts there.1.same)
+      same_end image front (drop (length front) image) (cells_bytes t there.0) parts there.1.same,
     )
