@@ -1,0 +1,26 @@
+//! The plain layout: the blocks of a file one behind the other, without gaps (File Format Specification 3.0).
+//!
+//! Addresses are computed first, then blocks are appended. Where memory is refused, how many bytes have been appended is not said.
+#![tactic(auto)]
+
+mod cells;
+mod empty;
+mod entry;
+mod fields;
+mod group;
+mod header;
+#[cfg(test)]
+mod images;
+mod line;
+mod line_file;
+mod places;
+mod read;
+mod superblock;
+mod symbols;
+#[cfg(test)]
+mod tests;
+
+pub use crate::empty::write_empty;
+pub use crate::line::{line_length, write_line};
+pub use crate::line_file::Line;
+pub use crate::read::read_line;
