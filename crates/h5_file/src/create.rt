@@ -1,6 +1,8 @@
 //! A new array: why it is refused, in the order of the refusals' numbers.
 
-ghost use Rattle.std.specs.Prelude.{◌≡◌, MatchResult, IfOk};
+ghost use Rattle.std.specs.Prelude.{◌≡◌, ◌&&◌, true, MatchResult, [], ◌∷◌};
+ghost use Rattle.h5_model.specs.Tree.{are_sizes};
+ghost use Rattle.h5_model.specs.Refusal.{are_maxima};
 ghost use Rattle.h5_file.specs.Edited.{is_line};
 ghost use Rattle.h5_file.specs.Create.{IsNewLink, IsNoNewLink, IsNewLine, IsNoNewLine};
 
@@ -30,11 +32,26 @@ pub fn new_link(path: &[u8]) -> Result<&[u8], EditFault>
     match names_in(path) {
         Names::Bad => Err(EditFault::BadPath),
         Names::Root => Err(EditFault::IsRoot),
-        Names::One(name) if name.len() > MAX_NAME => Err(EditFault::NameTooLong),
-        Names::One(name) => Ok(name),
-        Names::Several { count, .. } if count > MAX_DEPTH => Err(EditFault::PathTooDeep),
-        Names::Several { .. } => Err(EditFault::NoSuchParent),
+        Names::One(name) => {
+            if name.len() > MAX_NAME {
+                return Err(EditFault::NameTooLong);
+            }
+            Ok(name)
+        }
+        Names::Several { count, .. } => {
+            if count > MAX_DEPTH {
+                return Err(EditFault::PathTooDeep);
+            }
+            Err(EditFault::NoSuchParent)
+        }
     }
+}
+
+/// Whether the size is the one maximum, and not the mark of an unlimited one.
+fn is_own_maximum(size: u64, maxima: &[Option<u64>]) -> bool
+    ensures { result ≡ (are_maxima (size ∷ []) maxima.now && are_sizes (size ∷ []) maxima.now) }
+{
+    maxima.len() == 1 && maxima[0] == Some(size) && size != UNDEF
 }
 
 /// The size of a new array of one size, whose one maximum is to be that size.
@@ -43,10 +60,7 @@ pub fn new_size(spec: &Spec) -> Result<u64, EditFault>
     ensures { MatchResult result (IsNewLine spec.now) (IsNoNewLine spec.now) }
 {
     let size = spec.dims.as_slice()[0];
-    let [Some(maximum)] = spec.maxima.as_slice() else {
-        return Err(EditFault::BadSpec);
-    };
-    if *maximum != size || size == UNDEF {
+    if !is_own_maximum(size, spec.maxima.as_slice()) {
         return Err(EditFault::BadSpec);
     }
     if size > MAX_CELLS {

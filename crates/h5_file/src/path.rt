@@ -1,6 +1,6 @@
 //! Paths: the names between slashes.
 
-ghost use Rattle.std.specs.Prelude.{◌≡◌, ◌==◌, ◌||◌, length};
+ghost use Rattle.std.specs.Prelude.{◌≡◌, ◌==◌, ◌||◌, length, position};
 ghost use Rattle.std.specs.List.{list_all, list_any, slice_split};
 ghost use Rattle.h5_model.specs.Paths.{is_name, names_of};
 ghost use Rattle.h5_file.specs.Names.{AreNames, AreParts};
@@ -46,11 +46,18 @@ fn count_parts(text: &[u8]) -> usize
     text.split(|c| *c == b'/').count()
 }
 
+/// Where the first slash is.
+fn slash_at(text: &[u8]) -> Option<usize>
+    ensures { result ≡ position (λ c. c == 47) text.now }
+{
+    text.iter().position(|c| *c == b'/')
+}
+
 /// The text up to the first slash, and whether there is one.
 fn first_part(text: &[u8]) -> (&[u8], bool)
     ensures { AreParts (slice_split (λ c. c == 47) text.now) result.0.now result.1 }
 {
-    match text.iter().position(|c| *c == b'/') {
+    match slash_at(text) {
         Some(end) => (&text[..end], true),
         None => (text, false),
     }
