@@ -7,7 +7,7 @@ use Rattle.h5_bytes.specs.Bytes.{undefined}
 use Rattle.h5_model.specs.Fixed.{fits}
 use Rattle.h5_model.specs.Places.{extent_cells}
 use Rattle.h5_model.specs.Tree.{are_sizes}
-use Rattle.h5_model.specs.Paths.{names_of, is_name, checked_names}
+use Rattle.h5_model.specs.Paths.{located, Missing, names_of, is_name, checked_names}
 use Rattle.h5_model.specs.Empty.{root_tree}
 use Rattle.h5_model.specs.Refusal.{refusal_of, are_maxima}
 use Rattle.h5_model.specs.declared.dataset.Spec.{Spec}
@@ -48,7 +48,8 @@ module _ (path : List ℕ) (spec : Spec) where
   unfolding refusal_of
   no_parent first second others h low =
       let test : nat_lt 64 (length (first ∷ second ∷ others)) ≡ false = grind (arith, nat_tests) in
-      rw (alone-no_parent path first second others h, h, test) refl
+      let several : (length (first ∷ second ∷ others) == 0) ≡ false = grind (arith, nat_tests) in
+      rw (alone-no_parent path first second others h, h, test, several) refl
 
   pub long_name : (name : List ℕ) → names_of path ≡ Some (name ∷ []) → 1023 < length name → refusal_of root_tree 1 (CreateDataset path spec) ≡ Some NameTooLong
   unfolding refusal_of
@@ -133,6 +134,7 @@ module _ (path name : List ℕ) (spec : Spec) (size : ℕ) (link : IsNewLink pat
   low_name : nat_lt 1023 (length name) ≡ false
   low_name = let short = link.short in grind (arith, nat_tests)
 
+  missing : located root_tree path ≡ Missing
   missing = alone-missing path name link.names
 
   pub bad_spec : (are_maxima (size ∷ []) spec.maxima && are_sizes (size ∷ []) spec.maxima) ≡ false → refusal_of root_tree 1 (CreateDataset path spec) ≡ Some BadSpec
@@ -153,3 +155,12 @@ module _ (path name : List ℕ) (spec : Spec) (size : ℕ) (link : IsNewLink pat
     pub accepted : size ≤ 2 ^ 40 → fits spec.fixed spec.fill ≡ true → refusal_of root_tree 1 (CreateDataset path spec) ≡ None
     unfolding refusal_of
     accepted few of_type = rw (missing, link.names, low_name, stored, sizes, own, few_tested size few, of_type) refl
+
+-- one size, which is its own maximum, has the form of sizes and maxima
+pub own_test : (spec : Spec) (size : ℕ) → IsNewLine spec size → (are_maxima (size ∷ []) spec.maxima && are_sizes (size ∷ []) spec.maxima) ≡ true
+own_test spec size line =
+    let low : nat_le size size ≡ true = grind (arith, nat_tests) in
+    let few = line.few in
+    let bounded : (size == undefined) ≡ false = grind (arith, nat_tests) in
+    let same : (size == size) ≡ true = grind (arith, nat_tests) in
+    rw (line.maxima, low, bounded, same) refl

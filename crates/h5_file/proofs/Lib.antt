@@ -5,3 +5,4 @@ pub mod Looks
 pub mod Wholes
 pub mod Parts
 pub mod Creates
+pub mod Edits

@@ -4,16 +4,21 @@ ghost use Rattle.std.specs.Prelude.{◌≡◌, ◌&&◌, true, MatchResult, [], 
 ghost use Rattle.h5_model.specs.Tree.{are_sizes};
 ghost use Rattle.h5_model.specs.Refusal.{are_maxima};
 ghost use Rattle.h5_file.specs.Edited.{is_line};
-ghost use Rattle.h5_file.specs.Create.{IsNewLink, IsNoNewLink, IsNewLine, IsNoNewLine};
+ghost use Rattle.h5_file.specs.Create.{IsNewLink, IsNoNewLink, IsNewLine, IsNoNewLine, IsNewArray, IsNoNewArray};
 
+use crate::held::{Held, is_nothing};
 use crate::look::MAX_DEPTH;
 use crate::path::{Names, names_in};
 use h5_bytes::UNDEF;
 use h5_model::{EditFault, Spec, Store};
+use h5_plain::line_length;
 use h5_types::fits;
 
 /// The most bytes of a link's name.
 const MAX_NAME: usize = 1023;
+
+/// The most bytes of an image.
+const MAX_IMAGE: u64 = 1 << 31;
 
 /// The most cells of an array.
 const MAX_CELLS: u64 = 1 << 40;
@@ -70,4 +75,23 @@ pub fn new_size(spec: &Spec) -> Result<u64, EditFault>
         return Err(EditFault::ValueRange);
     }
     Ok(size)
+}
+
+/// The name and the size of a new array, in a file that holds this, or the lowest reason why there is none.
+pub fn new_array<'a>(
+    held: &Held,
+    path: &'a [u8],
+    spec: &Spec,
+) -> Result<(&'a [u8], u64), EditFault>
+    ensures { MatchResult result (λ made. IsNewArray held.now path.entry.now spec.now made.0.now made.1) (IsNoNewArray held.now path.entry.now spec.now) }
+{
+    if !is_nothing(held) || !is_one_line(spec) {
+        return Err(EditFault::NotYet);
+    }
+    let name = new_link(path)?;
+    let size = new_size(spec)?;
+    if line_length(name, &spec.fixed, size) > MAX_IMAGE {
+        return Err(EditFault::ImageFull);
+    }
+    Ok((name, size))
 }

@@ -1,9 +1,11 @@
 //! Paths: the names between slashes.
 
-ghost use Rattle.std.specs.Prelude.{◌≡◌, ◌==◌, ◌||◌, length, position};
-ghost use Rattle.std.specs.List.{list_all, list_any, slice_split};
+ghost use Rattle.std.specs.Prelude.{◌≡◌, ◌==◌, length, position};
+ghost use Rattle.std.specs.List.{list_all, slice_split};
 ghost use Rattle.h5_model.specs.Paths.{is_name, names_of};
 ghost use Rattle.h5_file.specs.Names.{AreNames, AreParts};
+
+use h5_model::is_link_name;
 
 /// The names of a path.
 #[derive(Clone, Copy)]
@@ -16,22 +18,6 @@ pub enum Names<'a> {
     One(&'a [u8]),
     /// Several names, with the first of them.
     Several { first: &'a [u8], count: usize },
-}
-
-fn has_separator(name: &[u8]) -> bool
-    ensures { result ≡ list_any (λ c. (c == 0) || (c == 47)) name.now }
-{
-    name.iter().any(|c| *c == 0 || *c == b'/')
-}
-
-/// Whether a link may have this name.
-fn is_link_name(name: &[u8]) -> bool
-    ensures { result ≡ is_name name.now }
-{
-    if name.is_empty() || name.len() == 1 && name[0] == b'.' {
-        return false;
-    }
-    !has_separator(name)
 }
 
 fn are_names(text: &[u8]) -> bool
