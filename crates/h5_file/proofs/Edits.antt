@@ -32,7 +32,7 @@ use Rattle.h5_file.specs.declared.held.Held.TheVariants.{Nothing, OneArray}
 use Rattle.h5_file.specs.State.{FileState, Holds, state_with, state_of, values_in}
 use Rattle.h5_file.specs.Held.{IsWritten, has_no_link}
 use Rattle.h5_file.specs.Edited.{is_line, has_empty_root, is_carried, is_too_long, IsGivenFor, IsEdited, IsRefused, RefusedAs, IsRefusedBy}
-use Rattle.h5_file.specs.Create.{IsNewLink, IsNewLine, IsNoNewArray}
+use Rattle.h5_file.specs.Create.{IsNewLink, IsNewLine, IsNewArray, IsNoNewArray}
 use Rattle.h5_file.proofs.Creates.{accepted, own_test}
 use Rattle.h5_file.proofs.Wholes.{whole, line_holds}
 
@@ -134,3 +134,17 @@ is_alone (OneArray l) h = cc
 pub refused_alone : (held : Held) (path : List ℕ) (spec : Spec) (e : EditFault) → has_no_link held ≡ true
     → ((image : List ℕ) → IsRefused (state_with Nothing image) (CreateDataset path spec) e) → IsNoNewArray held path spec e
 refused_alone held path spec e alone refused image = rw (is_alone held alone) (refused image)
+
+-- ---- the same, of whatever is held
+
+module _ (held : Held) (before path : List ℕ) (spec : Spec) (name : List ℕ) (size : ℕ) (new : IsNewArray held path spec name size) where
+  pub held_memory : IsRefused (state_with held before) (CreateDataset path spec) fault.NoMemory
+  held_memory = rw new.alone (refused_memory before path spec new.lined)
+
+  module _ (image : List ℕ) (l : Line) (written : IsWritten name spec size image l) where
+    pub held_new : Holds (OneArray l) image
+    held_new = new_holds path name spec size new.link new.line new.sound new.small image l written
+
+    pub held_edited : (done : Edited) → done ≡ record { object = Some (record { 0 = 1 }); refreshed = 0 }
+        → IsEdited (state_with held before) (CreateDataset path spec) (state_with (OneArray l) image) done
+    held_edited done same = rw new.alone (edited path name spec size new.link new.line new.sound new.small image l written before done new.lined same)

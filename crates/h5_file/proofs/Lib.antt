@@ -6,3 +6,4 @@ pub mod Wholes
 pub mod Parts
 pub mod Creates
 pub mod Edits
+pub mod Calls

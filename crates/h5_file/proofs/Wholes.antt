@@ -2,6 +2,10 @@
 use Rattle.std.proofs.Common.{◌≡◌, ℕ, suc, ◌+◌, ◌*◌, ◌<◌, List, [], ◌∷◌, length, refl, sym, ap, ◌∙◌, subst, arith, zero, false, true, inl, inr}
 use Rattle.std.specs.Prelude.{IsSome}
 use Rattle.std.specs.FinMap.{get}
+use Rattle.h5_model.specs.Superblock.{IsSuperblock}
+use Rattle.h5_model.specs.Faults.{cut, SuperblockBreach}
+use Rattle.h5_model.specs.declared.open_fault.Cause.{Cause}
+use Rattle.h5_model.proofs.BreachLaws.{no_breach}
 use Rattle.h5_model.specs.States.{IsState}
 use Rattle.h5_model.specs.Empty.{empty_file, root_tree}
 use Rattle.h5_model.specs.OneArray.{one_image, one_tree, data_place}
@@ -68,3 +72,14 @@ data_end l image (is, same) =
 pub not_carried : (image : List ℕ) → (image ≡ empty_file → ⊥) → IsNoLine image → IsCarried image → ⊥
 not_carried image other none (inl same) = other same
 not_carried image other none (inr line) = none line.name line.fixed line.size line.fill line.values line.file line.whole
+
+-- an image that is opened has a sound superblock
+carried_superblock : (image : List ℕ) → IsCarried image → IsSuperblock image
+carried_superblock image (inl same) = subst IsSuperblock (sym same) empty_reads_as.superblock
+carried_superblock image (inr line) =
+    let is = line.file in
+    subst IsSuperblock (sym line.whole) (reads_as line.name line.fixed line.size line.fill line.values is.named is.sound is.of_type is.values_of_type is.counted is.bounded is.small).superblock
+
+-- so bytes that are cut to one break no rule of the superblock
+pub no_breach_of_carried : (bytes : List ℕ) (cause : Cause) (at : ℕ) → IsCarried (cut bytes) → SuperblockBreach bytes cause at → ⊥
+no_breach_of_carried bytes cause at carried breach = no_breach bytes (carried_superblock (cut bytes) carried) cause at breach

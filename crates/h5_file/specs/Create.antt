@@ -1,6 +1,6 @@
 -- A new array in a file whose root has no link, and why it is refused.
 use Rattle.std.specs.Prelude.{◌≡◌, ℕ, ◌^◌, ◌≤◌, ◌==◌, true, Option, Some, List, [], ◌∷◌, length}
-use Rattle.h5_model.specs.Fixed.{fits}
+use Rattle.h5_model.specs.Fixed.{IsFixed, fits}
 use Rattle.h5_model.specs.Empty.{root_tree}
 use Rattle.h5_model.specs.Paths.{names_of, is_name}
 use Rattle.h5_model.specs.Refusal.{refusal_of}
@@ -42,6 +42,7 @@ pub record IsNewArray (held : Held) (path : List ℕ) (spec : Spec) (name : List
   pub lined : is_line spec ≡ true
   pub link : IsNewLink path name
   pub line : IsNewLine spec size
+  pub sound : IsFixed spec.fixed
   pub small : one_end name spec.fixed size ≤ 2 ^ 31
 
 -- whatever its image is

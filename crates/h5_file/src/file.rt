@@ -132,7 +132,10 @@ impl File {
         if let Place::Array(_) = look(&self.held, path)? {
             return Err(EditFault::NotAGroup);
         }
-        names_held(alloc, &self.held).map_err(|_| EditFault::NoMemory)
+        match names_held(alloc, &self.held) {
+            Ok(names) => Ok(names),
+            Err(_) => Err(EditFault::NoMemory),
+        }
     }
 
     /// The value of the cell at an index of the array at the path.
