@@ -205,8 +205,11 @@ impl File {
         let Ok((image, line)) = written(self.alloc, name, spec, size) else {
             return Err(EditFault::NoMemory);
         };
-        self.image = image;
-        self.held = Held::OneArray(line);
+        *self = File {
+            image,
+            held: Held::OneArray(line),
+            alloc: self.alloc,
+        };
         Ok(Edited {
             object: Some(ObjectNo(1)),
             refreshed: 0,
