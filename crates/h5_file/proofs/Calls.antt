@@ -1,14 +1,12 @@
 -- What the calls of a file answer at the root and at the array.
-use Rattle.std.proofs.Common.{◌≡◌, ℕ, suc, ◌+◌, ◌*◌, ◌<◌, ◌≤◌, List, [], ◌∷◌, length, drop, length-drop, refl, sym, ap, ◌∙◌, subst, Bool, true, false, Option, Some, None, arith, ℤ}
+use Rattle.std.proofs.Common.{◌≡◌, ℕ, suc, ◌+◌, ◌*◌, ◌<◌, ◌≤◌, List, [], ◌∷◌, length, drop, length-drop, refl, sym, ap, ◌∙◌, subst, true, false, Some, None, arith, ℤ}
 use Rattle.std.specs.Prelude.{nat_lt, ◌==◌, slice_index, slice_index_or}
 use Rattle.std.proofs.lemmas.Bool.Decides.{nat_tests}
 use Rattle.h5_model.specs.Fixed.{value_at, value_of}
-use Rattle.h5_model.specs.Places.{cells}
 use Rattle.h5_model.specs.Tree.{Tree, ToObject, Dataset, links_of, dataset_of}
 use Rattle.h5_model.specs.Paths.{Here, located, dataset_at}
 use Rattle.h5_model.specs.Refusal.{first_holding}
-use Rattle.h5_model.specs.Reading.{path_rules, list_rules, dataset_rules, cell_rules, listed_names, cell_at}
-use Rattle.h5_model.specs.Empty.{root_tree}
+use Rattle.h5_model.specs.Reading.{list_rules, dataset_rules, cell_rules, listed_names}
 use Rattle.h5_model.specs.OneArray.{line_dataset, data_place}
 use Rattle.h5_model.specs.declared.edit_fault.EditFault.TheVariants.{NotAGroup, NotADataset, RankMismatch, OutOfExtent}
 use Rattle.h5_model.proofs.RootPaths.{alone-links, alone-dataset, alone-keys}
@@ -21,13 +19,12 @@ use Rattle.std.proofs.lemmas.List.{get_or-drop}
 use Rattle.h5_plain.specs.declared.line_file.Line.{Line}
 use Rattle.h5_file.specs.declared.held.Held.{Held}
 use Rattle.h5_file.specs.declared.held.Held.TheVariants.{Nothing, OneArray}
-use Rattle.h5_file.specs.declared.kind.Kind.{Kind}
 use Rattle.h5_file.specs.declared.kind.Kind.TheVariants as kind
 use Rattle.h5_file.specs.declared.kind.StoreKind.TheVariants as store
-use Rattle.h5_file.specs.State.{state_with, values_in, Holds}
+use Rattle.h5_file.specs.State.{values_in, Holds}
 use Rattle.h5_file.specs.Held.{names_with}
 use Rattle.h5_file.specs.Place.{tree_with, LeadsTo}
-use Rattle.h5_file.specs.Look.{HasKind, HasNames, HasCell, IsShown}
+use Rattle.h5_file.specs.Look.{HasKind, HasNames, HasCell}
 use Rattle.std.proofs.Math.Nat.{mul-le-mul_right}
 use Rattle.h5_model.specs.Places.{place_of}
 use Rattle.h5_file.proofs.Wholes.{data_end}

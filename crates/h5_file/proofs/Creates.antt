@@ -1,6 +1,6 @@
 -- Why a new array of one size is refused in the root alone.
-use Rattle.std.proofs.Common.{◌≡◌, ◌≢◌, ℕ, ◌+◌, ◌*◌, ◌^◌, ◌<◌, ◌≤◌, List, [], ◌∷◌, length, refl, sym, ap, ◌∙◌, Bool, true, false, not, Option, Some, None, arith, ℤ}
-use Rattle.std.specs.Prelude.{nat_lt, nat_le, ◌==◌, ◌||◌, ◌&&◌, if◌then◌else◌, slice_index, drop, unwrap_or}
+use Rattle.std.proofs.Common.{◌≡◌, ℕ, ◌^◌, ◌<◌, ◌≤◌, List, [], ◌∷◌, length, refl, sym, ap, ◌∙◌, Bool, true, false, not, Option, Some, None, arith}
+use Rattle.std.specs.Prelude.{nat_lt, nat_le, ◌==◌, ◌&&◌, if◌then◌else◌, slice_index, drop, unwrap_or}
 use Rattle.std.specs.List.{list_all, slice_split}
 use Rattle.std.proofs.lemmas.Bool.Decides.{nat_tests}
 use Rattle.h5_bytes.specs.Bytes.{undefined}
@@ -16,7 +16,7 @@ use Rattle.h5_model.specs.declared.dataset.Store.TheVariants as store
 use Rattle.h5_model.specs.declared.edits.Edit.TheVariants.{CreateDataset}
 use Rattle.h5_model.specs.declared.edit_fault.EditFault.TheVariants.{BadPath, PathTooDeep, IsRoot, NoSuchParent, NameTooLong, BadSpec, TooManyCells, ValueRange}
 use Rattle.h5_model.proofs.RootPaths.{alone-missing, alone-no_parent}
-use Rattle.h5_file.specs.Edited.{is_contiguous, is_line}
+use Rattle.h5_file.specs.Edited.{is_line}
 use Rattle.h5_file.specs.Create.{IsNewLink, IsNewLine}
 
 both_true : (b : Bool) → (b && true) ≡ true → b ≡ true

@@ -1,18 +1,17 @@
 -- What the creation of a first array makes of a file.
-use Rattle.std.proofs.Common.{◌≡◌, ℕ, ◌+◌, ◌^◌, ◌<◌, ◌≤◌, List, [], ◌∷◌, length, replicate, refl, sym, ap, ◌∙◌, subst, Bool, true, false, Option, Some, None, arith, ℤ}
-use Rattle.std.specs.Prelude.{nat_lt, ◌==◌, ◌&&◌}
+use Rattle.std.proofs.Common.{◌≡◌, ℕ, ◌^◌, ◌<◌, ◌≤◌, List, [], replicate, refl, sym, ap, ◌∙◌, Bool, true, false, Some, None, arith}
+use Rattle.std.specs.Prelude.{◌&&◌}
 use Rattle.std.specs.FinMap.{len, empty, insert, len-empty, len-insert, get-empty}
 use Rattle.std.specs.Ordering.{nat_cmp}
 use Rattle.std.specs.Cmp.Lexicographic.{slice_cmp, nat_list_cmp_total}
 use Rattle.std.proofs.lemmas.Bool.Decides.{nat_tests}
-use Rattle.h5_model.specs.Fixed.{Fixed, IsFixed}
+use Rattle.h5_model.specs.Fixed.{IsFixed}
 use Rattle.h5_model.specs.Tree.{Tree, Link, ToObject}
-use Rattle.h5_model.specs.Edits.{applied, state_after}
+use Rattle.h5_model.specs.Edits.{applied}
 use Rattle.h5_model.specs.Empty.{root_tree}
 use Rattle.h5_model.specs.OneArray.{one_image, one_tree, one_end}
 use Rattle.h5_model.specs.PlainLength.{plain_length}
 use Rattle.h5_model.specs.Refusal.{refusal_of}
-use Rattle.h5_model.specs.ImageAnswers.{chosen}
 use Rattle.h5_model.specs.declared.dataset.Spec.{Spec}
 use Rattle.h5_model.specs.declared.edits.Edit.{Edit}
 use Rattle.h5_model.specs.declared.edits.Edited.{Edited}
@@ -29,9 +28,9 @@ use Rattle.h5_plain.specs.LineFile.{IsLine, IsLineFile}
 use Rattle.h5_plain.specs.declared.line_file.Line.{Line}
 use Rattle.h5_file.specs.declared.held.Held.{Held}
 use Rattle.h5_file.specs.declared.held.Held.TheVariants.{Nothing, OneArray}
-use Rattle.h5_file.specs.State.{FileState, Holds, state_with, state_of, values_in}
+use Rattle.h5_file.specs.State.{Holds, state_with, values_in}
 use Rattle.h5_file.specs.Held.{IsWritten, has_no_link}
-use Rattle.h5_file.specs.Edited.{is_line, has_empty_root, is_carried, is_too_long, IsGivenFor, IsEdited, IsRefused, RefusedAs, IsRefusedBy}
+use Rattle.h5_file.specs.Edited.{is_line, has_empty_root, is_carried, is_too_long, IsEdited, IsRefused, IsRefusedBy}
 use Rattle.h5_file.specs.Create.{IsNewLink, IsNewLine, IsNewArray, IsNoNewArray}
 use Rattle.h5_file.proofs.Creates.{accepted, own_test}
 use Rattle.h5_file.proofs.Wholes.{whole, line_holds}

@@ -1,11 +1,8 @@
 -- What a path leads to in a file with one array at most.
-use Rattle.std.proofs.Common.{◌≡◌, ◌≢◌, ℕ, ◌<◌, ◌≤◌, List, [], ◌∷◌, length, refl, sym, ap, ◌∙◌, true, false, Some, None, arith}
-use Rattle.std.specs.Prelude.{nat_lt}
+use Rattle.std.proofs.Common.{◌≡◌, ℕ, ◌<◌, ◌≤◌, List, [], ◌∷◌, length, refl, ap, ◌∙◌, Some, None, arith}
 use Rattle.std.proofs.lemmas.Bool.Decides.{nat_tests}
 use Rattle.h5_model.specs.Tree.{Tree, ToObject}
-use Rattle.h5_model.specs.Paths.{Located, Here, Missing, NoParent, NoGroup, names_of, located}
-use Rattle.h5_model.specs.Empty.{root_tree}
-use Rattle.h5_model.specs.declared.edit_fault.EditFault.{EditFault}
+use Rattle.h5_model.specs.Paths.{Here, Missing, NoParent, NoGroup, names_of, located}
 use Rattle.h5_model.specs.declared.edit_fault.EditFault.TheVariants.{BadPath, PathTooDeep, NoSuchParent, NotAGroup, NotFound}
 use Rattle.h5_model.proofs.RootPaths.{alone-missing, alone-no_parent}
 use Rattle.h5_model.proofs.OneArrayPaths.{located-array, located-missing, located-no_parent, located-no_group}

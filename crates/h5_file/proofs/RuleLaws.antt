@@ -3,7 +3,7 @@ use Rattle.std.proofs.Common.{◌≡◌, ℕ, List, [], ◌∷◌, ◌++◌, len
 use Rattle.std.specs.Prelude.{nat_lt, ◌==◌, if◌then◌else◌, ◌||◌, ◌&&◌, is_none}
 use Rattle.std.specs.Option.{option_map_or}
 use Rattle.h5_model.specs.Places.{is_inside}
-use Rattle.h5_model.specs.Tree.{Tree, Link, Links, Dataset, ToObject, links_of, dataset_of}
+use Rattle.h5_model.specs.Tree.{Tree, Link, Dataset, ToObject, links_of, dataset_of}
 use Rattle.h5_model.specs.Paths.{Located, Here, Missing, NoParent, NoGroup, NoPath, names_of, located, links_at, dataset_at}
 use Rattle.h5_model.specs.Refusal.{first_holding, is_deep, is_here, has_no_parent, has_no_group, is_missing}
 use Rattle.h5_model.specs.Reading.{path_rules, list_rules, dataset_rules, cell_rules}

@@ -8,7 +8,7 @@ use Rattle.h5_model.specs.declared.open_fault.Cause.{Cause}
 use Rattle.h5_model.proofs.BreachLaws.{no_breach}
 use Rattle.h5_model.specs.States.{IsState}
 use Rattle.h5_model.specs.Empty.{empty_file, root_tree}
-use Rattle.h5_model.specs.OneArray.{one_image, one_tree, data_place}
+use Rattle.h5_model.specs.OneArray.{one_image, data_place}
 use Rattle.h5_model.proofs.EmptyReads.{root_placed, empty_reads_as, empty_covers, get-root_tree, get-root_tree_other}
 use Rattle.h5_model.proofs.OneArrayReads.{placed, reads_as, covers}
 use Rattle.h5_model.proofs.OneArrayBack.{values_back, length-one_image}

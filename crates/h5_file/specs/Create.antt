@@ -1,5 +1,5 @@
 -- A new array in a file whose root has no link, and why it is refused.
-use Rattle.std.specs.Prelude.{◌≡◌, ℕ, ◌^◌, ◌≤◌, ◌==◌, true, Option, Some, List, [], ◌∷◌, length}
+use Rattle.std.specs.Prelude.{◌≡◌, ℕ, ◌^◌, ◌≤◌, true, Some, List, [], ◌∷◌, length}
 use Rattle.h5_model.specs.Fixed.{IsFixed, fits}
 use Rattle.h5_model.specs.Empty.{root_tree}
 use Rattle.h5_model.specs.Paths.{names_of, is_name}

@@ -78,11 +78,7 @@ pub fn new_size(spec: &Spec) -> Result<u64, EditFault>
 }
 
 /// The name and the size of a new array, in a file that holds this, or the lowest reason why there is none.
-pub fn new_array<'a>(
-    held: &Held,
-    path: &'a [u8],
-    spec: &Spec,
-) -> Result<(&'a [u8], u64), EditFault>
+pub fn new_array<'a>(held: &Held, path: &'a [u8], spec: &Spec) -> Result<(&'a [u8], u64), EditFault>
     ensures { MatchResult result (λ made. IsNewArray held.now path.entry.now spec.now made.0.now made.1) (IsNoNewArray held.now path.entry.now spec.now) }
 {
     if !is_nothing(held) || !is_one_line(spec) {

@@ -91,7 +91,10 @@ fn creates_an_array(rt: HostRuntime) -> Result<(), AllocError> {
 fn creates_no_second_array(rt: HostRuntime) -> Result<(), AllocError> {
     let mut file = with_array(rt.alloc())?;
     let second = line(rt.alloc(), 1, 0)?;
-    assert_eq!(rt; file.create_dataset(b"/e", &second).err(), Some(EditFault::NotYet));
+    assert_eq!(rt;
+        file.create_dataset(b"/e", &second).err(),
+        Some(EditFault::NotYet)
+    );
     assert_eq!(rt; file.image().len(), 1260);
     Ok(())
 }
@@ -118,8 +121,14 @@ fn opens_an_array(rt: HostRuntime) -> Result<(), AllocError> {
 #[test]
 fn names_the_lowest_reason(rt: HostRuntime) -> Result<(), AllocError> {
     let alloc = rt.alloc();
-    assert_eq!(rt; refusal(alloc, b"/x/d", 1 << 40)?, Some(EditFault::NoSuchParent));
-    assert_eq!(rt; refusal(alloc, b"/d", 1 << 31)?, Some(EditFault::ValueRange));
+    assert_eq!(rt;
+        refusal(alloc, b"/x/d", 1 << 40)?,
+        Some(EditFault::NoSuchParent)
+    );
+    assert_eq!(rt;
+        refusal(alloc, b"/d", 1 << 31)?,
+        Some(EditFault::ValueRange)
+    );
     Ok(())
 }
 
@@ -127,9 +136,15 @@ fn names_the_lowest_reason(rt: HostRuntime) -> Result<(), AllocError> {
 fn refuses_what_is_too_large(rt: HostRuntime) -> Result<(), AllocError> {
     let mut file = File::create(rt.alloc())?;
     let many = line(rt.alloc(), (1 << 40) + 1, 1 << 31)?;
-    assert_eq!(rt; file.create_dataset(b"/d", &many).err(), Some(EditFault::TooManyCells));
+    assert_eq!(rt;
+        file.create_dataset(b"/d", &many).err(),
+        Some(EditFault::TooManyCells)
+    );
     // 1248 bytes stand before the data.
     let full = line(rt.alloc(), (1 << 29) - 311, 0)?;
-    assert_eq!(rt; file.create_dataset(b"/d", &full).err(), Some(EditFault::ImageFull));
+    assert_eq!(rt;
+        file.create_dataset(b"/d", &full).err(),
+        Some(EditFault::ImageFull)
+    );
     Ok(())
 }

@@ -1,10 +1,9 @@
-use Rattle.std.proofs.Common.{◌≡◌, sym, ap, ◌∙◌, refl, true, false, arith}
+use Rattle.std.proofs.Common.{sym, ap, ◌∙◌}
 use Rattle.std.specs.Prelude.{◌&&◌}
 use Rattle.std.proofs.lemmas.Result.{err_from_is_err_and}
 use Rattle.h5_file.specs.Edited.{is_line}
 use Rattle.h5_file.specs.Create.{IsNoNewArray}
-use Rattle.h5_file.specs.Held.{has_no_link}
-use Rattle.h5_file.proofs.Edits.{not_yet, refused_rule, refused_full, is_alone, refused_alone}
+use Rattle.h5_file.proofs.Edits.{not_yet, refused_rule, refused_full, refused_alone}
 use Rattle.h5_file.proofs.create.new_array.Goals as goal
 use Rattle.h5_file.proofs.create.new_array.Goals.{then-not-is_nothing-via-then-not-is_nothing, then-not-is_nothing-via-else-not-is_nothing+then-not-is_one_line}
 

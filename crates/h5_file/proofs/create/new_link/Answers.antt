@@ -1,4 +1,4 @@
-use Rattle.std.proofs.Common.{◌≤◌, length, ◌∷◌, arith}
+use Rattle.std.proofs.Common.{◌∷◌, arith}
 use Rattle.h5_file.proofs.Creates.{bad_path, is_root, too_deep, no_parent, long_name, one_name}
 use Rattle.h5_file.proofs.create.new_link.Goals as goal
 

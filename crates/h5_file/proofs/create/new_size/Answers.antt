@@ -1,4 +1,4 @@
-use Rattle.std.proofs.Common.{◌≡◌, sym, ◌∙◌, true, false, rules, to_z, of_z}
+use Rattle.std.proofs.Common.{◌≡◌, sym, ◌∙◌, rules, to_z, of_z}
 use Rattle.std.specs.Int.{w128}
 use Rattle.h5_file.proofs.Creates.{stored_line, one_size, one_of, bad_spec, many_cells, bad_fill}
 use Rattle.h5_file.proofs.create.new_size.Goals as goal

@@ -1,4 +1,4 @@
-use Rattle.std.proofs.Common.{arith, rules}
+use Rattle.std.proofs.Common.{arith}
 use Rattle.h5_file.proofs.Wholes.{data_end}
 use Rattle.h5_file.proofs.held.data_begin.Goals as goal
 

@@ -1,4 +1,4 @@
-use Rattle.std.proofs.Common.{◌≡◌, ◌+◌, ◌*◌, sym, ap, ◌∙◌, arith, rules, to_z, of_z}
+use Rattle.std.proofs.Common.{◌≡◌, ◌+◌, ◌*◌, ap, ◌∙◌, arith, rules, to_z, of_z}
 use Rattle.std.specs.Int.{w128}
 use Rattle.std.specs.Prelude.{slice_index}
 use Rattle.h5_model.specs.OneArray.{data_place}
@@ -41,6 +41,6 @@ returns c =
     let place = rw c.in-Array.is at c.in_ok-line.ensures image in
     let value : to_z w128 (of_z w128 c.decode.result) ≡ c.decode.result = search rules in
     let begins = ap (λ n. n + slice_index c.args.index.now 0 * c.size-size.result) c.data_begin.ensures.place
-        ∙ ap (λ n. data_place c.in-Array.line.now.name.items + slice_index c.args.index.now 0 * n) c.size-size.ensures.size in
+    ∙ ap (λ n. data_place c.in-Array.line.now.name.items + slice_index c.args.index.now 0 * n) c.size-size.ensures.size in
     rw (← c.self.view_is, value) (held_cell c.self.inside.held c.in-Array.line.now image c.args.path.now place.0 place.1 c.args.index.now _ _ c.deref-2.result.now c.decode.result c.self.invariant
     (omega (arith, c.in-len1.len_at_least, c.in-len1.len_below)) c.if-at-line.false c.deref-2.ensures.value begins c.size-size.ensures.size c.decode.ensures.value)

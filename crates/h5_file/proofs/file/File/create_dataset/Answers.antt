@@ -1,4 +1,4 @@
-use Rattle.std.proofs.Common.{◌≡◌, subst, sym, ap, ◌∙◌, refl}
+use Rattle.std.proofs.Common.{refl}
 use Rattle.h5_file.proofs.Edits.{held_memory, held_new, held_edited}
 use Rattle.h5_file.proofs.file.File.create_dataset.Goals as goal
 
