@@ -1,57 +1,56 @@
 //! A file in memory.
 
-ghost use Rattle.std.specs.Prelude.{◌≡◌, ◌↔◌, IfOk, IfErr, IsTrue, MatchResult, OnOk, Some, map};
-ghost use Rattle.std.specs.FinMap.{from_entries};
-ghost use Rattle.std.specs.Coded.{Coded-set};
-ghost use Rattle.h5_model.specs.Empty.{empty_file, root_tree};
-ghost use Rattle.h5_model.specs.Codes.{coded_tree};
+ghost use Rattle.std.specs.Prelude.{◌≡◌, IfOk, IfErr, MatchOption, MatchResult, OnOk, Some, map};
+ghost use Rattle.h5_model.specs.Empty.{root_tree};
 ghost use Rattle.h5_model.specs.Faults.{cut};
 ghost use Rattle.h5_model.specs.Refusal.{first_holding};
-ghost use Rattle.h5_model.specs.Reading.{path_rules, list_rules};
-ghost use Rattle.h5_file.specs.State.{Reading, Reading-prop, IsReading, created_state};
-ghost use Rattle.h5_file.specs.Look.{HasKind, HasNames};
-ghost use Rattle.h5_file.specs.Opening.{Refused};
+ghost use Rattle.h5_model.specs.Reading.{path_rules, cell_rules};
+ghost use Rattle.h5_model.specs.declared.edits.Edit.TheVariants.{CreateDataset};
+ghost use Rattle.h5_model.specs.declared.open_fault.Cause.TheVariants.{NoMemory};
+ghost use Rattle.h5_file.specs.State.{IsWhole, created_state};
+ghost use Rattle.h5_file.specs.Edited.{IsEdited, IsRefused};
+ghost use Rattle.h5_file.specs.Look.{HasKind, HasNames, HasCell, IsListRefused, IsOnlyArray};
+ghost use Rattle.h5_file.specs.Opening.{Refused, IsCarried};
 
+use crate::array::OnlyArray;
+use crate::create::{is_one_line, new_link, new_size};
 use crate::empty::EMPTY_FILE;
-use crate::look::{Kind, look};
+use crate::held::{Held, data_begin, held_in, names_held, written};
+use crate::kind::{Kind, StoreKind};
+use crate::look::{Place, look};
 use crate::superblock::superblock_fault;
 use h5_bytes::get_u64;
-use h5_model::{Cause, EditFault, OpenFault};
+use h5_model::{Cause, Edit, EditFault, Edited, ObjectNo, OpenFault, Spec};
+use h5_plain::line_length;
+use h5_shape::Dims;
+use h5_types::decode;
 use std::alloc::{AllocError, Global};
-use std::collections::BTreeMap;
 use std::marker::Model;
 
-/// A file: the bytes of its image, the header address of each object, and the next object number.
+/// The most bytes of an image.
+const MAX_IMAGE: u64 = 1 << 31;
+
+/// A file: the bytes of its image, and what its root's links lead to.
 ///
-/// Callers see these, and the tree of objects and links that the bytes read as. The tree stands in
-/// no field: the bytes with the addresses read as one tree at most, and a ghost field keeps that
-/// they do.
+/// Callers see the bytes, the header address of each object, the next object number, and the tree
+/// of objects and links that the bytes read as.
 #[derive(Drop)]
 pub struct File {
     image: Vec<u8>,
-    headers: BTreeMap<u32, u64>,
-    next: u32,
-    ghost reading: { Reading image.items (from_entries headers.entries) } by { Reading-prop image.items (from_entries headers.entries) },
-    ghost alone: { reading.0 ≡ root_tree } by { Coded-set coded_tree reading.0 root_tree },
+    held: Held,
+    alloc: Global,
 }
 
 impl Model for File {
-    ghost use Rattle.h5_file.specs.State.{FileState, coded_state};
-    ghost use Rattle.std.specs.FinMap.{from_entries};
+    ghost use Rattle.h5_file.specs.State.{FileState, coded_state, state_with, Holds};
 
     ghost Value = { FileState };
 
     ghost coded = { coded_state };
 
-    ghost view = { λ f. record { image = f.image.items; table = from_entries f.headers.entries; next = f.next; tree = f.reading.0 } };
-}
+    ghost view = { λ f. state_with f.held f.image.items };
 
-/// Whether these are the bytes of the empty file.
-fn is_empty_file(bytes: &[u8]) -> bool
-    ensures { IsTrue result ↔ (bytes.now ≡ empty_file) }
-{
-    let empty: &[u8] = &EMPTY_FILE;
-    bytes == empty
+    ghost invariant = { λ f. Holds f.held f.image.items };
 }
 
 impl File {
@@ -61,13 +60,10 @@ impl File {
     pub fn create(alloc: Global) -> Result<File, AllocError>
         ensures { IfOk result (λ f. f ≡ created_state) }
     {
-        let image = Vec::from_slice(alloc, &EMPTY_FILE)?;
-        let mut headers = BTreeMap::new(alloc);
-        headers.insert(0, 96)?;
         Ok(File {
-            image,
-            headers,
-            next: 1,
+            image: Vec::from_slice(alloc, &EMPTY_FILE)?,
+            held: Held::Nothing,
+            alloc,
         })
     }
 
@@ -75,50 +71,37 @@ impl File {
     ///
     /// A refusal names the first broken rule of the superblock (File Format Specification 3.0,
     /// section II.A) and where it stands, and gives the bytes back whole. Bytes that are well begun
-    /// and are not the empty file are refused as [`Cause::NotYet`] at 0.
+    /// and are neither the empty file nor the plain file with one contiguous array of one size are
+    /// refused as [`Cause::NotYet`] at 0.
     pub fn open(alloc: Global, mut bytes: Vec<u8>) -> Result<File, (OpenFault, Vec<u8>)>
-        ensures opened { IfOk result (λ f. f ≡ created_state) }
-        ensures exact { OnOk result (cut bytes.items ≡ empty_file) }
+        ensures image { IfOk result (λ f. f.image ≡ cut bytes.items) }
+        ensures whole { IfOk result IsWhole }
+        ensures exact { OnOk result (IsCarried (cut bytes.items)) }
         ensures refused { IfErr result (λ e. Refused bytes.items e.0) }
-        // Bytes that are cut to the empty file are refused for want of memory alone.
-        ensures only { cut bytes.items ≡ empty_file → IfErr result (λ e. e.0.cause ≡ Cause.NoMemory) }
+        // Bytes that are cut to such a file are refused for want of memory alone.
+        ensures only { IsCarried (cut bytes.items) → IfErr result (λ e. e.0.cause ≡ NoMemory) }
         ensures back { IfErr result (λ e. e.1.items ≡ bytes.items) }
     {
         if let Some(fault) = superblock_fault(&bytes) {
             return Err((fault, bytes));
         }
         let end = get_u64(&bytes, 40).unwrap() as usize;
-        if !is_empty_file(&bytes[..end]) {
-            return Err((
-                OpenFault {
-                    cause: Cause::NotYet,
-                    address: 0,
-                },
-                bytes,
-            ));
-        }
-        let mut headers = BTreeMap::new(alloc);
-        if headers.insert(0, 96).is_err() {
-            return Err((
-                OpenFault {
-                    cause: Cause::NoMemory,
-                    address: 0,
-                },
-                bytes,
-            ));
-        }
+        let held = match held_in(alloc, &bytes[..end]) {
+            Ok(held) => held,
+            Err(cause) => return Err((OpenFault { cause, address: 0 }, bytes)),
+        };
         bytes.truncate(end);
         Ok(File {
             image: bytes,
-            headers,
-            next: 1,
+            held,
+            alloc,
         })
     }
 
     /// The bytes of the file, from the superblock to the end of file address.
     pub fn image(&self) -> &[u8]
         ensures bytes { result.now ≡ self.now.image }
-        ensures reading { IsReading self.now.image self.now.table self.now.tree }
+        ensures whole { IsWhole self.now }
     {
         &self.image
     }
@@ -126,13 +109,20 @@ impl File {
     /// What the link at the path leads to.
     ///
     /// The path is `/`, or `/` before each of up to 64 names. Refused as `BadPath`, `PathTooDeep`,
-    /// `NoSuchParent`, `NotAGroup` or `NotFound`, the lowest number that holds.
+    /// `NoSuchParent`, `NotAGroup` or `NotFound`, the lowest number that holds. It takes no memory.
     pub fn kind(&self, path: &[u8]) -> Result<Kind, EditFault>
         ensures { MatchResult result (HasKind self.now.tree path.now) (λ e. first_holding (path_rules self.now.tree path.now) ≡ Some e) }
     {
-        let _ = &self.next;
-        look(path)?;
-        Ok(Kind::Group)
+        match look(&self.held, path)? {
+            Place::Root => Ok(Kind::Group),
+            Place::Array(line) => Ok(Kind::Dataset {
+                fixed: line.fixed,
+                dims: Dims::new(self.alloc, &[line.size]).unwrap(),
+                maxima: Dims::new(self.alloc, &[line.size]).unwrap(),
+                store: StoreKind::Contiguous,
+                fill: line.fill,
+            }),
+        }
     }
 
     /// The names in the group at the path, ascending by their bytes.
@@ -141,11 +131,92 @@ impl File {
     /// `NoMemory`.
     pub fn list(&self, alloc: Global, path: &[u8]) -> Result<Vec<Vec<u8>>, EditFault>
         ensures { MatchResult result (λ names. HasNames self.now.tree path.now (map (λ name. name.items) names.items))
-            (λ e. first_holding (list_rules self.now.tree path.now) ≡ Some e) }
+            (λ e. IsListRefused self.now.tree path.now e) }
     {
-        let _ = &self.next;
-        look(path)?;
-        Ok(Vec::new(alloc))
+        if let Place::Array(_) = look(&self.held, path)? {
+            return Err(EditFault::NotAGroup);
+        }
+        names_held(alloc, &self.held).map_err(|_| EditFault::NoMemory)
+    }
+
+    /// The value of the cell at an index of the array at the path.
+    ///
+    /// Refused as [`File::kind`] is, as `NotADataset` where no array stands there, as `RankMismatch`
+    /// where the index has not one number for each size, and as `OutOfExtent` where one of them is
+    /// not below its size. It takes no memory.
+    pub fn cell(&self, path: &[u8], index: &[u64]) -> Result<i128, EditFault>
+        ensures { MatchResult result (HasCell self.now.tree path.now index.now) (λ e. first_holding (cell_rules self.now.tree path.now index.now) ≡ Some e) }
+    {
+        let Place::Array(line) = look(&self.held, path)? else {
+            return Err(EditFault::NotADataset);
+        };
+        let [at] = index else {
+            return Err(EditFault::RankMismatch);
+        };
+        if *at >= line.size {
+            return Err(EditFault::OutOfExtent);
+        }
+        let size = line.fixed.size();
+        let begin = data_begin(&self.image, line) + *at as usize * size;
+        Ok(decode(&line.fixed, &self.image[begin..begin + size]))
+    }
+
+    /// The array that the root's one link leads to, or `None` where the root has no link.
+    ///
+    /// While a file holds one array at most, this is all that it holds.
+    pub fn array(&self) -> Option<OnlyArray<'_>>
+        ensures { MatchOption result (self.now.tree ≡ root_tree) (IsOnlyArray self.now.tree) }
+    {
+        let Held::OneArray(line) = &self.held else {
+            return None;
+        };
+        Some(OnlyArray {
+            name: &line.name,
+            fixed: &line.fixed,
+            size: line.size,
+            fill: line.fill,
+            cells: &self.image[data_begin(&self.image, line)..],
+        })
+    }
+
+    /// Carries an edit out: the image is then that of the tree that the edit gives.
+    ///
+    /// Refused as `NotYet`, before any other check, unless it creates a contiguous array of one size
+    /// in a file whose root has no link; then as [`File::create_dataset`] is.
+    pub fn edit(&mut self, edit: &Edit) -> Result<Edited, EditFault>
+        ensures { MatchResult result (IsEdited self.old edit.now self.new) (λ e. IsRefused self.old edit.now e × (self.new ≡ self.old)) }
+    {
+        match edit {
+            Edit::CreateDataset { path, spec } => self.create_dataset(path.as_slice(), spec),
+            _ => Err(EditFault::NotYet),
+        }
+    }
+
+    /// Creates an array at the path, every cell of which is the fill. The image is written anew.
+    ///
+    /// Refused as `NotYet`, before any other check, unless the array is contiguous, of one size, and
+    /// the root has no link. Else the lowest number that holds: `BadPath`, `PathTooDeep`, `IsRoot`,
+    /// `NoSuchParent`, `NameTooLong`, `BadSpec`, `TooManyCells`, `ValueRange`, `ImageFull` where the
+    /// image would pass 2147483648 bytes, `NoMemory`. A refusal changes nothing.
+    pub fn create_dataset(&mut self, path: &[u8], spec: &Spec) -> Result<Edited, EditFault>
+        ensures { MatchResult result (IsEdited self.old (CreateDataset path.now spec.now) self.new)
+            (λ e. IsRefused self.old (CreateDataset path.now spec.now) e × (self.new ≡ self.old)) }
+    {
+        if !matches!(self.held, Held::Nothing) || !is_one_line(spec) {
+            return Err(EditFault::NotYet);
+        }
+        let name = new_link(path)?;
+        let size = new_size(spec)?;
+        if line_length(name, &spec.fixed, size) > MAX_IMAGE {
+            return Err(EditFault::ImageFull);
+        }
+        let (image, line) = written(self.alloc, name, spec, size).map_err(|_| EditFault::NoMemory)?;
+        self.image = image;
+        self.held = Held::OneArray(line);
+        Ok(Edited {
+            object: Some(ObjectNo(1)),
+            refreshed: 0,
+        })
     }
 
     /// The bytes of the file, with the file given up.

@@ -1,37 +1,38 @@
 //! Looks at a path.
 
-ghost use Rattle.std.specs.Prelude.{◌≡◌, MatchResult, OnOk, Some, None};
-ghost use Rattle.h5_model.specs.Empty.{root_tree};
-ghost use Rattle.h5_model.specs.Tree.{ToObject};
-ghost use Rattle.h5_model.specs.Paths.{located, Here};
-ghost use Rattle.h5_model.specs.Refusal.{first_holding};
-ghost use Rattle.h5_model.specs.Reading.{path_rules, list_rules};
+ghost use Rattle.std.specs.Prelude.{ℕ, List, MatchResult};
+ghost use Rattle.h5_file.specs.Place.{IsPlace, IsNowhere};
 
-use crate::path::count_names;
+use crate::held::Held;
+use crate::path::{Names, names_in};
 use h5_model::EditFault;
+use h5_plain::Line;
 
-/// What stands at a path.
-#[derive(Clone, Copy, PartialEq, Eq, Debug)]
-pub enum Kind {
-    /// A group.
-    Group,
+/// The most names of a path.
+pub const MAX_DEPTH: usize = 64;
+
+/// An object of a file.
+#[derive(Clone, Copy)]
+pub enum Place<'a> {
+    Root,
+    Array(&'a Line),
 }
 
-/// Looks a path up in a file whose root group is empty: `Ok` for `/` alone.
-pub fn look(path: &[u8]) -> Result<(), EditFault>
-    ensures there { OnOk result (located root_tree path.now ≡ Here (ToObject 0)) }
-    ensures path { MatchResult result (λ _. first_holding (path_rules root_tree path.now) ≡ None) (λ e. first_holding (path_rules root_tree path.now) ≡ Some e) }
-    ensures list { MatchResult result (λ _. first_holding (list_rules root_tree path.now) ≡ None) (λ e. first_holding (list_rules root_tree path.now) ≡ Some e) }
+/// Looks a path up, or says by the lowest number why nothing stands there.
+pub fn look<'a>(held: &'a Held, path: &[u8]) -> Result<Place<'a>, EditFault>
+    ensures { (image : List ℕ) → MatchResult result (IsPlace held.entry.now image path.now) (IsNowhere held.entry.now image path.now) }
 {
-    let Some(count) = count_names(path) else {
-        return Err(EditFault::BadPath);
-    };
-    if count > 64 {
-        return Err(EditFault::PathTooDeep);
-    }
-    match count {
-        0 => Ok(()),
-        1 => Err(EditFault::NotFound),
-        _ => Err(EditFault::NoSuchParent),
+    match names_in(path) {
+        Names::Bad => Err(EditFault::BadPath),
+        Names::Root => Ok(Place::Root),
+        Names::One(name) => match held {
+            Held::OneArray(line) if name == line.name.as_slice() => Ok(Place::Array(line)),
+            _ => Err(EditFault::NotFound),
+        },
+        Names::Several { count, .. } if count > MAX_DEPTH => Err(EditFault::PathTooDeep),
+        Names::Several { first, .. } => match held {
+            Held::OneArray(line) if first == line.name.as_slice() => Err(EditFault::NotAGroup),
+            _ => Err(EditFault::NoSuchParent),
+        },
     }
 }

@@ -1,8 +1,22 @@
 //! Paths: the names between slashes.
 
-ghost use Rattle.std.specs.Prelude.{◌≡◌, ◌==◌, ◌||◌, length, option_map};
+ghost use Rattle.std.specs.Prelude.{◌≡◌, ◌==◌, ◌||◌, length};
 ghost use Rattle.std.specs.List.{list_all, list_any, slice_split};
 ghost use Rattle.h5_model.specs.Paths.{is_name, names_of};
+ghost use Rattle.h5_file.specs.Names.{AreNames, AreParts};
+
+/// The names of a path.
+#[derive(Clone, Copy)]
+pub enum Names<'a> {
+    /// It is no path.
+    Bad,
+    /// `/`, which has none.
+    Root,
+    /// One name.
+    One(&'a [u8]),
+    /// Several names, with the first of them.
+    Several { first: &'a [u8], count: usize },
+}
 
 fn has_separator(name: &[u8]) -> bool
     ensures { result ≡ list_any (λ c. (c == 0) || (c == 47)) name.now }
@@ -32,21 +46,38 @@ fn count_parts(text: &[u8]) -> usize
     text.split(|c| *c == b'/').count()
 }
 
-/// How many names the path has, or `None` where it is no path.
+/// The text up to the first slash, and whether there is one.
+fn first_part(text: &[u8]) -> (&[u8], bool)
+    ensures { AreParts (slice_split (λ c. c == 47) text.now) result.0.now result.1 }
+{
+    match text.iter().position(|c| *c == b'/') {
+        Some(end) => (&text[..end], true),
+        None => (text, false),
+    }
+}
+
+/// The names of the path.
 #[tactic(auto, unfolding(h5_model::specs::Paths::names_of))]
-pub fn count_names(path: &[u8]) -> Option<usize>
-    ensures { result ≡ option_map length (names_of path.now) }
+pub fn names_in(path: &[u8]) -> Names<'_>
+    ensures { AreNames (names_of path.now) result }
 {
     if path.is_empty() || path[0] != b'/' {
-        return None;
+        return Names::Bad;
     }
     if path.len() == 1 {
-        return Some(0);
+        return Names::Root;
     }
     let rest = &path[1..];
-    if are_names(rest) {
-        Some(count_parts(rest))
+    if !are_names(rest) {
+        return Names::Bad;
+    }
+    let (first, several) = first_part(rest);
+    if several {
+        Names::Several {
+            first,
+            count: count_parts(rest),
+        }
     } else {
-        None
+        Names::One(first)
     }
 }
