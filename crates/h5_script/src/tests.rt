@@ -1,0 +1,2 @@
+//! Scripts over readers and writers in memory.
+use super::*;
