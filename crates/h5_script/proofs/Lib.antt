@@ -1,0 +1,4 @@
+pub mod Known
+pub mod LineLaws
+pub mod RunLaws
+pub mod LineRuns

@@ -16,7 +16,7 @@ HasNoEnd bytes = All (λ b. (b == 10) ≡ false) bytes
 -- a line, its end, and what stands behind it
 pub record IsFirstLine (bytes line rest : List ℕ) : Type 0 where
   pub whole : line ++ 10 ∷ rest ≡ bytes
-  pub line : HasNoEnd line
+  pub endless : HasNoEnd line
 
 -- the bytes of lines with their ends
 abbrev pub IsWhole : List ℕ → Type 0
@@ -31,7 +31,7 @@ pub record HasRunLines (bytes held : List ℕ) (before after : State) (old new :
   pub done : List ℕ
   pub parts : done ++ held ≡ bytes
   pub whole : IsWhole done
-  pub held : HasNoEnd held
+  pub endless : HasNoEnd held
   pub run : HasCounted (commands_of done) before after old new counted counts
 
 -- some of the lines that stand whole in the bytes were run
