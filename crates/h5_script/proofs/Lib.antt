@@ -2,3 +2,4 @@ pub mod Known
 pub mod LineLaws
 pub mod RunLaws
 pub mod LineRuns
+pub mod PieceLaws

@@ -68,7 +68,7 @@ has_run_more asked more s m t old mid new one two = record {
   lines = one.lines ++ two.lines;
   run = run_more asked more s m t one.lines two.lines one.run two.run;
   written = subst (λ (text : List ℕ). Appends old new text) (text_more s m one.lines two.lines one.run.after_is)
-  (appends_more old mid new (text_of_run s one.lines) (text_of_run m two.lines) one.written two.written);
+      (appends_more old mid new (text_of_run s one.lines) (text_of_run m two.lines) one.written two.written);
 }
 
 counts_more : (p : Outcome → Bool) (s m : State) (first others : List Line) (a b c : ℕ) → m ≡ state_of_run s first
@@ -96,27 +96,50 @@ has_counted_more asked more s m t old mid new a b c one two = record {
 pub has_begun_none : (asked : List Command) (s : State) (known : Known) → HasBegun asked s s known known
 unfolding text_of_run
 has_begun_none asked s known = record {
-  first = []; others = asked; asked_are = refl; lines = []; run = run_none s; told = []; untold = []; text = refl; written = appends_none known;
+  first = [];
+  others = asked;
+  asked_are = refl;
+  lines = [];
+  run = run_none s;
+  told = [];
+  untold = [];
+  text = refl;
+  written = appends_none known;
 }
 
 -- all commands were run
 pub has_begun_all : (asked more : List Command) (s t : State) (old new : Known) → HasRun asked s t old new → HasBegun (asked ++ more) s t old new
 has_begun_all asked more s t old new all = record {
-  first = asked; others = more; asked_are = refl; lines = all.lines; run = all.run; told = text_of_run s all.lines; untold = []; text = append-nil _; written = all.written;
+  first = asked;
+  others = more;
+  asked_are = refl;
+  lines = all.lines;
+  run = all.run;
+  told = text_of_run s all.lines;
+  untold = [];
+  text = append-nil _;
+  written = all.written;
 }
 
 -- more commands may follow
 pub has_begun_of : (asked more : List Command) (s t : State) (old new : Known) → HasBegun asked s t old new → HasBegun (asked ++ more) s t old new
 has_begun_of asked more s t old new begun = record {
-  first = begun.first; others = begun.others ++ more;
+  first = begun.first;
+  others = begun.others ++ more;
   asked_are = sym (append_assoc begun.first begun.others more) ∙ ap (λ commands. commands ++ more) begun.asked_are;
-  lines = begun.lines; run = begun.run; told = begun.told; untold = begun.untold; text = begun.text; written = begun.written;
+  lines = begun.lines;
+  run = begun.run;
+  told = begun.told;
+  untold = begun.untold;
+  text = begun.text;
+  written = begun.written;
 }
 
 -- some commands were run whole, and others behind them were begun
 pub has_begun_more : (asked more : List Command) (s m t : State) (old mid new : Known) → HasRun asked s m old mid → HasBegun more m t mid new → HasBegun (asked ++ more) s t old new
 has_begun_more asked more s m t old mid new one two = record {
-  first = asked ++ two.first; others = two.others;
+  first = asked ++ two.first;
+  others = two.others;
   asked_are = append_assoc asked two.first two.others ∙ ap (λ commands. asked ++ commands) two.asked_are;
   lines = one.lines ++ two.lines;
   run = run_more asked two.first s m t one.lines two.lines one.run two.run;
