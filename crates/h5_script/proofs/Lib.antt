@@ -1,0 +1,5 @@
+pub mod Known
+pub mod LineLaws
+pub mod RunLaws
+pub mod LineRuns
+pub mod PieceLaws

@@ -1,5 +1,5 @@
 -- What the lines of a script do, one after the other, each with what is given to it.
-use Rattle.std.specs.Prelude.{◌≡◌, ℕ, ◌+◌, Option, List, [], ◌∷◌, ◌++◌, map}
+use Rattle.std.specs.Prelude.{◌≡◌, ℕ, ◌+◌, Option, List, [], ◌∷◌, ◌++◌, map, Result, MatchResult}
 use Rattle.std.specs.List.{count_by}
 use Rattle.std.specs.Io.KnownBytes.{Appends}
 use Rattle.h5_model.specs.Edits.{State}
@@ -76,3 +76,8 @@ abbrev pub IsCut : RunFault → Type 0
 IsCut ScriptWrite = Unit {0}
 IsCut NoMemory = Unit {0}
 IsCut _ = ⊥
+
+-- the commands were run and counted, or the run ends early
+abbrev pub RunsTo : {T : Type 0} → Result T RunFault → List Command → State → State → Option (List ℕ) → Option (List ℕ) → Ran → Ran → Type 0
+RunsTo result asked before after old new counted counts =
+    MatchResult result (λ _. HasCounted asked before after old new counted counts) (λ fault. IsCut fault × HasBegun asked before after old new)

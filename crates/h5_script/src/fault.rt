@@ -1,5 +1,7 @@
 //! Why a run of a script ends early.
 
+ghost use Rattle.std.specs.Prelude.{◌≡◌};
+
 use std::alloc::AllocError;
 
 /// Why a run of a script ends early.

@@ -1,9 +1,10 @@
 //! Lines of a script, run one after the other.
 
-ghost use Rattle.std.specs.Prelude.{◌≡◌, ◌+◌, ◌++◌, ◌<◌, ◌≤◌, ◌^◌, [], IfOk, OnOk, MatchOption, MatchResult, length};
+ghost use Rattle.std.specs.Prelude.{◌≡◌, ◌+◌, ◌++◌, ◌<◌, ◌≤◌, ◌^◌, ◌∷◌, [], IfOk, OnOk, MatchOption, length};
 ghost use Rattle.h5_file.specs.State.{state_of};
-ghost use Rattle.h5_script.specs.Pieces.{HasNoEnd, IsFirstLine, HasRunLines, HasBegunLines, commands_of_line};
-ghost use Rattle.h5_script.specs.Runs.{HasCounted, HasBegun, IsCut};
+ghost use Rattle.h5_text.specs.Commands.{command_of};
+ghost use Rattle.h5_script.specs.Pieces.{HasNoEnd, IsFirstLine, RunsLinesTo, commands_of_line};
+ghost use Rattle.h5_script.specs.Runs.{RunsTo};
 ghost use Rattle.h5_script.specs.Script.{none_ran};
 
 use crate::answer::answer;
@@ -11,7 +12,7 @@ use crate::fault::RunFault;
 use crate::ran::Ran;
 use crate::streams::write_text;
 use h5_file::File;
-use h5_text::read_line;
+use h5_text::{Command, read_line};
 use std::alloc::{AllocError, Global};
 use std::io::Write;
 
@@ -40,6 +41,25 @@ impl Answers {
     }
 }
 
+/// Runs a command, and writes and counts its answer.
+fn run_command<W: Write>(
+    file: &mut File,
+    command: &Command,
+    answers: &mut Answers,
+    output: &mut W,
+) -> Result<(), RunFault>
+    requires refused { answers.old.ran.refused < 2 ^ 63 }
+    requires edits { answers.old.ran.edits < 2 ^ 63 }
+    ensures run { RunsTo result (command_of command.now ∷ []) (state_of file.old) (state_of file.new)
+        (W.contents output.old) (W.contents output.new) answers.old.ran answers.new.ran }
+    ensures refused { OnOk result (answers.new.ran.refused ≤ answers.old.ran.refused + 1) }
+    ensures edits { OnOk result (answers.new.ran.edits ≤ answers.old.ran.edits + 1) }
+{
+    let outcome = answer(file, command, &mut answers.text)?;
+    answers.ran.count(outcome);
+    write_text(output, &answers.text)
+}
+
 /// Runs a line, if it asks for anything, and writes its answer.
 pub fn run_line<W: Write>(
     alloc: Global,
@@ -50,18 +70,15 @@ pub fn run_line<W: Write>(
 ) -> Result<(), RunFault>
     requires refused { answers.old.ran.refused < 2 ^ 63 }
     requires edits { answers.old.ran.edits < 2 ^ 63 }
-    ensures run { MatchResult result
-        (λ _. HasCounted (commands_of_line line.now) (state_of file.old) (state_of file.new) (W.contents output.old) (W.contents output.new) answers.old.ran answers.new.ran)
-        (λ fault. IsCut fault × HasBegun (commands_of_line line.now) (state_of file.old) (state_of file.new) (W.contents output.old) (W.contents output.new)) }
+    ensures run { RunsTo result (commands_of_line line.now) (state_of file.old) (state_of file.new)
+        (W.contents output.old) (W.contents output.new) answers.old.ran answers.new.ran }
     ensures refused { OnOk result (answers.new.ran.refused ≤ answers.old.ran.refused + 1) }
     ensures edits { OnOk result (answers.new.ran.edits ≤ answers.old.ran.edits + 1) }
 {
     let Some(command) = read_line(alloc, line)? else {
         return Ok(());
     };
-    let outcome = answer(file, &command, &mut answers.text)?;
-    answers.ran.count(outcome);
-    write_text(output, &answers.text)
+    run_command(file, &command, answers, output)
 }
 
 /// The first line that ends in the bytes, and what stands behind its end.
@@ -89,9 +106,8 @@ pub fn run_piece<W: Write>(
     requires held { HasNoEnd held.old.items }
     requires refused { answers.old.ran.refused + length piece.now < 2 ^ 63 }
     requires edits { answers.old.ran.edits + length piece.now < 2 ^ 63 }
-    ensures run { MatchResult result
-        (λ _. HasRunLines (held.old.items ++ piece.now) held.new.items (state_of file.old) (state_of file.new) (W.contents output.old) (W.contents output.new) answers.old.ran answers.new.ran)
-        (λ fault. IsCut fault × HasBegunLines (held.old.items ++ piece.now) (state_of file.old) (state_of file.new) (W.contents output.old) (W.contents output.new)) }
+    ensures run { RunsLinesTo result (held.old.items ++ piece.now) held.new.items (state_of file.old) (state_of file.new)
+        (W.contents output.old) (W.contents output.new) answers.old.ran answers.new.ran }
     ensures refused { OnOk result (answers.new.ran.refused ≤ answers.old.ran.refused + length piece.now) }
     ensures edits { OnOk result (answers.new.ran.edits ≤ answers.old.ran.edits + length piece.now) }
 {

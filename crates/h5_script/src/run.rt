@@ -42,7 +42,7 @@ pub fn run_script<R: Read, W: Write>(
     let mut held = Vec::new(alloc);
     let mut answers = Answers::new(alloc)?;
     let mut room = MAX_SCRIPT;
-    for _ in 0..MAX_READS {
+    for _read in 0..MAX_READS {
         let count = read_piece(input, &mut piece)?;
         if count == 0 {
             run_line(alloc, file, &held, &mut answers, output)?;

@@ -28,8 +28,9 @@ pub fn write_text<W: Write>(output: &mut W, text: &[u8]) -> Result<(), RunFault>
     let mut rest = text;
     while !rest.is_empty() {
         match output.write(rest) {
-            Ok(0) | Err(_) => return Err(RunFault::ScriptWrite),
+            Ok(0) => return Err(RunFault::ScriptWrite),
             Ok(count) => rest = &rest[count..],
+            Err(_) => return Err(RunFault::ScriptWrite),
         }
     }
     Ok(())

@@ -26,10 +26,11 @@ pub fn push_list(text: &mut Vec<u8>, file: &File) -> Result<(), AllocError>
         path: b"",
         name: array.name,
     };
+    let (fixed, sizes, maxima) = (*array.fixed, [array.size], [Some(array.size)]);
     let told = ArrayText {
-        fixed: array.fixed,
-        sizes: &[array.size],
-        maxima: &[Some(array.size)],
+        fixed: &fixed,
+        sizes: &sizes,
+        maxima: &maxima,
         layout: Layout::Contiguous,
         fill: array.fill,
     };
@@ -42,10 +43,11 @@ fn push_array(text: &mut Vec<u8>, path: &[u8], array: &OnlyArray<'_>) -> Result<
     ensures { Appends result text.old.items text.new.items (dump_text (escaped path.now)
         (line_object array.now.fixed.now array.now.size array.now.fill (stored_values array.now.fixed.now array.now.cells.now))) }
 {
+    let (fixed, sizes, maxima) = (*array.fixed, [array.size], [Some(array.size)]);
     let told = ArrayText {
-        fixed: array.fixed,
-        sizes: &[array.size],
-        maxima: &[Some(array.size)],
+        fixed: &fixed,
+        sizes: &sizes,
+        maxima: &maxima,
         layout: Layout::Contiguous,
         fill: array.fill,
     };

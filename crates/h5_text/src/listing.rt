@@ -39,11 +39,11 @@ impl PathText<'_> {
 
 /// What lines tell of a dataset: its type, its sizes with as many maxima (`None` is unlimited), how its cells are stored, and its fill.
 #[derive(Clone, Copy)]
-pub struct ArrayText<'a> {
+pub struct ArrayText<'a, 'l> {
     pub fixed: &'a Fixed,
     pub sizes: &'a [u64],
     pub maxima: &'a [Option<u64>],
-    pub layout: Layout<'a>,
+    pub layout: Layout<'l>,
     pub fill: i128,
 }
 
@@ -56,7 +56,7 @@ pub fn push_group_line(out: &mut Vec<u8>, path: PathText<'_>) -> Result<(), Allo
 }
 
 /// Appends what a line has behind a dataset's path: that it is one, its type and its sizes.
-fn push_content(out: &mut Vec<u8>, array: &ArrayText<'_>) -> Result<(), AllocError>
+fn push_content(out: &mut Vec<u8>, array: &ArrayText<'_, '_>) -> Result<(), AllocError>
     ensures { Appends result out.old.items out.new.items (content_text (Array (told_dataset array.now))) }
 {
     push_text(out, b"dataset ")?;
@@ -69,7 +69,7 @@ fn push_content(out: &mut Vec<u8>, array: &ArrayText<'_>) -> Result<(), AllocErr
 pub fn push_array_line(
     out: &mut Vec<u8>,
     path: PathText<'_>,
-    array: &ArrayText<'_>,
+    array: &ArrayText<'_, '_>,
 ) -> Result<(), AllocError>
     ensures { Appends result out.old.items out.new.items (line_of (path_text path.entry) (content_text (Array (told_dataset array.now)))) }
 {
@@ -80,7 +80,7 @@ pub fn push_array_line(
 }
 
 /// Appends how a dataset's cells are stored, and its fill.
-fn push_detail(out: &mut Vec<u8>, array: &ArrayText<'_>) -> Result<(), AllocError>
+fn push_detail(out: &mut Vec<u8>, array: &ArrayText<'_, '_>) -> Result<(), AllocError>
     ensures { Appends result out.old.items out.new.items (dataset_text (told_dataset array.now)) }
 {
     push_text(out, b" ")?;
@@ -93,7 +93,7 @@ fn push_detail(out: &mut Vec<u8>, array: &ArrayText<'_>) -> Result<(), AllocErro
 pub fn push_dump_line(
     out: &mut Vec<u8>,
     path: PathText<'_>,
-    array: &ArrayText<'_>,
+    array: &ArrayText<'_, '_>,
 ) -> Result<(), AllocError>
     ensures { Appends result out.old.items out.new.items
         (dump_line (path_text path.entry) (told_dataset array.now)) }
