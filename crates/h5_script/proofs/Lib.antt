@@ -3,3 +3,4 @@ pub mod LineLaws
 pub mod RunLaws
 pub mod LineRuns
 pub mod PieceLaws
+pub mod ScriptRuns
