@@ -1,8 +1,10 @@
 -- A script that is read piece by piece, and how its run ends.
-use Rattle.std.proofs.Common.{◌≡◌, ℕ, ◌+◌, ◌-◌, ◌<◌, ◌≤◌, Bool, true, false, cond, Option, List, [], ◌∷◌, ◌++◌, length, take, refl, sym, ap, ◌∙◌, subst, append_assoc, append-nil, length-append, length-take, take_all, min, arith}
+use Rattle.std.proofs.Common.{◌≡◌, ℕ, ◌+◌, ◌-◌, ◌<◌, ◌≤◌, Bool, true, false, cond, Option, List, [], ◌∷◌, ◌++◌, length, take, drop, take-append-drop, refl, sym, ap, ◌∙◌, subst, append_assoc, append-nil, length-append, length-take, take_all, min, arith}
 use Rattle.std.specs.Prelude.{nat_lt}
 use Rattle.std.specs.Io.KnownBytes.{Appends, Consumes, Keeps, IsAtEnd}
 use Rattle.std.proofs.lemmas.Bool.Decides.{nat_tests}
+use Rattle.std.proofs.lemmas.List.{take-take}
+use Rattle.std.specs.Prelude.{Result, Ok, Err, MatchResult, IsErrAnd}
 use Rattle.h5_model.specs.Edits.{State}
 use Rattle.h5_model.specs.Lines.{Command, commands_of, finished, within_limit}
 use Rattle.h5_script.specs.Pieces.{HasNoEnd, IsWhole, HasRunLines, HasBegunLines, IsUnderway, commands_of_line}
@@ -30,6 +32,10 @@ cut_off s t input left old new ScriptWrite is off = off
 cut_off s t input left old new ScriptTooLong is off = absurd is
 cut_off s t input left old new NoMemory is off = off
 
+pub by_stop : {T : Type 0} (result : Result T RunFault) (P : T → Type 0) (Q : RunFault → Type 0) (e f : RunFault) → IsErrAnd result (λ g. g ≡ e) → e ≡ f → Q f → MatchResult result P Q
+by_stop (Ok x) P Q e f stopped is q = absurd stopped
+by_stop (Err g) P Q e f stopped is q = subst Q (sym (stopped ∙ is)) q
+
 -- ---- the part of a script that is run
 
 within_short : (script : List ℕ) → length script ≤ limit → within_limit script ≡ script
@@ -37,8 +43,12 @@ within_short script short =
     let test : nat_lt limit (length script) ≡ false = grind (arith, nat_tests) in
     ap (λ b. cond b (finished (take limit script)) script) test
 
+take_length_append : (a b : List ℕ) → take (length a) (a ++ b) ≡ a
+take_length_append [] b = refl
+take_length_append (x ∷ a) b = ap (λ xs. x ∷ xs) (take_length_append a b)
+
 take_front : (a b : List ℕ) (n : ℕ) → n ≡ length a → take n (a ++ b) ≡ a
-take_front a b n is = ?
+take_front a b n is = ap (λ k. take k (a ++ b)) is ∙ take_length_append a b
 
 -- of a script that is too long the lines that its first bytes finish
 within_long : (script front more : List ℕ) → script ≡ front ++ more → length front ≡ limit → limit < length script → within_limit script ≡ finished front
@@ -62,6 +72,11 @@ module _ (s : State) (input old : Known) where
   } where
     never : (k : ℕ) → k < 0 → ⊥
     never k low = omega (arith, low)
+
+  pub under_begin : (held : List ℕ) (ran : Ran) → held ≡ [] → ran ≡ none_ran → IsUnderway s s input input old old held limit ran
+  under_begin held ran none zero =
+      subst (λ (bytes : List ℕ). IsUnderway s s input input old old bytes limit ran) (sym none)
+      (subst (λ (counts : Ran). IsUnderway s s input input old old [] limit counts) (sym zero) under_start)
 
   -- nothing was read yet
   pub stopped_at_first : (f : RunFault) → IsCut f → IsStopped s s input input old old f
@@ -196,7 +211,10 @@ module _ (s : State) (input old : Known) where
 
       -- only a part of it is
       parted : (part : List ℕ) → room < count → part ≡ take room piece → (more : List ℕ) × (grown ≡ (under.script ++ part) ++ more)
-      parted part over is = ?
+      parted part over is =
+          (drop room (take count piece), ap (λ xs. under.script ++ xs) (sym (take-append-drop room (take count piece))
+          ∙ ap (λ xs. xs ++ drop room (take count piece)) (take-take room count piece (omega (arith, over)) ∙ sym is))
+          ∙ sym (append_assoc under.script part (drop room (take count piece))))
 
       front_long : (part : List ℕ) → room < count → part ≡ take room piece → length (under.script ++ part) ≡ limit
       front_long part over is =
@@ -230,3 +248,17 @@ module _ (s : State) (input old : Known) where
             (sym (within_front part over is ∙ ap finished (sym begun.parts) ∙ finished-whole begun.done begun.others begun.whole))
             (begun_within begun.done (finished begun.others) s t old new begun.whole begun.run);
           }
+
+      pub cut_piece : (within : ℕ) (part : List ℕ) (t : State) (new : Known) → within ≡ min count room → part ≡ take within piece → HasBegunLines (held ++ part) m t now new
+          → IsCutOff s t input left old new
+      cut_piece within part t new is parts more = by (nat_lt room count) refl where
+        same : (n : ℕ) → within ≡ n → part ≡ take n piece
+        same n equal = parts ∙ ap (λ k. take k piece) equal
+
+        by : (b : Bool) → nat_lt room count ≡ b → IsCutOff s t input left old new
+        by true test =
+            let over : room < count = grind (arith, nat_tests) in
+            cut_over part t new over (same room (omega (arith, is, over))) more
+        by false test =
+            let enough : count ≤ room = grind (arith, nat_tests) in
+            cut_within part t new enough (same count (omega (arith, is, enough))) more
