@@ -53,7 +53,7 @@ fn new<R: Files, E: Write>(rt: &R, alloc: Global, file: &str, errors: &mut E) ->
     }
 }
 
-/// Writes the listing of a file whose root group is empty: this version opens no other.
+/// Writes the listing of a file whose root group is empty.
 fn write_listing<O: Write>(output: &mut O) -> io::Result<()>
     ensures { OnOk result (Appends (O.contents output.old) (O.contents output.new) root_listing) }
 {
@@ -76,6 +76,24 @@ fn refused<E: Write>(fault: OpenFault, errors: &mut E) -> Status
     )
 }
 
+/// Lists the file where its root group is empty: what stands in another is not told yet.
+fn list<O: Write, E: Write>(file: &File, output: &mut O, errors: &mut E) -> Status
+    ensures printed { result ≡ Done → Appends (O.contents output.old) (O.contents output.new) root_listing }
+    ensures order { IsOrderStatus result }
+{
+    if file.array().is_some() {
+        let fault = OpenFault {
+            cause: Cause::NotYet,
+            address: 0,
+        };
+        return refused(fault, errors);
+    }
+    match write_listing(output) {
+        Ok(()) => Status::Done,
+        Err(_) => told(writeln!(errors, "h5i: cannot print"), Status::StreamFailed),
+    }
+}
+
 fn ls<R: Files, O: Write, E: Write>(
     rt: &R,
     alloc: Global,
@@ -95,10 +113,7 @@ fn ls<R: Files, O: Write, E: Write>(
         }
     };
     match File::open(alloc, bytes) {
-        Ok(_opened) => match write_listing(output) {
-            Ok(()) => Status::Done,
-            Err(_) => told(writeln!(errors, "h5i: cannot print"), Status::StreamFailed),
-        },
+        Ok(opened) => list(&opened, output, errors),
         Err((fault, _bytes)) => refused(fault, errors),
     }
 }

@@ -1,5 +1,5 @@
 -- What is kept of an image, and what is not.
-use Rattle.std.specs.Prelude.{◌≡◌, ℕ, List, [], ◌∷◌, replicate}
+use Rattle.std.specs.Prelude.{◌≡◌, ℕ, Bool, true, false, List, [], ◌∷◌, replicate}
 use Rattle.h5_model.specs.OneArray.{one_image}
 use Rattle.h5_model.specs.declared.dataset.Spec.{Spec}
 use Rattle.h5_model.specs.declared.open_fault.Cause.{Cause}
@@ -14,6 +14,11 @@ abbrev pub IsUnheld : List ℕ → Cause → Type 0
 IsUnheld image NoMemory = Unit {0}
 IsUnheld image NotYet = IsCarried image → ⊥
 IsUnheld image cause = ⊥
+
+-- the root has no link
+abbrev pub has_no_link : Held → Bool
+has_no_link Nothing = true
+has_no_link (OneArray l) = false
 
 -- the names of the root's links
 abbrev pub names_with : Held → List (List ℕ)

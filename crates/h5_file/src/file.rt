@@ -13,7 +13,7 @@ ghost use Rattle.h5_file.specs.Look.{HasKind, HasNames, HasCell, IsListRefused, 
 ghost use Rattle.h5_file.specs.Opening.{Refused, IsCarried};
 
 use crate::array::OnlyArray;
-use crate::create::{is_one_line, new_link, new_size};
+use crate::create::new_array;
 use crate::empty::EMPTY_FILE;
 use crate::held::{Held, data_begin, held_in, names_held, written};
 use crate::kind::{Kind, StoreKind};
@@ -21,14 +21,10 @@ use crate::look::{Place, look};
 use crate::superblock::superblock_fault;
 use h5_bytes::get_u64;
 use h5_model::{Cause, Edit, EditFault, Edited, ObjectNo, OpenFault, Spec};
-use h5_plain::line_length;
 use h5_shape::Dims;
 use h5_types::decode;
 use std::alloc::{AllocError, Global};
 use std::marker::Model;
-
-/// The most bytes of an image.
-const MAX_IMAGE: u64 = 1 << 31;
 
 /// A file: the bytes of its image, and what its root's links lead to.
 ///
@@ -136,7 +132,10 @@ impl File {
         if let Place::Array(_) = look(&self.held, path)? {
             return Err(EditFault::NotAGroup);
         }
-        names_held(alloc, &self.held).map_err(|_| EditFault::NoMemory)
+        match names_held(alloc, &self.held) {
+            Ok(names) => Ok(names),
+            Err(_) => Err(EditFault::NoMemory),
+        }
     }
 
     /// The value of the cell at an index of the array at the path.
@@ -202,17 +201,15 @@ impl File {
         ensures { MatchResult result (IsEdited self.old (CreateDataset path.now spec.now) self.new)
             (λ e. IsRefused self.old (CreateDataset path.now spec.now) e × (self.new ≡ self.old)) }
     {
-        if !matches!(self.held, Held::Nothing) || !is_one_line(spec) {
-            return Err(EditFault::NotYet);
-        }
-        let name = new_link(path)?;
-        let size = new_size(spec)?;
-        if line_length(name, &spec.fixed, size) > MAX_IMAGE {
-            return Err(EditFault::ImageFull);
-        }
-        let (image, line) = written(self.alloc, name, spec, size).map_err(|_| EditFault::NoMemory)?;
-        self.image = image;
-        self.held = Held::OneArray(line);
+        let (name, size) = new_array(&self.held, path, spec)?;
+        let Ok((image, line)) = written(self.alloc, name, spec, size) else {
+            return Err(EditFault::NoMemory);
+        };
+        *self = File {
+            image,
+            held: Held::OneArray(line),
+            alloc: self.alloc,
+        };
         Ok(Edited {
             object: Some(ObjectNo(1)),
             refreshed: 0,

@@ -5,7 +5,7 @@ ghost use Rattle.h5_model.specs.Empty.{empty_file};
 ghost use Rattle.h5_model.specs.OneArray.{data_place, one_end};
 ghost use Rattle.h5_model.specs.Paths.{is_name};
 ghost use Rattle.h5_file.specs.State.{Holds};
-ghost use Rattle.h5_file.specs.Held.{IsUnheld, IsWritten, names_with};
+ghost use Rattle.h5_file.specs.Held.{IsUnheld, IsWritten, has_no_link, names_with};
 ghost use Rattle.h5_file.specs.Create.{IsNewLine};
 ghost use Rattle.h5_file.specs.declared.held.Held.TheVariants.{OneArray};
 
@@ -21,6 +21,13 @@ pub enum Held {
     Nothing,
     /// It has one, to an array.
     OneArray(Line),
+}
+
+/// Whether the root has no link.
+pub fn is_nothing(held: &Held) -> bool
+    ensures { result ≡ has_no_link held.now }
+{
+    matches!(held, Held::Nothing)
 }
 
 /// Whether these are the bytes of the empty file.
@@ -52,7 +59,6 @@ pub fn written(
     spec: &Spec,
     size: u64,
 ) -> Result<(Vec<u8>, Line), AllocError>
-    requires named { is_name name.now ≡ true }
     requires short { length name.now ≤ 1023 }
     requires line { IsNewLine spec.now size }
     requires small { one_end name.now (spec.now).fixed size ≤ 2 ^ 31 }

@@ -1,9 +1,11 @@
 //! Paths: the names between slashes.
 
-ghost use Rattle.std.specs.Prelude.{◌≡◌, ◌==◌, ◌||◌, length};
-ghost use Rattle.std.specs.List.{list_all, list_any, slice_split};
+ghost use Rattle.std.specs.Prelude.{◌≡◌, ◌==◌, length, position};
+ghost use Rattle.std.specs.List.{list_all, slice_split};
 ghost use Rattle.h5_model.specs.Paths.{is_name, names_of};
 ghost use Rattle.h5_file.specs.Names.{AreNames, AreParts};
+
+use h5_model::is_link_name;
 
 /// The names of a path.
 #[derive(Clone, Copy)]
@@ -18,22 +20,6 @@ pub enum Names<'a> {
     Several { first: &'a [u8], count: usize },
 }
 
-fn has_separator(name: &[u8]) -> bool
-    ensures { result ≡ list_any (λ c. (c == 0) || (c == 47)) name.now }
-{
-    name.iter().any(|c| *c == 0 || *c == b'/')
-}
-
-/// Whether a link may have this name.
-fn is_link_name(name: &[u8]) -> bool
-    ensures { result ≡ is_name name.now }
-{
-    if name.is_empty() || name.len() == 1 && name[0] == b'.' {
-        return false;
-    }
-    !has_separator(name)
-}
-
 fn are_names(text: &[u8]) -> bool
     ensures { result ≡ list_all is_name (slice_split (λ c. c == 47) text.now) }
 {
@@ -46,11 +32,18 @@ fn count_parts(text: &[u8]) -> usize
     text.split(|c| *c == b'/').count()
 }
 
+/// Where the first slash is.
+fn slash_at(text: &[u8]) -> Option<usize>
+    ensures { result ≡ position (λ c. c == 47) text.now }
+{
+    text.iter().position(|c| *c == b'/')
+}
+
 /// The text up to the first slash, and whether there is one.
 fn first_part(text: &[u8]) -> (&[u8], bool)
     ensures { AreParts (slice_split (λ c. c == 47) text.now) result.0.now result.1 }
 {
-    match text.iter().position(|c| *c == b'/') {
+    match slash_at(text) {
         Some(end) => (&text[..end], true),
         None => (text, false),
     }

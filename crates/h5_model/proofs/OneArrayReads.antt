@@ -174,7 +174,7 @@ module _ (name : List ℕ) (t : Fixed) (size : ℕ) (fill : ℤ) (values : List 
 
     -- ---- the blocks
 
-    abbrev placed : List Placed
+    abbrev pub placed : List Placed
     placed = record { number = 0; header = 96; object = linking_object name; blocks = name_blocks }
         ∷ record { number = 1; header = header_place name; object = line_object t size fill values; blocks = block (header_place name) 120 ∷ data_blocks } ∷ []
 

@@ -1,7 +1,7 @@
 -- What stands in a file with one array: its length, its name, and its header.
-use Rattle.std.proofs.Common.{◌≡◌, ℕ, ◌+◌, ◌-◌, ◌*◌, ◌^◌, ◌%◌, ◌<◌, ◌≤◌, List, [], ◌∷◌, ◌++◌, length, take, drop, ℤ, Bool, true, false, inl, inr, Some, None, refl, ap, ◌∙◌, sym, subst, arith, append_assoc, append-nil, length-append, eqb}
+use Rattle.std.proofs.Common.{◌≡◌, ℕ, zero, suc, replicate, ◌+◌, ◌-◌, ◌*◌, ◌^◌, ◌%◌, ◌<◌, ◌≤◌, List, [], ◌∷◌, ◌++◌, length, take, drop, ℤ, Bool, true, false, inl, inr, Some, None, refl, ap, ◌∙◌, sym, subst, arith, append_assoc, append-nil, eqb}
 use Rattle.std.specs.List.{starts_with}
-use Rattle.std.proofs.lemmas.List.{take_at, take_rest, length-drop, get_or-drop}
+use Rattle.std.proofs.lemmas.List.{take_at, take_rest, length-drop, length-replicate, get_or-drop}
 use Rattle.std.proofs.lemmas.Slice.Eq.{starts_is}
 use Rattle.std.proofs.lemmas.Bool.Decides.{Decides-eqb}
 use Rattle.std.proofs.Math.Seq.{drop-append-add}
@@ -12,14 +12,15 @@ use Rattle.h5_bytes.proofs.FieldLaws.{number_at-part}
 use Rattle.h5_bytes.specs.Texts.{until_zero}
 use Rattle.h5_bytes.proofs.PartLaws.{part-behind, part-front}
 use Rattle.h5_model.specs.Fixed.{Fixed, IsFixed, fits, bytes_of, value_of}
+use Rattle.h5_model.specs.Sound.{AreOf}
 use Rattle.h5_model.specs.Nodes.{group_kind}
 use Rattle.h5_model.specs.Paths.{is_name}
 use Rattle.h5_model.specs.Sizes.{text_span}
 use Rattle.h5_model.specs.Plain.{word, zeros, superblock_bytes, header_bytes, symbol_table_body, node_bytes_of, heap_header_bytes, segment_bytes, free_head_of, symbol_node_bytes, line_header_bytes, cells_bytes, class_bits, padded_text, message_bytes, contiguous_body}
-use Rattle.h5_model.specs.OneArray.{one_image, one_front, one_end, symbols_place, header_place, data_place, data_address}
+use Rattle.h5_model.specs.OneArray.{one_image, one_front, one_end, symbols_place, header_place, data_address}
 use Rattle.h5_model.proofs.FixedLaws.{sizes_of, length-bytes_of}
 use Rattle.h5_model.proofs.PlainArray.{length-line_header_bytes}
-use Rattle.h5_model.proofs.PlainValues.{length-cells_bytes}
+use Rattle.h5_model.proofs.OneArrayBack.{length-one_front, length-one_image}
 use Rattle.h5_model.proofs.PlainGroup.{name_is}
 use Rattle.h5_types.proofs.Values.{value_of_bytes}
 use Rattle.h5_plain.specs.Parts.{free_rest}
@@ -104,9 +105,6 @@ told_none h none = rw none refl
 joined : (a b c d s n h : List ℕ) → a ++ (b ++ (c ++ (d ++ (s ++ (n ++ h))))) ≡ (a ++ (b ++ (c ++ d))) ++ (s ++ (n ++ h))
 joined a b c d s n h = simp append_assoc
 
-lengths : (a b c d : List ℕ) → length (a ++ (b ++ (c ++ d))) ≡ length a + (length b + (length c + length d))
-lengths a b c d = simp length-append refl
-
 module _ (name : List ℕ) (t : Fixed) (size : ℕ) (fill : ℤ) where
   abbrev segment : List ℕ
   segment = segment_bytes (name ∷ [])
@@ -129,26 +127,13 @@ module _ (name : List ℕ) (t : Fixed) (size : ℕ) (fill : ℤ) where
       (node_bytes_of (group_kind 16) 0 undefined undefined (word 0 ∷ word 8 ∷ []) (symbols_place name ∷ []))
       (heap_header_bytes (length segment) (free_head_of (name ∷ [])) 712) segment symbols header
 
-  -- what stands before the data ends where they begin
-  pub length-front : IsFixed t → length (one_front name t size fill) ≡ data_place name
-  length-front is =
-      let whole : length (one_front name t size fill) ≡ length root + (length segment + (length symbols + length header))
-      = ap length laid ∙ lengths root segment symbols header in
-      let begins : length root ≡ 712 = refl in
-      let node_long : length symbols ≡ 328 = refl in
-      omega (arith, length-line_header_bytes t size fill (data_address name size) is)
-
   module _ (values : List ℤ) (is : IsLineFile name t size fill values) where
     image_is : one_image name t size fill values ≡ root ++ (segment ++ (symbols ++ (header ++ cells_bytes t values)))
     unfolding one_image
     image_is = ap (λ front. front ++ cells_bytes t values) laid ∙ simp append_assoc
 
-    pub length-line : length (one_image name t size fill values) ≡ one_end name t size
-    unfolding one_image
-    length-line =
-        let data_long : length (cells_bytes t values) ≡ size * t.size = length-cells_bytes t values ∙ ap (λ n. n * t.size) is.counted in
-        length-append (one_front name t size fill) (cells_bytes t values)
-        ∙ ap (λ n. n + length (cells_bytes t values)) (length-front is.sound) ∙ ap (λ n. data_place name + n) data_long
+    length-line : length (one_image name t size fill values) ≡ one_end name t size
+    length-line = length-one_image name t size fill is.sound values is.counted
 
     pub begins_line : starts_with eqb (one_image name t size fill values) (one_front name t size fill) ≡ true
     unfolding one_image
@@ -214,7 +199,7 @@ unfolding one_image
 line_found image name t size fill named short sound of bounded small long begins low =
     let front : List ℕ = one_front name t size fill in
     let parts : image ≡ front ++ drop (length front) image = (starts_is Decides-eqb image front true (sym begins)).0 refl in
-    let rest_long : length (drop (length front) image) ≡ size * t.size = length-drop (length front) image ∙ omega (arith, length-front name t size fill sound, long) in
+    let rest_long : length (drop (length front) image) ≡ size * t.size = length-drop (length front) image ∙ omega (arith, length-one_front name t size fill sound, long) in
     let rest_low : AreBytes (drop (length front) image) = λ i. rw (get_or-drop (length front) image i 0) (low (length front + i)) in
     let there = values_there t size (drop (length front) image) sound rest_long rest_low in (
       there.0,
@@ -230,3 +215,23 @@ line_found image name t size fill named short sound of bounded small long begins
       },
       same_end image front (drop (length front) image) (cells_bytes t there.0) parts there.1.same,
     )
+
+-- ---- a new file
+
+AreOf-replicate : (t : Fixed) (n : ℕ) (v : ℤ) → fits t v ≡ true → AreOf t (replicate n v)
+AreOf-replicate t zero v one = tt
+AreOf-replicate t (suc n) v one = (one, AreOf-replicate t n v one)
+
+-- a name, a type, a size and a fill value make a file whose cells are the fill
+pub new_line_file : (name : List ℕ) (t : Fixed) (size : ℕ) (fill : ℤ) → is_name name ≡ true → length name ≤ 1023 → IsFixed t → fits t fill ≡ true
+    → size ≤ 2 ^ 40 → one_end name t size ≤ 2 ^ 31 → IsLineFile name t size fill (replicate size fill)
+new_line_file name t size fill named short sound of bounded small = record {
+  named = named;
+  short = short;
+  sound = sound;
+  of_type = of;
+  values_of_type = AreOf-replicate t size fill of;
+  counted = length-replicate size fill;
+  bounded = bounded;
+  small = small;
+}

@@ -1,6 +1,6 @@
 //! A file whose root has one link, to a contiguous array of one size (File Format Specification 3.0, sections II.A, III and IV.A).
 ghost use Rattle.std.specs.Prelude.{◌≡◌, ◌^◌, ◌<◌, ◌≤◌, ◌++◌, OnOk, IfOk, IsTrue, true, length, replicate};
-ghost use Rattle.h5_model.specs.Fixed.{fits};
+ghost use Rattle.h5_model.specs.Fixed.{fits, IsFixed};
 ghost use Rattle.h5_model.specs.OneArray.{header_place, one_end, one_front, one_image};
 ghost use Rattle.h5_plain.specs.Places.{ArePlaces};
 
@@ -95,7 +95,8 @@ pub(crate) fn push_front(
 pub fn line_length(name: &[u8], fixed: &Fixed, size: u64) -> u64
     requires name { length name.now < 2 ^ 32 }
     requires size { size ≤ 2 ^ 40 }
-    ensures { result ≡ one_end name.now fixed.now size }
+    ensures length { result ≡ one_end name.now fixed.now size }
+    ensures sound { IsFixed fixed.now }
 {
     line_places(name, fixed, size).end
 }

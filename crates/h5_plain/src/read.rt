@@ -1,16 +1,15 @@
 //! Recognizing a file with one array in the plain layout (File Format Specification 3.0, sections II.A, III and IV.A).
-ghost use Rattle.std.specs.Prelude.{◌≡◌, ◌+◌, ◌-◌, ◌*◌, ◌^◌, ◌<◌, ◌≤◌, ◌==◌, ◌||◌, nat_eq, IfOk, IfSome, IsTrue, MatchOption, true, length, position};
-ghost use Rattle.std.specs.List.{list_any, starts_with};
+ghost use Rattle.std.specs.Prelude.{◌≡◌, ◌+◌, ◌-◌, ◌*◌, ◌^◌, ◌<◌, ◌≤◌, ◌==◌, nat_eq, IfOk, IfSome, IsTrue, MatchOption, true, length, position};
+ghost use Rattle.std.specs.List.{starts_with};
 ghost use Rattle.h5_bytes.specs.Texts.{until_zero as text_of};
 ghost use Rattle.h5_model.specs.Fixed.{fits, IsFixed};
 ghost use Rattle.h5_model.specs.OneArray.{one_front};
-ghost use Rattle.h5_model.specs.Paths.{is_name};
 ghost use Rattle.h5_plain.specs.LineFile.{IsLine, IsNoLine, header_told, type_told};
 
 use crate::line::{line_header_place, line_length, push_front};
 use crate::line_file::{Line, Told};
 use byteorder::{ByteOrder, LittleEndian};
-use h5_model::Fixed;
+use h5_model::{Fixed, is_link_name};
 use h5_types::decode;
 use std::alloc::{AllocError, Global};
 
@@ -35,22 +34,6 @@ fn until_zero(bytes: &[u8]) -> &[u8]
         Some(end) => &bytes[..end],
         None => bytes,
     }
-}
-
-fn has_separator(name: &[u8]) -> bool
-    ensures { result ≡ list_any (λ c. (c == 0) || (c == 47)) name.now }
-{
-    name.iter().any(|c| *c == 0 || *c == b'/')
-}
-
-/// Whether a link may have this name.
-fn is_link_name(name: &[u8]) -> bool
-    ensures { result ≡ is_name name.now }
-{
-    if name.is_empty() || name.len() == 1 && name[0] == b'.' {
-        return false;
-    }
-    !has_separator(name)
 }
 
 /// The type of these class bits and this size.

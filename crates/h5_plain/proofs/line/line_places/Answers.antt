@@ -18,4 +18,5 @@ returns c =
       header = ap (λ n. 712 + n + 328) segment;
       cells = c.data_address.ensures ∙ ap (λ place. if c.args.size == 0 then undefined else place) cells;
       end = ap (λ n. 712 + n + 328 + 120 + c.args.size * c.size.result) segment ∙ ap (λ n. data_place c.args.name.now + c.args.size * n) c.size.ensures.size;
+      sound = c.size.ensures.one_of;
     }

@@ -53,7 +53,7 @@ returns-then-told c name t size fill values is e =
       | then-told-via-else-told+then-image-line_length w ↦
           let ends : one_end c.until_zero-name.result.now c.in-Some.told.fixed c.in-Some.told.size ≡ one_end name t size
           = ap (λ text. one_end text c.in-Some.told.fixed c.in-Some.told.size) same ∙ ap (λ (x : Told). one_end name x.fixed x.size) told in
-          w.if-image-line_length.true (long_as name t size fill values is c.args.image.now e ∙ sym (w.line_length.ensures ∙ ends))
+          w.if-image-line_length.true (long_as name t size fill values is c.args.image.now e ∙ sym (w.line_length.ensures.length ∙ ends))
     ]
 
 pub returns-then-not-branch : goal.returns-then-not-branch
@@ -72,4 +72,4 @@ returns c =
     let value : to_z w128 (of_z w128 c.in-Some.told.fill) ≡ c.in-Some.told.fill = search rules in
     rw (value, c.in_ok-from_slice.ensures.items) (line_found c.args.image.now c.until_zero-name.result.now c.in-Some.told.fixed c.in-Some.told.size c.in-Some.told.fill
     (sym c.is_link_name.ensures ∙ c.if-not-is_link_name.false) c.if-name-gt-MAX_NAME.false c.in-Some.ensures.sound c.in-Some.ensures.of_type c.if-told.false
-    c.if-image.false (c.if-image-line_length.false ∙ c.line_length.ensures) (sym c.in_ok-begins_as.ensures ∙ c.if-not-branch.false) (λ i. search rules))
+    c.if-image.false (c.if-image-line_length.false ∙ c.line_length.ensures.length) (sym c.in_ok-begins_as.ensures ∙ c.if-not-branch.false) (λ i. search rules))
