@@ -4,3 +4,5 @@ pub mod RunLaws
 pub mod LineRuns
 pub mod PieceLaws
 pub mod ScriptRuns
+pub mod Listings
+pub mod LineAnswers
