@@ -3,3 +3,6 @@ pub mod LineLaws
 pub mod RunLaws
 pub mod LineRuns
 pub mod PieceLaws
+pub mod ScriptRuns
+pub mod Listings
+pub mod LineAnswers

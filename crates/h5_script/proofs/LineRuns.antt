@@ -79,6 +79,11 @@ pub by_memory : {T : Type 0} (result : Result T RunFault) (P : T → Type 0) (B 
 by_memory (Ok x) P B refused begun = absurd refused
 by_memory (Err f) P B refused begun = (subst IsCut (sym refused) tt, begun)
 
+-- the fault of a part is that of the whole
+pub by_fault : {T : Type 0} (result : Result T RunFault) (P : T → Type 0) (B : Type 0) (e : RunFault) → IsErrAnd result (λ f. f ≡ e) → IsCut e → B → MatchResult result P (λ f. IsCut f × B)
+by_fault (Ok x) P B e refused is begun = absurd refused
+by_fault (Err f) P B e refused is begun = (subst IsCut (sym refused) is, begun)
+
 -- an answer was written whole, or the writer failed
 pub line_written : {T : Type 0} (result : Result T RunFault) (s t : State) (command : Command) (text shown : List ℕ) (outcome : Outcome) (old new : Known) (a b : Ran)
     → IsAnswered s command t text outcome → shown ≡ text

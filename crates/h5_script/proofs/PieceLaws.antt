@@ -1,5 +1,5 @@
 -- Lines that end in a piece of a script.
-use Rattle.std.proofs.Common.{◌≡◌, ℕ, Option, List, [], ◌∷◌, ◌++◌, refl, sym, ap, ◌∙◌, subst, append_assoc, append-nil, eqb, false, ◌<◌, arith}
+use Rattle.std.proofs.Common.{◌≡◌, ℕ, Option, List, [], ◌∷◌, ◌++◌, refl, sym, ap, ◌∙◌, subst, append_assoc, append-nil, eqb, false, ◌<◌, ◌≤◌, ◌+◌, length, length-append, arith}
 use Rattle.std.proofs.lemmas.List.Elements.{All-append}
 use Rattle.h5_model.specs.Edits.{State}
 use Rattle.h5_model.specs.Lines.{Command, commands_of}
@@ -14,6 +14,10 @@ Known = Option (List ℕ)
 
 pub endless_more : (held line : List ℕ) → HasNoEnd held → HasNoEnd line → HasNoEnd (held ++ line)
 endless_more held line first second = All-append (λ b. eqb b 10 ≡ false) held line first second
+
+-- what stands behind a line's end is shorter
+pub shorter : (bytes line rest : List ℕ) → IsFirstLine bytes line rest → length rest + 1 ≤ length bytes
+shorter bytes line rest is = omega (arith, length-append line (10 ∷ rest), ap length is.whole)
 
 -- a line with its end
 commands_with_end : (line : List ℕ) → HasNoEnd line → commands_of (line ++ 10 ∷ []) ≡ commands_of_line line
@@ -68,6 +72,18 @@ module _ (s : State) (old : Known) (a : Ran) where
           run = subst (λ (commands : List Command). HasBegun commands s t old new) (commands_and_line so_far.done (held ++ line) so_far.whole all)
               (has_begun_more (commands_of so_far.done) (commands_of_line (held ++ line)) s m t old mid new so_far.run.run begun);
         }
+
+    -- the same where the line stands in a buffer, which is then cleared
+    pub lines_next : (line shown after : List ℕ) (t : State) (new : Known) (c : Ran) → HasNoEnd line → shown ≡ held ++ line → after ≡ []
+        → HasCounted (commands_of_line shown) m t mid new b c → HasRunLines (seen ++ (line ++ 10 ∷ [])) after s t old new a c
+    lines_next line shown after t new c endless is cleared ran =
+        subst (λ (left : List ℕ). HasRunLines (seen ++ (line ++ 10 ∷ [])) left s t old new a c) (sym cleared)
+        (lines_more line t new c endless (subst (λ (bytes : List ℕ). HasCounted (commands_of_line bytes) m t mid new b c) is ran))
+
+    pub lines_stopped : (line shown rest bytes : List ℕ) (t : State) (new : Known) → HasNoEnd line → shown ≡ held ++ line → seen ++ (line ++ 10 ∷ rest) ≡ bytes
+        → HasBegun (commands_of_line shown) m t mid new → HasBegunLines bytes s t old new
+    lines_stopped line shown rest bytes t new endless is parts begun =
+        lines_begun line rest bytes t new endless parts (subst (λ (text : List ℕ). HasBegun (commands_of_line text) m t mid new) is begun)
 
     -- no line ends in the rest
     pub lines_held : (rest bytes : List ℕ) → HasNoEnd rest → seen ++ rest ≡ bytes → HasRunLines bytes (held ++ rest) s m old mid a b

@@ -1,6 +1,6 @@
 //! A whole script.
 
-ghost use Rattle.std.specs.Prelude.{MatchResult};
+ghost use Rattle.std.specs.Prelude.{◌<◌, MatchResult, length};
 ghost use Rattle.h5_file.specs.State.{state_of};
 ghost use Rattle.h5_script.specs.Script.{IsDone, IsStopped};
 
@@ -22,6 +22,40 @@ const MAX_SCRIPT: usize = 16777216;
 /// bytes long before.
 const MAX_READS: u64 = 33554432;
 
+/// Runs a script, which is read piece by piece into the buffer.
+fn run_pieces<R: Read, W: Write>(
+    alloc: Global,
+    file: &mut File,
+    input: &mut R,
+    output: &mut W,
+    piece: &mut [u8],
+) -> Result<Ran, RunFault>
+    requires { 0 < length piece.old }
+    ensures { MatchResult result
+        (IsDone (state_of file.old) (state_of file.new) (R.remaining input.old) (R.remaining input.new) (W.contents output.old) (W.contents output.new))
+        (IsStopped (state_of file.old) (state_of file.new) (R.remaining input.old) (R.remaining input.new) (W.contents output.old) (W.contents output.new)) }
+{
+    let mut held = Vec::new(alloc);
+    let mut answers = Answers::new(alloc)?;
+    let mut room = MAX_SCRIPT;
+    for _read in 0..MAX_READS {
+        let count = read_piece(input, piece)?;
+        if count == 0 {
+            run_line(alloc, file, &held, &mut answers, output)?;
+            flush(output)?;
+            return Ok(answers.ran);
+        }
+        let within = count.min(room);
+        let part = &piece[..within];
+        run_piece(alloc, file, &mut held, part, &mut answers, output)?;
+        if count > room {
+            return Err(RunFault::ScriptTooLong);
+        }
+        room -= count;
+    }
+    Err(RunFault::ScriptTooLong)
+}
+
 /// Runs a script to its end, and answers how its lines count.
 ///
 /// Lines run as they come, and each answer is written before the next line is run. The script may
@@ -39,29 +73,5 @@ pub fn run_script<R: Read, W: Write>(
         (IsStopped (state_of file.old) (state_of file.new) (R.remaining input.old) (R.remaining input.new) (W.contents output.old) (W.contents output.new)) }
 {
     let mut piece = vec![in alloc; 0u8; PIECE]?;
-    let mut held = Vec::new(alloc);
-    let mut answers = Answers::new(alloc)?;
-    let mut room = MAX_SCRIPT;
-    for _read in 0..MAX_READS {
-        let count = read_piece(input, &mut piece)?;
-        if count == 0 {
-            run_line(alloc, file, &held, &mut answers, output)?;
-            flush(output)?;
-            return Ok(answers.ran);
-        }
-        let within = count.min(room);
-        run_piece(
-            alloc,
-            file,
-            &mut held,
-            &piece[..within],
-            &mut answers,
-            output,
-        )?;
-        if count > room {
-            return Err(RunFault::ScriptTooLong);
-        }
-        room -= count;
-    }
-    Err(RunFault::ScriptTooLong)
+    run_pieces(alloc, file, input, output, &mut piece)
 }

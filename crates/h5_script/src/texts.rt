@@ -2,6 +2,7 @@
 
 ghost use Rattle.std.specs.Prelude.{◌≡◌, ◌*◌, length};
 ghost use Rattle.h5_model.specs.Paths.{located};
+ghost use Rattle.h5_model.specs.Fixed.{IsFixed};
 ghost use Rattle.h5_model.specs.OneArray.{line_object};
 ghost use Rattle.h5_model.specs.Script.{dumped, stored_values};
 ghost use Rattle.h5_model.specs.Text.{dump_text, escaped, list_text};
@@ -39,7 +40,8 @@ pub fn push_list(text: &mut Vec<u8>, file: &File) -> Result<(), AllocError>
 
 /// Appends what is dumped of the array: its line and its cells.
 fn push_array(text: &mut Vec<u8>, path: &[u8], array: &OnlyArray<'_>) -> Result<(), AllocError>
-    requires { length array.now.cells.now ≡ array.now.size * (array.now.fixed.now).size }
+    requires sound { IsFixed array.now.fixed.now }
+    requires filled { length array.now.cells.now ≡ array.now.size * (array.now.fixed.now).size }
     ensures { Appends result text.old.items text.new.items (dump_text (escaped path.now)
         (line_object array.now.fixed.now array.now.size array.now.fill (stored_values array.now.fixed.now array.now.cells.now))) }
 {
@@ -68,8 +70,11 @@ pub fn push_dump(
     requires { HasKind file.now.tree path.now kind.now }
     ensures { Appends result text.old.items text.new.items (dumped file.now.tree path.now (located file.now.tree path.now)) }
 {
-    match (kind, file.array()) {
-        (Kind::Dataset { .. }, Some(array)) => push_array(text, path, &array),
-        _ => push_group_line(text, PathText::Plain(path)),
+    let Some(array) = file.array() else {
+        return push_group_line(text, PathText::Plain(path));
+    };
+    match kind {
+        Kind::Group => push_group_line(text, PathText::Plain(path)),
+        Kind::Dataset { .. } => push_array(text, path, &array),
     }
 }

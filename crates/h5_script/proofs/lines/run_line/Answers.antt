@@ -19,4 +19,7 @@ returns-in_default-clause-run g c =
     (ap (λ (o : Option Command). option_map command_of o) (sym c.in_default.is) ∙ c.in_ok-command.ensures)
 
 pub returns-clause-run : goal.returns-clause-run
-returns-clause-run g c = ?
+returns-clause-run g c =
+    line_asked c.run_command.result c.args.line.now (command_of c.in-Some.command) (state_of c.args.file.now) (state_of c.run_command.new.file)
+    (g.W.Write.contents c.args.output.now) (g.W.Write.contents c.run_command.new.output) c.args.answers.now.ran c.run_command.new.answers.ran
+    (ap (λ (o : Option Command). option_map command_of o) (sym c.in-Some.is) ∙ c.in_ok-command.ensures) c.run_command.ensures.run
