@@ -45,10 +45,14 @@ IsUnopened StreamFailed = Unit {0}
 IsUnopened NoMemory = Unit {0}
 IsUnopened _ = ⊥
 
+-- a script that was run to its end has a refused line, or none
+abbrev pub ran_status : Ran → Status
+ran_status ran = if ran.refused == 0 then Done else CommandRefused
+
 -- the script was run to its end on this file: the status, and the file to be written back, where an edit was accepted
 pub record IsRunOver (file : FileState) (input left old new : Option (List ℕ)) (status : Status) (changed : Option FileState) : Type 0 where
   pub after : FileState
   pub ran : Ran
   pub done : IsDone (state_of file) (state_of after) input left old new ran
-  pub status_is : status ≡ (if ran.refused == 0 then Done else CommandRefused)
+  pub status_is : status ≡ ran_status ran
   pub changed_is : changed ≡ (if ran.edits == 0 then None else Some after)

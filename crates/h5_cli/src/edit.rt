@@ -1,15 +1,15 @@
 //! Orders that write a file.
 
-ghost use Rattle.std.specs.Prelude.{◌≡◌, ◌⊎◌, ℕ, IfOk, List, Option, Some};
+ghost use Rattle.std.specs.Prelude.{◌≡◌, ◌⊎◌, ◌==◌, ℕ, IfOk, List, Option, None, Some, if◌then◌else◌};
 ghost use Rattle.h5_cli.specs.Words.{WantNew, WantRun};
-ghost use Rattle.h5_cli.specs.Ends.{Ends, IsRunOver};
+ghost use Rattle.h5_cli.specs.Ends.{Ends, IsRunOver, ran_status};
 ghost use Rattle.h5_cli.specs.declared.status.Status.TheVariants.{StreamFailed};
 
 use crate::look::opened;
 use crate::status::Status;
 use crate::tell::{failed, failed_on, no_memory};
 use h5_file::File;
-use h5_script::{RunFault, run_script};
+use h5_script::{Ran, RunFault, run_script};
 use std::alloc::Global;
 use std::fs;
 use std::io::{Read, Write};
@@ -41,6 +41,24 @@ pub fn new<R: Files, E: Write>(rt: &R, alloc: Global, file: &str, errors: &mut E
     }
 }
 
+/// The status of a script that was run to its end.
+fn status_of(ran: Ran) -> Status
+    ensures { result ≡ ran_status ran }
+{
+    if ran.refused == 0 {
+        Status::Done
+    } else {
+        Status::CommandRefused
+    }
+}
+
+/// The file, where a script has changed it.
+fn changed_by(ran: Ran, file: File) -> Option<File>
+    ensures { result ≡ (if ran.edits == 0 then None else Some file) }
+{
+    if ran.edits == 0 { None } else { Some(file) }
+}
+
 /// Runs the script on a file to its end. The file is given back where it has to be written, that is,
 /// where an edit was accepted.
 fn run_over<I: Read, O: Write>(
@@ -49,16 +67,10 @@ fn run_over<I: Read, O: Write>(
     input: &mut I,
     output: &mut O,
 ) -> Result<(Status, Option<File>), RunFault>
-    ensures { IfOk result (λ over. IsRunOver file.entry (I.remaining input.old) (I.remaining input.new) (O.contents output.old) (O.contents output.new) over.0 over.1) }
+    ensures { IfOk result (λ over. IsRunOver file (I.remaining input.old) (I.remaining input.new) (O.contents output.old) (O.contents output.new) over.0 over.1) }
 {
     let ran = run_script(alloc, &mut file, input, output)?;
-    let status = if ran.refused == 0 {
-        Status::Done
-    } else {
-        Status::CommandRefused
-    };
-    let changed = if ran.edits == 0 { None } else { Some(file) };
-    Ok((status, changed))
+    Ok((status_of(ran), changed_by(ran, file)))
 }
 
 /// Runs a script on the file of this name, and writes the file back where the script ran to its end

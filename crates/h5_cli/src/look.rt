@@ -67,28 +67,22 @@ pub fn ls<R: Files, O: Write, E: Write>(
 }
 
 /// What is dumped of a file at the path that the word stands for, or the line of a refusal.
-fn dump_text(
-    alloc: Global,
-    file: &File,
-    word: &str,
-) -> Result<(Vec<u8>, Status), AllocError>
+fn dump_text(alloc: Global, file: &File, word: &str) -> Result<(Vec<u8>, Status), AllocError>
     ensures { IfOk result (λ answer. IsDumpText file.now.tree word.now answer.0.items answer.1) }
 {
     let mut text = Vec::new(alloc);
-    let Some(path) = unescaped(alloc, word.as_bytes())? else {
-        push_refused(&mut text, EditFault::BadPath)?;
-        return Ok((text, Status::CommandRefused));
+    let fault = match unescaped(alloc, word.as_bytes())? {
+        None => EditFault::BadPath,
+        Some(path) => match file.kind(path.as_slice()) {
+            Err(fault) => fault,
+            Ok(kind) => {
+                push_dump(&mut text, file, path.as_slice(), &kind)?;
+                return Ok((text, Status::Done));
+            }
+        },
     };
-    match file.kind(path.as_slice()) {
-        Ok(kind) => {
-            push_dump(&mut text, file, path.as_slice(), &kind)?;
-            Ok((text, Status::Done))
-        }
-        Err(fault) => {
-            push_refused(&mut text, fault)?;
-            Ok((text, Status::CommandRefused))
-        }
-    }
+    push_refused(&mut text, fault)?;
+    Ok((text, Status::CommandRefused))
 }
 
 /// Dumps what stands at a path of the file of this name.

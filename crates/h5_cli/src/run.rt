@@ -1,8 +1,9 @@
 //! The whole run of the program.
 
-ghost use Rattle.std.specs.Prelude.{◌≡◌, ◌≢◌, ◌≤◌, map};
+ghost use Rattle.std.specs.Prelude.{◌≡◌, ◌≢◌, ◌≤◌, Some, map};
 ghost use Rattle.h5_cli.specs.Words.{Taken, asked};
-ghost use Rattle.h5_cli.specs.Ends.{Ends};
+ghost use Rattle.h5_cli.specs.Ends.{Ends, Refuses};
+ghost use Rattle.h5_cli.specs.Order.{texts_of};
 ghost use Rattle.h5_cli.specs.Status.{status_code};
 ghost use Rattle.h5_cli.specs.declared.status.Status.{Status as StatusValue};
 ghost use Rattle.h5_cli.specs.declared.status.Status.TheVariants.{CommandRefused};
@@ -29,8 +30,27 @@ fn explain<O: Write, E: Write>(error: &clap::Error, output: &mut O, errors: &mut
     }
 }
 
-/// Reads the words as an order and carries it out.
-fn carry_out<R: Files, S: AsStr, I: Read, O: Write, E: Write>(
+/// Carries an order out.
+fn carry_out<R: Files, I: Read, O: Write, E: Write>(
+    rt: &R,
+    alloc: Global,
+    order: Order<'_>,
+    input: &mut I,
+    output: &mut O,
+    errors: &mut E,
+) -> Status
+    ensures { Ends (Some (texts_of order.entry)) (I.remaining input.old) (I.remaining input.new) (O.contents output.old) (O.contents output.new) result }
+{
+    match order {
+        Order::New { file } => new(rt, alloc, file, errors),
+        Order::Ls { file } => ls(rt, alloc, file, output, errors),
+        Order::Dump { file, path } => dump(rt, alloc, file, path, output, errors),
+        Order::Run { file } => run(rt, alloc, file, input, output, errors),
+    }
+}
+
+/// Reads the words as an order, and carries it out.
+fn obey<R: Files, S: AsStr, I: Read, O: Write, E: Write>(
     rt: &R,
     alloc: Global,
     words: &[S],
@@ -41,13 +61,10 @@ fn carry_out<R: Files, S: AsStr, I: Read, O: Write, E: Write>(
     ensures order { Taken (map S.text words.now)
         → Ends (asked (map S.text words.now)) (I.remaining input.old) (I.remaining input.new) (O.contents output.old) (O.contents output.new) result }
     ensures refused { result ≡ CommandRefused
-        → Ends (asked (map S.text words.now)) (I.remaining input.old) (I.remaining input.new) (O.contents output.old) (O.contents output.new) CommandRefused }
+        → Refuses (asked (map S.text words.now)) (I.remaining input.old) (I.remaining input.new) (O.contents output.old) (O.contents output.new) }
 {
     match order(alloc, words) {
-        Ok(Some(Order::New { file })) => new(rt, alloc, file, errors),
-        Ok(Some(Order::Ls { file })) => ls(rt, alloc, file, output, errors),
-        Ok(Some(Order::Dump { file, path })) => dump(rt, alloc, file, path, output, errors),
-        Ok(Some(Order::Run { file })) => run(rt, alloc, file, input, output, errors),
+        Ok(Some(order)) => carry_out(rt, alloc, order, input, output, errors),
         Ok(None) => Status::WrongWords,
         Err(OrderFault::NoMemory) => no_memory(errors),
         Err(OrderFault::Words(error)) => explain(&error, output, errors),
@@ -77,7 +94,7 @@ pub fn program<R: Files, S: AsStr, I: Read, O: Write, E: Write>(
         × Ends (asked (map S.text words.now)) (I.remaining input.old) (I.remaining input.new) (O.contents output.old) (O.contents output.new) status }
     // With status 1 there is an order with a refused command, whatever the words.
     ensures refused { result ≡ 1
-        → Ends (asked (map S.text words.now)) (I.remaining input.old) (I.remaining input.new) (O.contents output.old) (O.contents output.new) CommandRefused }
+        → Refuses (asked (map S.text words.now)) (I.remaining input.old) (I.remaining input.new) (O.contents output.old) (O.contents output.new) }
 {
-    carry_out(rt, alloc, words, input, output, errors).code()
+    obey(rt, alloc, words, input, output, errors).code()
 }

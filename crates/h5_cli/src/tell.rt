@@ -12,7 +12,7 @@ use std::io::{self, Write};
 /// The status of a run that ended in a message: the message's own, or that it could not be told.
 /// Of both the higher counts.
 pub fn told(message: io::Result<()>, status: Status) -> Status
-    ensures { MatchResult message.entry (λ _. result ≡ status) (λ _. result ≡ untold status) }
+    ensures { MatchResult message (λ _. result ≡ status) (λ _. result ≡ untold status) }
 {
     match message {
         Ok(()) => status,
