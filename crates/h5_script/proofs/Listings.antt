@@ -1,6 +1,6 @@
 -- What `ls` and `dump` print of a file with one array at most.
 use Rattle.std.proofs.Common.{◌≡◌, ℕ, zero, suc, ◌+◌, ◌*◌, ◌/◌, ◌<◌, ◌≤◌, ℤ, Option, Some, None, is_some, List, [], ◌∷◌, ◌++◌, length, codes, refl, sym, ap, ◌∙◌, subst, append_assoc, append-nil, inl, inr, true, false, arith}
-use Rattle.std.proofs.Math.Nat.{div-mul-add}
+use Rattle.std.proofs.lemmas.Nat.{div-mul-add}
 use Rattle.std.proofs.lemmas.Bool.{false≢true}
 use Rattle.std.specs.Cmp.Lexicographic.{slice_cmp}
 use Rattle.std.specs.Ordering.{nat_cmp}
@@ -111,15 +111,16 @@ module _ (name : List ℕ) (t : Fixed) (size : ℕ) (fill : ℤ) (values : List 
     | inr array ↦ sym (ap (λ l. dumped T path (Here l)) array.1 ∙ rw (get-array name t size fill values) refl)
   ]
 
+-- the tree of a file with this array
+abbrev tree_of : OnlyArray → Tree
+tree_of a = one_tree a.name.now a.fixed.now a.size a.fill (values_of a)
+
 -- the root
 pub dumped-group : (tree : Tree) (path : List ℕ) (a : OnlyArray) → IsOnlyArray tree a → HasKind tree path Group → line_of (escaped path) (codes "group") ≡ dumped tree path (located tree path)
 dumped-group tree path a only has =
-    by (located W path) refl (subst (λ (t : Tree). IsKind t (located t path) Group) only.tree_is has.found) ∙ ap (λ (t : Tree). dumped t path (located t path)) (sym only.tree_is) where
-  abbrev W : Tree
-  W = one_tree a.name.now a.fixed.now a.size a.fill (values_of a)
-
-  by : (l : Located) → located W path ≡ l → IsKind W l Group → line_of (escaped path) (codes "group") ≡ dumped W path (located W path)
-  by (Here link) at found = group_here a.name.now a.fixed.now a.size a.fill (values_of a) path link at found ∙ ap (dumped W path) (sym at)
+    by (located (tree_of a) path) refl (subst (λ (t : Tree). IsKind t (located t path) Group) only.tree_is has.found) ∙ ap (λ (t : Tree). dumped t path (located t path)) (sym only.tree_is) where
+  by : (l : Located) → located (tree_of a) path ≡ l → IsKind (tree_of a) l Group → line_of (escaped path) (codes "group") ≡ dumped (tree_of a) path (located (tree_of a) path)
+  by (Here link) at found = group_here a.name.now a.fixed.now a.size a.fill (values_of a) path link at found ∙ ap (dumped (tree_of a) path) (sym at)
   by Missing at found = absurd found
   by NoParent at found = absurd found
   by NoGroup at found = absurd found
@@ -134,15 +135,12 @@ pub dumped-array : (tree : Tree) (path : List ℕ) (a : OnlyArray) (kind : Kind)
     → dump_text (escaped path) (line_object a.fixed.now a.size a.fill (values_of a)) ≡ dumped tree path (located tree path)
 dumped-array tree path a Group is only has = absurd is
 dumped-array tree path a (ArrayOf fixed dims maxima stored fill) is only has =
-    by (located W path) refl (subst (λ (t : Tree). IsKind t (located t path) (ArrayOf fixed dims maxima stored fill)) only.tree_is has.found)
+    by (located (tree_of a) path) refl (subst (λ (t : Tree). IsKind t (located t path) (ArrayOf fixed dims maxima stored fill)) only.tree_is has.found)
     ∙ ap (λ (t : Tree). dumped t path (located t path)) (sym only.tree_is) where
-  abbrev W : Tree
-  W = one_tree a.name.now a.fixed.now a.size a.fill (values_of a)
-
-  by : (l : Located) → located W path ≡ l → IsKind W l (ArrayOf fixed dims maxima stored fill)
-      → dump_text (escaped path) (line_object a.fixed.now a.size a.fill (values_of a)) ≡ dumped W path (located W path)
+  by : (l : Located) → located (tree_of a) path ≡ l → IsKind (tree_of a) l (ArrayOf fixed dims maxima stored fill)
+      → dump_text (escaped path) (line_object a.fixed.now a.size a.fill (values_of a)) ≡ dumped (tree_of a) path (located (tree_of a) path)
   by (Here (ToObject number)) at found =
-      array_here a.name.now a.fixed.now a.size a.fill (values_of a) path (ToObject number) found.0 at number refl found.1 ∙ ap (dumped W path) (sym at)
+      array_here a.name.now a.fixed.now a.size a.fill (values_of a) path (ToObject number) found.0 at number refl found.1 ∙ ap (dumped (tree_of a) path) (sym at)
   by (Here (Soft text)) at found = absurd found
   by Missing at found = absurd found
   by NoParent at found = absurd found
