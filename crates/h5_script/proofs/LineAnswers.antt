@@ -1,6 +1,11 @@
 -- What one line answers, by what it asks for.
-use Rattle.std.proofs.Common.{◌≡◌, ℕ, Bool, true, false, cond, Option, Some, None, List, ◌++◌, codes, refl, sym, ap, ◌∙◌, subst, append_assoc}
-use Rattle.std.specs.Prelude.{Result, Ok, Err, IfOk, MatchResult}
+use Rattle.std.proofs.Common.{◌≡◌, ℕ, Bool, true, false, cond, Option, Some, None, List, [], ◌++◌, codes, refl, sym, ap, ◌∙◌, subst, append_assoc}
+use Rattle.std.specs.Prelude.{Result, Ok, Err, IsErr, is_err, IfOk, MatchResult}
+use Rattle.std.proofs.lemmas.Bool.{false≢true}
+use Rattle.h5_text.specs.Appends.{Appends}
+use Rattle.h5_text.specs.Commands.{command_of}
+use Rattle.h5_text.specs.declared.command.Command as asked
+use Rattle.h5_text.specs.declared.command.Command.TheVariants as form
 use Rattle.std.specs.declared.alloc.AllocError.{AllocError}
 use Rattle.std.specs.Fmt.{decimal}
 use Rattle.h5_model.specs.Edits.{State, state_after}
@@ -14,7 +19,7 @@ use Rattle.h5_model.specs.Script.{dumped}
 use Rattle.h5_model.specs.Text.{list_text}
 use Rattle.h5_model.specs.declared.dataset.Spec.{Spec}
 use Rattle.h5_model.specs.declared.edits.Edit.{Edit}
-use Rattle.h5_model.specs.declared.edits.Edit.TheVariants.{CreateDataset}
+use Rattle.h5_model.specs.declared.edits.Edit.TheVariants.{CreateGroup, CreateDataset, HardLink, SoftLink, Unlink, SetAttr, RemoveAttr, Write, Resize}
 use Rattle.h5_model.specs.declared.edits.Edited.{Edited}
 use Rattle.h5_model.specs.declared.edit_fault.EditFault.{EditFault}
 use Rattle.h5_model.specs.declared.edit_fault.EditFault.TheVariants as fault
@@ -35,6 +40,45 @@ told_or_not (Err e) s t command text wanted o is ok = record { given = is.given;
 -- the answer has no memory
 pub not_told : (s t : State) (command : Command) (text : List ℕ) (o : Outcome) → IsAnswered s command t text o → IsUntold s command t
 not_told s t command text o is = record { given = is.given; allowed = is.allowed; after_is = is.after_is }
+
+-- there was no memory for the answer
+pub by_error : (result : Result Outcome AllocError) (s t : State) (command : Command) (text : List ℕ) → IsErr result → IsUntold s command t
+    → MatchResult result (IsAnswered s command t text) (λ _. IsUntold s command t)
+by_error (Ok x) s t command text failed is = absurd (false≢true failed)
+by_error (Err e) s t command text failed is = is
+
+-- a text that was appended to nothing
+pub appended : {T : Type 0} (result : Result T AllocError) (old new text : List ℕ) → is_err result ≡ false → old ≡ [] → Appends result old new text → new ≡ text
+appended (Ok x) old new text fine none is = is ∙ ap (λ xs. xs ++ text) none
+appended (Err e) old new text fine none is = absurd (false≢true (sym fine))
+
+-- the text stands in a buffer
+pub shown_as : (s t : State) (command : Command) (text shown : List ℕ) (o : Outcome) → shown ≡ text → IsAnswered s command t text o → IsAnswered s command t shown o
+shown_as s t command text shown o same is = subst (λ (told : List ℕ). IsAnswered s command t told o) (sym same) is
+
+-- an edit that no line asks for yet
+pub taken_edit : (edit : Edit) → ((path : List ℕ) (spec : Spec) → edit ≡ CreateDataset path spec → ⊥) → taken (Change edit) ≡ Unread
+taken_edit (CreateGroup path) other = refl
+taken_edit (CreateDataset path spec) other = absurd (other path spec refl)
+taken_edit (HardLink target path) other = refl
+taken_edit (SoftLink text path) other = refl
+taken_edit (Unlink path) other = refl
+taken_edit (SetAttr path attr) other = refl
+taken_edit (RemoveAttr path name) other = refl
+taken_edit (Write path hyper values) other = refl
+taken_edit (Resize path dims) other = refl
+
+-- neither an edit nor `ls` nor `dump`
+pub taken_other : (command : asked.Command) → ((edit : Edit) → command ≡ form.Change edit → ⊥) → (command ≡ form.ListAll → ⊥) → ((path : List ℕ) → command ≡ form.Dump path → ⊥)
+    → taken (command_of command) ≡ Unread
+taken_other (form.Change edit) no_edit no_list no_dump = absurd (no_edit edit refl)
+taken_other (form.OpenView path hyper) no_edit no_list no_dump = refl
+taken_other (form.Show number) no_edit no_list no_dump = refl
+taken_other (form.Close number) no_edit no_list no_dump = refl
+taken_other form.ListAll no_edit no_list no_dump = absurd (no_list refl)
+taken_other (form.Dump path) no_edit no_list no_dump = absurd (no_dump path refl)
+taken_other form.Repack no_edit no_list no_dump = refl
+taken_other form.Unread no_edit no_list no_dump = refl
 
 -- a line of no form that is taken
 pub bad_answer : (s : State) (command : Command) → taken command ≡ Unread → IsAnswered s command s (codes "bad line\n") Refused
@@ -105,3 +149,18 @@ dump_refused s path f refused = record { given = None; allowed = tt; after_is = 
 pub dump_no_memory : (s : State) (path : List ℕ) → IsAnswered s (Dump path) s (refused_text fault.NoMemory) Refused
 unfolding line_answer IsGivenAt
 dump_no_memory s path = record { given = Some fault.NoMemory; allowed = tt; after_is = refl; text_is = refl; outcome_is = refl }
+
+-- ---- an edit, as it was matched
+
+pub edit_told : (before after : FileState) (edit : Edit) (path : List ℕ) (spec : Spec) (e : Edited) → edit ≡ CreateDataset path spec → IsEdited before edit after e
+    → IsAnswered (state_of before) (Change edit) (state_of after) (codes "ok " ++ (decimal e.refreshed ++ codes "\n")) Accepted
+edit_told before after edit path spec e same is =
+    subst (λ (x : Edit). IsAnswered (state_of before) (Change x) (state_of after) (codes "ok " ++ (decimal e.refreshed ++ codes "\n")) Accepted) (sym same)
+    (edit_accepted before after path spec e (subst (λ (x : Edit). IsEdited before x after e) same is))
+
+pub edit_not_made : (before after : FileState) (edit : Edit) (path : List ℕ) (spec : Spec) (f : EditFault) → edit ≡ CreateDataset path spec → IsRefused before edit f → after ≡ before
+    → IsAnswered (state_of before) (Change edit) (state_of after) (refused_text f) Refused
+edit_not_made before after edit path spec f same is stays =
+    subst (λ (x : Edit). IsAnswered (state_of before) (Change x) (state_of after) (refused_text f) Refused) (sym same)
+    (subst (λ (file : FileState). IsAnswered (state_of before) (Change (CreateDataset path spec)) (state_of file) (refused_text f) Refused) (sym stays)
+    (edit_refused before path spec f (subst (λ (x : Edit). IsRefused before x f) same is)))

@@ -1,6 +1,6 @@
 -- What `ls` and `dump` print of a file with one array at most.
 use Rattle.std.proofs.Common.{◌≡◌, ℕ, zero, suc, ◌+◌, ◌*◌, ◌/◌, ◌<◌, ◌≤◌, ℤ, Option, Some, None, is_some, List, [], ◌∷◌, ◌++◌, length, codes, refl, sym, ap, ◌∙◌, subst, append_assoc, append-nil, inl, inr, true, false, arith}
-use Rattle.std.proofs.Math.Nat.{div-mul-add}
+use Rattle.std.proofs.lemmas.Nat.{div-mul-add}
 use Rattle.std.proofs.lemmas.Bool.{false≢true}
 use Rattle.std.specs.Cmp.Lexicographic.{slice_cmp}
 use Rattle.std.specs.Ordering.{nat_cmp}
@@ -95,9 +95,9 @@ module _ (name : List ℕ) (t : Fixed) (size : ℕ) (fill : ℤ) (values : List 
   group_here (ToObject number) at found = elim (located-here name t size fill values path (ToObject number) at) [
     | inl root ↦ sym (ap (λ l. dumped T path (Here l)) root.1 ∙ rw (get-root name t size fill values) (dump-linking name t size fill values (escaped path)) ∙ group_line (escaped path))
     | inr array ↦
-      let one : number ≡ 1 = cc (array.1) in
-      let none : is_some (links_of T number) ≡ false = ap (λ n. is_some (links_of T n)) one ∙ ap is_some (links-array name t size fill values) in
-      absurd (false≢true (sym none ∙ found))
+        let one : number ≡ 1 = cc (array.1) in
+        let none : is_some (links_of T number) ≡ false = ap (λ n. is_some (links_of T n)) one ∙ ap is_some (links-array name t size fill values) in
+        absurd (false≢true (sym none ∙ found))
   ]
   group_here (Soft text) at found = absurd found
 
@@ -105,25 +105,26 @@ module _ (name : List ℕ) (t : Fixed) (size : ℕ) (fill : ℤ) (values : List 
       → dump_text (escaped path) (line_object t size fill values) ≡ dumped T path (Here link)
   array_here link d at number is found = elim (located-here name t size fill values path link at) [
     | inl root ↦
-      let zero_is : number ≡ 0 = cc (root.1, is) in
-      let none : Some d ≡ None = sym found ∙ ap (dataset_of T) zero_is ∙ dataset-root name t size fill values in
-      absurd (cc (none))
+        let zero_is : number ≡ 0 = cc (root.1, is) in
+        let none : Some d ≡ None = sym found ∙ ap (dataset_of T) zero_is ∙ dataset-root name t size fill values in
+        absurd (cc (none))
     | inr array ↦ sym (ap (λ l. dumped T path (Here l)) array.1 ∙ rw (get-array name t size fill values) refl)
   ]
+
+-- the tree of a file with this array
+abbrev tree_of : OnlyArray → Tree
+tree_of a = one_tree a.name.now a.fixed.now a.size a.fill (values_of a)
 
 -- the root
 pub dumped-group : (tree : Tree) (path : List ℕ) (a : OnlyArray) → IsOnlyArray tree a → HasKind tree path Group → line_of (escaped path) (codes "group") ≡ dumped tree path (located tree path)
 dumped-group tree path a only has =
-    by (located W path) refl (subst (λ (t : Tree). IsKind t (located t path) Group) only.tree_is has.found) ∙ ap (λ (t : Tree). dumped t path (located t path)) (sym only.tree_is) where
-  abbrev W : Tree
-  W = one_tree a.name.now a.fixed.now a.size a.fill (values_of a)
-
-  by : (l : Located) → located W path ≡ l → IsKind W l Group → line_of (escaped path) (codes "group") ≡ dumped W path (located W path)
-  by (Here link) at found = group_here a.name.now a.fixed.now a.size a.fill (values_of a) path link at found ∙ ap (dumped W path) (sym at)
-  by Missing at found = absurd found
-  by NoParent at found = absurd found
-  by NoGroup at found = absurd found
-  by NoPath at found = absurd found
+    by (located (tree_of a) path) refl (subst (λ (t : Tree). IsKind t (located t path) Group) only.tree_is has.found) ∙ ap (λ (t : Tree). dumped t path (located t path)) (sym only.tree_is) where
+      by : (l : Located) → located (tree_of a) path ≡ l → IsKind (tree_of a) l Group → line_of (escaped path) (codes "group") ≡ dumped (tree_of a) path (located (tree_of a) path)
+      by (Here link) at found = group_here a.name.now a.fixed.now a.size a.fill (values_of a) path link at found ∙ ap (dumped (tree_of a) path) (sym at)
+      by Missing at found = absurd found
+      by NoParent at found = absurd found
+      by NoGroup at found = absurd found
+      by NoPath at found = absurd found
 
 abbrev pub IsArray : Kind → Type 0
 IsArray Group = ⊥
@@ -134,17 +135,14 @@ pub dumped-array : (tree : Tree) (path : List ℕ) (a : OnlyArray) (kind : Kind)
     → dump_text (escaped path) (line_object a.fixed.now a.size a.fill (values_of a)) ≡ dumped tree path (located tree path)
 dumped-array tree path a Group is only has = absurd is
 dumped-array tree path a (ArrayOf fixed dims maxima stored fill) is only has =
-    by (located W path) refl (subst (λ (t : Tree). IsKind t (located t path) (ArrayOf fixed dims maxima stored fill)) only.tree_is has.found)
+    by (located (tree_of a) path) refl (subst (λ (t : Tree). IsKind t (located t path) (ArrayOf fixed dims maxima stored fill)) only.tree_is has.found)
     ∙ ap (λ (t : Tree). dumped t path (located t path)) (sym only.tree_is) where
-  abbrev W : Tree
-  W = one_tree a.name.now a.fixed.now a.size a.fill (values_of a)
-
-  by : (l : Located) → located W path ≡ l → IsKind W l (ArrayOf fixed dims maxima stored fill)
-      → dump_text (escaped path) (line_object a.fixed.now a.size a.fill (values_of a)) ≡ dumped W path (located W path)
-  by (Here (ToObject number)) at found =
-      array_here a.name.now a.fixed.now a.size a.fill (values_of a) path (ToObject number) found.0 at number refl found.1 ∙ ap (dumped W path) (sym at)
-  by (Here (Soft text)) at found = absurd found
-  by Missing at found = absurd found
-  by NoParent at found = absurd found
-  by NoGroup at found = absurd found
-  by NoPath at found = absurd found
+      by : (l : Located) → located (tree_of a) path ≡ l → IsKind (tree_of a) l (ArrayOf fixed dims maxima stored fill)
+          → dump_text (escaped path) (line_object a.fixed.now a.size a.fill (values_of a)) ≡ dumped (tree_of a) path (located (tree_of a) path)
+      by (Here (ToObject number)) at found =
+          array_here a.name.now a.fixed.now a.size a.fill (values_of a) path (ToObject number) found.0 at number refl found.1 ∙ ap (dumped (tree_of a) path) (sym at)
+      by (Here (Soft text)) at found = absurd found
+      by Missing at found = absurd found
+      by NoParent at found = absurd found
+      by NoGroup at found = absurd found
+      by NoPath at found = absurd found

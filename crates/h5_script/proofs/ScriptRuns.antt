@@ -67,7 +67,9 @@ begun_within done rest s t old new whole begun =
 module _ (s : State) (input old : Known) where
   pub under_start : IsUnderway s s input input old old [] limit none_ran
   under_start = record {
-    script = []; read = consumes_none input; limit = refl;
+    script = [];
+    read = consumes_none input;
+    limit = refl;
     run = lines_none s old none_ran [] (λ k d low. absurd (never k low));
   } where
     never : (k : ℕ) → k < 0 → ⊥
@@ -81,7 +83,9 @@ module _ (s : State) (input old : Known) where
   -- nothing was read yet
   pub stopped_at_first : (f : RunFault) → IsCut f → IsStopped s s input input old old f
   stopped_at_first f is = cut_off s s input input old old f is (record {
-    script = []; read = consumes_none input; run = has_begun_none (commands_of (within_limit [])) s old;
+    script = [];
+    read = consumes_none input;
+    run = has_begun_none (commands_of (within_limit [])) s old;
   })
 
   module _ (m : State) (mid : Known) (now : Known) (held : List ℕ) (room : ℕ) (a : Ran) (under : IsUnderway s m input mid old now held room a) where
@@ -102,7 +106,7 @@ module _ (s : State) (input old : Known) where
       read = consumes_kept input mid left under.script under.read kept;
       short = low;
       run = subst (λ (bytes : List ℕ). HasRun (commands_of bytes) s m old now)
-      (sym (ap finished (sym under.run.parts) ∙ finished_is under.run.done held under.run.whole under.run.endless)) whole_run.run;
+          (sym (ap finished (sym under.run.parts) ∙ finished_is under.run.done held under.run.whole under.run.endless)) whole_run.run;
     }
 
     -- all commands of the script
@@ -140,7 +144,7 @@ module _ (s : State) (input old : Known) where
       script = under.script;
       read = read_none left bytes none read;
       run = subst (λ (commands : List Command). HasBegun commands s t old new) (all_commands ∙ ap commands_of (sym (within_short under.script low)))
-      (has_begun_more (commands_of under.run.done) (commands_of_line held) s m t old now new whole_run.run begun);
+          (has_begun_more (commands_of under.run.done) (commands_of_line held) s m t old now new whole_run.run begun);
     }
 
     -- the last line was run, and what was held back could not be written
@@ -175,7 +179,7 @@ module _ (s : State) (input old : Known) where
           whole = whole_append under.run.done more.done under.run.whole more.whole;
           endless = more.endless;
           run = subst (λ (commands : List Command). HasCounted commands s t old new none_ran b) (sym (commands_of-whole under.run.done more.done under.run.whole))
-          (has_counted_more (commands_of under.run.done) (commands_of more.done) s m t old now new none_ran a b whole_run more.run);
+              (has_counted_more (commands_of under.run.done) (commands_of more.done) s m t old now new none_ran a b whole_run more.run);
         }
 
         lines_began : HasBegunLines (held ++ part) m t now new → HasBegunLines (under.script ++ part) s t old new
@@ -185,7 +189,7 @@ module _ (s : State) (input old : Known) where
           parts = sym (lines_behind more.done more.others more.parts);
           whole = whole_append under.run.done more.done under.run.whole more.whole;
           run = subst (λ (commands : List Command). HasBegun commands s t old new) (sym (commands_of-whole under.run.done more.done under.run.whole))
-          (has_begun_more (commands_of under.run.done) (commands_of more.done) s m t old now new whole_run.run more.run);
+              (has_begun_more (commands_of under.run.done) (commands_of more.done) s m t old now new whole_run.run more.run);
         }
 
       -- all of the piece is within the limit
@@ -206,15 +210,17 @@ module _ (s : State) (input old : Known) where
             script = grown;
             read = read_more;
             run = subst (λ (xs : List ℕ). HasBegun (commands_of xs) s t old new) (begun.parts ∙ ap (λ xs. under.script ++ xs) is ∙ sym (within_short grown short))
-            (begun_within begun.done begun.others s t old new begun.whole begun.run);
+                (begun_within begun.done begun.others s t old new begun.whole begun.run);
           }
 
       -- only a part of it is
       parted : (part : List ℕ) → room < count → part ≡ take room piece → (more : List ℕ) × (grown ≡ (under.script ++ part) ++ more)
-      parted part over is =
-          (drop room (take count piece), ap (λ xs. under.script ++ xs) (sym (take-append-drop room (take count piece))
-          ∙ ap (λ xs. xs ++ drop room (take count piece)) (take-take room count piece (omega (arith, over)) ∙ sym is))
-          ∙ sym (append_assoc under.script part (drop room (take count piece))))
+      parted part over is = (
+        drop room (take count piece),
+        ap (λ xs. under.script ++ xs) (sym (take-append-drop room (take count piece))
+            ∙ ap (λ xs. xs ++ drop room (take count piece)) (take-take room count piece (omega (arith, over)) ∙ sym is))
+            ∙ sym (append_assoc under.script part (drop room (take count piece))),
+      )
 
       front_long : (part : List ℕ) → room < count → part ≡ take room piece → length (under.script ++ part) ≡ limit
       front_long part over is =
@@ -235,7 +241,7 @@ module _ (s : State) (input old : Known) where
             read = read_more;
             long = omega (arith, long_grown, under.limit, over);
             run = subst (λ (xs : List ℕ). HasRun (commands_of xs) s t old new)
-            (sym (within_front part over is ∙ ap finished (sym all.parts) ∙ finished_is all.done after all.whole all.endless)) all.run.run;
+                (sym (within_front part over is ∙ ap finished (sym all.parts) ∙ finished_is all.done after all.whole all.endless)) all.run.run;
           }
 
       pub cut_over : (part : List ℕ) (t : State) (new : Known) → room < count → part ≡ take room piece → HasBegunLines (held ++ part) m t now new → IsCutOff s t input left old new
@@ -245,8 +251,8 @@ module _ (s : State) (input old : Known) where
             script = grown;
             read = read_more;
             run = subst (λ (xs : List ℕ). HasBegun (commands_of xs) s t old new)
-            (sym (within_front part over is ∙ ap finished (sym begun.parts) ∙ finished-whole begun.done begun.others begun.whole))
-            (begun_within begun.done (finished begun.others) s t old new begun.whole begun.run);
+                (sym (within_front part over is ∙ ap finished (sym begun.parts) ∙ finished-whole begun.done begun.others begun.whole))
+                (begun_within begun.done (finished begun.others) s t old new begun.whole begun.run);
           }
 
       pub cut_piece : (within : ℕ) (part : List ℕ) (t : State) (new : Known) → within ≡ min count room → part ≡ take within piece → HasBegunLines (held ++ part) m t now new

@@ -57,9 +57,9 @@ fn answer_edit(file: &mut File, edit: &Edit, text: &mut Vec<u8>) -> Result<Outco
     ensures { MatchResult result (IsAnswered (state_of file.old) (lines.Change edit.now) (state_of file.new) text.new.items)
         (λ _. IsUntold (state_of file.old) (lines.Change edit.now) (state_of file.new)) }
 {
-    if !matches!(edit, Edit::CreateDataset { .. }) {
+    let Edit::CreateDataset { .. } = edit else {
         return bad_line(text);
-    }
+    };
     match file.edit(edit) {
         Ok(edited) => {
             push_accepted(text, edited.refreshed)?;

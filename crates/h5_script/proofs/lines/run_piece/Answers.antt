@@ -37,8 +37,8 @@ loop-line-preserved g c =
       seen = seen ++ (line ++ 10 ∷ []);
       parts = append_assoc seen (line ++ 10 ∷ []) behind ∙ ap (λ (xs : List ℕ). seen ++ xs) (append_assoc line (10 ∷ []) behind ∙ c.in-Some.ensures.whole) ∙ c.loop-line.invariant.parts;
       run = lines_next (state_of c.args.file.now) (g.W.Write.contents c.args.output.now) c.args.answers.now.ran (state_of c.loop-line.file) (g.W.Write.contents c.loop-line.output) c.loop-line.answers.ran
-      seen c.loop-line.held.items c.loop-line.invariant.run line c.deref.result.now c.clear.new.self.items (state_of c.run_line.new.file) (g.W.Write.contents c.run_line.new.output) c.run_line.new.answers.ran
-      c.in-Some.ensures.endless (c.deref.ensures.value ∙ c.in_ok-extend_from_slice.ensures.items) c.clear.ensures.items c.in_ok-run_line.ensures.run;
+          seen c.loop-line.held.items c.loop-line.invariant.run line c.deref.result.now c.clear.new.self.items (state_of c.run_line.new.file) (g.W.Write.contents c.run_line.new.output) c.run_line.new.answers.ran
+          c.in-Some.ensures.endless (c.deref.ensures.value ∙ c.in_ok-extend_from_slice.ensures.items) c.clear.ensures.items c.in_ok-run_line.ensures.run;
       refused = omega (arith, long, c.in_ok-run_line.ensures.refused);
       edits = omega (arith, long, c.in_ok-run_line.ensures.edits);
     }

@@ -77,13 +77,38 @@ run_piece-requires-clause-edits g c =
     omega (arith, c.loop-read.invariant.edits, length-take c.min-within.result c.read_piece.new.piece, c.min-within.ensures)
 
 pub returns-in_err-run_piece : goal.returns-in_err-run_piece
-returns-in_err-run_piece g c = ?
+returns-in_err-run_piece g c =
+    by_stop c.from_residual-in_err-run_piece.result _ _ c.in_err-run_piece.field-0.0 c.in_err-run_piece.field-0.0 c.from_residual-in_err-run_piece.ensures.1 refl
+    (cut_off (state_of c.args.file.now) (state_of c.run_piece.new.file) (g.R.Read.remaining c.args.input.now) (g.R.Read.remaining c.read_piece.new.input)
+    (g.W.Write.contents c.args.output.now) (g.W.Write.contents c.run_piece.new.output) c.in_err-run_piece.field-0.0 c.in_err-run_piece.ensures.run.0
+    (cut_piece (state_of c.args.file.now) (g.R.Read.remaining c.args.input.now) (g.W.Write.contents c.args.output.now)
+    (state_of c.loop-read.file) (g.R.Read.remaining c.loop-read.input) (g.W.Write.contents c.loop-read.output) c.loop-read.held.items c.loop-read.room c.loop-read.answers.ran c.loop-read.invariant.under
+    (g.R.Read.remaining c.read_piece.new.input) c.read_piece.new.piece c.in_ok-count.count c.in_ok-count.ensures
+    c.min-within.result (take c.min-within.result c.read_piece.new.piece) (state_of c.run_piece.new.file) (g.W.Write.contents c.run_piece.new.output) c.min-within.ensures refl c.in_err-run_piece.ensures.run.1))
 
 pub returns-then-count-room : goal.returns-then-count-room
-returns-then-count-room g c = ?
+returns-then-count-room g c =
+    let within : c.min-within.result ≡ c.loop-read.room = omega (arith, c.min-within.ensures, c.if-count-room.true) in
+    too_long (state_of c.args.file.now) (g.R.Read.remaining c.args.input.now) (g.W.Write.contents c.args.output.now)
+    (state_of c.loop-read.file) (g.R.Read.remaining c.loop-read.input) (g.W.Write.contents c.loop-read.output) c.loop-read.held.items c.loop-read.room c.loop-read.answers.ran c.loop-read.invariant.under
+    (g.R.Read.remaining c.read_piece.new.input) c.read_piece.new.piece c.in_ok-count.count c.in_ok-count.ensures
+    (take c.min-within.result c.read_piece.new.piece) c.run_piece.new.held.items (state_of c.run_piece.new.file) (g.W.Write.contents c.run_piece.new.output) c.run_piece.new.answers.ran
+    c.if-count-room.true (ap (λ (n : ℕ). take n c.read_piece.new.piece) within) c.in_ok-run_piece.ensures.run
 
 pub loop-read-preserved : goal.loop-read-preserved
-loop-read-preserved g c = ?
+loop-read-preserved g c =
+    let within : c.min-within.result ≡ c.in_ok-count.count = omega (arith, c.min-within.ensures, c.if-count-room.false) in
+    let part : length (take c.min-within.result c.read_piece.new.piece) ≤ c.in_ok-count.count = omega (arith, length-take c.min-within.result c.read_piece.new.piece, within) in
+    record {
+      under = under_more (state_of c.args.file.now) (g.R.Read.remaining c.args.input.now) (g.W.Write.contents c.args.output.now)
+    (state_of c.loop-read.file) (g.R.Read.remaining c.loop-read.input) (g.W.Write.contents c.loop-read.output) c.loop-read.held.items c.loop-read.room c.loop-read.answers.ran c.loop-read.invariant.under
+    (g.R.Read.remaining c.read_piece.new.input) c.read_piece.new.piece c.in_ok-count.count c.in_ok-count.ensures
+      (take c.min-within.result c.read_piece.new.piece) c.run_piece.new.held.items (state_of c.run_piece.new.file) (g.W.Write.contents c.run_piece.new.output) c.run_piece.new.answers.ran
+      c.if-count-room.false (ap (λ (n : ℕ). take n c.read_piece.new.piece) within) c.in_ok-run_piece.ensures.run;
+      refused = omega (arith, c.loop-read.invariant.refused, c.in_ok-run_piece.ensures.refused, part, c.if-count-room.false);
+      edits = omega (arith, c.loop-read.invariant.edits, c.in_ok-run_piece.ensures.edits, part, c.if-count-room.false);
+      reads = omega (arith, c.loop-read.invariant.reads, c.if-count-eq0.false, c.if-count-room.false);
+    }
 
 pub returns : goal.returns
 returns g c = absurd (omega (arith, c.loop-read.invariant.reads, c.loop-read-test.false))
