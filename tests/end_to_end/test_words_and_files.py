@@ -35,7 +35,7 @@ class Words(unittest.TestCase):
             with self.subTest(name=name):
                 status, output, errors = h5i(name, "--help")
                 self.assertEqual((status, errors), (0, b""))
-                self.assertIn(f"Usage: h5i {name} <FILE>".encode(), output)
+                self.assertIn(f"Usage: {os.path.basename(PROGRAM)} {name} <FILE>".encode(), output)
 
     def test_a_word_that_is_not_utf8(self):
         self.assertEqual(h5i("ls", b"\xff.h5"), (2, b"", b"h5i: a word is not UTF-8\n"))

@@ -61,7 +61,7 @@ fn changed_by(ran: Ran, file: File) -> Option<File>
 
 /// Runs the script on a file to its end. The file is given back where it has to be written, that is,
 /// where an edit was accepted.
-fn run_over<I: Read, O: Write>(
+pub fn run_over<I: Read, O: Write>(
     alloc: Global,
     mut file: File,
     input: &mut I,

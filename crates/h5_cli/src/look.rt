@@ -66,8 +66,9 @@ pub fn ls<R: Files, O: Write, E: Write>(
     }
 }
 
-/// What is dumped of a file at the path that the word stands for, or the line of a refusal.
-fn dump_text(alloc: Global, file: &File, word: &str) -> Result<(Vec<u8>, Status), AllocError>
+/// What is dumped of a file at the path that the word stands for, or the line of a refusal, with the
+/// status of a run that prints it.
+pub fn dump_text(alloc: Global, file: &File, word: &str) -> Result<(Vec<u8>, Status), AllocError>
     ensures { IfOk result (λ answer. IsDumpText file.now.tree word.now answer.0.items answer.1) }
 {
     let mut text = Vec::new(alloc);
