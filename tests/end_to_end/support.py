@@ -50,9 +50,12 @@ def h5i(*words, **options):
     return run_command(PROGRAM, *words, **options)
 
 
-def reference(*words):
-    """Runs the reference implementation, as it is without the forms that are not read yet."""
-    return run_command(sys.executable, REFERENCE, "--stage", "14", *words)
+def reference(*words, stage=14, **options):
+    """Runs the reference implementation, as it is without the forms that are not read yet.
+
+    With stage 2 scripts have the lines `dataset`, `ls` and `dump` alone.
+    """
+    return run_command(sys.executable, REFERENCE, "--stage", str(stage), *words, **options)
 
 
 def library(code, *words):
@@ -83,3 +86,19 @@ class InFolder(unittest.TestCase):
         """The bytes of a file."""
         with open(path, "rb") as file:
             return file.read()
+
+    def new(self, name="e.h5"):
+        """The path of a file that the program has made."""
+        path = self.path(name)
+        self.assertEqual(h5i("new", path), (0, b"", b""))
+        return path
+
+    def with_array(self, line="/d i32le 3 contiguous fill=-7", name="e.h5"):
+        """The path of a file with an array, made by the words behind `dataset`."""
+        path = self.new(name)
+        self.assertEqual(h5i("run", path, script=f"dataset {line}\n".encode()), (0, b"ok 0\n", b""))
+        return path
+
+    def stamp(self, path):
+        """What changes where a file is written: its bytes, and when it was."""
+        return self.read(path), os.stat(path).st_mtime_ns

@@ -12,7 +12,8 @@ class Words(unittest.TestCase):
     """The command line."""
 
     def test_wrong_words(self):
-        for words in ((), ("ls",), ("new",), ("mend", "e.h5"), ("ls", "a.h5", "b.h5"), ("--what",)):
+        for words in ((), ("ls",), ("new",), ("run",), ("dump",), ("dump", "e.h5"), ("mend", "e.h5"), ("ls", "a.h5", "b.h5"),
+                      ("dump", "e.h5", "/a", "/b"), ("run", "a.h5", "b.h5"), ("--what",)):
             with self.subTest(words=words):
                 status, output, errors = h5i(*words)
                 self.assertEqual((status, output), (2, b""))
@@ -26,6 +27,15 @@ class Words(unittest.TestCase):
                 self.assertEqual((status, errors), (0, b""))
                 self.assertIn(b"h5i new e.h5", output)
                 self.assertIn(b"h5i ls e.h5", output)
+                self.assertIn(b"h5i dump e.h5 /d", output)
+                self.assertIn(b"h5i run e.h5", output)
+
+    def test_help_of_each_order(self):
+        for name in ("new", "ls", "dump", "run"):
+            with self.subTest(name=name):
+                status, output, errors = h5i(name, "--help")
+                self.assertEqual((status, errors), (0, b""))
+                self.assertIn(f"Usage: {os.path.basename(PROGRAM)} {name} <FILE>".encode(), output)
 
     def test_a_word_that_is_not_utf8(self):
         self.assertEqual(h5i("ls", b"\xff.h5"), (2, b"", b"h5i: a word is not UTF-8\n"))
@@ -41,6 +51,7 @@ class Files(InFolder):
 
     def test_folder(self):
         self.assertEqual(h5i("ls", self.folder), (4, b"", f"h5i: cannot read {self.folder}\n".encode()))
+        self.assertEqual(h5i("run", self.folder), (4, b"", f"h5i: cannot read {self.folder}\n".encode()))
         self.assertEqual(h5i("new", self.folder), (4, b"", f"h5i: cannot write {self.folder}\n".encode()))
 
     def test_missing_folder(self):
@@ -70,5 +81,8 @@ class Files(InFolder):
         def limited():
             resource.setrlimit(resource.RLIMIT_AS, (limit, limit))
 
-        done = subprocess.run([PROGRAM, "ls", path], preexec_fn=limited, capture_output=True, check=False)
-        self.assertEqual((done.returncode, done.stdout, done.stderr), (5, b"", b"h5i: out of memory\n"))
+        for words in (("ls", path), ("dump", path, "/d"), ("run", path)):
+            with self.subTest(words=words):
+                done = subprocess.run([PROGRAM, *words], preexec_fn=limited, stdin=subprocess.DEVNULL,
+                                      capture_output=True, check=False)
+                self.assertEqual((done.returncode, done.stdout, done.stderr), (5, b"", b"h5i: out of memory\n"))

@@ -1,26 +1,70 @@
--- What a run prints.
-use Rattle.std.specs.Prelude.{◌≡◌, ℕ, List, Option, Some, None, codes}
+-- What a run answers on the standard output. What a file of the system holds no contract can say: it is some file that
+-- opens, so each of these speaks of one.
+use Rattle.std.specs.Prelude.{◌≡◌, ℕ, List, [], Option, Some, None}
+use Rattle.std.specs.Option.{option_map_or}
 use Rattle.std.specs.Io.KnownBytes.{Appends}
-use Rattle.h5_cli.specs.Words.{Wanted, WantNew, WantLs}
+use Rattle.clap.specs.Words.{Text}
+use Rattle.h5_model.specs.Tree.{Tree}
+use Rattle.h5_model.specs.Paths.{located}
+use Rattle.h5_model.specs.Edits.{State}
+use Rattle.h5_model.specs.Refusal.{first_holding}
+use Rattle.h5_model.specs.Reading.{path_rules}
+use Rattle.h5_model.specs.Lines.{unescaped}
+use Rattle.h5_model.specs.Text.{list_text}
+use Rattle.h5_model.specs.Script.{dumped}
+use Rattle.h5_model.specs.EditFaults.{refused_text}
+use Rattle.h5_model.specs.declared.edit_fault.EditFault.{EditFault}
+use Rattle.h5_model.specs.declared.edit_fault.EditFault.TheVariants.{BadPath}
+use Rattle.h5_file.specs.State.{FileState, IsWhole, state_of}
+use Rattle.h5_file.specs.Opening.{IsCarried}
+use Rattle.h5_script.specs.Script.{IsDone}
+use Rattle.h5_script.specs.declared.ran.Ran.{Ran}
 use Rattle.h5_cli.specs.declared.status.Status.{Status}
-use Rattle.h5_cli.specs.declared.status.Status.TheVariants.{Done, CommandRefused, WrongWords, ImageRefused, StreamFailed, NoMemory}
+use Rattle.h5_cli.specs.declared.status.Status.TheVariants.{Done, CommandRefused}
 
--- the listing of a file whose root group is empty
-abbrev pub root_listing : List ℕ
-root_listing = codes "/ group\n"
+-- what opening an image can give: an image of a form that is opened so far, and the tree that it reads as
+pub record IsOpen (file : FileState) : Type 0 where
+  pub carried : IsCarried file.image
+  pub whole : IsWhole file
 
--- What stood on the standard output before and what stands there after a run that ends with 0: a new file prints
--- nothing, a listing the root's line. Words that are no order are a question for help, and what that prints is not said.
-abbrev pub Prints : Option Wanted → Option (List ℕ) → Option (List ℕ) → Type 0
-Prints (Some (WantNew file)) before after = after ≡ before
-Prints (Some (WantLs file)) before after = Appends before after root_listing
-Prints None before after = Unit {0}
+-- ---- `h5i ls FILE`
 
--- an order that is carried out ends well, or by a refused image, a file or stream that failed, or want of memory
-abbrev pub IsOrderStatus : Status → Type 0
-IsOrderStatus Done = Unit {0}
-IsOrderStatus CommandRefused = ⊥
-IsOrderStatus WrongWords = ⊥
-IsOrderStatus ImageRefused = Unit {0}
-IsOrderStatus StreamFailed = Unit {0}
-IsOrderStatus NoMemory = Unit {0}
+-- the list of a file was printed
+pub record IsListed (old new : Option (List ℕ)) : Type 0 where
+  pub file : FileState
+  pub opened : IsOpen file
+  pub printed : Appends old new (list_text file.tree)
+
+-- ---- `h5i dump FILE PATH`
+
+-- why the word leads to nothing: it is of no form, or the lowest rule of a path that holds
+abbrev pub dump_fault : Tree → Text → Option EditFault
+dump_fault tree word = option_map_or (λ path. first_holding (path_rules tree path)) (unescaped word) (Some BadPath)
+
+-- what is printed of what the word leads to
+abbrev pub dump_text : Tree → Text → List ℕ
+dump_text tree word = option_map_or (λ path. dumped tree path (located tree path)) (unescaped word) []
+
+-- the text and the status: what stands there, or why nothing does
+abbrev pub IsDumpText : Tree → Text → List ℕ → Status → Type 0
+IsDumpText tree word text Done = (dump_fault tree word ≡ None) × (text ≡ dump_text tree word)
+IsDumpText tree word text CommandRefused = (fault : EditFault) × (dump_fault tree word ≡ Some fault) × (text ≡ refused_text fault)
+IsDumpText tree word text _ = ⊥
+
+-- this was printed of a file
+pub record IsDumped (word : Text) (status : Status) (old new : Option (List ℕ)) : Type 0 where
+  pub file : FileState
+  pub opened : IsOpen file
+  pub text : List ℕ
+  pub answer : IsDumpText file.tree word text status
+  pub printed : Appends old new text
+
+-- ---- `h5i run FILE`
+
+-- the whole script was run on a file, and the answers of its lines were printed; so many were refused
+pub record IsScriptRun (input left old new : Option (List ℕ)) : Type 0 where
+  pub file : FileState
+  pub opened : IsOpen file
+  pub after : State
+  pub ran : Ran
+  pub done : IsDone (state_of file) after input left old new ran

@@ -10,3 +10,8 @@ status_code WrongWords = 2
 status_code ImageRefused = 3
 status_code StreamFailed = 4
 status_code NoMemory = 5
+
+-- where the message of a run's end could not be told: of the two the higher
+abbrev pub untold : Status → Status
+untold NoMemory = NoMemory
+untold _ = StreamFailed

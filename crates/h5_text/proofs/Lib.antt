@@ -7,3 +7,4 @@ pub mod Appending
 pub mod Joining
 pub mod RowLaws
 pub mod RowTexts
+pub mod LineTexts

@@ -3,3 +3,4 @@ pub mod Commands
 pub mod Layouts
 pub mod Rows
 pub mod Words
+pub mod Listing

@@ -6,6 +6,7 @@ mod dataset;
 mod escapes;
 mod forms;
 mod lines;
+mod listing;
 mod number;
 mod rows;
 #[cfg(test)]
@@ -17,6 +18,7 @@ pub use crate::command::Command;
 pub use crate::dataset::{fill_from, store_from, type_from};
 pub use crate::escapes::unescaped;
 pub use crate::lines::{MAX_LINE, read_line};
+pub use crate::listing::{ArrayText, PathText, push_array_line, push_dump_line, push_group_line};
 pub use crate::number::{u32_from, u64_from, value_from};
 pub use crate::rows::{Rows, push_rows};
 pub use crate::texts::{

@@ -232,3 +232,29 @@ fn writes_rows(rt: HostRuntime) -> Result<(), Fail> {
     assert_eq!(rt; out.as_slice(), wanted.as_slice());
     Ok(())
 }
+
+#[test]
+fn writes_listings(rt: HostRuntime) -> Result<(), Fail> {
+    let mut out = Vec::new(rt.alloc());
+    let array = ArrayText {
+        fixed: &Fixed::new(2, true, true).ok_or("no type")?,
+        sizes: &[5, 4],
+        maxima: &[None, Some(4)],
+        layout: Layout::Chunked(&[2, 3]),
+        fill: -7,
+    };
+    push_group_line(&mut out, PathText::Escaped(b"/"))?;
+    push_array_line(
+        &mut out,
+        PathText::Below {
+            path: b"/g\\x20h",
+            name: b"c d",
+        },
+        &array,
+    )?;
+    push_dump_line(&mut out, PathText::Plain(b"/g h/c d"), &array)?;
+    let wanted =
+        b"/ group\n/g\\x20h/c\\x20d dataset i16be {5/inf, 4}\n/g\\x20h/c\\x20d dataset i16be {5/inf, 4} chunked {2, 3} fill -7\n";
+    assert_eq!(rt; out.as_slice(), wanted.as_slice());
+    Ok(())
+}

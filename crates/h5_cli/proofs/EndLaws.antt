@@ -1,0 +1,65 @@
+-- How runs end.
+use Rattle.std.proofs.Common.{◌≡◌, ◌⊎◌, ◌==◌, if◌then◌else◌, Bool, true, false, refl, ℕ, List, Option, Some, None, subst, sym, inl, inr, arith}
+use Rattle.std.proofs.lemmas.Bool.Decides.{nat_tests}
+use Rattle.std.specs.Io.KnownBytes.{Appends}
+use Rattle.clap.specs.Words.{Text}
+use Rattle.h5_file.specs.State.{FileState}
+use Rattle.h5_cli.specs.Words.{Wanted, WantDump, WantRun}
+use Rattle.h5_cli.specs.Output.{IsOpen, IsDumpText, IsScriptRun}
+use Rattle.h5_cli.specs.Ends.{Ends, Refuses, IsRunOver, ran_status}
+use Rattle.h5_cli.specs.declared.status.Status.{Status}
+use Rattle.h5_cli.specs.declared.status.Status.TheVariants.{Done, CommandRefused, WrongWords, ImageRefused, StreamFailed, NoMemory}
+
+-- what is known of one status is known of the same
+pub ends_as : (asked : Option Wanted) (input left old new : Option (List ℕ)) (status result : Status) → result ≡ status → Ends asked input left old new status → Ends asked input left old new result
+ends_as asked input left old new status result same ends = subst (λ s. Ends asked input left old new s) (sym same) ends
+
+-- a run that prints a text last ends as it would with the text, or because of the stream
+pub printed_ends : (asked : Option Wanted) (input left old new : Option (List ℕ)) (text : List ℕ) (status result : Status)
+    → (result ≡ StreamFailed) ⊎ ((result ≡ status) × Appends old new text) → (Appends old new text → Ends asked input left old new status)
+    → Ends asked input left old new result
+printed_ends asked input left old new text status result (inl failed) ends = ends_as asked input left old new StreamFailed result failed tt
+printed_ends asked input left old new text status result (inr p) ends = ends_as asked input left old new status result p.0 (ends p.1)
+
+-- a dump that was printed ends with the status of its text
+pub dump_ends : (file word : Text) (input left old new : Option (List ℕ)) (f : FileState) (text : List ℕ) (status : Status)
+    → IsOpen f → IsDumpText f.tree word text status → Appends old new text → Ends (Some (WantDump file word)) input left old new status
+dump_ends file word input left old new f text Done opened answer printed =
+    record { file = f; opened = opened; text = text; answer = answer; printed = printed }
+dump_ends file word input left old new f text CommandRefused opened answer printed =
+    record { file = f; opened = opened; text = text; answer = answer; printed = printed }
+dump_ends file word input left old new f text WrongWords opened answer printed = absurd answer
+dump_ends file word input left old new f text ImageRefused opened answer printed = absurd answer
+dump_ends file word input left old new f text StreamFailed opened answer printed = absurd answer
+dump_ends file word input left old new f text NoMemory opened answer printed = absurd answer
+
+-- what was asked by another name
+pub asked_ends : (asked wanted : Option Wanted) (input left old new : Option (List ℕ)) (status : Status) → wanted ≡ asked
+    → Ends wanted input left old new status → Ends asked input left old new status
+asked_ends asked wanted input left old new status same ends = subst (λ a. Ends a input left old new status) same ends
+
+-- a run with the status of a refused command has one
+pub refused_ends : (asked : Option Wanted) (input left old new : Option (List ℕ)) (status : Status) → status ≡ CommandRefused
+    → Ends asked input left old new status → Refuses asked input left old new
+refused_ends asked input left old new status same ends = subst (λ s. Ends asked input left old new s) same ends
+
+-- the same text by another name
+pub appends_as : (old new : Option (List ℕ)) (text shown : List ℕ) → shown ≡ text → Appends old new shown → Appends old new text
+appends_as old new text shown same printed = subst (λ t. Appends old new t) same printed
+
+-- a script that was run to its end ends by whether a line was refused
+pub counted_ends : (file : Text) (input left old new : Option (List ℕ)) (r : IsScriptRun input left old new) (b : Bool) → ((r.ran).refused == 0) ≡ b
+    → Ends (Some (WantRun file)) input left old new (if b then Done else CommandRefused)
+counted_ends file input left old new r true none = (r, grind (arith, nat_tests))
+counted_ends file input left old new r false some = (r, grind (arith, nat_tests))
+
+pub run_ends : (file : Text) (input left old new : Option (List ℕ)) (f : FileState) (status : Status) (changed : Option FileState)
+    → IsOpen f → IsRunOver f input left old new status changed → Ends (Some (WantRun file)) input left old new status
+run_ends file input left old new f status changed opened over = ends_as (Some (WantRun file)) input left old new _ status over.status_is
+    (counted_ends file input left old new (record { file = f; opened = opened; after = _; ran = over.ran; done = over.done }) _ refl)
+
+-- and where the file could not be written back, because of the stream
+pub written_ends : (asked : Option Wanted) (input left old new : Option (List ℕ)) (status result : Status)
+    → (result ≡ status) ⊎ (result ≡ StreamFailed) → Ends asked input left old new status → Ends asked input left old new result
+written_ends asked input left old new status result (inl same) ends = ends_as asked input left old new status result same ends
+written_ends asked input left old new status result (inr failed) ends = ends_as asked input left old new StreamFailed result failed tt

@@ -1,0 +1,98 @@
+//! Orders that write a file.
+
+ghost use Rattle.std.specs.Prelude.{◌≡◌, ◌⊎◌, ◌==◌, ℕ, IfOk, List, Option, None, Some, if◌then◌else◌};
+ghost use Rattle.h5_cli.specs.Words.{WantNew, WantRun};
+ghost use Rattle.h5_cli.specs.Ends.{Ends, IsRunOver, ran_status};
+ghost use Rattle.h5_cli.specs.declared.status.Status.TheVariants.{StreamFailed};
+
+use crate::look::opened;
+use crate::status::Status;
+use crate::tell::{failed, failed_on, no_memory};
+use h5_file::File;
+use h5_script::{Ran, RunFault, run_script};
+use std::alloc::Global;
+use std::fs;
+use std::io::{Read, Write};
+use std::rt::Files;
+
+/// Writes the bytes of a file whole, at the end of a run with this status.
+fn write_whole<R: Files, E: Write>(
+    rt: &R,
+    file: &str,
+    image: &[u8],
+    status: Status,
+    errors: &mut E,
+) -> Status
+    ensures { (result ≡ status) ⊎ (result ≡ StreamFailed) }
+{
+    match fs::write(rt, file, image) {
+        Ok(()) => status,
+        Err(_) => failed_on("cannot write", file, errors),
+    }
+}
+
+/// Writes a file with an empty root group.
+pub fn new<R: Files, E: Write>(rt: &R, alloc: Global, file: &str, errors: &mut E) -> Status
+    ensures { (input left printed : Option (List ℕ)) → Ends (Some (WantNew file.now)) input left printed printed result }
+{
+    match File::create(alloc) {
+        Ok(made) => write_whole(rt, file, made.image(), Status::Done, errors),
+        Err(_) => no_memory(errors),
+    }
+}
+
+/// The status of a script that was run to its end.
+fn status_of(ran: Ran) -> Status
+    ensures { result ≡ ran_status ran }
+{
+    if ran.refused == 0 {
+        Status::Done
+    } else {
+        Status::CommandRefused
+    }
+}
+
+/// The file, where a script has changed it.
+fn changed_by(ran: Ran, file: File) -> Option<File>
+    ensures { result ≡ (if ran.edits == 0 then None else Some file) }
+{
+    if ran.edits == 0 { None } else { Some(file) }
+}
+
+/// Runs the script on a file to its end. The file is given back where it has to be written, that is,
+/// where an edit was accepted.
+pub fn run_over<I: Read, O: Write>(
+    alloc: Global,
+    mut file: File,
+    input: &mut I,
+    output: &mut O,
+) -> Result<(Status, Option<File>), RunFault>
+    ensures { IfOk result (λ over. IsRunOver file (I.remaining input.old) (I.remaining input.new) (O.contents output.old) (O.contents output.new) over.0 over.1) }
+{
+    let ran = run_script(alloc, &mut file, input, output)?;
+    Ok((status_of(ran), changed_by(ran, file)))
+}
+
+/// Runs a script on the file of this name, and writes the file back where the script ran to its end
+/// and an edit was accepted.
+pub fn run<R: Files, I: Read, O: Write, E: Write>(
+    rt: &R,
+    alloc: Global,
+    file: &str,
+    input: &mut I,
+    output: &mut O,
+    errors: &mut E,
+) -> Status
+    ensures { Ends (Some (WantRun file.now)) (I.remaining input.old) (I.remaining input.new) (O.contents output.old) (O.contents output.new) result }
+{
+    let opened = match opened(rt, alloc, file, errors) {
+        Ok(opened) => opened,
+        Err(status) => return status,
+    };
+    match run_over(alloc, opened, input, output) {
+        Ok((status, Some(changed))) => write_whole(rt, file, changed.image(), status, errors),
+        Ok((status, None)) => status,
+        Err(RunFault::NoMemory) => no_memory(errors),
+        Err(_) => failed("script failed", errors),
+    }
+}

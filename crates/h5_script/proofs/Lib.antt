@@ -1,0 +1,8 @@
+pub mod Known
+pub mod LineLaws
+pub mod RunLaws
+pub mod LineRuns
+pub mod PieceLaws
+pub mod ScriptRuns
+pub mod Listings
+pub mod LineAnswers

@@ -1,0 +1,46 @@
+-- The lines that are taken so far, and what one of them answers.
+use Rattle.std.specs.Prelude.{◌≡◌, if◌then◌else◌, MatchBool, Option, Some, None}
+use Rattle.h5_model.specs.Edits.{State}
+use Rattle.h5_model.specs.EditFaults.{refused_text}
+use Rattle.h5_model.specs.Lines.{Command, Change, ListAll, Dump, Unread}
+use Rattle.h5_model.specs.Script.{Answer, Given, Refused, answered, answer_of}
+use Rattle.h5_model.specs.States.{new_session}
+use Rattle.h5_model.specs.declared.edits.Edit.{Edit}
+use Rattle.h5_model.specs.declared.edits.Edit.TheVariants.{CreateDataset}
+use Rattle.h5_model.specs.declared.edit_fault.EditFault.TheVariants as fault
+use Rattle.h5_file.specs.Edited.{is_carried, IsGivenFor}
+
+-- the commands so far: `dataset`, `ls` and `dump`; a line that asks for anything else is a bad line
+abbrev pub taken : Command → Command
+taken (Change (CreateDataset path spec)) = Change (CreateDataset path spec)
+taken ListAll = ListAll
+taken (Dump path) = Dump path
+taken _ = Unread
+
+-- what a command answers: NotYet, before every other check, to an edit that is not carried; no view is open
+abbrev pub answer_so_far : State → Command → Given → Answer
+answer_so_far s (Change edit) given =
+    if is_carried s.tree edit then answer_of (new_session s) (Change edit) given
+    else answered Refused (refused_text fault.NotYet) (new_session s)
+answer_so_far s command given = answer_of (new_session s) command given
+
+-- what a line that asks for the command answers
+unfoldable pub line_answer : State → Command → Given → Answer
+line_answer s command given = answer_so_far s (taken command) given
+
+-- nothing is given, or that memory was refused
+abbrev pub IsMemory : Given → Type 0
+IsMemory None = Unit {0}
+IsMemory (Some fault.NoMemory) = Unit {0}
+IsMemory _ = ⊥
+
+-- what may be given to a command: to an edit that is carried what the file decides, to `ls` and `dump` memory
+abbrev pub IsGivenSoFar : State → Command → Given → Type 0
+IsGivenSoFar s (Change edit) given = MatchBool (is_carried s.tree edit) (IsGivenFor s.tree s.next edit given) (given ≡ None)
+IsGivenSoFar s ListAll given = IsMemory given
+IsGivenSoFar s (Dump path) given = IsMemory given
+IsGivenSoFar s _ given = given ≡ None
+
+-- what may be given to a line that is answered in this state
+unfoldable pub IsGivenAt : State → Command → Given → Type 0
+IsGivenAt s command given = IsGivenSoFar s (taken command) given

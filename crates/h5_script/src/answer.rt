@@ -1,0 +1,106 @@
+//! What one line answers.
+
+ghost use Rattle.std.specs.Prelude.{◌≡◌, [], IfOk, MatchResult, codes};
+ghost use Rattle.h5_model.specs.EditFaults.{refused_text};
+ghost use Rattle.h5_model.specs.Lines as lines;
+ghost use Rattle.h5_model.specs.declared.edit_fault.EditFault.TheVariants as fault;
+ghost use Rattle.h5_script.specs.declared.ran.Outcome.TheVariants.{Refused};
+ghost use Rattle.h5_file.specs.State.{state_of};
+ghost use Rattle.h5_text.specs.Commands.{command_of};
+ghost use Rattle.h5_script.specs.Answered.{IsAnswered, IsUntold};
+
+use crate::ran::Outcome;
+use crate::texts::{push_dump, push_list};
+use h5_file::File;
+use h5_model::{Edit, EditFault};
+use h5_text::{Command, push_accepted, push_refused, push_text};
+use std::alloc::AllocError;
+
+/// Runs a command. Its answer then stands in `text`, in place of what was there.
+///
+/// A want of memory for the answer is told of `ls` and `dump` as a refusal; what is left is
+/// the memory for one short line.
+pub fn answer(file: &mut File, command: &Command, text: &mut Vec<u8>) -> Result<Outcome, AllocError>
+    ensures { MatchResult result (IsAnswered (state_of file.old) (command_of command.now) (state_of file.new) text.new.items)
+        (λ _. IsUntold (state_of file.old) (command_of command.now) (state_of file.new)) }
+{
+    text.clear();
+    match command {
+        Command::Change(edit) => answer_edit(file, edit, text),
+        Command::ListAll => list(file, text),
+        Command::Dump { path } => dump(file, path.as_slice(), text),
+        _ => bad_line(text),
+    }
+}
+
+/// The answer to a line that is taken for none.
+fn bad_line(text: &mut Vec<u8>) -> Result<Outcome, AllocError>
+    requires { text.old.items ≡ [] }
+    ensures { IfOk result (λ outcome. (outcome ≡ Refused) × (text.new.items ≡ codes "bad line\n")) }
+{
+    push_text(text, b"bad line\n")?;
+    Ok(Outcome::Refused)
+}
+
+/// The answer to a line that is refused.
+fn refused(text: &mut Vec<u8>, fault: EditFault) -> Result<Outcome, AllocError>
+    requires { text.old.items ≡ [] }
+    ensures { IfOk result (λ outcome. (outcome ≡ Refused) × (text.new.items ≡ refused_text fault)) }
+{
+    push_refused(text, fault)?;
+    Ok(Outcome::Refused)
+}
+
+/// Carries out an edit, if lines may ask for it.
+fn answer_edit(file: &mut File, edit: &Edit, text: &mut Vec<u8>) -> Result<Outcome, AllocError>
+    requires { text.old.items ≡ [] }
+    ensures { MatchResult result (IsAnswered (state_of file.old) (lines.Change edit.now) (state_of file.new) text.new.items)
+        (λ _. IsUntold (state_of file.old) (lines.Change edit.now) (state_of file.new)) }
+{
+    let Edit::CreateDataset { .. } = edit else {
+        return bad_line(text);
+    };
+    match file.edit(edit) {
+        Ok(edited) => {
+            push_accepted(text, edited.refreshed)?;
+            Ok(Outcome::Accepted)
+        }
+        Err(fault) => refused(text, fault),
+    }
+}
+
+/// Lists the file.
+fn list(file: &File, text: &mut Vec<u8>) -> Result<Outcome, AllocError>
+    requires { text.old.items ≡ [] }
+    ensures { MatchResult result (IsAnswered (state_of file.now) lines.ListAll (state_of file.now) text.new.items)
+        (λ _. IsUntold (state_of file.now) lines.ListAll (state_of file.now)) }
+{
+    if push_list(text, file).is_err() {
+        return no_memory(text);
+    }
+    Ok(Outcome::Told)
+}
+
+/// Dumps what stands at the path.
+fn dump(file: &File, path: &[u8], text: &mut Vec<u8>) -> Result<Outcome, AllocError>
+    requires { text.old.items ≡ [] }
+    ensures { MatchResult result (IsAnswered (state_of file.now) (lines.Dump path.now) (state_of file.now) text.new.items)
+        (λ _. IsUntold (state_of file.now) (lines.Dump path.now) (state_of file.now)) }
+{
+    let kind = match file.kind(path) {
+        Ok(kind) => kind,
+        Err(fault) => return refused(text, fault),
+    };
+    if push_dump(text, file, path, &kind).is_err() {
+        return no_memory(text);
+    }
+    Ok(Outcome::Told)
+}
+
+/// Puts the refusal for want of memory in place of a part of a text.
+fn no_memory(text: &mut Vec<u8>) -> Result<Outcome, AllocError>
+    ensures { IfOk result (λ outcome. (outcome ≡ Refused) × (text.new.items ≡ refused_text fault.NoMemory)) }
+{
+    text.clear();
+    refused(text, EditFault::NoMemory)
+}

@@ -1,0 +1,28 @@
+//! Why a run of a script ends early.
+
+ghost use Rattle.std.specs.Prelude.{◌≡◌};
+
+use std::alloc::AllocError;
+
+/// Why a run of a script ends early.
+#[derive(Clone, Copy, PartialEq, Eq, Debug)]
+pub enum RunFault {
+    /// The script could not be read.
+    ScriptRead,
+    /// An answer could not be written.
+    ScriptWrite,
+    /// The script has more than 16777216 bytes.
+    ScriptTooLong,
+    /// Memory was refused.
+    NoMemory,
+}
+
+impl From<AllocError> for RunFault {
+    ghost use Rattle.h5_script.specs.declared.fault.RunFault.TheVariants.{NoMemory};
+
+    ghost from_gives = { λ _ fault. fault ≡ NoMemory };
+
+    fn from(_error: AllocError) -> RunFault {
+        RunFault::NoMemory
+    }
+}

@@ -1,0 +1,77 @@
+//! A whole script.
+
+ghost use Rattle.std.specs.Prelude.{◌<◌, MatchResult, length};
+ghost use Rattle.h5_file.specs.State.{state_of};
+ghost use Rattle.h5_script.specs.Script.{IsDone, IsStopped};
+
+use crate::fault::RunFault;
+use crate::lines::{Answers, run_line, run_piece};
+use crate::ran::Ran;
+use crate::streams::{flush, read_piece};
+use h5_file::File;
+use std::alloc::Global;
+use std::io::{Read, Write};
+
+/// The most bytes that are asked for in one read.
+const PIECE: usize = 65536;
+
+/// The most bytes of a script.
+const MAX_SCRIPT: usize = 16777216;
+
+/// The most reads. Each but the last gives a byte at least, so a script has passed its limit of
+/// bytes long before.
+const MAX_READS: u64 = 33554432;
+
+/// Runs a script, which is read piece by piece into the buffer.
+fn run_pieces<R: Read, W: Write>(
+    alloc: Global,
+    file: &mut File,
+    input: &mut R,
+    output: &mut W,
+    piece: &mut [u8],
+) -> Result<Ran, RunFault>
+    requires { 0 < length piece.old }
+    ensures { MatchResult result
+        (IsDone (state_of file.old) (state_of file.new) (R.remaining input.old) (R.remaining input.new) (W.contents output.old) (W.contents output.new))
+        (IsStopped (state_of file.old) (state_of file.new) (R.remaining input.old) (R.remaining input.new) (W.contents output.old) (W.contents output.new)) }
+{
+    let mut held = Vec::new(alloc);
+    let mut answers = Answers::new(alloc)?;
+    let mut room = MAX_SCRIPT;
+    for _read in 0..MAX_READS {
+        let count = read_piece(input, piece)?;
+        if count == 0 {
+            run_line(alloc, file, &held, &mut answers, output)?;
+            flush(output)?;
+            return Ok(answers.ran);
+        }
+        let within = count.min(room);
+        let part = &piece[..within];
+        run_piece(alloc, file, &mut held, part, &mut answers, output)?;
+        if count > room {
+            return Err(RunFault::ScriptTooLong);
+        }
+        room -= count;
+    }
+    Err(RunFault::ScriptTooLong)
+}
+
+/// Runs a script to its end, and answers how its lines count.
+///
+/// Lines run as they come, and each answer is written before the next line is run. The script may
+/// have 16777216 bytes; of a longer one the lines are run that end within so many. A read or a write
+/// that fails is never tried again; where it fails, or memory is refused, the file stays as the lines
+/// so far have left it.
+pub fn run_script<R: Read, W: Write>(
+    alloc: Global,
+    file: &mut File,
+    input: &mut R,
+    output: &mut W,
+) -> Result<Ran, RunFault>
+    ensures { MatchResult result
+        (IsDone (state_of file.old) (state_of file.new) (R.remaining input.old) (R.remaining input.new) (W.contents output.old) (W.contents output.new))
+        (IsStopped (state_of file.old) (state_of file.new) (R.remaining input.old) (R.remaining input.new) (W.contents output.old) (W.contents output.new)) }
+{
+    let mut piece = vec![in alloc; 0u8; PIECE]?;
+    run_pieces(alloc, file, input, output, &mut piece)
+}

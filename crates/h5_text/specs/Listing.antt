@@ -1,0 +1,29 @@
+-- The path and the dataset of a line of `ls` or `dump`.
+use Rattle.std.specs.Prelude.{List, [], ◌++◌, ℕ, codes}
+use Rattle.h5_model.specs.Text.{escaped, joined_path, content_text, dataset_text}
+use Rattle.h5_model.specs.Tree.{Dataset, Array}
+use Rattle.h5_text.specs.Layouts.{storage_of}
+use Rattle.h5_text.specs.declared.listing.ArrayText.{ArrayText}
+use Rattle.h5_text.specs.declared.listing.PathText.{PathText}
+use Rattle.h5_text.specs.declared.listing.PathText.TheVariants.{Plain, Escaped, Below}
+
+-- the path's text
+abbrev pub path_text : PathText → List ℕ
+path_text (Plain path) = escaped path.now
+path_text (Escaped path) = path.now
+path_text (Below path name) = joined_path path.now name.now
+
+-- the dataset that is told; its cells are told in rows of their own
+abbrev pub told_dataset : ArrayText → Dataset
+told_dataset a = record {
+  fixed = a.fixed.now;
+  sizes = a.sizes.now;
+  maxima = a.maxima.now;
+  storage = storage_of a.layout;
+  fill = a.fill;
+  cells = [];
+}
+
+-- the first line of what is dumped of a dataset
+abbrev pub dump_line : List ℕ → Dataset → List ℕ
+dump_line path d = path ++ codes " " ++ content_text (Array d) ++ dataset_text d ++ codes "\n"

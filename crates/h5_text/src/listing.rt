@@ -1,0 +1,106 @@
+//! The lines that `ls` and `dump` write of an object. As with other texts, a buffer that is refused memory keeps what it held.
+ghost use Rattle.std.specs.Prelude.{codes};
+ghost use Rattle.h5_model.specs.Text.{content_text, dataset_text, line_of};
+ghost use Rattle.h5_model.specs.Tree.{Array};
+ghost use Rattle.h5_text.specs.Appends.{Appends};
+ghost use Rattle.h5_text.specs.Listing.{dump_line, path_text, told_dataset};
+
+use crate::texts::{Layout, push_escaped, push_extent, push_text, push_type, push_value};
+use h5_model::Fixed;
+use std::alloc::AllocError;
+
+/// The path at the head of a line.
+#[derive(Clone, Copy, PartialEq, Eq, Debug)]
+pub enum PathText<'a> {
+    /// A path of any bytes, which is escaped.
+    Plain(&'a [u8]),
+    /// A path that is escaped already.
+    Escaped(&'a [u8]),
+    /// A name of any bytes below a path that is escaped already; below the root the path is empty.
+    Below { path: &'a [u8], name: &'a [u8] },
+}
+
+impl PathText<'_> {
+    /// Appends the path.
+    pub fn push_to(self, out: &mut Vec<u8>) -> Result<(), AllocError>
+        ensures { Appends result out.old.items out.new.items (path_text self.entry) }
+    {
+        match self {
+            PathText::Plain(path) => push_escaped(out, path),
+            PathText::Escaped(path) => push_text(out, path),
+            PathText::Below { path, name } => {
+                push_text(out, path)?;
+                push_text(out, b"/")?;
+                push_escaped(out, name)
+            }
+        }
+    }
+}
+
+/// What lines tell of a dataset: its type, its sizes with as many maxima (`None` is unlimited), how its cells are stored, and its fill.
+#[derive(Clone, Copy)]
+pub struct ArrayText<'a, 'l> {
+    pub fixed: &'a Fixed,
+    pub sizes: &'a [u64],
+    pub maxima: &'a [Option<u64>],
+    pub layout: Layout<'l>,
+    pub fill: i128,
+}
+
+/// Appends the line of a group.
+pub fn push_group_line(out: &mut Vec<u8>, path: PathText<'_>) -> Result<(), AllocError>
+    ensures { Appends result out.old.items out.new.items (line_of (path_text path.entry) (codes "group")) }
+{
+    path.push_to(out)?;
+    push_text(out, b" group\n")
+}
+
+/// Appends what a line has behind a dataset's path: that it is one, its type and its sizes.
+fn push_content(out: &mut Vec<u8>, array: &ArrayText<'_, '_>) -> Result<(), AllocError>
+    ensures { Appends result out.old.items out.new.items (content_text (Array (told_dataset array.now))) }
+{
+    push_text(out, b"dataset ")?;
+    push_type(out, array.fixed)?;
+    push_text(out, b" ")?;
+    push_extent(out, array.sizes, array.maxima)
+}
+
+/// Appends the line of a dataset in a list.
+pub fn push_array_line(
+    out: &mut Vec<u8>,
+    path: PathText<'_>,
+    array: &ArrayText<'_, '_>,
+) -> Result<(), AllocError>
+    ensures { Appends result out.old.items out.new.items (line_of (path_text path.entry) (content_text (Array (told_dataset array.now)))) }
+{
+    path.push_to(out)?;
+    push_text(out, b" ")?;
+    push_content(out, array)?;
+    push_text(out, b"\n")
+}
+
+/// Appends how a dataset's cells are stored, and its fill.
+fn push_detail(out: &mut Vec<u8>, array: &ArrayText<'_, '_>) -> Result<(), AllocError>
+    ensures { Appends result out.old.items out.new.items (dataset_text (told_dataset array.now)) }
+{
+    push_text(out, b" ")?;
+    array.layout.push_to(out)?;
+    push_text(out, b" fill ")?;
+    push_value(out, array.fill)
+}
+
+/// Appends the first line of what is dumped of a dataset, which also tells how the cells are stored, and the fill.
+pub fn push_dump_line(
+    out: &mut Vec<u8>,
+    path: PathText<'_>,
+    array: &ArrayText<'_, '_>,
+) -> Result<(), AllocError>
+    ensures { Appends result out.old.items out.new.items
+        (dump_line (path_text path.entry) (told_dataset array.now)) }
+{
+    path.push_to(out)?;
+    push_text(out, b" ")?;
+    push_content(out, array)?;
+    push_detail(out, array)?;
+    push_text(out, b"\n")
+}
