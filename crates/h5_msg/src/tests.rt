@@ -20,32 +20,3 @@ mod forms;
 mod library;
 mod plain;
 mod plain_bodies;
-
-/// Whether a dataspace has these sizes and maxima.
-fn is_extent(alloc: Global, body: &[u8], sizes: &[u64], maxima: &[Option<u64>]) -> bool {
-    let Ok(extent) = read_dataspace(body) else {
-        return false;
-    };
-    if extent.rank() != sizes.len() || sizes.len() != maxima.len() {
-        return false;
-    }
-    for k in 0..extent.rank() {
-        if extent.size(k) != sizes[k] || extent.maximum(k) != maxima[k] {
-            return false;
-        }
-    }
-    extent.dims(alloc).sizes() == sizes && extent.cells() == extent.dims(alloc).cells()
-}
-
-/// Whether chunk sizes are these.
-fn are_chunk_sizes(alloc: Global, sizes: &ChunkSizes<'_>, want: &[u64]) -> bool {
-    if sizes.rank() != want.len() {
-        return false;
-    }
-    for k in 0..sizes.rank() {
-        if u64::from(sizes.size(k)) != want[k] {
-            return false;
-        }
-    }
-    sizes.dims(alloc).sizes() == want
-}

@@ -1,11 +1,18 @@
 //! Bodies that the usual library wrote (HDF5 1.10.8, through h5py 3.7 and C programs), and what h5py says of them. They
-//! stand in lists of text: a line for a body, its words apart by a space.
+//! stand in lists of text: a line for a body, and behind it groups of numbers.
 use super::*;
-use std::test::Fail;
 
-/// The words of a line.
-fn words_in(alloc: Global, line: &str) -> Result<Vec<&str>, Fail> {
-    Ok(line.split(' ').collect(alloc)?)
+/// The kinds of messages.
+#[derive(Clone, Copy)]
+pub enum Kind {
+    Dataspace,
+    Datatype,
+    Fill,
+    OldFill,
+    Layout,
+    Attribute,
+    SymbolTable,
+    Continuation,
 }
 
 /// The value of a hexadecimal digit.
@@ -17,150 +24,163 @@ fn digit(byte: u8) -> u8 {
     }
 }
 
-/// The bytes that hexadecimal digits spell; `-` is none.
-fn bytes_in(alloc: Global, word: &str) -> Result<Vec<u8>, Fail> {
-    let mut bytes = Vec::new(alloc);
-    for pair in word.as_bytes().chunks_exact(2) {
-        bytes.push(digit(pair[0]) << 4 | digit(pair[1]))?;
-    }
-    Ok(bytes)
-}
-
-/// Sizes that are joined by commas; `-` is none.
-fn sizes_in(alloc: Global, word: &str) -> Result<Vec<u64>, Fail> {
-    let mut sizes = Vec::new(alloc);
-    if word != "-" {
-        for size in word.split(',') {
-            sizes.push(size.parse::<u64>()?)?;
+/// The bytes that a word's hexadecimal digits spell, as many as there is room for.
+fn bytes_in<'a>(word: Option<&str>, room: &'a mut [u8]) -> &'a [u8] {
+    let mut count = 0;
+    for pair in word.unwrap_or("").as_bytes().chunks_exact(2) {
+        if let Some(place) = room.get_mut(count) {
+            *place = digit(pair[0]) << 4 | digit(pair[1]);
+            count += 1;
         }
     }
-    Ok(sizes)
+    room.get(..count).unwrap_or(&[])
 }
 
-/// Maxima that are joined by commas, of which `inf` is unlimited; `-` is none.
-fn maxima_in(alloc: Global, word: &str) -> Result<Vec<Option<u64>>, Fail> {
-    let mut maxima = Vec::new(alloc);
-    if word != "-" {
-        for maximum in word.split(',') {
-            if maximum == "inf" {
-                maxima.push(None)?;
-            } else {
-                maxima.push(Some(maximum.parse::<u64>()?))?;
-            }
+/// The numbers of a group, which are joined by commas, as many as there is room for; `-` is none.
+fn numbers_in<'a>(word: Option<&str>, room: &'a mut [i128]) -> &'a [i128] {
+    let mut count = 0;
+    for number in word.unwrap_or("-").split(',') {
+        if let (Some(place), Ok(value)) = (room.get_mut(count), number.parse::<i128>()) {
+            *place = value;
+            count += 1;
         }
     }
-    Ok(maxima)
+    room.get(..count).unwrap_or(&[])
 }
 
-/// Values that are joined by commas; `-` is none.
-fn values_in(alloc: Global, word: &str) -> Result<Vec<i128>, Fail> {
-    let mut values = Vec::new(alloc);
-    if word != "-" {
-        for value in word.split(',') {
-            values.push(value.parse::<i128>()?)?;
+/// Whether numbers are the same.
+fn are_same(sizes: &[u64], want: &[i128]) -> bool {
+    if sizes.len() != want.len() {
+        return false;
+    }
+    for k in 0..sizes.len() {
+        if i128::from(sizes[k]) != want[k] {
+            return false;
         }
     }
-    Ok(values)
+    true
 }
 
-/// The type of a size, a sign and an order.
-fn type_in(size: &str, sign: &str, order: &str) -> Result<Fixed, Fail> {
-    Ok(Fixed::new(size.parse::<u8>()?, sign == "signed", order == "high").ok_or("type")?)
-}
-
-/// Whether a dataspace is read as the line says.
-fn reads_dataspace(alloc: Global, line: &str) -> Result<bool, Fail> {
-    let words = words_in(alloc, line)?;
-    let [body, sizes, maxima] = words.as_slice() else {
-        return Ok(false);
+/// Whether a dataspace has these sizes and maxima, of which -1 is unlimited.
+pub fn is_dataspace(alloc: Global, body: &[u8], sizes: &[i128], maxima: &[i128]) -> bool {
+    let Ok(extent) = read_dataspace(body) else {
+        return false;
     };
-    let body = bytes_in(alloc, body)?;
-    let sizes = sizes_in(alloc, sizes)?;
-    let maxima = maxima_in(alloc, maxima)?;
-    Ok(is_extent(alloc, &body, &sizes, &maxima))
-}
-
-/// Whether a datatype is read as the line says.
-fn reads_datatype(alloc: Global, line: &str) -> Result<bool, Fail> {
-    let words = words_in(alloc, line)?;
-    let [body, size, sign, order] = words.as_slice() else {
-        return Ok(false);
-    };
-    let body = bytes_in(alloc, body)?;
-    Ok(read_datatype(&body) == Ok(type_in(size, sign, order)?))
-}
-
-/// Whether a fill value, or an old one, is read as the line says.
-fn reads_fill(alloc: Global, is_old: bool, line: &str) -> Result<bool, Fail> {
-    let words = words_in(alloc, line)?;
-    let [body, size, sign, order, value] = words.as_slice() else {
-        return Ok(false);
-    };
-    let body = bytes_in(alloc, body)?;
-    let fixed = type_in(size, sign, order)?;
-    let value = value.parse::<i128>()?;
-    if is_old {
-        Ok(read_old_fill(&fixed, &body) == Ok(value))
-    } else {
-        Ok(read_fill(&fixed, &body) == Ok(value))
+    if extent.rank() != sizes.len() || sizes.len() != maxima.len() {
+        return false;
     }
-}
-
-/// Whether cells are stored as two words say: `compact` and their bytes, `contiguous` and how many bytes there are or
-/// `-`, `chunked` and the chunk sizes.
-fn is_stored(alloc: Global, layout: &Layout<'_>, way: &str, what: &str) -> Result<bool, Fail> {
-    match layout {
-        Layout::Compact(cells) => {
-            let bytes = bytes_in(alloc, what)?;
-            Ok(way == "compact" && *cells == bytes.as_slice())
-        }
-        Layout::Contiguous(None) => Ok(way == "contiguous" && what == "-"),
-        Layout::Contiguous(Some(block)) => {
-            Ok(way == "contiguous" && block.len == what.parse::<u64>()?)
-        }
-        Layout::Chunked { sizes, .. } => {
-            let want = sizes_in(alloc, what)?;
-            Ok(way == "chunked" && are_chunk_sizes(alloc, sizes, &want))
+    for k in 0..extent.rank() {
+        let maximum = extent.maximum(k).map_or(-1, i128::from);
+        if i128::from(extent.size(k)) != sizes[k] || maximum != maxima[k] {
+            return false;
         }
     }
+    let dims = extent.dims(alloc);
+    are_same(dims.sizes(), sizes) && extent.cells() == dims.cells()
 }
 
-/// Whether a layout is read as the line says.
-fn reads_layout(alloc: Global, line: &str) -> Result<bool, Fail> {
-    let words = words_in(alloc, line)?;
-    let [body, sizes, element, way, what] = words.as_slice() else {
-        return Ok(false);
+/// Whether a type has this size, is signed (1), and has its high byte first (1).
+pub fn is_type(fixed: &Fixed, want: &[i128]) -> bool {
+    let [size, signed, high_first] = want else {
+        return false;
     };
-    let body = bytes_in(alloc, body)?;
-    let sizes = sizes_in(alloc, sizes)?;
-    let dims = Dims::new(alloc, &sizes).ok_or("rank")?;
-    let fixed = type_in(element, "unsigned", "low")?;
-    match read_layout(&dims, &fixed, &body) {
-        Ok(layout) => is_stored(alloc, &layout, way, what),
-        Err(_) => Ok(false),
-    }
+    fixed.size() as i128 == *size
+        && i128::from(fixed.is_signed()) == *signed
+        && i128::from(fixed.is_big()) == *high_first
 }
 
-/// Whether an attribute is read as the line says.
-fn reads_attribute(alloc: Global, line: &str) -> Result<bool, Fail> {
-    let words = words_in(alloc, line)?;
-    let [body, name, size, sign, order, sizes, values] = words.as_slice() else {
-        return Ok(false);
+/// The type of this size, signed if 1, with its high byte first if 1.
+pub fn type_of(want: &[i128]) -> Option<Fixed> {
+    let [size, signed, high_first] = want else {
+        return None;
     };
-    let body = bytes_in(alloc, body)?;
-    let name = bytes_in(alloc, name)?;
-    let sizes = sizes_in(alloc, sizes)?;
-    let values = values_in(alloc, values)?;
-    let fixed = type_in(size, sign, order)?;
-    let Ok(read) = read_attribute(&body) else {
-        return Ok(false);
-    };
-    Ok(
-        read.name() == name.as_slice()
-            && read.fixed() == fixed
-            && read.dims(alloc).sizes() == sizes.as_slice()
-            && are_values(&read, &values),
+    Fixed::new(
+        u8::try_from(*size).unwrap_or(0),
+        *signed == 1,
+        *high_first == 1,
     )
+}
+
+/// Whether the fill value, or the old one, of a dataset of this type is this one.
+fn is_fill(is_old: bool, body: &[u8], fixed: &[i128], value: &[i128]) -> bool {
+    let (Some(fixed), [value]) = (type_of(fixed), value) else {
+        return false;
+    };
+    if is_old {
+        read_old_fill(&fixed, body) == Ok(*value) && writes_old_fill(&fixed, *value, body)
+    } else {
+        read_fill(&fixed, body) == Ok(*value)
+    }
+}
+
+/// Whether an old fill value is written as the library does.
+fn writes_old_fill(fixed: &Fixed, value: i128, body: &[u8]) -> bool {
+    let mut room = [0x55; 16];
+    if !fits(fixed, value) || body.len() < old_fill_length(fixed) || room.len() < body.len() {
+        return false;
+    }
+    write_old_fill(fixed, value, &mut room[..body.len()]);
+    &room[..body.len()] == body
+}
+
+/// The layout of an array of these sizes and elements of so many bytes.
+fn layout_of<'a>(
+    alloc: Global,
+    body: &'a [u8],
+    sizes: &[i128],
+    element: &[i128],
+) -> Result<Layout<'a>, FormFault> {
+    let mut room = [0; 32];
+    for k in 0..sizes.len() {
+        if let Some(place) = room.get_mut(k) {
+            *place = u64::try_from(sizes[k]).unwrap_or(0);
+        }
+    }
+    let dims = Dims::new(alloc, room.get(..sizes.len()).unwrap_or(&[]));
+    let size = u8::try_from(element.first().copied().unwrap_or(0)).unwrap_or(0);
+    match (dims, Fixed::new(size, false, false)) {
+        (Some(dims), Some(fixed)) => read_layout(&dims, &fixed, body),
+        _ => Err(FormFault::HeapForm),
+    }
+}
+
+/// Whether cells are stored as the class and what follows it say.
+fn is_stored(alloc: Global, layout: &Layout<'_>, class: &[i128], what: &[i128]) -> bool {
+    let [class] = class else {
+        return false;
+    };
+    match layout {
+        Layout::Compact(bytes) => *class == 0 && are_bytes(bytes, what),
+        Layout::Contiguous(None) => *class == 1 && what.is_empty(),
+        Layout::Contiguous(Some(block)) => *class == 1 && are_same(&[block.len], what),
+        Layout::Chunked { sizes, .. } => *class == 2 && are_chunk_sizes(alloc, sizes, what),
+    }
+}
+
+/// Whether bytes are these numbers.
+fn are_bytes(bytes: &[u8], want: &[i128]) -> bool {
+    if bytes.len() != want.len() {
+        return false;
+    }
+    for k in 0..bytes.len() {
+        if i128::from(bytes[k]) != want[k] {
+            return false;
+        }
+    }
+    true
+}
+
+/// Whether chunk sizes are these.
+pub fn are_chunk_sizes(alloc: Global, sizes: &ChunkSizes<'_>, want: &[i128]) -> bool {
+    if sizes.rank() != want.len() {
+        return false;
+    }
+    for k in 0..sizes.rank() {
+        if i128::from(sizes.size(k)) != want[k] {
+            return false;
+        }
+    }
+    are_same(sizes.dims(alloc).sizes(), want)
 }
 
 /// Whether an attribute has these values.
@@ -176,122 +196,137 @@ fn are_values(attribute: &AttributeBody<'_>, values: &[i128]) -> bool {
     true
 }
 
-/// Whether a symbol table is read as the line says.
-fn reads_symbol_table(alloc: Global, line: &str) -> Result<bool, Fail> {
-    let words = words_in(alloc, line)?;
-    let [body, tree, heap] = words.as_slice() else {
-        return Ok(false);
+/// Whether an attribute has this name, type, sizes and values.
+fn is_attribute(alloc: Global, body: &[u8], groups: [&[i128]; 4]) -> bool {
+    let [name, fixed, sizes, values] = groups;
+    let Ok(attribute) = read_attribute(body) else {
+        return false;
     };
-    let body = bytes_in(alloc, body)?;
-    let table = SymbolTable::new(tree.parse::<u64>()?, heap.parse::<u64>()?);
-    Ok(read_symbol_table(&body) == Ok(table))
+    are_bytes(attribute.name(), name)
+        && is_type(&attribute.fixed(), fixed)
+        && are_same(attribute.dims(alloc).sizes(), sizes)
+        && are_values(&attribute, values)
 }
 
-/// Whether a continuation is read as the line says.
-fn reads_continuation(alloc: Global, line: &str) -> Result<bool, Fail> {
-    let words = words_in(alloc, line)?;
-    let [body, at, len] = words.as_slice() else {
-        return Ok(false);
-    };
-    let body = bytes_in(alloc, body)?;
-    let at = at.parse::<u64>()?;
-    let len = len.parse::<u64>()?;
-    Ok(read_continuation(&body) == Ok(Block { at, len }))
+/// Whether a layout says, for these sizes and element, how cells are stored.
+fn is_layout(alloc: Global, body: &[u8], groups: [&[i128]; 4]) -> bool {
+    let [sizes, element, class, what] = groups;
+    match layout_of(alloc, body, sizes, element) {
+        Ok(layout) => is_stored(alloc, &layout, class, what),
+        Err(_) => false,
+    }
+}
+
+/// Whether a symbol table has these addresses.
+fn is_symbol_table(body: &[u8], tree: &[i128], heap: &[i128]) -> bool {
+    match read_symbol_table(body) {
+        Ok(table) => are_same(&[table.tree()], tree) && are_same(&[table.heap()], heap),
+        Err(_) => false,
+    }
+}
+
+/// Whether a continuation names this block.
+fn is_continuation(body: &[u8], at: &[i128], len: &[i128]) -> bool {
+    match read_continuation(body) {
+        Ok(block) => are_same(&[block.at], at) && are_same(&[block.len], len),
+        Err(_) => false,
+    }
+}
+
+/// Whether a datatype is that of this size, sign and order.
+fn is_datatype(body: &[u8], want: &[i128]) -> bool {
+    match read_datatype(body) {
+        Ok(fixed) => is_type(&fixed, want),
+        Err(_) => false,
+    }
+}
+
+/// Whether a body of this kind is read as the line says.
+fn is_read(alloc: Global, kind: Kind, line: &str) -> bool {
+    let (mut bytes, mut first, mut second) = ([0; 512], [0; 512], [0; 512]);
+    let (mut third, mut fourth) = ([0; 512], [0; 512]);
+    let mut words = line.split(' ');
+    let body = bytes_in(words.next(), &mut bytes);
+    let first = numbers_in(words.next(), &mut first);
+    let second = numbers_in(words.next(), &mut second);
+    let third = numbers_in(words.next(), &mut third);
+    let fourth = numbers_in(words.next(), &mut fourth);
+    match kind {
+        Kind::Dataspace => is_dataspace(alloc, body, first, second),
+        Kind::Datatype => is_datatype(body, first),
+        Kind::Fill => is_fill(false, body, first, second),
+        Kind::OldFill => is_fill(true, body, first, second),
+        Kind::Layout => is_layout(alloc, body, [first, second, third, fourth]),
+        Kind::Attribute => is_attribute(alloc, body, [first, second, third, fourth]),
+        Kind::SymbolTable => is_symbol_table(body, first, second),
+        Kind::Continuation => is_continuation(body, first, second),
+    }
 }
 
 #[test]
-fn reads_datasets_of_the_library(rt: HostRuntime) -> Result<(), Fail> {
-    let alloc = rt.alloc();
-    for line in corpus_dataspaces::DATASPACES.lines() {
-        assert!(rt; reads_dataspace(alloc, line)?, "{line}");
+fn reads_datasets_of_the_library(rt: HostRuntime) {
+    for (kind, list) in [
+        (Kind::Dataspace, corpus_dataspaces::DATASPACES),
+        (Kind::Datatype, corpus_datatypes::DATATYPES),
+        (Kind::Fill, corpus_fills::FILLS),
+        (Kind::OldFill, corpus_old_fills::OLD_FILLS),
+        (Kind::Layout, corpus_layouts::LAYOUTS),
+    ] {
+        for line in list.lines() {
+            assert!(rt; is_read(rt.alloc(), kind, line), "{line}");
+        }
     }
-    for line in corpus_datatypes::DATATYPES.lines() {
-        assert!(rt; reads_datatype(alloc, line)?, "{line}");
-    }
-    for line in corpus_fills::FILLS.lines() {
-        assert!(rt; reads_fill(alloc, false, line)?, "{line}");
-    }
-    for line in corpus_old_fills::OLD_FILLS.lines() {
-        assert!(rt; reads_fill(alloc, true, line)?, "{line}");
-    }
-    for line in corpus_layouts::LAYOUTS.lines() {
-        assert!(rt; reads_layout(alloc, line)?, "{line}");
-    }
-    Ok(())
 }
 
 #[test]
-fn reads_attributes_and_addresses_of_the_library(rt: HostRuntime) -> Result<(), Fail> {
-    let alloc = rt.alloc();
-    for line in corpus_attributes::ATTRIBUTES.lines() {
-        assert!(rt; reads_attribute(alloc, line)?, "{line}");
+fn reads_attributes_and_addresses_of_the_library(rt: HostRuntime) {
+    for (kind, list) in [
+        (Kind::Attribute, corpus_attributes::ATTRIBUTES),
+        (Kind::SymbolTable, corpus_symbol_tables::SYMBOL_TABLES),
+        (Kind::Continuation, corpus_continuations::CONTINUATIONS),
+    ] {
+        for line in list.lines() {
+            assert!(rt; is_read(rt.alloc(), kind, line), "{line}");
+        }
     }
-    for line in corpus_symbol_tables::SYMBOL_TABLES.lines() {
-        assert!(rt; reads_symbol_table(alloc, line)?, "{line}");
-    }
-    for line in corpus_continuations::CONTINUATIONS.lines() {
-        assert!(rt; reads_continuation(alloc, line)?, "{line}");
-    }
-    Ok(())
 }
 
-/// Whether a layout is refused for the sizes and the element of the line.
-fn refuses_layout(alloc: Global, line: &str) -> Result<bool, Fail> {
-    let words = words_in(alloc, line)?;
-    let [body, sizes, element] = words.as_slice() else {
-        return Ok(false);
+/// Whether a body of this kind is refused by the fault of its kind.
+fn is_refused(alloc: Global, kind: Kind, line: &str) -> bool {
+    let (mut bytes, mut sizes, mut element) = ([0; 512], [0; 32], [0; 1]);
+    let mut words = line.split(' ');
+    let body = bytes_in(words.next(), &mut bytes);
+    let sizes = numbers_in(words.next(), &mut sizes);
+    let element = numbers_in(words.next(), &mut element);
+    let Some(fixed) = type_of(&[4, 1, 0]) else {
+        return false;
     };
-    let body = bytes_in(alloc, body)?;
-    let sizes = sizes_in(alloc, sizes)?;
-    let dims = Dims::new(alloc, &sizes).ok_or("rank")?;
-    let fixed = type_in(element, "unsigned", "low")?;
-    let read = read_layout(&dims, &fixed, &body);
-    Ok(read.is_err_and(|fault| fault == FormFault::LayoutForm))
+    match kind {
+        Kind::Dataspace => matches!(read_dataspace(body), Err(FormFault::DataspaceForm)),
+        Kind::Datatype => matches!(read_datatype(body), Err(FormFault::DatatypeForm)),
+        Kind::Fill => matches!(read_fill(&fixed, body), Err(FormFault::FillForm)),
+        Kind::Layout => matches!(
+            layout_of(alloc, body, sizes, element),
+            Err(FormFault::LayoutForm)
+        ),
+        Kind::Attribute => matches!(read_attribute(body), Err(FormFault::AttributeForm)),
+        Kind::SymbolTable => matches!(read_symbol_table(body), Err(FormFault::HeapForm)),
+        Kind::OldFill | Kind::Continuation => false,
+    }
 }
 
 #[test]
-fn refuses_other_forms_of_the_library(rt: HostRuntime) -> Result<(), Fail> {
-    let alloc = rt.alloc();
-    for line in corpus_refused::DATASPACES.lines() {
-        let body = bytes_in(alloc, line)?;
-        let read = read_dataspace(&body);
-        assert!(rt;
-            read.is_err_and(|fault| fault == FormFault::DataspaceForm),
-            "{line}"
-        );
+fn refuses_other_forms_of_the_library(rt: HostRuntime) {
+    for (kind, list) in [
+        (Kind::Dataspace, corpus_refused::DATASPACES),
+        (Kind::Datatype, corpus_refused::DATATYPES),
+        (Kind::Fill, corpus_refused::FILLS),
+        (Kind::Layout, corpus_refused::LAYOUTS),
+        (Kind::Attribute, corpus_refused::ATTRIBUTES),
+        (Kind::SymbolTable, corpus_refused::SYMBOL_TABLES),
+    ] {
+        for line in list.lines() {
+            assert!(rt; is_refused(rt.alloc(), kind, line), "{line}");
+        }
     }
-    for line in corpus_refused::DATATYPES.lines() {
-        let body = bytes_in(alloc, line)?;
-        assert!(rt;
-            read_datatype(&body) == Err(FormFault::DatatypeForm),
-            "{line}"
-        );
-    }
-    let fixed = type_in("4", "signed", "low")?;
-    for line in corpus_refused::FILLS.lines() {
-        let body = bytes_in(alloc, line)?;
-        assert!(rt;
-            read_fill(&fixed, &body) == Err(FormFault::FillForm),
-            "{line}"
-        );
-    }
-    for line in corpus_refused::LAYOUTS.lines() {
-        assert!(rt; refuses_layout(alloc, line)?, "{line}");
-    }
-    for line in corpus_refused::ATTRIBUTES.lines() {
-        let body = bytes_in(alloc, line)?;
-        let read = read_attribute(&body);
-        assert!(rt;
-            read.is_err_and(|fault| fault == FormFault::AttributeForm),
-            "{line}"
-        );
-    }
-    for line in corpus_refused::SYMBOL_TABLES.lines() {
-        let body = bytes_in(alloc, line)?;
-        assert!(rt;
-            read_symbol_table(&body) == Err(FormFault::HeapForm),
-            "{line}"
-        );
-    }
-    Ok(())
 }

@@ -1,4 +1,5 @@
 //! Bodies of files in the plain layout are written, and read, as the reference writer has them.
+use super::library::{are_chunk_sizes, is_dataspace};
 use super::*;
 use std::test::Fail;
 
@@ -23,16 +24,19 @@ fn writes_dataspaces(rt: HostRuntime) {
         let mut room = [0x55; 16];
         write_dataspace(&[size], &mut room);
         assert!(rt; room == body, "{size}");
-        assert!(rt; is_extent(alloc, &body, &[size], &[Some(size)]), "{size}");
+        assert!(rt;
+            is_dataspace(alloc, &body, &[size.into()], &[size.into()]),
+            "{size}"
+        );
     }
     let mut room = [0x55; 8];
     write_dataspace(&[], &mut room);
-    assert!(rt; room == SCALAR && is_extent(alloc, &SCALAR, &[], &[]));
+    assert!(rt; room == SCALAR && is_dataspace(alloc, &SCALAR, &[], &[]));
     let mut room = [0x55; 40];
     write_bounded_dataspace(&[5, 4], &[None, Some(4)], &mut room);
-    assert!(rt; room == SIZES_5_4 && is_extent(alloc, &SIZES_5_4, &[5, 4], &[None, Some(4)]));
+    assert!(rt; room == SIZES_5_4 && is_dataspace(alloc, &SIZES_5_4, &[5, 4], &[-1, 4]));
     write_bounded_dataspace(&[1, 1], &[None, Some(4)], &mut room);
-    assert!(rt; room == SIZES_1_1 && is_extent(alloc, &SIZES_1_1, &[1, 1], &[None, Some(4)]));
+    assert!(rt; room == SIZES_1_1 && is_dataspace(alloc, &SIZES_1_1, &[1, 1], &[-1, 4]));
     assert!(rt; dataspace_length(1, false) == 16 && dataspace_length(2, true) == 40);
 }
 
