@@ -1,12 +1,12 @@
 """Writes the unit tests' lists of message bodies: those in the object headers of the files in `data`, with what the
 `.json` file beside each says of them, and those of files in the plain layout, which the reference writer makes from
-scripts. Says at the end what was taken and what was left out.
+scripts. Says at the end how many there are.
 
-What no header or no word of h5py leaves to compare:
+Every body is taken. Where nothing is to be compared:
 - `dense_attributes.h5` has its attributes in a fractal heap, where they are no messages;
 - `not_hdf5.h5` has no header;
-- `family_driver.h5` cannot be opened by h5py, so nothing is said of it. All its bodies but the two addresses of its root
-  group stand in other files too, which is asserted.
+- `family_driver.h5` cannot be opened by h5py, so nothing is said of it. All its bodies but the two addresses of its
+  root group stand in other files too, which is asserted.
 """
 
 import collections
@@ -437,8 +437,8 @@ LISTS = {
     DATATYPE: ("datatypes", "the size, 1 if signed, and 1 if the high byte stands first"),
     FILL: ("fills", "the type as in the list of datatypes, and the value"),
     OLD_FILL: ("old_fills", "the type as in the list of datatypes, and the value"),
-    LAYOUT: ("layouts", "the sizes, the size of an element, the class, and the bytes of compact cells, how many bytes\n"
-             "/// there are in the block if there is one, or the chunk sizes"),
+    LAYOUT: ("layouts", "the sizes, the size of an element, the class, and the bytes of compact\n/// cells, how many "
+             "bytes there are in the block if there is one, or the chunk sizes"),
     ATTRIBUTE: ("attributes", "the name's bytes, the type as in the list of datatypes, the sizes, and the values"),
     SYMBOL_TABLE: ("symbol_tables", "the addresses of a B-tree and of a local heap"),
     CONTINUATION: ("continuations", "the address and the length of a block of messages"),
@@ -447,7 +447,8 @@ LISTS = {
 
 def text_list(doc, name, rows):
     """The lines of a list of bodies."""
-    return ["", f"/// {doc}", f'pub static {name}: &str = "\\', *(row + "\\n\\" for row in rows[:-1]), rows[-1] + '";']
+    lines = [row + "\\n\\" for row in rows[:-1]]
+    return ["", f"/// {doc}", f'pub static {name}: &str = "\\', *lines, rows[-1] + '";']
 
 
 def list_file(bodies, kind):
@@ -469,8 +470,8 @@ def refused_file(bodies):
         if bodies.refused[kind]:
             lines += text_list(f"Bodies of {KINDS[kind]} messages{behind}.", name.upper(), list(bodies.refused[kind]))
     return "\n".join([
-        "//! Bodies of the corpus that are refused: of a later version, of what is not read, of shared messages, or with",
-        "//! addresses and lengths of 4 bytes.", f"//! {INTO}.", *lines, "",
+        "//! Bodies of the corpus that are refused: of a later version, of what is not read, of shared messages, or",
+        "//! with addresses and lengths of 4 bytes.", f"//! {INTO}.", *lines, "",
     ])
 
 
@@ -506,8 +507,8 @@ def main():
         with open(os.path.join(TARGET, name), "w", encoding="ascii") as file:
             file.write(text)
     for kind, name in KINDS.items():
-        refused = len(bodies.refused[kind])
-        print(f"{name}: {len(bodies.taken[kind])} bodies in {len(bodies.rows[kind])} rows that are read, {refused} refused")
+        taken, rows, refused = (len(table[kind]) for table in (bodies.taken, bodies.rows, bodies.refused))
+        print(f"{name}: {taken} bodies, in {rows} rows that are read and {refused} that are refused")
     return 0
 
 
