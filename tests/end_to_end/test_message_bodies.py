@@ -23,7 +23,7 @@ class MessageBodies(unittest.TestCase):
         module = generator()
         texts = module.generated(module.collected())
         lists = {name for name in os.listdir(module.TARGET) if name.startswith("corpus_")}
-        self.assertEqual(lists, set(texts))
+        self.assertEqual(lists, {name for name in texts if name.startswith("corpus_")})
         for name, text in texts.items():
             with self.subTest(name=name), open(os.path.join(module.TARGET, name), encoding="ascii") as file:
                 self.assertTrue(file.read() == text, "run tests/make_bodies.py")

@@ -4,9 +4,9 @@ use Rattle.std.proofs.lemmas.Bool.Decides.{nat_tests}
 use Rattle.std.specs.Prelude.{nat_le, ◌-◌, ◌==◌}
 use Rattle.h5_bytes.specs.Bytes.{number_at}
 use Rattle.h5_model.specs.Fixed.{Fixed, IsFixed, fits, bytes_of, value_at}
-use Rattle.h5_model.specs.Fill.{fill_value}
+use Rattle.h5_model.specs.Fill.{fill_value, old_fill_value}
 use Rattle.h5_model.proofs.FixedLaws.{value_back, length-bytes_of}
-use Rattle.h5_msg.specs.Written.{fill_bytes, padded}
+use Rattle.h5_msg.specs.Written.{fill_bytes, old_fill_bytes, padded}
 use Rattle.h5_msg.proofs.ValueLaws.{value_at-drop}
 
 abbrev body : ℕ → Fixed → ℤ → ℕ → List ℕ
@@ -33,3 +33,29 @@ fill_back time t v n bytes sound fit same =
     let none : (t.size == 0) ≡ false = grind (arith, nat_tests) in
     let own : (t.size == t.size) ≡ true = eq-eqb t.size t.size refl in
     rw (same, four, eight, size_read time t v n, none, own, whole, value_read time t v n some fit) refl
+
+-- ---- the old form
+
+abbrev old_body : Fixed → ℤ → ℕ → List ℕ
+old_body t v n = padded (old_fill_bytes t v) n
+
+long_old_fill : (t : Fixed) (v : ℤ) (n : ℕ) → 4 + t.size ≤ length (old_body t v n)
+long_old_fill t v n = let long : length (bytes_of t v) ≡ t.size = length-bytes_of t v in grind (arith, nat_tests, length-append)
+
+old_size_read : (t : Fixed) (v : ℤ) (n : ℕ) → number_at (old_body t v n) 0 4 ≡ t.size
+unfolding number_at
+old_size_read t v n = omega arith
+
+old_value_read : (t : Fixed) (v : ℤ) (n : ℕ) → 1 ≤ t.size → fits t v ≡ true → value_at t (old_body t v n) 4 ≡ v
+old_value_read t v n some fit = value_at-drop t (old_body t v n) 4 ∙ value_back t v (replicate (n - length (old_fill_bytes t v)) 0) some fit
+
+pub old_fill_back : (t : Fixed) (v : ℤ) (n : ℕ) (bytes : List ℕ) → IsFixed t → fits t v ≡ true → bytes ≡ padded (old_fill_bytes t v) n → old_fill_value t bytes ≡ Some v
+unfolding old_fill_value
+old_fill_back t v n bytes sound fit same =
+    let some : 1 ≤ t.size = grind (arith, nat_tests, sound.size) in
+    let long = long_old_fill t v n in
+    let four : nat_le 4 (length (old_body t v n)) ≡ true = grind (arith, nat_tests) in
+    let whole : nat_le (4 + t.size) (length (old_body t v n)) ≡ true = grind (arith, nat_tests) in
+    let none : (t.size == 0) ≡ false = grind (arith, nat_tests) in
+    let own : (t.size == t.size) ≡ true = eq-eqb t.size t.size refl in
+    rw (same, four, old_size_read t v n, none, own, whole, old_value_read t v n some fit) refl

@@ -26,6 +26,10 @@ datatype_bytes t = 16 ∷ class_bits t ∷ 0 ∷ 0 ∷ t.size ∷ 0 ∷ 0 ∷ 0 
 abbrev pub fill_bytes : ℕ → Fixed → ℤ → List ℕ
 fill_bytes time t value = 2 ∷ time ∷ 2 ∷ 1 ∷ t.size ∷ 0 ∷ 0 ∷ 0 ∷ bytes_of t value
 
+-- the old form: size and value
+abbrev pub old_fill_bytes : Fixed → ℤ → List ℕ
+old_fill_bytes t value = t.size ∷ 0 ∷ 0 ∷ 0 ∷ bytes_of t value
+
 -- numbers of 8 bytes, one after another
 abbrev pub words : List ℕ → List ℕ
 words numbers = flat_map (little_bytes 8) numbers

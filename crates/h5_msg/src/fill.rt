@@ -3,7 +3,7 @@
 ghost use Rattle.std.specs.Prelude.{◌≡◌, ◌+◌, ◌≤◌, Some, length, ok_or, true};
 ghost use Rattle.h5_model.specs.Fill.{fill_value, old_fill_value, sized_value as value_after_size};
 ghost use Rattle.h5_model.specs.Fixed.{fits};
-ghost use Rattle.h5_msg.specs.Written.{fill_bytes, padded};
+ghost use Rattle.h5_msg.specs.Written.{fill_bytes, old_fill_bytes, padded};
 ghost use Rattle.h5_msg.specs.Times.{time_number};
 
 use crate::fault::FormFault;
@@ -23,6 +23,13 @@ pub fn fill_length(fixed: &Fixed) -> usize
     ensures { result ≡ 8 + fixed.now.size }
 {
     8 + fixed.size()
+}
+
+/// How many bytes an old Fill Value message's body has as it is written for this type.
+pub fn old_fill_length(fixed: &Fixed) -> usize
+    ensures { result ≡ 4 + fixed.now.size }
+{
+    4 + fixed.size()
 }
 
 /// Reads a Fill Value message, version 2, of a dataset of this type: the value, or 0 where none is defined; `FillForm`
@@ -84,4 +91,17 @@ pub fn write_fill(time: AllocationTime, fixed: &Fixed, value: i128, bytes: &mut 
     bytes.fill(0);
     bytes[..8].copy_from_slice(&[2, time, 2, 1, size as u8, 0, 0, 0]);
     write_value(fixed, value, &mut bytes[8..8 + size]);
+}
+
+/// Writes an old Fill Value message with a value of the type, and zeros behind it.
+pub fn write_old_fill(fixed: &Fixed, value: i128, bytes: &mut [u8])
+    requires room { 4 + fixed.now.size ≤ length bytes.old }
+    requires of_type { fits fixed.now value ≡ true }
+    ensures written { bytes.new ≡ padded (old_fill_bytes fixed.now value) (length bytes.old) }
+    ensures reads { old_fill_value fixed.now bytes.new ≡ Some value }
+{
+    let size = fixed.size();
+    bytes.fill(0);
+    bytes[..4].copy_from_slice(&[size as u8, 0, 0, 0]);
+    write_value(fixed, value, &mut bytes[4..4 + size]);
 }

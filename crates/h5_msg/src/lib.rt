@@ -27,7 +27,10 @@ pub use dataspace::{
 };
 pub use datatype::{DATATYPE_LENGTH, read_datatype, write_datatype};
 pub use fault::FormFault;
-pub use fill::{AllocationTime, fill_length, read_fill, read_old_fill, write_fill};
+pub use fill::{
+    AllocationTime, fill_length, old_fill_length, read_fill, read_old_fill, write_fill,
+    write_old_fill,
+};
 pub use layout::{
     CONTIGUOUS_LENGTH, ChunkSizes, Layout, chunked_length, compact_length, read_layout,
     write_chunked_layout, write_compact_layout, write_contiguous_layout,

@@ -1,4 +1,4 @@
-use Rattle.std.proofs.Common.{rules, ◌≡◌, ◌-◌, ◌*◌, ◌++◌, length, replicate, arith}
+use Rattle.std.proofs.Common.{◌≡◌, ◌-◌, ◌*◌, ◌++◌, length, replicate, arith}
 use Rattle.std.proofs.lemmas.Grind.{common_steps}
 use Rattle.h5_model.specs.Places.{cells}
 use Rattle.h5_model.specs.Sizes.{attribute_size}
@@ -8,5 +8,5 @@ pub returns-clause-written : goal.returns-clause-written
 returns-clause-written c =
     let product : length c.args.values.now * c.size.result ≡ cells c.args.sizes.now * c.args.fixed.now.size = λ i. c.requires.values i * c.size.ensures.size i in
     let padding : c.fill.new.self ≡ replicate (length c.args.bytes.now - attribute_size (length c.args.name.now) c.args.sizes.now c.args.fixed.now.size) 0
-    = first_of (search rules, grind (arith, common_steps, product)) in
+    = grind (arith, common_steps, product) in
     (λ i. c.write_head.ensures i ++ (c.write_name.ensures i ++ (c.write_type.ensures i ++ (c.write_extent.ensures i ++ (c.write_values.ensures.written i ++ padding i)))))

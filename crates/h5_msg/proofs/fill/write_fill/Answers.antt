@@ -1,8 +1,7 @@
-use Rattle.std.proofs.Common.{rules, length, arith}
-use Rattle.std.proofs.lemmas.Grind.{common_steps}
+use Rattle.std.proofs.Common.{rules, length}
 use Rattle.h5_msg.specs.Times.{time_number}
 use Rattle.h5_msg.proofs.FillLaws.{fill_back}
 use Rattle.h5_msg.proofs.fill.write_fill.Goals as goal
 
 pub returns-clause-reads : goal.returns-clause-reads
-returns-clause-reads c = fill_back (time_number c.args.time) c.args.fixed.now c.args.value (length c.args.bytes.now) _ c.size-size.ensures.one_of c.requires.of_type (first_of (search rules, grind (arith, common_steps)))
+returns-clause-reads c = fill_back (time_number c.args.time) c.args.fixed.now c.args.value (length c.args.bytes.now) _ c.size-size.ensures.one_of c.requires.of_type (search rules)

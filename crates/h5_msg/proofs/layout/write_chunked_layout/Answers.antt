@@ -6,4 +6,4 @@ use Rattle.h5_msg.proofs.layout.write_chunked_layout.Goals as goal
 pub returns-clause-reads : goal.returns-clause-reads
 returns-clause-reads c = λ sizes same. chunked_back c.args.chunk.now c.args.tree c.args.fixed.now.size (length c.args.bytes.now) _ sizes
     (λ k. (c.type_inv.chunk k).fits) c.requires.sizes c.requires.address c.requires.dimensions (first_of (search rules, omega arith))
-    (first_of (search rules, grind (arith, short_words_long), grind (arith, common_steps, short_words_long))) same
+    (grind (arith, common_steps, short_words_long)) same
