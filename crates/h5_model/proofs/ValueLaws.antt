@@ -1,5 +1,5 @@
 -- A value depends on its own bytes alone, wherever they stand.
-use Rattle.std.proofs.Common.{◌≡◌, ℕ, zero, suc, ◌+◌, ◌-◌, ◌<◌, List, drop, refl, sym, ◌∙◌, arith, slice_index}
+use Rattle.std.proofs.Common.{◌≡◌, ℕ, zero, suc, ◌+◌, ◌-◌, ◌<◌, List, take, drop, refl, sym, ◌∙◌, arith, slice_index}
 use Rattle.std.proofs.lemmas.List.{get_or-take, get_or-drop}
 use Rattle.std.specs.List.{slice_range}
 use Rattle.byteorder.specs.Endian.{little_from, big_from}
@@ -44,3 +44,9 @@ pub value_at-drop : (t : Fixed) (bytes : List ℕ) (at : ℕ) → value_at t byt
 value_at-drop t bytes at = value_at-moved t (drop at bytes) bytes 0 at (λ k low.
     let zero_left : 0 + k ≡ k = omega arith in
     rw zero_left (sym (get_or-drop at bytes k 0)))
+
+-- the value of a part stands at the part's place
+pub value_of_part : (t : Fixed) (bytes part : List ℕ) (at : ℕ) → part ≡ take t.size (drop at bytes) → value_of t part ≡ value_at t bytes at
+value_of_part t bytes part at is = value_at-moved t bytes part at 0 (λ k low.
+    let zero_left : 0 + k ≡ k = omega arith in
+    rw (zero_left, is) (get_or-take t.size (drop at bytes) k 0 low ∙ get_or-drop at bytes k 0))

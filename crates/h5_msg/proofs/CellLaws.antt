@@ -13,7 +13,7 @@ use Rattle.h5_model.specs.AttributeBody.{values_at}
 use Rattle.h5_model.proofs.FixedLaws.{value_back, length-bytes_of}
 use Rattle.h5_msg.specs.Written.{value_bytes}
 use Rattle.h5_msg.proofs.WordLaws.{and_left, and_right}
-use Rattle.h5_msg.proofs.ValueLaws.{value_at-drop}
+use Rattle.h5_model.proofs.ValueLaws.{value_at-drop}
 
 pub all_at : (t : Fixed) (values : List ℤ) (k : ℕ) → list_all (fits t) values ≡ true → k < length values → fits t (get_or values k (pos 0)) ≡ true
 all_at t [] k all low = absurd (omega arith)

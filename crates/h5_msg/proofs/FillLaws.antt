@@ -7,7 +7,7 @@ use Rattle.h5_model.specs.Fixed.{Fixed, IsFixed, fits, bytes_of, value_at}
 use Rattle.h5_model.specs.Fill.{fill_value, old_fill_value}
 use Rattle.h5_model.proofs.FixedLaws.{value_back, length-bytes_of}
 use Rattle.h5_msg.specs.Written.{fill_bytes, old_fill_bytes, padded}
-use Rattle.h5_msg.proofs.ValueLaws.{value_at-drop}
+use Rattle.h5_model.proofs.ValueLaws.{value_at-drop}
 
 abbrev body : ℕ → Fixed → ℤ → ℕ → List ℕ
 body time t v n = padded (fill_bytes time t v) n

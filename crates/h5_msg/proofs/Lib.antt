@@ -1,6 +1,5 @@
 pub mod AddressLaws
 pub mod DatatypeLaws
-pub mod ValueLaws
 pub mod FillLaws
 pub mod ExtentLaws
 pub mod WordLaws

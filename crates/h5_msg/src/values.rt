@@ -7,7 +7,7 @@ use h5_model::Fixed;
 use h5_types::{decode, encode};
 
 /// The value in the type's bytes from a place on.
-#[tactic(auto, using(crate::proofs::ValueLaws::decoded_at))]
+#[tactic(auto, using(h5_model::proofs::ValueLaws::decoded_at))]
 pub fn value_at(fixed: &Fixed, body: &[u8], at: usize) -> i128
     requires { at + fixed.now.size ≤ length body.now }
     ensures { result ≡ value_of_bytes fixed.now body.now at }

@@ -6,7 +6,7 @@ use Rattle.std.proofs.lemmas.Int.{to_z-of_z}
 use Rattle.std.proofs.lemmas.List.FromFn.{map-range_with_len_more}
 use Rattle.h5_model.specs.Fixed.{value_at}
 use Rattle.h5_text.proofs.Joining.{values_step}
-use Rattle.h5_text.proofs.RowLaws.{value_of_part}
+use Rattle.h5_model.proofs.ValueLaws.{value_of_part}
 use Rattle.h5_text.proofs.texts.push_stored_values.Goals as goal
 
 pub loop-k-preserved : goal.loop-k-preserved

@@ -5,7 +5,8 @@ use Rattle.std.proofs.lemmas.Int.{to_z-of_z}
 use Rattle.std.proofs.lemmas.List.FromFn.{length-map-range_with_len, map-range_with_len_more}
 use Rattle.h5_model.specs.Fixed.{value_at}
 use Rattle.h5_text.specs.Rows.{cell_text}
-use Rattle.h5_text.proofs.RowLaws.{row_step, column_step, value_of_part}
+use Rattle.h5_model.proofs.ValueLaws.{value_of_part}
+use Rattle.h5_text.proofs.RowLaws.{row_step, column_step}
 use Rattle.h5_text.proofs.rows.Rows.push_stored.Goals as goal
 
 pub loop-k-preserved : goal.loop-k-preserved
