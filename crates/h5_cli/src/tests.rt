@@ -45,7 +45,7 @@ fn writes_and_refuses_files(rt: HostRuntime) {
 
 #[test]
 fn runs_a_script(rt: HostRuntime) {
-    let file = File::create(rt.alloc()).unwrap();
+    let file = File::create(rt.alloc()).expect(&rt, "memory");
     let mut script: &[u8] = b"dataset /a\\x20b i16be 2 contiguous fill=-2\nls\n";
     let mut output: Vec<u8> = Vec::new(rt.alloc());
     let over = run_over(rt.alloc(), file, &mut script, &mut output);
@@ -55,13 +55,13 @@ fn runs_a_script(rt: HostRuntime) {
     );
     match over {
         Ok((Status::Done, Some(changed))) => {
-            let (text, status) = dump_text(rt.alloc(), &changed, "/a\\x20b").unwrap();
+            let (text, status) = dump_text(rt.alloc(), &changed, "/a\\x20b").expect(&rt, "memory");
             assert_eq!(rt; status, Status::Done);
             assert_eq!(rt;
                 text.as_slice(),
                 b"/a\\x20b dataset i16be {2} contiguous fill -2\n-2 -2\n".as_slice()
             );
-            let (text, status) = dump_text(rt.alloc(), &changed, "/a b").unwrap();
+            let (text, status) = dump_text(rt.alloc(), &changed, "/a b").expect(&rt, "memory");
             assert_eq!(rt; status, Status::CommandRefused);
             assert_eq!(rt; text.as_slice(), b"refused 1 BadPath\n".as_slice());
         }
@@ -71,7 +71,7 @@ fn runs_a_script(rt: HostRuntime) {
 
 #[test]
 fn keeps_a_file_that_no_line_changes(rt: HostRuntime) {
-    let file = File::create(rt.alloc()).unwrap();
+    let file = File::create(rt.alloc()).expect(&rt, "memory");
     let mut script: &[u8] = b"dataset /d u8 1 compact\nls\n";
     let mut output: Vec<u8> = Vec::new(rt.alloc());
     let over = run_over(rt.alloc(), file, &mut script, &mut output);
@@ -107,7 +107,7 @@ fn tells_that_a_stream_failed(rt: HostRuntime) {
 
 #[test]
 fn gives_no_file_back_where_the_script_failed(rt: HostRuntime) {
-    let file = File::create(rt.alloc()).unwrap();
+    let file = File::create(rt.alloc()).expect(&rt, "memory");
     let mut script: &[u8] = b"dataset /d u8 1 contiguous\nls\n";
     let mut short = Cursor::new([0u8; 7]);
     let over = run_over(rt.alloc(), file, &mut script, &mut short);

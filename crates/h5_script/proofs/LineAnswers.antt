@@ -1,5 +1,5 @@
 -- What one line answers, by what it asks for.
-use Rattle.std.proofs.Common.{◌≡◌, ℕ, Bool, true, false, cond, Option, Some, None, List, [], ◌++◌, codes, refl, sym, ap, ◌∙◌, subst, append_assoc}
+use Rattle.std.proofs.Common.{◌≡◌, ℕ, Bool, true, false, Some, None, List, [], ◌++◌, codes, refl, sym, ap, ◌∙◌, subst, append_assoc}
 use Rattle.std.specs.Prelude.{Result, Ok, Err, IsErr, is_err, IfOk, MatchResult}
 use Rattle.std.proofs.lemmas.Bool.{false≢true}
 use Rattle.h5_text.specs.Appends.{Appends}
@@ -8,13 +8,12 @@ use Rattle.h5_text.specs.declared.command.Command as asked
 use Rattle.h5_text.specs.declared.command.Command.TheVariants as form
 use Rattle.std.specs.declared.alloc.AllocError.{AllocError}
 use Rattle.std.specs.Fmt.{decimal}
-use Rattle.h5_model.specs.Edits.{State, state_after}
+use Rattle.h5_model.specs.Edits.{State}
 use Rattle.h5_model.specs.EditFaults.{refused_text}
-use Rattle.h5_model.specs.ImageAnswers.{chosen}
 use Rattle.h5_model.specs.Lines.{Command, Change, ListAll, Dump, Unread}
 use Rattle.h5_model.specs.Paths.{located}
 use Rattle.h5_model.specs.Reading.{path_rules}
-use Rattle.h5_model.specs.Refusal.{refusal_of, first_holding}
+use Rattle.h5_model.specs.Refusal.{first_holding}
 use Rattle.h5_model.specs.Script.{dumped}
 use Rattle.h5_model.specs.Text.{list_text}
 use Rattle.h5_model.specs.declared.dataset.Spec.{Spec}

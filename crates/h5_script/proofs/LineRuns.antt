@@ -1,6 +1,5 @@
 -- The run of one line.
-use Rattle.std.proofs.Common.{◌≡◌, ℕ, ◌+◌, Option, Some, None, List, [], ◌∷◌, ◌++◌, cond, refl, sym, ap, ◌∙◌, subst, append-nil, arith}
-use Rattle.std.specs.List.{count_by}
+use Rattle.std.proofs.Common.{◌≡◌, ℕ, ◌+◌, Option, Some, None, List, [], ◌∷◌, cond, refl, sym, ap, ◌∙◌, subst, append-nil, arith}
 use Rattle.std.specs.Io.KnownBytes.{Appends}
 use Rattle.h5_model.specs.Edits.{State}
 use Rattle.std.specs.Option.{option_map_or}
@@ -9,7 +8,7 @@ use Rattle.h5_script.specs.Pieces.{commands_of_line}
 use Rattle.h5_script.proofs.RunLaws.{has_counted_none}
 use Rattle.h5_model.specs.Script.{Given, is_refused, is_accepted}
 use Rattle.h5_script.specs.Answered.{outcome_of, IsAnswered, IsUntold}
-use Rattle.h5_script.specs.Runs.{Line, state_of_run, text_of_run, outcomes_of_run, AreGiven, IsRun, HasCounted, HasBegun, IsCut, RunsTo}
+use Rattle.h5_script.specs.Runs.{state_of_run, text_of_run, outcomes_of_run, AreGiven, IsRun, HasCounted, HasBegun, IsCut, RunsTo}
 use Rattle.h5_script.specs.Streams.{WritesSome}
 use Rattle.h5_script.specs.Taken.{line_answer, IsGivenAt}
 use Rattle.h5_script.specs.declared.ran.Outcome.{Outcome}

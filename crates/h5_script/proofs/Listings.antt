@@ -1,15 +1,13 @@
 -- What `ls` and `dump` print of a file with one array at most.
-use Rattle.std.proofs.Common.{◌≡◌, ℕ, zero, suc, ◌+◌, ◌*◌, ◌/◌, ◌<◌, ◌≤◌, ℤ, Option, Some, None, is_some, List, [], ◌∷◌, ◌++◌, length, codes, refl, sym, ap, ◌∙◌, subst, append_assoc, append-nil, inl, inr, true, false, arith}
+use Rattle.std.proofs.Common.{◌≡◌, ℕ, ◌+◌, ◌*◌, ◌/◌, ◌<◌, ℤ, Some, None, is_some, List, [], ◌++◌, length, codes, refl, sym, ap, ◌∙◌, subst, append_assoc, append-nil, inl, inr, false, arith}
 use Rattle.std.proofs.lemmas.Nat.{div-mul-add}
 use Rattle.std.proofs.lemmas.Bool.{false≢true}
 use Rattle.std.specs.Cmp.Lexicographic.{slice_cmp}
 use Rattle.std.specs.Ordering.{nat_cmp}
-use Rattle.std.specs.FinMap.{get}
-use Rattle.std.specs.Option.{option_map_or}
 use Rattle.h5_model.specs.Empty.{root_tree}
 use Rattle.h5_model.specs.Fixed.{Fixed, IsFixed}
 use Rattle.h5_model.specs.OneArray.{one_tree, line_dataset, line_object}
-use Rattle.h5_model.specs.Paths.{Located, Here, Missing, NoParent, NoGroup, NoPath, located, names_of}
+use Rattle.h5_model.specs.Paths.{Located, Here, Missing, NoParent, NoGroup, NoPath, located}
 use Rattle.h5_model.specs.Script.{dumped, stored_values}
 use Rattle.h5_model.specs.Text.{content_text, dump_text, escaped, joined_path, line_of, list_text, rows_text}
 use Rattle.h5_model.specs.Tree.{Tree, Link, ToObject, Soft, Array, Attribute, Dataset, dataset_of, links_of}
@@ -22,7 +20,7 @@ use Rattle.h5_model.proofs.StoredValues.{length-stored}
 use Rattle.h5_text.specs.Listing.{dump_line}
 use Rattle.h5_text.specs.Rows.{cells_from}
 use Rattle.h5_text.proofs.RowTexts.{cells_are_rows}
-use Rattle.h5_file.specs.Look.{HasKind, IsKind, IsShown, IsOnlyArray}
+use Rattle.h5_file.specs.Look.{HasKind, IsKind, IsOnlyArray}
 use Rattle.h5_file.specs.declared.array.OnlyArray.{OnlyArray}
 use Rattle.h5_file.specs.declared.kind.Kind.{Kind}
 use Rattle.h5_file.specs.declared.kind.Kind.TheVariants.{Group, Dataset as ArrayOf}

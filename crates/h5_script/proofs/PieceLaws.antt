@@ -4,7 +4,7 @@ use Rattle.std.proofs.lemmas.List.Elements.{All-append}
 use Rattle.h5_model.specs.Edits.{State}
 use Rattle.h5_model.specs.Lines.{Command, commands_of}
 use Rattle.h5_script.specs.Pieces.{HasNoEnd, IsFirstLine, IsWhole, HasRunLines, HasBegunLines, commands_of_line}
-use Rattle.h5_script.specs.Runs.{HasRun, HasCounted, HasBegun}
+use Rattle.h5_script.specs.Runs.{HasCounted, HasBegun}
 use Rattle.h5_script.specs.declared.ran.Ran.{Ran}
 use Rattle.h5_script.proofs.LineLaws.{commands_of-end, commands_of-nil, commands_of-line, commands_of-whole, whole_none, whole_line, whole_append}
 use Rattle.h5_script.proofs.RunLaws.{has_begun_all, has_begun_more, has_counted_none, has_counted_more}

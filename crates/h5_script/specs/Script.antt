@@ -1,5 +1,5 @@
 -- What a run of a script reads, does to a file, and writes.
-use Rattle.std.specs.Prelude.{◌≡◌, ℕ, ◌<◌, ◌≤◌, Option, List, length}
+use Rattle.std.specs.Prelude.{ℕ, ◌<◌, ◌≤◌, Option, List, length}
 use Rattle.std.specs.Io.KnownBytes.{Consumes, IsAtEnd}
 use Rattle.h5_model.specs.Edits.{State}
 use Rattle.h5_model.specs.Lines.{commands_of, finished, within_limit}

@@ -1,11 +1,10 @@
 -- The lines that are taken so far, and what one of them answers.
-use Rattle.std.specs.Prelude.{◌≡◌, if◌then◌else◌, MatchBool, Option, Some, None}
+use Rattle.std.specs.Prelude.{◌≡◌, if◌then◌else◌, MatchBool, Some, None}
 use Rattle.h5_model.specs.Edits.{State}
 use Rattle.h5_model.specs.EditFaults.{refused_text}
 use Rattle.h5_model.specs.Lines.{Command, Change, ListAll, Dump, Unread}
 use Rattle.h5_model.specs.Script.{Answer, Given, Refused, answered, answer_of}
 use Rattle.h5_model.specs.States.{new_session}
-use Rattle.h5_model.specs.declared.edits.Edit.{Edit}
 use Rattle.h5_model.specs.declared.edits.Edit.TheVariants.{CreateDataset}
 use Rattle.h5_model.specs.declared.edit_fault.EditFault.TheVariants as fault
 use Rattle.h5_file.specs.Edited.{is_carried, IsGivenFor}

@@ -3,10 +3,11 @@
 use crate::{Ran, RunFault, run_script};
 use h5_file::File;
 use std::alloc::Global;
-use std::io::{self, Read, Write};
+use std::io::{self, Cursor, Read, Write};
 use std::test::Fail;
 
 /// A reader that gives one byte at a time, and fails at a read.
+#[derive(Drop)]
 struct Slow<'a> {
     rest: &'a [u8],
     reads: usize,
@@ -181,10 +182,15 @@ fn refuses_a_long_line(rt: HostRuntime) -> Result<(), Fail> {
 #[test]
 fn keeps_to_the_limit(rt: HostRuntime) -> Result<(), Fail> {
     let mut file = File::create(rt.alloc())?;
+    let mut comment = Vec::new(rt.alloc());
+    comment.resize(65535, b'#')?;
+    comment.push(b'\n')?;
     let mut script = Vec::new(rt.alloc());
+    for _ in 0..255 {
+        script.extend_from_slice(&comment)?;
+    }
     script.extend_from_slice(b"ls\n")?;
-    script.resize(16777213, b'\n')?;
-    script.extend_from_slice(b"#ls")?;
+    script.resize(16777216, b'#')?;
     let ran = Ran {
         refused: 0,
         edits: 0,
@@ -199,4 +205,28 @@ fn keeps_to_the_limit(rt: HostRuntime) -> Result<(), Fail> {
     assert_eq!(rt; ran, Err(RunFault::ScriptTooLong));
     assert_eq!(rt; output.as_slice(), b"/ group\n".as_slice());
     Ok(())
+}
+
+/// Runs a script whose list needs more memory than short answers do. Where an allocation fails
+/// (`rt try --test --fail-alloc`), the run ends as out of memory, or a line is refused for it.
+#[test]
+fn ends_where_memory_is_refused(rt: HostRuntime) {
+    let Ok(mut file) = File::create(rt.alloc()) else {
+        return;
+    };
+    let mut input: &[u8] =
+        b"dataset /a-name-of-more-than-sixty-four-bytes-which-needs-more-memory-than-a-short-answer u8 1 contiguous\nls\n";
+    let whole =
+        b"ok 0\n/ group\n/a-name-of-more-than-sixty-four-bytes-which-needs-more-memory-than-a-short-answer dataset u8 {1}\n";
+    let mut output = Cursor::new([0u8; 128]);
+    let ran = run_script(rt.alloc(), &mut file, &mut input, &mut output);
+    let text = output.get_ref().as_slice();
+    match ran {
+        Ok(ran) if ran.refused == 0 => assert!(rt; text.starts_with(whole)),
+        Ok(ran) if ran.edits == 1 => {
+            assert!(rt; text.starts_with(b"ok 0\nrefused 31 NoMemory\n\0"));
+        }
+        Ok(_) => assert!(rt; text.starts_with(b"refused 31 NoMemory\n/ group\n\0")),
+        Err(fault) => assert_eq!(rt; fault, RunFault::NoMemory),
+    }
 }

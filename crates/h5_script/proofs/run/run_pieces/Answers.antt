@@ -1,4 +1,4 @@
-use Rattle.std.proofs.Common.{◌≡◌, ◌+◌, ◌≤◌, ℕ, List, [], length, take, refl, sym, ap, ◌∙◌, subst, length-take, arith}
+use Rattle.std.proofs.Common.{◌≡◌, ◌≤◌, ℕ, List, length, take, refl, ap, subst, length-take, arith}
 use Rattle.h5_file.specs.State.{state_of}
 use Rattle.h5_script.specs.Pieces.{commands_of_line}
 use Rattle.h5_script.specs.Runs.{HasBegun, HasCounted}
@@ -101,10 +101,10 @@ loop-read-preserved g c =
     let part : length (take c.min-within.result c.read_piece.new.piece) ≤ c.in_ok-count.count = omega (arith, length-take c.min-within.result c.read_piece.new.piece, within) in
     record {
       under = under_more (state_of c.args.file.now) (g.R.Read.remaining c.args.input.now) (g.W.Write.contents c.args.output.now)
-    (state_of c.loop-read.file) (g.R.Read.remaining c.loop-read.input) (g.W.Write.contents c.loop-read.output) c.loop-read.held.items c.loop-read.room c.loop-read.answers.ran c.loop-read.invariant.under
-    (g.R.Read.remaining c.read_piece.new.input) c.read_piece.new.piece c.in_ok-count.count c.in_ok-count.ensures
-      (take c.min-within.result c.read_piece.new.piece) c.run_piece.new.held.items (state_of c.run_piece.new.file) (g.W.Write.contents c.run_piece.new.output) c.run_piece.new.answers.ran
-      c.if-count-room.false (ap (λ (n : ℕ). take n c.read_piece.new.piece) within) c.in_ok-run_piece.ensures.run;
+          (state_of c.loop-read.file) (g.R.Read.remaining c.loop-read.input) (g.W.Write.contents c.loop-read.output) c.loop-read.held.items c.loop-read.room c.loop-read.answers.ran c.loop-read.invariant.under
+          (g.R.Read.remaining c.read_piece.new.input) c.read_piece.new.piece c.in_ok-count.count c.in_ok-count.ensures
+          (take c.min-within.result c.read_piece.new.piece) c.run_piece.new.held.items (state_of c.run_piece.new.file) (g.W.Write.contents c.run_piece.new.output) c.run_piece.new.answers.ran
+          c.if-count-room.false (ap (λ (n : ℕ). take n c.read_piece.new.piece) within) c.in_ok-run_piece.ensures.run;
       refused = omega (arith, c.loop-read.invariant.refused, c.in_ok-run_piece.ensures.refused, part, c.if-count-room.false);
       edits = omega (arith, c.loop-read.invariant.edits, c.in_ok-run_piece.ensures.edits, part, c.if-count-room.false);
       reads = omega (arith, c.loop-read.invariant.reads, c.if-count-eq0.false, c.if-count-room.false);
