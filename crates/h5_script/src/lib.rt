@@ -18,3 +18,4 @@ mod texts;
 pub use fault::RunFault;
 pub use ran::Ran;
 pub use run::run_script;
+pub use texts::{push_dump, push_list};
