@@ -2,7 +2,7 @@
 use super::*;
 use h5_bytes::{Block, put_u16, put_u64};
 use h5_model::{Cause, OpenFault};
-use h5_space::{ClaimFault, Claims, Image};
+use h5_space::{Claims, Image};
 use std::alloc::Global;
 
 /// The root's header in a file of libhdf5 (a comment was set on the root), at 96.
@@ -78,15 +78,13 @@ static COMMENTED_LIST: [Message; 3] = [
 /// Its blocks.
 static COMMENTED_BLOCKS: [Block; 2] = [Block { at: 96, len: 40 }, Block { at: 1832, len: 40 }];
 
-#[test]
-fn lists_a_continuation_of_libhdf5(rt: HostRuntime) {
-    let Ok(read) = read(rt.alloc(), &commented(), 96) else {
-        assert!(rt; false, "refused");
-        return;
-    };
-    assert!(rt; read.list() == COMMENTED_LIST.as_slice());
-    assert!(rt; read.blocks() == COMMENTED_BLOCKS.as_slice());
-    assert_eq!(rt; read.header(), 96);
+/// Whether the messages and the blocks are those.
+fn lists_both_blocks(alloc: Global) -> bool {
+    match read(alloc, &commented(), 96) {
+        Ok(read) => read.list() == COMMENTED_LIST.as_slice()
+            && read.blocks() == COMMENTED_BLOCKS.as_slice(),
+        Err(_) => false,
+    }
 }
 
 /// Whether the comment is read, and one link to the root.
@@ -100,18 +98,10 @@ fn reads_the_comment(alloc: Global) -> Result<bool, OpenFault> {
     Ok(read.body(&image, 2) == b"root\0\0\0\0".as_slice() && read.links(&image) == 1)
 }
 
-/// Whether the two blocks, and no other bytes, are claimed.
-fn claims_both_blocks(alloc: Global) -> Result<bool, OpenFault> {
-    let image = image_of(alloc, &commented())?;
-    let mut claims = Claims::new(alloc, image.bytes().len() as u64);
-    messages(alloc, &image, &mut claims, 96)?;
-    Ok(claims.claim(135, 1) == Err(ClaimFault::Overlap) && claims.claim(136, 1696) == Ok(()))
-}
-
 #[test]
 fn reads_a_continuation_of_libhdf5(rt: HostRuntime) {
-    assert_eq!(rt; reads_the_comment(rt.alloc()), Ok(true));
-    assert_eq!(rt; claims_both_blocks(rt.alloc()), Ok(true));
+    assert!(rt; lists_both_blocks(rt.alloc()));
+    assert!(rt; reads_the_comment(rt.alloc()) == Ok(true));
 }
 
 /// A byte of the file with the empty root, its new value, and why the header is refused then.
@@ -190,7 +180,7 @@ fn claims_continuations_in_turn(rt: HostRuntime) {
     for k in 0..CONTINUED.len() {
         let (at, len, total, wanted) = CONTINUED[k];
         let refusal = refusal(rt.alloc(), &continued(at, len, total), 0);
-        assert!(rt; refusal == wanted, "block at {at} of {len} bytes");
+        assert!(rt; refusal == wanted, "row {k}");
     }
 }
 
@@ -233,6 +223,6 @@ fn kind_of(alloc: Global, kinds: &[u8; 5]) -> Result<ObjectKind, OpenFault> {
 fn tells_groups_from_datasets(rt: HostRuntime) {
     for k in 0..KINDS.len() {
         let (kinds, wanted) = &KINDS[k];
-        assert!(rt; kind_of(rt.alloc(), kinds) == *wanted, "{kinds:?}");
+        assert!(rt; kind_of(rt.alloc(), kinds) == *wanted, "row {k}");
     }
 }
