@@ -1,7 +1,7 @@
 //! Scripts: lines that edit a file and ask what it holds, run as they are read.
 //!
 //! [`run_script`] reads a script, runs each line as soon as it is read whole, and writes its answer
-//! before the next line is run. docs/FORMAT.md has the forms of lines. This version takes `dataset`,
+//! before the next line is run. docs/SCRIPT.md has the forms of lines. This version takes `dataset`,
 //! `ls` and `dump`; lines of other forms are answered as bad lines.
 #![tactic(auto)]
 
