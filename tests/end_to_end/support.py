@@ -39,9 +39,9 @@ def patched(image, place, digits):
     return image[:place] + field + image[place + len(field):]
 
 
-def run_command(*words, script=b"", stdout=subprocess.PIPE):
+def run_command(*words, script=b"", stdout=subprocess.PIPE, stderr=subprocess.PIPE):
     """Runs a command: its status, output and errors."""
-    done = subprocess.run(words, input=script, stdout=stdout, stderr=subprocess.PIPE, check=False, timeout=60)
+    done = subprocess.run(words, input=script, stdout=stdout, stderr=stderr, check=False, timeout=60)
     return done.returncode, done.stdout, done.stderr
 
 

@@ -73,6 +73,22 @@ class Files(InFolder):
             status, _, errors = h5i("ls", path, stdout=full)
         self.assertEqual((status, errors), (4, b"h5i: cannot print\n"))
 
+    def test_help_that_cannot_be_written(self):
+        with open("/dev/full", "wb") as full:
+            status, _, errors = h5i("--help", stdout=full)
+        self.assertEqual((status, errors), (4, b""))
+
+    def test_messages_that_cannot_be_written(self):
+        changed = self.written("changed.h5", b"no image")
+        for words in ((), ("mend", "e.h5"), ("ls", self.path("missing.h5")), ("dump", changed, "/d"), ("run", changed)):
+            with self.subTest(words=words), open("/dev/full", "wb") as full:
+                status, output, _ = h5i(*words, stderr=full)
+                self.assertEqual((status, output), (4, b""))
+
+    def test_a_device(self):
+        self.assertEqual(h5i("new", "/dev/null"), (0, b"", b""))
+        self.assertEqual(h5i("run", "/dev/null", script=b"ls\n"), (3, b"", b"h5i: refused 1 NotHdf5 at 0\n"))
+
     def test_out_of_memory(self):
         path = self.written("long.h5", empty_image())
         os.truncate(path, 1 << 30)

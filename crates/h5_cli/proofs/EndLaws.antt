@@ -2,9 +2,9 @@
 use Rattle.std.proofs.Common.{◌≡◌, ◌⊎◌, ◌==◌, if◌then◌else◌, Bool, true, false, refl, ℕ, List, Option, Some, None, subst, sym, inl, inr, arith}
 use Rattle.std.proofs.lemmas.Bool.Decides.{nat_tests}
 use Rattle.std.specs.Io.KnownBytes.{Appends}
-use Rattle.clap.specs.Words.{Text}
+use Rattle.h5_order.specs.Words.{Text}
 use Rattle.h5_file.specs.State.{FileState}
-use Rattle.h5_cli.specs.Words.{Wanted, WantDump, WantRun}
+use Rattle.h5_order.specs.Words.{Wanted, WantDump, WantRun}
 use Rattle.h5_cli.specs.Output.{IsOpen, IsDumpText, IsScriptRun}
 use Rattle.h5_cli.specs.Ends.{Ends, Refuses, IsRunOver, ran_status}
 use Rattle.h5_cli.specs.declared.status.Status.{Status}

@@ -4,7 +4,7 @@ use Rattle.std.specs.Prelude.{◌≡◌, ℕ, ◌<◌, ◌==◌, List, Option, S
 use Rattle.h5_file.specs.State.{FileState, state_of}
 use Rattle.h5_script.specs.Script.{IsDone}
 use Rattle.h5_script.specs.declared.ran.Ran.{Ran}
-use Rattle.h5_cli.specs.Words.{Wanted, WantNew, WantLs, WantDump, WantRun}
+use Rattle.h5_order.specs.Words.{Wanted, WantNew, WantLs, WantDump, WantRun}
 use Rattle.h5_cli.specs.Output.{IsListed, IsDumped, IsScriptRun}
 use Rattle.h5_cli.specs.declared.status.Status.{Status}
 use Rattle.h5_cli.specs.declared.status.Status.TheVariants.{Done, CommandRefused, WrongWords, ImageRefused, StreamFailed, NoMemory}

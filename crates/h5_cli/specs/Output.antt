@@ -3,7 +3,7 @@
 use Rattle.std.specs.Prelude.{◌≡◌, ℕ, List, [], Option, Some, None}
 use Rattle.std.specs.Option.{option_map_or}
 use Rattle.std.specs.Io.KnownBytes.{Appends}
-use Rattle.clap.specs.Words.{Text}
+use Rattle.h5_order.specs.Words.{Text}
 use Rattle.h5_model.specs.Tree.{Tree}
 use Rattle.h5_model.specs.Paths.{located}
 use Rattle.h5_model.specs.Edits.{State}

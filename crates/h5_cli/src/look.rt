@@ -2,7 +2,7 @@
 
 ghost use Rattle.std.specs.Prelude.{◌≡◌, ℕ, IfOk, List, MatchResult, Option, Some};
 ghost use Rattle.h5_model.specs.Text.{list_text};
-ghost use Rattle.h5_cli.specs.Words.{WantLs, WantDump};
+ghost use Rattle.h5_order.specs.Words.{WantLs, WantDump};
 ghost use Rattle.h5_cli.specs.Ends.{Ends, IsUnopened};
 ghost use Rattle.h5_cli.specs.Output.{IsDumpText, IsOpen};
 
@@ -10,9 +10,10 @@ use crate::files::{ReadFault, read_whole};
 use crate::status::Status;
 use crate::tell::{failed_on, no_memory, print, refused};
 use h5_file::File;
+use h5_lines::unescaped;
 use h5_model::EditFault;
 use h5_script::{push_dump, push_list};
-use h5_text::{push_refused, unescaped};
+use h5_text::push_refused;
 use std::alloc::{AllocError, Global};
 use std::io::Write;
 use std::rt::Files;

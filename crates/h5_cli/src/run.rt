@@ -1,33 +1,28 @@
 //! The whole run of the program.
 
-ghost use Rattle.std.specs.Prelude.{◌≡◌, ◌≢◌, ◌≤◌, Some, map};
-ghost use Rattle.h5_cli.specs.Words.{Taken, asked};
+ghost use Rattle.std.specs.Prelude.{◌≡◌, ◌⊎◌, ◌≤◌, Some, map};
+ghost use Rattle.h5_order.specs.Words.{Taken, asked};
 ghost use Rattle.h5_cli.specs.Ends.{Ends, Refuses};
-ghost use Rattle.h5_cli.specs.Order.{texts_of};
-ghost use Rattle.h5_cli.specs.Status.{status_code};
+ghost use Rattle.h5_order.specs.Order.{texts_of};
+ghost use Rattle.h5_cli.specs.Status.{status_code, untold};
 ghost use Rattle.h5_cli.specs.declared.status.Status.{Status as StatusValue};
 ghost use Rattle.h5_cli.specs.declared.status.Status.TheVariants.{CommandRefused};
 
 use crate::edit::{new, run};
 use crate::look::{dump, ls};
-use crate::orders::{Order, OrderFault};
-use crate::read::order;
 use crate::status::Status;
 use crate::tell::{no_memory, told};
+use h5_order::{Order, OrderFault, order};
 use std::alloc::Global;
 use std::convert::AsStr;
 use std::io::{Read, Write};
 use std::rt::Files;
 
-/// Tells what clap says of the words: help on `output`, else what is wrong on `errors`.
-fn explain<O: Write, E: Write>(error: &clap::Error, output: &mut O, errors: &mut E) -> Status
-    ensures { result ≢ CommandRefused }
+/// Tells what is said of words that are no order, at the end of a run with this status.
+fn explain<W: Write>(text: &str, status: Status, stream: &mut W) -> Status
+    ensures { (result ≡ status) ⊎ (result ≡ untold status) }
 {
-    if error.exit_code() == 0 {
-        told(write!(output, "{error}"), Status::Done)
-    } else {
-        told(write!(errors, "{error}"), Status::WrongWords)
-    }
+    told(stream.write_all(text.as_bytes()), status)
 }
 
 /// Carries an order out.
@@ -67,7 +62,8 @@ fn obey<R: Files, S: AsStr, I: Read, O: Write, E: Write>(
         Ok(Some(order)) => carry_out(rt, alloc, order, input, output, errors),
         Ok(None) => Status::WrongWords,
         Err(OrderFault::NoMemory) => no_memory(errors),
-        Err(OrderFault::Words(error)) => explain(&error, output, errors),
+        Err(OrderFault::Help(text)) => explain(text.as_str(), Status::Done, output),
+        Err(OrderFault::Wrong(text)) => explain(text.as_str(), Status::WrongWords, errors),
     }
 }
 

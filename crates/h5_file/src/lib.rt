@@ -16,8 +16,6 @@ mod kind;
 mod look;
 mod path;
 mod superblock;
-#[cfg(test)]
-mod tests;
 
 pub use array::OnlyArray;
 pub use file::File;

@@ -11,8 +11,6 @@ mod kinds;
 mod message;
 mod numbers;
 mod read;
-#[cfg(test)]
-mod tests;
 
 pub use header::Messages;
 pub use kinds::ObjectKind;

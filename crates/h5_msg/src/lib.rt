@@ -13,8 +13,6 @@ mod datatype;
 mod fault;
 mod fill;
 mod layout;
-#[cfg(test)]
-mod tests;
 mod values;
 
 pub use addresses::{

@@ -9,16 +9,12 @@ mod entry;
 mod fields;
 mod group;
 mod header;
-#[cfg(test)]
-mod images;
 mod line;
 mod line_file;
 mod places;
 mod read;
 mod superblock;
 mod symbols;
-#[cfg(test)]
-mod tests;
 
 pub use crate::empty::write_empty;
 pub use crate::line::{line_length, write_line};

@@ -3,9 +3,9 @@ use Rattle.std.proofs.Common.{◌≡◌, ℕ, Bool, true, false, Some, None, Lis
 use Rattle.std.specs.Prelude.{Result, Ok, Err, IsErr, is_err, IfOk, MatchResult}
 use Rattle.std.proofs.lemmas.Bool.{false≢true}
 use Rattle.h5_text.specs.Appends.{Appends}
-use Rattle.h5_text.specs.Commands.{command_of}
-use Rattle.h5_text.specs.declared.command.Command as asked
-use Rattle.h5_text.specs.declared.command.Command.TheVariants as form
+use Rattle.h5_lines.specs.Commands.{command_of}
+use Rattle.h5_lines.specs.declared.command.Command as asked
+use Rattle.h5_lines.specs.declared.command.Command.TheVariants as form
 use Rattle.std.specs.declared.alloc.AllocError.{AllocError}
 use Rattle.std.specs.Fmt.{decimal}
 use Rattle.h5_model.specs.Edits.{State}

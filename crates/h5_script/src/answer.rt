@@ -6,14 +6,15 @@ ghost use Rattle.h5_model.specs.Lines as lines;
 ghost use Rattle.h5_model.specs.declared.edit_fault.EditFault.TheVariants as fault;
 ghost use Rattle.h5_script.specs.declared.ran.Outcome.TheVariants.{Refused};
 ghost use Rattle.h5_file.specs.State.{state_of};
-ghost use Rattle.h5_text.specs.Commands.{command_of};
+ghost use Rattle.h5_lines.specs.Commands.{command_of};
 ghost use Rattle.h5_script.specs.Answered.{IsAnswered, IsUntold};
 
 use crate::ran::Outcome;
 use crate::texts::{push_dump, push_list};
 use h5_file::File;
 use h5_model::{Edit, EditFault};
-use h5_text::{Command, push_accepted, push_refused, push_text};
+use h5_lines::Command;
+use h5_text::{push_accepted, push_refused, push_text};
 use std::alloc::AllocError;
 
 /// Runs a command. Its answer then stands in `text`, in place of what was there.

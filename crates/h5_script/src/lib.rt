@@ -11,8 +11,6 @@ mod lines;
 mod ran;
 mod run;
 mod streams;
-#[cfg(test)]
-mod tests;
 mod texts;
 
 pub use fault::RunFault;

@@ -3,8 +3,6 @@
 
 mod dims;
 mod slab;
-#[cfg(test)]
-mod tests;
 
 pub use dims::{Dims, MAX_CELLS, MAX_RANK};
 pub use slab::{Slab, SlabFault};

@@ -6,8 +6,6 @@
 mod claims;
 mod free_list;
 mod image;
-#[cfg(test)]
-mod tests;
 
 pub use claims::{ClaimFault, Claims};
 pub use image::{Image, SpaceFault};

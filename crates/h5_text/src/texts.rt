@@ -3,14 +3,13 @@
 ghost use Rattle.std.specs.Prelude.{◌≡◌, ◌<◌, ◌++◌, codes};
 ghost use Rattle.std.specs.Fmt.{decimal, signed_decimal};
 ghost use Rattle.h5_model.specs.Text.{escaped as escaped_text, escaped_byte, hex_digit as digit_of};
-ghost use Rattle.h5_model.specs.Text.{size_text, sizes_text, type_text, values_text};
+ghost use Rattle.h5_model.specs.Text.{is_plain as plain, size_text, sizes_text, type_text, values_text};
 ghost use Rattle.h5_model.specs.Script.{stored_values};
 ghost use Rattle.h5_model.specs.EditFaults.{refused_text};
 ghost use Rattle.h5_model.specs.ViewFaults.{view_fault_text};
 ghost use Rattle.std.specs.List.{join_by, zip};
 ghost use Rattle.h5_text.specs.Appends.{Appends};
 
-use crate::escapes::is_plain;
 use h5_model::{EditFault, Fixed, ViewFault};
 use h5_types::decode;
 use itoa::Buffer;
@@ -49,6 +48,13 @@ fn hex_digit(number: u8) -> u8
     } else {
         b'a' + (number - 10)
     }
+}
+
+/// Whether a byte is printed as it stands: from `!` to `~`, and not the backslash.
+fn is_plain(byte: u8) -> bool
+    ensures { result ≡ plain byte }
+{
+    b'!' <= byte && byte <= b'~' && byte != b'\\'
 }
 
 /// Appends a byte of a name, or its escape.

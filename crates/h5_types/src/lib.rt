@@ -8,9 +8,6 @@ use byteorder::{BigEndian, ByteOrder, LittleEndian};
 use h5_model::Fixed;
 use thiserror::Error;
 
-#[cfg(test)]
-mod tests;
-
 /// The value is not one of the type's.
 #[derive(Clone, Copy, PartialEq, Eq, Debug, Error)]
 #[error("the value is outside the type")]

@@ -1,0 +1,9 @@
+//! The command line of `h5i`: words read as an order, as `clap` does.
+#![tactic(auto)]
+
+mod command;
+mod orders;
+mod read;
+
+pub use orders::{Order, OrderFault};
+pub use read::order;
