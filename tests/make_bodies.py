@@ -22,7 +22,7 @@ import tempfile
 HERE = os.path.dirname(os.path.abspath(__file__))
 DATA = os.path.join(HERE, "data")
 REFERENCE = os.path.join(HERE, "reference", "h5oracle.py")
-TARGET = os.path.join(os.path.dirname(HERE), "crates", "h5_msg", "src", "tests")
+TARGET = os.path.join(os.path.dirname(HERE), "crates", "h5_msg_tests", "src")
 
 DATASPACE, DATATYPE, OLD_FILL, FILL, LINK, LAYOUT = 1, 3, 4, 5, 6, 8
 ATTRIBUTE, CONTINUATION, SYMBOL_TABLE, ATTRIBUTE_INFO = 12, 16, 17, 21

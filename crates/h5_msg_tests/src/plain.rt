@@ -24,52 +24,72 @@ pub const NO_BLOCK_12: [u8; 24] =
 const BEHIND_THE_EMPTY_FILE: [u8; 16] =
     *b"\x20\x03\x00\x00\x00\x00\x00\x00\x58\x00\x00\x00\x00\x00\x00\x00";
 
-#[test]
-fn writes_dataspaces(rt: HostRuntime) {
-    let alloc = rt.alloc();
-    for (size, body) in [
-        (0, SIZES_0),
-        (1, SIZES_1),
-        (2, SIZES_2),
-        (3, SIZES_3),
-        (8, SIZES_8),
-    ] {
-        let mut room = [0x55; 16];
-        write_dataspace(&[size], &mut room);
-        assert!(rt; room == body, "{size}");
-        assert!(rt;
-            is_dataspace(alloc, &body, &[size.into()], &[size.into()]),
-            "{size}"
-        );
+/// Sizes, and the bodies of arrays of one such size.
+static SIZES: [(u64, [u8; 16]); 5] = [
+    (0, SIZES_0),
+    (1, SIZES_1),
+    (2, SIZES_2),
+    (3, SIZES_3),
+    (8, SIZES_8),
+];
+
+/// Whether an array of one size is written as the body, and read from it.
+fn writes_size(alloc: Global, size: u64, body: &[u8; 16]) -> bool {
+    let mut room = [0x55; 16];
+    write_dataspace(&[size], &mut room);
+    let wanted = [i128::from(size)];
+    room == *body && is_dataspace(alloc, body, &wanted, &wanted)
+}
+
+/// Whether an array of two sizes, the second at most 4, is written as the body, and read from it.
+fn writes_sizes(alloc: Global, first: u64, second: u64, body: &[u8; 40]) -> bool {
+    let mut room = [0x55; 40];
+    if second > 4 {
+        return false;
     }
+    write_bounded_dataspace(&[first, second], &[None, Some(4)], &mut room);
+    let wanted = [i128::from(first), i128::from(second)];
+    room == *body && is_dataspace(alloc, body, &wanted, &[-1, 4])
+}
+
+/// Whether an array without dimensions is written as the body, and read from it.
+fn writes_scalar(alloc: Global) -> bool {
     let mut room = [0x55; 8];
     write_dataspace(&[], &mut room);
-    assert!(rt; room == SCALAR && is_dataspace(alloc, &SCALAR, &[], &[]));
-    let mut room = [0x55; 40];
-    write_bounded_dataspace(&[5, 4], &[None, Some(4)], &mut room);
-    assert!(rt; room == SIZES_5_4 && is_dataspace(alloc, &SIZES_5_4, &[5, 4], &[-1, 4]));
-    write_bounded_dataspace(&[1, 1], &[None, Some(4)], &mut room);
-    assert!(rt; room == SIZES_1_1 && is_dataspace(alloc, &SIZES_1_1, &[1, 1], &[-1, 4]));
-    assert!(rt; dataspace_length(1, false) == 16 && dataspace_length(2, true) == 40);
+    room == SCALAR && is_dataspace(alloc, &SCALAR, &[], &[])
 }
 
 #[test]
+fn writes_dataspaces(rt: HostRuntime) {
+    for k in 0..SIZES.len() {
+        let (size, body) = &SIZES[k];
+        assert!(rt; writes_size(rt.alloc(), *size, body), "row {k}");
+    }
+    assert!(rt; writes_scalar(rt.alloc()));
+    assert!(rt; writes_sizes(rt.alloc(), 5, 4, &SIZES_5_4));
+    assert!(rt; writes_sizes(rt.alloc(), 1, 1, &SIZES_1_1));
+    assert!(rt; dataspace_length(1, false) == 16 && dataspace_length(2, true) == 40);
+}
+
+/// Size, sign, order, a fill value, and the bodies of the type and of the value.
+static TYPES: [(u8, bool, bool, i128, [u8; 16], [u8; 16]); 7] = [
+    (4, true, false, -7, I32LE, FILL_I32LE_MINUS_7),
+    (4, true, false, 0, I32LE, FILL_I32LE),
+    (2, false, true, 0, U16BE, FILL_U16BE),
+    (1, true, false, 0, I8, FILL_I8),
+    (1, false, false, 0, U8, FILL_U8),
+    (2, true, false, 0, I16LE, FILL_I16LE),
+    (8, true, true, 0, I64BE, FILL_I64BE),
+];
+
+#[test]
 fn writes_types_and_fills(rt: HostRuntime) -> Result<(), Fail> {
-    for (size, signed, high_first, value, datatype, fill) in [
-        (4, true, false, -7, I32LE, FILL_I32LE_MINUS_7),
-        (4, true, false, 0, I32LE, FILL_I32LE),
-        (2, false, true, 0, U16BE, FILL_U16BE),
-        (1, true, false, 0, I8, FILL_I8),
-        (1, false, false, 0, U8, FILL_U8),
-        (2, true, false, 0, I16LE, FILL_I16LE),
-        (8, true, true, 0, I64BE, FILL_I64BE),
-    ] {
-        let fixed = Fixed::new(size, signed, high_first).ok_or("type")?;
-        assert!(rt; writes_type(&fixed, &datatype), "{size}");
-        assert!(rt;
-            writes_fill(AllocationTime::Early, &fixed, value, &fill),
-            "{size}"
-        );
+    let early = AllocationTime::Early;
+    for k in 0..TYPES.len() {
+        let (size, signed, high_first, value, datatype, fill) = &TYPES[k];
+        let fixed = Fixed::new(*size, *signed, *high_first).ok_or("type")?;
+        assert!(rt; writes_type(&fixed, datatype), "row {k}");
+        assert!(rt; writes_fill(early, &fixed, *value, fill), "row {k}");
     }
     let fixed = Fixed::new(1, false, false).ok_or("type")?;
     let time = AllocationTime::Incremental;
@@ -94,30 +114,38 @@ fn writes_fill(time: AllocationTime, fixed: &Fixed, value: i128, body: &[u8; 16]
     room == *body && read_fill(fixed, body) == Ok(value) && fill_length(fixed) == 8 + fixed.size()
 }
 
+/// Addresses and lengths of blocks, and the bodies that name them.
+static BLOCKS: [(u32, u64, [u8; 24]); 7] = [
+    (1248, 12, BLOCK_1248_12),
+    (1248, 4, BLOCK_1248_4),
+    (1248, 1, BLOCK_1248_1),
+    (1248, 16, BLOCK_1248_16),
+    (1248, 3, BLOCK_1248_3),
+    (1240, 8, BLOCK_1240_8),
+    (4044, 12, BLOCK_4044_12),
+];
+
+/// Whether the block is written as the body, and read from it.
+fn writes_block(alloc: Global, at: u32, len: u64, body: &[u8; 24]) -> bool {
+    let mut room = [0x55; 24];
+    write_contiguous_layout(Some(u64::from(at)), len, &mut room);
+    room == *body && is_in_block(alloc, body, u64::from(at), len)
+}
+
+/// Whether cells without a block are written as the body.
+fn writes_no_block(len: u64, body: &[u8; 24]) -> bool {
+    let mut room = [0x55; 24];
+    write_contiguous_layout(None, len, &mut room);
+    room == *body
+}
+
 #[test]
 fn writes_blocks(rt: HostRuntime) {
-    for (at, len, body) in [
-        (1248_u32, 12, BLOCK_1248_12),
-        (1248, 4, BLOCK_1248_4),
-        (1248, 1, BLOCK_1248_1),
-        (1248, 16, BLOCK_1248_16),
-        (1248, 3, BLOCK_1248_3),
-        (1240, 8, BLOCK_1240_8),
-        (4044, 12, BLOCK_4044_12),
-    ] {
-        let mut room = [0x55; 24];
-        write_contiguous_layout(Some(u64::from(at)), len, &mut room);
-        assert!(rt; room == body, "{len} at {at}");
-        assert!(rt;
-            is_in_block(rt.alloc(), &body, u64::from(at), len),
-            "{len} at {at}"
-        );
+    for k in 0..BLOCKS.len() {
+        let (at, len, body) = &BLOCKS[k];
+        assert!(rt; writes_block(rt.alloc(), *at, *len, body), "row {k}");
     }
-    for (len, body) in [(0, NO_BLOCK_0), (12, NO_BLOCK_12)] {
-        let mut room = [0x55; 24];
-        write_contiguous_layout(None, len, &mut room);
-        assert!(rt; room == body, "{len}");
-    }
+    assert!(rt; writes_no_block(0, &NO_BLOCK_0) && writes_no_block(12, &NO_BLOCK_12));
 }
 
 /// Whether a layout says that so many bytes stand in this block.
@@ -156,26 +184,39 @@ fn is_in_chunks(alloc: Global, fixed: &Fixed) -> bool {
     }
 }
 
+/// Addresses of a B-tree and a local heap, and the bodies that name them.
+static TABLES: [(u64, u64, [u8; 16]); 3] = [
+    (136, 680, ROOT),
+    (200, 744, ROOT_BEHIND_NOTE),
+    (1272, 1816, GROUP),
+];
+
+/// Whether the addresses are written as the body, and read from it.
+fn writes_table(tree: u64, heap: u64, body: &[u8; 16]) -> bool {
+    let mut room = [0x55; 16];
+    let table = SymbolTable::new(tree, heap);
+    write_symbol_table(table, &mut room);
+    room == *body
+        && table.tree() == tree
+        && table.heap() == heap
+        && read_symbol_table(body) == Ok(table)
+}
+
+/// Whether the continuation is written, and read.
+fn writes_behind() -> bool {
+    let mut room = [0x55; 16];
+    let block = Block { at: 800, len: 88 };
+    write_continuation(block, &mut room);
+    room == BEHIND_THE_EMPTY_FILE && read_continuation(&BEHIND_THE_EMPTY_FILE) == Ok(block)
+}
+
 #[test]
 fn writes_addresses(rt: HostRuntime) {
-    for (tree, heap, body) in [
-        (136, 680, ROOT),
-        (200, 744, ROOT_BEHIND_NOTE),
-        (1272, 1816, GROUP),
-    ] {
-        let mut room = [0x55; 16];
-        let table = SymbolTable::new(tree, heap);
-        write_symbol_table(table, &mut room);
-        assert!(rt;
-            room == body && table.tree() == tree && table.heap() == heap,
-            "{tree}"
-        );
-        assert!(rt; read_symbol_table(&body) == Ok(table), "{tree}");
+    for k in 0..TABLES.len() {
+        let (tree, heap, body) = &TABLES[k];
+        assert!(rt; writes_table(*tree, *heap, body), "row {k}");
     }
-    let mut room = [0x55; 16];
-    write_continuation(Block { at: 800, len: 88 }, &mut room);
-    assert!(rt; room == BEHIND_THE_EMPTY_FILE);
-    assert!(rt; read_continuation(&BEHIND_THE_EMPTY_FILE) == Ok(Block { at: 800, len: 88 }));
+    assert!(rt; writes_behind());
 }
 
 /// Whether the attribute `note` of the values 7 and 8 is written as the reference writer does.

@@ -105,16 +105,24 @@ fn are_maxima(list: &[Option<u64>], first: Option<u64>, second: Option<u64>) -> 
 }
 
 /// Whether chunks are of 2 by 3 cells.
+fn are_chunks(list: &[u32]) -> bool {
+    list.len() == 2 && list[0] == 2 && list[1] == 3
+}
+
 fn has_chunks(store: &Store) -> bool {
     match store {
-        Store::Chunked(chunk) => chunk.as_slice() == [2, 3].as_slice(),
+        Store::Chunked(chunk) => are_chunks(chunk.as_slice()),
         _ => false,
     }
 }
 
 /// Whether these are sizes 5 and 4, of 2-byte signed numbers with the high byte first, in chunks of 2 by 3.
 fn is_in_chunks(spec: &Spec, first: Option<u64>, second: Option<u64>) -> bool {
-    if spec.fixed.size() != 2 || !spec.fixed.is_signed() || !spec.fixed.is_big() || spec.fill != -7 {
+    if spec.fixed.size() != 2
+        || !spec.fixed.is_signed()
+        || !spec.fixed.is_big()
+        || spec.fill != -7
+    {
         return false;
     }
     let sizes = are(spec.dims.as_slice(), 5, 4);
@@ -147,11 +155,15 @@ fn reads_a_dataset(rt: HostRuntime) -> Result<(), Fail> {
 
 /// Whether this is one column, of every second place.
 fn is_a_column(hyper: &Hyper) -> bool {
-    let start = are(hyper.start.as_slice(), 4, 3);
-    let stride = are(hyper.stride.as_slice(), 1, 2);
-    let count = are(hyper.count.as_slice(), 2, 1);
-    let block = are(hyper.block.as_slice(), 1, 1);
-    start && stride && count && block
+    if !are(hyper.start.as_slice(), 4, 3) || !are(hyper.stride.as_slice(), 1, 2) {
+        return false;
+    }
+    are(hyper.count.as_slice(), 2, 1) && are(hyper.block.as_slice(), 1, 1)
+}
+
+/// Whether these are the lowest value of a byte and the highest.
+fn are_ends(values: &[i128]) -> bool {
+    values.len() == 2 && values[0] == -128 && values[1] == 255
 }
 
 /// Whether a line asks for a write of two values to one column.
@@ -169,11 +181,7 @@ fn asks_for_values(alloc: Global, line: &[u8]) -> Result<bool, AllocError> {
     else {
         return Ok(false);
     };
-    Ok(
-        path.as_slice() == b"/c".as_slice()
-            && is_a_column(hyper)
-            && values.as_slice() == [-128, 255].as_slice(),
-    )
+    Ok(path.as_slice() == b"/c".as_slice() && is_a_column(hyper) && are_ends(values.as_slice()))
 }
 
 #[test]
@@ -213,8 +221,6 @@ fn is_named(alloc: Global, fixed: &Fixed, name: &[u8]) -> bool {
 }
 
 fn push_lists(out: &mut Vec<u8>) -> Result<(), AllocError> {
-    Layout::Compact.push_to(out)?;
-    Layout::Contiguous.push_to(out)?;
     push_sizes(out, &[])?;
     push_values(out, &[7, -8])
 }
@@ -228,7 +234,7 @@ fn writes_types_and_lists(rt: HostRuntime) -> Result<(), Fail> {
     }
     let mut out = Vec::new(rt.alloc());
     push_lists(&mut out)?;
-    assert!(rt; out.as_slice() == b"compactcontiguous{} 7 -8".as_slice());
+    assert!(rt; out.as_slice() == b"{} 7 -8".as_slice());
     Ok(())
 }
 
@@ -284,6 +290,35 @@ fn push_listings(out: &mut Vec<u8>, array: &ArrayText<'_, '_>) -> Result<(), All
     push_group_line(out, PathText::Escaped(b"/"))?;
     push_array_line(out, below, array)?;
     push_dump_line(out, PathText::Plain(b"/c d\\\xff"), array)
+}
+
+fn push_dumps(out: &mut Vec<u8>, fixed: &Fixed) -> Result<(), AllocError> {
+    let line = ArrayText {
+        fixed,
+        sizes: &[3],
+        maxima: &[Some(3)],
+        layout: Layout::Contiguous,
+        fill: 9,
+    };
+    let cell = ArrayText {
+        fixed,
+        sizes: &[],
+        maxima: &[],
+        layout: Layout::Compact,
+        fill: 0,
+    };
+    push_dump_line(out, PathText::Plain(b"/d"), &line)?;
+    push_dump_line(out, PathText::Plain(b"/s"), &cell)
+}
+
+#[test]
+fn writes_layouts(rt: HostRuntime) -> Result<(), Fail> {
+    let mut out = Vec::new(rt.alloc());
+    let fixed = type_of(1, true, false)?;
+    push_dumps(&mut out, &fixed)?;
+    let wanted = b"/d dataset i8 {3} contiguous fill 9\n/s dataset i8 {} compact fill 0\n";
+    assert!(rt; out.as_slice() == wanted.as_slice());
+    Ok(())
 }
 
 #[test]

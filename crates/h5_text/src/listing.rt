@@ -22,7 +22,7 @@ pub enum PathText<'a> {
 
 impl PathText<'_> {
     /// Appends the path.
-    pub fn push_to(self, out: &mut Vec<u8>) -> Result<(), AllocError>
+    pub(crate) fn push_to(self, out: &mut Vec<u8>) -> Result<(), AllocError>
         ensures { Appends result out.old.items out.new.items (path_text self.entry) }
     {
         match self {

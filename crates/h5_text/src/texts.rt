@@ -204,7 +204,7 @@ impl Layout<'_> {
     ghost use Rattle.h5_text.specs.Layouts.{layout_text};
 
     /// Appends the layout's text.
-    pub fn push_to(self, out: &mut Vec<u8>) -> Result<(), AllocError>
+    pub(crate) fn push_to(self, out: &mut Vec<u8>) -> Result<(), AllocError>
         ensures { Appends result out.old.items out.new.items (layout_text self.entry) }
     {
         match self {
