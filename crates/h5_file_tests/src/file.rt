@@ -1,150 +1,157 @@
 //! That calls succeed with ample memory, and what answers and refusals look like from outside.
 
 use h5_file::{Cause, File, Kind};
-use h5_model::{Edit, EditFault, Fixed, Items, Spec, Store};
+use h5_lines::{Command, read_line};
+use h5_model::{Edit, EditFault};
 use std::alloc::{AllocError, Global};
 
-/// An array of one size, of 4-byte signed numbers, the low byte first.
-fn line(alloc: Global, size: u64, fill: i128) -> Result<Spec, AllocError> {
-    Ok(Spec {
-        fixed: Fixed::new(4, true, false).unwrap(),
-        dims: Items::new(Vec::from_slice(alloc, &[size])?),
-        maxima: Items::new(Vec::from_slice(alloc, &[Some(size)])?),
-        store: Store::Contiguous,
-        fill,
-    })
+/// Carries out the edit that a line asks for.
+fn edit(alloc: Global, file: &mut File, line: &[u8]) -> Result<(), EditFault> {
+    let Ok(command) = read_line(alloc, line) else {
+        return Err(EditFault::NoMemory);
+    };
+    let Some(Command::Change(edit)) = &command else {
+        return Err(EditFault::BadSpec);
+    };
+    match file.edit(edit) {
+        Ok(_done) => Ok(()),
+        Err(fault) => Err(fault),
+    }
 }
 
-/// Why an array of three cells is not created.
-fn refusal(alloc: Global, path: &[u8], fill: i128) -> Result<Option<EditFault>, AllocError> {
-    let mut file = File::create(alloc)?;
-    let refused = file.create_dataset(path, &line(alloc, 3, fill)?).err();
-    Ok(if file.image().len() == 800 {
-        refused
-    } else {
-        None
-    })
+/// Creates the array that a line asks for.
+fn create(alloc: Global, file: &mut File, line: &[u8]) -> Result<(), EditFault> {
+    let Ok(command) = read_line(alloc, line) else {
+        return Err(EditFault::NoMemory);
+    };
+    let Some(Command::Change(Edit::CreateDataset { path, spec })) = &command else {
+        return Err(EditFault::BadSpec);
+    };
+    match file.create_dataset(path.as_slice(), spec) {
+        Ok(_done) => Ok(()),
+        Err(fault) => Err(fault),
+    }
+}
+
+/// How many names there are at a path.
+fn count(alloc: Global, file: &File, path: &[u8]) -> Option<usize> {
+    match file.list(alloc, path) {
+        Ok(names) => Some(names.len()),
+        Err(_) => None,
+    }
+}
+
+/// The file with these bytes.
+fn opened(alloc: Global, image: Vec<u8>) -> Option<File> {
+    match File::open(alloc, image) {
+        Ok(file) => Some(file),
+        Err((_fault, _bytes)) => None,
+    }
+}
+
+/// Whether the file holds nothing.
+fn is_empty(alloc: Global, file: &File) -> bool {
+    matches!(file.kind(b"/"), Ok(Kind::Group))
+        && matches!(file.kind(b"/x"), Err(EditFault::NotFound))
+        && file.array().is_none()
+        && count(alloc, file, b"/") == Some(0)
 }
 
 #[test]
 fn creates_and_opens_again(rt: HostRuntime) -> Result<(), AllocError> {
     let made = File::create(rt.alloc())?;
-    assert_eq!(rt; made.image().len(), 800);
-    let image = made.into_image();
-    match File::open(rt.alloc(), image) {
-        Ok(file) => {
-            assert!(rt; matches!(file.kind(b"/"), Ok(Kind::Group)));
-            assert!(rt; matches!(file.kind(b"/x"), Err(EditFault::NotFound)));
-            assert!(rt; matches!(file.kind(b"x"), Err(EditFault::BadPath)));
-            assert!(rt; file.array().is_none());
-            assert_eq!(rt;
-                file.list(rt.alloc(), b"/").ok().map(|names| names.len()),
-                Some(0)
-            );
-        }
-        Err((fault, _bytes)) => {
-            assert_eq!(rt; fault.name(), "", "at {}", fault.address());
-        }
+    assert!(rt; made.image().len() == 800);
+    match opened(rt.alloc(), made.into_image()) {
+        Some(file) => assert!(rt; is_empty(rt.alloc(), &file)),
+        None => assert!(rt; false, "the empty file was refused"),
     }
     Ok(())
+}
+
+/// Whether the bytes are refused, as cut short where the end of file stands, and given back.
+fn is_truncated(alloc: Global, image: Vec<u8>) -> bool {
+    let len = image.len();
+    match File::open(alloc, image) {
+        Ok(_file) => false,
+        Err((fault, bytes)) => fault.cause == Cause::Truncated
+            && fault.number() == 2
+            && fault.name() == "Truncated"
+            && fault.address() == 40
+            && bytes.len() == len,
+    }
 }
 
 #[test]
 fn refuses_and_gives_bytes_back(rt: HostRuntime) -> Result<(), AllocError> {
     let mut image = File::create(rt.alloc())?.into_image();
     image.truncate(799);
-    match File::open(rt.alloc(), image) {
-        Ok(_file) => assert!(rt; false, "799 bytes were opened"),
-        Err((fault, bytes)) => {
-            assert_eq!(rt; fault.cause, Cause::Truncated);
-            assert_eq!(rt; fault.number(), 2);
-            assert_eq!(rt; fault.name(), "Truncated");
-            assert_eq!(rt; fault.address(), 40);
-            assert_eq!(rt; bytes.len(), 799);
-        }
-    }
+    assert!(rt; is_truncated(rt.alloc(), image));
     Ok(())
 }
 
-/// A file with an array of three cells at `/d`.
-fn with_array(alloc: Global) -> Result<File, AllocError> {
-    let mut file = File::create(alloc)?;
-    let edit = Edit::CreateDataset {
-        path: Items::new(Vec::from_slice(alloc, b"/d")?),
-        spec: line(alloc, 3, -7)?,
-    };
-    match file.edit(&edit) {
-        Ok(_done) => Ok(file),
-        Err(_fault) => Err(AllocError),
+const LINE: &[u8] = b"dataset /d i32le 3 contiguous fill=-7";
+
+/// Whether the bytes are those of the array.
+fn has_array(alloc: Global, image: Vec<u8>) -> bool {
+    match opened(alloc, image) {
+        Some(file) => file.cell(b"/d", &[2]) == Ok(-7)
+            && matches!(file.kind(b"/d"), Ok(Kind::Dataset { .. }))
+            && count(alloc, &file, b"/") == Some(1),
+        None => false,
     }
 }
 
 #[test]
-fn creates_an_array(rt: HostRuntime) -> Result<(), AllocError> {
-    let image = with_array(rt.alloc())?.into_image();
-    assert_eq!(rt; image.len(), 1260);
+fn creates_and_opens_an_array(rt: HostRuntime) -> Result<(), AllocError> {
+    let mut file = File::create(rt.alloc())?;
+    assert!(rt; edit(rt.alloc(), &mut file, LINE).is_ok());
+    let image = file.into_image();
+    assert!(rt; image.len() == 1260);
     assert!(rt; image.ends_with(b"\xf9\xff\xff\xff\xf9\xff\xff\xff\xf9\xff\xff\xff"));
+    assert!(rt; has_array(rt.alloc(), image));
     Ok(())
 }
 
 #[test]
 fn creates_no_second_array(rt: HostRuntime) -> Result<(), AllocError> {
-    let mut file = with_array(rt.alloc())?;
-    let second = line(rt.alloc(), 1, 0)?;
-    assert_eq!(rt;
-        file.create_dataset(b"/e", &second).err(),
-        Some(EditFault::NotYet)
-    );
-    assert_eq!(rt; file.image().len(), 1260);
+    let mut file = File::create(rt.alloc())?;
+    assert!(rt; create(rt.alloc(), &mut file, LINE).is_ok());
+    let second = create(rt.alloc(), &mut file, b"dataset /e i32le 1 contiguous");
+    assert!(rt; second == Err(EditFault::NotYet));
+    assert!(rt; file.image().len() == 1260);
     Ok(())
 }
 
-#[test]
-fn opens_an_array(rt: HostRuntime) -> Result<(), AllocError> {
-    let image = with_array(rt.alloc())?.into_image();
-    match File::open(rt.alloc(), image) {
-        Ok(file) => {
-            assert!(rt; matches!(file.kind(b"/d"), Ok(Kind::Dataset { .. })));
-            assert_eq!(rt; file.cell(b"/d", &[2]).ok(), Some(-7));
-            assert_eq!(rt;
-                file.list(rt.alloc(), b"/").ok().map(|names| names.len()),
-                Some(1)
-            );
-        }
-        Err((fault, _bytes)) => {
-            assert_eq!(rt; fault.name(), "", "at {}", fault.address());
-        }
-    }
-    Ok(())
-}
+/// Lines that ask for an array, and why it is not created. Before data stand 1248 bytes.
+static REFUSED: [(&[u8], EditFault); 4] = [
+    (
+        b"dataset /x/d i32le 3 contiguous fill=1099511627776",
+        EditFault::NoSuchParent,
+    ),
+    (
+        b"dataset /d i32le 3 contiguous fill=2147483648",
+        EditFault::ValueRange,
+    ),
+    (
+        b"dataset /d i32le 1099511627777 contiguous fill=2147483648",
+        EditFault::TooManyCells,
+    ),
+    (
+        b"dataset /d i32le 536870601 contiguous",
+        EditFault::ImageFull,
+    ),
+];
 
 #[test]
 fn names_the_lowest_reason(rt: HostRuntime) -> Result<(), AllocError> {
-    let alloc = rt.alloc();
-    assert_eq!(rt;
-        refusal(alloc, b"/x/d", 1 << 40)?,
-        Some(EditFault::NoSuchParent)
-    );
-    assert_eq!(rt;
-        refusal(alloc, b"/d", 1 << 31)?,
-        Some(EditFault::ValueRange)
-    );
-    Ok(())
-}
-
-#[test]
-fn refuses_what_is_too_large(rt: HostRuntime) -> Result<(), AllocError> {
     let mut file = File::create(rt.alloc())?;
-    let many = line(rt.alloc(), (1 << 40) + 1, 1 << 31)?;
-    assert_eq!(rt;
-        file.create_dataset(b"/d", &many).err(),
-        Some(EditFault::TooManyCells)
-    );
-    // 1248 bytes stand before the data.
-    let full = line(rt.alloc(), (1 << 29) - 311, 0)?;
-    assert_eq!(rt;
-        file.create_dataset(b"/d", &full).err(),
-        Some(EditFault::ImageFull)
-    );
+    for k in 0..REFUSED.len() {
+        let (line, fault) = REFUSED[k];
+        let refused = create(rt.alloc(), &mut file, line);
+        assert!(rt;
+            refused == Err(fault) && file.image().len() == 800,
+            "row {k}"
+        );
+    }
     Ok(())
 }
