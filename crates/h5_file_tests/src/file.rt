@@ -1,16 +1,13 @@
 //! That calls succeed with ample memory, and what answers and refusals look like from outside.
 
-use h5_file::{Cause, File, Kind};
+use h5_file::{Cause, File, Kind, OpenFault};
 use h5_lines::{Command, read_line};
 use h5_model::{Edit, EditFault};
 use std::alloc::{AllocError, Global};
 
-/// Carries out the edit that a line asks for.
-fn edit(alloc: Global, file: &mut File, line: &[u8]) -> Result<(), EditFault> {
-    let Ok(command) = read_line(alloc, line) else {
-        return Err(EditFault::NoMemory);
-    };
-    let Some(Command::Change(edit)) = &command else {
+/// Carries out the edit that is asked for.
+fn edit_as(file: &mut File, command: &Option<Command>) -> Result<(), EditFault> {
+    let Some(Command::Change(edit)) = command else {
         return Err(EditFault::BadSpec);
     };
     match file.edit(edit) {
@@ -19,17 +16,30 @@ fn edit(alloc: Global, file: &mut File, line: &[u8]) -> Result<(), EditFault> {
     }
 }
 
-/// Creates the array that a line asks for.
-fn create(alloc: Global, file: &mut File, line: &[u8]) -> Result<(), EditFault> {
-    let Ok(command) = read_line(alloc, line) else {
-        return Err(EditFault::NoMemory);
-    };
-    let Some(Command::Change(Edit::CreateDataset { path, spec })) = &command else {
+/// Carries out the edit that a line asks for.
+fn edit(alloc: Global, file: &mut File, line: &[u8]) -> Result<(), EditFault> {
+    match read_line(alloc, line) {
+        Ok(command) => edit_as(file, &command),
+        Err(_) => Err(EditFault::NoMemory),
+    }
+}
+
+/// Creates the array that is asked for.
+fn create_as(file: &mut File, command: &Option<Command>) -> Result<(), EditFault> {
+    let Some(Command::Change(Edit::CreateDataset { path, spec })) = command else {
         return Err(EditFault::BadSpec);
     };
     match file.create_dataset(path.as_slice(), spec) {
         Ok(_done) => Ok(()),
         Err(fault) => Err(fault),
+    }
+}
+
+/// Creates the array that a line asks for.
+fn create(alloc: Global, file: &mut File, line: &[u8]) -> Result<(), EditFault> {
+    match read_line(alloc, line) {
+        Ok(command) => create_as(file, &command),
+        Err(_) => Err(EditFault::NoMemory),
     }
 }
 
@@ -49,12 +59,21 @@ fn opened(alloc: Global, image: Vec<u8>) -> Option<File> {
     }
 }
 
+/// The letter of what stands at a path, `g` or `d`.
+fn letter(file: &File, path: &[u8]) -> char {
+    match file.kind(path) {
+        Ok(Kind::Group) => 'g',
+        Ok(Kind::Dataset { .. }) => 'd',
+        Err(_) => '?',
+    }
+}
+
 /// Whether the file holds nothing.
 fn is_empty(alloc: Global, file: &File) -> bool {
-    matches!(file.kind(b"/"), Ok(Kind::Group))
-        && matches!(file.kind(b"/x"), Err(EditFault::NotFound))
-        && file.array().is_none()
-        && count(alloc, file, b"/") == Some(0)
+    if letter(file, b"/") != 'g' || letter(file, b"/x") != '?' {
+        return false;
+    }
+    count(alloc, file, b"/") == Some(0)
 }
 
 #[test]
@@ -68,16 +87,19 @@ fn creates_and_opens_again(rt: HostRuntime) -> Result<(), AllocError> {
     Ok(())
 }
 
-/// Whether the bytes are refused, as cut short where the end of file stands, and given back.
-fn is_truncated(alloc: Global, image: Vec<u8>) -> bool {
-    let len = image.len();
+/// Whether the fault is that bytes are cut short, at the end of file's own place.
+fn is_truncated(fault: OpenFault) -> bool {
+    if fault.cause != Cause::Truncated || fault.name() != "Truncated" {
+        return false;
+    }
+    fault.number() == 2 && fault.address() == 40
+}
+
+/// Whether the bytes are refused, as cut short, and so many given back.
+fn gives_back(alloc: Global, image: Vec<u8>, len: usize) -> bool {
     match File::open(alloc, image) {
         Ok(_file) => false,
-        Err((fault, bytes)) => fault.cause == Cause::Truncated
-            && fault.number() == 2
-            && fault.name() == "Truncated"
-            && fault.address() == 40
-            && bytes.len() == len,
+        Err((fault, bytes)) => is_truncated(fault) && bytes.len() == len,
     }
 }
 
@@ -85,19 +107,20 @@ fn is_truncated(alloc: Global, image: Vec<u8>) -> bool {
 fn refuses_and_gives_bytes_back(rt: HostRuntime) -> Result<(), AllocError> {
     let mut image = File::create(rt.alloc())?.into_image();
     image.truncate(799);
-    assert!(rt; is_truncated(rt.alloc(), image));
+    assert!(rt; gives_back(rt.alloc(), image, 799));
     Ok(())
 }
 
 const LINE: &[u8] = b"dataset /d i32le 3 contiguous fill=-7";
 
-/// Whether the bytes are those of the array.
-fn has_array(alloc: Global, image: Vec<u8>) -> bool {
-    match opened(alloc, image) {
-        Some(file) => file.cell(b"/d", &[2]) == Ok(-7)
-            && matches!(file.kind(b"/d"), Ok(Kind::Dataset { .. }))
-            && count(alloc, &file, b"/") == Some(1),
-        None => false,
+/// Whether the file holds the array alone.
+fn is_array(alloc: Global, file: &File) -> bool {
+    if letter(file, b"/d") != 'd' || count(alloc, file, b"/") != Some(1) {
+        return false;
+    }
+    match file.cell(b"/d", &[2]) {
+        Ok(value) => value == -7,
+        Err(_) => false,
     }
 }
 
@@ -108,7 +131,10 @@ fn creates_and_opens_an_array(rt: HostRuntime) -> Result<(), AllocError> {
     let image = file.into_image();
     assert!(rt; image.len() == 1260);
     assert!(rt; image.ends_with(b"\xf9\xff\xff\xff\xf9\xff\xff\xff\xf9\xff\xff\xff"));
-    assert!(rt; has_array(rt.alloc(), image));
+    match opened(rt.alloc(), image) {
+        Some(file) => assert!(rt; is_array(rt.alloc(), &file)),
+        None => assert!(rt; false, "the array's file was refused"),
+    }
     Ok(())
 }
 

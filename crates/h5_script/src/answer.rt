@@ -12,8 +12,8 @@ ghost use Rattle.h5_script.specs.Answered.{IsAnswered, IsUntold};
 use crate::ran::Outcome;
 use crate::texts::{push_dump, push_list};
 use h5_file::File;
-use h5_model::{Edit, EditFault};
 use h5_lines::Command;
+use h5_model::{Edit, EditFault};
 use h5_text::{push_accepted, push_refused, push_text};
 use std::alloc::AllocError;
 

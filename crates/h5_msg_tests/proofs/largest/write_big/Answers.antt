@@ -1,4 +1,4 @@
-use Rattle.std.proofs.Common.{◌≡◌, ◌≤◌, ◌∷◌, [], length, refl, arith, ℕ}
+use Rattle.std.proofs.Common.{◌≡◌, ◌∷◌, [], length, refl, arith}
 use Rattle.h5_model.specs.Places.{cells}
 use Rattle.h5_msg_tests.proofs.largest.write_big.Goals as goal
 
