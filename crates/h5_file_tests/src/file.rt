@@ -2,7 +2,7 @@
 
 use h5_file::{Cause, File, Kind, OpenFault};
 use h5_lines::{Command, read_line};
-use h5_model::{Edit, EditFault};
+use h5_model::EditFault;
 use std::alloc::{AllocError, Global};
 
 /// Carries out the edit that is asked for.
@@ -20,25 +20,6 @@ fn edit_as(file: &mut File, command: &Option<Command>) -> Result<(), EditFault> 
 fn edit(alloc: Global, file: &mut File, line: &[u8]) -> Result<(), EditFault> {
     match read_line(alloc, line) {
         Ok(command) => edit_as(file, &command),
-        Err(_) => Err(EditFault::NoMemory),
-    }
-}
-
-/// Creates the array that is asked for.
-fn create_as(file: &mut File, command: &Option<Command>) -> Result<(), EditFault> {
-    let Some(Command::Change(Edit::CreateDataset { path, spec })) = command else {
-        return Err(EditFault::BadSpec);
-    };
-    match file.create_dataset(path.as_slice(), spec) {
-        Ok(_done) => Ok(()),
-        Err(fault) => Err(fault),
-    }
-}
-
-/// Creates the array that a line asks for.
-fn create(alloc: Global, file: &mut File, line: &[u8]) -> Result<(), EditFault> {
-    match read_line(alloc, line) {
-        Ok(command) => create_as(file, &command),
         Err(_) => Err(EditFault::NoMemory),
     }
 }
@@ -141,8 +122,8 @@ fn creates_and_opens_an_array(rt: HostRuntime) -> Result<(), AllocError> {
 #[test]
 fn creates_no_second_array(rt: HostRuntime) -> Result<(), AllocError> {
     let mut file = File::create(rt.alloc())?;
-    assert!(rt; create(rt.alloc(), &mut file, LINE).is_ok());
-    let second = create(rt.alloc(), &mut file, b"dataset /e i32le 1 contiguous");
+    assert!(rt; edit(rt.alloc(), &mut file, LINE).is_ok());
+    let second = edit(rt.alloc(), &mut file, b"dataset /e i32le 1 contiguous");
     assert!(rt; second == Err(EditFault::NotYet));
     assert!(rt; file.image().len() == 1260);
     Ok(())
@@ -173,7 +154,7 @@ fn names_the_lowest_reason(rt: HostRuntime) -> Result<(), AllocError> {
     let mut file = File::create(rt.alloc())?;
     for k in 0..REFUSED.len() {
         let (line, fault) = REFUSED[k];
-        let refused = create(rt.alloc(), &mut file, line);
+        let refused = edit(rt.alloc(), &mut file, line);
         assert!(rt;
             refused == Err(fault) && file.image().len() == 800,
             "row {k}"
