@@ -1,0 +1,3 @@
+pub mod SmallLaws
+pub mod SmallReads
+pub mod SmallGroupLaws
