@@ -188,6 +188,18 @@ module _ (image : List ℕ) (header : ℕ) (held : List Block) (messages : List 
       let covered : cover q done ≡ holds q header (16 + first_size (prefix_at image header)) + cover q own.0 = ap (cover q) own.1 in
       omega (arith, here, blocks, within, covered, claimed.covered q, separate q)
 
+  -- where a message stands nothing was held before
+  apart : (q : ℕ) → 1 ≤ heads q messages → cover q held ≡ 0
+  apart q one =
+      let all = filled_heads image q (first_block image header ∷ []) partly.parts (b ∷ rest) partly.filled in
+      let here : heads q messages + cover q (b ∷ rest) ≤ cover q (first_block image header ∷ []) + cover q (continuations messages)
+      = subst (λ (xs : List Message). heads q xs + cover q (b ∷ rest) ≤ cover q (first_block image header ∷ []) + cover q (continuations xs)) (sym partly.all) all in
+      let blocks : cover q (continuations messages) ≡ cover q own.0 + cover q (b ∷ rest) = ap (cover q) (sym own.2) ∙ cover-append q own.0 (b ∷ rest) in
+      let within : holds q (header + 16) (first_size (prefix_at image header)) ≤ holds q header (16 + first_size (prefix_at image header))
+      = holds-inner q (header + 16) (first_size (prefix_at image header)) header (16 + first_size (prefix_at image header)) (omega arith) (omega arith) in
+      let covered : cover q done ≡ holds q header (16 + first_size (prefix_at image header)) + cover q own.0 = ap (cover q) own.1 in
+      omega (arith, one, here, blocks, within, covered, claimed.covered q, separate q)
+
   splits : IsSplit messages own.0 b
   splits = split_at messages b rest own.0 own.2
 
@@ -205,6 +217,14 @@ module _ (image : List ℕ) (header : ℕ) (held : List Block) (messages : List 
       let all : heads by.0 messages ≡ heads by.0 splits.before + heads by.0 (splits.m ∷ splits.after)
       = ap (heads by.0) splits.split ∙ heads-append by.0 splits.before (splits.m ∷ splits.after) in
       omega (arith, one_each by.0)
+
+  -- the message that names the block stands in none of those held before
+  unheld : cover by.0 held ≡ 0
+  unheld =
+      let head : heads by.0 (splits.m ∷ splits.after) ≡ 1 + heads by.0 splits.after = head_here by.0 splits.m splits.after by.1 in
+      let all : heads by.0 messages ≡ heads by.0 splits.before + heads by.0 (splits.m ∷ splits.after)
+      = ap (heads by.0) splits.split ∙ heads-append by.0 splits.before (splits.m ∷ splits.after) in
+      apart by.0 (omega (arith, all, head))
 
   pub is_named : (at : ℕ) × NamesBlock image header at b
   is_named = (by.0, by.2)
@@ -224,5 +244,5 @@ module _ (image : List ℕ) (header : ℕ) (held : List Block) (messages : List 
     ]
   ]
 
-  pub crosses : Shares held' b.at b.len → (at : ℕ) × NamesBlock image header at b × Crosses image header held at b
-  crosses shares = (by.0, by.2, meets shares)
+  pub crosses : Shares held' b.at b.len → (at : ℕ) × NamesBlock image header at b × (cover at held ≡ 0) × Crosses image header held at b
+  crosses shares = (by.0, by.2, unheld, meets shares)
