@@ -17,7 +17,7 @@ use Rattle.h5_header.specs.Progress.{FilledTo, Partly, IsClaimed}
 use Rattle.h5_header.proofs.MetLaws.{length-part-le, continuation_cases, IsNamedBy, IsNaming, parts_naming}
 
 -- how many of the messages have their head at this place
-heads : ℕ → List Message → ℕ
+unfoldable pub heads : ℕ → List Message → ℕ
 heads q [] = 0
 heads q (m ∷ ms) = (if m.at == q + 8 then 1 else 0) + heads q ms
 
@@ -45,7 +45,7 @@ fills_heads q b bytes from (m ∷ ms) short low fills =
     let joined = holds_join q (b.at + from) (8 + size) (b.len - (from + 8 + size)) in
     rw len (omega (arith, joined, rw place at rest, one))
 
-filled_heads : (image : List ℕ) (q : ℕ) (waiting : List Block) (parts : List (List Message)) (rest : List Block) → FilledTo image waiting parts rest
+pub filled_heads : (image : List ℕ) (q : ℕ) (waiting : List Block) (parts : List (List Message)) (rest : List Block) → FilledTo image waiting parts rest
     → heads q (flat_map (λ (ms : List Message). ms) parts) + cover q rest
     ≤ cover q waiting + cover q (continuations (flat_map (λ (ms : List Message). ms) parts))
 unfolding heads
@@ -122,7 +122,7 @@ record IsFound (image : List ℕ) (header p : ℕ) (ms : List Message) : Type 0 
   shared : holds p c.at c.len ≡ 1
   one : 1 ≤ heads other ms
 
-head_here : (at : ℕ) (m : Message) (ms : List Message) → m.at ≡ at + 8 → heads at (m ∷ ms) ≡ 1 + heads at ms
+pub head_here : (at : ℕ) (m : Message) (ms : List Message) → m.at ≡ at + 8 → heads at (m ∷ ms) ≡ 1 + heads at ms
 unfolding heads
 head_here at m ms e = let same : (m.at == at + 8) ≡ true = grind (arith, nat_tests, e) in rw same refl
 

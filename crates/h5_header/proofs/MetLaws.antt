@@ -175,7 +175,7 @@ module _ (image : List ℕ) (header : ℕ) where
       → AllByRecursion (IsNaming image header) (flat_map (λ (ms : List Message). ms) parts)
   parts_naming parts rest filled = (filled_met (first_block image header ∷ []) parts rest filled (first_met, tt)).1
 
-whole_filled : (image : List ℕ) (waiting : List Block) (parts : List (List Message)) → FillBlocks image waiting parts → FilledTo image waiting parts []
+pub whole_filled : (image : List ℕ) (waiting : List Block) (parts : List (List Message)) → FillBlocks image waiting parts → FilledTo image waiting parts []
 whole_filled image [] [] fills = refl
 whole_filled image [] (ms ∷ parts) fills = fills
 whole_filled image (b ∷ waiting) [] fills = absurd fills

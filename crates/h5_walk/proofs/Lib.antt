@@ -1,3 +1,6 @@
 pub mod SmallLaws
 pub mod SmallReads
 pub mod SmallGroupLaws
+pub mod WalkedLaws
+pub mod HeaderLaws
+pub mod ClaimLaws
