@@ -4,3 +4,5 @@ pub mod SmallGroupLaws
 pub mod WalkedLaws
 pub mod HeaderLaws
 pub mod ClaimLaws
+pub mod FieldLaws
+pub mod MessagePlaces
