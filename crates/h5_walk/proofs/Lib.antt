@@ -6,3 +6,4 @@ pub mod HeaderLaws
 pub mod ClaimLaws
 pub mod FieldLaws
 pub mod MessagePlaces
+pub mod MetFields
