@@ -7,12 +7,15 @@ use Rattle.std.proofs.lemmas.Option.{same_Some, cond_some}
 use Rattle.std.proofs.lemmas.List.{length-take, length-drop}
 use Rattle.std.proofs.lemmas.List.FromFn.{length-map-range_with_len, get_or-map-range_with_len}
 use Rattle.std.proofs.Math.Nat.{mul-le-mul_right}
-use Rattle.h5_bytes.specs.Bytes.{number_at, byte_at, undefined}
+use Rattle.h5_bytes.specs.Bytes.{number_at, byte_at, undefined, part}
 use Rattle.h5_bytes.specs.Blocks.{block}
 use Rattle.h5_model.specs.Places.{cells, extent_cells, place_of, index_of, IsInside}
 use Rattle.h5_model.specs.Layout.{Layout, InMessage, InBlock, InChunks, layout_of, compact_layout, contiguous_layout, chunked_layout, short_numbers_at, address_from}
 use Rattle.h5_model.specs.Chunks.{Chunks}
-use Rattle.h5_model.specs.Cells.{cell_of}
+use Rattle.h5_model.specs.Cells.{cell_of, value_in}
+use Rattle.h5_model.specs.Fixed.{Fixed}
+use Rattle.std.specs.Option.{option_map_or}
+use Rattle.h5_bytes.specs.declared.Block.{Block}
 use Rattle.h5_model.specs.Reading.{cell_at}
 use Rattle.h5_shape.proofs.Products.{cells_le}
 use Rattle.h5_model.proofs.PlaceLaws.{place_below, index-place}
@@ -90,3 +93,9 @@ cell_at-is image a chunks index inside =
     get_or-map-range_with_len (λ place. cell_of image a.fixed a.fill a.sizes a.layout chunks (index_of a.sizes place)) 0 (cells a.sizes) (place_of a.sizes index) (place_of a.sizes index) a.fill
     (place_below a.sizes index inside) (omega arith)
     ∙ ap (λ (i : List ℕ). cell_of image a.fixed a.fill a.sizes a.layout chunks i) (index-place a.sizes index inside)
+
+-- the value in the block, or the fill, is the cell's
+pub block_cell : (image : List ℕ) (t : Fixed) (fill : ℤ) (sizes : List ℕ) (b : Option Block) (chunks : Chunks) (index : List ℕ) (place : ℕ) → place ≡ place_of sizes index
+    → option_map_or (λ x. value_in t (part x.at x.len image) place) b fill ≡ cell_of image t fill sizes (InBlock b) chunks index
+block_cell image t fill sizes None chunks index place is = refl
+block_cell image t fill sizes (Some b) chunks index place is = ap (value_in t (part b.at b.len image)) is

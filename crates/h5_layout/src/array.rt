@@ -2,6 +2,8 @@
 
 ghost use Rattle.std.specs.Prelude.{◌≡◌, ◌+◌, ◌*◌, ◌<◌, ◌≤◌, Some, length, slice_get};
 ghost use Rattle.std.specs.FinMap.{empty};
+ghost use Rattle.std.specs.Option.{ForSome, option_map_or};
+ghost use Rattle.h5_bytes.specs.Bytes.{part};
 ghost use Rattle.h5_model.specs.Places.{IsInside};
 ghost use Rattle.h5_model.specs.Cells.{value_in as value_at_place};
 ghost use Rattle.h5_model.specs.Reading.{cell_at};
@@ -9,6 +11,7 @@ ghost use Rattle.h5_msg.specs.Layouts.{layout_in};
 ghost use Rattle.h5_layout.specs.Described.{dataset_in};
 ghost use Rattle.h5_layout.specs.Stored.{IsOneRun};
 
+use h5_bytes::Block;
 use h5_model::Fixed;
 use h5_msg::{Dataspace, Layout};
 use h5_shape::Dims;
@@ -90,14 +93,31 @@ impl<'a> ArrayRef<'a> {
         let place = self.dims.place(index) as usize;
         match &self.layout {
             Layout::Compact(bytes) => value_in(&self.fixed, bytes, place),
-            Layout::Contiguous(None) => self.fill,
-            Layout::Contiguous(Some(block)) => {
-                let bytes = &image.bytes()[block.at as usize..(block.at + block.len) as usize];
-                value_in(&self.fixed, bytes, place)
+            Layout::Contiguous(block) => {
+                value_in_block(&self.fixed, self.fill, image, *block, place)
             }
             Layout::Chunked { .. } => unreachable!(),
         }
     }
+}
+
+/// The value at a place of cells that stand in a block of the image, or the fill where there is none.
+fn value_in_block(
+    fixed: &Fixed,
+    fill: i128,
+    image: &Image,
+    block: Option<Block>,
+    place: usize,
+) -> i128
+    requires within { ForSome block (λ b. b.at + b.len ≤ length image.now.bytes) }
+    requires room { ForSome block (λ b. place * fixed.now.size + fixed.now.size ≤ b.len) }
+    ensures { result ≡ option_map_or (λ b. value_at_place fixed.now (part b.at b.len image.now.bytes) place) block fill }
+{
+    let Some(block) = block else {
+        return fill;
+    };
+    let bytes = &image.bytes()[block.at as usize..(block.at + block.len) as usize];
+    value_in(fixed, bytes, place)
 }
 
 /// The value at a place of cells that stand one after another.
