@@ -1,6 +1,6 @@
 -- The array that messages describe: there is one at most, and with its data it is the dataset.
-use Rattle.std.proofs.Common.{◌≡◌, ℕ, ◌+◌, ◌*◌, ◌<◌, ◌≤◌, ◌^◌, List, [], ◌∷◌, Option, Some, None, ℤ, Bool, true, false, refl, sym, ap, ap₂, ◌∙◌, subst, arith, unwrap_or}
-use Rattle.std.specs.Prelude.{option_and_then, IsSome}
+use Rattle.std.proofs.Common.{◌≡◌, ℕ, List, Option, Some, None, ℤ, refl, sym, ap, ap₂, ◌∙◌, subst}
+use Rattle.std.specs.Prelude.{option_and_then}
 use Rattle.std.proofs.lemmas.Option.{same_Some}
 use Rattle.std.specs.List.{AllByRecursion}
 use Rattle.h5_bytes.specs.declared.Block.{Block}
@@ -8,9 +8,8 @@ use Rattle.h5_model.specs.Messages.{Message, first_body}
 use Rattle.h5_model.specs.Fixed.{Fixed}
 use Rattle.h5_model.specs.Extent.{Extent}
 use Rattle.h5_model.specs.Fill.{fill_value, old_fill_value, chosen_fill}
-use Rattle.h5_model.specs.Layout.{Layout, layout_of}
+use Rattle.h5_model.specs.Layout.{layout_of}
 use Rattle.h5_model.specs.Chunks.{Chunks}
-use Rattle.h5_model.specs.Cells.{cells_of}
 use Rattle.h5_model.specs.Tree.{Dataset}
 use Rattle.h5_model.specs.Reads.{IsFill, HasData, HasDataset, InDataset}
 use Rattle.h5_layout.specs.Described.{Described, HasFill, HasArray, dataset_in}

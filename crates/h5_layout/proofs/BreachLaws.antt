@@ -1,7 +1,7 @@
 -- The first rule that a dataset's messages break is one that they break, and messages that describe an array break none.
-use Rattle.std.proofs.Common.{◌≡◌, ℕ, ◌*◌, ◌<◌, ◌≤◌, ◌^◌, List, Option, Some, None, ℤ, Bool, true, false, cond, ◌||◌, ◌⊎◌, inl, inr, refl, sym, ap, ◌∙◌, subst, arith}
-use Rattle.std.specs.Prelude.{option_and_then, nat_lt, is_none, IsSome}
-use Rattle.std.specs.Option.{option_or, option_map_or}
+use Rattle.std.proofs.Common.{◌≡◌, ℕ, ◌*◌, ◌<◌, ◌^◌, List, Option, Some, None, ℤ, Bool, true, false, cond, ◌||◌, ◌⊎◌, inl, inr, refl, sym, ap, ◌∙◌, subst, arith}
+use Rattle.std.specs.Prelude.{option_and_then, nat_lt, is_none}
+use Rattle.std.specs.Option.{option_or}
 use Rattle.std.proofs.lemmas.Bool.Decides.{nat_tests}
 use Rattle.std.proofs.lemmas.Option.{same_Some}
 use Rattle.h5_model.specs.Messages.{Message, first_body}
@@ -17,7 +17,7 @@ use Rattle.h5_model.specs.HeaderFaults.{SomeBody, IsBadFill, IsLarge, ListBreach
 use Rattle.h5_model.specs.declared.open_fault.Cause.{Cause}
 use Rattle.h5_model.specs.declared.open_fault.Cause.TheVariants.{DataspaceForm, DatatypeForm, FillForm, LayoutForm, TooLarge}
 use Rattle.h5_header.specs.Kinds.{IsOfDataset}
-use Rattle.h5_layout.specs.Described.{Described, HasFill, HasArray}
+use Rattle.h5_layout.specs.Described.{Described, HasArray}
 use Rattle.h5_layout.specs.Judged.{space_breach, type_breach, is_bad, fill_breach, is_chunk_large, layout_breach, breach_in}
 use Rattle.h5_layout.proofs.FoundLaws.{found, among_some, among_none}
 
@@ -28,7 +28,7 @@ sound_fill value None fill h = refl
 sound_fill value (Some body) None h = absurd (cc)
 sound_fill value (Some body) (Some v) h = rw h.0 refl
 
-small_chunk : (t : Fixed) (layout : Layout) → IsChunkSmall t layout → is_chunk_large t layout ≡ false
+pub small_chunk : (t : Fixed) (layout : Layout) → IsChunkSmall t layout → is_chunk_large t layout ≡ false
 small_chunk t (InMessage bytes) h = refl
 small_chunk t (InBlock b) h = refl
 small_chunk t (InChunks sizes root) h = grind (arith, nat_tests)

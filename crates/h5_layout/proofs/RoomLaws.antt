@@ -1,26 +1,28 @@
 -- Data that a layout names have room for the cells, and the value of a cell is that at its place.
-use Rattle.std.proofs.Common.{◌≡◌, ℕ, suc, ◌+◌, ◌-◌, ◌*◌, ◌^◌, ◌<◌, ◌≤◌, ◌==◌, ◌&&◌, List, length, take, drop, Option, Some, None, ℤ, Bool, true, false, cond, refl, sym, ap, ◌∙◌, subst, arith, get_or, slice_index, eq-eqb}
-use Rattle.std.specs.Prelude.{nat_le, nat_lt, not}
-use Rattle.std.specs.List.{range_with_len, list_any, slice_range}
+use Rattle.std.proofs.Common.{◌≡◌, ℕ, suc, ◌+◌, ◌-◌, ◌*◌, ◌^◌, ◌<◌, ◌≤◌, List, length, take, drop, Option, Some, None, ℤ, Bool, true, false, cond, refl, sym, ap, ◌∙◌, subst, arith, get_or, eq-eqb}
+use Rattle.std.specs.Prelude.{nat_le, slice_get}
+use Rattle.std.specs.List.{slice_range}
 use Rattle.std.proofs.lemmas.Bool.Decides.{nat_tests}
-use Rattle.std.proofs.lemmas.Option.{same_Some, cond_some}
+use Rattle.std.proofs.lemmas.Option.{same_Some, cond_some, slice_get-get_or}
 use Rattle.std.proofs.lemmas.List.{length-take, length-drop}
 use Rattle.std.proofs.lemmas.List.FromFn.{length-map-range_with_len, get_or-map-range_with_len}
 use Rattle.std.proofs.Math.Nat.{mul-le-mul_right}
-use Rattle.h5_bytes.specs.Bytes.{number_at, byte_at, undefined, part}
+use Rattle.h5_bytes.specs.Bytes.{number_at, part}
 use Rattle.h5_bytes.specs.Blocks.{block}
-use Rattle.h5_model.specs.Places.{cells, extent_cells, place_of, index_of, IsInside}
-use Rattle.h5_model.specs.Layout.{Layout, InMessage, InBlock, InChunks, layout_of, compact_layout, contiguous_layout, chunked_layout, short_numbers_at, address_from}
+use Rattle.h5_model.specs.Places.{cells, extent_cells, index_of}
+use Rattle.h5_model.specs.Layout.{Layout, InMessage, InBlock, layout_of, compact_layout, contiguous_layout, chunked_layout, short_numbers_at}
 use Rattle.h5_model.specs.Chunks.{Chunks}
 use Rattle.h5_model.specs.Cells.{cell_of, value_in}
 use Rattle.h5_model.specs.Fixed.{Fixed}
 use Rattle.std.specs.Option.{option_map_or}
 use Rattle.h5_bytes.specs.declared.Block.{Block}
-use Rattle.h5_model.specs.Reading.{cell_at}
 use Rattle.h5_shape.proofs.Products.{cells_le}
-use Rattle.h5_model.proofs.PlaceLaws.{place_below, index-place}
-use Rattle.h5_layout.specs.Described.{Described, dataset_in}
-use Rattle.h5_layout.specs.Stored.{has_room}
+use Rattle.h5_model.proofs.PlaceLaws.{place-index}
+use Rattle.h5_model.specs.Messages.{Message}
+use Rattle.h5_layout.specs.Described.{Described, HasArray, dataset_in}
+use Rattle.h5_layout.proofs.FoundLaws.{among_some}
+use Rattle.h5_layout.proofs.BreachLaws.{small_chunk}
+use Rattle.h5_layout.specs.Stored.{has_room, IsArray}
 
 -- ---- what is read has room
 
@@ -66,19 +68,13 @@ room_of sizes size body layout h =
 
 -- ---- the place of a cell
 
-pub place_room : (sizes index : List ℕ) (size end : ℕ) → IsInside sizes index → cells sizes * size ≤ end → place_of sizes index * size + size ≤ end
-place_room sizes index size end inside room =
-    let below : place_of sizes index < cells sizes = place_below sizes index inside in
-    let next : suc (place_of sizes index) * size ≤ cells sizes * size = mul-le-mul_right size (omega arith) in
-    let wide : suc (place_of sizes index) * size ≡ place_of sizes index * size + size = omega arith in
-    omega arith
-
-pub room_at : (sizes dims index : List ℕ) (size place end : ℕ) → dims ≡ sizes → IsInside sizes index → place ≡ place_of dims index → nat_le (cells sizes * size) end ≡ true
-    → place * size + size ≤ end
-room_at sizes dims index size place end same inside is room =
+-- a place below the number of cells has its bytes
+pub place_room : (sizes : List ℕ) (size place end : ℕ) → place < cells sizes → nat_le (cells sizes * size) end ≡ true → place * size + size ≤ end
+place_room sizes size place end below room =
     let enough : cells sizes * size ≤ end = grind (arith, nat_tests) in
-    let there : place ≡ place_of sizes index = is ∙ ap (λ (ds : List ℕ). place_of ds index) same in
-    rw there (place_room sizes index size end inside enough)
+    let next : suc place * size ≤ cells sizes * size = mul-le-mul_right size (omega arith) in
+    let wide : suc place * size ≡ place * size + size = omega arith in
+    omega arith
 
 pub few : (sizes dims : List ℕ) → dims ≡ sizes → extent_cells sizes ≤ 2 ^ 40 → cells dims < 2 ^ 64
 few sizes dims same small = let most : cells sizes ≤ 2 ^ 40 = omega (arith, cells_le sizes) in rw same (omega arith)
@@ -87,15 +83,31 @@ few sizes dims same small = let most : cells sizes ≤ 2 ^ 40 = omega (arith, ce
 pub length-block : (bytes : List ℕ) (at len : ℕ) → at + len ≤ length bytes → length (take (at + len - at) (drop at bytes)) ≡ len
 length-block bytes at len inside = length-take (at + len - at) (drop at bytes) ∙ omega (arith, length-drop at bytes)
 
-pub cell_at-is : (image : List ℕ) (a : Described) (chunks : Chunks) (index : List ℕ) → IsInside a.sizes index
-    → cell_at (dataset_in image a chunks) index ≡ cell_of image a.fixed a.fill a.sizes a.layout chunks index
-cell_at-is image a chunks index inside =
-    get_or-map-range_with_len (λ place. cell_of image a.fixed a.fill a.sizes a.layout chunks (index_of a.sizes place)) 0 (cells a.sizes) (place_of a.sizes index) (place_of a.sizes index) a.fill
-    (place_below a.sizes index inside) (omega arith)
-    ∙ ap (λ (i : List ℕ). cell_of image a.fixed a.fill a.sizes a.layout chunks i) (index-place a.sizes index inside)
+-- ---- the cell at a place
+
+pub get-cells : (image : List ℕ) (a : Described) (chunks : Chunks) (place : ℕ) → place < cells a.sizes
+    → slice_get (dataset_in image a chunks).cells place ≡ Some (cell_of image a.fixed a.fill a.sizes a.layout chunks (index_of a.sizes place))
+get-cells image a chunks place below =
+    let here : get_or (dataset_in image a chunks).cells place a.fill ≡ cell_of image a.fixed a.fill a.sizes a.layout chunks (index_of a.sizes place)
+    = get_or-map-range_with_len (λ k. cell_of image a.fixed a.fill a.sizes a.layout chunks (index_of a.sizes k)) 0 (cells a.sizes) place place a.fill below (omega arith) in
+    slice_get-get_or (dataset_in image a chunks).cells place a.fill
+    (omega (arith, length-map-range_with_len (λ k. cell_of image a.fixed a.fill a.sizes a.layout chunks (index_of a.sizes k)) 0 (cells a.sizes)))
+    ∙ ap (λ (v : ℤ). Some v) here
+
+-- a value in the message is the cell's
+pub message_cell : (image : List ℕ) (t : Fixed) (fill : ℤ) (sizes bytes : List ℕ) (chunks : Chunks) (place : ℕ) → place < cells sizes
+    → value_in t bytes place ≡ cell_of image t fill sizes (InMessage bytes) chunks (index_of sizes place)
+message_cell image t fill sizes bytes chunks place below = ap (value_in t bytes) (sym (place-index sizes place below))
 
 -- the value in the block, or the fill, is the cell's
-pub block_cell : (image : List ℕ) (t : Fixed) (fill : ℤ) (sizes : List ℕ) (b : Option Block) (chunks : Chunks) (index : List ℕ) (place : ℕ) → place ≡ place_of sizes index
-    → option_map_or (λ x. value_in t (part x.at x.len image) place) b fill ≡ cell_of image t fill sizes (InBlock b) chunks index
-block_cell image t fill sizes None chunks index place is = refl
-block_cell image t fill sizes (Some b) chunks index place is = ap (value_in t (part b.at b.len image)) is
+pub block_cell : (image : List ℕ) (t : Fixed) (fill : ℤ) (sizes : List ℕ) (b : Option Block) (chunks : Chunks) (place : ℕ) → place < cells sizes
+    → option_map_or (λ x. value_in t (part x.at x.len image) place) b fill ≡ cell_of image t fill sizes (InBlock b) chunks (index_of sizes place)
+block_cell image t fill sizes None chunks place below = refl
+block_cell image t fill sizes (Some b) chunks place below = ap (value_in t (part b.at b.len image)) (sym (place-index sizes place below))
+
+-- ---- an array that messages describe
+
+pub is_array : (ms : List Message) (a : Described) → HasArray ms a → IsArray a
+is_array ms a h =
+    let layout = among_some (layout_of a.sizes a.fixed.size) 8 ms a.layout h.laid_out in
+    record { small = h.small; room = room_of a.sizes a.fixed.size (layout.0).body a.layout layout.3; chunk_small = small_chunk a.fixed a.layout h.chunk_small }

@@ -4,12 +4,12 @@ ghost use Rattle.std.specs.Prelude.{◌≡◌, ◌+◌, ◌*◌, ◌<◌, ◌≤
 ghost use Rattle.std.specs.FinMap.{empty};
 ghost use Rattle.std.specs.Option.{ForSome, option_map_or};
 ghost use Rattle.h5_bytes.specs.Bytes.{part};
-ghost use Rattle.h5_model.specs.Places.{IsInside};
+ghost use Rattle.h5_model.specs.Places.{cells as cells_of, IsInside};
 ghost use Rattle.h5_model.specs.Cells.{value_in as value_at_place};
 ghost use Rattle.h5_model.specs.Reading.{cell_at};
 ghost use Rattle.h5_msg.specs.Layouts.{layout_in};
 ghost use Rattle.h5_layout.specs.Described.{dataset_in};
-ghost use Rattle.h5_layout.specs.Stored.{IsOneRun};
+ghost use Rattle.h5_layout.specs.Stored.{IsArray, IsUnchunked};
 
 use h5_bytes::Block;
 use h5_model::Fixed;
@@ -31,17 +31,16 @@ pub struct ArrayRef<'a> {
 }
 
 impl<'a> Model for ArrayRef<'a> {
-    ghost use Rattle.std.specs.Prelude.{◌≡◌, ◌^◌, ◌≤◌, true};
-    ghost use Rattle.h5_model.specs.Places.{extent_cells};
+    ghost use Rattle.std.specs.Prelude.{◌≡◌};
     ghost use Rattle.h5_msg.specs.Layouts.{layout_in};
     ghost use Rattle.h5_layout.specs.Described.{Described};
-    ghost use Rattle.h5_layout.specs.Stored.{has_room};
+    ghost use Rattle.h5_layout.specs.Stored.{IsArray};
 
     ghost Value = { Described };
 
     ghost view = { λ a. record { fixed = a.fixed; sizes = a.extent.sizes; maxima = a.extent.maxima; fill = a.fill; layout = layout_in a.layout } };
 
-    ghost invariant = { λ a. (a.dims ≡ a.extent.sizes) × (extent_cells a.extent.sizes ≤ 2 ^ 40) × (has_room a.extent.sizes a.fixed.size (layout_in a.layout) ≡ true) };
+    ghost invariant = { λ a. (a.dims ≡ a.extent.sizes) × IsArray (record { fixed = a.fixed; sizes = a.extent.sizes; maxima = a.extent.maxima; fill = a.fill; layout = layout_in a.layout }) };
 }
 
 impl<'a> ArrayRef<'a> {
@@ -54,7 +53,8 @@ impl<'a> ArrayRef<'a> {
 
     /// The sizes.
     pub fn dims(&self) -> &Dims
-        ensures { result.now ≡ self.now.sizes }
+        ensures sizes { result.now ≡ self.now.sizes }
+        ensures sound { IsArray self.now }
     {
         &self.dims
     }
@@ -76,21 +76,34 @@ impl<'a> ArrayRef<'a> {
 
     /// Where the cells are: in the header, in a block or none yet, or in chunks of some sizes, with a B-tree or none yet.
     pub fn layout(&self) -> &Layout<'a>
-        ensures { layout_in result.now ≡ self.now.layout }
+        ensures layout { layout_in result.now ≡ self.now.layout }
+        ensures sound { IsArray self.now }
     {
         &self.layout
     }
 
-    /// The value of a cell of an array that is not chunked.
+    /// The value of a cell of an array that is not chunked, by its index.
     ///
     /// That the index is inside the sizes, that the array is not chunked, and that the block of its data, where it has
     /// one, lies in the image are the caller's conditions.
     pub fn cell(&self, image: &Image, index: &[u64]) -> i128
         requires inside { IsInside self.now.sizes index.now }
-        requires stored { IsOneRun (length image.now.bytes) self.now.layout }
+        requires stored { IsUnchunked (length image.now.bytes) self.now.layout }
         ensures { result ≡ cell_at (dataset_in image.now.bytes self.now empty) index.now }
     {
-        let place = self.dims.place(index) as usize;
+        self.value(image, self.dims().place(index))
+    }
+
+    /// The value of a cell of an array that is not chunked, by its place in row-major order.
+    ///
+    /// That there is such a place, that the array is not chunked, and that the block of its data, where it has one, lies
+    /// in the image are the caller's conditions.
+    pub fn value(&self, image: &Image, place: u64) -> i128
+        requires below { place < cells_of self.now.sizes }
+        requires stored { IsUnchunked (length image.now.bytes) self.now.layout }
+        ensures { slice_get (dataset_in image.now.bytes self.now empty).cells place ≡ Some result }
+    {
+        let place = place as usize;
         match &self.layout {
             Layout::Compact(bytes) => value_in(&self.fixed, bytes, place),
             Layout::Contiguous(block) => {

@@ -4,7 +4,7 @@ ghost use Rattle.std.specs.Prelude.{◌≡◌, None, Some, MatchResult, ok_or, t
 ghost use Rattle.std.specs.Option.{option_copied};
 ghost use Rattle.h5_model.specs.Extent.{extent_of};
 ghost use Rattle.h5_model.specs.Datatype.{fixed_of};
-ghost use Rattle.h5_model.specs.Fill.{fill_value, old_fill_value, chosen_fill};
+ghost use Rattle.h5_model.specs.Fill.{fill_value, old_fill_value};
 ghost use Rattle.h5_model.specs.Layout.{layout_of};
 ghost use Rattle.h5_model.specs.Reads.{IsFill};
 ghost use Rattle.h5_msg.specs.Layouts.{layout_in};
@@ -68,17 +68,6 @@ pub fn judge_fill(fixed: &Fixed, body: Option<&[u8]>) -> Result<Option<i128>, Ca
         return Err(Cause::FillForm);
     };
     Ok(Some(fill))
-}
-
-/// The fill value: the new message decides, and with neither it is 0.
-pub fn choose_fill(new: Option<i128>, old: Option<i128>) -> i128
-    ensures { result ≡ chosen_fill new old }
-{
-    match (new, old) {
-        (Some(fill), _) => fill,
-        (None, Some(fill)) => fill,
-        (None, None) => 0,
-    }
 }
 
 /// What a Data Layout message says of an array of these sizes and this type.

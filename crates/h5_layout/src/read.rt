@@ -10,8 +10,7 @@ ghost use Rattle.h5_layout.specs.Judged.{breach_in};
 use crate::array::ArrayRef;
 use crate::bodies::{find_body, one_body};
 use crate::judge::{
-    choose_fill, is_chunk_large, judge_dataspace, judge_datatype, judge_fill, judge_layout,
-    judge_old_fill,
+    is_chunk_large, judge_dataspace, judge_datatype, judge_fill, judge_layout, judge_old_fill,
 };
 use h5_header::Messages;
 use h5_model::{Cause, OpenFault};
@@ -80,7 +79,7 @@ fn judge<'a>(alloc: Global, image: &'a Image, messages: &Messages) -> Result<Arr
         fixed,
         dims,
         extent,
-        fill: choose_fill(new_fill, old_fill),
+        fill: new_fill.or(old_fill).unwrap_or(0),
         layout,
     })
 }

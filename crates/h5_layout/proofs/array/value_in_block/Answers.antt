@@ -1,8 +1,6 @@
-use Rattle.std.proofs.Common.{rules, ◌≡◌, ◌+◌, ◌-◌, ℤ, take, drop, to_z, of_z, sym, ap, ◌∙◌, arith}
-use Rattle.std.specs.Option.{option_map_or}
+use Rattle.std.proofs.Common.{rules, ◌≡◌, ◌+◌, ◌-◌, take, drop, to_z, of_z, ◌∙◌, arith}
 use mir.Syntax.{w128}
 use Rattle.h5_bytes.specs.Bytes.{part}
-use Rattle.h5_bytes.specs.declared.Block.{Block}
 use Rattle.h5_model.specs.Cells.{value_in}
 use Rattle.h5_layout.proofs.array.value_in_block.Goals as goal
 
