@@ -1,0 +1,4 @@
+pub mod FoundLaws
+pub mod ArrayLaws
+pub mod BreachLaws
+pub mod RoomLaws
