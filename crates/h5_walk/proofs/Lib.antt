@@ -7,3 +7,4 @@ pub mod ClaimLaws
 pub mod FieldLaws
 pub mod MessagePlaces
 pub mod MetFields
+pub mod ListLaws
