@@ -6,6 +6,7 @@
 
 mod block;
 mod claim;
+mod find;
 mod header;
 mod kinds;
 mod message;
@@ -14,6 +15,7 @@ mod read;
 #[cfg(test)]
 mod tests;
 
+pub use find::find_body;
 pub use header::Messages;
 pub use kinds::ObjectKind;
 pub use message::Message;

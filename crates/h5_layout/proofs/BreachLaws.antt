@@ -19,7 +19,7 @@ use Rattle.h5_model.specs.declared.open_fault.Cause.TheVariants.{DataspaceForm, 
 use Rattle.h5_header.specs.Kinds.{IsOfDataset}
 use Rattle.h5_layout.specs.Described.{Described, HasArray}
 use Rattle.h5_layout.specs.Judged.{space_breach, type_breach, is_bad, fill_breach, is_chunk_large, layout_breach, breach_in}
-use Rattle.h5_layout.proofs.FoundLaws.{found, among_some, among_none}
+use Rattle.h5_header.proofs.FoundLaws.{found, among_some, among_none}
 
 -- ---- no rule is broken
 

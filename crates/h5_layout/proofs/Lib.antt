@@ -1,4 +1,3 @@
-pub mod FoundLaws
 pub mod ArrayLaws
 pub mod BreachLaws
 pub mod RoomLaws

@@ -20,7 +20,7 @@ use Rattle.h5_shape.proofs.Products.{cells_le}
 use Rattle.h5_model.proofs.PlaceLaws.{place-index}
 use Rattle.h5_model.specs.Messages.{Message}
 use Rattle.h5_layout.specs.Described.{Described, HasArray, dataset_in}
-use Rattle.h5_layout.proofs.FoundLaws.{among_some}
+use Rattle.h5_header.proofs.FoundLaws.{among_some}
 use Rattle.h5_layout.proofs.BreachLaws.{small_chunk}
 use Rattle.h5_layout.specs.Stored.{has_room, IsArray}
 

@@ -1,28 +1,11 @@
-//! Bodies of the messages of a header, by their types.
+//! The bodies of messages of which a header has one.
 
-ghost use Rattle.std.specs.Prelude.{◌≡◌, ◌==◌, Some, find, length};
-ghost use Rattle.std.specs.Option.{option_copied};
+ghost use Rattle.std.specs.Prelude.{◌≡◌, Some, length};
 ghost use Rattle.h5_model.specs.Messages.{count_of, first_body};
 ghost use Rattle.h5_header.specs.Listed.{messages_in, IsWithin};
 
-use h5_header::{Message, Messages};
+use h5_header::{Messages, find_body};
 use h5_space::Image;
-
-/// The body of the first message of a type.
-pub fn find_body<'a>(image: &'a Image, messages: &Messages, kind: u16) -> Option<&'a [u8]>
-    requires { IsWithin (length image.now.bytes) messages.now.list }
-    ensures { option_copied result ≡ first_body kind (messages_in image.now.bytes messages.now.list) }
-{
-    let message = first_of(messages.list(), kind)?;
-    image.part(message.at, u64::from(message.size))
-}
-
-/// The first message of a type.
-fn first_of(list: &[Message], kind: u16) -> Option<&Message>
-    ensures { option_copied result ≡ find (λ m. m.kind == kind) list.now }
-{
-    list.iter().find(|m| m.kind == kind)
-}
 
 /// The body of the message of a type of which there is one.
 pub fn one_body<'a>(image: &'a Image, messages: &Messages, kind: u16) -> &'a [u8]

@@ -8,11 +8,11 @@ ghost use Rattle.h5_layout.specs.Described.{Described, HasArray};
 ghost use Rattle.h5_layout.specs.Judged.{breach_in};
 
 use crate::array::ArrayRef;
-use crate::bodies::{find_body, one_body};
+use crate::bodies::one_body;
 use crate::judge::{
     is_chunk_large, judge_dataspace, judge_datatype, judge_fill, judge_layout, judge_old_fill,
 };
-use h5_header::Messages;
+use h5_header::{Messages, find_body};
 use h5_model::{Cause, OpenFault};
 use h5_space::Image;
 use std::alloc::Global;

@@ -1,4 +1,4 @@
-use Rattle.h5_layout.proofs.FoundLaws.{one_stands}
+use Rattle.h5_header.proofs.FoundLaws.{one_stands}
 use Rattle.h5_header.specs.Listed.{messages_in}
 use Rattle.h5_layout.proofs.bodies.one_body.Goals as goal
 

@@ -3,8 +3,8 @@ use Rattle.std.specs.Prelude.{option_map}
 use Rattle.std.specs.List.{find}
 use Rattle.h5_bytes.specs.Bytes.{part}
 use Rattle.h5_header.specs.declared.message.Message.{Message as Placed}
-use Rattle.h5_layout.proofs.FoundLaws.{first_body-in, copied_part}
-use Rattle.h5_layout.proofs.bodies.find_body.Goals as goal
+use Rattle.h5_header.proofs.FoundLaws.{first_body-in, copied_part}
+use Rattle.h5_header.proofs.find.find_body.Goals as goal
 
 pub returns-in_err-message : goal.returns-in_err-message
 returns-in_err-message c =
