@@ -8,3 +8,6 @@ pub mod FieldLaws
 pub mod MessagePlaces
 pub mod MetFields
 pub mod ListLaws
+pub mod SpanLaws
+pub mod RefusedLaws
+pub mod DataLaws
