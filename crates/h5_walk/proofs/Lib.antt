@@ -11,3 +11,4 @@ pub mod ListLaws
 pub mod SpanLaws
 pub mod RefusedLaws
 pub mod DataLaws
+pub mod MetHeader

@@ -93,7 +93,7 @@ module _ (header depth f : ℕ) where
       all_append IsApart (map (λ (b : Block). named m.at (Continuation header) b.at depth) (continuation m)) (continuation_fields header depth ms)
       (fields_apart m (continuation m) other) (none_there ms low.1 (omega (arith, none)))
 
-  found_covers : (k q : ℕ) (ms : List Message) (m : Message) → find (λ (x : Message). x.kind == k) ms ≡ Some m → holds q (m.at - 8) (8 + length m.body) ≤ cover q (map span_of ms)
+  pub found_covers : (k q : ℕ) (ms : List Message) (m : Message) → find (λ (x : Message). x.kind == k) ms ≡ Some m → holds q (m.at - 8) (8 + length m.body) ≤ cover q (map span_of ms)
   found_covers k q [] m is = absurd (cc)
   found_covers k q (x ∷ ms) m is = elim (x.kind == k) as (λ b. cond b (Some x) (find (λ (y : Message). y.kind == k) ms) ≡ Some m → holds q (m.at - 8) (8 + length m.body) ≤ cover q (map span_of (x ∷ ms))) [
     | true ↦ λ e. let same : x ≡ m = same_Some x m e in subst (λ (y : Message). holds q (y.at - 8) (8 + length y.body) ≤ cover q (map span_of (x ∷ ms))) same (omega arith)
