@@ -5,7 +5,7 @@
 #![tactic(auto)]
 
 mod block;
-mod claim;
+mod claims;
 mod find;
 mod header;
 mod kinds;
@@ -15,6 +15,7 @@ mod read;
 #[cfg(test)]
 mod tests;
 
+pub use claims::claim;
 pub use find::find_body;
 pub use header::Messages;
 pub use kinds::ObjectKind;

@@ -17,7 +17,7 @@ use Rattle.h5_open.specs.declared.opened.Opened.{Opened}
 
 -- one dimension, in one block or nowhere
 abbrev pub described : Line → Described
-described l = record { fixed = l.fixed; sizes = l.size ∷ []; maxima = l.maximum ∷ []; fill = l.fill; layout = InBlock l.data }
+described l = record { fixed = l.fixed; sizes = l.size ∷ []; maxima = l.maximum ∷ []; fill = l.fill; layout = InBlock l.cells }
 
 -- an object with this content, and the attributes and kept messages of its header
 abbrev pub object_with : Content → List Message → Object

@@ -71,7 +71,7 @@ fn line_of(array: &ArrayRef<'_>) -> Option<Line>
     ensures line { IfSome result (λ line. described line ≡ array.now) }
     ensures other { IfNone result (IsNoLineOf array.now) }
 {
-    let Layout::Contiguous(data) = array.layout() else {
+    let Layout::Contiguous(cells) = array.layout() else {
         return None;
     };
     let &[size] = array.dims().sizes() else {
@@ -82,7 +82,7 @@ fn line_of(array: &ArrayRef<'_>) -> Option<Line>
         size,
         maximum: array.maximum(0),
         fill: array.fill(),
-        data: *data,
+        cells: *cells,
     })
 }
 

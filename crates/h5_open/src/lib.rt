@@ -4,9 +4,11 @@
 //! So far an image is opened whose root has one link at most, to an array of one dimension in one block.
 #![tactic(auto)]
 
+mod array;
 mod judge;
 mod line;
 mod opened;
 
+pub use array::read_line;
 pub use line::Line;
 pub use opened::{Linked, Opened};

@@ -13,5 +13,5 @@ pub struct Line {
     pub maximum: Option<u64>,
     pub fill: i128,
     /// The block of the cells, or `None` where each of them reads the fill value.
-    pub data: Option<Block>,
+    pub cells: Option<Block>,
 }

@@ -5,7 +5,7 @@ use Rattle.h5_model.specs.Messages.{prefix_at, first_size}
 use Rattle.h5_header.specs.Refused.{header_block}
 use Rattle.h5_header.specs.Progress.{ClaimBreach}
 use Rattle.h5_header.proofs.PrefixLaws.{first_size-is, version-is, prefix_breach}
-use Rattle.h5_header.proofs.claim.claim_prefix.Goals as goal
+use Rattle.h5_header.proofs.claims.claim_prefix.Goals as goal
 
 pub returns-then-image-header-ne1-clause-refused : goal.returns-then-image-header-ne1-clause-refused
 returns-then-image-header-ne1-clause-refused c = (refl, omega arith, λ one. c.if-image-header-ne1.true (sym (version-is c.args.image.now c.args.header) ∙ one))
