@@ -2,3 +2,4 @@ pub mod FoundLaws
 pub mod ArrayLaws
 pub mod BreachLaws
 pub mod RoomLaws
+pub mod KnownLaws

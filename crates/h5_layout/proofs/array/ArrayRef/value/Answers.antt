@@ -8,20 +8,14 @@ use Rattle.h5_bytes.specs.declared.Block.{Block}
 use Rattle.h5_model.specs.Places.{cells, index_of}
 use Rattle.h5_model.specs.Cells.{value_in, cell_of}
 use Rattle.h5_msg.specs.Layouts.{layout_in}
-use Rattle.h5_layout.specs.Described.{Described, dataset_in}
+use Rattle.h5_layout.specs.Described.{Described, array_of, dataset_in}
 use Rattle.h5_layout.proofs.RoomLaws.{place_room, get-cells, message_cell, block_cell}
 use Rattle.h5_layout.proofs.array.ArrayRef.value.Goals as goal
 use Rattle.h5_layout.proofs.array.ArrayRef.value.Goals.{After-self}
 
 -- the value, by its fields
 here : (c : After-self) → Described
-here c = record {
-  fixed = c.self.inside.fixed;
-  sizes = c.self.inside.extent.sizes;
-  maxima = c.self.inside.extent.maxima;
-  fill = c.self.inside.fill;
-  layout = layout_in c.self.inside.layout;
-}
+here c = array_of c.self.inside.fixed c.self.inside.extent c.self.inside.fill (layout_in c.self.inside.layout)
 
 below : (c : After-self) → c.args.place < cells c.self.inside.extent.sizes
 below c = rw (← c.self.view_is) at c.requires.below
