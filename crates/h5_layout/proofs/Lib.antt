@@ -3,3 +3,4 @@ pub mod ArrayLaws
 pub mod BreachLaws
 pub mod RoomLaws
 pub mod KnownLaws
+pub mod FillLaws

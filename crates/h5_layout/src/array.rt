@@ -1,9 +1,10 @@
 //! An array as its header describes it.
 
-ghost use Rattle.std.specs.Prelude.{◌≡◌, ◌+◌, ◌*◌, ◌<◌, ◌≤◌, Some, length, slice_get};
+ghost use Rattle.std.specs.Prelude.{◌≡◌, ◌+◌, ◌*◌, ◌<◌, ◌≤◌, Some, true, length, slice_get};
 ghost use Rattle.std.specs.FinMap.{empty};
 ghost use Rattle.std.specs.Option.{ForSome, option_map_or};
 ghost use Rattle.h5_bytes.specs.Bytes.{part};
+ghost use Rattle.h5_model.specs.Fixed.{fits};
 ghost use Rattle.h5_model.specs.Places.{cells as cells_of, IsInside};
 ghost use Rattle.h5_model.specs.Cells.{value_in as value_at_place};
 ghost use Rattle.h5_model.specs.Reading.{cell_at};
@@ -31,7 +32,8 @@ pub struct ArrayRef<'a> {
 }
 
 impl<'a> Model for ArrayRef<'a> {
-    ghost use Rattle.std.specs.Prelude.{◌≡◌};
+    ghost use Rattle.std.specs.Prelude.{◌≡◌, true};
+    ghost use Rattle.h5_model.specs.Fixed.{fits};
     ghost use Rattle.h5_msg.specs.Layouts.{layout_in};
     ghost use Rattle.h5_layout.specs.Described.{Described, array_of};
     ghost use Rattle.h5_layout.specs.Stored.{IsArray};
@@ -40,7 +42,7 @@ impl<'a> Model for ArrayRef<'a> {
 
     ghost view = { λ a. array_of a.fixed a.extent a.fill (layout_in a.layout) };
 
-    ghost invariant = { λ a. (a.dims ≡ a.extent.sizes) × IsArray (array_of a.fixed a.extent a.fill (layout_in a.layout)) };
+    ghost invariant = { λ a. (a.dims ≡ a.extent.sizes) × (fits a.fixed a.fill ≡ true) × IsArray (array_of a.fixed a.extent a.fill (layout_in a.layout)) };
 }
 
 impl<'a> ArrayRef<'a> {
@@ -69,7 +71,8 @@ impl<'a> ArrayRef<'a> {
 
     /// The value of a cell that was never written.
     pub fn fill(&self) -> i128
-        ensures { result ≡ self.now.fill }
+        ensures value { result ≡ self.now.fill }
+        ensures of_type { fits self.now.fixed self.now.fill ≡ true }
     {
         self.fill
     }

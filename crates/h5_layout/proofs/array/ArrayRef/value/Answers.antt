@@ -30,14 +30,14 @@ found c =
 
 pub value_in-requires : goal.value_in-requires
 value_in-requires c =
-    let room : nat_le (cells c.self.inside.extent.sizes * c.self.inside.fixed.size) (length c.in-Compact.bytes.now) ≡ true = rw c.in-Compact.is at c.self.invariant.1.room in
+    let room : nat_le (cells c.self.inside.extent.sizes * c.self.inside.fixed.size) (length c.in-Compact.bytes.now) ≡ true = rw c.in-Compact.is at c.self.invariant.2.room in
     place_room c.self.inside.extent.sizes c.self.inside.fixed.size c.args.place (length c.in-Compact.bytes.now) (below (goal.at.value_in-requires c).After-self) room
 
 pub value_in_block-requires : goal.value_in_block-requires
 value_in_block-requires c = record {
   within = λ block is. rw (← c.self.view_is, c.in-Contiguous.is, is) at c.requires.stored;
   room = λ block is.
-      let room : nat_le (cells c.self.inside.extent.sizes * c.self.inside.fixed.size) block.len ≡ true = rw (c.in-Contiguous.is, is) at c.self.invariant.1.room in
+      let room : nat_le (cells c.self.inside.extent.sizes * c.self.inside.fixed.size) block.len ≡ true = rw (c.in-Contiguous.is, is) at c.self.invariant.2.room in
       place_room c.self.inside.extent.sizes c.self.inside.fixed.size c.args.place block.len (below (goal.at.value_in_block-requires c).After-self) room;
 }
 
