@@ -59,7 +59,7 @@ pub fn read_array<'a>(
     }
 }
 
-/// The array, or the first rule that the messages break.
+/// The array, or the first rule that these messages break.
 fn judge<'a>(alloc: Global, image: &'a Image, messages: &Messages) -> Result<ArrayRef<'a>, Cause>
     requires within { IsWithin (length image.now.bytes) messages.now.list }
     requires dataset { IsOfDataset (messages_in image.now.bytes messages.now.list) }
