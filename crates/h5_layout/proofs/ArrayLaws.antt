@@ -26,8 +26,8 @@ one_fill ms t f g p q =
     let new : p.new_fill ≡ q.new_fill = one_value (fill_value t) (first_body 5 ms) p.new_fill q.new_fill p.new_filled q.new_filled in
     p.filled ∙ ap₂ chosen_fill new old ∙ sym q.filled
 
-same_described : (a b : Described) → a.fixed ≡ b.fixed → a.sizes ≡ b.sizes → a.maxima ≡ b.maxima → a.fill ≡ b.fill → a.layout ≡ b.layout → a ≡ b
-same_described a b p q r s t = λ i. record { fixed = p i; sizes = q i; maxima = r i; fill = s i; layout = t i }
+same_array : (a b : Described) → a.fixed ≡ b.fixed → a.sizes ≡ b.sizes → a.maxima ≡ b.maxima → a.fill ≡ b.fill → a.layout ≡ b.layout → a ≡ b
+same_array a b p q r s t = λ i. record { fixed = p i; sizes = q i; maxima = r i; fill = s i; layout = t i }
 
 pub one_array : (ms : List Message) (a b : Described) → HasArray ms a → HasArray ms b → a ≡ b
 one_array ms a b h g =
@@ -39,7 +39,7 @@ one_array ms a b h g =
     let read : option_and_then (layout_of a.sizes a.fixed.size) (first_body 8 ms) ≡ option_and_then (layout_of b.sizes b.fixed.size) (first_body 8 ms)
     = λ i. option_and_then (layout_of (sizes i) ((fixed i).size)) (first_body 8 ms) in
     let layout : a.layout ≡ b.layout = same_Some _ _ (sym h.laid_out ∙ read ∙ g.laid_out) in
-    same_described a b fixed sizes maxima fill layout
+    same_array a b fixed sizes maxima fill layout
 
 -- ---- the dataset
 
@@ -70,11 +70,11 @@ has_dataset image ms a chunks blocks h known stored = record {
 }
 
 -- what the messages of a dataset describe
-abbrev pub described : (image : List ℕ) (ms : List Message) (d : Dataset) (blocks : List Block) → HasDataset image ms d blocks → Described
-described image ms d blocks h = record { fixed = d.fixed; sizes = d.sizes; maxima = d.maxima; fill = d.fill; layout = h.layout }
+abbrev pub in_header : (image : List ℕ) (ms : List Message) (d : Dataset) (blocks : List Block) → HasDataset image ms d blocks → Described
+in_header image ms d blocks h = record { fixed = d.fixed; sizes = d.sizes; maxima = d.maxima; fill = d.fill; layout = h.layout }
 
 pub has_array : (image : List ℕ) (ms : List Message) (d : Dataset) (blocks : List Block) (h : HasDataset image ms d blocks)
-    → HasArray ms (described image ms d blocks h)
+    → HasArray ms (in_header image ms d blocks h)
 has_array image ms d blocks h = record {
   one_space = h.one_space;
   one_type = h.one_type;
@@ -90,7 +90,7 @@ has_array image ms d blocks h = record {
 }
 
 -- the dataset is that of the description, with its stored chunks
-pub dataset_in-described : (image : List ℕ) (ms : List Message) (d : Dataset) (blocks : List Block) (h : HasDataset image ms d blocks)
-    → dataset_in image (described image ms d blocks h) h.chunks ≡ d
-dataset_in-described image ms d blocks h =
+pub dataset_in-in_header : (image : List ℕ) (ms : List Message) (d : Dataset) (blocks : List Block) (h : HasDataset image ms d blocks)
+    → dataset_in image (in_header image ms d blocks h) h.chunks ≡ d
+dataset_in-in_header image ms d blocks h =
     λ i. record { fixed = d.fixed; sizes = d.sizes; maxima = d.maxima; storage = (sym h.storage) i; fill = d.fill; cells = (sym h.cells) i }

@@ -3,7 +3,7 @@ use Rattle.std.specs.Prelude.{◌≡◌, ℕ, ◌^◌, ◌≤◌, ℤ, Option, S
 use Rattle.h5_model.specs.Messages.{Message, count_of, first_body}
 use Rattle.h5_model.specs.Fixed.{Fixed}
 use Rattle.h5_model.specs.Places.{extent_cells}
-use Rattle.h5_model.specs.Extent.{extent_of}
+use Rattle.h5_model.specs.Extent.{Extent, extent_of}
 use Rattle.h5_model.specs.Datatype.{fixed_of}
 use Rattle.h5_model.specs.Fill.{fill_value, old_fill_value, chosen_fill}
 use Rattle.h5_model.specs.Layout.{Layout, layout_of}
@@ -19,6 +19,10 @@ pub record Described : Type 0 where
   pub maxima : List (Option ℕ)
   pub fill : ℤ
   pub layout : Layout
+
+-- the array of this type, extent, fill value and layout
+abbrev pub array_of : Fixed → Extent → ℤ → Layout → Described
+array_of t extent fill layout = record { fixed = t; sizes = extent.sizes; maxima = extent.maxima; fill = fill; layout = layout }
 
 -- The fill value of a dataset of this type by its messages.
 pub record HasFill (messages : List Message) (t : Fixed) (fill : ℤ) : Type 0 where

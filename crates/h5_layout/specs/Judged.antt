@@ -1,4 +1,5 @@
--- The rules on the messages of a dataset in the order in which they are judged (File Format Specification 3.0, section IV.A.2).
+-- The rules on the messages of a dataset, in the order in which they are judged (File Format Specification 3.0, section
+-- IV.A.2).
 use Rattle.std.specs.Prelude.{ℕ, ◌*◌, ◌^◌, ◌||◌, Bool, false, nat_lt, is_none, if◌then◌else◌, ℤ, Option, Some, None, List}
 use Rattle.std.specs.Option.{option_map_or, option_or}
 use Rattle.h5_model.specs.Messages.{Message, first_body}
@@ -28,7 +29,8 @@ is_bad value body = option_map_or (λ bytes. is_none (value bytes)) body false
 abbrev pub fill_breach : List Message → Option Fixed → Option Cause
 fill_breach ms None = None
 fill_breach ms (Some t) =
-    if is_bad (old_fill_value t) (first_body 4 ms) || is_bad (fill_value t) (first_body 5 ms) then Some FillForm else None
+    if is_bad (old_fill_value t) (first_body 4 ms) || is_bad (fill_value t) (first_body 5 ms)
+    then Some FillForm else None
 
 -- a chunk has more than 2^30 bytes
 abbrev pub is_chunk_large : Fixed → Layout → Bool

@@ -1,9 +1,10 @@
 //! An array as its header describes it.
 
-ghost use Rattle.std.specs.Prelude.{◌≡◌, ◌+◌, ◌*◌, ◌<◌, ◌≤◌, Some, length, slice_get};
+ghost use Rattle.std.specs.Prelude.{◌≡◌, ◌+◌, ◌*◌, ◌<◌, ◌≤◌, Some, true, length, slice_get};
 ghost use Rattle.std.specs.FinMap.{empty};
 ghost use Rattle.std.specs.Option.{ForSome, option_map_or};
 ghost use Rattle.h5_bytes.specs.Bytes.{part};
+ghost use Rattle.h5_model.specs.Fixed.{fits};
 ghost use Rattle.h5_model.specs.Places.{cells as cells_of, IsInside};
 ghost use Rattle.h5_model.specs.Cells.{value_in as value_at_place};
 ghost use Rattle.h5_model.specs.Reading.{cell_at};
@@ -19,8 +20,8 @@ use h5_space::Image;
 use h5_types::decode;
 use std::marker::Model;
 
-/// An array as the messages of its object header describe it: type, sizes, maxima, fill value and layout. It borrows the
-/// messages' bodies.
+/// An array as the messages of its object header describe it: type, sizes, maxima, fill value and layout. It borrows
+/// the messages' bodies.
 #[derive(Drop)]
 pub struct ArrayRef<'a> {
     pub(crate) fixed: Fixed,
@@ -31,16 +32,17 @@ pub struct ArrayRef<'a> {
 }
 
 impl<'a> Model for ArrayRef<'a> {
-    ghost use Rattle.std.specs.Prelude.{◌≡◌};
+    ghost use Rattle.std.specs.Prelude.{◌≡◌, true};
+    ghost use Rattle.h5_model.specs.Fixed.{fits};
     ghost use Rattle.h5_msg.specs.Layouts.{layout_in};
-    ghost use Rattle.h5_layout.specs.Described.{Described};
+    ghost use Rattle.h5_layout.specs.Described.{Described, array_of};
     ghost use Rattle.h5_layout.specs.Stored.{IsArray};
 
     ghost Value = { Described };
 
-    ghost view = { λ a. record { fixed = a.fixed; sizes = a.extent.sizes; maxima = a.extent.maxima; fill = a.fill; layout = layout_in a.layout } };
+    ghost view = { λ a. array_of a.fixed a.extent a.fill (layout_in a.layout) };
 
-    ghost invariant = { λ a. (a.dims ≡ a.extent.sizes) × IsArray (record { fixed = a.fixed; sizes = a.extent.sizes; maxima = a.extent.maxima; fill = a.fill; layout = layout_in a.layout }) };
+    ghost invariant = { λ a. (a.dims ≡ a.extent.sizes) × (fits a.fixed a.fill ≡ true) × IsArray (array_of a.fixed a.extent a.fill (layout_in a.layout)) };
 }
 
 impl<'a> ArrayRef<'a> {
@@ -69,12 +71,13 @@ impl<'a> ArrayRef<'a> {
 
     /// The value of a cell that was never written.
     pub fn fill(&self) -> i128
-        ensures { result ≡ self.now.fill }
+        ensures value { result ≡ self.now.fill }
+        ensures of_type { fits self.now.fixed self.now.fill ≡ true }
     {
         self.fill
     }
 
-    /// Where the cells are: in the header, in a block or none yet, or in chunks of some sizes, with a B-tree or none yet.
+    /// Where the cells are: in the header; in a block, or in none yet; or in chunks, with a B-tree or none yet.
     pub fn layout(&self) -> &Layout<'a>
         ensures layout { layout_in result.now ≡ self.now.layout }
         ensures sound { IsArray self.now }
@@ -96,8 +99,8 @@ impl<'a> ArrayRef<'a> {
 
     /// The value of a cell of an array that is not chunked, by its place in row-major order.
     ///
-    /// That there is such a place, that the array is not chunked, and that the block of its data, where it has one, lies
-    /// in the image are the caller's conditions.
+    /// That there is such a place, that the array is not chunked, and that the block of its data, where it has one,
+    /// lies in the image are the caller's conditions.
     pub fn value(&self, image: &Image, place: u64) -> i128
         requires below { place < cells_of self.now.sizes }
         requires stored { IsUnchunked (length image.now.bytes) self.now.layout }
@@ -124,7 +127,8 @@ fn value_in_block(
 ) -> i128
     requires within { ForSome block (λ b. b.at + b.len ≤ length image.now.bytes) }
     requires room { ForSome block (λ b. place * fixed.now.size + fixed.now.size ≤ b.len) }
-    ensures { result ≡ option_map_or (λ b. value_at_place fixed.now (part b.at b.len image.now.bytes) place) block fill }
+    ensures { result ≡ option_map_or (λ b. value_at_place fixed.now (part b.at b.len image.now.bytes) place) block
+        fill }
 {
     let Some(block) = block else {
         return fill;

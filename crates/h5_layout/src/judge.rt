@@ -1,9 +1,10 @@
 //! Rules on the bodies of a dataset's messages.
 
-ghost use Rattle.std.specs.Prelude.{◌≡◌, None, Some, MatchResult, ok_or, true};
+ghost use Rattle.std.specs.Prelude.{◌≡◌, None, Some, IfOk, IfSome, MatchResult, ok_or, true};
 ghost use Rattle.std.specs.Option.{option_copied};
 ghost use Rattle.h5_model.specs.Extent.{extent_of};
 ghost use Rattle.h5_model.specs.Datatype.{fixed_of};
+ghost use Rattle.h5_model.specs.Fixed.{IsFixed, fits};
 ghost use Rattle.h5_model.specs.Fill.{fill_value, old_fill_value};
 ghost use Rattle.h5_model.specs.Layout.{layout_of};
 ghost use Rattle.h5_model.specs.Reads.{IsFill};
@@ -31,8 +32,10 @@ pub fn judge_dataspace(body: &[u8]) -> Result<Dataspace<'_>, Cause>
 }
 
 /// What a Datatype message says.
+#[tactic(auto, using(crate::proofs::FillLaws::type_sound))]
 pub fn judge_datatype(body: &[u8]) -> Result<Fixed, Cause>
-    ensures { result ≡ ok_or (fixed_of body.now) Cause.DatatypeForm }
+    ensures datatype { result ≡ ok_or (fixed_of body.now) Cause.DatatypeForm }
+    ensures sound { IfOk result (λ fixed. IsFixed fixed) }
 {
     let Ok(fixed) = read_datatype(body) else {
         return Err(Cause::DatatypeForm);
@@ -42,32 +45,58 @@ pub fn judge_datatype(body: &[u8]) -> Result<Fixed, Cause>
 
 /// The value of an old Fill Value message, where there is one.
 pub fn judge_old_fill(fixed: &Fixed, body: Option<&[u8]>) -> Result<Option<i128>, Cause>
-    ensures { MatchResult result
+    requires { IsFixed fixed.now }
+    ensures form { MatchResult result
         (λ fill. IsFill (old_fill_value fixed.now) (option_copied body.entry) fill)
         (λ cause. (cause ≡ Cause.FillForm) × (is_bad (old_fill_value fixed.now) (option_copied body.entry) ≡ true)) }
+    ensures of_type { IfOk result (λ fill. IfSome fill (λ v. fits fixed.now v ≡ true)) }
 {
     let Some(body) = body else {
         return Ok(None);
     };
+    let fill = old_fill_in(fixed, body)?;
+    Ok(Some(fill))
+}
+
+/// The value in the body of an old Fill Value message.
+#[tactic(auto, using(crate::proofs::FillLaws::old_fill_fits))]
+fn old_fill_in(fixed: &Fixed, body: &[u8]) -> Result<i128, Cause>
+    requires { IsFixed fixed.now }
+    ensures value { result ≡ ok_or (old_fill_value fixed.now body.now) Cause.FillForm }
+    ensures of_type { IfOk result (λ v. fits fixed.now v ≡ true) }
+{
     let Ok(fill) = read_old_fill(fixed, body) else {
         return Err(Cause::FillForm);
     };
-    Ok(Some(fill))
+    Ok(fill)
 }
 
 /// The value of a Fill Value message, where there is one.
 pub fn judge_fill(fixed: &Fixed, body: Option<&[u8]>) -> Result<Option<i128>, Cause>
-    ensures { MatchResult result
+    requires { IsFixed fixed.now }
+    ensures form { MatchResult result
         (λ fill. IsFill (fill_value fixed.now) (option_copied body.entry) fill)
         (λ cause. (cause ≡ Cause.FillForm) × (is_bad (fill_value fixed.now) (option_copied body.entry) ≡ true)) }
+    ensures of_type { IfOk result (λ fill. IfSome fill (λ v. fits fixed.now v ≡ true)) }
 {
     let Some(body) = body else {
         return Ok(None);
     };
+    let fill = fill_in(fixed, body)?;
+    Ok(Some(fill))
+}
+
+/// The value in the body of a Fill Value message.
+#[tactic(auto, using(crate::proofs::FillLaws::fill_fits))]
+fn fill_in(fixed: &Fixed, body: &[u8]) -> Result<i128, Cause>
+    requires { IsFixed fixed.now }
+    ensures value { result ≡ ok_or (fill_value fixed.now body.now) Cause.FillForm }
+    ensures of_type { IfOk result (λ v. fits fixed.now v ≡ true) }
+{
     let Ok(fill) = read_fill(fixed, body) else {
         return Err(Cause::FillForm);
     };
-    Ok(Some(fill))
+    Ok(fill)
 }
 
 /// What a Data Layout message says of an array of these sizes and this type.

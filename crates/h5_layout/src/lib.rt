@@ -1,7 +1,7 @@
-//! Arrays as the object headers of datasets describe them: type, sizes, maxima, fill value and layout, and the cells that
-//! stand one after another (File Format Specification 3.0, section IV.A.2).
+//! Arrays as the object headers of datasets describe them: type, sizes, maxima, fill value and layout, and the cells
+//! that are not in chunks (File Format Specification 3.0, section IV.A.2).
 //!
-//! No call takes memory. Places and sizes of data are in bytes, sizes of arrays and chunks in elements.
+//! No call takes memory. Places and lengths of data are in bytes, sizes of arrays and chunks in elements.
 #![tactic(auto)]
 
 mod array;

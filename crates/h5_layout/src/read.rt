@@ -29,9 +29,9 @@ const DATA_LAYOUT: u16 = 8;
 
 /// The array that a dataset's messages describe. Takes no memory.
 ///
-/// Refusals, at the header, in the order in which the messages are judged: `DataspaceForm`; `TooLarge` where the product of
-/// the sizes, those of 0 left out, is above 2^40; `DatatypeForm`; `FillForm`, of the old Fill Value message before the new;
-/// `LayoutForm`; `TooLarge` where a chunk has more than 2^30 bytes.
+/// Refusals, at the header, in the order in which the messages are judged: `DataspaceForm`; `TooLarge` where the
+/// product of the sizes, those of 0 left out, is above 2^40; `DatatypeForm`; `FillForm`, of the old Fill Value message
+/// and then of the new; `LayoutForm`; `TooLarge` where a chunk has more than 2^30 bytes.
 ///
 /// That the messages are those of a dataset and lie in the image are the caller's conditions.
 pub fn read_array<'a>(
@@ -42,10 +42,13 @@ pub fn read_array<'a>(
     requires within { IsWithin (length image.now.bytes) messages.now.list }
     requires dataset { IsOfDataset (messages_in image.now.bytes messages.now.list) }
     ensures read { IfOk result (λ array. HasArray (messages_in image.now.bytes messages.now.list) array) }
-    ensures only { (array : Described) → HasArray (messages_in image.now.bytes messages.now.list) array → result ≡ Ok array }
+    ensures only { (array : Described) → HasArray (messages_in image.now.bytes messages.now.list) array
+        → result ≡ Ok array }
     ensures address { IfErr result (λ fault. fault.address ≡ messages.now.header) }
-    ensures first { IfErr result (λ fault. breach_in (messages_in image.now.bytes messages.now.list) ≡ Some fault.cause) }
-    ensures refused { IfErr result (λ fault. ListBreach image.now.bytes messages.now.header (messages_in image.now.bytes messages.now.list) fault.cause) }
+    ensures first { IfErr result (λ fault.
+        breach_in (messages_in image.now.bytes messages.now.list) ≡ Some fault.cause) }
+    ensures refused { IfErr result (λ fault.
+        ListBreach image.now.bytes messages.now.header (messages_in image.now.bytes messages.now.list) fault.cause) }
 {
     match judge(alloc, image, messages) {
         Ok(array) => Ok(array),
@@ -56,7 +59,7 @@ pub fn read_array<'a>(
     }
 }
 
-/// The array, or the first rule that the messages break.
+/// The array, or the first rule that these messages break.
 fn judge<'a>(alloc: Global, image: &'a Image, messages: &Messages) -> Result<ArrayRef<'a>, Cause>
     requires within { IsWithin (length image.now.bytes) messages.now.list }
     requires dataset { IsOfDataset (messages_in image.now.bytes messages.now.list) }

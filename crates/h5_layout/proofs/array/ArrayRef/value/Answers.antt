@@ -8,20 +8,14 @@ use Rattle.h5_bytes.specs.declared.Block.{Block}
 use Rattle.h5_model.specs.Places.{cells, index_of}
 use Rattle.h5_model.specs.Cells.{value_in, cell_of}
 use Rattle.h5_msg.specs.Layouts.{layout_in}
-use Rattle.h5_layout.specs.Described.{Described, dataset_in}
+use Rattle.h5_layout.specs.Described.{Described, array_of, dataset_in}
 use Rattle.h5_layout.proofs.RoomLaws.{place_room, get-cells, message_cell, block_cell}
 use Rattle.h5_layout.proofs.array.ArrayRef.value.Goals as goal
 use Rattle.h5_layout.proofs.array.ArrayRef.value.Goals.{After-self}
 
 -- the value, by its fields
 here : (c : After-self) → Described
-here c = record {
-  fixed = c.self.inside.fixed;
-  sizes = c.self.inside.extent.sizes;
-  maxima = c.self.inside.extent.maxima;
-  fill = c.self.inside.fill;
-  layout = layout_in c.self.inside.layout;
-}
+here c = array_of c.self.inside.fixed c.self.inside.extent c.self.inside.fill (layout_in c.self.inside.layout)
 
 below : (c : After-self) → c.args.place < cells c.self.inside.extent.sizes
 below c = rw (← c.self.view_is) at c.requires.below
@@ -36,14 +30,14 @@ found c =
 
 pub value_in-requires : goal.value_in-requires
 value_in-requires c =
-    let room : nat_le (cells c.self.inside.extent.sizes * c.self.inside.fixed.size) (length c.in-Compact.bytes.now) ≡ true = rw c.in-Compact.is at c.self.invariant.1.room in
+    let room : nat_le (cells c.self.inside.extent.sizes * c.self.inside.fixed.size) (length c.in-Compact.bytes.now) ≡ true = rw c.in-Compact.is at c.self.invariant.2.room in
     place_room c.self.inside.extent.sizes c.self.inside.fixed.size c.args.place (length c.in-Compact.bytes.now) (below (goal.at.value_in-requires c).After-self) room
 
 pub value_in_block-requires : goal.value_in_block-requires
 value_in_block-requires c = record {
   within = λ block is. rw (← c.self.view_is, c.in-Contiguous.is, is) at c.requires.stored;
   room = λ block is.
-      let room : nat_le (cells c.self.inside.extent.sizes * c.self.inside.fixed.size) block.len ≡ true = rw (c.in-Contiguous.is, is) at c.self.invariant.1.room in
+      let room : nat_le (cells c.self.inside.extent.sizes * c.self.inside.fixed.size) block.len ≡ true = rw (c.in-Contiguous.is, is) at c.self.invariant.2.room in
       place_room c.self.inside.extent.sizes c.self.inside.fixed.size c.args.place block.len (below (goal.at.value_in_block-requires c).After-self) room;
 }
 
