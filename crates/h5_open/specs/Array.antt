@@ -1,11 +1,13 @@
 -- An array that a link leads to, read in a walk (File Format Specification 3.0, sections III.C and IV.A).
-use Rattle.std.specs.Prelude.{◌≡◌, ℕ, ◌+◌, ◌≤◌, Option, Some, None, List, [], ◌∷◌, length}
+use Rattle.std.specs.Prelude.{◌≡◌, ℕ, ◌+◌, ◌≤◌, IsTrue, Option, Some, None, List, [], ◌∷◌, length}
+use Rattle.std.specs.List.{AllByRecursion}
 use Rattle.h5_bytes.specs.Blocks.{cover, Inside}
 use Rattle.h5_bytes.specs.declared.Block.{Block}
 use Rattle.h5_model.specs.Superblock.{leaf_k}
 use Rattle.h5_model.specs.Messages.{HasMessages}
 use Rattle.h5_model.specs.Symbols.{symbol_bytes, symbols_in}
 use Rattle.h5_model.specs.Reached.{Named, named, SymbolNode, Reached, entry_in}
+use Rattle.h5_header.specs.Heads.{is_read}
 use Rattle.h5_header.specs.Listed.{Listed, messages_in, IsWithin}
 use Rattle.h5_walk.specs.Met.{IsHeaderMet}
 use Rattle.h5_open.specs.declared.line.Line.{Line}
@@ -20,6 +22,7 @@ data_blocks (Some b) = b ∷ []
 pub record IsLineRead (image : List ℕ) (header : ℕ) (held now : List Block) (m : Listed) (line : Line) : Type 0 where
   pub header_is : m.header ≡ header
   pub has : HasMessages image header (messages_in image m.list) m.blocks
+  pub known : AllByRecursion (λ x. IsTrue (is_read x.kind)) m.list
   pub within : IsWithin (length image) m.list
   pub list : IsLineList (messages_in image m.list) line
   pub inside : Inside (length image) m.blocks

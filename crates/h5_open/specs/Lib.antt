@@ -1,3 +1,4 @@
 pub mod Opened
 pub mod Judged
 pub mod Array
+pub mod Root

@@ -87,6 +87,9 @@ module _ (o : Object) (empty_group : o.content ≡ Group empty) where
 
 -- ---- the root with one link to an array
 
+pub entries_of_link : (name : List ℕ) → entries (link_to_one name) ≡ (name, ToObject 1) ∷ []
+entries_of_link name = entries-insert nat_list_cmp_total empty name (ToObject 1) ∙ ap (put (slice_cmp nat_cmp) name (ToObject 1)) (entries-empty (slice_cmp nat_cmp))
+
 module _ (name : List ℕ) (o p : Object) (d : Dataset) (linking : o.content ≡ Group (link_to_one name)) (array : p.content ≡ Array d) where
   abbrev T : Tree
   T = pair_tree o p
@@ -102,9 +105,6 @@ module _ (name : List ℕ) (o p : Object) (d : Dataset) (linking : o.content ≡
   pair_other : (n : ℕ) → get T (suc (suc n)) ≡ None
   unfolding pair_tree alone_tree
   pair_other n = two_other o p n
-
-  pub link_entries : entries (link_to_one name) ≡ (name, ToObject 1) ∷ []
-  link_entries = entries-insert nat_list_cmp_total empty name (ToObject 1) ∙ ap (put (slice_cmp nat_cmp) name (ToObject 1)) (entries-empty (slice_cmp nat_cmp))
 
   link_is : (x : List ℕ) → get (link_to_one name) x ≡ cond (eq_by_cmp (slice_cmp nat_cmp) x name) (Some (ToObject 1)) None
   link_is x = get-insert nat_list_cmp_total empty name (ToObject 1) x ∙ ap (cond (eq_by_cmp (slice_cmp nat_cmp) x name) (Some (ToObject 1))) (get-empty (slice_cmp nat_cmp) x)
@@ -132,8 +132,8 @@ module _ (name : List ℕ) (o p : Object) (d : Dataset) (linking : o.content ≡
 
   pub links_to_root : hard_links T 0 ≡ 0
   unfolding pair_tree alone_tree
-  links_to_root = rw (two_entries o p, linking, array, link_entries) refl
+  links_to_root = rw (two_entries o p, linking, array, entries_of_link name) refl
 
   pub links_to_array : hard_links T 1 ≡ 1
   unfolding pair_tree alone_tree
-  links_to_array = rw (two_entries o p, linking, array, link_entries) refl
+  links_to_array = rw (two_entries o p, linking, array, entries_of_link name) refl
