@@ -17,7 +17,7 @@ use Rattle.h5_header.specs.Progress.{FilledTo, Partly, IsClaimed}
 use Rattle.h5_header.proofs.MetLaws.{length-part-le, continuation_cases, IsNamedBy, IsNaming, parts_naming}
 
 -- how many of the messages have their head at this place
-heads : ℕ → List Message → ℕ
+unfoldable pub heads : ℕ → List Message → ℕ
 heads q [] = 0
 heads q (m ∷ ms) = (if m.at == q + 8 then 1 else 0) + heads q ms
 
@@ -45,7 +45,7 @@ fills_heads q b bytes from (m ∷ ms) short low fills =
     let joined = holds_join q (b.at + from) (8 + size) (b.len - (from + 8 + size)) in
     rw len (omega (arith, joined, rw place at rest, one))
 
-filled_heads : (image : List ℕ) (q : ℕ) (waiting : List Block) (parts : List (List Message)) (rest : List Block) → FilledTo image waiting parts rest
+pub filled_heads : (image : List ℕ) (q : ℕ) (waiting : List Block) (parts : List (List Message)) (rest : List Block) → FilledTo image waiting parts rest
     → heads q (flat_map (λ (ms : List Message). ms) parts) + cover q rest
     ≤ cover q waiting + cover q (continuations (flat_map (λ (ms : List Message). ms) parts))
 unfolding heads
@@ -122,7 +122,7 @@ record IsFound (image : List ℕ) (header p : ℕ) (ms : List Message) : Type 0 
   shared : holds p c.at c.len ≡ 1
   one : 1 ≤ heads other ms
 
-head_here : (at : ℕ) (m : Message) (ms : List Message) → m.at ≡ at + 8 → heads at (m ∷ ms) ≡ 1 + heads at ms
+pub head_here : (at : ℕ) (m : Message) (ms : List Message) → m.at ≡ at + 8 → heads at (m ∷ ms) ≡ 1 + heads at ms
 unfolding heads
 head_here at m ms e = let same : (m.at == at + 8) ≡ true = grind (arith, nat_tests, e) in rw same refl
 
@@ -188,6 +188,18 @@ module _ (image : List ℕ) (header : ℕ) (held : List Block) (messages : List 
       let covered : cover q done ≡ holds q header (16 + first_size (prefix_at image header)) + cover q own.0 = ap (cover q) own.1 in
       omega (arith, here, blocks, within, covered, claimed.covered q, separate q)
 
+  -- where a message stands nothing was held before
+  apart : (q : ℕ) → 1 ≤ heads q messages → cover q held ≡ 0
+  apart q one =
+      let all = filled_heads image q (first_block image header ∷ []) partly.parts (b ∷ rest) partly.filled in
+      let here : heads q messages + cover q (b ∷ rest) ≤ cover q (first_block image header ∷ []) + cover q (continuations messages)
+      = subst (λ (xs : List Message). heads q xs + cover q (b ∷ rest) ≤ cover q (first_block image header ∷ []) + cover q (continuations xs)) (sym partly.all) all in
+      let blocks : cover q (continuations messages) ≡ cover q own.0 + cover q (b ∷ rest) = ap (cover q) (sym own.2) ∙ cover-append q own.0 (b ∷ rest) in
+      let within : holds q (header + 16) (first_size (prefix_at image header)) ≤ holds q header (16 + first_size (prefix_at image header))
+      = holds-inner q (header + 16) (first_size (prefix_at image header)) header (16 + first_size (prefix_at image header)) (omega arith) (omega arith) in
+      let covered : cover q done ≡ holds q header (16 + first_size (prefix_at image header)) + cover q own.0 = ap (cover q) own.1 in
+      omega (arith, one, here, blocks, within, covered, claimed.covered q, separate q)
+
   splits : IsSplit messages own.0 b
   splits = split_at messages b rest own.0 own.2
 
@@ -205,6 +217,14 @@ module _ (image : List ℕ) (header : ℕ) (held : List Block) (messages : List 
       let all : heads by.0 messages ≡ heads by.0 splits.before + heads by.0 (splits.m ∷ splits.after)
       = ap (heads by.0) splits.split ∙ heads-append by.0 splits.before (splits.m ∷ splits.after) in
       omega (arith, one_each by.0)
+
+  -- the message that names the block stands in none of those held before
+  unheld : cover by.0 held ≡ 0
+  unheld =
+      let head : heads by.0 (splits.m ∷ splits.after) ≡ 1 + heads by.0 splits.after = head_here by.0 splits.m splits.after by.1 in
+      let all : heads by.0 messages ≡ heads by.0 splits.before + heads by.0 (splits.m ∷ splits.after)
+      = ap (heads by.0) splits.split ∙ heads-append by.0 splits.before (splits.m ∷ splits.after) in
+      apart by.0 (omega (arith, all, head))
 
   pub is_named : (at : ℕ) × NamesBlock image header at b
   is_named = (by.0, by.2)
@@ -224,5 +244,5 @@ module _ (image : List ℕ) (header : ℕ) (held : List Block) (messages : List 
     ]
   ]
 
-  pub crosses : Shares held' b.at b.len → (at : ℕ) × NamesBlock image header at b × Crosses image header held at b
-  crosses shares = (by.0, by.2, meets shares)
+  pub crosses : Shares held' b.at b.len → (at : ℕ) × NamesBlock image header at b × (cover at held ≡ 0) × Crosses image header held at b
+  crosses shares = (by.0, by.2, unheld, meets shares)

@@ -10,3 +10,4 @@ pub mod CrossLaws
 pub mod RefusedLaws
 pub mod ReadableLaws
 pub mod KindLaws
+pub mod FoundLaws

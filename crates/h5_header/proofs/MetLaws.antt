@@ -2,6 +2,7 @@
 use Rattle.std.proofs.Common.{◌≡◌, ℕ, ◌+◌, ◌≤◌, ◌⊎◌, inl, inr, List, [], ◌∷◌, ◌++◌, length, refl, sym, ◌∙◌, ap, ap₂, subst, arith, Option, Some, None, drop}
 use Rattle.std.specs.Prelude.{◌==◌, Bool, true, false, nat_le, if◌then◌else◌}
 use Rattle.std.proofs.lemmas.List.{length-take}
+use Rattle.std.proofs.Common.{length-drop}
 use Rattle.std.proofs.lemmas.Bool.Decides.{nat_tests}
 use Rattle.std.specs.List.{AllByRecursion, flat_map}
 use Rattle.h5_bytes.specs.Bytes.{number_at, part}
@@ -19,6 +20,11 @@ use Rattle.h5_header.specs.Progress.{FillsTo, FilledTo}
 pub length-part-le : (at len : ℕ) (bytes : List ℕ) → length (part at len bytes) ≤ len
 unfolding part
 length-part-le at len bytes = omega (arith, length-take len (drop at bytes))
+
+-- a part that has bytes ends in what it is a part of
+pub part-there : (at len : ℕ) (bytes : List ℕ) → 1 ≤ length (part at len bytes) → at + length (part at len bytes) ≤ length bytes
+unfolding part
+part-there at len bytes some = omega (arith, some, length-take len (drop at bytes), length-drop at bytes)
 
 pub long_body : (body : List ℕ) (b : Block) → continuation_of body ≡ Some b → (16 ≤ length body) × (b ≡ block (number_at body 0 8) (number_at body 8 8))
 unfolding continuation_of
@@ -83,6 +89,7 @@ module _ (image : List ℕ) (header : ℕ) (b : Block) (to : ℕ) (m : Message) 
         fits = (record { end = b.at + b.len; met = met; inside = omega (arith, fits) }, fits);
         kind = sym kind ∙ is_16;
         long = omega (arith, long.0, len);
+        there = omega (arith, is.whole, size, long.0, len, part-there b.at b.len image (omega (arith, is.whole)));
         named = long.1 ∙ ap₂ block first second;
       }
 
@@ -168,7 +175,7 @@ module _ (image : List ℕ) (header : ℕ) where
       → AllByRecursion (IsNaming image header) (flat_map (λ (ms : List Message). ms) parts)
   parts_naming parts rest filled = (filled_met (first_block image header ∷ []) parts rest filled (first_met, tt)).1
 
-whole_filled : (image : List ℕ) (waiting : List Block) (parts : List (List Message)) → FillBlocks image waiting parts → FilledTo image waiting parts []
+pub whole_filled : (image : List ℕ) (waiting : List Block) (parts : List (List Message)) → FillBlocks image waiting parts → FilledTo image waiting parts []
 whole_filled image [] [] fills = refl
 whole_filled image [] (ms ∷ parts) fills = fills
 whole_filled image (b ∷ waiting) [] fills = absurd fills

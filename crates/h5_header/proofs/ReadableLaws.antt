@@ -109,7 +109,7 @@ module _ (image : List ℕ) (header : ℕ) (held : List Block) (r : IsReadable i
 
   no_prefix : (cause : Cause) (address : ℕ) → PrefixBreach image header held cause address → cause ≡ NoMemory
   no_prefix Truncated address breach = absurd (omega (arith, breach.1, laid_inside.0))
-  no_prefix HeaderVersion address breach = absurd (breach.1 (r.has).version)
+  no_prefix HeaderVersion address breach = absurd (breach.2 (r.has).version)
   no_prefix Overlap address (e, (p, inside, taken)) = absurd (omega (arith, inside, taken, laid_separate p))
   no_prefix NoMemory address breach = refl
   no_prefix _ address breach = absurd breach

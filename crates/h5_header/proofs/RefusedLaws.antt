@@ -1,5 +1,5 @@
 -- Where the reading of a header stops, a rule of the header is broken at the address that is named.
-use Rattle.std.proofs.Common.{◌≡◌, ◌≢◌, ℕ, ◌+◌, inl, inr, List, refl, sym, subst, arith}
+use Rattle.std.proofs.Common.{◌≡◌, ◌≢◌, ℕ, ◌+◌, ◌≤◌, inl, inr, List, length, refl, sym, subst, arith}
 use Rattle.h5_bytes.specs.declared.Block.{Block}
 use Rattle.h5_model.specs.Reached.{Met}
 use Rattle.h5_model.specs.declared.open_fault.Cause.{Cause}
@@ -10,15 +10,15 @@ use Rattle.h5_header.specs.Progress.{PrefixBreach, StopsAtBlock, Stops, without_
 use Rattle.h5_header.proofs.MetLaws.{stop_met}
 use Rattle.h5_header.proofs.CrossLaws.{is_named, crosses}
 
-head_refused : (image : List ℕ) (header at end : ℕ) (held : List Block) (cause : Cause) (address : ℕ) → address ≡ header → Met image header at end → at ≢ end
+head_refused : (image : List ℕ) (header at end : ℕ) (held : List Block) (cause : Cause) (address : ℕ) → address ≡ header → header + 16 ≤ length image → Met image header at end → at ≢ end
     → HeadBreach image at end cause → IsRefused image header held cause address
-head_refused image header at end held MessageSize address e met low breach = (e, (at, end, met, breach))
-head_refused image header at end held SharedMessage address e met low breach = (e, (at, record { end = end; met = met; inside = breach.0 }, breach.1))
-head_refused image header at end held UnknownMessage address e met low breach = (e, (at, record { end = end; met = met; inside = breach.0 }, breach.1))
-head_refused image header at end held Filtered address e met low breach = (e, (at, record { end = end; met = met; inside = breach.0 }, breach.1))
-head_refused image header at end held ExternalFiles address e met low breach = (e, (at, record { end = end; met = met; inside = breach.0 }, breach.1))
-head_refused image header at end held NewStyleGroup address e met low breach = (e, (at, record { end = end; met = met; inside = breach.0 }, breach.1))
-head_refused image header at end held _ address e met low breach = absurd breach
+head_refused image header at end held MessageSize address e there met low breach = (e, there, (at, end, met, breach))
+head_refused image header at end held SharedMessage address e there met low breach = (e, there, (at, record { end = end; met = met; inside = breach.0 }, breach.1))
+head_refused image header at end held UnknownMessage address e there met low breach = (e, there, (at, record { end = end; met = met; inside = breach.0 }, breach.1))
+head_refused image header at end held Filtered address e there met low breach = (e, there, (at, record { end = end; met = met; inside = breach.0 }, breach.1))
+head_refused image header at end held ExternalFiles address e there met low breach = (e, there, (at, record { end = end; met = met; inside = breach.0 }, breach.1))
+head_refused image header at end held NewStyleGroup address e there met low breach = (e, there, (at, record { end = end; met = met; inside = breach.0 }, breach.1))
+head_refused image header at end held _ address e there met low breach = absurd breach
 
 prefix_refused : (image : List ℕ) (header : ℕ) (held : List Block) (cause : Cause) (address : ℕ) → PrefixBreach image header held cause address
     → IsRefused image header held cause address
@@ -34,7 +34,7 @@ block_refused image header held Truncated address s =
     (s.here, inr (is_named image header held s.messages s.done s.here s.waiting s.partly s.begun s.held' s.claimed s.separate), s.breach.0, s.breach.1)
 block_refused image header held Overlap address s =
     let c = crosses image header held s.messages s.done s.here s.waiting s.partly s.begun s.held' s.claimed s.separate s.breach.1 in
-    inr (c.0, s.here, c.1, s.breach.0, c.2)
+    inr (c.0, s.here, c.1, s.breach.0, c.2, c.3)
 block_refused image header held NoMemory address s = tt
 block_refused image header held _ address s = absurd s.breach
 
@@ -44,5 +44,5 @@ stops_refused image header held cause address (without_memory none) = subst (λ 
 stops_refused image header held cause address (at_prefix breach) = prefix_refused image header held cause address breach
 stops_refused image header held cause address (at_message e s) =
     let met = stop_met image header s.parts s.here s.waiting (s.stops).before (s.stops).to s.filled (s.stops).filled in
-    head_refused image header (s.here.at + (s.stops).to) (s.here.at + s.here.len) held cause address e met (omega (arith, (s.stops).below)) (s.stops).breach
+    head_refused image header (s.here.at + (s.stops).to) (s.here.at + s.here.len) held cause address e s.prefix met (omega (arith, (s.stops).below)) (s.stops).breach
 stops_refused image header held cause address (at_block s) = block_refused image header held cause address s

@@ -1,5 +1,5 @@
 -- A header that was read to its end has the messages of the definition.
-use Rattle.std.proofs.Common.{◌≡◌, ℕ, ◌+◌, List, [], ◌∷◌, ◌++◌, length, refl, sym, ◌∙◌, ap, subst, arith, append-nil, length-append}
+use Rattle.std.proofs.Common.{◌≡◌, ℕ, ◌+◌, ◌≤◌, List, [], ◌∷◌, ◌++◌, length, refl, sym, ◌∙◌, ap, subst, arith, append-nil, length-append}
 use Rattle.std.specs.Prelude.{IsTrue}
 use Rattle.std.specs.List.{AllByRecursion}
 use Rattle.h5_bytes.specs.Bytes.{byte_at}
@@ -45,6 +45,12 @@ module _ (image : List ℕ) (header : ℕ) (held held' : List Block) (list : Lis
   first_inside =
       let all = subst (Inside (length image)) (through.split ∙ (through.partly).laid) blocks_inside in
       (omega (arith, all.0), all.1)
+
+  -- the prefix lies in the image
+  pub prefix_there : header + 16 ≤ length image
+  prefix_there =
+      let all = subst (Inside (length image)) (through.split ∙ (through.partly).laid) blocks_inside in
+      omega (arith, all.0)
 
   pub all_messages : AllMessages image header (messages_in image list)
   all_messages = ((through.partly).parts, filled, (through.partly).all, first_inside)

@@ -81,13 +81,14 @@ ClaimBreach end held b _ address = ⊥
 -- the prefix passes the end, is of another version, or cannot be claimed with its first block
 abbrev pub PrefixBreach : List ℕ → ℕ → List Block → Cause → ℕ → Type 0
 PrefixBreach image header held Truncated address = (address ≡ header) × (length image < header + (16 + first_size (prefix_at image header)))
-PrefixBreach image header held HeaderVersion address = (address ≡ header) × (byte_at (prefix_at image header) 0 ≢ 1)
+PrefixBreach image header held HeaderVersion address = (address ≡ header) × (header + 16 ≤ length image) × (byte_at (prefix_at image header) 0 ≢ 1)
 PrefixBreach image header held Overlap address = (address ≡ header) × Shares held header (16 + first_size (prefix_at image header))
 PrefixBreach image header held NoMemory address = Unit {0}
 PrefixBreach image header held _ address = ⊥
 
 -- a message of the block whose turn it is breaks a rule
 pub record StopsAtMessage (image : List ℕ) (header : ℕ) (cause : Cause) : Type 0 where
+  pub prefix : header + 16 ≤ length image
   pub parts : List (List Message)
   pub here : Block
   pub waiting : List Block

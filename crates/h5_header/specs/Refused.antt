@@ -16,11 +16,12 @@ use Rattle.h5_header.specs.Heads.{is_read}
 abbrev pub header_block : List ℕ → ℕ → Block
 header_block image header = block header (16 + first_size (prefix_at image header))
 
--- a Continuation message at this place of a header names the block
+-- a Continuation message at this place of a header names the block; its address and length lie in the image
 pub record NamesBlock (image : List ℕ) (header at : ℕ) (b : Block) : Type 0 where
   pub fits : FittingAt image header at
   pub kind : kind_at image at ≡ 16
   pub long : 16 ≤ size_at image at
+  pub there : at + 24 ≤ length image
   pub named : b ≡ block (number_at image (at + 8) 8) (number_at image (at + 16) 8)
 
 -- the header's own block, or one that a Continuation names
@@ -33,13 +34,14 @@ Crosses image header held at b = Shares held b.at b.len
     ⊎ (Shares (header_block image header ∷ []) b.at b.len
     ⊎ ((other : ℕ) × (c : Block) × (other ≢ at) × NamesBlock image header other c × Shares (c ∷ []) b.at b.len))
 
--- The cause holds of the header or of one of its blocks, and the address is that block's.
+-- The cause holds of the header or of one of its blocks, and the address is that block's. A message that names a block stands in none
+-- that was claimed before; a header of which a rule is broken has its prefix in the image.
 abbrev pub IsRefused : List ℕ → ℕ → List Block → Cause → ℕ → Type 0
 IsRefused image header held Truncated address = (b : Block) × IsBlockOf image header b × (address ≡ b.at) × (length image < b.at + b.len)
 IsRefused image header held Overlap address = ((address ≡ header) × Shares held header (16 + first_size (prefix_at image header)))
-    ⊎ ((at : ℕ) × (b : Block) × NamesBlock image header at b × (address ≡ b.at) × Crosses image header held at b)
+    ⊎ ((at : ℕ) × (b : Block) × NamesBlock image header at b × (address ≡ b.at) × (cover at held ≡ 0) × Crosses image header held at b)
 IsRefused image header held NoMemory address = Unit {0}
-IsRefused image header held cause address = (address ≡ header) × HeaderBreach image header cause
+IsRefused image header held cause address = (address ≡ header) × (header + 16 ≤ length image) × HeaderBreach image header cause
 
 -- the header has messages of types that are read, in blocks that lie in the image and share no byte with each other or with those
 -- that were claimed before

@@ -8,7 +8,7 @@ ghost use Rattle.h5_header.specs.Listed.{messages_in, IsWithin};
 ghost use Rattle.h5_header.specs.Progress.{ReadThrough, Stops};
 
 use crate::block::read_block;
-use crate::claim::{PREFIX, claim, claim_prefix};
+use crate::claims::{PREFIX, claim, claim_prefix};
 use crate::message::Message;
 use crate::numbers::u32_at;
 use h5_bytes::Block;

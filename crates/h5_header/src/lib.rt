@@ -5,13 +5,16 @@
 #![tactic(auto)]
 
 mod block;
-mod claim;
+mod claims;
+mod find;
 mod header;
 mod kinds;
 mod message;
 mod numbers;
 mod read;
 
+pub use claims::claim;
+pub use find::find_body;
 pub use header::Messages;
 pub use kinds::ObjectKind;
 pub use message::Message;

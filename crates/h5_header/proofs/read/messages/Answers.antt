@@ -7,7 +7,7 @@ use Rattle.h5_header.specs.Listed.{message_in, messages_in}
 use Rattle.h5_header.specs.declared.message.Message.{Message as Placed}
 use Rattle.h5_header.proofs.RefusedLaws.{stops_refused}
 use Rattle.h5_header.proofs.ReadableLaws.{stops_readable, same_messages}
-use Rattle.h5_header.proofs.WholeLaws.{has_messages, kinds_read, all_messages, filled_to_end}
+use Rattle.h5_header.proofs.WholeLaws.{has_messages, prefix_there, kinds_read, all_messages, filled_to_end}
 use Rattle.h5_header.proofs.PrefixLaws.{total-is}
 use Rattle.h5_header.proofs.read.messages.Goals as goal
 
@@ -34,6 +34,7 @@ returns-then-list-u16_at-clause-refused c =
     let through = rw c.bytes-bytes.ensures at c.in_ok-messages.ensures.read in
     rw c.fault.ensures (
       refl,
+      prefix_there _ _ _ _ _ _ through,
       (
         messages_in c.args.image.now.bytes c.in_ok-messages.messages.list,
         all_messages _ _ _ _ _ _ through,

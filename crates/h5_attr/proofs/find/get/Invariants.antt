@@ -1,0 +1,8 @@
+use Rattle.std.proofs.Common.{◌≡◌, drop}
+use Rattle.h5_header.specs.Listed.{messages_in}
+use Rattle.h5_attr.specs.Attributes.{attribute_named}
+use Rattle.h5_attr.proofs.find.get.Given as goal
+
+abbrev pub invariant-loop-message : goal.invariant-loop-message
+invariant-loop-message l =
+    attribute_named l.name (messages_in l.image.bytes (drop l.message-index l.messages.list)) ≡ attribute_named l.name (messages_in l.image.bytes l.messages.list)

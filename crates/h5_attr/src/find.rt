@@ -1,0 +1,35 @@
+//! One attribute by its name (File Format Specification 3.0, section IV.A.2.m).
+
+ghost use Rattle.std.specs.Prelude.{◌≡◌, length, option_map};
+ghost use Rattle.std.specs.FinMap.{get as at_name};
+ghost use Rattle.h5_model.specs.Reads.{HasAttributes};
+ghost use Rattle.h5_model.specs.Tree.{Attributes};
+ghost use Rattle.h5_header.specs.Listed.{messages_in, IsWithin};
+ghost use Rattle.h5_attr.specs.Attributes.{attribute_named};
+
+use crate::message::attribute;
+use h5_header::Messages;
+use h5_msg::AttributeBody;
+use h5_space::Image;
+
+/// The attribute of this name, or `None` where there is none. It takes no memory.
+///
+/// Messages of attributes that have another form are passed over, and of two attributes with the name it is the
+/// first. That the bodies lie in the image is the caller's condition.
+pub fn get<'a>(image: &'a Image, messages: &Messages, name: &[u8]) -> Option<AttributeBody<'a>>
+    requires { IsWithin (length image.now.bytes) messages.now.list }
+    ensures first { result ≡ attribute_named name.now (messages_in image.now.bytes messages.now.list) }
+    ensures entry { (attributes : Attributes)
+        → HasAttributes (messages_in image.now.bytes messages.now.list) attributes
+        → result ≡ option_map (λ a. (name.now, a)) (at_name attributes name.now) }
+{
+    let bytes = image.bytes();
+    for message in messages.list() {
+        if let Some(found) = attribute(bytes, *message) {
+            if name == found.name() {
+                return Some(found);
+            }
+        }
+    }
+    None
+}

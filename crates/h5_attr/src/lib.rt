@@ -1,0 +1,14 @@
+//! The attributes of an object, over the messages of its header (File Format Specification 3.0, section IV.A.2.m).
+//!
+//! Nothing of the image is kept: names and values are lent where they stand in it.
+#![tactic(auto)]
+
+mod bodies;
+mod find;
+mod message;
+mod names;
+
+pub use bodies::check_bodies;
+pub use find::get;
+pub use h5_msg::AttributeBody as AttrRef;
+pub use names::{check_names, list};

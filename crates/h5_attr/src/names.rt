@@ -1,0 +1,102 @@
+//! The names of the attributes of a header (File Format Specification 3.0, section IV.A.2.m).
+
+ghost use Rattle.std.specs.Prelude.{◌≡◌, ◌⊎◌, length, map, IsPermutation, IsSorted, IfOk, IfErr, OnOk, MatchBool};
+ghost use Rattle.std.specs.Ordering.{nat_cmp, eq_by_cmp};
+ghost use Rattle.std.specs.Cmp.Lexicographic.{slice_cmp};
+ghost use Rattle.std.specs.FinMap.{keys};
+ghost use Rattle.std.specs.List.{IsDistinct};
+ghost use Rattle.h5_model.specs.HeaderFaults.{HasNameTwice};
+ghost use Rattle.h5_model.specs.Reads.{HasAttributes};
+ghost use Rattle.h5_model.specs.Tree.{Attributes};
+ghost use Rattle.h5_header.specs.Listed.{messages_in, IsWithin};
+ghost use Rattle.h5_attr.specs.Attributes.{names_in as names_of, HasNamesOnce};
+
+use crate::message::attribute;
+use h5_header::Messages;
+use h5_model::{Cause, OpenFault};
+use h5_space::Image;
+use std::alloc::{AllocError, Global};
+
+/// Whether the names of a header's attributes differ.
+///
+/// `DuplicateMessage` at the header where two attributes that have the form have one name, and else `NoMemory`
+/// where memory is refused. Messages of attributes that have another form are passed over; `check_bodies` finds
+/// them. Takes memory for a reference to each name, and time for a sort of these.
+///
+/// That the bodies lie in the image is the caller's condition; they do in the image from which the messages were
+/// read.
+pub fn check_names(alloc: Global, image: &Image, messages: &Messages) -> Result<(), OpenFault>
+    requires { IsWithin (length image.now.bytes) messages.now.list }
+    ensures once { OnOk result (HasNamesOnce (messages_in image.now.bytes messages.now.list)) }
+    ensures refused { IfErr result (λ fault. (fault.cause ≡ Cause.NoMemory)
+        ⊎ ((fault.cause ≡ Cause.DuplicateMessage) × HasNameTwice (messages_in image.now.bytes messages.now.list))) }
+    ensures address { IfErr result (λ fault. fault.address ≡ messages.now.header) }
+    ensures only { (attributes : Attributes)
+        → HasAttributes (messages_in image.now.bytes messages.now.list) attributes
+        → IfErr result (λ fault. fault.cause ≡ Cause.NoMemory) }
+{
+    let Ok(names) = list(alloc, image, messages) else {
+        return Err(OpenFault {
+            cause: Cause::NoMemory,
+            address: messages.header(),
+        });
+    };
+    if !is_distinct(&names) {
+        return Err(OpenFault {
+            cause: Cause::DuplicateMessage,
+            address: messages.header(),
+        });
+    }
+    Ok(())
+}
+
+/// The names of a header's attributes in the order of their bytes.
+///
+/// Messages of attributes that have another form are passed over. Takes memory for a reference to each name.
+/// That the bodies lie in the image is the caller's condition.
+pub fn list<'a>(
+    alloc: Global,
+    image: &'a Image,
+    messages: &Messages,
+) -> Result<Vec<&'a [u8]>, AllocError>
+    requires { IsWithin (length image.now.bytes) messages.now.list }
+    ensures sorted { IfOk result (λ names. IsSorted (slice_cmp nat_cmp) (map (λ name. name.now) names.items)) }
+    ensures same { IfOk result (λ names.
+        IsPermutation (names_of (messages_in image.now.bytes messages.now.list)) (map (λ name. name.now) names.items)) }
+    ensures names { IfOk result (λ names. (attributes : Attributes)
+        → HasAttributes (messages_in image.now.bytes messages.now.list) attributes
+        → map (λ name. name.now) names.items ≡ keys attributes) }
+{
+    let mut names = names_in(alloc, image, messages)?;
+    names.sort_unstable();
+    Ok(names)
+}
+
+/// The names in the order of the messages.
+fn names_in<'a>(
+    alloc: Global,
+    image: &'a Image,
+    messages: &Messages,
+) -> Result<Vec<&'a [u8]>, AllocError>
+    requires { IsWithin (length image.now.bytes) messages.now.list }
+    ensures { IfOk result (λ names.
+        map (λ name. name.now) names.items ≡ names_of (messages_in image.now.bytes messages.now.list)) }
+{
+    let bytes = image.bytes();
+    let mut names = Vec::new(alloc);
+    for message in messages.list() {
+        if let Some(attribute) = attribute(bytes, *message) {
+            names.push(attribute.name())?;
+        }
+    }
+    Ok(names)
+}
+
+/// Whether names that stand in order differ.
+fn is_distinct(names: &[&[u8]]) -> bool
+    requires { IsSorted (slice_cmp nat_cmp) (map (λ name. name.now) names.now) }
+    ensures { let differ = IsDistinct (eq_by_cmp (slice_cmp nat_cmp)) (map (λ name. name.now) names.now) in
+        MatchBool result differ (differ → ⊥) }
+{
+    names.is_sorted_by(|first, second| first < second)
+}

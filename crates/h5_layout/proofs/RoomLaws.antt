@@ -1,0 +1,113 @@
+-- Data that a layout names have room for the cells, and the value of a cell is that at its place.
+use Rattle.std.proofs.Common.{◌≡◌, ℕ, suc, ◌+◌, ◌-◌, ◌*◌, ◌^◌, ◌<◌, ◌≤◌, List, length, take, drop, Option, Some, None, ℤ, Bool, true, false, cond, refl, sym, ap, ◌∙◌, subst, arith, get_or, eq-eqb}
+use Rattle.std.specs.Prelude.{nat_le, slice_get}
+use Rattle.std.specs.List.{slice_range}
+use Rattle.std.proofs.lemmas.Bool.Decides.{nat_tests}
+use Rattle.std.proofs.lemmas.Option.{same_Some, cond_some, slice_get-get_or}
+use Rattle.std.proofs.lemmas.List.{length-take, length-drop}
+use Rattle.std.proofs.lemmas.List.FromFn.{length-map-range_with_len, get_or-map-range_with_len}
+use Rattle.std.proofs.Math.Nat.{mul-le-mul_right}
+use Rattle.h5_bytes.specs.Bytes.{number_at, part}
+use Rattle.h5_bytes.specs.Blocks.{block}
+use Rattle.h5_model.specs.Places.{cells, extent_cells, index_of}
+use Rattle.h5_model.specs.Layout.{Layout, InMessage, InBlock, layout_of, compact_layout, contiguous_layout, chunked_layout, short_numbers_at}
+use Rattle.h5_model.specs.Chunks.{Chunks}
+use Rattle.h5_model.specs.Cells.{cell_of, value_in}
+use Rattle.h5_model.specs.Fixed.{Fixed}
+use Rattle.std.specs.Option.{option_map_or}
+use Rattle.h5_bytes.specs.declared.Block.{Block}
+use Rattle.h5_shape.proofs.Products.{cells_le}
+use Rattle.h5_model.proofs.PlaceLaws.{place-index}
+use Rattle.h5_model.specs.Messages.{Message}
+use Rattle.h5_layout.specs.Described.{Described, HasArray, dataset_in}
+use Rattle.h5_header.proofs.FoundLaws.{among_some}
+use Rattle.h5_layout.proofs.BreachLaws.{small_chunk}
+use Rattle.h5_layout.specs.Stored.{has_room, IsArray}
+
+-- ---- what is read has room
+
+compact_room : (need : ℕ) (sizes : List ℕ) (size : ℕ) (body : List ℕ) (layout : Layout) → need ≡ cells sizes * size → compact_layout need body ≡ Some layout → has_room sizes size layout ≡ true
+compact_room need sizes size body layout is h =
+    let p = cond_some _ _ _ h in
+    let whole : 4 + number_at body 2 2 ≤ length body = grind (arith, nat_tests, p.0) in
+    let enough : need ≤ number_at body 2 2 = grind (arith, nat_tests, p.0) in
+    let long : length (slice_range body 4 (4 + need)) ≡ need = length-take (4 + need - 4) (drop 4 body) ∙ omega (arith, length-drop 4 body) in
+    let room : nat_le (cells sizes * size) (length (slice_range body 4 (4 + need))) ≡ true = grind (arith, nat_tests) in
+    rw (← p.1) room
+
+contiguous_cases : (a b c : Bool) (at len : ℕ) (sizes : List ℕ) (size : ℕ) (layout : Layout) → (c ≡ true → nat_le (cells sizes * size) len ≡ true)
+    → cond a (cond b (Some (InBlock None)) (cond c (Some (InBlock (Some (block at len)))) None)) None ≡ Some layout → has_room sizes size layout ≡ true
+contiguous_cases false b c at len sizes size layout room h = absurd (cc)
+contiguous_cases true true c at len sizes size layout room h = subst (λ (l : Layout). has_room sizes size l ≡ true) (same_Some (InBlock None) layout h) refl
+contiguous_cases true false true at len sizes size layout room h =
+    subst (λ (l : Layout). has_room sizes size l ≡ true) (same_Some (InBlock (Some (block at len))) layout h) (room refl)
+contiguous_cases true false false at len sizes size layout room h = absurd (cc)
+
+chunked_room : (sizes : List ℕ) (size : ℕ) (body : List ℕ) (layout : Layout) → chunked_layout (length sizes) size body ≡ Some layout → has_room sizes size layout ≡ true
+chunked_room sizes size body layout h =
+    let p = cond_some _ _ _ h in
+    let long : length (short_numbers_at body 11 (length sizes)) ≡ length sizes = length-map-range_with_len (λ i. number_at body (11 + 4 * i) 4) 0 (length sizes) in
+    rw (← p.1) (eq-eqb _ _ long)
+
+-- one of three readings, by the class
+by_class : (a b c d : Bool) (x y z : Option Layout) (layout : Layout) (P : Type 0) → (x ≡ Some layout → P) → (y ≡ Some layout → P) → (z ≡ Some layout → P)
+    → cond a (cond b x (cond c y (cond d z None))) None ≡ Some layout → P
+by_class false b c d x y z layout P p q r h = absurd (cc)
+by_class true true c d x y z layout P p q r h = p h
+by_class true false true d x y z layout P p q r h = q h
+by_class true false false true x y z layout P p q r h = r h
+by_class true false false false x y z layout P p q r h = absurd (cc)
+
+pub room_of : (sizes : List ℕ) (size : ℕ) (body : List ℕ) (layout : Layout) → layout_of sizes size body ≡ Some layout → has_room sizes size layout ≡ true
+unfolding layout_of
+room_of sizes size body layout h =
+    by_class _ _ _ _ (compact_layout (cells sizes * size) body) (contiguous_layout (cells sizes * size) body) (chunked_layout (length sizes) size body) layout (has_room sizes size layout ≡ true)
+    (compact_room (cells sizes * size) sizes size body layout refl)
+    (contiguous_cases _ _ _ _ _ sizes size layout (λ (room : nat_le (cells sizes * size) (number_at body 10 8) ≡ true). room))
+    (chunked_room sizes size body layout) h
+
+-- ---- the place of a cell
+
+-- a place below the number of cells has its bytes
+pub place_room : (sizes : List ℕ) (size place end : ℕ) → place < cells sizes → nat_le (cells sizes * size) end ≡ true → place * size + size ≤ end
+place_room sizes size place end below room =
+    let enough : cells sizes * size ≤ end = grind (arith, nat_tests) in
+    let next : suc place * size ≤ cells sizes * size = mul-le-mul_right size (omega arith) in
+    let wide : suc place * size ≡ place * size + size = omega arith in
+    omega arith
+
+pub few : (sizes dims : List ℕ) → dims ≡ sizes → extent_cells sizes ≤ 2 ^ 40 → cells dims < 2 ^ 64
+few sizes dims same small = let most : cells sizes ≤ 2 ^ 40 = omega (arith, cells_le sizes) in rw same (omega arith)
+
+-- a block of the image has as many bytes as it says
+pub length-block : (bytes : List ℕ) (at len : ℕ) → at + len ≤ length bytes → length (take (at + len - at) (drop at bytes)) ≡ len
+length-block bytes at len inside = length-take (at + len - at) (drop at bytes) ∙ omega (arith, length-drop at bytes)
+
+-- ---- the cell at a place
+
+pub get-cells : (image : List ℕ) (a : Described) (chunks : Chunks) (place : ℕ) → place < cells a.sizes
+    → slice_get (dataset_in image a chunks).cells place ≡ Some (cell_of image a.fixed a.fill a.sizes a.layout chunks (index_of a.sizes place))
+get-cells image a chunks place below =
+    let here : get_or (dataset_in image a chunks).cells place a.fill ≡ cell_of image a.fixed a.fill a.sizes a.layout chunks (index_of a.sizes place)
+    = get_or-map-range_with_len (λ k. cell_of image a.fixed a.fill a.sizes a.layout chunks (index_of a.sizes k)) 0 (cells a.sizes) place place a.fill below (omega arith) in
+    slice_get-get_or (dataset_in image a chunks).cells place a.fill
+    (omega (arith, length-map-range_with_len (λ k. cell_of image a.fixed a.fill a.sizes a.layout chunks (index_of a.sizes k)) 0 (cells a.sizes)))
+    ∙ ap (λ (v : ℤ). Some v) here
+
+-- a value in the message is the cell's
+pub message_cell : (image : List ℕ) (t : Fixed) (fill : ℤ) (sizes bytes : List ℕ) (chunks : Chunks) (place : ℕ) → place < cells sizes
+    → value_in t bytes place ≡ cell_of image t fill sizes (InMessage bytes) chunks (index_of sizes place)
+message_cell image t fill sizes bytes chunks place below = ap (value_in t bytes) (sym (place-index sizes place below))
+
+-- the value in the block, or the fill, is the cell's
+pub block_cell : (image : List ℕ) (t : Fixed) (fill : ℤ) (sizes : List ℕ) (b : Option Block) (chunks : Chunks) (place : ℕ) → place < cells sizes
+    → option_map_or (λ x. value_in t (part x.at x.len image) place) b fill ≡ cell_of image t fill sizes (InBlock b) chunks (index_of sizes place)
+block_cell image t fill sizes None chunks place below = refl
+block_cell image t fill sizes (Some b) chunks place below = ap (value_in t (part b.at b.len image)) (sym (place-index sizes place below))
+
+-- ---- an array that messages describe
+
+pub is_array : (ms : List Message) (a : Described) → HasArray ms a → IsArray a
+is_array ms a h =
+    let layout = among_some (layout_of a.sizes a.fixed.size) 8 ms a.layout h.laid_out in
+    record { small = h.small; room = room_of a.sizes a.fixed.size (layout.0).body a.layout layout.3; chunk_small = small_chunk a.fixed a.layout h.chunk_small }

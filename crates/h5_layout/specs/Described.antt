@@ -1,0 +1,58 @@
+-- An array as the messages of its object header describe it (File Format Specification 3.0, section IV.A.2).
+use Rattle.std.specs.Prelude.{◌≡◌, ℕ, ◌^◌, ◌≤◌, ℤ, Option, Some, List, option_and_then}
+use Rattle.h5_model.specs.Messages.{Message, count_of, first_body}
+use Rattle.h5_model.specs.Fixed.{Fixed}
+use Rattle.h5_model.specs.Places.{extent_cells}
+use Rattle.h5_model.specs.Extent.{Extent, extent_of}
+use Rattle.h5_model.specs.Datatype.{fixed_of}
+use Rattle.h5_model.specs.Fill.{fill_value, old_fill_value, chosen_fill}
+use Rattle.h5_model.specs.Layout.{Layout, layout_of}
+use Rattle.h5_model.specs.Chunks.{Chunks}
+use Rattle.h5_model.specs.Cells.{cells_of}
+use Rattle.h5_model.specs.Tree.{Dataset}
+use Rattle.h5_model.specs.Reads.{IsFill, IsChunkSmall, storage_of}
+
+-- an array without its stored chunks and its cells; a maximum of None is unlimited
+pub record Described : Type 0 where
+  pub fixed : Fixed
+  pub sizes : List ℕ
+  pub maxima : List (Option ℕ)
+  pub fill : ℤ
+  pub layout : Layout
+
+-- the array of this type, extent, fill value and layout
+abbrev pub array_of : Fixed → Extent → ℤ → Layout → Described
+array_of t extent fill layout = record { fixed = t; sizes = extent.sizes; maxima = extent.maxima; fill = fill; layout = layout }
+
+-- The fill value of a dataset of this type by its messages.
+pub record HasFill (messages : List Message) (t : Fixed) (fill : ℤ) : Type 0 where
+  pub old_fill : Option ℤ
+  pub new_fill : Option ℤ
+  pub old_filled : IsFill (old_fill_value t) (first_body 4 messages) old_fill
+  pub new_filled : IsFill (fill_value t) (first_body 5 messages) new_fill
+  pub filled : fill ≡ chosen_fill new_fill old_fill
+
+-- The messages of a header describe this array.
+pub record HasArray (messages : List Message) (a : Described) : Type 0 where
+  pub one_space : count_of 1 messages ≡ 1
+  pub one_type : count_of 3 messages ≡ 1
+  pub one_layout : count_of 8 messages ≡ 1
+  pub old_fills : count_of 4 messages ≤ 1
+  pub fills : count_of 5 messages ≤ 1
+  pub space : option_and_then extent_of (first_body 1 messages) ≡ Some (record { sizes = a.sizes; maxima = a.maxima })
+  pub type : option_and_then fixed_of (first_body 3 messages) ≡ Some a.fixed
+  pub filled : HasFill messages a.fixed a.fill
+  pub laid_out : option_and_then (layout_of a.sizes a.fixed.size) (first_body 8 messages) ≡ Some a.layout
+  pub small : extent_cells a.sizes ≤ 2 ^ 40
+  pub chunk_small : IsChunkSmall a.fixed a.layout
+
+-- the dataset with this description and these stored chunks
+abbrev pub dataset_in : List ℕ → Described → Chunks → Dataset
+dataset_in image a chunks = record {
+  fixed = a.fixed;
+  sizes = a.sizes;
+  maxima = a.maxima;
+  storage = storage_of a.sizes a.layout;
+  fill = a.fill;
+  cells = cells_of image a.fixed a.fill a.sizes a.layout chunks;
+}

@@ -1,0 +1,26 @@
+-- Where the cells of an array stand, by its layout (File Format Specification 3.0, section IV.A.2.i).
+use Rattle.std.specs.Prelude.{◌≡◌, ℕ, ◌+◌, ◌*◌, ◌^◌, ◌≤◌, ◌==◌, Bool, true, false, nat_le, None, Some, List, length}
+use Rattle.h5_model.specs.Places.{cells, extent_cells}
+use Rattle.h5_model.specs.Layout.{Layout, InMessage, InBlock, InChunks}
+use Rattle.h5_layout.specs.Described.{Described}
+use Rattle.h5_layout.specs.Judged.{is_chunk_large}
+
+-- the data that a layout names have room for cells of these sizes and so many bytes; of chunks there are as many sizes
+abbrev pub has_room : List ℕ → ℕ → Layout → Bool
+has_room sizes size (InMessage bytes) = nat_le (cells sizes * size) (length bytes)
+has_room sizes size (InBlock None) = true
+has_room sizes size (InBlock (Some b)) = nat_le (cells sizes * size) b.len
+has_room sizes size (InChunks chunk_sizes root) = length chunk_sizes == length sizes
+
+-- what every array that messages describe keeps to
+pub record IsArray (a : Described) : Type 0 where
+  pub small : extent_cells a.sizes ≤ 2 ^ 40
+  pub room : has_room a.sizes a.fixed.size a.layout ≡ true
+  pub chunk_small : is_chunk_large a.fixed a.layout ≡ false
+
+-- the cells are not in chunks, and their block, where they have one, ends by this place
+abbrev pub IsUnchunked : ℕ → Layout → Type 0
+IsUnchunked end (InMessage bytes) = Unit {0}
+IsUnchunked end (InBlock None) = Unit {0}
+IsUnchunked end (InBlock (Some b)) = b.at + b.len ≤ end
+IsUnchunked end (InChunks chunk_sizes root) = ⊥

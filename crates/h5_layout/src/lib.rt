@@ -1,0 +1,13 @@
+//! Arrays as the object headers of datasets describe them: type, sizes, maxima, fill value and layout, and the cells
+//! that are not in chunks (File Format Specification 3.0, section IV.A.2).
+//!
+//! No call takes memory. Places and lengths of data are in bytes, sizes of arrays and chunks in elements.
+#![tactic(auto)]
+
+mod array;
+mod bodies;
+mod judge;
+mod read;
+
+pub use array::ArrayRef;
+pub use read::read_array;

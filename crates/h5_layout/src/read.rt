@@ -1,0 +1,88 @@
+//! The reading of a dataset's header (File Format Specification 3.0, section IV.A.2).
+
+ghost use Rattle.std.specs.Prelude.{◌≡◌, Ok, Some, length, IfOk, IfErr};
+ghost use Rattle.h5_model.specs.HeaderFaults.{ListBreach};
+ghost use Rattle.h5_header.specs.Kinds.{IsOfDataset};
+ghost use Rattle.h5_header.specs.Listed.{messages_in, IsWithin};
+ghost use Rattle.h5_layout.specs.Described.{Described, HasArray};
+ghost use Rattle.h5_layout.specs.Judged.{breach_in};
+
+use crate::array::ArrayRef;
+use crate::bodies::one_body;
+use crate::judge::{
+    is_chunk_large, judge_dataspace, judge_datatype, judge_fill, judge_layout, judge_old_fill,
+};
+use h5_header::{Messages, find_body};
+use h5_model::{Cause, OpenFault};
+use h5_space::Image;
+use std::alloc::Global;
+
+const DATASPACE: u16 = 1;
+
+const DATATYPE: u16 = 3;
+
+const OLD_FILL_VALUE: u16 = 4;
+
+const FILL_VALUE: u16 = 5;
+
+const DATA_LAYOUT: u16 = 8;
+
+/// The array that a dataset's messages describe. Takes no memory.
+///
+/// Refusals, at the header, in the order in which the messages are judged: `DataspaceForm`; `TooLarge` where the
+/// product of the sizes, those of 0 left out, is above 2^40; `DatatypeForm`; `FillForm`, of the old Fill Value message
+/// and then of the new; `LayoutForm`; `TooLarge` where a chunk has more than 2^30 bytes.
+///
+/// That the messages are those of a dataset and lie in the image are the caller's conditions.
+pub fn read_array<'a>(
+    alloc: Global,
+    image: &'a Image,
+    messages: &Messages,
+) -> Result<ArrayRef<'a>, OpenFault>
+    requires within { IsWithin (length image.now.bytes) messages.now.list }
+    requires dataset { IsOfDataset (messages_in image.now.bytes messages.now.list) }
+    ensures read { IfOk result (λ array. HasArray (messages_in image.now.bytes messages.now.list) array) }
+    ensures only { (array : Described) → HasArray (messages_in image.now.bytes messages.now.list) array
+        → result ≡ Ok array }
+    ensures address { IfErr result (λ fault. fault.address ≡ messages.now.header) }
+    ensures first { IfErr result (λ fault.
+        breach_in (messages_in image.now.bytes messages.now.list) ≡ Some fault.cause) }
+    ensures refused { IfErr result (λ fault.
+        ListBreach image.now.bytes messages.now.header (messages_in image.now.bytes messages.now.list) fault.cause) }
+{
+    match judge(alloc, image, messages) {
+        Ok(array) => Ok(array),
+        Err(cause) => Err(OpenFault {
+            cause,
+            address: messages.header(),
+        }),
+    }
+}
+
+/// The array, or the first rule that these messages break.
+fn judge<'a>(alloc: Global, image: &'a Image, messages: &Messages) -> Result<ArrayRef<'a>, Cause>
+    requires within { IsWithin (length image.now.bytes) messages.now.list }
+    requires dataset { IsOfDataset (messages_in image.now.bytes messages.now.list) }
+    ensures read { IfOk result (λ array. HasArray (messages_in image.now.bytes messages.now.list) array) }
+    ensures first { IfErr result (λ cause. breach_in (messages_in image.now.bytes messages.now.list) ≡ Some cause) }
+{
+    let extent = judge_dataspace(one_body(image, messages, DATASPACE))?;
+    let dims = extent.dims(alloc);
+    if !dims.is_small() {
+        return Err(Cause::TooLarge);
+    }
+    let fixed = judge_datatype(one_body(image, messages, DATATYPE))?;
+    let old_fill = judge_old_fill(&fixed, find_body(image, messages, OLD_FILL_VALUE))?;
+    let new_fill = judge_fill(&fixed, find_body(image, messages, FILL_VALUE))?;
+    let layout = judge_layout(&dims, &fixed, one_body(image, messages, DATA_LAYOUT))?;
+    if is_chunk_large(alloc, &fixed, &layout) {
+        return Err(Cause::TooLarge);
+    }
+    Ok(ArrayRef {
+        fixed,
+        dims,
+        extent,
+        fill: new_fill.or(old_fill).unwrap_or(0),
+        layout,
+    })
+}

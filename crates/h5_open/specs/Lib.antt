@@ -1,0 +1,4 @@
+pub mod Opened
+pub mod Judged
+pub mod Array
+pub mod Root

@@ -1,0 +1,93 @@
+//! What the messages of an object's header have to be.
+
+ghost use Rattle.std.specs.Prelude.{◌≡◌, ◌⊎◌, ℕ, Option, List, IfOk, IfErr, IfSome, IfNone, OnOk, length};
+ghost use Rattle.h5_bytes.specs.declared.Block.{Block};
+ghost use Rattle.h5_header.specs.Kinds.{IsOfDataset};
+ghost use Rattle.h5_header.specs.Listed.{messages_in, IsWithin};
+ghost use Rattle.h5_open.specs.Opened.{described};
+ghost use Rattle.h5_open.specs.Judged.{IsGroupList, IsLineList, IsRootBreach, IsLineBreach, IsNoLineOf};
+
+use crate::line::Line;
+use h5_attr::{check_bodies, check_names};
+use h5_header::{Messages, find_body};
+use h5_layout::{ArrayRef, read_array};
+use h5_model::{Cause, OpenFault};
+use h5_msg::{Layout, SymbolTable, read_symbol_table};
+use h5_space::Image;
+use std::alloc::Global;
+
+/// The type of a Symbol Table message.
+const SYMBOL_TABLE: u16 = 17;
+
+/// The tree and heap of the root, by the messages of its header.
+///
+/// `MissingMessage` where there is no Symbol Table; else `DuplicateMessage`; then what is wrong with an attribute's body; then
+/// `HeapForm` where the Symbol Table is short. All are at the header. `NoMemory` where memory is refused.
+pub fn judge_root(
+    alloc: Global,
+    image: &Image,
+    messages: &Messages,
+) -> Result<SymbolTable, OpenFault>
+    requires { IsWithin (length image.now.bytes) messages.now.list }
+    ensures read { IfOk result (λ table. IsGroupList (messages_in image.now.bytes messages.now.list) table) }
+    ensures address { IfErr result (λ fault. fault.address ≡ messages.now.header) }
+    ensures refused { IfErr result (λ fault. IsRootBreach image.now.bytes messages.now.header (messages_in image.now.bytes messages.now.list) fault.cause) }
+{
+    let Some(body) = find_body(image, messages, SYMBOL_TABLE) else {
+        return Err(fault(Cause::MissingMessage, messages.header()));
+    };
+    messages.object_kind()?;
+    check_names(alloc, image, messages)?;
+    check_bodies(alloc, image, messages)?;
+    let Ok(table) = read_symbol_table(body) else {
+        return Err(fault(Cause::HeapForm, messages.header()));
+    };
+    Ok(table)
+}
+
+/// The array of one dimension in one block that the messages of a dataset's header describe.
+///
+/// Two attributes of one name are `DuplicateMessage`; then the bodies are judged, those of attributes last; then an array that
+/// is another is `NotYet`. All are at the header. `NoMemory` where memory is refused.
+pub fn judge_line(alloc: Global, image: &Image, messages: &Messages) -> Result<Line, OpenFault>
+    requires within { IsWithin (length image.now.bytes) messages.now.list }
+    requires dataset { IsOfDataset (messages_in image.now.bytes messages.now.list) }
+    ensures read { IfOk result (λ line. IsLineList (messages_in image.now.bytes messages.now.list) line) }
+    ensures address { IfErr result (λ fault. fault.address ≡ messages.now.header) }
+    ensures refused { IfErr result (λ fault. IsLineBreach image.now.bytes messages.now.header (messages_in image.now.bytes messages.now.list) fault.cause) }
+{
+    check_names(alloc, image, messages)?;
+    let array = read_array(alloc, image, messages)?;
+    check_bodies(alloc, image, messages)?;
+    let Some(line) = line_of(&array) else {
+        return Err(fault(Cause::NotYet, messages.header()));
+    };
+    Ok(line)
+}
+
+/// The array, where it has one dimension and its cells are in one block.
+fn line_of(array: &ArrayRef<'_>) -> Option<Line>
+    requires { length array.now.maxima ≡ length array.now.sizes }
+    ensures line { IfSome result (λ line. described line ≡ array.now) }
+    ensures other { IfNone result (IsNoLineOf array.now) }
+{
+    let Layout::Contiguous(cells) = array.layout() else {
+        return None;
+    };
+    let &[size] = array.dims().sizes() else {
+        return None;
+    };
+    Some(Line {
+        fixed: array.fixed(),
+        size,
+        maximum: array.maximum(0),
+        fill: array.fill(),
+        cells: *cells,
+    })
+}
+
+pub fn fault(cause: Cause, address: u64) -> OpenFault
+    ensures { result ≡ record { cause = cause; address = address } }
+{
+    OpenFault { cause, address }
+}

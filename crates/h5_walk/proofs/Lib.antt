@@ -1,0 +1,14 @@
+pub mod SmallLaws
+pub mod SmallReads
+pub mod SmallGroupLaws
+pub mod WalkedLaws
+pub mod HeaderLaws
+pub mod ClaimLaws
+pub mod FieldLaws
+pub mod MessagePlaces
+pub mod MetFields
+pub mod ListLaws
+pub mod SpanLaws
+pub mod RefusedLaws
+pub mod DataLaws
+pub mod MetHeader

@@ -1,0 +1,52 @@
+-- A field that was met may be followed.
+use Rattle.std.proofs.Common.{◌≡◌, ◌≢◌, ℕ, ◌+◌, ◌-◌, ◌<◌, ◌≤◌, List, [], ◌∷◌, length, refl, sym, subst, IsTrue, arith}
+use Rattle.std.specs.Prelude.{not, ◌&&◌, Bool, true, false}
+use Rattle.std.specs.List.{AllByRecursion}
+use Rattle.h5_bytes.specs.Blocks.{holds, cover}
+use Rattle.h5_bytes.specs.declared.Block.{Block}
+use Rattle.h5_model.specs.Reached.{Named, Reached, length_of}
+use Rattle.h5_model.specs.Faults.{is_header}
+use Rattle.h5_model.specs.declared.open_fault.Cause.TheVariants.{Truncated, Overlap}
+use Rattle.h5_space.specs.Claimed.{Shares}
+use Rattle.h5_walk.specs.Walked.{IsFollowed, IsWalked, Breaches}
+use Rattle.h5_walk.specs.Met.{IsMet}
+use Rattle.h5_walk.proofs.WalkedLaws.{IsOther, not_followed}
+use Rattle.h5_walk.proofs.FieldLaws.{field_truncated, field_overlaps, field_walked}
+
+-- a field of no header differs from all that were followed
+pub other_of : (y : Named) (followed : List Named) → is_header y.role ≡ false → AllByRecursion (λ (z : Named). z.field ≢ y.field) followed → AllByRecursion (IsOther y) followed
+other_of y [] inner fresh = tt
+other_of y (z ∷ zs) inner fresh = ((fresh.0, λ e. rw inner refl), other_of y zs inner fresh.1)
+
+module _ (image : List ℕ) (held : List Block) (followed : List Named) (walked : IsWalked image held followed) (y : Named) (met : IsMet image held followed y)
+    (inner : is_header y.role ≡ false) where
+  -- its block cannot be claimed
+  pub met_truncated : (address : ℕ) → address ≡ y.at → length image < y.at + length_of image y → Breaches image Truncated address
+  met_truncated address e past = field_truncated image held followed walked y met.reached address e past
+
+  pub met_overlaps : (address : ℕ) → address ≡ y.at → Shares held y.at (length_of image y) → Breaches image Overlap address
+  met_overlaps address e shares = field_overlaps image held followed walked y met.reached address e (other_of y followed inner met.fresh) shares
+
+module _ (image : List ℕ) (held : List Block) (followed : List Named) (walked : IsWalked image held followed) (y : Named) (met : IsMet image held followed y) where
+  -- its block is claimed
+  pub met_walked : (now : List Block) → ((p : ℕ) → cover p now ≡ cover p held + holds p y.at (length_of image y)) → IsWalked image now (y ∷ followed)
+  met_walked now claimed = field_walked image held followed walked y met.reached now met.behind met.stands claimed
+
+  -- another field that was met is still one that was not followed
+  pub still_met : (now : List Block) → ((p : ℕ) → cover p held ≤ cover p now) → (z : Named) → IsMet image held followed z → y.field ≢ z.field → IsMet image now (y ∷ followed) z
+  still_met now grown z that differ = record {
+    reached = that.reached;
+    behind = that.behind;
+    stands = omega (arith, that.stands, grown (z.field - 8));
+    fresh = (differ, that.fresh);
+  }
+
+-- a field in a block that was just claimed was not followed before
+pub newly_met : (image : List ℕ) (held now : List Block) (followed : List Named) (z : Named) → IsWalked image held followed → Reached image z → 8 ≤ z.field
+    → cover (z.field - 8) held ≡ 0 → 1 ≤ cover (z.field - 8) now → IsMet image now followed z
+newly_met image held now followed z walked reached behind none some = record {
+  reached = reached;
+  behind = behind;
+  stands = some;
+  fresh = not_followed image held followed walked z.field behind none;
+}

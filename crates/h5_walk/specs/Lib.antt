@@ -1,0 +1,5 @@
+pub mod Small
+pub mod SmallGroup
+pub mod Walked
+pub mod Met
+pub mod NotYet
