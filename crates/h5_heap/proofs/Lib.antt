@@ -1,3 +1,4 @@
 pub mod Unheld
 pub mod FreeLaws
 pub mod HeaderLaws
+pub mod TextLaws

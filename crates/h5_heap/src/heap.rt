@@ -20,13 +20,13 @@ use std::marker::Model;
 /// It keeps no byte of the image.
 #[derive(Drop)]
 pub struct Heap {
-    at: u64,
-    segment: Block,
+    pub(crate) at: u64,
+    pub(crate) segment: Block,
     free: Vec<Block>,
     // The bytes of the free blocks and of what was taken, by their offsets.
-    spans: Claims,
+    pub(crate) spans: Claims,
     // The offsets of the texts that were taken.
-    taken: BTreeSet<u64>,
+    pub(crate) taken: BTreeSet<u64>,
 }
 
 impl Model for Heap {

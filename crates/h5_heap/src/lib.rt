@@ -8,6 +8,8 @@ mod claim;
 mod free_list;
 mod header;
 mod heap;
+mod names;
 mod numbers;
+mod text;
 
 pub use heap::{Heap, read_heap};
