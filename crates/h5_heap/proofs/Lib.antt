@@ -2,3 +2,4 @@ pub mod Unheld
 pub mod FreeLaws
 pub mod HeaderLaws
 pub mod TextLaws
+pub mod TakenLaws

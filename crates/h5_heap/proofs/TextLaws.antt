@@ -40,9 +40,6 @@ text_none bytes found = by (ltb (zero_place bytes) (length bytes)) refl found wh
       let past : length bytes ≤ zero_place bytes = grind (arith, nat_tests, high) in
       ap length (until_zero-is bytes) ∙ length-take (zero_place bytes) bytes ∙ omega arith
 
-pad8-is : (n : ℕ) → pad8 (n + 1) ≡ n / 8 * 8 + 8
-pad8-is n = omega arith
-
 module _ (segment : List ℕ) (offset : ℕ) (low : offset < length segment) where
   -- the bytes from the offset on
   rest_is : take (length segment - offset) (drop offset segment) ≡ drop offset segment
@@ -62,16 +59,16 @@ module _ (segment : List ℕ) (offset : ℕ) (low : offset < length segment) whe
   text_lost found = text_none (drop offset segment) (rw rest_is at found) ∙ length-drop offset segment
 
 -- the bytes that a text of n bytes occupies from this offset on
-pub span_fits : (segment : List ℕ) (offset n : ℕ) → length (text_at segment offset) ≡ n → offset % 8 ≡ 0 → n / 8 * 8 + 8 ≤ length segment - offset
-    → IsSpan segment offset
-span_fits segment offset n long aligned room = record {
+pub span_fits : (segment : List ℕ) (offset n : ℕ) → length (text_at segment offset) ≡ n → offset % 8 ≡ 0 → offset < length segment
+    → pad8 (n + 1) ≤ length segment - offset → IsSpan segment offset
+span_fits segment offset n long aligned low room = record {
   aligned = aligned;
-  within = let padded : pad8 (length (text_at segment offset) + 1) ≡ n / 8 * 8 + 8 = ap (λ (k : ℕ). pad8 (k + 1)) long ∙ pad8-is n in omega arith;
+  within = let padded : pad8 (length (text_at segment offset) + 1) ≡ pad8 (n + 1) = ap (λ (k : ℕ). pad8 (k + 1)) long in omega (arith, padded, room, low);
 }
 
-pub span_cut : (segment : List ℕ) (offset n : ℕ) → length (text_at segment offset) ≡ n → length segment - offset < n / 8 * 8 + 8
+pub span_cut : (segment : List ℕ) (offset n : ℕ) → length (text_at segment offset) ≡ n → length segment - offset < pad8 (n + 1)
     → IsSpan segment offset → ⊥
 span_cut segment offset n long room span =
-    let padded : pad8 (length (text_at segment offset) + 1) ≡ n / 8 * 8 + 8 = ap (λ (k : ℕ). pad8 (k + 1)) long ∙ pad8-is n in
+    let padded : pad8 (length (text_at segment offset) + 1) ≡ pad8 (n + 1) = ap (λ (k : ℕ). pad8 (k + 1)) long in
     let within : offset + pad8 (length (text_at segment offset) + 1) ≤ length segment = span.within in
     omega arith

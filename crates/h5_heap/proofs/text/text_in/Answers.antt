@@ -6,10 +6,10 @@ pub returns-in_err-len-clause-none : goal.returns-in_err-len-clause-none
 returns-in_err-len-clause-none c = rw c.from_residual.ensures (λ span.
     span_cut c.args.segment.now c.args.offset _ (text_lost c.args.segment.now c.args.offset c.if-offset-segment.false c.in_err-len.ensures) (omega arith) span)
 
-pub returns-then-len-rest-clause-none : goal.returns-then-len-rest-clause-none
-returns-then-len-rest-clause-none c span =
+pub returns-then-span_len-rest-clause-none : goal.returns-then-span_len-rest-clause-none
+returns-then-span_len-rest-clause-none c span =
     let text = text_found c.args.segment.now c.args.offset c.if-offset-segment.false c.in_ok-len.len c.in_ok-len.ensures in
-    span_cut c.args.segment.now c.args.offset c.in_ok-len.len text.1 (omega (arith, c.if-len-rest.true, length-rest c.args.segment.now c.args.offset c.if-offset-segment.false)) span
+    span_cut c.args.segment.now c.args.offset c.in_ok-len.len text.1 (omega (arith, c.if-span_len-rest.true, c.span_len.ensures, length-rest c.args.segment.now c.args.offset c.if-offset-segment.false)) span
 
 pub returns-clause-text : goal.returns-clause-text
 returns-clause-text c = (text_found c.args.segment.now c.args.offset c.if-offset-segment.false c.in_ok-len.len c.in_ok-len.ensures).0
@@ -17,4 +17,4 @@ returns-clause-text c = (text_found c.args.segment.now c.args.offset c.if-offset
 pub returns-clause-span : goal.returns-clause-span
 returns-clause-span c =
     let text = text_found c.args.segment.now c.args.offset c.if-offset-segment.false c.in_ok-len.len c.in_ok-len.ensures in
-    span_fits c.args.segment.now c.args.offset c.in_ok-len.len text.1 c.if-offset-ne0.false (omega (arith, c.if-len-rest.false, length-rest c.args.segment.now c.args.offset c.if-offset-segment.false))
+    span_fits c.args.segment.now c.args.offset c.in_ok-len.len text.1 c.if-offset-ne0.false c.if-offset-segment.false (omega (arith, c.if-span_len-rest.false, c.span_len.ensures, length-rest c.args.segment.now c.args.offset c.if-offset-segment.false))
