@@ -58,9 +58,3 @@ pub small_length : (long most : ℕ) → long ≤ 272 → most ≤ 131070 → mo
 small_length long most low few =
     let rows : most * (long + 8) ≤ 131070 * (long + 8) = mul-le-mul_right (long + 8) few in
     omega arith
-
--- what an index reads
-pub read_key : (xs : List (List ℕ)) (i : ℕ) (d : List ℕ) {x : List ℕ} → slice_get xs i ≡ Some x → slice_index_or xs i d ≡ x
-read_key [] i d is = absurd (cc)
-read_key (y ∷ ys) zero d is = cc
-read_key (y ∷ ys) (suc i) d is = read_key ys i d is
