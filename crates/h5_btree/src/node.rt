@@ -1,6 +1,7 @@
 //! What a node's bytes say (File Format Specification 3.0, section III.A.1).
 
 ghost use Rattle.std.specs.Prelude.{◌≡◌, ◌↔◌, ◌+◌, ◌*◌, ◌<◌, ◌≤◌, ◌==◌, [], IsOk, Some, length, slice_get, slice_index_or};
+ghost use Rattle.std.specs.List.{AllByRecursion};
 ghost use Rattle.h5_model.specs.Links.{offset_in};
 ghost use Rattle.h5_model.specs.Nodes.{child_in, entries_in, key_in, key_place, node_length, node_of};
 ghost use Rattle.h5_btree.specs.Form.{MayBeRoot, MayStandAt};
@@ -43,7 +44,8 @@ impl<'a> Node<'a> {
     pub(crate) fn new(kind: NodeKind, bytes: &'a [u8]) -> Self
         requires long { length bytes.now ≡ node_length kind }
         requires roomy { entries_in bytes.now ≤ 2 * kind.k }
-        ensures { result ≡ node_of kind bytes.now }
+        ensures node { result ≡ node_of kind bytes.now }
+        ensures keys { AllByRecursion (λ key. length key ≡ kind.key_length) result.keys }
     {
         Node { kind, bytes }
     }
