@@ -1,12 +1,12 @@
 -- On the way down a tree each node is formed, lies in the image, and has a child.
-use Rattle.std.proofs.Common.{◌≡◌, ℕ, zero, suc, ◌+◌, ◌<◌, ◌≤◌, ◌⊎◌, inl, inr, Bool, true, false, List, [], ◌∷◌, length, slice_index_or, get_or, refl, sym, ap, subst, ◌∙◌, arith}
+use Rattle.std.proofs.Common.{◌≡◌, ℕ, zero, suc, ◌+◌, ◌<◌, ◌≤◌, inl, inr, Bool, true, false, List, [], ◌∷◌, length, slice_index_or, get_or, refl, sym, ap, subst, ◌∙◌, arith}
 use Rattle.std.specs.Prelude.{◌==◌}
 use Rattle.std.specs.List.{AllByRecursion, Contains, list_any}
-use Rattle.std.proofs.lemmas.List.Elements.{Contains-get_or, Contains-append_left, Contains-append_right}
+use Rattle.std.proofs.lemmas.List.Elements.{Contains-append_left, Contains-append_right}
 use Rattle.h5_bytes.specs.Bytes.{undefined}
 use Rattle.h5_bytes.specs.Blocks.{Inside}
-use Rattle.h5_model.specs.Rows.{Node, Reading, blank, only, next_row, IsRow, AreRows, nodes}
-use Rattle.h5_model.specs.Nodes.{Kind, HasTree, IsNode, node_of, node_at, node_bytes, node_length, entries_in, reading_of, tree_blocks}
+use Rattle.h5_model.specs.Rows.{Node, Reading, next_row, IsRow, AreRows, nodes}
+use Rattle.h5_model.specs.Nodes.{Kind, HasTree, IsNode, node_at, node_bytes, node_length, entries_in, reading_of, tree_blocks}
 use Rattle.h5_model.proofs.RowLaws.{at_listed}
 use Rattle.h5_btree.specs.Form.{IsRefusedAt, MayBeRoot, MayStandAt}
 use Rattle.h5_btree.specs.Descent.{IsInRow}
