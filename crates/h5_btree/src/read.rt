@@ -1,0 +1,79 @@
+//! The reading of a node's form (File Format Specification 3.0, section III.A.1).
+
+ghost use Rattle.std.specs.Prelude.{◌≡◌, ◌↔◌, ◌+◌, ◌≤◌, IsTrue, IfErr, IfOk, OnOk, length};
+ghost use Rattle.std.specs.List.{AllByRecursion};
+ghost use Rattle.h5_bytes.specs.Bytes.{part};
+ghost use Rattle.h5_model.specs.Nodes.{IsNode, node_at, node_bytes, node_length, node_of, node_signature};
+ghost use Rattle.h5_btree.specs.Form.{BreaksForm, IsRefusedAt};
+
+use crate::kind::NodeKind;
+use crate::node::Node;
+use crate::numbers::u16_at;
+
+/// The first four bytes of a node.
+static SIGNATURE: [u8; 4] = *b"TREE";
+
+/// Why bytes are no node.
+#[derive(Clone, Copy, Debug, PartialEq, Eq)]
+pub enum NodeFault {
+    /// The bytes are not of the form of a node of the kind; or the node has a level or a count of children that none
+    /// can have in its place.
+    NodeForm,
+    /// The node passes the end of the image.
+    Truncated,
+}
+
+/// Reads a node of this kind, whose bytes are as many as one has. Takes no memory.
+///
+/// `NodeForm` where the signature or the type is another, or where there are more than 2K children. Its level and its
+/// keys may be any.
+pub fn read_node(kind: NodeKind, bytes: &[u8]) -> Result<Node<'_>, NodeFault>
+    requires { length bytes.now ≡ node_length kind }
+    ensures node { IfOk result (λ node. node ≡ node_of kind bytes.now) }
+    ensures keys { IfOk result (λ node. AllByRecursion (λ key. length key ≡ kind.key_length) node.keys) }
+    ensures form { OnOk result (IsNode kind bytes.now) }
+    ensures refused { IfErr result (λ fault. (fault ≡ NodeFault.NodeForm) × BreaksForm kind bytes.now) }
+{
+    if !is_signed(bytes)
+        || bytes[4] != kind.type_byte()
+        || usize::from(u16_at(bytes, 6)) > kind.capacity()
+    {
+        return Err(NodeFault::NodeForm);
+    }
+    Ok(Node::new(kind, bytes))
+}
+
+/// Reads the node of this kind at an address of an image. Takes no memory.
+///
+/// `Truncated` where it passes the end, else `NodeForm` as `read_node`.
+pub fn read_node_at(image: &[u8], kind: NodeKind, at: u64) -> Result<Node<'_>, NodeFault>
+    ensures node { IfOk result (λ node. node ≡ node_at image.now kind at) }
+    ensures keys { IfOk result (λ node. AllByRecursion (λ key. length key ≡ kind.key_length) node.keys) }
+    ensures form { OnOk result (IsNode kind (node_bytes image.now kind at)) }
+    ensures inside { OnOk result (at + node_length kind ≤ length image.now) }
+    ensures refused { IfErr result (λ fault. IsRefusedAt image.now kind at fault) }
+{
+    let end = image.len() as u64;
+    if at > end || kind.node_length() as u64 > end - at {
+        return Err(NodeFault::Truncated);
+    }
+    read_node(kind, bytes_at(image, kind, at as usize))
+}
+
+/// The bytes of a node.
+#[tactic(auto, unfolding(h5_bytes::specs::Bytes::part))]
+fn bytes_at(image: &[u8], kind: NodeKind, at: usize) -> &[u8]
+    requires { at + node_length kind ≤ length image.now }
+    ensures bytes { result.now ≡ node_bytes image.now kind at }
+    ensures long { length result.now ≡ node_length kind }
+{
+    &image[at..at + kind.node_length()]
+}
+
+/// Whether the bytes begin with the signature.
+fn is_signed(bytes: &[u8]) -> bool
+    requires { 4 ≤ length bytes.now }
+    ensures { IsTrue result ↔ (part 0 4 bytes.now ≡ node_signature) }
+{
+    bytes.starts_with(&SIGNATURE)
+}
