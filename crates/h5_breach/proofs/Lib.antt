@@ -1,0 +1,13 @@
+pub mod Lists
+pub mod Heads
+pub mod Maps
+pub mod Rows
+pub mod Trees
+pub mod Counts
+pub mod Located
+pub mod Objects
+pub mod Entries
+pub mod Datasets
+pub mod Steps
+pub mod MetExcluded
+pub mod ListExcluded
