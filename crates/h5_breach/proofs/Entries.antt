@@ -24,7 +24,7 @@ use Rattle.h5_breach.proofs.Lists.{In, in_flat, in_map, in_table}
 use Rattle.h5_breach.proofs.Rows.{in_row, row_after}
 use Rattle.h5_breach.proofs.Located.{KnownGroup, KnownSymbols}
 
-flat-same : {X Y : Type 0} (f g : X → List Y) (xs : List X) → AllByRecursion (λ x. f x ≡ g x) xs → flat_map f xs ≡ flat_map g xs
+pub flat-same : {X Y : Type 0} (f g : X → List Y) (xs : List X) → AllByRecursion (λ x. f x ≡ g x) xs → flat_map f xs ≡ flat_map g xs
 flat-same f g [] same = refl
 flat-same {Y = Y} f g (x ∷ xs) same = ap₂ (λ (a b : List Y). a ++ b) same.0 (flat-same f g xs same.1)
 

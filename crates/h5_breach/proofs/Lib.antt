@@ -11,3 +11,8 @@ pub mod Datasets
 pub mod Steps
 pub mod MetExcluded
 pub mod ListExcluded
+pub mod HeaderExcluded
+pub mod NodeExcluded
+pub mod Ascending
+pub mod FreeLists
+pub mod GroupExcluded

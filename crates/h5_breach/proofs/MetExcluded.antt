@@ -17,7 +17,7 @@ use Rattle.h5_breach.proofs.Objects.{of_group, of_dataset}
 
 -- ---- types that headers may have
 
-abbrev allowed : List ℕ
+abbrev pub allowed : List ℕ
 allowed = 17 ∷ 0 ∷ 16 ∷ 12 ∷ 13 ∷ 14 ∷ 18 ∷ 1 ∷ 3 ∷ 4 ∷ 5 ∷ 8 ∷ []
 
 or_split : (b c : Bool) → (b || c) ≡ true → (b ≡ true) ⊎ (c ≡ true)
@@ -70,19 +70,19 @@ dataset_allowed k h = elim (or_split ((k == 1 || k == 3) || (k == 4 || k == 5)) 
 ]
 
 -- a test that refuses each of them
-abbrev Refuses : (ℕ → Bool) → Type 0
+abbrev pub Refuses : (ℕ → Bool) → Type 0
 Refuses test = AllByRecursion (λ k. test k ≡ false) allowed
 
-unknown_refused : Refuses (λ kind. not (is_known kind))
+pub unknown_refused : Refuses (λ kind. not (is_known kind))
 unknown_refused = (refl, (refl, (refl, (refl, (refl, (refl, (refl, (refl, (refl, (refl, (refl, (refl, tt))))))))))))
 
-filtered_refused : Refuses (λ kind. kind == 11)
+pub filtered_refused : Refuses (λ kind. kind == 11)
 filtered_refused = (refl, (refl, (refl, (refl, (refl, (refl, (refl, (refl, (refl, (refl, (refl, (refl, tt))))))))))))
 
-external_refused : Refuses (λ kind. kind == 7)
+pub external_refused : Refuses (λ kind. kind == 7)
 external_refused = (refl, (refl, (refl, (refl, (refl, (refl, (refl, (refl, (refl, (refl, (refl, (refl, tt))))))))))))
 
-new_refused : Refuses is_new_style
+pub new_refused : Refuses is_new_style
 new_refused = (refl, (refl, (refl, (refl, (refl, (refl, (refl, (refl, (refl, (refl, (refl, (refl, tt))))))))))))
 
 -- ---- a body of a Continuation that is too short

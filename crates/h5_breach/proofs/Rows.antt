@@ -54,7 +54,7 @@ named_row image kind (suc d) row = named_row image kind d (named_next image kind
 abbrev pub named_nodes : List (ℕ × ℕ) → List ℕ
 named_nodes row = map (λ (x : ℕ × ℕ). x.1) row
 
-map-append : {X Y : Type 0} (f : X → Y) (xs ys : List X) → map f (xs ++ ys) ≡ map f xs ++ map f ys
+pub map-append : {X Y : Type 0} (f : X → Y) (xs ys : List X) → map f (xs ++ ys) ≡ map f xs ++ map f ys
 map-append f [] ys = refl
 map-append {Y = Y} f (x ∷ xs) ys = ap (λ (zs : List Y). f x ∷ zs) (map-append f xs ys)
 
