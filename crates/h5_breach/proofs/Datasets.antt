@@ -47,6 +47,22 @@ pub find_in : (kind : ℕ) (ms : List Message) (m : Message) → find (λ x. x.k
 find_in kind [] m h = absurd (cc)
 find_in kind (x ∷ ms) m h = find_step kind x m ms h (find_in kind ms m)
 
+-- what no message is, is not found
+pub find_none : (kind : ℕ) (ms : List Message) → ((m : Message) → In m ms → m.kind ≡ kind → ⊥) → find (λ x. x.kind == kind) ms ≡ None
+find_none kind ms other = go (find (λ x. x.kind == kind) ms) refl where
+  go : (o : Option Message) → find (λ x. x.kind == kind) ms ≡ o → o ≡ None
+  go None e = refl
+  go (Some m) e = let there = find_in kind ms m e in absurd (other m there.0 there.1)
+
+-- what the first body of a type says, its first message says
+pub said_first : {X : Type 0} (f : List ℕ → Option X) (kind : ℕ) (ms : List Message) (v : X) → option_and_then f (first_body kind ms) ≡ Some v
+    → (m : Message) × (find (λ x. x.kind == kind) ms ≡ Some m) × (f m.body ≡ Some v)
+said_first f kind ms v says = go (find (λ x. x.kind == kind) ms) refl says where
+  go : (o : Option Message) → find (λ x. x.kind == kind) ms ≡ o → option_and_then f (option_map (λ m. m.body) o) ≡ Some v
+      → (m : Message) × (find (λ x. x.kind == kind) ms ≡ Some m) × (f m.body ≡ Some v)
+  go None e said = absurd (let never : None ≡ Some v = said in cc)
+  go (Some m) e said = (m, e, said)
+
 -- ---- what the messages say of a dataset
 
 module _ (image : List ℕ) (messages : List Message) (d : Dataset) (blocks : List Block) (has : HasDataset image messages d blocks) where
@@ -56,7 +72,7 @@ module _ (image : List ℕ) (messages : List Message) (d : Dataset) (blocks : Li
   pub type_is : (t : Fixed) → type_among messages ≡ Some t → t ≡ d.fixed
   type_is t h = same_of _ _ _ h has.type
 
-  layout_there : layout_among messages ≡ Some has.layout
+  pub layout_there : layout_among messages ≡ Some has.layout
   layout_there =
       ap (option_and_then (λ (e : Extent). option_and_then (layout_by messages e) (type_among messages))) has.space
       ∙ ap (option_and_then (layout_by messages (record { sizes = d.sizes; maxima = d.maxima }))) has.type ∙ has.laid_out
@@ -117,5 +133,6 @@ module _ (image : List ℕ) (table : FinMap nat_cmp ℕ) (tree : Tree) (placed :
           m = m;
           first = first_there;
           laid = laid;
+          size = ap (λ (f : Fixed). cells sizes * f.size) fixed;
           chunks = chunks_there image d.0.k.has.messages d.0.d d.0.k.has.content_blocks d.0.stored t sizes root fixed laid;
         }, refl)

@@ -77,10 +77,10 @@ module _ (image : List ℕ) (messages : List Message) (b : Block) (from : ℕ) (
   at : ℕ
   at = b.at + from
 
-  fit : from + 8 + number_at (part b.at b.len image) (from + 2) 2 ≤ b.len
+  pub fit : from + 8 + number_at (part b.at b.len image) (from + 2) 2 ≤ b.len
   fit = omega (arith, is.whole, length-part b.at b.len image within)
 
-  size : number_at (part b.at b.len image) (from + 2) 2 ≡ size_at image (b.at + from)
+  pub size : number_at (part b.at b.len image) (from + 2) 2 ≡ size_at image (b.at + from)
   size =
       let over : b.at + (from + 2) ≡ b.at + from + 2 = omega arith in
       number_at-part (from + 2) 2 b.at b.len image (omega (arith, fit)) ∙ ap (λ (p : ℕ). number_at image p 2) over
@@ -90,7 +90,7 @@ module _ (image : List ℕ) (messages : List Message) (b : Block) (from : ℕ) (
       let over : b.at + (from + 4) ≡ b.at + from + 4 = omega arith in
       byte_at-part (from + 4) b.at b.len image (omega (arith, fit)) ∙ ap (byte_at image) over
 
-  body : m.body ≡ part (b.at + from + 8) (size_at image (b.at + from)) image
+  pub body : m.body ≡ part (b.at + from + 8) (size_at image (b.at + from)) image
   body =
       let over : b.at + (from + 8) ≡ b.at + from + 8 = omega arith in
       is.body ∙ part-part (from + 8) (number_at (part b.at b.len image) (from + 2) 2) b.at b.len image (omega (arith, fit)) ∙ ap₂ (λ p n. part p n image) over size

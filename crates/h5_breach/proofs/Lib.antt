@@ -16,3 +16,8 @@ pub mod NodeExcluded
 pub mod Ascending
 pub mod FreeLists
 pub mod GroupExcluded
+pub mod Subtrees
+pub mod OrderExcluded
+pub mod ChunkExcluded
+pub mod Tags
+pub mod Bodies

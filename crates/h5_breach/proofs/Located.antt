@@ -1,5 +1,5 @@
 -- Where a block that is reached stands in a reading of the image.
-use Rattle.std.proofs.Common.{◌≡◌, ℕ, zero, suc, ◌+◌, List, [], ◌∷◌, length, Some}
+use Rattle.std.proofs.Common.{◌≡◌, ℕ, zero, suc, ◌+◌, ◌*◌, List, [], ◌∷◌, length, Some}
 use Rattle.std.specs.Prelude.{◌==◌}
 use Rattle.std.specs.Ordering.{nat_cmp}
 use Rattle.std.specs.FinMap.{FinMap, entries}
@@ -7,7 +7,8 @@ use Rattle.std.specs.List.{AllZip, AllByRecursion, find}
 use Rattle.h5_bytes.specs.Bytes.{number_at}
 use Rattle.h5_bytes.specs.Blocks.{block}
 use Rattle.h5_bytes.specs.declared.Block.{Block}
-use Rattle.h5_model.specs.Addresses.{continuation_of}
+use Rattle.h5_model.specs.Addresses.{continuation_of, symbol_table_of}
+use Rattle.h5_model.specs.Places.{cells}
 use Rattle.h5_model.specs.Messages.{Message, count_of}
 use Rattle.h5_model.specs.Heap.{heap_header, segment_place}
 use Rattle.h5_model.specs.Nodes.{Kind, group_kind}
@@ -43,6 +44,7 @@ pub record KnownGroup (image : List ℕ) (table : FinMap nat_cmp ℕ) (tree : Tr
   pub once : count_of 17 k.has.messages ≡ 1
   pub m : Message
   pub first : find (λ x. x.kind == 17) k.has.messages ≡ Some m
+  pub says : symbol_table_of m.body ≡ Some (record { tree = root; heap = heap })
 
 -- such an object that is a dataset
 pub record KnownDataset (image : List ℕ) (table : FinMap nat_cmp ℕ) (tree : Tree) (placed : List Placed) (depth : ℕ) : Type 0 where
@@ -105,6 +107,7 @@ pub record KnownChunks (image : List ℕ) (table : FinMap nat_cmp ℕ) (tree : T
   pub m : Message
   pub first : find (λ x. x.kind == 8) d.k.has.messages ≡ Some m
   pub laid : d.stored.layout ≡ InChunks shape.sizes (Some root)
+  pub size : shape.bytes ≡ cells shape.sizes * d.d.fixed.size
   pub chunks : HasChunks image (chunk_k image) shape.sizes shape.bytes root d.stored.chunks d.k.has.content_blocks
 
 -- a node of its tree

@@ -10,7 +10,7 @@ use Rattle.std.specs.List.{AllZip}
 use Rattle.h5_model.proofs.ReachLaws.{Entry, find_entry}
 use Rattle.h5_breach.proofs.Lists.{In}
 
-to_entry : {K X : Type 0} (es : List (K × X)) (k : K) (v : X) → In (k, v) es → Entry es k v
+pub to_entry : {K X : Type 0} (es : List (K × X)) (k : K) (v : X) → In (k, v) es → Entry es k v
 to_entry [] k v at = absurd at
 to_entry {K = K} {X = X} (e ∷ es) k v (inl same) = inl (ap (λ (x : K × X). x.0) same, ap (λ (x : K × X). x.1) same)
 to_entry (e ∷ es) k v (inr at) = inr (to_entry es k v at)

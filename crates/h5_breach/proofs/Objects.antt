@@ -148,6 +148,7 @@ module _ (image : List ℕ) (table : FinMap nat_cmp ℕ) (tree : Tree) (placed :
           once = (group.3).once;
           m = m;
           first = only_one 17 k.has.messages m low at is;
+          says = says;
         }, refl, refl)
     | inr array ↦ absurd (let none : false ≡ true = of_dataset_kind k.has.messages m 17 (array.2).known at is in cc)
   ]

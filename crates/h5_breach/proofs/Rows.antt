@@ -58,7 +58,7 @@ pub map-append : {X Y : Type 0} (f : X → Y) (xs ys : List X) → map f (xs ++ 
 map-append f [] ys = refl
 map-append {Y = Y} f (x ∷ xs) ys = ap (λ (zs : List Y). f x ∷ zs) (map-append f xs ys)
 
-map-map : {X Y Z : Type 0} (g : Y → Z) (f : X → Y) (xs : List X) → map g (map f xs) ≡ map (λ x. g (f x)) xs
+pub map-map : {X Y Z : Type 0} (g : Y → Z) (f : X → Y) (xs : List X) → map g (map f xs) ≡ map (λ x. g (f x)) xs
 map-map g f [] = refl
 map-map {Z = Z} g f (x ∷ xs) = ap (λ (zs : List Z). g (f x) ∷ zs) (map-map g f xs)
 
@@ -68,7 +68,7 @@ fields_children image kind node =
     map-map (λ (x : ℕ × ℕ). x.1) (λ (i : ℕ). (node + key_place kind i + kind.key_length, child_in kind (node_bytes image kind node) i))
     (range_with_len 0 (entries_in (node_bytes image kind node)))
 
-next-named : (image : List ℕ) (kind : Kind) (row : List (ℕ × ℕ)) → named_nodes (named_next image kind row) ≡ next_row (node_at image kind) (named_nodes row)
+pub next-named : (image : List ℕ) (kind : Kind) (row : List (ℕ × ℕ)) → named_nodes (named_next image kind row) ≡ next_row (node_at image kind) (named_nodes row)
 next-named image kind [] = refl
 next-named image kind (x ∷ row) =
     map-append (λ (y : ℕ × ℕ). y.1) (fields_in image kind x.1) (named_next image kind row)
