@@ -21,3 +21,6 @@ pub mod OrderExcluded
 pub mod ChunkExcluded
 pub mod Tags
 pub mod Bodies
+pub mod ObjectBlocks
+pub mod Entered
+pub mod OverlapExcluded
