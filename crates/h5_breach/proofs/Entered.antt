@@ -209,7 +209,7 @@ module _ (image : List ℕ) (table : FinMap nat_cmp ℕ) (tree : Tree) (placed :
 
   -- each of them
   pub entered : (role : Role) (x : Named) → Located image table tree placed x role → Among (tag_of x.field role, block x.at (length_by image x role))
-  entered ObjectHeader x k = header_entered x.depth x.at k
+  entered ObjectHeader x k = header_entered x.depth x.at k.0
   entered (Continuation header) x k = block_entered x.depth header x.field x.at k
   entered (GroupNode root heap level) x k = node_entered x.depth root heap level x.field x.at k
   entered (SymbolNode root heap) x k = symbols_entered x.depth root heap x.field x.at k

@@ -24,3 +24,7 @@ pub mod Bodies
 pub mod ObjectBlocks
 pub mod Entered
 pub mod OverlapExcluded
+pub mod Breaches
+pub mod Pigeonhole
+pub mod LinkFields
+pub mod LinksExcluded

@@ -65,14 +65,14 @@ contains_in x [] at = absurd at
 contains_in x (y ∷ ys) (inl e) = (0, omega arith, e)
 contains_in x (y ∷ ys) (inr at) = let rest = contains_in x ys at in (suc rest.0, omega (arith, rest.1), rest.2)
 
-in_range : (from n i : ℕ) → i < n → In (from + i) (range_with_len from n)
+pub in_range : (from n i : ℕ) → i < n → In (from + i) (range_with_len from n)
 in_range from zero i low = absurd (omega (arith, low))
 in_range from (suc n) zero low = inl (omega arith)
 in_range from (suc n) (suc i) low =
     let over : from + 1 + i ≡ from + suc i = omega arith in
     inr (subst (λ k. In k (range_with_len (from + 1) n)) over (in_range (from + 1) n i (omega (arith, low))))
 
-from_range : (from n k : ℕ) → In k (range_with_len from n) → (i : ℕ) × (i < n) × (k ≡ from + i)
+pub from_range : (from n k : ℕ) → In k (range_with_len from n) → (i : ℕ) × (i < n) × (k ≡ from + i)
 from_range from zero k at = absurd at
 from_range from (suc n) k (inl e) = (0, omega arith, sym e ∙ omega arith)
 from_range from (suc n) k (inr at) =

@@ -1,5 +1,5 @@
 -- Where a block that is reached stands in a reading of the image.
-use Rattle.std.proofs.Common.{◌≡◌, ℕ, zero, suc, ◌+◌, ◌*◌, List, [], ◌∷◌, length, Some}
+use Rattle.std.proofs.Common.{◌≡◌, ◌≢◌, ◌⊎◌, ◌<◌, ℕ, zero, suc, ◌+◌, ◌*◌, List, [], ◌∷◌, length, Some}
 use Rattle.std.specs.Prelude.{◌==◌}
 use Rattle.std.specs.Ordering.{nat_cmp}
 use Rattle.std.specs.FinMap.{FinMap, entries}
@@ -12,14 +12,14 @@ use Rattle.h5_model.specs.Places.{cells}
 use Rattle.h5_model.specs.Messages.{Message, count_of}
 use Rattle.h5_model.specs.Heap.{heap_header, segment_place}
 use Rattle.h5_model.specs.Nodes.{Kind, group_kind}
-use Rattle.h5_model.specs.Symbols.{Target}
+use Rattle.h5_model.specs.Symbols.{Target, symbols_in, symbol_bytes}
 use Rattle.h5_model.specs.Links.{HasLinks}
-use Rattle.h5_model.specs.Superblock.{leaf_k, internal_k, chunk_k}
+use Rattle.h5_model.specs.Superblock.{leaf_k, internal_k, chunk_k, root_header}
 use Rattle.h5_model.specs.Layout.{InBlock, InChunks}
 use Rattle.h5_model.specs.Chunks.{HasChunks}
 use Rattle.h5_model.specs.Tree.{Tree, Content, Group, Array, Dataset, Links, ToObject, follow}
 use Rattle.h5_model.specs.Reads.{Placed, HasObject, IsSame, InGroup, HasDataset}
-use Rattle.h5_model.specs.Reached.{Named, Role, ObjectHeader, Continuation, GroupNode, SymbolNode, HeapHeader, Segment, Data, ChunkNode, Chunk, Shape, shape_kind}
+use Rattle.h5_model.specs.Reached.{Named, Role, ObjectHeader, Continuation, GroupNode, SymbolNode, HeapHeader, Segment, Data, ChunkNode, Chunk, Shape, shape_kind, entry_in}
 use Rattle.h5_breach.proofs.Lists.{In}
 use Rattle.h5_breach.proofs.Rows.{named_row}
 
@@ -56,6 +56,24 @@ pub record KnownDataset (image : List ℕ) (table : FinMap nat_cmp ℕ) (tree : 
 -- the object at a header
 abbrev pub KnownAt : List ℕ → FinMap nat_cmp ℕ → Tree → List Placed → ℕ → ℕ → Type 0
 KnownAt image table tree placed depth header = (k : Known image table tree placed depth) × (k.o.header ≡ header)
+
+-- an entry of a symbol node that names a header
+pub record KnownEntry (image : List ℕ) (table : FinMap nat_cmp ℕ) (tree : Tree) (placed : List Placed) (field at : ℕ) : Type 0 where
+  pub depth : ℕ
+  pub root : ℕ
+  pub heap : ℕ
+  pub g : KnownGroup image table tree placed depth root heap
+  pub node : ℕ
+  pub member : In node g.linked.symbol_nodes
+  pub i : ℕ
+  pub low : i < symbols_in (symbol_bytes image (leaf_k image) node)
+  pub hard : (entry_in image node i).cache ≢ 2
+  pub place : field ≡ node + 16 + 40 * i
+  pub names : at ≡ (entry_in image node i).header
+
+-- what names a header: the superblock's field, or an entry
+abbrev pub LinkField : List ℕ → FinMap nat_cmp ℕ → Tree → List Placed → ℕ → ℕ → Type 0
+LinkField image table tree placed field at = ((field ≡ 64) × (at ≡ root_header image)) ⊎ KnownEntry image table tree placed field at
 
 -- a Continuation of its header
 pub record KnownBlock (image : List ℕ) (table : FinMap nat_cmp ℕ) (tree : Tree) (placed : List Placed) (depth header field at : ℕ) : Type 0 where
@@ -127,7 +145,7 @@ pub record KnownChunk (image : List ℕ) (table : FinMap nat_cmp ℕ) (tree : Tr
 
 -- what a role says of a block that a field names
 abbrev pub Located : List ℕ → FinMap nat_cmp ℕ → Tree → List Placed → Named → Role → Type 0
-Located image table tree placed x ObjectHeader = KnownAt image table tree placed x.depth x.at
+Located image table tree placed x ObjectHeader = KnownAt image table tree placed x.depth x.at × LinkField image table tree placed x.field x.at
 Located image table tree placed x (Continuation header) = KnownBlock image table tree placed x.depth header x.field x.at
 Located image table tree placed x (GroupNode root heap level) = KnownNode image table tree placed x.depth root heap level x.field x.at
 Located image table tree placed x (SymbolNode root heap) = KnownSymbols image table tree placed x.depth root heap x.field x.at

@@ -193,10 +193,22 @@ module _ (image : List ℕ) (table : FinMap nat_cmp ℕ) (tree : Tree) (placed :
       let entry = entry_listed image root heap k.g.found k.g.k.has.content_blocks k.g.linked at i member low in
       let link = header_listed image root heap k.g.found k.g.k.has.content_blocks k.g.linked (entry_in image at i) entry hard in
       subst (λ (z : Named). Located image table tree placed z z.role) (sym is)
-      (linked_known image table tree placed reads depth root heap k.g _ (entry_in image at i).header link)
+      (linked_known image table tree placed reads depth root heap k.g _ (entry_in image at i).header link, inr (record {
+        depth = depth;
+        root = root;
+        heap = heap;
+        g = k.g;
+        node = at;
+        member = member;
+        i = i;
+        low = low;
+        hard = hard;
+        place = refl;
+        names = refl;
+      }))
 
   step : (role : Role) (x y : Named) → Located image table tree placed x role → Names image role x.at x.depth y → Stands y
-  step ObjectHeader x y k names = from_header x.depth x.at y k names
+  step ObjectHeader x y k names = from_header x.depth x.at y k.0 names
   step (Continuation header) x y k names = absurd names
   step (GroupNode root heap level) x y k names = from_node x.depth root heap x.field x.at y level k names.1
   step (SymbolNode root heap) x y k names = from_symbols x.depth root heap x.field x.at y k names
@@ -215,5 +227,5 @@ module _ (image : List ℕ) (table : FinMap nat_cmp ℕ) (tree : Tree) (placed :
   -- every block that is reached stands in the reading
   pub located : {x : Named} → Reached image x → Stands x
   located (by_superblock {x = x} whole is) =
-      subst (λ (z : Named). Located image table tree placed z z.role) (sym is) (root_known image table tree placed reads)
+      subst (λ (z : Named). Located image table tree placed z z.role) (sym is) (root_known image table tree placed reads, inl (refl, refl))
   located (by_block {x = x} {y = y} reached names there) = step x.role x y (located reached) names
