@@ -48,7 +48,7 @@ parts_bodied image (b ∷ waiting) (ms ∷ parts) fills inside more m at = elim 
       (all_right (λ (c : Block). c.at + c.len ≤ length image) (continuations ms) (flat_map continuations parts) more) m later
 ]
 
-parts_named : (b : Block) (parts : List (List Message)) → In b (flat_map continuations parts) → In b (continuations (flat_map (λ (ms : List Message). ms) parts))
+pub parts_named : (b : Block) (parts : List (List Message)) → In b (flat_map continuations parts) → In b (continuations (flat_map (λ (ms : List Message). ms) parts))
 parts_named b parts at =
     let of = from_flat continuations b parts at in
     let by = from_flat continuation b of.0 of.2 in

@@ -28,3 +28,9 @@ pub mod Breaches
 pub mod Pigeonhole
 pub mod LinkFields
 pub mod LinksExcluded
+pub mod MetMessages
+pub mod Reachable
+pub mod AllReached
+pub mod FieldsApart
+pub mod CountExcluded
+pub mod Excluded

@@ -1,5 +1,5 @@
 -- Links to a header are as many as the reading counts.
-use Rattle.std.proofs.Common.{◌≡◌, ◌≢◌, ◌⊎◌, inl, inr, ℕ, zero, suc, ◌+◌, ◌<◌, ◌≤◌, List, [], ◌∷◌, length, refl, sym, ap, ◌∙◌, subst, arith, Some, None, Option, true, false, Bool}
+use Rattle.std.proofs.Common.{◌≡◌, ◌≢◌, ◌⊎◌, inl, inr, ℕ, zero, suc, ◌+◌, ◌<◌, ◌≤◌, List, [], ◌∷◌, length, refl, sym, ap, ap₂, ◌∙◌, subst, arith, Some, None, Option, true, false, Bool}
 use Rattle.std.proofs.lemmas.Bool.Decides.{nat_tests}
 use Rattle.std.specs.Prelude.{◌==◌, IsTrue, if◌then◌else◌, is_some}
 use Rattle.std.specs.Option.{option_and_then}
@@ -46,14 +46,12 @@ module _ (image : List ℕ) (table : FinMap nat_cmp ℕ) (tree : Tree) (placed :
   -- a field of a header that is reached is one of them
   pub reached_link : (y : Named) → Reached image y → IsTrue (is_header y.role) → In (y.field, y.at) links
   reached_link y reached is = elim (link_known image table tree placed reads y reached is) [
-    | inl super ↦ inl (subst (λ (z : ℕ × ℕ). (64, root_header image) ≡ z) (pair super.0 super.1) refl)
+    | inl super ↦ inl (ap₂ (λ (a b : ℕ). (a, b)) (sym super.0) (sym super.1))
     | inr entry ↦ entry_is_link image table tree placed reads y.field y.at entry
-  ] where
-    pair : y.field ≡ 64 → y.at ≡ root_header image → (64, root_header image) ≡ (y.field, y.at)
-    pair p q = λ i. (sym p i, sym q i)
+  ]
 
   -- how many fields name the header of an object
-  abbrev counts : Placed → ℕ
+  abbrev pub counts : Placed → ℕ
   counts o = hard_links tree o.number + (if o.number == 0 then 1 else 0)
 
   pub object_count : (o : Placed) → In o placed → linking o.header links ≡ counts o
@@ -73,7 +71,7 @@ module _ (image : List ℕ) (table : FinMap nat_cmp ℕ) (tree : Tree) (placed :
         let plain : counts o ≡ hard_links tree o.number + 0 = ap (λ (b : Bool). hard_links tree o.number + (if b then 1 else 0)) e in
         omega (arith, plain, (is_counted o at).limit)
 
-  linked_fields : (header : ℕ) (fields : List ℕ) → AreLinks image header fields → (f : ℕ) → In f fields → In (f, header) links
+  pub linked_fields : (header : ℕ) (fields : List ℕ) → AreLinks image header fields → (f : ℕ) → In f fields → In (f, header) links
   linked_fields header fields are f at =
       let y = are.each f (contains_in f fields at) in
       subst (λ (h : ℕ). In (f, h) links) y.3 (subst (λ (g : ℕ). In (g, y.0.at) links) y.2 (reached_link y.0 y.1 y.4))

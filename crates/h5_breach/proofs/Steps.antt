@@ -135,7 +135,7 @@ module _ (image : List ℕ) (table : FinMap nat_cmp ℕ) (tree : Tree) (placed :
       let here : AllMessages image k.0.o.header messages = subst (λ (h : ℕ). AllMessages image h messages) (sym k.1) all in
       from_layout messages depth k.0 y (all_messages image k.0.o.header messages k.0.has.messages k.0.has.header_blocks here k.0.has.listed) layout
 
-  below_role : (level : ℕ) (bottom : Role) (inner : ℕ → Role) → (if suc level == 0 then bottom else inner (suc level - 1)) ≡ inner level
+  pub below_role : (level : ℕ) (bottom : Role) (inner : ℕ → Role) → (if suc level == 0 then bottom else inner (suc level - 1)) ≡ inner level
   below_role level bottom inner =
       let other : (suc level == 0) ≡ false = grind (arith, nat_tests) in
       let less : suc level - 1 ≡ level = omega arith in
