@@ -1,12 +1,12 @@
 -- The header of each object is reached, and so is each field that names it.
-use Rattle.std.proofs.Common.{◌≡◌, ◌≢◌, ◌⊎◌, inl, inr, ℕ, zero, suc, ◌+◌, ◌*◌, ◌<◌, ◌≤◌, List, [], ◌∷◌, ◌++◌, map, length, refl, sym, ap, ap₂, ◌∙◌, subst, arith, Option, Some, None, true, false, Bool, cond}
+use Rattle.std.proofs.Common.{◌≡◌, ◌≢◌, inl, inr, ℕ, ◌+◌, ◌*◌, ◌<◌, List, [], ◌∷◌, length, refl, sym, ap, ◌∙◌, subst, arith, Option, Some, None, true, false, Bool, cond}
 use Rattle.std.proofs.lemmas.Bool.Decides.{nat_tests}
-use Rattle.std.specs.Prelude.{◌==◌, if◌then◌else◌, IsTrue, is_some}
+use Rattle.std.specs.Prelude.{◌==◌, if◌then◌else◌, is_some}
 use Rattle.std.specs.Option.{option_and_then, option_map_or}
 use Rattle.std.specs.Ordering.{nat_cmp, eq_by_cmp}
 use Rattle.std.specs.Cmp.Lexicographic.{slice_cmp}
 use Rattle.std.specs.FinMap.{FinMap, get, entries, find, get-entries}
-use Rattle.std.specs.List.{AllByRecursion, AllZip, flat_map, range_with_len}
+use Rattle.std.specs.List.{AllByRecursion, range_with_len}
 use Rattle.std.specs.List.{find as find_first}
 use Rattle.h5_bytes.specs.Bytes.{part}
 use Rattle.h5_bytes.specs.Texts.{text_at}
@@ -17,20 +17,19 @@ use Rattle.h5_model.specs.Rows.{leaves}
 use Rattle.h5_model.specs.Nodes.{group_kind, node_at}
 use Rattle.h5_model.specs.Symbols.{Entry, entry_of, Target, Header, Text, symbols_at, symbols_in, symbol_bytes, link_of}
 use Rattle.h5_model.specs.Superblock.{leaf_k, internal_k, root_header}
-use Rattle.h5_model.specs.Tree.{Tree, Object, Content, Group, Array, Links, Link, ToObject, Soft, follow, links_of, links_in, link_in}
-use Rattle.h5_model.specs.Reads.{Placed, ReadsAs, HasObject, HasGroup, IsSame, IsPlaced}
-use Rattle.h5_model.specs.Reached.{Named, named, ObjectHeader, Reached, by_superblock, entry_in, level_at}
+use Rattle.h5_model.specs.Tree.{Tree, Object, Content, Group, Array, Links, Link, ToObject, Soft, follow, links_of, links_in}
+use Rattle.h5_model.specs.Reads.{Placed, ReadsAs, HasObject, IsSame, IsPlaced}
+use Rattle.h5_model.specs.Reached.{named, ObjectHeader, Reached, by_superblock, entry_in, level_at}
 use Rattle.h5_model.specs.TreeFaults.{all_entries}
 use Rattle.h5_model.proofs.OneTree.{level_is, children_are}
-use Rattle.h5_breach.proofs.Lists.{In, in_either, in_map, from_map, from_flat, from_table, from_range}
+use Rattle.h5_breach.proofs.Lists.{In, in_either, from_map, from_flat, from_table, from_range}
 use Rattle.h5_breach.proofs.Maps.{tied_right}
-use Rattle.h5_breach.proofs.Counts.{only_one}
 use Rattle.h5_breach.proofs.Objects.{has_object, content_cases, in_tree, in_table, object_at, of_dataset_kind}
-use Rattle.h5_breach.proofs.Datasets.{find_none, find_in, said_first}
+use Rattle.h5_breach.proofs.Datasets.{find_none, said_first}
 use Rattle.h5_breach.proofs.Entries.{links_are}
 use Rattle.h5_breach.proofs.LinkFields.{entry_link, node_links, tree_links, object_links, placed_links, all_links}
 use Rattle.h5_breach.proofs.Reachable.{IsReached, entry_reached}
-use Rattle.h5_breach.proofs.Located.{Known, KnownGroup}
+use Rattle.h5_breach.proofs.Located.{KnownGroup}
 
 -- what is looked up stands under some name
 named_value : (es : List (List ℕ × Link)) (q : List ℕ) (v : Link) → find (slice_cmp nat_cmp) q es ≡ Some v → (k : List ℕ) × In (k, v) es
@@ -70,9 +69,13 @@ entry_is_hard : (segment : List ℕ) (e : Entry) (n : List ℕ) (h : ℕ) → li
 entry_is_hard segment e n h is = go (e.cache == 2) refl (ap (λ (l : List ℕ × Target). l.1) is) where
   go : (b : Bool) → (e.cache == 2) ≡ b → (if b then Text (text_at segment e.text) else Header e.header) ≡ Header h → (e.cache ≢ 2) × (e.header ≡ h)
   go true tested same = absurd (let never : Text (text_at segment e.text) ≡ Header h = same in cc)
-  go false tested same =
-      ((λ soft. let text : (e.cache == 2) ≡ true = grind (arith, nat_tests, soft) in let never : false ≡ true = sym tested ∙ text in absurd (cc)),
-      let one : Header e.header ≡ Header h = same in let header : e.header ≡ h = cc in header)
+  go false tested same = (
+    (λ soft. let text : (e.cache == 2) ≡ true = grind (arith, nat_tests, soft) in let never : false ≡ true = sym tested ∙ text in absurd (cc)),
+    let one : Header e.header ≡ Header h = same in let header : e.header ≡ h = cc in header,
+  )
+
+same_hard : (e f : Entry) → e ≡ f → f.cache ≢ 2 → e.cache ≢ 2
+same_hard e f same hard soft = hard (sym (ap (λ (x : Entry). x.cache) same) ∙ soft)
 
 module _ (image : List ℕ) (table : FinMap nat_cmp ℕ) (tree : Tree) (placed : List Placed) (reads : ReadsAs image table tree placed) where
   links_by : (ms : List Message) (m : Message) (s : SymbolTable) → find_first (λ x. x.kind == 17) ms ≡ Some m → symbol_table_of m.body ≡ Some s
@@ -91,27 +94,33 @@ module _ (image : List ℕ) (table : FinMap nat_cmp ℕ) (tree : Tree) (placed :
         let s = (g.3).symbol_table in
         let first = said_first symbol_table_of 17 has.messages s (g.3).chosen in
         let both : Group g.0 ≡ Group links = sym g.1 ∙ is in
-        let same : g.0 ≡ links = cc in
-        (s.tree, s.heap, record {
-          k = record {
-            o = o;
-            member = at;
-            path = path;
-            long = refl;
-            leads = leads;
-            has = has;
-          };
-          links = g.0;
-          is = g.1;
-          found = g.2;
-          linked = (g.3).linked;
-          same = g.4;
-          in_group = (g.3).known;
-          once = (g.3).once;
-          m = first.0;
-          first = first.1;
-          says = first.2;
-        }, refl, same, links_by has.messages first.0 s first.1 first.2)
+        let same : g.0 ≡ links = cc in (
+          s.tree,
+          s.heap,
+          record {
+            k = record {
+              o = o;
+              member = at;
+              path = path;
+              long = refl;
+              leads = leads;
+              has = has;
+            };
+            links = g.0;
+            is = g.1;
+            found = g.2;
+            linked = (g.3).linked;
+            same = g.4;
+            in_group = (g.3).known;
+            once = (g.3).once;
+            m = first.0;
+            first = first.1;
+            says = first.2;
+          },
+          refl,
+          same,
+          links_by has.messages first.0 s first.1 first.2,
+        )
     | inr d ↦ absurd (let never : Array d.0 ≡ Group links = sym d.1 ∙ is in cc)
   ]
 
@@ -129,7 +138,7 @@ module _ (image : List ℕ) (table : FinMap nat_cmp ℕ) (tree : Tree) (placed :
       let node = from_flat (symbols_at image (leaf_k image)) by.0 g.linked.symbol_nodes by.1 in
       let i = from_table (λ (j : ℕ). entry_of (part (8 + 40 * j) 40 (symbol_bytes image (leaf_k image) node.0))) (symbols_in (symbol_bytes image (leaf_k image) node.0)) by.0 node.2 in
       let entry : entry_in image node.0 i.0 ≡ by.0 = i.2 in
-      let no_text : (entry_in image node.0 i.0).cache ≢ 2 = λ soft. hard.0 (sym (ap (λ (e : Entry). e.cache) entry) ∙ soft) in
+      let no_text : (entry_in image node.0 i.0).cache ≢ 2 = same_hard (entry_in image node.0 i.0) by.0 entry hard.0 in
       let y = entry_reached image table tree placed reads n depth root heap g reached node.0 i.0 node.1 i.1 no_text in
       let header : (entry_in image node.0 i.0).header ≡ file.1 = ap (λ (e : Entry). e.header) entry ∙ hard.1 in
       (file.1, file.3, (node.0 + 16 + 40 * i.0, subst (λ (a : ℕ). Reached image (named (node.0 + 16 + 40 * i.0) ObjectHeader a (depth + 1))) header y))
@@ -223,7 +232,7 @@ module _ (image : List ℕ) (table : FinMap nat_cmp ℕ) (tree : Tree) (placed :
         let linked = g.3.linked in
         let bottom : leaves V (level_at image kind g.1) (g.1 ∷ []) ≡ linked.symbol_nodes
         = ap (λ (n : ℕ). leaves V n (g.1 ∷ [])) (level_is image kind g.1 linked.level linked.owned linked.symbol_nodes linked.tree)
-            ∙ sym (children_are image kind g.1 linked.level linked.owned linked.symbol_nodes linked.tree) in
+        ∙ sym (children_are image kind g.1 linked.level linked.owned linked.symbol_nodes linked.tree) in
         let node = from_flat (node_links image) z (leaves V (level_at image kind g.1) (g.1 ∷ [])) (subst (In z) g.6 there) in
         let i = from_flat (entry_link image node.0) z (range_with_len 0 (symbols_in (symbol_bytes image (leaf_k image) node.0))) node.2 in
         let place = from_range 0 (symbols_in (symbol_bytes image (leaf_k image) node.0)) i.0 i.1 in

@@ -2,16 +2,16 @@
 use Rattle.std.proofs.Common.{◌≡◌, ◌⊎◌, inl, inr, ℕ, ◌+◌, ◌*◌, ◌≤◌, List, [], ◌∷◌, ◌++◌, length, refl, sym, ap, ◌∙◌, subst, arith, Option, Some, None, true, false, Bool}
 use Rattle.std.proofs.lemmas.Bool.Decides.{nat_tests}
 use Rattle.std.specs.Prelude.{◌==◌, ◌&&◌, not, nat_le, if◌then◌else◌, slice_range}
-use Rattle.std.specs.List.{AllByRecursion, flat_map, list_any}
+use Rattle.std.specs.List.{flat_map, list_any}
 use Rattle.h5_bytes.specs.Bytes.{number_at, byte_at, part, undefined}
 use Rattle.h5_bytes.specs.Blocks.{block, Inside}
 use Rattle.h5_bytes.specs.declared.Block.{Block}
 use Rattle.h5_bytes.proofs.BlockLaws.{all_append, all_left, all_right}
 use Rattle.h5_model.specs.Messages.{Message, Fills, FillBlocks, HasMessages, continuation, continuations, first_block, prefix_at, first_size}
-use Rattle.h5_model.specs.Layout.{Layout, InMessage, InBlock, InChunks, layout_of, compact_layout, contiguous_layout, chunked_layout, short_numbers_at, address_from}
+use Rattle.h5_model.specs.Layout.{InMessage, InBlock, InChunks, layout_of, compact_layout, contiguous_layout, chunked_layout, short_numbers_at, address_from}
 use Rattle.h5_model.specs.Places.{cells}
 use Rattle.h5_model.specs.Reached.{size_at}
-use Rattle.h5_breach.proofs.Lists.{In, in_all, all_in, in_left, in_right, in_either, in_flat, from_flat}
+use Rattle.h5_breach.proofs.Lists.{In, in_all, all_in, in_either, in_flat, from_flat}
 use Rattle.h5_breach.proofs.Heads.{fit, size, body}
 
 -- the body is so many bytes of the image

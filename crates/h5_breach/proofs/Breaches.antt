@@ -1,20 +1,20 @@
 -- A rule of a block that is reached, broken, excludes the reading.
-use Rattle.std.proofs.Common.{◌≡◌, ◌≢◌, ◌⊎◌, inl, inr, ℕ, zero, suc, ◌+◌, ◌≤◌, List, [], ◌∷◌, refl, sym, ap, ◌∙◌, subst, true, false}
+use Rattle.std.proofs.Common.{◌≡◌, ℕ, suc, ◌+◌, List, true, false}
 use Rattle.std.specs.Prelude.{IsTrue}
 use Rattle.std.specs.Ordering.{nat_cmp}
 use Rattle.std.specs.FinMap.{FinMap, values}
 use Rattle.h5_model.specs.Nodes.{group_kind}
 use Rattle.h5_model.specs.Superblock.{internal_k}
 use Rattle.h5_model.specs.Tree.{Tree}
-use Rattle.h5_model.specs.Reads.{Placed, ReadsAs, Reads}
-use Rattle.h5_model.specs.Reached.{Named, Role, ObjectHeader, Continuation, GroupNode, SymbolNode, HeapHeader, Segment, Data, ChunkNode, Chunk, Reached, shape_kind}
+use Rattle.h5_model.specs.Reads.{Placed, ReadsAs}
+use Rattle.h5_model.specs.Reached.{Named, Role, ObjectHeader, GroupNode, SymbolNode, HeapHeader, ChunkNode, Reached, shape_kind}
 use Rattle.h5_model.specs.Faults.{BlockBreach, is_header, IsNoRoot}
 use Rattle.h5_model.specs.declared.open_fault.Cause.{Cause}
 use Rattle.h5_model.specs.declared.open_fault.Cause.TheVariants.{HeapForm, HeapName, NodeForm, NameOrder, KeyOrder, Sibling, ChunkKey, TooDeep, BadName}
 use Rattle.h5_breach.proofs.Lists.{In}
 use Rattle.h5_breach.proofs.Rows.{in_row}
 use Rattle.h5_breach.proofs.Entries.{in_symbol_nodes}
-use Rattle.h5_breach.proofs.Located.{KnownAt, KnownNode, KnownSymbols, KnownHeap, KnownChunkNode, LinkField, Located}
+use Rattle.h5_breach.proofs.Located.{KnownAt, KnownSymbols, LinkField, Located}
 use Rattle.h5_breach.proofs.Steps.{located}
 use Rattle.h5_breach.proofs.HeaderExcluded.{header_excluded, no_root_excluded}
 use Rattle.h5_breach.proofs.NodeExcluded.{node_excluded, sibling_excluded}

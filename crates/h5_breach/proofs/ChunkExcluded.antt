@@ -1,24 +1,24 @@
 -- The keys and chunks of a dataset that is read keep their rules.
-use Rattle.std.proofs.Common.{◌≡◌, ◌⊎◌, inl, inr, ℕ, zero, suc, ◌+◌, ◌<◌, ◌≤◌, List, [], ◌∷◌, ◌++◌, map, length, take, drop, refl, sym, ap, ◌∙◌, subst, arith, append_assoc, true, Bool}
-use Rattle.std.specs.Prelude.{slice_index_or, IsTrue, T}
+use Rattle.std.proofs.Common.{◌≡◌, inl, inr, ℕ, zero, suc, ◌+◌, ◌<◌, List, [], ◌∷◌, ◌++◌, map, length, take, drop, refl, sym, ap, ◌∙◌, subst, arith, append_assoc, true}
+use Rattle.std.specs.Prelude.{slice_index_or, T}
 use Rattle.std.specs.Ordering.{nat_cmp, is_lt}
 use Rattle.std.specs.declared.cmp.Ordering.{Ordering}
 use Rattle.std.specs.Cmp.Lexicographic.{slice_cmp}
-use Rattle.std.specs.FinMap.{FinMap, entries, values, entries_sorted, is_sorted}
+use Rattle.std.specs.FinMap.{entries, values, entries_sorted, is_sorted}
 use Rattle.std.specs.FinMap.Entries.{below_all}
-use Rattle.std.specs.List.{AllByRecursion, flat_map, range_with_len}
+use Rattle.std.specs.List.{AllByRecursion, range_with_len}
 use Rattle.std.proofs.lemmas.List.Concat.{flat_map-append}
 use Rattle.std.proofs.lemmas.List.FromFn.{take-map-range_with_len, length-map-range_with_len}
 use Rattle.h5_bytes.specs.Bytes.{undefined}
 use Rattle.h5_bytes.specs.declared.Block.{Block}
 use Rattle.h5_model.specs.Rows.{Node, Reading, row_below}
-use Rattle.h5_model.specs.Nodes.{Kind, chunk_kind, node_at, node_of, node_bytes, reading_of, entries_in, key_in, child_in}
+use Rattle.h5_model.specs.Nodes.{Kind, node_at, node_of, node_bytes, reading_of, entries_in, key_in, child_in}
 use Rattle.h5_model.specs.Chunks.{Chunks, HasChunks, HasChunkKeys, IsChunkKey, IsChunkOrdered, IsChunkBetween, chunks_in, chunks_at, chunks_below}
 use Rattle.h5_model.specs.Superblock.{chunk_k}
 use Rattle.h5_model.specs.Reached.{Shape, shape_kind, level_at}
 use Rattle.h5_model.specs.TreeFaults.{ChunkOrderBreach, ChunkKeyBreach, ChunksDescend}
 use Rattle.h5_model.proofs.RowLaws.{row_below-same, Agree}
-use Rattle.h5_model.proofs.ReachLaws.{Entry, both, halves, below_entry}
+use Rattle.h5_model.proofs.ReachLaws.{Entry, halves, below_entry}
 use Rattle.h5_model.proofs.OneTree.{level_is, owned_is}
 use Rattle.h5_breach.proofs.Lists.{In, in_all, all_in, in_table, in_contains}
 use Rattle.h5_breach.proofs.Maps.{to_entry}
@@ -26,7 +26,7 @@ use Rattle.h5_breach.proofs.Rows.{row_is, rows_below, row_level, in_nodes}
 use Rattle.h5_breach.proofs.Trees.{tree_rows, row_owned}
 use Rattle.h5_breach.proofs.Entries.{flat-same}
 use Rattle.h5_breach.proofs.Ascending.{around}
-use Rattle.h5_breach.proofs.Subtrees.{Within, index_in, child_below, one_within, rows_within, nodes_below, row_join, below_agree, read_same, all_agree}
+use Rattle.h5_breach.proofs.Subtrees.{index_in, below_agree, read_same, all_agree}
 
 -- ---- sorted entries
 
@@ -110,8 +110,8 @@ module _ (image : List ℕ) (shape : Shape) (root : ℕ) (chunks : Chunks) (bloc
       let inner : here ≡ take i here ++ y ∷ tail = around here i y low is in
       let split : entries chunks ≡ (ahead ++ take i here) ++ y ∷ (tail ++ behind)
       = whole ∙ ap (λ (es : List (List ℕ × ℕ)). ahead ++ (es ++ behind)) inner
-          ∙ ap (λ (es : List (List ℕ × ℕ)). ahead ++ es) (append_assoc (take i here) (y ∷ tail) behind)
-          ∙ sym (append_assoc ahead (take i here) (y ∷ (tail ++ behind))) in
+      ∙ ap (λ (es : List (List ℕ × ℕ)). ahead ++ es) (append_assoc (take i here) (y ∷ tail) behind)
+      ∙ sym (append_assoc ahead (take i here) (y ∷ (tail ++ behind))) in
       let sorted : T (is_sorted (slice_cmp nat_cmp) ((ahead ++ take i here) ++ y ∷ (tail ++ behind)))
       = subst (λ (es : List (List ℕ × ℕ)). T (is_sorted (slice_cmp nat_cmp) es)) split (entries_sorted chunks) in
       falls (sorted_before (slice_cmp nat_cmp) (ahead ++ take i here) (tail ++ behind) x y sorted (in_contains x (ahead ++ take i here) contained))
@@ -148,7 +148,7 @@ module _ (image : List ℕ) (shape : Shape) (root : ℕ) (chunks : Chunks) (bloc
         let rows : row_below W m (c ∷ []) ≡ row_below V m (c ∷ []) = row_below-same V W m (c ∷ []) sub in
         let agree : Agree V W (row_below V m (c ∷ []))
         = all_in (λ n. W n ≡ V n) (row_below V m (c ∷ []))
-            (λ n at_n. in_all (λ k. W k ≡ V k) n _ sub (in_nodes V m 0 m n (c ∷ []) (omega arith) at_n)) in
+        (λ n at_n. in_all (λ k. W k ≡ V k) n _ sub (in_nodes V m 0 m n (c ∷ []) (omega arith) at_n)) in
         ap (chunks_at W rank) rows ∙ chunks_row (row_below V m (c ∷ [])) agree
 
     pub chunk_order_excluded : ChunkOrderBreach image shape root l at → ⊥

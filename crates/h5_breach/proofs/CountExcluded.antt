@@ -1,18 +1,17 @@
 -- A reference count that differs from the number of links excludes the reading.
-use Rattle.std.proofs.Common.{◌≡◌, ◌≢◌, ℕ, ◌≤◌, List, length, refl, sym, ap, ◌∙◌, subst, arith, true}
-use Rattle.std.specs.Prelude.{IsTrue}
+use Rattle.std.proofs.Common.{◌≡◌, ℕ, List, length, refl, sym, subst, arith}
 use Rattle.std.specs.Ordering.{nat_cmp}
 use Rattle.std.specs.FinMap.{FinMap}
 use Rattle.h5_model.specs.Messages.{prefix_at, reference_count}
 use Rattle.h5_model.specs.Tree.{Tree}
 use Rattle.h5_model.specs.Reads.{Placed, ReadsAs}
 use Rattle.h5_model.specs.Reached.{Named, named, ObjectHeader, Reached}
-use Rattle.h5_model.specs.Faults.{is_header, AreAllLinks, IsMiscounted}
+use Rattle.h5_model.specs.Faults.{AreAllLinks, IsMiscounted}
 use Rattle.h5_breach.proofs.Lists.{In, in_contains}
 use Rattle.h5_breach.proofs.Breaches.{header_known}
-use Rattle.h5_breach.proofs.Pigeonhole.{linking, apart_of_distinct, no_longer}
+use Rattle.h5_breach.proofs.Pigeonhole.{apart_of_distinct, no_longer}
 use Rattle.h5_breach.proofs.LinkFields.{all_links}
-use Rattle.h5_breach.proofs.LinksExcluded.{counts, object_count, is_counted, fields_bound, linked_fields}
+use Rattle.h5_breach.proofs.LinksExcluded.{object_count, is_counted, fields_bound, linked_fields}
 use Rattle.h5_breach.proofs.AllReached.{link_reached}
 use Rattle.h5_breach.proofs.FieldsApart.{fields_to, length-fields_to, in_fields_to, fields_apart, links_once}
 

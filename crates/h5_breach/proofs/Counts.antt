@@ -1,8 +1,8 @@
 -- Messages of a type that stands once.
-use Rattle.std.proofs.Common.{◌≡◌, ◌≢◌, ℕ, ◌+◌, ◌≤◌, List, [], ◌∷◌, refl, sym, ap, ◌∙◌, subst, arith, Some, None, true, false, Bool, inl, inr, ◌⊎◌}
+use Rattle.std.proofs.Common.{◌≡◌, ℕ, ◌+◌, ◌≤◌, List, [], ◌∷◌, refl, ap, arith, Some, true, false, Bool, inl, inr}
 use Rattle.std.proofs.lemmas.Bool.Decides.{nat_tests}
-use Rattle.std.specs.Prelude.{◌==◌, ◌||◌, IsTrue, if◌then◌else◌, Option, option_map}
-use Rattle.std.specs.List.{find, AllByRecursion}
+use Rattle.std.specs.Prelude.{◌==◌, option_map}
+use Rattle.std.specs.List.{find}
 use Rattle.h5_model.specs.Messages.{Message, count_of, first_body}
 use Rattle.h5_breach.proofs.Lists.{In}
 

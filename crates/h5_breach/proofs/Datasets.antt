@@ -1,5 +1,5 @@
 -- What the messages of a dataset say, and the data that they name.
-use Rattle.std.proofs.Common.{◌≡◌, ◌⊎◌, inl, inr, ℕ, ◌+◌, ◌*◌, List, [], ◌∷◌, refl, sym, ap, ◌∙◌, subst, arith, Some, None, true, false, Option, Bool, cond}
+use Rattle.std.proofs.Common.{◌≡◌, inl, inr, ℕ, ◌+◌, ◌*◌, List, [], ◌∷◌, refl, sym, ap, ◌∙◌, subst, arith, Some, None, true, false, Option, Bool}
 use Rattle.std.proofs.lemmas.Bool.Decides.{nat_tests}
 use Rattle.std.specs.Prelude.{◌==◌, option_map}
 use Rattle.std.specs.Option.{option_and_then}
@@ -10,18 +10,17 @@ use Rattle.h5_bytes.specs.declared.Block.{Block}
 use Rattle.h5_model.specs.Messages.{Message, HasMessages, first_block, first_body}
 use Rattle.h5_model.specs.Fixed.{Fixed}
 use Rattle.h5_model.specs.Places.{cells}
-use Rattle.h5_model.specs.Extent.{Extent, extent_of}
-use Rattle.h5_model.specs.Datatype.{fixed_of}
-use Rattle.h5_model.specs.Layout.{Layout, InBlock, InChunks, layout_of}
+use Rattle.h5_model.specs.Extent.{Extent}
+use Rattle.h5_model.specs.Layout.{Layout, InBlock, InChunks}
 use Rattle.h5_model.specs.Chunks.{HasChunks}
 use Rattle.h5_model.specs.Superblock.{chunk_k}
 use Rattle.h5_model.specs.Tree.{Tree, Dataset}
 use Rattle.h5_model.specs.Reads.{Placed, HasDataset, HasData}
-use Rattle.h5_model.specs.Reached.{AllMessages, extent_among, type_among, layout_among, layout_by, Shape}
+use Rattle.h5_model.specs.Reached.{AllMessages, extent_among, type_among, layout_among, layout_by}
 use Rattle.h5_model.proofs.OneReading.{one_parts}
 use Rattle.h5_breach.proofs.Lists.{In}
 use Rattle.h5_breach.proofs.Objects.{content_cases, of_group_kind}
-use Rattle.h5_breach.proofs.Located.{Known, KnownAt, KnownDataset, KnownBytes, KnownChunks}
+use Rattle.h5_breach.proofs.Located.{Known, KnownDataset, KnownBytes, KnownChunks}
 
 same_of : {X : Type 0} (o : Option X) (x y : X) → o ≡ Some x → o ≡ Some y → x ≡ y
 same_of o x y p q = let both : Some x ≡ Some y = sym p ∙ q in cc
@@ -126,13 +125,15 @@ module _ (image : List ℕ) (table : FinMap nat_cmp ℕ) (tree : Tree) (placed :
     chunks_known sizes root among =
         let laid : d.0.stored.layout ≡ InChunks sizes (Some root)
         = sym (layout_is image d.0.k.has.messages d.0.d d.0.k.has.content_blocks d.0.stored (InChunks sizes (Some root))
-            (subst (λ (ms : List Message). layout_among ms ≡ Some (InChunks sizes (Some root))) same_there among)) in
-        let fixed : t ≡ d.0.d.fixed = type_is image d.0.k.has.messages d.0.d d.0.k.has.content_blocks d.0.stored t (subst (λ (ms : List Message). type_among ms ≡ Some t) same_there type) in
-        (record {
-          d = d.0;
-          m = m;
-          first = first_there;
-          laid = laid;
-          size = ap (λ (f : Fixed). cells sizes * f.size) fixed;
-          chunks = chunks_there image d.0.k.has.messages d.0.d d.0.k.has.content_blocks d.0.stored t sizes root fixed laid;
-        }, refl)
+        (subst (λ (ms : List Message). layout_among ms ≡ Some (InChunks sizes (Some root))) same_there among)) in
+        let fixed : t ≡ d.0.d.fixed = type_is image d.0.k.has.messages d.0.d d.0.k.has.content_blocks d.0.stored t (subst (λ (ms : List Message). type_among ms ≡ Some t) same_there type) in (
+          record {
+            d = d.0;
+            m = m;
+            first = first_there;
+            laid = laid;
+            size = ap (λ (f : Fixed). cells sizes * f.size) fixed;
+            chunks = chunks_there image d.0.k.has.messages d.0.d d.0.k.has.content_blocks d.0.stored t sizes root fixed laid;
+          },
+          refl,
+        )

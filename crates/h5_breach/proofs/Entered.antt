@@ -1,36 +1,33 @@
 -- Each block that is reached is among the blocks of an object, behind the field that names it.
-use Rattle.std.proofs.Common.{◌≡◌, ◌⊎◌, inl, inr, ℕ, zero, suc, ◌+◌, ◌-◌, ◌*◌, ◌≤◌, List, [], ◌∷◌, ◌++◌, map, length, refl, sym, ap, ap₂, ◌∙◌, subst, arith, Option, Some, None}
-use Rattle.std.specs.Prelude.{◌==◌, option_map}
+use Rattle.std.proofs.Common.{◌≡◌, inl, inr, ℕ, zero, suc, ◌+◌, ◌-◌, List, [], ◌∷◌, ◌++◌, length, sym, ap, ap₂, ◌∙◌, subst, arith, Option, Some, None}
+use Rattle.std.specs.Prelude.{option_map}
 use Rattle.std.specs.Option.{option_and_then}
 use Rattle.std.specs.Ordering.{nat_cmp}
 use Rattle.std.specs.FinMap.{FinMap, values}
-use Rattle.std.specs.List.{find, flat_map}
-use Rattle.h5_bytes.specs.Bytes.{number_at, part}
+use Rattle.h5_bytes.specs.Bytes.{number_at}
 use Rattle.h5_bytes.specs.Blocks.{block}
 use Rattle.h5_bytes.specs.declared.Block.{Block}
 use Rattle.h5_bytes.proofs.PartLaws.{length-part}
 use Rattle.h5_bytes.proofs.FieldLaws.{number_at-part}
 use Rattle.h5_model.specs.Messages.{Message, continuation, prefix_at, first_size, first_body}
-use Rattle.h5_model.specs.Heap.{heap_header, segment_place, segment_size, segment_block}
-use Rattle.h5_model.specs.Nodes.{Kind, group_kind, chunk_kind, node_block}
+use Rattle.h5_model.specs.Heap.{heap_header, segment_size, segment_block}
+use Rattle.h5_model.specs.Nodes.{Kind, group_kind, node_block}
 use Rattle.h5_model.specs.Symbols.{symbol_block}
-use Rattle.h5_model.specs.Fixed.{Fixed}
-use Rattle.h5_model.specs.Places.{cells}
 use Rattle.h5_model.specs.Layout.{Layout, InBlock, InChunks, layout_of}
-use Rattle.h5_model.specs.Superblock.{leaf_k, internal_k, chunk_k}
+use Rattle.h5_model.specs.Superblock.{leaf_k, internal_k}
 use Rattle.h5_model.specs.Tree.{Tree}
 use Rattle.h5_model.specs.Reads.{Placed, ReadsAs}
-use Rattle.h5_model.specs.Reached.{Named, Role, ObjectHeader, Continuation, GroupNode, SymbolNode, HeapHeader, Segment, Data, ChunkNode, Chunk, Shape, shape_kind, level_at, length_by, layout_among}
+use Rattle.h5_model.specs.Reached.{Named, Role, ObjectHeader, Continuation, GroupNode, SymbolNode, HeapHeader, Segment, Data, ChunkNode, Chunk, Shape, shape_kind, level_at, length_by}
 use Rattle.h5_model.proofs.OneTree.{level_is}
 use Rattle.h5_breach.proofs.Lists.{In, in_left, in_right, in_map, in_flat}
 use Rattle.h5_breach.proofs.Heads.{in_continuations}
 use Rattle.h5_breach.proofs.Rows.{named_next, named_row}
-use Rattle.h5_breach.proofs.Tags.{Tagged, named_all, tag_all, tagged, tagged_header, tagged_continuation, tagged_table, tagged_layout, tagged_tree, tagged_group, tagged_chunks, tagged_data}
+use Rattle.h5_breach.proofs.Tags.{Tagged, named_all, tag_all, tagged, tagged_header, tagged_continuation, tagged_table, tagged_layout, tagged_tree, tagged_group, tagged_chunks}
 use Rattle.h5_breach.proofs.ObjectBlocks.{table_tags, layout_tags}
 use Rattle.h5_breach.proofs.Datasets.{find_in, layout_there}
-use Rattle.h5_breach.proofs.Bodies.{Bodied, message_bodied, block_says}
+use Rattle.h5_breach.proofs.Bodies.{message_bodied, block_says}
 use Rattle.h5_breach.proofs.Steps.{header_inside}
-use Rattle.h5_breach.proofs.Located.{Known, KnownAt, KnownBlock, KnownGroup, KnownNode, KnownSymbols, KnownHeap, KnownSegment, KnownDataset, KnownBytes, KnownChunks, KnownChunkNode, KnownChunk, Located}
+use Rattle.h5_breach.proofs.Located.{Known, KnownAt, KnownBlock, KnownGroup, KnownNode, KnownSymbols, KnownHeap, KnownSegment, KnownBytes, KnownChunks, KnownChunkNode, KnownChunk, Located}
 
 -- the field that names a block, but none for a header
 abbrev pub tag_of : ℕ → Role → Option ℕ
@@ -175,7 +172,7 @@ module _ (image : List ℕ) (table : FinMap nat_cmp ℕ) (tree : Tree) (placed :
       = says.1 ∙ ap (λ bs. number_at bs 10 8) bodied.is ∙ number_at-part 10 8 k.m.at bodied.size image (omega (arith, len, says.0)) ∙ ap (λ (p : ℕ). number_at image p 8) over in
       let tags : tagged_layout image ms ≡ (Some (k.m.at + 2), k.b) ∷ []
       = layout_tags image ms k.m k.d.d.fixed (InBlock (Some k.b)) k.first k.d.stored.type
-          (layout_there image ms k.d.d k.d.k.has.content_blocks k.d.stored ∙ ap (λ (l : Layout). Some l) k.laid) in
+      (layout_there image ms k.d.d k.d.k.has.content_blocks k.d.stored ∙ ap (λ (l : Layout). Some l) k.laid) in
       let same : block k.b.at k.b.len ≡ block at (number_at image (field + 8) 8) = ap₂ block (sym k.here) size in
       by_layout depth k.d.k (Some field, block at (number_at image (field + 8) 8))
       (subst (In (Some field, block at (number_at image (field + 8) 8))) (sym tags) (inl (ap₂ (λ (f : ℕ) (b : Block). (Some f, b)) (sym k.place) same)))

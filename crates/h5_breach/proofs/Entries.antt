@@ -1,28 +1,23 @@
 -- Entries of the symbol nodes of a group's tree.
-use Rattle.std.proofs.Common.{◌≡◌, ◌≢◌, ℕ, zero, suc, ◌+◌, ◌*◌, ◌<◌, List, [], ◌∷◌, ◌++◌, map, refl, sym, ap, ap₂, ◌∙◌, subst, arith, false}
+use Rattle.std.proofs.Common.{◌≡◌, ◌≢◌, ℕ, suc, ◌+◌, ◌*◌, ◌<◌, List, [], ◌∷◌, ◌++◌, map, refl, sym, ap, ap₂, ◌∙◌, subst, arith, false}
 use Rattle.std.proofs.lemmas.Bool.Decides.{nat_tests}
-use Rattle.std.specs.Prelude.{◌==◌, if◌then◌else◌}
-use Rattle.std.specs.Ordering.{nat_cmp}
-use Rattle.std.specs.FinMap.{FinMap}
+use Rattle.std.specs.Prelude.{◌==◌}
 use Rattle.std.specs.List.{AllByRecursion, flat_map}
 use Rattle.h5_bytes.specs.Bytes.{part}
 use Rattle.h5_bytes.specs.Texts.{text_at}
 use Rattle.h5_bytes.specs.declared.Block.{Block}
 use Rattle.h5_model.specs.Heap.{segment_of}
-use Rattle.h5_model.specs.Rows.{row_below, next_row, leaves}
+use Rattle.h5_model.specs.Rows.{row_below}
 use Rattle.h5_model.specs.Nodes.{group_kind, node_at}
-use Rattle.h5_model.specs.Symbols.{Entry, Target, Header, Text, symbols_at, symbols_of, symbols_in, symbol_bytes, entry_of, link_of}
+use Rattle.h5_model.specs.Symbols.{Entry, Target, Header, symbols_at, symbols_of, symbols_in, symbol_bytes, entry_of, link_of}
 use Rattle.h5_model.specs.Links.{HasLinks}
 use Rattle.h5_model.specs.Superblock.{leaf_k, internal_k}
-use Rattle.h5_model.specs.Tree.{Tree}
-use Rattle.h5_model.specs.Reads.{Placed}
 use Rattle.h5_model.specs.Reached.{entry_in}
 use Rattle.h5_model.specs.TreeFaults.{all_entries}
 use Rattle.h5_model.proofs.RowLaws.{only_here}
 use Rattle.h5_model.proofs.OneTree.{children_are}
 use Rattle.h5_breach.proofs.Lists.{In, in_flat, in_map, in_table}
-use Rattle.h5_breach.proofs.Rows.{in_row, row_after}
-use Rattle.h5_breach.proofs.Located.{KnownGroup, KnownSymbols}
+use Rattle.h5_breach.proofs.Rows.{row_after}
 
 pub flat-same : {X Y : Type 0} (f g : X → List Y) (xs : List X) → AllByRecursion (λ x. f x ≡ g x) xs → flat_map f xs ≡ flat_map g xs
 flat-same f g [] same = refl

@@ -1,9 +1,9 @@
 -- A breach excludes any reading.
-use Rattle.std.proofs.Common.{◌≡◌, ◌⊎◌, inl, inr, ℕ, List}
+use Rattle.std.proofs.Common.{inl, inr, ℕ, List}
 use Rattle.std.specs.Ordering.{nat_cmp}
 use Rattle.std.specs.FinMap.{FinMap}
 use Rattle.h5_model.specs.Tree.{Tree}
-use Rattle.h5_model.specs.Reads.{Placed, ReadsAs, Reads}
+use Rattle.h5_model.specs.Reads.{Placed, ReadsAs}
 use Rattle.h5_model.specs.Reached.{Named, Reached}
 use Rattle.h5_model.specs.Faults.{cut, ReachedBreach, BreachExcludesReads}
 use Rattle.h5_model.specs.declared.open_fault.Cause.{Cause}

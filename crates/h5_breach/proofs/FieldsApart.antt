@@ -1,26 +1,26 @@
 -- No field that names a header stands twice.
-use Rattle.std.proofs.Common.{◌≡◌, ◌≢◌, ◌⊎◌, inl, inr, ℕ, zero, suc, ◌+◌, ◌*◌, ◌<◌, ◌≤◌, List, [], ◌∷◌, ◌++◌, map, length, refl, sym, ap, ap₂, ◌∙◌, subst, arith, Option, Some, None, true, false, Bool}
+use Rattle.std.proofs.Common.{◌≡◌, inl, inr, ℕ, zero, suc, ◌+◌, ◌*◌, ◌<◌, ◌≤◌, List, [], ◌∷◌, ◌++◌, map, length, refl, sym, ap, ap₂, ◌∙◌, subst, arith, Option, None, true, false, Bool}
 use Rattle.std.proofs.lemmas.Bool.Decides.{nat_tests}
 use Rattle.std.specs.Prelude.{◌==◌, if◌then◌else◌}
 use Rattle.std.specs.Option.{option_map_or}
 use Rattle.std.specs.Ordering.{nat_cmp}
 use Rattle.std.specs.FinMap.{FinMap}
 use Rattle.std.specs.List.{AllByRecursion, flat_map, find, range_with_len}
-use Rattle.h5_bytes.specs.Blocks.{block, holds, cover}
+use Rattle.h5_bytes.specs.Blocks.{holds, cover}
 use Rattle.h5_bytes.specs.declared.Block.{Block}
-use Rattle.h5_bytes.proofs.BlockLaws.{holds_in, holds_join, holds-inner, holds_none, cover-append}
+use Rattle.h5_bytes.proofs.BlockLaws.{holds_join, holds-inner, cover-append}
 use Rattle.h5_model.specs.Addresses.{SymbolTable, symbol_table_of}
 use Rattle.h5_model.specs.Messages.{Message}
 use Rattle.h5_model.specs.Heap.{heap_blocks}
 use Rattle.h5_model.specs.Rows.{leaves}
 use Rattle.h5_model.specs.Nodes.{group_kind, node_at, tree_blocks}
-use Rattle.h5_model.specs.Symbols.{Target, IsSymbolNode, symbol_block, symbol_bytes, symbols_in}
-use Rattle.h5_model.specs.Superblock.{leaf_k, internal_k, root_header}
+use Rattle.h5_model.specs.Symbols.{IsSymbolNode, symbol_block, symbol_bytes, symbols_in}
+use Rattle.h5_model.specs.Superblock.{leaf_k, internal_k}
 use Rattle.h5_model.specs.Tree.{Tree, Content, Group, Array}
 use Rattle.h5_model.specs.Reads.{Placed, ReadsAs, IsPlaced, HasContent}
 use Rattle.h5_model.specs.Reached.{entry_in, level_at}
 use Rattle.h5_model.proofs.OneTree.{level_is, children_are}
-use Rattle.h5_breach.proofs.Lists.{In, in_all}
+use Rattle.h5_breach.proofs.Lists.{In}
 use Rattle.h5_breach.proofs.Objects.{of_dataset_kind}
 use Rattle.h5_breach.proofs.Datasets.{find_none, said_first}
 use Rattle.h5_breach.proofs.Pigeonhole.{linking, Apart}
@@ -92,10 +92,10 @@ content_once image table f ms (Group links) blocks (found, has, zip) =
     let linked = has.linked in
     let at_table : object_links image ms ≡ tree_links image s.tree
     = ap (λ (o : Option Message). option_map_or (λ (m : Message). option_map_or (λ (s : SymbolTable). tree_links image s.tree) (symbol_table_of m.body) []) o []) first.1
-        ∙ ap (λ (o : Option SymbolTable). option_map_or (λ (s : SymbolTable). tree_links image s.tree) o []) first.2 in
+    ∙ ap (λ (o : Option SymbolTable). option_map_or (λ (s : SymbolTable). tree_links image s.tree) o []) first.2 in
     let bottom : leaves V (level_at image kind s.tree) (s.tree ∷ []) ≡ linked.symbol_nodes
     = ap (λ (n : ℕ). leaves V n (s.tree ∷ [])) (level_is image kind s.tree linked.level linked.owned linked.symbol_nodes linked.tree)
-        ∙ sym (children_are image kind s.tree linked.level linked.owned linked.symbol_nodes linked.tree) in
+    ∙ sym (children_are image kind s.tree linked.level linked.owned linked.symbol_nodes linked.tree) in
     let same : times f (object_links image ms) ≡ times f (flat_map (node_links image) linked.symbol_nodes)
     = ap (times f) at_table ∙ ap (λ (ns : List ℕ). times f (flat_map (node_links image) ns)) bottom in
     let once = nodes_once image f linked.symbol_nodes linked.formed in

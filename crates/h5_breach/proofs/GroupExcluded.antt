@@ -1,10 +1,10 @@
 -- Symbol nodes and heaps of a group that is read keep their rules.
-use Rattle.std.proofs.Common.{◌≡◌, ◌≢◌, ◌⊎◌, inl, inr, ℕ, zero, suc, ◌+◌, ◌*◌, ◌<◌, ◌≤◌, List, [], ◌∷◌, ◌++◌, map, length, take, drop, refl, sym, ap, ap₂, ◌∙◌, subst, arith, Some, None, true, false, Bool, append_assoc, length-append}
-use Rattle.std.specs.Prelude.{IsTrue, IsSome, is_some, not}
+use Rattle.std.proofs.Common.{◌≡◌, inl, inr, ℕ, suc, ◌≤◌, List, [], ◌∷◌, ◌++◌, map, length, take, drop, sym, ap, ◌∙◌, subst, arith, Some, true, false, append_assoc, length-append}
+use Rattle.std.specs.Prelude.{IsTrue, is_some, not}
 use Rattle.std.specs.Ordering.{nat_cmp}
-use Rattle.std.specs.Cmp.Lexicographic.{slice_cmp, nat_list_cmp_total}
+use Rattle.std.specs.Cmp.Lexicographic.{nat_list_cmp_total}
 use Rattle.std.specs.FinMap.{FinMap, get, entries}
-use Rattle.std.specs.List.{AllByRecursion, flat_map, Contains}
+use Rattle.std.specs.List.{flat_map}
 use Rattle.std.proofs.lemmas.List.Concat.{flat_map-append}
 use Rattle.h5_bytes.specs.Texts.{text_at}
 use Rattle.h5_bytes.specs.declared.Block.{Block}
@@ -15,9 +15,9 @@ use Rattle.h5_model.specs.Symbols.{Entry, IsEntry, IsSymbolNode, Target, symbols
 use Rattle.h5_model.specs.Links.{HasLinks, Before, Ascend, offset_in, key_offsets}
 use Rattle.h5_model.specs.Paths.{is_name}
 use Rattle.h5_model.specs.Superblock.{leaf_k, internal_k}
-use Rattle.h5_model.specs.Tree.{Tree, Link, ToObject, follow}
+use Rattle.h5_model.specs.Tree.{Tree}
 use Rattle.h5_model.specs.Reads.{Placed, ReadsAs, IsSame}
-use Rattle.h5_model.specs.Reached.{entry_in, level_at}
+use Rattle.h5_model.specs.Reached.{entry_in}
 use Rattle.h5_model.specs.TreeFaults.{SymbolBreach, NameBreach, HeapNameBreach, BadNameBreach, HasSymbolNodes, all_entries, all_key_offsets}
 use Rattle.h5_model.proofs.RowLaws.{only_here}
 use Rattle.h5_model.proofs.OneTree.{one_children, level_is, owned_is}
@@ -79,8 +79,8 @@ module _ (image : List ℕ) (root heap : ℕ) (found : List (List ℕ × Target)
       let inner : here ≡ take i here ++ y ∷ tail = around here i y low is in
       let split : all ≡ (ahead ++ take i here) ++ y ∷ (tail ++ behind)
       = whole ∙ ap (λ (es : List Entry). ahead ++ (es ++ behind)) inner
-          ∙ ap (λ (es : List Entry). ahead ++ es) (append_assoc (take i here) (y ∷ tail) behind)
-          ∙ sym (append_assoc ahead (take i here) (y ∷ (tail ++ behind))) in
+      ∙ ap (λ (es : List Entry). ahead ++ es) (append_assoc (take i here) (y ∷ tail) behind)
+      ∙ sym (append_assoc ahead (take i here) (y ∷ (tail ++ behind))) in
       falls (rise (ahead ++ take i here) (tail ++ behind) x y split (in_contains x (ahead ++ take i here) contained))
 
   pub bad_name_excluded : BadNameBreach image root heap → ⊥
@@ -102,10 +102,10 @@ module _ (image : List ℕ) (root heap : ℕ) (found : List (List ℕ × Target)
       let V = node_at image kind in
       let same : key_offsets V has.owned ≡ key_offsets (reading_of image kind has.owned) has.owned
       = flat-same (λ at. map offset_in (V at).keys) (λ at. map offset_in (reading_of image kind has.owned at).keys) has.owned
-          (all_in (λ at. map offset_in (V at).keys ≡ map offset_in (reading_of image kind has.owned at).keys) has.owned
-          (λ at there. ap (λ (n : Node). map offset_in n.keys) (in_all (λ n. V n ≡ reading_of image kind has.owned n) at has.owned (only_here blank V has.owned) there))) in
+      (all_in (λ at. map offset_in (V at).keys ≡ map offset_in (reading_of image kind has.owned at).keys) has.owned
+      (λ at there. ap (λ (n : Node). map offset_in n.keys) (in_all (λ n. V n ≡ reading_of image kind has.owned n) at has.owned (only_here blank V has.owned) there))) in
       sym same ∙ ap (key_offsets V) (owned_is image kind root has.level has.owned has.symbol_nodes has.tree)
-          ∙ ap (λ (n : ℕ). key_offsets V (nodes V n (root ∷ []))) (sym (level_is image kind root has.level has.owned has.symbol_nodes has.tree))
+      ∙ ap (λ (n : ℕ). key_offsets V (nodes V n (root ∷ []))) (sym (level_is image kind root has.level has.owned has.symbol_nodes has.tree))
 
   pub heap_name_excluded : HeapNameBreach image root heap → ⊥
   heap_name_excluded (xs, nodes_are, free, is, none) =
@@ -114,8 +114,8 @@ module _ (image : List ℕ) (root heap : ℕ) (found : List (List ℕ × Target)
       = sym (own_entries image has.symbol_nodes) ∙ ap (all_entries image) sn in
       let free_is : has.listed.free ≡ free = one_free (heap_header image heap) segment has.listed.free free has.listed.heap_form is in
       let a = subst (λ (ks : List ℕ). HasNames segment has.listed.free
-          (map (λ (e : Entry). e.name) (flat_map (symbols_of image (leaf_k image) has.symbol_nodes) has.symbol_nodes))
-          (texts_of (flat_map (symbols_of image (leaf_k image) has.symbol_nodes) has.symbol_nodes)) ks has.listed.loose) keys_are has.listed.spans in
+      (map (λ (e : Entry). e.name) (flat_map (symbols_of image (leaf_k image) has.symbol_nodes) has.symbol_nodes))
+      (texts_of (flat_map (symbols_of image (leaf_k image) has.symbol_nodes) has.symbol_nodes)) ks has.listed.loose) keys_are has.listed.spans in
       let b = subst (λ (l : List Entry). HasNames segment has.listed.free (map (λ (e : Entry). e.name) l) (texts_of l) (all_key_offsets image root) has.listed.loose) es a in
       let c = subst (λ (f : List Block). HasNames segment f (map (λ (e : Entry). e.name) (all_entries image xs)) (texts_of (all_entries image xs)) (all_key_offsets image root) has.listed.loose) free_is b in
       none has.listed.loose c

@@ -1,17 +1,16 @@
 -- A header that is reached and breaks a rule excludes the reading.
-use Rattle.std.proofs.Common.{◌≡◌, ◌≢◌, ◌⊎◌, inl, inr, ℕ, ◌+◌, ◌<◌, ◌≤◌, List, [], ◌∷◌, length, refl, sym, ap, ◌∙◌, subst, arith, None, Some, true, false, Bool}
-use Rattle.std.specs.Prelude.{◌==◌, not, IsTrue, IsSome, is_some}
+use Rattle.std.proofs.Common.{◌≡◌, ◌⊎◌, inl, inr, ℕ, ◌+◌, ◌<◌, ◌≤◌, List, [], ◌∷◌, length, sym, ap, ◌∙◌, subst, arith, None, Some, true, false}
+use Rattle.std.specs.Prelude.{◌==◌, not, is_some}
 use Rattle.std.specs.Option.{option_and_then}
 use Rattle.std.specs.Ordering.{nat_cmp}
-use Rattle.std.specs.FinMap.{FinMap, entries}
-use Rattle.std.specs.List.{AllByRecursion, AllZip, flat_map}
+use Rattle.std.specs.FinMap.{FinMap}
 use Rattle.h5_bytes.specs.Bytes.{number_at}
 use Rattle.h5_bytes.specs.Blocks.{block, Inside}
 use Rattle.h5_bytes.specs.declared.Block.{Block}
 use Rattle.h5_model.specs.Messages.{Message, count_of, continuation, continuations, prefix_at, first_size}
 use Rattle.h5_model.specs.Symbols.{Target}
-use Rattle.h5_model.specs.Tree.{Tree, Object, Content, Group, Array, Dataset, Links, ToObject, follow, links_of, links_in}
-use Rattle.h5_model.specs.Reads.{Placed, ReadsAs, HasGroup, HasDataset, InGroup, InDataset, IsSame}
+use Rattle.h5_model.specs.Tree.{Tree, Object, Dataset, ToObject, follow, links_of, links_in}
+use Rattle.h5_model.specs.Reads.{Placed, ReadsAs, HasGroup, HasDataset, InGroup, InDataset}
 use Rattle.h5_model.specs.Reached.{AllMessages}
 use Rattle.h5_model.specs.HeaderFaults.{HeaderBreach, ListBreach, is_known, is_new_style}
 use Rattle.h5_model.specs.declared.open_fault.Cause.{Cause}
@@ -107,7 +106,7 @@ module _ (image : List ℕ) (table : FinMap nat_cmp ℕ) (tree : Tree) (placed :
         let number : k.o.number ≡ 0 = root_number tree k.path k.o.number (k.long ∙ top) k.leads in
         let links : links_of tree 0 ≡ links_in k.o.object.content
         = subst (λ (n : ℕ). links_of tree n ≡ links_in k.o.object.content) number
-            (ap (option_and_then (λ (ob : Object). links_in ob.content)) (in_tree image table tree placed reads k.o k.member)) in
+        (ap (option_and_then (λ (ob : Object). links_in ob.content)) (in_tree image table tree placed reads k.o k.member)) in
         elim (content_cases image table ms k.o.object.content k.has.content_blocks k.has.content) [
           | inl g ↦ absurd (omega (arith, none, (g.3).once))
           | inr d ↦

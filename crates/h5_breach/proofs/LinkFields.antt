@@ -1,5 +1,5 @@
 -- The fields that name headers: that of the superblock, and the entries of symbol nodes that are no soft links.
-use Rattle.std.proofs.Common.{◌≡◌, ◌≢◌, ◌⊎◌, inl, inr, ℕ, zero, suc, ◌+◌, ◌*◌, ◌<◌, List, [], ◌∷◌, ◌++◌, map, refl, sym, ap, ap₂, ◌∙◌, subst, arith, Option, Some, None, true, false, Bool, cond}
+use Rattle.std.proofs.Common.{◌≡◌, ◌≢◌, inl, inr, ℕ, ◌+◌, ◌*◌, List, [], ◌∷◌, ◌++◌, map, refl, sym, ap, ap₂, ◌∙◌, subst, arith, Option, Some, None, true, false, Bool, cond}
 use Rattle.std.proofs.lemmas.Bool.Decides.{nat_tests}
 use Rattle.std.proofs.lemmas.List.Sums.{sum_by-cons}
 use Rattle.std.proofs.lemmas.List.Recursion.{is_count_by}
@@ -8,7 +8,6 @@ use Rattle.std.specs.Option.{option_map_or}
 use Rattle.std.specs.Ordering.{nat_cmp}
 use Rattle.std.specs.FinMap.{FinMap, get, entries, values}
 use Rattle.std.specs.List.{AllByRecursion, AllZip, flat_map, find, range_with_len, count_by, sum_by}
-use Rattle.h5_bytes.specs.Bytes.{part}
 use Rattle.h5_bytes.specs.Texts.{text_at}
 use Rattle.h5_bytes.specs.declared.Block.{Block}
 use Rattle.h5_model.specs.Addresses.{SymbolTable, symbol_table_of}
@@ -16,11 +15,10 @@ use Rattle.h5_model.specs.Messages.{Message, HasMessages}
 use Rattle.h5_model.specs.Heap.{segment_of}
 use Rattle.h5_model.specs.Rows.{leaves}
 use Rattle.h5_model.specs.Nodes.{group_kind, node_at}
-use Rattle.h5_model.specs.Symbols.{Entry, entry_of, Target, Header, Text, symbols_at, symbols_in, symbol_bytes, link_of}
-use Rattle.h5_model.specs.Links.{HasLinks}
+use Rattle.h5_model.specs.Symbols.{Entry, Target, Header, Text, symbols_at, symbols_in, symbol_bytes, link_of}
 use Rattle.h5_model.specs.Superblock.{leaf_k, internal_k, root_header}
 use Rattle.h5_model.specs.Tree.{Tree, Content, Group, Array, Object, Link, ToObject, Soft, links_to, leads_to, hard_links}
-use Rattle.h5_model.specs.Reads.{Placed, IsPlaced, HasObject, HasContent, HasGroup, IsSame, ReadsAs}
+use Rattle.h5_model.specs.Reads.{Placed, IsPlaced, HasObject, HasContent, IsSame, ReadsAs}
 use Rattle.h5_model.specs.Reached.{entry_in, level_at}
 use Rattle.h5_model.specs.TreeFaults.{all_entries}
 use Rattle.h5_model.proofs.OneReading.{one_messages}
@@ -100,7 +98,7 @@ aim false h a k name t ls e = ap (λ (n : ℕ). (if a == h then 1 else 0) + n) e
 
 aimed_entries : (segment : List ℕ) (h : ℕ) (es : List Entry) → aimed h (map (link_of segment) es) ≡ hard h es
 aimed_entries segment h [] = refl
-aimed_entries segment h (e ∷ es) = 
+aimed_entries segment h (e ∷ es) =
     aim (e.cache == 2) h e.header (hard h es) (text_at segment e.name) (text_at segment e.text) (map (link_of segment) es) (aimed_entries segment h es)
 
 module _ (table : FinMap nat_cmp ℕ) (own : (a b header : ℕ) → get table a ≡ Some header → get table b ≡ Some header → a ≡ b) (number h : ℕ)
@@ -163,10 +161,10 @@ module _ (table : FinMap nat_cmp ℕ) (own : (a b header : ℕ) → get table a 
       let linked = has.linked in
       let at_table : object_links image ms ≡ tree_links image s.tree
       = ap (λ (o : Option Message). option_map_or (λ (m : Message). option_map_or (λ (s : SymbolTable). tree_links image s.tree) (symbol_table_of m.body) []) o []) first.1
-          ∙ ap (λ (o : Option SymbolTable). option_map_or (λ (s : SymbolTable). tree_links image s.tree) o []) first.2 in
+      ∙ ap (λ (o : Option SymbolTable). option_map_or (λ (s : SymbolTable). tree_links image s.tree) o []) first.2 in
       let bottom : leaves V (level_at image kind s.tree) (s.tree ∷ []) ≡ linked.symbol_nodes
       = ap (λ (n : ℕ). leaves V n (s.tree ∷ [])) (level_is image kind s.tree linked.level linked.owned linked.symbol_nodes linked.tree)
-          ∙ sym (children_are image kind s.tree linked.level linked.owned linked.symbol_nodes linked.tree) in
+      ∙ sym (children_are image kind s.tree linked.level linked.owned linked.symbol_nodes linked.tree) in
       let counts : linking h (object_links image ms) ≡ hard h (all_entries image linked.symbol_nodes)
       = ap (linking h) at_table ∙ ap (λ (ns : List ℕ). linking h (flat_map (node_links image) ns)) bottom ∙ nodes_count image h linked.symbol_nodes in
       counts ∙ sym (aimed_entries (segment_of image s.heap) h (all_entries image linked.symbol_nodes))
@@ -225,10 +223,10 @@ module _ (image : List ℕ) (table : FinMap nat_cmp ℕ) (tree : Tree) (placed :
       let z : ℕ × ℕ = (k.node + 16 + 40 * k.i, (entry_in image k.node k.i).header) in
       let bottom : leaves V (level_at image kind k.root) (k.root ∷ []) ≡ linked.symbol_nodes
       = ap (λ (n : ℕ). leaves V n (k.root ∷ [])) (level_is image kind k.root linked.level linked.owned linked.symbol_nodes linked.tree)
-          ∙ sym (children_are image kind k.root linked.level linked.owned linked.symbol_nodes linked.tree) in
+      ∙ sym (children_are image kind k.root linked.level linked.owned linked.symbol_nodes linked.tree) in
       let at_table : object_links image k.g.k.has.messages ≡ tree_links image k.root
       = ap (λ (o : Option Message). option_map_or (λ (m : Message). option_map_or (λ (s : SymbolTable). tree_links image s.tree) (symbol_table_of m.body) []) o []) k.g.first
-          ∙ ap (λ (o : Option SymbolTable). option_map_or (λ (s : SymbolTable). tree_links image s.tree) o []) k.g.says in
+      ∙ ap (λ (o : Option SymbolTable). option_map_or (λ (s : SymbolTable). tree_links image s.tree) o []) k.g.says in
       let range : In k.i (range_with_len 0 (symbols_in (symbol_bytes image (leaf_k image) k.node)))
       = subst (λ (n : ℕ). In n (range_with_len 0 (symbols_in (symbol_bytes image (leaf_k image) k.node)))) (zero_add k.i) (in_range 0 (symbols_in (symbol_bytes image (leaf_k image) k.node)) k.i k.low) in
       let in_node : In z (node_links image k.node)

@@ -1,21 +1,18 @@
 -- Links to a header are as many as the reading counts.
-use Rattle.std.proofs.Common.{◌≡◌, ◌≢◌, ◌⊎◌, inl, inr, ℕ, zero, suc, ◌+◌, ◌<◌, ◌≤◌, List, [], ◌∷◌, length, refl, sym, ap, ap₂, ◌∙◌, subst, arith, Some, None, Option, true, false, Bool}
+use Rattle.std.proofs.Common.{◌≡◌, ◌≢◌, inl, inr, ℕ, ◌+◌, ◌≤◌, List, [], ◌∷◌, length, refl, sym, ap, ap₂, ◌∙◌, subst, arith, true, false, Bool}
 use Rattle.std.proofs.lemmas.Bool.Decides.{nat_tests}
 use Rattle.std.specs.Prelude.{◌==◌, IsTrue, if◌then◌else◌, is_some}
 use Rattle.std.specs.Option.{option_and_then}
-use Rattle.std.specs.Ordering.{nat_cmp, eq_by_cmp}
-use Rattle.std.specs.FinMap.{FinMap, get}
-use Rattle.std.specs.List.{AllByRecursion, Contains, IsDistinct}
+use Rattle.std.specs.Ordering.{nat_cmp}
+use Rattle.std.specs.FinMap.{FinMap}
 use Rattle.h5_bytes.specs.declared.Block.{Block}
-use Rattle.h5_model.specs.Messages.{Message, prefix_at, reference_count}
-use Rattle.h5_model.specs.Superblock.{root_header}
+use Rattle.h5_model.specs.Messages.{Message}
 use Rattle.h5_model.specs.Tree.{Tree, Object, Content, Group, Array, hard_links, links_of, links_in}
 use Rattle.h5_model.specs.Reads.{Placed, ReadsAs, IsCounted, IsGroup, HasContent}
 use Rattle.h5_model.specs.Reached.{Named, Reached, kind_at}
 use Rattle.h5_model.specs.HeaderFaults.{SomeMessage}
 use Rattle.h5_model.specs.Faults.{is_header, AreLinks, IsLinkedTwice, IsLinkedTooOften}
 use Rattle.h5_breach.proofs.Lists.{In, in_all, contains_in}
-use Rattle.h5_breach.proofs.Located.{Known, KnownAt}
 use Rattle.h5_breach.proofs.Objects.{in_tree, in_table, of_dataset_kind}
 use Rattle.h5_breach.proofs.Steps.{header_inside}
 use Rattle.h5_breach.proofs.MetExcluded.{met_head}

@@ -1,11 +1,11 @@
 -- A rule on all messages of a header that is broken excludes that the header is read.
-use Rattle.std.proofs.Common.{◌≡◌, ◌≢◌, ◌⊎◌, inl, inr, ℕ, ◌+◌, ◌*◌, ◌^◌, ◌<◌, ◌≤◌, List, [], ◌∷◌, map, length, refl, sym, ap, ap₂, ◌∙◌, subst, arith, None, Some, true, false, Bool, Option, cond, ℤ}
+use Rattle.std.proofs.Common.{◌≡◌, ◌⊎◌, inl, inr, ℕ, ◌*◌, ◌^◌, ◌<◌, ◌≤◌, List, [], ◌∷◌, map, refl, sym, ap, ◌∙◌, subst, arith, None, Some, true, false, Bool, Option, cond, ℤ}
 use Rattle.std.proofs.lemmas.Bool.Decides.{nat_tests}
-use Rattle.std.specs.Prelude.{◌==◌, ◌||◌, not, IsTrue, IsSome, option_map, is_some}
+use Rattle.std.specs.Prelude.{◌==◌, IsTrue, option_map, is_some}
 use Rattle.std.specs.Option.{option_and_then}
 use Rattle.std.specs.Ordering.{nat_cmp, eq_by_cmp}
 use Rattle.std.specs.Cmp.Lexicographic.{slice_cmp}
-use Rattle.std.specs.List.{AllByRecursion, AllZip, Contains, filter, filter_map, list_any, find, IsDistinct}
+use Rattle.std.specs.List.{AllByRecursion, AllZip, filter, filter_map, list_any, find, IsDistinct}
 use Rattle.h5_bytes.specs.declared.Block.{Block}
 use Rattle.h5_model.specs.Addresses.{symbol_table_of}
 use Rattle.h5_model.specs.Messages.{Message, count_of, first_body}
@@ -14,18 +14,18 @@ use Rattle.h5_model.specs.Places.{cells, extent_cells}
 use Rattle.h5_model.specs.Extent.{Extent, extent_of}
 use Rattle.h5_model.specs.Datatype.{fixed_of}
 use Rattle.h5_model.specs.Fill.{fill_value, old_fill_value}
-use Rattle.h5_model.specs.Layout.{Layout, InChunks, layout_of}
+use Rattle.h5_model.specs.Layout.{InChunks, layout_of}
 use Rattle.h5_model.specs.AttributeBody.{attribute_of}
 use Rattle.h5_model.specs.Symbols.{Target}
 use Rattle.h5_model.specs.Tree.{Dataset, Attribute, Attributes}
-use Rattle.h5_model.specs.Reads.{HasGroup, HasDataset, HasAttributes, is_attribute_message, IsFill, IsChunkSmall, InGroup, InDataset}
+use Rattle.h5_model.specs.Reads.{HasGroup, HasDataset, HasAttributes, is_attribute_message, IsFill, IsChunkSmall}
 use Rattle.h5_model.specs.Reached.{extent_among, type_among, layout_among}
 use Rattle.h5_model.specs.HeaderFaults.{SomeBody, HasNameTwice, IsBadFill, IsLarge, stands_twice, stands}
 use Rattle.h5_breach.proofs.Lists.{In, in_all, in_contains}
 use Rattle.h5_breach.proofs.Maps.{tied_right}
 use Rattle.h5_breach.proofs.Counts.{only_body, none_counted, counted}
 use Rattle.h5_breach.proofs.Datasets.{find_in, extent_is, type_is, layout_is}
-use Rattle.h5_breach.proofs.Objects.{of_group, of_dataset, of_group_kind, of_dataset_kind}
+use Rattle.h5_breach.proofs.Objects.{of_group, of_group_kind, of_dataset_kind}
 
 -- ---- bodies of a type that stands once
 
@@ -126,20 +126,34 @@ module _ (image : List ℕ) (ms : List Message) (found : List (List ℕ × Targe
   pub group_twice : IsTrue (list_any (stands_twice ms) (1 ∷ 3 ∷ 4 ∷ 5 ∷ 8 ∷ 17 ∷ [])) → ⊥
   group_twice h = never (list_any (stands_twice ms) (1 ∷ 3 ∷ 4 ∷ 5 ∷ 8 ∷ 17 ∷ [])) (none_any (stands_twice ms) (1 ∷ 3 ∷ 4 ∷ 5 ∷ 8 ∷ 17 ∷ []) (
     not_twice 1 ms (omega (arith, no_count 1 refl)),
-    (not_twice 3 ms (omega (arith, no_count 3 refl)),
-    (not_twice 4 ms (omega (arith, no_count 4 refl)),
-    (not_twice 5 ms (omega (arith, no_count 5 refl)),
-    (not_twice 8 ms (omega (arith, no_count 8 refl)),
-    (not_twice 17 ms (omega (arith, has.once)), tt))))),
+    (
+      not_twice 3 ms (omega (arith, no_count 3 refl)),
+      (
+        not_twice 4 ms (omega (arith, no_count 4 refl)),
+        (
+          not_twice 5 ms (omega (arith, no_count 5 refl)),
+          (
+            not_twice 8 ms (omega (arith, no_count 8 refl)),
+            (not_twice 17 ms (omega (arith, has.once)), tt),
+          ),
+        ),
+      ),
+    ),
   )) h
 
   pub group_mixed : IsTrue (list_any (stands ms) (1 ∷ 3 ∷ 4 ∷ 5 ∷ 8 ∷ [])) → ⊥
   group_mixed h = never (list_any (stands ms) (1 ∷ 3 ∷ 4 ∷ 5 ∷ 8 ∷ [])) (none_any (stands ms) (1 ∷ 3 ∷ 4 ∷ 5 ∷ 8 ∷ []) (
     not_there 1 ms (no_count 1 refl),
-    (not_there 3 ms (no_count 3 refl),
-    (not_there 4 ms (no_count 4 refl),
-    (not_there 5 ms (no_count 5 refl),
-    (not_there 8 ms (no_count 8 refl), tt)))),
+    (
+      not_there 3 ms (no_count 3 refl),
+      (
+        not_there 4 ms (no_count 4 refl),
+        (
+          not_there 5 ms (no_count 5 refl),
+          (not_there 8 ms (no_count 8 refl), tt),
+        ),
+      ),
+    ),
   )) h
 
   pub group_no_space : SomeBody 1 ms (λ body. extent_of body ≡ None) → ⊥
@@ -178,11 +192,19 @@ module _ (image : List ℕ) (ms : List Message) (d : Dataset) (blocks : List Blo
   pub dataset_twice : IsTrue (list_any (stands_twice ms) (1 ∷ 3 ∷ 4 ∷ 5 ∷ 8 ∷ 17 ∷ [])) → ⊥
   dataset_twice h = never (list_any (stands_twice ms) (1 ∷ 3 ∷ 4 ∷ 5 ∷ 8 ∷ 17 ∷ [])) (none_any (stands_twice ms) (1 ∷ 3 ∷ 4 ∷ 5 ∷ 8 ∷ 17 ∷ []) (
     not_twice 1 ms (omega (arith, has.one_space)),
-    (not_twice 3 ms (omega (arith, has.one_type)),
-    (not_twice 4 ms has.old_fills,
-    (not_twice 5 ms has.fills,
-    (not_twice 8 ms (omega (arith, has.one_layout)),
-    (not_twice 17 ms (omega (arith, no_tables)), tt))))),
+    (
+      not_twice 3 ms (omega (arith, has.one_type)),
+      (
+        not_twice 4 ms has.old_fills,
+        (
+          not_twice 5 ms has.fills,
+          (
+            not_twice 8 ms (omega (arith, has.one_layout)),
+            (not_twice 17 ms (omega (arith, no_tables)), tt),
+          ),
+        ),
+      ),
+    ),
   )) h
 
   pub dataset_mixed : IsTrue (stands ms 17) → ⊥

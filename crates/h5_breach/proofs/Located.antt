@@ -1,5 +1,5 @@
 -- Where a block that is reached stands in a reading of the image.
-use Rattle.std.proofs.Common.{◌≡◌, ◌≢◌, ◌⊎◌, ◌<◌, ℕ, zero, suc, ◌+◌, ◌*◌, List, [], ◌∷◌, length, Some}
+use Rattle.std.proofs.Common.{◌≡◌, ◌≢◌, ◌⊎◌, ◌<◌, ℕ, suc, ◌+◌, ◌*◌, List, [], ◌∷◌, length, Some}
 use Rattle.std.specs.Prelude.{◌==◌}
 use Rattle.std.specs.Ordering.{nat_cmp}
 use Rattle.std.specs.FinMap.{FinMap, entries}
@@ -11,13 +11,13 @@ use Rattle.h5_model.specs.Addresses.{continuation_of, symbol_table_of}
 use Rattle.h5_model.specs.Places.{cells}
 use Rattle.h5_model.specs.Messages.{Message, count_of}
 use Rattle.h5_model.specs.Heap.{heap_header, segment_place}
-use Rattle.h5_model.specs.Nodes.{Kind, group_kind}
+use Rattle.h5_model.specs.Nodes.{group_kind}
 use Rattle.h5_model.specs.Symbols.{Target, symbols_in, symbol_bytes}
 use Rattle.h5_model.specs.Links.{HasLinks}
 use Rattle.h5_model.specs.Superblock.{leaf_k, internal_k, chunk_k, root_header}
 use Rattle.h5_model.specs.Layout.{InBlock, InChunks}
 use Rattle.h5_model.specs.Chunks.{HasChunks}
-use Rattle.h5_model.specs.Tree.{Tree, Content, Group, Array, Dataset, Links, ToObject, follow}
+use Rattle.h5_model.specs.Tree.{Tree, Group, Array, Dataset, Links, ToObject, follow}
 use Rattle.h5_model.specs.Reads.{Placed, HasObject, IsSame, InGroup, HasDataset}
 use Rattle.h5_model.specs.Reached.{Named, Role, ObjectHeader, Continuation, GroupNode, SymbolNode, HeapHeader, Segment, Data, ChunkNode, Chunk, Shape, shape_kind, entry_in}
 use Rattle.h5_breach.proofs.Lists.{In}

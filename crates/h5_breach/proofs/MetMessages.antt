@@ -1,5 +1,5 @@
 -- Each message that a header is read with is met, at its place.
-use Rattle.std.proofs.Common.{◌≡◌, ◌⊎◌, inl, inr, ℕ, ◌+◌, ◌≤◌, List, [], ◌∷◌, ◌++◌, length, refl, sym, ap, ap₂, ◌∙◌, subst, arith, Option, Some, None, true, false, Bool}
+use Rattle.std.proofs.Common.{◌≡◌, inl, inr, ℕ, ◌+◌, ◌≤◌, List, [], ◌∷◌, ◌++◌, length, refl, sym, ap, ◌∙◌, subst, arith, Option, Some, None, true, false, Bool}
 use Rattle.std.proofs.lemmas.Bool.Decides.{nat_tests}
 use Rattle.std.specs.Prelude.{◌==◌, nat_le, if◌then◌else◌}
 use Rattle.std.specs.Option.{option_map_or}
@@ -13,7 +13,7 @@ use Rattle.h5_bytes.proofs.BlockLaws.{all_append, all_left, all_right}
 use Rattle.h5_model.specs.Addresses.{continuation_of}
 use Rattle.h5_model.specs.Messages.{Message, Fills, FillBlocks, HasMessages, continuation, continuations, first_block, prefix_at, first_size}
 use Rattle.h5_model.specs.Reached.{Met, at_start, behind, in_continuation, FittingAt, kind_at, size_at}
-use Rattle.h5_breach.proofs.Lists.{In, in_all, all_in, in_left, in_right, in_either, in_flat, from_flat}
+use Rattle.h5_breach.proofs.Lists.{In, in_all, all_in, in_either, from_flat}
 use Rattle.h5_breach.proofs.Heads.{fit, size, body}
 use Rattle.h5_breach.proofs.Bodies.{parts_named}
 

@@ -1,9 +1,9 @@
 -- A node of a tree that is read keeps the rules of nodes and of rows.
-use Rattle.std.proofs.Common.{◌≡◌, ◌≢◌, ◌⊎◌, inl, inr, ℕ, zero, suc, ◌+◌, ◌-◌, ◌*◌, ◌<◌, ◌≤◌, List, [], ◌∷◌, ◌++◌, refl, sym, ap, ◌∙◌, subst, arith, true, false, Bool}
+use Rattle.std.proofs.Common.{◌≡◌, inl, inr, ℕ, zero, suc, ◌+◌, ◌-◌, List, [], ◌∷◌, ◌++◌, refl, ◌∙◌, subst, arith, true, false}
 use Rattle.std.proofs.lemmas.Bool.Decides.{nat_tests}
 use Rattle.std.specs.Prelude.{◌==◌, ◌&&◌, not, IsTrue}
 use Rattle.h5_bytes.specs.Bytes.{undefined}
-use Rattle.h5_model.specs.Rows.{Node, Reading, IsRow, AreRows, first_or_undefined, row_below}
+use Rattle.h5_model.specs.Rows.{Reading, IsRow, AreRows, first_or_undefined, row_below}
 use Rattle.h5_model.specs.Nodes.{Kind, HasTree, node_at, node_bytes, entries_in}
 use Rattle.h5_model.specs.Reached.{level_at}
 use Rattle.h5_model.specs.TreeFaults.{NodeBreach, SiblingBreach, last_or_undefined}

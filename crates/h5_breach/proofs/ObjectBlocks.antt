@@ -1,14 +1,14 @@
 -- The tagged blocks of an object are its blocks.
-use Rattle.std.proofs.Common.{◌≡◌, ◌⊎◌, inl, inr, ℕ, ◌+◌, ◌*◌, List, [], ◌∷◌, ◌++◌, map, length, refl, sym, ap, ap₂, ◌∙◌, subst, arith, Option, Some, None, true, false, append-nil}
+use Rattle.std.proofs.Common.{◌≡◌, ◌⊎◌, inl, inr, ℕ, ◌+◌, ◌*◌, List, [], ◌++◌, length, sym, ap, ap₂, ◌∙◌, Option, Some, None, true, false, append-nil}
 use Rattle.std.specs.Prelude.{◌==◌}
-use Rattle.std.specs.Option.{option_map_or, option_and_then}
+use Rattle.std.specs.Option.{option_map_or}
 use Rattle.std.specs.Ordering.{nat_cmp}
 use Rattle.std.specs.FinMap.{FinMap, values}
 use Rattle.std.specs.List.{find}
 use Rattle.h5_bytes.specs.Blocks.{block}
 use Rattle.h5_bytes.specs.declared.Block.{Block}
 use Rattle.h5_model.specs.Addresses.{SymbolTable, symbol_table_of}
-use Rattle.h5_model.specs.Messages.{Message, HasMessages}
+use Rattle.h5_model.specs.Messages.{Message}
 use Rattle.h5_model.specs.Nodes.{chunk_kind}
 use Rattle.h5_model.specs.Symbols.{Target}
 use Rattle.h5_model.specs.Fixed.{Fixed}
@@ -17,10 +17,8 @@ use Rattle.h5_model.specs.Layout.{Layout, InMessage, InBlock, InChunks, layout_o
 use Rattle.h5_model.specs.Chunks.{Chunks}
 use Rattle.h5_model.specs.Superblock.{chunk_k}
 use Rattle.h5_model.specs.Tree.{Content, Object, Dataset}
-use Rattle.h5_model.specs.Reads.{HasObject, HasGroup, HasDataset, HasData, HasContent, InGroup, InDataset, Placed, IsPlaced}
-use Rattle.h5_model.specs.Reached.{type_among, layout_among, shape_kind}
-use Rattle.h5_model.proofs.OneReading.{one_messages}
-use Rattle.h5_breach.proofs.Lists.{In}
+use Rattle.h5_model.specs.Reads.{HasObject, HasGroup, HasDataset, HasData, HasContent}
+use Rattle.h5_model.specs.Reached.{type_among, layout_among}
 use Rattle.h5_breach.proofs.Rows.{map-append}
 use Rattle.h5_breach.proofs.Objects.{content_cases, of_group_kind, of_dataset_kind}
 use Rattle.h5_breach.proofs.Datasets.{find_none, said_first, layout_there}

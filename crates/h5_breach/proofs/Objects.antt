@@ -1,17 +1,16 @@
 -- Objects of a reading: the root, and those that links name.
-use Rattle.std.proofs.Common.{◌≡◌, ◌≢◌, ◌⊎◌, inl, inr, ℕ, zero, suc, ◌+◌, ◌≤◌, List, [], ◌∷◌, ◌++◌, map, length, refl, sym, ap, ap₂, ◌∙◌, subst, arith, Some, None, Option, length-append, true, false, Bool}
-use Rattle.std.proofs.lemmas.Bool.Decides.{nat_tests}
-use Rattle.std.specs.Prelude.{◌==◌, ◌||◌, IsTrue}
+use Rattle.std.proofs.Common.{◌≡◌, ◌⊎◌, inl, inr, ℕ, ◌+◌, ◌≤◌, List, [], ◌∷◌, ◌++◌, map, refl, sym, ap, ◌∙◌, subst, arith, Some, None, Option, length-append, true, false, Bool}
+use Rattle.std.specs.Prelude.{◌==◌, ◌||◌}
 use Rattle.std.specs.Option.{option_and_then}
 use Rattle.std.specs.Ordering.{nat_cmp}
 use Rattle.std.specs.Cmp.{nat_cmp_total}
-use Rattle.std.specs.Cmp.Lexicographic.{slice_cmp, nat_list_cmp_total}
+use Rattle.std.specs.Cmp.Lexicographic.{nat_list_cmp_total}
 use Rattle.std.specs.FinMap.{FinMap, get, entries}
-use Rattle.std.specs.List.{AllZip, AllByRecursion, find, flat_map}
+use Rattle.std.specs.List.{AllZip, AllByRecursion}
 use Rattle.h5_bytes.specs.declared.Block.{Block}
 use Rattle.h5_model.specs.Addresses.{SymbolTable, symbol_table_of}
 use Rattle.h5_model.specs.Messages.{Message, count_of, first_body}
-use Rattle.h5_model.specs.Symbols.{Target, Header, Text}
+use Rattle.h5_model.specs.Symbols.{Target, Header}
 use Rattle.h5_model.specs.Links.{HasLinks}
 use Rattle.h5_model.specs.Superblock.{leaf_k, internal_k, root_header}
 use Rattle.h5_model.specs.Tree.{Tree, Object, Content, Group, Array, Dataset, Links, Link, ToObject, Soft, follow, links_of, links_in, link_in}
@@ -19,7 +18,7 @@ use Rattle.h5_model.specs.Reads.{Placed, HasObject, IsPlaced, HasContent, IsSame
 use Rattle.h5_breach.proofs.Lists.{In, in_all, in_map, from_map}
 use Rattle.h5_breach.proofs.Maps.{get_of_entry, entry_of_get, tied_left}
 use Rattle.h5_breach.proofs.Counts.{only_one, only_body}
-use Rattle.h5_breach.proofs.Located.{Known, KnownGroup, KnownDataset, KnownAt}
+use Rattle.h5_breach.proofs.Located.{Known, KnownGroup, KnownAt}
 
 -- following a path, and then one more name
 pub follow-more : (tree : Tree) (from link : Link) (names : List (List ℕ)) (name : List ℕ) (number : ℕ) → follow tree from names ≡ Some (ToObject number)
@@ -86,15 +85,17 @@ module _ (image : List ℕ) (table : FinMap nat_cmp ℕ) (tree : Tree) (placed :
 
   pub root_known : KnownAt image table tree placed 0 (root_header image)
   root_known =
-      let by = object_at 0 (root_header image) reads.root in
-      (record {
-        o = by.0;
-        member = by.1;
-        path = [];
-        long = refl;
-        leads = ap (λ n. Some (ToObject n)) (sym by.2);
-        has = has_object by.0 by.1;
-      }, by.3)
+      let by = object_at 0 (root_header image) reads.root in (
+        record {
+          o = by.0;
+          member = by.1;
+          path = [];
+          long = refl;
+          leads = ap (λ n. Some (ToObject n)) (sym by.2);
+          has = has_object by.0 by.1;
+        },
+        by.3,
+      )
 
   -- the links of a group stand in the tree
   group_links : (depth root heap : ℕ) (g : KnownGroup image table tree placed depth root heap) → links_of tree g.k.o.number ≡ Some g.links
@@ -117,15 +118,17 @@ module _ (image : List ℕ) (table : FinMap nat_cmp ℕ) (tree : Tree) (placed :
       let linked : get g.links name ≡ Some (ToObject hard.0)
       = get_of_entry nat_list_cmp_total g.links name (ToObject hard.0) (subst (λ (x : List ℕ × Link). In x (entries g.links)) hard.1 tied.1) in
       let there = name_leads depth root heap g name (ToObject hard.0) linked in
-      let by = object_at hard.0 header hard.2 in
-      (record {
-        o = by.0;
-        member = by.1;
-        path = g.k.path ++ name ∷ [];
-        long = length-append g.k.path (name ∷ []) ∙ ap (λ (n : ℕ). n + 1) g.k.long;
-        leads = there ∙ ap (λ (n : ℕ). Some (ToObject n)) (sym by.2);
-        has = has_object by.0 by.1;
-      }, by.3)
+      let by = object_at hard.0 header hard.2 in (
+        record {
+          o = by.0;
+          member = by.1;
+          path = g.k.path ++ name ∷ [];
+          long = length-append g.k.path (name ∷ []) ∙ ap (λ (n : ℕ). n + 1) g.k.long;
+          leads = there ∙ ap (λ (n : ℕ). Some (ToObject n)) (sym by.2);
+          has = has_object by.0 by.1;
+        },
+        by.3,
+      )
 
   -- an object with a Symbol Table message is a group
   pub group_known : (depth : ℕ) (k : Known image table tree placed depth) (m : Message) (root heap : ℕ) → In m k.has.messages → m.kind ≡ 17
@@ -136,19 +139,22 @@ module _ (image : List ℕ) (table : FinMap nat_cmp ℕ) (tree : Tree) (placed :
         let low : count_of 17 k.has.messages ≤ 1 = omega (arith, (group.3).once) in
         let body : first_body 17 k.has.messages ≡ Some m.body = only_body 17 k.has.messages m low at is in
         let chosen : option_and_then symbol_table_of (first_body 17 k.has.messages) ≡ Some (record { tree = root; heap = heap }) = ap (option_and_then symbol_table_of) body ∙ says in
-        let same : (group.3).symbol_table ≡ record { tree = root; heap = heap } = some_same _ _ _ (group.3).chosen chosen in
-        (record {
-          k = k;
-          links = group.0;
-          is = group.1;
-          found = group.2;
-          linked = subst (λ (s : SymbolTable). HasLinks image (leaf_k image) (internal_k image) s.tree s.heap group.2 k.has.content_blocks) same (group.3).linked;
-          same = group.4;
-          in_group = (group.3).known;
-          once = (group.3).once;
-          m = m;
-          first = only_one 17 k.has.messages m low at is;
-          says = says;
-        }, refl, refl)
+        let same : (group.3).symbol_table ≡ record { tree = root; heap = heap } = some_same _ _ _ (group.3).chosen chosen in (
+          record {
+            k = k;
+            links = group.0;
+            is = group.1;
+            found = group.2;
+            linked = subst (λ (s : SymbolTable). HasLinks image (leaf_k image) (internal_k image) s.tree s.heap group.2 k.has.content_blocks) same (group.3).linked;
+            same = group.4;
+            in_group = (group.3).known;
+            once = (group.3).once;
+            m = m;
+            first = only_one 17 k.has.messages m low at is;
+            says = says;
+          },
+          refl,
+          refl,
+        )
     | inr array ↦ absurd (let none : false ≡ true = of_dataset_kind k.has.messages m 17 (array.2).known at is in cc)
   ]

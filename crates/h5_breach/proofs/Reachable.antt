@@ -1,18 +1,16 @@
 -- What a group that is reached names is reached.
-use Rattle.std.proofs.Common.{◌≡◌, ◌≢◌, ◌⊎◌, inl, inr, ℕ, zero, suc, ◌+◌, ◌-◌, ◌*◌, ◌<◌, ◌≤◌, List, [], ◌∷◌, ◌++◌, map, length, refl, sym, ap, ap₂, ◌∙◌, subst, arith, Option, Some, None, true, false, Bool}
+use Rattle.std.proofs.Common.{◌≡◌, ◌≢◌, inl, inr, ℕ, zero, suc, ◌+◌, ◌-◌, ◌*◌, ◌<◌, ◌≤◌, List, [], ◌∷◌, ◌++◌, map, length, refl, sym, ap, ◌∙◌, subst, arith, Some, None, true, false, Bool}
 use Rattle.std.proofs.lemmas.Bool.Decides.{nat_tests}
-use Rattle.std.specs.Prelude.{◌==◌, nat_le, if◌then◌else◌, IsTrue}
+use Rattle.std.specs.Prelude.{◌==◌, nat_le, if◌then◌else◌}
 use Rattle.std.specs.Ordering.{nat_cmp}
 use Rattle.std.specs.FinMap.{FinMap}
-use Rattle.std.specs.List.{AllByRecursion, flat_map}
-use Rattle.h5_bytes.specs.Bytes.{number_at, part}
-use Rattle.h5_bytes.specs.Blocks.{block, Inside}
+use Rattle.h5_bytes.specs.Bytes.{number_at}
+use Rattle.h5_bytes.specs.Blocks.{Inside}
 use Rattle.h5_bytes.specs.declared.Block.{Block}
 use Rattle.h5_bytes.proofs.PartLaws.{length-part}
 use Rattle.h5_bytes.proofs.FieldLaws.{number_at-part}
 use Rattle.h5_bytes.proofs.BlockLaws.{all_left, all_right}
 use Rattle.h5_model.specs.Addresses.{SymbolTable, symbol_table_of}
-use Rattle.h5_model.specs.Messages.{Message}
 use Rattle.h5_model.specs.Heap.{heap_blocks}
 use Rattle.h5_model.specs.Rows.{Node, next_row, row_below}
 use Rattle.h5_model.specs.Nodes.{Kind, group_kind, node_at, node_of, node_bytes, node_block, node_length, entries_in, key_place, child_in, tree_blocks}
@@ -20,7 +18,7 @@ use Rattle.h5_model.specs.Symbols.{IsSymbolNode, symbol_block, symbol_bytes, sym
 use Rattle.h5_model.specs.Superblock.{leaf_k, internal_k}
 use Rattle.h5_model.specs.Tree.{Tree}
 use Rattle.h5_model.specs.Reads.{Placed, ReadsAs}
-use Rattle.h5_model.specs.Reached.{Named, named, Role, ObjectHeader, GroupNode, SymbolNode, Reached, by_block, group_root, level_at, entry_in, size_at, kind_at}
+use Rattle.h5_model.specs.Reached.{named, Role, ObjectHeader, GroupNode, SymbolNode, Reached, by_block, group_root, level_at, entry_in, size_at, kind_at}
 use Rattle.h5_model.proofs.OneTree.{level_is, children_are}
 use Rattle.h5_breach.proofs.Lists.{In, in_all, in_map, from_flat, from_table}
 use Rattle.h5_breach.proofs.Rows.{row_after}
@@ -28,7 +26,7 @@ use Rattle.h5_breach.proofs.Trees.{row_owned, row_node}
 use Rattle.h5_breach.proofs.Datasets.{find_in}
 use Rattle.h5_breach.proofs.Steps.{header_inside, content_inside, below_role}
 use Rattle.h5_breach.proofs.MetMessages.{MetMessage, message_met}
-use Rattle.h5_breach.proofs.Located.{Known, KnownGroup}
+use Rattle.h5_breach.proofs.Located.{KnownGroup}
 
 long_table : (s : SymbolTable) (bytes : List ℕ) → symbol_table_of bytes ≡ Some s
     → (16 ≤ length bytes) × (s ≡ record { tree = number_at bytes 0 8; heap = number_at bytes 8 8 })
@@ -59,22 +57,26 @@ module _ (image : List ℕ) (table : FinMap nat_cmp ℕ) (tree : Tree) (placed :
       (find_in 17 g.k.has.messages g.m g.first).0
 
   long : 16 ≤ size_at image met.at
-  long = omega (arith, (long_table (record { tree = root; heap = heap }) g.m.body g.says).0, ap length met.body,
-      length-part (met.at + 8) (size_at image met.at) image met.inside)
+  long = omega (
+    arith,
+    (long_table (record { tree = root; heap = heap }) g.m.body g.says).0,
+    ap length met.body,
+    length-part (met.at + 8) (size_at image met.at) image met.inside,
+  )
 
   root_is : root ≡ number_at image (met.at + 8) 8
   root_is =
       let says = (long_table (record { tree = root; heap = heap }) g.m.body g.says).1 in
       let none : met.at + 8 + 0 ≡ met.at + 8 = omega arith in
       ap (λ (s : SymbolTable). s.tree) says ∙ ap (λ bs. number_at bs 0 8) met.body
-          ∙ number_at-part 0 8 (met.at + 8) (size_at image met.at) image (omega (arith, long)) ∙ ap (λ (p : ℕ). number_at image p 8) none
+      ∙ number_at-part 0 8 (met.at + 8) (size_at image met.at) image (omega (arith, long)) ∙ ap (λ (p : ℕ). number_at image p 8) none
 
   heap_is : heap ≡ number_at image (met.at + 16) 8
   heap_is =
       let says = (long_table (record { tree = root; heap = heap }) g.m.body g.says).1 in
       let over : met.at + 8 + 8 ≡ met.at + 16 = omega arith in
       ap (λ (s : SymbolTable). s.heap) says ∙ ap (λ bs. number_at bs 8 8) met.body
-          ∙ number_at-part 8 8 (met.at + 8) (size_at image met.at) image (omega (arith, long)) ∙ ap (λ (p : ℕ). number_at image p 8) over
+      ∙ number_at-part 8 8 (met.at + 8) (size_at image met.at) image (omega (arith, long)) ∙ ap (λ (p : ℕ). number_at image p 8) over
 
   root_reached : IsReached image (group_root image root heap) root depth
   root_reached =
@@ -82,9 +84,11 @@ module _ (image : List ℕ) (table : FinMap nat_cmp ℕ) (tree : Tree) (placed :
       let b = number_at image (met.at + 16) 8 in
       let kind_is : kind_at image met.at ≡ 17 = met.kind ∙ (find_in 17 g.k.has.messages g.m g.first).1 in
       let y = named (met.at + 8) (group_root image a b) a depth in
-      let there : Reached image y = by_block reached.1 (inl (met.at, met.fits, long, inr (inl (kind_is, refl)))) (omega (arith, long, met.inside)) in
-      (met.at + 8, subst (λ (r : ℕ). Reached image (named (met.at + 8) (group_root image r heap) r depth)) (sym root_is)
-      (subst (λ (h : ℕ). Reached image (named (met.at + 8) (group_root image a h) a depth)) (sym heap_is) there))
+      let there : Reached image y = by_block reached.1 (inl (met.at, met.fits, long, inr (inl (kind_is, refl)))) (omega (arith, long, met.inside)) in (
+        met.at + 8,
+        subst (λ (r : ℕ). Reached image (named (met.at + 8) (group_root image r heap) r depth)) (sym root_is)
+            (subst (λ (h : ℕ). Reached image (named (met.at + 8) (group_root image a h) a depth)) (sym heap_is) there),
+      )
 
   inside : Inside (length image) ((tree_blocks kind g.linked.owned ++ map (symbol_block (leaf_k image)) g.linked.symbol_nodes) ++ heap_blocks image heap)
   inside = subst (Inside (length image)) g.linked.laid (content_inside image table tree placed reads n g.k)

@@ -1,11 +1,11 @@
 -- Rows of a tree, read at each address; and the fields that name its nodes.
-use Rattle.std.proofs.Common.{◌≡◌, ◌⊎◌, inl, inr, ℕ, zero, suc, ◌+◌, ◌<◌, ◌≤◌, List, [], ◌∷◌, ◌++◌, map, length, refl, sym, ap, ap₂, ◌∙◌, subst, arith}
-use Rattle.std.specs.List.{AllByRecursion, flat_map, range_with_len}
+use Rattle.std.proofs.Common.{◌≡◌, inl, inr, ℕ, zero, suc, ◌+◌, ◌<◌, List, [], ◌∷◌, ◌++◌, map, refl, sym, ap, ap₂, ◌∙◌, subst, arith}
+use Rattle.std.specs.List.{flat_map, range_with_len}
 use Rattle.h5_bytes.specs.Bytes.{undefined}
 use Rattle.h5_bytes.specs.Tables.{table}
-use Rattle.h5_model.specs.Rows.{Reading, IsRow, AreRows, next_row, row_below, nodes, leaves}
+use Rattle.h5_model.specs.Rows.{Reading, IsRow, AreRows, next_row, row_below, nodes}
 use Rattle.h5_model.specs.Nodes.{Kind, node_at, node_of, node_bytes, entries_in, key_place, child_in}
-use Rattle.h5_breach.proofs.Lists.{In, in_left, in_right, in_flat, in_map, from_table, in_table}
+use Rattle.h5_breach.proofs.Lists.{In, in_left, in_right, in_flat, in_map, in_table}
 
 pub row_is : (V : Reading) (level : ℕ) (row : List ℕ) → AreRows V level row → IsRow V level undefined row
 row_is V zero row are = are

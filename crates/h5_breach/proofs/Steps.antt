@@ -1,12 +1,12 @@
 -- Every block that is reached stands in the reading.
-use Rattle.std.proofs.Common.{◌≡◌, ◌≢◌, ◌⊎◌, inl, inr, ℕ, zero, suc, ◌+◌, ◌*◌, ◌-◌, ◌<◌, ◌≤◌, List, [], ◌∷◌, length, refl, sym, ap, ap₂, ◌∙◌, subst, arith, Some, None, true, false, Bool}
+use Rattle.std.proofs.Common.{◌≡◌, inl, inr, ℕ, zero, suc, ◌+◌, ◌*◌, ◌-◌, ◌≤◌, List, [], ◌∷◌, length, refl, sym, ap, ◌∙◌, subst, arith, Some, None, true, false}
 use Rattle.std.proofs.lemmas.Bool.Decides.{nat_tests}
 use Rattle.std.specs.Prelude.{◌==◌, nat_le, if◌then◌else◌}
 use Rattle.std.specs.Ordering.{nat_cmp}
 use Rattle.std.specs.FinMap.{FinMap, values}
-use Rattle.std.specs.List.{AllByRecursion, flat_map}
+use Rattle.std.specs.List.{flat_map}
 use Rattle.h5_bytes.specs.Bytes.{number_at, part}
-use Rattle.h5_bytes.specs.Blocks.{block, Inside}
+use Rattle.h5_bytes.specs.Blocks.{Inside}
 use Rattle.h5_bytes.specs.declared.Block.{Block}
 use Rattle.h5_bytes.proofs.PartLaws.{length-part}
 use Rattle.h5_bytes.proofs.FieldLaws.{number_at-part}
@@ -15,18 +15,18 @@ use Rattle.h5_model.specs.Addresses.{symbol_table_of}
 use Rattle.h5_model.specs.Layout.{InMessage, InBlock, InChunks}
 use Rattle.h5_model.specs.Places.{cells}
 use Rattle.h5_model.specs.Messages.{Message}
-use Rattle.h5_model.specs.Nodes.{Kind, group_kind, node_bytes, key_place, child_in}
+use Rattle.h5_model.specs.Nodes.{group_kind, node_bytes, key_place, child_in}
 use Rattle.h5_model.specs.Superblock.{internal_k}
 use Rattle.h5_model.specs.Tree.{Tree}
 use Rattle.h5_model.specs.Reads.{Placed, ReadsAs}
-use Rattle.h5_model.specs.Reached.{Named, named, Role, ObjectHeader, Continuation, GroupNode, SymbolNode, HeapHeader, Segment, Data, ChunkNode, Chunk, Reached, by_superblock, by_block, Names, FittingAt, FromMessage, FromHeader, FromNode, FromSymbols, FromLayout, AllMessages, Shape, shape_kind, Met, kind_at, size_at, level_at, entry_in}
+use Rattle.h5_model.specs.Reached.{Named, named, Role, ObjectHeader, Continuation, GroupNode, SymbolNode, HeapHeader, Segment, Data, ChunkNode, Chunk, Reached, by_superblock, by_block, Names, FittingAt, FromMessage, FromHeader, FromNode, FromSymbols, FromLayout, AllMessages, Shape, shape_kind, Met, size_at, entry_in}
 use Rattle.h5_model.proofs.OneTree.{level_is}
-use Rattle.h5_breach.proofs.Lists.{In, in_all}
+use Rattle.h5_breach.proofs.Lists.{In}
 use Rattle.h5_breach.proofs.Heads.{Headed, headed, standing, names_block}
 use Rattle.h5_breach.proofs.Rows.{in_row, in_next, named_row}
 use Rattle.h5_breach.proofs.Entries.{in_symbol_nodes, entry_listed, header_listed}
 use Rattle.h5_breach.proofs.Datasets.{all_messages, bytes_known, chunks_known}
-use Rattle.h5_breach.proofs.Located.{Known, KnownGroup, KnownAt, KnownNode, KnownSymbols, KnownHeap, KnownChunkNode, Located}
+use Rattle.h5_breach.proofs.Located.{Known, KnownAt, KnownNode, KnownSymbols, KnownChunkNode, Located}
 use Rattle.h5_breach.proofs.Objects.{root_known, linked_known, group_known}
 
 symbol_table_at : (image : List ℕ) (at size : ℕ) (body : List ℕ) → body ≡ part at size image → at + size ≤ length image → 16 ≤ size
@@ -144,18 +144,21 @@ module _ (image : List ℕ) (table : FinMap nat_cmp ℕ) (tree : Tree) (placed :
   from_node : (depth root heap field at : ℕ) (y : Named) (level : ℕ) → KnownNode image table tree placed depth root heap level field at
       → FromNode image (group_kind (internal_k image)) (if level == 0 then SymbolNode root heap else GroupNode root heap (level - 1)) at depth y → Stands y
   from_node depth root heap field at y zero k (i, low, room, is) =
-      let next = in_next image (group_kind (internal_k image)) k.down field root at k.g.m.at i k.there low in
+      let kind = group_kind (internal_k image) in
+      let z : ℕ × ℕ = (at + key_place kind i + 8, child_in kind (node_bytes image kind at) i) in
+      let next = in_next image kind k.down field root at k.g.m.at i k.there low in
       let bottom : k.down ≡ k.g.linked.level = omega (arith, k.levels) in
-      subst (λ (z : Named). Located image table tree placed z z.role) (sym is) (record {
+      subst (λ (w : Named). Located image table tree placed w w.role) (sym is) (record {
         g = k.g;
-        there = subst (λ (d : ℕ). In (at + key_place (group_kind (internal_k image)) i + 8, child_in (group_kind (internal_k image)) (node_bytes image (group_kind (internal_k image)) at) i) (named_row image (group_kind (internal_k image)) (suc d) ((k.g.m.at, root) ∷ []))) bottom next;
+        there = subst (λ (d : ℕ). In z (named_row image kind (suc d) ((k.g.m.at, root) ∷ []))) bottom next;
       })
   from_node depth root heap field at y (suc level) k (i, low, room, is) =
-      let next = in_next image (group_kind (internal_k image)) k.down field root at k.g.m.at i k.there low in
+      let kind = group_kind (internal_k image) in
+      let next = in_next image kind k.down field root at k.g.m.at i k.there low in
       let role = below_role level (SymbolNode root heap) (GroupNode root heap) in
-      let place = at + key_place (group_kind (internal_k image)) i + 8 in
-      let child = child_in (group_kind (internal_k image)) (node_bytes image (group_kind (internal_k image)) at) i in
-      subst (λ (z : Named). Located image table tree placed z z.role) (sym (is ∙ ap (λ (r : Role). named place r child depth) role)) (record {
+      let place = at + key_place kind i + 8 in
+      let child = child_in kind (node_bytes image kind at) i in
+      subst (λ (w : Named). Located image table tree placed w w.role) (sym (is ∙ ap (λ (r : Role). named place r child depth) role)) (record {
         g = k.g;
         down = suc k.down;
         levels = omega (arith, k.levels);
@@ -165,21 +168,24 @@ module _ (image : List ℕ) (table : FinMap nat_cmp ℕ) (tree : Tree) (placed :
   from_chunk_node : (depth : ℕ) (shape : Shape) (root field at : ℕ) (y : Named) (level : ℕ) → KnownChunkNode image table tree placed depth shape root level field at
       → FromNode image (shape_kind image shape) (if level == 0 then Chunk shape.bytes else ChunkNode shape root (level - 1)) at depth y → Stands y
   from_chunk_node depth shape root field at y zero k (i, low, room, is) =
-      let next = in_next image (shape_kind image shape) k.down field root at (k.c.m.at + 3) i k.there low in
+      let kind = shape_kind image shape in
+      let z : ℕ × ℕ = (at + key_place kind i + kind.key_length, child_in kind (node_bytes image kind at) i) in
+      let next = in_next image kind k.down field root at (k.c.m.at + 3) i k.there low in
       let bottom : k.down ≡ k.c.chunks.level = omega (arith, k.levels) in
-      subst (λ (z : Named). Located image table tree placed z z.role) (sym is) (record {
+      subst (λ (w : Named). Located image table tree placed w w.role) (sym is) (record {
         shape = shape;
         root = root;
         c = k.c;
         size = refl;
-        there = subst (λ (d : ℕ). In (at + key_place (shape_kind image shape) i + (shape_kind image shape).key_length, child_in (shape_kind image shape) (node_bytes image (shape_kind image shape) at) i) (named_row image (shape_kind image shape) (suc d) ((k.c.m.at + 3, root) ∷ []))) bottom next;
+        there = subst (λ (d : ℕ). In z (named_row image kind (suc d) ((k.c.m.at + 3, root) ∷ []))) bottom next;
       })
   from_chunk_node depth shape root field at y (suc level) k (i, low, room, is) =
-      let next = in_next image (shape_kind image shape) k.down field root at (k.c.m.at + 3) i k.there low in
+      let kind = shape_kind image shape in
+      let next = in_next image kind k.down field root at (k.c.m.at + 3) i k.there low in
       let role = below_role level (Chunk shape.bytes) (ChunkNode shape root) in
-      let place = at + key_place (shape_kind image shape) i + (shape_kind image shape).key_length in
-      let child = child_in (shape_kind image shape) (node_bytes image (shape_kind image shape) at) i in
-      subst (λ (z : Named). Located image table tree placed z z.role) (sym (is ∙ ap (λ (r : Role). named place r child depth) role)) (record {
+      let place = at + key_place kind i + kind.key_length in
+      let child = child_in kind (node_bytes image kind at) i in
+      subst (λ (w : Named). Located image table tree placed w w.role) (sym (is ∙ ap (λ (r : Role). named place r child depth) role)) (record {
         c = k.c;
         down = suc k.down;
         levels = omega (arith, k.levels);
@@ -192,20 +198,22 @@ module _ (image : List ℕ) (table : FinMap nat_cmp ℕ) (tree : Tree) (placed :
       let member = in_symbol_nodes image root heap k.g.found k.g.k.has.content_blocks k.g.linked at row in
       let entry = entry_listed image root heap k.g.found k.g.k.has.content_blocks k.g.linked at i member low in
       let link = header_listed image root heap k.g.found k.g.k.has.content_blocks k.g.linked (entry_in image at i) entry hard in
-      subst (λ (z : Named). Located image table tree placed z z.role) (sym is)
-      (linked_known image table tree placed reads depth root heap k.g _ (entry_in image at i).header link, inr (record {
-        depth = depth;
-        root = root;
-        heap = heap;
-        g = k.g;
-        node = at;
-        member = member;
-        i = i;
-        low = low;
-        hard = hard;
-        place = refl;
-        names = refl;
-      }))
+      subst (λ (z : Named). Located image table tree placed z z.role) (sym is) (
+        linked_known image table tree placed reads depth root heap k.g _ (entry_in image at i).header link,
+        inr (record {
+          depth = depth;
+          root = root;
+          heap = heap;
+          g = k.g;
+          node = at;
+          member = member;
+          i = i;
+          low = low;
+          hard = hard;
+          place = refl;
+          names = refl;
+        }),
+      )
 
   step : (role : Role) (x y : Named) → Located image table tree placed x role → Names image role x.at x.depth y → Stands y
   step ObjectHeader x y k names = from_header x.depth x.at y k.0 names

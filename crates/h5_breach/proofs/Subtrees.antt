@@ -1,14 +1,13 @@
 -- What stands below a node of a tree is owned by the tree.
-use Rattle.std.proofs.Common.{◌≡◌, ◌⊎◌, inl, inr, ℕ, zero, suc, ◌+◌, ◌<◌, List, [], ◌∷◌, ◌++◌, length, refl, sym, ap, ◌∙◌, subst, arith}
+use Rattle.std.proofs.Common.{◌≡◌, inl, inr, ℕ, zero, suc, ◌+◌, ◌<◌, List, [], ◌∷◌, length, refl, sym, ap, subst, arith}
 use Rattle.std.specs.Prelude.{slice_index_or}
-use Rattle.std.specs.List.{AllByRecursion, flat_map}
 use Rattle.h5_model.specs.Rows.{Node, Reading, blank, next_row, row_below, leaves, nodes}
 use Rattle.h5_model.specs.Nodes.{Kind, HasTree, node_at, reading_of}
 use Rattle.h5_model.specs.Links.{symbol_nodes_below}
-use Rattle.h5_model.proofs.RowLaws.{Agree, only_here, leaves-same, row_below-same}
+use Rattle.h5_model.proofs.RowLaws.{Agree, only_here, leaves-same}
 use Rattle.h5_model.proofs.OneTree.{owned_is, children_are}
 use Rattle.h5_breach.proofs.Lists.{In, in_all, all_in, in_left, in_right, in_either, in_flat, from_flat}
-use Rattle.h5_breach.proofs.Rows.{row_after, in_nodes}
+use Rattle.h5_breach.proofs.Rows.{row_after}
 
 -- each of one list is one of the other
 abbrev pub Within : {X : Type 0} → List X → List X → Type 0

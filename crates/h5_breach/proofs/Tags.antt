@@ -1,14 +1,12 @@
 -- The blocks of an object, each behind the field that names it.
-use Rattle.std.proofs.Common.{◌≡◌, ◌⊎◌, inl, inr, ℕ, zero, suc, ◌+◌, ◌*◌, List, [], ◌∷◌, ◌++◌, map, refl, sym, ap, ap₂, ◌∙◌, subst, arith, Option, Some, None, append-nil}
+use Rattle.std.proofs.Common.{◌≡◌, ℕ, zero, suc, ◌+◌, ◌*◌, List, [], ◌∷◌, ◌++◌, map, refl, sym, ap, ap₂, ◌∙◌, Option, Some, None}
 use Rattle.std.specs.Prelude.{◌==◌}
-use Rattle.std.specs.Option.{option_map_or, option_and_then}
-use Rattle.std.specs.Ordering.{nat_cmp}
-use Rattle.std.specs.FinMap.{FinMap, values}
+use Rattle.std.specs.Option.{option_map_or}
 use Rattle.std.specs.List.{find, flat_map}
 use Rattle.h5_bytes.specs.Blocks.{block}
 use Rattle.h5_bytes.specs.declared.Block.{Block}
 use Rattle.h5_model.specs.Addresses.{SymbolTable, symbol_table_of}
-use Rattle.h5_model.specs.Messages.{Message, continuation, continuations, prefix_at, first_size, first_body}
+use Rattle.h5_model.specs.Messages.{Message, continuation, continuations, prefix_at, first_size}
 use Rattle.h5_model.specs.Heap.{segment_block, heap_blocks}
 use Rattle.h5_model.specs.Rows.{nodes, row_below}
 use Rattle.h5_model.specs.Nodes.{Kind, group_kind, node_at, node_block, HasTree, tree_blocks}
@@ -17,7 +15,7 @@ use Rattle.h5_model.specs.Links.{HasLinks}
 use Rattle.h5_model.specs.Fixed.{Fixed}
 use Rattle.h5_model.specs.Places.{cells}
 use Rattle.h5_model.specs.Layout.{Layout, InMessage, InBlock, InChunks}
-use Rattle.h5_model.specs.Superblock.{leaf_k, internal_k, chunk_k}
+use Rattle.h5_model.specs.Superblock.{leaf_k, internal_k}
 use Rattle.h5_model.specs.Reached.{Shape, shape_kind, level_at, type_among, layout_among}
 use Rattle.h5_model.proofs.OneTree.{level_is, owned_is, children_are}
 use Rattle.h5_breach.proofs.Rows.{named_next, named_row, named_nodes, next-named, row-named, row_after, map-append, map-map}
@@ -98,7 +96,7 @@ tree-blocks image kind root level owned children has first leaf =
     = all-named image kind n row ∙ ap (λ (k : ℕ). nodes V k (root ∷ [])) top ∙ sym (owned_is image kind root level owned children has) in
     let last : named_nodes (named_row image kind (suc n) row) ≡ children
     = row-named image kind (suc n) row ∙ ap (λ (k : ℕ). row_below V (suc k) (root ∷ [])) top ∙ row_after V level (root ∷ [])
-        ∙ sym (children_are image kind root level owned children has) in
+    ∙ sym (children_are image kind root level owned children has) in
     map-append (λ (x : Tagged). x.1) (tag_all (node_block kind) (named_all image kind n row)) (tag_all leaf (named_row image kind (suc n) row))
     ∙ ap₂ (λ (a b : List Block). a ++ b)
     (tag_all-blocks (node_block kind) (named_all image kind n row) ∙ ap (map (node_block kind)) all)

@@ -1,12 +1,11 @@
 -- A tree that is read, by what is read at each address.
-use Rattle.std.proofs.Common.{◌≡◌, ℕ, ◌+◌, ◌≤◌, List, [], ◌∷◌, sym, ap, ◌∙◌, subst}
-use Rattle.std.specs.List.{AllByRecursion}
-use Rattle.h5_model.specs.Rows.{Reading, blank, AreRows, nodes, row_below, leaves}
+use Rattle.std.proofs.Common.{◌≡◌, ℕ, ◌+◌, ◌≤◌, List, [], ◌∷◌, sym, subst}
+use Rattle.h5_model.specs.Rows.{blank, AreRows, nodes, row_below}
 use Rattle.h5_model.specs.Nodes.{Kind, HasTree, IsNode, node_at, node_bytes, entries_in, reading_of}
 use Rattle.h5_model.proofs.RowLaws.{Agree, only_here, AreRows-same}
 use Rattle.h5_model.proofs.OneTree.{owned_is}
 use Rattle.h5_breach.proofs.Lists.{In, in_all}
-use Rattle.h5_breach.proofs.Rows.{in_nodes, rows_below}
+use Rattle.h5_breach.proofs.Rows.{in_nodes}
 
 module _ (image : List ℕ) (kind : Kind) (root level : ℕ) (owned children : List ℕ) (has : HasTree image kind root level owned children) where
   pub agrees : Agree (reading_of image kind owned) (node_at image kind) (nodes (reading_of image kind owned) level (root ∷ []))

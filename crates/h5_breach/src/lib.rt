@@ -13,5 +13,4 @@ ghost use Rattle.h5_model.specs.Faults.{BreachExcludesReads};
 /// So bytes that are refused with a cause that holds could not have been opened. It does nothing.
 pub fn breach_excludes_reads()
     ensures { BreachExcludesReads }
-{
-}
+{}
