@@ -17,20 +17,20 @@ use Rattle.h5_model.specs.Tree.{Tree, Link, ToObject, Soft, Links, links_of, fol
 
 -- ---- entries and look-ups
 
-both : (b c : Bool) → T (b && c) → (b ≡ true) × T c
+pub both : (b c : Bool) → T (b && c) → (b ≡ true) × T c
 both true c h = (refl, h)
 both false c h = absurd h
 
-halves : (b c : Bool) → T (b && c) → T b × T c
+pub halves : (b c : Bool) → T (b && c) → T b × T c
 halves true c h = (tt, h)
 halves false c h = absurd h
 
 -- a look-up gives the value of some entry, and every entry's value is looked up by its key
-abbrev Entry : {K X : Type 0} → List (K × X) → K → X → Type 0
+abbrev pub Entry : {K X : Type 0} → List (K × X) → K → X → Type 0
 Entry [] k v = ⊥
 Entry (e ∷ es) k v = ((e.0 ≡ k) × (e.1 ≡ v)) ⊎ Entry es k v
 
-below_entry : {K X : Type 0} (R : K → K → Ordering) (x k : K) (v : X) (es : List (K × X)) → T (below_all R x es) → Entry es k v → is_lt (R x k) ≡ true
+pub below_entry : {K X : Type 0} (R : K → K → Ordering) (x k : K) (v : X) (es : List (K × X)) → T (below_all R x es) → Entry es k v → is_lt (R x k) ≡ true
 below_entry R x k v [] below at = absurd at
 below_entry R x k v (e ∷ es) below at =
     let split : (is_lt (R x e.0) ≡ true) × T (below_all R x es) = both _ _ below in
@@ -44,7 +44,7 @@ apart Less h = refl
 apart Equal h = absurd (cc)
 apart Greater h = refl
 
-find_entry : {K X : Type 0} {R : K → K → Ordering} → IsTotalOrder R → (es : List (K × X)) (k : K) (v : X) → T (is_sorted R es) → Entry es k v → find R k es ≡ Some v
+pub find_entry : {K X : Type 0} {R : K → K → Ordering} → IsTotalOrder R → (es : List (K × X)) (k : K) (v : X) → T (is_sorted R es) → Entry es k v → find R k es ≡ Some v
 find_entry o [] k v sorted at = absurd at
 find_entry {R = R} o (e ∷ es) k v sorted at =
     let split : T (below_all R e.0 es) × T (is_sorted R es) = halves _ _ sorted in

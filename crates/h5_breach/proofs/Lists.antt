@@ -1,0 +1,91 @@
+-- Members of lists.
+use Rattle.std.proofs.Common.{◌≡◌, ℕ, zero, suc, ◌+◌, ◌<◌, ◌⊎◌, inl, inr, List, [], ◌∷◌, ◌++◌, map, refl, sym, ap, ◌∙◌, subst, arith}
+use Rattle.std.specs.List.{AllByRecursion, flat_map, Contains, range_with_len}
+use Rattle.h5_bytes.specs.Tables.{table}
+
+-- x is one of the list
+abbrev pub In : {X : Type 0} → X → List X → Type 0
+In x [] = ⊥
+In x (y ∷ ys) = (y ≡ x) ⊎ In x ys
+
+pub in_all : {X : Type 0} (P : X → Type 0) (x : X) (xs : List X) → AllByRecursion P xs → In x xs → P x
+in_all P x [] all at = absurd at
+in_all P x (y ∷ ys) all (inl e) = subst P e all.0
+in_all P x (y ∷ ys) all (inr at) = in_all P x ys all.1 at
+
+pub all_in : {X : Type 0} (P : X → Type 0) (xs : List X) → ((x : X) → In x xs → P x) → AllByRecursion P xs
+all_in P [] f = tt
+all_in P (y ∷ ys) f = (f y (inl refl), all_in P ys (λ x at. f x (inr at)))
+
+pub in_left : {X : Type 0} (x : X) (xs ys : List X) → In x xs → In x (xs ++ ys)
+in_left x [] ys at = absurd at
+in_left x (z ∷ xs) ys (inl e) = inl e
+in_left x (z ∷ xs) ys (inr at) = inr (in_left x xs ys at)
+
+pub in_right : {X : Type 0} (x : X) (xs ys : List X) → In x ys → In x (xs ++ ys)
+in_right x [] ys at = at
+in_right x (z ∷ xs) ys at = inr (in_right x xs ys at)
+
+pub in_either : {X : Type 0} (x : X) (xs ys : List X) → In x (xs ++ ys) → In x xs ⊎ In x ys
+in_either x [] ys at = inr at
+in_either x (z ∷ xs) ys (inl e) = inl (inl e)
+in_either x (z ∷ xs) ys (inr at) = elim (in_either x xs ys at) [ inl l ↦ inl (inr l) | inr r ↦ inr r ]
+
+pub in_map : {X Y : Type 0} (f : X → Y) (x : X) (xs : List X) → In x xs → In (f x) (map f xs)
+in_map f x [] at = absurd at
+in_map f x (y ∷ ys) (inl e) = inl (ap f e)
+in_map f x (y ∷ ys) (inr at) = inr (in_map f x ys at)
+
+pub from_map : {X Y : Type 0} (f : X → Y) (y : Y) (xs : List X) → In y (map f xs) → (x : X) × In x xs × (f x ≡ y)
+from_map f y [] at = absurd at
+from_map f y (x ∷ xs) (inl e) = (x, inl refl, e)
+from_map f y (x ∷ xs) (inr at) = let rest = from_map f y xs at in (rest.0, inr rest.1, rest.2)
+
+pub in_flat : {X Y : Type 0} (f : X → List Y) (x : X) (y : Y) (xs : List X) → In x xs → In y (f x) → In y (flat_map f xs)
+in_flat f x y [] at there = absurd at
+in_flat f x y (z ∷ xs) (inl e) there = in_left y (f z) (flat_map f xs) (subst (λ w. In y (f w)) (sym e) there)
+in_flat f x y (z ∷ xs) (inr at) there = in_right y (f z) (flat_map f xs) (in_flat f x y xs at there)
+
+pub from_flat : {X Y : Type 0} (f : X → List Y) (y : Y) (xs : List X) → In y (flat_map f xs) → (x : X) × In x xs × In y (f x)
+from_flat f y [] at = absurd at
+from_flat f y (x ∷ xs) at = elim (in_either y (f x) (flat_map f xs) at) [
+  | inl here ↦ (x, inl refl, here)
+  | inr later ↦ let rest = from_flat f y xs later in (rest.0, inr rest.1, rest.2)
+]
+
+-- a member stands at a place
+pub in_contains : {X : Type 0} (x : X) (xs : List X) → Contains xs x → In x xs
+in_contains x [] (k, low, is) = absurd (omega (arith, low))
+in_contains x (y ∷ ys) (zero, low, is) = inl is
+in_contains x (y ∷ ys) (suc k, low, is) = inr (in_contains x ys (k, omega (arith, low), is))
+
+pub contains_in : {X : Type 0} (x : X) (xs : List X) → In x xs → Contains xs x
+contains_in x [] at = absurd at
+contains_in x (y ∷ ys) (inl e) = (0, omega arith, e)
+contains_in x (y ∷ ys) (inr at) = let rest = contains_in x ys at in (suc rest.0, omega (arith, rest.1), rest.2)
+
+pub in_range : (from n i : ℕ) → i < n → In (from + i) (range_with_len from n)
+in_range from zero i low = absurd (omega (arith, low))
+in_range from (suc n) zero low = inl (omega arith)
+in_range from (suc n) (suc i) low =
+    let over : from + 1 + i ≡ from + suc i = omega arith in
+    inr (subst (λ k. In k (range_with_len (from + 1) n)) over (in_range (from + 1) n i (omega (arith, low))))
+
+pub from_range : (from n k : ℕ) → In k (range_with_len from n) → (i : ℕ) × (i < n) × (k ≡ from + i)
+from_range from zero k at = absurd at
+from_range from (suc n) k (inl e) = (0, omega arith, sym e ∙ omega arith)
+from_range from (suc n) k (inr at) =
+    let rest = from_range (from + 1) n k at in (suc rest.0, omega (arith, rest.1), omega (arith, rest.2))
+
+-- the value at each of the first places is in a table
+pub in_table : {X : Type 0} (f : ℕ → X) (n i : ℕ) → i < n → In (f i) (table f n)
+in_table f n i low =
+    let none : 0 + i ≡ i = omega arith in
+    subst (λ k. In (f k) (table f n)) none (in_map f (0 + i) (range_with_len 0 n) (in_range 0 n i low))
+
+pub from_table : {X : Type 0} (f : ℕ → X) (n : ℕ) (x : X) → In x (table f n) → (i : ℕ) × (i < n) × (f i ≡ x)
+from_table f n x at =
+    let one = from_map f x (range_with_len 0 n) at in
+    let place = from_range 0 n one.0 one.1 in
+    let same : place.0 ≡ one.0 = omega (arith, place.2) in
+    (place.0, place.1, ap f same ∙ one.2)
