@@ -32,7 +32,7 @@ use Rattle.h5_open.specs.Judged.{IsLineBreach, IsLineList}
 use Rattle.h5_open.specs.Array.{IsEntryMet}
 
 -- the message that is found is of the type
-found_kind : (k : ℕ) (ms : List Message) (m : Message) → find (λ (x : Message). x.kind == k) ms ≡ Some m → m.kind ≡ k
+pub found_kind : (k : ℕ) (ms : List Message) (m : Message) → find (λ (x : Message). x.kind == k) ms ≡ Some m → m.kind ≡ k
 found_kind k [] m is = absurd (cc)
 found_kind k (x ∷ ms) m is = elim (x.kind == k) as (λ b. (x.kind == k) ≡ b → cond b (Some x) (find (λ (y : Message). y.kind == k) ms) ≡ Some m → m.kind ≡ k) [
   | true ↦ λ same e. let kind : x.kind ≡ k = grind (arith, nat_tests, same) in let is_x : x ≡ m = same_Some x m e in subst (λ (y : Message). y.kind ≡ k) is_x kind

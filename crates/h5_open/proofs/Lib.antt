@@ -1,3 +1,4 @@
 pub mod JudgeLaws
 pub mod ArrayLaws
 pub mod OpenLaws
+pub mod RootLaws
