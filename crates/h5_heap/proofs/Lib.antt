@@ -1,0 +1,5 @@
+pub mod Unheld
+pub mod FreeLaws
+pub mod HeaderLaws
+pub mod TextLaws
+pub mod TakenLaws
