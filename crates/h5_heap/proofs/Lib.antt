@@ -3,3 +3,5 @@ pub mod FreeLaws
 pub mod HeaderLaws
 pub mod TextLaws
 pub mod TakenLaws
+pub mod NameLaws
+pub mod NamelessLaws

@@ -1,5 +1,5 @@
 -- What was taken of a segment, after one text more.
-use Rattle.std.proofs.Common.{◌≡◌, ◌≢◌, ℕ, zero, suc, ◌+◌, ◌<◌, ◌≤◌, ◌⊎◌, ◌↔◌, inl, inr, List, [], ◌∷◌, ◌++◌, length, map, refl, sym, ◌∙◌, ap, subst, arith, append_assoc, append-nil, Result, Ok, Err}
+use Rattle.std.proofs.Common.{◌≡◌, ℕ, zero, suc, ◌+◌, ◌⊎◌, ◌↔◌, inl, inr, List, [], ◌∷◌, ◌++◌, map, refl, sym, ◌∙◌, ap, subst, arith, append_assoc, append-nil, Result, Ok, Err}
 use Rattle.std.specs.BTreeSet.{insert_key}
 use Rattle.std.specs.List.{AllByRecursion, Contains}
 use Rattle.std.specs.Ordering.{nat_cmp, match_ordering}
@@ -7,25 +7,23 @@ use Rattle.std.specs.Result.{OnOk}
 use Rattle.std.specs.declared.cmp.Ordering.{Ordering}
 use Rattle.std.specs.declared.cmp.Ordering.TheVariants.{Less, Equal, Greater}
 use Rattle.std.proofs.lemmas.Bool.Decides.{nat_tests}
-use Rattle.std.proofs.lemmas.List.{map-append}
-use Rattle.std.proofs.lemmas.List.Elements.{Contains-append_left, Contains-append_right, Contains-append_cases}
-use Rattle.h5_bytes.specs.Bytes.{byte_at}
-use Rattle.h5_bytes.specs.Blocks.{block, holds, cover, Separate}
+use Rattle.std.proofs.lemmas.List.Elements.{Contains-append_left, Contains-append_right, Contains-append_cases, Contains-push_cases}
+use Rattle.h5_bytes.specs.Blocks.{holds, cover}
 use Rattle.h5_bytes.specs.declared.Block.{Block}
 use Rattle.h5_bytes.proofs.BlockLaws.{cover-append, all_append, all_left, all_right}
-use Rattle.h5_model.specs.Heap.{span_of, KeyNames}
+use Rattle.h5_model.specs.Heap.{span_of}
 use Rattle.h5_heap.specs.Kept.{Kept}
 use Rattle.h5_heap.specs.Spans.{IsSpan, Takes, HasTaken, HasNamed, all_spans}
 
 -- ---- elements
 
-contains_head : (x : ℕ) (xs : List ℕ) → Contains (x ∷ xs) x
+pub contains_head : (x : ℕ) (xs : List ℕ) → Contains (x ∷ xs) x
 contains_head x xs = (0, omega arith, refl)
 
-contains_tail : (y : ℕ) (xs : List ℕ) (x : ℕ) → Contains xs x → Contains (y ∷ xs) x
+pub contains_tail : (y : ℕ) (xs : List ℕ) (x : ℕ) → Contains xs x → Contains (y ∷ xs) x
 contains_tail y xs x there = Contains-append_right (y ∷ []) xs x there
 
-contains_cases : (y : ℕ) (xs : List ℕ) (x : ℕ) → Contains (y ∷ xs) x → (x ≡ y) ⊎ Contains xs x
+pub contains_cases : (y : ℕ) (xs : List ℕ) (x : ℕ) → Contains (y ∷ xs) x → (x ≡ y) ⊎ Contains xs x
 contains_cases y xs x (zero, low, is) = inl (sym is)
 contains_cases y xs x (suc k, low, is) = inr (k, omega arith, is)
 
@@ -89,12 +87,12 @@ contains-insert_key (y ∷ ys) k x = by (nat_cmp k y) refl (contains-insert_key 
 
 -- ---- spans
 
-cover_between : (segment : List ℕ) (p : ℕ) (xs ys : List ℕ) (offset : ℕ) → cover p (map (span_of segment) (xs ++ offset ∷ ys))
+pub cover_between : (segment : List ℕ) (p : ℕ) (xs ys : List ℕ) (offset : ℕ) → cover p (map (span_of segment) (xs ++ offset ∷ ys))
     ≡ cover p (map (span_of segment) (xs ++ ys)) + holds p offset (span_of segment offset).len
 cover_between segment p [] ys offset = omega arith
 cover_between segment p (x ∷ xs) ys offset = omega (arith, cover_between segment p xs ys offset)
 
-cover-all : (segment : List ℕ) (p : ℕ) (offsets : List ℕ) (free : List Block)
+pub cover-all : (segment : List ℕ) (p : ℕ) (offsets : List ℕ) (free : List Block)
     → cover p (all_spans segment offsets free) ≡ holds p 0 8 + (cover p (map (span_of segment) offsets) + cover p free)
 cover-all segment p offsets free = ap (λ n. holds p 0 8 + n) (cover-append p (map (span_of segment) offsets) free)
 
@@ -144,6 +142,7 @@ module _ (segment : List ℕ) (old new : Kept) (offset : ℕ) (span : IsSpan seg
     taken = loose_more;
     names = inr (inr (Contains-append_right loose (offset ∷ []) offset (contains_head offset [])));
     more = λ k there. Contains-append_left loose (offset ∷ []) k there;
+    only = λ k there. elim (Contains-push_cases loose offset k there) [ inl earlier ↦ inl earlier | inr same ↦ inr (sym same) ];
   }
 
 -- the key names what was taken before
@@ -157,6 +156,7 @@ named_before segment heap linked loose offset taken known = record {
     | inr there ↦ inr (Contains-append_cases linked loose offset ((taken.noted offset).0 there))
   ];
   more = λ k there. there;
+  only = λ k there. inl there;
 }
 
 -- ---- results

@@ -1,5 +1,5 @@
 -- The list of free blocks in a heap's segment (File Format Specification 3.0, section III.D).
-use Rattle.std.specs.Prelude.{◌≡◌, ℕ, ◌+◌, ◌≤◌, ◌⊎◌, List, [], ◌∷◌, length}
+use Rattle.std.specs.Prelude.{◌≡◌, ℕ, ◌+◌, ◌≤◌, ◌⊎◌, List, [], length}
 use Rattle.std.specs.List.{AllByRecursion}
 use Rattle.h5_bytes.specs.Bytes.{number_at, undefined}
 use Rattle.h5_bytes.specs.Blocks.{holds, cover, Separate, Inside}

@@ -1,5 +1,5 @@
 -- Why a local heap is refused, and at which address (File Format Specification 3.0, section III.D).
-use Rattle.std.specs.Prelude.{◌≡◌, ℕ, ◌+◌, ◌<◌, ◌≤◌, ◌⊎◌, List, [], ◌∷◌, length}
+use Rattle.std.specs.Prelude.{◌≡◌, ℕ, ◌+◌, ◌<◌, ◌≤◌, ◌⊎◌, List, ◌∷◌, length}
 use Rattle.h5_bytes.specs.Bytes.{byte_at, part}
 use Rattle.h5_bytes.specs.Blocks.{block, holds, cover, Inside}
 use Rattle.h5_bytes.specs.declared.Block.{Block}

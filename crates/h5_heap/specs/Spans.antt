@@ -1,11 +1,11 @@
 -- Texts of a heap's segment, each with its zero and its padding, and which of them are taken (File Format Specification 3.0,
 -- section III.D).
-use Rattle.std.specs.Prelude.{◌≡◌, ◌≢◌, ℕ, ◌+◌, ◌%◌, ◌≤◌, ◌⊎◌, ◌↔◌, List, [], ◌∷◌, ◌++◌, map, length}
+use Rattle.std.specs.Prelude.{◌≡◌, ◌≢◌, ℕ, ◌+◌, ◌%◌, ◌≤◌, ◌⊎◌, ◌↔◌, List, ◌∷◌, ◌++◌, map, length}
 use Rattle.std.specs.BTreeSet.{insert_key}
 use Rattle.std.specs.List.{AllByRecursion, Contains}
 use Rattle.std.specs.Ordering.{nat_cmp}
 use Rattle.h5_bytes.specs.Bytes.{byte_at}
-use Rattle.h5_bytes.specs.Blocks.{block, holds, cover, Separate, Inside}
+use Rattle.h5_bytes.specs.Blocks.{block, holds, cover, Separate}
 use Rattle.h5_bytes.specs.declared.Block.{Block}
 use Rattle.h5_model.specs.Heap.{span_of, KeyNames}
 use Rattle.h5_model.specs.declared.open_fault.Cause.{Cause}
@@ -70,9 +70,10 @@ pub record HasTaken (segment : List ℕ) (heap : Kept) (linked loose : List ℕ)
   pub noted : (offset : ℕ) → Contains heap.taken offset ↔ Contains (linked ++ loose) offset
   pub separate : Separate heap.held
 
--- the key names a text, perhaps one that was loose until now
+-- the key names a text: one that was taken, or one that is loose from now on
 pub record HasNamed (segment : List ℕ) (heap : Kept) (linked loose : List ℕ) (offset : ℕ) : Type 0 where
   pub loose' : List ℕ
   pub taken : HasTaken segment heap linked loose'
   pub names : KeyNames linked loose' offset
   pub more : (k : ℕ) → Contains loose k → Contains loose' k
+  pub only : (k : ℕ) → Contains loose' k → Contains loose k ⊎ (k ≡ offset)

@@ -1,4 +1,4 @@
-use Rattle.std.proofs.Common.{◌≡◌, sym, ◌∙◌, arith}
+use Rattle.std.proofs.Common.{sym, ◌∙◌, arith}
 use Rattle.h5_heap.proofs.HeaderLaws.{signed, unsigned}
 use Rattle.h5_heap.proofs.header.read_header.Goals as goal
 use Rattle.h5_heap.proofs.header.read_header.Goals.{then-not-starts_with-via-then-not-starts_with, then-not-starts_with-via-else-not-starts_with+then-header-ne0, then-not-starts_with-via-else-not-starts_with+else-header-ne0+then-segment-lt-LEAST_SEGMENT}

@@ -1,4 +1,4 @@
-use Rattle.std.proofs.Common.{◌≡◌, ◌-◌, length, sym, ◌∙◌, arith, rules}
+use Rattle.std.proofs.Common.{arith}
 use Rattle.h5_heap.proofs.TextLaws.{length-rest, text_found, text_lost, span_fits, span_cut}
 use Rattle.h5_heap.proofs.text.text_in.Goals as goal
 

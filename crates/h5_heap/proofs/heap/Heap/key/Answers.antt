@@ -1,4 +1,3 @@
-use Rattle.std.proofs.Common.{◌≡◌}
 use Rattle.h5_heap.proofs.TakenLaws.{named_before, named_more, ok_with, ok_by_both}
 use Rattle.h5_heap.proofs.heap.Heap.key.Goals as goal
 
