@@ -1,10 +1,10 @@
 -- Checks of a group's names: its heap stays where it is, and what names and keys are found is in order.
-use Rattle.std.proofs.Common.{◌≡◌, ◌≢◌, ℕ, ◌+◌, ◌<◌, ◌≤◌, List, [], ◌∷◌, length, refl, sym, ap, ◌∙◌, subst, arith, Some}
+use Rattle.std.proofs.Common.{◌≡◌, ℕ, ◌+◌, ◌≤◌, List, [], length, sym, ap, ◌∙◌, subst, arith, Some}
 use Rattle.std.specs.Prelude.{Option, None, IfSome, IsTrue, map, option_map}
 use Rattle.h5_bytes.specs.Bytes.{part, undefined}
 use Rattle.h5_bytes.specs.declared.Block.{Block}
 use Rattle.h5_model.specs.Addresses.{SymbolTable}
-use Rattle.h5_model.specs.Heap.{segment_of, segment_block}
+use Rattle.h5_model.specs.Heap.{segment_of}
 use Rattle.h5_model.specs.Links.{key_name, offset_in}
 use Rattle.h5_model.specs.Superblock.{internal_k}
 use Rattle.h5_model.specs.Rows.{Node}

@@ -1,14 +1,13 @@
 -- The heap of a group in a walk: why it is refused, and the walk when its two blocks are claimed.
-use Rattle.std.proofs.Common.{◌≡◌, ◌≢◌, ℕ, ◌+◌, ◌-◌, ◌<◌, ◌≤◌, inl, inr, List, [], ◌∷◌, length, refl, sym, ap, ◌∙◌, subst, arith}
+use Rattle.std.proofs.Common.{◌≡◌, ◌≢◌, ℕ, ◌+◌, ◌-◌, ◌≤◌, inl, inr, List, ◌∷◌, length, refl, sym, ap, arith}
 use Rattle.h5_bytes.specs.Blocks.{block, holds, cover, Separate, Inside}
 use Rattle.h5_bytes.specs.declared.Block.{Block}
-use Rattle.h5_bytes.proofs.BlockLaws.{holds_in, holds-le}
+use Rattle.h5_bytes.proofs.BlockLaws.{holds_in}
 use Rattle.h5_model.specs.Addresses.{SymbolTable}
 use Rattle.h5_model.specs.Heap.{heap_header, heap_blocks, segment_block, segment_place, segment_size}
 use Rattle.h5_model.specs.Reached.{Named, named, HeapHeader, Segment, Reached, by_block, group_root, block_of, length_of}
 use Rattle.h5_model.specs.declared.open_fault.Cause.{Cause}
 use Rattle.h5_model.specs.declared.open_fault.Cause.TheVariants.{Truncated, Overlap, HeapForm, NoMemory}
-use Rattle.h5_space.specs.Claimed.{Shares}
 use Rattle.h5_heap.specs.Refused.{IsRefused}
 use Rattle.h5_walk.specs.Walked.{IsWalked}
 use Rattle.h5_walk.specs.Met.{IsMet}

@@ -1,25 +1,23 @@
 -- Names or keys that are refused break a rule of the group.
-use Rattle.std.proofs.Common.{◌≡◌, ◌≢◌, ℕ, zero, suc, ◌+◌, ◌<◌, ◌≤◌, ◌⊎◌, inl, inr, List, [], ◌∷◌, ◌++◌, length, refl, sym, ap, ◌∙◌, subst, arith, Some, append-nil}
+use Rattle.std.proofs.Common.{◌≡◌, ◌≢◌, ℕ, zero, suc, ◌⊎◌, inl, inr, List, [], ◌∷◌, length, refl, sym, subst, arith, Some, append-nil}
 use Rattle.std.specs.Prelude.{Option, None, IsTrue, IfSome, not, map, Bool, true, false, ◌==◌}
 use Rattle.std.proofs.lemmas.Bool.Decides.{nat_tests}
-use Rattle.std.specs.List.{AllByRecursion, Contains, flat_map}
+use Rattle.std.specs.List.{Contains}
 use Rattle.h5_bytes.specs.Bytes.{undefined}
 use Rattle.h5_bytes.specs.Texts.{text_at}
-use Rattle.h5_bytes.specs.declared.Block.{Block}
 use Rattle.h5_model.specs.Addresses.{SymbolTable}
 use Rattle.h5_model.specs.Superblock.{leaf_k, internal_k}
-use Rattle.h5_model.specs.Heap.{segment_of, HasNames}
+use Rattle.h5_model.specs.Heap.{segment_of}
 use Rattle.h5_model.specs.Rows.{Node, Reading, nodes}
-use Rattle.h5_model.specs.Nodes.{group_kind, node_at, HasTree}
-use Rattle.h5_model.specs.Symbols.{Entry, symbols_at, texts_of}
-use Rattle.h5_model.specs.Links.{IsBetween, IsOrdered, NotAfter, key_name, names_in, symbol_nodes_below, key_offsets, offset_in}
+use Rattle.h5_model.specs.Nodes.{group_kind, node_at}
+use Rattle.h5_model.specs.Symbols.{Entry, symbols_at}
+use Rattle.h5_model.specs.Links.{IsOrdered, key_name, symbol_nodes_below, key_offsets, offset_in}
 use Rattle.h5_model.specs.Paths.{is_name}
-use Rattle.h5_model.specs.Reached.{level_at}
-use Rattle.h5_model.specs.TreeFaults.{SiblingBreach, HeapNameBreach, BadNameBreach, KeyBreach, HasSymbolNodes, all_entries, all_key_offsets}
+use Rattle.h5_model.specs.TreeFaults.{SiblingBreach, BadNameBreach, KeyBreach, HasSymbolNodes, all_entries, all_key_offsets}
 use Rattle.h5_model.specs.declared.open_fault.Cause.{Cause}
 use Rattle.h5_model.specs.declared.open_fault.Cause.TheVariants.{HeapName, NoMemory}
 use Rattle.h5_heap.specs.Kept.{Kept}
-use Rattle.h5_walk.specs.SmallGroup.{IsLoneNode, names_of_entries}
+use Rattle.h5_walk.specs.SmallGroup.{IsLoneNode}
 use Rattle.h5_walk.proofs.SmallGroupLaws.{lone_tree}
 use Rattle.h5_group.specs.declared.symbol.Symbol.{Symbol}
 use Rattle.h5_group.specs.Small.{AreOnly, AreOnlyIn, root_node, name_offsets}
@@ -73,8 +71,13 @@ module _ (image : List ℕ) (table : SymbolTable) (heap : Kept) (symbol : Option
         → AreTextsRefused segment heap.free (name_offsets symbol) (map offset_in node.keys) cause → AreNamesRefused image table cause address
     texts_refused HeapName address e refused = (
       e,
-      (node.children, has_nodes, heap.free, parts.read,
-      λ loose sound. refused loose (rw (names_only (all_entries image node.children) symbol only, no_texts (all_entries image node.children) symbol only, offsets_are) at sound)),
+      (
+        node.children,
+        has_nodes,
+        heap.free,
+        parts.read,
+        λ loose sound. refused loose (rw (names_only (all_entries image node.children) symbol only, no_texts (all_entries image node.children) symbol only, offsets_are) at sound),
+      ),
     )
     texts_refused NoMemory address e refused = tt
     texts_refused _ address e refused = absurd refused

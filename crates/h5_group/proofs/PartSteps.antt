@@ -1,5 +1,5 @@
 -- The blocks of a group in a walk: why one is refused, and the walk when all are claimed.
-use Rattle.std.proofs.Common.{◌≡◌, ◌≢◌, ℕ, ◌+◌, ◌-◌, ◌*◌, ◌<◌, ◌≤◌, List, [], ◌∷◌, ◌++◌, length, refl, sym, ap, ◌∙◌, subst, arith, Some}
+use Rattle.std.proofs.Common.{◌≡◌, ◌≢◌, ℕ, ◌+◌, ◌*◌, ◌≤◌, List, [], ◌∷◌, ◌++◌, length, refl, ap, ◌∙◌, subst, arith, Some}
 use Rattle.std.specs.Prelude.{Option, None, IfSome, map}
 use Rattle.h5_bytes.specs.Blocks.{holds, cover, Separate, Inside}
 use Rattle.h5_bytes.specs.declared.Block.{Block}
@@ -7,9 +7,9 @@ use Rattle.h5_bytes.proofs.BlockLaws.{cover-append, all_append}
 use Rattle.h5_model.specs.Addresses.{SymbolTable}
 use Rattle.h5_model.specs.Superblock.{leaf_k, internal_k}
 use Rattle.h5_model.specs.Heap.{heap_blocks}
-use Rattle.h5_model.specs.Nodes.{group_kind, node_length, tree_blocks}
+use Rattle.h5_model.specs.Nodes.{group_kind, node_length}
 use Rattle.h5_model.specs.Symbols.{Entry, symbol_block, symbols_at}
-use Rattle.h5_model.specs.Reached.{Named, named}
+use Rattle.h5_model.specs.Reached.{Named}
 use Rattle.h5_model.specs.declared.open_fault.Cause.{Cause}
 use Rattle.h5_walk.specs.Walked.{IsWalked}
 use Rattle.h5_walk.specs.Met.{IsMet}
@@ -20,7 +20,7 @@ use Rattle.h5_group.specs.Small.{IsSymbol, AreOnlyIn, one_of, root_node, part_bl
 use Rattle.h5_group.specs.Refused.{IsRootRefused, IsSymbolNodeRefused}
 use Rattle.h5_group.specs.Walk.{IsGroupMet, IsLinkMet, IsSymbolRead}
 use Rattle.h5_group.proofs.HeapSteps.{heap_field, segment_field, heap_walked, tree_met}
-use Rattle.h5_group.proofs.TreeSteps.{tree_field, child_field, root_refused, root_walked, child_met, node_field, symbol_refused, node_walked, link_met}
+use Rattle.h5_group.proofs.TreeSteps.{tree_field, child_field, root_refused, root_walked, child_met, symbol_refused, node_walked, link_met}
 
 -- the same bytes are claimed
 same_walked : (image : List ℕ) (old now : List Block) (followed : List Named) → IsWalked image old followed → ((p : ℕ) → cover p now ≡ cover p old) → IsWalked image now followed

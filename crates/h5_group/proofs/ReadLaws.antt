@@ -1,16 +1,14 @@
 -- The reading of a group: what is refused of its names is at a reached block, and its link is the one that the walk has met.
-use Rattle.std.proofs.Common.{◌≡◌, ◌≢◌, ℕ, ◌+◌, ◌*◌, ◌<◌, ◌≤◌, List, [], ◌∷◌, ◌++◌, length, refl, sym, ap, ◌∙◌, subst, arith, Some}
-use Rattle.std.specs.Prelude.{Option, None, IfSome, IsSome, map, option_map, true, false}
-use Rattle.h5_bytes.specs.Blocks.{cover, Inside}
-use Rattle.h5_bytes.specs.Texts.{text_at}
+use Rattle.std.proofs.Common.{ℕ, ◌+◌, ◌≤◌, List, ◌++◌, length, sym, Some}
+use Rattle.std.specs.Prelude.{Option, None, IfSome, map}
+use Rattle.h5_bytes.specs.Blocks.{Inside}
 use Rattle.h5_bytes.specs.declared.Block.{Block}
 use Rattle.h5_bytes.proofs.BlockLaws.{all_right}
 use Rattle.h5_model.specs.Addresses.{SymbolTable}
-use Rattle.h5_model.specs.Superblock.{leaf_k, internal_k}
+use Rattle.h5_model.specs.Superblock.{leaf_k}
 use Rattle.h5_model.specs.Heap.{heap_blocks}
-use Rattle.h5_model.specs.Nodes.{group_kind, node_length}
 use Rattle.h5_model.specs.Symbols.{symbol_block}
-use Rattle.h5_model.specs.Reached.{Named, named, HeapHeader, Reached, group_root}
+use Rattle.h5_model.specs.Reached.{Named, named, HeapHeader, group_root}
 use Rattle.h5_model.specs.declared.open_fault.Cause.{Cause}
 use Rattle.h5_model.specs.declared.open_fault.Cause.TheVariants.{HeapName, BadName, KeyOrder, Sibling, NoMemory}
 use Rattle.h5_walk.specs.NotYet.{IsRefusedAt}

@@ -1,14 +1,12 @@
 -- A root or a symbol node that is refused breaks a rule, or is not read yet; and what a symbol node's one entry says.
-use Rattle.std.proofs.Common.{◌≡◌, ◌≢◌, ℕ, ◌+◌, ◌*◌, ◌<◌, ◌≤◌, ◌⊎◌, inl, inr, List, [], ◌∷◌, length, refl, sym, ap, ◌∙◌, subst, arith, Some}
-use Rattle.std.specs.Prelude.{Option, None, Bool, true, false, ◌==◌, if◌then◌else◌, not, ◌&&◌, IsTrue, slice_get, option_map, unwrap_or}
+use Rattle.std.proofs.Common.{◌≡◌, ℕ, ◌+◌, ◌<◌, ◌≤◌, ◌⊎◌, inl, inr, List, [], ◌∷◌, length, refl, sym, ap, ◌∙◌, arith, Some}
+use Rattle.std.specs.Prelude.{None, Bool, true, false, ◌==◌, if◌then◌else◌, not, ◌&&◌, IsTrue, slice_get, option_map, unwrap_or}
 use Rattle.std.specs.List.{AllByRecursion}
 use Rattle.std.proofs.lemmas.Bool.Decides.{nat_tests}
 use Rattle.std.proofs.lemmas.Bool.{cases_lt}
-use Rattle.h5_bytes.specs.Bytes.{byte_at, part}
 use Rattle.h5_bytes.specs.declared.Block.{Block}
 use Rattle.h5_model.specs.Superblock.{leaf_k, internal_k}
-use Rattle.h5_model.specs.Rows.{Node}
-use Rattle.h5_model.specs.Nodes.{Kind, group_kind, node_bytes, node_length, node_of, node_signature, entries_in}
+use Rattle.h5_model.specs.Nodes.{Kind, group_kind, node_bytes, node_length, node_of, entries_in}
 use Rattle.h5_model.specs.Symbols.{Entry, IsEntry, symbol_bytes, symbols_in, symbols_at}
 use Rattle.h5_model.specs.Reached.{level_at, entry_in}
 use Rattle.h5_model.specs.TreeFaults.{NodeBreach}
@@ -18,11 +16,9 @@ use Rattle.h5_btree.specs.Form.{BreaksForm, MayBeRoot}
 use Rattle.h5_btree.proofs.NodeLaws.{length-children}
 use Rattle.h5_snod.specs.Entries.{symbol_from}
 use Rattle.h5_snod.specs.declared.entry.SymbolEntry.{SymbolEntry}
-use Rattle.h5_snod.specs.declared.entry.SymbolTarget.{SymbolTarget}
 use Rattle.h5_snod.specs.declared.entry.SymbolTarget.TheVariants.{Header, Text}
 use Rattle.h5_snod.proofs.EntryLaws.{count_is, entry_is}
-use Rattle.h5_group.specs.declared.symbol.Symbol.{Symbol}
-use Rattle.h5_group.specs.Small.{IsSymbol, AreOnly}
+use Rattle.h5_group.specs.Small.{AreOnly}
 use Rattle.h5_group.specs.Refused.{IsRootRefused}
 
 -- ---- the root
@@ -98,10 +94,13 @@ only_hard [] entry header at some few known read leads = absurd (omega (arith, s
 only_hard (e ∷ x ∷ es) entry header at some few known read leads = absurd (omega (arith, few))
 only_hard (e ∷ []) entry header at some few known read leads =
     let same : symbol_from e ≡ entry = first_same (symbol_from e) entry read in
-    let hard = hard_of (e.cache == 2) e.text e.header header (ap (λ (x : SymbolEntry). x.target) same ∙ leads) in
-    (e, refl, record {
-      known = known.0;
-      hard = λ soft. let two : (e.cache == 2) ≡ true = grind (arith, nat_tests) in let never : false ≡ true = sym hard.0 ∙ two in cc;
-      name = ap (λ (x : SymbolEntry). x.name) same;
-      header = hard.1;
-    })
+    let hard = hard_of (e.cache == 2) e.text e.header header (ap (λ (x : SymbolEntry). x.target) same ∙ leads) in (
+      e,
+      refl,
+      record {
+        known = known.0;
+        hard = λ soft. let two : (e.cache == 2) ≡ true = grind (arith, nat_tests) in let never : false ≡ true = sym hard.0 ∙ two in cc;
+        name = ap (λ (x : SymbolEntry). x.name) same;
+        header = hard.1;
+      },
+    )

@@ -1,6 +1,6 @@
 -- The parts of a group make it, where its names and keys are sound; and then it has the one link.
-use Rattle.std.proofs.Common.{◌≡◌, ◌≢◌, ℕ, ◌+◌, ◌<◌, ◌≤◌, List, [], ◌∷◌, ◌++◌, length, refl, sym, ap, ◌∙◌, subst, arith, Some, append-nil}
-use Rattle.std.specs.Prelude.{Option, None, IsTrue, IfSome, Bool, true, false, ◌==◌, if◌then◌else◌, map, option_map, unwrap_or}
+use Rattle.std.proofs.Common.{◌≡◌, ◌≢◌, ℕ, ◌+◌, ◌≤◌, List, [], ◌∷◌, length, refl, sym, ap, ◌∙◌, subst, arith, Some, append-nil}
+use Rattle.std.specs.Prelude.{Option, None, IsTrue, IfSome, Bool, false, ◌==◌, if◌then◌else◌, map, unwrap_or}
 use Rattle.std.specs.List.{AllByRecursion, flat_map}
 use Rattle.std.proofs.lemmas.Bool.Decides.{nat_tests}
 use Rattle.std.proofs.lemmas.List.Sorted.{IsPermutation-refl}
@@ -11,18 +11,17 @@ use Rattle.h5_bytes.specs.declared.Block.{Block}
 use Rattle.h5_model.specs.Addresses.{SymbolTable}
 use Rattle.h5_model.specs.Superblock.{leaf_k, internal_k}
 use Rattle.h5_model.specs.Heap.{segment_of, HasNames}
-use Rattle.h5_model.specs.Rows.{Node}
 use Rattle.h5_model.specs.Symbols.{Entry, IsEntry, Target, Header, Text, symbols_at, texts_of, link_of, target_of}
 use Rattle.h5_model.specs.Links.{IsBetween, NotAfter, key_name, offset_in}
 use Rattle.h5_model.specs.Paths.{is_name}
 use Rattle.h5_heap.specs.Kept.{Kept}
 use Rattle.h5_heap.proofs.NameLaws.{has_names}
-use Rattle.h5_walk.specs.SmallGroup.{IsLoneNode, IsSmallGroup, names_of_entries}
+use Rattle.h5_walk.specs.SmallGroup.{IsLoneNode, names_of_entries}
 use Rattle.h5_walk.proofs.SmallGroupLaws.{small_links}
 use Rattle.h5_group.specs.declared.symbol.Symbol.{Symbol}
 use Rattle.h5_group.specs.declared.read.GroupLink.{GroupLink}
 use Rattle.h5_group.specs.Small.{IsSymbol, AreOnly, AreOnlyIn, root_node, name_offsets, part_blocks}
-use Rattle.h5_group.specs.Names.{HasParts, HasSmallGroup, HasKeys, LiesBetween, names_at}
+use Rattle.h5_group.specs.Names.{HasParts, HasSmallGroup, HasKeys, names_at}
 use Rattle.h5_group.specs.Links.{HasClaimed, IsLinkOf, links_with}
 
 hard : (cache : ℕ) → cache ≢ 2 → (cache == 2) ≡ false

@@ -1,7 +1,7 @@
 -- One step of a walk: a block that a met field names is claimed or not, and what the block's own fields are then.
-use Rattle.std.proofs.Common.{◌≡◌, ◌≢◌, ℕ, ◌+◌, ◌-◌, ◌<◌, ◌≤◌, List, [], ◌∷◌, length, refl, sym, ap, subst, arith}
+use Rattle.std.proofs.Common.{◌≡◌, ◌≢◌, ℕ, ◌+◌, ◌-◌, ◌<◌, ◌≤◌, List, ◌∷◌, length, sym, subst, arith}
 use Rattle.std.specs.Prelude.{false}
-use Rattle.h5_bytes.specs.Blocks.{block, holds, cover, Separate}
+use Rattle.h5_bytes.specs.Blocks.{holds, cover, Separate}
 use Rattle.h5_bytes.specs.declared.Block.{Block}
 use Rattle.h5_bytes.proofs.BlockLaws.{holds_in}
 use Rattle.h5_model.specs.Reached.{Named, Reached, block_of, length_of}
@@ -12,7 +12,7 @@ use Rattle.h5_heap.specs.Refused.{ClaimBreach}
 use Rattle.h5_walk.specs.Walked.{IsWalked}
 use Rattle.h5_walk.specs.Met.{IsMet}
 use Rattle.h5_walk.specs.NotYet.{IsRefusedAt}
-use Rattle.h5_walk.proofs.MetFields.{met_truncated, met_overlaps, met_walked, newly_met}
+use Rattle.h5_walk.proofs.MetFields.{met_truncated, met_overlaps, newly_met}
 
 module _ (image : List ℕ) (held : List Block) (followed : List Named) (walked : IsWalked image held followed) (y : Named) (met : IsMet image held followed y) where
   pub claim_refused : is_header y.role ≡ false → (cause : Cause) (address : ℕ) → ClaimBreach (length image) held (block_of image y) cause address → IsRefusedAt image cause address

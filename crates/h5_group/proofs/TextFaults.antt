@@ -1,9 +1,8 @@
 -- Texts that were taken one by one: what the keys name, and why one that is refused makes the names of the group unsound.
-use Rattle.std.proofs.Common.{◌≡◌, ◌≢◌, ℕ, ◌+◌, ◌<◌, ◌≤◌, ◌⊎◌, inl, inr, List, [], ◌∷◌, ◌++◌, length, refl, sym, ap, ◌∙◌, subst, arith, append-nil}
+use Rattle.std.proofs.Common.{◌≡◌, ℕ, ◌+◌, ◌<◌, ◌≤◌, inl, inr, List, [], ◌∷◌, length, refl, sym, ap, ◌∙◌, subst, arith, append-nil}
 use Rattle.std.specs.Prelude.{map, slice_index_or}
-use Rattle.std.specs.List.{AllByRecursion, Contains}
+use Rattle.std.specs.List.{Contains}
 use Rattle.std.proofs.lemmas.List.Sorted.{IsPermutation-refl}
-use Rattle.h5_bytes.specs.Blocks.{cover}
 use Rattle.h5_bytes.specs.declared.Block.{Block}
 use Rattle.h5_bytes.proofs.PartLaws.{length-part}
 use Rattle.h5_model.specs.Heap.{HasNames, KeyNames}
@@ -11,7 +10,7 @@ use Rattle.h5_model.specs.Links.{offset_in}
 use Rattle.h5_model.specs.declared.open_fault.Cause.{Cause}
 use Rattle.h5_model.specs.declared.open_fault.Cause.TheVariants.{HeapName, NoMemory}
 use Rattle.h5_heap.specs.Kept.{Kept, segment_in}
-use Rattle.h5_heap.specs.Spans.{Takes, Names, IsNotEmpty, IsUntaken, IsUnnamed, HasTaken, HasNamed}
+use Rattle.h5_heap.specs.Spans.{Names, IsNotEmpty, IsUntaken, IsUnnamed, HasTaken, HasNamed}
 use Rattle.h5_heap.proofs.NamelessLaws.{begin_refused, take_refused, key_refused}
 use Rattle.h5_group.specs.Names.{IsUnused, IsSameHeap, HasKeys, AreTextsRefused}
 
@@ -94,7 +93,7 @@ module _ (bytes : List ℕ) (heap : Kept) (room : 8 ≤ heap.segment.len) (withi
       let segment : segment_in bytes next ≡ segment_in bytes heap = rw same.segment refl in
       subst (λ (free : List Block). AreTextsRefused (segment_in bytes heap) free linked keys cause) same.free
       (key_texts (segment_in bytes heap) next linked named.loose' keys named.taken
-      (λ k there. elim (named.only k there) [ | inl none ↦ none_in keys k none | inr is ↦ subst (λ (x : ℕ). Contains keys x) (sym is) key ])
+      (λ k there. elim (named.only k there) [ inl none ↦ none_in keys k none | inr is ↦ subst (λ (x : ℕ). Contains keys x) (sym is) key ])
       long offset key' cause (subst (λ (s : List ℕ). IsUnnamed s next offset cause) segment refused))
 
 pub one_named : (segment : List ℕ) (heap : Kept) (linked keys : List ℕ) (offset : ℕ) → keys ≡ offset ∷ [] → HasNamed segment heap linked [] offset

@@ -1,14 +1,13 @@
 -- The root of a group's tree and its symbol node in a walk.
-use Rattle.std.proofs.Common.{◌≡◌, ◌≢◌, ℕ, zero, ◌+◌, ◌-◌, ◌*◌, ◌<◌, ◌≤◌, inl, inr, List, [], ◌∷◌, length, refl, sym, ap, ◌∙◌, subst, arith, Some}
+use Rattle.std.proofs.Common.{◌≡◌, ◌≢◌, ℕ, ◌+◌, ◌*◌, ◌≤◌, inl, inr, List, [], ◌∷◌, length, refl, sym, ap, ◌∙◌, subst, arith, Some}
 use Rattle.std.specs.Prelude.{slice_get, unwrap_or}
-use Rattle.h5_bytes.specs.Blocks.{block, holds, cover, Separate}
+use Rattle.h5_bytes.specs.Blocks.{holds, cover, Separate}
 use Rattle.h5_bytes.specs.declared.Block.{Block}
 use Rattle.h5_model.specs.Addresses.{SymbolTable}
 use Rattle.h5_model.specs.Superblock.{leaf_k, internal_k}
-use Rattle.h5_model.specs.Rows.{Node}
-use Rattle.h5_model.specs.Nodes.{group_kind, node_bytes, node_length, node_of, entries_in, child_in, key_place}
+use Rattle.h5_model.specs.Nodes.{group_kind, node_bytes, node_length, entries_in, child_in, key_place}
 use Rattle.h5_model.specs.Symbols.{Entry, symbol_bytes, symbols_in, symbols_at}
-use Rattle.h5_model.specs.Reached.{Named, named, Role, GroupNode, SymbolNode, ObjectHeader, Reached, by_block, group_root, level_at, entry_in, length_of}
+use Rattle.h5_model.specs.Reached.{Named, named, GroupNode, SymbolNode, ObjectHeader, Reached, by_block, group_root, entry_in}
 use Rattle.h5_model.specs.declared.open_fault.Cause.{Cause}
 use Rattle.h5_model.specs.declared.open_fault.Cause.TheVariants.{NodeForm, NotYet}
 use Rattle.h5_btree.proofs.NodeLaws.{length-children, child_is}
@@ -62,9 +61,15 @@ module _ (image : List ℕ) (held : List Block) (followed : List Named) (walked 
         low_reached = subst (λ (level : ℕ). Reached image (named first (GroupNode table.tree table.heap level) table.tree depth)) low met.reached
 
         pub child_reached : Reached image child_field
-        child_reached = by_block {y = child_field} low_reached
-            (omega arith, (0, omega (arith, entries), omega (arith, room),
-            ap (λ (at : ℕ). named (table.tree + key_place (group_kind (internal_k image)) 0 + 8) (SymbolNode table.tree table.heap) at depth) child_read))
+        child_reached = by_block {y = child_field} low_reached (
+          omega arith,
+          (
+            0,
+            omega (arith, entries),
+            omega (arith, room),
+            ap (λ (at : ℕ). named (table.tree + key_place (group_kind (internal_k image)) 0 + 8) (SymbolNode table.tree table.heap) at depth) child_read,
+          ),
+        )
             (omega (arith, there, room))
 
         pub child_met : IsMet image now (tree_field ∷ followed) child_field
@@ -102,9 +107,13 @@ module _ (image : List ℕ) (held : List Block) (followed : List Named) (walked 
         header_read = ap (λ (x : Entry). x.header) (sym entry_read) ∙ symbol.header
 
         link_reached : Reached image link_field
-        link_reached = by_block {y = link_field} met.reached
-            (0, omega (arith, counted), omega (arith, room), subst (λ (x : Entry). x.cache ≢ 2) entry_read symbol.hard,
-            ap (λ (h : ℕ). named (at + 16 + 40 * 0) ObjectHeader h (depth + 1)) (sym header_read))
+        link_reached = by_block {y = link_field} met.reached (
+          0,
+          omega (arith, counted),
+          omega (arith, room),
+          subst (λ (x : Entry). x.cache ≢ 2) entry_read symbol.hard,
+          ap (λ (h : ℕ). named (at + 16 + 40 * 0) ObjectHeader h (depth + 1)) (sym header_read),
+        )
             (omega (arith, there, room))
 
         pub link_met : IsLinkMet image now (node_field ∷ followed) depth table at s.header

@@ -1,5 +1,5 @@
--- The links of a group of one link at most, and the blocks in which they stand (File Format Specification 3.0, sections III.A.1, III.B
--- and III.D).
+-- The links of a group of one link at most, and the blocks in which they stand (File Format Specification 3.0, sections III.A.1,
+-- III.B and III.D).
 use Rattle.std.specs.Prelude.{◌≡◌, ℕ, ◌+◌, Option, None, Some, List, [], ◌∷◌, length}
 use Rattle.h5_bytes.specs.Blocks.{cover, Inside}
 use Rattle.h5_bytes.specs.declared.Block.{Block}

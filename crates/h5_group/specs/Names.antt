@@ -1,5 +1,5 @@
 -- The names that the link and the keys of a small group stand for (File Format Specification 3.0, sections III.A.1 and III.D).
-use Rattle.std.specs.Prelude.{◌≡◌, ℕ, ◌≤◌, Option, None, Some, List, [], IfSome, map, length, option_map}
+use Rattle.std.specs.Prelude.{◌≡◌, ℕ, Option, List, [], IfSome, length, option_map}
 use Rattle.std.specs.List.{AllByRecursion}
 use Rattle.h5_bytes.specs.Blocks.{cover}
 use Rattle.h5_bytes.specs.Texts.{text_at}
@@ -9,14 +9,14 @@ use Rattle.h5_model.specs.Superblock.{leaf_k, internal_k}
 use Rattle.h5_model.specs.Heap.{heap_header, segment_of, segment_block, IsHeap, HasNames, KeyNames}
 use Rattle.h5_model.specs.Rows.{Node}
 use Rattle.h5_model.specs.Symbols.{Entry, IsSymbolNode, symbol_bytes}
-use Rattle.h5_model.specs.Links.{Before, NotAfter, key_name, offset_in}
+use Rattle.h5_model.specs.Links.{Before, NotAfter, key_name}
 use Rattle.h5_model.specs.declared.open_fault.Cause.{Cause}
 use Rattle.h5_model.specs.declared.open_fault.Cause.TheVariants.{HeapName, NoMemory}
 use Rattle.h5_heap.specs.Kept.{Kept}
 use Rattle.h5_heap.specs.Spans.{HasTaken}
 use Rattle.h5_walk.specs.SmallGroup.{IsSmallGroup}
 use Rattle.h5_group.specs.declared.symbol.Symbol.{Symbol}
-use Rattle.h5_group.specs.Small.{IsSmallRoot, AreOnly, AreOnlyIn, root_node, name_offsets}
+use Rattle.h5_group.specs.Small.{IsSmallRoot, AreOnly, AreOnlyIn, root_node}
 
 -- ---- the heap
 

@@ -8,7 +8,7 @@ use Rattle.h5_model.specs.Symbols.{symbol_block, symbol_bytes, symbols_in}
 use Rattle.h5_model.specs.Reached.{level_at, entry_in}
 use Rattle.h5_model.specs.TreeFaults.{NodeBreach, SymbolBreach, SiblingBreach, HeapNameBreach, BadNameBreach, KeyBreach}
 use Rattle.h5_model.specs.declared.open_fault.Cause.{Cause}
-use Rattle.h5_model.specs.declared.open_fault.Cause.TheVariants.{Truncated, Overlap, HeapName, NodeForm, KeyOrder, Sibling, BadName, NoMemory, NotYet}
+use Rattle.h5_model.specs.declared.open_fault.Cause.TheVariants.{HeapName, NodeForm, KeyOrder, Sibling, BadName, NoMemory, NotYet}
 use Rattle.h5_heap.specs.Refused.{ClaimBreach}
 
 -- the root is no node of a group; or it is not read yet; or it cannot be claimed

@@ -22,7 +22,11 @@ pub struct Bounds<'a> {
 
 /// Takes the texts that the keys of a node with one child at most name, after those of links; `HeapName`
 /// where a span is not sound. Gives the names around the child, where there is one.
-pub fn take_keys<'a>(heap: &mut Heap, image: &'a Image, node: &Node) -> Result<Option<Bounds<'a>>, OpenFault>
+pub fn take_keys<'a>(
+    heap: &mut Heap,
+    image: &'a Image,
+    node: &Node,
+) -> Result<Option<Bounds<'a>>, OpenFault>
     requires few { length node.now.children ≤ 1 }
     requires within { heap.old.segment.at + heap.old.segment.len ≤ length image.now.bytes }
     requires room { 8 ≤ heap.old.segment.len }

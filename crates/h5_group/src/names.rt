@@ -13,7 +13,11 @@ use h5_model::{OpenFault, is_link_name};
 use h5_space::Image;
 
 /// Takes the empty name and the link's name, where there is a link; `HeapName` where a span is not sound.
-pub fn take_name<'a>(heap: &mut Heap, image: &'a Image, symbol: Option<Symbol>) -> Result<Option<&'a [u8]>, OpenFault>
+pub fn take_name<'a>(
+    heap: &mut Heap,
+    image: &'a Image,
+    symbol: Option<Symbol>,
+) -> Result<Option<&'a [u8]>, OpenFault>
     requires within { heap.old.segment.at + heap.old.segment.len ≤ length image.now.bytes }
     requires unused { IsUnused heap.old }
     ensures text { IfOk result (λ name. option_map (λ x. x.now) name ≡ names_at (segment_in image.now.bytes heap.old) symbol) }

@@ -62,7 +62,11 @@ pub fn read_group(
         → IsGroupMet image.now.bytes claims.old.held followed first second depth table
         → IsRefusedAt image.now.bytes fault.cause fault.address) }
 {
-    let Parts { mut heap, root, symbol } = claim_parts(alloc, image, claims, table)?;
+    let Parts {
+        mut heap,
+        root,
+        symbol,
+    } = claim_parts(alloc, image, claims, table)?;
     let name = check_names(image, table, &mut heap, &root, symbol)?;
     match link_to(alloc, symbol, name) {
         Ok(link) => Ok(link),
@@ -102,7 +106,11 @@ fn check_names<'a>(
 }
 
 /// The link of this entry and name.
-fn link_to(alloc: Global, symbol: Option<Symbol>, name: Option<&[u8]>) -> Result<Option<GroupLink>, AllocError>
+fn link_to(
+    alloc: Global,
+    symbol: Option<Symbol>,
+    name: Option<&[u8]>,
+) -> Result<Option<GroupLink>, AllocError>
     requires { IsSome symbol → IsSome name }
     ensures { IfOk result (λ link. IsLinkOf symbol (option_map (λ x. x.now) name.entry) link) }
 {
@@ -113,5 +121,9 @@ fn link_to(alloc: Global, symbol: Option<Symbol>, name: Option<&[u8]>) -> Result
         return Ok(None);
     };
     let name = Vec::from_slice(alloc, name)?;
-    Ok(Some(GroupLink { name, header: symbol.header, node: symbol.node }))
+    Ok(Some(GroupLink {
+        name,
+        header: symbol.header,
+        node: symbol.node,
+    }))
 }

@@ -25,7 +25,11 @@ pub struct Symbol {
 }
 
 /// Claims the symbol node below the root, where there is one, and reads its entry.
-pub fn claim_below(image: &Image, claims: &mut Claims, child: Option<u64>) -> Result<Option<Symbol>, OpenFault>
+pub fn claim_below(
+    image: &Image,
+    claims: &mut Claims,
+    child: Option<u64>,
+) -> Result<Option<Symbol>, OpenFault>
     requires end { claims.old.end ≡ length image.now.bytes }
     requires superblock { IsSuperblock image.now.bytes }
     ensures symbol { IfOk result (λ symbol. AreOnlyIn image.now.bytes (one_of child) symbol) }
@@ -93,7 +97,11 @@ fn only_symbol(node: &SymbolNode, at: u64) -> Option<Option<Symbol>>
     }
     let SymbolEntry { name, target } = node.entry(0);
     match target {
-        SymbolTarget::Header(header) => Some(Some(Symbol { name, header, node: at })),
+        SymbolTarget::Header(header) => Some(Some(Symbol {
+            name,
+            header,
+            node: at,
+        })),
         SymbolTarget::Text(_) => None,
     }
 }

@@ -1,4 +1,3 @@
-use Rattle.std.proofs.Common.{rules}
 use Rattle.h5_group.proofs.keys.are_ordered.Goals as goal
 
 pub returns-in-Some : goal.returns-in-Some

@@ -1,4 +1,3 @@
-use Rattle.std.proofs.Common.{rules}
 use Rattle.std.proofs.lemmas.Result.{err_from_is_err_and}
 use Rattle.h5_heap.specs.Kept.{segment_in}
 use Rattle.h5_group.specs.Small.{name_offsets}

@@ -1,7 +1,6 @@
-use Rattle.std.proofs.Common.{◌≡◌, ◌≢◌, ℕ, ◌∙◌, List, sym, true, false, rules, IsTrue, IfSome, option_map, Bor}
+use Rattle.std.proofs.Common.{◌≡◌, ℕ, ◌∙◌, List, sym, true, false, rules, IsTrue, option_map, Bor}
 use Rattle.std.proofs.lemmas.Result.{err_from_is_err_and}
 use Rattle.h5_model.specs.Paths.{is_name}
-use Rattle.h5_group.specs.Names.{LiesBetween}
 use Rattle.h5_group.proofs.CheckLaws.{if_mapped, if_unmapped, sibling_fault, name_fault, bad_fault, key_fault, order_fault, group_alone, group_between}
 use Rattle.h5_group.proofs.read.check_names.Goals as goal
 

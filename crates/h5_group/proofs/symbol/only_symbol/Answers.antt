@@ -1,4 +1,4 @@
-use Rattle.std.proofs.Common.{◌≤◌, ◌<◌, length, rules, arith}
+use Rattle.std.proofs.Common.{◌≤◌, ◌<◌, length, rules}
 use Rattle.h5_group.proofs.RootFaults.{only_hard}
 use Rattle.h5_group.proofs.symbol.only_symbol.Goals as goal
 
