@@ -1,0 +1,18 @@
+-- Which rules the bytes of a B-tree node break, and where a node may stand (File Format Specification 3.0, section III.A.1).
+use Rattle.std.specs.Prelude.{◌≡◌, ◌≢◌, ℕ, ◌*◌, ◌<◌, ◌≤◌, ◌⊎◌, List, length}
+use Rattle.h5_bytes.specs.Bytes.{byte_at, part}
+use Rattle.h5_model.specs.Rows.{Node}
+use Rattle.h5_model.specs.Nodes.{Kind, node_signature, entries_in}
+
+-- another signature, another type, or more children than there is room for
+abbrev pub BreaksForm : Kind → List ℕ → Type 0
+BreaksForm kind bytes =
+    (part 0 4 bytes ≢ node_signature) ⊎ ((byte_at bytes 4 ≢ kind.type_byte) ⊎ (2 * kind.k < entries_in bytes))
+
+-- at most level 15, and without children at level 0 alone
+abbrev pub MayBeRoot : Node → Type 0
+MayBeRoot node = (node.level ≤ 15) × (1 ≤ node.level → 1 ≤ length node.children)
+
+-- of this level, with a child
+abbrev pub MayStandAt : ℕ → Node → Type 0
+MayStandAt level node = (node.level ≡ level) × (1 ≤ length node.children)

@@ -1,0 +1,84 @@
+//! Kinds of B-trees, by the keys of their nodes (File Format Specification 3.0, section III.A.1).
+
+ghost use Rattle.std.specs.Prelude.{◌≡◌, ◌*◌, ◌≤◌};
+ghost use Rattle.h5_model.specs.Nodes.{chunk_kind, group_kind, node_length as length_of};
+
+use std::marker::Model;
+
+/// What the trees of one kind have in common: the type of their nodes, the length of a key, and K.
+#[derive(Clone, Copy, Debug, PartialEq, Eq)]
+pub struct NodeKind {
+    type_byte: u8,
+    key_length: u16,
+    k: u16,
+}
+
+impl Model for NodeKind {
+    ghost use Rattle.std.specs.Prelude.{◌≤◌};
+    ghost use Rattle.h5_model.specs.Nodes.{Kind};
+
+    ghost Value = { Kind };
+
+    ghost view = { λ a. record { type_byte = a.type_byte; key_length = a.key_length; k = a.k } };
+
+    ghost invariant = { λ a. (8 ≤ a.key_length) × (a.key_length ≤ 272) };
+
+    ghost inverse = { λ d. record { type_byte = d.type_byte; key_length = d.key_length; k = d.k } };
+}
+
+impl NodeKind {
+    /// The tree of a group. A key is the offset of a name in the group's heap.
+    pub fn group(k: u16) -> Self
+        ensures { result ≡ group_kind k }
+    {
+        NodeKind {
+            type_byte: 0,
+            key_length: 8,
+            k,
+        }
+    }
+
+    /// The tree of a dataset's chunks. A key has a size, a filter mask, and an offset for each dimension and for the
+    /// element.
+    pub fn chunks(k: u16, rank: usize) -> Self
+        requires { rank ≤ 32 }
+        ensures { result ≡ chunk_kind k rank }
+    {
+        NodeKind {
+            type_byte: 1,
+            key_length: 8 + 8 * (rank as u16 + 1),
+            k,
+        }
+    }
+
+    /// The byte that says of which kind a node is.
+    pub fn type_byte(&self) -> u8
+        ensures { result ≡ self.now.type_byte }
+    {
+        self.type_byte
+    }
+
+    /// How many bytes a key has.
+    pub fn key_length(&self) -> usize
+        ensures length { result ≡ self.now.key_length }
+        ensures least { 8 ≤ result }
+        ensures most { result ≤ 272 }
+    {
+        usize::from(self.key_length)
+    }
+
+    /// How many children a node has room for.
+    pub fn capacity(&self) -> usize
+        ensures capacity { result ≡ 2 * self.now.k }
+        ensures most { result ≤ 131070 }
+    {
+        2 * usize::from(self.k)
+    }
+
+    /// How many bytes a node has.
+    pub fn node_length(&self) -> usize
+        ensures { result ≡ length_of self.now }
+    {
+        24 + self.key_length() + self.capacity() * (self.key_length() + 8)
+    }
+}

@@ -1,0 +1,4 @@
+pub mod Refused
+pub mod FreeList
+pub mod Kept
+pub mod Spans

@@ -1,0 +1,85 @@
+//! A local heap (File Format Specification 3.0, section III.D).
+
+ghost use Rattle.std.specs.Prelude.{◌≡◌, ℕ, ◌+◌, ◌≤◌, [], length, IfOk, IfErr, OnOk};
+ghost use Rattle.h5_bytes.specs.Blocks.{cover, Separate, Inside};
+ghost use Rattle.h5_model.specs.Heap.{heap_header, heap_blocks, segment_block, segment_of, IsHeap};
+ghost use Rattle.h5_heap.specs.Refused.{IsRefused, IsReadable};
+
+use crate::claim::fault;
+use crate::free_list::{FreeList, read_free};
+use crate::header::claim_heap;
+use h5_bytes::Block;
+use h5_model::{Cause, OpenFault};
+use h5_space::{Claims, Image};
+use std::alloc::Global;
+use std::collections::BTreeSet;
+use std::marker::Model;
+
+/// A local heap: where its segment lies, its free blocks, and which texts of it are taken.
+///
+/// It keeps no byte of the image.
+#[derive(Drop)]
+pub struct Heap {
+    pub(crate) at: u64,
+    pub(crate) segment: Block,
+    free: Vec<Block>,
+    // The bytes of the free blocks and of what was taken, by their offsets.
+    pub(crate) spans: Claims,
+    // The offsets of the texts that were taken.
+    pub(crate) taken: BTreeSet<u64>,
+}
+
+impl Model for Heap {
+    ghost use Rattle.std.specs.Prelude.{◌≡◌, ◌≤◌};
+    ghost use Rattle.h5_heap.specs.Kept.{Kept};
+
+    ghost Value = { Kept };
+
+    ghost view = { λ s. record { at = s.at; segment = s.segment; free = s.free.items; held = s.spans.held; taken = s.taken.keys } };
+
+    ghost invariant = { λ s. (s.spans.end ≡ s.segment.len) × (8 ≤ s.segment.len) };
+}
+
+/// Reads the local heap at `at`, and claims its header and its segment.
+///
+/// Refusals: `Truncated` and `Overlap`, at the header or the segment, whichever was to be claimed;
+/// `HeapForm`, at the header; and `NoMemory`. The header is of version 0, its segment has 8 bytes or more,
+/// and each block of its free list begins at a multiple of 8, has 16 bytes or more, lies in the segment
+/// and shares no byte with another. After a refusal more or less of the two blocks is claimed. The claims
+/// end where the image ends, which is the caller's condition.
+///
+/// Takes memory for the free blocks that are there.
+pub fn read_heap(
+    alloc: Global,
+    image: &Image,
+    claims: &mut Claims,
+    at: u64,
+) -> Result<Heap, OpenFault>
+    requires { claims.old.end ≡ length image.now.bytes }
+    ensures at { IfOk result (λ h. h.at ≡ at) }
+    ensures segment { IfOk result (λ h. h.segment ≡ segment_block image.now.bytes at) }
+    ensures read { IfOk result (λ h. IsHeap (heap_header image.now.bytes at) (segment_of image.now.bytes at) h.free) }
+    ensures held { IfOk result (λ h. (p : ℕ) → cover p h.held ≡ cover p h.free) }
+    ensures taken { IfOk result (λ h. h.taken ≡ []) }
+    ensures inside { OnOk result (Inside (length image.now.bytes) (heap_blocks image.now.bytes at)) }
+    ensures claimed { OnOk result ((p : ℕ)
+        → cover p claims.new.held ≡ cover p claims.old.held + cover p (heap_blocks image.now.bytes at)) }
+    ensures separate { OnOk result (Separate claims.new.held) }
+    ensures end { claims.new.end ≡ claims.old.end }
+    ensures refused { IfErr result (λ fault. IsRefused image.now.bytes at claims.old.held fault.cause fault.address) }
+    ensures only { IsReadable image.now.bytes at claims.old.held → IfErr result (λ fault. fault.cause ≡ Cause.NoMemory) }
+{
+    let header = claim_heap(image, claims, at)?;
+    let segment = header.segment;
+    let bytes = image.part(segment.at, segment.len).unwrap();
+    match read_free(alloc, bytes, header.free_head) {
+        Ok(FreeList { blocks, spans }) => Ok(Heap {
+            at,
+            segment,
+            free: blocks,
+            spans,
+            taken: BTreeSet::new(alloc),
+        }),
+        Err(cause) => Err(fault(cause, at)),
+    }
+}

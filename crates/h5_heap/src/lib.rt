@@ -1,0 +1,15 @@
+//! Local heaps: the segment that holds a group's names, and its free blocks (File Format Specification
+//! 3.0, section III.D).
+//!
+//! Offsets are places in a segment, and all places and sizes are in bytes.
+#![tactic(auto)]
+
+mod claim;
+mod free_list;
+mod header;
+mod heap;
+mod names;
+mod numbers;
+mod text;
+
+pub use heap::{Heap, read_heap};

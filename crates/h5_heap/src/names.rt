@@ -1,0 +1,142 @@
+//! The texts of a heap (File Format Specification 3.0, section III.D).
+
+ghost use Rattle.std.specs.Prelude.{◌≡◌, ℕ, ◌+◌, ◌≤◌, ◌⊎◌, ◌↔◌, IsTrue, List, [], ◌∷◌, ◌++◌, length, IfOk, IfErr, OnOk, OnErr};
+ghost use Rattle.std.specs.List.{Contains};
+ghost use Rattle.h5_bytes.specs.Bytes.{byte_at};
+ghost use Rattle.h5_bytes.specs.Blocks.{holds, cover, Separate};
+ghost use Rattle.h5_bytes.specs.Texts.{text_at};
+ghost use Rattle.h5_heap.specs.Kept.{segment_in};
+ghost use Rattle.h5_heap.specs.Spans.{IsSpan, Takes, Names, IsHeld, IsNotEmpty, IsUntaken, IsUnnamed, HasTaken, HasNamed};
+
+use crate::claim::fault;
+use crate::heap::Heap;
+use crate::text::{span_len, text_in};
+use h5_model::{Cause, OpenFault};
+use h5_space::{ClaimFault, Image};
+
+/// Bytes of the empty name, at the beginning of a segment.
+const EMPTY_NAME: u64 = 8;
+
+// That the segment lies in the image is the caller's condition of each call: it does in the image from
+// which the heap was read.
+impl Heap {
+    /// The text at `offset` of the segment. Takes no memory.
+    ///
+    /// `HeapName`, at the header, where it begins at no multiple of 8, or does not lie in the segment with
+    /// its zero and its padding.
+    pub fn name<'a>(&self, image: &'a Image, offset: u64) -> Result<&'a [u8], OpenFault>
+        requires { self.now.segment.at + self.now.segment.len ≤ length image.now.bytes }
+        ensures text { IfOk result (λ x. x.now ≡ text_at (segment_in image.now.bytes self.now) offset) }
+        ensures span { OnOk result (IsSpan (segment_in image.now.bytes self.now) offset) }
+        ensures fault { IfErr result (λ fault. fault ≡ record { cause = Cause.HeapName; address = self.now.at }) }
+        ensures refused { IfErr result (λ fault. IsSpan (segment_in image.now.bytes self.now) offset → ⊥) }
+    {
+        match text_in(self.segment_bytes(image), offset) {
+            Some(text) => Ok(text),
+            None => Err(fault(Cause::HeapName, self.at)),
+        }
+    }
+
+    /// Takes the empty name, before any other: the first 8 bytes of the segment, of which the first is
+    /// zero.
+    ///
+    /// `HeapName`, at the header, where it is not zero or one of the 8 is in a free block; else `NoMemory`.
+    /// A refusal changes nothing.
+    pub fn begin_names(&mut self, image: &Image) -> Result<(), OpenFault>
+        requires { self.old.segment.at + self.old.segment.len ≤ length image.now.bytes }
+        ensures zero { OnOk result (byte_at (segment_in image.now.bytes self.old) 0 ≡ 0) }
+        ensures held { OnOk result (self.new ≡ record self.old { held = self.new.held }) }
+        ensures claimed { OnOk result ((p : ℕ) → cover p self.new.held ≡ cover p self.old.held + holds p 0 8) }
+        ensures begun { OnOk result (((p : ℕ) → cover p self.old.held ≡ cover p self.old.free) → self.old.taken ≡ []
+            → HasTaken (segment_in image.now.bytes self.old) self.new [] []) }
+        ensures address { IfErr result (λ fault. fault.address ≡ self.old.at) }
+        ensures refused { IfErr result (λ fault. IsNotEmpty (segment_in image.now.bytes self.old) self.old.held fault.cause) }
+        ensures err { OnErr result (self.new ≡ self.old) }
+    {
+        if self.segment_bytes(image)[0] != 0 {
+            return Err(fault(Cause::HeapName, self.at));
+        }
+        self.claim(0, EMPTY_NAME)
+    }
+
+    /// The text at `offset`, which a link names; its bytes are the link's alone.
+    ///
+    /// `HeapName`, at the header, as of `name`, or where it shares a byte with the empty name, a free block,
+    /// or a text that was taken before: then nothing changes. Else `NoMemory`, after which its bytes may
+    /// be held.
+    pub fn take<'a>(&mut self, image: &'a Image, offset: u64) -> Result<&'a [u8], OpenFault>
+        requires { self.old.segment.at + self.old.segment.len ≤ length image.now.bytes }
+        ensures text { IfOk result (λ x. x.now ≡ text_at (segment_in image.now.bytes self.old) offset) }
+        ensures span { OnOk result (IsSpan (segment_in image.now.bytes self.old) offset) }
+        ensures takes { OnOk result (Takes (segment_in image.now.bytes self.old) self.old self.new offset) }
+        ensures taken { OnOk result ((linked loose : List ℕ) → HasTaken (segment_in image.now.bytes self.old) self.old linked loose
+            → HasTaken (segment_in image.now.bytes self.old) self.new (linked ++ offset ∷ []) loose) }
+        ensures address { IfErr result (λ fault. fault.address ≡ self.old.at) }
+        ensures refused { IfErr result (λ fault. IsUntaken (segment_in image.now.bytes self.old) self.old.held offset fault.cause) }
+        ensures unchanged { IfErr result (λ fault. fault.cause ≡ Cause.HeapName → self.new ≡ self.old) }
+        ensures err { OnErr result (self.new ≡ record self.old { held = self.new.held }) }
+    {
+        let text = self.name(image, offset)?;
+        self.claim(offset, span_len(text.len()) as u64)?;
+        if self.taken.insert(offset).is_err() {
+            return Err(fault(Cause::NoMemory, self.at));
+        }
+        Ok(text)
+    }
+
+    /// The text at `offset`, which the key of a B-tree names: the empty name, a text that was taken, or one
+    /// that shares no byte with any of these and is taken now.
+    ///
+    /// Refused as by `take`.
+    pub fn key<'a>(&mut self, image: &'a Image, offset: u64) -> Result<&'a [u8], OpenFault>
+        requires { self.old.segment.at + self.old.segment.len ≤ length image.now.bytes }
+        ensures text { IfOk result (λ x. x.now ≡ text_at (segment_in image.now.bytes self.old) offset) }
+        ensures span { OnOk result (IsSpan (segment_in image.now.bytes self.old) offset) }
+        ensures names { OnOk result (Names (segment_in image.now.bytes self.old) self.old self.new offset) }
+        ensures named { OnOk result ((linked loose : List ℕ) → HasTaken (segment_in image.now.bytes self.old) self.old linked loose
+            → HasNamed (segment_in image.now.bytes self.old) self.new linked loose offset) }
+        ensures address { IfErr result (λ fault. fault.address ≡ self.old.at) }
+        ensures refused { IfErr result (λ fault. IsUnnamed (segment_in image.now.bytes self.old) self.old offset fault.cause) }
+        ensures unchanged { IfErr result (λ fault. fault.cause ≡ Cause.HeapName → self.new ≡ self.old) }
+        ensures err { OnErr result (self.new ≡ record self.old { held = self.new.held }) }
+    {
+        if self.is_known(offset) {
+            self.name(image, offset)
+        } else {
+            self.take(image, offset)
+        }
+    }
+
+    /// Whether the offset is that of the empty name, or of a text that was taken.
+    fn is_known(&self, offset: u64) -> bool
+        ensures { IsTrue result ↔ ((offset ≡ 0) ⊎ Contains self.now.taken offset) }
+    {
+        offset == 0 || self.taken.contains(&offset)
+    }
+
+    /// Claims bytes of the segment.
+    fn claim(&mut self, offset: u64, len: u64) -> Result<(), OpenFault>
+        requires { offset + len ≤ self.old.segment.len }
+        ensures held { self.new ≡ record self.old { held = self.new.held } }
+        ensures claimed { OnOk result ((p : ℕ)
+            → cover p self.new.held ≡ cover p self.old.held + holds p offset len) }
+        ensures separate { Separate self.new.held }
+        ensures address { IfErr result (λ fault. fault.address ≡ self.old.at) }
+        ensures refused { IfErr result (λ fault. IsHeld self.old.held offset len fault.cause) }
+        ensures err { OnErr result (self.new ≡ self.old) }
+    {
+        match self.spans.claim(offset, len) {
+            Ok(()) => Ok(()),
+            Err(ClaimFault::NoMemory) => Err(fault(Cause::NoMemory, self.at)),
+            Err(_) => Err(fault(Cause::HeapName, self.at)),
+        }
+    }
+
+    /// The bytes of the segment.
+    fn segment_bytes<'a>(&self, image: &'a Image) -> &'a [u8]
+        requires { self.now.segment.at + self.now.segment.len ≤ length image.now.bytes }
+        ensures { result.now ≡ segment_in image.now.bytes self.now }
+    {
+        image.part(self.segment.at, self.segment.len).unwrap()
+    }
+}

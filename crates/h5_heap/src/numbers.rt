@@ -1,0 +1,13 @@
+//! Numbers that are known to lie in the bytes.
+
+ghost use Rattle.std.specs.Prelude.{◌≡◌, ◌+◌, ◌≤◌, length};
+ghost use Rattle.h5_bytes.specs.Bytes.{number_at};
+
+use h5_bytes::get_u64;
+
+pub fn u64_at(bytes: &[u8], at: u64) -> u64
+    requires { at + 8 ≤ length bytes.now }
+    ensures { result ≡ number_at bytes.now at 8 }
+{
+    get_u64(bytes, at as usize).unwrap()
+}

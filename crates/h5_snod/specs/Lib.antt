@@ -1,0 +1,4 @@
+pub mod Form
+pub mod Entries
+pub mod Names
+pub mod Written

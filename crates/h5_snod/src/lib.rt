@@ -1,0 +1,17 @@
+//! Symbol nodes (File Format Specification 3.0, section III.B), which hold the links of a group in the order of their
+//! names.
+//!
+//! A node is read where it stands, and nothing is copied. Names and the texts of soft links stand in the group's heap.
+#![tactic(auto)]
+
+mod entry;
+mod node;
+mod numbers;
+mod read;
+mod search;
+mod write;
+
+pub use entry::{SymbolEntry, SymbolTarget};
+pub use node::SymbolNode;
+pub use read::{NodeFault, read_symbol_node};
+pub use write::{NewSymbol, NewTarget, write_symbol_node};
