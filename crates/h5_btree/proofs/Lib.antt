@@ -1,1 +1,4 @@
 pub mod NodeLaws
+pub mod TextLaws
+pub mod DescentLaws
+pub mod WayLaws

@@ -3,11 +3,17 @@
 //! A node is read where it stands, and nothing is copied. Which nodes make a tree is for the layers above.
 #![tactic(auto)]
 
+mod descent;
 mod kind;
+mod name;
 mod node;
 mod numbers;
 mod read;
+mod sought;
 
+pub use descent::find_leaf;
 pub use kind::NodeKind;
+pub use name::SoughtName;
 pub use node::Node;
-pub use read::{NodeFault, read_node};
+pub use read::{NodeFault, read_node, read_node_at};
+pub use sought::{Sought, child_for};
