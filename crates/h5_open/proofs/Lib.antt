@@ -2,3 +2,4 @@ pub mod JudgeLaws
 pub mod ArrayLaws
 pub mod OpenLaws
 pub mod RootLaws
+pub mod StepLaws

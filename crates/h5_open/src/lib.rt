@@ -8,8 +8,8 @@ mod array;
 mod judge;
 mod line;
 mod opened;
-mod walk;
+mod steps;
 
 pub use line::Line;
 pub use opened::{Linked, Opened};
-pub use walk::walk;
+pub use steps::walk;

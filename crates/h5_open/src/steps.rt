@@ -1,7 +1,7 @@
 //! The walk of opening: superblock, root, and what the root's link leads to (File Format Specification 3.0, sections II.A, III
 //! and IV.A).
 
-ghost use Rattle.std.specs.Prelude.{◌≡◌, ◌+◌, ◌≤◌, [], length, IfOk, IfErr, IfSome, OnOk};
+ghost use Rattle.std.specs.Prelude.{◌≡◌, ◌≢◌, ◌+◌, ◌≤◌, [], length, IfOk, IfErr, IfSome, OnOk};
 ghost use Rattle.h5_bytes.specs.Blocks.{Separate};
 ghost use Rattle.h5_model.specs.Messages.{prefix_at, reference_count};
 ghost use Rattle.h5_model.specs.Reads.{Reads};
@@ -47,11 +47,14 @@ pub fn walk(alloc: Global, image: &Image) -> Result<Opened, OpenFault>
     let mut claims = claim_superblock(alloc, image)?;
     let (root, link) = read_root(alloc, image, &mut claims)?;
     check_count(image, &root)?;
-    let link = match link {
-        Some(link) => Some(read_linked(alloc, image, &mut claims, root.header(), link)?),
-        None => None,
+    let Some(link) = link else {
+        return Ok(Opened { root, link: None });
     };
-    Ok(Opened { root, link })
+    let linked = read_linked(alloc, image, &mut claims, root.header(), link)?;
+    Ok(Opened {
+        root,
+        link: Some(linked),
+    })
 }
 
 /// Claims the superblock.
@@ -105,6 +108,7 @@ fn read_linked(
     requires ready { IsLinkReady image.now.bytes claims.old.held root link }
     requires end { claims.old.end ≡ length image.now.bytes }
     ensures read { IfOk result (λ made. IsLinkedRead image.now.bytes claims.old.held claims.new.held link made) }
+    ensures other { OnOk result (root ≢ link.header) }
     ensures counted { IfOk result (λ made. reference_count (prefix_at image.now.bytes made.array.header) ≡ 1) }
     ensures separate { OnOk result (Separate claims.new.held) }
     ensures refused { IfErr result (λ fault. IsRefusedAt image.now.bytes fault.cause fault.address) }
