@@ -1,7 +1,7 @@
 -- Why a local heap is refused, and at which address (File Format Specification 3.0, section III.D).
 use Rattle.std.specs.Prelude.{◌≡◌, ℕ, ◌+◌, ◌<◌, ◌≤◌, ◌⊎◌, List, ◌∷◌, length}
 use Rattle.h5_bytes.specs.Bytes.{byte_at, part}
-use Rattle.h5_bytes.specs.Blocks.{block, cover, Inside}
+use Rattle.h5_bytes.specs.Blocks.{block, holds, cover, Inside}
 use Rattle.h5_bytes.specs.declared.Block.{Block}
 use Rattle.h5_model.specs.Heap.{heap_signature, heap_header, heap_blocks, segment_size, segment_block, segment_of, IsHeap}
 use Rattle.h5_model.specs.declared.open_fault.Cause.{Cause}
@@ -27,10 +27,11 @@ IsCut image heap address = ((address ≡ heap) × (length image < heap + 32))
     ⊎ ((heap + 32 ≤ length image) × (address ≡ (segment_block image heap).at)
     × (length image < (segment_block image heap).at + (segment_block image heap).len))
 
--- the header shares a byte with what was claimed before, or the segment with that or with the header
+-- the header shares a byte with what was claimed before; or the header does not, and the segment shares one with that or with the
+-- header
 abbrev pub IsCrossed : List ℕ → ℕ → List Block → ℕ → Type 0
 IsCrossed image heap held address = ((address ≡ heap) × Shares held heap 32)
-    ⊎ ((heap + 32 ≤ length image) × (address ≡ (segment_block image heap).at)
+    ⊎ ((heap + 32 ≤ length image) × ((p : ℕ) → cover p held + holds p heap 32 ≤ 1) × (address ≡ (segment_block image heap).at)
     × Shares (block heap 32 ∷ held) (segment_block image heap).at (segment_block image heap).len)
 
 -- The cause holds of the heap at this address, and the second address is that of the header or of the segment.

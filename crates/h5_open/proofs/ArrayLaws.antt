@@ -32,7 +32,7 @@ use Rattle.h5_open.specs.Judged.{IsLineBreach, IsLineList}
 use Rattle.h5_open.specs.Array.{IsEntryMet}
 
 -- the message that is found is of the type
-found_kind : (k : ℕ) (ms : List Message) (m : Message) → find (λ (x : Message). x.kind == k) ms ≡ Some m → m.kind ≡ k
+pub found_kind : (k : ℕ) (ms : List Message) (m : Message) → find (λ (x : Message). x.kind == k) ms ≡ Some m → m.kind ≡ k
 found_kind k [] m is = absurd (cc)
 found_kind k (x ∷ ms) m is = elim (x.kind == k) as (λ b. (x.kind == k) ≡ b → cond b (Some x) (find (λ (y : Message). y.kind == k) ms) ≡ Some m → m.kind ≡ k) [
   | true ↦ λ same e. let kind : x.kind ≡ k = grind (arith, nat_tests, same) in let is_x : x ≡ m = same_Some x m e in subst (λ (y : Message). y.kind ≡ k) is_x kind
@@ -63,7 +63,7 @@ module _ (image : List ℕ) (header : ℕ) (ms : List Message) (blocks : List Bl
 
     by_cause : (cause c : Cause) → cause ≡ c → IsLineBreach image header ms c → IsRefusedAt image c header
     by_cause cause NoMemory e h = tt
-    by_cause cause NotYet e h = (named field ObjectHeader header depth, (met.met).reached, refl, (ms, all_messages image header ms blocks has inside, h))
+    by_cause cause NotYet e h = (named field ObjectHeader header depth, (met.met).reached, refl, inr (ms, all_messages image header ms blocks has inside, h))
     by_cause cause _ e h = subst (λ (c : Cause). IsRefusedAt image c header) e (list_breach cause (subst (λ (c : Cause). ListBreach image header ms c) (sym e) h))
 
     pub line_refused : (cause : Cause) → IsLineBreach image header ms cause → IsRefusedAt image cause header

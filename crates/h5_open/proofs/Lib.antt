@@ -1,3 +1,5 @@
 pub mod JudgeLaws
 pub mod ArrayLaws
 pub mod OpenLaws
+pub mod RootLaws
+pub mod StepLaws

@@ -55,8 +55,13 @@ group_known image [] read none = tt
 group_known image (m ∷ ms) read (a, (b, (c, (d, (e, end))))) = (
   group_message (message_in image m) read.0 (none_here 1 (message_in image m) (messages_in image ms) a) (none_here 3 (message_in image m) (messages_in image ms) b)
       (none_here 4 (message_in image m) (messages_in image ms) c) (none_here 5 (message_in image m) (messages_in image ms) d) (none_here 8 (message_in image m) (messages_in image ms) e),
-  group_known image ms read.1 (none_later 1 (message_in image m) (messages_in image ms) a, (none_later 3 (message_in image m) (messages_in image ms) b,
-      (none_later 4 (message_in image m) (messages_in image ms) c, (none_later 5 (message_in image m) (messages_in image ms) d, (none_later 8 (message_in image m) (messages_in image ms) e, end))))),
+  group_known image ms read.1 (
+    none_later 1 (message_in image m) (messages_in image ms) a,
+    (
+      none_later 3 (message_in image m) (messages_in image ms) b,
+      (none_later 4 (message_in image m) (messages_in image ms) c, (none_later 5 (message_in image m) (messages_in image ms) d, (none_later 8 (message_in image m) (messages_in image ms) e, end))),
+    ),
+  ),
 )
 
 -- ---- the objects
@@ -121,11 +126,15 @@ module _ (image : List ℕ) (superblock : IsSuperblock image) (whole : end_of_fi
       → (held : List Block) → Separate held → ((p : ℕ) → cover p held ≡ cover p (block 0 (superblock_length image) ∷ m.blocks ++ blocks))
       → (placed : List Placed) × ReadsAs image (alone_table m.header) (alone_tree (object_with (Group empty) (messages_in image m.list))) placed
   reads_alone m table blocks root counted held separate covered =
-      let object = root_object image m table [] blocks root (alone_table m.header) empty (rw (entries-empty {X = Link} (slice_cmp nat_cmp)) tt) in
-      (_, alone_reads image superblock whole m.header root.header_is counted (object_with (Group empty) (messages_in image m.list)) refl (m.blocks ++ blocks) object
-      (λ p. omega (arith, separate p, covered p, cover-append p (m.blocks ++ blocks) []))
-      (long, all_append (λ (b : Block). b.at + b.len ≤ length image) (m.blocks ++ blocks) []
-      (all_append (λ (b : Block). b.at + b.len ≤ length image) m.blocks blocks root.inside root.links_inside) tt))
+      let object = root_object image m table [] blocks root (alone_table m.header) empty (rw (entries-empty {X = Link} (slice_cmp nat_cmp)) tt) in (
+        _,
+        alone_reads image superblock whole m.header root.header_is counted (object_with (Group empty) (messages_in image m.list)) refl (m.blocks ++ blocks) object
+            (λ p. omega (arith, separate p, covered p, cover-append p (m.blocks ++ blocks) [])) (
+              long,
+              all_append (λ (b : Block). b.at + b.len ≤ length image) (m.blocks ++ blocks) []
+                  (all_append (λ (b : Block). b.at + b.len ≤ length image) m.blocks blocks root.inside root.links_inside) tt,
+            ),
+      )
 
   pub reads_linked : (m : Listed) (table : SymbolTable) (blocks : List Block) (name : List ℕ) (header : ℕ) → IsRootRead image m table ((name, Header header) ∷ []) blocks
       → reference_count (prefix_at image m.header) ≡ 1 → m.header ≢ header
@@ -140,11 +149,15 @@ module _ (image : List ℕ) (superblock : IsSuperblock image) (whole : end_of_fi
       let object = root_object image m table ((name, Header header) ∷ []) blocks root (pair_table m.header a.header) (link_to_one name)
       (rw (entries_of_link name) ((refl, leads), tt)) in
       let array = array_object image header held now a line read (pair_table m.header a.header) in
-      let rest = a.blocks ++ data_blocks line.cells in
-      (_, pair_reads image superblock whole m.header root.header_is counted name a.header o p (dataset_in image (described line) empty) refl refl (m.blocks ++ blocks) rest object array
-      (λ e. apart (e ∙ read.header_is)) once
-      (λ q. omega (arith, separate q, (read.claimed q), covered q, cover-append q (m.blocks ++ blocks) (rest ++ []), cover-append q rest [], cover-append q a.blocks (data_blocks line.cells)))
-      (long, all_append (λ (b : Block). b.at + b.len ≤ length image) (m.blocks ++ blocks) (rest ++ [])
-      (all_append (λ (b : Block). b.at + b.len ≤ length image) m.blocks blocks root.inside root.links_inside)
-      (all_append (λ (b : Block). b.at + b.len ≤ length image) rest []
-      (all_append (λ (b : Block). b.at + b.len ≤ length image) a.blocks (data_blocks line.cells) read.inside read.data_inside) tt)))
+      let rest = a.blocks ++ data_blocks line.cells in (
+        _,
+        pair_reads image superblock whole m.header root.header_is counted name a.header o p (dataset_in image (described line) empty) refl refl (m.blocks ++ blocks) rest object array
+            (λ e. apart (e ∙ read.header_is)) once
+            (λ q. omega (arith, separate q, (read.claimed q), covered q, cover-append q (m.blocks ++ blocks) (rest ++ []), cover-append q rest [], cover-append q a.blocks (data_blocks line.cells))) (
+              long,
+              all_append (λ (b : Block). b.at + b.len ≤ length image) (m.blocks ++ blocks) (rest ++ [])
+                  (all_append (λ (b : Block). b.at + b.len ≤ length image) m.blocks blocks root.inside root.links_inside)
+                  (all_append (λ (b : Block). b.at + b.len ≤ length image) rest []
+                  (all_append (λ (b : Block). b.at + b.len ≤ length image) a.blocks (data_blocks line.cells) read.inside read.data_inside) tt),
+            ),
+      )

@@ -2,3 +2,4 @@ pub mod Opened
 pub mod Judged
 pub mod Array
 pub mod Root
+pub mod Walk

@@ -8,7 +8,8 @@ mod array;
 mod judge;
 mod line;
 mod opened;
+mod steps;
 
-pub use array::read_line;
 pub use line::Line;
 pub use opened::{Linked, Opened};
+pub use steps::walk;

@@ -70,18 +70,32 @@ module _ (image : List ℕ) (held' : List Block) (followed : List Named) (walked
 
       pub over_own : Shares (header_block image header ∷ []) b.at b.len → IsOverlap image z
       over_own (p, here, own) =
-          let hold : holds p header (16 + first_size (prefix_at image header)) ≡ 1 = omega (arith, own) in
-          (some_length p b.at (length_of image z) (as_z p here), inr (x, reached, x_other, some_length p header (16 + first_size (prefix_at image header)) hold,
-          meet_of image p z x (as_z p here) hold (λ e. refl)))
+          let hold : holds p header (16 + first_size (prefix_at image header)) ≡ 1 = omega (arith, own) in (
+            some_length p b.at (length_of image z) (as_z p here),
+            inr (
+              x,
+              reached,
+              x_other,
+              some_length p header (16 + first_size (prefix_at image header)) hold,
+              meet_of image p z x (as_z p here) hold (λ e. refl),
+            ),
+          )
 
   over_other : (at other : ℕ) (b c : Block) (names : NamesBlock image header at b) (names' : NamesBlock image header other c) → other ≢ at
       → Shares (c ∷ []) b.at b.len → IsOverlap image (z at b names)
   over_other at other b c names names' differ (p, here, own) =
       let here' : holds p b.at (length_of image (z at b names)) ≡ 1 = rw (z_length at b names) here in
       let hold : holds p c.at (length_of image (z other c names')) ≡ 1 = rw (z_length other c names') (omega (arith, own)) in
-      let apart : other + 8 ≢ at + 8 = λ e. differ (omega (arith, e)) in
-      (some_length p b.at (length_of image (z at b names)) here', inr (z other c names', z_reached other c names', apart,
-      some_length p c.at (length_of image (z other c names')) hold, meet_of image p (z at b names) (z other c names') here' hold (λ e. refl)))
+      let apart : other + 8 ≢ at + 8 = λ e. differ (omega (arith, e)) in (
+        some_length p b.at (length_of image (z at b names)) here',
+        inr (
+          z other c names',
+          z_reached other c names',
+          apart,
+          some_length p c.at (length_of image (z other c names')) hold,
+          meet_of image p (z at b names) (z other c names') here' hold (λ e. refl),
+        ),
+      )
 
   -- ---- refusals
 

@@ -26,14 +26,16 @@ module _ (image : List ℕ) (header : ℕ) where
       let at = b.at + to in
       let fit = fits image header b to m is met in
       let whole = is.whole in
-      let n = size image header b to m is met in
-      (at, record {
-        place = is.place;
-        fits = (record { end = b.at + b.len; met = met; inside = omega (arith, fit) }, fit);
-        kind = kind image header b to m is met;
-        body = body image header b to m is met;
-        there = omega (arith, whole, n, part-there b.at b.len image (omega (arith, whole)));
-      })
+      let n = size image header b to m is met in (
+        at,
+        record {
+          place = is.place;
+          fits = (record { end = b.at + b.len; met = met; inside = omega (arith, fit) }, fit);
+          kind = kind image header b to m is met;
+          body = body image header b to m is met;
+          there = omega (arith, whole, n, part-there b.at b.len image (omega (arith, whole)));
+        },
+      )
 
   block_placed : (b : Block) (from : ℕ) (ms : List Message) → Fills b.at (part b.at b.len image) from ms → Met image header (b.at + from) (b.at + b.len)
       → AllByRecursion (IsPlacedMessage image header) ms

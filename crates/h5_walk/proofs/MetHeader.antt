@@ -67,8 +67,10 @@ module _ (image : List ℕ) (held : List Block) (followed : List Named) (field h
         reached = reached;
         behind = omega (arith, at, from, least);
         stands = subst (λ (g : ℕ). 1 ≤ cover (g - 8) now) (sym at) (omega (arith, there, claimed (f - 8)));
-        fresh = subst (λ (g : ℕ). AllByRecursion (λ (z : Named). z.field ≢ g) (with_header field header depth ms followed)) (sym at)
-            (own, all_append (λ (z : Named). z.field ≢ f) (continuation_fields header depth ms) followed
-            (inside_apart header depth f k ms m other low once first from to least)
-            (not_followed image held followed is.walked f (omega (arith, from, least)) free));
+        fresh = subst (λ (g : ℕ). AllByRecursion (λ (z : Named). z.field ≢ g) (with_header field header depth ms followed)) (sym at) (
+          own,
+          all_append (λ (z : Named). z.field ≢ f) (continuation_fields header depth ms) followed
+              (inside_apart header depth f k ms m other low once first from to least)
+              (not_followed image held followed is.walked f (omega (arith, from, least)) free),
+        );
       }

@@ -1,0 +1,10 @@
+pub mod Steps
+pub mod HeapSteps
+pub mod TreeSteps
+pub mod RootFaults
+pub mod PartSteps
+pub mod SmallLaws
+pub mod NameFaults
+pub mod TextFaults
+pub mod CheckLaws
+pub mod ReadLaws
