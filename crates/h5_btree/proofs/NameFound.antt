@@ -1,11 +1,11 @@
 -- The symbol node that a search for a name leads to is the one that has it, if the group has it.
-use Rattle.std.proofs.Common.{◌≡◌, ℕ, zero, suc, ◌≤◌, Bool, List, [], ◌∷◌, length, slice_index, refl, sym, ap, subst, ◌∙◌, arith}
+use Rattle.std.proofs.Common.{ℕ, zero, suc, ◌≤◌, Bool, List, [], ◌∷◌, length, slice_index, sym, ap, subst, ◌∙◌, arith}
 use Rattle.std.specs.List.{AllByRecursion, Contains}
 use Rattle.std.proofs.lemmas.Grind.{get_or_default_zero}
 use Rattle.h5_bytes.specs.Bytes.{undefined}
 use Rattle.h5_bytes.specs.Blocks.{Inside}
 use Rattle.h5_bytes.proofs.BlockLaws.{all_left, all_right}
-use Rattle.h5_model.specs.Rows.{Node, Reading, next_row, leaves, nodes, IsRow, AreRows}
+use Rattle.h5_model.specs.Rows.{Node, Reading, next_row, nodes, IsRow, AreRows}
 use Rattle.h5_model.specs.Nodes.{Kind, HasTree, node_at, reading_of, tree_blocks, group_kind}
 use Rattle.h5_model.specs.Links.{Symbols, IsOrdered, names_in}
 use Rattle.h5_btree.specs.Descent.{IsChildFor, IsInRow, LeadsTo}

@@ -1,16 +1,14 @@
 -- A name in a group's tree stands in the symbol node to which the way leads.
-use Rattle.std.proofs.Common.{◌≡◌, ℕ, zero, suc, ◌+◌, ◌<◌, Bool, List, [], ◌∷◌, ◌++◌, length, slice_index, slice_index_or, map, refl, sym, ap, subst, ◌∙◌, arith, inl, inr, append-nil, append_assoc}
+use Rattle.std.proofs.Common.{◌≡◌, ℕ, zero, suc, ◌<◌, List, [], ◌∷◌, ◌++◌, length, slice_index, slice_index_or, map, refl, sym, ap, subst, ◌∙◌, arith, inl, inr, append-nil}
 use Rattle.std.specs.List.{AllByRecursion, Contains, flat_map}
 use Rattle.std.proofs.lemmas.List.{map-append}
 use Rattle.std.proofs.lemmas.List.Elements.{All-from_recursion, All-get_or, All-contains, Contains-append_cases}
 use Rattle.std.proofs.lemmas.Grind.{flat_map-append}
-use Rattle.h5_bytes.specs.Bytes.{undefined}
 use Rattle.h5_bytes.specs.Texts.{text_at}
-use Rattle.h5_bytes.proofs.BlockLaws.{all_left, all_right}
-use Rattle.h5_model.specs.Rows.{Node, Reading, next_row, row_below, leaves, nodes, IsRow, AreRows}
+use Rattle.h5_model.specs.Rows.{Reading, next_row, leaves}
 use Rattle.h5_model.specs.Symbols.{Entry}
-use Rattle.h5_model.specs.Links.{Symbols, IsBetween, IsOrdered, names_in, symbol_nodes_below}
-use Rattle.h5_btree.specs.Descent.{IsChildFor, LeadsTo}
+use Rattle.h5_model.specs.Links.{Symbols, IsBetween, IsOrdered, names_in}
+use Rattle.h5_btree.specs.Descent.{LeadsTo}
 use Rattle.h5_btree.proofs.NameOrder.{name_behind, one_child}
 
 -- ---- where in a list of children a name stands
