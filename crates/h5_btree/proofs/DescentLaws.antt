@@ -60,7 +60,7 @@ read_all image kind at NodeForm inside formed refused =
     ]
 
 module _ (image : List ℕ) (kind : Kind) (owned : List ℕ) (level : ℕ) (row : List ℕ) (at : ℕ) (r : IsInRow image kind owned level row at) where
-  level_in_row : (reading_of image kind owned at).level ≡ level
+  pub level_in_row : (reading_of image kind owned at).level ≡ level
   level_in_row = row_level (reading_of image kind owned) level undefined row r.here.0 at (first_row (reading_of image kind owned) level row r.rows) r.here.1 (here_at r.here.0 r.here.1 r.here.2) where
     here_at : (k : ℕ) → k < length row → slice_index_or row k at ≡ at → get_or row k at ≡ at
     here_at k low is = is

@@ -1,15 +1,15 @@
 -- The way from a node of a B-tree down to a child at the bottom (File Format Specification 3.0, section III.A.1).
 use Rattle.std.specs.Prelude.{◌≡◌, ℕ, zero, suc, ◌+◌, ◌<◌, ◌≤◌, ◌⊎◌, Bool, true, false, List, [], length, slice_index, slice_index_or}
-use Rattle.h5_btree.specs.declared.read.NodeFault.{NodeFault}
-use Rattle.h5_btree.specs.declared.read.NodeFault.TheVariants.{NodeForm}
-use Rattle.h5_btree.specs.Form.{IsRefusedAt, MayBeRoot, MayStandAt}
 use Rattle.std.specs.List.{AllByRecursion, Contains}
 use Rattle.h5_bytes.specs.Blocks.{Inside}
 use Rattle.h5_model.specs.Rows.{Node, Reading, AreRows}
 use Rattle.h5_model.specs.Nodes.{Kind, IsNode, entries_in, node_at, node_bytes, reading_of, tree_blocks}
+use Rattle.h5_btree.specs.Form.{IsRefusedAt, MayBeRoot, MayStandAt}
+use Rattle.h5_btree.specs.declared.read.NodeFault.{NodeFault}
+use Rattle.h5_btree.specs.declared.read.NodeFault.TheVariants.{NodeForm}
 
--- What stands behind these keys stands below child i, if it stands below the node: it is behind the key before the child, and not
--- behind the next one. The first key and the last are not asked.
+-- What stands behind these keys stands below child i, if it stands below the node: it is behind the key before the child, and
+-- not behind the next one. The first key and the last are not asked.
 pub record IsChildFor (behind : List ℕ → Bool) (node : Node) (i : ℕ) : Type 0 where
   pub child : i < length node.children
   pub low : 1 ≤ i → behind (slice_index_or node.keys i []) ≡ true
@@ -30,8 +30,8 @@ IsStop image kind level at fault =
 abbrev pub Stops : List ℕ → Kind → (List ℕ → Bool) → ℕ → ℕ → NodeFault → Type 0
 Stops image kind behind zero at fault = IsStop image kind zero at fault
 Stops image kind behind (suc level) at fault =
-    IsStop image kind (suc level) at fault
-    ⊎ ((i : ℕ) × IsChildFor behind (node_at image kind at) i × Stops image kind behind level (slice_index (node_at image kind at).children i) fault)
+    IsStop image kind (suc level) at fault ⊎ ((i : ℕ) × IsChildFor behind (node_at image kind at) i
+    × Stops image kind behind level (slice_index (node_at image kind at).children i) fault)
 
 -- the same from a root, which may be without children at level 0
 abbrev pub StopsFromRoot : List ℕ → Kind → (List ℕ → Bool) → ℕ → NodeFault → Type 0
