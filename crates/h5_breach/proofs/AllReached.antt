@@ -2,30 +2,25 @@
 use Rattle.std.proofs.Common.{◌≡◌, ◌≢◌, inl, inr, ℕ, ◌+◌, ◌*◌, ◌<◌, List, [], ◌∷◌, length, refl, sym, ap, ◌∙◌, subst, arith, Option, Some, None, true, false, Bool, cond}
 use Rattle.std.proofs.lemmas.Bool.Decides.{nat_tests}
 use Rattle.std.specs.Prelude.{◌==◌, if◌then◌else◌, is_some}
-use Rattle.std.specs.Option.{option_and_then, option_map_or}
+use Rattle.std.specs.Option.{option_and_then}
 use Rattle.std.specs.Ordering.{nat_cmp, eq_by_cmp}
 use Rattle.std.specs.Cmp.Lexicographic.{slice_cmp}
 use Rattle.std.specs.FinMap.{FinMap, get, entries, find, get-entries}
 use Rattle.std.specs.List.{AllByRecursion, range_with_len, flat_map}
-use Rattle.std.specs.List.{find as find_first}
 use Rattle.h5_bytes.specs.Bytes.{part}
 use Rattle.h5_bytes.specs.Texts.{text_at}
-use Rattle.h5_model.specs.Addresses.{SymbolTable, symbol_table_of}
-use Rattle.h5_model.specs.Messages.{Message}
+use Rattle.h5_model.specs.Addresses.{symbol_table_of}
 use Rattle.h5_model.specs.Heap.{segment_of}
-use Rattle.h5_model.specs.Rows.{leaves}
-use Rattle.h5_model.specs.Nodes.{group_kind, node_at}
 use Rattle.h5_model.specs.Symbols.{Entry, entry_of, Target, Header, Text, symbols_at, symbols_in, symbol_bytes, link_of}
-use Rattle.h5_model.specs.Superblock.{leaf_k, internal_k, root_header}
+use Rattle.h5_model.specs.Superblock.{leaf_k, root_header}
 use Rattle.h5_model.specs.Tree.{Tree, Object, Content, Group, Array, Links, Link, ToObject, Soft, follow, links_of, links_in}
 use Rattle.h5_model.specs.Reads.{Placed, ReadsAs, HasObject, IsSame, IsPlaced}
-use Rattle.h5_model.specs.Reached.{named, ObjectHeader, Reached, by_superblock, entry_in, level_at}
+use Rattle.h5_model.specs.Reached.{named, ObjectHeader, Reached, by_superblock, entry_in}
 use Rattle.h5_model.specs.TreeFaults.{all_entries}
-use Rattle.h5_model.proofs.OneTree.{level_is, children_are}
 use Rattle.h5_breach.proofs.Lists.{In, in_either, from_map, from_flat, from_table, from_range}
 use Rattle.h5_breach.proofs.Maps.{tied_right}
-use Rattle.h5_breach.proofs.Objects.{has_object, content_cases, in_tree, in_table, object_at, of_dataset_kind}
-use Rattle.h5_breach.proofs.Datasets.{find_none, said_first}
+use Rattle.h5_breach.proofs.Objects.{has_object, content_cases, in_tree, in_table, object_at}
+use Rattle.h5_breach.proofs.Datasets.{said_first}
 use Rattle.h5_breach.proofs.Entries.{links_are}
 use Rattle.h5_breach.proofs.LinkFields.{entry_link, node_links, object_links, placed_links, all_links, table_links, no_links}
 use Rattle.h5_breach.proofs.Reachable.{IsReached, entry_reached}

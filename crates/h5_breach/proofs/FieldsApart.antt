@@ -1,30 +1,24 @@
 -- No field that names a header stands twice.
-use Rattle.std.proofs.Common.{◌≡◌, inl, inr, ℕ, zero, suc, ◌+◌, ◌*◌, ◌<◌, ◌≤◌, List, [], ◌∷◌, ◌++◌, map, length, refl, sym, ap, ap₂, ◌∙◌, subst, arith, Option, None, true, false, Bool}
+use Rattle.std.proofs.Common.{◌≡◌, inl, inr, ℕ, zero, suc, ◌+◌, ◌*◌, ◌<◌, ◌≤◌, List, [], ◌∷◌, ◌++◌, map, length, refl, sym, ap, ap₂, subst, arith, true, false, Bool}
 use Rattle.std.proofs.lemmas.Bool.Decides.{nat_tests}
 use Rattle.std.specs.Prelude.{◌==◌, if◌then◌else◌}
-use Rattle.std.specs.Option.{option_map_or}
 use Rattle.std.specs.Ordering.{nat_cmp}
 use Rattle.std.specs.FinMap.{FinMap}
-use Rattle.std.specs.List.{AllByRecursion, flat_map, find, range_with_len}
+use Rattle.std.specs.List.{AllByRecursion, flat_map, range_with_len}
 use Rattle.h5_bytes.specs.Blocks.{holds, cover}
 use Rattle.h5_bytes.specs.declared.Block.{Block}
 use Rattle.h5_bytes.proofs.BlockLaws.{holds_join, holds-inner, cover-append}
-use Rattle.h5_model.specs.Addresses.{SymbolTable, symbol_table_of}
 use Rattle.h5_model.specs.Messages.{Message}
 use Rattle.h5_model.specs.Heap.{heap_blocks}
-use Rattle.h5_model.specs.Rows.{leaves}
-use Rattle.h5_model.specs.Nodes.{group_kind, node_at, tree_blocks}
+use Rattle.h5_model.specs.Nodes.{group_kind, tree_blocks}
 use Rattle.h5_model.specs.Symbols.{IsSymbolNode, symbol_block, symbol_bytes, symbols_in}
 use Rattle.h5_model.specs.Superblock.{leaf_k, internal_k}
 use Rattle.h5_model.specs.Tree.{Tree, Content, Group, Array}
 use Rattle.h5_model.specs.Reads.{Placed, ReadsAs, IsPlaced, HasContent}
-use Rattle.h5_model.specs.Reached.{entry_in, level_at}
-use Rattle.h5_model.proofs.OneTree.{level_is, children_are}
+use Rattle.h5_model.specs.Reached.{entry_in}
 use Rattle.h5_breach.proofs.Lists.{In}
-use Rattle.h5_breach.proofs.Objects.{of_dataset_kind}
-use Rattle.h5_breach.proofs.Datasets.{find_none, said_first}
 use Rattle.h5_breach.proofs.Pigeonhole.{linking, Apart}
-use Rattle.h5_breach.proofs.LinkFields.{entry_link, node_links, tree_links, object_links, placed_links, all_links, group_links, no_links}
+use Rattle.h5_breach.proofs.LinkFields.{entry_link, node_links, object_links, placed_links, all_links, group_links, no_links}
 
 -- how often a field stands among these
 abbrev pub times : ℕ → List (ℕ × ℕ) → ℕ

@@ -1,13 +1,11 @@
 -- A header that is reached and breaks a rule excludes the reading.
-use Rattle.std.proofs.Common.{◌≡◌, ◌⊎◌, inl, inr, ℕ, ◌+◌, ◌<◌, ◌≤◌, List, [], ◌∷◌, length, sym, ap, ◌∙◌, subst, arith, None, Some, true, false}
+use Rattle.std.proofs.Common.{◌≡◌, ◌⊎◌, inl, inr, ℕ, List, [], ◌∷◌, length, sym, ap, ◌∙◌, subst, arith, None, Some, true, false}
 use Rattle.std.specs.Prelude.{◌==◌, not, is_some}
 use Rattle.std.specs.Option.{option_and_then}
 use Rattle.std.specs.Ordering.{nat_cmp}
 use Rattle.std.specs.FinMap.{FinMap}
-use Rattle.h5_bytes.specs.Bytes.{number_at}
-use Rattle.h5_bytes.specs.Blocks.{block, Inside}
-use Rattle.h5_bytes.specs.declared.Block.{Block}
-use Rattle.h5_model.specs.Messages.{Message, count_of, continuation, continuations, prefix_at, first_size}
+use Rattle.h5_bytes.specs.Blocks.{Inside}
+use Rattle.h5_model.specs.Messages.{Message, count_of}
 use Rattle.h5_model.specs.Symbols.{Target}
 use Rattle.h5_model.specs.Tree.{Tree, Object, Dataset, ToObject, follow, links_of, links_in}
 use Rattle.h5_model.specs.Reads.{Placed, ReadsAs, HasGroup, HasDataset, InGroup, InDataset}
@@ -15,12 +13,11 @@ use Rattle.h5_model.specs.Reached.{AllMessages}
 use Rattle.h5_model.specs.HeaderFaults.{HeaderBreach, ListBreach, is_known, is_new_style}
 use Rattle.h5_model.specs.declared.open_fault.Cause.{Cause}
 use Rattle.h5_model.specs.declared.open_fault.Cause.TheVariants.{HeaderVersion, MessageSize, MessageCount, SharedMessage, UnknownMessage, Filtered, ExternalFiles, NewStyleGroup, MissingMessage, DuplicateMessage, DataspaceForm, DatatypeForm, FillForm, LayoutForm, AttributeForm, HeapForm, TooLarge}
-use Rattle.h5_breach.proofs.Lists.{In, in_all, in_flat}
-use Rattle.h5_breach.proofs.Heads.{in_continuations}
+use Rattle.h5_breach.proofs.Lists.{In, in_all}
 use Rattle.h5_breach.proofs.Objects.{content_cases, one_of_two, in_tree, of_group, of_dataset}
 use Rattle.h5_breach.proofs.Datasets.{all_messages}
 use Rattle.h5_breach.proofs.Steps.{header_inside}
-use Rattle.h5_breach.proofs.Located.{Known, KnownAt, KnownBlock}
+use Rattle.h5_breach.proofs.Located.{Known, KnownAt}
 use Rattle.h5_breach.proofs.MetExcluded.{misfit_excluded, shared_excluded, kind_excluded, unknown_refused, filtered_refused, external_refused, new_refused}
 use Rattle.h5_breach.proofs.ListExcluded.{names_excluded, attributes_excluded, group_missing, group_twice, group_mixed, group_no_space, group_no_type, group_no_fill, group_no_layout, group_tables, group_small, dataset_missing, dataset_twice, dataset_mixed, dataset_space, dataset_type, dataset_fill, dataset_layout, dataset_tables, dataset_small}
 

@@ -61,7 +61,7 @@ table_links image ms m s found blocks first says has =
     let V = node_at image kind in
     let bottom : leaves V (level_at image kind s.tree) (s.tree ∷ []) ≡ has.symbol_nodes
     = ap (λ (n : ℕ). leaves V n (s.tree ∷ [])) (level_is image kind s.tree has.level has.owned has.symbol_nodes has.tree)
-        ∙ sym (children_are image kind s.tree has.level has.owned has.symbol_nodes has.tree) in
+    ∙ sym (children_are image kind s.tree has.level has.owned has.symbol_nodes has.tree) in
     ap (λ (o : Option Message). option_map_or (λ (x : Message). option_map_or (λ (t : SymbolTable). tree_links image t.tree) (symbol_table_of x.body) []) o []) first
     ∙ ap (λ (o : Option SymbolTable). option_map_or (λ (t : SymbolTable). tree_links image t.tree) o []) says
     ∙ ap (flat_map (node_links image)) bottom

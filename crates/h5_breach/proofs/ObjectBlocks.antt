@@ -16,8 +16,8 @@ use Rattle.h5_model.specs.Places.{cells}
 use Rattle.h5_model.specs.Layout.{Layout, InMessage, InBlock, InChunks, layout_of}
 use Rattle.h5_model.specs.Chunks.{Chunks}
 use Rattle.h5_model.specs.Superblock.{chunk_k}
-use Rattle.h5_model.specs.Tree.{Content, Object, Dataset}
-use Rattle.h5_model.specs.Reads.{HasObject, HasGroup, HasDataset, HasData, HasContent}
+use Rattle.h5_model.specs.Tree.{Object, Dataset}
+use Rattle.h5_model.specs.Reads.{HasObject, HasGroup, HasDataset, HasData}
 use Rattle.h5_model.specs.Reached.{type_among, layout_among}
 use Rattle.h5_breach.proofs.Rows.{map-append}
 use Rattle.h5_breach.proofs.Objects.{one_of_two, of_group_kind, of_dataset_kind}
