@@ -3,6 +3,7 @@ use Rattle.std.proofs.Common.{◌≡◌, ◌≢◌, inl, inr, ℕ, ◌+◌, ◌*
 use Rattle.std.proofs.lemmas.Bool.Decides.{nat_tests}
 use Rattle.std.proofs.lemmas.List.Sums.{sum_by-cons}
 use Rattle.std.proofs.lemmas.List.Recursion.{is_count_by}
+use Rattle.std.proofs.lemmas.Simd.{map-map}
 use Rattle.std.specs.Prelude.{◌==◌, if◌then◌else◌}
 use Rattle.std.specs.Option.{option_map_or}
 use Rattle.std.specs.Ordering.{nat_cmp}
@@ -28,7 +29,6 @@ use Rattle.h5_breach.proofs.Lists.{In, in_left, in_right, in_range, in_flat}
 use Rattle.h5_breach.proofs.Objects.{of_dataset_kind}
 use Rattle.h5_breach.proofs.Datasets.{find_none, said_first}
 use Rattle.h5_breach.proofs.Entries.{links_are}
-use Rattle.h5_breach.proofs.Rows.{map-map}
 use Rattle.h5_breach.proofs.Located.{KnownEntry}
 use Rattle.h5_breach.proofs.Pigeonhole.{linking, linking-append}
 

@@ -1,5 +1,6 @@
 -- The tagged blocks of an object are its blocks.
 use Rattle.std.proofs.Common.{◌≡◌, ◌⊎◌, inl, inr, ℕ, ◌+◌, ◌*◌, List, [], ◌++◌, length, sym, ap, ap₂, ◌∙◌, Option, Some, None, true, false, append-nil}
+use Rattle.std.proofs.lemmas.List.{map-append}
 use Rattle.std.specs.Prelude.{◌==◌}
 use Rattle.std.specs.Option.{option_map_or}
 use Rattle.std.specs.Ordering.{nat_cmp}
@@ -19,7 +20,6 @@ use Rattle.h5_model.specs.Superblock.{chunk_k}
 use Rattle.h5_model.specs.Tree.{Object, Dataset}
 use Rattle.h5_model.specs.Reads.{HasObject, HasGroup, HasDataset, HasData}
 use Rattle.h5_model.specs.Reached.{type_among, layout_among}
-use Rattle.h5_breach.proofs.Rows.{map-append}
 use Rattle.h5_breach.proofs.Objects.{one_of_two, of_group_kind, of_dataset_kind}
 use Rattle.h5_breach.proofs.Datasets.{find_none, said_first, layout_there}
 use Rattle.h5_breach.proofs.Tags.{Tagged, blocks_in, tagged, tagged_header, tagged_table, tagged_layout, tagged_group, tagged_data, header-blocks, group-blocks, tree-blocks}
