@@ -17,7 +17,7 @@ use Rattle.h5_model.specs.Tree.{Tree, Link, ToObject, Soft, Links, links_of, fol
 
 -- ---- entries and look-ups
 
-pub both : (b c : Bool) → T (b && c) → (b ≡ true) × T c
+both : (b c : Bool) → T (b && c) → (b ≡ true) × T c
 both true c h = (refl, h)
 both false c h = absurd h
 
