@@ -2,32 +2,27 @@
 use Rattle.std.proofs.Common.{◌≡◌, ◌≢◌, inl, inr, ℕ, ◌+◌, ◌*◌, ◌<◌, List, [], ◌∷◌, length, refl, sym, ap, ◌∙◌, subst, arith, Option, Some, None, true, false, Bool, cond}
 use Rattle.std.proofs.lemmas.Bool.Decides.{nat_tests}
 use Rattle.std.specs.Prelude.{◌==◌, if◌then◌else◌, is_some}
-use Rattle.std.specs.Option.{option_and_then, option_map_or}
+use Rattle.std.specs.Option.{option_and_then}
 use Rattle.std.specs.Ordering.{nat_cmp, eq_by_cmp}
 use Rattle.std.specs.Cmp.Lexicographic.{slice_cmp}
 use Rattle.std.specs.FinMap.{FinMap, get, entries, find, get-entries}
-use Rattle.std.specs.List.{AllByRecursion, range_with_len}
-use Rattle.std.specs.List.{find as find_first}
+use Rattle.std.specs.List.{AllByRecursion, range_with_len, flat_map}
 use Rattle.h5_bytes.specs.Bytes.{part}
 use Rattle.h5_bytes.specs.Texts.{text_at}
-use Rattle.h5_model.specs.Addresses.{SymbolTable, symbol_table_of}
-use Rattle.h5_model.specs.Messages.{Message}
+use Rattle.h5_model.specs.Addresses.{symbol_table_of}
 use Rattle.h5_model.specs.Heap.{segment_of}
-use Rattle.h5_model.specs.Rows.{leaves}
-use Rattle.h5_model.specs.Nodes.{group_kind, node_at}
 use Rattle.h5_model.specs.Symbols.{Entry, entry_of, Target, Header, Text, symbols_at, symbols_in, symbol_bytes, link_of}
-use Rattle.h5_model.specs.Superblock.{leaf_k, internal_k, root_header}
+use Rattle.h5_model.specs.Superblock.{leaf_k, root_header}
 use Rattle.h5_model.specs.Tree.{Tree, Object, Content, Group, Array, Links, Link, ToObject, Soft, follow, links_of, links_in}
 use Rattle.h5_model.specs.Reads.{Placed, ReadsAs, HasObject, IsSame, IsPlaced}
-use Rattle.h5_model.specs.Reached.{named, ObjectHeader, Reached, by_superblock, entry_in, level_at}
+use Rattle.h5_model.specs.Reached.{named, ObjectHeader, Reached, by_superblock, entry_in}
 use Rattle.h5_model.specs.TreeFaults.{all_entries}
-use Rattle.h5_model.proofs.OneTree.{level_is, children_are}
 use Rattle.h5_breach.proofs.Lists.{In, in_either, from_map, from_flat, from_table, from_range}
 use Rattle.h5_breach.proofs.Maps.{tied_right}
-use Rattle.h5_breach.proofs.Objects.{has_object, content_cases, in_tree, in_table, object_at, of_dataset_kind}
-use Rattle.h5_breach.proofs.Datasets.{find_none, said_first}
+use Rattle.h5_breach.proofs.Objects.{has_object, content_cases, in_tree, in_table, object_at}
+use Rattle.h5_breach.proofs.Datasets.{said_first}
 use Rattle.h5_breach.proofs.Entries.{links_are}
-use Rattle.h5_breach.proofs.LinkFields.{entry_link, node_links, tree_links, object_links, placed_links, all_links}
+use Rattle.h5_breach.proofs.LinkFields.{entry_link, node_links, object_links, placed_links, all_links, table_links, no_links}
 use Rattle.h5_breach.proofs.Reachable.{IsReached, entry_reached}
 use Rattle.h5_breach.proofs.Located.{KnownGroup}
 
@@ -74,21 +69,18 @@ entry_is_hard segment e n h is = go (e.cache == 2) refl (ap (λ (l : List ℕ ×
     let one : Header e.header ≡ Header h = same in let header : e.header ≡ h = cc in header,
   )
 
+same_header : (e f : Entry) (h : ℕ) → e ≡ f → f.header ≡ h → e.header ≡ h
+same_header e f h same is = ap (λ (x : Entry). x.header) same ∙ is
+
 same_hard : (e f : Entry) → e ≡ f → f.cache ≢ 2 → e.cache ≢ 2
 same_hard e f same hard soft = hard (sym (ap (λ (x : Entry). x.cache) same) ∙ soft)
 
 module _ (image : List ℕ) (table : FinMap nat_cmp ℕ) (tree : Tree) (placed : List Placed) (reads : ReadsAs image table tree placed) where
-  links_by : (ms : List Message) (m : Message) (s : SymbolTable) → find_first (λ x. x.kind == 17) ms ≡ Some m → symbol_table_of m.body ≡ Some s
-      → object_links image ms ≡ tree_links image s.tree
-  links_by ms m s first says =
-      ap (λ (o : Option Message). option_map_or (λ (m : Message). option_map_or (λ (s : SymbolTable). tree_links image s.tree) (symbol_table_of m.body) []) o []) first
-      ∙ ap (λ (o : Option SymbolTable). option_map_or (λ (s : SymbolTable). tree_links image s.tree) o []) says
-
   -- an object that is placed, as a group where it is one
   group_at : (o : Placed) → In o placed → (has : HasObject image table o.header o.object o.blocks) → (links : Links) → o.object.content ≡ Group links
       → (path : List (List ℕ)) → follow tree (ToObject 0) path ≡ Some (ToObject o.number)
       → (root : ℕ) × (heap : ℕ) × (g : KnownGroup image table tree placed (length path) root heap) × (g.k.o ≡ o) × (g.links ≡ links)
-      × (object_links image has.messages ≡ tree_links image root)
+      × (object_links image has.messages ≡ flat_map (node_links image) g.linked.symbol_nodes)
   group_at o at has links is path leads = elim (content_cases image table has.messages o.object.content has.content_blocks has.content) [
     | inl g ↦
         let s = (g.3).symbol_table in
@@ -119,12 +111,23 @@ module _ (image : List ℕ) (table : FinMap nat_cmp ℕ) (tree : Tree) (placed :
           },
           refl,
           same,
-          links_by has.messages first.0 s first.1 first.2,
+          table_links image has.messages first.0 s g.2 has.content_blocks first.1 first.2 (g.3).linked,
         )
     | inr d ↦ absurd (let never : Array d.0 ≡ Group links = sym d.1 ∙ is in cc)
   ]
 
-  -- an entry of a reached group leads to a header that is reached
+  -- an entry of a reached group that names a header
+  header_reached : (n depth root heap : ℕ) (g : KnownGroup image table tree placed n root heap) → IsReached image ObjectHeader g.k.o.header depth
+      → (e : Entry) → In e (all_entries image g.linked.symbol_nodes) → e.cache ≢ 2 → (h : ℕ) → e.header ≡ h → IsReached image ObjectHeader h (depth + 1)
+  header_reached n depth root heap g reached e at hard h names =
+      let node = from_flat (symbols_at image (leaf_k image)) e g.linked.symbol_nodes at in
+      let bytes = symbol_bytes image (leaf_k image) node.0 in
+      let i = from_table (λ (j : ℕ). entry_of (part (8 + 40 * j) 40 bytes)) (symbols_in bytes) e node.2 in
+      let place = node.0 + 16 + 40 * i.0 in
+      let y = entry_reached image table tree placed reads n depth root heap g reached node.0 i.0 node.1 i.1 (same_hard (entry_in image node.0 i.0) e i.2 hard) in
+      (place, subst (λ (a : ℕ). Reached image (named place ObjectHeader a (depth + 1))) (same_header (entry_in image node.0 i.0) e h i.2 names) y)
+
+  -- a link of a reached group leads to a header that is reached
   linked_reached : (n depth root heap : ℕ) (g : KnownGroup image table tree placed n root heap) → IsReached image ObjectHeader g.k.o.header depth
       → (name : List ℕ) (number : ℕ) → In (name, ToObject number) (entries g.links)
       → (h : ℕ) × (get table number ≡ Some h) × IsReached image ObjectHeader h (depth + 1)
@@ -135,13 +138,7 @@ module _ (image : List ℕ) (table : FinMap nat_cmp ℕ) (tree : Tree) (placed :
       let by = from_map (link_of (segment_of image heap)) (file.0, Header file.1) (all_entries image g.linked.symbol_nodes)
       (subst (In (file.0, Header file.1)) (links_are image root heap g.found g.k.has.content_blocks g.linked) link) in
       let hard = entry_is_hard (segment_of image heap) by.0 file.0 file.1 by.2 in
-      let node = from_flat (symbols_at image (leaf_k image)) by.0 g.linked.symbol_nodes by.1 in
-      let i = from_table (λ (j : ℕ). entry_of (part (8 + 40 * j) 40 (symbol_bytes image (leaf_k image) node.0))) (symbols_in (symbol_bytes image (leaf_k image) node.0)) by.0 node.2 in
-      let entry : entry_in image node.0 i.0 ≡ by.0 = i.2 in
-      let no_text : (entry_in image node.0 i.0).cache ≢ 2 = same_hard (entry_in image node.0 i.0) by.0 entry hard.0 in
-      let y = entry_reached image table tree placed reads n depth root heap g reached node.0 i.0 node.1 i.1 no_text in
-      let header : (entry_in image node.0 i.0).header ≡ file.1 = ap (λ (e : Entry). e.header) entry ∙ hard.1 in
-      (file.1, file.3, (node.0 + 16 + 40 * i.0, subst (λ (a : ℕ). Reached image (named (node.0 + 16 + 40 * i.0) ObjectHeader a (depth + 1))) header y))
+      (file.1, file.3, header_reached n depth root heap g reached by.0 by.1 hard.0 file.1 hard.1)
 
   -- links of a group in the tree
   content_of : (o : Placed) → In o placed → (links : Links) → links_of tree o.number ≡ Some links → o.object.content ≡ Group links
@@ -163,7 +160,7 @@ module _ (image : List ℕ) (table : FinMap nat_cmp ℕ) (tree : Tree) (placed :
   -- a group that is reached, by its own path
   reached_group : (o : Placed) (at : In o placed) (has : HasObject image table o.header o.object o.blocks) (links : Links) → o.object.content ≡ Group links
       → (n : ℕ) × (root : ℕ) × (heap : ℕ) × (g : KnownGroup image table tree placed n root heap) × (g.k.o ≡ o) × (g.links ≡ links)
-      × (object_links image has.messages ≡ tree_links image root)
+      × (object_links image has.messages ≡ flat_map (node_links image) g.linked.symbol_nodes)
   reached_group o at has links content =
       let path = reads.reached o.number (ap is_some (in_tree image table tree placed reads o at)) in
       let g = group_at o at has links content path.0 path.1 in
@@ -221,28 +218,19 @@ module _ (image : List ℕ) (table : FinMap nat_cmp ℕ) (tree : Tree) (placed :
 
   object_naming : (o : Placed) (at : In o placed) (has : HasObject image table o.header o.object o.blocks) (z : ℕ × ℕ) → In z (object_links image has.messages) → IsNaming z
   object_naming o at has z there = elim (content_cases image table has.messages o.object.content has.content_blocks has.content) [
-    | inr d ↦ absurd (subst (In z) (no_links has.messages
-        (find_none 17 has.messages (λ m in_ms is. let never : false ≡ true = of_dataset_kind has.messages m 17 (d.2).known in_ms is in absurd (cc)))) there)
+    | inr d ↦ absurd (subst (In z) (no_links image has.messages d.0 has.content_blocks d.2) there)
     | inl group ↦
         let g = reached_group o at has group.0 group.1 in
         let reached = all_reached o at in
         let header = subst (λ (p : Placed). IsReached image ObjectHeader p.header reached.0) (sym g.4) reached.1 in
-        let kind = group_kind (internal_k image) in
-        let V = node_at image kind in
-        let linked = g.3.linked in
-        let bottom : leaves V (level_at image kind g.1) (g.1 ∷ []) ≡ linked.symbol_nodes
-        = ap (λ (n : ℕ). leaves V n (g.1 ∷ [])) (level_is image kind g.1 linked.level linked.owned linked.symbol_nodes linked.tree)
-        ∙ sym (children_are image kind g.1 linked.level linked.owned linked.symbol_nodes linked.tree) in
-        let node = from_flat (node_links image) z (leaves V (level_at image kind g.1) (g.1 ∷ [])) (subst (In z) g.6 there) in
+        let node = from_flat (node_links image) z g.3.linked.symbol_nodes (subst (In z) g.6 there) in
         let i = from_flat (entry_link image node.0) z (range_with_len 0 (symbols_in (symbol_bytes image (leaf_k image) node.0))) node.2 in
         let place = from_range 0 (symbols_in (symbol_bytes image (leaf_k image) node.0)) i.0 i.1 in
         let low : i.0 < symbols_in (symbol_bytes image (leaf_k image) node.0) = omega (arith, place.1, place.2) in
         let field = entry_field z node.0 i.0 i.2 in
-        let y = entry_reached image table tree placed reads g.0 reached.0 g.1 g.2 g.3 header node.0 i.0 (subst (In node.0) bottom node.1) low field.0 in
+        let y = entry_reached image table tree placed reads g.0 reached.0 g.1 g.2 g.3 header node.0 i.0 node.1 low field.0 in
         (reached.0 + 1, subst (λ (w : ℕ × ℕ). Reached image (named w.0 ObjectHeader w.1 (reached.0 + 1))) field.1 y)
-  ] where
-    no_links : (ms : List Message) → find_first (λ m. m.kind == 17) ms ≡ None → object_links image ms ≡ []
-    no_links ms none = ap (λ (o : Option Message). option_map_or (λ (m : Message). option_map_or (λ (s : SymbolTable). tree_links image s.tree) (symbol_table_of m.body) []) o []) none
+  ]
 
   placed_naming : (some : List Placed) (each : AllByRecursion (IsPlaced image table) some) → ((o : Placed) → In o some → In o placed) → (z : ℕ × ℕ)
       → In z (placed_links image table some each) → IsNaming z

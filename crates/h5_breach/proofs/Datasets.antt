@@ -17,13 +17,10 @@ use Rattle.h5_model.specs.Superblock.{chunk_k}
 use Rattle.h5_model.specs.Tree.{Tree, Dataset}
 use Rattle.h5_model.specs.Reads.{Placed, HasDataset, HasData}
 use Rattle.h5_model.specs.Reached.{AllMessages, extent_among, type_among, layout_among, layout_by}
-use Rattle.h5_model.proofs.OneReading.{one_parts}
+use Rattle.h5_model.proofs.OneReading.{one_parts, some_same}
 use Rattle.h5_breach.proofs.Lists.{In}
 use Rattle.h5_breach.proofs.Objects.{content_cases, of_group_kind}
 use Rattle.h5_breach.proofs.Located.{Known, KnownDataset, KnownBytes, KnownChunks}
-
-same_of : {X : Type 0} (o : Option X) (x y : X) → o ≡ Some x → o ≡ Some y → x ≡ y
-same_of o x y p q = let both : Some x ≡ Some y = sym p ∙ q in cc
 
 -- all messages of a header are those that it is read with
 pub all_messages : (image : List ℕ) (header : ℕ) (ms ns : List Message) (blocks : List Block) → AllMessages image header ms → HasMessages image header ns blocks → ms ≡ ns
@@ -66,10 +63,10 @@ said_first f kind ms v says = go (find (λ x. x.kind == kind) ms) refl says wher
 
 module _ (image : List ℕ) (messages : List Message) (d : Dataset) (blocks : List Block) (has : HasDataset image messages d blocks) where
   pub extent_is : (e : Extent) → extent_among messages ≡ Some e → e ≡ record { sizes = d.sizes; maxima = d.maxima }
-  extent_is e h = same_of _ _ _ h has.space
+  extent_is e h = some_same _ _ _ h has.space
 
   pub type_is : (t : Fixed) → type_among messages ≡ Some t → t ≡ d.fixed
-  type_is t h = same_of _ _ _ h has.type
+  type_is t h = some_same _ _ _ h has.type
 
   pub layout_there : layout_among messages ≡ Some has.layout
   layout_there =
@@ -77,7 +74,7 @@ module _ (image : List ℕ) (messages : List Message) (d : Dataset) (blocks : Li
       ∙ ap (option_and_then (layout_by messages (record { sizes = d.sizes; maxima = d.maxima }))) has.type ∙ has.laid_out
 
   pub layout_is : (layout : Layout) → layout_among messages ≡ Some layout → layout ≡ has.layout
-  layout_is layout h = same_of _ _ _ h layout_there
+  layout_is layout h = some_same _ _ _ h layout_there
 
   -- the tree of chunks of its layout
   pub chunks_there : (t : Fixed) (sizes : List ℕ) (root : ℕ) → t ≡ d.fixed → has.layout ≡ InChunks sizes (Some root)

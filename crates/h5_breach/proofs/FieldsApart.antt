@@ -1,30 +1,24 @@
 -- No field that names a header stands twice.
-use Rattle.std.proofs.Common.{◌≡◌, inl, inr, ℕ, zero, suc, ◌+◌, ◌*◌, ◌<◌, ◌≤◌, List, [], ◌∷◌, ◌++◌, map, length, refl, sym, ap, ap₂, ◌∙◌, subst, arith, Option, None, true, false, Bool}
+use Rattle.std.proofs.Common.{◌≡◌, inl, inr, ℕ, zero, suc, ◌+◌, ◌*◌, ◌<◌, ◌≤◌, List, [], ◌∷◌, ◌++◌, map, length, refl, sym, ap, ap₂, subst, arith, true, false, Bool}
 use Rattle.std.proofs.lemmas.Bool.Decides.{nat_tests}
 use Rattle.std.specs.Prelude.{◌==◌, if◌then◌else◌}
-use Rattle.std.specs.Option.{option_map_or}
 use Rattle.std.specs.Ordering.{nat_cmp}
 use Rattle.std.specs.FinMap.{FinMap}
-use Rattle.std.specs.List.{AllByRecursion, flat_map, find, range_with_len}
+use Rattle.std.specs.List.{AllByRecursion, flat_map, range_with_len}
 use Rattle.h5_bytes.specs.Blocks.{holds, cover}
 use Rattle.h5_bytes.specs.declared.Block.{Block}
 use Rattle.h5_bytes.proofs.BlockLaws.{holds_join, holds-inner, cover-append}
-use Rattle.h5_model.specs.Addresses.{SymbolTable, symbol_table_of}
 use Rattle.h5_model.specs.Messages.{Message}
 use Rattle.h5_model.specs.Heap.{heap_blocks}
-use Rattle.h5_model.specs.Rows.{leaves}
-use Rattle.h5_model.specs.Nodes.{group_kind, node_at, tree_blocks}
+use Rattle.h5_model.specs.Nodes.{group_kind, tree_blocks}
 use Rattle.h5_model.specs.Symbols.{IsSymbolNode, symbol_block, symbol_bytes, symbols_in}
 use Rattle.h5_model.specs.Superblock.{leaf_k, internal_k}
 use Rattle.h5_model.specs.Tree.{Tree, Content, Group, Array}
 use Rattle.h5_model.specs.Reads.{Placed, ReadsAs, IsPlaced, HasContent}
-use Rattle.h5_model.specs.Reached.{entry_in, level_at}
-use Rattle.h5_model.proofs.OneTree.{level_is, children_are}
+use Rattle.h5_model.specs.Reached.{entry_in}
 use Rattle.h5_breach.proofs.Lists.{In}
-use Rattle.h5_breach.proofs.Objects.{of_dataset_kind}
-use Rattle.h5_breach.proofs.Datasets.{find_none, said_first}
 use Rattle.h5_breach.proofs.Pigeonhole.{linking, Apart}
-use Rattle.h5_breach.proofs.LinkFields.{entry_link, node_links, tree_links, object_links, placed_links, all_links}
+use Rattle.h5_breach.proofs.LinkFields.{entry_link, node_links, object_links, placed_links, all_links, group_links, no_links}
 
 -- how often a field stands among these
 abbrev pub times : ℕ → List (ℕ × ℕ) → ℕ
@@ -79,30 +73,17 @@ nodes_once image f (n ∷ ns) all =
 content_once : (image : List ℕ) (table : FinMap nat_cmp ℕ) (f : ℕ) (ms : List Message) (c : Content) (blocks : List Block) → HasContent image table ms c blocks
     → times f (object_links image ms) ≤ cover f blocks
 content_once image table f ms (Array d) blocks has =
-    let none : find (λ m. m.kind == 17) ms ≡ None
-    = find_none 17 ms (λ m at is. let never : false ≡ true = of_dataset_kind ms m 17 has.known at is in absurd (cc)) in
-    let no_links : times f (object_links image ms) ≡ 0
-    = ap (λ (o : Option Message). times f (option_map_or (λ (m : Message). option_map_or (λ (s : SymbolTable). tree_links image s.tree) (symbol_table_of m.body) []) o [])) none in
-    omega (arith, no_links)
+    let none : times f (object_links image ms) ≡ 0 = ap (times f) (no_links image ms d blocks has) in
+    omega (arith, none)
 content_once image table f ms (Group links) blocks (found, has, zip) =
-    let s = has.symbol_table in
-    let first = said_first symbol_table_of 17 ms s has.chosen in
-    let kind = group_kind (internal_k image) in
-    let V = node_at image kind in
     let linked = has.linked in
-    let at_table : object_links image ms ≡ tree_links image s.tree
-    = ap (λ (o : Option Message). option_map_or (λ (m : Message). option_map_or (λ (s : SymbolTable). tree_links image s.tree) (symbol_table_of m.body) []) o []) first.1
-    ∙ ap (λ (o : Option SymbolTable). option_map_or (λ (s : SymbolTable). tree_links image s.tree) o []) first.2 in
-    let bottom : leaves V (level_at image kind s.tree) (s.tree ∷ []) ≡ linked.symbol_nodes
-    = ap (λ (n : ℕ). leaves V n (s.tree ∷ [])) (level_is image kind s.tree linked.level linked.owned linked.symbol_nodes linked.tree)
-    ∙ sym (children_are image kind s.tree linked.level linked.owned linked.symbol_nodes linked.tree) in
-    let same : times f (object_links image ms) ≡ times f (flat_map (node_links image) linked.symbol_nodes)
-    = ap (times f) at_table ∙ ap (λ (ns : List ℕ). times f (flat_map (node_links image) ns)) bottom in
+    let nodes = tree_blocks (group_kind (internal_k image)) linked.owned in
+    let symbols = map (symbol_block (leaf_k image)) linked.symbol_nodes in
+    let heap = heap_blocks image (has.symbol_table).heap in
+    let same : times f (object_links image ms) ≡ times f (flat_map (node_links image) linked.symbol_nodes) = ap (times f) (group_links image ms found blocks has) in
     let once = nodes_once image f linked.symbol_nodes linked.formed in
-    let laid : cover f blocks ≡ cover f ((tree_blocks kind linked.owned ++ map (symbol_block (leaf_k image)) linked.symbol_nodes) ++ heap_blocks image s.heap) = ap (cover f) linked.laid in
-    let parts = cover-append f (tree_blocks kind linked.owned ++ map (symbol_block (leaf_k image)) linked.symbol_nodes) (heap_blocks image s.heap) in
-    let inner = cover-append f (tree_blocks kind linked.owned) (map (symbol_block (leaf_k image)) linked.symbol_nodes) in
-    omega (arith, same, once, laid, parts, inner)
+    let laid : cover f blocks ≡ cover f ((nodes ++ symbols) ++ heap) = ap (cover f) linked.laid in
+    omega (arith, same, once, laid, cover-append f (nodes ++ symbols) heap, cover-append f nodes symbols)
 
 placed_once : (image : List ℕ) (table : FinMap nat_cmp ℕ) (f : ℕ) (placed : List Placed) (each : AllByRecursion (IsPlaced image table) placed)
     → times f (placed_links image table placed each) ≤ cover f (flat_map (λ (x : Placed). x.blocks) placed)

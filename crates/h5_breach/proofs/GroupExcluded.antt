@@ -1,5 +1,6 @@
 -- Symbol nodes and heaps of a group that is read keep their rules.
 use Rattle.std.proofs.Common.{◌≡◌, inl, inr, ℕ, suc, ◌≤◌, List, [], ◌∷◌, ◌++◌, map, length, take, drop, sym, ap, ◌∙◌, subst, arith, Some, true, false, append_assoc, length-append}
+use Rattle.std.proofs.lemmas.List.{map-append}
 use Rattle.std.specs.Prelude.{IsTrue, is_some, not}
 use Rattle.std.specs.Ordering.{nat_cmp}
 use Rattle.std.specs.Cmp.Lexicographic.{nat_list_cmp_total}
@@ -23,7 +24,6 @@ use Rattle.h5_model.proofs.RowLaws.{only_here}
 use Rattle.h5_model.proofs.OneTree.{one_children, level_is, owned_is}
 use Rattle.h5_breach.proofs.Lists.{In, in_all, all_in, in_map, in_contains}
 use Rattle.h5_breach.proofs.Maps.{get_of_entry, tied_left}
-use Rattle.h5_breach.proofs.Rows.{map-append}
 use Rattle.h5_breach.proofs.Entries.{flat-same, own_entries, links_are, entry_listed, link_listed}
 use Rattle.h5_breach.proofs.Ascending.{ascends, around}
 use Rattle.h5_breach.proofs.FreeLists.{one_free}

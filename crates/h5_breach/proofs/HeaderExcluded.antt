@@ -1,13 +1,11 @@
 -- A header that is reached and breaks a rule excludes the reading.
-use Rattle.std.proofs.Common.{◌≡◌, ◌⊎◌, inl, inr, ℕ, ◌+◌, ◌<◌, ◌≤◌, List, [], ◌∷◌, length, sym, ap, ◌∙◌, subst, arith, None, Some, true, false}
+use Rattle.std.proofs.Common.{◌≡◌, ◌⊎◌, inl, inr, ℕ, List, [], ◌∷◌, length, sym, ap, ◌∙◌, subst, arith, None, Some, true, false}
 use Rattle.std.specs.Prelude.{◌==◌, not, is_some}
 use Rattle.std.specs.Option.{option_and_then}
 use Rattle.std.specs.Ordering.{nat_cmp}
 use Rattle.std.specs.FinMap.{FinMap}
-use Rattle.h5_bytes.specs.Bytes.{number_at}
-use Rattle.h5_bytes.specs.Blocks.{block, Inside}
-use Rattle.h5_bytes.specs.declared.Block.{Block}
-use Rattle.h5_model.specs.Messages.{Message, count_of, continuation, continuations, prefix_at, first_size}
+use Rattle.h5_bytes.specs.Blocks.{Inside}
+use Rattle.h5_model.specs.Messages.{Message, count_of}
 use Rattle.h5_model.specs.Symbols.{Target}
 use Rattle.h5_model.specs.Tree.{Tree, Object, Dataset, ToObject, follow, links_of, links_in}
 use Rattle.h5_model.specs.Reads.{Placed, ReadsAs, HasGroup, HasDataset, InGroup, InDataset}
@@ -15,12 +13,11 @@ use Rattle.h5_model.specs.Reached.{AllMessages}
 use Rattle.h5_model.specs.HeaderFaults.{HeaderBreach, ListBreach, is_known, is_new_style}
 use Rattle.h5_model.specs.declared.open_fault.Cause.{Cause}
 use Rattle.h5_model.specs.declared.open_fault.Cause.TheVariants.{HeaderVersion, MessageSize, MessageCount, SharedMessage, UnknownMessage, Filtered, ExternalFiles, NewStyleGroup, MissingMessage, DuplicateMessage, DataspaceForm, DatatypeForm, FillForm, LayoutForm, AttributeForm, HeapForm, TooLarge}
-use Rattle.h5_breach.proofs.Lists.{In, in_all, in_flat}
-use Rattle.h5_breach.proofs.Heads.{in_continuations}
-use Rattle.h5_breach.proofs.Objects.{content_cases, in_tree, of_group, of_dataset}
+use Rattle.h5_breach.proofs.Lists.{In, in_all}
+use Rattle.h5_breach.proofs.Objects.{content_cases, one_of_two, in_tree, of_group, of_dataset}
 use Rattle.h5_breach.proofs.Datasets.{all_messages}
 use Rattle.h5_breach.proofs.Steps.{header_inside}
-use Rattle.h5_breach.proofs.Located.{Known, KnownAt, KnownBlock}
+use Rattle.h5_breach.proofs.Located.{Known, KnownAt}
 use Rattle.h5_breach.proofs.MetExcluded.{misfit_excluded, shared_excluded, kind_excluded, unknown_refused, filtered_refused, external_refused, new_refused}
 use Rattle.h5_breach.proofs.ListExcluded.{names_excluded, attributes_excluded, group_missing, group_twice, group_mixed, group_no_space, group_no_type, group_no_fill, group_no_layout, group_tables, group_small, dataset_missing, dataset_twice, dataset_mixed, dataset_space, dataset_type, dataset_fill, dataset_layout, dataset_tables, dataset_small}
 
@@ -38,7 +35,7 @@ module _ (image : List ℕ) (table : FinMap nat_cmp ℕ) (tree : Tree) (placed :
     inside = header_inside image table tree placed reads depth k
 
     cases : ((found : List (List ℕ × Target)) × HasGroup image ms found k.has.content_blocks) ⊎ ((d : Dataset) × HasDataset image ms d k.has.content_blocks)
-    cases = elim (content_cases image table ms k.o.object.content k.has.content_blocks k.has.content) [ inl g ↦ inl (g.2, g.3) | inr d ↦ inr (d.0, d.2) ]
+    cases = one_of_two image table ms k.o.object.content k.has.content_blocks k.has.content
 
     each_kind : (m : Message) → In m ms → (of_group m.kind ≡ true) ⊎ (of_dataset m.kind ≡ true)
     each_kind m at = elim cases [ inl g ↦ inl (in_all InGroup m ms (g.1).known at) | inr d ↦ inr (in_all InDataset m ms (d.1).known at) ]
@@ -115,9 +112,6 @@ module _ (image : List ℕ) (table : FinMap nat_cmp ℕ) (tree : Tree) (placed :
               absurd (cc)
         ]
 
-    header_block_inside : k.o.header + (16 + first_size (prefix_at image k.o.header)) ≤ length image
-    header_block_inside = (subst (Inside (length image)) k.has.listed.laid inside).0
-
   pub header_excluded : (depth header : ℕ) → KnownAt image table tree placed depth header → (cause : Cause) → HeaderBreach image header cause → ⊥
   header_excluded depth header k cause h = breach depth k.0 cause (subst (λ (a : ℕ). HeaderBreach image a cause) (sym k.1) h)
 
@@ -128,20 +122,3 @@ module _ (image : List ℕ) (table : FinMap nat_cmp ℕ) (tree : Tree) (placed :
       let here : AllMessages image k.0.o.header messages = subst (λ (a : ℕ). AllMessages image a messages) (sym k.1) all in
       let same = all_messages image k.0.o.header messages k.0.has.messages k.0.has.header_blocks here k.0.has.listed in
       root_table depth k.0 top (subst (λ (x : List Message). count_of 17 x ≡ 0) same none)
-
-  -- a header's first block is there
-  pub header_there : (depth header : ℕ) → KnownAt image table tree placed depth header → length image < header + (16 + first_size (prefix_at image header)) → ⊥
-  header_there depth header k past =
-      let low = header_block_inside depth k.0 in
-      let here = subst (λ (a : ℕ). a + (16 + first_size (prefix_at image a)) ≤ length image) k.1 low in
-      absurd (omega (arith, past, here))
-
-  -- and so is a block that a Continuation names
-  pub block_there : (depth header field at : ℕ) → KnownBlock image table tree placed depth header field at → length image < at + number_at image (field + 8) 8 → ⊥
-  block_there depth header field at k past =
-      let laid = subst (Inside (length image)) k.k.has.listed.laid (inside depth k.k) in
-      let named = in_flat continuation k.m (block at (number_at image (field + 8) 8)) k.k.has.messages k.member
-      (in_continuations k.m (block at (number_at image (field + 8) 8)) k.kind k.names) in
-      let low : at + number_at image (field + 8) 8 ≤ length image
-      = in_all (λ (b : Block). b.at + b.len ≤ length image) (block at (number_at image (field + 8) 8)) (continuations k.k.has.messages) laid.1 named in
-      absurd (omega (arith, past, low))

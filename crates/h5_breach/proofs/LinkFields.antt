@@ -3,6 +3,7 @@ use Rattle.std.proofs.Common.{◌≡◌, ◌≢◌, inl, inr, ℕ, ◌+◌, ◌*
 use Rattle.std.proofs.lemmas.Bool.Decides.{nat_tests}
 use Rattle.std.proofs.lemmas.List.Sums.{sum_by-cons}
 use Rattle.std.proofs.lemmas.List.Recursion.{is_count_by}
+use Rattle.std.proofs.lemmas.Simd.{map-map}
 use Rattle.std.specs.Prelude.{◌==◌, if◌then◌else◌}
 use Rattle.std.specs.Option.{option_map_or}
 use Rattle.std.specs.Ordering.{nat_cmp}
@@ -16,9 +17,10 @@ use Rattle.h5_model.specs.Heap.{segment_of}
 use Rattle.h5_model.specs.Rows.{leaves}
 use Rattle.h5_model.specs.Nodes.{group_kind, node_at}
 use Rattle.h5_model.specs.Symbols.{Entry, Target, Header, Text, symbols_at, symbols_in, symbol_bytes, link_of}
+use Rattle.h5_model.specs.Links.{HasLinks}
 use Rattle.h5_model.specs.Superblock.{leaf_k, internal_k, root_header}
-use Rattle.h5_model.specs.Tree.{Tree, Content, Group, Array, Object, Link, ToObject, Soft, links_to, leads_to, hard_links}
-use Rattle.h5_model.specs.Reads.{Placed, IsPlaced, HasObject, HasContent, IsSame, ReadsAs}
+use Rattle.h5_model.specs.Tree.{Tree, Content, Dataset, Group, Array, Object, Link, ToObject, Soft, links_to, leads_to, hard_links}
+use Rattle.h5_model.specs.Reads.{Placed, IsPlaced, HasObject, HasContent, HasDataset, HasGroup, IsSame, ReadsAs}
 use Rattle.h5_model.specs.Reached.{entry_in, level_at}
 use Rattle.h5_model.specs.TreeFaults.{all_entries}
 use Rattle.h5_model.proofs.OneReading.{one_messages}
@@ -27,7 +29,6 @@ use Rattle.h5_breach.proofs.Lists.{In, in_left, in_right, in_range, in_flat}
 use Rattle.h5_breach.proofs.Objects.{of_dataset_kind}
 use Rattle.h5_breach.proofs.Datasets.{find_none, said_first}
 use Rattle.h5_breach.proofs.Entries.{links_are}
-use Rattle.h5_breach.proofs.Rows.{map-map}
 use Rattle.h5_breach.proofs.Located.{KnownEntry}
 use Rattle.h5_breach.proofs.Pigeonhole.{linking, linking-append}
 
@@ -49,6 +50,34 @@ object_links image ms =
 abbrev pub placed_links : (image : List ℕ) (table : FinMap nat_cmp ℕ) (placed : List Placed) → AllByRecursion (IsPlaced image table) placed → List (ℕ × ℕ)
 placed_links image table [] each = []
 placed_links image table (x ∷ placed) each = object_links image each.0.messages ++ placed_links image table placed each.1
+
+-- ---- the links of an object, by its messages
+
+pub table_links : (image : List ℕ) (ms : List Message) (m : Message) (s : SymbolTable) (found : List (List ℕ × Target)) (blocks : List Block)
+    → find (λ x. x.kind == 17) ms ≡ Some m → symbol_table_of m.body ≡ Some s → (has : HasLinks image (leaf_k image) (internal_k image) s.tree s.heap found blocks)
+    → object_links image ms ≡ flat_map (node_links image) has.symbol_nodes
+table_links image ms m s found blocks first says has =
+    let kind = group_kind (internal_k image) in
+    let V = node_at image kind in
+    let bottom : leaves V (level_at image kind s.tree) (s.tree ∷ []) ≡ has.symbol_nodes
+    = ap (λ (n : ℕ). leaves V n (s.tree ∷ [])) (level_is image kind s.tree has.level has.owned has.symbol_nodes has.tree)
+    ∙ sym (children_are image kind s.tree has.level has.owned has.symbol_nodes has.tree) in
+    ap (λ (o : Option Message). option_map_or (λ (x : Message). option_map_or (λ (t : SymbolTable). tree_links image t.tree) (symbol_table_of x.body) []) o []) first
+    ∙ ap (λ (o : Option SymbolTable). option_map_or (λ (t : SymbolTable). tree_links image t.tree) o []) says
+    ∙ ap (flat_map (node_links image)) bottom
+
+pub group_links : (image : List ℕ) (ms : List Message) (found : List (List ℕ × Target)) (blocks : List Block) (has : HasGroup image ms found blocks)
+    → object_links image ms ≡ flat_map (node_links image) has.linked.symbol_nodes
+group_links image ms found blocks has =
+    let first = said_first symbol_table_of 17 ms has.symbol_table has.chosen in
+    table_links image ms first.0 has.symbol_table found blocks first.1 first.2 has.linked
+
+-- a dataset has none
+pub no_links : (image : List ℕ) (ms : List Message) (d : Dataset) (blocks : List Block) → HasDataset image ms d blocks → object_links image ms ≡ []
+no_links image ms d blocks has =
+    let none : find (λ m. m.kind == 17) ms ≡ None
+    = find_none 17 ms (λ m at is. let never : false ≡ true = of_dataset_kind ms m 17 has.known at is in absurd (cc)) in
+    ap (λ (o : Option Message). option_map_or (λ (x : Message). option_map_or (λ (t : SymbolTable). tree_links image t.tree) (symbol_table_of x.body) []) o []) none
 
 -- ---- how many lead to a header
 
@@ -149,25 +178,12 @@ module _ (table : FinMap nat_cmp ℕ) (own : (a b header : ℕ) → get table a 
 
   content_count : (image : List ℕ) (ms : List Message) (c : Content) (blocks : List Block) → HasContent image table ms c blocks
       → linking h (object_links image ms) ≡ links_to number c
-  content_count image ms (Array d) blocks has =
-      let none : find (λ m. m.kind == 17) ms ≡ None
-      = find_none 17 ms (λ m at is. let never : false ≡ true = of_dataset_kind ms m 17 has.known at is in absurd (cc)) in
-      ap (λ (o : Option Message). linking h (option_map_or (λ (m : Message). option_map_or (λ (s : SymbolTable). tree_links image s.tree) (symbol_table_of m.body) []) o [])) none
+  content_count image ms (Array d) blocks has = ap (linking h) (no_links image ms d blocks has)
   content_count image ms (Group links) blocks (found, has, zip) =
       let s = has.symbol_table in
-      let first = said_first symbol_table_of 17 ms s has.chosen in
-      let kind = group_kind (internal_k image) in
-      let V = node_at image kind in
       let linked = has.linked in
-      let at_table : object_links image ms ≡ tree_links image s.tree
-      = ap (λ (o : Option Message). option_map_or (λ (m : Message). option_map_or (λ (s : SymbolTable). tree_links image s.tree) (symbol_table_of m.body) []) o []) first.1
-      ∙ ap (λ (o : Option SymbolTable). option_map_or (λ (s : SymbolTable). tree_links image s.tree) o []) first.2 in
-      let bottom : leaves V (level_at image kind s.tree) (s.tree ∷ []) ≡ linked.symbol_nodes
-      = ap (λ (n : ℕ). leaves V n (s.tree ∷ [])) (level_is image kind s.tree linked.level linked.owned linked.symbol_nodes linked.tree)
-      ∙ sym (children_are image kind s.tree linked.level linked.owned linked.symbol_nodes linked.tree) in
-      let counts : linking h (object_links image ms) ≡ hard h (all_entries image linked.symbol_nodes)
-      = ap (linking h) at_table ∙ ap (λ (ns : List ℕ). linking h (flat_map (node_links image) ns)) bottom ∙ nodes_count image h linked.symbol_nodes in
-      counts ∙ sym (aimed_entries (segment_of image s.heap) h (all_entries image linked.symbol_nodes))
+      ap (linking h) (group_links image ms found blocks has) ∙ nodes_count image h linked.symbol_nodes
+      ∙ sym (aimed_entries (segment_of image s.heap) h (all_entries image linked.symbol_nodes))
       ∙ ap (aimed h) (sym (links_are image s.tree s.heap found blocks linked))
       ∙ led_count (entries links) found zip ∙ led_is (values links)
 
@@ -216,23 +232,15 @@ module _ (image : List ℕ) (table : FinMap nat_cmp ℕ) (tree : Tree) (placed :
   -- the field of an entry that names a header is one of them
   pub entry_is_link : (field at : ℕ) → KnownEntry image table tree placed field at → In (field, at) (all_links image table placed reads.each)
   entry_is_link field at k =
-      let kind = group_kind (internal_k image) in
-      let V = node_at image kind in
       let linked = k.g.linked in
       let s : SymbolTable = record { tree = k.root; heap = k.heap } in
       let z : ℕ × ℕ = (k.node + 16 + 40 * k.i, (entry_in image k.node k.i).header) in
-      let bottom : leaves V (level_at image kind k.root) (k.root ∷ []) ≡ linked.symbol_nodes
-      = ap (λ (n : ℕ). leaves V n (k.root ∷ [])) (level_is image kind k.root linked.level linked.owned linked.symbol_nodes linked.tree)
-      ∙ sym (children_are image kind k.root linked.level linked.owned linked.symbol_nodes linked.tree) in
-      let at_table : object_links image k.g.k.has.messages ≡ tree_links image k.root
-      = ap (λ (o : Option Message). option_map_or (λ (m : Message). option_map_or (λ (s : SymbolTable). tree_links image s.tree) (symbol_table_of m.body) []) o []) k.g.first
-      ∙ ap (λ (o : Option SymbolTable). option_map_or (λ (s : SymbolTable). tree_links image s.tree) o []) k.g.says in
-      let range : In k.i (range_with_len 0 (symbols_in (symbol_bytes image (leaf_k image) k.node)))
-      = subst (λ (n : ℕ). In n (range_with_len 0 (symbols_in (symbol_bytes image (leaf_k image) k.node)))) (zero_add k.i) (in_range 0 (symbols_in (symbol_bytes image (leaf_k image) k.node)) k.i k.low) in
-      let in_node : In z (node_links image k.node)
-      = in_flat (entry_link image k.node) k.i z (range_with_len 0 (symbols_in (symbol_bytes image (leaf_k image) k.node))) range (entry_link_in k.node k.i k.hard) in
-      let in_tree : In z (tree_links image k.root) = in_flat (node_links image) k.node z (leaves V (level_at image kind k.root) (k.root ∷ [])) (subst (In k.node) (sym bottom) k.member) in_node in
-      let in_object : In z (object_links image k.g.k.has.messages) = subst (In z) (sym at_table) in_tree in
+      let n = symbols_in (symbol_bytes image (leaf_k image) k.node) in
+      let range : In k.i (range_with_len 0 n) = subst (λ (i : ℕ). In i (range_with_len 0 n)) (zero_add k.i) (in_range 0 n k.i k.low) in
+      let in_node : In z (node_links image k.node) = in_flat (entry_link image k.node) k.i z (range_with_len 0 n) range (entry_link_in k.node k.i k.hard) in
+      let in_nodes : In z (flat_map (node_links image) linked.symbol_nodes) = in_flat (node_links image) k.node z linked.symbol_nodes k.member in_node in
+      let in_object : In z (object_links image k.g.k.has.messages)
+      = subst (In z) (sym (table_links image k.g.k.has.messages k.g.m s k.g.found k.g.k.has.content_blocks k.g.first k.g.says linked)) in_nodes in
       let same : z ≡ (field, at) = ap₂ (λ (a b : ℕ). (a, b)) (sym k.place) (sym k.names) in
       inr (in_placed_links placed reads.each k.g.k.o (field, at) k.g.k.member k.g.k.has (subst (λ (y : ℕ × ℕ). In y (object_links image k.g.k.has.messages)) same in_object)) where
         zero_add : (n : ℕ) → 0 + n ≡ n

@@ -11,6 +11,7 @@ use Rattle.h5_model.specs.Addresses.{continuation_of}
 use Rattle.h5_model.specs.Messages.{Message, HasMessages, IsContinued}
 use Rattle.h5_model.specs.Reached.{Met, MessageAt, kind_at, size_at}
 use Rattle.h5_model.specs.HeaderFaults.{IsMisfit, SomeMessage, is_known, is_new_style}
+use Rattle.h5_model.proofs.ReachLaws.{either}
 use Rattle.h5_breach.proofs.Lists.{In, in_all}
 use Rattle.h5_breach.proofs.Heads.{Headed, headed, standing}
 use Rattle.h5_breach.proofs.Objects.{of_group, of_dataset}
@@ -20,23 +21,19 @@ use Rattle.h5_breach.proofs.Objects.{of_group, of_dataset}
 abbrev pub allowed : List ℕ
 allowed = 17 ∷ 0 ∷ 16 ∷ 12 ∷ 13 ∷ 14 ∷ 18 ∷ 1 ∷ 3 ∷ 4 ∷ 5 ∷ 8 ∷ []
 
-or_split : (b c : Bool) → (b || c) ≡ true → (b ≡ true) ⊎ (c ≡ true)
-or_split true c h = inl refl
-or_split false c h = inr h
-
 is_listed : (k n : ℕ) → (k == n) ≡ true → In n allowed → In k allowed
 is_listed k n same at = let e : n ≡ k = grind (arith, nat_tests) in subst (λ (x : ℕ). In x allowed) e at
 
 common_allowed : (k : ℕ) → ((k == 0 || k == 16) || (k == 12 || ((k == 13 || k == 14) || k == 18))) ≡ true → In k allowed
-common_allowed k h = elim (or_split (k == 0 || k == 16) (k == 12 || ((k == 13 || k == 14) || k == 18)) h) [
-  | inl a ↦ elim (or_split (k == 0) (k == 16) a) [
+common_allowed k h = elim (either (k == 0 || k == 16) (k == 12 || ((k == 13 || k == 14) || k == 18)) h) [
+  | inl a ↦ elim (either (k == 0) (k == 16) a) [
     | inl e ↦ is_listed k 0 e (inr (inl refl))
     | inr e ↦ is_listed k 16 e (inr (inr (inl refl)))
   ]
-  | inr b ↦ elim (or_split (k == 12) ((k == 13 || k == 14) || k == 18) b) [
+  | inr b ↦ elim (either (k == 12) ((k == 13 || k == 14) || k == 18) b) [
     | inl e ↦ is_listed k 12 e (inr (inr (inr (inl refl))))
-    | inr c ↦ elim (or_split (k == 13 || k == 14) (k == 18) c) [
-      | inl d ↦ elim (or_split (k == 13) (k == 14) d) [
+    | inr c ↦ elim (either (k == 13 || k == 14) (k == 18) c) [
+      | inl d ↦ elim (either (k == 13) (k == 14) d) [
         | inl e ↦ is_listed k 13 e (inr (inr (inr (inr (inl refl)))))
         | inr e ↦ is_listed k 14 e (inr (inr (inr (inr (inr (inl refl))))))
       ]
@@ -46,24 +43,24 @@ common_allowed k h = elim (or_split (k == 0 || k == 16) (k == 12 || ((k == 13 ||
 ]
 
 group_allowed : (k : ℕ) → of_group k ≡ true → In k allowed
-group_allowed k h = elim (or_split (k == 17) ((k == 0 || k == 16) || (k == 12 || ((k == 13 || k == 14) || k == 18))) h) [
+group_allowed k h = elim (either (k == 17) ((k == 0 || k == 16) || (k == 12 || ((k == 13 || k == 14) || k == 18))) h) [
   | inl e ↦ is_listed k 17 e (inl refl)
   | inr c ↦ common_allowed k c
 ]
 
 dataset_allowed : (k : ℕ) → of_dataset k ≡ true → In k allowed
-dataset_allowed k h = elim (or_split ((k == 1 || k == 3) || (k == 4 || k == 5)) (k == 8 || ((k == 0 || k == 16) || (k == 12 || ((k == 13 || k == 14) || k == 18)))) h) [
-  | inl a ↦ elim (or_split (k == 1 || k == 3) (k == 4 || k == 5) a) [
-    | inl b ↦ elim (or_split (k == 1) (k == 3) b) [
+dataset_allowed k h = elim (either ((k == 1 || k == 3) || (k == 4 || k == 5)) (k == 8 || ((k == 0 || k == 16) || (k == 12 || ((k == 13 || k == 14) || k == 18)))) h) [
+  | inl a ↦ elim (either (k == 1 || k == 3) (k == 4 || k == 5) a) [
+    | inl b ↦ elim (either (k == 1) (k == 3) b) [
       | inl e ↦ is_listed k 1 e (inr (inr (inr (inr (inr (inr (inr (inl refl))))))))
       | inr e ↦ is_listed k 3 e (inr (inr (inr (inr (inr (inr (inr (inr (inl refl)))))))))
     ]
-    | inr b ↦ elim (or_split (k == 4) (k == 5) b) [
+    | inr b ↦ elim (either (k == 4) (k == 5) b) [
       | inl e ↦ is_listed k 4 e (inr (inr (inr (inr (inr (inr (inr (inr (inr (inl refl))))))))))
       | inr e ↦ is_listed k 5 e (inr (inr (inr (inr (inr (inr (inr (inr (inr (inr (inl refl)))))))))))
     ]
   ]
-  | inr a ↦ elim (or_split (k == 8) ((k == 0 || k == 16) || (k == 12 || ((k == 13 || k == 14) || k == 18))) a) [
+  | inr a ↦ elim (either (k == 8) ((k == 0 || k == 16) || (k == 12 || ((k == 13 || k == 14) || k == 18))) a) [
     | inl e ↦ is_listed k 8 e (inr (inr (inr (inr (inr (inr (inr (inr (inr (inr (inr (inl refl))))))))))))
     | inr c ↦ common_allowed k c
   ]

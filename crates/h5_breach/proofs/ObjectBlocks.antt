@@ -1,5 +1,6 @@
 -- The tagged blocks of an object are its blocks.
 use Rattle.std.proofs.Common.{◌≡◌, ◌⊎◌, inl, inr, ℕ, ◌+◌, ◌*◌, List, [], ◌++◌, length, sym, ap, ap₂, ◌∙◌, Option, Some, None, true, false, append-nil}
+use Rattle.std.proofs.lemmas.List.{map-append}
 use Rattle.std.specs.Prelude.{◌==◌}
 use Rattle.std.specs.Option.{option_map_or}
 use Rattle.std.specs.Ordering.{nat_cmp}
@@ -16,11 +17,10 @@ use Rattle.h5_model.specs.Places.{cells}
 use Rattle.h5_model.specs.Layout.{Layout, InMessage, InBlock, InChunks, layout_of}
 use Rattle.h5_model.specs.Chunks.{Chunks}
 use Rattle.h5_model.specs.Superblock.{chunk_k}
-use Rattle.h5_model.specs.Tree.{Content, Object, Dataset}
-use Rattle.h5_model.specs.Reads.{HasObject, HasGroup, HasDataset, HasData, HasContent}
+use Rattle.h5_model.specs.Tree.{Object, Dataset}
+use Rattle.h5_model.specs.Reads.{HasObject, HasGroup, HasDataset, HasData}
 use Rattle.h5_model.specs.Reached.{type_among, layout_among}
-use Rattle.h5_breach.proofs.Rows.{map-append}
-use Rattle.h5_breach.proofs.Objects.{content_cases, of_group_kind, of_dataset_kind}
+use Rattle.h5_breach.proofs.Objects.{one_of_two, of_group_kind, of_dataset_kind}
 use Rattle.h5_breach.proofs.Datasets.{find_none, said_first, layout_there}
 use Rattle.h5_breach.proofs.Tags.{Tagged, blocks_in, tagged, tagged_header, tagged_table, tagged_layout, tagged_group, tagged_data, header-blocks, group-blocks, tree-blocks}
 
@@ -75,10 +75,6 @@ content-blocks image ms blocks (inr (d, has)) =
     ap₂ (λ (a b : List Tagged). blocks_in (a ++ b)) (no_table_tags image ms table)
     (layout_tags image ms first.0 d.fixed has.layout first.1 has.type (layout_there image ms d blocks has))
     ∙ data-blocks image d.fixed has.layout has.chunks blocks has.stored first.0.at
-
-one_of_two : (image : List ℕ) (table : FinMap nat_cmp ℕ) (ms : List Message) (c : Content) (blocks : List Block) → HasContent image table ms c blocks
-    → ((found : List (List ℕ × Target)) × HasGroup image ms found blocks) ⊎ ((d : Dataset) × HasDataset image ms d blocks)
-one_of_two image table ms c blocks has = elim (content_cases image table ms c blocks has) [ inl g ↦ inl (g.2, g.3) | inr d ↦ inr (d.0, d.2) ]
 
 pub object-blocks : (image : List ℕ) (table : FinMap nat_cmp ℕ) (header : ℕ) (object : Object) (blocks : List Block) (has : HasObject image table header object blocks)
     → blocks_in (tagged image header has.messages) ≡ blocks

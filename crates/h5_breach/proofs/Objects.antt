@@ -1,5 +1,5 @@
 -- Objects of a reading: the root, and those that links name.
-use Rattle.std.proofs.Common.{◌≡◌, ◌⊎◌, inl, inr, ℕ, ◌+◌, ◌≤◌, List, [], ◌∷◌, ◌++◌, map, refl, sym, ap, ◌∙◌, subst, arith, Some, None, Option, length-append, true, false, Bool}
+use Rattle.std.proofs.Common.{◌≡◌, ◌⊎◌, inl, inr, ℕ, ◌+◌, ◌≤◌, List, [], ◌∷◌, ◌++◌, map, refl, sym, ap, ◌∙◌, subst, arith, Some, None, length-append, true, false, Bool}
 use Rattle.std.specs.Prelude.{◌==◌, ◌||◌}
 use Rattle.std.specs.Option.{option_and_then}
 use Rattle.std.specs.Ordering.{nat_cmp}
@@ -15,6 +15,7 @@ use Rattle.h5_model.specs.Links.{HasLinks}
 use Rattle.h5_model.specs.Superblock.{leaf_k, internal_k, root_header}
 use Rattle.h5_model.specs.Tree.{Tree, Object, Content, Group, Array, Dataset, Links, Link, ToObject, Soft, follow, links_of, links_in, link_in}
 use Rattle.h5_model.specs.Reads.{Placed, HasObject, IsPlaced, HasContent, IsSame, HasGroup, HasDataset, InGroup, InDataset, ReadsAs}
+use Rattle.h5_model.proofs.OneReading.{some_same}
 use Rattle.h5_breach.proofs.Lists.{In, in_all, in_map, from_map}
 use Rattle.h5_breach.proofs.Maps.{get_of_entry, entry_of_get, tied_left}
 use Rattle.h5_breach.proofs.Counts.{only_one, only_body}
@@ -46,6 +47,11 @@ pub content_cases : (image : List ℕ) (table : FinMap nat_cmp ℕ) (messages : 
 content_cases image table messages (Group links) blocks has = inl (links, refl, has.0, has.1, has.2)
 content_cases image table messages (Array d) blocks has = inr (d, refl, has)
 
+-- its messages are those of one or of the other
+pub one_of_two : (image : List ℕ) (table : FinMap nat_cmp ℕ) (ms : List Message) (c : Content) (blocks : List Block) → HasContent image table ms c blocks
+    → ((found : List (List ℕ × Target)) × HasGroup image ms found blocks) ⊎ ((d : Dataset) × HasDataset image ms d blocks)
+one_of_two image table ms c blocks has = elim (content_cases image table ms c blocks has) [ inl g ↦ inl (g.2, g.3) | inr d ↦ inr (d.0, d.2) ]
+
 -- message types of groups and of datasets
 abbrev pub of_group : ℕ → Bool
 of_group k = k == 17 || ((k == 0 || k == 16) || (k == 12 || ((k == 13 || k == 14) || k == 18)))
@@ -58,9 +64,6 @@ of_group_kind ms m k all at e = subst (λ (x : ℕ). of_group x ≡ true) e (in_
 
 pub of_dataset_kind : (ms : List Message) (m : Message) (k : ℕ) → AllByRecursion InDataset ms → In m ms → m.kind ≡ k → of_dataset k ≡ true
 of_dataset_kind ms m k all at e = subst (λ (x : ℕ). of_dataset x ≡ true) e (in_all InDataset m ms all at)
-
-some_same : {X : Type 0} (o : Option X) (x y : X) → o ≡ Some x → o ≡ Some y → x ≡ y
-some_same o x y p q = let both : Some x ≡ Some y = sym p ∙ q in cc
 
 module _ (image : List ℕ) (table : FinMap nat_cmp ℕ) (tree : Tree) (placed : List Placed) (reads : ReadsAs image table tree placed) where
   pub has_object : (o : Placed) → In o placed → HasObject image table o.header o.object o.blocks

@@ -1,5 +1,6 @@
 -- Blocks of a reading are there, and share no byte.
 use Rattle.std.proofs.Common.{◌≡◌, ◌≢◌, inl, inr, ℕ, ◌+◌, ◌<◌, ◌≤◌, List, [], ◌∷◌, ◌++◌, length, refl, sym, ap, ap₂, ◌∙◌, subst, arith, Some, None, true, false, Bool}
+use Rattle.std.proofs.lemmas.List.{map-append}
 use Rattle.std.specs.Prelude.{IsTrue, not, ◌&&◌, if◌then◌else◌}
 use Rattle.std.specs.Ordering.{nat_cmp}
 use Rattle.std.specs.FinMap.{FinMap}
@@ -14,7 +15,6 @@ use Rattle.h5_model.specs.Reached.{Named, Role, ObjectHeader, Reached, length_of
 use Rattle.h5_model.specs.Faults.{is_header, IsOverlap}
 use Rattle.h5_model.proofs.OneReading.{one_messages}
 use Rattle.h5_breach.proofs.Lists.{In, in_all, in_left, in_right, in_map}
-use Rattle.h5_breach.proofs.Rows.{map-append}
 use Rattle.h5_breach.proofs.Tags.{Tagged, blocks_in, tagged}
 use Rattle.h5_breach.proofs.ObjectBlocks.{object-blocks}
 use Rattle.h5_breach.proofs.Entered.{tag_of, Entered, entered}

@@ -1,5 +1,7 @@
 -- Rows of a tree, read at each address; and the fields that name its nodes.
 use Rattle.std.proofs.Common.{◌≡◌, inl, inr, ℕ, zero, suc, ◌+◌, ◌<◌, List, [], ◌∷◌, ◌++◌, map, refl, sym, ap, ap₂, ◌∙◌, subst, arith}
+use Rattle.std.proofs.lemmas.List.{map-append}
+use Rattle.std.proofs.lemmas.Simd.{map-map}
 use Rattle.std.specs.List.{flat_map, range_with_len}
 use Rattle.h5_bytes.specs.Bytes.{undefined}
 use Rattle.h5_bytes.specs.Tables.{table}
@@ -53,14 +55,6 @@ named_row image kind (suc d) row = named_row image kind d (named_next image kind
 
 abbrev pub named_nodes : List (ℕ × ℕ) → List ℕ
 named_nodes row = map (λ (x : ℕ × ℕ). x.1) row
-
-pub map-append : {X Y : Type 0} (f : X → Y) (xs ys : List X) → map f (xs ++ ys) ≡ map f xs ++ map f ys
-map-append f [] ys = refl
-map-append {Y = Y} f (x ∷ xs) ys = ap (λ (zs : List Y). f x ∷ zs) (map-append f xs ys)
-
-pub map-map : {X Y Z : Type 0} (g : Y → Z) (f : X → Y) (xs : List X) → map g (map f xs) ≡ map (λ x. g (f x)) xs
-map-map g f [] = refl
-map-map {Z = Z} g f (x ∷ xs) = ap (λ (zs : List Z). g (f x) ∷ zs) (map-map g f xs)
 
 fields_children : (image : List ℕ) (kind : Kind) (node : ℕ) → named_nodes (fields_in image kind node) ≡ (node_at image kind node).children
 unfolding node_of

@@ -1,5 +1,7 @@
 -- The blocks of an object, each behind the field that names it.
 use Rattle.std.proofs.Common.{◌≡◌, ℕ, zero, suc, ◌+◌, ◌*◌, List, [], ◌∷◌, ◌++◌, map, refl, sym, ap, ap₂, ◌∙◌, Option, Some, None}
+use Rattle.std.proofs.lemmas.List.{map-append}
+use Rattle.std.proofs.lemmas.Simd.{map-map}
 use Rattle.std.specs.Prelude.{◌==◌}
 use Rattle.std.specs.Option.{option_map_or}
 use Rattle.std.specs.List.{find, flat_map}
@@ -18,7 +20,7 @@ use Rattle.h5_model.specs.Layout.{Layout, InMessage, InBlock, InChunks}
 use Rattle.h5_model.specs.Superblock.{leaf_k, internal_k}
 use Rattle.h5_model.specs.Reached.{Shape, shape_kind, level_at, type_among, layout_among}
 use Rattle.h5_model.proofs.OneTree.{level_is, owned_is, children_are}
-use Rattle.h5_breach.proofs.Rows.{named_next, named_row, named_nodes, next-named, row-named, row_after, map-append, map-map}
+use Rattle.h5_breach.proofs.Rows.{named_next, named_row, named_nodes, next-named, row-named, row_after}
 
 -- a block behind the field that names it; behind none for a header, which several fields may name
 abbrev pub Tagged : Type 0

@@ -17,7 +17,7 @@ use Rattle.h5_model.specs.Tree.{Tree, Link, ToObject, Soft, Links, links_of, fol
 
 -- ---- entries and look-ups
 
-pub both : (b c : Bool) → T (b && c) → (b ≡ true) × T c
+both : (b c : Bool) → T (b && c) → (b ≡ true) × T c
 both true c h = (refl, h)
 both false c h = absurd h
 
@@ -70,7 +70,7 @@ any_there p f x (y ∷ ys) at h = ap (list_any p) (flat_map-cons f y ys) ∙ lis
   or_true true = refl
   or_true false = refl
 
-either : (b c : Bool) → (b || c) ≡ true → (b ≡ true) ⊎ (c ≡ true)
+pub either : (b c : Bool) → (b || c) ≡ true → (b ≡ true) ⊎ (c ≡ true)
 either true c h = inl refl
 either false c h = inr h
 
