@@ -1,5 +1,5 @@
 -- The first rule that a dataset's messages break is one that they break, and messages that describe an array break none.
-use Rattle.std.proofs.Common.{◌≡◌, ℕ, ◌*◌, ◌<◌, ◌^◌, List, Option, Some, None, ℤ, Bool, true, false, cond, ◌||◌, ◌⊎◌, inl, inr, refl, sym, ap, ◌∙◌, subst, arith}
+use Rattle.std.proofs.Common.{◌≡◌, ℕ, ◌*◌, ◌<◌, ◌≤◌, ◌^◌, List, Option, Some, None, ℤ, Bool, true, false, cond, ◌||◌, ◌⊎◌, inl, inr, refl, sym, ap, ◌∙◌, subst, arith}
 use Rattle.std.specs.Prelude.{option_and_then, nat_lt, is_none}
 use Rattle.std.specs.Option.{option_or}
 use Rattle.std.proofs.lemmas.Bool.Decides.{nat_tests}
@@ -17,7 +17,7 @@ use Rattle.h5_model.specs.HeaderFaults.{SomeBody, IsBadFill, IsLarge, ListBreach
 use Rattle.h5_model.specs.declared.open_fault.Cause.{Cause}
 use Rattle.h5_model.specs.declared.open_fault.Cause.TheVariants.{DataspaceForm, DatatypeForm, FillForm, LayoutForm, TooLarge}
 use Rattle.h5_header.specs.Kinds.{IsOfDataset}
-use Rattle.h5_layout.specs.Described.{Described, HasArray}
+use Rattle.h5_layout.specs.Described.{Described, HasArray, HasFill}
 use Rattle.h5_layout.specs.Judged.{space_breach, type_breach, is_bad, fill_breach, is_chunk_large, layout_breach, breach_in}
 use Rattle.h5_header.proofs.FoundLaws.{found, among_some, among_none}
 
@@ -48,9 +48,6 @@ either None p x h = inr (refl, h)
 either (Some y) p x h = inl h
 
 module _ (image : List ℕ) (header : ℕ) (ms : List Message) (of : IsOfDataset ms) (cause : Cause) where
-  Broken : Type 0
-  Broken = ListBreach image header ms cause
-
   is_cause : (other : Cause) → ListBreach image header ms other → Some other ≡ Some cause → ListBreach image header ms cause
   is_cause other h same = subst (λ (c : Cause). ListBreach image header ms c) (same_Some other cause same) h
 
@@ -137,3 +134,14 @@ module _ (image : List ℕ) (header : ℕ) (ms : List Message) (of : IsOfDataset
           ]
         ]
   ]
+
+-- ---- the layout is judged last
+
+-- the layout breaks the first rule where sizes, type and fill values break none
+pub late_breach : (ms : List Message) (e : Extent) (t : Fixed) (fill : ℤ) (cause : Cause) → extent_among ms ≡ Some e → extent_cells e.sizes ≤ 2 ^ 40 → type_among ms ≡ Some t → HasFill ms t fill
+    → layout_breach (Some t) (option_and_then (layout_of e.sizes t.size) (first_body 8 ms)) ≡ Some cause → breach_in ms ≡ Some cause
+late_breach ms e t fill cause space small type filled h =
+    let few : nat_lt (2 ^ 40) (extent_cells e.sizes) ≡ false = grind (arith, nat_tests) in
+    let old = sound_fill (old_fill_value t) (first_body 4 ms) filled.old_fill filled.old_filled in
+    let new = sound_fill (fill_value t) (first_body 5 ms) filled.new_fill filled.new_filled in
+    rw (space, few, type, old, new) h

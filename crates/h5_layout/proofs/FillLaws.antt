@@ -1,13 +1,12 @@
 -- A fill value that is read is one of the type.
 use Rattle.std.proofs.Common.{◌≡◌, ℕ, ◌+◌, ◌*◌, ◌-◌, ◌^◌, ◌<◌, List, Option, Some, None, Bool, true, false, cond, ◌&&◌, ◌==◌, not, ℤ, pos, refl, subst, arith, slice_index, eq-eqb}
-use Rattle.std.specs.Prelude.{nat_lt, IfSome}
-use Rattle.std.specs.Option.{option_or, unwrap_or}
+use Rattle.std.specs.Prelude.{nat_lt}
 use Rattle.std.proofs.lemmas.Bool.Decides.{nat_tests}
 use Rattle.std.proofs.lemmas.Nat.{pow_pos}
 use Rattle.std.proofs.lemmas.Option.{same_Some}
 use Rattle.h5_model.specs.Fixed.{Fixed, IsFixed, is_size, fixed_from, fits, value_at}
 use Rattle.h5_model.specs.Datatype.{fixed_of, is_fixed_point, type_size, is_signed, is_high_first}
-use Rattle.h5_model.specs.Fill.{sized_value, fill_value, old_fill_value, chosen_fill}
+use Rattle.h5_model.specs.Fill.{sized_value, fill_value, old_fill_value}
 use Rattle.h5_model.proofs.StoredValues.{fits_value_at}
 
 -- the bytes are numbers below 256
@@ -43,17 +42,6 @@ by_flag true false false t v o fit h = absurd (cc)
 pub fill_fits : (t : Fixed) (body : List ℕ) (v : ℤ) → IsFixed t → AreBytes body → fill_value t body ≡ Some v → fits t v ≡ true
 unfolding fill_value
 fill_fits t body v is low h = by_flag _ _ _ t v (sized_value t body 4) (sized_fits t body 4 v is low) h
-
-pub chosen_fits : (t : Fixed) (new old : Option ℤ) → IfSome new (λ v. fits t v ≡ true) → IfSome old (λ v. fits t v ≡ true) → fits t (chosen_fill new old) ≡ true
-chosen_fits t None None new old = zero_fits t
-chosen_fits t None (Some v) new old = old
-chosen_fits t (Some v) old new rest = new
-
--- the first that is there, or 0
-pub or_zero : (new old : Option ℤ) → unwrap_or (option_or new old) (pos 0) ≡ chosen_fill new old
-or_zero None None = refl
-or_zero None (Some v) = refl
-or_zero (Some v) old = refl
 
 -- ---- the type
 

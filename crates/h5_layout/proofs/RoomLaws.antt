@@ -1,5 +1,5 @@
 -- Data that a layout names have room for the cells, and the value of a cell is that at its place.
-use Rattle.std.proofs.Common.{◌≡◌, ℕ, suc, ◌+◌, ◌-◌, ◌*◌, ◌^◌, ◌<◌, ◌≤◌, List, length, take, drop, Option, Some, None, ℤ, Bool, true, false, cond, refl, sym, ap, ◌∙◌, subst, arith, get_or, eq-eqb}
+use Rattle.std.proofs.Common.{◌≡◌, ℕ, suc, ◌+◌, ◌-◌, ◌*◌, ◌^◌, ◌<◌, ◌≤◌, List, length, drop, Option, Some, None, ℤ, Bool, true, false, cond, refl, sym, ap, ◌∙◌, subst, arith, get_or, eq-eqb}
 use Rattle.std.specs.Prelude.{nat_le, slice_get}
 use Rattle.std.specs.List.{slice_range}
 use Rattle.std.proofs.lemmas.Bool.Decides.{nat_tests}
@@ -78,10 +78,6 @@ place_room sizes size place end below room =
 
 pub few : (sizes dims : List ℕ) → dims ≡ sizes → extent_cells sizes ≤ 2 ^ 40 → cells dims < 2 ^ 64
 few sizes dims same small = let most : cells sizes ≤ 2 ^ 40 = omega (arith, cells_le sizes) in rw same (omega arith)
-
--- a block of the image has as many bytes as it says
-pub length-block : (bytes : List ℕ) (at len : ℕ) → at + len ≤ length bytes → length (take (at + len - at) (drop at bytes)) ≡ len
-length-block bytes at len inside = length-take (at + len - at) (drop at bytes) ∙ omega (arith, length-drop at bytes)
 
 -- ---- the cell at a place
 

@@ -22,7 +22,13 @@ pub record Described : Type 0 where
 
 -- the array of this type, extent, fill value and layout
 abbrev pub array_of : Fixed → Extent → ℤ → Layout → Described
-array_of t extent fill layout = record { fixed = t; sizes = extent.sizes; maxima = extent.maxima; fill = fill; layout = layout }
+array_of t extent fill layout = record {
+  fixed = t;
+  sizes = extent.sizes;
+  maxima = extent.maxima;
+  fill = fill;
+  layout = layout;
+}
 
 -- The fill value of a dataset of this type by its messages.
 pub record HasFill (messages : List Message) (t : Fixed) (fill : ℤ) : Type 0 where

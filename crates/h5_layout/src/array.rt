@@ -42,7 +42,8 @@ impl<'a> Model for ArrayRef<'a> {
 
     ghost view = { λ a. array_of a.fixed a.extent a.fill (layout_in a.layout) };
 
-    ghost invariant = { λ a. (a.dims ≡ a.extent.sizes) × (fits a.fixed a.fill ≡ true) × IsArray (array_of a.fixed a.extent a.fill (layout_in a.layout)) };
+    ghost invariant = { λ a. (a.dims ≡ a.extent.sizes) × (fits a.fixed a.fill ≡ true)
+        × IsArray (array_of a.fixed a.extent a.fill (layout_in a.layout)) };
 }
 
 impl<'a> ArrayRef<'a> {

@@ -1,7 +1,8 @@
 //! Rules on the bodies of a dataset's messages.
 
-ghost use Rattle.std.specs.Prelude.{◌≡◌, None, Some, IfOk, IfSome, MatchResult, ok_or, true};
+ghost use Rattle.std.specs.Prelude.{◌≡◌, ◌≤◌, ◌^◌, Some, IfOk, IfErr, IfSome, MatchResult, ok_or, false, true};
 ghost use Rattle.std.specs.Option.{option_copied};
+ghost use Rattle.h5_model.specs.Places.{extent_cells};
 ghost use Rattle.h5_model.specs.Extent.{extent_of};
 ghost use Rattle.h5_model.specs.Datatype.{fixed_of};
 ghost use Rattle.h5_model.specs.Fixed.{IsFixed, fits};
@@ -9,7 +10,7 @@ ghost use Rattle.h5_model.specs.Fill.{fill_value, old_fill_value};
 ghost use Rattle.h5_model.specs.Layout.{layout_of};
 ghost use Rattle.h5_model.specs.Reads.{IsFill};
 ghost use Rattle.h5_msg.specs.Layouts.{layout_in};
-ghost use Rattle.h5_layout.specs.Judged.{is_bad, is_chunk_large as is_large};
+ghost use Rattle.h5_layout.specs.Judged.{is_bad, is_chunk_large as is_large, layout_breach, space_breach};
 
 use h5_model::{Cause, Fixed};
 use h5_msg::{
@@ -21,14 +22,21 @@ use std::alloc::Global;
 /// The most bytes of a chunk.
 const MAX_CHUNK: u128 = 1 << 30;
 
-/// What a Dataspace message says.
-pub fn judge_dataspace(body: &[u8]) -> Result<Dataspace<'_>, Cause>
-    ensures { result ≡ ok_or (extent_of body.now) Cause.DataspaceForm }
+/// What a Dataspace message says, with its sizes.
+pub fn judge_sizes(alloc: Global, body: &[u8]) -> Result<(Dims, Dataspace<'_>), Cause>
+    ensures told { IfOk result (λ told. extent_of body.now ≡ Some told.1) }
+    ensures sizes { IfOk result (λ told. told.0 ≡ told.1.sizes) }
+    ensures small { IfOk result (λ told. extent_cells told.1.sizes ≤ 2 ^ 40) }
+    ensures refused { IfErr result (λ cause. space_breach (extent_of body.now) ≡ Some cause) }
 {
     let Ok(extent) = read_dataspace(body) else {
         return Err(Cause::DataspaceForm);
     };
-    Ok(extent)
+    let dims = extent.dims(alloc);
+    if !dims.is_small() {
+        return Err(Cause::TooLarge);
+    }
+    Ok((dims, extent))
 }
 
 /// What a Datatype message says.
@@ -100,19 +108,28 @@ fn fill_in(fixed: &Fixed, body: &[u8]) -> Result<i128, Cause>
 }
 
 /// What a Data Layout message says of an array of these sizes and this type.
-pub fn judge_layout<'a>(dims: &Dims, fixed: &Fixed, body: &'a [u8]) -> Result<Layout<'a>, Cause>
-    ensures { MatchResult result
-        (λ layout. layout_of dims.now fixed.now.size body.now ≡ Some (layout_in layout))
-        (λ cause. (cause ≡ Cause.LayoutForm) × (layout_of dims.now fixed.now.size body.now ≡ None)) }
+pub fn judge_layout<'a>(
+    alloc: Global,
+    dims: &Dims,
+    fixed: &Fixed,
+    body: &'a [u8],
+) -> Result<Layout<'a>, Cause>
+    ensures told { IfOk result (λ layout. layout_of dims.now fixed.now.size body.now ≡ Some (layout_in layout)) }
+    ensures small { IfOk result (λ layout. is_large fixed.now (layout_in layout) ≡ false) }
+    ensures refused { IfErr result (λ cause.
+        layout_breach (Some fixed.now) (layout_of dims.now fixed.now.size body.now) ≡ Some cause) }
 {
     let Ok(layout) = read_layout(dims, fixed, body) else {
         return Err(Cause::LayoutForm);
     };
+    if is_chunk_large(alloc, fixed, &layout) {
+        return Err(Cause::TooLarge);
+    }
     Ok(layout)
 }
 
 /// Whether a chunk has more than 2^30 bytes.
-pub fn is_chunk_large(alloc: Global, fixed: &Fixed, layout: &Layout<'_>) -> bool
+fn is_chunk_large(alloc: Global, fixed: &Fixed, layout: &Layout<'_>) -> bool
     ensures { result ≡ is_large fixed.now (layout_in layout.now) }
 {
     let Layout::Chunked { sizes, .. } = layout else {

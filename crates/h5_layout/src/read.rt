@@ -1,19 +1,18 @@
 //! The reading of a dataset's header (File Format Specification 3.0, section IV.A.2).
 
-ghost use Rattle.std.specs.Prelude.{◌≡◌, Ok, Some, length, IfOk, IfErr};
+ghost use Rattle.std.specs.Prelude.{◌≡◌, Ok, Some, true, length, IfOk, IfErr};
+ghost use Rattle.h5_model.specs.Fixed.{IsFixed, fits};
 ghost use Rattle.h5_model.specs.HeaderFaults.{ListBreach};
 ghost use Rattle.h5_header.specs.Kinds.{IsOfDataset};
 ghost use Rattle.h5_header.specs.Listed.{messages_in, IsWithin};
-ghost use Rattle.h5_layout.specs.Described.{Described, HasArray};
-ghost use Rattle.h5_layout.specs.Judged.{breach_in};
+ghost use Rattle.h5_layout.specs.Described.{Described, HasArray, HasFill};
+ghost use Rattle.h5_layout.specs.Judged.{breach_in, fill_breach};
 
 use crate::array::ArrayRef;
 use crate::bodies::one_body;
-use crate::judge::{
-    is_chunk_large, judge_dataspace, judge_datatype, judge_fill, judge_layout, judge_old_fill,
-};
+use crate::judge::{judge_datatype, judge_fill, judge_layout, judge_old_fill, judge_sizes};
 use h5_header::{Messages, find_body};
-use h5_model::{Cause, OpenFault};
+use h5_model::{Cause, Fixed, OpenFault};
 use h5_space::Image;
 use std::alloc::Global;
 
@@ -66,23 +65,29 @@ fn judge<'a>(alloc: Global, image: &'a Image, messages: &Messages) -> Result<Arr
     ensures read { IfOk result (λ array. HasArray (messages_in image.now.bytes messages.now.list) array) }
     ensures first { IfErr result (λ cause. breach_in (messages_in image.now.bytes messages.now.list) ≡ Some cause) }
 {
-    let extent = judge_dataspace(one_body(image, messages, DATASPACE))?;
-    let dims = extent.dims(alloc);
-    if !dims.is_small() {
-        return Err(Cause::TooLarge);
-    }
+    let (dims, extent) = judge_sizes(alloc, one_body(image, messages, DATASPACE))?;
     let fixed = judge_datatype(one_body(image, messages, DATATYPE))?;
-    let old_fill = judge_old_fill(&fixed, find_body(image, messages, OLD_FILL_VALUE))?;
-    let new_fill = judge_fill(&fixed, find_body(image, messages, FILL_VALUE))?;
-    let layout = judge_layout(&dims, &fixed, one_body(image, messages, DATA_LAYOUT))?;
-    if is_chunk_large(alloc, &fixed, &layout) {
-        return Err(Cause::TooLarge);
-    }
+    let fill = judge_fills(image, messages, &fixed)?;
+    let layout = judge_layout(alloc, &dims, &fixed, one_body(image, messages, DATA_LAYOUT))?;
     Ok(ArrayRef {
         fixed,
         dims,
         extent,
-        fill: new_fill.or(old_fill).unwrap_or(0),
+        fill,
         layout,
     })
+}
+
+/// The fill value: the new message decides, and with neither it is 0.
+fn judge_fills(image: &Image, messages: &Messages, fixed: &Fixed) -> Result<i128, Cause>
+    requires within { IsWithin (length image.now.bytes) messages.now.list }
+    requires sound { IsFixed fixed.now }
+    ensures filled { IfOk result (λ fill. HasFill (messages_in image.now.bytes messages.now.list) fixed.now fill) }
+    ensures of_type { IfOk result (λ fill. fits fixed.now fill ≡ true) }
+    ensures refused { IfErr result (λ cause.
+        fill_breach (messages_in image.now.bytes messages.now.list) (Some fixed.now) ≡ Some cause) }
+{
+    let old_fill = judge_old_fill(fixed, find_body(image, messages, OLD_FILL_VALUE))?;
+    let new_fill = judge_fill(fixed, find_body(image, messages, FILL_VALUE))?;
+    Ok(new_fill.or(old_fill).unwrap_or(0))
 }

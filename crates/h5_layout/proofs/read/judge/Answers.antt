@@ -1,29 +1,32 @@
-use Rattle.std.proofs.Common.{rules, ◌≡◌, true, ℤ, pos, Option, to_z, of_z, sym, ap, ◌∙◌}
+use Rattle.std.proofs.Common.{rules, ◌≡◌, Some, to_z, of_z, arith}
+use Rattle.std.proofs.lemmas.Result.{err_from_is_err_and}
+use mir.Syntax.{w128}
+use Rattle.h5_model.specs.Datatype.{fixed_of}
+use Rattle.h5_model.specs.Reached.{extent_among, type_among}
+use Rattle.h5_header.specs.Listed.{messages_in}
 use Rattle.h5_msg.specs.Layouts.{layout_in}
 use Rattle.h5_layout.proofs.RoomLaws.{room_of}
+use Rattle.h5_layout.proofs.BreachLaws.{late_breach}
 use Rattle.h5_layout.proofs.read.judge.Goals as goal
-use Rattle.h5_layout.proofs.read.judge.Goals.{After-unwrap_or}
-use Rattle.std.specs.Option.{unwrap_or}
-use mir.Syntax.{w128}
-use Rattle.h5_model.specs.Fixed.{fits}
-use Rattle.h5_model.specs.Fill.{chosen_fill}
-use Rattle.h5_layout.proofs.FillLaws.{chosen_fits, or_zero}
 
--- the fill value is one of the type
-fill : (c : After-unwrap_or) → fits c.in_ok-fixed.fixed (to_z w128 (of_z w128 c.unwrap_or.result)) ≡ true
-fill c =
-    let exact : to_z w128 (of_z w128 c.unwrap_or.result) ≡ c.unwrap_or.result = search rules in
-    let chosen : c.unwrap_or.result ≡ chosen_fill c.in_ok-new_fill.new_fill c.in_ok-old_fill.old_fill
-    = c.unwrap_or.ensures ∙ ap (λ (o : Option ℤ). unwrap_or o (pos 0)) c.or.ensures ∙ or_zero c.in_ok-new_fill.new_fill c.in_ok-old_fill.old_fill in
-    rw (exact, chosen) (chosen_fits c.in_ok-fixed.fixed c.in_ok-new_fill.new_fill c.in_ok-old_fill.old_fill c.in_ok-new_fill.ensures.of_type c.in_ok-old_fill.ensures.of_type)
+pub returns-in_err-layout-clause-first : goal.returns-in_err-layout-clause-first
+returns-in_err-layout-clause-first c =
+    let ms = messages_in c.args.image.now.bytes c.args.messages.now.list in
+    let p = err_from_is_err_and c.from_residual-in_err-layout.result c.from_residual-in_err-layout.ensures.1 in
+    let space : extent_among ms ≡ Some c.in_ok-dims.extent = rw c.one_body.ensures c.in_ok-dims.ensures.told in
+    let told : fixed_of c.one_body-2.result.now ≡ Some c.in_ok-fixed.fixed = grind arith in
+    let type : type_among ms ≡ Some c.in_ok-fixed.fixed = rw c.one_body-2.ensures told in
+    let refused = rw c.in_ok-dims.ensures.sizes at c.in_err-layout.ensures.refused in
+    rw (p.1, p.2) (late_breach ms c.in_ok-dims.extent c.in_ok-fixed.fixed c.in_ok-fill.fill _ space c.in_ok-dims.ensures.small type c.in_ok-fill.ensures.filled (rw c.one_body-3.ensures refused))
 
 pub invariant_of-result : goal.invariant_of-result
-invariant_of-result c = (
-  c.dims-dims.ensures,
-  fill c,
-  record {
-    small = search rules;
-    room = room_of c.in_ok-extent.extent.sizes c.in_ok-fixed.fixed.size c.one_body-3.result.now (layout_in c.in_ok-layout.layout) (rw c.dims-dims.ensures at c.in_ok-layout.ensures);
-    chunk_small = sym c.is_chunk_large.ensures ∙ c.if-is_chunk_large.false;
-  },
-)
+invariant_of-result c =
+    let passed : to_z w128 (of_z w128 c.in_ok-fill.fill) ≡ c.in_ok-fill.fill = search rules in (
+      c.in_ok-dims.ensures.sizes,
+      rw passed c.in_ok-fill.ensures.of_type,
+      record {
+        small = c.in_ok-dims.ensures.small;
+        room = room_of c.in_ok-dims.extent.sizes c.in_ok-fixed.fixed.size c.one_body-3.result.now (layout_in c.in_ok-layout.layout) (rw c.in_ok-dims.ensures.sizes at c.in_ok-layout.ensures.told);
+        chunk_small = c.in_ok-layout.ensures.small;
+      },
+    )
