@@ -1,12 +1,15 @@
 -- What the value of a node says of its bytes, and the room that its keys and children have.
-use Rattle.std.proofs.Common.{◌≡◌, ℕ, zero, suc, ◌+◌, ◌*◌, ◌<◌, ◌≤◌, List, [], ◌∷◌, length, slice_index_or, get_or, slice_get, Some, sym, ap, ◌∙◌, arith}
+use Rattle.std.proofs.Common.{◌≡◌, ℕ, suc, ◌+◌, ◌*◌, ◌<◌, ◌≤◌, List, [], length, get_or, slice_get, Some, sym, ap, ◌∙◌, arith}
 use Rattle.std.proofs.Math.Nat.{mul-le-mul_right}
+use Rattle.std.specs.List.{AllByRecursion}
 use Rattle.std.proofs.lemmas.Option.{slice_get-get_or}
+use Rattle.std.proofs.lemmas.List.Elements.{recursion_from_All, All-from_get_or}
 use Rattle.h5_bytes.specs.Bytes.{byte_at, number_at}
 use Rattle.h5_bytes.specs.Tables.{table}
+use Rattle.h5_bytes.proofs.PartLaws.{length-part}
 use Rattle.h5_bytes.proofs.TableLaws.{length-table, get_or-table}
 use Rattle.h5_model.specs.Rows.{Node}
-use Rattle.h5_model.specs.Nodes.{Kind, node_of, entries_in, key_in, child_in}
+use Rattle.h5_model.specs.Nodes.{Kind, node_of, node_length, entries_in, key_in, key_place, child_in}
 
 -- an entry of a table
 listed : {X : Type 0} (f : ℕ → X) (n : ℕ) (xs : List X) (i : ℕ) (d : X) → table f n ≡ xs → i < length xs → slice_get xs i ≡ Some (f i)
@@ -58,3 +61,23 @@ pub small_length : (long most : ℕ) → long ≤ 272 → most ≤ 131070 → mo
 small_length long most low few =
     let rows : most * (long + 8) ≤ 131070 * (long + 8) = mul-le-mul_right (long + 8) few in
     omega arith
+
+-- a key that there is room for
+key_room : (long most i : ℕ) → i ≤ most → 24 + i * (long + 8) + long ≤ 24 + long + most * (long + 8)
+key_room long most i low =
+    let rows : i * (long + 8) ≤ most * (long + 8) = mul-le-mul_right (long + 8) low in
+    omega arith
+
+-- each key of a node has the length of its kind's keys
+pub keys_long : (kind : Kind) (bytes : List ℕ) → length bytes ≡ node_length kind → entries_in bytes ≤ 2 * kind.k
+    → AllByRecursion (λ (key : List ℕ). length key ≡ kind.key_length) (node_of kind bytes).keys
+unfolding node_of
+keys_long kind bytes long roomy =
+    let keys : List (List ℕ) = table (key_in kind bytes) (entries_in bytes + 1) in
+    let count : length keys ≡ entries_in bytes + 1 = length-table (key_in kind bytes) (key_in kind bytes) (entries_in bytes + 1) 0 in
+    let P : List ℕ → Type 0 = λ key. length key ≡ kind.key_length in
+    recursion_from_All P keys (All-from_get_or P keys [] (λ i low.
+    let under : i < entries_in bytes + 1 = omega arith in
+    let room = key_room kind.key_length (2 * kind.k) i (omega arith) in
+    ap (λ (key : List ℕ). length key) (get_or-table (key_in kind bytes) (key_in kind bytes) (entries_in bytes + 1) i [] under)
+    ∙ length-part (key_place kind i) kind.key_length bytes (omega arith)))

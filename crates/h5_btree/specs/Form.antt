@@ -1,8 +1,10 @@
 -- Which rules the bytes of a B-tree node break, and where a node may stand (File Format Specification 3.0, section III.A.1).
-use Rattle.std.specs.Prelude.{◌≡◌, ◌≢◌, ℕ, ◌*◌, ◌<◌, ◌≤◌, ◌⊎◌, List, length}
+use Rattle.std.specs.Prelude.{◌≡◌, ◌≢◌, ℕ, ◌+◌, ◌*◌, ◌<◌, ◌≤◌, ◌⊎◌, List, length}
 use Rattle.h5_bytes.specs.Bytes.{byte_at, part}
 use Rattle.h5_model.specs.Rows.{Node}
-use Rattle.h5_model.specs.Nodes.{Kind, node_signature, entries_in}
+use Rattle.h5_model.specs.Nodes.{Kind, node_signature, entries_in, node_bytes, node_length}
+use Rattle.h5_btree.specs.declared.read.NodeFault.{NodeFault}
+use Rattle.h5_btree.specs.declared.read.NodeFault.TheVariants.{NodeForm, Truncated}
 
 -- another signature, another type, or more children than there is room for
 abbrev pub BreaksForm : Kind → List ℕ → Type 0
@@ -16,3 +18,8 @@ MayBeRoot node = (node.level ≤ 15) × (1 ≤ node.level → 1 ≤ length node.
 -- of this level, with a child
 abbrev pub MayStandAt : ℕ → Node → Type 0
 MayStandAt level node = (node.level ≡ level) × (1 ≤ length node.children)
+
+-- why there is no node of this kind at this address of the image
+abbrev pub IsRefusedAt : List ℕ → Kind → ℕ → NodeFault → Type 0
+IsRefusedAt image kind at Truncated = length image < at + node_length kind
+IsRefusedAt image kind at NodeForm = (at + node_length kind ≤ length image) × BreaksForm kind (node_bytes image kind at)

@@ -1,13 +1,21 @@
-//! Nodes of B-trees, version 1 (File Format Specification 3.0, section III.A.1): what the bytes of one node say.
+//! B-trees, version 1 (File Format Specification 3.0, section III.A.1): what the bytes of a node say, and the way from a
+//! root down to what is sought.
 //!
-//! A node is read where it stands, and nothing is copied. Which nodes make a tree is for the layers above.
+//! Nodes are read where they stand, and nothing is copied. Addresses and lengths are in bytes. What the children at the
+//! bottom are, and the order of their keys, is for the layers above.
 #![tactic(auto)]
 
+mod descent;
 mod kind;
+mod name;
 mod node;
 mod numbers;
 mod read;
+mod sought;
 
+pub use descent::find_leaf;
 pub use kind::NodeKind;
+pub use name::SoughtName;
 pub use node::Node;
-pub use read::{NodeFault, read_node};
+pub use read::{NodeFault, read_node, read_node_at};
+pub use sought::{Sought, child_for};

@@ -1,6 +1,7 @@
 //! What a node's bytes say (File Format Specification 3.0, section III.A.1).
 
-ghost use Rattle.std.specs.Prelude.{◌≡◌, ◌↔◌, ◌+◌, ◌*◌, ◌<◌, ◌≤◌, ◌==◌, [], IsOk, Some, length, slice_get, slice_index_or};
+ghost use Rattle.std.specs.Prelude.{◌≡◌, ◌↔◌, ◌+◌, ◌*◌, ◌<◌, ◌≤◌, ◌==◌, [], IfErr, IsOk, Some, length, slice_get, slice_index_or};
+ghost use Rattle.std.specs.List.{AllByRecursion};
 ghost use Rattle.h5_model.specs.Links.{offset_in};
 ghost use Rattle.h5_model.specs.Nodes.{child_in, entries_in, key_in, key_place, node_length, node_of};
 ghost use Rattle.h5_btree.specs.Form.{MayBeRoot, MayStandAt};
@@ -43,7 +44,8 @@ impl<'a> Node<'a> {
     pub(crate) fn new(kind: NodeKind, bytes: &'a [u8]) -> Self
         requires long { length bytes.now ≡ node_length kind }
         requires roomy { entries_in bytes.now ≤ 2 * kind.k }
-        ensures { result ≡ node_of kind bytes.now }
+        ensures node { result ≡ node_of kind bytes.now }
+        ensures keys { AllByRecursion (λ key. length key ≡ kind.key_length) result.keys }
     {
         Node { kind, bytes }
     }
@@ -110,7 +112,8 @@ impl<'a> Node<'a> {
 
     /// `NodeForm` where the node cannot be the root of a tree: its level is above 15, or is above 0 and there is no child.
     pub fn check_root(&self) -> Result<(), NodeFault>
-        ensures { IsOk result ↔ MayBeRoot self.now }
+        ensures form { IsOk result ↔ MayBeRoot self.now }
+        ensures fault { IfErr result (λ fault. fault ≡ NodeFault.NodeForm) }
     {
         if self.level() > MAX_LEVEL || self.level() > 0 && self.is_empty() {
             return Err(NodeFault::NodeForm);
@@ -121,7 +124,8 @@ impl<'a> Node<'a> {
     /// `NodeForm` where the node cannot stand at this level of a tree below its root: its level is another, or there is no
     /// child.
     pub fn check_level(&self, level: u8) -> Result<(), NodeFault>
-        ensures { IsOk result ↔ MayStandAt level self.now }
+        ensures form { IsOk result ↔ MayStandAt level self.now }
+        ensures fault { IfErr result (λ fault. fault ≡ NodeFault.NodeForm) }
     {
         if self.level() != level || self.is_empty() {
             return Err(NodeFault::NodeForm);

@@ -1,9 +1,10 @@
 //! The reading of a node's form (File Format Specification 3.0, section III.A.1).
 
-ghost use Rattle.std.specs.Prelude.{◌≡◌, ◌↔◌, ◌≤◌, IsTrue, IfErr, IfOk, OnOk, length};
+ghost use Rattle.std.specs.Prelude.{◌≡◌, ◌↔◌, ◌+◌, ◌≤◌, IsTrue, IfErr, IfOk, OnOk, length};
+ghost use Rattle.std.specs.List.{AllByRecursion};
 ghost use Rattle.h5_bytes.specs.Bytes.{part};
-ghost use Rattle.h5_model.specs.Nodes.{IsNode, node_length, node_of, node_signature};
-ghost use Rattle.h5_btree.specs.Form.{BreaksForm};
+ghost use Rattle.h5_model.specs.Nodes.{IsNode, node_at, node_bytes, node_length, node_of, node_signature};
+ghost use Rattle.h5_btree.specs.Form.{BreaksForm, IsRefusedAt};
 
 use crate::kind::NodeKind;
 use crate::node::Node;
@@ -18,6 +19,8 @@ pub enum NodeFault {
     /// The bytes are not of the form of a node of the kind; or the node has a level or a count of children that none
     /// can have in its place.
     NodeForm,
+    /// The node passes the end of the image.
+    Truncated,
 }
 
 /// Reads a node of this kind, whose bytes are as many as one has. Takes no memory.
@@ -27,6 +30,7 @@ pub enum NodeFault {
 pub fn read_node(kind: NodeKind, bytes: &[u8]) -> Result<Node<'_>, NodeFault>
     requires { length bytes.now ≡ node_length kind }
     ensures node { IfOk result (λ node. node ≡ node_of kind bytes.now) }
+    ensures keys { IfOk result (λ node. AllByRecursion (λ key. length key ≡ kind.key_length) node.keys) }
     ensures form { OnOk result (IsNode kind bytes.now) }
     ensures refused { IfErr result (λ fault. (fault ≡ NodeFault.NodeForm) × BreaksForm kind bytes.now) }
 {
@@ -37,6 +41,33 @@ pub fn read_node(kind: NodeKind, bytes: &[u8]) -> Result<Node<'_>, NodeFault>
         return Err(NodeFault::NodeForm);
     }
     Ok(Node::new(kind, bytes))
+}
+
+/// Reads the node of this kind at an address of an image. Takes no memory.
+///
+/// `Truncated` where it passes the end, else `NodeForm` as `read_node`.
+pub fn read_node_at(image: &[u8], kind: NodeKind, at: u64) -> Result<Node<'_>, NodeFault>
+    ensures node { IfOk result (λ node. node ≡ node_at image.now kind at) }
+    ensures keys { IfOk result (λ node. AllByRecursion (λ key. length key ≡ kind.key_length) node.keys) }
+    ensures form { OnOk result (IsNode kind (node_bytes image.now kind at)) }
+    ensures inside { OnOk result (at + node_length kind ≤ length image.now) }
+    ensures refused { IfErr result (λ fault. IsRefusedAt image.now kind at fault) }
+{
+    let end = image.len() as u64;
+    if at > end || kind.node_length() as u64 > end - at {
+        return Err(NodeFault::Truncated);
+    }
+    read_node(kind, bytes_at(image, kind, at as usize))
+}
+
+/// The bytes of a node.
+#[tactic(auto, unfolding(h5_bytes::specs::Bytes::part))]
+fn bytes_at(image: &[u8], kind: NodeKind, at: usize) -> &[u8]
+    requires { at + node_length kind ≤ length image.now }
+    ensures bytes { result.now ≡ node_bytes image.now kind at }
+    ensures long { length result.now ≡ node_length kind }
+{
+    &image[at..at + kind.node_length()]
 }
 
 /// Whether the bytes begin with the signature.

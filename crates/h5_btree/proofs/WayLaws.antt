@@ -1,0 +1,60 @@
+-- One step on the way down a tree.
+use Rattle.std.proofs.Common.{◌≡◌, ◌≢◌, ℕ, zero, suc, ◌-◌, Bool, List, length, get_or, slice_get, Some, inl, inr, refl, sym, ap, subst, ◌∙◌, arith}
+use Rattle.std.proofs.lemmas.Option.{get_or_from_slice_get, slice_get_within}
+use Rattle.h5_model.specs.Rows.{Node, next_row}
+use Rattle.h5_model.specs.Nodes.{Kind, node_at, reading_of}
+use Rattle.h5_btree.specs.Form.{MayStandAt}
+use Rattle.h5_btree.specs.Descent.{IsChildFor, IsInRow, IsStop, LeadsTo, Stops}
+use Rattle.h5_btree.specs.declared.read.NodeFault.{NodeFault}
+use Rattle.h5_btree.proofs.DescentLaws.{stands_in_row, child_in_row}
+
+module _ (image : List ℕ) (kind : Kind) (at : ℕ) (node : Node) (is : node ≡ node_at image kind at) where
+  pub stands : (owned : List ℕ) (level : ℕ) (row : List ℕ) → IsInRow image kind owned level row at → MayStandAt level node
+  stands owned level row r = subst (λ (n : Node). MayStandAt level n) (sym is) (stands_in_row image kind owned level row at r)
+
+-- the way ends at this node
+pub stops_here : (image : List ℕ) (kind : Kind) (behind : List ℕ → Bool) (level at : ℕ) (fault : NodeFault) → IsStop image kind level at fault → Stops image kind behind level at fault
+stops_here image kind behind zero at fault stop = stop
+stops_here image kind behind (suc level) at fault stop = inl stop
+
+module _ (image : List ℕ) (kind : Kind) (behind : List ℕ → Bool) (at : ℕ) (node : Node) (i child : ℕ) (is : node ≡ node_at image kind at)
+    (chosen : IsChildFor behind node i) (read : slice_get node.children i ≡ Some child) where
+  same_child : (n : ℕ) → child ≡ get_or (node_at image kind at).children i n
+  same_child n = sym (get_or_from_slice_get node.children i child n read) ∙ ap (λ (m : Node). get_or m.children i n) is
+
+  chosen_there : IsChildFor behind (node_at image kind at) i
+  chosen_there = subst (λ (n : Node). IsChildFor behind n i) is chosen
+
+  pub leads_here : LeadsTo (node_at image kind) behind 0 at child
+  leads_here = (i, chosen_there, same_child 0)
+
+  pub leads_on : (level leaf : ℕ) → level ≢ 0 → LeadsTo (node_at image kind) behind (level - 1) child leaf → LeadsTo (node_at image kind) behind level at leaf
+  leads_on zero leaf some rest = absurd (some refl)
+  leads_on (suc level) leaf some rest =
+      let below : suc level - 1 ≡ level = omega arith in (
+        i,
+        chosen_there,
+        subst (λ (n : ℕ). LeadsTo (node_at image kind) behind level n leaf) (same_child 0)
+            (subst (λ (l : ℕ). LeadsTo (node_at image kind) behind l child leaf) below rest),
+      )
+
+  pub stops_below : (level : ℕ) (fault : NodeFault) → level ≢ 0 → Stops image kind behind (level - 1) child fault → Stops image kind behind level at fault
+  stops_below zero fault some rest = absurd (some refl)
+  stops_below (suc level) fault some rest =
+      let below : suc level - 1 ≡ level = omega arith in
+      inr (
+        i,
+        chosen_there,
+        subst (λ (n : ℕ). Stops image kind behind level n fault) (same_child 0)
+            (subst (λ (l : ℕ). Stops image kind behind l child fault) below rest),
+      )
+
+  pub down_row : (owned : List ℕ) (level : ℕ) (row : List ℕ) → level ≢ 0 → IsInRow image kind owned level row at
+      → IsInRow image kind owned (level - 1) (next_row (reading_of image kind owned) row) child
+  down_row owned zero row some r = absurd (some refl)
+  down_row owned (suc level) row some r =
+      let below : suc level - 1 ≡ level = omega arith in
+      let low = slice_get_within node.children i child read in
+      let count : length node.children ≡ length (node_at image kind at).children = ap (λ (n : Node). length n.children) is in
+      subst (λ (l : ℕ). IsInRow image kind owned l (next_row (reading_of image kind owned) row) child) (sym below)
+      (child_in_row image kind owned level row at i child r (omega arith) (sym (same_child child)))
