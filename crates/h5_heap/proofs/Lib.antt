@@ -4,4 +4,5 @@ pub mod HeaderLaws
 pub mod TextLaws
 pub mod TakenLaws
 pub mod NameLaws
-pub mod NamelessLaws
+pub mod RefusedLaws
+pub mod BreachLaws

@@ -3,7 +3,7 @@ use Rattle.std.specs.Prelude.{ℕ, List}
 use Rattle.h5_bytes.specs.Bytes.{part}
 use Rattle.h5_bytes.specs.declared.Block.{Block}
 
--- its address, its segment and free blocks, the bytes of the segment that are taken, and the offsets of the texts among them
+-- its address, its segment and free blocks, which bytes of the segment are held, and the offsets of the texts among these
 pub record Kept : Type 0 where
   pub at : ℕ
   pub segment : Block

@@ -43,7 +43,7 @@ IsRefused image heap held HeapForm address = (address ≡ heap) × (heap + 32 �
 IsRefused image heap held NoMemory address = Unit {0}
 IsRefused image heap held _ address = ⊥
 
--- a heap stands there, in blocks that lie in the image and share no byte with each other or with those that were claimed before
+-- a heap stands there, in blocks that lie in the image and share no byte with each other or with what was claimed
 pub record IsReadable (image : List ℕ) (heap : ℕ) (held : List Block) : Type 0 where
   pub free : List Block
   pub has : IsHeap (heap_header image heap) (segment_of image heap) free

@@ -1,5 +1,5 @@
--- Texts of a heap's segment, each with its zero and its padding, and which of them are taken (File Format Specification 3.0,
--- section III.D).
+-- Texts of a heap's segment, each with its zero and its padding, and which of them are taken (File Format
+-- Specification 3.0, section III.D).
 use Rattle.std.specs.Prelude.{◌≡◌, ◌≢◌, ℕ, ◌+◌, ◌%◌, ◌≤◌, ◌⊎◌, ◌↔◌, List, ◌∷◌, ◌++◌, map, length}
 use Rattle.std.specs.BTreeSet.{insert_key}
 use Rattle.std.specs.List.{AllByRecursion, Contains}
@@ -63,6 +63,8 @@ abbrev pub all_spans : List ℕ → List ℕ → List Block → List Block
 all_spans segment offsets free = block 0 8 ∷ map (span_of segment) offsets ++ free
 
 -- These texts were taken since the names were begun: those that links name, and then those that keys alone name.
+-- Law has_names: when these are all texts of a group's links, and each of its keys is named, HasNames holds. Laws
+-- begin_breach to key_breach: a text that is refused on the way is a HeapNameBreach.
 pub record HasTaken (segment : List ℕ) (heap : Kept) (linked loose : List ℕ) : Type 0 where
   pub empty : byte_at segment 0 ≡ 0
   pub spans : AllByRecursion (IsSpan segment) (linked ++ loose)

@@ -15,7 +15,8 @@ pub fn claim(claims: &mut Claims, block: Block) -> Result<(), OpenFault>
         → cover p claims.new.held ≡ cover p claims.old.held + holds p block.at block.len) }
     ensures separate { Separate claims.new.held }
     ensures end { claims.new.end ≡ claims.old.end }
-    ensures refused { IfErr result (λ fault. ClaimBreach claims.old.end claims.old.held block fault.cause fault.address) }
+    ensures refused { IfErr result (λ fault.
+        ClaimBreach claims.old.end claims.old.held block fault.cause fault.address) }
 {
     let cause = match claims.claim(block.at, block.len) {
         Ok(()) => return Ok(()),

@@ -67,7 +67,8 @@ pub fn read_heap(
     ensures separate { OnOk result (Separate claims.new.held) }
     ensures end { claims.new.end ≡ claims.old.end }
     ensures refused { IfErr result (λ fault. IsRefused image.now.bytes at claims.old.held fault.cause fault.address) }
-    ensures only { IsReadable image.now.bytes at claims.old.held → IfErr result (λ fault. fault.cause ≡ Cause.NoMemory) }
+    ensures only { IsReadable image.now.bytes at claims.old.held
+        → IfErr result (λ fault. fault.cause ≡ Cause.NoMemory) }
 {
     let header = claim_heap(image, claims, at)?;
     let segment = header.segment;

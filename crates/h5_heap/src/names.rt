@@ -50,7 +50,8 @@ impl Heap {
         ensures begun { OnOk result (((p : ℕ) → cover p self.old.held ≡ cover p self.old.free) → self.old.taken ≡ []
             → HasTaken (segment_in image.now.bytes self.old) self.new [] []) }
         ensures address { IfErr result (λ fault. fault.address ≡ self.old.at) }
-        ensures refused { IfErr result (λ fault. IsNotEmpty (segment_in image.now.bytes self.old) self.old.held fault.cause) }
+        ensures refused { IfErr result (λ fault.
+            IsNotEmpty (segment_in image.now.bytes self.old) self.old.held fault.cause) }
         ensures err { OnErr result (self.new ≡ self.old) }
     {
         if self.segment_bytes(image)[0] != 0 {
@@ -69,10 +70,12 @@ impl Heap {
         ensures text { IfOk result (λ x. x.now ≡ text_at (segment_in image.now.bytes self.old) offset) }
         ensures span { OnOk result (IsSpan (segment_in image.now.bytes self.old) offset) }
         ensures takes { OnOk result (Takes (segment_in image.now.bytes self.old) self.old self.new offset) }
-        ensures taken { OnOk result ((linked loose : List ℕ) → HasTaken (segment_in image.now.bytes self.old) self.old linked loose
+        ensures taken { OnOk result ((linked loose : List ℕ)
+            → HasTaken (segment_in image.now.bytes self.old) self.old linked loose
             → HasTaken (segment_in image.now.bytes self.old) self.new (linked ++ offset ∷ []) loose) }
         ensures address { IfErr result (λ fault. fault.address ≡ self.old.at) }
-        ensures refused { IfErr result (λ fault. IsUntaken (segment_in image.now.bytes self.old) self.old.held offset fault.cause) }
+        ensures refused { IfErr result (λ fault.
+            IsUntaken (segment_in image.now.bytes self.old) self.old.held offset fault.cause) }
         ensures unchanged { IfErr result (λ fault. fault.cause ≡ Cause.HeapName → self.new ≡ self.old) }
         ensures err { OnErr result (self.new ≡ record self.old { held = self.new.held }) }
     {
@@ -93,10 +96,12 @@ impl Heap {
         ensures text { IfOk result (λ x. x.now ≡ text_at (segment_in image.now.bytes self.old) offset) }
         ensures span { OnOk result (IsSpan (segment_in image.now.bytes self.old) offset) }
         ensures names { OnOk result (Names (segment_in image.now.bytes self.old) self.old self.new offset) }
-        ensures named { OnOk result ((linked loose : List ℕ) → HasTaken (segment_in image.now.bytes self.old) self.old linked loose
+        ensures named { OnOk result ((linked loose : List ℕ)
+            → HasTaken (segment_in image.now.bytes self.old) self.old linked loose
             → HasNamed (segment_in image.now.bytes self.old) self.new linked loose offset) }
         ensures address { IfErr result (λ fault. fault.address ≡ self.old.at) }
-        ensures refused { IfErr result (λ fault. IsUnnamed (segment_in image.now.bytes self.old) self.old offset fault.cause) }
+        ensures refused { IfErr result (λ fault.
+            IsUnnamed (segment_in image.now.bytes self.old) self.old offset fault.cause) }
         ensures unchanged { IfErr result (λ fault. fault.cause ≡ Cause.HeapName → self.new ≡ self.old) }
         ensures err { OnErr result (self.new ≡ record self.old { held = self.new.held }) }
     {
