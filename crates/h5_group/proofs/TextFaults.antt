@@ -11,7 +11,7 @@ use Rattle.h5_model.specs.declared.open_fault.Cause.{Cause}
 use Rattle.h5_model.specs.declared.open_fault.Cause.TheVariants.{HeapName, NoMemory}
 use Rattle.h5_heap.specs.Kept.{Kept, segment_in}
 use Rattle.h5_heap.specs.Spans.{Names, IsNotEmpty, IsUntaken, IsUnnamed, HasTaken, HasNamed}
-use Rattle.h5_heap.proofs.NamelessLaws.{begin_refused, take_refused, key_refused}
+use Rattle.h5_heap.proofs.RefusedLaws.{begin_refused, take_refused, key_refused}
 use Rattle.h5_group.specs.Names.{IsUnused, IsSameHeap, HasKeys, AreTextsRefused}
 
 pub begin_texts : (segment : List ℕ) (heap : Kept) (names keys : List ℕ) → IsUnused heap → (cause : Cause) → IsNotEmpty segment heap.held cause

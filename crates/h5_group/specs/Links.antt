@@ -25,4 +25,5 @@ pub record HasClaimed (image : List ℕ) (table : SymbolTable) (held now : List 
 -- the link has the header and the symbol node of the entry, and the name
 abbrev pub IsLinkOf : Option Symbol → Option (List ℕ) → Option GroupLink → Type 0
 IsLinkOf None name link = link ≡ None
-IsLinkOf (Some s) name link = (l : GroupLink) × (link ≡ Some l) × (Some l.name.items ≡ name) × (l.header ≡ s.header) × (l.node ≡ s.node)
+IsLinkOf (Some s) name link = (l : GroupLink) × (link ≡ Some l) × (Some l.name.items ≡ name)
+    × (l.header ≡ s.header) × (l.node ≡ s.node)

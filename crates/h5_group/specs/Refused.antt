@@ -11,17 +11,21 @@ use Rattle.h5_model.specs.declared.open_fault.Cause.{Cause}
 use Rattle.h5_model.specs.declared.open_fault.Cause.TheVariants.{HeapName, NodeForm, KeyOrder, Sibling, BadName, NoMemory, NotYet}
 use Rattle.h5_heap.specs.Refused.{ClaimBreach}
 
--- the root is no node of a group; or it is not read yet; or it cannot be claimed
+-- the root is no node of a group at the root of a tree; or it is not read yet; or it cannot be claimed
 abbrev pub IsRootRefused : List ℕ → List Block → ℕ → Cause → ℕ → Type 0
-IsRootRefused image held root NodeForm address = (address ≡ root) × (root + node_length (group_kind (internal_k image)) ≤ length image)
+IsRootRefused image held root NodeForm address = (address ≡ root)
+    × (root + node_length (group_kind (internal_k image)) ≤ length image)
     × NodeBreach image (group_kind (internal_k image)) root (level_at image (group_kind (internal_k image)) root) root
 IsRootRefused image held root NotYet address = (address ≡ root)
-    × ((1 ≤ level_at image (group_kind (internal_k image)) root) ⊎ (2 ≤ entries_in (node_bytes image (group_kind (internal_k image)) root)))
-IsRootRefused image held root cause address = ClaimBreach (length image) held (node_block (group_kind (internal_k image)) root) cause address
+    × ((1 ≤ level_at image (group_kind (internal_k image)) root)
+    ⊎ (2 ≤ entries_in (node_bytes image (group_kind (internal_k image)) root)))
+IsRootRefused image held root cause address =
+    ClaimBreach (length image) held (node_block (group_kind (internal_k image)) root) cause address
 
 -- the same of a symbol node
 abbrev pub IsSymbolNodeRefused : List ℕ → List Block → ℕ → Cause → ℕ → Type 0
-IsSymbolNodeRefused image held at NodeForm address = (address ≡ at) × (at + (8 + 80 * leaf_k image) ≤ length image) × SymbolBreach image at
+IsSymbolNodeRefused image held at NodeForm address = (address ≡ at)
+    × (at + (8 + 80 * leaf_k image) ≤ length image) × SymbolBreach image at
 IsSymbolNodeRefused image held at NotYet address = (address ≡ at)
     × ((2 ≤ symbols_in (symbol_bytes image (leaf_k image) at))
     ⊎ ((1 ≤ symbols_in (symbol_bytes image (leaf_k image) at)) × ((entry_in image at 0).cache ≡ 2)))
@@ -30,7 +34,8 @@ IsSymbolNodeRefused image held at cause address = ClaimBreach (length image) hel
 -- the names and the keys of the group break a rule, or its root names a neighbour
 abbrev pub AreNamesRefused : List ℕ → SymbolTable → Cause → ℕ → Type 0
 AreNamesRefused image table NoMemory address = Unit {0}
-AreNamesRefused image table Sibling address = (address ≡ table.tree) × SiblingBreach image (group_kind (internal_k image)) table.tree table.tree
+AreNamesRefused image table Sibling address = (address ≡ table.tree)
+    × SiblingBreach image (group_kind (internal_k image)) table.tree table.tree
 AreNamesRefused image table HeapName address = (address ≡ table.heap) × HeapNameBreach image table.tree table.heap
 AreNamesRefused image table BadName address = (address ≡ table.heap) × BadNameBreach image table.tree table.heap
 AreNamesRefused image table KeyOrder address = (address ≡ table.tree) × KeyBreach image table.heap table.tree

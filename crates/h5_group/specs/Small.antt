@@ -26,7 +26,8 @@ root_node image root = group_node image (internal_k image) root
 
 -- the root of a group's tree is such a node
 abbrev pub IsSmallRoot : List ℕ → ℕ → Type 0
-IsSmallRoot image root = IsNode (group_kind (internal_k image)) (node_bytes image (group_kind (internal_k image)) root) × IsSmallNode (root_node image root)
+IsSmallRoot image root = IsNode (group_kind (internal_k image)) (node_bytes image (group_kind (internal_k image)) root)
+    × IsSmallNode (root_node image root)
 
 -- the entry says so, and leads to an object header
 pub record IsSymbol (e : Entry) (s : Symbol) : Type 0 where

@@ -26,6 +26,7 @@ pub fn claim(claims: &mut Claims, at: u64, len: u64) -> Result<(), OpenFault>
     Err(fault(cause, at))
 }
 
+/// The fault of this cause, at this address.
 pub fn fault(cause: Cause, address: u64) -> OpenFault
     ensures { result ≡ record { cause = cause; address = address } }
 {

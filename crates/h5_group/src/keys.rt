@@ -61,6 +61,7 @@ pub fn are_ordered(bounds: &Bounds, name: Option<&[u8]>) -> bool
     }
 }
 
+/// Whether the bounds do not fall, and the name is above the low one and not above the high one.
 fn lies_between(low: &[u8], name: &[u8], high: &[u8]) -> bool
     ensures { IsTrue result ↔ (NotAfter low.now high.now × (Before low.now name.now × NotAfter name.now high.now)) }
 {

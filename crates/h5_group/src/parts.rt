@@ -27,7 +27,7 @@ pub struct Parts<'a> {
     pub symbol: Option<Symbol>,
 }
 
-/// Claims the blocks of a group, and reads them one by one.
+/// Claims the blocks of a group: those of its heap, the root of its tree, and the symbol node below that.
 pub fn claim_parts<'a>(
     alloc: Global,
     image: &'a Image,
