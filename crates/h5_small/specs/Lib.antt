@@ -1,0 +1,4 @@
+pub mod Bodies
+pub mod Small
+pub mod Sound
+pub mod Laws
