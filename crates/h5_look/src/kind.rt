@@ -1,0 +1,27 @@
+//! What stands at a path.
+
+use h5_model::Fixed;
+use h5_shape::Dims;
+
+/// How a dataset's cells are stored; of chunks their sizes.
+#[derive(Drop)]
+pub enum StoreKind {
+    Compact,
+    Contiguous,
+    Chunked(Dims),
+}
+
+/// What stands at a path.
+#[derive(Drop)]
+pub enum Kind {
+    /// A group.
+    Group,
+    /// An array. A maximum that is unlimited is shown as 18446744073709551615.
+    Dataset {
+        fixed: Fixed,
+        dims: Dims,
+        maxima: Dims,
+        store: StoreKind,
+        fill: i128,
+    },
+}

@@ -1,0 +1,71 @@
+//! Messages of a header that stand behind those of its content: kept messages and attributes (File Format Specification 3.0,
+//! sections IV.A.1.a and IV.A.2).
+ghost use Rattle.std.specs.Prelude.{◌≡◌, ℕ, ◌%◌, ◌<◌, [], ◌∷◌, ◌++◌, List, OnOk, length};
+ghost use Rattle.h5_model.specs.Edits.{attribute_from};
+ghost use Rattle.h5_small.specs.Bodies.{attribute_message};
+ghost use Rattle.h5_small.specs.Sound.{IsPlainAttribute};
+ghost use Rattle.h5_plain.specs.Written.{AreOthers};
+
+use h5_model::AttrSpec;
+use h5_msg::AttributeBody;
+use std::alloc::{AllocError, Global};
+use std::marker::Model;
+
+/// Messages as they are to be written, one behind another.
+#[derive(Drop)]
+pub struct Others {
+    bytes: Vec<u8>,
+    count: usize,
+}
+
+impl Model for Others {
+    ghost use Rattle.std.specs.Prelude.{◌*◌, ◌≤◌, length};
+    ghost use Rattle.h5_plain.specs.Others.{OthersBytes};
+
+    ghost Value = { OthersBytes };
+
+    ghost view = { λ o. record { bytes = o.bytes.items; count = o.count } };
+
+    ghost invariant = { λ o. length o.bytes.items ≤ o.count * 65544 };
+}
+
+impl Others {
+    /// No message. It takes no memory.
+    pub fn new(alloc: Global) -> Others
+        ensures { AreOthers [] result }
+    {
+        Others {
+            bytes: Vec::new(alloc),
+            count: 0,
+        }
+    }
+
+    /// Appends a message with this body, of a multiple of 8 bytes.
+    pub fn push_kept(&mut self, kind: u16, body: &[u8]) -> Result<(), AllocError>
+        requires padded { length body.now % 8 ≡ 0 }
+        requires low { length body.now < 65536 }
+        requires few { self.old.count < 65536 }
+        ensures { OnOk result ((ms : List (ℕ × List ℕ)) → AreOthers ms self.old → AreOthers (ms ++ (kind, body.now) ∷ []) self.new) }
+    {
+        Err(AllocError)
+    }
+
+    /// Appends the message of an attribute.
+    pub fn push_new(&mut self, attr: &AttrSpec) -> Result<(), AllocError>
+        requires plain { IsPlainAttribute (attr.now.name, attribute_from attr.now) }
+        requires few { self.old.count < 65536 }
+        ensures { OnOk result ((ms : List (ℕ × List ℕ)) → AreOthers ms self.old
+            → AreOthers (ms ++ attribute_message (attr.now.name, attribute_from attr.now) ∷ []) self.new) }
+    {
+        Err(AllocError)
+    }
+
+    /// Appends the message of an attribute as another header has it.
+    pub fn push_stored(&mut self, attr: &AttributeBody<'_>) -> Result<(), AllocError>
+        requires plain { IsPlainAttribute attr.now }
+        requires few { self.old.count < 65536 }
+        ensures { OnOk result ((ms : List (ℕ × List ℕ)) → AreOthers ms self.old → AreOthers (ms ++ attribute_message attr.now ∷ []) self.new) }
+    {
+        Err(AllocError)
+    }
+}
