@@ -7,6 +7,9 @@ ghost use Rattle.h5_look.specs.Names.{AreNames, AreParts};
 
 use h5_model::is_link_name;
 
+/// The most names of a path.
+pub const MAX_DEPTH: usize = 64;
+
 /// The names of a path.
 #[derive(Clone, Copy)]
 pub enum Names<'a> {

@@ -1,0 +1,62 @@
+//! The attributes of the object at a path (File Format Specification 3.0, section IV.A.2.m).
+
+ghost use Rattle.std.specs.Prelude.{◌≡◌, Some, MatchResult, map};
+ghost use Rattle.h5_model.specs.Refusal.{first_holding};
+ghost use Rattle.h5_model.specs.Reading.{attribute_rules};
+ghost use Rattle.h5_open.specs.Kept.{IsOpened};
+ghost use Rattle.h5_open.specs.Opened.{tree_of};
+ghost use Rattle.h5_look.specs.Look.{HasAttribute, HasAttributeNames, HasAttributesOf, IsUnlisted};
+
+use h5_attr::AttrRef;
+use h5_model::EditFault;
+use h5_open::Opened;
+use h5_space::Image;
+use std::alloc::Global;
+
+/// The names of the attributes of the object at the path, ascending by their bytes.
+///
+/// Refused as [`crate::look`] is, and as `NoMemory`.
+pub fn names_of_attributes<'a>(
+    alloc: Global,
+    image: &'a Image,
+    opened: &Opened,
+    path: &[u8],
+) -> Result<Vec<&'a [u8]>, EditFault>
+    requires { IsOpened image.now.bytes opened.now.root opened.now.link }
+    ensures { let tree = tree_of image.now.bytes opened.now.root opened.now.link in
+        MatchResult result (λ names. HasAttributeNames tree path.now (map (λ name. name.now) names.items)) (IsUnlisted tree path.now) }
+{
+    Err(EditFault::NoMemory)
+}
+
+/// The attributes of the object at the path, ascending by the bytes of their names.
+///
+/// Refused as [`crate::look`] is, and as `NoMemory`.
+pub fn attributes_at<'a>(
+    alloc: Global,
+    image: &'a Image,
+    opened: &Opened,
+    path: &[u8],
+) -> Result<Vec<AttrRef<'a>>, EditFault>
+    requires { IsOpened image.now.bytes opened.now.root opened.now.link }
+    ensures { let tree = tree_of image.now.bytes opened.now.root opened.now.link in
+        MatchResult result (λ list. HasAttributesOf tree path.now list.items) (IsUnlisted tree path.now) }
+{
+    Err(EditFault::NoMemory)
+}
+
+/// The attribute of this name of the object at the path.
+///
+/// Refused as [`crate::look`] is, and as `NoSuchAttribute` where the object has none of this name. It takes no memory.
+pub fn one_attribute<'a>(
+    image: &'a Image,
+    opened: &Opened,
+    path: &[u8],
+    name: &[u8],
+) -> Result<AttrRef<'a>, EditFault>
+    requires { IsOpened image.now.bytes opened.now.root opened.now.link }
+    ensures { let tree = tree_of image.now.bytes opened.now.root opened.now.link in
+        MatchResult result (HasAttribute tree path.now name.now) (λ e. first_holding (attribute_rules tree path.now name.now) ≡ Some e) }
+{
+    Err(EditFault::NotFound)
+}
