@@ -3,7 +3,7 @@
 use Rattle.std.proofs.Common.{◌≡◌, ℕ, ◌-◌, ◌^◌, ◌<◌, ◌≤◌, List, [], ◌∷◌, ◌++◌, refl, sym, ap, ◌∙◌, subst, arith}
 use Rattle.std.specs.List.{flat_map}
 use Rattle.h5_bytes.specs.Bytes.{number_at, part, undefined}
-use Rattle.h5_model.specs.Nodes.{IsNode, group_kind, node_bytes, node_length, node_of}
+use Rattle.h5_model.specs.Nodes.{IsNode, group_kind, node_at, node_bytes, node_length, node_of}
 use Rattle.h5_model.specs.Plain.{zeros, middle, word, node_bytes_of, symbol_node_bytes, entry_bytes}
 use Rattle.h5_model.specs.Rows.{Node}
 use Rattle.h5_model.specs.Sizes.{group_node, symbol_node}
@@ -22,7 +22,7 @@ node_there image bytes k tree there =
 -- bytes that say that they are a lone node are one where they stand
 module _ (image bytes : List ℕ) (k tree : ℕ) (node : Node) (there : part tree (group_node k) image ≡ bytes)
     (say : node_of (group_kind k) bytes ≡ node) where
-  pub node_said : node_of (group_kind k) (node_bytes image (group_kind k) tree) ≡ node
+  pub node_said : node_at image (group_kind k) tree ≡ node
   node_said = ap (node_of (group_kind k)) (node_there image bytes k tree there) ∙ say
 
   pub lone_node : IsNode (group_kind k) bytes → node.level ≡ 0 → node.left ≡ undefined → node.right ≡ undefined → IsLoneNode image k tree
