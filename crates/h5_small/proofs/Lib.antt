@@ -1,0 +1,3 @@
+pub mod GroupNodes
+pub mod GroupHeap
+pub mod GroupLinks
