@@ -1,0 +1,38 @@
+//! The image with a first array (File Format Specification 3.0, section IV.A).
+
+ghost use Rattle.std.specs.Prelude.{◌≡◌, ◌≤◌, true, None, IfOk, IfErr, length};
+ghost use Rattle.h5_model.specs.Paths.{is_name};
+ghost use Rattle.h5_open.specs.Kept.{IsOpened};
+ghost use Rattle.h5_open.specs.State.{opened_state};
+ghost use Rattle.h5_anew.specs.Anew.{IsAnew, IsNotAnew};
+ghost use Rattle.h5_anew.specs.Change.{IsNewLine, tree_with_array};
+
+use h5_model::Spec;
+use h5_open::Opened;
+use h5_plain::WriteFault;
+use h5_space::Image;
+use std::alloc::Global;
+
+/// The image written anew with a first link of the root, to a new array of one size, each cell the fill.
+///
+/// `TooLong` where it would have more than 2147483648 bytes, and else `NoMemory` where memory is refused.
+pub fn add_array(
+    alloc: Global,
+    image: &Image,
+    opened: &Opened,
+    name: &[u8],
+    spec: &Spec,
+    size: u64,
+) -> Result<Vec<u8>, WriteFault>
+    requires opened { IsOpened image.now.bytes opened.now.root opened.now.link }
+    requires alone { opened.now.link ≡ None }
+    requires named { is_name name.now ≡ true }
+    requires short { length name.now ≤ 1023 }
+    requires line { IsNewLine spec.now size }
+    ensures written { let f = opened_state image.now.bytes opened.now.root opened.now.link in
+        IfOk result (λ bytes. IsAnew f (tree_with_array f.tree name.now spec.now) 2 bytes.items) }
+    ensures refused { let f = opened_state image.now.bytes opened.now.root opened.now.link in
+        IfErr result (IsNotAnew f (tree_with_array f.tree name.now spec.now)) }
+{
+    Err(WriteFault::NoMemory)
+}
