@@ -6,7 +6,7 @@ ghost use Rattle.h5_model.specs.Superblock.{IsSuperblock};
 ghost use Rattle.h5_model.specs.Heap.{segment_of};
 ghost use Rattle.h5_model.specs.Reached.{Named};
 ghost use Rattle.h5_walk.specs.NotYet.{IsRefusedAt};
-ghost use Rattle.h5_group.specs.Links.{HasClaimed, IsLinkOf};
+ghost use Rattle.h5_group.specs.Links.{HasClaimed, HasOnly, IsLinkOf};
 ghost use Rattle.h5_group.specs.Small.{root_node};
 ghost use Rattle.h5_group.specs.Names.{HasParts, HasSmallGroup, names_at};
 ghost use Rattle.h5_group.specs.Refused.{AreNamesRefused};
@@ -53,6 +53,7 @@ pub fn read_group(
     requires end { claims.old.end ≡ length image.now.bytes }
     requires superblock { IsSuperblock image.now.bytes }
     ensures links { IfOk result (λ link. HasClaimed image.now.bytes table claims.old.held claims.new.held link) }
+    ensures only { IfOk result (λ link. HasOnly image.now.bytes table link) }
     ensures separate { OnOk result (Separate claims.new.held) }
     ensures end { claims.new.end ≡ claims.old.end }
     ensures walked { IfOk result (λ link. (followed : List Named) (first second depth : ℕ)

@@ -1,5 +1,5 @@
 -- The steps of the walk: what one hands to the next, and why it is refused.
-use Rattle.std.proofs.Common.{◌≡◌, ◌≢◌, ℕ, ◌+◌, ◌-◌, ◌≤◌, inl, inr, List, [], ◌∷◌, ◌++◌, length, refl, sym, ◌∙◌, ap, subst, arith, Option, Some, None, Bool, true, false}
+use Rattle.std.proofs.Common.{◌≡◌, ◌≢◌, ℕ, ◌+◌, ◌≤◌, inl, List, [], ◌∷◌, ◌++◌, length, refl, sym, ◌∙◌, subst, arith, Option, Some, None, false}
 use Rattle.std.specs.Prelude.{map, IfSome, ◌==◌}
 use Rattle.std.specs.List.{AllByRecursion, find}
 use Rattle.h5_bytes.specs.Blocks.{block, cover, Separate, Inside}
@@ -17,7 +17,7 @@ use Rattle.h5_header.specs.Listed.{Listed, messages_in}
 use Rattle.h5_group.specs.declared.read.GroupLink.{GroupLink}
 use Rattle.h5_group.specs.Walk.{IsGroupMet, IsGroupRead, IsLinkMet}
 use Rattle.h5_walk.specs.Walked.{IsWalked, continuation_fields}
-use Rattle.h5_walk.specs.Met.{IsMet, IsHeaderMet, with_header}
+use Rattle.h5_walk.specs.Met.{IsHeaderMet, with_header}
 use Rattle.h5_walk.specs.NotYet.{IsRefusedAt, IsOfGroupAt}
 use Rattle.h5_walk.proofs.ListLaws.{prefix_there}
 use Rattle.h5_open.specs.declared.opened.Linked.{Linked}
@@ -25,7 +25,6 @@ use Rattle.h5_open.specs.Judged.{IsGroupList}
 use Rattle.h5_model.specs.Tree.{Group}
 use Rattle.h5_walk.specs.Small.{pair_tree, link_to_one}
 use Rattle.h5_open.specs.Opened.{table_of, tree_of, object_with, array_in}
-use Rattle.h5_open.specs.Array.{IsEntryMet, IsLineRead}
 use Rattle.h5_open.specs.Walk.{IsRootOpened, IsLinkReady, IsLinkedRead, IsMiscounted}
 use Rattle.h5_open.proofs.ArrayLaws.{group_at}
 use Rattle.h5_open.proofs.RootLaws.{root_reached, root_met, found_table, tree_met, heap_met, table_walked}

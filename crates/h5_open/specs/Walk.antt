@@ -1,13 +1,11 @@
 -- The walk of opening, step by step: the root with its group, and the link's array (File Format Specification 3.0, sections II.A, III
 -- and IV.A).
 use Rattle.std.specs.Prelude.{◌≡◌, ◌≢◌, ℕ, ◌+◌, ◌≤◌, Option, List, length}
-use Rattle.std.specs.List.{AllByRecursion}
 use Rattle.h5_bytes.specs.Blocks.{cover}
 use Rattle.h5_bytes.specs.declared.Block.{Block}
 use Rattle.h5_model.specs.Addresses.{SymbolTable}
 use Rattle.h5_model.specs.Messages.{prefix_at, reference_count}
 use Rattle.h5_model.specs.Reached.{Named, named, ObjectHeader, Reached}
-use Rattle.h5_model.specs.Faults.{is_header}
 use Rattle.h5_model.specs.declared.open_fault.Cause.{Cause}
 use Rattle.h5_model.specs.declared.open_fault.Cause.TheVariants.{NotYet}
 use Rattle.h5_header.specs.Listed.{Listed}

@@ -4,11 +4,10 @@
 ghost use Rattle.std.specs.Prelude.{◌≡◌, ◌≢◌, ◌+◌, ◌≤◌, [], length, IfOk, IfErr, IfSome, OnOk};
 ghost use Rattle.h5_bytes.specs.Blocks.{Separate};
 ghost use Rattle.h5_model.specs.Messages.{prefix_at, reference_count};
-ghost use Rattle.h5_model.specs.Reads.{Reads};
 ghost use Rattle.h5_model.specs.Superblock.{IsSuperblock, end_of_file, root_header};
 ghost use Rattle.h5_walk.specs.NotYet.{IsRefusedAt};
 ghost use Rattle.h5_walk.specs.Walked.{IsWalked};
-ghost use Rattle.h5_open.specs.Opened.{table_of, tree_of};
+ghost use Rattle.h5_open.specs.Kept.{IsOpened};
 ghost use Rattle.h5_open.specs.Root.{IsRootRead};
 ghost use Rattle.h5_open.specs.Walk.{IsRootOpened, IsLinkReady, IsLinkedRead, IsMiscounted};
 
@@ -41,7 +40,7 @@ const ROOT_HEADER: usize = 64;
 pub fn walk(alloc: Global, image: &Image) -> Result<Opened, OpenFault>
     requires superblock { IsSuperblock image.now.bytes }
     requires whole { end_of_file image.now.bytes ≡ length image.now.bytes }
-    ensures reads { IfOk result (λ o. Reads image.now.bytes (table_of o.root o.link) (tree_of image.now.bytes o.root o.link)) }
+    ensures kept { IfOk result (λ o. IsOpened image.now.bytes o.root o.link) }
     ensures refused { IfErr result (λ fault. IsRefusedAt image.now.bytes fault.cause fault.address) }
 {
     let mut claims = claim_superblock(alloc, image)?;
