@@ -1,2 +1,3 @@
 pub mod ImageParts
 pub mod ImageLink
+pub mod ImageSuperblock
