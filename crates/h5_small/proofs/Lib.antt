@@ -1,3 +1,4 @@
 pub mod ImageParts
 pub mod ImageLink
 pub mod ImageSuperblock
+pub mod ImageBlocks
