@@ -2,3 +2,4 @@ pub mod ImageParts
 pub mod ImageLink
 pub mod ImageSuperblock
 pub mod ImageBlocks
+pub mod ImageReads
