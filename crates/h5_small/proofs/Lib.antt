@@ -3,3 +3,4 @@ pub mod ImageLink
 pub mod ImageSuperblock
 pub mod ImageBlocks
 pub mod ImageReads
+pub mod ImageLength
