@@ -26,7 +26,7 @@ abbrev pub GroupSize : Type 0
 GroupSize = (o : Object) (links : Links) → IsPlainObject o → o.content ≡ Group links → 16 + 24 + length (messages_bytes (others_of o)) ≡ header_size o
 
 abbrev pub ArraySize : Type 0
-ArraySize = (p : Object) (d : Dataset) (name : List ℕ) → IsPlainObject p → p.content ≡ Array d → IsPlainArray d (length (others_of p))
+ArraySize = (name : List ℕ) (d : Dataset) (p : Object) → IsPlainObject p → IsPlainArray d (length (others_of p)) → p.content ≡ Array d
     → length (array_header (linked_to name d p) 0) ≡ header_size p
 
 -- ---- segments
@@ -126,4 +126,4 @@ module _ (group_size : GroupSize) (array_size : ArraySize) where
       let cells_are : content_bytes leaf internal chunk (stored 1) p.content ≡ length (data_of d)
       = ap (content_bytes leaf internal chunk (stored 1)) is.array ∙ stored_bytes chunk (stored 1) (length (others_of p)) d is.one_block in
       rw (two_entries o p)
-      (omega (arith, group_size o (link_to_one name) is.plain is.linking, content, array_size p d name is.other_plain is.array is.one_block, cells_are))
+      (omega (arith, group_size o (link_to_one name) is.plain is.linking, content, array_size name d p is.other_plain is.one_block is.array, cells_are))
