@@ -1,3 +1,9 @@
 pub mod GroupNodes
 pub mod GroupHeap
 pub mod GroupLinks
+pub mod ImageParts
+pub mod ImageLink
+pub mod ImageSuperblock
+pub mod ImageBlocks
+pub mod ImageReads
+pub mod ImageLength
