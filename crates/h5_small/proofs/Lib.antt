@@ -1,3 +1,6 @@
+pub mod GroupNodes
+pub mod GroupHeap
+pub mod GroupLinks
 pub mod ImageParts
 pub mod ImageLink
 pub mod ImageSuperblock
