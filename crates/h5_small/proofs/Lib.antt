@@ -1,0 +1,2 @@
+pub mod HeaderAttributes
+pub mod HeaderOthers
