@@ -197,6 +197,11 @@ all_differ : (k : ℕ) → is_other_kind k ≡ false → (os : List (ℕ × List
 all_differ k own [] all = tt
 all_differ k own (m ∷ os) all = (other_differs m.0 k all.0 own, all_differ k own os all.1)
 
+all_pass : (test : ℕ → Bool) → ((kind : ℕ) → is_other_kind kind ≡ true → test kind ≡ true) → (os : List (ℕ × List ℕ)) → AllByRecursion (λ (m : ℕ × List ℕ). is_other_kind m.0 ≡ true) os
+    → AllByRecursion (λ (m : ℕ × List ℕ). test m.0 ≡ true) os
+all_pass test passes [] all = tt
+all_pass test passes (m ∷ os) all = (passes m.0 all.0, all_pass test passes os all.1)
+
 -- ---- what every object may have
 
 module _ (o : Object) (is : IsPlainObject o) where
@@ -210,6 +215,10 @@ module _ (o : Object) (is : IsPlainObject o) where
   pub others_kinds : AllByRecursion (λ (m : ℕ × List ℕ). is_other_kind m.0 ≡ true) (others_of o)
   others_kinds = all_append (λ (m : ℕ × List ℕ). is_other_kind m.0 ≡ true) (map kept_message o.kept) (map attribute_message es)
       (all_kept_others o.kept is.kept) (all_attribute_others es)
+
+  -- so a test that all these types pass is passed by each
+  pub others_pass : (test : ℕ → Bool) → ((kind : ℕ) → is_other_kind kind ≡ true → test kind ≡ true) → AllByRecursion (λ (m : ℕ × List ℕ). test m.0 ≡ true) (others_of o)
+  others_pass test passes = all_pass test passes (others_of o) others_kinds
 
   pub length-others : length (messages_bytes (others_of o)) ≡ sum_by attribute_length es + sum_by kept_length o.kept
   length-others =

@@ -1,2 +1,3 @@
 pub mod HeaderAttributes
 pub mod HeaderOthers
+pub mod HeaderGroup
