@@ -99,11 +99,15 @@ found_before k at (m ∷ xs) ys all = elim (m.0 == k) as (λ b.
     ]
 
 -- one more message has a head of 8 bytes and a body
-one_more : (m : ℕ × List ℕ) (ms : List (ℕ × List ℕ)) (n rest : ℕ) → length m.1 ≡ n → length (messages_bytes ms) ≡ rest → length (messages_bytes (m ∷ ms)) ≡ 8 + n + rest
+pub one_more : (m : ℕ × List ℕ) (ms : List (ℕ × List ℕ)) (n rest : ℕ) → length m.1 ≡ n → length (messages_bytes ms) ≡ rest → length (messages_bytes (m ∷ ms)) ≡ 8 + n + rest
 one_more m ms n rest e f =
     let own : length (message_bytes m) ≡ 8 + length m.1 = omega arith in
     let both = length-append (message_bytes m) (messages_bytes ms) in
     omega arith
+
+-- messages behind others add their bytes
+pub length-messages : (xs ys : List (ℕ × List ℕ)) → length (messages_bytes (xs ++ ys)) ≡ length (messages_bytes xs) + length (messages_bytes ys)
+length-messages xs ys = ap length (flat_map-append message_bytes xs ys) ∙ length-append (messages_bytes xs) (messages_bytes ys)
 
 -- ---- kept messages
 
@@ -222,10 +226,8 @@ module _ (o : Object) (is : IsPlainObject o) where
 
   pub length-others : length (messages_bytes (others_of o)) ≡ sum_by attribute_length es + sum_by kept_length o.kept
   length-others =
-      let both : messages_bytes (others_of o) ≡ messages_bytes (map kept_message o.kept) ++ messages_bytes (map attribute_message es)
-      = flat_map-append message_bytes (map kept_message o.kept) (map attribute_message es) in
-      let sum = length-append (messages_bytes (map kept_message o.kept)) (messages_bytes (map attribute_message es)) in
-      omega (arith, ap length both, sum, length-kept o.kept is.kept, length-attributes es is.attributes)
+      let both = length-messages (map kept_message o.kept) (map attribute_message es) in
+      omega (arith, both, length-kept o.kept is.kept, length-attributes es is.attributes)
 
   pub count-others : length (others_of o) ≡ len o.attributes + length o.kept
   count-others =
