@@ -17,10 +17,10 @@ module _ (a b c : List ℕ) where
   length-three = simp length-append refl
 
   last : part (length a + length b) (length c) (a ++ (b ++ c)) ≡ c
-  last = step a (b ++ c) c (length b) (step-to_end b c)
+  last = step a (b ++ c) c (length b) (at_end b c)
     where
-      step-to_end : (x y : List ℕ) → part (length x) (length y) (x ++ y) ≡ y
-      step-to_end x y = ap (λ k. part k (length y) (x ++ y)) (omega arith) ∙ part-behind x y 0 (length y) ∙ part-whole y
+      at_end : (x y : List ℕ) → part (length x) (length y) (x ++ y) ≡ y
+      at_end x y = ap (λ k. part k (length y) (x ++ y)) (omega arith) ∙ part-behind x y 0 (length y) ∙ part-whole y
 
 -- ---- the link's blocks
 
