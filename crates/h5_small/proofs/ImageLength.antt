@@ -7,27 +7,20 @@ use Rattle.std.specs.Prelude.{nat_le}
 use Rattle.std.specs.Ordering.{nat_cmp}
 use Rattle.std.specs.Cmp.Lexicographic.{slice_cmp}
 use Rattle.std.specs.FinMap.{len, entries, empty, len-entries}
-use Rattle.h5_model.specs.Plain.{word, zeros, padded_text, texts_bytes, segment_bytes, messages_bytes}
+use Rattle.h5_model.specs.Plain.{word, zeros, padded_text, texts_bytes, segment_bytes}
 use Rattle.h5_model.specs.PlainLength.{plain_length, group_bytes, content_bytes, data_bytes, segment_size, nodes_over, rows_of}
-use Rattle.h5_model.specs.Sizes.{text_span, header_size, group_node, symbol_node}
-use Rattle.h5_model.specs.Tree.{Link, Links, Object, Dataset, Group, Array, Contiguous}
+use Rattle.h5_model.specs.Sizes.{text_span, group_node, symbol_node}
+use Rattle.h5_model.specs.Tree.{Link, Links, Dataset, Contiguous}
 use Rattle.h5_model.proofs.EmptyReads.{entries-empty}
 use Rattle.h5_model.proofs.PlainValues.{length-cells_bytes}
 use Rattle.h5_walk.specs.Small.{alone_tree, pair_tree, link_to_one}
 use Rattle.h5_walk.proofs.SmallLaws.{one_entries, two_entries, entries_of_link}
 use Rattle.h5_small.specs.Bodies.{others_of}
 use Rattle.h5_small.specs.Laws.{AloneLength, PairLength}
-use Rattle.h5_small.specs.Small.{array_header, data_of}
-use Rattle.h5_small.specs.Sound.{AreK, IsPlainObject, IsPlainArray, linked_to}
-
--- ---- what is shown of headers
-
-abbrev pub GroupSize : Type 0
-GroupSize = (o : Object) (links : Links) → IsPlainObject o → o.content ≡ Group links → 16 + 24 + length (messages_bytes (others_of o)) ≡ header_size o
-
-abbrev pub ArraySize : Type 0
-ArraySize = (name : List ℕ) (d : Dataset) (p : Object) → IsPlainObject p → IsPlainArray d (length (others_of p)) → p.content ≡ Array d
-    → length (array_header (linked_to name d p) 0) ≡ header_size p
+use Rattle.h5_small.specs.Small.{data_of}
+use Rattle.h5_small.specs.Sound.{AreK, IsPlainArray}
+use Rattle.h5_small.proofs.HeaderGroup.{group_header-size}
+use Rattle.h5_small.proofs.HeaderLengths.{array_header-size}
 
 -- ---- segments
 
@@ -110,20 +103,21 @@ stored_bytes chunk stored others d is = by_test is.stored is.stored_is where
   by_test true e = rw e (sym (length-cells_bytes d.fixed d.cells ∙ ap (λ n. n * (d.fixed).size) is.sound.counted))
   by_test false e = rw e refl
 
-module _ (group_size : GroupSize) (array_size : ArraySize) where
-  pub alone_length : AloneLength
-  unfolding plain_length alone_tree
-  alone_length leaf internal chunk stored o is =
-      let content : content_bytes leaf internal chunk (stored 0) o.content ≡ group_node internal + 32 + length (segment_bytes [])
-      = ap (content_bytes leaf internal chunk (stored 0)) is.empty_group ∙ none_bytes leaf internal is.k in
-      rw (one_entries o o) (omega (arith, group_size o empty is.plain is.empty_group, content))
+-- ---- the whole
 
-  pub pair_length : PairLength
-  unfolding plain_length pair_tree alone_tree
-  pair_length leaf internal chunk stored o name p d is =
-      let content : content_bytes leaf internal chunk (stored 0) o.content ≡ group_node internal + 32 + length (segment_bytes (name ∷ [])) + symbol_node leaf
-      = ap (content_bytes leaf internal chunk (stored 0)) is.linking ∙ one_bytes leaf internal name is.k in
-      let cells_are : content_bytes leaf internal chunk (stored 1) p.content ≡ length (data_of d)
-      = ap (content_bytes leaf internal chunk (stored 1)) is.array ∙ stored_bytes chunk (stored 1) (length (others_of p)) d is.one_block in
-      rw (two_entries o p)
-      (omega (arith, group_size o (link_to_one name) is.plain is.linking, content, array_size name d p is.other_plain is.one_block is.array, cells_are))
+pub alone_length : AloneLength
+unfolding plain_length alone_tree
+alone_length leaf internal chunk stored o is =
+    let content : content_bytes leaf internal chunk (stored 0) o.content ≡ group_node internal + 32 + length (segment_bytes [])
+    = ap (content_bytes leaf internal chunk (stored 0)) is.empty_group ∙ none_bytes leaf internal is.k in
+    rw (one_entries o o) (omega (arith, group_header-size o empty is.plain is.empty_group, content))
+
+pub pair_length : PairLength
+unfolding plain_length pair_tree alone_tree
+pair_length leaf internal chunk stored o name p d is =
+    let content : content_bytes leaf internal chunk (stored 0) o.content ≡ group_node internal + 32 + length (segment_bytes (name ∷ [])) + symbol_node leaf
+    = ap (content_bytes leaf internal chunk (stored 0)) is.linking ∙ one_bytes leaf internal name is.k in
+    let cells_are : content_bytes leaf internal chunk (stored 1) p.content ≡ length (data_of d)
+    = ap (content_bytes leaf internal chunk (stored 1)) is.array ∙ stored_bytes chunk (stored 1) (length (others_of p)) d is.one_block in
+    rw (two_entries o p)
+    (omega (arith, group_header-size o (link_to_one name) is.plain is.linking, content, array_header-size name d p is.other_plain is.one_block is.array, cells_are))

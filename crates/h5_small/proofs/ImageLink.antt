@@ -1,40 +1,14 @@
 -- Where the link's blocks stand in a plain image: the symbol node, the array's header, and its data.
-use Rattle.std.proofs.Common.{◌≡◌, ℕ, ◌+◌, ◌*◌, List, [], ◌∷◌, ◌++◌, length, refl, sym, ap, ◌∙◌, arith, Some, None, length-append}
+use Rattle.std.proofs.Common.{◌≡◌, ℕ, ◌+◌, List, [], ◌∷◌, ◌++◌, length, refl, sym, ap, ◌∙◌, arith, Some, None, length-append}
 use Rattle.h5_bytes.specs.Bytes.{part}
 use Rattle.h5_bytes.proofs.PartLaws.{part-behind, part-front, part-whole}
 use Rattle.h5_model.proofs.PlainMessages.{part-between}
-use Rattle.h5_model.specs.Places.{cells}
-use Rattle.h5_model.specs.Plain.{symbol_node_bytes, header_bytes, message_bytes, messages_bytes, type_body, contiguous_body}
+use Rattle.h5_model.specs.Plain.{symbol_node_bytes}
 use Rattle.h5_model.specs.Sizes.{symbol_node}
-use Rattle.h5_small.specs.Bodies.{space_body, fill_messages}
 use Rattle.h5_small.specs.Small.{Linked, array_header, data_of, small_image, small_end, symbols_place, header_place, data_place, data_address}
 use Rattle.h5_small.specs.Sound.{AreK}
 use Rattle.h5_small.proofs.ImageParts.{step, there, length-symbols, length-image_parts, behind_segment}
-
--- ---- a header's length is the same with any address
-
-same_behind : (front others : List (ℕ × List ℕ)) (size a b : ℕ)
-    → length (messages_bytes ((front ++ (8, contiguous_body a size) ∷ []) ++ others)) ≡ length (messages_bytes ((front ++ (8, contiguous_body b size) ∷ []) ++ others))
-same_behind [] others size a b = refl
-same_behind (m ∷ front) others size a b =
-    length-append (message_bytes m) (messages_bytes ((front ++ (8, contiguous_body a size) ∷ []) ++ others))
-    ∙ ap (λ n. length (message_bytes m) + n) (same_behind front others size a b)
-    ∙ sym (length-append (message_bytes m) (messages_bytes ((front ++ (8, contiguous_body b size) ∷ []) ++ others)))
-
-pub length-header_bytes : (ms : List (ℕ × List ℕ)) → length (header_bytes 1 ms) ≡ 16 + length (messages_bytes ms)
-length-header_bytes ms = omega arith
-
-abbrev before_layout : Linked → List (ℕ × List ℕ)
-before_layout l = (1, space_body (l.array).sizes (l.array).maxima) ∷ (3, type_body (l.array).fixed) ∷ fill_messages l.array (length l.others)
-
-abbrev with_address : Linked → ℕ → List (ℕ × List ℕ)
-with_address l address = (before_layout l ++ (8, contiguous_body address (cells (l.array).sizes * ((l.array).fixed).size)) ∷ []) ++ l.others
-
-pub same_header_length : (l : Linked) (a b : ℕ) → length (array_header l a) ≡ length (array_header l b)
-same_header_length l a b =
-    length-header_bytes (with_address l a)
-    ∙ ap (λ n. 16 + n) (same_behind (before_layout l) l.others (cells (l.array).sizes * ((l.array).fixed).size) a b)
-    ∙ sym (length-header_bytes (with_address l b))
+use Rattle.h5_small.proofs.HeaderLengths.{same_length}
 
 -- ---- three blocks
 
@@ -43,10 +17,10 @@ module _ (a b c : List ℕ) where
   length-three = simp length-append refl
 
   last : part (length a + length b) (length c) (a ++ (b ++ c)) ≡ c
-  last = step a (b ++ c) c (length b) (step-to_end b c)
+  last = step a (b ++ c) c (length b) (at_end b c)
     where
-      step-to_end : (x y : List ℕ) → part (length x) (length y) (x ++ y) ≡ y
-      step-to_end x y = ap (λ k. part k (length y) (x ++ y)) (omega arith) ∙ part-behind x y 0 (length y) ∙ part-whole y
+      at_end : (x y : List ℕ) → part (length x) (length y) (x ++ y) ≡ y
+      at_end x y = ap (λ k. part k (length y) (x ++ y)) (omega arith) ∙ part-behind x y 0 (length y) ∙ part-whole y
 
 -- ---- the link's blocks
 
@@ -67,7 +41,7 @@ module _ (leaf internal : ℕ) (others : List (ℕ × List ℕ)) (l : Linked) (k
   symbols_long = length-symbols leaf (header_place leaf internal others l.name) k.leaf_low
 
   array_long : length array_part ≡ length (array_header l 0)
-  array_long = same_header_length l (data_address leaf internal others l) 0
+  array_long = same_length l (data_address leaf internal others l) 0
 
   pub length-pair_image : length image ≡ small_end leaf internal others (Some l)
   length-pair_image = length-image_parts leaf internal others (Some l) k ∙ omega (arith, length-three symbols_part array_part data_part, symbols_long, array_long)

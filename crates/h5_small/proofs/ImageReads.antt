@@ -1,188 +1,136 @@
 -- A plain image reads as its tree.
-use Rattle.std.proofs.Common.{◌≡◌, ◌≢◌, ℕ, ◌+◌, ◌^◌, ◌<◌, ◌≤◌, true, List, [], ◌∷◌, length, refl, sym, arith, Some, None}
-use Rattle.std.specs.Prelude.{if◌then◌else◌}
+use Rattle.std.proofs.Common.{◌≡◌, ◌≢◌, ℕ, ◌^◌, ◌≤◌, List, [], ◌∷◌, length, refl, sym, arith, Some, None}
 use Rattle.std.specs.Ordering.{nat_cmp}
 use Rattle.std.specs.Cmp.Lexicographic.{slice_cmp}
-use Rattle.std.specs.FinMap.{FinMap, get, entries, empty}
+use Rattle.std.specs.FinMap.{get, entries, empty}
 use Rattle.std.specs.List.{AllZip}
-use Rattle.h5_bytes.specs.Bytes.{part, undefined}
-use Rattle.h5_bytes.specs.Blocks.{block}
-use Rattle.h5_bytes.specs.declared.Block.{Block}
 use Rattle.h5_bytes.proofs.BlockLaws.{once_separate}
 use Rattle.h5_model.specs.Links.{HasLinks}
 use Rattle.h5_model.specs.Messages.{prefix_at, reference_count}
-use Rattle.h5_model.specs.Nodes.{group_kind}
-use Rattle.h5_model.specs.Paths.{is_name}
-use Rattle.h5_model.specs.Plain.{word, messages_bytes, node_bytes_of, heap_header_bytes, segment_bytes, free_head_of, symbol_node_bytes}
 use Rattle.h5_model.specs.Reads.{HasObject, IsSame, all_blocks}
-use Rattle.h5_model.specs.Sizes.{group_node, symbol_node}
-use Rattle.h5_model.specs.Superblock.{leaf_k, internal_k}
-use Rattle.h5_model.specs.Symbols.{Target, Header}
-use Rattle.h5_model.specs.Tree.{Object, Group, Array, Dataset, Link, Links}
+use Rattle.h5_model.specs.Symbols.{Header}
+use Rattle.h5_model.specs.Tree.{Object, Dataset, Link}
 use Rattle.h5_model.proofs.EmptyReads.{entries-empty}
 use Rattle.h5_walk.specs.Small.{alone_table, alone_tree, pair_table, pair_tree, link_to_one}
 use Rattle.h5_walk.proofs.SmallLaws.{two_second, entries_of_link}
 use Rattle.h5_walk.proofs.SmallReads.{alone_reads, pair_reads}
 use Rattle.h5_small.specs.Bodies.{others_of}
 use Rattle.h5_small.specs.Laws.{IsPlainReading, AloneReads, PairReads}
-use Rattle.h5_small.specs.Small.{Linked, is_stored, data_of, group_header, array_header, small_image, small_end, tree_place, heap_place, segment_place, symbols_place, header_place, data_place}
-use Rattle.h5_small.specs.Sound.{IsPlainObject, IsPlainArray, IsSmallRoot, IsSmallPair, linked_to}
+use Rattle.h5_small.specs.Small.{Linked, small_image, small_end, tree_place, heap_place, segment_place, symbols_place, header_place, data_place}
+use Rattle.h5_small.specs.Sound.{IsSmallRoot, IsSmallPair, linked_to}
 use Rattle.h5_small.proofs.ImageParts.{root_header_is, root_node_is, heap_header_is, segment_is}
 use Rattle.h5_small.proofs.ImageLink.{length-alone_image, length-pair_image, symbols_are, array_header_is, data_is}
 use Rattle.h5_small.proofs.ImageSuperblock.{superblock, whole, root_place, leaf_is, internal_is}
 use Rattle.h5_small.proofs.ImageBlocks.{none_blocks, alone_blocks, alone_placed, alone_covers, alone_within, one_blocks, root_blocks, array_blocks, pair_placed, pair_covers, pair_within}
+use Rattle.h5_small.proofs.GroupLinks.{none_linked, one_linked}
+use Rattle.h5_small.proofs.HeaderGroup.{group_object}
+use Rattle.h5_small.proofs.HeaderArray.{array_object}
 
--- ---- what is shown of groups and of headers
+-- ---- the root alone
 
-abbrev pub NoneLinked : Type 0
-NoneLinked = (image : List ℕ) (leaf internal tree heap segment : ℕ) → 1 ≤ internal → internal ≤ 32767
-    → segment < 2 ^ 64
-    → part tree (group_node internal) image ≡ node_bytes_of (group_kind internal) 0 undefined undefined (word 0 ∷ []) []
-    → part heap 32 image ≡ heap_header_bytes (length (segment_bytes [])) (free_head_of []) segment
-    → part segment (length (segment_bytes [])) image ≡ segment_bytes []
-    → HasLinks image leaf internal tree heap []
-    (block tree (group_node internal) ∷ block heap 32 ∷ block segment (length (segment_bytes [])) ∷ [])
+module _ (leaf internal : ℕ) (o : Object) (is : IsSmallRoot leaf internal o)
+    (fits_in : small_end leaf internal (others_of o) None ≤ 2 ^ 31) where
+  abbrev others : List (ℕ × List ℕ)
+  others = others_of o
 
-abbrev pub OneLinked : Type 0
-OneLinked = (image name : List ℕ) (leaf internal tree heap segment symbols header : ℕ) → is_name name ≡ true
-    → 1 ≤ leaf → leaf ≤ 32767 → 1 ≤ internal → internal ≤ 32767 → symbols < 2 ^ 64 → header < 2 ^ 64 → segment < 2 ^ 64
-    → length (segment_bytes (name ∷ [])) < 2 ^ 63
-    → part tree (group_node internal) image
-    ≡ node_bytes_of (group_kind internal) 0 undefined undefined (word 0 ∷ word 8 ∷ []) (symbols ∷ [])
-    → part symbols (symbol_node leaf) image ≡ symbol_node_bytes leaf (record { name = 8; header = header; cache = 0; text = 0 } ∷ [])
-    → part heap 32 image ≡ heap_header_bytes (length (segment_bytes (name ∷ []))) (free_head_of (name ∷ [])) segment
-    → part segment (length (segment_bytes (name ∷ []))) image ≡ segment_bytes (name ∷ [])
-    → HasLinks image leaf internal tree heap ((name, Header header) ∷ [])
-    (block tree (group_node internal) ∷ block symbols (symbol_node leaf) ∷ block heap 32
-    ∷ block segment (length (segment_bytes (name ∷ []))) ∷ [])
+  abbrev one_image : List ℕ
+  one_image = small_image leaf internal others None
 
-abbrev pub GroupObject : Type 0
-GroupObject = (image : List ℕ) (table : FinMap nat_cmp ℕ) (at leaf internal tree heap : ℕ) (o : Object) (links : Links)
-    (found : List (List ℕ × Target)) (blocks : List Block) → IsPlainObject o → o.content ≡ Group links
-    → 1 + length (others_of o) ≤ 65535 → length (messages_bytes (others_of o)) < 2 ^ 31 → tree < 2 ^ 64 → heap < 2 ^ 64
-    → part at (length (group_header tree heap (others_of o))) image ≡ group_header tree heap (others_of o)
-    → leaf_k image ≡ leaf → internal_k image ≡ internal → HasLinks image leaf internal tree heap found blocks
-    → AllZip (IsSame table) (entries links) found
-    → HasObject image table at o (block at (length (group_header tree heap (others_of o))) ∷ blocks)
-    × (reference_count (prefix_at image at) ≡ 1)
+  no_links : HasLinks one_image leaf internal (tree_place others) (heap_place internal others) []
+      (none_blocks internal others)
+  no_links = none_linked one_image leaf internal (tree_place others) (heap_place internal others) (segment_place internal others)
+      is.k.internal_low is.k.internal_high (omega arith)
+      (root_node_is leaf internal others None is.k) (heap_header_is leaf internal others None is.k) (segment_is leaf internal others None is.k)
 
-abbrev pub ArrayObject : Type 0
-ArrayObject = (image : List ℕ) (table : FinMap nat_cmp ℕ) (at place : ℕ) (p : Object) (d : Dataset) (name : List ℕ)
-    → IsPlainObject p → p.content ≡ Array d → IsPlainArray d (length (others_of p)) → 3 + length (others_of p) ≤ 65535
-    → length (array_header (linked_to name d p) 0) < 2 ^ 31 → place < 2 ^ 63
-    → part at (length (array_header (linked_to name d p) 0)) image
-    ≡ array_header (linked_to name d p) (if is_stored d.storage then place else undefined)
-    → part place (length (data_of d)) image ≡ data_of d
-    → HasObject image table at p (block at (length (array_header (linked_to name d p) 0))
-    ∷ (if is_stored d.storage then block place (length (data_of d)) ∷ [] else []))
-    × (reference_count (prefix_at image at) ≡ 1)
+  no_entries : entries (empty {X = Link} {R = slice_cmp nat_cmp}) ≡ []
+  no_entries = entries-empty {X = Link} (slice_cmp nat_cmp)
 
-module _ (none_linked : NoneLinked) (one_linked : OneLinked) (group_object : GroupObject) (array_object : ArrayObject) where
-  -- ---- the root alone
+  alone_object : HasObject one_image (alone_table 96) 96 o (alone_blocks internal others)
+      × (reference_count (prefix_at one_image 96) ≡ 1)
+  alone_object = group_object one_image (alone_table 96) 96 leaf internal (tree_place others) (heap_place internal others) o empty []
+      (none_blocks internal others) is.plain is.empty_group is.few (omega arith) (omega arith) (omega arith)
+      (root_header_is leaf internal others None is.k) (leaf_is leaf internal others None is.k) (internal_is leaf internal others None is.k)
+      no_links (rw no_entries tt)
 
-  module _ (leaf internal : ℕ) (o : Object) (is : IsSmallRoot leaf internal o)
-      (fits_in : small_end leaf internal (others_of o) None ≤ 2 ^ 31) where
-    abbrev others : List (ℕ × List ℕ)
-    others = others_of o
+  alone_long : length one_image ≡ small_end leaf internal others None
+  alone_long = length-alone_image leaf internal others is.k
 
-    abbrev one_image : List ℕ
-    one_image = small_image leaf internal others None
+  alone_is : IsPlainReading one_image leaf internal (alone_table 96) (alone_tree o)
+  alone_is = record {
+    placed = alone_placed internal others o;
+    reads = alone_reads one_image (superblock leaf internal others None is.k alone_long fits_in) (whole leaf internal others None is.k alone_long fits_in)
+        96 (sym (root_place leaf internal others None is.k)) alone_object.1 o is.empty_group (alone_blocks internal others) alone_object.0
+        (once_separate (length one_image) (all_blocks one_image (alone_placed internal others o)) (alone_covers internal others o leaf is.k))
+        (alone_within internal others o leaf is.k);
+    covered = alone_covers internal others o leaf is.k;
+    leaf_is = leaf_is leaf internal others None is.k;
+    internal_is = internal_is leaf internal others None is.k;
+  }
 
-    no_links : HasLinks one_image leaf internal (tree_place others) (heap_place internal others) []
-        (none_blocks internal others)
-    no_links = none_linked one_image leaf internal (tree_place others) (heap_place internal others) (segment_place internal others)
-        is.k.internal_low is.k.internal_high (omega arith)
-        (root_node_is leaf internal others None is.k) (heap_header_is leaf internal others None is.k) (segment_is leaf internal others None is.k)
+pub alone_reads_as : AloneReads
+alone_reads_as leaf internal o is fits_in = alone_is leaf internal o is fits_in
 
-    no_entries : entries (empty {X = Link} {R = slice_cmp nat_cmp}) ≡ []
-    no_entries = entries-empty {X = Link} (slice_cmp nat_cmp)
+-- ---- the root with one link
 
-    alone_object : HasObject one_image (alone_table 96) 96 o (alone_blocks internal others)
-        × (reference_count (prefix_at one_image 96) ≡ 1)
-    alone_object = group_object one_image (alone_table 96) 96 leaf internal (tree_place others) (heap_place internal others) o empty []
-        (none_blocks internal others) is.plain is.empty_group is.few (omega arith) (omega arith) (omega arith)
-        (root_header_is leaf internal others None is.k) (leaf_is leaf internal others None is.k) (internal_is leaf internal others None is.k)
-        no_links (rw no_entries tt)
+module _ (leaf internal : ℕ) (o : Object) (name : List ℕ) (p : Object) (d : Dataset) (is : IsSmallPair leaf internal o name p d)
+    (fits_in : small_end leaf internal (others_of o) (Some (linked_to name d p)) ≤ 2 ^ 31) where
+  abbrev l : Linked
+  l = linked_to name d p
 
-    alone_long : length one_image ≡ small_end leaf internal others None
-    alone_long = length-alone_image leaf internal others is.k
+  abbrev root_others : List (ℕ × List ℕ)
+  root_others = others_of o
 
-    alone_is : IsPlainReading one_image leaf internal (alone_table 96) (alone_tree o)
-    alone_is = record {
-      placed = alone_placed internal others o;
-      reads = alone_reads one_image (superblock leaf internal others None is.k alone_long fits_in) (whole leaf internal others None is.k alone_long fits_in)
-          96 (sym (root_place leaf internal others None is.k)) alone_object.1 o is.empty_group (alone_blocks internal others) alone_object.0
-          (once_separate (length one_image) (all_blocks one_image (alone_placed internal others o)) (alone_covers internal others o leaf is.k))
-          (alone_within internal others o leaf is.k);
-      covered = alone_covers internal others o leaf is.k;
-      leaf_is = leaf_is leaf internal others None is.k;
-      internal_is = internal_is leaf internal others None is.k;
-    }
+  abbrev two_image : List ℕ
+  two_image = small_image leaf internal root_others (Some l)
 
-  pub alone_reads_as : AloneReads
-  alone_reads_as leaf internal o is fits_in = alone_is leaf internal o is fits_in
+  abbrev other : ℕ
+  other = header_place leaf internal root_others name
 
-  -- ---- the root with one link
+  one_link : HasLinks two_image leaf internal (tree_place root_others) (heap_place internal root_others) ((name, Header other) ∷ [])
+      (one_blocks leaf internal root_others l)
+  one_link = one_linked two_image name leaf internal (tree_place root_others) (heap_place internal root_others) (segment_place internal root_others)
+      (symbols_place internal root_others name) other is.named is.k.leaf_low is.k.leaf_high is.k.internal_low is.k.internal_high
+      (omega arith) (omega arith) (omega arith) (omega arith)
+      (root_node_is leaf internal root_others (Some l) is.k) (symbols_are leaf internal root_others l is.k)
+      (heap_header_is leaf internal root_others (Some l) is.k) (segment_is leaf internal root_others (Some l) is.k)
 
-  module _ (leaf internal : ℕ) (o : Object) (name : List ℕ) (p : Object) (d : Dataset) (is : IsSmallPair leaf internal o name p d)
-      (fits_in : small_end leaf internal (others_of o) (Some (linked_to name d p)) ≤ 2 ^ 31) where
-    abbrev l : Linked
-    l = linked_to name d p
+  second_header : get (pair_table 96 other) 1 ≡ Some other
+  unfolding pair_table alone_table
+  second_header = two_second 96 other
 
-    abbrev root_others : List (ℕ × List ℕ)
-    root_others = others_of o
+  same_links : AllZip (IsSame (pair_table 96 other)) (entries (link_to_one name)) ((name, Header other) ∷ [])
+  same_links = rw (entries_of_link name) ((refl, second_header), tt)
 
-    abbrev two_image : List ℕ
-    two_image = small_image leaf internal root_others (Some l)
+  root_object : HasObject two_image (pair_table 96 other) 96 o (root_blocks leaf internal root_others l)
+      × (reference_count (prefix_at two_image 96) ≡ 1)
+  root_object = group_object two_image (pair_table 96 other) 96 leaf internal (tree_place root_others) (heap_place internal root_others) o (link_to_one name)
+      ((name, Header other) ∷ []) (one_blocks leaf internal root_others l) is.plain is.linking is.few (omega arith) (omega arith) (omega arith)
+      (root_header_is leaf internal root_others (Some l) is.k) (leaf_is leaf internal root_others (Some l) is.k)
+      (internal_is leaf internal root_others (Some l) is.k) one_link same_links
 
-    abbrev other : ℕ
-    other = header_place leaf internal root_others name
+  other_object : HasObject two_image (pair_table 96 other) other p (array_blocks leaf internal root_others l)
+      × (reference_count (prefix_at two_image other) ≡ 1)
+  other_object = array_object two_image (pair_table 96 other) other (data_place leaf internal root_others l) p d name is.other_plain is.array is.one_block
+      is.few_others (omega arith) (omega arith) (array_header_is leaf internal root_others l is.k) (data_is leaf internal root_others l is.k)
 
-    one_link : HasLinks two_image leaf internal (tree_place root_others) (heap_place internal root_others) ((name, Header other) ∷ [])
-        (one_blocks leaf internal root_others l)
-    one_link = one_linked two_image name leaf internal (tree_place root_others) (heap_place internal root_others) (segment_place internal root_others)
-        (symbols_place internal root_others name) other is.named is.k.leaf_low is.k.leaf_high is.k.internal_low is.k.internal_high
-        (omega arith) (omega arith) (omega arith) (omega arith)
-        (root_node_is leaf internal root_others (Some l) is.k) (symbols_are leaf internal root_others l is.k)
-        (heap_header_is leaf internal root_others (Some l) is.k) (segment_is leaf internal root_others (Some l) is.k)
+  pair_long : length two_image ≡ small_end leaf internal root_others (Some l)
+  pair_long = length-pair_image leaf internal root_others l is.k
 
-    second_header : get (pair_table 96 other) 1 ≡ Some other
-    unfolding pair_table alone_table
-    second_header = two_second 96 other
+  different : 96 ≢ other
+  different e = omega arith
 
-    same_links : AllZip (IsSame (pair_table 96 other)) (entries (link_to_one name)) ((name, Header other) ∷ [])
-    same_links = rw (entries_of_link name) ((refl, second_header), tt)
+  pair_is : IsPlainReading two_image leaf internal (pair_table 96 other) (pair_tree o p)
+  pair_is = record {
+    placed = pair_placed leaf internal root_others l o p;
+    reads = pair_reads two_image (superblock leaf internal root_others (Some l) is.k pair_long fits_in) (whole leaf internal root_others (Some l) is.k pair_long fits_in)
+        96 (sym (root_place leaf internal root_others (Some l) is.k)) root_object.1 name other o p d is.linking is.array
+        (root_blocks leaf internal root_others l) (array_blocks leaf internal root_others l) root_object.0 other_object.0 different other_object.1
+        (once_separate (length two_image) (all_blocks two_image (pair_placed leaf internal root_others l o p)) (pair_covers leaf internal root_others l o p is.k))
+        (pair_within leaf internal root_others l o p is.k);
+    covered = pair_covers leaf internal root_others l o p is.k;
+    leaf_is = leaf_is leaf internal root_others (Some l) is.k;
+    internal_is = internal_is leaf internal root_others (Some l) is.k;
+  }
 
-    root_object : HasObject two_image (pair_table 96 other) 96 o (root_blocks leaf internal root_others l)
-        × (reference_count (prefix_at two_image 96) ≡ 1)
-    root_object = group_object two_image (pair_table 96 other) 96 leaf internal (tree_place root_others) (heap_place internal root_others) o (link_to_one name)
-        ((name, Header other) ∷ []) (one_blocks leaf internal root_others l) is.plain is.linking is.few (omega arith) (omega arith) (omega arith)
-        (root_header_is leaf internal root_others (Some l) is.k) (leaf_is leaf internal root_others (Some l) is.k)
-        (internal_is leaf internal root_others (Some l) is.k) one_link same_links
-
-    other_object : HasObject two_image (pair_table 96 other) other p (array_blocks leaf internal root_others l)
-        × (reference_count (prefix_at two_image other) ≡ 1)
-    other_object = array_object two_image (pair_table 96 other) other (data_place leaf internal root_others l) p d name is.other_plain is.array is.one_block
-        is.few_others (omega arith) (omega arith) (array_header_is leaf internal root_others l is.k) (data_is leaf internal root_others l is.k)
-
-    pair_long : length two_image ≡ small_end leaf internal root_others (Some l)
-    pair_long = length-pair_image leaf internal root_others l is.k
-
-    different : 96 ≢ other
-    different e = omega arith
-
-    pair_is : IsPlainReading two_image leaf internal (pair_table 96 other) (pair_tree o p)
-    pair_is = record {
-      placed = pair_placed leaf internal root_others l o p;
-      reads = pair_reads two_image (superblock leaf internal root_others (Some l) is.k pair_long fits_in) (whole leaf internal root_others (Some l) is.k pair_long fits_in)
-          96 (sym (root_place leaf internal root_others (Some l) is.k)) root_object.1 name other o p d is.linking is.array
-          (root_blocks leaf internal root_others l) (array_blocks leaf internal root_others l) root_object.0 other_object.0 different other_object.1
-          (once_separate (length two_image) (all_blocks two_image (pair_placed leaf internal root_others l o p)) (pair_covers leaf internal root_others l o p is.k))
-          (pair_within leaf internal root_others l o p is.k);
-      covered = pair_covers leaf internal root_others l o p is.k;
-      leaf_is = leaf_is leaf internal root_others (Some l) is.k;
-      internal_is = internal_is leaf internal root_others (Some l) is.k;
-    }
-
-  pub pair_reads_as : PairReads
-  pair_reads_as leaf internal o name p d is fits_in = pair_is leaf internal o name p d is fits_in
+pub pair_reads_as : PairReads
+pair_reads_as leaf internal o name p d is fits_in = pair_is leaf internal o name p d is fits_in

@@ -1,4 +1,4 @@
--- The superblock of a plain image.
+-- The superblock of a plain image (File Format Specification 3.0, section II.A).
 use Rattle.std.proofs.Common.{◌≡◌, ℕ, ◌^◌, ◌<◌, ◌≤◌, List, [], ◌∷◌, length, refl, ◌∙◌, sym, arith, Option}
 use Rattle.h5_bytes.specs.Bytes.{number_at, part, with_part, little_bytes}
 use Rattle.h5_bytes.proofs.FieldLaws.{number_at-with_field}

@@ -1,6 +1,12 @@
 pub mod GroupNodes
 pub mod GroupHeap
 pub mod GroupLinks
+pub mod HeaderAttributes
+pub mod HeaderOthers
+pub mod HeaderGroup
+pub mod HeaderSpace
+pub mod HeaderLengths
+pub mod HeaderArray
 pub mod ImageParts
 pub mod ImageLink
 pub mod ImageSuperblock
