@@ -1,29 +1,28 @@
 -- The header of an array in the plain layout, with its data where they are stored, reads as that array (File Format Specification 3.0,
 -- sections IV.A.1.a, IV.A.2.b, IV.A.2.d, IV.A.2.f and IV.A.2.i).
-use Rattle.std.proofs.Common.{◌≡◌, ℕ, zero, suc, ◌+◌, ◌*◌, ◌%◌, ◌^◌, ◌<◌, ◌≤◌, ◌==◌, ◌||◌, ◌&&◌, List, [], ◌∷◌, ◌++◌, length, map, replicate, get_or, refl, sym, ap, ◌∙◌, subst, arith, Bool, true, false, cond, Option, Some, None, ℤ, pos}
+use Rattle.std.proofs.Common.{◌≡◌, ℕ, ◌+◌, ◌*◌, ◌%◌, ◌^◌, ◌<◌, ◌≤◌, ◌==◌, ◌||◌, List, [], ◌∷◌, ◌++◌, length, replicate, get_or, refl, sym, ap, ◌∙◌, subst, arith, Bool, true, false, Option, Some, None, ℤ, pos}
 use Rattle.std.proofs.lemmas.Bool.Decides.{nat_tests}
 use Rattle.std.proofs.lemmas.List.{length-append, get_or-replicate}
 use Rattle.std.proofs.lemmas.List.FromFn.{fill_by_all}
 use Rattle.std.proofs.Math.Nat.{mul-le-mul}
-use Rattle.std.specs.Prelude.{nat_lt, is_some, if◌then◌else◌, option_and_then}
+use Rattle.std.specs.Prelude.{nat_lt, if◌then◌else◌, option_and_then}
 use Rattle.std.specs.Ordering.{nat_cmp}
-use Rattle.std.specs.List.{AllByRecursion, range_with_len}
+use Rattle.std.specs.List.{AllByRecursion}
 use Rattle.std.specs.FinMap.{FinMap, empty}
 use Rattle.h5_bytes.specs.Bytes.{part, undefined}
 use Rattle.h5_bytes.specs.Blocks.{block}
 use Rattle.h5_bytes.specs.declared.Block.{Block}
-use Rattle.h5_bytes.proofs.BlockLaws.{all_append}
 use Rattle.h5_model.specs.Cells.{cells_of}
 use Rattle.h5_model.specs.Fill.{fill_value, old_fill_value, chosen_fill}
 use Rattle.h5_model.specs.Fixed.{Fixed, IsFixed, fits}
 use Rattle.h5_model.specs.Layout.{InBlock, layout_of}
 use Rattle.h5_model.specs.Messages.{Message, HasMessages, prefix_at, reference_count, count_of, first_body}
 use Rattle.h5_model.specs.Places.{cells, extent_cells}
-use Rattle.h5_model.specs.Plain.{header_bytes, messages_bytes, type_body, fill_body, contiguous_body, cells_bytes}
+use Rattle.h5_model.specs.Plain.{header_bytes, type_body, fill_body, contiguous_body, cells_bytes}
 use Rattle.h5_model.specs.Reads.{HasObject, HasContent, HasDataset, HasData, InDataset, IsFill, storage_of}
 use Rattle.h5_model.specs.Sound.{AreOf}
 use Rattle.h5_model.specs.Tree.{Object, Content, Array, Dataset, Contiguous}
-use Rattle.h5_model.proofs.PlainMessages.{IsPlain, messages_from, header_reads, header_counted}
+use Rattle.h5_model.proofs.PlainMessages.{messages_from, header_reads, header_counted}
 use Rattle.h5_model.proofs.PlainValues.{size-low, size-high, fixed_of-type_body, layout_of-contiguous_body, layout_of-undefined, length-fill_body, fill_value-fill_body, length-cells_bytes, cells_of-cells_bytes}
 use Rattle.h5_small.specs.Bodies.{others_of, space_body}
 use Rattle.h5_small.specs.Small.{array_header, data_of, is_stored}
@@ -176,18 +175,24 @@ module _ (t : Fixed) (size : ℕ) (maximum : Option ℕ) (fill : ℤ) (is : IsFi
     -- ---- the header
 
     module _ (at : ℕ) (p : Object) (plain : IsPlainObject p) (few : size ≤ 2 ^ 40) (low : place < 2 ^ 63) (bound : IsBound size maximum) (without stored : Bool) where
-      abbrev from : ℕ
-      from = at + 16
+      abbrev own : List (ℕ × List ℕ)
+      own = bodies without (address stored)
 
       abbrev messages : List Message
-      messages = messages_from (at + 16) (bodies without (address stored) ++ others_of p)
+      messages = messages_from (at + 16) (own ++ others_of p)
 
-      own : AllByRecursion IsContentMessage (bodies without (address stored))
-      own = content without (address stored)
+      own_content : AllByRecursion IsContentMessage own
+      own_content = content without (address stored)
+
+      counted_own : (k : ℕ) → is_other_kind k ≡ false → count_of k messages ≡ count_of k (messages_from (at + 16) own)
+      counted_own k kind = count_of-content p plain (at + 16) own own_content k kind
+
+      found_own : (k : ℕ) → is_other_kind k ≡ false → first_body k messages ≡ first_body k (messages_from (at + 16) own)
+      found_own k kind = first_body-content p plain (at + 16) own own_content k kind
 
       all_known : AllByRecursion InDataset messages
       unfolding in_dataset
-      all_known = each_message in_dataset (at + 16) (bodies without (address stored) ++ others_of p)
+      all_known = each_message in_dataset (at + 16) (own ++ others_of p)
           (known (others_of p) (others_pass p plain in_dataset other_in_dataset) without (address stored))
 
       bounded : extent_cells (size ∷ []) ≤ 2 ^ 40
@@ -196,24 +201,24 @@ module _ (t : Fixed) (size : ℕ) (maximum : Option ℕ) (fill : ℤ) (is : IsFi
       dataset : (stored ≡ true → 1 ≤ size) → (stored ≡ false → cs ≡ replicate size fill) → (without ≡ true → fill ≡ pos 0)
           → part place (length (stored_bytes stored)) image ≡ stored_bytes stored → HasDataset image messages (line t size maximum stored fill cs) (blocks stored)
       dataset filled unset unwritten stands =
-          let old = count_of-content p plain (at + 16) (bodies without (address stored)) own 4 refl ∙ no_old_fill (at + 16) (address stored) without in
-          let new = count_of-content p plain (at + 16) (bodies without (address stored)) own 5 refl in
+          let old = counted_own 4 refl ∙ no_old_fill (at + 16) (address stored) without in
+          let new = counted_own 5 refl in
           record {
             known = all_known;
-            one_space = count_of-content p plain (at + 16) (bodies without (address stored)) own 1 refl ∙ one_space (at + 16) (address stored) without;
-            one_type = count_of-content p plain (at + 16) (bodies without (address stored)) own 3 refl ∙ one_type (at + 16) (address stored) without;
-            one_layout = count_of-content p plain (at + 16) (bodies without (address stored)) own 8 refl ∙ one_layout (at + 16) (address stored) without;
+            one_space = counted_own 1 refl ∙ one_space (at + 16) (address stored) without;
+            one_type = counted_own 3 refl ∙ one_type (at + 16) (address stored) without;
+            one_layout = counted_own 8 refl ∙ one_layout (at + 16) (address stored) without;
             old_fills = omega (arith, old);
             fills = omega (arith, new, one_fill (at + 16) (address stored) without);
             space = space_back size maximum (omega (arith, few)) bound;
             type = fixed_of-type_body t is;
             old_fill = None;
             new_fill = new_fill (at + 16) (address stored) without;
-            old_filled = subst (λ body. IsFill (old_fill_value t) body None) (sym (first_body-content p plain (at + 16) (bodies without (address stored)) own 4 refl)) (old_fill_read (at + 16) (address stored) without);
-            new_filled = subst (λ body. IsFill (fill_value t) body (new_fill (at + 16) (address stored) without)) (sym (first_body-content p plain (at + 16) (bodies without (address stored)) own 5 refl)) (new_fill_read (at + 16) (address stored) without);
+            old_filled = subst (λ body. IsFill (old_fill_value t) body None) (sym (found_own 4 refl)) (old_fill_read (at + 16) (address stored) without);
+            new_filled = subst (λ body. IsFill (fill_value t) body (new_fill (at + 16) (address stored) without)) (sym (found_own 5 refl)) (new_fill_read (at + 16) (address stored) without);
             filled = chosen (at + 16) (address stored) without unwritten;
             layout = InBlock (there stored);
-            laid_out = ap (option_and_then (layout_of (size ∷ []) t.size)) (first_body-content p plain (at + 16) (bodies without (address stored)) own 8 refl ∙ layout_found (at + 16) (address stored) without) ∙ laid_out stored few low;
+            laid_out = ap (option_and_then (layout_of (size ∷ []) t.size)) (found_own 8 refl ∙ layout_found (at + 16) (address stored) without) ∙ laid_out stored few low;
             storage = storage_is stored filled;
             small = bounded;
             chunk_small = tt;
@@ -222,28 +227,31 @@ module _ (t : Fixed) (size : ℕ) (maximum : Option ℕ) (fill : ℤ) (is : IsFi
             cells = cells_are stored stands unset;
           }
 
-      module _ (there' : part at (length (header_bytes 1 (bodies without (address stored) ++ others_of p))) image ≡ header_bytes 1 (bodies without (address stored) ++ others_of p))
+      abbrev header : List ℕ
+      header = header_bytes 1 (own ++ others_of p)
+
+      module _ (whole : part at (length header) image ≡ header)
           (fits_in : nat_lt 65535 (4 + length (others_of p)) ≡ without) (most : 3 + length (others_of p) ≤ 65535)
-          (short : length (header_bytes 1 (bodies without (address stored) ++ others_of p)) < 2 ^ 31) where
-        listed : HasMessages image at messages (block at (length (header_bytes 1 (bodies without (address stored) ++ others_of p))) ∷ [])
+          (short : length header < 2 ^ 31) where
+        listed : HasMessages image at messages (block at (length header) ∷ [])
         listed =
-            let many = length-append (bodies without (address stored)) (others_of p) in
+            let many = length-append own (others_of p) in
             let enough = few_bodies without (address stored) (length (others_of p)) fits_in most in
-            header_reads image at 1 (bodies without (address stored) ++ others_of p) there' (all_plain p plain (at + 16) (bodies without (address stored)) own) (omega (arith, many, enough)) (omega (arith, short))
+            header_reads image at 1 (own ++ others_of p) whole (all_plain p plain (at + 16) own own_content) (omega (arith, many, enough)) (omega (arith, short))
 
         counted_once : reference_count (prefix_at image at) ≡ 1
-        counted_once = header_counted image at 1 (bodies without (address stored) ++ others_of p) there' (omega arith)
+        counted_once = header_counted image at 1 (own ++ others_of p) whole (omega arith)
 
         object : (table : FinMap nat_cmp ℕ) → p.content ≡ Array (line t size maximum stored fill cs) → HasDataset image messages (line t size maximum stored fill cs) (blocks stored)
-            → HasObject image table at p (block at (length (header_bytes 1 (bodies without (address stored) ++ others_of p))) ∷ blocks stored)
+            → HasObject image table at p (block at (length header) ∷ blocks stored)
         object table e has = record {
           messages = messages;
-          header_blocks = block at (length (header_bytes 1 (bodies without (address stored) ++ others_of p))) ∷ [];
+          header_blocks = block at (length header) ∷ [];
           listed = listed;
           content_blocks = blocks stored;
           content = subst (λ (c : Content). HasContent image table messages c (blocks stored)) (sym e) has;
-          attributes = has_attributes p plain (at + 16) (bodies without (address stored)) own;
-          kept = has_kept p plain (at + 16) (bodies without (address stored)) own;
+          attributes = has_attributes p plain (at + 16) own own_content;
+          kept = has_kept p plain (at + 16) own own_content;
           laid = refl;
         }
 
@@ -273,13 +281,12 @@ module _ (image : List ℕ) (table : FinMap nat_cmp ℕ) (at place : ℕ) (name 
   unwritten h = let many : 65535 < 4 + length (others_of p) = grind (arith, nat_tests, h) in is.unwritten many
 
   line_read : IsRead image table at place name p same
-  line_read e short there stands =
+  line_read e short stands_at stands =
       let length_is : length (array_header (linked_to name same p) 0) ≡ length (array_header (linked_to name same p) (if is.stored then place else undefined))
       = same_length (linked_to name same p) 0 (if is.stored then place else undefined) in
-      let whole = sym (ap (λ n. part at n image) length_is) ∙ there in
+      let whole = sym (ap (λ n. part at n image) length_is) ∙ stands_at in
       let has = dataset d.fixed is.size is.maximum d.fill is.fixed (is.sound).fill image place d.cells (is.sound).values counted at p plain is.few low is.bounded without is.stored
-          is.filled is.unset unwritten stands in
-      (
+      is.filled is.unset unwritten stands in (
         subst (λ n. HasObject image table at p (block at n ∷ (if is.stored then block place (length (data_of same)) ∷ [] else []))) (sym length_is)
             (object d.fixed is.size is.maximum d.fill is.fixed (is.sound).fill image place d.cells (is.sound).values counted at p plain is.few low is.bounded without is.stored
             whole refl most (omega (arith, short, length_is)) table e has),

@@ -69,7 +69,6 @@ pub length-attribute_bytes : (name sizes : List ℕ) (t : Fixed) (values : List 
     → length (attribute_bytes name t sizes values n) ≡ n
 length-attribute_bytes name sizes t values n count room =
     let product : length values * t.size ≡ cells sizes * t.size = ap (λ (k : ℕ). k * t.size) count in
-    let rest : List ℕ = replicate (n - attribute_size (length name) sizes t.size) 0 in
     let zeros_long : length (replicate {A = ℕ} (n - attribute_size (length name) sizes t.size) 0) ≡ n - attribute_size (length name) sizes t.size = length-replicate {A = ℕ} _ 0 in
     let pad_long : length (replicate {A = ℕ} (pad8 (length name + 1) - length name) 0) ≡ pad8 (length name + 1) - length name = length-replicate {A = ℕ} _ 0 in
     simp length-append (omega (arith, zeros_long, pad_long, product, words_long sizes, length-value_bytes t values))

@@ -1,8 +1,7 @@
 -- How many bytes the header of an array has in the plain layout, and its data (File Format Specification 3.0, sections IV.A.1.a and
 -- IV.A.2).
-use Rattle.std.proofs.Common.{◌≡◌, ℕ, ◌+◌, ◌*◌, ◌^◌, ◌<◌, ◌≤◌, List, [], ◌∷◌, ◌++◌, length, refl, sym, ap, ◌∙◌, subst, arith, Bool, true, false, cond, not, Option, ℤ}
-use Rattle.std.specs.Prelude.{nat_lt, sum_by, if◌then◌else◌}
-use Rattle.std.specs.FinMap.{entries, len}
+use Rattle.std.proofs.Common.{◌≡◌, ℕ, ◌+◌, ◌*◌, List, [], ◌∷◌, ◌++◌, length, refl, sym, ap, ◌∙◌, subst, arith, Bool, true, false, cond, not, Option, ℤ}
+use Rattle.std.specs.Prelude.{nat_lt, if◌then◌else◌}
 use Rattle.h5_model.specs.Fixed.{Fixed, IsFixed}
 use Rattle.h5_model.specs.Places.{cells}
 use Rattle.h5_model.specs.Plain.{messages_bytes, type_body, fill_body, contiguous_body, cells_bytes}
@@ -30,7 +29,7 @@ length-array_messages d address others =
     = omega (arith, behind, last) in
     let typed = one_more (3, type_body d.fixed) (fill_messages d others ++ layout_message d address ∷ []) 16 _ refl rest in
     one_more (1, space_body d.sizes d.maxima) ((3, type_body d.fixed) ∷ (fill_messages d others ++ layout_message d address ∷ []))
-        (length (space_body d.sizes d.maxima)) _ refl typed
+    (length (space_body d.sizes d.maxima)) _ refl typed
 
 length-array_header : (l : Linked) (address : ℕ) → length (array_header l address)
     ≡ 16 + (8 + length (space_body (l.array).sizes (l.array).maxima) + (24 + (length (messages_bytes (fill_messages l.array (length l.others))) + 32))) + length (messages_bytes l.others)
@@ -78,7 +77,7 @@ pub array_header-size : (name : List ℕ) (d : Dataset) (p : Object) → IsPlain
     → length (array_header (linked_to name d p) 0) ≡ header_size p
 array_header-size name d p plain is e =
     let counted : IsCounted (length (others_of p)) d = subst (IsCounted (length (others_of p))) (sym (line_is d (length (others_of p)) is))
-        (line_counted (length (others_of p)) d.fixed is.size is.maximum is.stored d.fill d.cells is.fixed) in
+    (line_counted (length (others_of p)) d.fixed is.size is.maximum is.stored d.fill d.cells is.fixed) in
     let many = ap (λ k. messages_size k d.sizes d.maxima d.storage (d.fixed).size) (count-others p plain) in
     let own = length-array_header (linked_to name d p) 0 in
     let sum = length-others p plain in

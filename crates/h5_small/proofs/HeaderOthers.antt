@@ -123,10 +123,6 @@ all_kept_plain : (ks : List Kept) → AllByRecursion IsPlainKept ks → AllByRec
 all_kept_plain [] all = tt
 all_kept_plain (k ∷ ks) all = (kept_plain k all.0, all_kept_plain ks all.1)
 
-all_kept_kinds : (ks : List Kept) → AllByRecursion IsPlainKept ks → AllByRecursion (λ (m : ℕ × List ℕ). is_kept_kind m.0 ≡ true) (map kept_message ks)
-all_kept_kinds [] all = tt
-all_kept_kinds (k ∷ ks) all = ((all.0).kind, all_kept_kinds ks all.1)
-
 length-kept : (ks : List Kept) → AllByRecursion IsPlainKept ks → length (messages_bytes (map kept_message ks)) ≡ sum_by kept_length ks
 length-kept [] all = refl
 length-kept (k ∷ ks) all =
@@ -138,10 +134,6 @@ length-kept (k ∷ ks) all =
 all_attributes_plain : (es : List (List ℕ × Attribute)) → AllByRecursion IsPlainAttribute es → AllByRecursion IsPlain (map attribute_message es)
 all_attributes_plain [] all = tt
 all_attributes_plain (e ∷ es) all = (attribute_plain e all.0, all_attributes_plain es all.1)
-
-all_attribute_kinds : (es : List (List ℕ × Attribute)) → AllByRecursion (λ (m : ℕ × List ℕ). (m.0 == 12) ≡ true) (map attribute_message es)
-all_attribute_kinds [] = tt
-all_attribute_kinds ((name, a) ∷ es) = (refl, all_attribute_kinds es)
 
 length-attributes : (es : List (List ℕ × Attribute)) → AllByRecursion IsPlainAttribute es → length (messages_bytes (map attribute_message es)) ≡ sum_by attribute_length es
 length-attributes [] all = refl

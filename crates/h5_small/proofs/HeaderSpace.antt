@@ -1,8 +1,7 @@
 -- The extent of an array of one dimension is read back from its dataspace message (File Format Specification 3.0, section IV.A.2.b).
-use Rattle.std.proofs.Common.{◌≡◌, ℕ, ◌+◌, ◌*◌, ◌%◌, ◌^◌, ◌<◌, ◌≤◌, ◌==◌, ◌&&◌, List, [], ◌∷◌, length, refl, sym, ap, ◌∙◌, subst, arith, Bool, true, false, cond, not, Option, Some, None, eqb-true}
+use Rattle.std.proofs.Common.{◌≡◌, ℕ, ◌+◌, ◌%◌, ◌^◌, ◌<◌, ◌≤◌, ◌==◌, [], ◌∷◌, length, refl, sym, ap, ◌∙◌, arith, Bool, true, false, cond, not, Option, Some, None, eqb-true}
 use Rattle.std.proofs.lemmas.Bool.Decides.{nat_tests}
 use Rattle.std.specs.Prelude.{IfSome, if◌then◌else◌}
-use Rattle.std.specs.List.{AllByRecursion}
 use Rattle.h5_bytes.specs.Bytes.{undefined}
 use Rattle.h5_model.specs.Extent.{Extent, extent_of}
 use Rattle.h5_model.specs.Plain.{extent_body}
@@ -36,7 +35,7 @@ same_bytes size (Some m) = refl
 bounded_read : (size : ℕ) (maximum : Option ℕ) → size < 2 ^ 64 → IsBound size maximum → extent_of (bounded_body (size ∷ []) (maximum ∷ [])) ≡ Some (line_extent size maximum)
 bounded_read size maximum low bound =
     bounded_back (size ∷ []) (maximum ∷ []) 24 (bounded_body (size ∷ []) (maximum ∷ [])) (omega arith) (small_from (size ∷ []) (low, tt)) (maxima_fit size maximum bound)
-        (maximum_low size maximum bound, tt) (same_bytes size maximum)
+    (maximum_low size maximum bound, tt) (same_bytes size maximum)
 
 own_maximum : (size : ℕ) (maximum : Option ℕ) → are_sizes (size ∷ []) (maximum ∷ []) ≡ true → maximum ≡ Some size
 own_maximum size None h = absurd (cc)
