@@ -62,7 +62,7 @@ module _ (image : List ℕ) (header : ℕ) (ms : List Message) (blocks : List Bl
 
     by_cause : (cause c : Cause) → cause ≡ c → IsLineBreach image header ms c → IsRefusedAt image c header
     by_cause cause NoMemory e h = tt
-    by_cause cause NotYet e h = (named field ObjectHeader header depth, (met.met).reached, refl, inr (ms, all_messages image header ms blocks has inside, h))
+    by_cause cause NotYet e h = (named field ObjectHeader header depth, (met.met).reached, refl, (ms, all_messages image header ms blocks has inside, h))
     by_cause cause _ e h = subst (λ (c : Cause). IsRefusedAt image c header) e (list_breach cause (subst (λ (c : Cause). ListBreach image header ms c) (sym e) h))
 
     pub line_refused : (cause : Cause) → IsLineBreach image header ms cause → IsRefusedAt image cause header

@@ -4,3 +4,4 @@ pub mod OpenLaws
 pub mod RootLaws
 pub mod StepLaws
 pub mod KeptLaws
+pub mod LinkLaws

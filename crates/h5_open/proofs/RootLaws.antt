@@ -61,7 +61,7 @@ module _ (image : List ℕ) (ms : List Message) (blocks : List Block) (is : IsSu
 -- ---- the fields of the Symbol Table
 
 -- the two numbers of a body
-table_numbers : (body : List ℕ) (table : SymbolTable) → symbol_table_of body ≡ Some table → (16 ≤ length body) × (table.tree ≡ number_at body 0 8) × (table.heap ≡ number_at body 8 8)
+pub table_numbers : (body : List ℕ) (table : SymbolTable) → symbol_table_of body ≡ Some table → (16 ≤ length body) × (table.tree ≡ number_at body 0 8) × (table.heap ≡ number_at body 8 8)
 unfolding symbol_table_of
 table_numbers body table is = go (nat_le 16 (length body)) refl is where
   go : (b : Bool) → nat_le 16 (length body) ≡ b → (if b then Some (record { tree = number_at body 0 8; heap = number_at body 8 8 }) else None) ≡ Some table

@@ -2,7 +2,7 @@
 use Rattle.std.specs.Prelude.{ℕ, Option, Some, None, List}
 use Rattle.std.specs.Ordering.{nat_cmp}
 use Rattle.std.specs.FinMap.{FinMap, empty, insert}
-use Rattle.h5_model.specs.Tree.{Tree, Object, Content, Group, Links, ToObject}
+use Rattle.h5_model.specs.Tree.{Tree, Object, Links, ToObject}
 
 -- the root alone
 unfoldable pub alone_table : ℕ → FinMap nat_cmp ℕ
