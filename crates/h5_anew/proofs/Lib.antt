@@ -1,1 +1,2 @@
 pub mod PlainBodies
+pub mod PlainObjects

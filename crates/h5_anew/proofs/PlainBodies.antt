@@ -60,14 +60,20 @@ long_low bytes at low =
 
 -- ---- bodies
 
--- a body that has been padded, with as many bytes as a message may have
-abbrev pub IsPlainBody : Message → Type 0
-IsPlainBody m = (length m.body % 8 ≡ 0) × (length m.body < 65536)
+-- a padded body, with as many bytes as a message may have
+pub record IsPlainBody (m : Message) : Type 0 where
+  pub padded : length m.body % 8 ≡ 0
+  pub short : length m.body < 65536
+  pub low : AreBytes m.body
 
 read_body : (block_at : ℕ) (bytes : List ℕ) (at : ℕ) (m : Message) → AreBytes bytes → IsMessage block_at bytes at m → IsPlainBody m
 read_body block_at bytes at m low is =
     let long : length m.body ≡ number_at bytes (at + 2) 2 = ap length is.body ∙ length-part (at + 8) (number_at bytes (at + 2) 2) bytes is.whole in
-    (rw long is.padded, rw long (short_low bytes (at + 2) low))
+    record {
+      padded = rw long is.padded;
+      short = rw long (short_low bytes (at + 2) low);
+      low = subst AreBytes (sym is.body) (part_low (at + 8) (number_at bytes (at + 2) 2) bytes low);
+    }
 
 filled_bodies : (block_at : ℕ) (bytes : List ℕ) (at : ℕ) (ms : List Message) → AreBytes bytes → Fills block_at bytes at ms → AllByRecursion IsPlainBody ms
 filled_bodies block_at bytes at [] low fills = tt
