@@ -1,2 +1,3 @@
 pub mod PlainBodies
 pub mod PlainObjects
+pub mod PlainArrays
