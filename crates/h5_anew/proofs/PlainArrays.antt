@@ -158,15 +158,15 @@ unset_cells image t fill size (Some b) h =
 
 -- ---- the array that a link leads to
 
+abbrev pub line_dataset : List ℕ → Linked → Dataset
+line_dataset image l = dataset_in image (described l.line) empty
+
 module _ (image : List ℕ) (low : AreBytes image) (l : Linked) (kept : IsLinkKept image l) where
   abbrev ms : List Message
   ms = messages_in image l.array.list
 
   abbrev line : Line
   line = l.line
-
-  abbrev pub line_dataset : Dataset
-  line_dataset = dataset_in image (described l.line) empty
 
   array : HasArray ms (described line)
   array = (kept.array).array
@@ -184,7 +184,7 @@ module _ (image : List ℕ) (low : AreBytes image) (l : Linked) (kept : IsLinkKe
       (filled_fits (fill_value line.fixed) line.fixed (first_body 5 ms) f.new_fill (λ b v there is. fill_fits line.fixed b v sound (first_low image low l.array.list 5 b there) is) f.new_filled)
       (filled_fits (old_fill_value line.fixed) line.fixed (first_body 4 ms) f.old_fill (λ b v there is. old_fill_fits line.fixed b v sound (first_low image low l.array.list 4 b there) is) f.old_filled))
 
-  dataset_sound : IsDataset line_dataset
+  dataset_sound : IsDataset (line_dataset image l)
   dataset_sound = record {
     counted = length-map-range_with_len _ 0 (line.size * 1);
     fill = fill_is;
@@ -194,7 +194,7 @@ module _ (image : List ℕ) (low : AreBytes image) (l : Linked) (kept : IsLinkKe
   }
 
   -- with so few others that the messages now and one more have room
-  pub plain_line : (n : ℕ) → n + length ms ≤ length (others_of (object_with (Array line_dataset) ms)) + 65535 → IsPlainArray line_dataset n
+  pub plain_line : (n : ℕ) → n + length ms ≤ length (others_of (object_with (Array (line_dataset image l)) ms)) + 65535 → IsPlainArray (line_dataset image l) n
   plain_line n room = record {
     size = line.size;
     sizes_are = refl;
@@ -209,7 +209,7 @@ module _ (image : List ℕ) (low : AreBytes image) (l : Linked) (kept : IsLinkKe
     filled = λ h. let some : nat_lt 0 (line.size * 1) ≡ true = (both (is_some line.cells) (nat_lt 0 (line.size * 1)) h).1 in grind (arith, nat_tests, some);
     unset = λ h. unset_cells image line.fixed line.fill line.size line.cells h;
     unwritten = λ many.
-        let few = others_few image low l.array kept.header (Array line_dataset) in
+        let few = others_few image low l.array kept.header (Array (line_dataset image l)) in
         let one_space = array.one_space in
         let one_type = array.one_type in
         let one_layout = array.one_layout in

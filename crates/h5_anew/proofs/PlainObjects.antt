@@ -140,7 +140,7 @@ each_once [] = omega arith
 each_once (m ∷ ms) = omega (arith, one_type m.kind, length_filter is_kept m ms, length_filter is_attribute_message m ms, each_once ms)
 
 module _ (image : List ℕ) (low : AreBytes image) (m : Listed) (kept : IsHeaderKept image m) where
-  abbrev pub ms : List Message
+  abbrev ms : List Message
   ms = messages_in image m.list
 
   bodies : AllByRecursion IsPlainBody ms
