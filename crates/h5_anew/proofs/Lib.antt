@@ -1,0 +1,4 @@
+pub mod PlainBodies
+pub mod PlainObjects
+pub mod PlainArrays
+pub mod PlainTrees
