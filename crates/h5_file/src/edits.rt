@@ -75,6 +75,7 @@ impl File {
 
     /// Takes the image that an edit gives in place of the file's own.
     fn take(&mut self, made: Made) -> Result<Edited, EditFault>
+        requires { (edit : TheEdit) × IsMade self.old edit made }
         ensures { (edit : TheEdit) → IsMade self.old edit made
             → MatchResult result (IsEdited self.old edit self.new) (λ e. IsRefused self.old edit e × (self.new ≡ self.old)) }
     {

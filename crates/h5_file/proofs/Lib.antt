@@ -1,0 +1,5 @@
+pub mod Literal
+pub mod Signed
+pub mod Sounds
+pub mod Opens
+pub mod Made
