@@ -15,7 +15,9 @@ use Rattle.h5_open.specs.Opened.{table_of, tree_of}
 use Rattle.h5_open.specs.State.{FileState, state_of, opened_state, next_of}
 use Rattle.h5_anew.specs.Anew.{objects_of}
 use Rattle.h5_edit.specs.declared.made.Made.{Made}
+use Rattle.h5_edit.specs.Carried.{IsRefused, is_carried}
 use Rattle.h5_edit.specs.Made.{IsMade}
+use Rattle.h5_model.specs.declared.edit_fault.EditFault.TheVariants as fault
 use Rattle.h5_file.specs.State.{IsWhole}
 use Rattle.h5_file.specs.Edited.{IsEdited}
 use Rattle.h5_file.proofs.Sounds.{other_of, table_is, numbered}
@@ -71,3 +73,7 @@ made_superblock f edit made is = is.anew.reads.reads.superblock
 
 pub made_end : (f : FileState) (edit : Edit) (made : Made) → IsMade f edit made → end_of_file made.image.items ≡ length made.image.items
 made_end f edit made is = is.anew.reads.reads.whole
+
+-- want of memory is always a refusal of an edit that is carried
+pub not_taken : (f : FileState) (edit : Edit) (made : Made) → IsMade f edit made → IsRefused f edit fault.NoMemory
+not_taken f edit made is = rw is.accepted.carried (record { given = Some fault.NoMemory; allowed = tt; answer = refl })

@@ -1,0 +1,19 @@
+use Rattle.std.proofs.Common.{refl, sym, subst, length}
+use Rattle.h5_model.specs.Superblock.{IsSuperblock, end_of_file}
+use Rattle.h5_open.specs.Kept.{IsOpened}
+use Rattle.h5_file.proofs.Made.{edited, made_superblock, made_end, not_taken}
+use Rattle.h5_file.proofs.file.File.take.Goals as goal
+
+pub walk-requires-clause-superblock : goal.walk-requires-clause-superblock
+walk-requires-clause-superblock c = rw c.new-image.ensures (made_superblock c.args.self.now c.requires.0 c.args.made c.requires.1)
+
+pub walk-requires-clause-whole : goal.walk-requires-clause-whole
+walk-requires-clause-whole c = rw c.new-image.ensures (made_end c.args.self.now c.requires.0 c.args.made c.requires.1)
+
+pub returns-in_default : goal.returns-in_default
+returns-in_default c edit is = (not_taken c.args.self.now edit c.args.made is, refl)
+
+pub returns : goal.returns
+returns c edit is =
+    let opened : IsOpened c.args.made.image.items c.in-Ok.opened.root c.in-Ok.opened.link = rw c.new-image.ensures at c.in-Ok.ensures.kept in
+    rw c.new-image.ensures (edited c.args.self.now edit c.args.made is c.in-Ok.opened.root c.in-Ok.opened.link opened _ refl)
