@@ -11,7 +11,8 @@ use Rattle.h5_model.specs.declared.attribute.AttrSpec.{AttrSpec}
 use Rattle.h5_model.specs.declared.edits.Edit.TheVariants.{SetAttr, RemoveAttr}
 use Rattle.h5_model.specs.declared.edit_fault.EditFault.{EditFault}
 use Rattle.h5_model.specs.declared.edit_fault.EditFault.TheVariants as fault
-use Rattle.h5_edit.specs.Rules.{own_rules, IsAt}
+use Rattle.h5_look.specs.Place.{LeadsTo, IsNowhere}
+use Rattle.h5_edit.specs.Rules.{own_rules}
 
 -- ---- the rules of a path, by what they ask
 
@@ -49,33 +50,33 @@ module _ (tree : Tree) (next : ℕ) (path : List ℕ) where
   -- ---- an attribute that is set
 
   module _ (attr : AttrSpec) where
-    pub set_nowhere : (e : EditFault) → first_holding (path_rules tree path) ≡ Some e → refusal_of tree next (SetAttr path attr) ≡ Some e
+    pub set_nowhere : (e : EditFault) → IsNowhere tree path e → refusal_of tree next (SetAttr path attr) ≡ Some e
     unfolding refusal_of
-    set_nowhere e h = same_table (is_none (names_of path)) (is_deep path) (located tree path) _ e h
+    set_nowhere e h = same_table (is_none (names_of path)) (is_deep path) (located tree path) (own_rules attr) e h
 
-    pub set_somewhere : (number : ℕ) → IsAt tree path number → refusal_of tree next (SetAttr path attr) ≡ first_holding (own_rules attr)
+    pub set_somewhere : (number : ℕ) → LeadsTo tree path number → refusal_of tree next (SetAttr path attr) ≡ first_holding (own_rules attr)
     unfolding refusal_of
     set_somewhere number at =
-        let free : path_table (is_none (names_of path)) (is_deep path) (Here (ToObject number)) ≡ None = rw at.there at at.free in
-        rw at.there (here_table (is_none (names_of path)) (is_deep path) number (own_rules attr) free)
+        let free : path_table (is_none (names_of path)) (is_deep path) (Here (ToObject number)) ≡ None = rw at.1 at at.0 in
+        rw at.1 (here_table (is_none (names_of path)) (is_deep path) number (own_rules attr) free)
 
   -- ---- an attribute that is removed
 
   module _ (name : List ℕ) where
-    pub remove_nowhere : (e : EditFault) → first_holding (path_rules tree path) ≡ Some e → refusal_of tree next (RemoveAttr path name) ≡ Some e
+    pub remove_nowhere : (e : EditFault) → IsNowhere tree path e → refusal_of tree next (RemoveAttr path name) ≡ Some e
     unfolding refusal_of
-    remove_nowhere e h = same_table (is_none (names_of path)) (is_deep path) (located tree path) _ e h
+    remove_nowhere e h = same_table (is_none (names_of path)) (is_deep path) (located tree path) ((fault.NoSuchAttribute, has_no_attribute tree (RemoveAttr path name)) ∷ []) e h
 
     abbrev lacks : Object → Bool
     lacks o = not (contains_key o.attributes name)
 
-    pub remove_somewhere : (number : ℕ) (o : Object) → IsAt tree path number → get tree number ≡ Some o
+    pub remove_somewhere : (number : ℕ) (o : Object) → LeadsTo tree path number → get tree number ≡ Some o
         → refusal_of tree next (RemoveAttr path name) ≡ (if contains_key o.attributes name then None else Some fault.NoSuchAttribute)
     unfolding refusal_of
     remove_somewhere number o at found =
-        let free : path_table (is_none (names_of path)) (is_deep path) (Here (ToObject number)) ≡ None = rw at.there at at.free in
+        let free : path_table (is_none (names_of path)) (is_deep path) (Here (ToObject number)) ≡ None = rw at.1 at at.0 in
         let others : List (EditFault × Bool) = (fault.NoSuchAttribute, option_map_or lacks (get tree number) false) ∷ [] in
-        let table : refusal_of tree next (RemoveAttr path name) ≡ first_holding others = rw at.there (here_table (is_none (names_of path)) (is_deep path) number others free) in
+        let table : refusal_of tree next (RemoveAttr path name) ≡ first_holding others = rw at.1 (here_table (is_none (names_of path)) (is_deep path) number others free) in
         table ∙ rw found (by_test (contains_key o.attributes name)) where
       by_test : (b : Bool) → (if not b then Some fault.NoSuchAttribute else None) ≡ (if b then None else Some fault.NoSuchAttribute)
       by_test true = refl

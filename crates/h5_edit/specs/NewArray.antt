@@ -1,5 +1,6 @@
 -- A first array of a root without links, and why it is refused.
 use Rattle.std.specs.Prelude.{◌≡◌, ℕ, ◌≤◌, true, Some, None, List, [], ◌∷◌, length}
+use Rattle.std.specs.FinMap.{empty}
 use Rattle.h5_model.specs.Paths.{names_of, is_name}
 use Rattle.h5_model.specs.Refusal.{refusal_of}
 use Rattle.h5_model.specs.Tree.{Object, Group}

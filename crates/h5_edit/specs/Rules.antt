@@ -1,13 +1,10 @@
--- The rules of a new attribute by itself, and where one is to stand.
-use Rattle.std.specs.Prelude.{◌≡◌, ℕ, ◌^◌, ◌==◌, ◌||◌, Bool, not, nat_lt, Option, Some, None, List, [], ◌∷◌, length}
+-- The rules of a new attribute by itself, and the header of the object that it is for.
+use Rattle.std.specs.Prelude.{◌^◌, ◌==◌, ◌||◌, Bool, not, nat_lt, Option, Some, List, [], ◌∷◌, length}
 use Rattle.std.specs.List.{list_all}
 use Rattle.h5_model.specs.Fixed.{fits}
 use Rattle.h5_model.specs.Places.{cells, extent_cells}
-use Rattle.h5_model.specs.Paths.{Here, located}
-use Rattle.h5_model.specs.Reading.{path_rules}
-use Rattle.h5_model.specs.Refusal.{first_holding, is_no_text}
+use Rattle.h5_model.specs.Refusal.{is_no_text}
 use Rattle.h5_model.specs.Sizes.{attribute_size}
-use Rattle.h5_model.specs.Tree.{Tree, ToObject}
 use Rattle.h5_model.specs.declared.attribute.AttrSpec.{AttrSpec}
 use Rattle.h5_model.specs.declared.edit_fault.EditFault.{EditFault}
 use Rattle.h5_model.specs.declared.edit_fault.EditFault.TheVariants as fault
@@ -32,11 +29,6 @@ own_rules a =
     ∷ []
 
 -- ---- objects
-
--- no rule of a path refuses it, and it leads to this object
-pub record IsAt (tree : Tree) (path : List ℕ) (number : ℕ) : Type 0 where
-  pub free : first_holding (path_rules tree path) ≡ None
-  pub there : located tree path ≡ Here (ToObject number)
 
 -- what is kept of the object's header
 abbrev pub listed_at : Target → Listed → Option Linked → Listed

@@ -3,7 +3,7 @@
 ghost use Rattle.std.specs.Prelude.{◌≡◌, ◌≤◌, ◌^◌, Some, None, IfErr, OnOk, length};
 ghost use Rattle.std.specs.List.{list_all};
 ghost use Rattle.h5_model.specs.Fixed.{IsFixed, fits as is_of_type};
-ghost use Rattle.h5_model.specs.Refusal.{first_holding, is_no_text as has_no_text};
+ghost use Rattle.h5_model.specs.Refusal.{first_holding, has_zero as has_zero_byte, is_no_text as has_no_text};
 ghost use Rattle.h5_model.specs.Sizes.{attribute_size};
 ghost use Rattle.h5_model.specs.Places.{cells};
 ghost use Rattle.h5_edit.specs.Rules.{own_rules};
@@ -50,7 +50,14 @@ pub(crate) fn check_attribute(alloc: Global, attr: &AttrSpec) -> Result<(), Edit
 fn is_no_text(text: &[u8]) -> bool
     ensures { result ≡ has_no_text text.now }
 {
-    text.is_empty() || text.iter().any(|byte| *byte == 0)
+    text.is_empty() || has_zero(text)
+}
+
+/// Whether a byte of the text is 0.
+fn has_zero(text: &[u8]) -> bool
+    ensures { result ≡ has_zero_byte text.now }
+{
+    text.iter().any(|byte| *byte == 0)
 }
 
 /// Whether each value is one of the type's.
