@@ -1,6 +1,6 @@
 -- A first array: why it is refused, and the tree that is written.
 use Rattle.std.proofs.Common.{◌≡◌, ℕ, List, [], ◌∷◌, refl, sym, ap, ◌∙◌, Bool, true, false, Option, Some, None}
-use Rattle.std.specs.Prelude.{◌&&◌, is_none}
+use Rattle.std.specs.Prelude.{◌&&◌, is_none, is_some}
 use Rattle.std.specs.FinMap.{len, empty, insert, len-empty, len-insert, get-empty}
 use Rattle.std.specs.Ordering.{nat_cmp}
 use Rattle.std.specs.Cmp.Lexicographic.{slice_cmp, nat_list_cmp_total}
@@ -43,8 +43,24 @@ module _ (image : List ℕ) (root : Listed) (link : Option Linked) (path : List 
   carried_by : is_carried (tree_of image root link) (CreateDataset path spec) ≡ (is_none link && is_line spec)
   carried_by = ap (λ b. b && is_line spec) (empty_by image root link)
 
-  pub not_yet : (is_none link && is_line spec) ≡ false → IsRefused (opened_state image root link) (CreateDataset path spec) fault.NotYet
+  not_yet : (is_none link && is_line spec) ≡ false → IsRefused (opened_state image root link) (CreateDataset path spec) fault.NotYet
   not_yet other = rw (carried_by ∙ other) refl
+
+  pub linked_yet : is_some link ≡ true → IsRefused (opened_state image root link) (CreateDataset path spec) fault.NotYet
+  linked_yet h = not_yet (by_link link h) where
+    by_link : (o : Option Linked) → is_some o ≡ true → (is_none o && is_line spec) ≡ false
+    by_link None e = cc
+    by_link (Some l) e = refl
+
+  pub lined_yet : is_line spec ≡ false → IsRefused (opened_state image root link) (CreateDataset path spec) fault.NotYet
+  lined_yet h = not_yet (by_line (is_none link)) where
+    by_line : (b : Bool) → (b && is_line spec) ≡ false
+    by_line true = h
+    by_line false = refl
+
+pub alone_of : (link : Option Linked) → is_some link ≡ false → link ≡ None
+alone_of None h = refl
+alone_of (Some l) h = cc
 
 module _ (image : List ℕ) (root : Listed) (path : List ℕ) (spec : Spec) (lined : is_line spec ≡ true) where
   carried_alone : is_carried (tree_of image root None) (CreateDataset path spec) ≡ true

@@ -1,6 +1,6 @@
 -- Attributes that are set and removed: why they are refused, and the tree that is written.
 use Rattle.std.proofs.Common.{◌≡◌, ℕ, ◌+◌, ◌≤◌, ◌<◌, List, length, refl, sym, ap, ◌∙◌, Bool, true, false, Option, Some, None, arith}
-use Rattle.std.specs.Prelude.{nat_lt, option_map, is_none, is_some, if◌then◌else◌}
+use Rattle.std.specs.Prelude.{nat_lt, option_map, is_some, if◌then◌else◌}
 use Rattle.std.specs.Borrow.{Bor}
 use Rattle.std.specs.FinMap.{get, contains_key}
 use Rattle.std.proofs.lemmas.Bool.Decides.{nat_tests}
@@ -99,16 +99,16 @@ module _ (image : List ℕ) (root : Listed) (link : Option Linked) (path : List 
           by_entry (Some a) = refl
 
         module _ (found : Option (List ℕ × Attribute)) (same : found ≡ entry_named name.now (get (attributes_of (messages_in image (listed_at t root link).list)) name.now)) where
-          pub remove_refused_name : is_none found ≡ true → IsRefusedBy f (RemoveAttr path name.now) fault.NoSuchAttribute
+          pub remove_refused_name : is_some found ≡ false → IsRefusedBy f (RemoveAttr path name.now) fault.NoSuchAttribute
           remove_refused_name none = by_rule f (RemoveAttr path name.now) fault.NoSuchAttribute (removed_by found same ∙ by_none found none) where
-            by_none : (o : Option (List ℕ × Attribute)) → is_none o ≡ true → (if is_some o then None else Some fault.NoSuchAttribute) ≡ Some fault.NoSuchAttribute
+            by_none : (o : Option (List ℕ × Attribute)) → is_some o ≡ false → (if is_some o then None else Some fault.NoSuchAttribute) ≡ Some fault.NoSuchAttribute
             by_none None e = refl
             by_none (Some a) e = cc
 
-          module _ (some : is_none found ≡ false) where
+          module _ (some : is_some found ≡ true) where
             remove_free : refusal_of f.tree f.next (RemoveAttr path name.now) ≡ None
             remove_free = removed_by found same ∙ by_some found some where
-              by_some : (o : Option (List ℕ × Attribute)) → is_none o ≡ false → (if is_some o then None else Some fault.NoSuchAttribute) ≡ None
+              by_some : (o : Option (List ℕ × Attribute)) → is_some o ≡ true → (if is_some o then None else Some fault.NoSuchAttribute) ≡ None
               by_some None e = cc
               by_some (Some a) e = refl
 
