@@ -1,11 +1,10 @@
 -- A first array: why it is refused, and the tree that is written.
-use Rattle.std.proofs.Common.{◌≡◌, ℕ, List, [], ◌∷◌, refl, sym, ap, ◌∙◌, Bool, true, false, Option, Some, None}
+use Rattle.std.proofs.Common.{◌≡◌, ℕ, List, refl, ap, ◌∙◌, Bool, true, false, Option, Some, None}
 use Rattle.std.specs.Prelude.{◌&&◌, is_none, is_some}
-use Rattle.std.specs.FinMap.{len, empty, insert, len-empty, len-insert, get-empty}
+use Rattle.std.specs.FinMap.{len, empty, len-empty, len-insert, get-empty}
 use Rattle.std.specs.Ordering.{nat_cmp}
 use Rattle.std.specs.Cmp.Lexicographic.{slice_cmp, nat_list_cmp_total}
 use Rattle.h5_model.specs.Edits.{applied}
-use Rattle.h5_model.specs.Paths.{names_of}
 use Rattle.h5_model.specs.Refusal.{refusal_of}
 use Rattle.h5_model.specs.Tree.{Tree, Link, Group, ToObject}
 use Rattle.h5_model.specs.declared.dataset.Spec.{Spec}

@@ -1,12 +1,12 @@
 -- Attributes that are set and removed: why they are refused, and the tree that is written.
-use Rattle.std.proofs.Common.{◌≡◌, ℕ, ◌+◌, ◌≤◌, ◌<◌, List, length, refl, sym, ap, ◌∙◌, Bool, true, false, Option, Some, None, arith}
-use Rattle.std.specs.Prelude.{nat_lt, option_map, is_some, if◌then◌else◌}
+use Rattle.std.proofs.Common.{◌≡◌, ℕ, ◌+◌, ◌≤◌, ◌<◌, List, length, refl, ◌∙◌, true, false, Option, Some, None, arith}
+use Rattle.std.specs.Prelude.{option_map, is_some, if◌then◌else◌}
 use Rattle.std.specs.Borrow.{Bor}
-use Rattle.std.specs.FinMap.{get, contains_key}
+use Rattle.std.specs.FinMap.{get}
 use Rattle.std.proofs.lemmas.Bool.Decides.{nat_tests}
 use Rattle.h5_model.specs.Edits.{applied}
 use Rattle.h5_model.specs.Refusal.{first_holding, refusal_of}
-use Rattle.h5_model.specs.Tree.{Tree, Attribute, Object}
+use Rattle.h5_model.specs.Tree.{Attribute}
 use Rattle.h5_model.specs.declared.attribute.AttrSpec.{AttrSpec}
 use Rattle.h5_model.specs.declared.edits.Edit.TheVariants.{SetAttr, RemoveAttr}
 use Rattle.h5_model.specs.declared.edit_fault.EditFault.{EditFault}
@@ -15,7 +15,6 @@ use Rattle.h5_header.specs.Listed.{Listed, messages_in}
 use Rattle.h5_attr.specs.Attributes.{attributes_of}
 use Rattle.h5_open.specs.declared.opened.Linked.{Linked}
 use Rattle.h5_open.specs.Kept.{IsOpened}
-use Rattle.h5_open.specs.Opened.{tree_of}
 use Rattle.h5_open.specs.State.{FileState, opened_state}
 use Rattle.h5_look.specs.Place.{LeadsTo, IsNowhere}
 use Rattle.h5_plain.specs.declared.small.WriteFault.{WriteFault}
@@ -94,9 +93,9 @@ module _ (image : List ℕ) (root : Listed) (link : Option Linked) (path : List 
             let o = object_there t image root link there in
             let table = remove_somewhere f.tree f.next path name.now (number_of t) o.0 at o.1 in
             table ∙ rw (o.2, same) (by_entry (get (attributes_of (messages_in image (listed_at t root link).list)) name.now)) where
-          by_entry : (entry : Option Attribute) → (if is_some entry then None else Some fault.NoSuchAttribute) ≡ (if is_some (entry_named name.now entry) then None else Some fault.NoSuchAttribute)
-          by_entry None = refl
-          by_entry (Some a) = refl
+              by_entry : (entry : Option Attribute) → (if is_some entry then None else Some fault.NoSuchAttribute) ≡ (if is_some (entry_named name.now entry) then None else Some fault.NoSuchAttribute)
+              by_entry None = refl
+              by_entry (Some a) = refl
 
         module _ (found : Option (List ℕ × Attribute)) (same : found ≡ entry_named name.now (get (attributes_of (messages_in image (listed_at t root link).list)) name.now)) where
           pub remove_refused_name : is_some found ≡ false → IsRefusedBy f (RemoveAttr path name.now) fault.NoSuchAttribute

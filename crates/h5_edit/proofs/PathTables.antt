@@ -1,12 +1,11 @@
 -- Which rule refuses a change of attributes: one of its path, or one of its own.
-use Rattle.std.proofs.Common.{◌≡◌, ℕ, List, [], ◌∷◌, refl, sym, ap, ◌∙◌, Bool, not, true, false, Option, Some, None}
-use Rattle.std.specs.Prelude.{◌||◌, ◌&&◌, is_none, if◌then◌else◌, option_and_then}
+use Rattle.std.proofs.Common.{◌≡◌, ℕ, List, [], ◌∷◌, refl, ◌∙◌, Bool, not, true, false, Option, Some, None}
+use Rattle.std.specs.Prelude.{◌||◌, is_none, if◌then◌else◌}
 use Rattle.std.specs.FinMap.{get, contains_key}
 use Rattle.std.specs.Option.{option_map_or}
-use Rattle.h5_model.specs.Tree.{Tree, Object, Link, ToObject}
-use Rattle.h5_model.specs.Paths.{Located, Here, Missing, NoParent, NoGroup, NoPath, names_of, located, object_at}
+use Rattle.h5_model.specs.Tree.{Tree, Object, ToObject}
+use Rattle.h5_model.specs.Paths.{Located, Here, Missing, NoParent, NoGroup, NoPath, names_of, located}
 use Rattle.h5_model.specs.Refusal.{first_holding, refusal_of, is_deep, has_no_parent, has_no_group, is_missing, is_soft, has_no_attribute}
-use Rattle.h5_model.specs.Reading.{path_rules}
 use Rattle.h5_model.specs.declared.attribute.AttrSpec.{AttrSpec}
 use Rattle.h5_model.specs.declared.edits.Edit.TheVariants.{SetAttr, RemoveAttr}
 use Rattle.h5_model.specs.declared.edit_fault.EditFault.{EditFault}
@@ -22,14 +21,14 @@ path_table bad deep at = first_holding ((fault.BadPath, bad) ∷ (fault.PathTooD
 -- the same rules before others, as an edit that names an object asks them
 abbrev edit_table : Bool → Bool → Located → List (EditFault × Bool) → Option EditFault
 edit_table bad deep at others = first_holding (
-  (fault.BadPath, ((bad || false) || false) || false)
-  ∷ (fault.PathTooDeep, (deep || false) || false)
-  ∷ (fault.IsRoot, false)
-  ∷ (fault.NoSuchParent, (has_no_parent at || false) || false)
-  ∷ (fault.NotAGroup, (has_no_group at || false) || false)
-  ∷ (fault.NotFound, (is_missing at || is_soft at) || false)
-  ∷ others
-)
+    (fault.BadPath, ((bad || false) || false) || false)
+    ∷ (fault.PathTooDeep, (deep || false) || false)
+    ∷ (fault.IsRoot, false)
+    ∷ (fault.NoSuchParent, (has_no_parent at || false) || false)
+    ∷ (fault.NotAGroup, (has_no_group at || false) || false)
+    ∷ (fault.NotFound, (is_missing at || is_soft at) || false)
+    ∷ others
+    )
 
 same_table : (bad deep : Bool) (at : Located) (others : List (EditFault × Bool)) (e : EditFault) → path_table bad deep at ≡ Some e → edit_table bad deep at others ≡ Some e
 same_table true deep at others e h = h
@@ -78,6 +77,6 @@ module _ (tree : Tree) (next : ℕ) (path : List ℕ) where
         let others : List (EditFault × Bool) = (fault.NoSuchAttribute, option_map_or lacks (get tree number) false) ∷ [] in
         let table : refusal_of tree next (RemoveAttr path name) ≡ first_holding others = rw at.1 (here_table (is_none (names_of path)) (is_deep path) number others free) in
         table ∙ rw found (by_test (contains_key o.attributes name)) where
-      by_test : (b : Bool) → (if not b then Some fault.NoSuchAttribute else None) ≡ (if b then None else Some fault.NoSuchAttribute)
-      by_test true = refl
-      by_test false = refl
+          by_test : (b : Bool) → (if not b then Some fault.NoSuchAttribute else None) ≡ (if b then None else Some fault.NoSuchAttribute)
+          by_test true = refl
+          by_test false = refl

@@ -1,8 +1,7 @@
 -- How an edit that is carried is refused: by a rule of the tree, by what the image decides, or for want of memory.
-use Rattle.std.proofs.Common.{◌≡◌, ℕ, refl, ap, ◌∙◌, Bool, true, false, Some, None}
+use Rattle.std.proofs.Common.{◌≡◌, refl, Bool, true, false, Some, None}
 use Rattle.h5_model.specs.Edits.{applied}
 use Rattle.h5_model.specs.Refusal.{refusal_of}
-use Rattle.h5_model.specs.ImageAnswers.{chosen}
 use Rattle.h5_model.specs.declared.edits.Edit.{Edit}
 use Rattle.h5_model.specs.declared.edit_fault.EditFault.{EditFault}
 use Rattle.h5_model.specs.declared.edit_fault.EditFault.TheVariants as fault

@@ -1,16 +1,14 @@
 -- An attribute that none of its own rules refuses can be written.
-use Rattle.std.proofs.Common.{◌≡◌, ℕ, ◌+◌, ◌≤◌, ◌<◌, ◌^◌, List, [], ◌∷◌, length, refl, sym, ap, ◌∙◌, Bool, true, false, not, ℤ, Option, Some, None, arith}
+use Rattle.std.proofs.Common.{◌≡◌, List, [], ◌∷◌, length, refl, Bool, true, false, not, ℤ, None, arith}
 use Rattle.std.specs.Prelude.{nat_lt, ◌==◌, ◌||◌, ◌&&◌}
-use Rattle.std.specs.List.{AllByRecursion, list_all}
+use Rattle.std.specs.List.{list_all}
 use Rattle.std.proofs.lemmas.Bool.Decides.{nat_tests}
 use Rattle.h5_model.specs.Edits.{attribute_from}
 use Rattle.h5_model.specs.Fixed.{Fixed, IsFixed, fits}
-use Rattle.h5_model.specs.Places.{cells, extent_cells}
+use Rattle.h5_model.specs.Places.{cells}
 use Rattle.h5_model.specs.Refusal.{first_holding, has_zero, is_no_text}
-use Rattle.h5_model.specs.Sizes.{attribute_size}
 use Rattle.h5_model.specs.Sound.{AreOf}
 use Rattle.h5_model.specs.declared.attribute.AttrSpec.{AttrSpec}
-use Rattle.h5_model.specs.declared.edit_fault.EditFault.{EditFault}
 use Rattle.h5_model.proofs.RefusalLaws.{none_holds}
 use Rattle.h5_small.specs.Sound.{IsPlainAttribute}
 use Rattle.h5_edit.specs.Rules.{own_rules}

@@ -1,5 +1,5 @@
 -- A first array of a root without links, and why it is refused.
-use Rattle.std.specs.Prelude.{◌≡◌, ℕ, ◌≤◌, true, Some, None, List, [], ◌∷◌, length}
+use Rattle.std.specs.Prelude.{◌≡◌, ℕ, ◌≤◌, true, Some, List, [], ◌∷◌, length}
 use Rattle.std.specs.FinMap.{empty}
 use Rattle.h5_model.specs.Paths.{names_of, is_name}
 use Rattle.h5_model.specs.Refusal.{refusal_of}
@@ -8,7 +8,6 @@ use Rattle.h5_model.specs.declared.dataset.Spec.{Spec}
 use Rattle.h5_model.specs.declared.edits.Edit.TheVariants.{CreateDataset}
 use Rattle.h5_model.specs.declared.edit_fault.EditFault.{EditFault}
 use Rattle.h5_walk.specs.Small.{alone_tree}
-use Rattle.h5_anew.specs.Change.{IsNewLine}
 use Rattle.h5_edit.specs.Carried.{is_line}
 
 -- the path is that of a link in the root, of a name that is not too long
