@@ -1,26 +1,17 @@
 -- What a path leads to in an opened image.
-use Rattle.std.proofs.Common.{◌≡◌, ℕ, ◌<◌, ◌≤◌, List, [], ◌∷◌, length, refl, Option, Some, None, arith}
+use Rattle.std.proofs.Common.{◌≡◌, ℕ, ◌≤◌, List, [], ◌∷◌, length, refl, Option, Some, None, arith}
 use Rattle.std.proofs.lemmas.Bool.Decides.{nat_tests}
 use Rattle.h5_model.specs.Tree.{Tree, ToObject, links_of}
 use Rattle.h5_model.specs.Paths.{Here, Missing, NoParent, NoGroup, names_of, located}
-use Rattle.h5_model.specs.declared.edit_fault.EditFault.TheVariants.{BadPath, PathTooDeep, NoSuchParent, NotAGroup, NotFound}
+use Rattle.h5_model.specs.declared.edit_fault.EditFault.TheVariants.{NoSuchParent, NotAGroup, NotFound}
 use Rattle.h5_header.specs.Listed.{Listed}
 use Rattle.h5_open.specs.declared.opened.Linked.{Linked}
 use Rattle.h5_open.specs.Opened.{tree_of}
 use Rattle.h5_look.specs.Place.{LeadsTo, IsNowhere, IsNamed, IsElsewhere}
 use Rattle.h5_look.specs.Kept.{links_with}
-use Rattle.h5_look.proofs.RuleLaws.{no_path, too_deep, at_place}
-use Rattle.h5_look.proofs.PathLaws.{slash, located-link, located-missing, located-no_parent, located-no_group}
+use Rattle.h5_look.proofs.RuleLaws.{at_place}
+use Rattle.h5_look.proofs.PathLaws.{located-link, located-missing, located-no_parent, located-no_group}
 use Rattle.h5_look.proofs.TreeLaws.{links-root, links-array, other_link, named_link}
-
-pub at_no_path : (tree : Tree) (path : List ℕ) → names_of path ≡ None → IsNowhere tree path BadPath
-at_no_path tree path h = no_path tree path h
-
-pub at_root : (tree : Tree) (path : List ℕ) → names_of path ≡ Some [] → LeadsTo tree path 0
-at_root tree path h = (at_place tree path [] (Here (ToObject 0)) h refl (slash tree path h), slash tree path h)
-
-pub at_depth : (tree : Tree) (path : List ℕ) (names : List (List ℕ)) → names_of path ≡ Some names → 64 < length names → IsNowhere tree path PathTooDeep
-at_depth tree path names h deep = too_deep tree path names h (grind (arith, nat_tests))
 
 module _ (image : List ℕ) (root : Listed) (link : Option Linked) (path x : List ℕ) where
   abbrev T : Tree

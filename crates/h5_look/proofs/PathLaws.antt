@@ -9,10 +9,6 @@ use Rattle.h5_model.specs.Paths.{Located, Here, Missing, NoParent, NoGroup, NoPa
 abbrev names_to : Tree → Option (List (List ℕ)) → Located
 names_to tree found = option_map_or (λ names. locate tree (ToObject 0) names) found NoPath
 
--- `/` leads to the root in any tree
-pub slash : (tree : Tree) (path : List ℕ) → names_of path ≡ Some [] → located tree path ≡ Here (ToObject 0)
-slash tree path h = ap (names_to tree) h
-
 module _ (tree : Tree) (links : Links) (root : links_of tree 0 ≡ Some links) where
   -- behind a link of the root
   abbrev behind : Option Link → List (List ℕ) → Located

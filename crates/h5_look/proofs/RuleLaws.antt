@@ -1,16 +1,17 @@
 -- Which rule of a path is the first that holds, in any tree.
-use Rattle.std.proofs.Common.{◌≡◌, ℕ, List, [], ◌∷◌, ◌++◌, length, refl, ap, ◌∙◌, Bool, not, true, false, Option, Some, None}
+use Rattle.std.proofs.Common.{◌≡◌, ℕ, List, [], ◌∷◌, ◌++◌, length, refl, ap, ◌∙◌, Bool, cond, not, true, false, Option, Some, None}
 use Rattle.std.specs.Prelude.{nat_lt, ◌==◌, if◌then◌else◌, ◌||◌, ◌&&◌, is_none}
 use Rattle.std.specs.Option.{option_map_or}
 use Rattle.h5_model.specs.Places.{is_inside}
 use Rattle.h5_model.specs.Tree.{Tree, Link, Dataset, ToObject, links_of, dataset_of}
-use Rattle.h5_model.specs.Paths.{Located, Here, Missing, NoParent, NoGroup, NoPath, names_of, located, links_at, dataset_at}
+use Rattle.h5_model.specs.Paths.{Located, Here, names_of, located, links_at, dataset_at}
 use Rattle.h5_model.specs.Refusal.{first_holding, is_deep, is_here, has_no_parent, has_no_group, is_missing}
 use Rattle.h5_model.specs.Reading.{path_rules, list_rules, dataset_rules, cell_rules}
 use Rattle.h5_model.specs.declared.edit_fault.EditFault.{EditFault}
 use Rattle.h5_model.specs.declared.edit_fault.EditFault.TheVariants.{BadPath, PathTooDeep, NoSuchParent, NotAGroup, NotFound, NotADataset, RankMismatch, OutOfExtent}
+use Rattle.h5_model.proofs.PathLaws.{first_of_path_rules, refusal_at}
 
-pub first-before : (rules others : List (EditFault × Bool)) (e : EditFault) → first_holding rules ≡ Some e → first_holding (rules ++ others) ≡ Some e
+first-before : (rules others : List (EditFault × Bool)) (e : EditFault) → first_holding rules ≡ Some e → first_holding (rules ++ others) ≡ Some e
 first-before [] others e h = absurd (cc)
 first-before ((f, true) ∷ rules) others e h = h
 first-before ((f, false) ∷ rules) others e h = first-before rules others e h
@@ -22,35 +23,12 @@ first-behind ((f, false) ∷ rules) others h = first-behind rules others h
 
 -- ---- a path
 
-pub no_path : (tree : Tree) (path : List ℕ) → names_of path ≡ None → first_holding (path_rules tree path) ≡ Some BadPath
-no_path tree path h = rw h refl
-
-pub too_deep : (tree : Tree) (path : List ℕ) (names : List (List ℕ)) → names_of path ≡ Some names → nat_lt 64 (length names) ≡ true
-    → first_holding (path_rules tree path) ≡ Some PathTooDeep
-too_deep tree path names h deep = rw (h, deep) refl
-
--- why nothing stands at a place
-abbrev refusal_at : Located → Option EditFault
-refusal_at NoParent = Some NoSuchParent
-refusal_at NoGroup = Some NotAGroup
-refusal_at Missing = Some NotFound
-refusal_at _ = None
-
-abbrev place_table : Located → Option EditFault
-place_table at = first_holding ((NoSuchParent, has_no_parent at) ∷ (NotAGroup, has_no_group at) ∷ (NotFound, is_missing at) ∷ [])
-
-by_table : (at : Located) → place_table at ≡ refusal_at at
-by_table (Here link) = refl
-by_table Missing = refl
-by_table NoParent = refl
-by_table NoGroup = refl
-by_table NoPath = refl
-
+-- a path that is not deep is refused by what it leads to alone
 pub at_place : (tree : Tree) (path : List ℕ) (names : List (List ℕ)) (at : Located) → names_of path ≡ Some names → nat_lt 64 (length names) ≡ false
     → located tree path ≡ at → first_holding (path_rules tree path) ≡ refusal_at at
 at_place tree path names at h low there =
-    let table : first_holding (path_rules tree path) ≡ place_table (located tree path) = rw (h, low) refl in
-    table ∙ ap place_table there ∙ by_table at
+    let shallow : is_deep path ≡ false = rw h low in
+    first_of_path_rules tree path ∙ ap (λ b. cond b (Some PathTooDeep) (refusal_at (located tree path))) shallow ∙ ap refusal_at there
 
 -- ---- a path to a group
 
@@ -60,19 +38,6 @@ path_table bad deep at = first_holding ((BadPath, bad) ∷ (PathTooDeep, deep) �
 abbrev list_table : Bool → Bool → Located → Bool → Option EditFault
 list_table bad deep at other =
     first_holding ((BadPath, bad) ∷ (PathTooDeep, deep) ∷ (NoSuchParent, has_no_parent at) ∷ (NotAGroup, has_no_group at || (is_here at && other)) ∷ (NotFound, is_missing at) ∷ [])
-
-same_table : (bad deep : Bool) (at : Located) (other : Bool) (e : EditFault) → path_table bad deep at ≡ Some e → list_table bad deep at other ≡ Some e
-same_table true deep at other e h = h
-same_table false true at other e h = h
-same_table false false (Here link) other e h = absurd (cc)
-same_table false false Missing other e h = h
-same_table false false NoParent other e h = h
-same_table false false NoGroup other e h = h
-same_table false false NoPath other e h = absurd (cc)
-
--- what refuses a path refuses it for a group
-pub list_as_path : (tree : Tree) (path : List ℕ) (e : EditFault) → first_holding (path_rules tree path) ≡ Some e → first_holding (list_rules tree path) ≡ Some e
-list_as_path tree path e h = same_table (is_none (names_of path)) (is_deep path) (located tree path) (is_none (links_at tree path)) e h
 
 here_table : (bad deep : Bool) (link : Link) (other : Bool) → path_table bad deep (Here link) ≡ None → list_table bad deep (Here link) other ≡ (if other then Some NotAGroup else None)
 here_table true deep link other h = absurd (cc)
@@ -97,10 +62,6 @@ array_rule tree path = (NotADataset, is_here (located tree path) && is_none (dat
 abbrev pub index_rules : Tree → List ℕ → List ℕ → List (EditFault × Bool)
 index_rules tree path index = (RankMismatch, option_map_or (λ (d : Dataset). not (length index == length d.sizes)) (dataset_at tree path) false)
     ∷ (OutOfExtent, option_map_or (λ (d : Dataset). not (is_inside d.sizes index)) (dataset_at tree path) false) ∷ []
-
--- what refuses a path refuses it for a cell
-pub cell_as_path : (tree : Tree) (path index : List ℕ) (e : EditFault) → first_holding (path_rules tree path) ≡ Some e → first_holding (cell_rules tree path index) ≡ Some e
-cell_as_path tree path index e h = first-before (dataset_rules tree path) (index_rules tree path index) e (first-before (path_rules tree path) (array_rule tree path) e h)
 
 -- another object than a dataset stands there
 pub no_dataset : (tree : Tree) (path index : List ℕ) (number : ℕ) → first_holding (path_rules tree path) ≡ None → located tree path ≡ Here (ToObject number)
