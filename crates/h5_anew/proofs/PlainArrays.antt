@@ -193,7 +193,7 @@ module _ (image : List ℕ) (low : AreBytes image) (l : Linked) (kept : IsLinkKe
     boxed = λ chunk no. absurd (cc);
   }
 
-  -- with so few others that the messages now and one more have room
+  -- with so few others, a fill message that is there now is written again
   pub plain_line : (n : ℕ) → n + length ms ≤ length (others_of (object_with (Array (line_dataset image l)) ms)) + 65535 → IsPlainArray (line_dataset image l) n
   plain_line n room = record {
     size = line.size;

@@ -88,7 +88,7 @@ module _ (image : List ℕ) (root : Listed) where
     root_total : (link : Option Linked) → IsOpened image root link → length root.list ≤ 65535
     root_total link opened = omega (arith, total_few image low root opened.root_kept, length-map root.list (message_in image))
 
-    -- a root with at most one other message more than now, or with room for it
+    -- with so few others, beside the Symbol Table that is there, the root's header has 65535 messages at most
     root_few : (link : Option Linked) → IsOpened image root link → (content : Content) (n : ℕ)
         → n + length root.list ≤ length (others_of (object_with content (messages_in image root.list))) + 65535 → 1 + n ≤ 65535
     root_few link opened content n room =

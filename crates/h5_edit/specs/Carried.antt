@@ -1,5 +1,5 @@
 -- Which edits are carried so far, and when one is refused.
-use Rattle.std.specs.Prelude.{◌≡◌, ℕ, ◌+◌, ◌==◌, ◌&&◌, Bool, true, false, IsTrue, IsFalse, nat_lt, Option, Some, None, length}
+use Rattle.std.specs.Prelude.{◌≡◌, ◌+◌, ◌==◌, ◌&&◌, Bool, true, false, IsTrue, IsFalse, nat_lt, Option, Some, None, length}
 use Rattle.std.specs.FinMap.{get, len}
 use Rattle.std.specs.Option.{option_map_or, option_and_then}
 use Rattle.h5_model.specs.Messages.{prefix_at, total_in}

@@ -1,2 +1,4 @@
 pub mod Carried
 pub mod Made
+pub mod Rules
+pub mod NewArray

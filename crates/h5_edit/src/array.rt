@@ -7,8 +7,10 @@ ghost use Rattle.h5_open.specs.State.{opened_state};
 ghost use Rattle.h5_edit.specs.Carried.{IsRefused};
 ghost use Rattle.h5_edit.specs.Made.{IsMade};
 
-use crate::made::Made;
-use h5_model::{EditFault, Spec};
+use crate::line::{is_one_line, new_link, new_size};
+use crate::made::{Made, edit_fault};
+use h5_anew::add_array;
+use h5_model::{EditFault, ObjectNo, Spec};
 use h5_open::Opened;
 use h5_space::Image;
 use std::alloc::Global;
@@ -29,8 +31,16 @@ pub fn new_array(
     ensures { let f = opened_state image.now.bytes opened.now.root opened.now.link in
         MatchResult result (IsMade f (CreateDataset path.now spec.now)) (IsRefused f (CreateDataset path.now spec.now)) }
 {
-    if opened.link.is_some() {
+    if opened.link.is_some() || !is_one_line(spec) {
         return Err(EditFault::NotYet);
     }
-    Err(EditFault::NoMemory)
+    let name = new_link(path)?;
+    let size = new_size(spec)?;
+    match add_array(alloc, image, opened, name, spec, size) {
+        Ok(image) => Ok(Made {
+            image,
+            object: ObjectNo(1),
+        }),
+        Err(fault) => Err(edit_fault(fault)),
+    }
 }

@@ -7,7 +7,12 @@ ghost use Rattle.h5_open.specs.State.{opened_state};
 ghost use Rattle.h5_edit.specs.Carried.{IsRefused};
 ghost use Rattle.h5_edit.specs.Made.{IsMade};
 
-use crate::made::Made;
+use crate::limits::MAX_MESSAGES;
+use crate::made::{Made, edit_fault};
+use crate::place::{messages_at, object_of, target_at};
+use crate::values::check_attribute;
+use h5_anew::{Change, change_attributes};
+use h5_attr::get;
 use h5_model::{AttrSpec, EditFault};
 use h5_open::Opened;
 use h5_space::Image;
@@ -30,7 +35,18 @@ pub fn set_attribute(
     ensures { let f = opened_state image.now.bytes opened.now.root opened.now.link in
         MatchResult result (IsMade f (SetAttr path.now attr.now)) (IsRefused f (SetAttr path.now attr.now)) }
 {
-    Err(EditFault::NoMemory)
+    let target = target_at(opened, path)?;
+    check_attribute(alloc, attr)?;
+    if messages_at(opened, target).list().len() + 2 > MAX_MESSAGES {
+        return Err(EditFault::HeaderFull);
+    }
+    match change_attributes(alloc, image, opened, target, &Change::Set(attr)) {
+        Ok(image) => Ok(Made {
+            image,
+            object: object_of(target),
+        }),
+        Err(fault) => Err(edit_fault(fault)),
+    }
 }
 
 /// Removes the attribute of this name from the object at the path.
@@ -48,5 +64,15 @@ pub fn remove_attribute(
     ensures { let f = opened_state image.now.bytes opened.now.root opened.now.link in
         MatchResult result (IsMade f (RemoveAttr path.now name.now)) (IsRefused f (RemoveAttr path.now name.now)) }
 {
-    Err(EditFault::NoMemory)
+    let target = target_at(opened, path)?;
+    if get(image, messages_at(opened, target), name).is_none() {
+        return Err(EditFault::NoSuchAttribute);
+    }
+    match change_attributes(alloc, image, opened, target, &Change::Remove(name)) {
+        Ok(image) => Ok(Made {
+            image,
+            object: object_of(target),
+        }),
+        Err(fault) => Err(edit_fault(fault)),
+    }
 }

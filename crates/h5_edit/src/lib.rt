@@ -3,7 +3,11 @@
 
 mod array;
 mod attributes;
+mod limits;
+mod line;
 mod made;
+mod place;
+mod values;
 
 pub use array::new_array;
 pub use attributes::{remove_attribute, set_attribute};

@@ -40,7 +40,7 @@ pub record IsLinkReady (image : List ℕ) (held : List Block) (root : ℕ) (l : 
 abbrev pub IsLinkedRead : List ℕ → List Block → List Block → GroupLink → Linked → Type 0
 IsLinkedRead image held now l made = IsLineRead image l.header held now made.array made.line × (made.name.items ≡ l.name.items)
 
--- the reference count is another
+-- the reference count of a header to which one link leads is another than 1
 abbrev pub IsMiscounted : List ℕ → ℕ → Cause → Type 0
 IsMiscounted image header LinkCount = reference_count (prefix_at image header) ≢ 1
 IsMiscounted image header _ = ⊥

@@ -124,7 +124,7 @@ fn read_linked(
     })
 }
 
-/// Whether one hard link leads to the header.
+/// Refuses a header, to which one link leads, with `LinkCount` where its reference count is another than 1.
 fn check_count(image: &Image, messages: &Messages) -> Result<(), OpenFault>
     requires { messages.now.header + 16 ≤ length image.now.bytes }
     ensures one { OnOk result (reference_count (prefix_at image.now.bytes messages.now.header) ≡ 1) }
