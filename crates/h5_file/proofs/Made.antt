@@ -3,7 +3,6 @@ use Rattle.std.proofs.Common.{◌≡◌, ℕ, List, length, refl, sym, ap, ◌�
 use Rattle.h5_model.specs.Edits.{applied, state_after}
 use Rattle.h5_model.specs.Reads.{Reads, ReadsAs}
 use Rattle.h5_model.specs.Superblock.{IsSuperblock, end_of_file}
-use Rattle.h5_model.specs.Tree.{Tree}
 use Rattle.h5_model.specs.declared.edits.Edit.{Edit}
 use Rattle.h5_model.specs.declared.edits.Edited.{Edited}
 use Rattle.h5_header.specs.Listed.{Listed}
@@ -15,7 +14,7 @@ use Rattle.h5_open.specs.Opened.{table_of, tree_of}
 use Rattle.h5_open.specs.State.{FileState, state_of, opened_state, next_of}
 use Rattle.h5_anew.specs.Anew.{objects_of}
 use Rattle.h5_edit.specs.declared.made.Made.{Made}
-use Rattle.h5_edit.specs.Carried.{IsRefused, is_carried}
+use Rattle.h5_edit.specs.Carried.{IsRefused}
 use Rattle.h5_edit.specs.Made.{IsMade}
 use Rattle.h5_model.specs.declared.edit_fault.EditFault.TheVariants as fault
 use Rattle.h5_file.specs.State.{IsWhole}

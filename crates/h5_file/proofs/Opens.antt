@@ -1,6 +1,7 @@
 -- Why bytes are not opened: the superblock of the bytes up to their end of file address, and what the walk answers.
 use Rattle.std.proofs.Common.{◌≡◌, inl, inr, ℕ, ◌+◌, ◌<◌, ◌≤◌, List, length, refl, sym, ap, ◌∙◌, subst, arith, rules}
-use Rattle.std.proofs.lemmas.List.{get_or-take, length-take, same_lists, places}
+use Rattle.std.specs.Prelude.{Result, Ok, Err, IfErr, take}
+use Rattle.std.proofs.lemmas.List.{get_or-take, length-take, same_lists, places, take_all}
 use Rattle.h5_bytes.specs.Bytes.{number_at, byte_at, part}
 use Rattle.h5_bytes.proofs.FieldLaws.{number_at-part}
 use Rattle.h5_model.specs.Faults.{Breach, SuperblockBreach, cut}
@@ -83,10 +84,19 @@ walk_refused bytes _ at is h = inr h
 -- ---- bytes that are a tree
 
 by_cause : (bytes : List ℕ) (cause c : Cause) (at : ℕ) → cause ≡ c → IsReadable bytes → RefusedBy bytes c at → IsNoBreach c
-by_cause bytes cause NoMemory at e (table, (tree, reads)) h = inl refl
-by_cause bytes cause NotYet at e (table, (tree, reads)) h = inr refl
-by_cause bytes cause _ at e (table, (tree, reads)) h =
+by_cause bytes cause NoMemory at e (table, tree, reads) h = inl refl
+by_cause bytes cause NotYet at e (table, tree, reads) h = inr refl
+by_cause bytes cause _ at e (table, tree, reads) h =
     absurd (breach_excludes_reads bytes cause at (subst (λ c. Breach bytes c at) (sym e) h) table tree reads)
 
 pub no_breach : (bytes : List ℕ) (cause : Cause) (at : ℕ) → IsReadable bytes → RefusedBy bytes cause at → IsNoBreach cause
 no_breach bytes cause at readable h = by_cause bytes cause cause at refl readable h
+
+-- bytes that end where they say are all of them
+pub all_cut : (bytes : List ℕ) (end : ℕ) → end ≡ end_of_file bytes → length bytes ≤ end → bytes ≡ cut bytes
+all_cut bytes end is past = sym (ap (λ n. take n bytes) (sym is) ∙ take_all end bytes past)
+
+-- of a refusal one may say what follows from what is said of it
+pub err_says : {T E : Type 0} (r : Result T E) (P Q : E → Type 0) → ((e : E) → P e → Q e) → IfErr r P → IfErr r Q
+err_says (Ok t) P Q on h = h
+err_says (Err e) P Q on h = on e h

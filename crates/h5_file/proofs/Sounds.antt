@@ -6,7 +6,7 @@ use Rattle.h5_model.specs.Empty.{empty_file, root_table, root_tree}
 use Rattle.h5_model.specs.Reads.{Reads}
 use Rattle.h5_model.specs.States.{IsState}
 use Rattle.h5_model.specs.Superblock.{IsSuperblock, end_of_file}
-use Rattle.h5_model.specs.Tree.{Tree, Object}
+use Rattle.h5_model.specs.Tree.{Object}
 use Rattle.h5_model.proofs.EmptyReads.{empty_reads, empty_reads_as}
 use Rattle.h5_header.specs.Listed.{Listed}
 use Rattle.h5_walk.specs.Small.{alone_table, alone_tree, pair_tree, header_table}
@@ -15,7 +15,7 @@ use Rattle.h5_walk.proofs.SmallOnce.{one_small}
 use Rattle.h5_open.specs.declared.opened.Linked.{Linked}
 use Rattle.h5_open.specs.Kept.{IsOpened}
 use Rattle.h5_open.specs.Opened.{table_of, tree_of}
-use Rattle.h5_open.specs.State.{FileState, state_of, opened_state, next_of}
+use Rattle.h5_open.specs.State.{state_of, opened_state, next_of}
 use Rattle.h5_file.specs.State.{IsSound, created_state}
 
 -- where the header of object 1 stands

@@ -187,6 +187,7 @@ fn walked(alloc: Global, image: Image) -> Result<File, (OpenFault, Image)>
     requires superblock { IsSuperblock image.bytes }
     requires whole { end_of_file image.bytes ≡ length image.bytes }
     ensures image { IfOk result (λ f. f.image ≡ image.bytes) }
+    ensures sound { IfOk result IsSound }
     ensures refused { IfErr result (λ e. IsRefusedAt image.bytes e.0.cause e.0.address) }
     ensures back { IfErr result (λ e. e.1.bytes ≡ image.bytes) }
 {
@@ -205,6 +206,7 @@ fn open_front(alloc: Global, bytes: Vec<u8>, end: usize) -> Result<File, (OpenFa
     requires superblock { IsSuperblock bytes.items }
     requires end { end ≡ end_of_file bytes.items }
     ensures image { IfOk result (λ f. f.image ≡ cut bytes.items) }
+    ensures sound { IfOk result IsSound }
     ensures refused { IfErr result (λ e. IsRefusedAt (cut bytes.items) e.0.cause e.0.address) }
     ensures back { IfErr result (λ e. e.1.items ≡ bytes.items) }
 {

@@ -1,7 +1,5 @@
-use Rattle.std.proofs.Common.{◌≡◌, List, ℕ, length, subst, sym, ap, ◌∙◌, take}
+use Rattle.std.proofs.Common.{◌≡◌, ap, ◌∙◌, take}
 use Rattle.h5_model.specs.Faults.{cut}
-use Rattle.h5_model.specs.Superblock.{IsSuperblock, end_of_file}
-use Rattle.h5_walk.specs.NotYet.{IsRefusedAt}
 use Rattle.h5_file.proofs.Opens.{cut_superblock, cut_ends}
 use Rattle.h5_file.proofs.file.open_front.Goals as goal
 

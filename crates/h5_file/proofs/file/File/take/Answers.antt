@@ -1,5 +1,4 @@
-use Rattle.std.proofs.Common.{refl, sym, subst, length}
-use Rattle.h5_model.specs.Superblock.{IsSuperblock, end_of_file}
+use Rattle.std.proofs.Common.{refl}
 use Rattle.h5_open.specs.Kept.{IsOpened}
 use Rattle.h5_file.proofs.Made.{edited, made_superblock, made_end, not_taken}
 use Rattle.h5_file.proofs.file.File.take.Goals as goal
