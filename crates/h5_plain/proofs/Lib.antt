@@ -8,3 +8,5 @@ pub mod LineLaws
 pub mod TextLaws
 pub mod AttributeParts
 pub mod Messages
+pub mod ArrayParts
+pub mod SmallParts

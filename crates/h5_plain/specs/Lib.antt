@@ -4,3 +4,4 @@ pub mod Places
 pub mod LineFile
 pub mod Others
 pub mod Written
+pub mod ArrayHeader

@@ -1,9 +1,12 @@
 //! The bytes of cells (File Format Specification 3.0, section IV.A.2.d, class 0).
-ghost use Rattle.std.specs.Prelude.{◌≡◌, ◌-◌, ◌++◌, OnOk, true, replicate};
+ghost use Rattle.std.specs.Prelude.{◌≡◌, ◌-◌, ◌^◌, ◌≤◌, ◌++◌, OnOk, true, length, replicate};
 ghost use Rattle.h5_model.specs.Fixed.{bytes_of, fits};
 ghost use Rattle.h5_model.specs.Plain.{zeros, cells_bytes};
+ghost use Rattle.h5_plain.specs.ArrayHeader.{data_written};
 ghost use Rattle.h5_plain.specs.Parts.{copies};
+ghost use Rattle.h5_plain.specs.Written.{IsWritable};
 
+use crate::array::{Array, Cells};
 use crate::fields::push_bytes;
 use h5_model::Fixed;
 use h5_types::encode;
@@ -51,4 +54,34 @@ pub(crate) fn push_cells(
     push_copies(out, &tile, count / TILE)?;
     push_copies(out, cell, count % TILE)?;
     Ok(())
+}
+
+/// How many bytes of data an array has.
+pub(crate) fn data_length(array: &Array<'_>) -> u64
+    requires { IsWritable array.now }
+    ensures exact { result ≡ length (data_written array.now.cells array.now) }
+    ensures few { result ≤ 2 ^ 44 }
+{
+    let size = array.fixed.size() as u64;
+    match array.cells {
+        Cells::Unset => 0,
+        Cells::Filled => array.size * size,
+        Cells::Stored(_) => array.size * size,
+    }
+}
+
+/// The data of an array.
+pub(crate) fn push_data(
+    alloc: Global,
+    out: &mut Vec<u8>,
+    array: &Array<'_>,
+) -> Result<(), AllocError>
+    requires { IsWritable array.now }
+    ensures { OnOk result (out.new.items ≡ out.old.items ++ data_written array.now.cells array.now) }
+{
+    match array.cells {
+        Cells::Unset => Ok(()),
+        Cells::Filled => push_cells(alloc, out, &array.fixed, array.fill, array.size),
+        Cells::Stored(bytes) => push_bytes(out, bytes),
+    }
 }

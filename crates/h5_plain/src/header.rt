@@ -1,12 +1,19 @@
 //! Object headers, version 1, in one block, and the messages of a group and of an array (File Format Specification 3.0,
 //! section IV.A).
-ghost use Rattle.std.specs.Prelude.{◌≡◌, ◌+◌, ◌*◌, ◌^◌, ◌<◌, ◌≤◌, ◌++◌, [], ◌∷◌, OnOk, true, length};
-ghost use Rattle.h5_model.specs.Plain.{header_bytes, symbol_table_body, line_header_bytes, extent_body, type_body, fill_body, contiguous_body, class_bits};
+ghost use Rattle.std.specs.Prelude.{◌≡◌, ℕ, ◌+◌, ◌*◌, ◌^◌, ◌<◌, ◌≤◌, ◌++◌, [], ◌∷◌, OnOk, true, length, nat_lt, not};
+ghost use Rattle.h5_model.specs.Plain.{header_bytes, symbol_table_body, line_header_bytes, extent_body, type_body, fill_body, contiguous_body, class_bits, message_bytes, messages_bytes, word};
 ghost use Rattle.h5_model.specs.Fixed.{fits};
+ghost use Rattle.h5_model.specs.Tree.{are_sizes};
+ghost use Rattle.h5_small.specs.Bodies.{maximum_word, space_body};
+ghost use Rattle.h5_plain.specs.ArrayHeader.{array_list, fill_list, header_written, messages_count as count_of, messages_size as size_of, root_written};
 ghost use Rattle.h5_plain.specs.Parts.{prefix_bytes, message_head};
+ghost use Rattle.h5_plain.specs.Written.{IsWritable};
 
+use crate::array::Array;
 use crate::cells::value_bytes;
 use crate::fields::{push_bytes, push_middle, push_short, push_word, push_zeros};
+use crate::others::Others;
+use h5_bytes::UNDEF;
 use h5_model::Fixed;
 use std::alloc::AllocError;
 
@@ -125,5 +132,159 @@ pub(crate) fn push_line_header(
     push_fill(out, 1, fixed, fill)?;
     push_message_head(out, 8, 24)?;
     push_contiguous(out, address, size * fixed.size() as u64)?;
+    Ok(())
+}
+
+/// The header of a root whose tree and heap begin at these addresses, with these messages besides its Symbol Table.
+pub(crate) fn push_root_header(
+    out: &mut Vec<u8>,
+    tree: u64,
+    heap: u64,
+    others: &Others,
+) -> Result<(), AllocError>
+    requires few { others.now.count + 1 ≤ 65535 }
+    requires low { length others.now.bytes ≤ 2 ^ 31 }
+    ensures { OnOk result (out.new.items ≡ out.old.items ++ root_written tree heap others.now) }
+{
+    let bytes = others.bytes();
+    push_prefix(out, 1 + others.count() as u16, 1, 24 + bytes.len() as u32)?;
+    push_message_head(out, 17, 16)?;
+    push_word(out, tree)?;
+    push_word(out, heap)?;
+    push_bytes(out, bytes)?;
+    Ok(())
+}
+
+/// Whether an array's size is its maximum too.
+fn is_own_maximum(size: u64, maximum: Option<u64>) -> bool
+    ensures { result ≡ are_sizes (size ∷ []) (maximum ∷ []) }
+{
+    match maximum {
+        Some(maximum) => maximum == size,
+        None => false,
+    }
+}
+
+/// How many bytes the dataspace message of an array has.
+fn space_length(size: u64, maximum: Option<u64>) -> u64
+    ensures exact { result ≡ length (message_bytes (1, space_body (size ∷ []) (maximum ∷ []))) }
+    ensures few { result ≤ 32 }
+{
+    if is_own_maximum(size, maximum) {
+        24
+    } else {
+        32
+    }
+}
+
+/// A maximum as it is written: all ones where it is unlimited.
+fn written_maximum(maximum: Option<u64>) -> u64
+    ensures { word result ≡ maximum_word maximum }
+{
+    match maximum {
+        Some(maximum) => maximum,
+        None => UNDEF,
+    }
+}
+
+/// The dataspace message of an array, with the maximum where it differs from the size.
+fn push_space(out: &mut Vec<u8>, size: u64, maximum: Option<u64>) -> Result<(), AllocError>
+    ensures { OnOk result (out.new.items ≡ out.old.items ++ message_bytes (1, space_body (size ∷ []) (maximum ∷ []))) }
+{
+    if is_own_maximum(size, maximum) {
+        push_message_head(out, 1, 16)?;
+        push_extent(out, &[size])?;
+        return Ok(());
+    }
+    push_message_head(out, 1, 24)?;
+    push_bytes(out, &[1, 1, 1])?;
+    push_zeros(out, 5)?;
+    push_word(out, size)?;
+    push_word(out, written_maximum(maximum))?;
+    Ok(())
+}
+
+/// Whether the fill has a message of its own: the header can count it.
+fn has_fill(others: &Others) -> bool
+    requires { others.now.count ≤ 65535 }
+    ensures { result ≡ not (nat_lt 65535 (4 + others.now.count)) }
+{
+    4 + others.count() <= 65535
+}
+
+/// How many bytes the fill value message of an array has, where there is one.
+fn fill_length(fixed: &Fixed, fill: i128, others: &Others) -> u64
+    requires { others.now.count ≤ 65535 }
+    ensures exact { result ≡ length (messages_bytes (fill_list fixed.now fill others.now.count)) }
+    ensures few { result ≤ 24 }
+{
+    let _size = fixed.size();
+    if has_fill(others) { 24 } else { 0 }
+}
+
+/// The fill value message of an array, where there is one.
+fn push_fill_message(
+    out: &mut Vec<u8>,
+    fixed: &Fixed,
+    fill: i128,
+    others: &Others,
+) -> Result<(), AllocError>
+    requires few { others.now.count ≤ 65535 }
+    requires of_type { fits fixed.now fill ≡ true }
+    ensures { OnOk result (out.new.items ≡ out.old.items ++ messages_bytes (fill_list fixed.now fill others.now.count)) }
+{
+    let _size = fixed.size();
+    if !has_fill(others) {
+        return Ok(());
+    }
+    push_message_head(out, 5, 16)?;
+    push_fill(out, 1, fixed, fill)?;
+    Ok(())
+}
+
+/// How many messages an array's header has.
+fn messages_count(array: &Array<'_>) -> u16
+    requires { array.now.others.now.count + 3 ≤ 65535 }
+    ensures { (address : ℕ) → result ≡ count_of array.now address }
+{
+    let others = array.others.count() as u16;
+    if has_fill(array.others) {
+        4 + others
+    } else {
+        3 + others
+    }
+}
+
+/// How many bytes these have.
+pub(crate) fn messages_size(array: &Array<'_>) -> u64
+    requires { array.now.others.now.count + 3 ≤ 65535 }
+    ensures exact { (address : ℕ) → result ≡ size_of array.now address }
+    ensures few { result ≤ 2 ^ 40 }
+    ensures added { result ≤ length array.now.others.now.bytes + 112 }
+{
+    let others = array.others.bytes().len() as u64;
+    let space = space_length(array.size, array.maximum);
+    let fill = fill_length(&array.fixed, array.fill, array.others);
+    space + 24 + fill + 32 + others
+}
+
+/// The header of an array whose data stand at this address.
+pub(crate) fn push_array_header(
+    out: &mut Vec<u8>,
+    array: &Array<'_>,
+    address: u64,
+) -> Result<(), AllocError>
+    requires writable { IsWritable array.now }
+    requires low { length array.now.others.now.bytes ≤ 2 ^ 31 }
+    ensures { OnOk result (out.new.items ≡ out.old.items ++ header_written array.now address) }
+{
+    push_prefix(out, messages_count(array), 1, messages_size(array) as u32)?;
+    push_space(out, array.size, array.maximum)?;
+    push_message_head(out, 3, 16)?;
+    push_type(out, &array.fixed)?;
+    push_fill_message(out, &array.fixed, array.fill, array.others)?;
+    push_message_head(out, 8, 24)?;
+    push_contiguous(out, address, array.size * array.fixed.size() as u64)?;
+    push_bytes(out, array.others.bytes())?;
     Ok(())
 }

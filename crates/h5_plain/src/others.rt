@@ -1,6 +1,6 @@
 //! Messages of a header that stand behind those of its content: kept messages and attributes (File Format Specification 3.0,
 //! sections IV.A.1.a and IV.A.2).
-ghost use Rattle.std.specs.Prelude.{◌≡◌, ℕ, ◌%◌, ◌<◌, [], ◌∷◌, ◌++◌, List, OnOk, length};
+ghost use Rattle.std.specs.Prelude.{◌≡◌, ℕ, ◌*◌, ◌%◌, ◌<◌, ◌≤◌, [], ◌∷◌, ◌++◌, List, OnOk, length};
 ghost use Rattle.h5_model.specs.Edits.{attribute_from};
 ghost use Rattle.h5_model.specs.Plain.{message_bytes};
 ghost use Rattle.h5_small.specs.Bodies.{attribute_message};
@@ -42,6 +42,21 @@ impl Others {
             bytes: Vec::new(alloc),
             count: 0,
         }
+    }
+
+    /// The messages, one behind another.
+    pub(crate) fn bytes(&self) -> &[u8]
+        ensures bytes { result.now ≡ self.now.bytes }
+        ensures few { length self.now.bytes ≤ self.now.count * 65544 }
+    {
+        &self.bytes
+    }
+
+    /// How many messages there are.
+    pub(crate) fn count(&self) -> usize
+        ensures { result ≡ self.now.count }
+    {
+        self.count
     }
 
     /// Appends a message with this body, of a multiple of 8 bytes.
