@@ -5,8 +5,10 @@
 #![tactic(auto)]
 
 mod add;
+mod array;
 mod attributes;
 mod change;
+mod others;
 
 pub use add::add_array;
 pub use attributes::change_attributes;

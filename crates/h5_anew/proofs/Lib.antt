@@ -1,0 +1,4 @@
+pub mod AnewPushing
+pub mod AnewMerge
+pub mod AnewRests
+pub mod AnewOthers
