@@ -15,6 +15,7 @@ ghost use Rattle.h5_small.specs.Sound.{linked_to};
 ghost use Rattle.h5_plain.specs.Written.{AreCells, AreOthers, HasRoom, IsLinked, IsWritable};
 ghost use Rattle.h5_anew.specs.Rewritten.{line_in, line_of};
 
+use crate::parts::part_of;
 use h5_open::{Line, Linked};
 use h5_plain::{Array, Cells, Others};
 use h5_space::Image;
@@ -54,7 +55,6 @@ fn cells_of<'a>(image: &'a Image, line: &Line) -> Cells<'a>
     if line.size == 0 {
         return Cells::Unset;
     }
-    let at = block.at as usize;
-    let len = line.size as usize * line.fixed.size();
-    Cells::Stored(&image.bytes()[at..at + len])
+    let len = line.size * line.fixed.size() as u64;
+    Cells::Stored(part_of(image.bytes(), block.at, len))
 }

@@ -9,6 +9,7 @@ mod array;
 mod attributes;
 mod change;
 mod others;
+mod parts;
 
 pub use add::add_array;
 pub use attributes::change_attributes;

@@ -4,7 +4,6 @@
 ghost use Rattle.std.specs.Prelude.{◌≡◌, ◌+◌, ◌≤◌, ◌==◌, ◌||◌, length, IfOk, IfSome, OnOk};
 ghost use Rattle.std.specs.List.{AllByRecursion};
 ghost use Rattle.std.specs.FinMap.{empty, put};
-ghost use Rattle.h5_bytes.specs.Bytes.{part};
 ghost use Rattle.std.specs.Ordering.{nat_cmp};
 ghost use Rattle.std.specs.Cmp.Lexicographic.{slice_cmp};
 ghost use Rattle.h5_model.specs.Edits.{attribute_from};
@@ -19,6 +18,7 @@ ghost use Rattle.h5_anew.specs.Appended.{Appends, HasPlaces, IsPlaceOf, attribut
 ghost use Rattle.h5_anew.specs.Change.{IsPlainChange};
 
 use crate::change::Change;
+use crate::parts::part_of;
 use h5_attr::{AttrRef, sorted};
 use h5_header::{Message, Messages};
 use h5_model::AttrSpec;
@@ -57,7 +57,8 @@ fn push_kept(others: &mut Others, image: &Image, list: &[Message]) -> Result<(),
 {
     for message in list {
         if is_kept(message.kind) {
-            others.push_kept(message.kind, body(image, *message))?;
+            let body = part_of(image.bytes(), message.at, message.size as u64);
+            others.push_kept(message.kind, body)?;
         }
     }
     Ok(())
@@ -68,16 +69,6 @@ fn is_kept(kind: u16) -> bool
     ensures { result ≡ ((kind == 13 || kind == 14) || kind == 18) }
 {
     matches!(kind, 13 | 14 | 18)
-}
-
-/// The body of a message.
-#[tactic(auto, unfolding(h5_bytes::specs::Bytes::part))]
-fn body(image: &Image, message: Message) -> &[u8]
-    requires { message.at + message.size ≤ length image.now.bytes }
-    ensures { result.now ≡ part message.at message.size image.now.bytes }
-{
-    let at = message.at as usize;
-    &image.bytes()[at..at + message.size as usize]
 }
 
 /// Appends attributes that ascend by their names, with a change among them.

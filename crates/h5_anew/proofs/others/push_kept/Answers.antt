@@ -1,4 +1,5 @@
-use Rattle.std.proofs.Common.{drop, ◌∙◌, sym, subst, ◌+◌}
+use Rattle.std.proofs.Common.{ap, drop, ◌∙◌, sym, subst, ◌+◌}
+use Rattle.h5_bytes.specs.Bytes.{part}
 use Rattle.h5_header.specs.Listed.{messages_in}
 use Rattle.h5_plain.specs.Others.{OthersBytes}
 use Rattle.h5_anew.specs.Appended.{IsPushing, kept_messages}
@@ -17,7 +18,7 @@ loop-message-preserved c =
       elim c.if-is_kept.branch [
         | then-is_kept+in_ok-push_kept w ↦ subst (λ (o : OthersBytes). IsPushing c.args.others.now o later all) (sym w.others-is)
             (pushing_step c.args.others.now c.loop-message.others w.push_kept.new.self _ _ later all c.loop-message.invariant.0
-            (kept_taken image list i _ c.loop-message-test.true w.body.result.now w.body.ensures (sym c.is_kept.ensures ∙ w.if-is_kept.true)) w.in_ok-push_kept.ensures)
+            (kept_taken image list i _ c.loop-message-test.true w.part_of-body.result.now (w.part_of-body.ensures.part ∙ ap (part _ _) w.bytes.ensures) (sym c.is_kept.ensures ∙ w.if-is_kept.true)) w.in_ok-push_kept.ensures)
         | else-is_kept w ↦ subst (λ (o : OthersBytes). IsPushing c.args.others.now o later all) (sym w.others-is)
             (pushing_same c.args.others.now c.loop-message.others _ later all c.loop-message.invariant.0
             (kept_passed image list i _ c.loop-message-test.true (sym c.is_kept.ensures ∙ w.if-is_kept.false)))
