@@ -3,3 +3,7 @@ pub mod AnewMerge
 pub mod AnewRests
 pub mod AnewOthers
 pub mod AnewCells
+pub mod PlainBodies
+pub mod PlainObjects
+pub mod PlainArrays
+pub mod PlainTrees

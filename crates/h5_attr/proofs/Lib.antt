@@ -1,3 +1,4 @@
 pub mod FaultLaws
 pub mod EntryLaws
 pub mod OrderLaws
+pub mod EntryOrder

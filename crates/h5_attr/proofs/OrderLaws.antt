@@ -118,7 +118,7 @@ below-alone : (x : List ℕ) (names : List (List ℕ)) → AllByRecursion (λ y.
 below-alone x [] h = tt
 below-alone x (n ∷ names) h = both _ _ (subst (λ (r : Ordering). T (is_lt r)) (sym h.0) tt) (below-alone x names h.1)
 
-sorted-alone : (names : List (List ℕ)) → IsStrictlySortedBy order names → T (is_sorted order (alone names))
+pub sorted-alone : (names : List (List ℕ)) → IsStrictlySortedBy order names → T (is_sorted order (alone names))
 sorted-alone [] h = tt
 sorted-alone (n ∷ names) h = both _ _ (below-alone n names (sorted_head order n names h)) (sorted-alone names (sorted_tail order n names h))
 
@@ -126,7 +126,7 @@ below-keys : (x : List ℕ) (es : List (List ℕ × Attribute)) → below_all or
 below-keys x [] = refl
 below-keys x (e ∷ es) = ap (λ (b : Bool). is_lt (order x e.0) && b) (below-keys x es)
 
-sorted-keys : (es : List (List ℕ × Attribute)) → is_sorted order (alone (map (λ (e : List ℕ × Attribute). e.0) es)) ≡ is_sorted order es
+pub sorted-keys : (es : List (List ℕ × Attribute)) → is_sorted order (alone (map (λ (e : List ℕ × Attribute). e.0) es)) ≡ is_sorted order es
 sorted-keys [] = refl
 sorted-keys (e ∷ es) = ap (λ (b : Bool). b && is_sorted order (alone (map (λ (e : List ℕ × Attribute). e.0) es))) (below-keys e.0 es) ∙ ap (λ (b : Bool). below_all order e.0 es && b) (sorted-keys es)
 
@@ -139,7 +139,7 @@ has_name ms attributes has q =
     ∙ ap is_some (ap (λ (m : Attributes). get m q) (attributes-is ms attributes has) ∙ get-from_entries nat_list_cmp_total (attributes_in ms) q)
     ∙ is_some-find order q (attributes_in ms)
 
-strictly : (ms : List Message) (names : List (List ℕ)) → IsPermutation (names_in ms) names → IsSorted (slice_cmp nat_cmp) names → IsDistinct (eq_by_cmp (slice_cmp nat_cmp)) (names_in ms)
+pub strictly : (ms : List Message) (names : List (List ℕ)) → IsPermutation (names_in ms) names → IsSorted (slice_cmp nat_cmp) names → IsDistinct (eq_by_cmp (slice_cmp nat_cmp)) (names_in ms)
     → IsStrictlySortedBy order names
 strictly ms names moved up once =
     let apart = IsDistinct-IsPermutation same (eq_by_cmp_equiv nat_list_cmp_total).symm (names_in ms) names moved once in

@@ -5,7 +5,9 @@ ghost use Rattle.std.specs.FinMap.{entries};
 ghost use Rattle.h5_model.specs.Reads.{HasAttributes};
 ghost use Rattle.h5_model.specs.Tree.{Attributes};
 ghost use Rattle.h5_header.specs.Listed.{messages_in, IsWithin};
+ghost use Rattle.h5_attr.specs.Attributes.{attributes_in};
 
+use crate::message::attribute;
 use h5_header::Messages;
 use h5_msg::AttributeBody;
 use h5_space::Image;
@@ -25,5 +27,26 @@ pub fn sorted<'a>(
         → HasAttributes (messages_in image.now.bytes messages.now.list) attributes
         → list.items ≡ entries attributes) }
 {
-    Err(AllocError)
+    let mut listed = collected(alloc, image, messages)?;
+    listed.sort_unstable_by(|first, second| first.name().cmp(second.name()));
+    Ok(listed)
+}
+
+/// The attributes in the order of the messages.
+fn collected<'a>(
+    alloc: Global,
+    image: &'a Image,
+    messages: &Messages,
+) -> Result<Vec<AttributeBody<'a>>, AllocError>
+    requires { IsWithin (length image.now.bytes) messages.now.list }
+    ensures { IfOk result (λ listed. listed.items ≡ attributes_in (messages_in image.now.bytes messages.now.list)) }
+{
+    let bytes = image.bytes();
+    let mut listed = Vec::new(alloc);
+    for message in messages.list() {
+        if let Some(found) = attribute(bytes, *message) {
+            listed.push(found)?;
+        }
+    }
+    Ok(listed)
 }

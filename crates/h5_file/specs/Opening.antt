@@ -1,35 +1,30 @@
--- Why bytes are not opened.
-use Rattle.std.specs.Prelude.{◌≡◌, ◌⊎◌, ℕ, ℤ, List}
+-- Why bytes are not opened (File Format Specification 3.0, sections II.A, III and IV.A).
+use Rattle.std.specs.Prelude.{◌≡◌, ◌⊎◌, ℕ, List}
+use Rattle.std.specs.Ordering.{nat_cmp}
+use Rattle.std.specs.FinMap.{FinMap}
 use Rattle.h5_model.specs.Superblock.{IsSuperblock}
-use Rattle.h5_model.specs.Empty.{empty_file}
-use Rattle.h5_model.specs.OneArray.{one_image}
 use Rattle.h5_model.specs.Faults.{Breach, cut}
-use Rattle.h5_model.specs.Fixed.{Fixed}
+use Rattle.h5_model.specs.Reads.{Reads}
+use Rattle.h5_model.specs.Tree.{Tree}
 use Rattle.h5_model.specs.declared.open_fault.OpenFault.{OpenFault}
 use Rattle.h5_model.specs.declared.open_fault.Cause.{Cause}
 use Rattle.h5_model.specs.declared.open_fault.Cause.TheVariants.{NoMemory, NotYet}
-use Rattle.h5_plain.specs.LineFile.{IsLineFile}
+use Rattle.h5_walk.specs.NotYet.{IsRefusedAt}
 
--- the plain image of a root with one array of one size, with cells of any values
-pub record IsLineImage (image : List ℕ) : Type 0 where
-  pub name : List ℕ
-  pub fixed : Fixed
-  pub size : ℕ
-  pub fill : ℤ
-  pub values : List ℤ
-  pub file : IsLineFile name fixed size fill values
-  pub whole : image ≡ one_image name fixed size fill values
-
--- the images that are opened so far: the empty file, and the plain image of one array
-abbrev pub IsCarried : List ℕ → Type 0
-IsCarried image = (image ≡ empty_file) ⊎ IsLineImage image
-
--- Memory was short; or the superblock is sound and the bytes are none of the files that are opened so far; or the
--- cause holds at the address.
+-- Memory was short; or the superblock is sound, and a block that is reached is of a form that is not read yet; or the cause holds at
+-- the address.
 abbrev pub RefusedBy : List ℕ → Cause → ℕ → Type 0
 RefusedBy bytes NoMemory at = Unit {0}
-RefusedBy bytes NotYet at = (at ≡ 0) × IsSuperblock bytes × (IsCarried (cut bytes) → ⊥)
+RefusedBy bytes NotYet at = IsSuperblock bytes × IsRefusedAt (cut bytes) NotYet at
 RefusedBy bytes cause at = Breach bytes cause at
 
 abbrev pub Refused : List ℕ → OpenFault → Type 0
 Refused bytes fault = RefusedBy bytes fault.cause fault.address
+
+-- the bytes up to their end of file address are a tree
+abbrev pub IsReadable : List ℕ → Type 0
+IsReadable bytes = (table : FinMap nat_cmp ℕ) × (tree : Tree) × Reads (cut bytes) table tree
+
+-- such bytes are refused for want of memory, or because their form is not read yet, alone
+abbrev pub IsNoBreach : Cause → Type 0
+IsNoBreach cause = (cause ≡ NoMemory) ⊎ (cause ≡ NotYet)

@@ -1,52 +1,51 @@
 //! A file in memory.
 
-ghost use Rattle.std.specs.Prelude.{◌≡◌, IfOk, IfErr, MatchOption, MatchResult, OnOk, Some, map};
-ghost use Rattle.h5_model.specs.Empty.{root_tree};
+ghost use Rattle.std.specs.Prelude.{◌≡◌, IfOk, IfErr, MatchOption, MatchResult, Some, length, map};
 ghost use Rattle.h5_model.specs.Faults.{cut};
 ghost use Rattle.h5_model.specs.Refusal.{first_holding};
-ghost use Rattle.h5_model.specs.Reading.{path_rules, cell_rules};
-ghost use Rattle.h5_model.specs.declared.edits.Edit.TheVariants.{CreateDataset};
-ghost use Rattle.h5_model.specs.declared.open_fault.Cause.TheVariants.{NoMemory};
-ghost use Rattle.h5_file.specs.State.{IsWhole, created_state};
-ghost use Rattle.h5_file.specs.Edited.{IsEdited, IsRefused};
-ghost use Rattle.h5_file.specs.Look.{HasKind, HasNames, HasCell, IsListRefused, IsOnlyArray};
-ghost use Rattle.h5_file.specs.Opening.{Refused, IsCarried};
+ghost use Rattle.h5_model.specs.Reading.{path_rules, attribute_rules, cell_rules};
+ghost use Rattle.h5_model.specs.Superblock.{IsSuperblock, end_of_file};
+ghost use Rattle.h5_walk.specs.NotYet.{IsRefusedAt};
+ghost use Rattle.h5_look.specs.Look.{HasKind, HasNames, HasCell, HasAttribute, HasAttributeNames, HasAttributesOf, HasNoArray, IsListRefused, IsOnlyArray, IsUnlisted};
+ghost use Rattle.h5_file.specs.State.{IsSound, created_state};
+ghost use Rattle.h5_file.specs.Opening.{IsNoBreach, IsReadable, Refused};
 
-use crate::array::OnlyArray;
-use crate::create::new_array;
 use crate::empty::EMPTY_FILE;
-use crate::held::{Held, data_begin, held_in, names_held, written};
-use crate::kind::{Kind, StoreKind};
-use crate::look::{Place, look};
 use crate::superblock::superblock_fault;
+use h5_attr::AttrRef;
 use h5_bytes::get_u64;
-use h5_model::{Cause, Edit, EditFault, Edited, ObjectNo, OpenFault, Spec};
-use h5_shape::Dims;
-use h5_types::decode;
+use h5_look::{
+    Kind, OnlyArray, array_in, attributes_at, kind_at, names_at, names_of_attributes,
+    one_attribute, one_cell,
+};
+use h5_model::{Cause, EditFault, OpenFault};
+use h5_open::{Opened, walk};
+use h5_space::Image;
 use std::alloc::{AllocError, Global};
 use std::marker::Model;
 
-/// A file: the bytes of its image, and what its root's links lead to.
+/// A file: the bytes of its image, and the messages of the objects that stand in it.
 ///
 /// Callers see the bytes, the header address of each object, the next object number, and the tree
 /// of objects and links that the bytes read as.
 #[derive(Drop)]
 pub struct File {
-    image: Vec<u8>,
-    held: Held,
-    alloc: Global,
+    pub(crate) image: Image,
+    pub(crate) opened: Opened,
+    pub(crate) alloc: Global,
 }
 
 impl Model for File {
-    ghost use Rattle.h5_file.specs.State.{FileState, coded_state, state_with, Holds};
+    ghost use Rattle.h5_open.specs.Kept.{IsOpened};
+    ghost use Rattle.h5_open.specs.State.{FileState, coded_state, opened_state};
 
     ghost Value = { FileState };
 
     ghost coded = { coded_state };
 
-    ghost view = { λ f. state_with f.held f.image.items };
+    ghost view = { λ f. opened_state f.image.bytes f.opened.root f.opened.link };
 
-    ghost invariant = { λ f. Holds f.held f.image.items };
+    ghost invariant = { λ f. IsOpened f.image.bytes f.opened.root f.opened.link };
 }
 
 impl File {
@@ -56,9 +55,14 @@ impl File {
     pub fn create(alloc: Global) -> Result<File, AllocError>
         ensures { IfOk result (λ f. f ≡ created_state) }
     {
+        let image = Image::new(alloc, Vec::from_slice(alloc, &EMPTY_FILE)?);
+        // These bytes read as the root alone, so only memory can be short.
+        let Ok(opened) = walk(alloc, &image) else {
+            return Err(AllocError);
+        };
         Ok(File {
-            image: Vec::from_slice(alloc, &EMPTY_FILE)?,
-            held: Held::Nothing,
+            image,
+            opened,
             alloc,
         })
     }
@@ -66,40 +70,47 @@ impl File {
     /// The file that these bytes are, up to their end of file address; bytes past it are dropped.
     ///
     /// A refusal names the first broken rule of the superblock (File Format Specification 3.0,
-    /// section II.A) and where it stands, and gives the bytes back whole. Bytes that are well begun
-    /// and are neither the empty file nor the plain file with one contiguous array of one size are
-    /// refused as [`Cause::NotYet`] at 0.
-    pub fn open(alloc: Global, mut bytes: Vec<u8>) -> Result<File, (OpenFault, Vec<u8>)>
+    /// section II.A), and else the first that is met on the walk from there, and where it stands;
+    /// it gives the bytes back whole. What is well begun but not read yet is refused as
+    /// [`Cause::NotYet`] where it stands: a group of several links or with a soft link, a link to a
+    /// group, and an array that has not one dimension or is not in one block.
+    ///
+    /// Each block is looked at once. Where bytes follow the end of file address, those before it are
+    /// copied first.
+    pub fn open(alloc: Global, bytes: Vec<u8>) -> Result<File, (OpenFault, Vec<u8>)>
         ensures image { IfOk result (λ f. f.image ≡ cut bytes.items) }
-        ensures whole { IfOk result IsWhole }
-        ensures exact { OnOk result (IsCarried (cut bytes.items)) }
+        ensures sound { IfOk result IsSound }
         ensures refused { IfErr result (λ e. Refused bytes.items e.0) }
-        // Bytes that are cut to such a file are refused for want of memory alone.
-        ensures only { IsCarried (cut bytes.items) → IfErr result (λ e. e.0.cause ≡ NoMemory) }
+        // Bytes that are a tree are refused for want of memory, or because they are not read yet, alone.
+        ensures only { IsReadable bytes.items → IfErr result (λ e. IsNoBreach e.0.cause) }
         ensures back { IfErr result (λ e. e.1.items ≡ bytes.items) }
     {
         if let Some(fault) = superblock_fault(&bytes) {
             return Err((fault, bytes));
         }
         let end = get_u64(&bytes, 40).unwrap() as usize;
-        let held = match held_in(alloc, &bytes[..end]) {
-            Ok(held) => held,
-            Err(cause) => return Err((OpenFault { cause, address: 0 }, bytes)),
-        };
-        bytes.truncate(end);
-        Ok(File {
-            image: bytes,
-            held,
-            alloc,
-        })
+        if end < bytes.len() {
+            return open_front(alloc, bytes, end);
+        }
+        match walked(alloc, Image::new(alloc, bytes)) {
+            Ok(file) => Ok(file),
+            Err((fault, image)) => Err((fault, image.into_bytes())),
+        }
     }
 
     /// The bytes of the file, from the superblock to the end of file address.
     pub fn image(&self) -> &[u8]
         ensures bytes { result.now ≡ self.now.image }
-        ensures whole { IsWhole self.now }
+        ensures sound { IsSound self.now }
     {
-        &self.image
+        self.image.bytes()
+    }
+
+    /// The bytes of the file, with the file given up.
+    pub fn into_image(self) -> Vec<u8>
+        ensures { result.items ≡ self.image }
+    {
+        self.image.into_bytes()
     }
 
     /// What the link at the path leads to.
@@ -109,33 +120,45 @@ impl File {
     pub fn kind(&self, path: &[u8]) -> Result<Kind, EditFault>
         ensures { MatchResult result (HasKind self.now.tree path.now) (λ e. first_holding (path_rules self.now.tree path.now) ≡ Some e) }
     {
-        match look(&self.held, path)? {
-            Place::Root => Ok(Kind::Group),
-            Place::Array(line) => Ok(Kind::Dataset {
-                fixed: line.fixed,
-                dims: Dims::new(self.alloc, &[line.size]).unwrap(),
-                maxima: Dims::new(self.alloc, &[line.size]).unwrap(),
-                store: StoreKind::Contiguous,
-                fill: line.fill,
-            }),
-        }
+        kind_at(self.alloc, &self.image, &self.opened, path)
     }
 
     /// The names in the group at the path, ascending by their bytes.
     ///
     /// Refused as [`File::kind`] is, also as `NotAGroup` where no group stands there, and as
     /// `NoMemory`.
-    pub fn list(&self, alloc: Global, path: &[u8]) -> Result<Vec<Vec<u8>>, EditFault>
-        ensures { MatchResult result (λ names. HasNames self.now.tree path.now (map (λ name. name.items) names.items))
-            (λ e. IsListRefused self.now.tree path.now e) }
+    pub fn list(&self, alloc: Global, path: &[u8]) -> Result<Vec<&[u8]>, EditFault>
+        ensures { MatchResult result (λ names. HasNames self.now.tree path.now (map (λ name. name.now) names.items)) (IsListRefused self.now.tree path.now) }
     {
-        if let Place::Array(_) = look(&self.held, path)? {
-            return Err(EditFault::NotAGroup);
-        }
-        match names_held(alloc, &self.held) {
-            Ok(names) => Ok(names),
-            Err(_) => Err(EditFault::NoMemory),
-        }
+        names_at(alloc, &self.image, &self.opened, path)
+    }
+
+    /// The names of the attributes of the object at the path, ascending by their bytes.
+    ///
+    /// Refused as [`File::kind`] is, and as `NoMemory`.
+    pub fn attrs(&self, alloc: Global, path: &[u8]) -> Result<Vec<&[u8]>, EditFault>
+        ensures { MatchResult result (λ names. HasAttributeNames self.now.tree path.now (map (λ name. name.now) names.items)) (IsUnlisted self.now.tree path.now) }
+    {
+        names_of_attributes(alloc, &self.image, &self.opened, path)
+    }
+
+    /// The attributes of the object at the path, ascending by the bytes of their names.
+    ///
+    /// Refused as [`File::attrs`] is.
+    pub fn attributes(&self, alloc: Global, path: &[u8]) -> Result<Vec<AttrRef<'_>>, EditFault>
+        ensures { MatchResult result (λ list. HasAttributesOf self.now.tree path.now list.items) (IsUnlisted self.now.tree path.now) }
+    {
+        attributes_at(alloc, &self.image, &self.opened, path)
+    }
+
+    /// The attribute of this name of the object at the path.
+    ///
+    /// Refused as [`File::kind`] is, and as `NoSuchAttribute` where the object has none of this name.
+    /// It takes no memory.
+    pub fn get_attr(&self, path: &[u8], name: &[u8]) -> Result<AttrRef<'_>, EditFault>
+        ensures { MatchResult result (HasAttribute self.now.tree path.now name.now) (λ e. first_holding (attribute_rules self.now.tree path.now name.now) ≡ Some e) }
+    {
+        one_attribute(&self.image, &self.opened, path, name)
     }
 
     /// The value of the cell at an index of the array at the path.
@@ -146,80 +169,54 @@ impl File {
     pub fn cell(&self, path: &[u8], index: &[u64]) -> Result<i128, EditFault>
         ensures { MatchResult result (HasCell self.now.tree path.now index.now) (λ e. first_holding (cell_rules self.now.tree path.now index.now) ≡ Some e) }
     {
-        let Place::Array(line) = look(&self.held, path)? else {
-            return Err(EditFault::NotADataset);
-        };
-        let [at] = index else {
-            return Err(EditFault::RankMismatch);
-        };
-        if *at >= line.size {
-            return Err(EditFault::OutOfExtent);
-        }
-        let size = line.fixed.size();
-        let begin = data_begin(&self.image, line) + *at as usize * size;
-        Ok(decode(&line.fixed, &self.image[begin..begin + size]))
+        one_cell(&self.image, &self.opened, path, index)
     }
 
     /// The array that the root's one link leads to, or `None` where the root has no link.
     ///
-    /// While a file holds one array at most, this is all that it holds.
+    /// While a file holds one array at most, this is all of its links.
     pub fn array(&self) -> Option<OnlyArray<'_>>
-        ensures { MatchOption result (self.now.tree ≡ root_tree) (IsOnlyArray self.now.tree) }
+        ensures { MatchOption result (HasNoArray self.now.tree) (IsOnlyArray self.now.tree) }
     {
-        let Held::OneArray(line) = &self.held else {
-            return None;
-        };
-        Some(OnlyArray {
-            name: &line.name,
-            fixed: &line.fixed,
-            size: line.size,
-            fill: line.fill,
-            cells: &self.image[data_begin(&self.image, line)..],
-        })
+        array_in(&self.image, &self.opened)
     }
+}
 
-    /// Carries an edit out: the image is then that of the tree that the edit gives.
-    ///
-    /// Refused as `NotYet`, before any other check, unless it creates a contiguous array of one size
-    /// in a file whose root has no link; then as [`File::create_dataset`] is.
-    pub fn edit(&mut self, edit: &Edit) -> Result<Edited, EditFault>
-        ensures { MatchResult result (IsEdited self.old edit.now self.new) (λ e. IsRefused self.old edit.now e × (self.new ≡ self.old)) }
-    {
-        match edit {
-            Edit::CreateDataset { path, spec } => self.create_dataset(path.as_slice(), spec),
-            _ => Err(EditFault::NotYet),
-        }
-    }
-
-    /// Creates an array at the path, every cell of which is the fill. The image is written anew.
-    ///
-    /// Refused as `NotYet`, before any other check, unless the array is contiguous, of one size, and
-    /// the root has no link. Else the lowest number that holds: `BadPath`, `PathTooDeep`, `IsRoot`,
-    /// `NoSuchParent`, `NameTooLong`, `BadSpec`, `TooManyCells`, `ValueRange`, `ImageFull` where the
-    /// image would pass 2147483648 bytes, `NoMemory`. A refusal changes nothing.
-    pub fn create_dataset(&mut self, path: &[u8], spec: &Spec) -> Result<Edited, EditFault>
-        ensures { MatchResult result (IsEdited self.old (CreateDataset path.now spec.now) self.new)
-            (λ e. IsRefused self.old (CreateDataset path.now spec.now) e × (self.new ≡ self.old)) }
-    {
-        let (name, size) = new_array(&self.held, path, spec)?;
-        let Ok((image, line)) = written(self.alloc, name, spec, size) else {
-            return Err(EditFault::NoMemory);
-        };
-        *self = File {
+/// The file of an image that begins with a superblock and ends where that says; a refusal gives the image back.
+fn walked(alloc: Global, image: Image) -> Result<File, (OpenFault, Image)>
+    requires superblock { IsSuperblock image.bytes }
+    requires whole { end_of_file image.bytes ≡ length image.bytes }
+    ensures image { IfOk result (λ f. f.image ≡ image.bytes) }
+    ensures refused { IfErr result (λ e. IsRefusedAt image.bytes e.0.cause e.0.address) }
+    ensures back { IfErr result (λ e. e.1.bytes ≡ image.bytes) }
+{
+    match walk(alloc, &image) {
+        Ok(opened) => Ok(File {
             image,
-            held: Held::OneArray(line),
-            alloc: self.alloc,
-        };
-        Ok(Edited {
-            object: Some(ObjectNo(1)),
-            refreshed: 0,
-        })
+            opened,
+            alloc,
+        }),
+        Err(fault) => Err((fault, image)),
     }
+}
 
-    /// The bytes of the file, with the file given up.
-    pub fn into_image(self) -> Vec<u8>
-        ensures { result.items ≡ self.image }
-    {
-        self.image
+/// The file of the first bytes, up to their end of file address.
+fn open_front(alloc: Global, bytes: Vec<u8>, end: usize) -> Result<File, (OpenFault, Vec<u8>)>
+    requires superblock { IsSuperblock bytes.items }
+    requires end { end ≡ end_of_file bytes.items }
+    ensures image { IfOk result (λ f. f.image ≡ cut bytes.items) }
+    ensures refused { IfErr result (λ e. IsRefusedAt (cut bytes.items) e.0.cause e.0.address) }
+    ensures back { IfErr result (λ e. e.1.items ≡ bytes.items) }
+{
+    let Ok(front) = Vec::from_slice(alloc, &bytes[..end]) else {
+        let fault = OpenFault {
+            cause: Cause::NoMemory,
+            address: 0,
+        };
+        return Err((fault, bytes));
+    };
+    match walked(alloc, Image::new(alloc, front)) {
+        Ok(file) => Ok(file),
+        Err((fault, _front)) => Err((fault, bytes)),
     }
 }

@@ -6,5 +6,6 @@ pub mod PartSteps
 pub mod SmallLaws
 pub mod NameFaults
 pub mod TextFaults
+pub mod EmptyNames
 pub mod CheckLaws
 pub mod ReadLaws

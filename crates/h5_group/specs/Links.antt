@@ -9,6 +9,7 @@ use Rattle.h5_model.specs.Symbols.{Target, Header}
 use Rattle.h5_model.specs.Links.{HasLinks}
 use Rattle.h5_group.specs.declared.read.GroupLink.{GroupLink}
 use Rattle.h5_group.specs.declared.symbol.Symbol.{Symbol}
+use Rattle.h5_group.specs.Small.{IsSmallRoot, AreOnlyIn, root_node}
 
 -- none, or one to an object header
 abbrev pub links_with : Option GroupLink → List (List ℕ × Target)
@@ -27,3 +28,11 @@ abbrev pub IsLinkOf : Option Symbol → Option (List ℕ) → Option GroupLink �
 IsLinkOf None name link = link ≡ None
 IsLinkOf (Some s) name link = (l : GroupLink) × (link ≡ Some l) × (Some l.name.items ≡ name)
     × (l.header ≡ s.header) × (l.node ≡ s.node)
+
+-- The root of the group's tree is at level 0, and has one child at most. The entry of that is the link's, and there is no other.
+pub record HasOnly (image : List ℕ) (table : SymbolTable) (link : Option GroupLink) : Type 0 where
+  pub small : IsSmallRoot image table.tree
+  pub symbol : Option Symbol
+  pub name : Option (List ℕ)
+  pub only : AreOnlyIn image (root_node image table.tree).children symbol
+  pub same : IsLinkOf symbol name link

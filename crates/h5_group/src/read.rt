@@ -6,7 +6,7 @@ ghost use Rattle.h5_model.specs.Superblock.{IsSuperblock};
 ghost use Rattle.h5_model.specs.Heap.{segment_of};
 ghost use Rattle.h5_model.specs.Reached.{Named};
 ghost use Rattle.h5_walk.specs.NotYet.{IsRefusedAt};
-ghost use Rattle.h5_group.specs.Links.{HasClaimed, IsLinkOf};
+ghost use Rattle.h5_group.specs.Links.{HasClaimed, HasOnly, IsLinkOf};
 ghost use Rattle.h5_group.specs.Small.{root_node};
 ghost use Rattle.h5_group.specs.Names.{HasParts, HasSmallGroup, names_at};
 ghost use Rattle.h5_group.specs.Refused.{AreNamesRefused};
@@ -14,7 +14,7 @@ ghost use Rattle.h5_group.specs.Walk.{IsGroupMet, IsGroupRead};
 
 use crate::claim::fault;
 use crate::keys::{are_ordered, take_keys};
-use crate::names::{is_allowed, take_name};
+use crate::names::{has_empty_name, is_allowed, read_name, take_name};
 use crate::parts::{Parts, claim_parts};
 use crate::root::is_alone;
 use crate::symbol::Symbol;
@@ -53,6 +53,7 @@ pub fn read_group(
     requires end { claims.old.end ≡ length image.now.bytes }
     requires superblock { IsSuperblock image.now.bytes }
     ensures links { IfOk result (λ link. HasClaimed image.now.bytes table claims.old.held claims.new.held link) }
+    ensures only { IfOk result (λ link. HasOnly image.now.bytes table link) }
     ensures separate { OnOk result (Separate claims.new.held) }
     ensures end { claims.new.end ≡ claims.old.end }
     ensures walked { IfOk result (λ link. (followed : List Named) (first second depth : ℕ)
@@ -75,6 +76,9 @@ pub fn read_group(
 }
 
 /// Checks the names and the keys of a group, and that its root stands alone; gives the link's name.
+///
+/// `Sibling` comes first; then `HeapName`, where there is no empty name or no text where the link's should be; then `BadName`; then
+/// `HeapName`, where spans share a byte; and `KeyOrder` last.
 fn check_names<'a>(
     image: &'a Image,
     table: SymbolTable,
@@ -92,10 +96,14 @@ fn check_names<'a>(
     if !is_alone(root) {
         return Err(fault(Cause::Sibling, table.tree()));
     }
-    let name = take_name(heap, image, symbol)?;
+    if !has_empty_name(heap, image) {
+        return Err(fault(Cause::HeapName, table.heap()));
+    }
+    let name = read_name(heap, image, symbol)?;
     if !is_allowed(name) {
         return Err(fault(Cause::BadName, table.heap()));
     }
+    take_name(heap, image, symbol)?;
     let Some(bounds) = take_keys(heap, image, root)? else {
         return Ok(name);
     };

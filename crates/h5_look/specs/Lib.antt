@@ -1,3 +1,4 @@
 pub mod Names
 pub mod Place
 pub mod Look
+pub mod Kept

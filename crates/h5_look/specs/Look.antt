@@ -89,9 +89,9 @@ pub record HasAttribute (tree : Tree) (path name : List ℕ) (a : List ℕ × At
 -- ---- the one array
 
 -- the root has no link
-pub record HasNoArray (tree : Tree) : Type 0 where
+pub record HasNoArray (whole : Tree) : Type 0 where
   pub root : Object
-  pub tree_is : tree ≡ alone_tree root
+  pub tree_is : whole ≡ alone_tree root
   pub empty_group : root.content ≡ Group empty
 
 -- the bytes of the cells, or, where these are not stored, nothing
@@ -100,11 +100,11 @@ AreCells None a values = values ≡ replicate a.size a.fill
 AreCells (Some bytes) a values = (length bytes.now ≡ a.size * (a.fixed.now).size) × (values ≡ stored_values a.fixed.now bytes.now)
 
 -- the root's one link leads to this array
-pub record IsOnlyArray (tree : Tree) (a : OnlyArray) : Type 0 where
+pub record IsOnlyArray (whole : Tree) (a : OnlyArray) : Type 0 where
   pub root : Object
   pub other : Object
   pub array : Dataset
-  pub tree_is : tree ≡ pair_tree root other
+  pub tree_is : whole ≡ pair_tree root other
   pub linking : root.content ≡ Group (link_to_one a.name.now)
   pub content : other.content ≡ Array array
   pub named : is_name a.name.now ≡ true

@@ -5,6 +5,7 @@ ghost use Rattle.h5_open.specs.Kept.{IsOpened};
 ghost use Rattle.h5_open.specs.Opened.{tree_of};
 ghost use Rattle.h5_look.specs.Look.{HasNoArray, IsOnlyArray};
 
+use crate::cells::stored;
 use h5_model::Fixed;
 use h5_open::Opened;
 use h5_space::Image;
@@ -30,5 +31,16 @@ pub fn array_in<'a>(image: &'a Image, opened: &'a Opened) -> Option<OnlyArray<'a
     ensures { let tree = tree_of image.now.bytes opened.now.root opened.now.link in
         MatchOption result (HasNoArray tree) (IsOnlyArray tree) }
 {
-    None
+    let Some(linked) = &opened.link else {
+        return None;
+    };
+    let line = &linked.line;
+    Some(OnlyArray {
+        name: &linked.name,
+        fixed: &line.fixed,
+        size: line.size,
+        maximum: line.maximum,
+        fill: line.fill,
+        cells: stored(image, line),
+    })
 }

@@ -5,9 +5,13 @@ ghost use Rattle.h5_model.specs.Refusal.{first_holding};
 ghost use Rattle.h5_model.specs.Reading.{attribute_rules};
 ghost use Rattle.h5_open.specs.Kept.{IsOpened};
 ghost use Rattle.h5_open.specs.Opened.{tree_of};
+ghost use Rattle.h5_look.specs.Kept.{IsHeaderThere};
 ghost use Rattle.h5_look.specs.Look.{HasAttribute, HasAttributeNames, HasAttributesOf, IsUnlisted};
+ghost use Rattle.h5_look.specs.Place.{IsNowhere};
 
-use h5_attr::AttrRef;
+use crate::place::{Place, look};
+use h5_attr::{AttrRef, get, list, sorted};
+use h5_header::Messages;
 use h5_model::EditFault;
 use h5_open::Opened;
 use h5_space::Image;
@@ -26,7 +30,10 @@ pub fn names_of_attributes<'a>(
     ensures { let tree = tree_of image.now.bytes opened.now.root opened.now.link in
         MatchResult result (λ names. HasAttributeNames tree path.now (map (λ name. name.now) names.items)) (IsUnlisted tree path.now) }
 {
-    Err(EditFault::NoMemory)
+    match list(alloc, image, messages_at(image, opened, path)?) {
+        Ok(names) => Ok(names),
+        Err(_) => Err(EditFault::NoMemory),
+    }
 }
 
 /// The attributes of the object at the path, ascending by the bytes of their names.
@@ -42,7 +49,10 @@ pub fn attributes_at<'a>(
     ensures { let tree = tree_of image.now.bytes opened.now.root opened.now.link in
         MatchResult result (λ list. HasAttributesOf tree path.now list.items) (IsUnlisted tree path.now) }
 {
-    Err(EditFault::NoMemory)
+    match sorted(alloc, image, messages_at(image, opened, path)?) {
+        Ok(attributes) => Ok(attributes),
+        Err(_) => Err(EditFault::NoMemory),
+    }
 }
 
 /// The attribute of this name of the object at the path.
@@ -58,5 +68,24 @@ pub fn one_attribute<'a>(
     ensures { let tree = tree_of image.now.bytes opened.now.root opened.now.link in
         MatchResult result (HasAttribute tree path.now name.now) (λ e. first_holding (attribute_rules tree path.now name.now) ≡ Some e) }
 {
-    Err(EditFault::NotFound)
+    match get(image, messages_at(image, opened, path)?, name) {
+        Some(attribute) => Ok(attribute),
+        None => Err(EditFault::NoSuchAttribute),
+    }
+}
+
+/// The messages of the object at the path.
+fn messages_at<'a>(
+    image: &Image,
+    opened: &'a Opened,
+    path: &[u8],
+) -> Result<&'a Messages, EditFault>
+    requires { IsOpened image.now.bytes opened.now.root opened.now.link }
+    ensures { let tree = tree_of image.now.bytes opened.now.root opened.now.link in
+        MatchResult result (λ messages. IsHeaderThere image.now.bytes tree path.now messages.now) (IsNowhere tree path.now) }
+{
+    match look(opened, path)? {
+        Place::Root => Ok(&opened.root),
+        Place::Array(linked) => Ok(&linked.array),
+    }
 }

@@ -1,15 +1,23 @@
-//! One cell of an array.
+//! The cells of an array of one dimension (File Format Specification 3.0, section IV.A.2.i).
 
-ghost use Rattle.std.specs.Prelude.{◌≡◌, Some, MatchResult};
+ghost use Rattle.std.specs.Prelude.{◌≡◌, ◌<◌, ◌∷◌, [], true, Some, length, MatchOption, MatchResult};
+ghost use Rattle.h5_bytes.specs.Blocks.{Inside};
+ghost use Rattle.h5_model.specs.Fixed.{IsFixed};
+ghost use Rattle.h5_model.specs.Layout.{InBlock};
 ghost use Rattle.h5_model.specs.Refusal.{first_holding};
-ghost use Rattle.h5_model.specs.Reading.{cell_rules};
+ghost use Rattle.h5_model.specs.Reading.{cell_at, cell_rules};
+ghost use Rattle.h5_layout.specs.Stored.{has_room};
+ghost use Rattle.h5_open.specs.Array.{data_blocks};
 ghost use Rattle.h5_open.specs.Kept.{IsOpened};
 ghost use Rattle.h5_open.specs.Opened.{tree_of};
+ghost use Rattle.h5_look.specs.Kept.{AreFilled, AreStored, line_dataset};
 ghost use Rattle.h5_look.specs.Look.{HasCell};
 
+use crate::place::{Place, look};
 use h5_model::EditFault;
-use h5_open::Opened;
+use h5_open::{Line, Opened};
 use h5_space::Image;
+use h5_types::decode;
 
 /// The value of the cell at an index of the array at the path.
 ///
@@ -25,5 +33,45 @@ pub fn one_cell(
     ensures { let tree = tree_of image.now.bytes opened.now.root opened.now.link in
         MatchResult result (HasCell tree path.now index.now) (λ e. first_holding (cell_rules tree path.now index.now) ≡ Some e) }
 {
-    Err(EditFault::NotFound)
+    let Place::Array(linked) = look(opened, path)? else {
+        return Err(EditFault::NotADataset);
+    };
+    let [at] = index else {
+        return Err(EditFault::RankMismatch);
+    };
+    if *at >= linked.line.size {
+        return Err(EditFault::OutOfExtent);
+    }
+    Ok(value(image, &linked.line, *at))
+}
+
+/// The value of the cell at a place.
+fn value(image: &Image, line: &Line, at: u64) -> i128
+    requires below { at < line.now.size }
+    requires inside { Inside (length image.now.bytes) (data_blocks line.now.cells) }
+    requires room { has_room (line.now.size ∷ []) line.now.fixed.size (InBlock line.now.cells) ≡ true }
+    ensures { result ≡ cell_at (line_dataset image.now.bytes line.now) (at ∷ []) }
+{
+    let Some(bytes) = stored(image, line) else {
+        return line.fill;
+    };
+    let size = line.fixed.size();
+    let begin = at as usize * size;
+    decode(&line.fixed, &bytes[begin..begin + size])
+}
+
+/// The bytes of the cells, or `None` where each cell reads the fill value. The block may have more bytes.
+pub(crate) fn stored<'a>(image: &'a Image, line: &Line) -> Option<&'a [u8]>
+    requires inside { Inside (length image.now.bytes) (data_blocks line.now.cells) }
+    requires room { has_room (line.now.size ∷ []) line.now.fixed.size (InBlock line.now.cells) ≡ true }
+    ensures cells { MatchOption result (AreFilled image.now.bytes line.now) (λ bytes. AreStored image.now.bytes line.now bytes.now) }
+    ensures sound { IsFixed line.now.fixed }
+{
+    let long = line.fixed.size();
+    let block = line.cells?;
+    if line.size == 0 {
+        return None;
+    }
+    let begin = block.at as usize;
+    Some(&image.bytes()[begin..begin + line.size as usize * long])
 }

@@ -5,7 +5,6 @@ ghost use Rattle.h5_open.specs.Opened.{tree_of};
 ghost use Rattle.h5_look.specs.Place.{IsPlace, IsNowhere, IsNamed, IsElsewhere};
 
 use crate::path::{MAX_DEPTH, Names, names_in};
-use h5_header::Messages;
 use h5_model::EditFault;
 use h5_open::{Linked, Opened};
 

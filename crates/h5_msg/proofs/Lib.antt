@@ -8,3 +8,4 @@ pub mod LayoutLaws
 pub mod AttributeLaws
 pub mod CellLaws
 pub mod AttributeBack
+pub mod ValueBytes

@@ -4,10 +4,11 @@ ghost use Rattle.std.specs.Prelude.{◌≡◌, ℕ, List, false, true, ◌+◌, 
 ghost use Rattle.std.specs.List.{list_all, list_any};
 ghost use Rattle.h5_bytes.specs.Bytes.{number_at};
 ghost use Rattle.h5_bytes.specs.Texts.{pad8 as padded_to_8, until_zero as text_of};
-ghost use Rattle.h5_model.specs.AttributeBody.{attribute_of, is_attribute};
+ghost use Rattle.h5_model.specs.AttributeBody.{attribute_of, is_attribute, values_at};
 ghost use Rattle.h5_msg.specs.Parts.{ArePartsOf};
 ghost use Rattle.h5_model.specs.Fixed.{IsFixed, fits};
 ghost use Rattle.h5_model.specs.Places.{cells as cells_of};
+ghost use Rattle.h5_model.specs.Plain.{cells_bytes};
 ghost use Rattle.h5_model.specs.Sizes.{attribute_size, dataspace_length as dataspace_size};
 ghost use Rattle.h5_msg.specs.Written.{attribute_bytes, attribute_head, dataspace_bytes, datatype_bytes, name_bytes, padded, value_bytes};
 
@@ -89,6 +90,21 @@ impl<'a> AttributeBody<'a> {
             self.place + k as usize * self.fixed.size(),
         )
     }
+
+    /// The bytes of the values, as they stand.
+    pub fn stored(&self) -> &'a [u8]
+        ensures { result.now ≡ cells_bytes self.now.1.fixed self.now.1.values }
+    {
+        bytes_from(&self.fixed, self.body, self.place, self.cells())
+    }
+}
+
+/// The bytes of so many values from a place on.
+fn bytes_from<'a>(fixed: &Fixed, body: &'a [u8], place: usize, count: u64) -> &'a [u8]
+    requires { place + count * fixed.now.size ≤ length body.now }
+    ensures { result.now ≡ cells_bytes fixed.now (values_at fixed.now body.now place count) }
+{
+    &body[place..place + count as usize * fixed.size()]
 }
 
 /// Reads an Attribute message; `AttributeForm` where it has another form.

@@ -1,16 +1,15 @@
 -- Why the array that a link leads to is refused.
-use Rattle.std.proofs.Common.{◌≡◌, ◌≢◌, ◌⊎◌, inl, inr, ℕ, ◌+◌, ◌-◌, ◌<◌, ◌≤◌, List, [], ◌∷◌, ◌++◌, length, refl, sym, ◌∙◌, ap, subst, Option, Some, None, Bool, true, false, cond, IsTrue, arith}
-use Rattle.std.specs.Prelude.{◌==◌, option_map, option_and_then}
-use Rattle.std.specs.List.{AllByRecursion, find}
+use Rattle.std.proofs.Common.{◌≡◌, inr, ℕ, ◌+◌, ◌≤◌, List, [], ◌∷◌, length, refl, sym, ◌∙◌, ap, subst, Option, Some, true, false, cond, arith}
+use Rattle.std.specs.Prelude.{◌==◌}
+use Rattle.std.specs.List.{find}
 use Rattle.std.proofs.lemmas.Bool.Decides.{nat_tests}
 use Rattle.std.proofs.lemmas.Option.{same_Some}
 use Rattle.h5_bytes.specs.Blocks.{cover, Separate, Inside}
 use Rattle.h5_bytes.specs.declared.Block.{Block}
-use Rattle.h5_model.specs.Messages.{Message, HasMessages, count_of, first_body}
-use Rattle.h5_model.specs.Extent.{Extent, extent_of}
+use Rattle.h5_model.specs.Messages.{Message, HasMessages, count_of}
+use Rattle.h5_model.specs.Extent.{Extent}
 use Rattle.h5_model.specs.Layout.{InBlock}
-use Rattle.h5_model.specs.Reached.{Named, named, ObjectHeader, SymbolNode, Data, Reached, kind_at, length_of, layout_among}
-use Rattle.h5_model.specs.Faults.{is_header}
+use Rattle.h5_model.specs.Reached.{Named, named, ObjectHeader, SymbolNode, Data, kind_at, length_of, layout_among}
 use Rattle.h5_model.specs.HeaderFaults.{ListBreach}
 use Rattle.h5_model.specs.declared.open_fault.Cause.{Cause}
 use Rattle.h5_model.specs.declared.open_fault.Cause.TheVariants.{NoMemory, NotYet, Truncated, Overlap}
@@ -22,7 +21,7 @@ use Rattle.h5_walk.specs.Met.{IsMet, IsHeaderMet, with_header}
 use Rattle.h5_walk.specs.NotYet.{IsRefusedAt, IsOfGroupAt}
 use Rattle.h5_walk.proofs.RefusedLaws.{as_refused}
 use Rattle.h5_walk.proofs.ListLaws.{all_messages, list_refused}
-use Rattle.h5_walk.proofs.DataLaws.{found_all, numbers, data_length, data_reached, data_inside}
+use Rattle.h5_walk.proofs.DataLaws.{found_all, data_length, data_reached, data_inside}
 use Rattle.h5_walk.proofs.MessagePlaces.{IsPlacedMessage, messages_placed}
 use Rattle.h5_walk.proofs.MetFields.{met_truncated, met_overlaps}
 use Rattle.h5_walk.proofs.MetHeader.{met_walked, message_met}
@@ -63,7 +62,7 @@ module _ (image : List ℕ) (header : ℕ) (ms : List Message) (blocks : List Bl
 
     by_cause : (cause c : Cause) → cause ≡ c → IsLineBreach image header ms c → IsRefusedAt image c header
     by_cause cause NoMemory e h = tt
-    by_cause cause NotYet e h = (named field ObjectHeader header depth, (met.met).reached, refl, inr (ms, all_messages image header ms blocks has inside, h))
+    by_cause cause NotYet e h = (named field ObjectHeader header depth, (met.met).reached, refl, (ms, all_messages image header ms blocks has inside, h))
     by_cause cause _ e h = subst (λ (c : Cause). IsRefusedAt image c header) e (list_breach cause (subst (λ (c : Cause). ListBreach image header ms c) (sym e) h))
 
     pub line_refused : (cause : Cause) → IsLineBreach image header ms cause → IsRefusedAt image cause header

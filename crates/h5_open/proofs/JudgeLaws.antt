@@ -1,9 +1,8 @@
 -- What the messages of a header say of the object, and which rule they break.
-use Rattle.std.proofs.Common.{◌≡◌, ◌≢◌, ◌⊎◌, inl, inr, ℕ, ◌+◌, ◌≤◌, List, [], ◌∷◌, length, refl, sym, ◌∙◌, ap, subst, Option, Some, None, Bool, true, false, cond, arith}
+use Rattle.std.proofs.Common.{◌≡◌, ◌⊎◌, inl, inr, ℕ, ◌+◌, List, [], ◌∷◌, length, refl, sym, ◌∙◌, ap, Option, Some, None, Bool, true, false, cond, arith}
 use Rattle.std.specs.Prelude.{◌==◌, option_map, option_and_then, Ok, Err, ok_or, Result, ◌↔◌}
 use Rattle.std.specs.List.{find}
 use Rattle.h5_bytes.specs.declared.Block.{Block}
-use Rattle.h5_model.specs.Addresses.{SymbolTable, symbol_table_of}
 use Rattle.h5_model.specs.Messages.{Message, count_of, first_body}
 use Rattle.h5_model.specs.HeaderFaults.{ListBreach, SomeBody, HasNameTwice}
 use Rattle.h5_model.specs.declared.open_fault.Cause.{Cause}
@@ -12,14 +11,14 @@ use Rattle.h5_model.specs.declared.open_fault.OpenFault.{OpenFault}
 use Rattle.h5_header.specs.Kinds.{IsOfGroup, IsOfDataset}
 use Rattle.h5_header.specs.declared.kinds.ObjectKind.{ObjectKind}
 use Rattle.h5_header.specs.declared.kinds.ObjectKind.TheVariants.{Group, Dataset}
-use Rattle.h5_header.proofs.FoundLaws.{found, none_stands}
+use Rattle.h5_header.proofs.FoundLaws.{found}
 use Rattle.std.proofs.lemmas.Option.{same_Some}
 use Rattle.std.proofs.lemmas.List.{length-map}
 use Rattle.std.specs.List.{range_with_len, slice_get}
 use Rattle.std.specs.Prelude.{map, slice_index_or, if◌then◌else◌, ℤ}
 use Rattle.h5_model.specs.Fixed.{Fixed}
 use Rattle.h5_model.specs.Extent.{Extent, extent_of, extent_in, is_dataspace, size_in, maximum_in, rank_in}
-use Rattle.h5_model.specs.Layout.{Layout, InBlock}
+use Rattle.h5_model.specs.Layout.{InBlock}
 use Rattle.h5_model.specs.Reached.{layout_among}
 use Rattle.h5_layout.specs.Described.{Described, HasArray}
 use Rattle.h5_walk.specs.NotYet.{IsNoLine}

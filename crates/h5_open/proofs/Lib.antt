@@ -3,3 +3,5 @@ pub mod ArrayLaws
 pub mod OpenLaws
 pub mod RootLaws
 pub mod StepLaws
+pub mod KeptLaws
+pub mod LinkLaws

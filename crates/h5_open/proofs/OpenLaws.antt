@@ -1,27 +1,25 @@
 -- An image whose root was read, with its links and what they lead to, reads as their tree.
 use Rattle.std.proofs.Common.{◌≡◌, ◌≢◌, ℕ, ◌+◌, ◌≤◌, List, [], ◌∷◌, ◌++◌, length, refl, sym, ◌∙◌, ap, subst, Option, Some, None, true, false, cond, IsTrue, arith}
-use Rattle.std.specs.Prelude.{◌==◌, map}
-use Rattle.std.specs.List.{AllByRecursion, AllZip, filter}
+use Rattle.std.specs.Prelude.{◌==◌}
+use Rattle.std.specs.List.{AllByRecursion, AllZip}
 use Rattle.std.specs.Ordering.{nat_cmp}
 use Rattle.std.specs.Cmp.Lexicographic.{slice_cmp}
 use Rattle.std.specs.FinMap.{FinMap, get, empty, entries}
 use Rattle.std.proofs.lemmas.Bool.Decides.{nat_tests}
-use Rattle.h5_bytes.specs.Blocks.{block, cover, Separate, Inside}
+use Rattle.h5_bytes.specs.Blocks.{block, cover, Separate}
 use Rattle.h5_bytes.specs.declared.Block.{Block}
 use Rattle.h5_bytes.proofs.BlockLaws.{all_append, cover-append}
-use Rattle.h5_model.specs.Superblock.{IsSuperblock, superblock_length, end_of_file, root_header}
+use Rattle.h5_model.specs.Superblock.{IsSuperblock, superblock_length, end_of_file}
 use Rattle.h5_model.specs.Addresses.{SymbolTable}
 use Rattle.h5_model.specs.Messages.{Message, HasMessages, count_of, prefix_at, reference_count}
 use Rattle.h5_model.specs.Symbols.{Target, Header}
 use Rattle.h5_model.specs.Layout.{InBlock}
-use Rattle.h5_model.specs.Tree.{Link, Links, Object, Content, Group, Array, ToObject}
-use Rattle.h5_model.specs.Reads.{ReadsAs, HasObject, HasGroup, HasData, InGroup, IsSame, Placed, all_blocks, is_kept, kept_of}
+use Rattle.h5_model.specs.Tree.{Link, Links, Group, Array}
+use Rattle.h5_model.specs.Reads.{ReadsAs, HasObject, HasGroup, HasData, InGroup, IsSame, Placed}
 use Rattle.h5_model.proofs.EmptyReads.{entries-empty}
 use Rattle.h5_header.specs.Heads.{is_read}
-use Rattle.h5_header.specs.Kinds.{IsOfGroup}
 use Rattle.h5_header.specs.Listed.{Listed, message_in, messages_in}
 use Rattle.h5_header.specs.declared.message.Message.{Message as Stood}
-use Rattle.h5_attr.specs.Attributes.{attributes_of}
 use Rattle.h5_layout.specs.Described.{dataset_in}
 use Rattle.h5_layout.proofs.ArrayLaws.{has_dataset}
 use Rattle.h5_layout.proofs.KnownLaws.{known_in}
@@ -30,7 +28,6 @@ use Rattle.h5_walk.proofs.SmallLaws.{two_second, entries_of_link}
 use Rattle.h5_walk.proofs.SmallReads.{alone_reads, pair_reads}
 use Rattle.h5_open.specs.declared.line.Line.{Line}
 use Rattle.h5_open.specs.Opened.{described, object_with}
-use Rattle.h5_open.specs.Judged.{IsGroupList, IsLineList}
 use Rattle.h5_open.specs.Array.{IsLineRead, data_blocks}
 use Rattle.h5_open.specs.Root.{IsRootRead}
 

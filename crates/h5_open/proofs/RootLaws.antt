@@ -1,29 +1,29 @@
 -- The root in a walk: it is met first, and its Symbol Table has the fields of a tree and a heap.
-use Rattle.std.proofs.Common.{◌≡◌, ◌≢◌, ℕ, ◌+◌, ◌-◌, ◌<◌, ◌≤◌, inl, inr, List, [], ◌∷◌, length, refl, sym, ◌∙◌, ap, ap₂, subst, arith, Option, Some, None, Bool, true, false}
+use Rattle.std.proofs.Common.{◌≡◌, ℕ, ◌+◌, ◌≤◌, inl, inr, List, [], length, refl, sym, ◌∙◌, ap, subst, arith, Option, Some, None, Bool, true, false}
 use Rattle.std.specs.Prelude.{◌==◌, nat_le, if◌then◌else◌, option_map, option_and_then}
-use Rattle.std.specs.List.{AllByRecursion, find}
+use Rattle.std.specs.List.{find}
 use Rattle.std.proofs.lemmas.Option.{same_Some}
 use Rattle.std.proofs.lemmas.Bool.Decides.{nat_tests}
-use Rattle.h5_bytes.specs.Bytes.{number_at, part}
-use Rattle.h5_bytes.specs.Blocks.{block, holds, cover, Separate, Inside}
+use Rattle.h5_bytes.specs.Bytes.{number_at}
+use Rattle.h5_bytes.specs.Blocks.{holds, cover, Separate, Inside}
 use Rattle.h5_bytes.specs.declared.Block.{Block}
 use Rattle.h5_bytes.proofs.BlockLaws.{holds_in}
 use Rattle.h5_bytes.proofs.FieldLaws.{number_at-part}
 use Rattle.h5_model.specs.Superblock.{IsSuperblock, root_header}
 use Rattle.h5_model.specs.Addresses.{SymbolTable, symbol_table_of}
-use Rattle.h5_model.specs.Messages.{Message, HasMessages, count_of, first_body}
+use Rattle.h5_model.specs.Messages.{Message, HasMessages, first_body}
 use Rattle.h5_model.specs.Reached.{Named, named, ObjectHeader, HeapHeader, Reached, by_superblock, by_block, group_root, kind_at, size_at}
 use Rattle.h5_model.specs.HeaderFaults.{ListBreach}
 use Rattle.h5_model.specs.declared.open_fault.Cause.{Cause}
-use Rattle.h5_model.specs.declared.open_fault.Cause.TheVariants.{NoMemory, NotYet, MissingMessage}
+use Rattle.h5_model.specs.declared.open_fault.Cause.TheVariants.{NoMemory, MissingMessage}
 use Rattle.h5_header.proofs.MetLaws.{length-part-le}
 use Rattle.h5_walk.specs.Walked.{IsWalked}
 use Rattle.h5_walk.specs.Met.{IsMet, IsHeaderMet, with_header}
 use Rattle.h5_walk.specs.NotYet.{IsRefusedAt}
 use Rattle.h5_walk.proofs.RefusedLaws.{as_refused}
-use Rattle.h5_walk.proofs.ListLaws.{all_messages, list_refused, no_root_refused}
+use Rattle.h5_walk.proofs.ListLaws.{list_refused, no_root_refused}
 use Rattle.h5_walk.proofs.DataLaws.{found_all}
-use Rattle.h5_walk.proofs.MessagePlaces.{IsPlacedAt, IsPlacedMessage, messages_placed}
+use Rattle.h5_walk.proofs.MessagePlaces.{IsPlacedMessage, messages_placed}
 use Rattle.h5_walk.proofs.MetHeader.{met_walked, message_met}
 use Rattle.h5_open.proofs.ArrayLaws.{found_kind}
 use Rattle.h5_open.specs.Judged.{IsRootBreach}
@@ -61,7 +61,7 @@ module _ (image : List ℕ) (ms : List Message) (blocks : List Block) (is : IsSu
 -- ---- the fields of the Symbol Table
 
 -- the two numbers of a body
-table_numbers : (body : List ℕ) (table : SymbolTable) → symbol_table_of body ≡ Some table → (16 ≤ length body) × (table.tree ≡ number_at body 0 8) × (table.heap ≡ number_at body 8 8)
+pub table_numbers : (body : List ℕ) (table : SymbolTable) → symbol_table_of body ≡ Some table → (16 ≤ length body) × (table.tree ≡ number_at body 0 8) × (table.heap ≡ number_at body 8 8)
 unfolding symbol_table_of
 table_numbers body table is = go (nat_le 16 (length body)) refl is where
   go : (b : Bool) → nat_le 16 (length body) ≡ b → (if b then Some (record { tree = number_at body 0 8; heap = number_at body 8 8 }) else None) ≡ Some table

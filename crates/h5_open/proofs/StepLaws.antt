@@ -1,5 +1,5 @@
 -- The steps of the walk: what one hands to the next, and why it is refused.
-use Rattle.std.proofs.Common.{◌≡◌, ◌≢◌, ℕ, ◌+◌, ◌-◌, ◌≤◌, inl, inr, List, [], ◌∷◌, ◌++◌, length, refl, sym, ◌∙◌, ap, subst, arith, Option, Some, None, Bool, true, false}
+use Rattle.std.proofs.Common.{◌≡◌, ◌≢◌, ℕ, ◌+◌, ◌≤◌, List, [], ◌∷◌, ◌++◌, length, refl, sym, ◌∙◌, subst, arith, Option, Some, None, false}
 use Rattle.std.specs.Prelude.{map, IfSome, ◌==◌}
 use Rattle.std.specs.List.{AllByRecursion, find}
 use Rattle.h5_bytes.specs.Blocks.{block, cover, Separate, Inside}
@@ -11,13 +11,12 @@ use Rattle.h5_model.specs.Messages.{Message, HasMessages, prefix_at, reference_c
 use Rattle.h5_model.specs.Reached.{Named, named, ObjectHeader, Continuation, Reached}
 use Rattle.h5_model.specs.Faults.{is_header}
 use Rattle.h5_model.specs.Reads.{Reads}
-use Rattle.h5_model.specs.declared.open_fault.Cause.{Cause}
-use Rattle.h5_model.specs.declared.open_fault.Cause.TheVariants.{NotYet, GroupLinkedTwice}
+use Rattle.h5_model.specs.declared.open_fault.Cause.TheVariants.{GroupLinkedTwice}
 use Rattle.h5_header.specs.Listed.{Listed, messages_in}
 use Rattle.h5_group.specs.declared.read.GroupLink.{GroupLink}
 use Rattle.h5_group.specs.Walk.{IsGroupMet, IsGroupRead, IsLinkMet}
 use Rattle.h5_walk.specs.Walked.{IsWalked, continuation_fields}
-use Rattle.h5_walk.specs.Met.{IsMet, IsHeaderMet, with_header}
+use Rattle.h5_walk.specs.Met.{IsHeaderMet, with_header}
 use Rattle.h5_walk.specs.NotYet.{IsRefusedAt, IsOfGroupAt}
 use Rattle.h5_walk.proofs.ListLaws.{prefix_there}
 use Rattle.h5_open.specs.declared.opened.Linked.{Linked}
@@ -25,8 +24,7 @@ use Rattle.h5_open.specs.Judged.{IsGroupList}
 use Rattle.h5_model.specs.Tree.{Group}
 use Rattle.h5_walk.specs.Small.{pair_tree, link_to_one}
 use Rattle.h5_open.specs.Opened.{table_of, tree_of, object_with, array_in}
-use Rattle.h5_open.specs.Array.{IsEntryMet, IsLineRead}
-use Rattle.h5_open.specs.Walk.{IsRootOpened, IsLinkReady, IsLinkedRead, IsMiscounted}
+use Rattle.h5_open.specs.Walk.{IsRootOpened, IsLinkReady, IsLinkedRead}
 use Rattle.h5_open.proofs.ArrayLaws.{group_at}
 use Rattle.h5_open.proofs.RootLaws.{root_reached, root_met, found_table, tree_met, heap_met, table_walked}
 use Rattle.h5_open.proofs.OpenLaws.{reads_alone, reads_linked}
@@ -42,12 +40,6 @@ twice image header root field depth is at same reached other group there = (
   refl,
   (there, (refl, group, (named 64 ObjectHeader root 0, subst (λ (h : ℕ). Reached image (named 64 ObjectHeader h 0)) (sym at) (root_reached image is), (λ e. other (sym e)), refl, refl))),
 )
-
--- the reference count is another
-pub count_refused : (image : List ℕ) (header field depth : ℕ) → Reached image (named field ObjectHeader header depth) → (cause : Cause) (address : ℕ) → address ≡ header
-    → IsMiscounted image header cause → IsRefusedAt image cause address
-count_refused image header field depth reached NotYet address at h = (named field ObjectHeader header depth, reached, sym at, inl h)
-count_refused image header field depth reached _ address at h = absurd h
 
 -- ---- the root
 

@@ -9,6 +9,7 @@ use Rattle.h5_model.specs.Symbols.{symbol_bytes, symbols_in}
 use Rattle.h5_model.specs.Reached.{Named, named, SymbolNode, Reached, entry_in}
 use Rattle.h5_header.specs.Heads.{is_read}
 use Rattle.h5_header.specs.Listed.{Listed, messages_in, IsWithin}
+use Rattle.h5_attr.specs.Attributes.{HasNamesOnce}
 use Rattle.h5_walk.specs.Met.{IsHeaderMet}
 use Rattle.h5_open.specs.declared.line.Line.{Line}
 use Rattle.h5_open.specs.Judged.{IsLineList}
@@ -25,6 +26,7 @@ pub record IsLineRead (image : List ℕ) (header : ℕ) (held now : List Block) 
   pub known : AllByRecursion (λ x. IsTrue (is_read x.kind)) m.list
   pub within : IsWithin (length image) m.list
   pub list : IsLineList (messages_in image m.list) line
+  pub names : HasNamesOnce (messages_in image m.list)
   pub inside : Inside (length image) m.blocks
   pub data_inside : Inside (length image) (data_blocks line.cells)
   pub claimed : (p : ℕ) → cover p now ≡ cover p held + (cover p m.blocks + cover p (data_blocks line.cells))

@@ -13,7 +13,6 @@ use Rattle.h5_layout.specs.Described.{Described, dataset_in}
 use Rattle.h5_walk.specs.Small.{alone_table, alone_tree, pair_table, pair_tree, link_to_one}
 use Rattle.h5_open.specs.declared.line.Line.{Line}
 use Rattle.h5_open.specs.declared.opened.Linked.{Linked}
-use Rattle.h5_open.specs.declared.opened.Opened.{Opened}
 
 -- one dimension, in one block or nowhere
 abbrev pub described : Line → Described

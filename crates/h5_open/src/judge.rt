@@ -2,6 +2,7 @@
 
 ghost use Rattle.std.specs.Prelude.{◌≡◌, ◌⊎◌, ℕ, Option, List, IfOk, IfErr, IfSome, IfNone, OnOk, length};
 ghost use Rattle.h5_bytes.specs.declared.Block.{Block};
+ghost use Rattle.h5_attr.specs.Attributes.{HasNamesOnce};
 ghost use Rattle.h5_header.specs.Kinds.{IsOfDataset};
 ghost use Rattle.h5_header.specs.Listed.{messages_in, IsWithin};
 ghost use Rattle.h5_open.specs.Opened.{described};
@@ -30,6 +31,7 @@ pub fn judge_root(
 ) -> Result<SymbolTable, OpenFault>
     requires { IsWithin (length image.now.bytes) messages.now.list }
     ensures read { IfOk result (λ table. IsGroupList (messages_in image.now.bytes messages.now.list) table) }
+    ensures names { OnOk result (HasNamesOnce (messages_in image.now.bytes messages.now.list)) }
     ensures address { IfErr result (λ fault. fault.address ≡ messages.now.header) }
     ensures refused { IfErr result (λ fault. IsRootBreach image.now.bytes messages.now.header (messages_in image.now.bytes messages.now.list) fault.cause) }
 {
@@ -53,6 +55,7 @@ pub fn judge_line(alloc: Global, image: &Image, messages: &Messages) -> Result<L
     requires within { IsWithin (length image.now.bytes) messages.now.list }
     requires dataset { IsOfDataset (messages_in image.now.bytes messages.now.list) }
     ensures read { IfOk result (λ line. IsLineList (messages_in image.now.bytes messages.now.list) line) }
+    ensures names { OnOk result (HasNamesOnce (messages_in image.now.bytes messages.now.list)) }
     ensures address { IfErr result (λ fault. fault.address ≡ messages.now.header) }
     ensures refused { IfErr result (λ fault. IsLineBreach image.now.bytes messages.now.header (messages_in image.now.bytes messages.now.list) fault.cause) }
 {

@@ -4,11 +4,10 @@
 ghost use Rattle.std.specs.Prelude.{◌≡◌, ◌≢◌, ◌+◌, ◌≤◌, [], length, IfOk, IfErr, IfSome, OnOk};
 ghost use Rattle.h5_bytes.specs.Blocks.{Separate};
 ghost use Rattle.h5_model.specs.Messages.{prefix_at, reference_count};
-ghost use Rattle.h5_model.specs.Reads.{Reads};
 ghost use Rattle.h5_model.specs.Superblock.{IsSuperblock, end_of_file, root_header};
 ghost use Rattle.h5_walk.specs.NotYet.{IsRefusedAt};
 ghost use Rattle.h5_walk.specs.Walked.{IsWalked};
-ghost use Rattle.h5_open.specs.Opened.{table_of, tree_of};
+ghost use Rattle.h5_open.specs.Kept.{IsOpened};
 ghost use Rattle.h5_open.specs.Root.{IsRootRead};
 ghost use Rattle.h5_open.specs.Walk.{IsRootOpened, IsLinkReady, IsLinkedRead, IsMiscounted};
 
@@ -32,25 +31,27 @@ const ROOT_HEADER: usize = 64;
 ///
 /// The image reads as the tree that is told by what is kept of it. Refused is, at the address of the block that breaks a rule,
 /// the first breach that is met: of the root's header, of its group's heap, tree, symbol node and names, of the array's header,
-/// of its cells. `NotYet` answers what is not read yet, at its address: a group of several links or with a soft link, a link to a
-/// group, an array that has not one dimension or is not in one block, and a reference count other than 1. `NoMemory` where
-/// memory is refused.
+/// of its cells, and when all of these were read of the two headers' reference counts, the root's first. `NotYet` answers what is
+/// not read yet, at its address: a group of several links or with a soft link, a link to a group, and an array that has not one
+/// dimension or is not in one block. `NoMemory` where memory is refused.
 ///
 /// That the image begins with a superblock, and ends where that says, are the caller's conditions. Each block is looked at
 /// once; memory is taken for the messages that stand in claimed blocks.
 pub fn walk(alloc: Global, image: &Image) -> Result<Opened, OpenFault>
     requires superblock { IsSuperblock image.now.bytes }
     requires whole { end_of_file image.now.bytes ≡ length image.now.bytes }
-    ensures reads { IfOk result (λ o. Reads image.now.bytes (table_of o.root o.link) (tree_of image.now.bytes o.root o.link)) }
+    ensures kept { IfOk result (λ o. IsOpened image.now.bytes o.root o.link) }
     ensures refused { IfErr result (λ fault. IsRefusedAt image.now.bytes fault.cause fault.address) }
 {
     let mut claims = claim_superblock(alloc, image)?;
     let (root, link) = read_root(alloc, image, &mut claims)?;
-    check_count(image, &root)?;
     let Some(link) = link else {
+        check_count(image, &root)?;
         return Ok(Opened { root, link: None });
     };
     let linked = read_linked(alloc, image, &mut claims, root.header(), link)?;
+    check_count(image, &root)?;
+    check_count(image, &linked.array)?;
     Ok(Opened {
         root,
         link: Some(linked),
@@ -109,7 +110,6 @@ fn read_linked(
     requires end { claims.old.end ≡ length image.now.bytes }
     ensures read { IfOk result (λ made. IsLinkedRead image.now.bytes claims.old.held claims.new.held link made) }
     ensures other { OnOk result (root ≢ link.header) }
-    ensures counted { IfOk result (λ made. reference_count (prefix_at image.now.bytes made.array.header) ≡ 1) }
     ensures separate { OnOk result (Separate claims.new.held) }
     ensures refused { IfErr result (λ fault. IsRefusedAt image.now.bytes fault.cause fault.address) }
 {
@@ -117,7 +117,6 @@ fn read_linked(
         return Err(fault(Cause::GroupLinkedTwice, root));
     }
     let (array, line) = read_line(alloc, image, claims, link.header, link.node)?;
-    check_count(image, &array)?;
     Ok(Linked {
         name: link.name,
         array,
@@ -133,7 +132,7 @@ fn check_count(image: &Image, messages: &Messages) -> Result<(), OpenFault>
     ensures refused { IfErr result (λ fault. IsMiscounted image.now.bytes messages.now.header fault.cause) }
 {
     if messages.links(image) != 1 {
-        return Err(fault(Cause::NotYet, messages.header()));
+        return Err(fault(Cause::LinkCount, messages.header()));
     }
     Ok(())
 }

@@ -6,3 +6,5 @@ pub mod Front
 pub mod ValueBytes
 pub mod LineLaws
 pub mod TextLaws
+pub mod AttributeParts
+pub mod Messages

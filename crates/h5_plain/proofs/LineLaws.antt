@@ -28,7 +28,8 @@ use Rattle.h5_plain.specs.LineFile.{IsLineFile, type_told, header_told}
 use Rattle.h5_plain.specs.declared.line_file.Told.{Told}
 use Rattle.h5_plain.proofs.Segments.{segment_is}
 use Rattle.h5_plain.proofs.TextLaws.{until_padding}
-use Rattle.h5_plain.proofs.ValueBytes.{AreBytes, values_there}
+use Rattle.h5_msg.proofs.ValueBytes.{AreBytes}
+use Rattle.h5_plain.proofs.ValueBytes.{values_there}
 
 -- ---- the header
 

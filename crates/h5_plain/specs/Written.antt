@@ -1,7 +1,7 @@
 -- What is handed to the writer of small images, and the messages and the link that it stands for.
-use Rattle.std.specs.Prelude.{◌≡◌, ℕ, ◌+◌, ◌*◌, ◌^◌, ◌<◌, ◌≤◌, true, false, nat_lt, IfSome, Option, None, Some, List, [], ◌∷◌, length, replicate}
+use Rattle.std.specs.Prelude.{◌≡◌, ℕ, ◌+◌, ◌*◌, ◌^◌, ◌<◌, ◌≤◌, true, false, nat_lt, Option, None, Some, List, [], ◌∷◌, length, replicate}
 use Rattle.std.specs.Borrow.{Bor}
-use Rattle.h5_model.specs.Fixed.{Fixed, fits}
+use Rattle.h5_model.specs.Fixed.{fits}
 use Rattle.h5_model.specs.Plain.{messages_bytes, cells_bytes}
 use Rattle.h5_model.specs.Tree.{Dataset, Contiguous}
 use Rattle.h5_small.specs.Small.{Linked, small_end}

@@ -84,7 +84,7 @@ pub(crate) fn text_span(text: &[u8]) -> usize
 }
 
 /// A text in a heap, with its zero, padded.
-fn push_text(out: &mut Vec<u8>, text: &[u8]) -> Result<(), AllocError>
+pub(crate) fn push_text(out: &mut Vec<u8>, text: &[u8]) -> Result<(), AllocError>
     ensures { OnOk result (out.new.items ≡ out.old.items ++ padded_text text.now) }
 {
     push_bytes(out, text)?;

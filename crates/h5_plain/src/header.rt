@@ -49,7 +49,7 @@ pub(crate) fn push_group_header(out: &mut Vec<u8>, tree: u64, heap: u64) -> Resu
 }
 
 /// A dataspace message's body: sizes that are their own maxima.
-fn push_extent(out: &mut Vec<u8>, sizes: &[u64]) -> Result<(), AllocError>
+pub(crate) fn push_extent(out: &mut Vec<u8>, sizes: &[u64]) -> Result<(), AllocError>
     requires { length sizes.now ≤ 32 }
     ensures { OnOk result (out.new.items ≡ out.old.items ++ extent_body sizes.now) }
 {
@@ -71,7 +71,7 @@ fn type_bits(fixed: &Fixed) -> u8
 }
 
 /// A datatype message's body.
-fn push_type(out: &mut Vec<u8>, fixed: &Fixed) -> Result<(), AllocError>
+pub(crate) fn push_type(out: &mut Vec<u8>, fixed: &Fixed) -> Result<(), AllocError>
     ensures { OnOk result (out.new.items ≡ out.old.items ++ type_body fixed.now) }
 {
     push_bytes(out, &[16, type_bits(fixed), 0, 0])?;

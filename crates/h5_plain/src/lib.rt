@@ -4,6 +4,7 @@
 #![tactic(auto)]
 
 mod array;
+mod attribute;
 mod cells;
 mod empty;
 mod entry;

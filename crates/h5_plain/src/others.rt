@@ -2,10 +2,14 @@
 //! sections IV.A.1.a and IV.A.2).
 ghost use Rattle.std.specs.Prelude.{◌≡◌, ℕ, ◌%◌, ◌<◌, [], ◌∷◌, ◌++◌, List, OnOk, length};
 ghost use Rattle.h5_model.specs.Edits.{attribute_from};
+ghost use Rattle.h5_model.specs.Plain.{message_bytes};
 ghost use Rattle.h5_small.specs.Bodies.{attribute_message};
 ghost use Rattle.h5_small.specs.Sound.{IsPlainAttribute};
 ghost use Rattle.h5_plain.specs.Written.{AreOthers};
 
+use crate::attribute::{push_new_attribute, push_stored_attribute};
+use crate::fields::push_bytes;
+use crate::header::push_message_head;
 use h5_model::AttrSpec;
 use h5_msg::AttributeBody;
 use std::alloc::{AllocError, Global};
@@ -47,7 +51,13 @@ impl Others {
         requires few { self.old.count < 65536 }
         ensures { OnOk result ((ms : List (ℕ × List ℕ)) → AreOthers ms self.old → AreOthers (ms ++ (kind, body.now) ∷ []) self.new) }
     {
-        Err(AllocError)
+        let before = self.bytes.len();
+        let Ok(()) = push_message(&mut self.bytes, kind, body) else {
+            self.bytes.truncate(before);
+            return Err(AllocError);
+        };
+        self.count += 1;
+        Ok(())
     }
 
     /// Appends the message of an attribute.
@@ -57,7 +67,13 @@ impl Others {
         ensures { OnOk result ((ms : List (ℕ × List ℕ)) → AreOthers ms self.old
             → AreOthers (ms ++ attribute_message (attr.now.name, attribute_from attr.now) ∷ []) self.new) }
     {
-        Err(AllocError)
+        let before = self.bytes.len();
+        let Ok(()) = push_new_attribute(&mut self.bytes, attr) else {
+            self.bytes.truncate(before);
+            return Err(AllocError);
+        };
+        self.count += 1;
+        Ok(())
     }
 
     /// Appends the message of an attribute as another header has it.
@@ -66,6 +82,22 @@ impl Others {
         requires few { self.old.count < 65536 }
         ensures { OnOk result ((ms : List (ℕ × List ℕ)) → AreOthers ms self.old → AreOthers (ms ++ attribute_message attr.now ∷ []) self.new) }
     {
-        Err(AllocError)
+        let before = self.bytes.len();
+        let alloc = *self.bytes.allocator();
+        let Ok(()) = push_stored_attribute(alloc, &mut self.bytes, attr) else {
+            self.bytes.truncate(before);
+            return Err(AllocError);
+        };
+        self.count += 1;
+        Ok(())
     }
+}
+
+/// A message with this body.
+fn push_message(out: &mut Vec<u8>, kind: u16, body: &[u8]) -> Result<(), AllocError>
+    requires { length body.now < 65536 }
+    ensures { OnOk result (out.new.items ≡ out.old.items ++ message_bytes (kind, body.now)) }
+{
+    push_message_head(out, kind, body.len() as u16)?;
+    push_bytes(out, body)
 }

@@ -1,3 +1,15 @@
 pub mod GroupNodes
 pub mod GroupHeap
 pub mod GroupLinks
+pub mod HeaderAttributes
+pub mod HeaderOthers
+pub mod HeaderGroup
+pub mod HeaderSpace
+pub mod HeaderLengths
+pub mod HeaderArray
+pub mod ImageParts
+pub mod ImageLink
+pub mod ImageSuperblock
+pub mod ImageBlocks
+pub mod ImageReads
+pub mod ImageLength

@@ -1,14 +1,12 @@
 -- When a header was read, the walk has followed the field that named it and those of its Continuations.
-use Rattle.std.proofs.Common.{◌≡◌, ◌≢◌, ℕ, ◌+◌, ◌-◌, ◌≤◌, inl, inr, List, [], ◌∷◌, ◌++◌, length, refl, sym, ◌∙◌, ap, subst, arith}
+use Rattle.std.proofs.Common.{◌≡◌, ℕ, ◌+◌, ◌-◌, ◌≤◌, inl, inr, List, [], ◌∷◌, ◌++◌, refl, sym, ◌∙◌, ap, subst, arith}
 use Rattle.std.specs.Prelude.{map}
-use Rattle.std.specs.List.{AllByRecursion, flat_map}
-use Rattle.h5_bytes.specs.Blocks.{block, holds, cover}
+use Rattle.std.specs.List.{AllByRecursion}
+use Rattle.h5_bytes.specs.Blocks.{holds, cover}
 use Rattle.h5_bytes.specs.declared.Block.{Block}
 use Rattle.h5_bytes.proofs.BlockLaws.{holds-inner, all_append, cover-append}
-use Rattle.h5_model.specs.Superblock.{superblock_length}
 use Rattle.h5_model.specs.Messages.{Message, HasMessages, prefix_at, first_size, first_block, continuation, continuations}
-use Rattle.h5_model.specs.Reached.{Named, named, ObjectHeader, Continuation, Reached, block_of, length_of}
-use Rattle.h5_header.specs.Refused.{NamesBlock}
+use Rattle.h5_model.specs.Reached.{Named, named, ObjectHeader, Continuation, Reached, block_of}
 use Rattle.h5_header.proofs.MetLaws.{IsNamedBy, IsNaming, has_naming, continuation_cases, whole_filled}
 use Rattle.h5_header.proofs.CrossLaws.{heads, filled_heads, head_here}
 use Rattle.h5_walk.specs.Walked.{IsFollowed, IsWalked, continuation_fields}

@@ -1,22 +1,21 @@
 -- The block that a contiguous layout names.
-use Rattle.std.proofs.Common.{◌≡◌, ◌≢◌, ℕ, ◌+◌, ◌-◌, ◌*◌, ◌<◌, ◌≤◌, ◌⊎◌, inl, inr, List, [], ◌∷◌, ◌++◌, length, refl, sym, ◌∙◌, ap, ap₂, subst, arith, Option, Some, None, Bool, true, false, cond}
-use Rattle.std.specs.Prelude.{◌==◌, ◌&&◌, nat_le, if◌then◌else◌, option_map, option_and_then, slice_range}
+use Rattle.std.proofs.Common.{◌≡◌, ℕ, ◌+◌, ◌*◌, ◌<◌, ◌≤◌, inr, List, [], ◌∷◌, length, refl, sym, ◌∙◌, ap, subst, arith, Option, Some, None, Bool, true, false, cond}
+use Rattle.std.specs.Prelude.{◌==◌, ◌&&◌, nat_le, if◌then◌else◌, option_and_then, slice_range}
 use Rattle.std.specs.List.{AllByRecursion, find}
 use Rattle.std.proofs.lemmas.Option.{same_Some}
 use Rattle.std.proofs.lemmas.Bool.Decides.{nat_tests}
-use Rattle.h5_bytes.specs.Bytes.{number_at, byte_at, part, undefined}
-use Rattle.h5_bytes.specs.Blocks.{block, holds, cover, Inside}
+use Rattle.h5_bytes.specs.Bytes.{number_at, byte_at, undefined}
+use Rattle.h5_bytes.specs.Blocks.{block, Inside}
 use Rattle.h5_bytes.specs.declared.Block.{Block}
 use Rattle.h5_bytes.proofs.FieldLaws.{number_at-part}
 use Rattle.h5_header.proofs.MetLaws.{length-part-le}
 use Rattle.h5_model.specs.Messages.{Message, HasMessages, first_body}
 use Rattle.h5_model.specs.Fixed.{Fixed}
-use Rattle.h5_model.specs.Extent.{Extent, extent_of}
-use Rattle.h5_model.specs.Datatype.{fixed_of}
+use Rattle.h5_model.specs.Extent.{Extent}
 use Rattle.h5_model.specs.Places.{cells}
-use Rattle.h5_model.specs.Layout.{Layout, InMessage, InBlock, InChunks, layout_of, compact_layout, contiguous_layout, chunked_layout}
-use Rattle.h5_model.specs.Reached.{Named, named, ObjectHeader, Data, Reached, by_block, AllMessages, extent_among, type_among, layout_among, length_of, size_at}
-use Rattle.h5_walk.proofs.MessagePlaces.{IsPlacedAt, IsPlacedMessage, messages_placed}
+use Rattle.h5_model.specs.Layout.{InMessage, InBlock, InChunks, layout_of, compact_layout, contiguous_layout, chunked_layout}
+use Rattle.h5_model.specs.Reached.{named, ObjectHeader, Data, Reached, by_block, AllMessages, extent_among, type_among, layout_among, length_of, size_at}
+use Rattle.h5_walk.proofs.MessagePlaces.{IsPlacedMessage, messages_placed}
 use Rattle.h5_walk.proofs.ListLaws.{all_messages}
 
 -- what holds of each member holds of one that is found

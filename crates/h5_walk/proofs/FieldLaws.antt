@@ -1,12 +1,12 @@
 -- One field in a walk: why its block cannot be claimed is a breach, and a claimed block is followed.
-use Rattle.std.proofs.Common.{◌≡◌, ℕ, ◌+◌, ◌-◌, ◌<◌, ◌≤◌, List, [], ◌∷◌, length, refl, sym, arith}
+use Rattle.std.proofs.Common.{◌≡◌, ℕ, ◌+◌, ◌-◌, ◌<◌, ◌≤◌, List, ◌∷◌, length, sym, arith}
 use Rattle.std.specs.List.{AllByRecursion}
 use Rattle.h5_bytes.specs.Blocks.{holds, cover}
 use Rattle.h5_bytes.specs.declared.Block.{Block}
 use Rattle.h5_model.specs.Reached.{Named, Reached, length_of}
 use Rattle.h5_model.specs.declared.open_fault.Cause.TheVariants.{Truncated, Overlap}
 use Rattle.h5_space.specs.Claimed.{Shares}
-use Rattle.h5_walk.specs.Walked.{IsFollowed, IsWalked, Breaches}
+use Rattle.h5_walk.specs.Walked.{IsWalked, Breaches}
 use Rattle.h5_walk.proofs.WalkedLaws.{IsOther, overlap_of}
 use Rattle.h5_walk.proofs.ClaimLaws.{still_followed}
 

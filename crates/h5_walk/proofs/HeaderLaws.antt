@@ -1,22 +1,18 @@
 -- A header in a walk: why it is refused is a breach at a block that is reached, and its blocks are named by its fields.
-use Rattle.std.proofs.Common.{◌≡◌, ◌≢◌, ℕ, ◌+◌, ◌-◌, ◌<◌, ◌≤◌, ◌⊎◌, inl, inr, List, [], ◌∷◌, ◌++◌, length, refl, sym, ◌∙◌, ap, ap₂, subst, arith, IsTrue, append-nil}
-use Rattle.std.specs.Prelude.{map, not, ◌&&◌, ◌==◌, Bool, true, false}
-use Rattle.std.specs.List.{AllByRecursion, flat_map}
+use Rattle.std.proofs.Common.{◌≡◌, ◌≢◌, ℕ, ◌+◌, ◌-◌, ◌<◌, ◌≤◌, inl, inr, List, [], ◌∷◌, length, refl, sym, ◌∙◌, ap, subst, arith, IsTrue}
+use Rattle.std.specs.Prelude.{not, ◌&&◌, false}
+use Rattle.std.specs.List.{AllByRecursion}
 use Rattle.h5_bytes.specs.Bytes.{number_at}
 use Rattle.h5_bytes.specs.Blocks.{block, holds, cover}
 use Rattle.h5_bytes.specs.declared.Block.{Block}
-use Rattle.h5_bytes.proofs.BlockLaws.{held, holds-le, holds-inner, cover-append, all_append}
-use Rattle.h5_model.specs.Superblock.{superblock_length}
-use Rattle.h5_model.specs.Messages.{Message, HasMessages, prefix_at, first_size, first_block, continuation, continuations}
-use Rattle.h5_model.specs.Reached.{Named, named, Role, ObjectHeader, Continuation, Reached, by_block, block_of, length_of}
-use Rattle.h5_model.specs.Faults.{is_header, IsOverlap, Meets}
+use Rattle.h5_model.specs.Messages.{prefix_at, first_size}
+use Rattle.h5_model.specs.Reached.{Named, named, ObjectHeader, Continuation, Reached, by_block, block_of, length_of}
+use Rattle.h5_model.specs.Faults.{is_header, IsOverlap}
 use Rattle.h5_model.specs.declared.open_fault.Cause.{Cause}
 use Rattle.h5_model.specs.declared.open_fault.Cause.TheVariants.{Truncated, Overlap, MissingMessage, LinkCount, GroupLinkedTwice, TooLarge, NoMemory}
 use Rattle.h5_space.specs.Claimed.{Shares}
 use Rattle.h5_header.specs.Refused.{NamesBlock, header_block, IsRefused}
-use Rattle.h5_header.proofs.MetLaws.{IsNamedBy, IsNaming, has_naming, continuation_cases, whole_filled}
-use Rattle.h5_header.proofs.CrossLaws.{heads, filled_heads, head_here}
-use Rattle.h5_walk.specs.Walked.{IsFollowed, IsWalked, Breaches, continuation_fields}
+use Rattle.h5_walk.specs.Walked.{IsWalked, Breaches}
 use Rattle.h5_walk.proofs.WalkedLaws.{IsOther, overlap_of, not_followed, meet_of, some_length, both_of}
 
 module _ (image : List ℕ) (held' : List Block) (followed : List Named) (walked : IsWalked image held' followed)

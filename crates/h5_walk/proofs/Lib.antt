@@ -1,5 +1,6 @@
 pub mod SmallLaws
 pub mod SmallReads
+pub mod SmallOnce
 pub mod SmallGroupLaws
 pub mod WalkedLaws
 pub mod HeaderLaws

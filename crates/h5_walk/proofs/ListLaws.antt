@@ -1,8 +1,8 @@
 -- A rule that the messages of a header break is a breach at the header.
-use Rattle.std.proofs.Common.{◌≡◌, ℕ, ◌+◌, ◌≤◌, inl, inr, List, [], ◌∷◌, length, refl, subst, arith}
+use Rattle.std.proofs.Common.{◌≡◌, ℕ, ◌+◌, ◌≤◌, inl, inr, List, ◌∷◌, length, refl, subst, arith}
 use Rattle.h5_bytes.specs.Blocks.{block, Inside}
 use Rattle.h5_bytes.specs.declared.Block.{Block}
-use Rattle.h5_model.specs.Messages.{Message, HasMessages, count_of, continuations, first_block, prefix_at, first_size}
+use Rattle.h5_model.specs.Messages.{Message, HasMessages, count_of, continuations, prefix_at, first_size}
 use Rattle.h5_model.specs.Reached.{Named, named, ObjectHeader, Reached, AllMessages}
 use Rattle.h5_model.specs.HeaderFaults.{ListBreach}
 use Rattle.h5_model.specs.declared.open_fault.Cause.{Cause}

@@ -1,13 +1,12 @@
 -- Each message of a header is met at a place of the image, where it fits its block.
-use Rattle.std.proofs.Common.{◌≡◌, ℕ, ◌+◌, ◌≤◌, inl, inr, List, [], ◌∷◌, ◌++◌, length, refl, sym, ◌∙◌, ap, subst, arith}
+use Rattle.std.proofs.Common.{◌≡◌, ℕ, ◌+◌, ◌≤◌, List, [], ◌∷◌, ◌++◌, length, refl, sym, subst, arith}
 use Rattle.std.specs.List.{AllByRecursion, flat_map}
 use Rattle.h5_bytes.specs.Bytes.{number_at, part}
 use Rattle.h5_bytes.specs.declared.Block.{Block}
 use Rattle.h5_bytes.proofs.BlockLaws.{all_append}
 use Rattle.h5_model.specs.Messages.{Message, IsMessage, Fills, FillBlocks, HasMessages, continuations, first_block}
-use Rattle.h5_model.specs.Reached.{Met, at_start, in_continuation, FittingAt, kind_at, size_at}
-use Rattle.h5_header.specs.Refused.{NamesBlock}
-use Rattle.h5_header.proofs.MetLaws.{IsNamedBy, IsNaming, IsNamed, IsMet, all_met, all_naming, fills_naming, next_met, part-there, kind, size, fits, body}
+use Rattle.h5_model.specs.Reached.{Met, at_start, FittingAt, kind_at, size_at}
+use Rattle.h5_header.proofs.MetLaws.{IsMet, all_met, all_naming, fills_naming, next_met, part-there, kind, size, fits, body}
 
 -- the message's head stands at this place of the image, and the message fits its block
 pub record IsPlacedAt (image : List ℕ) (header : ℕ) (m : Message) (at : ℕ) : Type 0 where

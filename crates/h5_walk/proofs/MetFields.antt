@@ -1,6 +1,6 @@
 -- A field that was met may be followed.
-use Rattle.std.proofs.Common.{◌≡◌, ◌≢◌, ℕ, ◌+◌, ◌-◌, ◌<◌, ◌≤◌, List, [], ◌∷◌, length, refl, sym, subst, IsTrue, arith}
-use Rattle.std.specs.Prelude.{not, ◌&&◌, Bool, true, false}
+use Rattle.std.proofs.Common.{◌≡◌, ◌≢◌, ℕ, ◌+◌, ◌-◌, ◌<◌, ◌≤◌, List, [], ◌∷◌, length, refl, arith}
+use Rattle.std.specs.Prelude.{false}
 use Rattle.std.specs.List.{AllByRecursion}
 use Rattle.h5_bytes.specs.Blocks.{holds, cover}
 use Rattle.h5_bytes.specs.declared.Block.{Block}
@@ -8,7 +8,7 @@ use Rattle.h5_model.specs.Reached.{Named, Reached, length_of}
 use Rattle.h5_model.specs.Faults.{is_header}
 use Rattle.h5_model.specs.declared.open_fault.Cause.TheVariants.{Truncated, Overlap}
 use Rattle.h5_space.specs.Claimed.{Shares}
-use Rattle.h5_walk.specs.Walked.{IsFollowed, IsWalked, Breaches}
+use Rattle.h5_walk.specs.Walked.{IsWalked, Breaches}
 use Rattle.h5_walk.specs.Met.{IsMet}
 use Rattle.h5_walk.proofs.WalkedLaws.{IsOther, not_followed}
 use Rattle.h5_walk.proofs.FieldLaws.{field_truncated, field_overlaps, field_walked}

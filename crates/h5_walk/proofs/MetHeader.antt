@@ -1,6 +1,6 @@
 -- A header that was met: why it is refused, what is followed when it was read, and fields that stand in its messages.
-use Rattle.std.proofs.Common.{◌≡◌, ◌≢◌, ℕ, ◌+◌, ◌-◌, ◌<◌, ◌≤◌, List, [], ◌∷◌, ◌++◌, length, refl, sym, subst, arith, Some, IsTrue, Bool, true, false}
-use Rattle.std.specs.Prelude.{map, not, ◌&&◌, ◌==◌}
+use Rattle.std.proofs.Common.{◌≡◌, ◌≢◌, ℕ, ◌+◌, ◌-◌, ◌<◌, ◌≤◌, List, [], ◌∷◌, length, refl, sym, subst, arith, Some, false}
+use Rattle.std.specs.Prelude.{map, ◌==◌}
 use Rattle.std.specs.List.{AllByRecursion, find}
 use Rattle.h5_bytes.specs.Blocks.{holds, cover, Separate}
 use Rattle.h5_bytes.specs.declared.Block.{Block}

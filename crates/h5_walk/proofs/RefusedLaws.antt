@@ -1,5 +1,5 @@
 -- Why a walk is refused, by what its parts say.
-use Rattle.std.proofs.Common.{◌≡◌, ◌≢◌, ℕ, List}
+use Rattle.std.proofs.Common.{◌≢◌, ℕ, List}
 use Rattle.h5_model.specs.Reached.{Named, Role, ObjectHeader, Continuation, GroupNode, SymbolNode, HeapHeader, Segment, Data, ChunkNode, Chunk}
 use Rattle.h5_model.specs.Faults.{BlockBreach}
 use Rattle.h5_model.specs.declared.open_fault.Cause.{Cause}

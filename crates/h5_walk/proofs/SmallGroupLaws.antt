@@ -3,13 +3,11 @@ use Rattle.std.proofs.Common.{◌≡◌, ℕ, zero, suc, ◌+◌, ◌<◌, ◌�
 use Rattle.std.specs.Prelude.{map, IsTrue}
 use Rattle.std.specs.List.{AllByRecursion, flat_map}
 use Rattle.h5_bytes.specs.Bytes.{undefined}
-use Rattle.h5_bytes.specs.Texts.{text_at}
-use Rattle.h5_bytes.specs.Blocks.{block}
 use Rattle.h5_bytes.specs.declared.Block.{Block}
 use Rattle.h5_model.specs.Paths.{is_name}
 use Rattle.h5_model.specs.Heap.{heap_header, segment_of, heap_blocks, HasNames}
-use Rattle.h5_model.specs.Rows.{Node, Reading, blank}
-use Rattle.h5_model.specs.Nodes.{group_kind, node_block, reading_of, HasTree, tree_blocks}
+use Rattle.h5_model.specs.Rows.{Node, Reading}
+use Rattle.h5_model.specs.Nodes.{group_kind, reading_of, HasTree, tree_blocks}
 use Rattle.h5_model.specs.Symbols.{Entry, IsEntry, Target, symbols_at, symbols_of, symbol_block, link_of, texts_of}
 use Rattle.h5_model.specs.Links.{IsBetween, IsOrdered, AreLinks, HasLinks, Ascend, NotAfter, Symbols, key_name, names_in, symbol_nodes_below, key_offsets, offset_in}
 use Rattle.h5_model.proofs.RowLaws.{same_number}

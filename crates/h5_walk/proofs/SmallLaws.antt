@@ -1,12 +1,12 @@
 -- What is kept in small tables and trees, and where their paths lead.
-use Rattle.std.proofs.Common.{◌≡◌, ◌≢◌, eqb, ℕ, zero, suc, ◌≤◌, List, [], ◌∷◌, length, refl, sym, ap, ◌∙◌, arith, Option, Some, None, IsSome, cond, Bool, true, false, inl, inr, ◌⊎◌}
+use Rattle.std.proofs.Common.{◌≡◌, ◌≢◌, eqb, ℕ, zero, suc, ◌≤◌, List, [], ◌∷◌, length, refl, sym, ap, ◌∙◌, arith, Some, None, IsSome, cond, Bool, true, false, inl, inr, ◌⊎◌}
 use Rattle.std.specs.Prelude.{unwrap_or, option_and_then}
 use Rattle.std.specs.FinMap.{FinMap, get, entries, empty, insert, entries-insert, get-insert, get-empty, put}
 use Rattle.std.specs.Ordering.{nat_cmp, eq_by_cmp, is_eq}
 use Rattle.std.specs.Cmp.Lexicographic.{slice_cmp, nat_list_cmp_total}
 use Rattle.std.specs.Cmp.{nat_cmp_total, unsigned_tied}
 use Rattle.std.proofs.lemmas.Bool.Decides.{nat_tests}
-use Rattle.h5_model.specs.Tree.{Tree, Object, Links, Group, Array, Dataset, ToObject, follow, hard_links}
+use Rattle.h5_model.specs.Tree.{Tree, Object, Group, Array, Dataset, ToObject, follow, hard_links}
 use Rattle.h5_model.proofs.TextOrder.{same_text}
 use Rattle.h5_model.proofs.EmptyReads.{entries-empty}
 use Rattle.h5_walk.specs.Small.{alone_table, alone_tree, pair_table, pair_tree, link_to_one}

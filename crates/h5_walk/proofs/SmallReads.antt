@@ -1,14 +1,13 @@
 -- An image in which the headers of a small tree stand reads as that tree.
 use Rattle.std.proofs.Common.{◌≡◌, ◌≢◌, ℕ, List, [], ◌∷◌, length, refl, sym, ap, ◌∙◌, arith, Some}
-use Rattle.std.specs.FinMap.{get, empty}
-use Rattle.std.proofs.lemmas.Bool.Decides.{nat_tests}
-use Rattle.h5_bytes.specs.Blocks.{block, cover, Separate, Inside}
+use Rattle.std.specs.FinMap.{empty}
+use Rattle.h5_bytes.specs.Blocks.{Separate, Inside}
 use Rattle.h5_bytes.specs.declared.Block.{Block}
 use Rattle.std.specs.Ordering.{nat_cmp}
 use Rattle.std.specs.Cmp.Lexicographic.{slice_cmp}
 use Rattle.h5_model.proofs.EmptyReads.{entries-empty}
 use Rattle.h5_model.specs.Tree.{Link, Object, Group, Array, Dataset, hard_links}
-use Rattle.h5_model.specs.Superblock.{IsSuperblock, superblock_length, end_of_file, root_header}
+use Rattle.h5_model.specs.Superblock.{IsSuperblock, end_of_file, root_header}
 use Rattle.h5_model.specs.Messages.{prefix_at, reference_count}
 use Rattle.h5_model.specs.Reads.{ReadsAs, HasObject, Placed, all_blocks}
 use Rattle.h5_walk.specs.Small.{alone_table, alone_tree, pair_table, pair_tree, link_to_one}

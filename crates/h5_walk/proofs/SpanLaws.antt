@@ -1,5 +1,5 @@
 -- Messages of a header share no byte, so the field of a Continuation does not stand in another message.
-use Rattle.std.proofs.Common.{◌≡◌, ◌≢◌, ℕ, ◌+◌, ◌-◌, ◌<◌, ◌≤◌, List, [], ◌∷◌, ◌++◌, length, refl, sym, ◌∙◌, ap, ap₂, subst, arith, Option, Some, None, Bool, true, false, cond}
+use Rattle.std.proofs.Common.{◌≡◌, ◌≢◌, ℕ, ◌+◌, ◌-◌, ◌<◌, ◌≤◌, List, [], ◌∷◌, ◌++◌, length, refl, sym, ◌∙◌, ap, ap₂, subst, arith, Some, true, false, cond}
 use Rattle.std.specs.Prelude.{map, ◌==◌}
 use Rattle.std.specs.List.{AllByRecursion, find, flat_map}
 use Rattle.std.proofs.lemmas.Option.{same_Some}
@@ -14,7 +14,6 @@ use Rattle.h5_model.specs.Messages.{Message, Fills, FillBlocks, HasMessages, con
 use Rattle.h5_model.specs.Reached.{Named, named, Continuation}
 use Rattle.h5_header.proofs.MetLaws.{length-part-le}
 use Rattle.h5_walk.specs.Walked.{continuation_fields}
-use Rattle.h5_walk.proofs.ClaimLaws.{cover-fields}
 use Rattle.h5_walk.proofs.MessagePlaces.{IsPlacedMessage}
 
 -- a message's head and body

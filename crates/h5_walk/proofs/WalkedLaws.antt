@@ -1,14 +1,14 @@
 -- A block that shares a byte with what a walk has claimed overlaps the superblock or a block that another field names.
-use Rattle.std.proofs.Common.{◌≡◌, ◌≢◌, ℕ, ◌+◌, ◌-◌, ◌<◌, ◌≤◌, ◌⊎◌, inl, inr, List, [], ◌∷◌, ◌++◌, length, refl, sym, ◌∙◌, ap, subst, arith, IsTrue}
+use Rattle.std.proofs.Common.{◌≡◌, ◌≢◌, ℕ, ◌-◌, ◌≤◌, inl, inr, List, [], ◌∷◌, refl, subst, arith, IsTrue}
 use Rattle.std.specs.Prelude.{map, not, ◌&&◌, ◌==◌, Bool, true, false}
 use Rattle.std.specs.List.{AllByRecursion}
 use Rattle.std.proofs.lemmas.Bool.{cases_lt}
 use Rattle.std.proofs.lemmas.Bool.Decides.{nat_tests}
-use Rattle.h5_bytes.specs.Blocks.{block, holds, cover}
+use Rattle.h5_bytes.specs.Blocks.{holds, cover}
 use Rattle.h5_bytes.specs.declared.Block.{Block}
-use Rattle.h5_bytes.proofs.BlockLaws.{held, holds-le, cover-append}
+use Rattle.h5_bytes.proofs.BlockLaws.{held, holds-le}
 use Rattle.h5_model.specs.Superblock.{superblock_length}
-use Rattle.h5_model.specs.Reached.{Named, Role, Reached, block_of, length_of}
+use Rattle.h5_model.specs.Reached.{Named, block_of, length_of}
 use Rattle.h5_model.specs.Faults.{is_header, IsOverlap, Meets}
 use Rattle.h5_space.specs.Claimed.{Shares}
 use Rattle.h5_walk.specs.Walked.{IsFollowed, IsWalked}

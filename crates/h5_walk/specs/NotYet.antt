@@ -1,8 +1,8 @@
 -- What is not opened yet, and why a walk is refused (File Format Specification 3.0, sections III and IV.A).
-use Rattle.std.specs.Prelude.{◌≡◌, ◌≢◌, ℕ, ◌≤◌, ◌==◌, ◌⊎◌, Option, None, Some, List, length}
+use Rattle.std.specs.Prelude.{◌≡◌, ◌≢◌, ℕ, ◌≤◌, ◌==◌, ◌⊎◌, Option, Some, List, length}
 use Rattle.h5_bytes.specs.declared.Block.{Block}
 use Rattle.h5_model.specs.Superblock.{leaf_k, internal_k}
-use Rattle.h5_model.specs.Messages.{Message, prefix_at, reference_count}
+use Rattle.h5_model.specs.Messages.{Message}
 use Rattle.h5_model.specs.Nodes.{group_kind, node_bytes, entries_in}
 use Rattle.h5_model.specs.Symbols.{symbol_bytes, symbols_in}
 use Rattle.h5_model.specs.Extent.{Extent}
@@ -27,13 +27,12 @@ IsNoLine ms = ((e : Extent) × (extent_among ms ≡ Some e) × (length e.sizes �
     ⊎ ((layout : Layout) × (layout_among ms ≡ Some layout) × ((b : Option Block) → layout ≢ InBlock b))
 
 -- A block that is not read further: a node of a group above level 0, or of several children; a symbol node of several entries, or
--- whose entry is a soft link or leads to a group; a header of an array other than one of one dimension in one block, or of another
--- reference count than 1.
+-- whose entry is a soft link or leads to a group; a header of an array other than one of one dimension in one block.
 abbrev pub IsLater : List ℕ → Named → Role → Type 0
 IsLater image x (GroupNode root heap level) = (1 ≤ level) ⊎ (2 ≤ entries_in (node_bytes image (group_kind (internal_k image)) x.at))
 IsLater image x (SymbolNode root heap) = (2 ≤ symbols_in (symbol_bytes image (leaf_k image) x.at))
     ⊎ ((1 ≤ symbols_in (symbol_bytes image (leaf_k image) x.at)) × LeadsElsewhere image x.at)
-IsLater image x ObjectHeader = (reference_count (prefix_at image x.at) ≢ 1) ⊎ ((ms : List Message) × AllMessages image x.at ms × IsNoLine ms)
+IsLater image x ObjectHeader = (ms : List Message) × AllMessages image x.at ms × IsNoLine ms
 IsLater image x _ = ⊥
 
 -- Why a walk is refused: memory was short; or a block that is reached is not read yet, at its address; or the cause holds at the

@@ -1,8 +1,8 @@
 -- Trees of a root with one link at most, to an array, and the tables that say where their headers stand.
-use Rattle.std.specs.Prelude.{ℕ, Option, None, Some, List}
+use Rattle.std.specs.Prelude.{ℕ, Option, Some, None, List}
 use Rattle.std.specs.Ordering.{nat_cmp}
 use Rattle.std.specs.FinMap.{FinMap, empty, insert}
-use Rattle.h5_model.specs.Tree.{Tree, Object, Content, Group, Links, ToObject}
+use Rattle.h5_model.specs.Tree.{Tree, Object, Links, ToObject}
 
 -- the root alone
 unfoldable pub alone_table : ℕ → FinMap nat_cmp ℕ
@@ -25,4 +25,4 @@ link_to_one name = insert empty name (ToObject 1)
 -- where headers stand: the root's, and that of object 1 where there is one
 abbrev pub header_table : ℕ → Option ℕ → FinMap nat_cmp ℕ
 header_table root None = alone_table root
-header_table root (Some h) = pair_table root h
+header_table root (Some other) = pair_table root other

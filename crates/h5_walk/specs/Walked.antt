@@ -1,6 +1,6 @@
 -- How far a walk through an image has come: which fields it has followed, and which bytes it has claimed (File Format
 -- Specification 3.0, sections II.A, III and IV.A).
-use Rattle.std.specs.Prelude.{◌≡◌, ℕ, ◌+◌, ◌-◌, ◌≤◌, List, ◌∷◌, ◌++◌, map}
+use Rattle.std.specs.Prelude.{◌≡◌, ℕ, ◌-◌, ◌≤◌, List, ◌∷◌, map}
 use Rattle.std.specs.List.{AllByRecursion, flat_map}
 use Rattle.h5_bytes.specs.Blocks.{block, cover}
 use Rattle.h5_bytes.specs.declared.Block.{Block}

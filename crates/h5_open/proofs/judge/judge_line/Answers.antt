@@ -1,4 +1,3 @@
-use Rattle.std.proofs.Common.{◌≡◌}
 use Rattle.h5_header.specs.Listed.{messages_in}
 use Rattle.h5_open.proofs.JudgeLaws.{no_line}
 use Rattle.h5_open.proofs.judge.judge_line.Goals as goal

@@ -4,7 +4,7 @@ use Rattle.std.proofs.lemmas.Result.{err_from_is_err_and}
 use Rattle.h5_model.specs.Addresses.{symbol_table_of}
 use Rattle.h5_header.specs.Listed.{messages_in}
 use Rattle.h5_header.proofs.FoundLaws.{none_stands}
-use Rattle.h5_open.proofs.JudgeLaws.{root_breach, root_names, first_fails, is_group, some_read, none_read}
+use Rattle.h5_open.proofs.JudgeLaws.{root_breach, first_fails, is_group, some_read, none_read}
 use Rattle.h5_open.proofs.judge.judge_root.Goals as goal
 
 pub returns-in_default-clause-refused : goal.returns-in_default-clause-refused

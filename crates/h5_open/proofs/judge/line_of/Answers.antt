@@ -1,5 +1,4 @@
-use Rattle.std.proofs.Common.{◌≡◌, ◌+◌, ◌<◌, ◌≤◌, length, ◌∙◌, sym, ap, arith, rules, ℤ}
-use Rattle.h5_model.specs.Layout.{InBlock}
+use Rattle.std.proofs.Common.{◌≡◌, length, ◌∙◌, sym, ap, arith, rules}
 use Rattle.h5_msg.specs.Layouts.{layout_in}
 use Rattle.h5_open.proofs.JudgeLaws.{one_member, one_got, described_is}
 use Rattle.h5_open.proofs.judge.line_of.Goals as goal

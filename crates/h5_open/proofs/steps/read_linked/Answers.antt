@@ -1,4 +1,3 @@
-use Rattle.std.proofs.Common.{◌≡◌, ◌+◌, length}
 use Rattle.h5_open.proofs.StepLaws.{twice}
 use Rattle.h5_open.proofs.steps.read_linked.Goals as goal
 

@@ -1,6 +1,5 @@
-use Rattle.std.proofs.Common.{◌≡◌, ◌+◌, length, ◌∙◌, sym, subst, rules, ℕ, []}
+use Rattle.std.proofs.Common.{◌≡◌, ◌∙◌, sym, subst, rules, ℕ, []}
 use Rattle.std.proofs.lemmas.Result.{err_from_is_err_and}
-use Rattle.h5_bytes.specs.Blocks.{Inside}
 use Rattle.h5_model.specs.Superblock.{root_header}
 use Rattle.h5_model.specs.Messages.{HasMessages}
 use Rattle.h5_header.specs.Listed.{messages_in}

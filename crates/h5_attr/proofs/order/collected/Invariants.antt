@@ -1,0 +1,8 @@
+use Rattle.std.proofs.Common.{◌≡◌, ◌++◌, drop}
+use Rattle.h5_header.specs.Listed.{messages_in}
+use Rattle.h5_attr.specs.Attributes.{attributes_in}
+use Rattle.h5_attr.proofs.order.collected.Given as goal
+
+abbrev pub invariant-loop-message : goal.invariant-loop-message
+invariant-loop-message l =
+    l.listed.items ++ attributes_in (messages_in l.image.bytes (drop l.message-index l.messages.list)) ≡ attributes_in (messages_in l.image.bytes l.messages.list)

@@ -1,0 +1,52 @@
+//! Attributes set and removed (File Format Specification 3.0, section IV.A.2.m).
+
+ghost use Rattle.std.specs.Prelude.{MatchResult};
+ghost use Rattle.h5_model.specs.declared.edits.Edit.TheVariants.{SetAttr, RemoveAttr};
+ghost use Rattle.h5_open.specs.Kept.{IsOpened};
+ghost use Rattle.h5_open.specs.State.{opened_state};
+ghost use Rattle.h5_edit.specs.Carried.{IsRefused};
+ghost use Rattle.h5_edit.specs.Made.{IsMade};
+
+use crate::made::Made;
+use h5_model::{AttrSpec, EditFault};
+use h5_open::Opened;
+use h5_space::Image;
+use std::alloc::Global;
+
+/// Adds an attribute to the object at the path, or puts it in place of the one of its name.
+///
+/// Refused by the lowest number that holds: `BadPath`, `PathTooDeep`, `NoSuchParent`, `NotAGroup`, `NotFound`, `NameTooLong` above 1023
+/// bytes, `BadSpec` where the name is empty or has a zero byte, or the rank is above 32, `TooManyCells`, `ValueCount`, `ValueRange`,
+/// `AttributeTooLarge` where the message's body would pass 65528 bytes, `HeaderFull` where the header's total of messages plus 2 passes
+/// 65535, `ImageFull` where the image would pass 2147483648 bytes, `NoMemory`.
+pub fn set_attribute(
+    alloc: Global,
+    image: &Image,
+    opened: &Opened,
+    path: &[u8],
+    attr: &AttrSpec,
+) -> Result<Made, EditFault>
+    requires { IsOpened image.now.bytes opened.now.root opened.now.link }
+    ensures { let f = opened_state image.now.bytes opened.now.root opened.now.link in
+        MatchResult result (IsMade f (SetAttr path.now attr.now)) (IsRefused f (SetAttr path.now attr.now)) }
+{
+    Err(EditFault::NoMemory)
+}
+
+/// Removes the attribute of this name from the object at the path.
+///
+/// Refused by the lowest number that holds: `BadPath`, `PathTooDeep`, `NoSuchParent`, `NotAGroup`, `NotFound`, `NoSuchAttribute`, `ImageFull`
+/// where the image would pass 2147483648 bytes, `NoMemory`.
+pub fn remove_attribute(
+    alloc: Global,
+    image: &Image,
+    opened: &Opened,
+    path: &[u8],
+    name: &[u8],
+) -> Result<Made, EditFault>
+    requires { IsOpened image.now.bytes opened.now.root opened.now.link }
+    ensures { let f = opened_state image.now.bytes opened.now.root opened.now.link in
+        MatchResult result (IsMade f (RemoveAttr path.now name.now)) (IsRefused f (RemoveAttr path.now name.now)) }
+{
+    Err(EditFault::NoMemory)
+}

@@ -1,0 +1,96 @@
+//! Edits of a file, each of which writes the image anew.
+
+ghost use Rattle.std.specs.Prelude.{◌≡◌, MatchResult};
+ghost use Rattle.h5_model.specs.declared.edits.Edit.{Edit as TheEdit};
+ghost use Rattle.h5_model.specs.declared.edits.Edit.TheVariants.{CreateDataset, SetAttr, RemoveAttr};
+ghost use Rattle.h5_edit.specs.Carried.{IsRefused};
+ghost use Rattle.h5_edit.specs.Made.{IsMade};
+ghost use Rattle.h5_file.specs.Edited.{IsEdited};
+
+use crate::file::File;
+use h5_edit::{Made, new_array, remove_attribute, set_attribute};
+use h5_model::{AttrSpec, Edit, EditFault, Edited, Spec};
+use h5_open::walk;
+use h5_space::Image;
+
+impl File {
+    /// Carries an edit out: the image is then that of the tree that the edit gives.
+    ///
+    /// Refused as `NotYet`, before any other check, unless it sets or removes an attribute, or creates
+    /// a contiguous array of one size in a file whose root has no link; then as the call of its own is.
+    /// A refusal changes nothing.
+    pub fn edit(&mut self, edit: &Edit) -> Result<Edited, EditFault>
+        ensures { MatchResult result (IsEdited self.old edit.now self.new) (λ e. IsRefused self.old edit.now e × (self.new ≡ self.old)) }
+    {
+        match edit {
+            Edit::CreateDataset { path, spec } => self.create_dataset(path.as_slice(), spec),
+            Edit::SetAttr { path, attr } => self.set_attr(path.as_slice(), attr),
+            Edit::RemoveAttr { path, name } => self.remove_attr(path.as_slice(), name.as_slice()),
+            _ => Err(EditFault::NotYet),
+        }
+    }
+
+    /// Creates an array at the path, every cell of which is the fill.
+    ///
+    /// Refused as `NotYet`, before any other check, unless the array is contiguous, of one size, and
+    /// the root has no link. Else the lowest number that holds: `BadPath`, `PathTooDeep`, `IsRoot`,
+    /// `NoSuchParent`, `NameTooLong`, `BadSpec`, `TooManyCells`, `ValueRange`, `ImageFull` where the
+    /// image would pass 2147483648 bytes, `NoMemory`. A refusal changes nothing.
+    pub fn create_dataset(&mut self, path: &[u8], spec: &Spec) -> Result<Edited, EditFault>
+        ensures { MatchResult result (IsEdited self.old (CreateDataset path.now spec.now) self.new)
+            (λ e. IsRefused self.old (CreateDataset path.now spec.now) e × (self.new ≡ self.old)) }
+    {
+        let made = new_array(self.alloc, &self.image, &self.opened, path, spec)?;
+        self.take(made)
+    }
+
+    /// Adds an attribute to the object at the path, or puts it in place of the one of its name.
+    ///
+    /// Refused by the lowest number that holds: `BadPath`, `PathTooDeep`, `NoSuchParent`, `NotAGroup`,
+    /// `NotFound`, `NameTooLong` above 1023 bytes, `BadSpec` where the name is empty or has a zero byte, or
+    /// the rank is above 32, `TooManyCells`, `ValueCount`, `ValueRange`, `AttributeTooLarge` where the
+    /// message's body would pass 65528 bytes, `HeaderFull` where the header's total of messages plus 2
+    /// passes 65535, `ImageFull` where the image would pass 2147483648 bytes, `NoMemory`. A refusal
+    /// changes nothing.
+    pub fn set_attr(&mut self, path: &[u8], attr: &AttrSpec) -> Result<Edited, EditFault>
+        ensures { MatchResult result (IsEdited self.old (SetAttr path.now attr.now) self.new)
+            (λ e. IsRefused self.old (SetAttr path.now attr.now) e × (self.new ≡ self.old)) }
+    {
+        let made = set_attribute(self.alloc, &self.image, &self.opened, path, attr)?;
+        self.take(made)
+    }
+
+    /// Removes the attribute of this name from the object at the path.
+    ///
+    /// Refused by the lowest number that holds: `BadPath`, `PathTooDeep`, `NoSuchParent`, `NotAGroup`,
+    /// `NotFound`, `NoSuchAttribute`, `ImageFull` where the image would pass 2147483648 bytes,
+    /// `NoMemory`. A refusal changes nothing.
+    pub fn remove_attr(&mut self, path: &[u8], name: &[u8]) -> Result<Edited, EditFault>
+        ensures { MatchResult result (IsEdited self.old (RemoveAttr path.now name.now) self.new)
+            (λ e. IsRefused self.old (RemoveAttr path.now name.now) e × (self.new ≡ self.old)) }
+    {
+        let made = remove_attribute(self.alloc, &self.image, &self.opened, path, name)?;
+        self.take(made)
+    }
+
+    /// Takes the image that an edit gives in place of the file's own.
+    fn take(&mut self, made: Made) -> Result<Edited, EditFault>
+        ensures { (edit : TheEdit) → IsMade self.old edit made
+            → MatchResult result (IsEdited self.old edit self.new) (λ e. IsRefused self.old edit e × (self.new ≡ self.old)) }
+    {
+        let image = Image::new(self.alloc, made.image);
+        // The image reads as a tree, so only memory can be short.
+        let Ok(opened) = walk(self.alloc, &image) else {
+            return Err(EditFault::NoMemory);
+        };
+        *self = File {
+            image,
+            opened,
+            alloc: self.alloc,
+        };
+        Ok(Edited {
+            object: Some(made.object),
+            refreshed: 0,
+        })
+    }
+}

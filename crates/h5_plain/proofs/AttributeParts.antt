@@ -1,0 +1,108 @@
+-- An attribute's message, as it is appended: what stands before its values, these, and zeros.
+use Rattle.std.proofs.Common.{◌≡◌, ℕ, ◌+◌, ◌-◌, ◌*◌, ◌≤◌, ◌<◌, ◌^◌, ℤ, List, ◌∷◌, ◌++◌, length, drop, get_or, Bool, inl, inr, pos, refl, ap, ◌∙◌, sym, subst, arith, append_assoc}
+use Rattle.std.proofs.lemmas.List.{length-append, length-replicate, drop_more}
+use Rattle.h5_bytes.specs.Texts.{pad8}
+use Rattle.h5_model.specs.Fixed.{Fixed, IsFixed, bytes_of}
+use Rattle.h5_model.specs.Places.{cells}
+use Rattle.h5_model.specs.Plain.{message_bytes, short, zeros, padded_text, type_body, extent_body, cells_bytes}
+use Rattle.h5_model.specs.Sizes.{attribute_size}
+use Rattle.h5_model.specs.Sound.{AreOf}
+use Rattle.h5_model.specs.Tree.{Attribute}
+use Rattle.h5_model.proofs.FixedLaws.{sizes_of}
+use Rattle.h5_model.proofs.PlainValues.{size-low}
+use Rattle.h5_msg.specs.Written.{attribute_bytes, attribute_head, padded, datatype_bytes, dataspace_bytes}
+use Rattle.h5_msg.proofs.AttributeLaws.{cells_few}
+use Rattle.h5_msg.proofs.CellLaws.{length-value_bytes}
+use Rattle.h5_msg.proofs.WordLaws.{words_long}
+use Rattle.h5_small.specs.Bodies.{attribute_message}
+use Rattle.h5_small.specs.Sound.{IsPlainAttribute}
+use Rattle.h5_plain.specs.Parts.{attribute_front, message_head}
+
+-- ---- a type with its padding
+
+abbrev typed : ℕ → Bool → Bool → Fixed
+typed size signed big = record { size = size; signed = signed; big = big }
+
+abbrev IsAlike : ℕ → Bool → Bool → Type 0
+IsAlike size signed big = padded (datatype_bytes (typed size signed big)) 16 ≡ type_body (typed size signed big)
+
+type_padded : (t : Fixed) → IsFixed t → padded (datatype_bytes t) 16 ≡ type_body t
+type_padded t is = elim (sizes_of t.size is.size) [
+  | inl low ↦ elim low [
+    | inl e ↦ subst (λ n. IsAlike n t.signed t.big) (sym e) refl
+    | inr e ↦ subst (λ n. IsAlike n t.signed t.big) (sym e) refl
+  ]
+  | inr high ↦ elim high [
+    | inl e ↦ subst (λ n. IsAlike n t.signed t.big) (sym e) refl
+    | inr e ↦ subst (λ n. IsAlike n t.signed t.big) (sym e) refl
+  ]
+]
+
+-- ---- the message
+
+-- how many bytes a body has that is raised to n
+length-raised : (name sizes : List ℕ) (t : Fixed) (values : List ℤ) (n : ℕ) → length values ≡ cells sizes → attribute_size (length name) sizes t.size ≤ n
+    → length (attribute_bytes name t sizes values n) ≡ n
+length-raised name sizes t values n count room =
+    let product : length values * t.size ≡ cells sizes * t.size = ap (λ (k : ℕ). k * t.size) count in
+    let zeros_long : length (zeros (n - attribute_size (length name) sizes t.size)) ≡ n - attribute_size (length name) sizes t.size = length-replicate _ 0 in
+    let pad_long : length (zeros (pad8 (length name + 1) - length name)) ≡ pad8 (length name + 1) - length name = length-replicate _ 0 in
+    simp length-append (omega (arith, zeros_long, pad_long, product, words_long sizes, length-value_bytes t values))
+
+joined : (a b c d e r : List ℕ) → a ++ (b ++ (c ++ (d ++ (e ++ r)))) ≡ (a ++ (b ++ (c ++ (d ++ e)))) ++ r
+joined a b c d e r = simp append_assoc refl
+
+module _ (name : List ℕ) (a : Attribute) (is : IsPlainAttribute (name, a)) where
+  abbrev size : ℕ
+  size = attribute_size (length name) a.sizes (a.fixed).size
+
+  abbrev behind : List ℕ
+  behind = cells_bytes a.fixed a.values ++ zeros (pad8 size - size)
+
+  pub attribute_is : message_bytes (attribute_message (name, a)) ≡ attribute_front name a.fixed a.sizes (pad8 size) ++ behind
+  attribute_is =
+      let body = attribute_bytes name a.fixed a.sizes a.values (pad8 size) in
+      let long : length body ≡ pad8 size = length-raised name a.sizes a.fixed a.values (pad8 size) is.counted (omega arith) in
+      ap (λ n. short 12 ++ (short n ++ (zeros 4 ++ body))) long
+      ∙ ap (λ ty. message_head 12 (pad8 size) ++ (attribute_head (length name) (length a.sizes) ++ (padded_text name ++ (ty ++ (dataspace_bytes a.sizes ++ behind))))) (type_padded a.fixed is.fixed)
+      ∙ joined (message_head 12 (pad8 size)) (attribute_head (length name) (length a.sizes)) (padded_text name) (type_body a.fixed) (extent_body a.sizes) behind
+
+  -- a message has at most 65544 bytes
+  pub length-message : length (message_bytes (attribute_message (name, a))) ≤ 65544
+  length-message =
+      let body = attribute_bytes name a.fixed a.sizes a.values (pad8 size) in
+      let long : length body ≡ pad8 size = length-raised name a.sizes a.fixed a.values (pad8 size) is.counted (omega arith) in
+      omega (arith, long, is.room)
+
+  pub few_cells : length a.values ≤ 2 ^ 40
+  few_cells =
+      let most : cells a.sizes * (a.fixed).size ≤ 65528 = omega (arith, is.room) in
+      let few : cells a.sizes ≤ 65528 = cells_few 0 (cells a.sizes) (a.fixed).size 65528 (size-low a.fixed is.fixed) (omega (arith, most)) in
+      omega (arith, few, is.counted)
+
+  -- the message, when its parts are appended
+  pub attribute_pushed : (used rest : ℕ) (before first second third : List ℕ) → used ≡ size → used + rest ≡ pad8 used
+      → first ≡ before ++ attribute_front name a.fixed a.sizes (used + rest) → second ≡ first ++ cells_bytes a.fixed a.values → third ≡ second ++ zeros rest
+      → third ≡ before ++ message_bytes (attribute_message (name, a))
+  attribute_pushed used rest before first second third sized raised one two three =
+      let all : used + rest ≡ pad8 size = raised ∙ ap pad8 sized in
+      let left : rest ≡ pad8 size - size = omega (arith, all, sized) in
+      three ∙ (λ i. (two ∙ ap (λ bytes. bytes ++ cells_bytes a.fixed a.values) (one ∙ ap (λ n. before ++ attribute_front name a.fixed a.sizes n) all)) i ++ zeros (left i))
+      ∙ append_assoc (before ++ attribute_front name a.fixed a.sizes (pad8 size)) (cells_bytes a.fixed a.values) (zeros (pad8 size - size))
+      ∙ append_assoc before (attribute_front name a.fixed a.sizes (pad8 size)) behind
+      ∙ ap (λ bytes. before ++ bytes) (sym attribute_is)
+
+-- ---- values
+
+pub values_step : (t : Fixed) (values : List ℤ) (i : ℕ) (before now all : List ℕ) → i < length values → before ++ cells_bytes t (drop i values) ≡ all
+    → now ≡ before ++ bytes_of t (get_or values i (pos 0)) → now ++ cells_bytes t (drop (i + 1) values) ≡ all
+values_step t values i before now all low so_far longer =
+    let v : ℤ = get_or values i (pos 0) in
+    let more : drop i values ≡ v ∷ drop (i + 1) values = drop_more values i (pos 0) low in
+    ap (λ bytes. bytes ++ cells_bytes t (drop (i + 1) values)) longer ∙ append_assoc before (bytes_of t v) (cells_bytes t (drop (i + 1) values))
+    ∙ ap (λ vs. before ++ cells_bytes t vs) (sym more) ∙ so_far
+
+pub are_rest : (t : Fixed) (values : List ℤ) (i : ℕ) → i < length values → AreOf t (drop i values) → AreOf t (drop (i + 1) values)
+are_rest t values i low all =
+    let here : AreOf t (get_or values i (pos 0) ∷ drop (i + 1) values) = subst (λ (vs : List ℤ). AreOf t vs) (drop_more values i (pos 0) low) all in
+    here.1
