@@ -28,8 +28,9 @@ use Rattle.h5_layout.proofs.RoomLaws.{is_array}
 use Rattle.h5_open.specs.Opened.{described}
 use Rattle.h5_open.specs.Array.{data_blocks}
 use Rattle.h5_open.specs.declared.line.Line.{Line}
-use Rattle.h5_plain.proofs.ValueBytes.{AreBytes, HasBytes, values_there}
+use Rattle.h5_plain.proofs.ValueBytes.{HasBytes, values_there}
 use Rattle.h5_anew.specs.Rewritten.{line_of}
+use Rattle.h5_anew.proofs.PlainBodies.{AreBytes}
 
 -- so many bytes from a place on, where longer parts of the image begin
 same_byte : (image : List ℕ) (at n len p : ℕ) → p < n → n ≤ len → slice_index (part at n image) p ≡ slice_index (part at len image) p

@@ -1,9 +1,12 @@
+pub mod PlainBodies
+pub mod PlainObjects
+pub mod PlainArrays
+pub mod PlainTrees
 pub mod AnewPushing
 pub mod AnewMerge
 pub mod AnewRests
 pub mod AnewOthers
 pub mod AnewCells
-pub mod PlainBodies
-pub mod PlainObjects
-pub mod PlainArrays
-pub mod PlainTrees
+pub mod AnewNames
+pub mod AnewLaws
+pub mod AnewChanged

@@ -1,11 +1,13 @@
 //! The array of an opened image, as it is written anew (File Format Specification 3.0, sections IV.A.2.d and IV.A.2.i).
 
-ghost use Rattle.std.specs.Prelude.{◌≡◌, ◌^◌, ◌<◌, ◌≤◌, ◌+◌, true, List, length};
+ghost use Rattle.std.specs.Prelude.{◌≡◌, ◌^◌, ◌<◌, ◌≤◌, ◌+◌, true, [], List, length};
 ghost use Rattle.h5_bytes.specs.Blocks.{Inside};
 ghost use Rattle.h5_header.specs.Listed.{messages_in};
 ghost use Rattle.h5_model.specs.Messages.{Message};
-ghost use Rattle.h5_model.specs.Fixed.{fits};
-ghost use Rattle.h5_model.specs.Tree.{Object};
+ghost use Rattle.h5_model.specs.Fixed.{IsFixed, fits};
+ghost use Rattle.h5_model.specs.Edits.{new_dataset, new_object};
+ghost use Rattle.h5_model.specs.Tree.{Array as Dataset, Object};
+ghost use Rattle.h5_anew.specs.Change.{IsNewLine};
 ghost use Rattle.h5_open.specs.Array.{data_blocks};
 ghost use Rattle.h5_open.specs.Kept.{IsLinkKept};
 ghost use Rattle.h5_open.specs.Opened.{described};
@@ -16,6 +18,7 @@ ghost use Rattle.h5_plain.specs.Written.{AreCells, AreOthers, HasRoom, IsLinked,
 ghost use Rattle.h5_anew.specs.Rewritten.{line_in, line_of};
 
 use crate::parts::part_of;
+use h5_model::Spec;
 use h5_open::{Line, Linked};
 use h5_plain::{Array, Cells, Others};
 use h5_space::Image;
@@ -39,6 +42,27 @@ pub(crate) fn array_of<'a>(image: &'a Image, link: &'a Linked, others: &'a Other
         fill: line.fill,
         cells: cells_of(image, line),
         others,
+    }
+}
+
+/// A new array of one size, each cell the fill, without other messages.
+pub(crate) fn new_array<'a>(name: &'a [u8], spec: &Spec, size: u64, none: &'a Others) -> Array<'a>
+    requires named { length name.now < 2 ^ 32 }
+    requires line { IsNewLine spec.now size }
+    requires none { AreOthers [] none.now }
+    ensures linked { IsLinked result (linked_to name.now (new_dataset spec.now) (new_object (Dataset (new_dataset spec.now)))) }
+    ensures writable { IsWritable result }
+    ensures sound { IsFixed spec.now.fixed }
+{
+    let _size = spec.fixed.size();
+    Array {
+        name,
+        fixed: spec.fixed,
+        size,
+        maximum: Some(size),
+        fill: spec.fill,
+        cells: Cells::Filled,
+        others: none,
     }
 }
 
