@@ -1,19 +1,18 @@
 -- The cells of an array as they are stored are the bytes of its values.
-use Rattle.std.proofs.Common.{◌≡◌, ℕ, suc, ◌+◌, ◌*◌, ◌<◌, ◌≤◌, List, [], ◌∷◌, length, take, drop, slice_index, ◌≢◌, ◌&&◌, inl, inr, ℤ, Option, Some, None, Bool, true, false, refl, sym, ap, ◌∙◌, subst, arith}
+use Rattle.std.proofs.Common.{◌≡◌, ℕ, suc, ◌+◌, ◌*◌, ◌<◌, ◌≤◌, List, [], ◌∷◌, length, drop, slice_index, ◌≢◌, ◌&&◌, ℤ, Some, true, sym, ap, ◌∙◌, subst, arith}
 use Rattle.std.specs.Prelude.{nat_le, nat_lt, is_some}
 use Rattle.std.specs.FinMap.{empty}
-use Rattle.std.proofs.lemmas.Bool.{cases_lt}
 use Rattle.h5_layout.specs.Stored.{has_room}
 use Rattle.std.proofs.lemmas.Bool.Decides.{nat_tests}
-use Rattle.std.proofs.lemmas.List.{get_or-take, get_or-drop, length-take, length-drop, get_or_past}
+use Rattle.std.proofs.lemmas.List.{get_or-take}
 use Rattle.std.proofs.lemmas.List.FromFn.{fill_by_all}
 use Rattle.std.proofs.Math.Nat.{mul-le-mul_right}
 use Rattle.h5_bytes.specs.Bytes.{part}
-use Rattle.h5_bytes.specs.Blocks.{block, Inside}
+use Rattle.h5_bytes.specs.Blocks.{Inside}
 use Rattle.h5_bytes.specs.declared.Block.{Block}
 use Rattle.h5_bytes.proofs.PartLaws.{length-part}
 use Rattle.h5_model.specs.Fixed.{Fixed, IsFixed, value_at}
-use Rattle.h5_model.specs.Places.{cells, extent_cells, place_of, index_of}
+use Rattle.h5_model.specs.Places.{cells, place_of, index_of}
 use Rattle.h5_model.specs.Layout.{InBlock}
 use Rattle.h5_model.specs.Chunks.{Chunks}
 use Rattle.h5_model.specs.Cells.{cells_of}
@@ -85,5 +84,5 @@ module _ (ms : List Message) (l : Line) (has : HasArray ms (described l)) (b : B
       let more : nat_lt 0 (l.size * 1) ≡ true = grind (arith, nat_tests, some) in (
         ap (λ c. Contiguous (is_some c && nat_lt 0 (l.size * 1))) is ∙ ap Contiguous more,
         there ∙ stored_bytes image l.fixed l.fill l.size b empty fixed block_room (subst AreBytes there low) (block_inside (length image) inside)
-        ∙ sym (ap (λ c. cells_bytes l.fixed (cells_of image l.fixed l.fill (l.size ∷ []) (InBlock c) empty)) is),
+            ∙ sym (ap (λ c. cells_bytes l.fixed (cells_of image l.fixed l.fill (l.size ∷ []) (InBlock c) empty)) is),
       )

@@ -1,8 +1,7 @@
 -- An opened image with a change of attributes, or with a first array: that it can be written, and what it is then.
-use Rattle.std.proofs.Common.{◌≡◌, ℕ, List, Option, Some, None, Bor, refl, sym, ap, ◌∙◌, subst}
+use Rattle.std.proofs.Common.{◌≡◌, ℕ, List, Option, Some, None, Bor, sym, ap, ◌∙◌, subst}
 use Rattle.std.specs.Prelude.{Result, Ok, Err, IfErr}
 use Rattle.h5_header.specs.Listed.{Listed}
-use Rattle.h5_model.specs.Superblock.{leaf_k, internal_k}
 use Rattle.h5_model.specs.Tree.{Tree}
 use Rattle.h5_open.specs.declared.opened.Linked.{Linked}
 use Rattle.h5_open.specs.Kept.{IsOpened}

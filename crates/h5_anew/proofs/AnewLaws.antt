@@ -1,15 +1,14 @@
 -- An opened image that was written, or not, is the image of its changed tree (File Format Specification 3.0, sections II.A, III and
 -- IV.A).
-use Rattle.std.proofs.Common.{◌≡◌, ℕ, ◌^◌, ◌<◌, ◌≤◌, List, Option, Some, None, Bool, true, false, refl, sym, ap, ◌∙◌, subst, arith}
+use Rattle.std.proofs.Common.{◌≡◌, ℕ, ◌^◌, ◌<◌, ◌≤◌, List, Some, None, false, refl, sym, subst, arith}
 use Rattle.std.specs.Prelude.{nat_lt, IsTrue}
 use Rattle.std.proofs.lemmas.Bool.Decides.{nat_tests}
-use Rattle.h5_model.specs.PlainLength.{plain_length}
 use Rattle.h5_model.specs.Superblock.{leaf_k, internal_k}
-use Rattle.h5_model.specs.Tree.{Tree, Object, Dataset}
+use Rattle.h5_model.specs.Tree.{Object, Dataset}
 use Rattle.h5_walk.specs.Small.{alone_tree, pair_tree, header_table}
 use Rattle.h5_open.specs.State.{FileState}
 use Rattle.h5_small.specs.Bodies.{others_of}
-use Rattle.h5_small.specs.Small.{small_image, small_end, header_place}
+use Rattle.h5_small.specs.Small.{header_place}
 use Rattle.h5_small.specs.Sound.{IsSmallRoot, IsSmallPair, linked_to}
 use Rattle.h5_small.specs.Laws.{IsPlainReading}
 use Rattle.h5_small.proofs.ImageReads.{alone_reads_as, pair_reads_as}
@@ -17,7 +16,7 @@ use Rattle.h5_small.proofs.ImageLength.{alone_length, pair_length}
 use Rattle.h5_plain.specs.Written.{IsUnwritten}
 use Rattle.h5_plain.specs.declared.small.WriteFault.{WriteFault}
 use Rattle.h5_plain.specs.declared.small.WriteFault.TheVariants.{TooLong, NoMemory}
-use Rattle.h5_anew.specs.Anew.{IsAnew, IsNotAnew, is_too_long}
+use Rattle.h5_anew.specs.Anew.{IsAnew, IsNotAnew}
 use Rattle.h5_anew.specs.Rewritten.{IsSmallImage}
 
 -- a length that is told twice

@@ -1,13 +1,13 @@
 -- Attributes by their names, with a change among them.
-use Rattle.std.proofs.Common.{◌≡◌, ℕ, zero, suc, ◌+◌, ◌<◌, ◌≤◌, List, [], ◌∷◌, ◌++◌, length, take, drop, get_or, map, refl, sym, ap, ◌∙◌, subst, arith, append_assoc, append-nil, length-append, Bool, true, false, cond}
+use Rattle.std.proofs.Common.{◌≡◌, ℕ, suc, ◌+◌, ◌<◌, ◌≤◌, List, [], ◌∷◌, ◌++◌, length, take, drop, get_or, refl, sym, ap, ◌∙◌, arith, append_assoc, Bool, true, false}
 use Rattle.std.proofs.lemmas.List.{drop_more, drop_all, take_more}
 use Rattle.std.specs.Prelude.{T, not}
 use Rattle.std.specs.Ordering.{nat_cmp, eq_by_cmp}
 use Rattle.std.specs.Cmp.Lexicographic.{slice_cmp, nat_list_cmp_total}
 use Rattle.std.specs.declared.cmp.Ordering.{Ordering}
 use Rattle.std.specs.declared.cmp.Ordering.TheVariants.{Less, Equal, Greater}
-use Rattle.std.specs.FinMap.{FinMap, entries, insert, remove, put, is_sorted, from_sorted, entries_sorted, entries-insert, entries-from_sorted, same_entries_map, nat_cmp-IsAntisymmetric, slice_cmp-IsAntisymmetric}
-use Rattle.std.specs.FinMap.Entries.{by_order, where_key, is_sorted-where_key}
+use Rattle.std.specs.FinMap.{entries, remove, put, is_sorted, from_sorted, entries_sorted, entries-insert, entries-from_sorted, same_entries_map, nat_cmp-IsAntisymmetric, slice_cmp-IsAntisymmetric}
+use Rattle.std.specs.FinMap.Entries.{by_order, is_sorted-where_key}
 use Rattle.h5_model.proofs.MapSteps.{remove_by_name, entries_by_name}
 use Rattle.h5_model.specs.Tree.{Attribute, Attributes}
 use Rattle.h5_model.specs.Edits.{attribute_from}

@@ -1,5 +1,5 @@
 -- The name of an opened image's link is no longer than the image (File Format Specification 3.0, sections III.C and III.D).
-use Rattle.std.proofs.Common.{◌≡◌, ℕ, ◌^◌, ◌<◌, ◌≤◌, ◌==◌, List, [], ◌∷◌, length, take, drop, map, Some, true, false, refl, sym, ap, ◌∙◌, subst, arith}
+use Rattle.std.proofs.Common.{◌≡◌, ℕ, ◌^◌, ◌<◌, ◌≤◌, ◌==◌, List, [], ◌∷◌, length, drop, map, Some, true, false, refl, sym, ap, ◌∙◌, subst, arith}
 use Rattle.std.specs.Prelude.{if◌then◌else◌}
 use Rattle.std.proofs.lemmas.List.{length-take, length-drop}
 use Rattle.std.specs.List.{AllByRecursion, AllZip}
@@ -9,11 +9,11 @@ use Rattle.std.specs.FinMap.{FinMap, entries, empty, put, entries-insert}
 use Rattle.h5_bytes.specs.Bytes.{part}
 use Rattle.h5_bytes.specs.Texts.{until_zero, text_at}
 use Rattle.h5_bytes.specs.declared.Block.{Block}
-use Rattle.h5_model.specs.Heap.{segment_of, segment_block}
+use Rattle.h5_model.specs.Heap.{segment_of}
 use Rattle.h5_model.specs.Messages.{Message}
-use Rattle.h5_model.specs.Reads.{HasContent, HasGroup, IsPlaced, IsSame, Placed}
+use Rattle.h5_model.specs.Reads.{HasContent, IsPlaced, IsSame, Placed}
 use Rattle.h5_model.specs.Symbols.{Entry, Target, Header, Text, link_of}
-use Rattle.h5_model.specs.Tree.{Object, Content, Group, Link, ToObject}
+use Rattle.h5_model.specs.Tree.{Object, Group, ToObject}
 use Rattle.h5_model.proofs.EmptyReads.{entries-empty}
 use Rattle.h5_header.specs.Listed.{Listed}
 use Rattle.h5_walk.specs.Small.{link_to_one, pair_tree, alone_tree}
@@ -62,7 +62,7 @@ module _ (image : List ℕ) (table : FinMap nat_cmp ℕ) (name : List ℕ) where
       let segment : List ℕ = segment_of image (group.symbol_table).heap in
       let within : length segment ≤ length image = part-le _ _ image in
       let shorter : (ls : List (List ℕ × Target)) → AllByRecursion (λ (l : List ℕ × Target). length l.0 ≤ length segment) ls
-          → AllByRecursion (λ (l : List ℕ × Target). length l.0 ≤ length image) ls = weaker segment within in
+      → AllByRecursion (λ (l : List ℕ × Target). length l.0 ≤ length image) ls = weaker segment within in
       found_short found (shorter found (subst (λ ls. AllByRecursion (λ (l : List ℕ × Target). length l.0 ≤ length segment) ls) (sym listed.all) (names_short segment _)))
       (subst (λ es. AllZip (IsSame table) es found) (one_link name) same) where
         weaker : (segment : List ℕ) → length segment ≤ length image → (ls : List (List ℕ × Target))

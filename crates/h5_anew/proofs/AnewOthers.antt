@@ -1,5 +1,5 @@
 -- What was appended is what stands behind an object's content.
-use Rattle.std.proofs.Common.{◌≡◌, ℕ, ◌+◌, ◌≤◌, List, [], ◌∷◌, ◌++◌, length, take, drop, map, Option, Some, None, refl, sym, ap, ◌∙◌, subst, arith, length-append, append_assoc, Bor}
+use Rattle.std.proofs.Common.{◌≡◌, ℕ, ◌+◌, ◌≤◌, List, [], ◌∷◌, ◌++◌, length, take, drop, Option, Some, None, sym, ap, ◌∙◌, subst, arith, length-append, append_assoc, Bor}
 use Rattle.std.proofs.lemmas.List.{length-map, map-append}
 use Rattle.std.specs.Ordering.{nat_cmp}
 use Rattle.std.specs.Cmp.Lexicographic.{slice_cmp}
@@ -8,13 +8,13 @@ use Rattle.h5_model.specs.Messages.{Message}
 use Rattle.h5_model.specs.Tree.{Attribute, Content, Group}
 use Rattle.h5_attr.specs.Attributes.{attributes_of}
 use Rattle.h5_open.specs.Opened.{object_with}
-use Rattle.h5_small.specs.Bodies.{kept_message, attribute_message, others_of}
+use Rattle.h5_small.specs.Bodies.{attribute_message, others_of}
 use Rattle.h5_plain.specs.Others.{OthersBytes}
 use Rattle.h5_plain.specs.Written.{AreOthers}
 use Rattle.h5_anew.specs.declared.change.Change.{Change}
-use Rattle.h5_anew.specs.Appended.{Appends, HasPlaces, IsPlaceOf, Named, attribute_messages, changed_by, kept_in, kept_messages, merged, merged_by}
+use Rattle.h5_anew.specs.Appended.{Appends, HasPlaces, IsPlaceOf, Named, attribute_messages, changed_by, kept_messages, merged, merged_by}
 use Rattle.h5_anew.specs.Change.{changed}
-use Rattle.h5_anew.proofs.AnewPushing.{appends_both, places_left}
+use Rattle.h5_anew.proofs.AnewPushing.{appends_both}
 use Rattle.h5_anew.proofs.AnewMerge.{entries-changed}
 
 -- attributes before the place of a name, the new one, and those behind
@@ -23,9 +23,9 @@ pub appended_with : (a b c d : OthersBytes) (name : List ℕ) (new : Attribute) 
     → Appends a d (attribute_messages (put (slice_cmp nat_cmp) name new es))
 appended_with a b c d name new es before behind is first one last =
     let all : attribute_messages (put (slice_cmp nat_cmp) name new es)
-        ≡ (attribute_messages (take before es) ++ attribute_message (name, new) ∷ []) ++ attribute_messages (drop behind es)
+    ≡ (attribute_messages (take before es) ++ attribute_message (name, new) ∷ []) ++ attribute_messages (drop behind es)
     = ap attribute_messages (is.placed new) ∙ map-append attribute_message (take before es) ((name, new) ∷ drop behind es)
-        ∙ sym (append_assoc (attribute_messages (take before es)) (attribute_message (name, new) ∷ []) (attribute_messages (drop behind es))) in
+    ∙ sym (append_assoc (attribute_messages (take before es)) (attribute_message (name, new) ∷ []) (attribute_messages (drop behind es))) in
     subst (Appends a d) (sym all) (appends_both a c d _ _ (appends_both a b c _ _ first one) last)
 
 module _ (o after : OthersBytes) (ms : List Message) (list : Named) (none : AreOthers [] o) (kept : Appends o after (kept_messages ms))

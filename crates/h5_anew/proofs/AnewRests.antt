@@ -1,5 +1,5 @@
 -- What is still to be appended, one message or attribute less.
-use Rattle.std.proofs.Common.{◌≡◌, ℕ, ◌+◌, ◌<◌, ◌≤◌, ◌==◌, ◌||◌, List, [], ◌∷◌, length, drop, get_or, map, refl, sym, ap, ◌∙◌, subst, arith, Bool, true, false, cond, nat_eq}
+use Rattle.std.proofs.Common.{◌≡◌, ℕ, ◌+◌, ◌<◌, ◌==◌, ◌||◌, List, ◌∷◌, length, drop, get_or, map, refl, sym, ap, ◌∙◌, subst, Bool, true, false, cond, nat_eq}
 use Rattle.std.proofs.lemmas.List.{drop_more}
 use Rattle.std.specs.Prelude.{not}
 use Rattle.std.specs.Ordering.{nat_cmp, eq_by_cmp}
@@ -34,11 +34,11 @@ module _ (image : List ℕ) (list : List Placed) (i : ℕ) (d : Placed) (low : i
   pub kept_plain : AllByRecursion IsPlainKept (kept_in (messages_in image (drop i list))) → AllByRecursion IsPlainKept (kept_in (messages_in image (drop (i + 1) list)))
   kept_plain all = by_kind ((m.kind == 13 || m.kind == 14) || m.kind == 18)
       (subst (λ ms. AllByRecursion IsPlainKept (kept_in (messages_in image ms))) (drop_more list i d low) all) where
-    by_kind : (b : Bool) → AllByRecursion IsPlainKept (map kept_of (cond b (message_in image m ∷ filter is_kept (messages_in image (drop (i + 1) list)))
-        (filter is_kept (messages_in image (drop (i + 1) list)))))
-        → AllByRecursion IsPlainKept (kept_in (messages_in image (drop (i + 1) list)))
-    by_kind true h = h.1
-    by_kind false h = h
+        by_kind : (b : Bool) → AllByRecursion IsPlainKept (map kept_of (cond b (message_in image m ∷ filter is_kept (messages_in image (drop (i + 1) list)))
+            (filter is_kept (messages_in image (drop (i + 1) list)))))
+            → AllByRecursion IsPlainKept (kept_in (messages_in image (drop (i + 1) list)))
+        by_kind true h = h.1
+        by_kind false h = h
 
 -- ---- attributes with another name
 

@@ -10,3 +10,4 @@ pub mod AnewCells
 pub mod AnewNames
 pub mod AnewLaws
 pub mod AnewChanged
+pub mod AnewAdded

@@ -102,11 +102,7 @@ fn push_all(others: &mut Others, list: &[AttrRef<'_>]) -> Result<(), AllocError>
 }
 
 /// Appends the attributes with another in its place, which replaces the one of its name.
-fn push_with(
-    others: &mut Others,
-    list: &[AttrRef<'_>],
-    attr: &AttrSpec,
-) -> Result<(), AllocError>
+fn push_with(others: &mut Others, list: &[AttrRef<'_>], attr: &AttrSpec) -> Result<(), AllocError>
     requires plain { AllByRecursion IsPlainAttribute list.now }
     requires new { IsPlainAttribute (attr.now.name, attribute_from attr.now) }
     requires few { HasPlaces others.old (1 + length list.now) }
@@ -137,11 +133,7 @@ fn place_of(name: &[u8], list: &[AttrRef<'_>]) -> (usize, usize)
 }
 
 /// Appends the attributes that have another name.
-fn push_without(
-    others: &mut Others,
-    list: &[AttrRef<'_>],
-    name: &[u8],
-) -> Result<(), AllocError>
+fn push_without(others: &mut Others, list: &[AttrRef<'_>], name: &[u8]) -> Result<(), AllocError>
     requires plain { AllByRecursion IsPlainAttribute list.now }
     requires few { HasPlaces others.old (length list.now) }
     ensures { OnOk result (Appends others.old others.new (attribute_messages (without name.now list.now))) }

@@ -1,4 +1,4 @@
-use Rattle.std.proofs.Common.{◌≡◌, ℕ, ◌+◌, ◌*◌, ◌≤◌, List, Some, subst, arith, ◌∙◌, ap, sym, length}
+use Rattle.std.proofs.Common.{◌≡◌, ℕ, ◌+◌, ◌*◌, ◌≤◌, List, Some, arith, ◌∙◌, ap, length}
 use Rattle.h5_bytes.specs.Bytes.{part}
 use Rattle.h5_bytes.proofs.PartLaws.{length-part}
 use Rattle.h5_bytes.specs.Blocks.{Inside}

@@ -1,4 +1,4 @@
-use Rattle.std.proofs.Common.{List, ℕ, Some, None}
+use Rattle.std.proofs.Common.{Some, None}
 use Rattle.std.proofs.lemmas.Result.{IfOk-weaker}
 use Rattle.h5_open.specs.Opened.{tree_of}
 use Rattle.h5_anew.specs.Change.{tree_changed}

@@ -1,4 +1,4 @@
-use Rattle.std.proofs.Common.{subst, Some}
+use Rattle.std.proofs.Common.{subst}
 use Rattle.h5_open.specs.Kept.{IsOpened}
 use Rattle.h5_anew.proofs.AnewNames.{name_short}
 use Rattle.h5_anew.proofs.attributes.write_opened.Goals as goal
