@@ -2,3 +2,12 @@ pub mod PlainBodies
 pub mod PlainObjects
 pub mod PlainArrays
 pub mod PlainTrees
+pub mod AnewPushing
+pub mod AnewMerge
+pub mod AnewRests
+pub mod AnewOthers
+pub mod AnewCells
+pub mod AnewNames
+pub mod AnewLaws
+pub mod AnewChanged
+pub mod AnewAdded

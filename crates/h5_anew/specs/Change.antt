@@ -4,8 +4,6 @@ use Rattle.std.specs.Prelude.{◌≡◌, ℕ, ◌+◌, ◌^◌, ◌≤◌, true,
 use Rattle.std.specs.FinMap.{insert, remove}
 use Rattle.h5_model.specs.Edits.{attribute_from, with_attributes, with_links, new_object, new_dataset}
 use Rattle.h5_model.specs.Fixed.{fits}
-use Rattle.h5_model.specs.Messages.{prefix_at, total_in}
-use Rattle.h5_model.specs.Paths.{is_name}
 use Rattle.h5_model.specs.Tree.{Tree, ToObject, Array, Attributes, with_object}
 use Rattle.h5_model.specs.declared.dataset.Spec.{Spec}
 use Rattle.h5_model.specs.declared.dataset.Store.TheVariants as store

@@ -1,2 +1,4 @@
 pub mod Change
 pub mod Anew
+pub mod Appended
+pub mod Rewritten

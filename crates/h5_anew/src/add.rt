@@ -7,9 +7,12 @@ ghost use Rattle.h5_open.specs.State.{opened_state};
 ghost use Rattle.h5_anew.specs.Anew.{IsAnew, IsNotAnew};
 ghost use Rattle.h5_anew.specs.Change.{IsNewLine, tree_with_array};
 
+use crate::array::new_array;
+use crate::others::others_in;
+use crate::parts::k_of;
 use h5_model::Spec;
 use h5_open::Opened;
-use h5_plain::WriteFault;
+use h5_plain::{Others, WriteFault, write_small};
 use h5_space::Image;
 use std::alloc::Global;
 
@@ -34,5 +37,11 @@ pub fn add_array(
     ensures refused { let f = opened_state image.now.bytes opened.now.root opened.now.link in
         IfErr result (IsNotAnew f (tree_with_array f.tree name.now spec.now)) }
 {
-    Err(WriteFault::NoMemory)
+    let k = k_of(image);
+    let Ok(others) = others_in(alloc, image, &opened.root, None) else {
+        return Err(WriteFault::NoMemory);
+    };
+    let none = Others::new(alloc);
+    let array = new_array(name, spec, size, &none);
+    write_small(alloc, k.leaf, k.internal, &others, Some(&array))
 }

@@ -5,8 +5,11 @@
 #![tactic(auto)]
 
 mod add;
+mod array;
 mod attributes;
 mod change;
+mod others;
+mod parts;
 
 pub use add::add_array;
 pub use attributes::change_attributes;
