@@ -1,5 +1,5 @@
 -- How runs end.
-use Rattle.std.proofs.Common.{◌≡◌, ◌⊎◌, ◌==◌, if◌then◌else◌, Bool, true, false, refl, ℕ, List, Option, Some, None, subst, sym, inl, inr, arith}
+use Rattle.std.proofs.Common.{◌≡◌, ◌⊎◌, ◌==◌, if◌then◌else◌, Bool, true, false, refl, ℕ, List, Option, Some, subst, sym, inl, inr, arith}
 use Rattle.std.proofs.lemmas.Bool.Decides.{nat_tests}
 use Rattle.std.specs.Io.KnownBytes.{Appends}
 use Rattle.h5_order.specs.Words.{Text}
@@ -7,7 +7,7 @@ use Rattle.h5_open.specs.State.{FileState}
 use Rattle.h5_file.specs.State.{IsSound}
 use Rattle.h5_order.specs.Words.{Wanted, WantDump, WantRun}
 use Rattle.h5_cli.specs.Output.{IsDumpText, IsScriptRun}
-use Rattle.h5_cli.specs.Ends.{Ends, Refuses, IsRunOver, ran_status}
+use Rattle.h5_cli.specs.Ends.{Ends, Refuses, IsRunOver}
 use Rattle.h5_cli.specs.declared.status.Status.{Status}
 use Rattle.h5_cli.specs.declared.status.Status.TheVariants.{Done, CommandRefused, WrongWords, ImageRefused, StreamFailed, NoMemory}
 

@@ -1,4 +1,4 @@
-use Rattle.std.proofs.Common.{◌≡◌, ◌∙◌, Some}
+use Rattle.std.proofs.Common.{◌∙◌, Some}
 use Rattle.h5_order.specs.Words.{WantLs}
 use Rattle.h5_cli.specs.declared.status.Status.TheVariants.{Done}
 use Rattle.h5_cli.proofs.EndLaws.{appends_as, printed_ends}
