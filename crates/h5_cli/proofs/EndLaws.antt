@@ -1,12 +1,13 @@
 -- How runs end.
-use Rattle.std.proofs.Common.{◌≡◌, ◌⊎◌, ◌==◌, if◌then◌else◌, Bool, true, false, refl, ℕ, List, Option, Some, None, subst, sym, inl, inr, arith}
+use Rattle.std.proofs.Common.{◌≡◌, ◌⊎◌, ◌==◌, if◌then◌else◌, Bool, true, false, refl, ℕ, List, Option, Some, subst, sym, inl, inr, arith}
 use Rattle.std.proofs.lemmas.Bool.Decides.{nat_tests}
 use Rattle.std.specs.Io.KnownBytes.{Appends}
 use Rattle.h5_order.specs.Words.{Text}
-use Rattle.h5_file.specs.State.{FileState}
+use Rattle.h5_open.specs.State.{FileState}
+use Rattle.h5_file.specs.State.{IsSound}
 use Rattle.h5_order.specs.Words.{Wanted, WantDump, WantRun}
-use Rattle.h5_cli.specs.Output.{IsOpen, IsDumpText, IsScriptRun}
-use Rattle.h5_cli.specs.Ends.{Ends, Refuses, IsRunOver, ran_status}
+use Rattle.h5_cli.specs.Output.{IsDumpText, IsScriptRun}
+use Rattle.h5_cli.specs.Ends.{Ends, Refuses, IsRunOver}
 use Rattle.h5_cli.specs.declared.status.Status.{Status}
 use Rattle.h5_cli.specs.declared.status.Status.TheVariants.{Done, CommandRefused, WrongWords, ImageRefused, StreamFailed, NoMemory}
 
@@ -23,15 +24,15 @@ printed_ends asked input left old new text status result (inr p) ends = ends_as 
 
 -- a dump that was printed ends with the status of its text
 pub dump_ends : (file word : Text) (input left old new : Option (List ℕ)) (f : FileState) (text : List ℕ) (status : Status)
-    → IsOpen f → IsDumpText f.tree word text status → Appends old new text → Ends (Some (WantDump file word)) input left old new status
-dump_ends file word input left old new f text Done opened answer printed =
-    record { file = f; opened = opened; text = text; answer = answer; printed = printed }
-dump_ends file word input left old new f text CommandRefused opened answer printed =
-    record { file = f; opened = opened; text = text; answer = answer; printed = printed }
-dump_ends file word input left old new f text WrongWords opened answer printed = absurd answer
-dump_ends file word input left old new f text ImageRefused opened answer printed = absurd answer
-dump_ends file word input left old new f text StreamFailed opened answer printed = absurd answer
-dump_ends file word input left old new f text NoMemory opened answer printed = absurd answer
+    → IsSound f → IsDumpText f.tree word text status → Appends old new text → Ends (Some (WantDump file word)) input left old new status
+dump_ends file word input left old new f text Done sound answer printed =
+    record { file = f; sound = sound; text = text; answer = answer; printed = printed }
+dump_ends file word input left old new f text CommandRefused sound answer printed =
+    record { file = f; sound = sound; text = text; answer = answer; printed = printed }
+dump_ends file word input left old new f text WrongWords sound answer printed = absurd answer
+dump_ends file word input left old new f text ImageRefused sound answer printed = absurd answer
+dump_ends file word input left old new f text StreamFailed sound answer printed = absurd answer
+dump_ends file word input left old new f text NoMemory sound answer printed = absurd answer
 
 -- what was asked by another name
 pub asked_ends : (asked wanted : Option Wanted) (input left old new : Option (List ℕ)) (status : Status) → wanted ≡ asked
@@ -54,9 +55,9 @@ counted_ends file input left old new r true none = (r, grind (arith, nat_tests))
 counted_ends file input left old new r false some = (r, grind (arith, nat_tests))
 
 pub run_ends : (file : Text) (input left old new : Option (List ℕ)) (f : FileState) (status : Status) (changed : Option FileState)
-    → IsOpen f → IsRunOver f input left old new status changed → Ends (Some (WantRun file)) input left old new status
-run_ends file input left old new f status changed opened over = ends_as (Some (WantRun file)) input left old new _ status over.status_is
-    (counted_ends file input left old new (record { file = f; opened = opened; after = _; ran = over.ran; done = over.done }) _ refl)
+    → IsSound f → IsRunOver f input left old new status changed → Ends (Some (WantRun file)) input left old new status
+run_ends file input left old new f status changed sound over = ends_as (Some (WantRun file)) input left old new _ status over.status_is
+    (counted_ends file input left old new (record { file = f; sound = sound; after = _; ran = over.ran; done = over.done }) _ refl)
 
 -- and where the file could not be written back, because of the stream
 pub written_ends : (asked : Option Wanted) (input left old new : Option (List ℕ)) (status result : Status)

@@ -1,7 +1,7 @@
 -- How a run ends for what was asked: which statuses it can have, and what stands on the standard output then. `input` and
 -- `left` are the bytes of the standard input before and after the run, `old` and `new` those of the standard output.
 use Rattle.std.specs.Prelude.{◌≡◌, ℕ, ◌<◌, ◌==◌, List, Option, Some, None, if◌then◌else◌}
-use Rattle.h5_file.specs.State.{FileState, state_of}
+use Rattle.h5_open.specs.State.{FileState}
 use Rattle.h5_script.specs.Script.{IsDone}
 use Rattle.h5_script.specs.declared.ran.Ran.{Ran}
 use Rattle.h5_order.specs.Words.{Wanted, WantNew, WantLs, WantDump, WantRun}
@@ -53,6 +53,6 @@ ran_status ran = if ran.refused == 0 then Done else CommandRefused
 pub record IsRunOver (file : FileState) (input left old new : Option (List ℕ)) (status : Status) (changed : Option FileState) : Type 0 where
   pub after : FileState
   pub ran : Ran
-  pub done : IsDone (state_of file) (state_of after) input left old new ran
+  pub done : IsDone file after input left old new ran
   pub status_is : status ≡ ran_status ran
   pub changed_is : changed ≡ (if ran.edits == 0 then None else Some after)

@@ -6,7 +6,6 @@ use Rattle.std.specs.Io.KnownBytes.{Appends}
 use Rattle.h5_order.specs.Words.{Text}
 use Rattle.h5_model.specs.Tree.{Tree}
 use Rattle.h5_model.specs.Paths.{located}
-use Rattle.h5_model.specs.Edits.{State}
 use Rattle.h5_model.specs.Refusal.{first_holding}
 use Rattle.h5_model.specs.Reading.{path_rules}
 use Rattle.h5_model.specs.Lines.{unescaped}
@@ -15,24 +14,19 @@ use Rattle.h5_model.specs.Script.{dumped}
 use Rattle.h5_model.specs.EditFaults.{refused_text}
 use Rattle.h5_model.specs.declared.edit_fault.EditFault.{EditFault}
 use Rattle.h5_model.specs.declared.edit_fault.EditFault.TheVariants.{BadPath}
-use Rattle.h5_file.specs.State.{FileState, IsWhole, state_of}
-use Rattle.h5_file.specs.Opening.{IsCarried}
+use Rattle.h5_open.specs.State.{FileState}
+use Rattle.h5_file.specs.State.{IsSound}
 use Rattle.h5_script.specs.Script.{IsDone}
 use Rattle.h5_script.specs.declared.ran.Ran.{Ran}
 use Rattle.h5_cli.specs.declared.status.Status.{Status}
 use Rattle.h5_cli.specs.declared.status.Status.TheVariants.{Done, CommandRefused}
-
--- what opening an image can give: an image of a form that is opened so far, and the tree that it reads as
-pub record IsOpen (file : FileState) : Type 0 where
-  pub carried : IsCarried file.image
-  pub whole : IsWhole file
 
 -- ---- `h5i ls FILE`
 
 -- the list of a file was printed
 pub record IsListed (old new : Option (List ℕ)) : Type 0 where
   pub file : FileState
-  pub opened : IsOpen file
+  pub sound : IsSound file
   pub printed : Appends old new (list_text file.tree)
 
 -- ---- `h5i dump FILE PATH`
@@ -54,7 +48,7 @@ IsDumpText tree word text _ = ⊥
 -- this was printed of a file
 pub record IsDumped (word : Text) (status : Status) (old new : Option (List ℕ)) : Type 0 where
   pub file : FileState
-  pub opened : IsOpen file
+  pub sound : IsSound file
   pub text : List ℕ
   pub answer : IsDumpText file.tree word text status
   pub printed : Appends old new text
@@ -64,7 +58,7 @@ pub record IsDumped (word : Text) (status : Status) (old new : Option (List ℕ)
 -- the whole script was run on a file, and the answers of its lines were printed; so many were refused
 pub record IsScriptRun (input left old new : Option (List ℕ)) : Type 0 where
   pub file : FileState
-  pub opened : IsOpen file
-  pub after : State
+  pub sound : IsSound file
+  pub after : FileState
   pub ran : Ran
-  pub done : IsDone (state_of file) after input left old new ran
+  pub done : IsDone file after input left old new ran

@@ -2,9 +2,10 @@
 
 ghost use Rattle.std.specs.Prelude.{◌≡◌, ℕ, IfOk, List, MatchResult, Option, Some};
 ghost use Rattle.h5_model.specs.Text.{list_text};
+ghost use Rattle.h5_file.specs.State.{IsSound};
 ghost use Rattle.h5_order.specs.Words.{WantLs, WantDump};
 ghost use Rattle.h5_cli.specs.Ends.{Ends, IsUnopened};
-ghost use Rattle.h5_cli.specs.Output.{IsDumpText, IsOpen};
+ghost use Rattle.h5_cli.specs.Output.{IsDumpText};
 
 use crate::files::{ReadFault, read_whole};
 use crate::status::Status;
@@ -25,7 +26,7 @@ pub fn opened<R: Files, E: Write>(
     file: &str,
     errors: &mut E,
 ) -> Result<File, Status>
-    ensures { MatchResult result IsOpen IsUnopened }
+    ensures { MatchResult result IsSound IsUnopened }
 {
     let bytes = match read_whole(rt, alloc, file) {
         Ok(bytes) => bytes,

@@ -1,16 +1,15 @@
 -- The run of one line.
 use Rattle.std.proofs.Common.{◌≡◌, ℕ, ◌+◌, Option, Some, None, List, [], ◌∷◌, cond, refl, sym, ap, ◌∙◌, subst, append-nil, arith}
 use Rattle.std.specs.Io.KnownBytes.{Appends}
-use Rattle.h5_model.specs.Edits.{State}
+use Rattle.h5_open.specs.State.{FileState}
 use Rattle.std.specs.Option.{option_map_or}
 use Rattle.h5_model.specs.Lines.{Command, line_asks}
 use Rattle.h5_script.specs.Pieces.{commands_of_line}
 use Rattle.h5_script.proofs.RunLaws.{has_counted_none}
 use Rattle.h5_model.specs.Script.{Given, is_refused, is_accepted}
-use Rattle.h5_script.specs.Answered.{outcome_of, IsAnswered, IsUntold}
-use Rattle.h5_script.specs.Runs.{state_of_run, text_of_run, outcomes_of_run, AreGiven, IsRun, HasCounted, HasBegun, IsCut, RunsTo}
+use Rattle.h5_script.specs.Answered.{Line, answer_at, outcome_of, IsAnswered, IsRunIn, IsUntold}
+use Rattle.h5_script.specs.Runs.{file_of_run, text_of_run, outcomes_of_run, AreRunIn, IsRun, HasCounted, HasBegun, IsCut, RunsTo}
 use Rattle.h5_script.specs.Streams.{WritesSome}
-use Rattle.h5_script.specs.Taken.{line_answer, IsGivenAt}
 use Rattle.h5_script.specs.declared.ran.Outcome.{Outcome}
 use Rattle.h5_script.specs.declared.ran.Ran.{Ran}
 use Rattle.std.specs.Prelude.{Result, Ok, Err, MatchResult, IsErrAnd}
@@ -18,58 +17,62 @@ use Rattle.h5_script.specs.declared.fault.RunFault.{RunFault}
 use Rattle.h5_script.specs.declared.fault.RunFault.TheVariants.{ScriptWrite, NoMemory}
 use Rattle.h5_script.proofs.Known.{appends_none}
 
-one_run : (s t : State) (command : Command) (given : Given) → IsGivenAt s command given → t ≡ ((line_answer s command given).session).state → IsRun (command ∷ []) s t ((command, given) ∷ [])
-unfolding state_of_run AreGiven
-one_run s t command given allowed is = record { asked_are = refl; given = (allowed, tt); after_is = is }
+-- a run of one line
+one_run : (s : FileState) (line : Line) → IsRunIn s line → IsRun (line.command ∷ []) s line.after (line ∷ [])
+unfolding file_of_run AreRunIn
+one_run s line run = record { asked_are = refl; each = (run, tt); after_is = refl }
 
-one_text : (s : State) (command : Command) (given : Given) → (line_answer s command given).text ≡ text_of_run s ((command, given) ∷ [])
+one_text : (s : FileState) (line : Line) → (answer_at s line).text ≡ text_of_run s (line ∷ [])
 unfolding text_of_run
-one_text s command given = sym (append-nil (line_answer s command given).text)
+one_text s line = sym (append-nil (answer_at s line).text)
+
+abbrev line_with : Command → Given → FileState → Line
+line_with command given after = record { command = command; given = given; after = after }
 
 abbrev Known : Type 0
 Known = Option (List ℕ)
 
 -- the line was answered, and the answer was written and counted
-pub line_ran : (s t : State) (command : Command) (text : List ℕ) (outcome : Outcome) (old new : Known) (a b : Ran) → IsAnswered s command t text outcome → Appends old new text
+pub line_ran : (s t : FileState) (command : Command) (text : List ℕ) (outcome : Outcome) (old new : Known) (a b : Ran) → IsAnswered s command t text outcome → Appends old new text
     → b.refused ≡ a.refused + cond (is_refused (outcome_of outcome)) 1 0 → b.edits ≡ a.edits + cond (is_accepted (outcome_of outcome)) 1 0
     → HasCounted (command ∷ []) s t old new a b
 unfolding outcomes_of_run
 line_ran s t command text outcome old new a b answered written refused edits = record {
   run = record {
-    lines = (command, answered.given) ∷ [];
-    run = one_run s t command answered.given answered.allowed answered.after_is;
-    written = subst (λ (told : List ℕ). Appends old new told) (answered.text_is ∙ one_text s command answered.given) written;
+    lines = line_with command answered.given t ∷ [];
+    run = one_run s (line_with command answered.given t) answered.run;
+    written = subst (λ (told : List ℕ). Appends old new told) (answered.text_is ∙ one_text s (line_with command answered.given t)) written;
   };
-  refused = refused ∙ ap (λ o. a.refused + cond (is_refused o) 1 0) answered.outcome_is ∙ (let n : a.refused + cond (is_refused (line_answer s command answered.given).outcome) 1 0 ≡ a.refused + (0 + cond (is_refused (line_answer s command answered.given).outcome) 1 0) = omega arith in n);
-  edits = edits ∙ ap (λ o. a.edits + cond (is_accepted o) 1 0) answered.outcome_is ∙ (let n : a.edits + cond (is_accepted (line_answer s command answered.given).outcome) 1 0 ≡ a.edits + (0 + cond (is_accepted (line_answer s command answered.given).outcome) 1 0) = omega arith in n);
+  refused = refused ∙ ap (λ o. a.refused + cond (is_refused o) 1 0) answered.outcome_is ∙ (let n : a.refused + cond (is_refused (answer_at s (line_with command answered.given t)).outcome) 1 0 ≡ a.refused + (0 + cond (is_refused (answer_at s (line_with command answered.given t)).outcome) 1 0) = omega arith in n);
+  edits = edits ∙ ap (λ o. a.edits + cond (is_accepted o) 1 0) answered.outcome_is ∙ (let n : a.edits + cond (is_accepted (answer_at s (line_with command answered.given t)).outcome) 1 0 ≡ a.edits + (0 + cond (is_accepted (answer_at s (line_with command answered.given t)).outcome) 1 0) = omega arith in n);
 }
 
 -- the line was answered, and a beginning of the answer was written
-pub line_cut : (s t : State) (command : Command) (text : List ℕ) (outcome : Outcome) (old new : Known) → IsAnswered s command t text outcome → WritesSome old new text
+pub line_cut : (s t : FileState) (command : Command) (text : List ℕ) (outcome : Outcome) (old new : Known) → IsAnswered s command t text outcome → WritesSome old new text
     → HasBegun (command ∷ []) s t old new
 line_cut s t command text outcome old new answered some = record {
   first = command ∷ [];
   others = [];
   asked_are = refl;
-  lines = (command, answered.given) ∷ [];
-  run = one_run s t command answered.given answered.allowed answered.after_is;
+  lines = line_with command answered.given t ∷ [];
+  run = one_run s (line_with command answered.given t) answered.run;
   told = some.told;
   untold = some.untold;
-  text = some.whole ∙ answered.text_is ∙ one_text s command answered.given;
+  text = some.whole ∙ answered.text_is ∙ one_text s (line_with command answered.given t);
   written = some.written;
 }
 
 -- there was no memory for the answer
-pub line_untold : (s t : State) (command : Command) (known : Known) → IsUntold s command t → HasBegun (command ∷ []) s t known known
+pub line_untold : (s t : FileState) (command : Command) (known : Known) → IsUntold s command t → HasBegun (command ∷ []) s t known known
 line_untold s t command known untold = record {
   first = command ∷ [];
   others = [];
   asked_are = refl;
-  lines = (command, untold.given) ∷ [];
-  run = one_run s t command untold.given untold.allowed untold.after_is;
+  lines = line_with command untold.given t ∷ [];
+  run = one_run s (line_with command untold.given t) untold.run;
   told = [];
-  untold = (line_answer s command untold.given).text;
-  text = one_text s command untold.given;
+  untold = (answer_at s (line_with command untold.given t)).text;
+  text = one_text s (line_with command untold.given t);
   written = appends_none known;
 }
 
@@ -84,7 +87,7 @@ by_fault (Ok x) P B e refused is begun = absurd refused
 by_fault (Err f) P B e refused is begun = (subst IsCut (sym refused) is, begun)
 
 -- an answer was written whole, or the writer failed
-pub line_written : {T : Type 0} (result : Result T RunFault) (s t : State) (command : Command) (text shown : List ℕ) (outcome : Outcome) (old new : Known) (a b : Ran)
+pub line_written : {T : Type 0} (result : Result T RunFault) (s t : FileState) (command : Command) (text shown : List ℕ) (outcome : Outcome) (old new : Known) (a b : Ran)
     → IsAnswered s command t text outcome → shown ≡ text
     → MatchResult result (λ _. Appends old new shown) (λ f. (f ≡ ScriptWrite) × WritesSome old new shown)
     → b.refused ≡ a.refused + cond (is_refused (outcome_of outcome)) 1 0 → b.edits ≡ a.edits + cond (is_accepted (outcome_of outcome)) 1 0
@@ -96,17 +99,17 @@ line_written (Err f) s t command text shown outcome old new a b answered same wr
 
 -- ---- what a line asks for
 
-asked_by : {T : Type 0} (result : Result T RunFault) (asked others : List Command) (s t : State) (old new : Known) (a b : Ran) → asked ≡ others
+asked_by : {T : Type 0} (result : Result T RunFault) (asked others : List Command) (s t : FileState) (old new : Known) (a b : Ran) → asked ≡ others
     → RunsTo result asked s t old new a b → RunsTo result others s t old new a b
 asked_by result asked others s t old new a b same runs = subst (λ (commands : List Command). RunsTo result commands s t old new a b) same runs
 
 -- a line that is passed over
-pub line_passed : (line : List ℕ) (s : State) (known : Known) (counts : Ran) → None ≡ line_asks line → HasCounted (commands_of_line line) s s known known counts counts
+pub line_passed : (line : List ℕ) (s : FileState) (known : Known) (counts : Ran) → None ≡ line_asks line → HasCounted (commands_of_line line) s s known known counts counts
 line_passed line s known counts none =
     subst (λ (commands : List Command). HasCounted commands s s known known counts counts) (ap (λ asked. option_map_or (λ command. command ∷ []) asked []) none) (has_counted_none s known counts)
 
 -- a line that asks for a command
-pub line_asked : {T : Type 0} (result : Result T RunFault) (line : List ℕ) (command : Command) (s t : State) (old new : Known) (a b : Ran) → Some command ≡ line_asks line
+pub line_asked : {T : Type 0} (result : Result T RunFault) (line : List ℕ) (command : Command) (s t : FileState) (old new : Known) (a b : Ran) → Some command ≡ line_asks line
     → RunsTo result (command ∷ []) s t old new a b → RunsTo result (commands_of_line line) s t old new a b
 line_asked result line command s t old new a b some runs =
     asked_by result (command ∷ []) (commands_of_line line) s t old new a b (ap (λ asked. option_map_or (λ c. c ∷ []) asked []) some) runs

@@ -3,67 +3,67 @@ use Rattle.std.proofs.Common.{◌≡◌, ℕ, ◌+◌, Bool, Option, List, [], �
 use Rattle.std.specs.List.{count_by}
 use Rattle.std.specs.Io.KnownBytes.{Appends}
 use Rattle.std.proofs.lemmas.List.Sums.{sum_by-append}
-use Rattle.h5_model.specs.Edits.{State}
+use Rattle.h5_open.specs.State.{FileState}
 use Rattle.h5_model.specs.Lines.{Command}
 use Rattle.h5_model.specs.Script.{Outcome, is_refused, is_accepted}
-use Rattle.h5_script.specs.Taken.{line_answer}
-use Rattle.h5_script.specs.Runs.{Line, commands_in, state_past, state_of_run, text_of_run, outcomes_of_run, AreGiven, IsRun, HasRun, HasCounted, HasBegun}
+use Rattle.h5_script.specs.Answered.{Line, answer_at}
+use Rattle.h5_script.specs.Runs.{commands_in, file_of_run, text_of_run, outcomes_of_run, AreRunIn, IsRun, HasRun, HasCounted, HasBegun}
 use Rattle.h5_script.specs.declared.ran.Ran.{Ran}
 use Rattle.h5_script.proofs.Known.{appends_none, appends_more}
 
-pub state_of_run-append : (s : State) (first others : List Line) → state_of_run s (first ++ others) ≡ state_of_run (state_of_run s first) others
-unfolding state_of_run
-state_of_run-append s [] others = refl
-state_of_run-append s (line ∷ first) others = state_of_run-append (state_past s line) first others
+pub file_of_run-append : (s : FileState) (first others : List Line) → file_of_run s (first ++ others) ≡ file_of_run (file_of_run s first) others
+unfolding file_of_run
+file_of_run-append s [] others = refl
+file_of_run-append s (line ∷ first) others = file_of_run-append line.after first others
 
-pub text_of_run-append : (s : State) (first others : List Line) → text_of_run s (first ++ others) ≡ text_of_run s first ++ text_of_run (state_of_run s first) others
-unfolding state_of_run text_of_run
+pub text_of_run-append : (s : FileState) (first others : List Line) → text_of_run s (first ++ others) ≡ text_of_run s first ++ text_of_run (file_of_run s first) others
+unfolding file_of_run text_of_run
 text_of_run-append s [] others = refl
 text_of_run-append s (line ∷ first) others =
-    ap (λ text. (line_answer s line.0 line.1).text ++ text) (text_of_run-append (state_past s line) first others)
-    ∙ sym (append_assoc (line_answer s line.0 line.1).text (text_of_run (state_past s line) first) (text_of_run (state_of_run (state_past s line) first) others))
+    ap (λ text. (answer_at s line).text ++ text) (text_of_run-append line.after first others)
+    ∙ sym (append_assoc (answer_at s line).text (text_of_run line.after first) (text_of_run (file_of_run line.after first) others))
 
-pub outcomes_of_run-append : (s : State) (first others : List Line)
-    → outcomes_of_run s (first ++ others) ≡ outcomes_of_run s first ++ outcomes_of_run (state_of_run s first) others
-unfolding state_of_run outcomes_of_run
+pub outcomes_of_run-append : (s : FileState) (first others : List Line)
+    → outcomes_of_run s (first ++ others) ≡ outcomes_of_run s first ++ outcomes_of_run (file_of_run s first) others
+unfolding file_of_run outcomes_of_run
 outcomes_of_run-append s [] others = refl
 outcomes_of_run-append s (line ∷ first) others =
-    ap (λ outcomes. (line_answer s line.0 line.1).outcome ∷ outcomes) (outcomes_of_run-append (state_past s line) first others)
+    ap (λ outcomes. (answer_at s line).outcome ∷ outcomes) (outcomes_of_run-append line.after first others)
 
-pub are_given-append : (s : State) (first others : List Line) → AreGiven s first → AreGiven (state_of_run s first) others → AreGiven s (first ++ others)
-unfolding state_of_run AreGiven
-are_given-append s [] others given more = more
-are_given-append s (line ∷ first) others given more = (given.0, are_given-append (state_past s line) first others given.1 more)
+pub are_run_in-append : (s : FileState) (first others : List Line) → AreRunIn s first → AreRunIn (file_of_run s first) others → AreRunIn s (first ++ others)
+unfolding file_of_run AreRunIn
+are_run_in-append s [] others each more = more
+are_run_in-append s (line ∷ first) others each more = (each.0, are_run_in-append line.after first others each.1 more)
 
 pub commands_in-append : (first others : List Line) → commands_in (first ++ others) ≡ commands_in first ++ commands_in others
 commands_in-append [] others = refl
-commands_in-append (line ∷ first) others = ap (λ commands. line.0 ∷ commands) (commands_in-append first others)
+commands_in-append (line ∷ first) others = ap (λ commands. line.command ∷ commands) (commands_in-append first others)
 
 -- ---- runs behind runs
 
-pub run_none : (s : State) → IsRun [] s s []
-unfolding state_of_run AreGiven
-run_none s = record { asked_are = refl; given = tt; after_is = refl }
+pub run_none : (s : FileState) → IsRun [] s s []
+unfolding file_of_run AreRunIn
+run_none s = record { asked_are = refl; each = tt; after_is = refl }
 
-pub run_more : (asked more : List Command) (s m t : State) (first others : List Line) → IsRun asked s m first → IsRun more m t others → IsRun (asked ++ more) s t (first ++ others)
+pub run_more : (asked more : List Command) (s m t : FileState) (first others : List Line) → IsRun asked s m first → IsRun more m t others → IsRun (asked ++ more) s t (first ++ others)
 run_more asked more s m t first others one two = record {
   asked_are = commands_in-append first others ∙ ap (λ commands. commands ++ commands_in others) one.asked_are ∙ ap (λ commands. asked ++ commands) two.asked_are;
-  given = are_given-append s first others one.given (subst (λ (q : State). AreGiven q others) one.after_is two.given);
-  after_is = two.after_is ∙ ap (λ q. state_of_run q others) one.after_is ∙ sym (state_of_run-append s first others);
+  each = are_run_in-append s first others one.each (subst (λ (q : FileState). AreRunIn q others) one.after_is two.each);
+  after_is = two.after_is ∙ ap (λ q. file_of_run q others) one.after_is ∙ sym (file_of_run-append s first others);
 }
 
 abbrev Known : Type 0
 Known = Option (List ℕ)
 
 -- the text of runs, one behind the other
-text_more : (s m : State) (first others : List Line) → m ≡ state_of_run s first → text_of_run s first ++ text_of_run m others ≡ text_of_run s (first ++ others)
+text_more : (s m : FileState) (first others : List Line) → m ≡ file_of_run s first → text_of_run s first ++ text_of_run m others ≡ text_of_run s (first ++ others)
 text_more s m first others is = ap (λ q. text_of_run s first ++ text_of_run q others) is ∙ sym (text_of_run-append s first others)
 
-pub has_run_none : (s : State) (known : Known) → HasRun [] s s known known
+pub has_run_none : (s : FileState) (known : Known) → HasRun [] s s known known
 unfolding text_of_run
 has_run_none s known = record { lines = []; run = run_none s; written = appends_none known }
 
-pub has_run_more : (asked more : List Command) (s m t : State) (old mid new : Known) → HasRun asked s m old mid → HasRun more m t mid new → HasRun (asked ++ more) s t old new
+pub has_run_more : (asked more : List Command) (s m t : FileState) (old mid new : Known) → HasRun asked s m old mid → HasRun more m t mid new → HasRun (asked ++ more) s t old new
 has_run_more asked more s m t old mid new one two = record {
   lines = one.lines ++ two.lines;
   run = run_more asked more s m t one.lines two.lines one.run two.run;
@@ -71,7 +71,7 @@ has_run_more asked more s m t old mid new one two = record {
       (appends_more old mid new (text_of_run s one.lines) (text_of_run m two.lines) one.written two.written);
 }
 
-counts_more : (p : Outcome → Bool) (s m : State) (first others : List Line) (a b c : ℕ) → m ≡ state_of_run s first
+counts_more : (p : Outcome → Bool) (s m : FileState) (first others : List Line) (a b c : ℕ) → m ≡ file_of_run s first
     → b ≡ a + count_by p (outcomes_of_run s first) → c ≡ b + count_by p (outcomes_of_run m others) → c ≡ a + count_by p (outcomes_of_run s (first ++ others))
 counts_more p s m first others a b c is one two =
     let all : count_by p (outcomes_of_run s (first ++ others)) ≡ count_by p (outcomes_of_run s first) + count_by p (outcomes_of_run m others)
@@ -79,11 +79,11 @@ counts_more p s m first others a b c is one two =
     ∙ sum_by-append _ (outcomes_of_run s first) (outcomes_of_run m others) in
     omega (arith, all, one, two)
 
-pub has_counted_none : (s : State) (known : Known) (counts : Ran) → HasCounted [] s s known known counts counts
+pub has_counted_none : (s : FileState) (known : Known) (counts : Ran) → HasCounted [] s s known known counts counts
 unfolding outcomes_of_run has_run_none
 has_counted_none s known counts = record { run = has_run_none s known; refused = omega arith; edits = omega arith }
 
-pub has_counted_more : (asked more : List Command) (s m t : State) (old mid new : Known) (a b c : Ran)
+pub has_counted_more : (asked more : List Command) (s m t : FileState) (old mid new : Known) (a b c : Ran)
     → HasCounted asked s m old mid a b → HasCounted more m t mid new b c → HasCounted (asked ++ more) s t old new a c
 unfolding has_run_more
 has_counted_more asked more s m t old mid new a b c one two = record {
@@ -93,7 +93,7 @@ has_counted_more asked more s m t old mid new a b c one two = record {
 }
 
 -- no command was run yet
-pub has_begun_none : (asked : List Command) (s : State) (known : Known) → HasBegun asked s s known known
+pub has_begun_none : (asked : List Command) (s : FileState) (known : Known) → HasBegun asked s s known known
 unfolding text_of_run
 has_begun_none asked s known = record {
   first = [];
@@ -108,7 +108,7 @@ has_begun_none asked s known = record {
 }
 
 -- all commands were run
-pub has_begun_all : (asked more : List Command) (s t : State) (old new : Known) → HasRun asked s t old new → HasBegun (asked ++ more) s t old new
+pub has_begun_all : (asked more : List Command) (s t : FileState) (old new : Known) → HasRun asked s t old new → HasBegun (asked ++ more) s t old new
 has_begun_all asked more s t old new all = record {
   first = asked;
   others = more;
@@ -122,7 +122,7 @@ has_begun_all asked more s t old new all = record {
 }
 
 -- more commands may follow
-pub has_begun_of : (asked more : List Command) (s t : State) (old new : Known) → HasBegun asked s t old new → HasBegun (asked ++ more) s t old new
+pub has_begun_of : (asked more : List Command) (s t : FileState) (old new : Known) → HasBegun asked s t old new → HasBegun (asked ++ more) s t old new
 has_begun_of asked more s t old new begun = record {
   first = begun.first;
   others = begun.others ++ more;
@@ -136,7 +136,7 @@ has_begun_of asked more s t old new begun = record {
 }
 
 -- some commands were run whole, and others behind them were begun
-pub has_begun_more : (asked more : List Command) (s m t : State) (old mid new : Known) → HasRun asked s m old mid → HasBegun more m t mid new → HasBegun (asked ++ more) s t old new
+pub has_begun_more : (asked more : List Command) (s m t : FileState) (old mid new : Known) → HasRun asked s m old mid → HasBegun more m t mid new → HasBegun (asked ++ more) s t old new
 has_begun_more asked more s m t old mid new one two = record {
   first = asked ++ two.first;
   others = two.others;

@@ -1,9 +1,11 @@
 -- What is known of a line once it was run.
 use Rattle.std.specs.Prelude.{◌≡◌, ℕ, List}
-use Rattle.h5_model.specs.Edits.{State}
-use Rattle.h5_model.specs.Lines.{Command}
-use Rattle.h5_model.specs.Script.{Given}
+use Rattle.h5_model.specs.Lines.{Command, Change}
+use Rattle.h5_model.specs.Script.{Given, Answer}
 use Rattle.h5_model.specs.Script as script
+use Rattle.h5_model.specs.declared.edits.Edited.{Edited}
+use Rattle.h5_open.specs.State.{FileState, state_of}
+use Rattle.h5_file.specs.Edited.{IsEdited}
 use Rattle.h5_script.specs.Taken.{line_answer, IsGivenAt}
 use Rattle.h5_script.specs.declared.ran.Outcome.{Outcome}
 use Rattle.h5_script.specs.declared.ran.Outcome.TheVariants.{Refused, Accepted, Told}
@@ -13,16 +15,34 @@ outcome_of Refused = script.Refused
 outcome_of Accepted = script.Accepted
 outcome_of Told = script.Told
 
--- the line left this state, and its answer is this text
-pub record IsAnswered (before : State) (command : Command) (after : State) (text : List ℕ) (outcome : Outcome) : Type 0 where
+-- a line that was run: what it asks for, what is given to it, and the file that it leaves
+pub record Line : Type 0 where
+  pub command : Command
   pub given : Given
-  pub allowed : IsGivenAt before command given
-  pub after_is : after ≡ ((line_answer before command given).session).state
-  pub text_is : text ≡ (line_answer before command given).text
-  pub outcome_is : outcome_of outcome ≡ (line_answer before command given).outcome
+  pub after : FileState
 
--- the line left this state, and there was no memory for its answer
-pub record IsUntold (before : State) (command : Command) (after : State) : Type 0 where
+abbrev pub answer_at : FileState → Line → Answer
+answer_at f line = line_answer (state_of f) line.command line.given
+
+-- an edit that is accepted makes of the file what it gives; any other line leaves the file as it is, each byte of it
+abbrev pub Leaves : script.Outcome → Command → FileState → FileState → Type 0
+Leaves script.Accepted (Change edit) f after = (e : Edited) × IsEdited f edit after e
+Leaves _ command f after = after ≡ f
+
+-- the line was answered in this file: what is given to it may be given there, and it leaves what it answers
+pub record IsRunIn (f : FileState) (line : Line) : Type 0 where
+  pub allowed : IsGivenAt f line.command line.given
+  pub state_is : state_of line.after ≡ ((answer_at f line).session).state
+  pub left : Leaves (answer_at f line).outcome line.command f line.after
+
+-- a line that asks for the command led from one file to another, and its answer is this text
+pub record IsAnswered (before : FileState) (command : Command) (after : FileState) (text : List ℕ) (outcome : Outcome) : Type 0 where
   pub given : Given
-  pub allowed : IsGivenAt before command given
-  pub after_is : after ≡ ((line_answer before command given).session).state
+  pub run : IsRunIn before (record { command = command; given = given; after = after })
+  pub text_is : text ≡ (line_answer (state_of before) command given).text
+  pub outcome_is : outcome_of outcome ≡ (line_answer (state_of before) command given).outcome
+
+-- a line that asks for the command led from one file to another, and there was no memory for its answer
+pub record IsUntold (before : FileState) (command : Command) (after : FileState) : Type 0 where
+  pub given : Given
+  pub run : IsRunIn before (record { command = command; given = given; after = after })

@@ -2,65 +2,57 @@
 use Rattle.std.specs.Prelude.{◌≡◌, ℕ, ◌+◌, Option, List, [], ◌∷◌, ◌++◌, map, Result, MatchResult}
 use Rattle.std.specs.List.{count_by}
 use Rattle.std.specs.Io.KnownBytes.{Appends}
-use Rattle.h5_model.specs.Edits.{State}
 use Rattle.h5_model.specs.Lines.{Command}
-use Rattle.h5_model.specs.Script.{Given, Outcome, is_refused, is_accepted}
-use Rattle.h5_script.specs.Taken.{line_answer, IsGivenAt}
+use Rattle.h5_model.specs.Script.{Outcome, is_refused, is_accepted}
+use Rattle.h5_open.specs.State.{FileState}
+use Rattle.h5_script.specs.Answered.{Line, answer_at, IsRunIn}
 use Rattle.h5_script.specs.declared.ran.Ran.{Ran}
 use Rattle.h5_script.specs.declared.fault.RunFault.{RunFault}
 use Rattle.h5_script.specs.declared.fault.RunFault.TheVariants.{ScriptWrite, NoMemory}
 
--- a command with what is given to its line
-abbrev pub Line : Type 0
-Line = Command × Given
-
 abbrev pub commands_in : List Line → List Command
-commands_in lines = map (λ line. line.0) lines
+commands_in lines = map (λ line. line.command) lines
 
--- the state that a line leaves
-abbrev pub state_past : State → Line → State
-state_past s line = ((line_answer s line.0 line.1).session).state
-
--- the state after lines
-unfoldable pub state_of_run : State → List Line → State
-state_of_run s [] = s
-state_of_run s (line ∷ lines) = state_of_run (state_past s line) lines
+-- the file after lines
+unfoldable pub file_of_run : FileState → List Line → FileState
+file_of_run f [] = f
+file_of_run f (line ∷ lines) = file_of_run line.after lines
 
 -- the text of their answers
-unfoldable pub text_of_run : State → List Line → List ℕ
-text_of_run s [] = []
-text_of_run s (line ∷ lines) = (line_answer s line.0 line.1).text ++ text_of_run (state_past s line) lines
+unfoldable pub text_of_run : FileState → List Line → List ℕ
+text_of_run f [] = []
+text_of_run f (line ∷ lines) = (answer_at f line).text ++ text_of_run line.after lines
 
 -- their outcomes
-unfoldable pub outcomes_of_run : State → List Line → List Outcome
-outcomes_of_run s [] = []
-outcomes_of_run s (line ∷ lines) = (line_answer s line.0 line.1).outcome ∷ outcomes_of_run (state_past s line) lines
+unfoldable pub outcomes_of_run : FileState → List Line → List Outcome
+outcomes_of_run f [] = []
+outcomes_of_run f (line ∷ lines) = (answer_at f line).outcome ∷ outcomes_of_run line.after lines
 
--- what is given to each line may be given in the state in which it is answered
-unfoldable pub AreGiven : State → List Line → Type 0
-AreGiven s [] = Unit {0}
-AreGiven s (line ∷ lines) = IsGivenAt s line.0 line.1 × AreGiven (state_past s line) lines
+-- each line was run in the file that the one before it leaves
+unfoldable pub AreRunIn : FileState → List Line → Type 0
+AreRunIn f [] = Unit {0}
+AreRunIn f (line ∷ lines) = IsRunIn f line × AreRunIn line.after lines
 
--- lines that ask for these commands lead from one state to another
-pub record IsRun (asked : List Command) (before after : State) (lines : List Line) : Type 0 where
+-- lines that ask for these commands lead from one file to another
+pub record IsRun (asked : List Command) (before after : FileState) (lines : List Line) : Type 0 where
   pub asked_are : commands_in lines ≡ asked
-  pub given : AreGiven before lines
-  pub after_is : after ≡ state_of_run before lines
+  pub each : AreRunIn before lines
+  pub after_is : after ≡ file_of_run before lines
 
 -- these commands were run, and their answers were written behind what stood there
-pub record HasRun (asked : List Command) (before after : State) (old new : Option (List ℕ)) : Type 0 where
+pub record HasRun (asked : List Command) (before after : FileState) (old new : Option (List ℕ)) : Type 0 where
   pub lines : List Line
   pub run : IsRun asked before after lines
   pub written : Appends old new (text_of_run before lines)
 
 -- and their outcomes were counted
-pub record HasCounted (asked : List Command) (before after : State) (old new : Option (List ℕ)) (counted counts : Ran) : Type 0 where
+pub record HasCounted (asked : List Command) (before after : FileState) (old new : Option (List ℕ)) (counted counts : Ran) : Type 0 where
   pub run : HasRun asked before after old new
   pub refused : counts.refused ≡ counted.refused + count_by is_refused (outcomes_of_run before run.lines)
   pub edits : counts.edits ≡ counted.edits + count_by is_accepted (outcomes_of_run before run.lines)
 
 -- the first of these commands were run, and a beginning of their answers was written
-pub record HasBegun (asked : List Command) (before after : State) (old new : Option (List ℕ)) : Type 0 where
+pub record HasBegun (asked : List Command) (before after : FileState) (old new : Option (List ℕ)) : Type 0 where
   pub first : List Command
   pub others : List Command
   pub asked_are : first ++ others ≡ asked
@@ -78,6 +70,6 @@ IsCut NoMemory = Unit {0}
 IsCut _ = ⊥
 
 -- the commands were run and counted, or the run ends early
-abbrev pub RunsTo : {T : Type 0} → Result T RunFault → List Command → State → State → Option (List ℕ) → Option (List ℕ) → Ran → Ran → Type 0
+abbrev pub RunsTo : {T : Type 0} → Result T RunFault → List Command → FileState → FileState → Option (List ℕ) → Option (List ℕ) → Ran → Ran → Type 0
 RunsTo result asked before after old new counted counts =
     MatchResult result (λ _. HasCounted asked before after old new counted counts) (λ fault. IsCut fault × HasBegun asked before after old new)

@@ -5,13 +5,16 @@ use Rattle.h5_model.specs.EditFaults.{refused_text}
 use Rattle.h5_model.specs.Lines.{Command, Change, ListAll, Dump, Unread}
 use Rattle.h5_model.specs.Script.{Answer, Given, Refused, answered, answer_of}
 use Rattle.h5_model.specs.States.{new_session}
-use Rattle.h5_model.specs.declared.edits.Edit.TheVariants.{CreateDataset}
+use Rattle.h5_model.specs.declared.edits.Edit.TheVariants.{CreateDataset, SetAttr, RemoveAttr}
 use Rattle.h5_model.specs.declared.edit_fault.EditFault.TheVariants as fault
-use Rattle.h5_file.specs.Edited.{is_carried, IsGivenFor}
+use Rattle.h5_open.specs.State.{FileState}
+use Rattle.h5_edit.specs.Carried.{is_carried, IsGivenFor}
 
--- the commands so far: `dataset`, `ls` and `dump`; a line that asks for anything else is a bad line
+-- the commands so far: `dataset`, `attr`, `unattr`, `ls` and `dump`; a line that asks for anything else is a bad line
 abbrev pub taken : Command → Command
 taken (Change (CreateDataset path spec)) = Change (CreateDataset path spec)
+taken (Change (SetAttr path attr)) = Change (SetAttr path attr)
+taken (Change (RemoveAttr path name)) = Change (RemoveAttr path name)
 taken ListAll = ListAll
 taken (Dump path) = Dump path
 taken _ = Unread
@@ -34,12 +37,12 @@ IsMemory (Some fault.NoMemory) = Unit {0}
 IsMemory _ = ⊥
 
 -- what may be given to a command: to an edit that is carried what the file decides, to `ls` and `dump` memory
-abbrev pub IsGivenSoFar : State → Command → Given → Type 0
-IsGivenSoFar s (Change edit) given = MatchBool (is_carried s.tree edit) (IsGivenFor s.tree s.next edit given) (given ≡ None)
-IsGivenSoFar s ListAll given = IsMemory given
-IsGivenSoFar s (Dump path) given = IsMemory given
-IsGivenSoFar s _ given = given ≡ None
+abbrev pub IsGivenSoFar : FileState → Command → Given → Type 0
+IsGivenSoFar f (Change edit) given = MatchBool (is_carried f.tree edit) (IsGivenFor f edit given) (given ≡ None)
+IsGivenSoFar f ListAll given = IsMemory given
+IsGivenSoFar f (Dump path) given = IsMemory given
+IsGivenSoFar f _ given = given ≡ None
 
--- what may be given to a line that is answered in this state
-unfoldable pub IsGivenAt : State → Command → Given → Type 0
-IsGivenAt s command given = IsGivenSoFar s (taken command) given
+-- what may be given to a line that is answered in this file
+unfoldable pub IsGivenAt : FileState → Command → Given → Type 0
+IsGivenAt f command given = IsGivenSoFar f (taken command) given

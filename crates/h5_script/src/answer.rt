@@ -5,9 +5,9 @@ ghost use Rattle.h5_model.specs.EditFaults.{refused_text};
 ghost use Rattle.h5_model.specs.Lines as lines;
 ghost use Rattle.h5_model.specs.declared.edit_fault.EditFault.TheVariants as fault;
 ghost use Rattle.h5_script.specs.declared.ran.Outcome.TheVariants.{Refused};
-ghost use Rattle.h5_file.specs.State.{state_of};
 ghost use Rattle.h5_lines.specs.Commands.{command_of};
 ghost use Rattle.h5_script.specs.Answered.{IsAnswered, IsUntold};
+ghost use Rattle.h5_script.specs.Taken.{taken};
 
 use crate::ran::Outcome;
 use crate::texts::{push_dump, push_list};
@@ -22,8 +22,8 @@ use std::alloc::AllocError;
 /// A want of memory for the answer is told of `ls` and `dump` as a refusal; what is left is
 /// the memory for one short line.
 pub fn answer(file: &mut File, command: &Command, text: &mut Vec<u8>) -> Result<Outcome, AllocError>
-    ensures { MatchResult result (IsAnswered (state_of file.old) (command_of command.now) (state_of file.new) text.new.items)
-        (λ _. IsUntold (state_of file.old) (command_of command.now) (state_of file.new)) }
+    ensures { MatchResult result (IsAnswered file.old (command_of command.now) file.new text.new.items)
+        (λ _. IsUntold file.old (command_of command.now) file.new) }
 {
     text.clear();
     match command {
@@ -55,12 +55,24 @@ fn refused(text: &mut Vec<u8>, fault: EditFault) -> Result<Outcome, AllocError>
 /// Carries out an edit, if lines may ask for it.
 fn answer_edit(file: &mut File, edit: &Edit, text: &mut Vec<u8>) -> Result<Outcome, AllocError>
     requires { text.old.items ≡ [] }
-    ensures { MatchResult result (IsAnswered (state_of file.old) (lines.Change edit.now) (state_of file.new) text.new.items)
-        (λ _. IsUntold (state_of file.old) (lines.Change edit.now) (state_of file.new)) }
+    ensures { MatchResult result (IsAnswered file.old (lines.Change edit.now) file.new text.new.items)
+        (λ _. IsUntold file.old (lines.Change edit.now) file.new) }
 {
-    let Edit::CreateDataset { .. } = edit else {
-        return bad_line(text);
-    };
+    match edit {
+        Edit::CreateDataset { .. } | Edit::SetAttr { .. } | Edit::RemoveAttr { .. } => {
+            carry_out(file, edit, text)
+        }
+        _ => bad_line(text),
+    }
+}
+
+/// Carries out an edit that lines may ask for.
+fn carry_out(file: &mut File, edit: &Edit, text: &mut Vec<u8>) -> Result<Outcome, AllocError>
+    requires taken { taken (lines.Change edit.now) ≡ lines.Change edit.now }
+    requires empty { text.old.items ≡ [] }
+    ensures { MatchResult result (IsAnswered file.old (lines.Change edit.now) file.new text.new.items)
+        (λ _. IsUntold file.old (lines.Change edit.now) file.new) }
+{
     match file.edit(edit) {
         Ok(edited) => {
             push_accepted(text, edited.refreshed)?;
@@ -73,8 +85,8 @@ fn answer_edit(file: &mut File, edit: &Edit, text: &mut Vec<u8>) -> Result<Outco
 /// Lists the file.
 fn list(file: &File, text: &mut Vec<u8>) -> Result<Outcome, AllocError>
     requires { text.old.items ≡ [] }
-    ensures { MatchResult result (IsAnswered (state_of file.now) lines.ListAll (state_of file.now) text.new.items)
-        (λ _. IsUntold (state_of file.now) lines.ListAll (state_of file.now)) }
+    ensures { MatchResult result (IsAnswered file.now lines.ListAll file.now text.new.items)
+        (λ _. IsUntold file.now lines.ListAll file.now) }
 {
     if push_list(text, file).is_err() {
         return no_memory(text);
@@ -85,8 +97,8 @@ fn list(file: &File, text: &mut Vec<u8>) -> Result<Outcome, AllocError>
 /// Dumps what stands at the path.
 fn dump(file: &File, path: &[u8], text: &mut Vec<u8>) -> Result<Outcome, AllocError>
     requires { text.old.items ≡ [] }
-    ensures { MatchResult result (IsAnswered (state_of file.now) (lines.Dump path.now) (state_of file.now) text.new.items)
-        (λ _. IsUntold (state_of file.now) (lines.Dump path.now) (state_of file.now)) }
+    ensures { MatchResult result (IsAnswered file.now (lines.Dump path.now) file.now text.new.items)
+        (λ _. IsUntold file.now (lines.Dump path.now) file.now) }
 {
     let kind = match file.kind(path) {
         Ok(kind) => kind,

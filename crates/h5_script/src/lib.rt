@@ -2,7 +2,7 @@
 //!
 //! [`run_script`] reads a script, runs each line as soon as it is read whole, and writes its answer
 //! before the next line is run. docs/SCRIPT.md has the forms of lines. This version takes `dataset`,
-//! `ls` and `dump`; lines of other forms are answered as bad lines.
+//! `attr`, `unattr`, `ls` and `dump`; lines of other forms are answered as bad lines.
 #![tactic(auto)]
 
 mod answer;

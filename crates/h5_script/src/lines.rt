@@ -1,7 +1,6 @@
 //! Lines of a script, run one after the other.
 
 ghost use Rattle.std.specs.Prelude.{◌≡◌, ◌+◌, ◌++◌, ◌<◌, ◌≤◌, ◌^◌, ◌∷◌, [], IfOk, OnOk, MatchOption, length};
-ghost use Rattle.h5_file.specs.State.{state_of};
 ghost use Rattle.h5_lines.specs.Commands.{command_of};
 ghost use Rattle.h5_script.specs.Pieces.{HasNoEnd, IsFirstLine, RunsLinesTo, commands_of_line};
 ghost use Rattle.h5_script.specs.Runs.{RunsTo};
@@ -50,7 +49,7 @@ fn run_command<W: Write>(
 ) -> Result<(), RunFault>
     requires refused { answers.old.ran.refused < 2 ^ 63 }
     requires edits { answers.old.ran.edits < 2 ^ 63 }
-    ensures run { RunsTo result (command_of command.now ∷ []) (state_of file.old) (state_of file.new)
+    ensures run { RunsTo result (command_of command.now ∷ []) file.old file.new
         (W.contents output.old) (W.contents output.new) answers.old.ran answers.new.ran }
     ensures refused { OnOk result (answers.new.ran.refused ≤ answers.old.ran.refused + 1) }
     ensures edits { OnOk result (answers.new.ran.edits ≤ answers.old.ran.edits + 1) }
@@ -70,7 +69,7 @@ pub fn run_line<W: Write>(
 ) -> Result<(), RunFault>
     requires refused { answers.old.ran.refused < 2 ^ 63 }
     requires edits { answers.old.ran.edits < 2 ^ 63 }
-    ensures run { RunsTo result (commands_of_line line.now) (state_of file.old) (state_of file.new)
+    ensures run { RunsTo result (commands_of_line line.now) file.old file.new
         (W.contents output.old) (W.contents output.new) answers.old.ran answers.new.ran }
     ensures refused { OnOk result (answers.new.ran.refused ≤ answers.old.ran.refused + 1) }
     ensures edits { OnOk result (answers.new.ran.edits ≤ answers.old.ran.edits + 1) }
@@ -106,7 +105,7 @@ pub fn run_piece<W: Write>(
     requires held { HasNoEnd held.old.items }
     requires refused { answers.old.ran.refused + length piece.now < 2 ^ 63 }
     requires edits { answers.old.ran.edits + length piece.now < 2 ^ 63 }
-    ensures run { RunsLinesTo result (held.old.items ++ piece.now) held.new.items (state_of file.old) (state_of file.new)
+    ensures run { RunsLinesTo result (held.old.items ++ piece.now) held.new.items file.old file.new
         (W.contents output.old) (W.contents output.new) answers.old.ran answers.new.ran }
     ensures refused { OnOk result (answers.new.ran.refused ≤ answers.old.ran.refused + length piece.now) }
     ensures edits { OnOk result (answers.new.ran.edits ≤ answers.old.ran.edits + length piece.now) }

@@ -1,7 +1,6 @@
 //! A whole script.
 
 ghost use Rattle.std.specs.Prelude.{◌<◌, MatchResult, length};
-ghost use Rattle.h5_file.specs.State.{state_of};
 ghost use Rattle.h5_script.specs.Script.{IsDone, IsStopped};
 
 use crate::fault::RunFault;
@@ -32,8 +31,8 @@ fn run_pieces<R: Read, W: Write>(
 ) -> Result<Ran, RunFault>
     requires { 0 < length piece.old }
     ensures { MatchResult result
-        (IsDone (state_of file.old) (state_of file.new) (R.remaining input.old) (R.remaining input.new) (W.contents output.old) (W.contents output.new))
-        (IsStopped (state_of file.old) (state_of file.new) (R.remaining input.old) (R.remaining input.new) (W.contents output.old) (W.contents output.new)) }
+        (IsDone file.old file.new (R.remaining input.old) (R.remaining input.new) (W.contents output.old) (W.contents output.new))
+        (IsStopped file.old file.new (R.remaining input.old) (R.remaining input.new) (W.contents output.old) (W.contents output.new)) }
 {
     let mut held = Vec::new(alloc);
     let mut answers = Answers::new(alloc)?;
@@ -69,8 +68,8 @@ pub fn run_script<R: Read, W: Write>(
     output: &mut W,
 ) -> Result<Ran, RunFault>
     ensures { MatchResult result
-        (IsDone (state_of file.old) (state_of file.new) (R.remaining input.old) (R.remaining input.new) (W.contents output.old) (W.contents output.new))
-        (IsStopped (state_of file.old) (state_of file.new) (R.remaining input.old) (R.remaining input.new) (W.contents output.old) (W.contents output.new)) }
+        (IsDone file.old file.new (R.remaining input.old) (R.remaining input.new) (W.contents output.old) (W.contents output.new))
+        (IsStopped file.old file.new (R.remaining input.old) (R.remaining input.new) (W.contents output.old) (W.contents output.new)) }
 {
     let mut piece = vec![in alloc; 0u8; PIECE]?;
     run_pieces(alloc, file, input, output, &mut piece)

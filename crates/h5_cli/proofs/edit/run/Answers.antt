@@ -1,4 +1,4 @@
-use Rattle.std.proofs.Common.{Some, None}
+use Rattle.std.proofs.Common.{Some}
 use Rattle.h5_order.specs.Words.{WantRun}
 use Rattle.h5_cli.proofs.EndLaws.{run_ends, written_ends}
 use Rattle.h5_cli.proofs.edit.run.Goals as goal

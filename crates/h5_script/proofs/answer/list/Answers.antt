@@ -3,18 +3,17 @@ use Rattle.h5_model.specs.EditFaults.{refused_text}
 use Rattle.h5_model.specs.Text.{list_text}
 use Rattle.h5_model.specs.Lines.{ListAll}
 use Rattle.h5_model.specs.declared.edit_fault.EditFault.TheVariants as fault
-use Rattle.h5_file.specs.State.{state_of}
 use Rattle.h5_script.specs.declared.ran.Outcome.TheVariants.{Refused, Told}
 use Rattle.h5_script.proofs.LineAnswers.{told_or_not, appended, shown_as, list_told, list_refused}
 use Rattle.h5_script.proofs.answer.list.Goals as goal
 
 pub returns-then-is_err : goal.returns-then-is_err
 returns-then-is_err c =
-    told_or_not c.no_memory.result (state_of c.args.file.now) (state_of c.args.file.now) ListAll c.no_memory.new.text.items (refused_text fault.NoMemory) Refused
-    (list_refused (state_of c.args.file.now)) c.no_memory.ensures
+    told_or_not c.no_memory.result c.args.file.now c.args.file.now ListAll c.no_memory.new.text.items (refused_text fault.NoMemory) Refused
+    (list_refused c.args.file.now) c.no_memory.ensures
 
 pub returns : goal.returns
 returns c =
-    shown_as (state_of c.args.file.now) (state_of c.args.file.now) ListAll (list_text c.args.file.now.tree) c.push_list.new.text.items Told
+    shown_as c.args.file.now c.args.file.now ListAll (list_text c.args.file.now.tree) c.push_list.new.text.items Told
     (appended c.push_list.result c.args.text.now.items c.push_list.new.text.items (list_text c.args.file.now.tree) (sym c.if-is_err.ensures.value) c.requires c.push_list.ensures)
-    (list_told (state_of c.args.file.now))
+    (list_told c.args.file.now)

@@ -1,5 +1,4 @@
 use Rattle.std.proofs.Common.{◌≡◌, ℕ, ◌+◌, ◌≤◌, List, ◌++◌, length}
-use Rattle.h5_file.specs.State.{state_of}
 use Rattle.h5_script.specs.Pieces.{HasRunLines}
 use Rattle.h5_script.proofs.lines.run_piece.Given as goal
 
@@ -8,7 +7,7 @@ abbrev pub invariant-loop-line : goal.invariant-loop-line
 invariant-loop-line g l = record {
   seen : List ℕ;
   parts : seen ++ l.rest ≡ l.fn.held.items ++ l.fn.piece;
-  run : HasRunLines seen l.held.items (state_of l.fn.file) (state_of l.file) (g.W.Write.contents l.fn.output) (g.W.Write.contents l.output) l.fn.answers.ran l.answers.ran;
+  run : HasRunLines seen l.held.items l.fn.file l.file (g.W.Write.contents l.fn.output) (g.W.Write.contents l.output) l.fn.answers.ran l.answers.ran;
   refused : l.answers.ran.refused + length l.rest ≤ l.fn.answers.ran.refused + length l.fn.piece;
   edits : l.answers.ran.edits + length l.rest ≤ l.fn.answers.ran.edits + length l.fn.piece;
 }

@@ -1,5 +1,4 @@
 use Rattle.std.proofs.Common.{refl}
-use Rattle.h5_file.specs.State.{state_of}
 use Rattle.h5_script.specs.declared.fault.RunFault.TheVariants.{NoMemory}
 use Rattle.h5_script.proofs.ScriptRuns.{by_stop, stopped_at_first}
 use Rattle.h5_script.proofs.run.run_script.Goals as goal
@@ -7,4 +6,4 @@ use Rattle.h5_script.proofs.run.run_script.Goals as goal
 pub returns-in_err-piece : goal.returns-in_err-piece
 returns-in_err-piece g c =
     by_stop c.from_residual.result _ _ NoMemory NoMemory c.from_residual.ensures.1 refl
-    (stopped_at_first (state_of c.args.file.now) (g.R.Read.remaining c.args.input.now) (g.W.Write.contents c.args.output.now) NoMemory tt)
+    (stopped_at_first c.args.file.now (g.R.Read.remaining c.args.input.now) (g.W.Write.contents c.args.output.now) NoMemory tt)
