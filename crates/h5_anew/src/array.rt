@@ -53,6 +53,7 @@ pub(crate) fn new_array<'a>(name: &'a [u8], spec: &Spec, size: u64, none: &'a Ot
     ensures writable { IsWritable result }
     ensures sound { IsFixed spec.now.fixed }
 {
+    // The call's contract says that the type is a sound one.
     let _size = spec.fixed.size();
     Array {
         name,
