@@ -55,7 +55,7 @@ module _ (image : List ℕ) (t : Fixed) (fill : ℤ) (size : ℕ) (b : Block) (c
       ∙ ap (λ bytes. value_at t bytes (k * t.size)) (sym has.same)
       ∙ value_at-cells_bytes t values k fill (size-low t fixed) has.of_type (omega (arith, has.counted, below))))
 
-  pub stored_bytes : AreBytes front → b.at + b.len ≤ length image → front ≡ cells_bytes t (cells_of image t fill (size ∷ []) (InBlock (Some b)) chunks)
+  stored_bytes : AreBytes front → b.at + b.len ≤ length image → front ≡ cells_bytes t (cells_of image t fill (size ∷ []) (InBlock (Some b)) chunks)
   stored_bytes low inside =
       let long : length front ≡ size * t.size = length-part b.at (size * t.size) image (omega (arith, room, inside)) in
       let made = values_there t size front fixed long low in

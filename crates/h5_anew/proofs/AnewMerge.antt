@@ -1,11 +1,11 @@
 -- Attributes by their names, with a change among them.
-use Rattle.std.proofs.Common.{◌≡◌, ℕ, suc, ◌+◌, ◌<◌, ◌≤◌, List, [], ◌∷◌, ◌++◌, length, take, drop, get_or, refl, sym, ap, ◌∙◌, arith, append_assoc, Bool, true, false}
-use Rattle.std.proofs.lemmas.List.{drop_more, drop_all, take_more}
+use Rattle.std.proofs.Common.{◌≡◌, ℕ, ◌+◌, ◌<◌, ◌≤◌, List, ◌∷◌, ◌++◌, length, take, drop, get_or, refl, sym, ap, ◌∙◌, arith, Bool, true, false}
+use Rattle.std.proofs.lemmas.List.{drop_more, drop_all}
 use Rattle.std.specs.Prelude.{T, not}
 use Rattle.std.specs.Ordering.{nat_cmp, eq_by_cmp}
 use Rattle.std.specs.Cmp.Lexicographic.{slice_cmp, nat_list_cmp_total}
 use Rattle.std.specs.declared.cmp.Ordering.{Ordering}
-use Rattle.std.specs.declared.cmp.Ordering.TheVariants.{Less, Equal, Greater}
+use Rattle.std.specs.declared.cmp.Ordering.TheVariants.{Less, Equal}
 use Rattle.std.specs.FinMap.{entries, remove, put, is_sorted, from_sorted, entries_sorted, entries-insert, entries-from_sorted, same_entries_map, nat_cmp-IsAntisymmetric, slice_cmp-IsAntisymmetric}
 use Rattle.std.specs.FinMap.Entries.{by_order, is_sorted-where_key}
 use Rattle.h5_model.proofs.MapSteps.{remove_by_name, entries_by_name}
@@ -56,13 +56,6 @@ module _ (name : List ℕ) (es : Named) (at : ℕ) (d : List ℕ × Attribute) (
               ∙ ap (λ n. (n, a) ∷ drop (at + 1) es) (sym same));
         }
 
-    pub place_later : order name (get_or es at d).0 ≡ Greater → StandBelow name es (at + 1)
-    place_later is a =
-        below a ∙ ap (λ more. take at es ++ more) (here a
-        ∙ ap (λ r. by_order r ((name, a) ∷ get_or es at d ∷ drop (at + 1) es) (((get_or es at d).0, a) ∷ drop (at + 1) es) (get_or es at d ∷ with name a (drop (at + 1) es))) is)
-        ∙ sym (append_assoc (take at es) (get_or es at d ∷ []) (with name a (drop (at + 1) es)))
-        ∙ ap (λ front. front ++ with name a (drop (at + 1) es)) (sym (take_more es at d low))
-
 pub place_end : (name : List ℕ) (es : Named) (at : ℕ) → StandBelow name es at → at ≡ length es → IsPlaceOf name es at at
 place_end name es at below is = record {
   rising = omega arith;
@@ -70,9 +63,6 @@ place_end name es at below is = record {
   placed = λ a. below a ∙ ap (λ (more : Named). take at es ++ with name a more) (drop_all at es (omega (arith, is)))
       ∙ ap (λ (more : Named). take at es ++ ((name, a) ∷ more)) (sym (drop_all at es (omega (arith, is))));
 }
-
-pub place_begin : (name : List ℕ) (es : Named) → StandBelow name es 0
-place_begin name es a = refl
 
 -- ---- the entries of changed attributes
 
@@ -94,17 +84,5 @@ pub entries-changed : (change : Change) (m : Attributes) → entries (changed ch
 entries-changed (Set a) m = entries-insert nat_list_cmp_total m (a.now).name (attribute_from a.now)
 entries-changed (Remove name) m = removed m name.now
 
-length-put : (name : List ℕ) (a : Attribute) (es : Named) → length (with name a es) ≤ 1 + length es
-length-put name a [] = omega arith
-length-put name a (e ∷ es) = elim (order name e.0) as (λ r. length (by_order r ((name, a) ∷ e ∷ es) ((e.0, a) ∷ es) (e ∷ with name a es)) ≤ 1 + suc (length es)) [
-  | Less ↦ omega arith
-  | Equal ↦ omega arith
-  | Greater ↦ omega (arith, length-put name a es)
-]
-
 pub length-without : (name : List ℕ) (es : Named) → length (without name es) ≤ length es
 length-without name es = length-filter-le (λ (e : List ℕ × Attribute). not (eq_by_cmp (slice_cmp nat_cmp) name e.0)) es
-
-pub length-merged : (change : Change) (es : Named) → length (merged change es) ≤ 1 + length es
-length-merged (Set a) es = length-put (a.now).name (attribute_from a.now) es
-length-merged (Remove name) es = omega (arith, length-without name.now es)

@@ -1,5 +1,5 @@
 -- Messages that are appended one by one.
-use Rattle.std.proofs.Common.{◌≡◌, ℕ, zero, suc, ◌+◌, ◌<◌, ◌≤◌, List, [], ◌∷◌, ◌++◌, length, take, drop, get_or, refl, sym, ap, ◌∙◌, subst, arith, append_assoc, append-nil, length-append, Bool, true, false, cond}
+use Rattle.std.proofs.Common.{◌≡◌, ℕ, suc, ◌+◌, ◌<◌, ◌≤◌, List, [], ◌∷◌, ◌++◌, length, drop, get_or, sym, ap, ◌∙◌, subst, arith, append_assoc, length-append, Bool, true, false, cond}
 use Rattle.std.proofs.lemmas.List.{drop_more}
 use Rattle.std.specs.List.{AllByRecursion, filter}
 use Rattle.h5_plain.specs.Others.{OthersBytes}
@@ -13,16 +13,6 @@ pub all_more : {X : Type 0} (P : X → Type 0) (xs : List X) (i : ℕ) (d : X) �
     → P (get_or xs i d) × AllByRecursion P (drop (i + 1) xs)
 all_more P xs i d low all = subst (AllByRecursion P) (drop_more xs i d low) all
 
-pub all_taken : {X : Type 0} (P : X → Type 0) (xs : List X) (n : ℕ) → AllByRecursion P xs → AllByRecursion P (take n xs)
-all_taken P xs zero all = tt
-all_taken P [] (suc n) all = tt
-all_taken P (x ∷ xs) (suc n) all = (all.0, all_taken P xs n all.1)
-
-pub all_dropped : {X : Type 0} (P : X → Type 0) (xs : List X) (n : ℕ) → AllByRecursion P xs → AllByRecursion P (drop n xs)
-all_dropped P xs zero all = all
-all_dropped P [] (suc n) all = tt
-all_dropped P (x ∷ xs) (suc n) all = all_dropped P xs n all.1
-
 pub length-filter-le : {X : Type 0} (p : X → Bool) (xs : List X) → length (filter p xs) ≤ length xs
 length-filter-le p [] = omega arith
 length-filter-le p (x ∷ xs) = elim (p x) as (λ b. length (cond b (x ∷ filter p xs) (filter p xs)) ≤ suc (length xs)) [
@@ -31,13 +21,6 @@ length-filter-le p (x ∷ xs) = elim (p x) as (λ b. length (cond b (x ∷ filte
 ]
 
 -- ---- what is appended
-
-pub pushing_begin : (o : OthersBytes) (all : List (ℕ × List ℕ)) → IsPushing o o all all
-pushing_begin o all = record {
-  pushed = [];
-  split = refl;
-  appended = λ before are. subst (λ ms. AreOthers ms o) (sym (append-nil before)) are;
-}
 
 pub appends_both : (old now new : OthersBytes) (ms ns : List (ℕ × List ℕ)) → Appends old now ms → Appends now new ns → Appends old new (ms ++ ns)
 appends_both old now new ms ns first second =
@@ -55,11 +38,6 @@ pushing_step old now new m rest later all so is one = record {
 pub pushing_same : (old now : OthersBytes) (rest later all : List (ℕ × List ℕ)) → IsPushing old now rest all → rest ≡ later → IsPushing old now later all
 pushing_same old now rest later all so is = subst (λ ms. IsPushing old now ms all) is so
 
-pub pushing_end : (old now : OthersBytes) (rest all : List (ℕ × List ℕ)) → IsPushing old now rest all → rest ≡ [] → Appends old now all
-pushing_end old now rest all so is =
-    let whole : so.pushed ≡ all = sym (so.split ∙ ap (λ ms. so.pushed ++ ms) is ∙ append-nil so.pushed) in
-    subst (Appends old now) whole so.appended
-
 -- ---- how many there are
 
 pub pushing_few : (old now : OthersBytes) (m : ℕ × List ℕ) (rest later all : List (ℕ × List ℕ)) (n : ℕ) → HasPlaces old n → length all ≤ n
@@ -70,17 +48,3 @@ pushing_few old now m rest later all n places room so is =
     let whole : length all ≡ length so.pushed + length rest = ap length so.split ∙ length-append so.pushed rest in
     let some : length rest ≡ suc (length later) = ap length is in
     omega (arith, counted, whole, some, room, places.few)
-
--- places are used up
-pub places_left : (old now : OthersBytes) (ms : List (ℕ × List ℕ)) (n more : ℕ) → HasPlaces old n → Appends old now ms → length ms + more ≤ n → HasPlaces now more
-places_left old now ms n more places appended room = record {
-  begun = places.begun ++ ms;
-  are = appended places.begun places.are;
-  few = omega (arith, length-append places.begun ms, places.few);
-}
-
-pub places_few : (o : OthersBytes) (n : ℕ) → HasPlaces o n → 1 ≤ n → o.count < 65536
-places_few o n places some = omega (arith, places.are.count_is, places.few)
-
-pub places_less : (o : OthersBytes) (n m : ℕ) → HasPlaces o n → m ≤ n → HasPlaces o m
-places_less o n m places less = record { begun = places.begun; are = places.are; few = omega (arith, places.few) }

@@ -2,7 +2,6 @@
 
 ghost use Rattle.std.specs.Prelude.{◌≡◌, ◌^◌, ◌<◌, ◌≤◌, ◌+◌, true, [], List, length};
 ghost use Rattle.h5_bytes.specs.Blocks.{Inside};
-ghost use Rattle.h5_header.specs.Listed.{messages_in};
 ghost use Rattle.h5_model.specs.Messages.{Message};
 ghost use Rattle.h5_model.specs.Fixed.{IsFixed, fits};
 ghost use Rattle.h5_model.specs.Edits.{new_dataset, new_object};
@@ -54,6 +53,7 @@ pub(crate) fn new_array<'a>(name: &'a [u8], spec: &Spec, size: u64, none: &'a Ot
     ensures writable { IsWritable result }
     ensures sound { IsFixed spec.now.fixed }
 {
+    // The call's contract says that the type is a sound one.
     let _size = spec.fixed.size();
     Array {
         name,
