@@ -1,146 +1,219 @@
--- What `ls` and `dump` print of a file with one array at most.
-use Rattle.std.proofs.Common.{◌≡◌, ℕ, ◌+◌, ◌*◌, ◌/◌, ◌<◌, ℤ, Some, None, is_some, List, [], ◌++◌, length, codes, refl, sym, ap, ◌∙◌, subst, append_assoc, append-nil, inl, inr, false, arith}
+-- What `ls` and `dump` print of a root with one link at most, to an array.
+use Rattle.std.proofs.Common.{◌≡◌, ℕ, suc, ◌+◌, ◌*◌, ◌/◌, ◌<◌, ℤ, Option, Some, None, IsSome, List, [], ◌∷◌, ◌++◌, length, codes, refl, sym, ap, ◌∙◌, subst, append-nil, inl, inr, true, ◌⊎◌, arith}
+use Rattle.std.proofs.lemmas.List.Concat.{flat_map-append}
 use Rattle.std.proofs.lemmas.Nat.{div-mul-add}
-use Rattle.std.proofs.lemmas.Bool.{false≢true}
 use Rattle.std.specs.Cmp.Lexicographic.{slice_cmp}
+use Rattle.std.specs.FinMap.{get, entries, empty}
+use Rattle.std.specs.List.{flat_map}
+use Rattle.std.specs.Option.{option_and_then, option_map_or}
 use Rattle.std.specs.Ordering.{nat_cmp}
-use Rattle.h5_model.specs.Empty.{root_tree}
-use Rattle.h5_model.specs.Fixed.{Fixed, IsFixed}
-use Rattle.h5_model.specs.OneArray.{one_tree, line_dataset, line_object}
-use Rattle.h5_model.specs.Paths.{Located, Here, Missing, NoParent, NoGroup, NoPath, located}
-use Rattle.h5_model.specs.Script.{dumped, stored_values}
-use Rattle.h5_model.specs.Text.{content_text, dump_text, escaped, joined_path, line_of, list_text, rows_text}
-use Rattle.h5_model.specs.Tree.{Tree, Link, ToObject, Soft, Array, Attribute, Dataset, dataset_of, links_of}
-use Rattle.h5_model.proofs.EmptyReads.{entries-empty, get-root_tree}
-use Rattle.h5_model.proofs.PlainValues.{size-low}
-use Rattle.h5_model.proofs.OneArrayPaths.{get-root, get-array, links-array, dataset-root, located-here}
-use Rattle.h5_model.proofs.OneArrayTexts.{list-root, list-one, dump-root, dump-linking, rows-none}
-use Rattle.h5_model.proofs.RootPaths.{alone-here}
-use Rattle.h5_model.proofs.StoredValues.{length-stored}
+use Rattle.h5_model.specs.Paths.{Located, Here, Missing, NoParent, NoGroup, NoPath, located, object_at, object_there}
+use Rattle.h5_model.specs.Script.{dumped}
+use Rattle.h5_model.specs.Text.{attribute_line, cells_text, content_text, dataset_text, detail_text, dump_text, escaped, joined_path, line_of, lines_below, link_line, list_text, rows_text}
+use Rattle.h5_model.specs.Tree.{Tree, Link, Links, Object, Content, Group, Array, Attribute, Dataset, Contiguous, ToObject, Soft, dataset_of, links_in, links_of, object_of}
+use Rattle.h5_model.proofs.EmptyReads.{entries-empty}
+use Rattle.h5_walk.specs.Small.{alone_tree, link_to_one, pair_tree}
+use Rattle.h5_walk.proofs.SmallLaws.{entries_of_link, one_first, only_one, two_first, two_second, only_two}
 use Rattle.h5_text.specs.Listing.{dump_line}
 use Rattle.h5_text.specs.Rows.{cells_from}
 use Rattle.h5_text.proofs.RowTexts.{cells_are_rows}
-use Rattle.h5_file.specs.Look.{HasKind, IsKind, IsOnlyArray}
-use Rattle.h5_file.specs.declared.array.OnlyArray.{OnlyArray}
-use Rattle.h5_file.specs.declared.kind.Kind.{Kind}
-use Rattle.h5_file.specs.declared.kind.Kind.TheVariants.{Group, Dataset as ArrayOf}
+use Rattle.h5_look.specs.Look.{HasKind, HasNoArray, IsKind, IsOnlyArray}
+use Rattle.h5_look.specs.declared.array.OnlyArray.{OnlyArray}
+use Rattle.h5_look.specs.declared.kind.Kind.{Kind}
+use Rattle.h5_look.specs.declared.kind.Kind.TheVariants.{Group as GroupKind, Dataset as ArrayKind}
 
-abbrev pub values_of : OnlyArray → List ℤ
-values_of a = stored_values a.fixed.now a.cells.now
+-- ---- the two trees
+
+alone_first : (o : Object) → get (alone_tree o) 0 ≡ Some o
+unfolding alone_tree
+alone_first o = one_first o o
+
+alone_only : (o found : Object) (number : ℕ) → get (alone_tree o) number ≡ Some found → number ≡ 0
+unfolding alone_tree
+alone_only o found number there = only_one o o number found there
+
+pair_first : (o p : Object) → get (pair_tree o p) 0 ≡ Some o
+unfolding pair_tree alone_tree
+pair_first o p = two_first o p
+
+pair_second : (o p : Object) → get (pair_tree o p) 1 ≡ Some p
+unfolding pair_tree alone_tree
+pair_second o p = two_second o p
+
+pair_only : (o p found : Object) (number : ℕ) → get (pair_tree o p) number ≡ Some found → ((number ≡ 0) × (found ≡ o)) ⊎ ((number ≡ 1) × (found ≡ p))
+unfolding pair_tree alone_tree
+pair_only o p found number there = only_two o p number found there
+
+-- ---- what lines tell of the array
+
+-- the array as its lines tell it
+abbrev pub told : OnlyArray → Dataset
+told a = record { fixed = a.fixed.now; sizes = a.size ∷ []; maxima = a.maximum ∷ []; storage = Contiguous true; fill = a.fill; cells = [] }
+
+content-same : (d e : Dataset) → d.fixed ≡ e.fixed → d.sizes ≡ e.sizes → d.maxima ≡ e.maxima → content_text (Array d) ≡ content_text (Array e)
+content-same d e fixed sizes maxima = rw (fixed, sizes, maxima) refl
+
+content-told : (tree : Tree) (a : OnlyArray) (only : IsOnlyArray tree a) → content_text (Array only.array) ≡ content_text (Array (told a))
+content-told tree a only = content-same only.array (told a) (sym only.fixed_is) only.sizes_are only.maxima_are
+
+dataset-told : (tree : Tree) (a : OnlyArray) (only : IsOnlyArray tree a) → dataset_text only.array ≡ dataset_text (told a)
+dataset-told tree a only = rw (only.storage_is, sym only.fill_is) refl
 
 -- ---- the list
 
-pub list-none : (tree : Tree) → tree ≡ root_tree → codes "/ group\n" ≡ list_text tree
-list-none tree is = sym (ap list_text is ∙ list-root)
+-- the lines one level down
+below : (tree : Tree) (depth : ℕ) (path : List ℕ) (number : ℕ) → lines_below tree (suc depth) path number
+    ≡ option_map_or (λ links. flat_map (λ e. link_line tree (joined_path path e.0) e.1
+    ++ option_map_or (λ n. lines_below tree depth (joined_path path e.0) n) (object_of e.1) []) (entries links)) (links_of tree number) []
+unfolding lines_below
+below tree depth path number = refl
+
+pub list-none : (tree : Tree) → HasNoArray tree → codes "/ group\n" ≡ list_text tree
+list-none tree is = sym (ap list_text is.tree_is ∙ ap (λ lines. codes "/ group\n" ++ lines) none) where
+  none : lines_below (alone_tree is.root) 64 [] 0 ≡ []
+  none = below (alone_tree is.root) 63 [] 0 ∙ rw (alone_first is.root, is.empty_group, entries-empty {X = Link} (slice_cmp nat_cmp)) refl
+
+module _ (name : List ℕ) (o p : Object) (d : Dataset) (linking : o.content ≡ Group (link_to_one name)) (content : p.content ≡ Array d) where
+  abbrev T : Tree
+  T = pair_tree o p
+
+  abbrev place : List ℕ
+  place = joined_path [] name
+
+  abbrev line : List ℕ
+  line = line_of place (content_text (Array d))
+
+  links-root : links_of T 0 ≡ Some (link_to_one name)
+  links-root = ap (option_and_then (λ (x : Object). links_in x.content)) (pair_first o p) ∙ ap links_in linking
+
+  links-other : links_of T 1 ≡ None
+  links-other = ap (option_and_then (λ (x : Object). links_in x.content)) (pair_second o p) ∙ ap links_in content
+
+  -- the lines of a link, and of what is below it
+  abbrev lines_of : (List ℕ × Link) → List ℕ
+  lines_of e = link_line T (joined_path [] e.0) e.1 ++ option_map_or (λ n. lines_below T 63 (joined_path [] e.0) n) (object_of e.1) []
+
+  first : link_line T place (ToObject 1) ≡ line
+  first = ap (λ x. option_map_or (λ (x : Object). line_of place (content_text x.content)) x []) (pair_second o p) ∙ ap (λ c. line_of place (content_text c)) content
+
+  last : lines_below T 63 place 1 ≡ []
+  last = below T 62 place 1 ∙ ap (λ found. option_map_or (λ links. flat_map (λ e. link_line T (joined_path place e.0) e.1
+      ++ option_map_or (λ n. lines_below T 62 (joined_path place e.0) n) (object_of e.1) []) (entries links)) found []) links-other
+
+  one-link : lines_below T 64 [] 0 ≡ line_of (joined_path [] name) (content_text (Array d))
+  one-link = below T 63 [] 0 ∙ ap (λ found. option_map_or (λ links. flat_map lines_of (entries links)) found []) links-root
+      ∙ ap (flat_map lines_of) (entries_of_link name) ∙ append-nil (link_line T place (ToObject 1) ++ lines_below T 63 place 1)
+      ∙ ap (λ t. t ++ lines_below T 63 place 1) first ∙ ap (λ t. line ++ t) last ∙ append-nil line
 
 pub list-array : (tree : Tree) (a : OnlyArray) → IsOnlyArray tree a
-    → codes "/ group\n" ++ line_of (joined_path [] a.name.now) (content_text (Array (line_dataset a.fixed.now a.size a.fill (values_of a)))) ≡ list_text tree
-list-array tree a is = sym (ap list_text is.tree_is ∙ list-one a.name.now a.fixed.now a.size a.fill (values_of a))
+    → codes "/ group\n" ++ line_of (joined_path [] a.name.now) (content_text (Array (told a))) ≡ list_text tree
+list-array tree a only =
+    sym (ap list_text only.tree_is ∙ ap (λ lines. codes "/ group\n" ++ lines)
+    (one-link a.name.now only.root only.other only.array only.linking only.content ∙ ap (line_of (joined_path [] a.name.now)) (content-told tree a only)))
 
--- ---- the rows of the array
+-- ---- the row of the array
 
-counted : (t : Fixed) (size : ℕ) (bytes : List ℕ) → IsFixed t → length bytes ≡ size * t.size → length (stored_values t bytes) ≡ size
-counted t size bytes sound filled =
-    let some : 0 < t.size = omega (arith, size-low t sound) in
-    let whole : length bytes ≡ size * t.size + 0 = omega (arith, filled) in
-    length-stored t bytes ∙ ap (λ n. n / t.size) whole ∙ div-mul-add size t.size 0 some
-
-pub dump-head : (path : List ℕ) (t : Fixed) (size : ℕ) (fill : ℤ) (values : List ℤ)
-    → dump_line path (line_dataset t size fill values) ++ rows_text (length values / size) size values ≡ dump_text path (line_object t size fill values)
-dump-head path t size fill values =
-    sym (rw (entries-empty {X = Attribute} (slice_cmp nat_cmp)) (ap (λ head. head ++ rows_text (length values / size) size values) (append-nil (dump_line path (line_dataset t size fill values)))))
-
-pub dump-empty : (path : List ℕ) (t : Fixed) (size : ℕ) (fill : ℤ) (bytes : List ℕ) → IsFixed t → length bytes ≡ size * t.size → size ≡ 0
-    → dump_line path (line_dataset t size fill (stored_values t bytes)) ≡ dump_text path (line_object t size fill (stored_values t bytes))
-dump-empty path t size fill bytes sound filled none =
-    let values = stored_values t bytes in
-    let nothing : rows_text (length values / size) size values ≡ [] = ap (λ n. rows_text (length values / n) n values) none ∙ rows-none values (counted t size bytes sound filled ∙ none) in
-    sym (append-nil (dump_line path (line_dataset t size fill values))) ∙ ap (λ rows. dump_line path (line_dataset t size fill values) ++ rows) (sym nothing) ∙ dump-head path t size fill values
-
-pub dump-rows : (path : List ℕ) (t : Fixed) (size : ℕ) (fill : ℤ) (bytes : List ℕ) → IsFixed t → length bytes ≡ size * t.size → 0 < size
-    → dump_line path (line_dataset t size fill (stored_values t bytes)) ++ cells_from size 0 (stored_values t bytes) ≡ dump_text path (line_object t size fill (stored_values t bytes))
-dump-rows path t size fill bytes sound filled some =
-    let values = stored_values t bytes in
-    let count : length values ≡ size = counted t size bytes sound filled in
-    let whole : length values ≡ 1 * size + 0 = omega (arith, count) in
+pub one-row : (size : ℕ) (values : List ℤ) → 0 < size → length values ≡ size → cells_from size 0 values ≡ rows_text (length values / size) size values
+one-row size values some counted =
+    let whole : length values ≡ 1 * size + 0 = omega (arith, counted) in
     let one : length values / size ≡ 1 = ap (λ n. n / size) whole ∙ div-mul-add 1 size 0 some in
-    let rows : length values ≡ length values / size * size = omega (arith, count, ap (λ n. n * size) one) in
-    ap (λ text. dump_line path (line_dataset t size fill values) ++ text) (cells_are_rows (length values / size) size values some rows) ∙ dump-head path t size fill values
+    let rows : length values ≡ length values / size * size = omega (arith, counted, ap (λ n. n * size) one) in
+    cells_are_rows (length values / size) size values some rows
 
--- ---- what stands at a path
+-- ---- what is dumped of an object
 
-group_line : (path : List ℕ) → path ++ codes " group\n" ≡ line_of path (codes "group")
-group_line path = sym (simp append_assoc)
+-- one more line of an attribute
+pub attributes-push : (attributes : List (List ℕ × Attribute)) (a : List ℕ × Attribute)
+    → flat_map attribute_line (attributes ++ a ∷ []) ≡ flat_map attribute_line attributes ++ attribute_line a
+attributes-push attributes a = flat_map-append attribute_line attributes (a ∷ []) ∙ ap (λ t. flat_map attribute_line attributes ++ t) (append-nil (attribute_line a))
 
--- in the root alone
-pub dumped-alone : (tree : Tree) (path : List ℕ) (kind : Kind) → tree ≡ root_tree → HasKind tree path kind → line_of (escaped path) (codes "group") ≡ dumped tree path (located tree path)
-dumped-alone tree path kind is has = by (located root_tree path) refl (subst (λ (t : Tree). IsKind t (located t path) kind) is has.found) ∙ ap (λ (t : Tree). dumped t path (located t path)) (sym is) where
-  by_link : (link : Link) → link ≡ ToObject 0 → line_of (escaped path) (codes "group") ≡ dumped root_tree path (Here link)
-  by_link link root = sym (ap (λ l. dumped root_tree path (Here l)) root ∙ rw get-root_tree (dump-root (escaped path)) ∙ group_line (escaped path))
+pub dump-group : (path : List ℕ) (o : Object) (links : Links) → o.content ≡ Group links
+    → line_of path (codes "group") ++ flat_map attribute_line (entries o.attributes) ≡ dump_text path o
+dump-group path o links is =
+    let lines = flat_map attribute_line (entries o.attributes) in
+    sym (ap (λ c. path ++ codes " " ++ content_text c ++ detail_text c ++ codes "\n" ++ lines ++ cells_text c) is
+    ∙ append-nil (path ++ codes " " ++ codes "group" ++ [] ++ codes "\n" ++ lines)
+    ∙ ap (λ t. t ++ codes "\n" ++ lines) (append-nil (path ++ codes " " ++ codes "group")))
 
-  by : (l : Located) → located root_tree path ≡ l → IsKind root_tree l kind → line_of (escaped path) (codes "group") ≡ dumped root_tree path (located root_tree path)
-  by (Here link) at found = by_link link (alone-here path link at).1 ∙ ap (dumped root_tree path) (sym at)
-  by Missing at found = absurd found
-  by NoParent at found = absurd found
-  by NoGroup at found = absurd found
-  by NoPath at found = absurd found
+pub dump-array : (path : List ℕ) (tree : Tree) (a : OnlyArray) (only : IsOnlyArray tree a)
+    → dump_line path (told a) ++ flat_map attribute_line (entries only.other.attributes) ++ rows_text (length only.array.cells / a.size) a.size only.array.cells ≡ dump_text path only.other
+dump-array path tree a only =
+    let d = only.array in
+    let lines = flat_map attribute_line (entries only.other.attributes) in
+    sym (ap (λ c. path ++ codes " " ++ content_text c ++ detail_text c ++ codes "\n" ++ lines ++ cells_text c) only.content
+    ∙ ap (λ t. path ++ codes " " ++ t ++ dataset_text d ++ codes "\n" ++ lines ++ cells_text (Array d)) (content-told tree a only)
+    ∙ ap (λ t. path ++ codes " " ++ content_text (Array (told a)) ++ t ++ codes "\n" ++ lines ++ cells_text (Array d)) (dataset-told tree a only)
+    ∙ ap (λ sizes. dump_line path (told a) ++ lines ++ cells_text (Array (record d { sizes = sizes }))) only.sizes_are)
 
-module _ (name : List ℕ) (t : Fixed) (size : ℕ) (fill : ℤ) (values : List ℤ) (path : List ℕ) where
-  abbrev T : Tree
-  T = one_tree name t size fill values
+-- ---- which object stands at a path
 
-  group_here : (link : Link) → located T path ≡ Here link → IsKind T (Here link) Group → line_of (escaped path) (codes "group") ≡ dumped T path (Here link)
-  group_here (ToObject number) at found = elim (located-here name t size fill values path (ToObject number) at) [
-    | inl root ↦ sym (ap (λ l. dumped T path (Here l)) root.1 ∙ rw (get-root name t size fill values) (dump-linking name t size fill values (escaped path)) ∙ group_line (escaped path))
-    | inr array ↦
-        let one : number ≡ 1 = cc (array.1) in
-        let none : is_some (links_of T number) ≡ false = ap (λ n. is_some (links_of T n)) one ∙ ap is_some (links-array name t size fill values) in
-        absurd (false≢true (sym none ∙ found))
-  ]
-  group_here (Soft text) at found = absurd found
+abbrev FoundAt : Tree → Located → Object → Type 0
+FoundAt tree l o = option_and_then (get tree) (object_there l) ≡ Some o
 
-  array_here : (link : Link) (d : Dataset) → located T path ≡ Here link → (number : ℕ) → link ≡ ToObject number → dataset_of T number ≡ Some d
-      → dump_text (escaped path) (line_object t size fill values) ≡ dumped T path (Here link)
-  array_here link d at number is found = elim (located-here name t size fill values path link at) [
-    | inl root ↦
-        let zero_is : number ≡ 0 = cc (root.1, is) in
-        let none : Some d ≡ None = sym found ∙ ap (dataset_of T) zero_is ∙ dataset-root name t size fill values in
-        absurd (cc (none))
-    | inr array ↦ sym (ap (λ l. dumped T path (Here l)) array.1 ∙ rw (get-array name t size fill values) refl)
-  ]
+pub dumped-object : (tree : Tree) (path : List ℕ) (o : Object) → option_and_then (get tree) (object_at tree path) ≡ Some o
+    → dump_text (escaped path) o ≡ dumped tree path (located tree path)
+dumped-object tree path o found = by (located tree path) found where
+  by : (l : Located) → FoundAt tree l o → dump_text (escaped path) o ≡ dumped tree path l
+  by (Here (ToObject number)) at = sym (ap (λ x. option_map_or (dump_text (escaped path)) x []) at)
+  by (Here (Soft text)) at = absurd (cc)
+  by Missing at = absurd (cc)
+  by NoParent at = absurd (cc)
+  by NoGroup at = absurd (cc)
+  by NoPath at = absurd (cc)
 
--- the tree of a file with this array
-abbrev tree_of : OnlyArray → Tree
-tree_of a = one_tree a.name.now a.fixed.now a.size a.fill (values_of a)
+abbrev pub IsGroup : Object → Type 0
+IsGroup o = (links : Links) × (o.content ≡ Group links)
 
--- the root
-pub dumped-group : (tree : Tree) (path : List ℕ) (a : OnlyArray) → IsOnlyArray tree a → HasKind tree path Group → line_of (escaped path) (codes "group") ≡ dumped tree path (located tree path)
-dumped-group tree path a only has =
-    by (located (tree_of a) path) refl (subst (λ (t : Tree). IsKind t (located t path) Group) only.tree_is has.found) ∙ ap (λ (t : Tree). dumped t path (located t path)) (sym only.tree_is) where
-      by : (l : Located) → located (tree_of a) path ≡ l → IsKind (tree_of a) l Group → line_of (escaped path) (codes "group") ≡ dumped (tree_of a) path (located (tree_of a) path)
-      by (Here link) at found = group_here a.name.now a.fixed.now a.size a.fill (values_of a) path link at found ∙ ap (dumped (tree_of a) path) (sym at)
-      by Missing at found = absurd found
-      by NoParent at found = absurd found
-      by NoGroup at found = absurd found
-      by NoPath at found = absurd found
+-- in a tree with no array
+pub alone-group : (tree : Tree) (path : List ℕ) (o : Object) → HasNoArray tree → option_and_then (get tree) (object_at tree path) ≡ Some o → IsGroup o
+alone-group tree path o is found = by (located tree path) found where
+  by : (l : Located) → FoundAt tree l o → IsGroup o
+  by (Here (ToObject number)) at =
+      let there : get (alone_tree is.root) number ≡ Some o = subst (λ (t : Tree). get t number ≡ Some o) is.tree_is at in
+      let root : Some o ≡ Some is.root = sym there ∙ ap (get (alone_tree is.root)) (alone_only is.root o number there) ∙ alone_first is.root in
+      let same : o ≡ is.root = cc in
+      (empty, ap (λ (x : Object). x.content) same ∙ is.empty_group)
+  by (Here (Soft text)) at = absurd (cc)
+  by Missing at = absurd (cc)
+  by NoParent at = absurd (cc)
+  by NoGroup at = absurd (cc)
+  by NoPath at = absurd (cc)
+
+-- at a group
+pub kind-group : (tree : Tree) (path : List ℕ) (o : Object) → HasKind tree path GroupKind → option_and_then (get tree) (object_at tree path) ≡ Some o → IsGroup o
+kind-group tree path o has found = by (located tree path) has.found found where
+  by_content : (c : Content) → o.content ≡ c → IsSome (links_in c) → IsGroup o
+  by_content (Group links) is some = (links, is)
+  by_content (Array d) is some = absurd (cc)
+
+  by : (l : Located) → IsKind tree l GroupKind → FoundAt tree l o → IsGroup o
+  by (Here (ToObject number)) kind at = by_content o.content refl (subst (λ (x : Option Object). IsSome (option_and_then (λ o. links_in o.content) x)) at kind)
+  by (Here (Soft text)) kind at = absurd kind
+  by Missing kind at = absurd kind
+  by NoParent kind at = absurd kind
+  by NoGroup kind at = absurd kind
+  by NoPath kind at = absurd kind
 
 abbrev pub IsArray : Kind → Type 0
-IsArray Group = ⊥
-IsArray (ArrayOf fixed dims maxima stored fill) = Unit {0}
+IsArray GroupKind = ⊥
+IsArray (ArrayKind fixed dims maxima stored fill) = Unit {0}
 
--- the array
-pub dumped-array : (tree : Tree) (path : List ℕ) (a : OnlyArray) (kind : Kind) → IsArray kind → IsOnlyArray tree a → HasKind tree path kind
-    → dump_text (escaped path) (line_object a.fixed.now a.size a.fill (values_of a)) ≡ dumped tree path (located tree path)
-dumped-array tree path a Group is only has = absurd is
-dumped-array tree path a (ArrayOf fixed dims maxima stored fill) is only has =
-    by (located (tree_of a) path) refl (subst (λ (t : Tree). IsKind t (located t path) (ArrayOf fixed dims maxima stored fill)) only.tree_is has.found)
-    ∙ ap (λ (t : Tree). dumped t path (located t path)) (sym only.tree_is) where
-      by : (l : Located) → located (tree_of a) path ≡ l → IsKind (tree_of a) l (ArrayOf fixed dims maxima stored fill)
-          → dump_text (escaped path) (line_object a.fixed.now a.size a.fill (values_of a)) ≡ dumped (tree_of a) path (located (tree_of a) path)
-      by (Here (ToObject number)) at found =
-          array_here a.name.now a.fixed.now a.size a.fill (values_of a) path (ToObject number) found.0 at number refl found.1 ∙ ap (dumped (tree_of a) path) (sym at)
-      by (Here (Soft text)) at found = absurd found
-      by Missing at found = absurd found
-      by NoParent at found = absurd found
-      by NoGroup at found = absurd found
-      by NoPath at found = absurd found
+-- at an array, which is the only one
+pub kind-array : (tree : Tree) (path : List ℕ) (a : OnlyArray) (kind : Kind) (o : Object) → IsArray kind → (only : IsOnlyArray tree a) → HasKind tree path kind
+    → option_and_then (get tree) (object_at tree path) ≡ Some o → only.other ≡ o
+kind-array tree path a GroupKind o is only has found = absurd is
+kind-array tree path a (ArrayKind fixed dims maxima stored fill) o is only has found = by (located tree path) has.found found where
+  by : (l : Located) → IsKind tree l (ArrayKind fixed dims maxima stored fill) → FoundAt tree l o → only.other ≡ o
+  by (Here (ToObject number)) kind at =
+      elim (pair_only only.root only.other o number (subst (λ (t : Tree). get t number ≡ Some o) only.tree_is at)) [
+        | inl root ↦
+            let none : dataset_of tree number ≡ None = rw (at, root.1, only.linking) refl in
+            let never : None ≡ Some kind.0 = sym none ∙ kind.1 in
+            absurd (cc)
+        | inr other ↦ sym other.1
+      ]
+  by (Here (Soft text)) kind at = absurd kind
+  by Missing kind at = absurd kind
+  by NoParent kind at = absurd kind
+  by NoGroup kind at = absurd kind
+  by NoPath kind at = absurd kind

@@ -1,7 +1,7 @@
 -- Cells behind cells, in rows.
-use Rattle.std.proofs.Common.{◌≡◌, ℕ, zero, suc, ◌+◌, ◌*◌, ◌^◌, ◌%◌, ◌<◌, ℤ, List, [], ◌∷◌, ◌++◌, length, get_or, take, drop, replicate, refl, sym, ap, ◌∙◌, append_assoc, append-nil, arith}
+use Rattle.std.proofs.Common.{◌≡◌, ℕ, suc, ◌+◌, ◌%◌, ◌<◌, ℤ, List, [], ◌∷◌, ◌++◌, length, replicate, sym, ap, ◌∙◌, append_assoc, append-nil, arith}
 use Rattle.std.proofs.Math.Nat.{mod-eq_of_lt, mod-lt, mod-add-mod}
-use Rattle.std.proofs.lemmas.List.{replicate-append-replicate, get_or-take, get_or-drop}
+use Rattle.std.proofs.lemmas.List.{replicate-append-replicate}
 use Rattle.h5_text.specs.Rows.{cell_text, cells_from}
 
 pub next_after : (width column n : ℕ) → ((column + 1) % width + n) % width ≡ (column + suc n) % width

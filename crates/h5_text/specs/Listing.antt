@@ -1,6 +1,7 @@
 -- The path and the dataset of a line of `ls` or `dump`.
 use Rattle.std.specs.Prelude.{List, [], ◌++◌, ℕ, codes}
-use Rattle.h5_model.specs.Text.{escaped, joined_path, content_text, dataset_text}
+use Rattle.h5_model.specs.Fixed.{Fixed}
+use Rattle.h5_model.specs.Text.{escaped, joined_path, content_text, dataset_text, type_text, sizes_text}
 use Rattle.h5_model.specs.Tree.{Dataset, Array}
 use Rattle.h5_text.specs.Layouts.{storage_of}
 use Rattle.h5_text.specs.declared.listing.ArrayText.{ArrayText}
@@ -27,3 +28,7 @@ told_dataset a = record {
 -- the first line of what is dumped of a dataset
 abbrev pub dump_line : List ℕ → Dataset → List ℕ
 dump_line path d = path ++ codes " " ++ content_text (Array d) ++ dataset_text d ++ codes "\n"
+
+-- the line of an attribute as far as its values
+abbrev pub attribute_head : List ℕ → Fixed → List ℕ → List ℕ
+attribute_head name t sizes = codes "@" ++ escaped name ++ codes " " ++ type_text t ++ codes " " ++ sizes_text sizes

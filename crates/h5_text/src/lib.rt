@@ -5,9 +5,11 @@ mod listing;
 mod rows;
 mod texts;
 
-pub use crate::listing::{ArrayText, PathText, push_array_line, push_dump_line, push_group_line};
+pub use crate::listing::{
+    ArrayText, PathText, push_array_line, push_attribute_head, push_dump_line, push_group_line,
+};
 pub use crate::rows::{Rows, push_rows};
 pub use crate::texts::{
-    Layout, push_accepted, push_escaped, push_opened, push_refused, push_sizes, push_stored_values,
-    push_text, push_type, push_values, push_view_fault,
+    Layout, push_accepted, push_escaped, push_opened, push_refused, push_sizes, push_spaced_value,
+    push_stored_values, push_text, push_type, push_values, push_view_fault,
 };

@@ -3,9 +3,11 @@ ghost use Rattle.std.specs.Prelude.{codes};
 ghost use Rattle.h5_model.specs.Text.{content_text, dataset_text, line_of};
 ghost use Rattle.h5_model.specs.Tree.{Array};
 ghost use Rattle.h5_text.specs.Appends.{Appends};
-ghost use Rattle.h5_text.specs.Listing.{dump_line, path_text, told_dataset};
+ghost use Rattle.h5_text.specs.Listing.{attribute_head, dump_line, path_text, told_dataset};
 
-use crate::texts::{Layout, push_escaped, push_extent, push_text, push_type, push_value};
+use crate::texts::{
+    Layout, push_escaped, push_extent, push_sizes, push_text, push_type, push_value,
+};
 use h5_model::Fixed;
 use std::alloc::AllocError;
 
@@ -103,4 +105,21 @@ pub fn push_dump_line(
     push_content(out, array)?;
     push_detail(out, array)?;
     push_text(out, b"\n")
+}
+
+/// Appends the line of an attribute as far as its values, which follow with a space before each.
+pub fn push_attribute_head(
+    out: &mut Vec<u8>,
+    name: &[u8],
+    fixed: &Fixed,
+    sizes: &[u64],
+) -> Result<(), AllocError>
+    ensures { Appends result out.old.items out.new.items (attribute_head name.now fixed.now sizes.now) }
+{
+    push_text(out, b"@")?;
+    push_escaped(out, name)?;
+    push_text(out, b" ")?;
+    push_type(out, fixed)?;
+    push_text(out, b" ")?;
+    push_sizes(out, sizes)
 }

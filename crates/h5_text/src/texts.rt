@@ -162,7 +162,7 @@ pub fn push_view_fault(out: &mut Vec<u8>, fault: ViewFault) -> Result<(), AllocE
 }
 
 /// Appends a space and a value.
-fn push_spaced(out: &mut Vec<u8>, value: i128) -> Result<(), AllocError>
+pub fn push_spaced_value(out: &mut Vec<u8>, value: i128) -> Result<(), AllocError>
     ensures { Appends result out.old.items out.new.items (codes " " ++ signed_decimal value) }
 {
     push_text(out, b" ")?;
@@ -174,7 +174,7 @@ pub fn push_values(out: &mut Vec<u8>, values: &[i128]) -> Result<(), AllocError>
     ensures { Appends result out.old.items out.new.items (values_text values.now) }
 {
     for value in values {
-        push_spaced(out, *value)?;
+        push_spaced_value(out, *value)?;
     }
     Ok(())
 }
@@ -187,7 +187,7 @@ pub fn push_stored_values(out: &mut Vec<u8>, fixed: &Fixed, bytes: &[u8]) -> Res
     let size = fixed.size();
     for k in 0..bytes.len() / size {
         let at = k * size;
-        push_spaced(out, decode(fixed, &bytes[at..at + size]))?;
+        push_spaced_value(out, decode(fixed, &bytes[at..at + size]))?;
     }
     Ok(())
 }

@@ -1,34 +1,29 @@
-use Rattle.std.proofs.Common.{◌≡◌, List, ℕ, ℤ, ◌++◌, ap, ◌∙◌, subst, arith, rules, to_z, of_z}
+use Rattle.std.proofs.Common.{◌≡◌, List, ℕ, ℤ, ◌++◌, ◌/◌, length, ap, ◌∙◌, subst, rules, to_z, of_z}
 use Rattle.std.specs.Int.{w128}
+use Rattle.std.specs.List.{flat_map}
 use Rattle.std.proofs.lemmas.Int.{to_z-of_z}
-use Rattle.h5_model.specs.OneArray.{line_dataset}
-use Rattle.h5_model.specs.Text.{escaped}
+use Rattle.h5_model.specs.Text.{attribute_line, escaped, rows_text}
 use Rattle.h5_text.specs.Appends.{Appends}
 use Rattle.h5_text.specs.Listing.{dump_line}
-use Rattle.h5_text.specs.Rows.{cells_from}
 use Rattle.h5_text.proofs.Appending.{appends_more}
-use Rattle.h5_script.proofs.Listings.{values_of, dump-empty, dump-rows}
+use Rattle.h5_text.proofs.LineTexts.{in_two_pieces}
+use Rattle.h5_script.proofs.Listings.{told, dump-array}
 use Rattle.h5_script.proofs.texts.push_array.Goals as goal
 
-pub returns-then-array-eq0 : goal.returns-then-array-eq0
-returns-then-array-eq0 c =
-    let a = c.args.array.now in
-    let old = c.args.text.now.items in
-    let fill : to_z w128 (of_z w128 a.fill) ≡ a.fill = to_z-of_z w128 a.fill (search rules) in
-    c.in_ok-push_dump_line.ensures
-    ∙ ap (λ (v : ℤ). old ++ dump_line (escaped c.args.path.now) (line_dataset a.fixed.now a.size v (values_of a))) fill
-    ∙ ap (λ (text : List ℕ). old ++ text) (dump-empty (escaped c.args.path.now) a.fixed.now a.size a.fill a.cells.now c.requires.sound c.requires.filled c.if-array-eq0.true)
-
 pub returns : goal.returns
-returns c =
+returns c tree only listed =
     let a = c.args.array.now in
     let old = c.args.text.now.items in
-    let head = dump_line (escaped c.args.path.now) (line_dataset a.fixed.now a.size a.fill (values_of a)) in
+    let path = escaped c.args.path.now in
+    let head = dump_line path (told a) in
+    let lines = flat_map attribute_line c.args.attributes.now in
+    let values = only.array.cells in
+    let rows = rows_text (length values / a.size) a.size values in
     let fill : to_z w128 (of_z w128 a.fill) ≡ a.fill = to_z-of_z w128 a.fill (search rules) in
     let first : c.push_dump_line.new.out.items ≡ old ++ head =
-    c.in_ok-push_dump_line.ensures ∙ ap (λ (v : ℤ). old ++ dump_line (escaped c.args.path.now) (line_dataset a.fixed.now a.size v (values_of a))) fill in
-    subst (λ (text : List ℕ). Appends c.push_stored.result old c.push_stored.new.out.items text)
-    (dump-rows (escaped c.args.path.now) a.fixed.now a.size a.fill a.cells.now c.requires.sound c.requires.filled (omega (arith, c.if-array-eq0.false)))
-    (appends_more c.push_stored.result old head c.push_dump_line.new.out.items c.push_stored.new.out.items (cells_from a.size 0 (values_of a)) first
-    (subst (λ (width : ℕ). Appends c.push_stored.result c.push_dump_line.new.out.items c.push_stored.new.out.items (cells_from width 0 (values_of a))) c.new.ensures.width
-    (subst (λ (column : ℕ). Appends c.push_stored.result c.push_dump_line.new.out.items c.push_stored.new.out.items (cells_from c.new.result.width column (values_of a))) c.new.ensures.column c.push_stored.ensures.text)))
+    c.in_ok-push_dump_line.ensures ∙ ap (λ (v : ℤ). old ++ dump_line path (record (told a) { fill = v })) fill in
+    subst (λ (text : List ℕ). Appends c.push_cells.result old c.push_cells.new.text.items text)
+    (ap (λ list. head ++ flat_map attribute_line list ++ rows) listed ∙ dump-array path tree a only)
+    (appends_more c.push_cells.result old (head ++ lines) c.push_attributes.new.text.items c.push_cells.new.text.items rows
+    (in_two_pieces old head lines c.push_dump_line.new.out.items c.push_attributes.new.text.items first c.in_ok-push_attributes.ensures)
+    (c.push_cells.ensures values only.counted only.cells_are))

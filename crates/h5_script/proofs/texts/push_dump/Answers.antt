@@ -1,22 +1,38 @@
-use Rattle.std.proofs.Common.{List, ℕ, sym, subst}
+use Rattle.std.proofs.Common.{◌≡◌, List, ℕ, ap, ◌∙◌, sym, subst}
+use Rattle.std.specs.FinMap.{entries}
+use Rattle.h5_model.specs.Text.{dump_text, escaped}
+use Rattle.h5_model.specs.Tree.{Object}
 use Rattle.h5_text.specs.Appends.{Appends}
-use Rattle.h5_file.specs.Look.{HasKind}
-use Rattle.h5_file.specs.declared.kind.Kind.{Kind}
-use Rattle.h5_script.proofs.Listings.{IsArray, dumped-alone, dumped-group, dumped-array}
+use Rattle.h5_look.specs.Look.{HasKind}
+use Rattle.h5_look.specs.declared.kind.Kind.{Kind}
+use Rattle.h5_script.proofs.Listings.{IsArray, alone-group, dumped-object, kind-array, kind-group}
 use Rattle.h5_script.proofs.texts.push_dump.Goals as goal
 
-pub returns-in_default : goal.returns-in_default
-returns-in_default c =
-    subst (λ (text : List ℕ). Appends c.push_group_line.result c.args.text.now.items c.push_group_line.new.out.items text)
-    (dumped-alone c.args.file.now.tree c.args.path.now c.args.kind.now c.in_default.ensures c.requires) c.push_group_line.ensures
+pub returns-in_default-array : goal.returns-in_default-array
+returns-in_default-array c =
+    let tree = c.args.file.now.tree in
+    let path = c.args.path.now in
+    let has = c.in-Ok.ensures in
+    let group = alone-group tree path has.object c.in_default-array.ensures has.found in
+    subst (λ (text : List ℕ). Appends c.push_group.result c.args.text.now.items c.push_group.new.text.items text) (dumped-object tree path has.object has.found)
+    (c.push_group.ensures has.object group.0 group.1 (c.deref.ensures.value ∙ has.listed))
 
 pub returns-in-Group : goal.returns-in-Group
 returns-in-Group c =
-    subst (λ (text : List ℕ). Appends c.push_group_line-in-Group.result c.args.text.now.items c.push_group_line-in-Group.new.out.items text)
-    (dumped-group c.args.file.now.tree c.args.path.now c.in-Some.array c.in-Some.ensures
-    (subst (λ (kind : Kind). HasKind c.args.file.now.tree c.args.path.now kind) c.in-Group.is c.requires)) c.push_group_line-in-Group.ensures
+    let tree = c.args.file.now.tree in
+    let path = c.args.path.now in
+    let has = c.in-Ok.ensures in
+    let group = kind-group tree path has.object (subst (λ (kind : Kind). HasKind tree path kind) c.in-Group.is c.requires) has.found in
+    subst (λ (text : List ℕ). Appends c.push_group-in-Group.result c.args.text.now.items c.push_group-in-Group.new.text.items text) (dumped-object tree path has.object has.found)
+    (c.push_group-in-Group.ensures has.object group.0 group.1 (c.deref-in-Group.ensures.value ∙ has.listed))
 
-pub returns-in-Dataset : goal.returns-in-Dataset
-returns-in-Dataset c =
+pub returns : goal.returns
+returns c =
+    let tree = c.args.file.now.tree in
+    let path = c.args.path.now in
+    let has = c.in-Ok.ensures in
+    let only = c.in-Some.ensures in
+    let same : only.other ≡ has.object = kind-array tree path c.in-Some.array c.args.kind.now has.object (subst IsArray (sym c.in-Dataset.is) tt) only c.requires has.found in
     subst (λ (text : List ℕ). Appends c.push_array.result c.args.text.now.items c.push_array.new.text.items text)
-    (dumped-array c.args.file.now.tree c.args.path.now c.in-Some.array c.args.kind.now (subst IsArray (sym c.in-Dataset.is) tt) c.in-Some.ensures c.requires) c.push_array.ensures
+    (ap (dump_text (escaped path)) same ∙ dumped-object tree path has.object has.found)
+    (c.push_array.ensures tree only (c.deref-in-Dataset.ensures.value ∙ has.listed ∙ ap (λ (o : Object). entries o.attributes) (sym same)))

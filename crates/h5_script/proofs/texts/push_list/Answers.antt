@@ -1,10 +1,9 @@
 use Rattle.std.proofs.Common.{List, [], ℕ, ◌++◌, codes, ap, ◌∙◌, subst}
 use Rattle.h5_model.specs.Text.{content_text, joined_path, line_of}
 use Rattle.h5_model.specs.Tree.{Array}
-use Rattle.h5_model.specs.OneArray.{line_dataset}
 use Rattle.h5_text.specs.Appends.{Appends}
 use Rattle.h5_text.proofs.Appending.{appends_more}
-use Rattle.h5_script.proofs.Listings.{values_of, list-none, list-array}
+use Rattle.h5_script.proofs.Listings.{told, list-none, list-array}
 use Rattle.h5_script.proofs.texts.push_list.Goals as goal
 
 pub returns-in_default : goal.returns-in_default
@@ -16,4 +15,4 @@ returns c =
     let a = c.in-Some.array in
     subst (λ (text : List ℕ). Appends c.push_array_line.result c.args.text.now.items c.push_array_line.new.out.items text) (list-array c.args.file.now.tree a c.in-Some.ensures)
     (appends_more c.push_array_line.result c.args.text.now.items (codes "/ group\n") c.push_group_line.new.out.items c.push_array_line.new.out.items
-    (line_of (joined_path [] a.name.now) (content_text (Array (line_dataset a.fixed.now a.size a.fill (values_of a))))) c.in_ok-push_group_line.ensures c.push_array_line.ensures)
+    (line_of (joined_path [] a.name.now) (content_text (Array (told a)))) c.in_ok-push_group_line.ensures c.push_array_line.ensures)

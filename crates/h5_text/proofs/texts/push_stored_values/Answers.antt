@@ -19,6 +19,6 @@ loop-k-preserved c =
     let part : take (k * size + size - k * size) (drop (k * size) c.args.bytes.now) ≡ take fixed.size (drop (k * fixed.size) c.args.bytes.now) =
     ap (λ n. take n (drop (k * size) c.args.bytes.now)) whole ∙ ap (λ n. take n (drop (k * n) c.args.bytes.now)) c.size-size.ensures.size in
     let at : c.decode.result ≡ value k = c.decode.ensures.value ∙ value_of_part fixed c.args.bytes.now _ (k * fixed.size) part in
-    values_step (map value (range_with_len 0 k)) (map value (range_with_len 0 (k + 1))) (value k) c.args.out.now.items c.loop-k.out.items c.push_spaced.new.out.items
+    values_step (map value (range_with_len 0 k)) (map value (range_with_len 0 (k + 1))) (value k) c.args.out.now.items c.loop-k.out.items c.push_spaced_value.new.out.items
     (map-range_with_len_more value 0 k k (omega arith)) c.loop-k.invariant
-    (c.in_ok-push_spaced.ensures ∙ ap (λ v. c.loop-k.out.items ++ (codes " " ++ signed_decimal v)) (to_z-of_z w128 c.decode.result (search rules) ∙ at))
+    (c.in_ok-push_spaced_value.ensures ∙ ap (λ v. c.loop-k.out.items ++ (codes " " ++ signed_decimal v)) (to_z-of_z w128 c.decode.result (search rules) ∙ at))
