@@ -79,7 +79,7 @@ pub fn dump_text(alloc: Global, file: &File, word: &str) -> Result<(Vec<u8>, Sta
         Some(path) => match file.kind(path.as_slice()) {
             Err(fault) => fault,
             Ok(kind) => {
-                push_dump(&mut text, file, path.as_slice(), &kind)?;
+                push_dump(alloc, &mut text, file, path.as_slice(), &kind)?;
                 return Ok((text, Status::Done));
             }
         },

@@ -15,13 +15,18 @@ use h5_file::File;
 use h5_lines::Command;
 use h5_model::{Edit, EditFault};
 use h5_text::{push_accepted, push_refused, push_text};
-use std::alloc::AllocError;
+use std::alloc::{AllocError, Global};
 
 /// Runs a command. Its answer then stands in `text`, in place of what was there.
 ///
 /// A want of memory for the answer is told of `ls` and `dump` as a refusal; what is left is
 /// the memory for one short line.
-pub fn answer(file: &mut File, command: &Command, text: &mut Vec<u8>) -> Result<Outcome, AllocError>
+pub fn answer(
+    alloc: Global,
+    file: &mut File,
+    command: &Command,
+    text: &mut Vec<u8>,
+) -> Result<Outcome, AllocError>
     ensures { MatchResult result (IsAnswered file.old (command_of command.now) file.new text.new.items)
         (λ _. IsUntold file.old (command_of command.now) file.new) }
 {
@@ -29,7 +34,7 @@ pub fn answer(file: &mut File, command: &Command, text: &mut Vec<u8>) -> Result<
     match command {
         Command::Change(edit) => answer_edit(file, edit, text),
         Command::ListAll => list(file, text),
-        Command::Dump { path } => dump(file, path.as_slice(), text),
+        Command::Dump { path } => dump(alloc, file, path.as_slice(), text),
         _ => bad_line(text),
     }
 }
@@ -95,7 +100,7 @@ fn list(file: &File, text: &mut Vec<u8>) -> Result<Outcome, AllocError>
 }
 
 /// Dumps what stands at the path.
-fn dump(file: &File, path: &[u8], text: &mut Vec<u8>) -> Result<Outcome, AllocError>
+fn dump(alloc: Global, file: &File, path: &[u8], text: &mut Vec<u8>) -> Result<Outcome, AllocError>
     requires { text.old.items ≡ [] }
     ensures { MatchResult result (IsAnswered file.now (lines.Dump path.now) file.now text.new.items)
         (λ _. IsUntold file.now (lines.Dump path.now) file.now) }
@@ -104,7 +109,7 @@ fn dump(file: &File, path: &[u8], text: &mut Vec<u8>) -> Result<Outcome, AllocEr
         Ok(kind) => kind,
         Err(fault) => return refused(text, fault),
     };
-    if push_dump(text, file, path, &kind).is_err() {
+    if push_dump(alloc, text, file, path, &kind).is_err() {
         return no_memory(text);
     }
     Ok(Outcome::Told)

@@ -42,6 +42,7 @@ impl Answers {
 
 /// Runs a command, and writes and counts its answer.
 fn run_command<W: Write>(
+    alloc: Global,
     file: &mut File,
     command: &Command,
     answers: &mut Answers,
@@ -54,7 +55,7 @@ fn run_command<W: Write>(
     ensures refused { OnOk result (answers.new.ran.refused ≤ answers.old.ran.refused + 1) }
     ensures edits { OnOk result (answers.new.ran.edits ≤ answers.old.ran.edits + 1) }
 {
-    let outcome = answer(file, command, &mut answers.text)?;
+    let outcome = answer(alloc, file, command, &mut answers.text)?;
     answers.ran.count(outcome);
     write_text(output, &answers.text)
 }
@@ -77,7 +78,7 @@ pub fn run_line<W: Write>(
     let Some(command) = read_line(alloc, line)? else {
         return Ok(());
     };
-    run_command(file, &command, answers, output)
+    run_command(alloc, file, &command, answers, output)
 }
 
 /// The first line that ends in the bytes, and what stands behind its end.
