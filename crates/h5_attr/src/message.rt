@@ -14,7 +14,7 @@ use std::alloc::Global;
 const ATTRIBUTE: u16 = 12;
 
 /// The attribute of a message, where it is an attribute's and has the form.
-pub fn attribute(image: &[u8], message: Message) -> Option<AttributeBody<'_>>
+pub(crate) fn attribute(image: &[u8], message: Message) -> Option<AttributeBody<'_>>
     requires { message.at + message.size ≤ length image.now }
     ensures { result ≡ attribute_in (message_in image.now message) }
 {
@@ -25,7 +25,7 @@ pub fn attribute(image: &[u8], message: Message) -> Option<AttributeBody<'_>>
 }
 
 /// Why a message is refused, where it is an attribute's.
-pub fn fault(alloc: Global, image: &[u8], message: Message) -> Option<Cause>
+pub(crate) fn fault(alloc: Global, image: &[u8], message: Message) -> Option<Cause>
     requires { message.at + message.size ≤ length image.now }
     ensures { result ≡ fault_in (message_in image.now message) }
 {

@@ -6,7 +6,7 @@ ghost use Rattle.h5_bytes.specs.Bytes.{number_at};
 use byteorder::{ByteOrder, LittleEndian};
 
 #[tactic(auto, unfolding(h5_bytes::specs::Bytes::number_at))]
-pub fn u16_at(bytes: &[u8], at: usize) -> u16
+pub(crate) fn u16_at(bytes: &[u8], at: usize) -> u16
     requires { at + 2 ≤ length bytes.now }
     ensures { result ≡ number_at bytes.now at 2 }
 {
@@ -14,7 +14,7 @@ pub fn u16_at(bytes: &[u8], at: usize) -> u16
 }
 
 #[tactic(auto, unfolding(h5_bytes::specs::Bytes::number_at))]
-pub fn u64_at(bytes: &[u8], at: usize) -> u64
+pub(crate) fn u64_at(bytes: &[u8], at: usize) -> u64
     requires { at + 8 ≤ length bytes.now }
     ensures { result ≡ number_at bytes.now at 8 }
 {

@@ -32,7 +32,7 @@ fn write_whole<R: Files, E: Write>(
 }
 
 /// Writes a file with an empty root group.
-pub fn new<R: Files, E: Write>(rt: &R, alloc: Global, file: &str, errors: &mut E) -> Status
+pub(crate) fn new<R: Files, E: Write>(rt: &R, alloc: Global, file: &str, errors: &mut E) -> Status
     ensures { (input left printed : Option (List ℕ)) → Ends (Some (WantNew file.now)) input left printed printed result }
 {
     match File::create(alloc) {
@@ -61,7 +61,7 @@ fn changed_by(ran: Ran, file: File) -> Option<File>
 
 /// Runs the script on a file to its end. The file is given back where it has to be written, that is,
 /// where an edit was accepted.
-pub fn run_over<I: Read, O: Write>(
+pub(crate) fn run_over<I: Read, O: Write>(
     alloc: Global,
     mut file: File,
     input: &mut I,

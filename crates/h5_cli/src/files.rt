@@ -36,7 +36,7 @@ impl From<io::Error> for ReadFault {
 }
 
 /// The bytes of the file of this name.
-pub fn read_whole<R: Files>(rt: &R, alloc: Global, file: &str) -> Result<Vec<u8>, ReadFault>
+pub(crate) fn read_whole<R: Files>(rt: &R, alloc: Global, file: &str) -> Result<Vec<u8>, ReadFault>
     ensures { IfOk result (λ bytes. length bytes.items ≤ 2 ^ 31) }
 {
     let opened = fs::open(rt, file)?;

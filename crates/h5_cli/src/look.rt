@@ -20,7 +20,7 @@ use std::io::Write;
 use std::rt::Files;
 
 /// The file of this name, opened, or how the run ends where it cannot be.
-pub fn opened<R: Files, E: Write>(
+pub(crate) fn opened<R: Files, E: Write>(
     rt: &R,
     alloc: Global,
     file: &str,
@@ -49,7 +49,7 @@ fn list(alloc: Global, file: &File) -> Result<Vec<u8>, AllocError>
 }
 
 /// Lists the file of this name.
-pub fn ls<R: Files, O: Write, E: Write>(
+pub(crate) fn ls<R: Files, O: Write, E: Write>(
     rt: &R,
     alloc: Global,
     file: &str,
@@ -70,7 +70,11 @@ pub fn ls<R: Files, O: Write, E: Write>(
 
 /// What is dumped of a file at the path that the word stands for, or the line of a refusal, with the
 /// status of a run that prints it.
-pub fn dump_text(alloc: Global, file: &File, word: &str) -> Result<(Vec<u8>, Status), AllocError>
+pub(crate) fn dump_text(
+    alloc: Global,
+    file: &File,
+    word: &str,
+) -> Result<(Vec<u8>, Status), AllocError>
     ensures { IfOk result (λ answer. IsDumpText file.now.tree word.now answer.0.items answer.1) }
 {
     let mut text = Vec::new(alloc);
@@ -89,7 +93,7 @@ pub fn dump_text(alloc: Global, file: &File, word: &str) -> Result<(Vec<u8>, Sta
 }
 
 /// Dumps what stands at a path of the file of this name.
-pub fn dump<R: Files, O: Write, E: Write>(
+pub(crate) fn dump<R: Files, O: Write, E: Write>(
     rt: &R,
     alloc: Global,
     file: &str,

@@ -11,7 +11,7 @@ use std::io::{self, Write};
 
 /// The status of a run that ended in a message: the message's own, or that it could not be told.
 /// Of both the higher counts.
-pub fn told(message: io::Result<()>, status: Status) -> Status
+pub(crate) fn told(message: io::Result<()>, status: Status) -> Status
     ensures { MatchResult message (λ _. result ≡ status) (λ _. result ≡ untold status) }
 {
     match message {
@@ -21,28 +21,28 @@ pub fn told(message: io::Result<()>, status: Status) -> Status
     }
 }
 
-pub fn no_memory<E: Write>(errors: &mut E) -> Status
+pub(crate) fn no_memory<E: Write>(errors: &mut E) -> Status
     ensures { result ≡ NoMemory }
 {
     told(writeln!(errors, "h5i: out of memory"), Status::NoMemory)
 }
 
 /// Tells what could not be done with a file or a stream.
-pub fn failed<E: Write>(what: &str, errors: &mut E) -> Status
+pub(crate) fn failed<E: Write>(what: &str, errors: &mut E) -> Status
     ensures { result ≡ StreamFailed }
 {
     told(writeln!(errors, "h5i: {what}"), Status::StreamFailed)
 }
 
 /// Tells what could not be done with the file of this name.
-pub fn failed_on<E: Write>(what: &str, file: &str, errors: &mut E) -> Status
+pub(crate) fn failed_on<E: Write>(what: &str, file: &str, errors: &mut E) -> Status
     ensures { result ≡ StreamFailed }
 {
     told(writeln!(errors, "h5i: {what} {file}"), Status::StreamFailed)
 }
 
 /// Tells why the bytes of a file were refused.
-pub fn refused<E: Write>(fault: OpenFault, errors: &mut E) -> Status
+pub(crate) fn refused<E: Write>(fault: OpenFault, errors: &mut E) -> Status
     ensures { (result ≡ NoMemory) ⊎ ((result ≡ ImageRefused) ⊎ (result ≡ StreamFailed)) }
 {
     if fault.cause == Cause::NoMemory {
@@ -58,7 +58,7 @@ pub fn refused<E: Write>(fault: OpenFault, errors: &mut E) -> Status
 }
 
 /// Prints a text whole, at the end of a run with this status.
-pub fn print<O: Write, E: Write>(
+pub(crate) fn print<O: Write, E: Write>(
     text: &[u8],
     status: Status,
     output: &mut O,

@@ -41,7 +41,7 @@ fn u64_at(bytes: &[u8], at: usize) -> u64
 }
 
 /// The first rule of the superblock that the bytes break.
-pub fn superblock_fault(bytes: &[u8]) -> Option<OpenFault>
+pub(crate) fn superblock_fault(bytes: &[u8]) -> Option<OpenFault>
     ensures { MatchOption result (IsSuperblock bytes.now) (λ fault. SuperblockBreach bytes.now fault.cause fault.address) }
 {
     if !bytes.starts_with(&SIGNATURE) {

@@ -10,7 +10,7 @@ use h5_model::{Cause, OpenFault};
 use h5_space::{ClaimFault, Claims, Image};
 
 /// Claims the `len` bytes from place `at`; a refusal has this place.
-pub fn claim(claims: &mut Claims, at: u64, len: u64) -> Result<(), OpenFault>
+pub(crate) fn claim(claims: &mut Claims, at: u64, len: u64) -> Result<(), OpenFault>
     ensures inside { OnOk result (at + len ≤ claims.old.end) }
     ensures claimed { OnOk result ((p : ℕ) → cover p claims.new.held ≡ cover p claims.old.held + holds p at len) }
     ensures separate { OnOk result (Separate claims.new.held) }
@@ -27,14 +27,14 @@ pub fn claim(claims: &mut Claims, at: u64, len: u64) -> Result<(), OpenFault>
 }
 
 /// The fault of this cause, at this address.
-pub fn fault(cause: Cause, address: u64) -> OpenFault
+pub(crate) fn fault(cause: Cause, address: u64) -> OpenFault
     ensures { result ≡ record { cause = cause; address = address } }
 {
     OpenFault { cause, address }
 }
 
 /// K of symbol nodes.
-pub fn leaf_k(image: &Image) -> u16
+pub(crate) fn leaf_k(image: &Image) -> u16
     requires { IsSuperblock image.now.bytes }
     ensures { result ≡ leaf_of image.now.bytes }
 {
@@ -42,7 +42,7 @@ pub fn leaf_k(image: &Image) -> u16
 }
 
 /// K of the nodes of a group's tree.
-pub fn internal_k(image: &Image) -> u16
+pub(crate) fn internal_k(image: &Image) -> u16
     requires { IsSuperblock image.now.bytes }
     ensures { result ≡ internal_of image.now.bytes }
 {

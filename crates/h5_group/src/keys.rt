@@ -22,7 +22,7 @@ pub struct Bounds<'a> {
 
 /// Takes the texts that the keys of a node with one child at most name, after those of links; `HeapName`
 /// where a span is not sound. Gives the names around the child, where there is one.
-pub fn take_keys<'a>(
+pub(crate) fn take_keys<'a>(
     heap: &mut Heap,
     image: &'a Image,
     node: &Node,
@@ -52,7 +52,7 @@ pub fn take_keys<'a>(
 }
 
 /// Whether the bounds do not fall, and the name, where there is one, lies between them.
-pub fn are_ordered(bounds: &Bounds, name: Option<&[u8]>) -> bool
+pub(crate) fn are_ordered(bounds: &Bounds, name: Option<&[u8]>) -> bool
     ensures { IsTrue result ↔ LiesBetween bounds.now.low.now bounds.now.high.now (option_map (λ x. x.now) name.entry) }
 {
     match name {

@@ -14,7 +14,7 @@ use h5_model::{OpenFault, is_link_name};
 use h5_space::Image;
 
 /// Whether the heap's segment begins with the zero of the empty name.
-pub fn has_empty_name(heap: &Heap, image: &Image) -> bool
+pub(crate) fn has_empty_name(heap: &Heap, image: &Image) -> bool
     requires within { heap.now.segment.at + heap.now.segment.len ≤ length image.now.bytes }
     requires room { 8 ≤ heap.now.segment.len }
     ensures { IsTrue result ↔ (byte_at (segment_in image.now.bytes heap.now) 0 ≡ 0) }
@@ -26,7 +26,7 @@ pub fn has_empty_name(heap: &Heap, image: &Image) -> bool
 }
 
 /// The name of the link, where there is one; `HeapName` where that is no text of the heap.
-pub fn read_name<'a>(
+pub(crate) fn read_name<'a>(
     heap: &Heap,
     image: &'a Image,
     symbol: Option<Symbol>,
@@ -44,7 +44,11 @@ pub fn read_name<'a>(
 }
 
 /// Takes the empty name and the link's name, where there is a link; `HeapName` where a span is not sound.
-pub fn take_name(heap: &mut Heap, image: &Image, symbol: Option<Symbol>) -> Result<(), OpenFault>
+pub(crate) fn take_name(
+    heap: &mut Heap,
+    image: &Image,
+    symbol: Option<Symbol>,
+) -> Result<(), OpenFault>
     requires within { heap.old.segment.at + heap.old.segment.len ≤ length image.now.bytes }
     requires unused { IsUnused heap.old }
     ensures taken { OnOk result (HasTaken (segment_in image.now.bytes heap.old) heap.new (name_offsets symbol) []) }
@@ -62,7 +66,7 @@ pub fn take_name(heap: &mut Heap, image: &Image, symbol: Option<Symbol>) -> Resu
 }
 
 /// Whether a link may have the name, where there is one.
-pub fn is_allowed(name: Option<&[u8]>) -> bool
+pub(crate) fn is_allowed(name: Option<&[u8]>) -> bool
     ensures { IsTrue result ↔ IfSome name.entry (λ x. IsTrue (is_name x.now)) }
 {
     match name {

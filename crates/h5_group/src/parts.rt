@@ -28,7 +28,7 @@ pub struct Parts<'a> {
 }
 
 /// Claims the blocks of a group: those of its heap, the root of its tree, and the symbol node below that.
-pub fn claim_parts<'a>(
+pub(crate) fn claim_parts<'a>(
     alloc: Global,
     image: &'a Image,
     claims: &mut Claims,

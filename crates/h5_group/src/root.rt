@@ -19,7 +19,11 @@ use h5_space::{Claims, Image};
 ///
 /// `NodeForm` where it is no root of a group's tree, `NotYet` where it has several children or is not at
 /// level 0. Its neighbours are not looked at.
-pub fn claim_root<'a>(image: &'a Image, claims: &mut Claims, at: u64) -> Result<Node<'a>, OpenFault>
+pub(crate) fn claim_root<'a>(
+    image: &'a Image,
+    claims: &mut Claims,
+    at: u64,
+) -> Result<Node<'a>, OpenFault>
     requires end { claims.old.end ≡ length image.now.bytes }
     requires superblock { IsSuperblock image.now.bytes }
     ensures node { IfOk result (λ node. node ≡ root_node image.now.bytes at) }
@@ -64,7 +68,7 @@ fn small_node<'a>(kind: NodeKind, bytes: &'a [u8]) -> Result<Node<'a>, Cause>
 }
 
 /// The child of a node that has one at most.
-pub fn only_child(node: &Node) -> Option<u64>
+pub(crate) fn only_child(node: &Node) -> Option<u64>
     requires { length node.now.children ≤ 1 }
     ensures { node.now.children ≡ one_of result }
 {
@@ -75,7 +79,7 @@ pub fn only_child(node: &Node) -> Option<u64>
 }
 
 /// Whether a node names no neighbour.
-pub fn is_alone(node: &Node) -> bool
+pub(crate) fn is_alone(node: &Node) -> bool
     ensures { IsTrue result ↔ ((node.now.left ≡ undefined) × (node.now.right ≡ undefined)) }
 {
     node.left() == UNDEF && node.right() == UNDEF

@@ -25,7 +25,7 @@ pub struct Symbol {
 }
 
 /// Claims the symbol node below the root, where there is one, and reads its entry.
-pub fn claim_below(
+pub(crate) fn claim_below(
     image: &Image,
     claims: &mut Claims,
     child: Option<u64>,

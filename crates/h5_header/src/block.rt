@@ -9,7 +9,7 @@ use h5_model::Cause;
 
 /// Reads the messages that fill `block`, and adds them to `list` and the blocks that they name to
 /// `blocks`.
-pub fn read_block(
+pub(crate) fn read_block(
     image: &[u8],
     block: Block,
     list: &mut Vec<Message>,

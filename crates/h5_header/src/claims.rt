@@ -36,7 +36,11 @@ pub fn claim(claims: &mut Claims, block: Block) -> Result<(), OpenFault>
 }
 
 /// Claims the prefix of a header with its first block of messages, and gives the two as one block.
-pub fn claim_prefix(image: &[u8], claims: &mut Claims, header: u64) -> Result<Block, OpenFault>
+pub(crate) fn claim_prefix(
+    image: &[u8],
+    claims: &mut Claims,
+    header: u64,
+) -> Result<Block, OpenFault>
     requires { claims.old.end ≡ length image.now }
     ensures block { IfOk result (λ b. b ≡ header_block image.now header) }
     ensures version { OnOk result (byte_at (prefix_at image.now header) 0 ≡ 1) }

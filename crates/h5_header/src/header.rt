@@ -83,7 +83,7 @@ impl Messages {
 }
 
 /// Reads all blocks of a header, in the order in which they are named.
-pub fn read_header(
+pub(crate) fn read_header(
     alloc: Global,
     image: &[u8],
     claims: &mut Claims,
@@ -127,7 +127,7 @@ pub fn read_header(
     })
 }
 
-pub fn fault(cause: Cause, address: u64) -> OpenFault
+pub(crate) fn fault(cause: Cause, address: u64) -> OpenFault
     ensures { result ≡ record { cause = cause; address = address } }
 {
     OpenFault { cause, address }

@@ -45,7 +45,7 @@ impl Message {
 }
 
 /// The message whose head begins at `at`, in a block that ends at `end`.
-pub fn read_message(image: &[u8], at: u64, end: u64) -> Result<Message, Cause>
+pub(crate) fn read_message(image: &[u8], at: u64, end: u64) -> Result<Message, Cause>
     requires before { at < end }
     requires inside { end ≤ length image.now }
     ensures read { IfOk result (λ m. IsHead image.now at end m) }

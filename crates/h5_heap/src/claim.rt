@@ -9,7 +9,7 @@ use h5_model::{Cause, OpenFault};
 use h5_space::{ClaimFault, Claims};
 
 /// Claims a block; a refusal has the block's address.
-pub fn claim(claims: &mut Claims, block: Block) -> Result<(), OpenFault>
+pub(crate) fn claim(claims: &mut Claims, block: Block) -> Result<(), OpenFault>
     ensures inside { OnOk result (block.at + block.len ≤ claims.old.end) }
     ensures claimed { OnOk result ((p : ℕ)
         → cover p claims.new.held ≡ cover p claims.old.held + holds p block.at block.len) }
@@ -27,7 +27,7 @@ pub fn claim(claims: &mut Claims, block: Block) -> Result<(), OpenFault>
     Err(fault(cause, block.at))
 }
 
-pub fn fault(cause: Cause, address: u64) -> OpenFault
+pub(crate) fn fault(cause: Cause, address: u64) -> OpenFault
     ensures { result ≡ record { cause = cause; address = address } }
 {
     OpenFault { cause, address }

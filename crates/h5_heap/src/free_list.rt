@@ -29,7 +29,7 @@ pub struct FreeList {
 /// Reads the list from the offset `head` on.
 ///
 /// `HeapForm` where there is no such list, else `NoMemory`.
-pub fn read_free(alloc: Global, segment: &[u8], head: u64) -> Result<FreeList, Cause>
+pub(crate) fn read_free(alloc: Global, segment: &[u8], head: u64) -> Result<FreeList, Cause>
     ensures list { IfOk result (λ f. IsFreeList segment.now head f.blocks.items) }
     ensures held { IfOk result (λ f. (p : ℕ) → cover p f.spans.held ≡ cover p f.blocks.items) }
     ensures end { IfOk result (λ f. f.spans.end ≡ length segment.now) }

@@ -29,7 +29,7 @@ pub struct Header {
 }
 
 /// Claims the header and the segment of the heap at `at`.
-pub fn claim_heap(image: &Image, claims: &mut Claims, at: u64) -> Result<Header, OpenFault>
+pub(crate) fn claim_heap(image: &Image, claims: &mut Claims, at: u64) -> Result<Header, OpenFault>
     requires { claims.old.end ≡ length image.now.bytes }
     ensures header { OnOk result (IsHeader (heap_header image.now.bytes at)) }
     ensures segment { IfOk result (λ h. h.segment ≡ segment_block image.now.bytes at) }

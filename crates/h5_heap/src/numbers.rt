@@ -5,7 +5,7 @@ ghost use Rattle.h5_bytes.specs.Bytes.{number_at};
 
 use h5_bytes::get_u64;
 
-pub fn u64_at(bytes: &[u8], at: u64) -> u64
+pub(crate) fn u64_at(bytes: &[u8], at: u64) -> u64
     requires { at + 8 ≤ length bytes.now }
     ensures { result ≡ number_at bytes.now at 8 }
 {

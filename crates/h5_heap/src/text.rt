@@ -6,7 +6,7 @@ ghost use Rattle.h5_heap.specs.Spans.{IsSpan};
 
 /// The text at `offset`, or `None` where it begins at no multiple of 8, or passes the end of the segment
 /// with its zero and its padding.
-pub fn text_in(segment: &[u8], offset: u64) -> Option<&[u8]>
+pub(crate) fn text_in(segment: &[u8], offset: u64) -> Option<&[u8]>
     ensures text { IfSome result (λ x. x.now ≡ text_at segment.now offset) }
     ensures span { IfSome result (λ x. IsSpan segment.now offset) }
     ensures none { IfNone result (IsSpan segment.now offset → ⊥) }
@@ -23,7 +23,7 @@ pub fn text_in(segment: &[u8], offset: u64) -> Option<&[u8]>
 }
 
 /// How many bytes a text of `len` bytes occupies, with its zero and its padding.
-pub fn span_len(len: usize) -> usize
+pub(crate) fn span_len(len: usize) -> usize
     requires { len < 2 ^ 63 }
     ensures { result ≡ pad8 (len + 1) }
 {

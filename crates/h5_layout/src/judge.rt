@@ -23,7 +23,7 @@ use std::alloc::Global;
 const MAX_CHUNK: u128 = 1 << 30;
 
 /// What a Dataspace message says, with its sizes.
-pub fn judge_sizes(alloc: Global, body: &[u8]) -> Result<(Dims, Dataspace<'_>), Cause>
+pub(crate) fn judge_sizes(alloc: Global, body: &[u8]) -> Result<(Dims, Dataspace<'_>), Cause>
     ensures told { IfOk result (λ told. extent_of body.now ≡ Some told.1) }
     ensures sizes { IfOk result (λ told. told.0 ≡ told.1.sizes) }
     ensures small { IfOk result (λ told. extent_cells told.1.sizes ≤ 2 ^ 40) }
@@ -41,7 +41,7 @@ pub fn judge_sizes(alloc: Global, body: &[u8]) -> Result<(Dims, Dataspace<'_>), 
 
 /// What a Datatype message says.
 #[tactic(auto, using(crate::proofs::FillLaws::type_sound))]
-pub fn judge_datatype(body: &[u8]) -> Result<Fixed, Cause>
+pub(crate) fn judge_datatype(body: &[u8]) -> Result<Fixed, Cause>
     ensures datatype { result ≡ ok_or (fixed_of body.now) Cause.DatatypeForm }
     ensures sound { IfOk result (λ fixed. IsFixed fixed) }
 {
@@ -52,7 +52,7 @@ pub fn judge_datatype(body: &[u8]) -> Result<Fixed, Cause>
 }
 
 /// The value of an old Fill Value message, where there is one.
-pub fn judge_old_fill(fixed: &Fixed, body: Option<&[u8]>) -> Result<Option<i128>, Cause>
+pub(crate) fn judge_old_fill(fixed: &Fixed, body: Option<&[u8]>) -> Result<Option<i128>, Cause>
     requires { IsFixed fixed.now }
     ensures form { MatchResult result
         (λ fill. IsFill (old_fill_value fixed.now) (option_copied body.entry) fill)
@@ -80,7 +80,7 @@ fn old_fill_in(fixed: &Fixed, body: &[u8]) -> Result<i128, Cause>
 }
 
 /// The value of a Fill Value message, where there is one.
-pub fn judge_fill(fixed: &Fixed, body: Option<&[u8]>) -> Result<Option<i128>, Cause>
+pub(crate) fn judge_fill(fixed: &Fixed, body: Option<&[u8]>) -> Result<Option<i128>, Cause>
     requires { IsFixed fixed.now }
     ensures form { MatchResult result
         (λ fill. IsFill (fill_value fixed.now) (option_copied body.entry) fill)
@@ -108,7 +108,7 @@ fn fill_in(fixed: &Fixed, body: &[u8]) -> Result<i128, Cause>
 }
 
 /// What a Data Layout message says of an array of these sizes and this type.
-pub fn judge_layout<'a>(
+pub(crate) fn judge_layout<'a>(
     alloc: Global,
     dims: &Dims,
     fixed: &Fixed,

@@ -10,7 +10,7 @@ use std::alloc::{AllocError, Global};
 
 /// The type of this text: `i8`, `u8`, or `i` or `u` with 16, 32 or 64 and `le` or `be`.
 #[tactic(auto, using(crate::proofs::TypeTexts::type_from_is))]
-pub fn type_from(word: &[u8]) -> Option<Fixed>
+pub(crate) fn type_from(word: &[u8]) -> Option<Fixed>
     ensures { result ≡ type_read word.now }
 {
     if b"i8".as_slice() == word {
@@ -59,7 +59,7 @@ pub fn type_from(word: &[u8]) -> Option<Fixed>
 }
 
 /// How a dataset is to be stored: `compact`, `contiguous`, or `chunked:` and the chunk sizes.
-pub fn store_from(alloc: Global, word: &[u8]) -> Result<Option<Store>, AllocError>
+pub(crate) fn store_from(alloc: Global, word: &[u8]) -> Result<Option<Store>, AllocError>
     ensures { IfOk result (λ store. store ≡ store_read word.now) }
 {
     if word == b"compact".as_slice() {
@@ -78,7 +78,7 @@ pub fn store_from(alloc: Global, word: &[u8]) -> Result<Option<Store>, AllocErro
 }
 
 /// The value behind `fill=`.
-pub fn fill_from(word: &[u8]) -> Option<i128>
+pub(crate) fn fill_from(word: &[u8]) -> Option<i128>
     ensures { result ≡ fill_read word.now }
 {
     value_from(word.strip_prefix(b"fill=")?)

@@ -27,21 +27,21 @@ fn number_upto(most: u128, word: &[u8]) -> Option<u128>
 }
 
 /// The number below 2^64 that a word stands for.
-pub fn u64_from(word: &[u8]) -> Option<u64>
+pub(crate) fn u64_from(word: &[u8]) -> Option<u64>
     ensures { result ≡ u64_read word.now }
 {
     number_upto(u128::from(u64::MAX), word).map(|number| number as u64)
 }
 
 /// The number below 2^32 that a word stands for.
-pub fn u32_from(word: &[u8]) -> Option<u32>
+pub(crate) fn u32_from(word: &[u8]) -> Option<u32>
     ensures { result ≡ u32_read word.now }
 {
     number_upto(u128::from(u32::MAX), word).map(|number| number as u32)
 }
 
 /// The value of `i128` that a word stands for; a `-` may stand before the digits.
-pub fn value_from(word: &[u8]) -> Option<i128>
+pub(crate) fn value_from(word: &[u8]) -> Option<i128>
     ensures { result ≡ value_read word.now }
 {
     let Some((b'-', digits)) = word.split_first() else {

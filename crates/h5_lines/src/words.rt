@@ -10,7 +10,7 @@ use crate::number::{u32_from, u64_from, value_from};
 use std::alloc::{AllocError, Global};
 
 /// What stands before the first such byte, and what stands behind it if there is one.
-pub fn cut(bytes: &[u8], at: u8) -> (&[u8], Option<&[u8]>)
+pub(crate) fn cut(bytes: &[u8], at: u8) -> (&[u8], Option<&[u8]>)
     ensures parts { parts at bytes.now ≡ result.0.now ∷ parts_left at result.1 }
     ensures shorter { IfSome result.1 (λ rest. length rest.now < length bytes.now) }
 {
@@ -75,7 +75,7 @@ fn maximum_from(word: &[u8]) -> Option<Option<u64>>
 }
 
 /// A size, which is its own maximum, or a size, `/` and its maximum.
-pub fn size_from(word: &[u8]) -> Option<(u64, Option<u64>)>
+pub(crate) fn size_from(word: &[u8]) -> Option<(u64, Option<u64>)>
     ensures { result ≡ size_read word.now }
 {
     let (size, rest) = cut(word, b'/');
@@ -92,7 +92,7 @@ pub fn size_from(word: &[u8]) -> Option<(u64, Option<u64>)>
 
 /// The list that a word stands for: `-`, or items joined by commas. `None` where it stands for no
 /// list.
-pub fn list_from<T: Item>(alloc: Global, word: &[u8]) -> Result<Option<Vec<T>>, AllocError>
+pub(crate) fn list_from<T: Item>(alloc: Global, word: &[u8]) -> Result<Option<Vec<T>>, AllocError>
     ensures { IfOk result (λ list. option_map (λ v. v.items) list ≡ list_read T.read word.now) }
 {
     if word == b"-".as_slice() {

@@ -21,7 +21,7 @@ use std::alloc::Global;
 /// What is wrong with its header comes first, then, of a dataset, with the bodies of its messages, all at the header, then with
 /// the block of its cells, at that block. `NotYet` at the symbol node where the header is a group's, and at the header where the
 /// array has not one dimension or its cells are not in one block.
-pub fn read_line(
+pub(crate) fn read_line(
     alloc: Global,
     image: &Image,
     claims: &mut Claims,

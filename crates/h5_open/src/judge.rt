@@ -24,7 +24,7 @@ const SYMBOL_TABLE: u16 = 17;
 ///
 /// `MissingMessage` where there is no Symbol Table; else `DuplicateMessage`; then what is wrong with an attribute's body; then
 /// `HeapForm` where the Symbol Table is short. All are at the header. `NoMemory` where memory is refused.
-pub fn judge_root(
+pub(crate) fn judge_root(
     alloc: Global,
     image: &Image,
     messages: &Messages,
@@ -51,7 +51,11 @@ pub fn judge_root(
 ///
 /// Two attributes of one name are `DuplicateMessage`; then the bodies are judged, those of attributes last; then an array that
 /// is another is `NotYet`. All are at the header. `NoMemory` where memory is refused.
-pub fn judge_line(alloc: Global, image: &Image, messages: &Messages) -> Result<Line, OpenFault>
+pub(crate) fn judge_line(
+    alloc: Global,
+    image: &Image,
+    messages: &Messages,
+) -> Result<Line, OpenFault>
     requires within { IsWithin (length image.now.bytes) messages.now.list }
     requires dataset { IsOfDataset (messages_in image.now.bytes messages.now.list) }
     ensures read { IfOk result (λ line. IsLineList (messages_in image.now.bytes messages.now.list) line) }
@@ -89,7 +93,7 @@ fn line_of(array: &ArrayRef<'_>) -> Option<Line>
     })
 }
 
-pub fn fault(cause: Cause, address: u64) -> OpenFault
+pub(crate) fn fault(cause: Cause, address: u64) -> OpenFault
     ensures { result ≡ record { cause = cause; address = address } }
 {
     OpenFault { cause, address }

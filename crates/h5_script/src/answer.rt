@@ -21,7 +21,7 @@ use std::alloc::{AllocError, Global};
 ///
 /// A want of memory for the answer is told of `ls` and `dump` as a refusal; what is left is
 /// the memory for one short line.
-pub fn answer(
+pub(crate) fn answer(
     alloc: Global,
     file: &mut File,
     command: &Command,

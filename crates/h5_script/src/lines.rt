@@ -27,7 +27,7 @@ pub struct Answers {
 
 impl Answers {
     /// No line was run yet.
-    pub fn new(alloc: Global) -> Result<Answers, AllocError>
+    pub(crate) fn new(alloc: Global) -> Result<Answers, AllocError>
         ensures { IfOk result (λ answers. answers.ran ≡ none_ran) }
     {
         Ok(Answers {
@@ -61,7 +61,7 @@ fn run_command<W: Write>(
 }
 
 /// Runs a line, if it asks for anything, and writes its answer.
-pub fn run_line<W: Write>(
+pub(crate) fn run_line<W: Write>(
     alloc: Global,
     file: &mut File,
     line: &[u8],
@@ -95,7 +95,7 @@ fn cut(bytes: &[u8]) -> Option<(&[u8], &[u8])>
 
 /// Runs the lines that end in a piece of a script, the first of which begins with what is held. What
 /// follows the last of them is held then.
-pub fn run_piece<W: Write>(
+pub(crate) fn run_piece<W: Write>(
     alloc: Global,
     file: &mut File,
     held: &mut Vec<u8>,

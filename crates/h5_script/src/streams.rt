@@ -9,7 +9,7 @@ use crate::fault::RunFault;
 use std::io::{Read, Write};
 
 /// Reads once, and answers how many bytes came: none only at the end.
-pub fn read_piece<R: Read>(input: &mut R, piece: &mut [u8]) -> Result<usize, RunFault>
+pub(crate) fn read_piece<R: Read>(input: &mut R, piece: &mut [u8]) -> Result<usize, RunFault>
     requires { 0 < length piece.old }
     ensures { MatchResult result (IsRead (R.remaining input.old) (R.remaining input.new) piece.new)
         (λ e. (e ≡ ScriptRead) × Keeps (R.remaining input.old) (R.remaining input.new)) }
@@ -21,7 +21,7 @@ pub fn read_piece<R: Read>(input: &mut R, piece: &mut [u8]) -> Result<usize, Run
 }
 
 /// Writes a text, in as many writes as it takes. An error ends it, and so does a write of no byte.
-pub fn write_text<W: Write>(output: &mut W, text: &[u8]) -> Result<(), RunFault>
+pub(crate) fn write_text<W: Write>(output: &mut W, text: &[u8]) -> Result<(), RunFault>
     ensures { MatchResult result (λ _. Appends (W.contents output.old) (W.contents output.new) text.now)
         (λ e. (e ≡ ScriptWrite) × WritesSome (W.contents output.old) (W.contents output.new) text.now) }
 {
@@ -37,7 +37,7 @@ pub fn write_text<W: Write>(output: &mut W, text: &[u8]) -> Result<(), RunFault>
 }
 
 /// Writes what is held back.
-pub fn flush<W: Write>(output: &mut W) -> Result<(), RunFault>
+pub(crate) fn flush<W: Write>(output: &mut W) -> Result<(), RunFault>
     ensures { MatchResult result (λ _. Keeps (W.contents output.old) (W.contents output.new))
         (λ e. (e ≡ ScriptWrite) × Keeps (W.contents output.old) (W.contents output.new)) }
 {

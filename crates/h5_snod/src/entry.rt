@@ -27,7 +27,7 @@ pub struct SymbolEntry {
 
 /// Reads the 40 bytes of an entry. Any cache type but that of a soft link is that of an object header.
 #[tactic(auto, unfolding(h5_model::specs::Symbols::entry_of))]
-pub fn read_entry(bytes: &[u8]) -> SymbolEntry
+pub(crate) fn read_entry(bytes: &[u8]) -> SymbolEntry
     requires { length bytes.now ≡ 40 }
     ensures { result ≡ symbol_from (entry_of bytes.now) }
 {

@@ -80,7 +80,7 @@ impl<'a> SymbolNode<'a> {
 
 /// The bytes of an entry.
 #[tactic(auto, unfolding(h5_bytes::specs::Bytes::part))]
-pub fn entry_bytes(bytes: &[u8], k: usize) -> &[u8]
+pub(crate) fn entry_bytes(bytes: &[u8], k: usize) -> &[u8]
     requires { 48 + 40 * k ≤ length bytes.now }
     ensures bytes { result.now ≡ part (8 + 40 * k) 40 bytes.now }
     ensures long { length result.now ≡ 40 }

@@ -11,7 +11,12 @@ use crate::numbers::u64_at;
 use std::cmp::Ordering;
 
 /// Where the entry of this name stands, or else where one would stand.
-pub fn find_name(bytes: &[u8], count: usize, segment: &[u8], name: &[u8]) -> Result<usize, usize>
+pub(crate) fn find_name(
+    bytes: &[u8],
+    count: usize,
+    segment: &[u8],
+    name: &[u8],
+) -> Result<usize, usize>
     requires count { count ≡ symbols_in bytes.now }
     requires entries { 8 + 40 * symbols_in bytes.now ≤ length bytes.now }
     requires ascending { Ascend (map (link_of segment.now) (entries_of bytes.now)) }

@@ -23,7 +23,7 @@ pub fn push_text(out: &mut Vec<u8>, text: &[u8]) -> Result<(), AllocError>
 }
 
 /// Appends a number.
-pub fn push_number(out: &mut Vec<u8>, number: u64) -> Result<(), AllocError>
+pub(crate) fn push_number(out: &mut Vec<u8>, number: u64) -> Result<(), AllocError>
     ensures { Appends result out.old.items out.new.items (decimal number) }
 {
     let mut buffer = Buffer::new();
@@ -31,7 +31,7 @@ pub fn push_number(out: &mut Vec<u8>, number: u64) -> Result<(), AllocError>
 }
 
 /// Appends a value.
-pub fn push_value(out: &mut Vec<u8>, value: i128) -> Result<(), AllocError>
+pub(crate) fn push_value(out: &mut Vec<u8>, value: i128) -> Result<(), AllocError>
     ensures { Appends result out.old.items out.new.items (signed_decimal value) }
 {
     let mut buffer = Buffer::new();
@@ -105,7 +105,11 @@ pub fn push_sizes(out: &mut Vec<u8>, sizes: &[u64]) -> Result<(), AllocError>
 }
 
 /// Appends a size, with its maximum where that differs; a maximum of `None` is unlimited.
-pub fn push_size(out: &mut Vec<u8>, size: u64, maximum: Option<u64>) -> Result<(), AllocError>
+pub(crate) fn push_size(
+    out: &mut Vec<u8>,
+    size: u64,
+    maximum: Option<u64>,
+) -> Result<(), AllocError>
     ensures { Appends result out.old.items out.new.items (size_text (size, maximum)) }
 {
     push_number(out, size)?;
@@ -120,7 +124,7 @@ pub fn push_size(out: &mut Vec<u8>, size: u64, maximum: Option<u64>) -> Result<(
 }
 
 /// Appends sizes with their maxima, of which there are as many.
-pub fn push_extent(
+pub(crate) fn push_extent(
     out: &mut Vec<u8>,
     sizes: &[u64],
     maxima: &[Option<u64>],
