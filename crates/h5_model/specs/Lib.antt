@@ -46,4 +46,3 @@ pub mod HeaderFaults
 pub mod TreeFaults
 pub mod Faults
 pub mod Plain
-pub mod OneArray

@@ -1,11 +1,7 @@
 pub mod Nodes
 pub mod Copies
-pub mod LineParts
 pub mod Segments
-pub mod Front
 pub mod ValueBytes
-pub mod LineLaws
-pub mod TextLaws
 pub mod AttributeParts
 pub mod Messages
 pub mod ArrayParts

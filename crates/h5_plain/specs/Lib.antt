@@ -1,7 +1,6 @@
 pub mod Parts
 pub mod Entries
 pub mod Places
-pub mod LineFile
 pub mod Others
 pub mod Written
 pub mod ArrayHeader

@@ -37,7 +37,7 @@ fn push_copies(out: &mut Vec<u8>, bytes: &[u8], count: u64) -> Result<(), AllocE
 }
 
 /// So many cells of one value.
-pub(crate) fn push_cells(
+fn push_cells(
     alloc: Global,
     out: &mut Vec<u8>,
     fixed: &Fixed,

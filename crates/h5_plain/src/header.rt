@@ -1,7 +1,7 @@
 //! Object headers, version 1, in one block, and the messages of a group and of an array (File Format Specification 3.0,
 //! section IV.A).
-ghost use Rattle.std.specs.Prelude.{◌≡◌, ℕ, ◌+◌, ◌*◌, ◌^◌, ◌<◌, ◌≤◌, ◌++◌, [], ◌∷◌, OnOk, true, length, nat_lt, not};
-ghost use Rattle.h5_model.specs.Plain.{header_bytes, symbol_table_body, line_header_bytes, extent_body, type_body, fill_body, contiguous_body, class_bits, message_bytes, messages_bytes, word};
+ghost use Rattle.std.specs.Prelude.{◌≡◌, ℕ, ◌+◌, ◌*◌, ◌^◌, ◌≤◌, ◌++◌, [], ◌∷◌, OnOk, true, length, nat_lt, not};
+ghost use Rattle.h5_model.specs.Plain.{extent_body, type_body, fill_body, contiguous_body, class_bits, message_bytes, messages_bytes, word};
 ghost use Rattle.h5_model.specs.Fixed.{fits};
 ghost use Rattle.h5_model.specs.Tree.{are_sizes};
 ghost use Rattle.h5_small.specs.Bodies.{maximum_word, space_body};
@@ -18,7 +18,7 @@ use h5_model::Fixed;
 use std::alloc::AllocError;
 
 /// The prefix of a header: its count of messages, its reference count and the bytes of its messages.
-pub(crate) fn push_prefix(
+fn push_prefix(
     out: &mut Vec<u8>,
     messages: u16,
     references: u32,
@@ -41,17 +41,6 @@ pub(crate) fn push_message_head(out: &mut Vec<u8>, kind: u16, size: u16) -> Resu
     push_short(out, kind)?;
     push_short(out, size)?;
     push_zeros(out, 4)?;
-    Ok(())
-}
-
-/// The header of a group with one reference, whose tree and heap begin at these addresses.
-pub(crate) fn push_group_header(out: &mut Vec<u8>, tree: u64, heap: u64) -> Result<(), AllocError>
-    ensures { OnOk result (out.new.items ≡ out.old.items ++ header_bytes 1 ((17, symbol_table_body tree heap) ∷ [])) }
-{
-    push_prefix(out, 1, 1, 24)?;
-    push_message_head(out, 17, 16)?;
-    push_word(out, tree)?;
-    push_word(out, heap)?;
     Ok(())
 }
 
@@ -108,30 +97,6 @@ fn push_contiguous(out: &mut Vec<u8>, address: u64, size: u64) -> Result<(), All
     push_word(out, address)?;
     push_word(out, size)?;
     push_zeros(out, 6)?;
-    Ok(())
-}
-
-/// The header of a contiguous array of one size, whose data stand at this address.
-pub(crate) fn push_line_header(
-    out: &mut Vec<u8>,
-    fixed: &Fixed,
-    size: u64,
-    fill: i128,
-    address: u64,
-) -> Result<(), AllocError>
-    requires of_type { fits fixed.now fill ≡ true }
-    requires room { size * fixed.now.size < 2 ^ 64 }
-    ensures { OnOk result (out.new.items ≡ out.old.items ++ line_header_bytes fixed.now size fill address) }
-{
-    push_prefix(out, 4, 1, 104)?;
-    push_message_head(out, 1, 16)?;
-    push_extent(out, &[size])?;
-    push_message_head(out, 3, 16)?;
-    push_type(out, fixed)?;
-    push_message_head(out, 5, 16)?;
-    push_fill(out, 1, fixed, fill)?;
-    push_message_head(out, 8, 24)?;
-    push_contiguous(out, address, size * fixed.size() as u64)?;
     Ok(())
 }
 

@@ -6,24 +6,16 @@
 mod array;
 mod attribute;
 mod cells;
-mod empty;
 mod entry;
 mod fields;
 mod group;
 mod header;
-mod line;
-mod line_file;
 mod others;
 mod places;
-mod read;
 mod small;
 mod superblock;
 mod symbols;
 
 pub use crate::array::{Array, Cells};
-pub use crate::empty::write_empty;
-pub use crate::line::{line_length, write_line};
-pub use crate::line_file::Line;
 pub use crate::others::Others;
-pub use crate::read::read_line;
 pub use crate::small::{WriteFault, write_small};

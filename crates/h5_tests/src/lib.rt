@@ -8,10 +8,6 @@ mod bytes;
 #[cfg(test)]
 mod header;
 #[cfg(test)]
-mod images;
-#[cfg(test)]
-mod plain;
-#[cfg(test)]
 mod shape;
 #[cfg(test)]
 mod space;
