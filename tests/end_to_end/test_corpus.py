@@ -96,4 +96,4 @@ class Corpus(InFolder):
                     _, cause, _, address = refusal.split(" ")
                     self.assertEqual((cause, int(address)), (verdict["cause"], verdict["address"]))
         self.assertEqual(seen["opened"], ["attribute_names.h5", "attributes_deleted.h5", "empty.h5"])
-        self.assertEqual((len(seen["not yet"]), len(seen["refused"])), (49, 24))
+        self.assertEqual((len(seen["not yet"]), len(seen["refused"])), (48, 25))
