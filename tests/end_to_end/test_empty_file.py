@@ -1,7 +1,5 @@
 """The file that `h5i new` writes, and what `h5i ls` prints of it."""
 
-import os
-
 from .support import InFolder, empty_image, h5i, library, reference, run_command
 
 ADD_GROUP = """
@@ -62,9 +60,11 @@ class EmptyFile(InFolder):
         self.assertEqual((status, errors), (0, b""))
         self.assertIn(b'GROUP "/" {\n}', output)
 
-    def test_a_file_with_a_link_is_not_read_yet(self):
+    def test_a_file_with_a_link_to_a_group_is_not_read_yet(self):
         self.assertEqual(library(ADD_GROUP, self.file)[0], 0)
         before = self.read(self.file)
-        self.assertEqual(h5i("ls", self.file), (3, b"", b"h5i: refused 37 NotYet at 0\n"))
+        # The first child of the root's tree is the symbol node in which the link stands.
+        node = int.from_bytes(before[168:176], "little")
+        self.assertEqual(before[node:node + 4], b"SNOD")
+        self.assertEqual(h5i("ls", self.file), (3, b"", f"h5i: refused 37 NotYet at {node}\n".encode()))
         self.assertEqual(self.read(self.file), before)
-        self.assertTrue(os.path.exists(self.file))

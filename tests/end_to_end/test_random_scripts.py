@@ -2,10 +2,17 @@
 
 import random
 
-from .support import InFolder, h5i, reference
+from . import today
+from .support import InFolder, empty_image, h5i, reference
+
+# pylint: disable=wrong-import-order
+from h5oracle.values import TYPES as FIXED  # noqa: E402
+from randscript import Maker  # noqa: E402
 
 SEEDS = range(30)
 MOST_LINES = 30
+ATTRIBUTE_SEEDS = range(50)
+MOST_ATTRIBUTE_LINES = 80
 TYPES = [f"{sign}{bits}{order}" for sign in "iu" for bits in (8, 16, 32, 64) for order in ("le", "be", "")]
 NAMES = ["/d", "/e", "/" + "n" * 1023, "/" + "n" * 1024, "/a\\x20b", "/\\xff\\x00", "/\\xff", "/..", "/.", "/",
          "d", "", "//", "/d/", "/x/d", "/d/e", "/a\\x2", "/a\\X20", "/\\x2fd", "/a\tb", "\\x2fd", "/~!"]
@@ -13,10 +20,10 @@ SIZES = ["0", "1", "3", "007", "70", "1/1", "1/2", "1/inf", "1,1", "-", "", "1,"
          "18446744073709551616", "18446744073709551615", "1099511627777"]
 STORES = ["contiguous"] * 12 + ["compact", "chunked:1", "chunked:", "chunked:4294967296", "Contiguous", ""]
 FORMS = ["ls", "ls ", "ls x", "dump", "group /g", "repack", "show 0", "close 1", "unlink /d", "soft a /b", "x", "  ",
-         "dataset", "dataset /d", "# note", "", "dump /d /e", "resize /d 1", "attr /d a u8 - 1"]
-# An answer that no drawn line has: it marks the lines whose edit is not carried yet.
-MARK = "dump " + "/a" * 65
-MARKED = b"refused 2 PathTooDeep\n"
+         "dataset", "dataset /d", "# note", "", "dump /d /e", "resize /d 1", "attr /d a u8 - 1", "unattr /d a",
+         "attr / a u8 2 1", "unattr / a", "dump /"]
+# How often each kind of line is drawn where attributes are set and removed.
+MOOD = dict(attr=40, unattr=14, dump=10, root=6, ls=3, line=6, dataset=2, bad=8, note=1, group=1, write=1, resize=1)
 
 
 def limits(name):
@@ -49,58 +56,64 @@ def draw(rng):
     return rng.choice(FORMS)
 
 
-def is_carried(line):
-    """Whether a good line asks for an array of one size in one block: no other is carried yet."""
-    words = line.split(" ")
-    return words[4] == "contiguous" and words[3] != "-" and "," not in words[3]
+class AttributeMaker(Maker):
+    """Draws lines that set and remove attributes, by following what the reference answers to them."""
+
+    def line(self):
+        """The next line, which is also run."""
+        kind = self.rng.choices(list(MOOD), list(MOOD.values()))[0]
+        line = getattr(self, "make_" + kind)()
+        line = line.encode("ascii") if isinstance(line, str) else line
+        return line, today.answer(self.session, line)
+
+    def make_root(self):
+        """dump of the root"""
+        return "dump /"
+
+    def make_line(self):
+        """A dataset that may be carried."""
+        fixed = self.pick(FIXED.values())
+        fill = f" fill={self.value(fixed)}" if self.odd(0.4) else ""
+        return f"dataset {self.new_path()} {fixed.text()} {self.rng.randrange(9)} contiguous{fill}"
 
 
 class RandomScripts(InFolder):
-    """Scripts on a file that is empty at first."""
+    """Scripts, mostly on a file that is empty at first."""
 
-    def told(self, lines):
-        """The reference's answers to lines, from the empty file."""
-        path = self.written("script", "".join(line + "\n" for line in lines).encode("latin-1"))
-        status, output, errors = reference("answers", "--script", path, stage=2)
-        self.assertIn((status, errors), ((0, b""), (1, b"")))
-        return output
-
-    def known_to_the_reference(self, lines):
-        """The lines, with a mark in place of those that ask for what is not carried yet."""
-        asked = [line for line in lines if line.startswith("dataset")]
-        good = [line for line, told in zip(asked, self.told(asked).splitlines(), strict=True) if told != b"bad line"]
-        carried = [line for line in good if is_carried(line)]
-        # Until one of them is accepted, the file stays empty.
-        answers = self.told(carried).splitlines()
-        first = answers.index(b"ok 0") if b"ok 0" in answers else len(answers)
-        known, seen = [], 0
-        for line in lines:
-            if line in good and not (is_carried(line) and seen <= first):
-                line = MARK
-            elif line in good:
-                seen += 1
-            known.append(line)
-        return known
-
-    def assert_runs(self, lines, ends):
-        """The program's answers and file are the reference's; the last line may lack its end."""
-        known = self.known_to_the_reference(lines)
-        wanted = self.told(known).replace(MARKED, b"refused 32 NotYet\n")
-        refused = any(text in (b"bad line",) or text.startswith(b"refused ") for text in wanted.splitlines())
-        path, other = self.new(), self.path("other.h5")
+    def assert_runs(self, image, script):
+        """The program's answers and file are the reference's."""
+        session = today.session_of(image)
+        wanted, edited = today.answers(session, script)
+        path = self.written("e.h5", image)
         before = self.stamp(path)
-        script = "\n".join(lines).encode("latin-1") + (b"\n" if ends else b"")
-        self.assertEqual(h5i("run", path, script=script), (1 if refused else 0, wanted, b""))
-        if b"ok 0\n" in wanted:
-            self.written("other.h5", before[0])
-            reference("run", other, script="\n".join(known).encode("latin-1"), stage=2)
-            self.assertEqual(self.read(path), self.read(other))
+        self.assertEqual(h5i("run", path, script=script), (today.status_of(wanted), wanted, b""))
+        if edited:
+            self.assertEqual(self.read(path), session.image())
         else:
             self.assertEqual(self.stamp(path), before)
+        return self.read(path)
 
     def test_scripts(self):
         for seed in SEEDS:
             with self.subTest(seed=seed):
                 rng = random.Random(seed)
                 lines = [draw(rng) for _ in range(rng.randrange(MOST_LINES))]
-                self.assert_runs(lines, rng.random() < 0.5)
+                # The last line may lack its end.
+                script = "\n".join(lines).encode("latin-1") + (b"\n" if rng.random() < 0.5 else b"")
+                self.assert_runs(empty_image(), script)
+
+    def test_scripts_of_attributes(self):
+        accepted = 0
+        for seed in ATTRIBUTE_SEEDS:
+            with self.subTest(seed=seed):
+                rng = random.Random(f"attributes {seed}")
+                image = empty_image()
+                # The second script goes on where the first has ended.
+                for _ in range(2):
+                    maker = AttributeMaker(rng, today.session_of(image))
+                    made = [maker.line() for _ in range(rng.randrange(1, MOST_ATTRIBUTE_LINES))]
+                    image = self.assert_runs(image, b"".join(line + b"\n" for line, _ in made))
+                    accepted += sum(edited for _, (_, edited) in made)
+                path, other = self.written("a.h5", image), self.written("b.h5", maker.session.image())
+                self.assertEqual(reference("same", path, other)[:2], (0, b"same\n"))
+        self.assertGreater(accepted, 10 * len(ATTRIBUTE_SEEDS))

@@ -38,8 +38,32 @@ TWO_CHANGES = {
     ((40, "ffffffff00000000"), (16, "0000")): (7, "KRange", 16),
 }
 
+# what the walk meets behind the superblock
+ALONG_THE_WALK = {
+    (64, "ffffffffffffffff"): (2, "Truncated", 18446744073709551615),
+    (64, "0000000000000000"): (8, "HeaderVersion", 0),
+    (64, "2003000000000000"): (2, "Truncated", 800),
+    (96, "02"): (8, "HeaderVersion", 96),
+    (98, "02"): (10, "MessageCount", 96),
+    (100, "02"): (30, "LinkCount", 96),
+    (104, "10"): (9, "MessageSize", 96),
+    (112, "0c"): (16, "MissingMessage", 96),
+    (112, "0f"): (12, "UnknownMessage", 96),
+    (116, "02"): (11, "SharedMessage", 96),
+    (120, "6000000000000000"): (32, "Overlap", 96),
+    (136, "55"): (25, "NodeForm", 136),
+    (141, "10"): (25, "NodeForm", 136),
+    (144, "fe"): (28, "Sibling", 136),
+    (160, "08"): (24, "HeapName", 680),
+    (680, "49"): (23, "HeapForm", 680),
+    (688, "07"): (23, "HeapForm", 680),
+    (712, "01"): (24, "HeapName", 680),
+    (728, "51"): (23, "HeapForm", 680),
+}
+
 # bytes that the rules do not look at
-PASSED_OVER = ((11, "ff"), (15, "ff"), (20, "ffffffff"), (32, "00"))
+PASSED_OVER = ((11, "ff"), (15, "ff"), (20, "ffffffff"), (32, "00"), (56, "ff"), (72, "ffffffff"), (80, "00"), (97, "ff"), (108, "ffffffff"),
+               (116, "fd"), (117, "ffffff"), (168, "ff"), (685, "ffffff"))
 
 
 class RefusedImages(InFolder):
@@ -50,6 +74,7 @@ class RefusedImages(InFolder):
         path = self.written("changed.h5", image)
         text = f"refused {number} {name} at {address}\n".encode()
         self.assertEqual(h5i("ls", path), (3, b"", b"h5i: " + text))
+        self.assertEqual(h5i("run", path, script=b"ls\n"), (3, b"", b"h5i: " + text))
         status, output, errors = reference("check", path)
         self.assertEqual((status, output + errors), (3, text))
         self.assertEqual(self.read(path), image)
@@ -72,10 +97,14 @@ class RefusedImages(InFolder):
                     image = patched(image, *change)
                 self.assert_refused(image, *verdict)
 
+    def test_along_the_walk(self):
+        for change, verdict in ALONG_THE_WALK.items():
+            with self.subTest(change=change):
+                self.assert_refused(patched(empty_image(), *change), *verdict)
+
     def test_what_is_passed_over_is_no_fault(self):
         for change in PASSED_OVER:
             with self.subTest(change=change):
                 path = self.written("changed.h5", patched(empty_image(), *change))
                 self.assertEqual(reference("check", path)[0], 0)
-                # A well begun image other than the empty file is not read yet.
-                self.assertEqual(h5i("ls", path), (3, b"", b"h5i: refused 37 NotYet at 0\n"))
+                self.assertEqual(h5i("ls", path), (0, b"/ group\n", b""))

@@ -1,0 +1,159 @@
+"""The reference implementation, held to what the program reads and carries today.
+
+The walk is the reference's own, stopped at the first place that is not read yet. Which scripts are answered is the
+reference's own choice too, but for new arrays that are not carried yet.
+"""
+
+import os
+import sys
+
+from .support import REFERENCE
+
+sys.path.insert(0, os.path.dirname(REFERENCE))
+
+# pylint: disable=wrong-import-position
+from h5oracle import reader  # noqa: E402
+from h5oracle.model import CreateDataset, Dataset  # noqa: E402
+from h5oracle.script import BadLine, attr_line, dump_lines, edit_of, ls_lines, run_script  # noqa: E402
+from h5oracle.session import Session  # noqa: E402
+from h5oracle.values import LINE_LIMIT, OpenFault  # noqa: E402
+
+# The forms that are read: all but superblock 1, fill version 3 and attribute versions 2 and 3.
+FORMS = 14
+# The lines that are taken: `dataset`, `attr`, `unattr`, `ls` and `dump`.
+LINES = 3
+NOT_YET = b"refused 32 NotYet\n"
+
+
+class NotYet(Exception):
+    """A block that is not read yet, with its address."""
+
+
+def is_line(thing):
+    """Whether a dataset has one dimension and is contiguous."""
+    return thing.store == "contiguous" and len(thing.dims) == 1
+
+
+class Walk(reader._Walk):  # pylint: disable=protected-access
+    """An opening that ends where one link at most, to one array of one dimension in one block, does not do."""
+
+    tree_root = symbol_node_at = None
+
+    def node(self, at, kind, level, room, length, key_size, read_keys, leaf, nodes):
+        """A node: of a group, the root of its tree is at level 0 and has one child at most."""
+        if level is not None:
+            raise NotYet(self.tree_root)
+        self.tree_root = at
+
+        def only(node, k, child):
+            if len(node.children) > 1:
+                raise NotYet(at)
+            return leaf(node, k, child)
+
+        return super().node(at, kind, level, room, length, key_size, read_keys, only, nodes)
+
+    def symbol_node(self, at):
+        """A symbol node with one entry at most, which is no soft link."""
+        entries = super().symbol_node(at)
+        if len(entries) > 1 or any(entry[2] == 2 for entry in entries):
+            raise NotYet(at)
+        self.symbol_node_at = at
+        return entries
+
+    def duplicates(self, at, messages, kinds):
+        """What a header may have once; of a linked group no attribute is looked at."""
+        linked_group = reader.SYMBOL_TABLE in kinds and len(self.out.table) > 1
+        looked_at = [m for m in messages if m.kind != reader.ATTRIBUTE] if linked_group else messages
+        super().duplicates(at, looked_at, kinds)
+        if linked_group:
+            raise NotYet(self.symbol_node_at)
+
+    def common(self, at, thing, messages):
+        """Attributes and kept messages, the last that is judged before the cells."""
+        super().common(at, thing, messages)
+        if isinstance(thing, Dataset) and not is_line(thing):
+            raise NotYet(at)
+
+
+def opened(data):
+    """The reading of an image, or what `h5i` says where it is refused: number, name and address."""
+    try:
+        return Walk(data, FORMS, None).run(), None
+    except NotYet as fault:
+        return None, f"37 NotYet at {fault.args[0]}"
+    except OpenFault as fault:
+        return None, str(fault)
+
+
+def is_read_yet(tree):
+    """Whether the tree is one that is read: one link at most, to one array of one dimension in one block."""
+    links = list(tree.objects[0].links.values())
+    if not links:
+        return True
+    [(kind, number), *others] = links
+    return not others and kind == "object" and not tree.is_group(number) and is_line(tree.objects[number])
+
+
+def printed(lines):
+    """Lines as the program prints them."""
+    return "".join(line + "\n" for line in lines).encode("ascii")
+
+
+def listing(tree):
+    """What `ls` prints."""
+    return printed(ls_lines(tree))
+
+
+def dump(tree, path):
+    """What `dump` prints of a path that leads to something."""
+    return printed(dump_lines(tree, path))
+
+
+def attributes(thing):
+    """The attributes of an object as `dump` prints them."""
+    return [attr_line(thing.attrs[name]) for name in sorted(thing.attrs)]
+
+
+def is_carried(session, line):
+    """Whether a line is none that asks for an array, or asks for one that is carried: the first, of one size, in one block."""
+    words = line.split(b" ")
+    if len(line) > LINE_LIMIT or b"" in words:
+        return True
+    try:
+        edit = edit_of(words)
+    except BadLine:
+        return True
+    if not isinstance(edit, CreateDataset):
+        return True
+    spec = edit.spec
+    return spec.store == "contiguous" and len(spec.dims) == 1 and not session.tree.objects[0].links
+
+
+def answer(session, line):
+    """The answer to one line of a script, and whether an edit was accepted."""
+    if not is_carried(session, line):
+        return NOT_YET, False
+    run = run_script(session, line + b"\n")
+    return run.output(), run.edits > 0
+
+
+def answers(session, script):
+    """The answers to a script, and whether an edit was accepted."""
+    lines = script.split(b"\n")
+    if lines[-1] == b"":
+        lines.pop()
+    each = [answer(session, line) for line in lines]
+    return b"".join(text for text, _ in each), any(edited for _, edited in each)
+
+
+def session_of(image):
+    """The reference's session on an image, with the lines that are taken today."""
+    session = Session.open(image, FORMS)
+    session.stage = LINES
+    session.growth.stage = LINES
+    return session
+
+
+def status_of(output):
+    """The status of a run with this output: 1 where a line was refused or bad."""
+    return 1 if any(line == b"bad line" or line.startswith(b"refused ") for line in output.splitlines()) else 0
