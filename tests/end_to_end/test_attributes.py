@@ -3,9 +3,11 @@
 import json
 import os
 import random
+import resource
+import subprocess
 
 from . import today
-from .support import InFolder, empty_image, h5i, library, patched, reference, run_command
+from .support import PROGRAM, InFolder, empty_image, h5i, library, patched, reference, run_command
 
 # pylint: disable=wrong-import-order
 from h5oracle.foreign import write_foreign  # noqa: E402
@@ -300,6 +302,29 @@ class Foreign(AsTheReference):
                 self.assert_run(path, b"attr / y i8 1 -1\ndump /\nunattr /far x\nattr /far new u8 0 -\ndump /far\nunattr / y\n")
                 kept = [thing.kept for thing in open_image(self.read(path), today.FORMS).tree.objects.values()]
                 self.assertEqual(kept, [thing.kept for thing in tree.objects.values()])
+
+    def test_a_full_image(self):
+        cells = 2147483648 - 1248
+        image = self.read(self.with_array("/d u8 1 contiguous", "one.h5"))
+        for at, number in ((40, 2147483648), (1128 + 32, cells), (1128 + 106, cells)):
+            image = patched(image, at, le(number, 8).hex())
+        path = self.written("full.h5", image)
+        os.truncate(path, 2147483648)
+        self.assertEqual(h5i("run", path, script=NOTE + b"attr /d n u8 - 1\nunattr / n\nls\n"),
+                         (1, b"refused 30 ImageFull\nrefused 30 ImageFull\nrefused 25 NoSuchAttribute\n"
+                          b"/ group\n/d dataset u8 {2147482400}\n", b""))
+
+    def test_an_image_that_finds_no_memory(self):
+        path = self.with_array("/d u8 67108864 contiguous")
+        before = self.stamp(path)
+        limit = 150 << 20
+
+        def limited():
+            resource.setrlimit(resource.RLIMIT_AS, (limit, limit))
+
+        done = subprocess.run([PROGRAM, "run", path], input=NOTE + b"dump /\n", preexec_fn=limited, capture_output=True, check=False)
+        self.assertEqual((done.returncode, done.stdout, done.stderr), (1, b"refused 31 NoMemory\n/ group\n", b""))
+        self.assertEqual(self.stamp(path), before)
 
     def test_bytes_past_the_end_of_file_are_dropped(self):
         path = self.written("long.h5", empty_image() + b"more")

@@ -6,7 +6,7 @@ import random
 from concurrent.futures import ThreadPoolExecutor
 
 from . import today
-from .support import InFolder, h5i
+from .support import TOP, InFolder, h5i
 
 # pylint: disable=wrong-import-order
 from h5oracle.foreign import write_foreign  # noqa: E402
@@ -16,11 +16,14 @@ from h5oracle.reader import Superblock, open_image  # noqa: E402
 from h5oracle.values import TYPES, OpenFault  # noqa: E402
 from mutate import base_image, crafted, mutant, patch  # noqa: E402
 
+DATA = os.path.join(TOP, "tests", "data")
 MUTANTS = 2000
 OTHER_MUTANTS = 150
 VALID = 200
 OTHER_VALID = 100
 NAMES = [b"a", b"b", b"note", b"sp ace", b"back\\slash", b"\xff\xfe", b"/", b".", b"a" * 7, b"a" * 8, b"long" * 60]
+LIBRARY_MUTANTS = 600
+MOST_BYTES = 20000
 AT_ONCE = 8
 # An array with more cells is listed, not dumped: what is not stored may have any size.
 MOST_CELLS = 4096
@@ -96,6 +99,15 @@ def named_images():
     return images
 
 
+def reads(image):
+    """Whether the reference reads an image, with all forms that it knows."""
+    try:
+        open_image(image)
+    except OpenFault:
+        return False
+    return True
+
+
 def told(image):
     """What the program should print of an image, by the reference: the status, output and errors of `ls` and of dumps.
 
@@ -156,6 +168,22 @@ class Walked(InFolder):
             for k in range(OTHER_MUTANTS):
                 rng = random.Random(f"other {k}")
                 yield f"o{k}", mutant(base_image(rng, rng.random() < 0.5, 20000), rng)
+        self.assert_told(list(images()))
+
+    def test_changed_files_of_the_library(self):
+        files = []
+        for name in sorted(os.listdir(DATA)):
+            path = os.path.join(DATA, name)
+            if name.endswith(".h5") and os.path.getsize(path) <= MOST_BYTES:
+                files.append(self.read(path))
+        sound = [image for image in files if reads(image)]
+        near = [image for image in sound if today.opened(image)[0] is not None]
+        self.assertEqual(len(near), 3)
+
+        def images():
+            for k in range(LIBRARY_MUTANTS):
+                rng = random.Random(f"library {k}")
+                yield f"l{k}", mutant(rng.choice(near if k % 2 else sound), rng)
         self.assert_told(list(images()))
 
     def test_images_in_odd_layouts(self):
