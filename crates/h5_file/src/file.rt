@@ -72,8 +72,8 @@ impl File {
     /// A refusal names the first broken rule of the superblock (File Format Specification 3.0,
     /// section II.A), and else the first that is met on the walk from there, and where it stands;
     /// it gives the bytes back whole. What is well begun but not read yet is refused as
-    /// [`Cause::NotYet`] where it stands: a group of several links or with a soft link, a link to a
-    /// group, and an array that has not one dimension or is not in one block.
+    /// [`Cause::NotYet`] where it stands: a group of several links, with a soft link, or with a tree of
+    /// several nodes, a link to a group, and an array that has not one dimension or is not in one block.
     ///
     /// Each block is looked at once. Where bytes follow the end of file address, those before it are
     /// copied first.
