@@ -113,8 +113,3 @@ contiguous_body address size = 3 ∷ 1 ∷ (word address ++ (word size ++ zeros 
 -- the bytes of cells, one after another
 abbrev pub cells_bytes : Fixed → List ℤ → List ℕ
 cells_bytes t cells = flat_map (bytes_of t) cells
-
--- the header of a contiguous array of one size, whose data stand at this address
-abbrev pub line_header_bytes : Fixed → ℕ → ℤ → ℕ → List ℕ
-line_header_bytes t size fill address = header_bytes 1
-    ((1, extent_body (size ∷ [])) ∷ (3, type_body t) ∷ (5, fill_body 1 t fill) ∷ (8, contiguous_body address (size * t.size)) ∷ [])
