@@ -60,11 +60,9 @@ class EmptyFile(InFolder):
         self.assertEqual((status, errors), (0, b""))
         self.assertIn(b'GROUP "/" {\n}', output)
 
-    def test_a_file_with_a_link_to_a_group_is_not_read_yet(self):
+    def test_a_group_that_the_library_added_is_listed(self):
         self.assertEqual(library(ADD_GROUP, self.file)[0], 0)
         before = self.read(self.file)
-        # The first child of the root's tree is the symbol node in which the link stands.
-        node = int.from_bytes(before[168:176], "little")
-        self.assertEqual(before[node:node + 4], b"SNOD")
-        self.assertEqual(h5i("ls", self.file), (3, b"", f"h5i: refused 37 NotYet at {node}\n".encode()))
+        self.assertEqual(h5i("ls", self.file), (0, b"/ group\n/added group\n", b""))
+        self.assertEqual(h5i("dump", self.file, "/added"), (0, b"/added group\n", b""))
         self.assertEqual(self.read(self.file), before)

@@ -17,16 +17,20 @@ from h5oracle.values import TYPES, OpenFault  # noqa: E402
 from mutate import base_image, crafted, mutant, patch  # noqa: E402
 
 DATA = os.path.join(TOP, "tests", "data")
-MUTANTS = 2000
-OTHER_MUTANTS = 150
-VALID = 200
+MUTANTS = 1000
+FOREIGN_MUTANTS = 2000
+VALID = 2000
 OTHER_VALID = 100
 NAMES = [b"a", b"b", b"note", b"sp ace", b"back\\slash", b"\xff\xfe", b"/", b".", b"a" * 7, b"a" * 8, b"long" * 60]
 LIBRARY_MUTANTS = 600
+# So many small files of the library are opened.
+NEAR = 12
 MOST_BYTES = 20000
 AT_ONCE = 8
 # An array with more cells is listed, not dumped: what is not stored may have any size.
 MOST_CELLS = 4096
+# So many paths of one image are dumped.
+DUMPS = 6
 
 
 def values(rng, fixed, count):
@@ -77,6 +81,66 @@ def small_image(rng):
     return write_foreign(tree, rng, superblock, wild=rng.random(), late=False)
 
 
+def link_name(rng):
+    """A name that a link may have."""
+    while True:
+        name = rng.choice([b"l%d" % rng.randrange(100), rng.randbytes(1 + rng.randrange(20)), b"n" * (1 + rng.randrange(90))])
+        name = name.replace(b"/", b"_").replace(b"\0", b"-")
+        if name != b".":
+            return name
+
+
+def linked_tree(rng):
+    """A tree of groups, arrays of one dimension, soft links, and several hard links to an array, drawn at random."""
+    tree = Tree.root_alone()
+    add_messages(tree.objects[0], rng)
+    groups, arrays = [0], []
+    for _ in range(rng.choice([2, 5, 12, 40, 120])):
+        links = tree.objects[rng.choice(groups[-3:] + groups[:1])].links
+        name, drawn, number = link_name(rng), rng.random(), len(tree.objects)
+        if name in links:
+            continue
+        if drawn < 0.2:
+            links[name] = ("soft", rng.choice([b"/a", b"x" * rng.randrange(1, 30), b"../up"]))
+        elif drawn < 0.4 and arrays:
+            links[name] = ("object", rng.choice(arrays))
+            tree.counts[links[name][1]] += 1
+        else:
+            links[name] = ("object", number)
+            tree.objects[number], tree.counts[number] = (Group() if drawn < 0.65 else array(rng)), 1
+            add_messages(tree.objects[number], rng)
+            (groups if drawn < 0.65 else arrays).append(number)
+    return tree
+
+
+def linked_image(rng):
+    """An image of such a tree, in a layout drawn at random."""
+    leaf, internal = rng.choice([(4, 16), (4, 16), (1, 1), (1, 2), (2, 3)])
+    superblock = Superblock(0, leaf, internal, 32, 0, 0)
+    if rng.random() < 0.2:
+        return write_plain(linked_tree(rng), superblock)
+    return write_foreign(linked_tree(rng), rng, superblock, wild=rng.random(), late=False)
+
+
+def foreign_image(rng):
+    """An image in a layout drawn at random: of groups and arrays that are read, or of any tree."""
+    return linked_image(rng) if rng.random() < 0.8 else base_image(rng, True, 20000)
+
+
+def paths_of(tree, number=0, path=b""):
+    """Each path of a tree, with its object's number or `None`."""
+    for name, (kind, target) in sorted(tree.objects[number].links.items()):
+        here = path + b"/" + name
+        yield here, target if kind == "object" else None
+        if kind == "object" and tree.is_group(target):
+            yield from paths_of(tree, target, here)
+
+
+def word(path):
+    """A path as a word of the command line."""
+    return "".join("/" if byte == 0x2F else f"\\x{byte:02x}" for byte in path)
+
+
 @functools.cache
 def named_images():
     """The reference's crafted images, and some of one link, by name."""
@@ -118,11 +182,10 @@ def told(image):
         return {("ls",): (3, b"", f"h5i: refused {refusal}\n".encode())}
     tree = reading.tree
     wanted = {("ls",): (0, today.listing(tree), b""), ("dump", "/"): (0, today.dump(tree, b"/"), b"")}
-    for name, (_, number) in tree.objects[0].links.items():
-        if tree.objects[number].cells() > MOST_CELLS:
-            continue
-        path = "/" + "".join(f"\\x{byte:02x}" for byte in name)
-        wanted["dump", path] = (0, today.dump(tree, b"/" + name), b"")
+    paths = list(paths_of(tree))
+    for path, number in paths[::1 + len(paths) // DUMPS]:
+        if number is None or tree.is_group(number) or tree.objects[number].cells() <= MOST_CELLS:
+            wanted["dump", word(path)] = (0, today.dump(tree, path), b"")
     return wanted
 
 
@@ -163,12 +226,13 @@ class Walked(InFolder):
         self.assertGreater(counts["opened"], MUTANTS // 10)
         self.assertGreater(counts["refused"], MUTANTS // 2)
 
-    def test_changed_images_of_all_kinds(self):
+    def test_changed_images_in_odd_layouts(self):
         def images():
-            for k in range(OTHER_MUTANTS):
-                rng = random.Random(f"other {k}")
-                yield f"o{k}", mutant(base_image(rng, rng.random() < 0.5, 20000), rng)
-        self.assert_told(list(images()))
+            for k in range(FOREIGN_MUTANTS):
+                rng = random.Random(f"foreign {k}")
+                yield f"o{k}", mutant(foreign_image(rng), rng)
+        counts = self.assert_told(list(images()))
+        self.assertGreater(min(counts["opened"], counts["refused"]), FOREIGN_MUTANTS // 10)
 
     def test_changed_files_of_the_library(self):
         files = []
@@ -178,7 +242,7 @@ class Walked(InFolder):
                 files.append(self.read(path))
         sound = [image for image in files if reads(image)]
         near = [image for image in sound if today.opened(image)[0] is not None]
-        self.assertEqual(len(near), 3)
+        self.assertEqual(len(near), NEAR)
 
         def images():
             for k in range(LIBRARY_MUTANTS):
@@ -187,14 +251,15 @@ class Walked(InFolder):
         self.assert_told(list(images()))
 
     def test_images_in_odd_layouts(self):
-        images = [(f"v{k}", small_image(random.Random(f"valid {k}"))) for k in range(VALID)]
+        images = []
+        for k in range(VALID):
+            rng = random.Random(f"valid {k}")
+            images.append((f"v{k}", foreign_image(rng) if k % 4 else small_image(rng)))
         counts = self.assert_told(images)
-        # Of these only a tree with a level too many, or with empty symbol nodes, is not read yet.
-        self.assertEqual(counts["refused"], 0)
         self.assertGreater(counts["opened"], VALID // 2)
 
     def test_what_is_not_read_yet(self):
-        """Of valid images those are not read whose trees say so, or whose root has more nodes than it needs."""
+        """Of valid images those are not read in which an array has not one dimension, or is not in one block."""
         images = list(named_images().items())
         for k in range(OTHER_VALID):
             rng = random.Random(f"whole {k}")
@@ -208,12 +273,9 @@ class Walked(InFolder):
             valid.append((name, image))
             reading, refusal = today.opened(image)
             with self.subTest(name=name):
-                if reading is not None:
-                    self.assertTrue(today.is_read_yet(whole.tree))
-                    continue
-                self.assertIn("37 NotYet at ", refusal)
-                nodes = [kind for _, _, kind in whole.blocks if kind in ("tree node", "symbol node")]
-                self.assertTrue(len(nodes) > 2 or not today.is_read_yet(whole.tree))
+                self.assertEqual(reading is not None, today.is_read_yet(whole.tree))
+                if reading is None:
+                    self.assertIn("37 NotYet at ", refusal)
         counts = self.assert_told(valid)
         self.assertEqual(counts["refused"], 0)
         self.assertGreater(min(counts["opened"], counts["not yet"]), 5)

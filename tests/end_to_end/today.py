@@ -13,7 +13,7 @@ sys.path.insert(0, os.path.dirname(REFERENCE))
 
 # pylint: disable=wrong-import-position
 from h5oracle import reader  # noqa: E402
-from h5oracle.model import CreateDataset, Dataset  # noqa: E402
+from h5oracle.model import CreateDataset, Dataset, RemoveAttr, SetAttr  # noqa: E402
 from h5oracle.script import BadLine, attr_line, dump_lines, edit_of, ls_lines, run_script  # noqa: E402
 from h5oracle.session import Session  # noqa: E402
 from h5oracle.values import LINE_LIMIT, OpenFault  # noqa: E402
@@ -35,38 +35,7 @@ def is_line(thing):
 
 
 class Walk(reader._Walk):  # pylint: disable=protected-access
-    """An opening that ends where one link at most, to one array of one dimension in one block, does not do."""
-
-    tree_root = symbol_node_at = None
-
-    def node(self, at, kind, level, room, length, key_size, read_keys, leaf, nodes):
-        """A node: of a group, the root of its tree is at level 0 and has one child at most."""
-        if level is not None:
-            raise NotYet(self.tree_root)
-        self.tree_root = at
-
-        def only(node, k, child):
-            if len(node.children) > 1:
-                raise NotYet(at)
-            return leaf(node, k, child)
-
-        return super().node(at, kind, level, room, length, key_size, read_keys, only, nodes)
-
-    def symbol_node(self, at):
-        """A symbol node with one entry at most, which is no soft link."""
-        entries = super().symbol_node(at)
-        if len(entries) > 1 or any(entry[2] == 2 for entry in entries):
-            raise NotYet(at)
-        self.symbol_node_at = at
-        return entries
-
-    def duplicates(self, at, messages, kinds):
-        """What a header may have once; of a linked group no attribute is looked at."""
-        linked_group = reader.SYMBOL_TABLE in kinds and len(self.out.table) > 1
-        looked_at = [m for m in messages if m.kind != reader.ATTRIBUTE] if linked_group else messages
-        super().duplicates(at, looked_at, kinds)
-        if linked_group:
-            raise NotYet(self.symbol_node_at)
+    """An opening that ends at an array that has not one dimension, or is not in one block."""
 
     def common(self, at, thing, messages):
         """Attributes and kept messages, the last that is judged before the cells."""
@@ -86,12 +55,17 @@ def opened(data):
 
 
 def is_read_yet(tree):
-    """Whether the tree is one that is read: one link at most, to one array of one dimension in one block."""
+    """Whether the tree is one that is read: each array has one dimension, and is in one block."""
+    return all(is_line(thing) for thing in tree.objects.values() if isinstance(thing, Dataset))
+
+
+def is_small(tree):
+    """Whether the tree is one of which edits are carried: one link at most, to an array."""
     links = list(tree.objects[0].links.values())
     if not links:
         return True
     [(kind, number), *others] = links
-    return not others and kind == "object" and not tree.is_group(number) and is_line(tree.objects[number])
+    return not others and kind == "object" and not tree.is_group(number)
 
 
 def printed(lines):
@@ -115,7 +89,8 @@ def attributes(thing):
 
 
 def is_carried(session, line):
-    """Whether a line is none that asks for an array, or asks for one that is carried: the first, of one size, in one block."""
+    """Whether a line asks for no edit, or for one that is carried: of attributes in a small tree, or a first array, of one size, in
+    one block."""
     words = line.split(b" ")
     if len(line) > LINE_LIMIT or b"" in words:
         return True
@@ -123,6 +98,8 @@ def is_carried(session, line):
         edit = edit_of(words)
     except BadLine:
         return True
+    if isinstance(edit, (SetAttr, RemoveAttr)):
+        return is_small(session.tree)
     if not isinstance(edit, CreateDataset):
         return True
     spec = edit.spec

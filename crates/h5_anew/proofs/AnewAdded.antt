@@ -9,10 +9,10 @@ use Rattle.h5_model.specs.Places.{cells}
 use Rattle.h5_model.specs.Superblock.{leaf_k, internal_k}
 use Rattle.h5_model.specs.Tree.{Array, Contiguous}
 use Rattle.h5_model.specs.declared.dataset.Spec.{Spec}
-use Rattle.h5_open.specs.declared.opened.Linked.{Linked}
-use Rattle.h5_open.specs.Kept.{IsOpened}
-use Rattle.h5_open.specs.Opened.{tree_of}
-use Rattle.h5_open.specs.State.{opened_state}
+use Rattle.h5_tree.specs.SmallView.{Linked}
+use Rattle.h5_tree.specs.SmallKept.{IsSmallOpened}
+use Rattle.h5_tree.specs.SmallTree.{tree_of}
+use Rattle.h5_tree.specs.State.{small_state}
 use Rattle.h5_plain.specs.Written.{IsUnwritten}
 use Rattle.h5_plain.specs.declared.small.WriteFault.{WriteFault}
 use Rattle.h5_small.specs.Bodies.{others_of}
@@ -43,9 +43,9 @@ module _ (spec : Spec) (size : ℕ) (line : IsNewLine spec size) where
 
 -- ---- the image with it
 
-module _ (image : List ℕ) (root : Listed) (link : Option Linked) (low : AreBytes image) (alone : link ≡ None) (opened : IsOpened image root link) where
-  opened_alone : IsOpened image root None
-  opened_alone = subst (λ l. IsOpened image root l) alone opened
+module _ (image : List ℕ) (root : Listed) (link : Option Linked) (low : AreBytes image) (alone : link ≡ None) (opened : IsSmallOpened image root link) where
+  opened_alone : IsSmallOpened image root None
+  opened_alone = subst (λ l. IsSmallOpened image root l) alone opened
 
   pub root_small : IsSmallRoot (leaf_k image) (internal_k image) (lone_root image root)
   root_small = small_root image root low opened_alone
@@ -59,16 +59,16 @@ module _ (image : List ℕ) (root : Listed) (link : Option Linked) (low : AreByt
     tree_is = sym (ap (λ l. tree_with_array (tree_of image root l) name spec) alone ∙ tree_added image root name spec)
 
     pub added_anew : (bytes : List ℕ) → IsSmallImage leaf internal (others_of (linking_root image root name)) (new_link name spec) bytes
-        → IsAnew (opened_state image root link) (tree_with_array (tree_of image root link) name spec) 2 bytes
-    added_anew bytes written = subst (λ t. IsAnew (opened_state image root link) t 2 bytes) tree_is
-        (pair_anew (opened_state image root link) (linking_root image root name) name (new_object (Array (new_dataset spec))) (new_dataset spec) pair bytes
+        → IsAnew (small_state image root link) (tree_with_array (tree_of image root link) name spec) 2 bytes
+    added_anew bytes written = subst (λ t. IsAnew (small_state image root link) t 2 bytes) tree_is
+        (pair_anew (small_state image root link) (linking_root image root name) name (new_object (Array (new_dataset spec))) (new_dataset spec) pair bytes
         (subst (λ k. IsSmallImage k (internal_k image) (others_of (linking_root image root name)) (new_link name spec) bytes) leaf_is
         (subst (λ k. IsSmallImage leaf k (others_of (linking_root image root name)) (new_link name spec) bytes) internal_is written)))
 
     pub added_refused : (fault : WriteFault)
         → IsUnwritten leaf internal (others_of (linking_root image root name)) (new_link name spec) fault
-        → IsNotAnew (opened_state image root link) (tree_with_array (tree_of image root link) name spec) fault
-    added_refused fault refused = subst (λ t. IsNotAnew (opened_state image root link) t fault) tree_is
-        (pair_refused (opened_state image root link) (linking_root image root name) name (new_object (Array (new_dataset spec))) (new_dataset spec) pair fault
+        → IsNotAnew (small_state image root link) (tree_with_array (tree_of image root link) name spec) fault
+    added_refused fault refused = subst (λ t. IsNotAnew (small_state image root link) t fault) tree_is
+        (pair_refused (small_state image root link) (linking_root image root name) name (new_object (Array (new_dataset spec))) (new_dataset spec) pair fault
         (subst (λ k. IsUnwritten k (internal_k image) (others_of (linking_root image root name)) (new_link name spec) fault) leaf_is
         (subst (λ k. IsUnwritten leaf k (others_of (linking_root image root name)) (new_link name spec) fault) internal_is refused)))

@@ -24,9 +24,9 @@ use Rattle.h5_model.proofs.PlainValues.{size-low, value_at-cells_bytes}
 use Rattle.h5_model.proofs.ValueFrames.{value_at-same}
 use Rattle.h5_layout.specs.Described.{HasArray}
 use Rattle.h5_layout.proofs.RoomLaws.{is_array}
-use Rattle.h5_open.specs.Opened.{described}
-use Rattle.h5_open.specs.Array.{data_blocks}
-use Rattle.h5_open.specs.declared.line.Line.{Line}
+use Rattle.h5_tree.specs.SmallTree.{described}
+use Rattle.h5_tree.specs.Array.{data_blocks}
+use Rattle.h5_tree.specs.declared.line.Line.{Line}
 use Rattle.h5_plain.proofs.ValueBytes.{HasBytes, values_there}
 use Rattle.h5_anew.specs.Rewritten.{line_of}
 use Rattle.h5_anew.proofs.PlainBodies.{AreBytes}

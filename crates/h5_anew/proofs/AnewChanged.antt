@@ -3,10 +3,10 @@ use Rattle.std.proofs.Common.{◌≡◌, ℕ, List, Option, Some, None, Bor, sym
 use Rattle.std.specs.Prelude.{Result, Ok, Err, IfErr}
 use Rattle.h5_header.specs.Listed.{Listed}
 use Rattle.h5_model.specs.Tree.{Tree}
-use Rattle.h5_open.specs.declared.opened.Linked.{Linked}
-use Rattle.h5_open.specs.Kept.{IsOpened}
-use Rattle.h5_open.specs.Opened.{array_in, tree_of}
-use Rattle.h5_open.specs.State.{next_of, opened_state}
+use Rattle.h5_tree.specs.SmallView.{Linked}
+use Rattle.h5_tree.specs.SmallKept.{IsSmallOpened}
+use Rattle.h5_tree.specs.SmallTree.{array_in, tree_of}
+use Rattle.h5_tree.specs.State.{next_of, small_state}
 use Rattle.h5_plain.specs.declared.small.WriteFault.{WriteFault}
 use Rattle.h5_anew.specs.declared.change.Change.{Change}
 use Rattle.h5_anew.specs.declared.change.Target.{Target}
@@ -27,22 +27,22 @@ module _ (image : List ℕ) (root : Listed) where
   -- ---- it can be written
 
   module _ (low : AreBytes image) where
-    pub plain_as_read : (link : Option Linked) → IsOpened image root link → IsPlainOpened image root link None None
+    pub plain_as_read : (link : Option Linked) → IsSmallOpened image root link → IsPlainOpened image root link None None
     plain_as_read None opened = small_root image root low opened
     plain_as_read (Some l) opened = small_pair image root low l opened
 
-    pub plain_root : (link : Option Linked) (c : Bor Change) (t : Target) → t ≡ target.Root → IsOpened image root link → IsPlainChange c.now
+    pub plain_root : (link : Option Linked) (c : Bor Change) (t : Target) → t ≡ target.Root → IsSmallOpened image root link → IsPlainChange c.now
         → HasRoomFor c.now (total_of t root link) → IsPlainOpened image root link (Some c) None
     plain_root link c t is opened plain room = by_link link opened (subst (λ x. HasRoomFor c.now (total_of x root link)) is room) where
-      by_link : (link : Option Linked) → IsOpened image root link → HasRoomFor c.now (total_of target.Root root link) → IsPlainOpened image root link (Some c) None
+      by_link : (link : Option Linked) → IsSmallOpened image root link → HasRoomFor c.now (total_of target.Root root link) → IsPlainOpened image root link (Some c) None
       by_link None opened room = small_root_changed image root low opened c.now plain room
       by_link (Some l) opened room = small_pair_changed image root low l opened target.Root c.now plain room
 
-    pub plain_array : (link : Option Linked) (c : Bor Change) (t : Target) → t ≡ target.Array → IsThere t link → IsOpened image root link → IsPlainChange c.now
+    pub plain_array : (link : Option Linked) (c : Bor Change) (t : Target) → t ≡ target.Array → IsThere t link → IsSmallOpened image root link → IsPlainChange c.now
         → HasRoomFor c.now (total_of t root link) → IsPlainOpened image root link None (Some c)
     plain_array link c t is there opened plain room =
         by_link link (subst (λ x. IsThere x link) is there) opened (subst (λ x. HasRoomFor c.now (total_of x root link)) is room) where
-          by_link : (link : Option Linked) → IsThere target.Array link → IsOpened image root link → HasRoomFor c.now (total_of target.Array root link)
+          by_link : (link : Option Linked) → IsThere target.Array link → IsSmallOpened image root link → HasRoomFor c.now (total_of target.Array root link)
               → IsPlainOpened image root link None (Some c)
           by_link None there opened room = absurd (cc)
           by_link (Some l) there opened room = small_pair_changed image root low l opened target.Array c.now plain room
@@ -65,15 +65,15 @@ module _ (image : List ℕ) (root : Listed) where
 
   module _ (c d : Option (Bor Change)) (tree : Tree) where
     pub anew : (link : Option Linked) → tree_written image root link c d ≡ tree → IsPlainOpened image root link c d → (bytes : List ℕ)
-        → IsRewritten image root link c d bytes → IsAnew (opened_state image root link) tree (next_of link) bytes
-    anew None is plain bytes written = subst (λ t. IsAnew (opened_state image root None) t 1 bytes) is
-        (alone_anew (opened_state image root None) (changed_by c (lone_root image root)) plain bytes written)
-    anew (Some l) is plain bytes written = subst (λ t. IsAnew (opened_state image root (Some l)) t 2 bytes) is
-        (pair_anew (opened_state image root (Some l)) (changed_by c (linking_root image root l.name.items)) l.name.items (changed_by d (array_in image l)) (line_in image l) plain bytes written)
+        → IsRewritten image root link c d bytes → IsAnew (small_state image root link) tree (next_of link) bytes
+    anew None is plain bytes written = subst (λ t. IsAnew (small_state image root None) t 1 bytes) is
+        (alone_anew (small_state image root None) (changed_by c (lone_root image root)) plain bytes written)
+    anew (Some l) is plain bytes written = subst (λ t. IsAnew (small_state image root (Some l)) t 2 bytes) is
+        (pair_anew (small_state image root (Some l)) (changed_by c (linking_root image root l.name)) l.name (changed_by d (array_in image l)) (line_in image l) plain bytes written)
 
     pub not_anew : (link : Option Linked) → tree_written image root link c d ≡ tree → IsPlainOpened image root link c d → (fault : WriteFault)
-        → IsNotRewritten image root link c d fault → IsNotAnew (opened_state image root link) tree fault
-    not_anew None is plain fault refused = subst (λ t. IsNotAnew (opened_state image root None) t fault) is
-        (alone_refused (opened_state image root None) (changed_by c (lone_root image root)) plain fault refused)
-    not_anew (Some l) is plain fault refused = subst (λ t. IsNotAnew (opened_state image root (Some l)) t fault) is
-        (pair_refused (opened_state image root (Some l)) (changed_by c (linking_root image root l.name.items)) l.name.items (changed_by d (array_in image l)) (line_in image l) plain fault refused)
+        → IsNotRewritten image root link c d fault → IsNotAnew (small_state image root link) tree fault
+    not_anew None is plain fault refused = subst (λ t. IsNotAnew (small_state image root None) t fault) is
+        (alone_refused (small_state image root None) (changed_by c (lone_root image root)) plain fault refused)
+    not_anew (Some l) is plain fault refused = subst (λ t. IsNotAnew (small_state image root (Some l)) t fault) is
+        (pair_refused (small_state image root (Some l)) (changed_by c (linking_root image root l.name)) l.name (changed_by d (array_in image l)) (line_in image l) plain fault refused)

@@ -6,7 +6,7 @@ use Rattle.std.proofs.lemmas.Bool.Decides.{nat_tests}
 use Rattle.h5_model.specs.Superblock.{leaf_k, internal_k}
 use Rattle.h5_model.specs.Tree.{Object, Dataset}
 use Rattle.h5_walk.specs.Small.{alone_tree, pair_tree, header_table}
-use Rattle.h5_open.specs.State.{FileState}
+use Rattle.h5_tree.specs.State.{FileState}
 use Rattle.h5_small.specs.Bodies.{others_of}
 use Rattle.h5_small.specs.Small.{header_place}
 use Rattle.h5_small.specs.Sound.{IsSmallRoot, IsSmallPair, linked_to}

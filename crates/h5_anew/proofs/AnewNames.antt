@@ -18,9 +18,9 @@ use Rattle.h5_model.proofs.EmptyReads.{entries-empty}
 use Rattle.h5_header.specs.Listed.{Listed}
 use Rattle.h5_walk.specs.Small.{link_to_one, pair_tree, alone_tree}
 use Rattle.h5_walk.proofs.SmallLaws.{two_entries}
-use Rattle.h5_open.specs.Kept.{IsOpened}
-use Rattle.h5_open.specs.Opened.{array_in, table_of}
-use Rattle.h5_open.specs.declared.opened.Linked.{Linked}
+use Rattle.h5_tree.specs.SmallKept.{IsSmallOpened}
+use Rattle.h5_tree.specs.SmallTree.{array_in, table_of}
+use Rattle.h5_tree.specs.SmallView.{Linked}
 use Rattle.h5_anew.specs.Rewritten.{linking_root}
 
 -- ---- texts and parts
@@ -86,11 +86,11 @@ module _ (image : List ℕ) (table : FinMap nat_cmp ℕ) (name : List ℕ) where
       let content : x.object.content ≡ Group (link_to_one name) = ap (λ (y : Object). y.content) (sym same) ∙ is in
       group_short has.messages has.content_blocks (subst (λ c. HasContent image table has.messages c has.content_blocks) content has.content)
 
-pub name_short : (image : List ℕ) (root : Listed) (l : Linked) → IsOpened image root (Some l) → length l.name.items < 2 ^ 32
+pub name_short : (image : List ℕ) (root : Listed) (l : Linked) → IsSmallOpened image root (Some l) → length l.name < 2 ^ 32
 name_short image root l opened =
     let placed = (opened.reads).0 in
     let reads = (opened.reads).1 in
-    let low : length l.name.items ≤ length image
-    = root_short image (table_of root (Some l)) l.name.items (linking_root image root l.name.items) (array_in image l) refl placed reads.objects reads.each in
+    let low : length l.name ≤ length image
+    = root_short image (table_of root (Some l)) l.name (linking_root image root l.name) (array_in image l) refl placed reads.objects reads.each in
     let small = (reads.superblock).small in
     omega (arith, low, small, reads.whole)

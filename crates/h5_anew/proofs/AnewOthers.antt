@@ -7,7 +7,7 @@ use Rattle.std.specs.FinMap.{empty, entries, put}
 use Rattle.h5_model.specs.Messages.{Message}
 use Rattle.h5_model.specs.Tree.{Attribute, Content, Group}
 use Rattle.h5_attr.specs.Attributes.{attributes_of}
-use Rattle.h5_open.specs.Opened.{object_with}
+use Rattle.h5_tree.specs.SmallTree.{object_with}
 use Rattle.h5_small.specs.Bodies.{attribute_message, others_of}
 use Rattle.h5_plain.specs.Others.{OthersBytes}
 use Rattle.h5_plain.specs.Written.{AreOthers}

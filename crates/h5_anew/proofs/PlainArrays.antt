@@ -37,10 +37,10 @@ use Rattle.h5_header.specs.declared.message.Message.{Message as Placed}
 use Rattle.h5_header.proofs.FoundLaws.{first_body-in}
 use Rattle.h5_layout.specs.Described.{HasFill, HasArray, dataset_in}
 use Rattle.h5_layout.proofs.FillLaws.{type_sound, fill_fits, old_fill_fits}
-use Rattle.h5_open.specs.declared.line.Line.{Line}
-use Rattle.h5_open.specs.declared.opened.Linked.{Linked}
-use Rattle.h5_open.specs.Opened.{described, object_with}
-use Rattle.h5_open.specs.Kept.{IsLinkKept}
+use Rattle.h5_tree.specs.declared.line.Line.{Line}
+use Rattle.h5_tree.specs.SmallView.{Linked}
+use Rattle.h5_tree.specs.SmallTree.{described, object_with}
+use Rattle.h5_tree.specs.SmallKept.{IsLinkKept}
 use Rattle.h5_small.specs.Bodies.{others_of}
 use Rattle.h5_small.specs.Sound.{IsPlainArray}
 use Rattle.h5_anew.specs.Change.{IsNewLine}

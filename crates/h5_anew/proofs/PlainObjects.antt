@@ -20,8 +20,8 @@ use Rattle.h5_model.specs.Edits.{attribute_from, with_attributes, new_object}
 use Rattle.h5_model.proofs.EmptyReads.{entries-empty}
 use Rattle.h5_model.proofs.MapSteps.{remove_by_name, entries_by_name}
 use Rattle.h5_header.specs.Listed.{Listed, messages_in}
-use Rattle.h5_open.specs.Opened.{object_with}
-use Rattle.h5_open.specs.Kept.{IsHeaderKept}
+use Rattle.h5_tree.specs.SmallTree.{object_with}
+use Rattle.h5_tree.specs.Headers.{IsHeaderKept}
 use Rattle.h5_small.specs.Bodies.{others_of, kept_message, attribute_message}
 use Rattle.h5_small.specs.Sound.{IsPlainKept, IsPlainAttribute, IsPlainObject}
 use Rattle.h5_anew.specs.Change.{changed, IsPlainChange, HasRoomFor}

@@ -15,9 +15,9 @@ use Rattle.h5_model.specs.declared.dataset.Spec.{Spec}
 use Rattle.h5_header.specs.Listed.{Listed, message_in, messages_in}
 use Rattle.h5_walk.specs.Small.{alone_tree, pair_tree, link_to_one}
 use Rattle.h5_walk.proofs.SmallLaws.{one_entries, one_first, two_entries, two_first, two_second}
-use Rattle.h5_open.specs.declared.opened.Linked.{Linked}
-use Rattle.h5_open.specs.Opened.{object_with, array_in, tree_of}
-use Rattle.h5_open.specs.Kept.{IsOpened}
+use Rattle.h5_tree.specs.SmallView.{Linked}
+use Rattle.h5_tree.specs.SmallTree.{object_with, array_in, tree_of}
+use Rattle.h5_tree.specs.SmallKept.{IsSmallOpened}
 use Rattle.h5_small.specs.Bodies.{others_of}
 use Rattle.h5_small.specs.Sound.{AreK, IsPlainObject, IsSmallRoot, IsSmallPair}
 use Rattle.h5_anew.specs.Change.{changed, tree_changed, IsPlainChange, HasRoomFor, total_of, IsNewLine, tree_with_array}
@@ -79,17 +79,17 @@ module _ (image : List ℕ) (root : Listed) where
   abbrev internal : ℕ
   internal = internal_k image
 
-  pub are_k : (link : Option Linked) → IsOpened image root link → AreK leaf internal
+  pub are_k : (link : Option Linked) → IsSmallOpened image root link → AreK leaf internal
   are_k link opened =
       let s = ((opened.reads).1).superblock in
       record { leaf_low = s.leaf_low; leaf_high = s.leaf_high; internal_low = s.internal_low; internal_high = s.internal_high }
 
   module _ (low : AreBytes image) where
-    root_total : (link : Option Linked) → IsOpened image root link → length root.list ≤ 65535
+    root_total : (link : Option Linked) → IsSmallOpened image root link → length root.list ≤ 65535
     root_total link opened = omega (arith, total_few image low root opened.root_kept, length-map root.list (message_in image))
 
     -- with so few others, beside the Symbol Table that is there, the root's header has 65535 messages at most
-    root_few : (link : Option Linked) → IsOpened image root link → (content : Content) (n : ℕ)
+    root_few : (link : Option Linked) → IsSmallOpened image root link → (content : Content) (n : ℕ)
         → n + length root.list ≤ length (others_of (object_with content (messages_in image root.list))) + 65535 → 1 + n ≤ 65535
     root_few link opened content n room =
         let table = (opened.group).table in
@@ -97,7 +97,7 @@ module _ (image : List ℕ) (root : Listed) where
 
     -- ---- a root without a link
 
-    module _ (opened : IsOpened image root None) where
+    module _ (opened : IsSmallOpened image root None) where
       abbrev alone : Object
       alone = root_alone image root
 
@@ -133,9 +133,9 @@ module _ (image : List ℕ) (root : Listed) where
 
     -- ---- a root with a link
 
-    module _ (l : Linked) (opened : IsOpened image root (Some l)) where
+    module _ (l : Linked) (opened : IsSmallOpened image root (Some l)) where
       abbrev linked : Object
-      linked = root_linked image root l.name.items
+      linked = root_linked image root l.name
 
       abbrev array : Object
       array = array_in image l
@@ -143,10 +143,10 @@ module _ (image : List ℕ) (root : Listed) where
       array_total : length l.array.list ≤ 65535
       array_total = omega (arith, total_few image low l.array ((opened.link_kept).header), length-map l.array.list (message_in image))
 
-      pair_with : (o p : Object) → o.content ≡ Group (link_to_one l.name.items) → p.content ≡ Array (line_dataset image l) → IsPlainObject o → IsPlainObject p
+      pair_with : (o p : Object) → o.content ≡ Group (link_to_one l.name) → p.content ≡ Array (line_dataset image l) → IsPlainObject o → IsPlainObject p
           → length (others_of o) + length root.list ≤ length (others_of linked) + 65535
           → length (others_of p) + length l.array.list ≤ length (others_of array) + 65535
-          → IsSmallPair leaf internal o l.name.items p (line_dataset image l)
+          → IsSmallPair leaf internal o l.name p (line_dataset image l)
       pair_with o p linking holds plain other_plain room other_room =
           let kept = opened.link_kept in
           let has = (kept.array).array in
@@ -162,23 +162,23 @@ module _ (image : List ℕ) (root : Listed) where
             plain = plain;
             other_plain = other_plain;
             one_block = plain_line image low l kept (length (others_of p)) (omega (arith, other_room, ms_long));
-            few = root_few (Some l) opened (Group (link_to_one l.name.items)) (length (others_of o)) room;
+            few = root_few (Some l) opened (Group (link_to_one l.name)) (length (others_of o)) room;
             few_others = omega (arith, other_room, ms_long, one_space, one_type, one_layout, others_few image low l.array kept.header (Array (line_dataset image l)));
           }
 
       plain_linked : IsPlainObject linked
-      plain_linked = plain_object image low root opened.root_kept (Group (link_to_one l.name.items))
+      plain_linked = plain_object image low root opened.root_kept (Group (link_to_one l.name))
 
       plain_array : IsPlainObject array
       plain_array = plain_object image low l.array (opened.link_kept).header (Array (line_dataset image l))
 
       -- as it was read
-      pub small_pair : IsSmallPair leaf internal linked l.name.items array (line_dataset image l)
+      pub small_pair : IsSmallPair leaf internal linked l.name array (line_dataset image l)
       small_pair = pair_with linked array refl refl plain_linked plain_array (omega (arith, root_total (Some l) opened)) (omega (arith, array_total))
 
       -- with the root changed, or the array
       pub small_pair_changed : (t : Target) (change : Change) → IsPlainChange change → HasRoomFor change (total_of t root (Some l))
-          → IsSmallPair leaf internal (root_after t change linked) l.name.items (array_after t change array) (line_dataset image l)
+          → IsSmallPair leaf internal (root_after t change linked) l.name (array_after t change array) (line_dataset image l)
       small_pair_changed target.Root change plain room =
           pair_with (with_attributes (changed change) linked) array refl refl (plain_changed change linked plain_linked plain) plain_array
           (room_changed change linked (length root.list) (root_total (Some l) opened) room) (omega (arith, array_total))
@@ -194,13 +194,13 @@ module _ (image : List ℕ) (root : Listed) where
       ∙ alone_set (root_alone image root) (with_attributes (changed change) (root_alone image root))
 
   pub tree_pair_changed : (l : Linked) (t : Target) (change : Change)
-      → tree_changed (tree_of image root (Some l)) t change ≡ pair_tree (root_after t change (root_linked image root l.name.items)) (array_after t change (array_in image l))
+      → tree_changed (tree_of image root (Some l)) t change ≡ pair_tree (root_after t change (root_linked image root l.name)) (array_after t change (array_in image l))
   tree_pair_changed l target.Root change =
-      let o = root_linked image root l.name.items in
+      let o = root_linked image root l.name in
       let p = array_in image l in
       ap (λ found. option_map_or (λ x. insert (pair_tree o p) 0 (with_attributes (changed change) x)) found (pair_tree o p)) (pair_get_first o p) ∙ pair_set_first o p (with_attributes (changed change) o)
   tree_pair_changed l target.Array change =
-      let o = root_linked image root l.name.items in
+      let o = root_linked image root l.name in
       let p = array_in image l in
       ap (λ found. option_map_or (λ x. insert (pair_tree o p) 1 (with_attributes (changed change) x)) found (pair_tree o p)) (pair_get_second o p) ∙ pair_set_second o p (with_attributes (changed change) p)
 

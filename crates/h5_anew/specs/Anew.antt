@@ -5,7 +5,7 @@ use Rattle.h5_model.specs.PlainLength.{plain_length}
 use Rattle.h5_model.specs.Superblock.{leaf_k, internal_k}
 use Rattle.h5_model.specs.Tree.{Tree}
 use Rattle.h5_walk.specs.Small.{header_table}
-use Rattle.h5_open.specs.State.{FileState}
+use Rattle.h5_tree.specs.State.{FileState}
 use Rattle.h5_small.specs.Laws.{IsPlainReading}
 use Rattle.h5_plain.specs.declared.small.WriteFault.{WriteFault}
 use Rattle.h5_plain.specs.declared.small.WriteFault.TheVariants.{TooLong, NoMemory}

@@ -8,7 +8,7 @@ use Rattle.h5_model.specs.Tree.{Tree, ToObject, Array, Attributes, with_object}
 use Rattle.h5_model.specs.declared.dataset.Spec.{Spec}
 use Rattle.h5_model.specs.declared.dataset.Store.TheVariants as store
 use Rattle.h5_header.specs.Listed.{Listed}
-use Rattle.h5_open.specs.declared.opened.Linked.{Linked}
+use Rattle.h5_tree.specs.SmallView.{Linked}
 use Rattle.h5_small.specs.Sound.{IsPlainAttribute}
 use Rattle.h5_anew.specs.declared.change.Change.{Change}
 use Rattle.h5_anew.specs.declared.change.Change.TheVariants.{Set, Remove}

@@ -8,9 +8,9 @@ use Rattle.h5_model.specs.Tree.{Tree, Object, Dataset, Group}
 use Rattle.h5_header.specs.Listed.{Listed, messages_in}
 use Rattle.h5_layout.specs.Described.{dataset_in}
 use Rattle.h5_walk.specs.Small.{alone_tree, pair_tree, link_to_one}
-use Rattle.h5_open.specs.declared.line.Line.{Line}
-use Rattle.h5_open.specs.declared.opened.Linked.{Linked}
-use Rattle.h5_open.specs.Opened.{described, object_with, array_in}
+use Rattle.h5_tree.specs.declared.line.Line.{Line}
+use Rattle.h5_tree.specs.SmallView.{Linked}
+use Rattle.h5_tree.specs.SmallTree.{described, object_with, array_in}
 use Rattle.h5_small.specs.Bodies.{others_of}
 use Rattle.h5_small.specs.Small as small
 use Rattle.h5_small.specs.Sound.{IsSmallRoot, IsSmallPair, linked_to}
@@ -40,11 +40,11 @@ line_in image l = line_of image l.line
 -- the root as it is written, the link as it is written, and their tree
 abbrev pub root_written : List ℕ → Listed → Option Linked → Option (Bor Change) → Object
 root_written image root None c = changed_by c (lone_root image root)
-root_written image root (Some l) c = changed_by c (linking_root image root l.name.items)
+root_written image root (Some l) c = changed_by c (linking_root image root l.name)
 
 abbrev pub link_written : List ℕ → Option Linked → Option (Bor Change) → Option small.Linked
 link_written image None c = None
-link_written image (Some l) c = Some (linked_to l.name.items (line_in image l) (changed_by c (array_in image l)))
+link_written image (Some l) c = Some (linked_to l.name (line_in image l) (changed_by c (array_in image l)))
 
 abbrev pub tree_written : List ℕ → Listed → Option Linked → Option (Bor Change) → Option (Bor Change) → Tree
 tree_written image root None c d = alone_tree (root_written image root None c)
@@ -54,7 +54,7 @@ tree_written image root (Some l) c d = pair_tree (root_written image root (Some 
 abbrev pub IsPlainOpened : List ℕ → Listed → Option Linked → Option (Bor Change) → Option (Bor Change) → Type 0
 IsPlainOpened image root None c d = IsSmallRoot (leaf_k image) (internal_k image) (root_written image root None c)
 IsPlainOpened image root (Some l) c d =
-    IsSmallPair (leaf_k image) (internal_k image) (root_written image root (Some l) c) l.name.items (changed_by d (array_in image l)) (line_in image l)
+    IsSmallPair (leaf_k image) (internal_k image) (root_written image root (Some l) c) l.name (changed_by d (array_in image l)) (line_in image l)
 
 -- the image is written, or not
 abbrev pub IsRewritten : List ℕ → Listed → Option Linked → Option (Bor Change) → Option (Bor Change) → List ℕ → Type 0

@@ -7,9 +7,9 @@ ghost use Rattle.h5_model.specs.Fixed.{IsFixed, fits};
 ghost use Rattle.h5_model.specs.Edits.{new_dataset, new_object};
 ghost use Rattle.h5_model.specs.Tree.{Array as Dataset, Object};
 ghost use Rattle.h5_anew.specs.Change.{IsNewLine};
-ghost use Rattle.h5_open.specs.Array.{data_blocks};
-ghost use Rattle.h5_open.specs.Kept.{IsLinkKept};
-ghost use Rattle.h5_open.specs.Opened.{described};
+ghost use Rattle.h5_tree.specs.Array.{data_blocks};
+ghost use Rattle.h5_tree.specs.SmallKept.{IsLinkKept};
+ghost use Rattle.h5_tree.specs.SmallTree.{described};
 ghost use Rattle.h5_layout.specs.Described.{HasArray};
 ghost use Rattle.h5_small.specs.Bodies.{others_of};
 ghost use Rattle.h5_small.specs.Sound.{linked_to};
@@ -18,23 +18,23 @@ ghost use Rattle.h5_anew.specs.Rewritten.{line_in, line_of};
 
 use crate::parts::part_of;
 use h5_model::Spec;
-use h5_open::{Line, Linked};
 use h5_plain::{Array, Cells, Others};
 use h5_space::Image;
+use h5_tree::{Line, Linked};
 
 /// The array to which the link leads, with its cells as they are stored, and these messages behind its own.
 pub(crate) fn array_of<'a>(image: &'a Image, link: &'a Linked, others: &'a Others) -> Array<'a>
     requires kept { IsLinkKept image.now.bytes link.now }
-    requires named { length link.now.name.items < 2 ^ 32 }
+    requires named { length link.now.name < 2 ^ 32 }
     requires of_type { fits link.now.line.fixed link.now.line.fill ≡ true }
     requires few { others.now.count + 3 ≤ 65535 }
     ensures linked { (p : Object) → AreOthers (others_of p) others.now
-        → IsLinked result (linked_to link.now.name.items (line_in image.now.bytes link.now) p) }
+        → IsLinked result (linked_to link.now.name (line_in image.now.bytes link.now) p) }
     ensures writable { IsWritable result }
 {
-    let line = &link.line;
+    let line = link.line();
     Array {
-        name: &link.name,
+        name: link.name(),
         fixed: line.fixed,
         size: line.size,
         maximum: line.maximum,

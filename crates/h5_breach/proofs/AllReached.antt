@@ -14,9 +14,10 @@ use Rattle.h5_model.specs.Heap.{segment_of}
 use Rattle.h5_model.specs.Symbols.{Entry, entry_of, Target, Header, Text, symbols_at, symbols_in, symbol_bytes, link_of}
 use Rattle.h5_model.specs.Superblock.{leaf_k, root_header}
 use Rattle.h5_model.specs.Tree.{Tree, Object, Content, Group, Array, Links, Link, ToObject, Soft, follow, links_of, links_in}
-use Rattle.h5_model.specs.Reads.{Placed, ReadsAs, HasObject, IsSame, IsPlaced}
+use Rattle.h5_model.specs.Reads.{Placed, HasObject, IsSame, IsPlaced}
 use Rattle.h5_model.specs.Reached.{named, ObjectHeader, Reached, by_superblock, entry_in}
 use Rattle.h5_model.specs.TreeFaults.{all_entries}
+use Rattle.h5_breach.specs.Holds.{Holds}
 use Rattle.h5_breach.proofs.Lists.{In, in_either, from_map, from_flat, from_table, from_range}
 use Rattle.h5_breach.proofs.Maps.{tied_right}
 use Rattle.h5_breach.proofs.Objects.{has_object, content_cases, in_tree, in_table, object_at}
@@ -75,7 +76,7 @@ same_header e f h same is = ap (λ (x : Entry). x.header) same ∙ is
 same_hard : (e f : Entry) → e ≡ f → f.cache ≢ 2 → e.cache ≢ 2
 same_hard e f same hard soft = hard (sym (ap (λ (x : Entry). x.cache) same) ∙ soft)
 
-module _ (image : List ℕ) (table : FinMap nat_cmp ℕ) (tree : Tree) (placed : List Placed) (reads : ReadsAs image table tree placed) where
+module _ (image : List ℕ) (table : FinMap nat_cmp ℕ) (tree : Tree) (placed : List Placed) (reads : Holds image table tree placed) where
   -- an object that is placed, as a group where it is one
   group_at : (o : Placed) → In o placed → (has : HasObject image table o.header o.object o.blocks) → (links : Links) → o.object.content ≡ Group links
       → (path : List (List ℕ)) → follow tree (ToObject 0) path ≡ Some (ToObject o.number)

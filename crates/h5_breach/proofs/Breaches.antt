@@ -6,11 +6,12 @@ use Rattle.std.specs.FinMap.{FinMap, values}
 use Rattle.h5_model.specs.Nodes.{group_kind}
 use Rattle.h5_model.specs.Superblock.{internal_k}
 use Rattle.h5_model.specs.Tree.{Tree}
-use Rattle.h5_model.specs.Reads.{Placed, ReadsAs}
+use Rattle.h5_model.specs.Reads.{Placed}
 use Rattle.h5_model.specs.Reached.{Named, Role, ObjectHeader, GroupNode, SymbolNode, HeapHeader, ChunkNode, Reached, shape_kind}
 use Rattle.h5_model.specs.Faults.{BlockBreach, is_header, IsNoRoot}
 use Rattle.h5_model.specs.declared.open_fault.Cause.{Cause}
 use Rattle.h5_model.specs.declared.open_fault.Cause.TheVariants.{HeapForm, HeapName, NodeForm, NameOrder, KeyOrder, Sibling, ChunkKey, TooDeep, BadName}
+use Rattle.h5_breach.specs.Holds.{Holds}
 use Rattle.h5_breach.proofs.Lists.{In}
 use Rattle.h5_breach.proofs.Rows.{in_row}
 use Rattle.h5_breach.proofs.Entries.{in_symbol_nodes}
@@ -22,7 +23,7 @@ use Rattle.h5_breach.proofs.GroupExcluded.{symbol_excluded, name_excluded, bad_n
 use Rattle.h5_breach.proofs.OrderExcluded.{key_excluded}
 use Rattle.h5_breach.proofs.ChunkExcluded.{chunk_key_excluded, chunk_order_excluded}
 
-module _ (image : List ℕ) (table : FinMap nat_cmp ℕ) (tree : Tree) (placed : List Placed) (reads : ReadsAs image table tree placed) where
+module _ (image : List ℕ) (table : FinMap nat_cmp ℕ) (tree : Tree) (placed : List Placed) (reads : Holds image table tree placed) where
   symbol_node : (root heap : ℕ) (x : Named) (k : KnownSymbols image table tree placed x.depth root heap x.field x.at) → In x.at k.g.linked.symbol_nodes
   symbol_node root heap x k =
       in_symbol_nodes image root heap k.g.found k.g.k.has.content_blocks k.g.linked x.at

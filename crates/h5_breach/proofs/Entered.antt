@@ -16,9 +16,10 @@ use Rattle.h5_model.specs.Symbols.{symbol_block}
 use Rattle.h5_model.specs.Layout.{Layout, InBlock, InChunks, layout_of}
 use Rattle.h5_model.specs.Superblock.{leaf_k, internal_k}
 use Rattle.h5_model.specs.Tree.{Tree}
-use Rattle.h5_model.specs.Reads.{Placed, ReadsAs}
+use Rattle.h5_model.specs.Reads.{Placed}
 use Rattle.h5_model.specs.Reached.{Named, Role, ObjectHeader, Continuation, GroupNode, SymbolNode, HeapHeader, Segment, Data, ChunkNode, Chunk, Shape, shape_kind, level_at, length_by}
 use Rattle.h5_model.proofs.OneTree.{level_is}
+use Rattle.h5_breach.specs.Holds.{Holds}
 use Rattle.h5_breach.proofs.Lists.{In, in_left, in_right, in_map, in_flat}
 use Rattle.h5_breach.proofs.Heads.{in_continuations}
 use Rattle.h5_breach.proofs.Rows.{named_next, named_row}
@@ -68,7 +69,7 @@ module _ (image : List ℕ) (kind : Kind) (first root : ℕ) (leaf : ℕ → Blo
       (in_map (λ (x : ℕ × ℕ). (Some x.0, leaf x.1)) (field, at) (named_row image kind (suc (level_at image kind root)) ((first, root) ∷ []))
       (subst (λ (n : ℕ). In (field, at) (named_row image kind (suc n) ((first, root) ∷ []))) e there))
 
-module _ (image : List ℕ) (table : FinMap nat_cmp ℕ) (tree : Tree) (placed : List Placed) (reads : ReadsAs image table tree placed) where
+module _ (image : List ℕ) (table : FinMap nat_cmp ℕ) (tree : Tree) (placed : List Placed) (reads : Holds image table tree placed) where
   abbrev Among : Tagged → Type 0
   Among x = Entered image table tree placed x
 

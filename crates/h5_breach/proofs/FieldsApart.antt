@@ -14,8 +14,9 @@ use Rattle.h5_model.specs.Nodes.{group_kind, tree_blocks}
 use Rattle.h5_model.specs.Symbols.{IsSymbolNode, symbol_block, symbol_bytes, symbols_in}
 use Rattle.h5_model.specs.Superblock.{leaf_k, internal_k}
 use Rattle.h5_model.specs.Tree.{Tree, Content, Group, Array}
-use Rattle.h5_model.specs.Reads.{Placed, ReadsAs, IsPlaced, HasContent}
+use Rattle.h5_model.specs.Reads.{Placed, IsPlaced, HasContent}
 use Rattle.h5_model.specs.Reached.{entry_in}
+use Rattle.h5_breach.specs.Holds.{Holds}
 use Rattle.h5_breach.proofs.Lists.{In}
 use Rattle.h5_breach.proofs.Pigeonhole.{linking, Apart}
 use Rattle.h5_breach.proofs.LinkFields.{entry_link, node_links, object_links, placed_links, all_links, group_links, no_links}
@@ -118,6 +119,17 @@ in_fields_to h f (z ∷ zs) at = chosen (z.1 == h) refl at (in_fields_to h f zs)
   chosen true e (inr later) rest = inr (rest later)
   chosen false e later rest = inr (rest later)
 
+pub to_fields : (h f : ℕ) (zs : List (ℕ × ℕ)) → In (f, h) zs → In f (fields_to h zs)
+to_fields h f [] at = absurd at
+to_fields h f (z ∷ zs) (inl e) =
+    let header : z.1 ≡ h = ap (λ (w : ℕ × ℕ). w.1) e in
+    let tested : (z.1 == h) ≡ true = grind (arith, nat_tests, header) in
+    rw tested (inl (ap (λ (w : ℕ × ℕ). w.0) e))
+to_fields h f (z ∷ zs) (inr at) = chosen (z.1 == h) (to_fields h f zs at) where
+  chosen : (b : Bool) → In f (fields_to h zs) → In f (if b then z.0 ∷ fields_to h zs else fields_to h zs)
+  chosen true later = inr later
+  chosen false later = later
+
 some_time : (h f : ℕ) (zs : List (ℕ × ℕ)) → In (f, h) zs → 1 ≤ times f zs
 some_time h f [] at = absurd at
 some_time h f (z ∷ zs) (inl e) =
@@ -140,7 +152,7 @@ fields_apart h (z ∷ zs) once = chosen (z.1 == h) (fields_apart h zs (λ f. let
   chosen true rest = (not_later, rest)
   chosen false rest = rest
 
-module _ (image : List ℕ) (table : FinMap nat_cmp ℕ) (tree : Tree) (placed : List Placed) (reads : ReadsAs image table tree placed) where
+module _ (image : List ℕ) (table : FinMap nat_cmp ℕ) (tree : Tree) (placed : List Placed) (reads : Holds image table tree placed) where
   -- each field stands once
   pub links_once : (f : ℕ) → times f (all_links image table placed reads.each) ≤ 1
   links_once f =

@@ -17,11 +17,12 @@ use Rattle.h5_model.specs.Links.{HasLinks, Before, Ascend, offset_in, key_offset
 use Rattle.h5_model.specs.Paths.{is_name}
 use Rattle.h5_model.specs.Superblock.{leaf_k, internal_k}
 use Rattle.h5_model.specs.Tree.{Tree}
-use Rattle.h5_model.specs.Reads.{Placed, ReadsAs, IsSame}
+use Rattle.h5_model.specs.Reads.{Placed, IsSame}
 use Rattle.h5_model.specs.Reached.{entry_in}
 use Rattle.h5_model.specs.TreeFaults.{SymbolBreach, NameBreach, HeapNameBreach, BadNameBreach, HasSymbolNodes, all_entries, all_key_offsets}
 use Rattle.h5_model.proofs.RowLaws.{only_here}
 use Rattle.h5_model.proofs.OneTree.{one_children, level_is, owned_is}
+use Rattle.h5_breach.specs.Holds.{Holds}
 use Rattle.h5_breach.proofs.Lists.{In, in_all, all_in, in_map, in_contains}
 use Rattle.h5_breach.proofs.Maps.{get_of_entry, tied_left}
 use Rattle.h5_breach.proofs.Entries.{flat-same, own_entries, links_are, entry_listed, link_listed}
@@ -122,7 +123,7 @@ module _ (image : List ℕ) (root heap : ℕ) (found : List (List ℕ × Target)
 
 -- ---- depth
 
-module _ (image : List ℕ) (table : FinMap nat_cmp ℕ) (tree : Tree) (placed : List Placed) (reads : ReadsAs image table tree placed) where
+module _ (image : List ℕ) (table : FinMap nat_cmp ℕ) (tree : Tree) (placed : List Placed) (reads : Holds image table tree placed) where
   pub deep_excluded : (depth root heap at : ℕ) (g : KnownGroup image table tree placed depth root heap) → In at g.linked.symbol_nodes
       → 64 ≤ depth → 1 ≤ symbols_in (symbol_bytes image (leaf_k image) at) → ⊥
   deep_excluded depth root heap at g there deep some =

@@ -8,11 +8,12 @@ use Rattle.h5_bytes.specs.Blocks.{Inside}
 use Rattle.h5_model.specs.Messages.{Message, count_of}
 use Rattle.h5_model.specs.Symbols.{Target}
 use Rattle.h5_model.specs.Tree.{Tree, Object, Dataset, ToObject, follow, links_of, links_in}
-use Rattle.h5_model.specs.Reads.{Placed, ReadsAs, HasGroup, HasDataset, InGroup, InDataset}
+use Rattle.h5_model.specs.Reads.{Placed, HasGroup, HasDataset, InGroup, InDataset}
 use Rattle.h5_model.specs.Reached.{AllMessages}
 use Rattle.h5_model.specs.HeaderFaults.{HeaderBreach, ListBreach, is_known, is_new_style}
 use Rattle.h5_model.specs.declared.open_fault.Cause.{Cause}
 use Rattle.h5_model.specs.declared.open_fault.Cause.TheVariants.{HeaderVersion, MessageSize, MessageCount, SharedMessage, UnknownMessage, Filtered, ExternalFiles, NewStyleGroup, MissingMessage, DuplicateMessage, DataspaceForm, DatatypeForm, FillForm, LayoutForm, AttributeForm, HeapForm, TooLarge}
+use Rattle.h5_breach.specs.Holds.{Holds}
 use Rattle.h5_breach.proofs.Lists.{In, in_all}
 use Rattle.h5_breach.proofs.Objects.{content_cases, one_of_two, in_tree, of_group, of_dataset}
 use Rattle.h5_breach.proofs.Datasets.{all_messages}
@@ -26,7 +27,7 @@ root_number : (tree : Tree) (path : List (List ℕ)) (number : ℕ) → length p
 root_number tree [] number short leads = cc
 root_number tree (name ∷ path) number short leads = absurd (omega (arith, short))
 
-module _ (image : List ℕ) (table : FinMap nat_cmp ℕ) (tree : Tree) (placed : List Placed) (reads : ReadsAs image table tree placed) where
+module _ (image : List ℕ) (table : FinMap nat_cmp ℕ) (tree : Tree) (placed : List Placed) (reads : Holds image table tree placed) where
   module _ (depth : ℕ) (k : Known image table tree placed depth) where
     abbrev ms : List Message
     ms = k.has.messages

@@ -27,10 +27,12 @@ pub mod OverlapExcluded
 pub mod Breaches
 pub mod Pigeonhole
 pub mod LinkFields
-pub mod LinksExcluded
+pub mod LinkCounts
 pub mod MetMessages
 pub mod Reachable
 pub mod AllReached
 pub mod FieldsApart
+pub mod Holding
+pub mod LinksExcluded
 pub mod CountExcluded
 pub mod Excluded

@@ -20,11 +20,12 @@ use Rattle.h5_model.specs.Symbols.{Entry, Target, Header, Text, symbols_at, symb
 use Rattle.h5_model.specs.Links.{HasLinks}
 use Rattle.h5_model.specs.Superblock.{leaf_k, internal_k, root_header}
 use Rattle.h5_model.specs.Tree.{Tree, Content, Dataset, Group, Array, Object, Link, ToObject, Soft, links_to, leads_to, hard_links}
-use Rattle.h5_model.specs.Reads.{Placed, IsPlaced, HasObject, HasContent, HasDataset, HasGroup, IsSame, ReadsAs}
+use Rattle.h5_model.specs.Reads.{Placed, IsPlaced, HasObject, HasContent, HasDataset, HasGroup, IsSame}
 use Rattle.h5_model.specs.Reached.{entry_in, level_at}
 use Rattle.h5_model.specs.TreeFaults.{all_entries}
 use Rattle.h5_model.proofs.OneReading.{one_messages}
 use Rattle.h5_model.proofs.OneTree.{level_is, children_are}
+use Rattle.h5_breach.specs.Holds.{Holds}
 use Rattle.h5_breach.proofs.Lists.{In, in_left, in_right, in_range, in_flat}
 use Rattle.h5_breach.proofs.Objects.{of_dataset_kind}
 use Rattle.h5_breach.proofs.Datasets.{find_none, said_first}
@@ -82,11 +83,11 @@ no_links image ms d blocks has =
 -- ---- how many lead to a header
 
 -- an entry names this header
-abbrev hard : ℕ → List Entry → ℕ
+abbrev pub hard : ℕ → List Entry → ℕ
 hard h [] = 0
 hard h (e ∷ es) = (if e.cache == 2 then 0 else (if e.header == h then 1 else 0)) + hard h es
 
-abbrev aimed : ℕ → List (List ℕ × Target) → ℕ
+abbrev pub aimed : ℕ → List (List ℕ × Target) → ℕ
 aimed h [] = 0
 aimed h ((name, Header a) ∷ ls) = (if a == h then 1 else 0) + aimed h ls
 aimed h ((name, Text t) ∷ ls) = aimed h ls
@@ -110,7 +111,7 @@ indexes_count image h node (i ∷ is) =
     let d = indexes_count image h node is in
     omega (arith, a, b, c, d)
 
-nodes_count : (image : List ℕ) (h : ℕ) (ns : List ℕ) → linking h (flat_map (node_links image) ns) ≡ hard h (all_entries image ns)
+pub nodes_count : (image : List ℕ) (h : ℕ) (ns : List ℕ) → linking h (flat_map (node_links image) ns) ≡ hard h (all_entries image ns)
 nodes_count image h [] = refl
 nodes_count image h (n ∷ ns) =
     let a = linking-append h (node_links image n) (flat_map (node_links image) ns) in
@@ -125,7 +126,7 @@ aim : (b : Bool) (h a k : ℕ) (name t : List ℕ) (ls : List (List ℕ × Targe
 aim true h a k name t ls e = omega (arith, e)
 aim false h a k name t ls e = ap (λ (n : ℕ). (if a == h then 1 else 0) + n) e
 
-aimed_entries : (segment : List ℕ) (h : ℕ) (es : List Entry) → aimed h (map (link_of segment) es) ≡ hard h es
+pub aimed_entries : (segment : List ℕ) (h : ℕ) (es : List Entry) → aimed h (map (link_of segment) es) ≡ hard h es
 aimed_entries segment h [] = refl
 aimed_entries segment h (e ∷ es) =
     aim (e.cache == 2) h e.header (hard h es) (text_at segment e.name) (text_at segment e.text) (map (link_of segment) es) (aimed_entries segment h es)
@@ -201,7 +202,7 @@ module _ (table : FinMap nat_cmp ℕ) (own : (a b header : ℕ) → get table a 
 abbrev pub all_links : (image : List ℕ) (table : FinMap nat_cmp ℕ) (placed : List Placed) → AllByRecursion (IsPlaced image table) placed → List (ℕ × ℕ)
 all_links image table placed each = (64, root_header image) ∷ placed_links image table placed each
 
-module _ (image : List ℕ) (table : FinMap nat_cmp ℕ) (tree : Tree) (placed : List Placed) (reads : ReadsAs image table tree placed) where
+module _ (image : List ℕ) (table : FinMap nat_cmp ℕ) (tree : Tree) (placed : List Placed) (reads : Holds image table tree placed) where
   -- as many fields name a header as the reading counts
   pub all_count : (number h : ℕ) → get table number ≡ Some h
       → linking h (all_links image table placed reads.each) ≡ hard_links tree number + (if number == 0 then 1 else 0)

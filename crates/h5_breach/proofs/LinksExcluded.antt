@@ -1,5 +1,5 @@
--- Links to a header are as many as the reading counts.
-use Rattle.std.proofs.Common.{◌≡◌, ◌≢◌, inl, inr, ℕ, ◌+◌, ◌≤◌, List, [], ◌∷◌, length, refl, sym, ap, ap₂, ◌∙◌, subst, arith, true, false, Bool}
+-- Too many links to a header, and two to that of a group, exclude the reading.
+use Rattle.std.proofs.Common.{◌≡◌, ◌≢◌, inl, inr, ℕ, ◌+◌, ◌≤◌, List, [], ◌∷◌, refl, sym, ap, ◌∙◌, subst, arith, true, false, Bool}
 use Rattle.std.proofs.lemmas.Bool.Decides.{nat_tests}
 use Rattle.std.specs.Prelude.{◌==◌, IsTrue, if◌then◌else◌, is_some}
 use Rattle.std.specs.Option.{option_and_then}
@@ -11,14 +11,17 @@ use Rattle.h5_model.specs.Tree.{Tree, Object, Content, Group, Array, hard_links,
 use Rattle.h5_model.specs.Reads.{Placed, ReadsAs, IsCounted, IsGroup, HasContent}
 use Rattle.h5_model.specs.Reached.{Named, Reached, kind_at}
 use Rattle.h5_model.specs.HeaderFaults.{SomeMessage}
-use Rattle.h5_model.specs.Faults.{is_header, AreLinks, IsLinkedTwice, IsLinkedTooOften}
-use Rattle.h5_breach.proofs.Lists.{In, in_all, contains_in}
-use Rattle.h5_breach.proofs.Objects.{in_tree, in_table, of_dataset_kind}
+use Rattle.h5_model.specs.Faults.{AreLinks, IsLinkedTwice, IsLinkedTooOften}
+use Rattle.h5_breach.specs.Holds.{Holds}
+use Rattle.h5_breach.proofs.Lists.{In, in_all}
+use Rattle.h5_breach.proofs.Objects.{in_tree, of_dataset_kind}
 use Rattle.h5_breach.proofs.Steps.{header_inside}
 use Rattle.h5_breach.proofs.MetExcluded.{met_head}
-use Rattle.h5_breach.proofs.Breaches.{header_known, link_known}
-use Rattle.h5_breach.proofs.Pigeonhole.{linking, Apart, apart_of_distinct, no_more}
-use Rattle.h5_breach.proofs.LinkFields.{all_links, all_count, entry_is_link}
+use Rattle.h5_breach.proofs.Breaches.{header_known}
+use Rattle.h5_breach.proofs.Pigeonhole.{apart_of_distinct}
+use Rattle.h5_breach.proofs.LinkFields.{all_links}
+use Rattle.h5_breach.proofs.LinkCounts.{counts, reached_link, linked_fields, fields_bound}
+use Rattle.h5_breach.proofs.Holding.{holds_of}
 
 -- a content with a Symbol Table message is a group's
 table_is_group : (image : List ℕ) (table : FinMap nat_cmp ℕ) (ms : List Message) (c : Content) (blocks : List Block)
@@ -31,60 +34,39 @@ links_are_group (Group links) h = tt
 links_are_group (Array d) h = absurd (let never : false ≡ true = h in cc)
 
 module _ (image : List ℕ) (table : FinMap nat_cmp ℕ) (tree : Tree) (placed : List Placed) (reads : ReadsAs image table tree placed) where
+  abbrev stands : Holds image table tree placed
+  stands = holds_of image table tree placed reads
+
   root_is_group : (o : Placed) → In o placed → o.number ≡ 0 → IsGroup o.object.content
   root_is_group o at zero_number =
       let links : links_of tree o.number ≡ links_in o.object.content
-      = ap (option_and_then (λ (ob : Object). links_in ob.content)) (in_tree image table tree placed reads o at) in
+      = ap (option_and_then (λ (ob : Object). links_in ob.content)) (in_tree image table tree placed stands o at) in
       links_are_group o.object.content (sym (ap is_some (subst (λ (n : ℕ). links_of tree n ≡ links_in o.object.content) zero_number links)) ∙ reads.root_group)
 
-  abbrev links : List (ℕ × ℕ)
-  links = all_links image table placed reads.each
-
-  -- a field of a header that is reached is one of them
-  pub reached_link : (y : Named) → Reached image y → IsTrue (is_header y.role) → In (y.field, y.at) links
-  reached_link y reached is = elim (link_known image table tree placed reads y reached is) [
-    | inl super ↦ inl (ap₂ (λ (a b : ℕ). (a, b)) (sym super.0) (sym super.1))
-    | inr entry ↦ entry_is_link image table tree placed reads y.field y.at entry
-  ]
-
-  -- how many fields name the header of an object
-  abbrev pub counts : Placed → ℕ
-  counts o = hard_links tree o.number + (if o.number == 0 then 1 else 0)
-
-  pub object_count : (o : Placed) → In o placed → linking o.header links ≡ counts o
-  object_count o at = all_count image table tree placed reads o.number o.header (in_table image table tree placed reads o at)
-
-  pub is_counted : (o : Placed) → In o placed → IsCounted image tree o
+  is_counted : (o : Placed) → In o placed → IsCounted image tree o
   is_counted o at = in_all (IsCounted image tree) o placed reads.counted at
 
-  few : (o : Placed) → In o placed → counts o ≤ 65535
+  few : (o : Placed) → In o placed → counts tree o ≤ 65535
   few o at = go (o.number == 0) refl where
-    go : (b : Bool) → (o.number == 0) ≡ b → counts o ≤ 65535
+    go : (b : Bool) → (o.number == 0) ≡ b → counts tree o ≤ 65535
     go true e =
         let zero_number : o.number ≡ 0 = grind (arith, nat_tests) in
         let once = (is_counted o at).once (root_is_group o at zero_number) in
         omega (arith, once, (is_counted o at).counted)
     go false e =
-        let plain : counts o ≡ hard_links tree o.number + 0 = ap (λ (b : Bool). hard_links tree o.number + (if b then 1 else 0)) e in
+        let plain : counts tree o ≡ hard_links tree o.number + 0 = ap (λ (b : Bool). hard_links tree o.number + (if b then 1 else 0)) e in
         omega (arith, plain, (is_counted o at).limit)
-
-  pub linked_fields : (header : ℕ) (fields : List ℕ) → AreLinks image header fields → (f : ℕ) → In f fields → In (f, header) links
-  linked_fields header fields are f at =
-      let y = are.each f (contains_in f fields at) in
-      subst (λ (h : ℕ). In (f, h) links) y.3 (subst (λ (g : ℕ). In (g, y.0.at) links) y.2 (reached_link y.0 y.1 y.4))
-
-  -- fields that name a header are not more than the reading counts
-  pub fields_bound : (o : Placed) → In o placed → (fields : List ℕ) → Apart fields → ((f : ℕ) → In f fields → In (f, o.header) links) → length fields ≤ counts o
-  fields_bound o at fields apart all =
-      let bound = no_more o.header fields links apart all in
-      omega (arith, bound, object_count o at)
 
   pub often_excluded : (x : Named) → Reached image x → IsLinkedTooOften image x → ⊥
   often_excluded x reached (is, (fields, are, many)) =
-      let k = header_known image table tree placed reads x reached is in
+      let k = header_known image table tree placed stands x reached is in
       let here : AreLinks image k.0.o.header fields = subst (λ (h : ℕ). AreLinks image h fields) (sym k.1) are in
-      let bound = fields_bound k.0.o k.0.member fields (apart_of_distinct fields here.once) (linked_fields k.0.o.header fields here) in
+      let bound = fields_bound image table tree placed stands k.0.o k.0.member fields (apart_of_distinct fields here.once)
+      (linked_fields image table tree placed stands k.0.o.header fields here) in
       absurd (omega (arith, many, bound, few k.0.o k.0.member))
+
+  abbrev links : List (ℕ × ℕ)
+  links = all_links image table placed stands.each
 
   seventeen : (n : ℕ) → IsTrue (n == 17) → n ≡ 17
   seventeen n h = grind (arith, nat_tests)
@@ -100,14 +82,14 @@ module _ (image : List ℕ) (table : FinMap nat_cmp ℕ) (tree : Tree) (placed :
 
   pub twice_excluded : (x : Named) → Reached image x → IsLinkedTwice image x → ⊥
   twice_excluded x reached (is, some, (y, reached_y, other, same, is_y)) =
-      let k = header_known image table tree placed reads x reached is in
+      let k = header_known image table tree placed stands x reached is in
       let message = subst (λ (h : ℕ). SomeMessage image h (λ kind. kind == 17)) (sym k.1) some in
-      let head = met_head image k.0.o.header k.0.has.messages k.0.has.header_blocks k.0.has.listed (header_inside image table tree placed reads x.depth k.0) message.0 message.1 in
+      let head = met_head image k.0.o.header k.0.has.messages k.0.has.header_blocks k.0.has.listed (header_inside image table tree placed stands x.depth k.0) message.0 message.1 in
       let kind : kind_at image message.0 ≡ 17 = seventeen (kind_at image message.0) message.2 in
       let group = table_is_group image table k.0.has.messages k.0.o.object.content k.0.has.content_blocks k.0.has.content head.m head.member (head.kind ∙ kind) in
       let once = (is_counted k.0.o k.0.member).once group in
-      let first : In (x.field, k.0.o.header) links = subst (λ (h : ℕ). In (x.field, h) links) (sym k.1) (reached_link x reached is) in
-      let second : In (y.field, k.0.o.header) links = subst (λ (h : ℕ). In (y.field, h) links) (same ∙ sym k.1) (reached_link y reached_y is_y) in
-      let bound = fields_bound k.0.o k.0.member (x.field ∷ y.field ∷ []) (two_apart x.field y.field other, (λ none. none, tt))
+      let first : In (x.field, k.0.o.header) links = subst (λ (h : ℕ). In (x.field, h) links) (sym k.1) (reached_link image table tree placed stands x reached is) in
+      let second : In (y.field, k.0.o.header) links = subst (λ (h : ℕ). In (y.field, h) links) (same ∙ sym k.1) (reached_link image table tree placed stands y reached_y is_y) in
+      let bound = fields_bound image table tree placed stands k.0.o k.0.member (x.field ∷ y.field ∷ []) (two_apart x.field y.field other, (λ none. none, tt))
       (both_linked k.0.o.header x.field y.field first second) in
       absurd (omega (arith, once, bound, (is_counted k.0.o k.0.member).counted))

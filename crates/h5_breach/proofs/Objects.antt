@@ -14,8 +14,9 @@ use Rattle.h5_model.specs.Symbols.{Target, Header}
 use Rattle.h5_model.specs.Links.{HasLinks}
 use Rattle.h5_model.specs.Superblock.{leaf_k, internal_k, root_header}
 use Rattle.h5_model.specs.Tree.{Tree, Object, Content, Group, Array, Dataset, Links, Link, ToObject, Soft, follow, links_of, links_in, link_in}
-use Rattle.h5_model.specs.Reads.{Placed, HasObject, IsPlaced, HasContent, IsSame, HasGroup, HasDataset, InGroup, InDataset, ReadsAs}
+use Rattle.h5_model.specs.Reads.{Placed, HasObject, IsPlaced, HasContent, IsSame, HasGroup, HasDataset, InGroup, InDataset}
 use Rattle.h5_model.proofs.OneReading.{some_same}
+use Rattle.h5_breach.specs.Holds.{Holds}
 use Rattle.h5_breach.proofs.Lists.{In, in_all, in_map, from_map}
 use Rattle.h5_breach.proofs.Maps.{get_of_entry, entry_of_get, tied_left}
 use Rattle.h5_breach.proofs.Counts.{only_one, only_body}
@@ -65,7 +66,7 @@ of_group_kind ms m k all at e = subst (λ (x : ℕ). of_group x ≡ true) e (in_
 pub of_dataset_kind : (ms : List Message) (m : Message) (k : ℕ) → AllByRecursion InDataset ms → In m ms → m.kind ≡ k → of_dataset k ≡ true
 of_dataset_kind ms m k all at e = subst (λ (x : ℕ). of_dataset x ≡ true) e (in_all InDataset m ms all at)
 
-module _ (image : List ℕ) (table : FinMap nat_cmp ℕ) (tree : Tree) (placed : List Placed) (reads : ReadsAs image table tree placed) where
+module _ (image : List ℕ) (table : FinMap nat_cmp ℕ) (tree : Tree) (placed : List Placed) (reads : Holds image table tree placed) where
   pub has_object : (o : Placed) → In o placed → HasObject image table o.header o.object o.blocks
   has_object o at = in_all (IsPlaced image table) o placed reads.each at
 

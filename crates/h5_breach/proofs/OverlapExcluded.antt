@@ -10,10 +10,11 @@ use Rattle.h5_bytes.specs.declared.Block.{Block}
 use Rattle.h5_bytes.proofs.BlockLaws.{holds_in}
 use Rattle.h5_model.specs.Messages.{Message, HasMessages}
 use Rattle.h5_model.specs.Tree.{Tree}
-use Rattle.h5_model.specs.Reads.{Placed, ReadsAs, IsPlaced, HasObject}
+use Rattle.h5_model.specs.Reads.{Placed, IsPlaced, HasObject}
 use Rattle.h5_model.specs.Reached.{Named, Role, ObjectHeader, Reached, length_of, block_of}
 use Rattle.h5_model.specs.Faults.{is_header, IsOverlap}
 use Rattle.h5_model.proofs.OneReading.{one_messages}
+use Rattle.h5_breach.specs.Holds.{Holds}
 use Rattle.h5_breach.proofs.Lists.{In, in_all, in_left, in_right, in_map}
 use Rattle.h5_breach.proofs.Tags.{Tagged, blocks_in, tagged}
 use Rattle.h5_breach.proofs.ObjectBlocks.{object-blocks}
@@ -79,7 +80,7 @@ tags_differ f g r s tested other e = go (is_header r) (is_header s) tested (sym 
   go false true tested e = absurd (let never : Some f ≡ None = e in cc)
   go false false tested e = other (let both : Some f ≡ Some g = e in let same : g ≡ f = cc in same)
 
-module _ (image : List ℕ) (table : FinMap nat_cmp ℕ) (tree : Tree) (placed : List Placed) (reads : ReadsAs image table tree placed) where
+module _ (image : List ℕ) (table : FinMap nat_cmp ℕ) (tree : Tree) (placed : List Placed) (reads : Holds image table tree placed) where
   tags : List Tagged
   tags = all_tags image table placed reads.each
 

@@ -5,8 +5,8 @@ use Rattle.std.specs.Prelude.{◌==◌, if◌then◌else◌}
 use Rattle.std.specs.Ordering.{nat_cmp, eq_by_cmp}
 use Rattle.std.specs.Cmp.{unsigned_tied}
 use Rattle.std.specs.List.{AllByRecursion, IsDistinct}
-use Rattle.std.proofs.lemmas.Map.Keys.{IsDistinct-head, IsDistinct-tail}
-use Rattle.h5_breach.proofs.Lists.{In, in_all}
+use Rattle.std.proofs.lemmas.Map.Keys.{IsDistinct-head, IsDistinct-tail, IsDistinct-cons}
+use Rattle.h5_breach.proofs.Lists.{In, in_all, all_in}
 
 -- how many of these fields lead to a header
 abbrev pub linking : ℕ → List (ℕ × ℕ) → ℕ
@@ -33,6 +33,17 @@ pub apart_of_distinct : (xs : List ℕ) → IsDistinct (eq_by_cmp nat_cmp) xs �
 apart_of_distinct [] is = tt
 apart_of_distinct (x ∷ xs) is =
     (head_apart x xs (IsDistinct-head (eq_by_cmp nat_cmp) x xs is), apart_of_distinct xs (IsDistinct-tail (eq_by_cmp nat_cmp) x xs is))
+
+other_tested : (x y : ℕ) → (y ≡ x → ⊥) → eq_by_cmp nat_cmp x y ≡ false
+other_tested x y other = unsigned_tied x y ∙ let tested : eqb x y ≡ false = grind (arith, nat_tests, other) in tested
+
+pub distinct_of_apart : (xs : List ℕ) → Apart xs → IsDistinct (eq_by_cmp nat_cmp) xs
+unfolding IsDistinct
+distinct_of_apart [] apart = tt
+distinct_of_apart (x ∷ xs) apart =
+    IsDistinct-cons (eq_by_cmp nat_cmp) x xs
+    (all_in (λ y. eq_by_cmp nat_cmp x y ≡ false) xs (λ y at. other_tested x y (λ e. apart.0 (subst (λ (z : ℕ). In z xs) e at))))
+    (distinct_of_apart xs apart.1)
 
 -- a list around a member
 pub split_in : {X : Type 0} (x : X) (xs : List X) → In x xs → (before : List X) × (after : List X) × (xs ≡ before ++ x ∷ after)

@@ -17,9 +17,10 @@ use Rattle.h5_model.specs.Nodes.{Kind, group_kind, node_at, node_of, node_bytes,
 use Rattle.h5_model.specs.Symbols.{IsSymbolNode, symbol_block, symbol_bytes, symbols_in}
 use Rattle.h5_model.specs.Superblock.{leaf_k, internal_k}
 use Rattle.h5_model.specs.Tree.{Tree}
-use Rattle.h5_model.specs.Reads.{Placed, ReadsAs}
+use Rattle.h5_model.specs.Reads.{Placed}
 use Rattle.h5_model.specs.Reached.{named, Role, ObjectHeader, GroupNode, SymbolNode, Reached, by_block, group_root, level_at, entry_in, size_at, kind_at}
 use Rattle.h5_model.proofs.OneTree.{level_is, children_are}
+use Rattle.h5_breach.specs.Holds.{Holds}
 use Rattle.h5_breach.proofs.Lists.{In, in_all, in_map, from_flat, from_table}
 use Rattle.h5_breach.proofs.Rows.{row_after}
 use Rattle.h5_breach.proofs.Trees.{row_owned, row_node}
@@ -46,7 +47,7 @@ children_of : (image : List ℕ) (kind : Kind) (node c : ℕ) → In c (node_at 
 unfolding node_of
 children_of image kind node c at = from_table (child_in kind (node_bytes image kind node)) (entries_in (node_bytes image kind node)) c at
 
-module _ (image : List ℕ) (table : FinMap nat_cmp ℕ) (tree : Tree) (placed : List Placed) (reads : ReadsAs image table tree placed)
+module _ (image : List ℕ) (table : FinMap nat_cmp ℕ) (tree : Tree) (placed : List Placed) (reads : Holds image table tree placed)
     (n depth root heap : ℕ) (g : KnownGroup image table tree placed n root heap) (reached : IsReached image ObjectHeader g.k.o.header depth) where
   abbrev kind : Kind
   kind = group_kind (internal_k image)

@@ -18,9 +18,10 @@ use Rattle.h5_model.specs.Messages.{Message}
 use Rattle.h5_model.specs.Nodes.{group_kind, node_bytes, key_place, child_in}
 use Rattle.h5_model.specs.Superblock.{internal_k}
 use Rattle.h5_model.specs.Tree.{Tree}
-use Rattle.h5_model.specs.Reads.{Placed, ReadsAs}
+use Rattle.h5_model.specs.Reads.{Placed}
 use Rattle.h5_model.specs.Reached.{Named, named, Role, ObjectHeader, Continuation, GroupNode, SymbolNode, HeapHeader, Segment, Data, ChunkNode, Chunk, Reached, by_superblock, by_block, Names, FittingAt, FromMessage, FromHeader, FromNode, FromSymbols, FromLayout, AllMessages, Shape, shape_kind, Met, size_at, entry_in}
 use Rattle.h5_model.proofs.OneTree.{level_is}
+use Rattle.h5_breach.specs.Holds.{Holds}
 use Rattle.h5_breach.proofs.Lists.{In}
 use Rattle.h5_breach.proofs.Heads.{Headed, headed, standing, names_block}
 use Rattle.h5_breach.proofs.Rows.{in_row, in_next, named_row}
@@ -48,7 +49,7 @@ all_inside end (x ∷ placed) o inside (inl e) =
 all_inside end (x ∷ placed) o inside (inr at) =
     all_inside end placed o (all_right (λ (b : Block). b.at + b.len ≤ end) x.blocks (flat_map (λ (y : Placed). y.blocks) placed) inside) at
 
-module _ (image : List ℕ) (table : FinMap nat_cmp ℕ) (tree : Tree) (placed : List Placed) (reads : ReadsAs image table tree placed) where
+module _ (image : List ℕ) (table : FinMap nat_cmp ℕ) (tree : Tree) (placed : List Placed) (reads : Holds image table tree placed) where
   pub blocks_inside : (o : Placed) → In o placed → Inside (length image) o.blocks
   blocks_inside o at = all_inside (length image) placed o reads.within.1 at
 

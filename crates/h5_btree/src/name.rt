@@ -40,7 +40,7 @@ impl Sought for SoughtName<'_> {
 
 /// The text at an offset, which is empty where the offset passes the end.
 #[tactic(auto, unfolding(h5_bytes::specs::Texts::text_at))]
-fn text_from(segment: &[u8], offset: u64) -> &[u8]
+pub(crate) fn text_from(segment: &[u8], offset: u64) -> &[u8]
     ensures { result.now ≡ text_at segment.now offset }
 {
     if offset >= segment.len() as u64 {

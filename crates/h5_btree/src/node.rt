@@ -2,11 +2,12 @@
 
 ghost use Rattle.std.specs.Prelude.{◌≡◌, ◌↔◌, ◌+◌, ◌*◌, ◌<◌, ◌≤◌, ◌==◌, [], IfErr, IsOk, Some, length, slice_get, slice_index_or};
 ghost use Rattle.std.specs.List.{AllByRecursion};
-ghost use Rattle.h5_model.specs.Links.{offset_in};
+ghost use Rattle.h5_model.specs.Links.{key_name, offset_in};
 ghost use Rattle.h5_model.specs.Nodes.{child_in, entries_in, key_in, key_place, node_length, node_of};
 ghost use Rattle.h5_btree.specs.Form.{MayBeRoot, MayStandAt};
 
 use crate::kind::NodeKind;
+use crate::name::text_from;
 use crate::numbers::{u16_at, u64_at};
 use crate::read::NodeFault;
 use std::marker::Model;
@@ -100,6 +101,15 @@ impl<'a> Node<'a> {
         ensures { result ≡ offset_in (slice_index_or self.now.keys i []) }
     {
         u64_at(key_at(self.kind, self.bytes, i), 0)
+    }
+
+    /// The name that a key of a group's tree stands for: the text at the key's offset in this heap segment, up to the first zero.
+    /// It is empty where the offset passes the end.
+    pub fn key_name<'b>(&self, i: usize, segment: &'b [u8]) -> &'b [u8]
+        requires { i < length self.now.keys }
+        ensures { result.now ≡ key_name segment.now self.now i }
+    {
+        text_from(segment, self.key_offset(i))
     }
 
     /// The address of a child.

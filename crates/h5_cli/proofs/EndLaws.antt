@@ -3,7 +3,7 @@ use Rattle.std.proofs.Common.{◌≡◌, ◌⊎◌, ◌==◌, if◌then◌else�
 use Rattle.std.proofs.lemmas.Bool.Decides.{nat_tests}
 use Rattle.std.specs.Io.KnownBytes.{Appends}
 use Rattle.h5_order.specs.Words.{Text}
-use Rattle.h5_open.specs.State.{FileState}
+use Rattle.h5_tree.specs.State.{FileState}
 use Rattle.h5_file.specs.State.{IsSound}
 use Rattle.h5_order.specs.Words.{Wanted, WantDump, WantRun}
 use Rattle.h5_cli.specs.Output.{IsDumpText, IsScriptRun}

@@ -14,7 +14,7 @@ use Rattle.h5_model.specs.Script.{dumped}
 use Rattle.h5_model.specs.EditFaults.{refused_text}
 use Rattle.h5_model.specs.declared.edit_fault.EditFault.{EditFault}
 use Rattle.h5_model.specs.declared.edit_fault.EditFault.TheVariants.{BadPath}
-use Rattle.h5_open.specs.State.{FileState}
+use Rattle.h5_tree.specs.State.{FileState}
 use Rattle.h5_file.specs.State.{IsSound}
 use Rattle.h5_script.specs.Script.{IsDone}
 use Rattle.h5_script.specs.declared.ran.Ran.{Ran}

@@ -44,7 +44,7 @@ fn list(alloc: Global, file: &File) -> Result<Vec<u8>, AllocError>
     ensures { IfOk result (λ text. text.items ≡ list_text file.now.tree) }
 {
     let mut text = Vec::new(alloc);
-    push_list(&mut text, file)?;
+    push_list(alloc, &mut text, file)?;
     Ok(text)
 }
 

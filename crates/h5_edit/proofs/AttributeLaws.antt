@@ -13,10 +13,10 @@ use Rattle.h5_model.specs.declared.edit_fault.EditFault.{EditFault}
 use Rattle.h5_model.specs.declared.edit_fault.EditFault.TheVariants as fault
 use Rattle.h5_header.specs.Listed.{Listed, messages_in}
 use Rattle.h5_attr.specs.Attributes.{attributes_of}
-use Rattle.h5_open.specs.declared.opened.Linked.{Linked}
-use Rattle.h5_open.specs.Kept.{IsOpened}
-use Rattle.h5_open.specs.State.{FileState, opened_state}
-use Rattle.h5_look.specs.Place.{LeadsTo, IsNowhere}
+use Rattle.h5_tree.specs.SmallView.{Linked}
+use Rattle.h5_tree.specs.SmallKept.{IsSmallOpened}
+use Rattle.h5_tree.specs.State.{FileState, small_state}
+use Rattle.h5_edit.specs.Place.{LeadsTo, IsNowhere}
 use Rattle.h5_plain.specs.declared.small.WriteFault.{WriteFault}
 use Rattle.h5_plain.specs.declared.small.WriteFault.TheVariants as written
 use Rattle.h5_anew.specs.declared.change.Change.TheVariants.{Set, Remove}
@@ -30,13 +30,14 @@ use Rattle.h5_edit.specs.Rules.{own_rules, listed_at, edit_fault_of}
 use Rattle.h5_edit.proofs.PathTables.{set_nowhere, set_somewhere, remove_nowhere, remove_somewhere}
 use Rattle.h5_edit.proofs.Refusals.{by_rule, by_memory, by_header, by_length}
 use Rattle.h5_edit.proofs.Objects.{full_there, object_there}
+use Rattle.h5_edit.proofs.SmallTrees.{small_is}
 
 abbrev entry_named : List ℕ → Option Attribute → Option (List ℕ × Attribute)
 entry_named name entry = option_map (λ a. (name, a)) entry
 
 module _ (image : List ℕ) (root : Listed) (link : Option Linked) (path : List ℕ) where
   abbrev f : FileState
-  f = opened_state image root link
+  f = small_state image root link
 
   pub set_refused_path : (attr : AttrSpec) (e : EditFault) → IsNowhere f.tree path e → IsRefusedBy f (SetAttr path attr) e
   set_refused_path attr e h = by_rule f (SetAttr path attr) e (set_nowhere f.tree f.next path attr e h)
@@ -48,7 +49,7 @@ module _ (image : List ℕ) (root : Listed) (link : Option Linked) (path : List 
     pub set_refused_own : (attr : AttrSpec) (e : EditFault) → first_holding (own_rules attr) ≡ Some e → IsRefusedBy f (SetAttr path attr) e
     set_refused_own attr e h = by_rule f (SetAttr path attr) e (set_somewhere f.tree f.next path attr (number_of t) at ∙ h)
 
-    module _ (opened : IsOpened image root link) (there : IsThere t link) where
+    module _ (opened : IsSmallOpened image root link) (there : IsThere t link) where
       -- ---- an attribute that is set
 
       module _ (a : Bor AttrSpec) (fit : first_holding (own_rules a.now) ≡ None) where
@@ -74,7 +75,7 @@ module _ (image : List ℕ) (root : Listed) (link : Option Linked) (path : List 
 
           pub set_made : (made : Made) → IsAnew f (tree_changed f.tree t (Set a)) f.next made.image.items → (made.object).0 ≡ number_of t → IsMade f (SetAttr path a.now) made
           set_made made anew numbered = record {
-            accepted = record { carried = refl; accepted = set_free; given = (roomy, rw set_tree anew.short) };
+            accepted = record { carried = small_is image root link; accepted = set_free; given = (roomy, rw set_tree anew.short) };
             anew = rw set_tree anew;
             object = rw (at.1, numbered) refl;
           }
@@ -118,7 +119,7 @@ module _ (image : List ℕ) (root : Listed) (link : Option Linked) (path : List 
             pub remove_made : (made : Made) → IsAnew f (tree_changed f.tree t (Remove name)) f.next made.image.items → (made.object).0 ≡ number_of t
                 → IsMade f (RemoveAttr path name.now) made
             remove_made made anew numbered = record {
-              accepted = record { carried = refl; accepted = remove_free; given = (refl, rw remove_tree anew.short) };
+              accepted = record { carried = small_is image root link; accepted = remove_free; given = (refl, rw remove_tree anew.short) };
               anew = rw remove_tree anew;
               object = rw (at.1, numbered) refl;
             }

@@ -1,3 +1,6 @@
+pub mod SmallTrees
+pub mod RootPaths
+pub mod Looks
 pub mod PathTables
 pub mod Refusals
 pub mod Objects

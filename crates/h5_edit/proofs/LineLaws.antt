@@ -19,7 +19,7 @@ use Rattle.h5_model.specs.declared.edits.Edit.TheVariants.{CreateDataset}
 use Rattle.h5_model.specs.declared.edit_fault.EditFault.TheVariants.{BadPath, PathTooDeep, IsRoot, NoSuchParent, NameTooLong, BadSpec, TooManyCells, ValueRange}
 use Rattle.h5_walk.specs.Small.{alone_tree}
 use Rattle.h5_walk.proofs.SmallLaws.{one_first}
-use Rattle.h5_look.proofs.PathLaws.{located-missing, located-no_parent}
+use Rattle.h5_edit.proofs.RootPaths.{located-missing, located-no_parent}
 use Rattle.h5_anew.specs.Change.{IsNewLine}
 use Rattle.h5_edit.specs.Carried.{is_line}
 use Rattle.h5_edit.specs.NewArray.{IsNewLink}

@@ -11,12 +11,13 @@ use Rattle.h5_header.specs.Listed.{Listed, message_in, messages_in}
 use Rattle.h5_attr.specs.Attributes.{attributes_of}
 use Rattle.h5_walk.specs.Small.{alone_table, pair_table}
 use Rattle.h5_walk.proofs.SmallLaws.{one_first, two_first, two_second}
-use Rattle.h5_open.specs.declared.opened.Linked.{Linked}
-use Rattle.h5_open.specs.Kept.{IsHeaderKept, IsOpened}
-use Rattle.h5_open.specs.Opened.{table_of, tree_of, array_in}
-use Rattle.h5_open.specs.State.{opened_state}
-use Rattle.h5_look.specs.Place.{LeadsTo}
-use Rattle.h5_look.proofs.TreeLaws.{root_object, get-root, get-array}
+use Rattle.h5_tree.specs.SmallView.{Linked}
+use Rattle.h5_tree.specs.Headers.{IsHeaderKept}
+use Rattle.h5_tree.specs.SmallKept.{IsSmallOpened}
+use Rattle.h5_tree.specs.SmallTree.{table_of, tree_of, array_in}
+use Rattle.h5_tree.specs.State.{small_state}
+use Rattle.h5_edit.specs.Place.{LeadsTo}
+use Rattle.h5_edit.proofs.SmallTrees.{root_object, get-root, get-array}
 use Rattle.h5_anew.specs.declared.change.Target.{Target}
 use Rattle.h5_anew.specs.declared.change.Target.TheVariants as target
 use Rattle.h5_anew.specs.Change.{IsThere, number_of, total_of}
@@ -35,7 +36,7 @@ header_there target.Root root (Some l) there = two_first root.header l.array.hea
 header_there target.Array root (Some l) there = two_second root.header l.array.header
 header_there target.Array root None there = absurd (cc)
 
-pub kept_there : (t : Target) (image : List ℕ) (root : Listed) (link : Option Linked) → IsOpened image root link → IsHeaderKept image (listed_at t root link)
+pub kept_there : (t : Target) (image : List ℕ) (root : Listed) (link : Option Linked) → IsSmallOpened image root link → IsHeaderKept image (listed_at t root link)
 kept_there target.Root image root link opened = opened.root_kept
 kept_there target.Array image root (Some l) opened = (opened.link_kept).header
 kept_there target.Array image root None opened = opened.root_kept
@@ -50,7 +51,7 @@ object_there target.Array image root (Some l) there = (array_in image l, get-arr
 object_there target.Array image root None there = absurd (cc)
 
 -- whether the header has no place for a message and a Continuation
-module _ (t : Target) (image : List ℕ) (root : Listed) (link : Option Linked) (opened : IsOpened image root link) (there : IsThere t link) where
+module _ (t : Target) (image : List ℕ) (root : Listed) (link : Option Linked) (opened : IsSmallOpened image root link) (there : IsThere t link) where
   abbrev m : Listed
   m = listed_at t root link
 
@@ -58,5 +59,5 @@ module _ (t : Target) (image : List ℕ) (root : Listed) (link : Option Linked) 
   counted = let kept = kept_there t image root link opened in (kept.has).total ∙ length-map m.list (message_in image)
 
   pub full_there : (path : List ℕ) (attr : AttrSpec) → LeadsTo (tree_of image root link) path (number_of t)
-      → is_header_full (opened_state image root link) (SetAttr path attr) ≡ nat_lt 65535 (length m.list + 2)
+      → is_header_full (small_state image root link) (SetAttr path attr) ≡ nat_lt 65535 (length m.list + 2)
   full_there path attr at = rw (at.1, header_there t root link there, counted) refl

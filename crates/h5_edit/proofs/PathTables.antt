@@ -10,7 +10,7 @@ use Rattle.h5_model.specs.declared.attribute.AttrSpec.{AttrSpec}
 use Rattle.h5_model.specs.declared.edits.Edit.TheVariants.{SetAttr, RemoveAttr}
 use Rattle.h5_model.specs.declared.edit_fault.EditFault.{EditFault}
 use Rattle.h5_model.specs.declared.edit_fault.EditFault.TheVariants as fault
-use Rattle.h5_look.specs.Place.{LeadsTo, IsNowhere}
+use Rattle.h5_edit.specs.Place.{LeadsTo, IsNowhere}
 use Rattle.h5_edit.specs.Rules.{own_rules}
 
 -- ---- the rules of a path, by what they ask

@@ -5,7 +5,7 @@ use Rattle.h5_model.specs.Refusal.{refusal_of}
 use Rattle.h5_model.specs.declared.edits.Edit.{Edit}
 use Rattle.h5_model.specs.declared.edit_fault.EditFault.{EditFault}
 use Rattle.h5_model.specs.declared.edit_fault.EditFault.TheVariants as fault
-use Rattle.h5_open.specs.State.{FileState}
+use Rattle.h5_tree.specs.State.{FileState}
 use Rattle.h5_anew.specs.Anew.{is_too_long}
 use Rattle.h5_edit.specs.Carried.{is_header_full, IsRefusedBy}
 

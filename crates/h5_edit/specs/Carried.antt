@@ -15,7 +15,8 @@ use Rattle.h5_model.specs.declared.edits.Edit.{Edit}
 use Rattle.h5_model.specs.declared.edits.Edit.TheVariants.{CreateDataset, SetAttr, RemoveAttr}
 use Rattle.h5_model.specs.declared.edit_fault.EditFault.{EditFault}
 use Rattle.h5_model.specs.declared.edit_fault.EditFault.TheVariants as fault
-use Rattle.h5_open.specs.State.{FileState}
+use Rattle.h5_tree.specs.Objects.{is_small}
+use Rattle.h5_tree.specs.State.{FileState}
 use Rattle.h5_anew.specs.Anew.{is_too_long}
 
 -- ---- which edits are carried
@@ -32,11 +33,11 @@ is_line s = is_contiguous s.store && length s.dims == 1
 abbrev pub has_empty_root : Tree → Bool
 has_empty_root tree = option_map_or (λ links. len links == 0) (links_of tree 0) false
 
--- a first array, and every change of attributes
+-- a first array, and every change of attributes where the root has one link at most, to an array
 abbrev pub is_carried : Tree → Edit → Bool
 is_carried tree (CreateDataset path spec) = has_empty_root tree && is_line spec
-is_carried tree (SetAttr path attr) = true
-is_carried tree (RemoveAttr path name) = true
+is_carried tree (SetAttr path attr) = is_small tree
+is_carried tree (RemoveAttr path name) = is_small tree
 is_carried tree _ = false
 
 -- ---- what the image and memory decide, beside the rules of the tree

@@ -3,7 +3,7 @@ use Rattle.std.specs.Prelude.{◌≡◌, true, Some, None}
 use Rattle.h5_model.specs.Edits.{applied, state_after, named_object}
 use Rattle.h5_model.specs.Refusal.{refusal_of}
 use Rattle.h5_model.specs.declared.edits.Edit.{Edit}
-use Rattle.h5_open.specs.State.{FileState, state_of}
+use Rattle.h5_tree.specs.State.{FileState, state_of}
 use Rattle.h5_anew.specs.Anew.{IsAnew}
 use Rattle.h5_edit.specs.declared.made.Made.{Made}
 use Rattle.h5_edit.specs.Carried.{is_carried, IsGivenFor}

@@ -9,7 +9,7 @@ use Rattle.h5_model.specs.declared.attribute.AttrSpec.{AttrSpec}
 use Rattle.h5_model.specs.declared.edit_fault.EditFault.{EditFault}
 use Rattle.h5_model.specs.declared.edit_fault.EditFault.TheVariants as fault
 use Rattle.h5_header.specs.Listed.{Listed}
-use Rattle.h5_open.specs.declared.opened.Linked.{Linked}
+use Rattle.h5_tree.specs.SmallView.{Linked}
 use Rattle.h5_anew.specs.declared.change.Target.{Target}
 use Rattle.h5_anew.specs.declared.change.Target.TheVariants as target
 use Rattle.h5_plain.specs.declared.small.WriteFault.{WriteFault}

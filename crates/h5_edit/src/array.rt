@@ -1,9 +1,9 @@
 //! A first array.
 
-ghost use Rattle.std.specs.Prelude.{MatchResult};
+ghost use Rattle.std.specs.Prelude.{◌≡◌, is_some, MatchResult};
 ghost use Rattle.h5_model.specs.declared.edits.Edit.TheVariants.{CreateDataset};
-ghost use Rattle.h5_open.specs.Kept.{IsOpened};
-ghost use Rattle.h5_open.specs.State.{opened_state};
+ghost use Rattle.h5_tree.specs.SmallKept.{IsSmallOpened};
+ghost use Rattle.h5_tree.specs.State.{small_state};
 ghost use Rattle.h5_edit.specs.Carried.{IsRefused};
 ghost use Rattle.h5_edit.specs.Made.{IsMade};
 
@@ -11,8 +11,8 @@ use crate::line::{is_one_line, new_link, new_size};
 use crate::made::{Made, edit_fault};
 use h5_anew::add_array;
 use h5_model::{EditFault, ObjectNo, Spec};
-use h5_open::Opened;
 use h5_space::Image;
+use h5_tree::Small;
 use std::alloc::Global;
 
 /// Makes an array at the path, every cell of which is the fill.
@@ -23,15 +23,15 @@ use std::alloc::Global;
 pub fn new_array(
     alloc: Global,
     image: &Image,
-    opened: &Opened,
+    opened: &Small,
     path: &[u8],
     spec: &Spec,
 ) -> Result<Made, EditFault>
-    requires { IsOpened image.now.bytes opened.now.root opened.now.link }
-    ensures { let f = opened_state image.now.bytes opened.now.root opened.now.link in
+    requires { IsSmallOpened image.now.bytes opened.now.root opened.now.link }
+    ensures { let f = small_state image.now.bytes opened.now.root opened.now.link in
         MatchResult result (IsMade f (CreateDataset path.now spec.now)) (IsRefused f (CreateDataset path.now spec.now)) }
 {
-    if opened.link.is_some() || !is_one_line(spec) {
+    if is_linked(opened) || !is_one_line(spec) {
         return Err(EditFault::NotYet);
     }
     let name = new_link(path)?;
@@ -43,4 +43,11 @@ pub fn new_array(
         }),
         Err(fault) => Err(edit_fault(fault)),
     }
+}
+
+/// Whether the root has a link.
+fn is_linked(opened: &Small) -> bool
+    ensures { result ≡ is_some opened.now.link }
+{
+    opened.link().is_some()
 }

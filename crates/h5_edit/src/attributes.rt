@@ -2,9 +2,9 @@
 
 ghost use Rattle.std.specs.Prelude.{MatchResult};
 ghost use Rattle.h5_model.specs.declared.edits.Edit.TheVariants.{SetAttr, RemoveAttr};
-ghost use Rattle.h5_open.specs.Kept.{IsOpened};
-ghost use Rattle.h5_open.specs.State.{opened_state};
-ghost use Rattle.h5_edit.specs.Carried.{IsRefused};
+ghost use Rattle.h5_tree.specs.SmallKept.{IsSmallOpened};
+ghost use Rattle.h5_tree.specs.State.{small_state};
+ghost use Rattle.h5_edit.specs.Carried.{IsRefusedBy};
 ghost use Rattle.h5_edit.specs.Made.{IsMade};
 
 use crate::limits::MAX_MESSAGES;
@@ -14,8 +14,8 @@ use crate::values::check_attribute;
 use h5_anew::{Change, change_attributes};
 use h5_attr::get;
 use h5_model::{AttrSpec, EditFault};
-use h5_open::Opened;
 use h5_space::Image;
+use h5_tree::Small;
 use std::alloc::Global;
 
 /// Adds an attribute to the object at the path, or puts it in place of the one of its name.
@@ -27,13 +27,13 @@ use std::alloc::Global;
 pub fn set_attribute(
     alloc: Global,
     image: &Image,
-    opened: &Opened,
+    opened: &Small,
     path: &[u8],
     attr: &AttrSpec,
 ) -> Result<Made, EditFault>
-    requires { IsOpened image.now.bytes opened.now.root opened.now.link }
-    ensures { let f = opened_state image.now.bytes opened.now.root opened.now.link in
-        MatchResult result (IsMade f (SetAttr path.now attr.now)) (IsRefused f (SetAttr path.now attr.now)) }
+    requires { IsSmallOpened image.now.bytes opened.now.root opened.now.link }
+    ensures { let f = small_state image.now.bytes opened.now.root opened.now.link in
+        MatchResult result (IsMade f (SetAttr path.now attr.now)) (IsRefusedBy f (SetAttr path.now attr.now)) }
 {
     let target = target_at(opened, path)?;
     check_attribute(alloc, attr)?;
@@ -56,13 +56,13 @@ pub fn set_attribute(
 pub fn remove_attribute(
     alloc: Global,
     image: &Image,
-    opened: &Opened,
+    opened: &Small,
     path: &[u8],
     name: &[u8],
 ) -> Result<Made, EditFault>
-    requires { IsOpened image.now.bytes opened.now.root opened.now.link }
-    ensures { let f = opened_state image.now.bytes opened.now.root opened.now.link in
-        MatchResult result (IsMade f (RemoveAttr path.now name.now)) (IsRefused f (RemoveAttr path.now name.now)) }
+    requires { IsSmallOpened image.now.bytes opened.now.root opened.now.link }
+    ensures { let f = small_state image.now.bytes opened.now.root opened.now.link in
+        MatchResult result (IsMade f (RemoveAttr path.now name.now)) (IsRefusedBy f (RemoveAttr path.now name.now)) }
 {
     let target = target_at(opened, path)?;
     if get(image, messages_at(opened, target), name).is_none() {

@@ -1,64 +1,59 @@
 -- A file with the image that an edit gives is the edited file.
-use Rattle.std.proofs.Common.{◌≡◌, ℕ, List, length, refl, sym, ap, ◌∙◌, subst, Option, Some, None}
+use Rattle.std.proofs.Common.{◌≡◌, ℕ, List, length, refl, sym, ◌∙◌, subst, Option, Some, None}
+use Rattle.std.specs.BTreeMap.{BTreeMap}
 use Rattle.h5_model.specs.Edits.{applied, state_after}
-use Rattle.h5_model.specs.Reads.{Reads, ReadsAs}
+use Rattle.h5_model.specs.Reads.{ReadsAs}
 use Rattle.h5_model.specs.Superblock.{IsSuperblock, end_of_file}
 use Rattle.h5_model.specs.declared.edits.Edit.{Edit}
 use Rattle.h5_model.specs.declared.edits.Edited.{Edited}
-use Rattle.h5_header.specs.Listed.{Listed}
+use Rattle.h5_model.specs.declared.edit_fault.EditFault.TheVariants as fault
 use Rattle.h5_walk.specs.Small.{header_table}
-use Rattle.h5_walk.proofs.SmallOnce.{one_small}
-use Rattle.h5_open.specs.declared.opened.Linked.{Linked}
-use Rattle.h5_open.specs.Kept.{IsOpened}
-use Rattle.h5_open.specs.Opened.{table_of, tree_of}
-use Rattle.h5_open.specs.State.{FileState, state_of, opened_state, next_of}
+use Rattle.h5_tree.specs.declared.object.OpenedObject.{OpenedObject}
+use Rattle.h5_tree.specs.Kept.{IsOpened}
+use Rattle.h5_tree.specs.Objects.{table_of, tree_of}
+use Rattle.h5_tree.specs.SmallTree.{objects_at}
+use Rattle.h5_tree.specs.State.{FileState, state_of, opened_state}
+use Rattle.h5_tree.proofs.Numbers.{numbered}
+use Rattle.h5_tree.proofs.SameSmall.{same_small}
 use Rattle.h5_anew.specs.Anew.{objects_of}
 use Rattle.h5_edit.specs.declared.made.Made.{Made}
 use Rattle.h5_edit.specs.Carried.{IsRefused}
 use Rattle.h5_edit.specs.Made.{IsMade}
-use Rattle.h5_model.specs.declared.edit_fault.EditFault.TheVariants as fault
 use Rattle.h5_file.specs.State.{IsWhole}
 use Rattle.h5_file.specs.Edited.{IsEdited}
-use Rattle.h5_file.proofs.Sounds.{other_of, table_is, numbered}
 
-numbers_are : (link : Option Linked) → next_of link ≡ objects_of (other_of link)
-numbers_are None = refl
-numbers_are (Some l) = refl
+counted : (other : Option ℕ) → objects_at other ≡ objects_of other
+counted None = refl
+counted (Some h) = refl
 
-module _ (f : FileState) (edit : Edit) (made : Made) (is : IsMade f edit made) (root : Listed) (link : Option Linked) (opened : IsOpened made.image.items root link) where
+module _ (f : FileState) (edit : Edit) (made : Made) (is : IsMade f edit made) (objects : List OpenedObject) (numbers : BTreeMap ℕ ℕ)
+    (opened : IsOpened made.image.items objects numbers) where
   abbrev image : List ℕ
   image = made.image.items
 
   abbrev after : FileState
-  after = opened_state image root link
-
-  reads : Reads image (header_table root.header (other_of link)) (tree_of image root link)
-  reads = subst (λ t. Reads image t (tree_of image root link)) (table_is root link) opened.reads
+  after = opened_state image objects
 
   -- the image reads as one tree alone
-  one : (root.header ≡ is.anew.root) × (other_of link ≡ is.anew.other) × (tree_of image root link ≡ applied f.tree edit f.next)
-  one = one_small image root.header is.anew.root (other_of link) is.anew.other (tree_of image root link) (applied f.tree edit f.next) reads
-      (is.anew.reads.placed, is.anew.reads.reads)
+  one : (table_of objects ≡ header_table is.anew.root is.anew.other) × (tree_of image objects ≡ applied f.tree edit f.next) × (length objects ≡ objects_at is.anew.other)
+  one = same_small image objects is.anew.root is.anew.other (applied f.tree edit f.next) opened.reads (is.anew.reads.placed, is.anew.reads.reads)
 
-  next_is : next_of link ≡ (state_after (state_of f) edit).next
-  next_is = numbers_are link ∙ ap objects_of one.1 ∙ sym is.anew.numbered
-
-  same_table : header_table is.anew.root is.anew.other ≡ table_of root link
-  same_table = sym (table_is root link ∙ (λ i. header_table (one.0 i) (one.1 i)))
+  next_is : length objects ≡ (state_after (state_of f) edit).next
+  next_is = one.2 ∙ counted is.anew.other ∙ sym is.anew.numbered
 
   whole : IsWhole after
   whole = record {
     placed = is.anew.reads.placed;
-    reads = subst (λ t. ReadsAs image t (tree_of image root link) is.anew.reads.placed) same_table
-        (subst (λ t. ReadsAs image (header_table is.anew.root is.anew.other) t is.anew.reads.placed) (sym one.2) is.anew.reads.reads);
+    reads = subst (λ t. ReadsAs image t (tree_of image objects) is.anew.reads.placed) (sym one.0)
+        (subst (λ t. ReadsAs image (header_table is.anew.root is.anew.other) t is.anew.reads.placed) (sym one.1) is.anew.reads.reads);
     covered = is.anew.reads.covered;
-    numbers = numbered image root link opened;
+    numbers = numbered image objects numbers opened;
   }
 
   pub edited : (e : Edited) → e ≡ record { object = Some made.object; refreshed = 0 } → IsEdited f edit after e
   edited e same = record {
     accepted = is.accepted;
-    state = λ i. record { tree = one.2 i; next = next_is i };
+    state = λ i. record { tree = one.1 i; next = next_is i };
     whole = whole;
     leaf = is.anew.reads.leaf_is;
     internal = is.anew.reads.internal_is;

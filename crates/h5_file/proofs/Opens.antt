@@ -8,7 +8,7 @@ use Rattle.h5_model.specs.Faults.{Breach, SuperblockBreach, cut}
 use Rattle.h5_model.specs.Superblock.{IsSuperblock, end_of_file}
 use Rattle.h5_model.specs.declared.open_fault.Cause.{Cause}
 use Rattle.h5_model.specs.declared.open_fault.Cause.TheVariants.{NoMemory, NotYet}
-use Rattle.h5_walk.specs.NotYet.{IsRefusedAt}
+use Rattle.h5_tree.specs.NotYet.{IsRefusedAt}
 use Rattle.h5_breach.proofs.Excluded.{breach_excludes_reads}
 use Rattle.h5_file.specs.Opening.{RefusedBy, IsReadable, IsNoBreach}
 

@@ -9,7 +9,7 @@ use Rattle.h5_model.specs.Tree.{Tree}
 use Rattle.h5_model.specs.declared.open_fault.OpenFault.{OpenFault}
 use Rattle.h5_model.specs.declared.open_fault.Cause.{Cause}
 use Rattle.h5_model.specs.declared.open_fault.Cause.TheVariants.{NoMemory, NotYet}
-use Rattle.h5_walk.specs.NotYet.{IsRefusedAt}
+use Rattle.h5_tree.specs.NotYet.{IsRefusedAt}
 
 -- Memory was short; or the superblock is sound, and a block that is reached is of a form that is not read yet; or the cause holds at
 -- the address.

@@ -5,8 +5,10 @@ ghost use Rattle.h5_model.specs.Faults.{cut};
 ghost use Rattle.h5_model.specs.Refusal.{first_holding};
 ghost use Rattle.h5_model.specs.Reading.{path_rules, attribute_rules, cell_rules};
 ghost use Rattle.h5_model.specs.Superblock.{IsSuperblock, end_of_file};
-ghost use Rattle.h5_walk.specs.NotYet.{IsRefusedAt};
-ghost use Rattle.h5_look.specs.Look.{HasKind, HasNames, HasCell, HasAttribute, HasAttributeNames, HasAttributesOf, HasNoArray, IsListRefused, IsOnlyArray, IsUnlisted};
+ghost use Rattle.h5_tree.specs.NotYet.{IsRefusedAt};
+ghost use Rattle.h5_look.specs.Listed.{IsNoGroup, AreLinks};
+ghost use Rattle.h5_look.specs.Look.{HasKind, HasNames, HasCell, HasArray, HasAttribute, HasAttributeNames, HasAttributesOf, IsListRefused, IsNoDataset, IsUnlisted};
+ghost use Rattle.h5_look.specs.Place.{IsNumber, IsNoObject};
 ghost use Rattle.h5_file.specs.State.{IsSound, created_state};
 ghost use Rattle.h5_file.specs.Opening.{IsNoBreach, IsReadable, Refused};
 
@@ -15,12 +17,13 @@ use crate::superblock::superblock_fault;
 use h5_attr::AttrRef;
 use h5_bytes::get_u64;
 use h5_look::{
-    Kind, OnlyArray, array_in, attributes_at, kind_at, names_at, names_of_attributes,
-    one_attribute, one_cell,
+    ArrayCells, Kind, Link, array_of, attributes_at, kind_at, links_of, names_at,
+    names_of_attributes, number_at, one_attribute, one_cell,
 };
-use h5_model::{Cause, EditFault, OpenFault};
-use h5_open::{Opened, walk};
+use h5_model::{Cause, EditFault, ObjectNo, OpenFault};
+use h5_open::walk;
 use h5_space::Image;
+use h5_tree::Opened;
 use std::alloc::{AllocError, Global};
 use std::marker::Model;
 
@@ -36,16 +39,16 @@ pub struct File {
 }
 
 impl Model for File {
-    ghost use Rattle.h5_open.specs.Kept.{IsOpened};
-    ghost use Rattle.h5_open.specs.State.{FileState, coded_state, opened_state};
+    ghost use Rattle.h5_tree.specs.Kept.{IsOpened};
+    ghost use Rattle.h5_tree.specs.State.{FileState, coded_state, opened_state};
 
     ghost Value = { FileState };
 
     ghost coded = { coded_state };
 
-    ghost view = { λ f. opened_state f.image.bytes f.opened.root f.opened.link };
+    ghost view = { λ f. opened_state f.image.bytes f.opened.objects.items };
 
-    ghost invariant = { λ f. IsOpened f.image.bytes f.opened.root f.opened.link };
+    ghost invariant = { λ f. IsOpened f.image.bytes f.opened.objects.items f.opened.numbers };
 }
 
 impl File {
@@ -72,8 +75,8 @@ impl File {
     /// A refusal names the first broken rule of the superblock (File Format Specification 3.0,
     /// section II.A), and else the first that is met on the walk from there, and where it stands;
     /// it gives the bytes back whole. What is well begun but not read yet is refused as
-    /// [`Cause::NotYet`] where it stands: a group of several links, with a soft link, or with a tree of
-    /// several nodes, a link to a group, and an array that has not one dimension or is not in one block.
+    /// [`Cause::NotYet`] where it stands: the header of an array that has not one dimension or is not in
+    /// one block.
     ///
     /// Each block is looked at once. Where bytes follow the end of file address, those before it are
     /// copied first.
@@ -117,7 +120,7 @@ impl File {
     ///
     /// The path is `/`, or `/` before each of up to 64 names. Refused as `BadPath`, `PathTooDeep`,
     /// `NoSuchParent`, `NotAGroup` or `NotFound`, the lowest number that holds. It takes no memory.
-    pub fn kind(&self, path: &[u8]) -> Result<Kind, EditFault>
+    pub fn kind(&self, path: &[u8]) -> Result<Kind<'_>, EditFault>
         ensures { MatchResult result (HasKind self.now.tree path.now) (λ e. first_holding (path_rules self.now.tree path.now) ≡ Some e) }
     {
         kind_at(self.alloc, &self.image, &self.opened, path)
@@ -172,13 +175,33 @@ impl File {
         one_cell(&self.image, &self.opened, path, index)
     }
 
-    /// The array that the root's one link leads to, or `None` where the root has no link.
+    /// The number of the object at the path. It stays the object's while the file is open.
     ///
-    /// While a file holds one array at most, this is all of its links.
-    pub fn array(&self) -> Option<OnlyArray<'_>>
-        ensures { MatchOption result (HasNoArray self.now.tree) (IsOnlyArray self.now.tree) }
+    /// Refused as [`File::kind`] is, also as `NotFound` where a soft link stands there. It takes no memory.
+    pub fn number(&self, path: &[u8]) -> Result<ObjectNo, EditFault>
+        ensures { MatchResult result (λ number. IsNumber self.now.tree path.now number.0) (IsNoObject self.now.tree path.now) }
     {
-        array_in(&self.image, &self.opened)
+        number_at(&self.image, &self.opened, path)
+    }
+
+    /// The links of the group of this number, ascending by the bytes of their names, or `None` where no group has it.
+    ///
+    /// Takes memory for a reference to each link.
+    pub fn links(
+        &self,
+        alloc: Global,
+        number: ObjectNo,
+    ) -> Result<Option<Vec<Link<'_>>>, AllocError>
+        ensures { IfOk result (λ found. MatchOption found (IsNoGroup self.now.tree number.0) (λ links. AreLinks self.now.tree number.0 links.items)) }
+    {
+        links_of(alloc, &self.image, &self.opened, number)
+    }
+
+    /// The array of this number, or `None` where no array has it. It takes no memory.
+    pub fn array(&self, number: ObjectNo) -> Option<ArrayCells<'_>>
+        ensures { MatchOption result (IsNoDataset self.now.tree number.0) (HasArray self.now.tree number.0) }
+    {
+        array_of(&self.image, &self.opened, number)
     }
 }
 

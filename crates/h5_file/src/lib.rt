@@ -3,8 +3,9 @@
 //! A [`File`] is made by [`File::create`] or read from bytes by [`File::open`], which names the
 //! rule that bytes break by an [`OpenFault`]. The form of the bytes is the HDF5 File Format
 //! Specification's, version 3.0; docs/FORMAT.md says which part of it is accepted. This version
-//! opens files whose root has one link at most, to an array of one dimension in one block, with
-//! any attributes; it makes such an array, and sets and removes attributes.
+//! opens files of any groups and links whose arrays have one dimension in one block, with any
+//! attributes. Where the root has one link at most, to an array, it makes that array, and sets and
+//! removes attributes.
 #![tactic(auto)]
 
 mod edits;
@@ -14,5 +15,5 @@ mod superblock;
 
 pub use file::File;
 pub use h5_attr::AttrRef;
-pub use h5_look::{Kind, OnlyArray, StoreKind};
+pub use h5_look::{ArrayCells, Kind, Link, LinkTo, StoreKind};
 pub use h5_model::{Cause, OpenFault};

@@ -175,7 +175,7 @@ fn stops_where_a_write_fails(rt: HostRuntime) -> Result<(), Fail> {
     assert_eq!(rt; ran, Err(RunFault::ScriptWrite));
     assert_eq!(rt; output.writes, 11);
     assert_eq!(rt; output.taken.as_slice(), b"/ group\nok".as_slice());
-    assert!(rt; file.array().is_some());
+    assert!(rt; file.kind(b"/d").is_ok());
     Ok(())
 }
 

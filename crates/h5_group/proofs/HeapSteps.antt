@@ -11,8 +11,8 @@ use Rattle.h5_model.specs.declared.open_fault.Cause.TheVariants.{Truncated, Over
 use Rattle.h5_heap.specs.Refused.{IsRefused}
 use Rattle.h5_walk.specs.Walked.{IsWalked}
 use Rattle.h5_walk.specs.Met.{IsMet}
-use Rattle.h5_walk.specs.NotYet.{IsRefusedAt}
 use Rattle.h5_walk.proofs.MetFields.{met_truncated, met_overlaps, met_walked, still_met}
+use Rattle.h5_nodes.specs.Walk.{IsFault, IsTreeMet}
 use Rattle.h5_group.specs.Walk.{IsGroupMet}
 use Rattle.h5_group.proofs.Steps.{field_after, other_field}
 
@@ -59,7 +59,7 @@ module _ (image : List ℕ) (held : List Block) (followed : List Named) (first s
         let here : holds p table.heap 32 ≡ 1 = holds_in p table.heap 32 (omega arith) (omega arith) in
         other_field image held followed tree_field met.tree (table.heap + 24) (omega (arith, here, apart p))
 
-  pub heap_refused : (cause : Cause) (address : ℕ) → IsRefused image table.heap held cause address → IsRefusedAt image cause address
+  pub heap_refused : (cause : Cause) (address : ℕ) → IsRefused image table.heap held cause address → IsFault image cause address
   heap_refused Truncated address (inl (e, past)) = met_truncated image held followed met.walked heap_field met.heap refl address e past
   heap_refused Truncated address (inr (there, e, past)) =
       (segment_field, by_block {y = segment_field} (met.heap).reached refl (omega (arith, there)), sym e, rw segment_length past)
@@ -88,3 +88,7 @@ module _ (image : List ℕ) (held : List Block) (followed : List Named) (first s
         (λ p. omega (arith, segment_claimed p)) tree_field
         (still_met image held followed met.walked heap_field met.heap (with_header inside.0 once) (λ p. omega arith) tree_field met.tree (λ e. met.apart (sym e)))
         (tree_apart inside.0 once)
+
+    -- the walk comes to the tree
+    pub at_tree : IsTreeMet image now (segment_field ∷ heap_field ∷ followed) first table.tree table.heap depth
+    at_tree = record { walked = heap_walked; met = tree_met }

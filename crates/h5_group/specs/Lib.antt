@@ -1,5 +1,2 @@
 pub mod Links
-pub mod Small
-pub mod Names
-pub mod Refused
 pub mod Walk

@@ -1,38 +1,51 @@
--- The links of a group of one link at most, and the blocks in which they stand (File Format Specification 3.0, sections III.A.1,
--- III.B and III.D).
-use Rattle.std.specs.Prelude.{◌≡◌, ℕ, ◌+◌, Option, None, Some, List, [], ◌∷◌, length}
-use Rattle.h5_bytes.specs.Blocks.{cover, Inside}
+-- The links of a group that was read (File Format Specification 3.0, sections III.A.1, III.B and III.D).
+use Rattle.std.specs.Prelude.{◌≡◌, ℕ, List, [], ◌∷◌, ◌++◌, map, length}
+use Rattle.std.specs.List.{Contains}
+use Rattle.h5_bytes.specs.Blocks.{Inside}
 use Rattle.h5_bytes.specs.declared.Block.{Block}
 use Rattle.h5_model.specs.Superblock.{leaf_k, internal_k}
-use Rattle.h5_model.specs.Addresses.{SymbolTable}
-use Rattle.h5_model.specs.Symbols.{Target, Header}
+use Rattle.h5_model.specs.Rows.{nodes}
+use Rattle.h5_model.specs.Nodes.{node_at}
+use Rattle.h5_model.specs.Reached.{level_at}
+use Rattle.h5_model.specs.Symbols.{Target, Header, Text, link_of}
 use Rattle.h5_model.specs.Links.{HasLinks}
-use Rattle.h5_group.specs.declared.read.GroupLink.{GroupLink}
-use Rattle.h5_group.specs.declared.symbol.Symbol.{Symbol}
-use Rattle.h5_group.specs.Small.{IsSmallRoot, AreOnlyIn, root_node}
+use Rattle.h5_model.specs.Heap.{segment_of, heap_blocks}
+use Rattle.h5_model.specs.TreeFaults.{all_entries}
+use Rattle.h5_nodes.specs.Trees.{kind_in, nodes_blocks}
+use Rattle.h5_group.specs.declared.group.Group.{Group}
+use Rattle.h5_group.specs.declared.link.LinkRef.{LinkRef}
+use Rattle.h5_group.specs.declared.link.LinkTarget.{LinkTarget}
+use Rattle.h5_group.specs.declared.link.LinkTarget.TheVariants as target
 
--- none, or one to an object header
-abbrev pub links_with : Option GroupLink → List (List ℕ × Target)
-links_with None = []
-links_with (Some l) = (l.name.items, Header l.header) ∷ []
+-- all nodes of the tree at this root, row by row
+abbrev pub nodes_at : List ℕ → ℕ → List ℕ
+nodes_at image root = nodes (node_at image (kind_in image)) (level_at image (kind_in image) root) (root ∷ [])
 
--- The group has these links, in blocks that lie in the image and are claimed now beside what was held.
-pub record HasClaimed (image : List ℕ) (table : SymbolTable) (held now : List Block) (link : Option GroupLink) : Type 0 where
-  pub blocks : List Block
-  pub links : HasLinks image (leaf_k image) (internal_k image) table.tree table.heap (links_with link) blocks
-  pub inside : Inside (length image) blocks
-  pub claimed : (p : ℕ) → cover p now ≡ cover p held + cover p blocks
+-- the group's links, in the order of their names, and its blocks
+abbrev pub links_of : List ℕ → Group → List (List ℕ × Target)
+links_of image g = map (link_of (segment_of image g.table.heap)) (all_entries image g.symbol_nodes.items)
 
--- the link has the header and the symbol node of the entry, and the name
-abbrev pub IsLinkOf : Option Symbol → Option (List ℕ) → Option GroupLink → Type 0
-IsLinkOf None name link = link ≡ None
-IsLinkOf (Some s) name link = (l : GroupLink) × (link ≡ Some l) × (Some l.name.items ≡ name)
-    × (l.header ≡ s.header) × (l.node ≡ s.node)
+abbrev pub blocks_of : List ℕ → Group → List Block
+blocks_of image g = nodes_blocks image (nodes_at image g.table.tree) g.symbol_nodes.items ++ heap_blocks image g.table.heap
 
--- The root of the group's tree is at level 0, and has one child at most. The entry of that is the link's, and there is no other.
-pub record HasOnly (image : List ℕ) (table : SymbolTable) (link : Option GroupLink) : Type 0 where
-  pub small : IsSmallRoot image table.tree
-  pub symbol : Option Symbol
-  pub name : Option (List ℕ)
-  pub only : AreOnlyIn image (root_node image table.tree).children symbol
-  pub same : IsLinkOf symbol name link
+-- The group stands in the image, with these links in these blocks.
+pub record IsGroupRead (image : List ℕ) (g : Group) : Type 0 where
+  pub linked : HasLinks image (leaf_k image) (internal_k image) g.table.tree g.table.heap (links_of image g) (blocks_of image g)
+  pub symbols_are : linked.symbol_nodes ≡ g.symbol_nodes.items
+  pub inside : Inside (length image) (blocks_of image g)
+
+-- a link, as the file has it
+abbrev pub target_of : LinkTarget → Target
+target_of (target.Object header) = Header header
+target_of (target.Soft text) = Text text.now
+
+abbrev pub link_from : LinkRef → List ℕ × Target
+link_from l = (l.name.now, target_of l.target)
+
+-- the group has this link, of this name
+abbrev pub IsLinkNamed : List ℕ → Group → List ℕ → LinkRef → Type 0
+IsLinkNamed image g name l = Contains (links_of image g) (link_from l) × (l.name.now ≡ name)
+
+-- the group has no link of this name
+abbrev pub HasNone : List ℕ → Group → List ℕ → Type 0
+HasNone image g name = (t : Target) → Contains (links_of image g) (name, t) → ⊥

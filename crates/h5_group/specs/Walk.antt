@@ -1,16 +1,17 @@
 -- A walk that comes to a group, and the walk when the group was read (File Format Specification 3.0, sections III and IV.A.2.r).
-use Rattle.std.specs.Prelude.{◌≡◌, ◌≢◌, ℕ, ◌+◌, ◌≤◌, Option, List, ◌++◌, false, IfSome}
-use Rattle.std.specs.List.{AllByRecursion}
+use Rattle.std.specs.Prelude.{◌≡◌, ◌≢◌, ℕ, ◌+◌, ◌-◌, ◌*◌, ◌<◌, ◌⊎◌, false, List, ◌++◌}
+use Rattle.std.specs.List.{AllByRecursion, Contains}
+use Rattle.h5_bytes.specs.Blocks.{cover}
 use Rattle.h5_bytes.specs.declared.Block.{Block}
-use Rattle.h5_model.specs.Superblock.{leaf_k}
 use Rattle.h5_model.specs.Addresses.{SymbolTable}
+use Rattle.h5_model.specs.Superblock.{leaf_k}
 use Rattle.h5_model.specs.Symbols.{symbol_bytes, symbols_in}
-use Rattle.h5_model.specs.Reached.{Named, named, ObjectHeader, SymbolNode, HeapHeader, Reached, group_root, entry_in}
+use Rattle.h5_model.specs.Reached.{Named, named, ObjectHeader, HeapHeader, group_root, entry_in}
 use Rattle.h5_model.specs.Faults.{is_header}
 use Rattle.h5_walk.specs.Walked.{IsWalked}
 use Rattle.h5_walk.specs.Met.{IsMet}
-use Rattle.h5_group.specs.declared.read.GroupLink.{GroupLink}
-use Rattle.h5_group.specs.declared.symbol.Symbol.{Symbol}
+use Rattle.h5_nodes.specs.Walk.{AreSymbolsReached}
+use Rattle.h5_group.specs.declared.group.Group.{Group}
 
 -- the walk has met the two fields of a Symbol Table message
 pub record IsGroupMet (image : List ℕ) (held : List Block) (followed : List Named) (first second depth : ℕ) (table : SymbolTable) : Type 0 where
@@ -19,27 +20,24 @@ pub record IsGroupMet (image : List ℕ) (held : List Block) (followed : List Na
   pub heap : IsMet image held followed (named second (HeapHeader table.tree) table.heap depth)
   pub apart : first ≢ second
 
--- the field by which a symbol node names a link's header is met
-pub record IsLinkMet (image : List ℕ) (held : List Block) (followed : List Named) (depth : ℕ) (table : SymbolTable) (node header : ℕ) : Type 0 where
-  pub field : ℕ
-  pub met : IsMet image held followed (named field ObjectHeader header (depth + 1))
-  pub above : ℕ
-  pub reached : Reached image (named above (SymbolNode table.tree table.heap) node depth)
-  pub some : 1 ≤ symbols_in (symbol_bytes image (leaf_k image) node)
-  pub leads : (entry_in image node 0).header ≡ header
+-- the field of entry i of a symbol node, which names a header
+abbrev pub entry_field : List ℕ → ℕ → ℕ → ℕ → Named
+entry_field image depth node i = named (node + 16 + 40 * i) ObjectHeader (entry_in image node i).header (depth + 1)
 
--- more fields were followed, none of which names a header, and this holds of all that were
-pub record HasFollowed (image : List ℕ) (held : List Block) (followed : List Named) (Met : List Named → Type 0) : Type 0 where
+-- entry i of a symbol node of the group leads to a header
+pub record IsHard (image : List ℕ) (g : Group) (node i : ℕ) : Type 0 where
+  pub node_of : Contains g.symbol_nodes.items node
+  pub below : i < symbols_in (symbol_bytes image (leaf_k image) node)
+  pub hard : (entry_in image node i).cache ≢ 2
+
+-- More fields were followed, none of which names a header, and each of which stood in a message that names the group or in a block
+-- that was not claimed before. The symbol nodes are reached, and the fields of their entries are met.
+pub record IsGroupFollowed (image : List ℕ) (held now : List Block) (followed : List Named) (first second depth : ℕ) (g : Group) : Type 0 where
   pub new : List Named
-  pub walked : IsWalked image held (new ++ followed)
+  pub walked : IsWalked image now (new ++ followed)
   pub inner : AllByRecursion (λ (y : Named). is_header y.role ≡ false) new
-  pub met : Met (new ++ followed)
-
--- the walk has followed the group's fields, and has met its link's
-abbrev pub IsGroupRead : List ℕ → List Block → List Named → ℕ → SymbolTable → Option GroupLink → Type 0
-IsGroupRead image held followed depth table link =
-    HasFollowed image held followed (λ ys. IfSome link (λ (l : GroupLink). IsLinkMet image held ys depth table l.node l.header))
-
-abbrev pub IsSymbolRead : List ℕ → List Block → List Named → ℕ → SymbolTable → Option Symbol → Type 0
-IsSymbolRead image held followed depth table symbol =
-    HasFollowed image held followed (λ ys. IfSome symbol (λ (s : Symbol). IsLinkMet image held ys depth table s.node s.header))
+  pub stands : AllByRecursion (λ (y : Named). (y.field ≡ first) ⊎ ((y.field ≡ second) ⊎ (cover (y.field - 8) held ≡ 0))) new
+  pub symbols_reached : AllByRecursion (AreSymbolsReached image g.table.tree g.table.heap depth) g.symbol_nodes.items
+  pub entries_met : (node i : ℕ) → IsHard image g node i → IsMet image now (new ++ followed) (entry_field image depth node i)
+  pub entries_new : (node i : ℕ) → IsHard image g node i → cover (node + 16 + 40 * i - 8) held ≡ 0
+  pub entries_apart : (node i other j : ℕ) → IsHard image g node i → IsHard image g other j → node + 16 + 40 * i ≡ other + 16 + 40 * j → (node ≡ other) × (i ≡ j)

@@ -1,13 +1,16 @@
-//! Groups: the links that stand in the symbol nodes of a B-tree, with their names in a local heap (File Format
+//! Groups: the links that stand in the symbol nodes of a B-tree, with their names and texts in a local heap (File Format
 //! Specification 3.0, sections III.A.1, III.B, III.D and IV.A.2.r).
+//!
+//! A group is read once, when its image is opened; then its links are looked up and listed where they stand.
 #![tactic(auto)]
 
-mod claim;
-mod keys;
-mod names;
-mod parts;
+mod group;
+mod link;
+mod list;
 mod read;
-mod root;
-mod symbol;
+mod search;
 
-pub use read::{GroupLink, read_group};
+pub use group::{Group, read_group};
+pub use link::{LinkRef, LinkTarget};
+pub use list::{entries, link_at, links_at};
+pub use search::lookup;

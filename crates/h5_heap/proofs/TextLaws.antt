@@ -19,7 +19,7 @@ until_zero-is (b ∷ bs) = by (b == 0) (until_zero-is bs) where
   by false rest = let more : 1 + zero_place bs ≡ suc (zero_place bs) = omega arith in rw more (ap (λ (xs : List ℕ). b ∷ xs) rest)
 
 -- the text that ends at the zero that was found
-text_some : (bytes : List ℕ) (n : ℕ) → Some n ≡ position (λ (b : ℕ). b == 0) bytes
+pub text_some : (bytes : List ℕ) (n : ℕ) → Some n ≡ position (λ (b : ℕ). b == 0) bytes
     → (n < length bytes) × (until_zero bytes ≡ take n bytes) × (length (until_zero bytes) ≡ n)
 text_some bytes n found = by (ltb (zero_place bytes) (length bytes)) refl found where
   by : (v : Bool) → ltb (zero_place bytes) (length bytes) ≡ v → Some n ≡ cond v (Some (zero_place bytes)) None
@@ -38,6 +38,15 @@ text_none bytes found = by (ltb (zero_place bytes) (length bytes)) refl found wh
   by false high found =
       let past : length bytes ≤ zero_place bytes = grind (arith, nat_tests, high) in
       ap length (until_zero-is bytes) ∙ length-take (zero_place bytes) bytes ∙ omega arith
+
+-- bytes without a zero are one text
+pub text_whole : (bytes : List ℕ) → None ≡ position (λ (b : ℕ). b == 0) bytes → until_zero bytes ≡ bytes
+text_whole bytes found = by (ltb (zero_place bytes) (length bytes)) refl found where
+  by : (v : Bool) → ltb (zero_place bytes) (length bytes) ≡ v → None ≡ cond v (Some (zero_place bytes)) None → until_zero bytes ≡ bytes
+  by true low found = absurd (let no : None ≡ Some (zero_place bytes) = found in cc)
+  by false high found =
+      let past : length bytes ≤ zero_place bytes = grind (arith, nat_tests, high) in
+      until_zero-is bytes ∙ take_all (zero_place bytes) bytes past
 
 module _ (segment : List ℕ) (offset : ℕ) (low : offset < length segment) where
   -- the bytes from the offset on

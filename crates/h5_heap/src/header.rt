@@ -2,7 +2,7 @@
 
 ghost use Rattle.std.specs.Prelude.{◌≡◌, ℕ, ◌+◌, ◌≤◌, length, IfOk, IfErr, IfSome, IfNone, OnOk};
 ghost use Rattle.h5_bytes.specs.Blocks.{block, cover, Separate, Inside};
-ghost use Rattle.h5_model.specs.Heap.{heap_header, free_head, segment_place, segment_size, segment_block, heap_blocks};
+ghost use Rattle.h5_model.specs.Heap.{heap_header, free_head, segment_place, segment_size, segment_block, segment_of, heap_blocks};
 ghost use Rattle.h5_heap.specs.Refused.{IsHeader, IsRefused};
 
 use crate::claim::{claim, fault};
@@ -72,4 +72,16 @@ fn read_header(header: &[u8]) -> Option<Header>
         segment,
         free_head: u64_at(header, 16),
     })
+}
+
+/// The bytes of the segment of the heap at `heap`. Takes no memory.
+///
+/// That the heap's header and its segment lie in the image is the caller's condition: they do in the image from
+/// which the heap was read.
+pub fn segment_at(image: &Image, heap: u64) -> &[u8]
+    requires { Inside (length image.now.bytes) (heap_blocks image.now.bytes heap) }
+    ensures { result.now ≡ segment_of image.now.bytes heap }
+{
+    let header = image.part(heap, HEADER).unwrap();
+    image.part(u64_at(header, 24), u64_at(header, 8)).unwrap()
 }

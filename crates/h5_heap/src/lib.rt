@@ -12,4 +12,6 @@ mod names;
 mod numbers;
 mod text;
 
+pub use header::segment_at;
 pub use heap::{Heap, read_heap};
+pub use text::text_from;

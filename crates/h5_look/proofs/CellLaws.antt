@@ -20,7 +20,7 @@ use Rattle.h5_model.proofs.PlaceLaws.{place-index}
 use Rattle.h5_model.proofs.PlainValues.{size-low}
 use Rattle.h5_model.proofs.StoredValues.{length-stored, index-stored}
 use Rattle.h5_model.proofs.ValueLaws.{decoded_at, value_at-moved}
-use Rattle.h5_open.specs.declared.line.Line.{Line}
+use Rattle.h5_tree.specs.declared.line.Line.{Line}
 use Rattle.h5_look.specs.Kept.{line_dataset, AreFilled, AreStored}
 
 module _ (image : List ℕ) (l : Line) where

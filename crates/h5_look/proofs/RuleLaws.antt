@@ -6,15 +6,10 @@ use Rattle.h5_model.specs.Places.{is_inside}
 use Rattle.h5_model.specs.Tree.{Tree, Link, Dataset, ToObject, links_of, dataset_of}
 use Rattle.h5_model.specs.Paths.{Located, Here, names_of, located, links_at, dataset_at}
 use Rattle.h5_model.specs.Refusal.{first_holding, is_deep, is_here, has_no_parent, has_no_group, is_missing}
-use Rattle.h5_model.specs.Reading.{path_rules, list_rules, dataset_rules, cell_rules}
+use Rattle.h5_model.specs.Reading.{path_rules, list_rules, dataset_rules}
 use Rattle.h5_model.specs.declared.edit_fault.EditFault.{EditFault}
 use Rattle.h5_model.specs.declared.edit_fault.EditFault.TheVariants.{BadPath, PathTooDeep, NoSuchParent, NotAGroup, NotFound, NotADataset, RankMismatch, OutOfExtent}
 use Rattle.h5_model.proofs.PathLaws.{first_of_path_rules, refusal_at}
-
-first-before : (rules others : List (EditFault × Bool)) (e : EditFault) → first_holding rules ≡ Some e → first_holding (rules ++ others) ≡ Some e
-first-before [] others e h = absurd (cc)
-first-before ((f, true) ∷ rules) others e h = h
-first-before ((f, false) ∷ rules) others e h = first-before rules others e h
 
 pub first-behind : (rules others : List (EditFault × Bool)) → first_holding rules ≡ None → first_holding (rules ++ others) ≡ first_holding others
 first-behind [] others h = refl
@@ -64,11 +59,9 @@ index_rules tree path index = (RankMismatch, option_map_or (λ (d : Dataset). no
     ∷ (OutOfExtent, option_map_or (λ (d : Dataset). not (is_inside d.sizes index)) (dataset_at tree path) false) ∷ []
 
 -- another object than a dataset stands there
-pub no_dataset : (tree : Tree) (path index : List ℕ) (number : ℕ) → first_holding (path_rules tree path) ≡ None → located tree path ≡ Here (ToObject number)
-    → dataset_of tree number ≡ None → first_holding (cell_rules tree path index) ≡ Some NotADataset
-no_dataset tree path index number h there none =
-    let here : first_holding (dataset_rules tree path) ≡ Some NotADataset = first-behind (path_rules tree path) (array_rule tree path) h ∙ rw (there, none) refl in
-    first-before (dataset_rules tree path) (index_rules tree path index) NotADataset here
+pub no_dataset : (tree : Tree) (path : List ℕ) (number : ℕ) → first_holding (path_rules tree path) ≡ None → located tree path ≡ Here (ToObject number)
+    → dataset_of tree number ≡ None → first_holding (dataset_rules tree path) ≡ Some NotADataset
+no_dataset tree path number h there none = first-behind (path_rules tree path) (array_rule tree path) h ∙ rw (there, none) refl
 
 -- of a dataset the rules of the index are left
 pub dataset_here : (tree : Tree) (path : List ℕ) (number : ℕ) (d : Dataset) → first_holding (path_rules tree path) ≡ None → located tree path ≡ Here (ToObject number)

@@ -1,23 +1,22 @@
 -- What a look at a path answers.
-use Rattle.std.specs.Prelude.{◌≡◌, ℕ, Bool, true, ℤ, Option, Some, None, IsSome, List, [], ◌∷◌, ◌*◌, map, length, replicate}
+use Rattle.std.specs.Prelude.{◌≡◌, ℕ, Bool, ℤ, Option, Some, None, IsSome, List, [], ◌∷◌, ◌*◌, map, length, replicate}
 use Rattle.std.specs.Borrow.{Bor}
-use Rattle.std.specs.FinMap.{get, entries, empty}
+use Rattle.std.specs.FinMap.{get, entries}
 use Rattle.std.specs.Option.{option_and_then}
 use Rattle.h5_model.specs.Fixed.{Fixed, IsFixed}
 use Rattle.h5_model.specs.Script.{stored_values}
-use Rattle.h5_model.specs.Tree.{Tree, ToObject, Object, Group, Array, Attribute, Dataset, Storage, links_of, dataset_of}
+use Rattle.h5_model.specs.Tree.{Tree, ToObject, Object, Attribute, Dataset, Storage, links_of, dataset_of}
 use Rattle.h5_model.specs.Tree as tree
-use Rattle.h5_model.specs.Paths.{Located, Here, located, object_at, dataset_at, is_name}
+use Rattle.h5_model.specs.Paths.{Located, Here, located, object_at, dataset_at}
 use Rattle.h5_model.specs.Refusal.{first_holding}
 use Rattle.h5_model.specs.Reading.{path_rules, list_rules, object_rules, attribute_rules, cell_rules, listed_names, attribute_names, attribute_at, cell_at, shown_maximum}
-use Rattle.h5_walk.specs.Small.{alone_tree, pair_tree, link_to_one}
 use Rattle.h5_model.specs.declared.edit_fault.EditFault.{EditFault}
 use Rattle.h5_model.specs.declared.edit_fault.EditFault.TheVariants as fault
 use Rattle.h5_look.specs.declared.kind.Kind.{Kind}
-use Rattle.h5_look.specs.declared.kind.Kind.TheVariants.{Group, Dataset as ArrayOf}
+use Rattle.h5_look.specs.declared.kind.Kind.TheVariants.{Group, Dataset as ArrayOf, Soft}
 use Rattle.h5_look.specs.declared.kind.StoreKind.{StoreKind}
 use Rattle.h5_look.specs.declared.kind.StoreKind.TheVariants as store
-use Rattle.h5_look.specs.declared.array.OnlyArray.{OnlyArray}
+use Rattle.h5_look.specs.declared.array.ArrayCells.{ArrayCells}
 
 -- how cells are stored, as a look tells it: not whether contiguous cells are stored yet
 abbrev pub IsStored : Storage → StoreKind → Type 0
@@ -36,10 +35,11 @@ pub record IsShown (d : Dataset) (fixed : Fixed) (dims maxima : List ℕ) (store
 
 -- what stands there is a link of this kind
 abbrev pub IsKind : Tree → Located → Kind → Type 0
-IsKind tree (Here (ToObject number)) Group = IsSome (links_of tree number)
-IsKind tree (Here (ToObject number)) (ArrayOf fixed dims maxima stored fill) =
-    (d : Dataset) × (dataset_of tree number ≡ Some d) × IsShown d fixed dims maxima stored fill
-IsKind tree _ kind = ⊥
+IsKind whole (Here (ToObject number)) Group = IsSome (links_of whole number)
+IsKind whole (Here (ToObject number)) (ArrayOf fixed dims maxima stored fill) =
+    (d : Dataset) × (dataset_of whole number ≡ Some d) × IsShown d fixed dims maxima stored fill
+IsKind whole (Here (tree.Soft text)) (Soft shown) = shown.now ≡ text
+IsKind whole _ kind = ⊥
 
 -- no rule of a path holds, and the link is of this kind
 pub record HasKind (tree : Tree) (path : List ℕ) (kind : Kind) : Type 0 where
@@ -86,34 +86,29 @@ pub record HasAttribute (tree : Tree) (path name : List ℕ) (a : List ℕ × At
   pub named : a.0 ≡ name
   pub found : attribute_at tree path name ≡ Some a.1
 
--- ---- the one array
+-- ---- arrays by their numbers
 
--- the root has no link
-pub record HasNoArray (whole : Tree) : Type 0 where
-  pub root : Object
-  pub tree_is : whole ≡ alone_tree root
-  pub empty_group : root.content ≡ Group empty
+-- no dataset has this number
+abbrev pub IsNoDataset : Tree → ℕ → Type 0
+IsNoDataset whole number = dataset_of whole number ≡ None
 
 -- the bytes of the cells, or, where these are not stored, nothing
-abbrev pub AreCells : Option (Bor (List ℕ)) → OnlyArray → List ℤ → Type 0
+abbrev pub AreCells : Option (Bor (List ℕ)) → ArrayCells → List ℤ → Type 0
 AreCells None a values = values ≡ replicate a.size a.fill
 AreCells (Some bytes) a values = (length bytes.now ≡ a.size * (a.fixed.now).size) × (values ≡ stored_values a.fixed.now bytes.now)
 
--- the root's one link leads to this array
-pub record IsOnlyArray (whole : Tree) (a : OnlyArray) : Type 0 where
-  pub root : Object
-  pub other : Object
-  pub array : Dataset
-  pub tree_is : whole ≡ pair_tree root other
-  pub linking : root.content ≡ Group (link_to_one a.name.now)
-  pub content : other.content ≡ Array array
-  pub named : is_name a.name.now ≡ true
+-- this is what is shown of the dataset
+pub record IsArray (d : Dataset) (a : ArrayCells) : Type 0 where
   pub sound : IsFixed a.fixed.now
-  pub fixed_is : a.fixed.now ≡ array.fixed
-  pub sizes_are : array.sizes ≡ a.size ∷ []
-  pub maxima_are : array.maxima ≡ a.maximum ∷ []
+  pub fixed_is : a.fixed.now ≡ d.fixed
+  pub sizes_are : d.sizes ≡ a.size ∷ []
+  pub maxima_are : d.maxima ≡ a.maximum ∷ []
   pub stored : Bool
-  pub storage_is : array.storage ≡ tree.Contiguous stored
-  pub fill_is : a.fill ≡ array.fill
-  pub counted : length array.cells ≡ a.size
-  pub cells_are : AreCells a.cells a array.cells
+  pub storage_is : d.storage ≡ tree.Contiguous stored
+  pub fill_is : a.fill ≡ d.fill
+  pub counted : length d.cells ≡ a.size
+  pub cells_are : AreCells a.cells a d.cells
+
+-- the dataset of this number is this array
+abbrev pub HasArray : Tree → ℕ → ArrayCells → Type 0
+HasArray whole number a = (d : Dataset) × (dataset_of whole number ≡ Some d) × IsArray d a

@@ -1,20 +1,18 @@
-//! The one array of an opened image.
+//! Arrays of an opened image, by their numbers (File Format Specification 3.0, section IV.A.2.i).
 
 ghost use Rattle.std.specs.Prelude.{MatchOption};
-ghost use Rattle.h5_open.specs.Kept.{IsOpened};
-ghost use Rattle.h5_open.specs.Opened.{tree_of};
-ghost use Rattle.h5_look.specs.Look.{HasNoArray, IsOnlyArray};
+ghost use Rattle.h5_tree.specs.Kept.{IsOpened};
+ghost use Rattle.h5_tree.specs.Objects.{tree_of};
+ghost use Rattle.h5_look.specs.Look.{IsNoDataset, HasArray};
 
 use crate::cells::stored;
-use h5_model::Fixed;
-use h5_open::Opened;
+use h5_model::{Fixed, ObjectNo};
 use h5_space::Image;
+use h5_tree::{Opened, OpenedContent};
 
-/// The array that the root's one link leads to, with its cells as they are stored.
+/// An array of one dimension, with its cells as they are stored.
 #[derive(Clone, Copy)]
-pub struct OnlyArray<'a> {
-    /// The link's name.
-    pub name: &'a [u8],
+pub struct ArrayCells<'a> {
     pub fixed: &'a Fixed,
     /// How many cells there are.
     pub size: u64,
@@ -25,18 +23,21 @@ pub struct OnlyArray<'a> {
     pub cells: Option<&'a [u8]>,
 }
 
-/// The array that the root's one link leads to, or `None` where the root has no link. It takes no memory.
-pub fn array_in<'a>(image: &'a Image, opened: &'a Opened) -> Option<OnlyArray<'a>>
-    requires { IsOpened image.now.bytes opened.now.root opened.now.link }
-    ensures { let tree = tree_of image.now.bytes opened.now.root opened.now.link in
-        MatchOption result (HasNoArray tree) (IsOnlyArray tree) }
+/// The array of this number, or `None` where no array has it. It takes no memory.
+pub fn array_of<'a>(
+    image: &'a Image,
+    opened: &'a Opened,
+    number: ObjectNo,
+) -> Option<ArrayCells<'a>>
+    requires { IsOpened image.now.bytes opened.now.objects.items opened.now.numbers }
+    ensures { let tree = tree_of image.now.bytes opened.now.objects.items in
+        MatchOption result (IsNoDataset tree number.0) (HasArray tree number.0) }
 {
-    let Some(linked) = &opened.link else {
+    let object = opened.objects.get(number.0 as usize)?;
+    let OpenedContent::Array(line) = &object.content else {
         return None;
     };
-    let line = &linked.line;
-    Some(OnlyArray {
-        name: &linked.name,
+    Some(ArrayCells {
         fixed: &line.fixed,
         size: line.size,
         maximum: line.maximum,

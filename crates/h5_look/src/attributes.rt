@@ -3,18 +3,18 @@
 ghost use Rattle.std.specs.Prelude.{◌≡◌, Some, MatchResult, map};
 ghost use Rattle.h5_model.specs.Refusal.{first_holding};
 ghost use Rattle.h5_model.specs.Reading.{attribute_rules};
-ghost use Rattle.h5_open.specs.Kept.{IsOpened};
-ghost use Rattle.h5_open.specs.Opened.{tree_of};
+ghost use Rattle.h5_tree.specs.Kept.{IsOpened};
+ghost use Rattle.h5_tree.specs.Objects.{tree_of};
 ghost use Rattle.h5_look.specs.Kept.{IsHeaderThere};
 ghost use Rattle.h5_look.specs.Look.{HasAttribute, HasAttributeNames, HasAttributesOf, IsUnlisted};
-ghost use Rattle.h5_look.specs.Place.{IsNowhere};
+ghost use Rattle.h5_look.specs.Place.{IsNoObject};
 
 use crate::place::{Place, look};
 use h5_attr::{AttrRef, get, list, sorted};
 use h5_header::Messages;
 use h5_model::EditFault;
-use h5_open::Opened;
 use h5_space::Image;
+use h5_tree::Opened;
 use std::alloc::Global;
 
 /// The names of the attributes of the object at the path, ascending by their bytes.
@@ -26,8 +26,8 @@ pub fn names_of_attributes<'a>(
     opened: &Opened,
     path: &[u8],
 ) -> Result<Vec<&'a [u8]>, EditFault>
-    requires { IsOpened image.now.bytes opened.now.root opened.now.link }
-    ensures { let tree = tree_of image.now.bytes opened.now.root opened.now.link in
+    requires { IsOpened image.now.bytes opened.now.objects.items opened.now.numbers }
+    ensures { let tree = tree_of image.now.bytes opened.now.objects.items in
         MatchResult result (λ names. HasAttributeNames tree path.now (map (λ name. name.now) names.items)) (IsUnlisted tree path.now) }
 {
     match list(alloc, image, messages_at(image, opened, path)?) {
@@ -45,8 +45,8 @@ pub fn attributes_at<'a>(
     opened: &Opened,
     path: &[u8],
 ) -> Result<Vec<AttrRef<'a>>, EditFault>
-    requires { IsOpened image.now.bytes opened.now.root opened.now.link }
-    ensures { let tree = tree_of image.now.bytes opened.now.root opened.now.link in
+    requires { IsOpened image.now.bytes opened.now.objects.items opened.now.numbers }
+    ensures { let tree = tree_of image.now.bytes opened.now.objects.items in
         MatchResult result (λ list. HasAttributesOf tree path.now list.items) (IsUnlisted tree path.now) }
 {
     match sorted(alloc, image, messages_at(image, opened, path)?) {
@@ -64,8 +64,8 @@ pub fn one_attribute<'a>(
     path: &[u8],
     name: &[u8],
 ) -> Result<AttrRef<'a>, EditFault>
-    requires { IsOpened image.now.bytes opened.now.root opened.now.link }
-    ensures { let tree = tree_of image.now.bytes opened.now.root opened.now.link in
+    requires { IsOpened image.now.bytes opened.now.objects.items opened.now.numbers }
+    ensures { let tree = tree_of image.now.bytes opened.now.objects.items in
         MatchResult result (HasAttribute tree path.now name.now) (λ e. first_holding (attribute_rules tree path.now name.now) ≡ Some e) }
 {
     match get(image, messages_at(image, opened, path)?, name) {
@@ -76,16 +76,16 @@ pub fn one_attribute<'a>(
 
 /// The messages of the object at the path.
 fn messages_at<'a>(
-    image: &Image,
+    image: &'a Image,
     opened: &'a Opened,
     path: &[u8],
 ) -> Result<&'a Messages, EditFault>
-    requires { IsOpened image.now.bytes opened.now.root opened.now.link }
-    ensures { let tree = tree_of image.now.bytes opened.now.root opened.now.link in
-        MatchResult result (λ messages. IsHeaderThere image.now.bytes tree path.now messages.now) (IsNowhere tree path.now) }
+    requires { IsOpened image.now.bytes opened.now.objects.items opened.now.numbers }
+    ensures { let tree = tree_of image.now.bytes opened.now.objects.items in
+        MatchResult result (λ messages. IsHeaderThere image.now.bytes tree path.now messages.now) (IsNoObject tree path.now) }
 {
-    match look(opened, path)? {
-        Place::Root => Ok(&opened.root),
-        Place::Array(linked) => Ok(&linked.array),
+    match look(image, opened, path)? {
+        Place::Object { object, .. } => Ok(&object.messages),
+        Place::Soft(_) => Err(EditFault::NotFound),
     }
 }

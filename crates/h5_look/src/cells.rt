@@ -7,16 +7,16 @@ ghost use Rattle.h5_model.specs.Layout.{InBlock};
 ghost use Rattle.h5_model.specs.Refusal.{first_holding};
 ghost use Rattle.h5_model.specs.Reading.{cell_at, cell_rules};
 ghost use Rattle.h5_layout.specs.Stored.{has_room};
-ghost use Rattle.h5_open.specs.Array.{data_blocks};
-ghost use Rattle.h5_open.specs.Kept.{IsOpened};
-ghost use Rattle.h5_open.specs.Opened.{tree_of};
-ghost use Rattle.h5_look.specs.Kept.{AreFilled, AreStored, line_dataset};
+ghost use Rattle.h5_tree.specs.Array.{data_blocks};
+ghost use Rattle.h5_tree.specs.Kept.{IsOpened};
+ghost use Rattle.h5_tree.specs.Objects.{tree_of};
+ghost use Rattle.h5_look.specs.Kept.{AreFilled, AreStored, IsLineThere, IsNoLineThere, line_dataset};
 ghost use Rattle.h5_look.specs.Look.{HasCell};
 
 use crate::place::{Place, look};
 use h5_model::EditFault;
-use h5_open::{Line, Opened};
 use h5_space::Image;
+use h5_tree::{Line, Opened, OpenedContent};
 use h5_types::decode;
 
 /// The value of the cell at an index of the array at the path.
@@ -29,20 +29,33 @@ pub fn one_cell(
     path: &[u8],
     index: &[u64],
 ) -> Result<i128, EditFault>
-    requires { IsOpened image.now.bytes opened.now.root opened.now.link }
-    ensures { let tree = tree_of image.now.bytes opened.now.root opened.now.link in
+    requires { IsOpened image.now.bytes opened.now.objects.items opened.now.numbers }
+    ensures { let tree = tree_of image.now.bytes opened.now.objects.items in
         MatchResult result (HasCell tree path.now index.now) (λ e. first_holding (cell_rules tree path.now index.now) ≡ Some e) }
 {
-    let Place::Array(linked) = look(opened, path)? else {
-        return Err(EditFault::NotADataset);
-    };
+    let line = line_at(image, opened, path)?;
     let [at] = index else {
         return Err(EditFault::RankMismatch);
     };
-    if *at >= linked.line.size {
+    if *at >= line.size {
         return Err(EditFault::OutOfExtent);
     }
-    Ok(value(image, &linked.line, *at))
+    Ok(value(image, line, *at))
+}
+
+/// The array at the path. Refused as `NotADataset` where no array stands there.
+fn line_at<'a>(image: &'a Image, opened: &'a Opened, path: &[u8]) -> Result<&'a Line, EditFault>
+    requires { IsOpened image.now.bytes opened.now.objects.items opened.now.numbers }
+    ensures { let tree = tree_of image.now.bytes opened.now.objects.items in
+        MatchResult result (λ line. IsLineThere image.now.bytes tree path.now line.now) (IsNoLineThere tree path.now) }
+{
+    match look(image, opened, path)? {
+        Place::Object { object, .. } => match &object.content {
+            OpenedContent::Array(line) => Ok(line),
+            OpenedContent::Group(_) => Err(EditFault::NotADataset),
+        },
+        Place::Soft(_) => Err(EditFault::NotADataset),
+    }
 }
 
 /// The value of the cell at a place.

@@ -13,7 +13,7 @@ pub enum StoreKind {
 
 /// What stands at a path.
 #[derive(Drop)]
-pub enum Kind {
+pub enum Kind<'a> {
     /// A group.
     Group,
     /// An array. A maximum that is unlimited is shown as 18446744073709551615.
@@ -24,4 +24,6 @@ pub enum Kind {
         store: StoreKind,
         fill: i128,
     },
+    /// A soft link, with its text.
+    Soft(&'a [u8]),
 }

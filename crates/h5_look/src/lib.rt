@@ -1,20 +1,23 @@
-//! What an opened image holds, by path: kinds, names, cells and attributes (File Format Specification 3.0, section IV.A).
+//! What an opened image holds, by path and by number: kinds, links, cells and attributes (File Format Specification 3.0, section IV.A).
 //!
-//! Nothing is copied out of the image but numbers: names, attributes and cells are lent where they stand in it.
+//! Nothing is copied out of the image but numbers: names, texts, attributes and cells are lent where they stand in it.
 #![tactic(auto)]
 
 mod array;
 mod attributes;
 mod cells;
+mod group;
 mod kind;
 mod links;
 mod path;
 mod place;
+mod step;
 
-pub use array::{OnlyArray, array_in};
+pub use array::{ArrayCells, array_of};
 pub use attributes::{attributes_at, names_of_attributes, one_attribute};
 pub use cells::one_cell;
+pub use group::{Link, LinkTo, links_of};
 pub use kind::{Kind, StoreKind};
 pub use links::{kind_at, names_at};
 pub use path::{MAX_DEPTH, Names, names_in};
-pub use place::{Place, look};
+pub use place::{Place, look, number_at};

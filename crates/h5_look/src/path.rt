@@ -1,9 +1,9 @@
 //! Paths: the names between slashes.
 
-ghost use Rattle.std.specs.Prelude.{◌≡◌, ◌==◌, length, position};
+ghost use Rattle.std.specs.Prelude.{◌≡◌, ◌==◌, ◌∷◌, length, position};
 ghost use Rattle.std.specs.List.{list_all, slice_split};
 ghost use Rattle.h5_model.specs.Paths.{is_name, names_of};
-ghost use Rattle.h5_look.specs.Names.{AreNames, AreParts};
+ghost use Rattle.h5_look.specs.Names.{AreNames, AreParts, parts, parts_left};
 
 use h5_model::is_link_name;
 
@@ -42,14 +42,22 @@ fn slash_at(text: &[u8]) -> Option<usize>
     text.iter().position(|c| *c == b'/')
 }
 
-/// The text up to the first slash, and whether there is one.
-fn first_part(text: &[u8]) -> (&[u8], bool)
-    ensures { AreParts (slice_split (λ c. c == 47) text.now) result.0.now result.1 }
+/// The text up to the first slash, and the text behind that, where there is one.
+pub(crate) fn cut(text: &[u8]) -> (&[u8], Option<&[u8]>)
+    ensures { parts text.now ≡ result.0.now ∷ parts_left result.1 }
 {
     match slash_at(text) {
-        Some(end) => (&text[..end], true),
-        None => (text, false),
+        Some(end) => (&text[..end], Some(&text[end + 1..])),
+        None => (text, None),
     }
+}
+
+/// The text up to the first slash, and whether there is one.
+fn first_part(text: &[u8]) -> (&[u8], bool)
+    ensures { AreParts (parts text.now) result.0.now result.1 }
+{
+    let (first, others) = cut(text);
+    (first, others.is_some())
 }
 
 /// The names of the path.

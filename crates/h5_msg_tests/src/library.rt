@@ -75,7 +75,7 @@ fn are_same(sizes: &[u64], want: &[i128]) -> bool {
 }
 
 /// Whether a dataspace has these sizes and maxima, of which -1 is unlimited.
-pub fn is_dataspace(alloc: Global, body: &[u8], sizes: &[i128], maxima: &[i128]) -> bool {
+pub(crate) fn is_dataspace(alloc: Global, body: &[u8], sizes: &[i128], maxima: &[i128]) -> bool {
     let Ok(extent) = read_dataspace(body) else {
         return false;
     };
@@ -93,7 +93,7 @@ pub fn is_dataspace(alloc: Global, body: &[u8], sizes: &[i128], maxima: &[i128])
 }
 
 /// Whether a type has this size, is signed (1), and has its high byte first (1).
-pub fn is_type(fixed: &Fixed, want: &[i128]) -> bool {
+pub(crate) fn is_type(fixed: &Fixed, want: &[i128]) -> bool {
     let [size, signed, high_first] = want else {
         return false;
     };
@@ -103,7 +103,7 @@ pub fn is_type(fixed: &Fixed, want: &[i128]) -> bool {
 }
 
 /// The type of this size, signed if 1, with its high byte first if 1.
-pub fn type_of(want: &[i128]) -> Option<Fixed> {
+pub(crate) fn type_of(want: &[i128]) -> Option<Fixed> {
     let [size, signed, high_first] = want else {
         return None;
     };
@@ -184,7 +184,7 @@ fn are_bytes(bytes: &[u8], want: &[i128]) -> bool {
 }
 
 /// Whether chunk sizes are these.
-pub fn are_chunk_sizes(alloc: Global, sizes: &ChunkSizes<'_>, want: &[i128]) -> bool {
+pub(crate) fn are_chunk_sizes(alloc: Global, sizes: &ChunkSizes<'_>, want: &[i128]) -> bool {
     if sizes.rank() != want.len() {
         return false;
     }

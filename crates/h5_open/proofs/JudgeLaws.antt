@@ -21,8 +21,8 @@ use Rattle.h5_model.specs.Extent.{Extent, extent_of, extent_in, is_dataspace, si
 use Rattle.h5_model.specs.Layout.{InBlock}
 use Rattle.h5_model.specs.Reached.{layout_among}
 use Rattle.h5_layout.specs.Described.{Described, HasArray}
-use Rattle.h5_walk.specs.NotYet.{IsNoLine}
-use Rattle.h5_open.specs.Judged.{IsRootBreach, IsLineBreach, IsNoLineOf}
+use Rattle.h5_tree.specs.NotYet.{IsNoLine}
+use Rattle.h5_tree.specs.Judged.{IsRootBreach, IsLineBreach, IsNoLineOf}
 
 pub root_breach : (image : List ℕ) (header : ℕ) (ms : List Message) (cause : Cause) → ListBreach image header ms cause → IsRootBreach image header ms cause
 root_breach image header ms MissingMessage h = h.0

@@ -1,141 +1,194 @@
--- The steps of the walk: what one hands to the next, and why it is refused.
-use Rattle.std.proofs.Common.{◌≡◌, ◌≢◌, ℕ, ◌+◌, ◌≤◌, List, [], ◌∷◌, ◌++◌, length, refl, sym, ◌∙◌, subst, arith, Option, Some, None, false}
-use Rattle.std.specs.Prelude.{map, IfSome, ◌==◌}
-use Rattle.std.specs.List.{AllByRecursion, find}
-use Rattle.h5_bytes.specs.Blocks.{block, cover, Separate, Inside}
+-- The links of an object, followed one by one.
+use Rattle.std.proofs.Common.{◌≡◌, ◌≢◌, ◌⊎◌, inl, inr, ℕ, zero, suc, ◌+◌, ◌-◌, ◌<◌, ◌≤◌, List, [], ◌∷◌, ◌++◌, map, length, take, drop, get_or, refl, sym, ◌∙◌, ap, subst, append_assoc, add-one, arith}
+use Rattle.std.specs.List.{AllByRecursion, Contains}
+use Rattle.std.proofs.Math.Seq.{drop-cons, take-length}
+use Rattle.std.proofs.lemmas.List.{map-append, take_more, append-nil}
+use Rattle.h5_bytes.specs.Blocks.{cover, Separate}
 use Rattle.h5_bytes.specs.declared.Block.{Block}
-use Rattle.h5_bytes.proofs.BlockLaws.{all_append, all_right, cover-append}
-use Rattle.h5_model.specs.Superblock.{IsSuperblock, superblock_length, end_of_file, root_header}
-use Rattle.h5_model.specs.Addresses.{SymbolTable, symbol_table_of}
-use Rattle.h5_model.specs.Messages.{Message, HasMessages, prefix_at, reference_count, continuation}
-use Rattle.h5_model.specs.Reached.{Named, named, ObjectHeader, Continuation, Reached}
-use Rattle.h5_model.specs.Faults.{is_header}
-use Rattle.h5_model.specs.Reads.{Reads}
-use Rattle.h5_model.specs.declared.open_fault.Cause.TheVariants.{GroupLinkedTwice}
-use Rattle.h5_header.specs.Listed.{Listed, messages_in}
-use Rattle.h5_group.specs.declared.read.GroupLink.{GroupLink}
-use Rattle.h5_group.specs.Walk.{IsGroupMet, IsGroupRead, IsLinkMet}
-use Rattle.h5_walk.specs.Walked.{IsWalked, continuation_fields}
-use Rattle.h5_walk.specs.Met.{IsHeaderMet, with_header}
-use Rattle.h5_walk.specs.NotYet.{IsRefusedAt, IsOfGroupAt}
-use Rattle.h5_walk.proofs.ListLaws.{prefix_there}
-use Rattle.h5_open.specs.declared.opened.Linked.{Linked}
-use Rattle.h5_open.specs.Judged.{IsGroupList}
-use Rattle.h5_model.specs.Tree.{Group}
-use Rattle.h5_walk.specs.Small.{pair_tree, link_to_one}
-use Rattle.h5_open.specs.Opened.{table_of, tree_of, object_with, array_in}
-use Rattle.h5_open.specs.Walk.{IsRootOpened, IsLinkReady, IsLinkedRead}
-use Rattle.h5_open.proofs.ArrayLaws.{group_at}
-use Rattle.h5_open.proofs.RootLaws.{root_reached, root_met, found_table, tree_met, heap_met, table_walked}
-use Rattle.h5_open.proofs.OpenLaws.{reads_alone, reads_linked}
+use Rattle.h5_bytes.proofs.BlockLaws.{all_append, all_left}
+use Rattle.h5_model.specs.Symbols.{Target, Header, Text}
+use Rattle.h5_model.specs.Reached.{Named, named, ObjectHeader}
+use Rattle.h5_breach.proofs.Lists.{In, contains_in, in_left, in_right, in_map}
+use Rattle.h5_walk.specs.Walked.{IsFollowed}
+use Rattle.h5_walk.specs.Met.{IsMet}
+use Rattle.h5_group.specs.Links.{link_from}
+use Rattle.h5_group.specs.declared.link.LinkRef.{LinkRef}
+use Rattle.h5_tree.specs.declared.object.OpenedObject.{OpenedObject}
+use Rattle.h5_tree.specs.Objects.{headers, links_of}
+use Rattle.h5_whole.specs.Whole.{IsLed, AreLed}
+use Rattle.h5_open.specs.Read.{IsObjectRead, IsObjectFollowed, AreWaiting, IsOwn}
+use Rattle.h5_open.specs.Walk.{IsUnder, IsReady, IsFurther, IsTreeRead, IsLinkReady, IsLinkRead, IsPartly}
+use Rattle.h5_open.proofs.GrowLaws.{objects_led_grow, all_led_grow}
+use Rattle.h5_open.proofs.WaitLaws.{still_waiting, all_behind}
+use Rattle.h5_open.proofs.UnderLaws.{object_under, cover_grows}
 
--- ---- refusals
+-- ---- the link whose turn it is
 
--- a link leads to the root
-pub twice : (image : List ℕ) (header root field depth : ℕ) → IsSuperblock image → root ≡ root_header image → header ≡ root → Reached image (named field ObjectHeader header depth) → field ≢ 64
-    → IsOfGroupAt image root → root + 16 ≤ length image → IsRefusedAt image GroupLinkedTwice root
-twice image header root field depth is at same reached other group there = (
-  named field ObjectHeader root depth,
-  subst (λ (h : ℕ). Reached image (named field ObjectHeader h depth)) same reached,
-  refl,
-  (there, (refl, group, (named 64 ObjectHeader root 0, subst (λ (h : ℕ). Reached image (named 64 ObjectHeader h 0)) (sym at) (root_reached image is), (λ e. other (sym e)), refl, refl))),
-)
+-- the field of the first link, where that is no soft link, and the fields of the others
+pub record HasTurn (image : List ℕ) (base held : List Block) (followed : List Named) (depth : ℕ) (link : List ℕ × Target) (links : List (List ℕ × Target)) : Type 0 where
+  pub field : ℕ
+  pub rest : List ℕ
+  pub met : (header : ℕ) → link.1 ≡ Header header → IsMet image held followed (named field ObjectHeader header (depth + 1))
+  pub free : (field ≡ 0) ⊎ (cover (field - 8) base ≡ 0)
+  pub others : AllByRecursion (λ (other : ℕ). other ≢ field) rest
+  pub waiting : AreWaiting image base held followed depth links rest
 
--- ---- the root
+same_header : (h k : ℕ) → Header h ≡ Header k → h ≡ k
+same_header h k e = cc
 
--- Continuations name no header
-inner_fields : (header depth : ℕ) (ms : List Message) → AllByRecursion (λ (y : Named). is_header y.role ≡ false) (continuation_fields header depth ms)
-inner_fields header depth [] = tt
-inner_fields header depth (m ∷ ms) = all_append (λ (y : Named). is_header y.role ≡ false) (map (λ (b : Block). named m.at (Continuation header) b.at depth) (continuation m)) (continuation_fields header depth ms)
-    (one (continuation m)) (inner_fields header depth ms) where
-      one : (bs : List Block) → AllByRecursion (λ (y : Named). is_header y.role ≡ false) (map (λ (b : Block). named m.at (Continuation header) b.at depth) bs)
-      one [] = tt
-      one (b ∷ bs) = (refl, one bs)
+pub turn_of : (image : List ℕ) (base held : List Block) (followed : List Named) (depth : ℕ) (link : List ℕ × Target) (links : List (List ℕ × Target)) (fields : List ℕ)
+    → AreWaiting image base held followed depth (link ∷ links) fields → HasTurn image base held followed depth link links
+turn_of image base held followed depth (name, Text text) links fields waiting = record {
+  field = 0;
+  rest = fields;
+  met = λ header e. absurd (cc);
+  free = inl refl;
+  others = all_behind image base held followed depth links fields waiting;
+  waiting = waiting;
+}
+turn_of image base held followed depth (name, Header header) links [] waiting = absurd waiting
+turn_of image base held followed depth (name, Header header) links (f ∷ fields) waiting = record {
+  field = f;
+  rest = fields;
+  met = λ h e. subst (λ (k : ℕ). IsMet image held followed (named f ObjectHeader k (depth + 1))) (same_header header h e) waiting.0;
+  free = inr waiting.1;
+  others = waiting.2;
+  waiting = waiting.3;
+}
 
-no_header : (at : ℕ) (ys : List Named) → AllByRecursion (λ (y : Named). is_header y.role ≡ false) ys → AllByRecursion (λ (y : Named). y.at ≡ at → is_header y.role ≡ false) ys
-no_header at [] all = tt
-no_header at (y ∷ ys) all = ((λ e. all.0), no_header at ys all.1)
+in_get : (links : List LinkRef) (k : ℕ) (d : LinkRef) → k < length links → In (get_or links k d) links
+in_get [] k d low = absurd (omega (arith, low))
+in_get (x ∷ links) zero d low = inl refl
+in_get (x ∷ links) (suc k) d low = inr (in_get links k d (omega (arith, low)))
 
-module _ (image : List ℕ) (held : List Block) (is : IsSuperblock image) (walked : IsWalked image held []) (m : Listed) (at : m.header ≡ root_header image)
-    (has : HasMessages image (root_header image) (messages_in image m.list) m.blocks) (inside : Inside (length image) m.blocks)
-    (now : List Block) (claimed : (p : ℕ) → cover p now ≡ cover p held + cover p m.blocks) (separate : Separate now)
-    (table : SymbolTable) (list : IsGroupList (messages_in image m.list) table) where
-  abbrev ms : List Message
-  ms = messages_in image m.list
+-- the walk has come to it
+ready_of : (image : List ℕ) (base held : List Block) (followed : List Named) (depth : ℕ) (link : List ℕ × Target) (links : List (List ℕ × Target))
+    → (turn : HasTurn image base held followed depth link links) → (objects : List OpenedObject) → IsUnder image held followed objects → (o : OpenedObject) → Contains objects o
+    → Contains (links_of image o.content) link → IsLinkReady image held followed objects turn.field depth link
+ready_of image base held followed depth (name, Text text) links turn objects under o among at = under
+ready_of image base held followed depth (name, Header header) links turn objects under o among at =
+    record { under = under; met = turn.met header refl; parent = inr (o, among, (name, at)) }
 
-  abbrev root : ℕ
-  root = root_header image
+-- ---- from the outer claims
 
-  met : IsHeaderMet image held [] 64 root 0
-  met = root_met image held is walked
+own_outer : (base held : List Block) (outer field : ℕ) → ((p : ℕ) → cover p base ≤ cover p held) → (field ≡ 0) ⊎ (cover (field - 8) base ≡ 0)
+    → (y : Named) → 8 ≤ y.field → IsOwn held field y → IsOwn base outer y
+own_outer base held outer field grown (inl zero_is) y behind (inl e) = absurd (omega (arith, zero_is, e, behind))
+own_outer base held outer field grown (inr none) y behind (inl e) = inr (subst (λ (f : ℕ). cover (f - 8) base ≡ 0) (sym e) none)
+own_outer base held outer field grown free y behind (inr none) = inr (omega (arith, none, grown (y.field - 8)))
 
-  found : (x : Message) × (find (λ (y : Message). y.kind == 17) ms ≡ Some x) × (symbol_table_of x.body ≡ Some table)
-  found = found_table ms table list.chosen
+all_outer : (image : List ℕ) (base held now : List Block) (outer field : ℕ) → ((p : ℕ) → cover p base ≤ cover p held) → (field ≡ 0) ⊎ (cover (field - 8) base ≡ 0)
+    → (new : List Named) → AllByRecursion (IsFollowed image now) new → AllByRecursion (IsOwn held field) new → AllByRecursion (IsOwn base outer) new
+all_outer image base held now outer field grown free [] all own = tt
+all_outer image base held now outer field grown free (y ∷ new) all own =
+    (own_outer base held outer field grown free y (all.0).behind own.0, all_outer image base held now outer field grown free new all.1 own.1)
 
-  -- its group is met
-  pub group_met : (first : ℕ) × (second : ℕ) × IsGroupMet image now (with_header 64 root 0 ms []) first second 0 table
-  group_met = (
-    found.0.at,
-    found.0.at + 8,
-    record {
-      walked = table_walked image root ms m.blocks has inside held [] 64 0 met now claimed separate table found.0 found.1 found.2;
-      tree = tree_met image root ms m.blocks has inside held [] 64 0 met now claimed separate table found.0 found.1 found.2;
-      heap = heap_met image root ms m.blocks has inside held [] 64 0 met now claimed separate table found.0 found.1 found.2;
-      apart = λ e. omega (arith, e);
-    },
-  )
+-- ---- one link more
 
-  -- the link of the group
-  pub link_ready : (after : List Block) (link : Option GroupLink) → IsGroupRead image after (with_header 64 root 0 ms []) 0 table link → IfSome link (IsLinkReady image after m.header)
-  link_ready after None read = tt
-  link_ready after (Some l) read =
-      let here : IsLinkMet image after (read.new ++ with_header 64 root 0 ms []) 0 table l.node l.header = read.met in
-      let all = (here.met).fresh in
-      let own = all_right (λ (z : Named). z.field ≢ here.field) read.new (with_header 64 root 0 ms []) all in
-      record {
-        followed = read.new ++ with_header 64 root 0 ms [];
-        field = here.field;
-        depth = 1;
-        entry = λ apart. record {
-          met = record {
-            walked = read.walked;
-            met = here.met;
-            alone = all_append (λ (y : Named). y.at ≡ l.header → is_header y.role ≡ false) read.new (with_header 64 root 0 ms []) (no_header l.header read.new read.inner) (
-              (λ e. absurd (apart (at ∙ e))),
-              no_header l.header (continuation_fields root 0 ms ++ [])
-                  (all_append (λ (y : Named). is_header y.role ≡ false) (continuation_fields root 0 ms) [] (inner_fields root 0 ms) tt),
-            );
-          };
-          tree = table.tree;
-          heap = table.heap;
-          from = here.above;
-          above = 0;
-          reached = here.reached;
-          filled = here.some;
-          leads = here.leads;
-        };
-        other = λ e. own.0 (sym e);
-        reached = (here.met).reached;
-        group = subst (IsOfGroupAt image) (sym at) (group_at image root ms m.blocks has list.kinds);
-        there = subst (λ (h : ℕ). h + 16 ≤ length image) (sym at) (prefix_there image root ms m.blocks has inside);
-      }
+module _ (image : List ℕ) (base held : List Block) (followed : List Named) (objects objects' : List OpenedObject) (outer header depth : ℕ) (links : List LinkRef) (k : ℕ)
+    (under : IsUnder image base followed objects) (part : IsPartly image base held followed objects objects' outer header depth links k) (d : LinkRef) (low : k < length links) where
+  abbrev link : List ℕ × Target
+  link = link_from (get_or links k d)
 
--- ---- the whole
+  abbrev later : List (List ℕ × Target)
+  later = map link_from (drop (k + 1) links)
 
-module _ (image : List ℕ) (superblock : IsSuperblock image) (whole : end_of_file image ≡ length image) (begun : List Block) (walked : IsWalked image begun []) where
-  start : (p : ℕ) → cover p begun ≡ cover p (block 0 (superblock_length image) ∷ [])
-  start p = walked.covered p
+  next : drop k links ≡ get_or links k d ∷ drop (k + 1) links
+  next = drop-cons links k d low ∙ ap (λ (n : ℕ). get_or links k d ∷ drop n links) (sym (add-one k))
 
-  pub read_alone : (held : List Block) (root : Listed) → IsRootOpened image begun held root None → reference_count (prefix_at image root.header) ≡ 1 → Separate held
-      → Reads image (table_of root None) (tree_of image root None)
-  read_alone held root opened counted separate =
-      reads_alone image superblock whole root opened.table opened.blocks opened.read counted held separate
-      (λ p. omega (arith, opened.claimed p, start p, cover-append p root.blocks opened.blocks))
+  pub turn : HasTurn image base held (part.new ++ followed) depth link later
+  turn = turn_of image base held (part.new ++ followed) depth link later part.fields
+      (subst (λ (ls : List LinkRef). AreWaiting image base held (part.new ++ followed) depth (map link_from ls) part.fields) next part.waiting)
 
-  pub read_with : (held now : List Block) (root : Listed) (l : GroupLink) (made : Linked) → IsRootOpened image begun held root (Some l) → reference_count (prefix_at image root.header) ≡ 1
-      → root.header ≢ l.header → IsLinkedRead image held now l made → reference_count (prefix_at image made.array.header) ≡ 1 → Separate now
-      → Reads image (table_of root (Some made)) (tree_of image root (Some made))
-  read_with held now root l made opened counted apart (read, name) once separate =
-      subst (λ (n : List ℕ). Reads image (table_of root (Some made)) (pair_tree (object_with (Group (link_to_one n)) (messages_in image root.list)) (array_in image made))) (sym name)
-      (reads_linked image superblock whole root opened.table opened.blocks l.name.items l.header opened.read counted apart held now made.array made.line read once separate
-      (λ p. omega (arith, opened.claimed p, start p, cover-append p root.blocks opened.blocks)))
+  pub link_ready : IsLinkReady image held (part.new ++ followed) objects' turn.field depth link
+  link_ready = ready_of image base held (part.new ++ followed) depth link later turn objects' part.under part.object there at where
+    there : Contains objects' part.object
+    there = subst (λ (xs : List OpenedObject). Contains xs part.object) (sym part.grown)
+        (contains_in part.object ((objects ++ part.object ∷ []) ++ part.others)
+        (in_left part.object (objects ++ part.object ∷ []) part.others (in_right part.object objects (part.object ∷ []) (inl refl))))
+
+    at : Contains (links_of image part.object.content) link
+    at = subst (λ (ls : List (List ℕ × Target)). Contains ls link) (sym part.links_are)
+        (contains_in link (map link_from links) (in_map link_from (get_or links k d) links (in_get links k d low)))
+
+  grown : (p : ℕ) → cover p base ≤ cover p held
+  grown = cover_grows image base held objects (part.object ∷ part.others) objects' (part.grown ∙ append_assoc objects (part.object ∷ []) part.others) under.covered (part.under).covered
+
+  module _ (now : List Block) (after : List OpenedObject) (got : IsLinkRead image held now (part.new ++ followed) objects' after turn.field depth link) where
+    abbrev far : IsFurther image held now (part.new ++ followed) turn.field objects' after got.more
+    far = got.further
+
+    seam : (far.new ++ part.new) ++ followed ≡ far.new ++ (part.new ++ followed)
+    seam = append_assoc far.new part.new followed
+
+    more_claimed : (p : ℕ) → cover p held ≤ cover p now
+    more_claimed = cover_grows image held now objects' got.more after far.grown (part.under).covered (far.under).covered
+
+    over : (P : List OpenedObject → Type 0) → P (objects' ++ got.more) → P after
+    over P at = subst P (sym far.grown) at
+
+    pub step : IsPartly image base now followed objects after outer header depth links (k + 1)
+    step = record {
+      object = part.object;
+      others = part.others ++ got.more;
+      header_is = part.header_is;
+      depth_is = part.depth_is;
+      top = part.top;
+      links_are = part.links_are;
+      grown = far.grown ∙ ap (λ (xs : List OpenedObject). xs ++ got.more) part.grown ∙ append_assoc (objects ++ part.object ∷ []) part.others got.more;
+      new = far.new ++ part.new;
+      under = subst (λ (ys : List Named). IsUnder image now ys after) (sym seam) far.under;
+      stands = all_append (IsOwn base outer) far.new part.new
+          (all_outer image base held now outer turn.field grown turn.free far.new (all_left (IsFollowed image now) far.new (part.new ++ followed) ((far.under).walked).all) far.stands) part.stands;
+      led = all_append (AreLed image after) part.others got.more (over (λ (xs : List OpenedObject). AllByRecursion (AreLed image xs) part.others) (objects_led_grow image objects' got.more part.others part.led)) far.led;
+      passed = subst (λ (ls : List (List ℕ × Target)). AllByRecursion (IsLed after depth) ls) (sym (ap (map link_from) (take_more links k d low) ∙ map-append link_from (take k links) (get_or links k d ∷ [])))
+          (all_append (IsLed after depth) (map link_from (take k links)) (link ∷ []) (over (λ (xs : List OpenedObject). AllByRecursion (IsLed xs depth) (map link_from (take k links))) (all_led_grow objects' got.more depth (map link_from (take k links)) part.passed)) (got.led, tt));
+      fields = turn.rest;
+      waiting = subst (λ (ys : List Named). AreWaiting image base now ys depth later turn.rest) (sym seam)
+          (still_waiting image base held now more_claimed (part.new ++ followed) far.new turn.field depth far.stands later turn.rest turn.others turn.waiting);
+    }
+
+-- ---- the first and the last
+
+module _ (image : List ℕ) (held now : List Block) (followed : List Named) (objects : List OpenedObject) (field header depth : ℕ) (ready : IsReady image held followed objects field header depth)
+    (new : Contains (headers objects) header → ⊥) (o : OpenedObject) (read : IsObjectRead image held now header depth o) (separate : Separate now)
+    (gone : IsObjectFollowed image held now followed field o) (links : List LinkRef) (links_are : map link_from links ≡ links_of image o.content) where
+  pub begun : (after : List OpenedObject) → after ≡ objects ++ o ∷ [] → IsPartly image held now followed objects after field header depth links 0
+  begun after is = record {
+    object = o;
+    others = [];
+    header_is = read.header_is;
+    depth_is = read.depth_is;
+    top = read.top;
+    links_are = sym links_are;
+    grown = is ∙ sym (append-nil (objects ++ o ∷ []));
+    new = gone.new;
+    under = subst (IsUnder image now (gone.new ++ followed)) (sym is) (object_under image held now followed objects field header depth ready new o read separate gone);
+    stands = gone.stands;
+    led = tt;
+    passed = tt;
+    fields = gone.fields;
+    waiting = subst (λ (ls : List (List ℕ × Target)). AreWaiting image held now (gone.new ++ followed) depth ls gone.fields) (sym links_are)
+        (subst (λ (n : ℕ). AreWaiting image held now (gone.new ++ followed) n (links_of image o.content) gone.fields) read.depth_is gone.waiting);
+  }
+
+pub finished : (image : List ℕ) (held now : List Block) (followed : List Named) (objects after : List OpenedObject) (field header depth : ℕ) (links : List LinkRef)
+    → IsPartly image held now followed objects after field header depth links (length links) → IsTreeRead image held now followed objects after field header depth
+finished image held now followed objects after field header depth links part = record {
+  object = part.object;
+  others = part.others;
+  header_is = part.header_is;
+  depth_is = part.depth_is;
+  top = part.top;
+  further = record {
+    grown = part.grown ∙ append_assoc objects (part.object ∷ []) part.others;
+    new = part.new;
+    under = part.under;
+    stands = part.stands;
+    led = (
+      subst (λ (n : ℕ). AllByRecursion (IsLed after n) (links_of image part.object.content)) (sym part.depth_is)
+          (subst (AllByRecursion (IsLed after depth)) (ap (map link_from) (take-length links) ∙ sym part.links_are) part.passed),
+      part.led,
+    );
+  };
+}

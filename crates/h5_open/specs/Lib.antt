@@ -1,7 +1,2 @@
-pub mod Opened
-pub mod State
-pub mod Judged
-pub mod Array
-pub mod Kept
-pub mod Root
+pub mod Read
 pub mod Walk

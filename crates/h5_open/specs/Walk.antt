@@ -1,46 +1,93 @@
--- The walk of opening, step by step: the root with its group, and the link's array (File Format Specification 3.0, sections II.A, III
--- and IV.A).
-use Rattle.std.specs.Prelude.{◌≡◌, ◌≢◌, ℕ, ◌+◌, ◌≤◌, Option, List, length}
-use Rattle.h5_bytes.specs.Blocks.{cover}
+-- How far the walk of opening has come (File Format Specification 3.0, section IV.A).
+use Rattle.std.specs.Prelude.{◌≡◌, ℕ, ◌+◌, ◌^◌, ◌<◌, ◌⊎◌, true, List, [], ◌∷◌, ◌++◌, length, map, take, drop}
+use Rattle.std.specs.List.{AllByRecursion, Contains, IsDistinct, flat_map}
+use Rattle.std.specs.Ordering.{nat_cmp, eq_by_cmp}
+use Rattle.std.specs.BTreeMap.{BTreeMap}
+use Rattle.h5_bytes.specs.Blocks.{cover, Separate, Inside}
 use Rattle.h5_bytes.specs.declared.Block.{Block}
-use Rattle.h5_model.specs.Addresses.{SymbolTable}
-use Rattle.h5_model.specs.Messages.{prefix_at, reference_count}
-use Rattle.h5_model.specs.Reached.{Named, named, ObjectHeader, Reached}
-use Rattle.h5_model.specs.declared.open_fault.Cause.{Cause}
-use Rattle.h5_model.specs.declared.open_fault.Cause.TheVariants.{LinkCount}
-use Rattle.h5_header.specs.Listed.{Listed}
-use Rattle.h5_group.specs.declared.read.GroupLink.{GroupLink}
-use Rattle.h5_group.specs.Links.{HasOnly, links_with}
-use Rattle.h5_walk.specs.NotYet.{IsOfGroupAt}
-use Rattle.h5_open.specs.declared.opened.Linked.{Linked}
-use Rattle.h5_open.specs.Array.{IsEntryMet, IsLineRead}
-use Rattle.h5_open.specs.Root.{IsRootRead}
+use Rattle.h5_model.specs.Reached.{Named, named, ObjectHeader}
+use Rattle.h5_model.specs.Symbols.{Target, Header, Text}
+use Rattle.h5_model.specs.Faults.{is_header}
+use Rattle.h5_group.specs.Links.{link_from}
+use Rattle.h5_group.specs.declared.link.LinkRef.{LinkRef}
+use Rattle.h5_walk.specs.Walked.{IsWalked}
+use Rattle.h5_walk.specs.Met.{IsMet}
+use Rattle.h5_tree.specs.declared.object.OpenedObject.{OpenedObject}
+use Rattle.h5_tree.specs.Kept.{IsObjectKept, IsIndex}
+use Rattle.h5_tree.specs.Objects.{headers, links_of, object_blocks}
+use Rattle.h5_whole.specs.Whole.{IsGroupContent, IsLed, AreLed, HasParent, AreNamed, opened_blocks}
+use Rattle.h5_open.specs.Read.{IsOwn, AreWaiting}
 
--- the root has been read with its group, whose blocks are claimed
-pub record IsRootOpened (image : List ℕ) (held now : List Block) (root : Listed) (link : Option GroupLink) : Type 0 where
-  pub table : SymbolTable
-  pub blocks : List Block
-  pub read : IsRootRead image root table (links_with link) blocks
-  pub only : HasOnly image table link
-  pub claimed : (p : ℕ) → cover p now ≡ cover p held + (cover p root.blocks + cover p blocks)
+-- Each object has its number. No two have one header, and headers lie below 2 GiB, so numbers fit.
+pub record IsNumbered (objects : List OpenedObject) (numbers : BTreeMap ℕ ℕ) : Type 0 where
+  pub index : IsIndex objects numbers
+  pub distinct : IsDistinct (eq_by_cmp nat_cmp) (headers objects)
+  pub low : AllByRecursion (λ h. h < 2 ^ 31) (headers objects)
 
--- The link's field is met: it is another than the root's, and where it leads elsewhere no field that was followed names that header.
--- The root's header is a group's.
-pub record IsLinkReady (image : List ℕ) (held : List Block) (root : ℕ) (l : GroupLink) : Type 0 where
-  pub followed : List Named
-  pub field : ℕ
-  pub depth : ℕ
-  pub entry : root ≢ l.header → IsEntryMet image held followed field l.header depth l.node
-  pub other : field ≢ 64
-  pub reached : Reached image (named field ObjectHeader l.header depth)
-  pub group : IsOfGroupAt image root
-  pub there : root + 16 ≤ length image
+-- a field that was followed names the header of this object
+abbrev pub IsNamedBy : List Named → OpenedObject → Type 0
+IsNamedBy followed o = (y : Named) × Contains followed y × (y.at ≡ o.messages.header) × (is_header y.role ≡ true)
 
--- the link's array has been read
-abbrev pub IsLinkedRead : List ℕ → List Block → List Block → GroupLink → Linked → Type 0
-IsLinkedRead image held now l made = IsLineRead image l.header held now made.array made.line × (made.name.items ≡ l.name.items)
+-- The walk has read these objects, and claimed their blocks and the superblock. Each followed field that names a header names that of
+-- one of them.
+pub record IsUnder (image : List ℕ) (held : List Block) (followed : List Named) (objects : List OpenedObject) : Type 0 where
+  pub walked : IsWalked image held followed
+  pub separate : Separate held
+  pub covered : (p : ℕ) → cover p held ≡ cover p (opened_blocks image objects)
+  pub within : Inside (length image) (flat_map (object_blocks image) objects)
+  pub each : AllByRecursion (IsObjectKept image) objects
+  pub distinct : IsDistinct (eq_by_cmp nat_cmp) (headers objects)
+  pub parents : AreNamed image [] objects
+  pub known : AllByRecursion (λ (y : Named). is_header y.role ≡ true → Contains (headers objects) y.at) followed
+  pub named : AllByRecursion (IsNamedBy followed) objects
 
--- the reference count of a header to which one link leads is another than 1
-abbrev pub IsMiscounted : List ℕ → ℕ → Cause → Type 0
-IsMiscounted image header LinkCount = reference_count (prefix_at image header) ≢ 1
-IsMiscounted image header _ = ⊥
+-- The walk has come to a field that names a header; it is the root's, or that of a link of an object that was read.
+pub record IsReady (image : List ℕ) (held : List Block) (followed : List Named) (objects : List OpenedObject) (field header depth : ℕ) : Type 0 where
+  pub under : IsUnder image held followed objects
+  pub met : IsMet image held followed (named field ObjectHeader header depth)
+  pub parent : (objects ≡ []) ⊎ HasParent image objects header
+
+-- More objects were read, all of whose links lead to objects.
+pub record IsFurther (image : List ℕ) (held now : List Block) (followed : List Named) (field : ℕ) (objects objects' more : List OpenedObject) : Type 0 where
+  pub grown : objects' ≡ objects ++ more
+  pub new : List Named
+  pub under : IsUnder image now (new ++ followed) objects'
+  pub stands : AllByRecursion (IsOwn held field) new
+  pub led : AllByRecursion (AreLed image objects') more
+
+-- The object at a header was read, and all objects below it.
+pub record IsTreeRead (image : List ℕ) (held now : List Block) (followed : List Named) (objects objects' : List OpenedObject) (field header depth : ℕ) : Type 0 where
+  pub object : OpenedObject
+  pub others : List OpenedObject
+  pub header_is : object.messages.header ≡ header
+  pub depth_is : object.depth ≡ depth
+  pub top : depth ≡ 0 → IsGroupContent object.content
+  pub further : IsFurther image held now followed field objects objects' (object ∷ others)
+
+-- the walk has come to a link of an object so many links below the root
+abbrev pub IsLinkReady : List ℕ → List Block → List Named → List OpenedObject → ℕ → ℕ → (List ℕ × Target) → Type 0
+IsLinkReady image held followed objects field depth (name, Header header) = IsReady image held followed objects field header (depth + 1)
+IsLinkReady image held followed objects field depth (name, Text text) = IsUnder image held followed objects
+
+-- the link leads to an object, and all objects below it were read
+pub record IsLinkRead (image : List ℕ) (held now : List Block) (followed : List Named) (objects objects' : List OpenedObject) (field depth : ℕ) (link : List ℕ × Target) : Type 0 where
+  pub more : List OpenedObject
+  pub further : IsFurther image held now followed field objects objects' more
+  pub led : IsLed objects' depth link
+
+-- Of the links of an object that was read, so many were followed; the others wait.
+pub record IsPartly (image : List ℕ) (held now : List Block) (followed : List Named) (objects objects' : List OpenedObject) (field header depth : ℕ) (links : List LinkRef) (k : ℕ) : Type 0 where
+  pub object : OpenedObject
+  pub others : List OpenedObject
+  pub header_is : object.messages.header ≡ header
+  pub depth_is : object.depth ≡ depth
+  pub top : depth ≡ 0 → IsGroupContent object.content
+  pub links_are : links_of image object.content ≡ map link_from links
+  pub grown : objects' ≡ (objects ++ object ∷ []) ++ others
+  pub new : List Named
+  pub under : IsUnder image now (new ++ followed) objects'
+  pub stands : AllByRecursion (IsOwn held field) new
+  pub led : AllByRecursion (AreLed image objects') others
+  pub passed : AllByRecursion (IsLed objects' depth) (map link_from (take k links))
+  pub fields : List ℕ
+  pub waiting : AreWaiting image held now (new ++ followed) depth (map link_from (drop k links)) fields

@@ -5,4 +5,5 @@ pub mod LineRuns
 pub mod PieceLaws
 pub mod ScriptRuns
 pub mod Listings
+pub mod Dumps
 pub mod LineAnswers

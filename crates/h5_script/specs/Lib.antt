@@ -1,3 +1,4 @@
+pub mod Listing
 pub mod Taken
 pub mod Answered
 pub mod Runs

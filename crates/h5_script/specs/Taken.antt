@@ -7,7 +7,7 @@ use Rattle.h5_model.specs.Script.{Answer, Given, Refused, answered, answer_of}
 use Rattle.h5_model.specs.States.{new_session}
 use Rattle.h5_model.specs.declared.edits.Edit.TheVariants.{CreateDataset, SetAttr, RemoveAttr}
 use Rattle.h5_model.specs.declared.edit_fault.EditFault.TheVariants as fault
-use Rattle.h5_open.specs.State.{FileState}
+use Rattle.h5_tree.specs.State.{FileState}
 use Rattle.h5_edit.specs.Carried.{is_carried, IsGivenFor}
 
 -- the commands so far: `dataset`, `attr`, `unattr`, `ls` and `dump`; a line that asks for anything else is a bad line

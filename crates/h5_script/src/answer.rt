@@ -33,7 +33,7 @@ pub(crate) fn answer(
     text.clear();
     match command {
         Command::Change(edit) => answer_edit(file, edit, text),
-        Command::ListAll => list(file, text),
+        Command::ListAll => list(alloc, file, text),
         Command::Dump { path } => dump(alloc, file, path.as_slice(), text),
         _ => bad_line(text),
     }
@@ -88,12 +88,12 @@ fn carry_out(file: &mut File, edit: &Edit, text: &mut Vec<u8>) -> Result<Outcome
 }
 
 /// Lists the file.
-fn list(file: &File, text: &mut Vec<u8>) -> Result<Outcome, AllocError>
+fn list(alloc: Global, file: &File, text: &mut Vec<u8>) -> Result<Outcome, AllocError>
     requires { text.old.items ≡ [] }
     ensures { MatchResult result (IsAnswered file.now lines.ListAll file.now text.new.items)
         (λ _. IsUntold file.now lines.ListAll file.now) }
 {
-    if push_list(text, file).is_err() {
+    if push_list(alloc, text, file).is_err() {
         return no_memory(text);
     }
     Ok(Outcome::Told)

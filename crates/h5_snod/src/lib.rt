@@ -13,5 +13,5 @@ mod write;
 
 pub use entry::{SymbolEntry, SymbolTarget};
 pub use node::SymbolNode;
-pub use read::{NodeFault, read_symbol_node};
+pub use read::{NodeFault, known_symbol_node, read_symbol_node};
 pub use write::{NewSymbol, NewTarget, write_symbol_node};

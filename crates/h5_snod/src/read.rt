@@ -43,6 +43,18 @@ pub fn read_symbol_node(leaf: u16, bytes: &[u8]) -> Result<SymbolNode<'_>, NodeF
     Ok(SymbolNode::new(bytes))
 }
 
+/// The symbol node that these bytes are, which have the form of one with room for 2 `leaf` entries: nothing is looked at. Takes no
+/// memory.
+pub fn known_symbol_node(leaf: u16, bytes: &[u8]) -> SymbolNode<'_>
+    requires long { length bytes.now ≡ 8 + 80 * leaf }
+    requires form { IsSymbolNode leaf bytes.now }
+    ensures { result ≡ entries_of bytes.now }
+{
+    // K counts in the contract alone: the bytes say how many entries there are.
+    let _leaf = leaf;
+    SymbolNode::new(bytes)
+}
+
 /// Whether the bytes begin with the signature.
 fn is_signed(bytes: &[u8]) -> bool
     requires { 4 ≤ length bytes.now }

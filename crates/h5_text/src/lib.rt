@@ -7,6 +7,7 @@ mod texts;
 
 pub use crate::listing::{
     ArrayText, PathText, push_array_line, push_attribute_head, push_dump_line, push_group_line,
+    push_soft_line,
 };
 pub use crate::rows::{Rows, push_rows};
 pub use crate::texts::{

@@ -1,6 +1,6 @@
 //! The lines that `ls` and `dump` write of an object. As with other texts, a buffer that is refused memory keeps what it held.
-ghost use Rattle.std.specs.Prelude.{codes};
-ghost use Rattle.h5_model.specs.Text.{content_text, dataset_text, line_of};
+ghost use Rattle.std.specs.Prelude.{◌++◌, codes};
+ghost use Rattle.h5_model.specs.Text.{content_text, dataset_text, escaped, line_of};
 ghost use Rattle.h5_model.specs.Tree.{Array};
 ghost use Rattle.h5_text.specs.Appends.{Appends};
 ghost use Rattle.h5_text.specs.Listing.{attribute_head, dump_line, path_text, told_dataset};
@@ -55,6 +55,16 @@ pub fn push_group_line(out: &mut Vec<u8>, path: PathText<'_>) -> Result<(), Allo
 {
     path.push_to(out)?;
     push_text(out, b" group\n")
+}
+
+/// Appends the line of a soft link, which has this text of any bytes.
+pub fn push_soft_line(out: &mut Vec<u8>, path: PathText<'_>, text: &[u8]) -> Result<(), AllocError>
+    ensures { Appends result out.old.items out.new.items (line_of (path_text path.entry) (codes "soft " ++ escaped text.now)) }
+{
+    path.push_to(out)?;
+    push_text(out, b" soft ")?;
+    push_escaped(out, text)?;
+    push_text(out, b"\n")
 }
 
 /// Appends what a line has behind a dataset's path: that it is one, its type and its sizes.

@@ -5,9 +5,9 @@ use Rattle.h5_bytes.specs.Blocks.{Inside}
 use Rattle.h5_bytes.specs.declared.Block.{Block}
 use Rattle.h5_model.specs.Messages.{Message}
 use Rattle.h5_layout.specs.Described.{HasArray}
-use Rattle.h5_open.specs.Opened.{described}
-use Rattle.h5_open.specs.Array.{data_blocks}
-use Rattle.h5_open.specs.declared.line.Line.{Line}
+use Rattle.h5_tree.specs.SmallTree.{described}
+use Rattle.h5_tree.specs.Array.{data_blocks}
+use Rattle.h5_tree.specs.declared.line.Line.{Line}
 use Rattle.h5_anew.proofs.AnewCells.{block_room, block_inside, cells_stored}
 use Rattle.h5_anew.proofs.array.cells_of.Goals as goal
 

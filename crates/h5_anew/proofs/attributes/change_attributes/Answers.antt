@@ -1,6 +1,6 @@
 use Rattle.std.proofs.Common.{Some, None}
 use Rattle.std.proofs.lemmas.Result.{IfOk-weaker}
-use Rattle.h5_open.specs.Opened.{tree_of}
+use Rattle.h5_tree.specs.SmallTree.{tree_of}
 use Rattle.h5_anew.specs.Change.{tree_changed}
 use Rattle.h5_anew.proofs.AnewChanged.{plain_as_read, plain_root, plain_array, root_tree, array_tree, anew, if_err_weaker, not_anew}
 use Rattle.h5_anew.proofs.attributes.change_attributes.Goals as goal

@@ -2,7 +2,7 @@ use Rattle.std.proofs.lemmas.Result.{err_from_is_err_and}
 use Rattle.h5_model.specs.declared.edits.Edit.TheVariants.{RemoveAttr}
 use Rattle.h5_header.specs.Listed.{messages_in}
 use Rattle.h5_attr.specs.Attributes.{attributes_of}
-use Rattle.h5_open.specs.State.{opened_state}
+use Rattle.h5_tree.specs.State.{small_state}
 use Rattle.h5_edit.specs.Carried.{IsRefusedBy}
 use Rattle.h5_edit.specs.Rules.{listed_at}
 use Rattle.h5_edit.proofs.Objects.{kept_there}
@@ -13,7 +13,7 @@ pub returns-in_err-target : goal.returns-in_err-target
 returns-in_err-target c =
     let image = c.args.image.now.bytes in
     let p = err_from_is_err_and c.from_residual.result c.from_residual.ensures.1 in
-    let refused : IsRefusedBy (opened_state image c.args.opened.now.root c.args.opened.now.link) (RemoveAttr c.args.path.now c.args.name.now) c.in_err-target.field-0.0
+    let refused : IsRefusedBy (small_state image c.args.opened.now.root c.args.opened.now.link) (RemoveAttr c.args.path.now c.args.name.now) c.in_err-target.field-0.0
     = remove_refused_path image c.args.opened.now.root c.args.opened.now.link c.args.path.now c.args.name.now c.in_err-target.field-0.0 (c.in_err-target.ensures image) in
     rw (p.1, p.2) refused
 

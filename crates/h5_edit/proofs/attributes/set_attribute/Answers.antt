@@ -1,7 +1,7 @@
 use Rattle.std.proofs.Common.{arith}
 use Rattle.std.proofs.lemmas.Result.{err_from_is_err_and}
 use Rattle.h5_model.specs.declared.edits.Edit.TheVariants.{SetAttr}
-use Rattle.h5_open.specs.State.{opened_state}
+use Rattle.h5_tree.specs.State.{small_state}
 use Rattle.h5_edit.specs.Carried.{IsRefusedBy}
 use Rattle.h5_edit.proofs.AttributeLaws.{set_refused_path, set_refused_own, set_refused_header, set_refused_write, set_made}
 use Rattle.h5_edit.proofs.ValueLaws.{plain_of_rules}
@@ -11,7 +11,7 @@ pub returns-in_err-target : goal.returns-in_err-target
 returns-in_err-target c =
     let image = c.args.image.now.bytes in
     let p = err_from_is_err_and c.from_residual.result c.from_residual.ensures.1 in
-    let refused : IsRefusedBy (opened_state image c.args.opened.now.root c.args.opened.now.link) (SetAttr c.args.path.now c.args.attr.now) c.in_err-target.field-0.0
+    let refused : IsRefusedBy (small_state image c.args.opened.now.root c.args.opened.now.link) (SetAttr c.args.path.now c.args.attr.now) c.in_err-target.field-0.0
     = set_refused_path image c.args.opened.now.root c.args.opened.now.link c.args.path.now c.args.attr.now c.in_err-target.field-0.0 (c.in_err-target.ensures image) in
     rw (p.1, p.2) refused
 
@@ -19,7 +19,7 @@ pub returns-in_err-check_attribute : goal.returns-in_err-check_attribute
 returns-in_err-check_attribute c =
     let image = c.args.image.now.bytes in
     let p = err_from_is_err_and c.from_residual-in_err-check_attribute.result c.from_residual-in_err-check_attribute.ensures.1 in
-    let refused : IsRefusedBy (opened_state image c.args.opened.now.root c.args.opened.now.link) (SetAttr c.args.path.now c.args.attr.now) c.in_err-check_attribute.field-0.0
+    let refused : IsRefusedBy (small_state image c.args.opened.now.root c.args.opened.now.link) (SetAttr c.args.path.now c.args.attr.now) c.in_err-check_attribute.field-0.0
     = set_refused_own image c.args.opened.now.root c.args.opened.now.link c.args.path.now c.in_ok-target.target (c.in_ok-target.ensures image).0 c.args.attr.now
     c.in_err-check_attribute.field-0.0 c.in_err-check_attribute.ensures.refused in
     rw (p.1, p.2) refused

@@ -4,7 +4,7 @@ use Rattle.h5_bytes.specs.Blocks.{Inside}
 use Rattle.h5_bytes.specs.declared.Block.{Block}
 use Rattle.h5_model.specs.Layout.{InBlock}
 use Rattle.h5_layout.specs.Stored.{has_room}
-use Rattle.h5_open.specs.Array.{data_blocks}
+use Rattle.h5_tree.specs.Array.{data_blocks}
 use Rattle.h5_look.proofs.CellLaws.{filled_cells, are_stored}
 use Rattle.h5_look.proofs.cells.stored.Goals as goal
 

@@ -1,13 +1,20 @@
-use Rattle.h5_look.proofs.Calls.{root_names, array_no_group}
+use Rattle.h5_look.proofs.Calls.{array_no_list, group_names}
+use Rattle.h5_look.proofs.Indexed.{group_read}
 use Rattle.h5_look.proofs.links.names_at.Goals as goal
 
-pub returns-in-Array : goal.returns-in-Array
-returns-in-Array c =
-    let image = c.args.image.now.bytes in
-    let place = rw c.in-Array.is at c.in_ok-look.ensures image in
-    array_no_group image c.args.opened.now.root c.args.opened.now.link c.args.path.now c.in-Array.field-0.now place.0 place.1
+pub returns-in_default-content : goal.returns-in_default-content
+returns-in_default-content c =
+    let place = rw c.in-Object.is at c.in_ok-object.ensures in
+    array_no_list c.args.image.now.bytes c.args.opened.now.objects.items c.args.opened.now.numbers c.requires c.in-Object.number c.in-Object.object.now place.1 c.args.path.now place.0
+    c.in_default-content.field-0 c.in_default-content.is
+
+pub link_names-requires : goal.link_names-requires
+link_names-requires c =
+    let place = rw c.in-Object.is at c.in_ok-object.ensures in
+    group_read c.args.image.now.bytes c.args.opened.now.objects.items c.args.opened.now.numbers c.requires c.in-Object.number c.in-Object.object.now place.1 c.in-Group.group c.in-Group.is
 
 pub returns-in-Ok : goal.returns-in-Ok
 returns-in-Ok c =
-    let image = c.args.image.now.bytes in
-    root_names image c.args.opened.now.root c.args.opened.now.link c.args.path.now (rw c.in_default.is at c.in_ok-look.ensures image) _ c.in-Ok.ensures
+    let place = rw c.in-Object.is at c.in_ok-object.ensures in
+    group_names c.args.image.now.bytes c.args.opened.now.objects.items c.args.opened.now.numbers c.requires c.in-Object.number c.in-Object.object.now place.1 c.args.path.now place.0
+    c.in-Group.group c.in-Group.is _ c.in-Ok.ensures

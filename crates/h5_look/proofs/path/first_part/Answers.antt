@@ -1,9 +1,5 @@
-use Rattle.std.proofs.Common.{sym, ◌∙◌}
-use Rattle.h5_look.proofs.Parts.{first_of_several, only_part}
+use Rattle.h5_look.proofs.Parts.{first_is}
 use Rattle.h5_look.proofs.path.first_part.Goals as goal
 
-pub returns-in-Some : goal.returns-in-Some
-returns-in-Some c = first_of_several c.args.text.now c.in-Some.end (sym c.slash_at.ensures ∙ c.in-Some.is)
-
-pub returns-in-None : goal.returns-in-None
-returns-in-None c = only_part c.args.text.now (sym c.slash_at.ensures ∙ c.in-None.is)
+pub returns : goal.returns
+returns c = first_is c.args.text.now c.cut.result.0.now c.cut.result.1 c.is_some.result c.cut.ensures c.is_some.ensures

@@ -1,22 +1,36 @@
-use Rattle.std.proofs.Common.{arith}
-use Rattle.h5_look.proofs.Looks.{at_array, at_missing, at_no_parent, at_no_group}
+use Rattle.std.proofs.Common.{[], ◌∷◌, arith}
+use Rattle.h5_tree.specs.Objects.{tree_of}
+use Rattle.h5_look.proofs.Indexed.{root_there}
+use Rattle.h5_look.proofs.PathLaws.{path-long}
+use Rattle.h5_look.proofs.Looks.{followed}
 use Rattle.h5_look.proofs.place.look.Goals as goal
 
-pub returns-in-Some : goal.returns-in-Some
-returns-in-Some c image =
-    (at_array image c.args.opened.now.root c.args.opened.now.link c.args.path.now c.in-One.name.now c.in-Some.linked.now c.in-One.ensures c.in-Some.ensures, (c.in-Some.ensures).0)
+pub object_place-requires : goal.object_place-requires
+object_place-requires c = root_there c.args.image.now.bytes c.args.opened.now.objects.items c.args.opened.now.numbers c.requires
 
-pub returns-in-None : goal.returns-in-None
-returns-in-None c image = at_missing image c.args.opened.now.root c.args.opened.now.link c.args.path.now c.in-One.name.now c.in-One.ensures c.in-None.ensures
+pub slice_bounds-follow-count : goal.slice_bounds-follow-count
+slice_bounds-follow-count c = path-long c.args.path.now (c.in-One.field-0.now ∷ []) c.in-One.ensures
 
-pub returns-in-Some-array_named : goal.returns-in-Some-array_named
-returns-in-Some-array_named c image =
+pub slice_bounds-follow-start : goal.slice_bounds-follow-start
+slice_bounds-follow-start c = path-long c.args.path.now (c.in-One.field-0.now ∷ []) c.in-One.ensures
+
+pub slice_bounds-follow-count-in-Several : goal.slice_bounds-follow-count-in-Several
+slice_bounds-follow-count-in-Several c =
     let several = c.in-Several.ensures in
-    at_no_group image c.args.opened.now.root c.args.opened.now.link c.args.path.now c.in-Several.first.now several.0 several.1 several.2
-    (omega (arith, several.3, c.if-count-gt-MAX_DEPTH.false)) c.in-Some-array_named.field-0.now c.in-Some-array_named.ensures
+    path-long c.args.path.now (c.in-Several.first.now ∷ several.0 ∷ several.1) several.2
 
-pub returns-in-None-array_named : goal.returns-in-None-array_named
-returns-in-None-array_named c image =
+pub slice_bounds-follow-start-in-Several : goal.slice_bounds-follow-start-in-Several
+slice_bounds-follow-start-in-Several c =
     let several = c.in-Several.ensures in
-    at_no_parent image c.args.opened.now.root c.args.opened.now.link c.args.path.now c.in-Several.first.now several.0 several.1 several.2
-    (omega (arith, several.3, c.if-count-gt-MAX_DEPTH.false)) c.in-None-array_named.ensures
+    path-long c.args.path.now (c.in-Several.first.now ∷ several.0 ∷ several.1) several.2
+
+pub returns-in-One : goal.returns-in-One
+returns-in-One c =
+    followed (tree_of c.args.image.now.bytes c.args.opened.now.objects.items) c.args.opened.now.objects.items c.args.path.now c.in-One.field-0.now [] c.in-One.ensures (omega arith)
+    c.follow.result c.follow.ensures
+
+pub returns-else-count-gt-MAX_DEPTH : goal.returns-else-count-gt-MAX_DEPTH
+returns-else-count-gt-MAX_DEPTH c =
+    let several = c.in-Several.ensures in
+    followed (tree_of c.args.image.now.bytes c.args.opened.now.objects.items) c.args.opened.now.objects.items c.args.path.now c.in-Several.first.now (several.0 ∷ several.1) several.2
+    (omega (arith, several.3, c.if-count-gt-MAX_DEPTH.false)) c.follow-in-Several.result c.follow-in-Several.ensures

@@ -5,7 +5,7 @@ use Rattle.h5_model.specs.Script.{stored_values}
 use Rattle.h5_text.specs.Appends.{Appends}
 use Rattle.h5_text.specs.Rows.{cells_from}
 use Rattle.h5_look.specs.Look.{AreCells}
-use Rattle.h5_script.proofs.Listings.{one-row}
+use Rattle.h5_script.proofs.Dumps.{one-row}
 use Rattle.h5_script.proofs.texts.push_cells.Goals as goal
 
 pub returns-in-Some : goal.returns-in-Some

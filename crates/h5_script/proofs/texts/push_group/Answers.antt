@@ -3,7 +3,7 @@ use Rattle.std.specs.List.{flat_map}
 use Rattle.h5_model.specs.Text.{attribute_line, escaped, line_of}
 use Rattle.h5_text.specs.Appends.{Appends}
 use Rattle.h5_text.proofs.Appending.{appends_more}
-use Rattle.h5_script.proofs.Listings.{dump-group}
+use Rattle.h5_script.proofs.Dumps.{dump-group}
 use Rattle.h5_script.proofs.texts.push_group.Goals as goal
 
 pub returns : goal.returns

@@ -1,5 +1,5 @@
 use Rattle.std.proofs.Common.{refl}
-use Rattle.h5_open.specs.Kept.{IsOpened}
+use Rattle.h5_tree.specs.Kept.{IsOpened}
 use Rattle.h5_file.proofs.Made.{edited, made_superblock, made_end, not_taken}
 use Rattle.h5_file.proofs.file.File.take.Goals as goal
 
@@ -14,5 +14,5 @@ returns-in_default c edit is = (not_taken c.args.self.now edit c.args.made is, r
 
 pub returns : goal.returns
 returns c edit is =
-    let opened : IsOpened c.args.made.image.items c.in-Ok.opened.root c.in-Ok.opened.link = rw c.new-image.ensures at c.in-Ok.ensures.kept in
-    rw c.new-image.ensures (edited c.args.self.now edit c.args.made is c.in-Ok.opened.root c.in-Ok.opened.link opened _ refl)
+    let opened : IsOpened c.args.made.image.items c.in-Ok.opened.objects.items c.in-Ok.opened.numbers = rw c.new-image.ensures at c.in-Ok.ensures.kept in
+    rw c.new-image.ensures (edited c.args.self.now edit c.args.made is c.in-Ok.opened.objects.items c.in-Ok.opened.numbers opened _ refl)

@@ -1,0 +1,49 @@
+-- What is refused of a group's texts and of its order holds at a block that is reached.
+use Rattle.std.proofs.Common.{◌≡◌, ℕ, ◌+◌, ◌≤◌, List, length, refl, sym}
+use Rattle.std.specs.Prelude.{map}
+use Rattle.h5_bytes.specs.Blocks.{Inside}
+use Rattle.h5_bytes.specs.declared.Block.{Block}
+use Rattle.h5_bytes.proofs.BlockLaws.{all_left, all_right}
+use Rattle.h5_model.specs.Addresses.{SymbolTable}
+use Rattle.h5_model.specs.Superblock.{leaf_k}
+use Rattle.h5_model.specs.Heap.{heap_blocks}
+use Rattle.h5_model.specs.Nodes.{node_block, tree_blocks}
+use Rattle.h5_model.specs.Symbols.{symbol_block}
+use Rattle.h5_model.specs.Reached.{Named, named, GroupNode, SymbolNode, HeapHeader}
+use Rattle.h5_model.specs.declared.open_fault.Cause.{Cause}
+use Rattle.h5_model.specs.declared.open_fault.Cause.TheVariants.{HeapName, BadName, NameOrder, KeyOrder, NoMemory}
+use Rattle.h5_walk.specs.Met.{IsMet}
+use Rattle.h5_nodes.specs.Trees.{kind_in, nodes_blocks}
+use Rattle.h5_nodes.specs.Walk.{IsFault, IsTreeFollowed, IsNodeReached, AreSymbolsReached}
+use Rattle.h5_names.specs.Refused.{AreTextsRefused}
+use Rattle.h5_keys.specs.Ordered.{IsOrderRefused}
+use Rattle.h5_breach.proofs.Lists.{in_all, in_map, in_contains}
+
+module _ (image : List ℕ) (held : List Block) (followed : List Named) (table : SymbolTable) (second depth : ℕ)
+    (met : IsMet image held followed (named second (HeapHeader table.tree) table.heap depth)) (inside : Inside (length image) (heap_blocks image table.heap)) where
+  pub texts_refused : (cause : Cause) (address : ℕ) → address ≡ table.heap → AreTextsRefused image table cause → IsFault image cause address
+  texts_refused NoMemory address e refused = tt
+  texts_refused HeapName address e breach = (named second (HeapHeader table.tree) table.heap depth, met.reached, sym e, (inside.0, breach))
+  texts_refused BadName address e breach = (named second (HeapHeader table.tree) table.heap depth, met.reached, sym e, (inside.0, breach))
+  texts_refused _ address e refused = absurd refused
+
+module _ (image : List ℕ) (now : List Block) (followed : List Named) (table : SymbolTable) (first depth : ℕ) (nodes symbol_nodes : List ℕ)
+    (tree : IsTreeFollowed image now followed first table.tree table.heap depth nodes symbol_nodes) (inside : Inside (length image) (nodes_blocks image nodes symbol_nodes)) where
+  abbrev IsInside : Block → Type 0
+  IsInside b = b.at + b.len ≤ length image
+
+  pub order_refused : (cause : Cause) (address : ℕ) → IsOrderRefused image table nodes symbol_nodes cause address → IsFault image cause address
+  order_refused NoMemory address refused = tt
+  order_refused NameOrder address (has, breach) =
+      let there = in_contains address symbol_nodes has in
+      let by = in_all (AreSymbolsReached image table.tree table.heap depth) address symbol_nodes tree.symbols_reached there in
+      let block = in_all IsInside (symbol_block (leaf_k image) address) (map (symbol_block (leaf_k image)) symbol_nodes)
+      (all_right IsInside (tree_blocks (kind_in image) nodes) (map (symbol_block (leaf_k image)) symbol_nodes) inside) (in_map (symbol_block (leaf_k image)) address symbol_nodes there) in
+      (named by.0 (SymbolNode table.tree table.heap) address depth, by.1, refl, (block, breach))
+  order_refused KeyOrder address (has, breach) =
+      let there = in_contains address nodes has in
+      let by = in_all (IsNodeReached image table.tree table.heap depth) address nodes tree.nodes_reached there in
+      let block = in_all IsInside (node_block (kind_in image) address) (tree_blocks (kind_in image) nodes)
+      (all_left IsInside (tree_blocks (kind_in image) nodes) (map (symbol_block (leaf_k image)) symbol_nodes) inside) (in_map (node_block (kind_in image)) address nodes there) in
+      (named by.0 (GroupNode table.tree table.heap by.1) address depth, by.2, refl, (block, breach))
+  order_refused _ address refused = absurd refused

@@ -1,0 +1,92 @@
+-- What a search in a symbol node finds.
+use Rattle.std.proofs.Common.{◌≡◌, ℕ, zero, suc, ◌<◌, inl, inr, List, [], ◌∷◌, map, length, take, drop, slice_get, Some, None, option_map, false, true, sym, ap, subst, ◌∙◌, arith, append-nil}
+use Rattle.std.specs.Prelude.{unwrap_or}
+use Rattle.std.specs.List.{Contains}
+use Rattle.std.specs.Cmp.Lexicographic.{nat_list_cmp_total}
+use Rattle.std.proofs.lemmas.Cmp.{tied_itself}
+use Rattle.std.proofs.lemmas.List.{take-append-drop, length-map}
+use Rattle.std.proofs.lemmas.Option.{slice_get_within}
+use Rattle.h5_bytes.specs.Texts.{text_at}
+use Rattle.h5_model.specs.Superblock.{leaf_k}
+use Rattle.h5_model.specs.Heap.{segment_of}
+use Rattle.h5_model.specs.Symbols.{Entry, Target, symbols_at, link_of}
+use Rattle.h5_model.specs.Links.{Before, names_in}
+use Rattle.h5_model.specs.TreeFaults.{all_entries}
+use Rattle.h5_snod.specs.Names.{IsPlace, names_of}
+use Rattle.h5_breach.proofs.Lists.{In, in_all, in_either, in_map, in_flat, from_map, in_contains, contains_in}
+use Rattle.h5_group.specs.declared.group.Group.{Group}
+use Rattle.h5_group.specs.declared.link.LinkRef.{LinkRef}
+use Rattle.h5_group.specs.Links.{links_of, link_from, IsLinkNamed, HasNone}
+
+-- ---- an entry of this name
+
+same_some : {X : Type 0} (x y : X) → Some x ≡ Some y → x ≡ y
+same_some x y is = ap (λ o. unwrap_or o x) is
+
+-- the entry whose name was found is the link's
+entry_found : (segment : List ℕ) (es : List Entry) (k : ℕ) (name : List ℕ) (l : List ℕ × Target) → slice_get (names_of segment es) k ≡ Some name
+    → option_map (link_of segment) (slice_get es k) ≡ Some l → In l (map (link_of segment) es) × (l.0 ≡ name)
+entry_found segment [] k name l found read = let none : None ≡ Some l = read in cc
+entry_found segment (e ∷ es) zero name l found read =
+    let link : link_of segment e ≡ l = same_some (link_of segment e) l read in
+    let same : text_at segment e.name ≡ name = same_some (text_at segment e.name) name found in
+    (inl link, sym (ap (λ (x : List ℕ × Target). x.0) link) ∙ same)
+entry_found segment (e ∷ es) (suc k) name l found read =
+    let rest = entry_found segment es k name l found read in (inr rest.0, rest.1)
+
+pub entry_there : (segment : List ℕ) (es : List Entry) (k : ℕ) (name : List ℕ) → slice_get (names_of segment es) k ≡ Some name → k < length es
+entry_there segment es k name found =
+    let low = slice_get_within (names_of segment es) k name found in
+    let long : length (names_of segment es) ≡ length es = length-map es (λ (e : Entry). text_at segment e.name) in
+    omega (arith, low, long)
+
+-- ---- a name that no entry has
+
+before_itself : (a : List ℕ) → Before a a → ⊥
+before_itself a less = let never : false ≡ true = rw (tied_itself nat_list_cmp_total a) at less in cc
+
+pub no_place : (names : List (List ℕ)) (name : List ℕ) (k : ℕ) → IsPlace names name k → In name names → ⊥
+no_place names name k place there =
+    elim (in_either name (take k names) (drop k names) (subst (In name) (sym (take-append-drop k names)) there)) [
+      | inl low ↦ before_itself name (in_all (λ other. Before other name) name (take k names) place.above low)
+      | inr high ↦ before_itself name (in_all (λ other. Before name other) name (drop k names) place.below high)
+    ]
+
+-- ---- the group
+
+module _ (image : List ℕ) (g : Group) where
+  abbrev S : ℕ → List Entry
+  S = symbols_at image (leaf_k image)
+
+  abbrev segment : List ℕ
+  segment = segment_of image g.table.heap
+
+  -- the link of an entry of one of the symbol nodes is the group's
+  entry_of_group : (at : ℕ) (l : List ℕ × Target) → In at g.symbol_nodes.items → In l (map (link_of segment) (S at)) → In l (links_of image g)
+  entry_of_group at l there here =
+      let by = from_map (link_of segment) l (S at) here in
+      subst (λ (x : List ℕ × Target). In x (links_of image g)) by.2
+      (in_map (link_of segment) by.0 (all_entries image g.symbol_nodes.items) (in_flat S at by.0 g.symbol_nodes.items there by.1))
+
+  pub link_found : (at k : ℕ) (name : List ℕ) (l : LinkRef) → Contains g.symbol_nodes.items at → slice_get (names_of segment (S at)) k ≡ Some name
+      → option_map (link_of segment) (slice_get (S at) k) ≡ Some (link_from l) → IsLinkNamed image g name l
+  link_found at k name l there found read =
+      let here = entry_found segment (S at) k name (link_from l) found read in
+      (contains_in (link_from l) (links_of image g) (entry_of_group at (link_from l) (in_contains at g.symbol_nodes.items there) here.0), here.1)
+
+  -- a link's name is one of the names
+  pub link_named : (name : List ℕ) (t : Target) → Contains (links_of image g) (name, t) → Contains (names_in S segment g.symbol_nodes.items) name
+  link_named name t has =
+      let entries : List Entry = all_entries image g.symbol_nodes.items in
+      let by = from_map (link_of segment) (name, t) entries (in_contains (name, t) (links_of image g) has) in
+      let same : text_at segment (by.0).name ≡ name = ap (λ (x : List ℕ × Target). x.0) by.2 in
+      contains_in name (names_in S segment g.symbol_nodes.items)
+      (subst (λ (x : List ℕ). In x (names_in S segment g.symbol_nodes.items)) same
+      (in_map (λ (e : Entry). text_at segment e.name) by.0 entries by.1))
+
+  pub none_found : (at k : ℕ) (name : List ℕ) → IsPlace (names_of segment (S at)) name k
+      → (Contains (names_in S segment g.symbol_nodes.items) name → Contains (names_in S segment (at ∷ [])) name) → HasNone image g name
+  none_found at k name place only t has =
+      let here = only (link_named name t has) in
+      let one : names_in S segment (at ∷ []) ≡ names_of segment (S at) = ap (names_of segment) (append-nil (S at)) in
+      no_place (names_of segment (S at)) name k place (subst (In name) one (in_contains name (names_in S segment (at ∷ [])) here))

@@ -1,0 +1,83 @@
+use Rattle.std.proofs.Common.{◌≡◌, ℕ, ◌+◌, length}
+use Rattle.std.proofs.lemmas.Result.{err_from_is_err_and}
+use Rattle.h5_bytes.specs.Blocks.{cover, Inside}
+use Rattle.h5_model.specs.Heap.{heap_header, segment_of, heap_blocks, IsHeap}
+use Rattle.h5_keys.specs.Ordered.{AreOrdered}
+use Rattle.h5_nodes.specs.Trees.{IsTree}
+use Rattle.h5_group.specs.declared.group.Group.{Group}
+use Rattle.h5_group.proofs.HeapSteps.{heap_refused, at_tree}
+use Rattle.h5_group.proofs.Refusals.{texts_refused, order_refused}
+use Rattle.h5_group.proofs.Linked.{group_read, both_claimed}
+use Rattle.h5_group.proofs.Followed.{group_followed}
+use Rattle.h5_group.proofs.group.read_group.Goals as goal
+
+pub returns-in_err-heap-clause-refused : goal.returns-in_err-heap-clause-refused
+returns-in_err-heap-clause-refused c =
+    let p = err_from_is_err_and c.from_residual.result c.from_residual.ensures.1 in
+    rw (p.1, p.2) (λ followed first second depth met. heap_refused c.args.image.now.bytes c.args.claims.now.held followed first second depth c.args.table met _ _
+    (rw c.heap.ensures at c.in_err-heap.ensures.refused))
+
+pub returns-in_err-tree-clause-refused : goal.returns-in_err-tree-clause-refused
+returns-in_err-tree-clause-refused c =
+    let image = c.args.image.now.bytes in
+    let inside : Inside (length image) (heap_blocks image c.args.table.heap) = rw c.heap.ensures at c.in_ok-heap.ensures.inside in
+    let claimed : (p : ℕ) → cover p c.read_heap.new.claims.held ≡ cover p c.args.claims.now.held + cover p (heap_blocks image c.args.table.heap)
+    = λ q. rw c.heap.ensures at (c.in_ok-heap.ensures.claimed q) in
+    let p = err_from_is_err_and c.from_residual-in_err-tree.result c.from_residual-in_err-tree.ensures.1 in
+    rw (p.1, p.2) (λ followed first second depth met.
+    let here = at_tree image c.args.claims.now.held followed first second depth c.args.table met c.read_heap.new.claims.held inside claimed c.in_ok-heap.ensures.separate in
+    (rw c.tree.ensures at c.in_err-tree.ensures.refused) _ first c.args.table.heap depth here)
+
+pub returns-in_err-check_texts-clause-refused : goal.returns-in_err-check_texts-clause-refused
+returns-in_err-check_texts-clause-refused c =
+    let image = c.args.image.now.bytes in
+    let inside : Inside (length image) (heap_blocks image c.args.table.heap) = rw c.heap.ensures at c.in_ok-heap.ensures.inside in
+    let p = err_from_is_err_and c.from_residual-in_err-check_texts.result c.from_residual-in_err-check_texts.ensures.1 in
+    rw (p.1, p.2) (λ followed first second depth met. texts_refused image c.args.claims.now.held followed c.args.table second depth met.heap inside _ _
+    c.in_err-check_texts.ensures.address c.in_err-check_texts.ensures.refused)
+
+pub returns-in_err-check_order-clause-refused : goal.returns-in_err-check_order-clause-refused
+returns-in_err-check_order-clause-refused c =
+    let image = c.args.image.now.bytes in
+    let inside : Inside (length image) (heap_blocks image c.args.table.heap) = rw c.heap.ensures at c.in_ok-heap.ensures.inside in
+    let claimed : (p : ℕ) → cover p c.read_heap.new.claims.held ≡ cover p c.args.claims.now.held + cover p (heap_blocks image c.args.table.heap)
+    = λ q. rw c.heap.ensures at (c.in_ok-heap.ensures.claimed q) in
+    let p = err_from_is_err_and c.from_residual-in_err-check_order.result c.from_residual-in_err-check_order.ensures.1 in
+    rw (p.1, p.2) (λ followed first second depth met.
+    let here = at_tree image c.args.claims.now.held followed first second depth c.args.table met c.read_heap.new.claims.held inside claimed c.in_ok-heap.ensures.separate in
+    let tree = (rw c.tree.ensures at c.in_ok-tree.ensures.walked) _ first c.args.table.heap depth here in
+    order_refused image c.read_tree.new.claims.held _ c.args.table first depth c.in_ok-tree.tree.nodes.items c.in_ok-tree.tree.symbol_nodes.items tree c.in_ok-tree.ensures.inside _ _
+    c.in_err-check_order.ensures.refused)
+
+pub returns-clause-group : goal.returns-clause-group
+returns-clause-group c =
+    let image = c.args.image.now.bytes in
+    let g : Group = record { table = c.args.table; symbol_nodes = c.in_ok-tree.tree.symbol_nodes } in
+    let inside : Inside (length image) (heap_blocks image g.table.heap) = rw c.heap.ensures at c.in_ok-heap.ensures.inside in
+    let heap : IsHeap (heap_header image g.table.heap) (segment_of image g.table.heap) c.in_ok-heap.heap.free = rw c.heap.ensures at c.in_ok-heap.ensures.read in
+    let tree : IsTree image g.table.tree c.in_ok-tree.tree.nodes.items g.symbol_nodes.items = rw c.tree.ensures at c.in_ok-tree.ensures.tree in
+    let order : AreOrdered image (segment_of image g.table.heap) c.in_ok-tree.tree.nodes.items g.symbol_nodes.items
+    = rw (c.segment_at.ensures, c.heap-4.ensures) at c.in_ok-check_order.ensures.ordered in
+    group_read image g c.in_ok-tree.tree.nodes.items tree c.in_ok-heap.heap.free c.in_ok-check_texts.ensures.texts order heap c.in_ok-tree.ensures.inside inside
+
+pub returns-clause-claimed : goal.returns-clause-claimed
+returns-clause-claimed c p =
+    let image = c.args.image.now.bytes in
+    let g : Group = record { table = c.args.table; symbol_nodes = c.in_ok-tree.tree.symbol_nodes } in
+    let tree : IsTree image g.table.tree c.in_ok-tree.tree.nodes.items g.symbol_nodes.items = rw c.tree.ensures at c.in_ok-tree.ensures.tree in
+    let before : cover p c.read_heap.new.claims.held ≡ cover p c.args.claims.now.held + cover p (heap_blocks image g.table.heap)
+    = rw c.heap.ensures at (c.in_ok-heap.ensures.claimed p) in
+    both_claimed image g c.in_ok-tree.tree.nodes.items tree p c.args.claims.now.held c.read_heap.new.claims.held c.read_tree.new.claims.held before (c.in_ok-tree.ensures.claimed p)
+
+pub returns-clause-walked : goal.returns-clause-walked
+returns-clause-walked c followed first second depth met =
+    let image = c.args.image.now.bytes in
+    let g : Group = record { table = c.args.table; symbol_nodes = c.in_ok-tree.tree.symbol_nodes } in
+    let inside : Inside (length image) (heap_blocks image g.table.heap) = rw c.heap.ensures at c.in_ok-heap.ensures.inside in
+    let claimed : (p : ℕ) → cover p c.read_heap.new.claims.held ≡ cover p c.args.claims.now.held + cover p (heap_blocks image g.table.heap)
+    = λ q. rw c.heap.ensures at (c.in_ok-heap.ensures.claimed q) in
+    let here = at_tree image c.args.claims.now.held followed first second depth g.table met c.read_heap.new.claims.held inside claimed c.in_ok-heap.ensures.separate in
+    let tree = (rw c.tree.ensures at c.in_ok-tree.ensures.walked) _ first c.args.table.heap depth here in
+    let stands : IsTree image g.table.tree c.in_ok-tree.tree.nodes.items g.symbol_nodes.items = rw c.tree.ensures at c.in_ok-tree.ensures.tree in
+    group_followed image c.args.claims.now.held followed first second depth g met c.read_heap.new.claims.held inside claimed c.in_ok-heap.ensures.separate
+    c.read_tree.new.claims.held c.in_ok-tree.tree.nodes.items c.in_ok-tree.ensures.inside c.in_ok-tree.ensures.claimed c.in_ok-tree.ensures.separate stands.formed tree

@@ -1,0 +1,40 @@
+use Rattle.std.proofs.Common.{length, arith}
+use Rattle.std.specs.Prelude.{IfSome}
+use Rattle.h5_bytes.specs.Blocks.{Inside}
+use Rattle.h5_model.specs.Heap.{segment_of}
+use Rattle.h5_model.specs.Nodes.{group_kind, node_at, tree_blocks, HasTree}
+use Rattle.h5_btree.specs.Descent.{LeadsTo}
+use Rattle.h5_btree.proofs.NameOrder.{name_behind}
+use Rattle.h5_nodes.specs.Trees.{kind_in}
+use Rattle.h5_group.proofs.Standing.{heap_there, nodes_there}
+use Rattle.h5_group.proofs.Way.{one_listed, one_has, none_listed}
+use Rattle.h5_group.proofs.search.node_of.Goals as goal
+use Rattle.h5_group.proofs.search.node_of.Goals.{After-unwrap}
+
+pub internal_k-requires : goal.internal_k-requires
+internal_k-requires c = omega (arith, (heap_there c.args.image.now.bytes c.args.group.now c.requires.group).0)
+
+pub unwrap-requires : goal.unwrap-requires
+unwrap-requires c =
+    let linked = (c.requires.group).linked in
+    let tree : HasTree c.bytes.result.now (group_kind c.internal_k.result) c.tree.result linked.level linked.owned linked.symbol_nodes
+    = rw (c.bytes.ensures, c.internal_k.ensures, c.tree.ensures) linked.tree in
+    let inside : Inside (length c.bytes.result.now) (tree_blocks (group_kind c.internal_k.result) linked.owned)
+    = rw (c.bytes.ensures, c.internal_k.ensures) (nodes_there c.args.image.now.bytes c.args.group.now c.requires.group) in
+    c.find_leaf.ensures.only linked.level linked.owned linked.symbol_nodes tree inside
+
+leads : (c : After-unwrap) → IfSome c.unwrap.result (LeadsTo (node_at c.args.image.now.bytes (kind_in c.args.image.now.bytes))
+    (name_behind (segment_of c.args.image.now.bytes c.args.group.now.table.heap) c.args.name.now)
+    (node_at c.args.image.now.bytes (kind_in c.args.image.now.bytes) c.args.group.now.table.tree).level c.args.group.now.table.tree)
+leads c = rw (c.bytes.ensures, c.internal_k.ensures, c.tree.ensures, c.requires.segment) at (rw c.unwrap.ensures at c.find_leaf.ensures.leads)
+
+pub returns-clause-one : goal.returns-clause-one
+returns-clause-one c = one_listed c.args.image.now.bytes c.args.group.now c.requires.group c.args.name.now c.unwrap.result (leads c)
+
+pub returns-clause-only : goal.returns-clause-only
+returns-clause-only c = rw c.requires.segment (one_has c.args.image.now.bytes c.args.group.now c.requires.group c.args.name.now c.unwrap.result (leads c))
+
+pub returns-clause-none : goal.returns-clause-none
+returns-clause-none c =
+    let empty = rw (c.bytes.ensures, c.internal_k.ensures, c.tree.ensures) at (rw c.unwrap.ensures at c.find_leaf.ensures.empty) in
+    none_listed c.args.image.now.bytes c.args.group.now c.requires.group c.unwrap.result empty.0

@@ -1,0 +1,70 @@
+//! The reading of a group (File Format Specification 3.0, sections III.A.1, III.B, III.D and IV.A.2.r).
+
+ghost use Rattle.std.specs.Prelude.{◌≡◌, ℕ, ◌+◌, List, length, IfOk, IfErr, OnOk};
+ghost use Rattle.h5_bytes.specs.Blocks.{cover, Separate};
+ghost use Rattle.h5_model.specs.Superblock.{IsSuperblock};
+ghost use Rattle.h5_model.specs.Reached.{Named};
+ghost use Rattle.h5_nodes.specs.Walk.{IsFault};
+ghost use Rattle.h5_group.specs.Links.{IsGroupRead, blocks_of};
+ghost use Rattle.h5_group.specs.Walk.{IsGroupMet, IsGroupFollowed};
+
+use h5_heap::{read_heap, segment_at};
+use h5_keys::check_order;
+use h5_model::OpenFault;
+use h5_msg::SymbolTable;
+use h5_names::check_texts;
+use h5_nodes::{GroupTree, read_tree};
+use h5_space::{Claims, Image};
+use std::alloc::Global;
+
+/// A group that was read.
+#[derive(Drop)]
+pub struct Group {
+    /// The addresses of its tree and of its heap.
+    pub table: SymbolTable,
+    /// The addresses of the symbol nodes of the tree, from left to right.
+    pub symbol_nodes: Vec<u64>,
+}
+
+/// Reads the group of this B-tree and this heap, and claims its blocks.
+///
+/// Refusals, in this order: of the heap `Truncated`, `Overlap` and `HeapForm`; of the tree, depth first, `Truncated`, `Overlap` and
+/// `NodeForm`; `Sibling`, at a node; `HeapName` and `BadName`, at the heap's header; `NameOrder`, at a symbol node; `KeyOrder`, at a
+/// node. `NoMemory` where memory is refused. After a refusal more or less of the blocks is claimed.
+///
+/// The claims end where the image ends, and the image has its superblock: these are the caller's conditions.
+pub fn read_group(
+    alloc: Global,
+    image: &Image,
+    claims: &mut Claims,
+    table: SymbolTable,
+) -> Result<Group, OpenFault>
+    requires end { claims.old.end ≡ length image.now.bytes }
+    requires superblock { IsSuperblock image.now.bytes }
+    ensures group { IfOk result (IsGroupRead image.now.bytes) }
+    ensures table { IfOk result (λ g. g.table ≡ table) }
+    ensures claimed { IfOk result (λ g. (p : ℕ)
+        → cover p claims.new.held ≡ cover p claims.old.held + cover p (blocks_of image.now.bytes g)) }
+    ensures separate { OnOk result (Separate claims.new.held) }
+    ensures end { claims.new.end ≡ claims.old.end }
+    ensures walked { IfOk result (λ g. (followed : List Named) (first second depth : ℕ)
+        → IsGroupMet image.now.bytes claims.old.held followed first second depth table
+        → IsGroupFollowed image.now.bytes claims.old.held claims.new.held followed first second depth g) }
+    ensures refused { IfErr result (λ fault. (followed : List Named) (first second depth : ℕ)
+        → IsGroupMet image.now.bytes claims.old.held followed first second depth table
+        → IsFault image.now.bytes fault.cause fault.address) }
+{
+    let mut heap = read_heap(alloc, image, claims, table.heap())?;
+    let tree = read_tree(alloc, image, claims, table.tree())?;
+    check_texts(image, &mut heap, table, &tree)?;
+    check_order(image, segment_at(image, table.heap()), table, &tree)?;
+    let GroupTree {
+        nodes,
+        symbol_nodes,
+    } = tree;
+    drop(nodes);
+    Ok(Group {
+        table,
+        symbol_nodes,
+    })
+}

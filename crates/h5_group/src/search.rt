@@ -1,0 +1,52 @@
+//! The search for a link by its name (File Format Specification 3.0, sections III.A.1 and III.B).
+
+ghost use Rattle.std.specs.Prelude.{◌≡◌, [], ◌∷◌, IfSome, IfNone};
+ghost use Rattle.std.specs.List.{Contains};
+ghost use Rattle.h5_model.specs.Superblock.{leaf_k};
+ghost use Rattle.h5_model.specs.Heap.{segment_of};
+ghost use Rattle.h5_model.specs.Links.{names_in};
+ghost use Rattle.h5_model.specs.Symbols.{symbols_at};
+ghost use Rattle.h5_group.specs.Links.{IsGroupRead, IsLinkNamed, HasNone};
+
+use crate::group::Group;
+use crate::link::{LinkRef, link_in};
+use crate::read::{internal_k, segment, symbol_node};
+use h5_btree::{SoughtName, find_leaf};
+use h5_space::Image;
+
+/// The link of this name, or `None` where the group has none.
+///
+/// Goes down the group's tree by its keys, and searches in each node and in the symbol node by halves. It takes no memory.
+pub fn lookup<'a>(image: &'a Image, group: &Group, name: &[u8]) -> Option<LinkRef<'a>>
+    requires { IsGroupRead image.now.bytes group.now }
+    ensures found { IfSome result (IsLinkNamed image.now.bytes group.now name.now) }
+    ensures absent { IfNone result (HasNone image.now.bytes group.now name.now) }
+{
+    let segment = segment(image, group);
+    let Some(at) = node_of(image, group, segment, name) else {
+        return None;
+    };
+    let node = symbol_node(image, group, at);
+    match node.find(segment, name) {
+        Ok(i) => Some(link_in(segment, &node, i)),
+        Err(_) => None,
+    }
+}
+
+/// The symbol node that has the name, if the group has it; `None` where the group has no symbol node.
+fn node_of(image: &Image, group: &Group, segment: &[u8], name: &[u8]) -> Option<u64>
+    requires group { IsGroupRead image.now.bytes group.now }
+    requires segment { segment.now ≡ segment_of image.now.bytes group.now.table.heap }
+    ensures one { IfSome result (Contains group.now.symbol_nodes.items) }
+    ensures only { IfSome result (λ at.
+        Contains (names_in (symbols_at image.now.bytes (leaf_k image.now.bytes)) segment.now group.now.symbol_nodes.items) name.now
+        → Contains (names_in (symbols_at image.now.bytes (leaf_k image.now.bytes)) segment.now (at ∷ [])) name.now) }
+    ensures none { IfNone result (group.now.symbol_nodes.items ≡ []) }
+{
+    let sought = SoughtName {
+        k: internal_k(image),
+        segment,
+        name,
+    };
+    find_leaf(image.bytes(), group.table.tree(), &sought).unwrap()
+}

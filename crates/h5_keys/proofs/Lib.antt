@@ -1,0 +1,7 @@
+pub mod AllLaws
+pub mod PartLaws
+pub mod RisingLaws
+pub mod BelowLaws
+pub mod OrderLaws
+pub mod DepthLaws
+pub mod TreeLaws

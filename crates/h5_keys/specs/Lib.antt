@@ -1,0 +1,3 @@
+pub mod Below
+pub mod Rising
+pub mod Ordered

@@ -1,0 +1,7 @@
+pub mod ListLaws
+pub mod EmptyNames
+pub mod EntryLaws
+pub mod LinkedLaws
+pub mod KeyLaws
+pub mod StandLaws
+pub mod TextLaws

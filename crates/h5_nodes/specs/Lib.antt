@@ -1,0 +1,6 @@
+pub mod Trees
+pub mod Walk
+pub mod Below
+pub mod Refused
+pub mod Further
+pub mod Rows

@@ -1,0 +1,21 @@
+-- A group whose symbol nodes are empty has no links.
+use Rattle.std.proofs.Common.{◌≡◌, ℕ, suc, ◌<◌, List, [], ◌∷◌, length, get_or, length-append, refl, ◌∙◌, arith}
+use Rattle.std.specs.List.{flat_map}
+use Rattle.std.proofs.lemmas.List.{length-map}
+use Rattle.h5_model.specs.Superblock.{leaf_k}
+use Rattle.h5_model.specs.Heap.{segment_of}
+use Rattle.h5_model.specs.Symbols.{Entry, symbols_at, link_of}
+use Rattle.h5_model.specs.TreeFaults.{all_entries}
+use Rattle.h5_group.specs.declared.group.Group.{Group}
+use Rattle.h5_group.specs.Links.{links_of}
+
+none_in : (S : ℕ → List Entry) (nodes : List ℕ) → ((k : ℕ) → k < length nodes → length (S (get_or nodes k 0)) ≡ 0) → length (flat_map S nodes) ≡ 0
+none_in S [] none = refl
+none_in S (node ∷ nodes) none =
+    let later : length (flat_map S nodes) ≡ 0 = none_in S nodes (λ k low. none (suc k) (omega (arith, low))) in
+    let here : length (S node) ≡ 0 = none 0 (omega arith) in
+    omega (arith, length-append (S node) (flat_map S nodes), here, later)
+
+pub no_links : (image : List ℕ) (g : Group) → ((k : ℕ) → k < length g.symbol_nodes.items → length (symbols_at image (leaf_k image) (get_or g.symbol_nodes.items k 0)) ≡ 0)
+    → length (links_of image g) ≡ 0
+no_links image g none = length-map (all_entries image g.symbol_nodes.items) (link_of (segment_of image g.table.heap)) ∙ none_in (symbols_at image (leaf_k image)) g.symbol_nodes.items none

@@ -1,0 +1,99 @@
+-- A link that leads to no object, to one that was read before, or to a new one.
+use Rattle.std.proofs.Common.{◌≡◌, ◌≢◌, inl, ℕ, ◌+◌, ◌≤◌, List, [], ◌∷◌, ◌++◌, length, refl, sym, ◌∙◌, subst}
+use Rattle.std.specs.List.{Contains}
+use Rattle.std.proofs.lemmas.List.{append-nil}
+use Rattle.h5_bytes.specs.declared.Block.{Block}
+use Rattle.h5_model.specs.Reached.{Named, named, ObjectHeader}
+use Rattle.h5_model.specs.Symbols.{Header, Text}
+use Rattle.h5_model.specs.declared.open_fault.Cause.TheVariants.{GroupLinkedTwice}
+use Rattle.h5_header.specs.Listed.{messages_in}
+use Rattle.h5_breach.proofs.Lists.{In, in_all, in_contains, contains_in, in_right}
+use Rattle.h5_walk.specs.Walked.{IsFollowed}
+use Rattle.h5_walk.specs.NotYet.{IsOfGroupAt}
+use Rattle.h5_walk.proofs.ListLaws.{prefix_there}
+use Rattle.h5_header.specs.Kinds.{IsOfGroup}
+use Rattle.h5_tree.specs.declared.object.OpenedObject.{OpenedObject}
+use Rattle.h5_tree.specs.declared.object.OpenedContent.{OpenedContent}
+use Rattle.h5_tree.specs.declared.object.OpenedContent.TheVariants as content
+use Rattle.h5_tree.specs.Kept.{IsObjectKept, IsContentKept}
+use Rattle.h5_tree.specs.NotYet.{IsRefusedAt}
+use Rattle.h5_whole.specs.Whole.{IsGroupContent}
+use Rattle.h5_open.specs.Walk.{IsNamedBy, IsUnder, IsReady, IsFurther, IsTreeRead, IsLinkReady, IsLinkRead}
+use Rattle.h5_group.specs.Links.{link_from, target_of}
+use Rattle.h5_group.specs.declared.link.LinkRef.{LinkRef}
+use Rattle.h5_group.specs.declared.link.LinkTarget.{LinkTarget}
+use Rattle.h5_group.specs.declared.link.LinkTarget.TheVariants as target
+use Rattle.h5_open.proofs.FoundLaws.{group_at}
+
+-- ---- nothing is read
+
+nothing : (image : List ℕ) (held : List Block) (followed : List Named) (objects : List OpenedObject) (field : ℕ) → IsUnder image held followed objects
+    → IsFurther image held held followed field objects objects []
+nothing image held followed objects field under = record { grown = sym (append-nil objects); new = []; under = under; stands = tt; led = tt }
+
+pub soft_read : (image : List ℕ) (held : List Block) (followed : List Named) (objects : List OpenedObject) (field depth : ℕ) (name text : List ℕ) → depth + 1 ≤ 64
+    → IsUnder image held followed objects → IsLinkRead image held held followed objects objects field depth (name, Text text)
+soft_read image held followed objects field depth name text low under = record { more = []; further = nothing image held followed objects field under; led = low }
+
+pub array_read : (image : List ℕ) (held : List Block) (followed : List Named) (objects : List OpenedObject) (field header depth : ℕ) (name : List ℕ) → depth + 1 ≤ 64
+    → IsReady image held followed objects field header (depth + 1) → (o : OpenedObject) → Contains objects o → o.messages.header ≡ header → (IsGroupContent o.content → ⊥)
+    → IsLinkRead image held held followed objects objects field depth (name, Header header)
+array_read image held followed objects field header depth name low ready o among same array = record {
+  more = [];
+  further = nothing image held followed objects field ready.under;
+  led = (low, (o, among, same, λ group. absurd (array group)));
+}
+
+-- ---- a new object is read
+
+pub tree_read : (image : List ℕ) (held now : List Block) (followed : List Named) (objects after : List OpenedObject) (field header depth : ℕ) (name : List ℕ) → depth + 1 ≤ 64
+    → IsTreeRead image held now followed objects after field header (depth + 1) → IsLinkRead image held now followed objects after field depth (name, Header header)
+tree_read image held now followed objects after field header depth name low tree = record {
+  more = tree.object ∷ tree.others;
+  further = tree.further;
+  led = (low, (tree.object, there, tree.header_is, λ group. tree.depth_is));
+} where
+  there : Contains after tree.object
+  there = subst (λ (xs : List OpenedObject). Contains xs tree.object) (sym (tree.further).grown)
+      (contains_in tree.object (objects ++ tree.object ∷ tree.others) (in_right tree.object objects (tree.object ∷ tree.others) (inl refl)))
+
+-- ---- a group is met a second time
+
+group_of : (image : List ℕ) (o : OpenedObject) → IsObjectKept image o → IsGroupContent o.content → IsOfGroup (messages_in image o.messages.list)
+group_of image o kept group = go o.content kept.content group where
+  go : (c : OpenedContent) → IsContentKept image (messages_in image o.messages.list) c → IsGroupContent c → IsOfGroup (messages_in image o.messages.list)
+  go (content.Group g) is group = is.0
+  go (content.Array line) is group = absurd group
+
+pub twice : (image : List ℕ) (held : List Block) (followed : List Named) (objects : List OpenedObject) (field header depth : ℕ) → IsReady image held followed objects field header depth
+    → (o : OpenedObject) → Contains objects o → o.messages.header ≡ header → IsGroupContent o.content → IsRefusedAt image GroupLinkedTwice header
+twice image held followed objects field header depth ready o among same group =
+    let at : In o objects = in_contains o objects among in
+    let kept : IsObjectKept image o = in_all (IsObjectKept image) o objects (ready.under).each at in
+    let by : IsNamedBy followed o = in_all (IsNamedBy followed) o objects (ready.under).named at in
+    let is : IsFollowed image held by.0 = in_all (IsFollowed image held) by.0 followed ((ready.under).walked).all (in_contains by.0 followed by.1) in
+    let other : by.0.field ≢ field = in_all (λ (z : Named). z.field ≢ field) by.0 followed (ready.met).fresh (in_contains by.0 followed by.1) in (
+      named field ObjectHeader header depth,
+      (ready.met).reached,
+      refl,
+      (
+        subst (λ (h : ℕ). h + 16 ≤ length image) same (prefix_there image o.messages.header (messages_in image o.messages.list) o.messages.blocks (kept.header).has (kept.header).inside),
+        (
+          refl,
+          subst (IsOfGroupAt image) same (group_at image o.messages.header (messages_in image o.messages.list) o.messages.blocks (kept.header).has (group_of image o kept group)),
+          (by.0, is.reached, other, by.2 ∙ same, by.3),
+        ),
+      ),
+    )
+
+-- ---- by the link's target
+
+pub ready_at : (image : List ℕ) (held : List Block) (followed : List Named) (objects : List OpenedObject) (field depth : ℕ) (l : LinkRef) (header : ℕ) → l.target ≡ target.Object header
+    → IsLinkReady image held followed objects field depth (link_from l) → IsReady image held followed objects field header (depth + 1)
+ready_at image held followed objects field depth l header is ready =
+    subst (λ (t : LinkTarget). IsLinkReady image held followed objects field depth (l.name.now, target_of t)) is ready
+
+pub read_at : (image : List ℕ) (held now : List Block) (followed : List Named) (objects after : List OpenedObject) (field depth : ℕ) (l : LinkRef) (header : ℕ) → l.target ≡ target.Object header
+    → IsLinkRead image held now followed objects after field depth (l.name.now, Header header) → IsLinkRead image held now followed objects after field depth (link_from l)
+read_at image held now followed objects after field depth l header is read =
+    subst (λ (t : LinkTarget). IsLinkRead image held now followed objects after field depth (l.name.now, target_of t)) (sym is) read

@@ -1,0 +1,68 @@
+-- What stays of the objects that were read when more are read.
+use Rattle.std.proofs.Common.{◌≡◌, ◌⊎◌, inl, inr, ℕ, ◌+◌, List, [], ◌∷◌, ◌++◌, sym, ◌∙◌, ap, subst, append_assoc}
+use Rattle.std.specs.List.{AllByRecursion, Contains, IsDistinct, flat_map}
+use Rattle.std.specs.Ordering.{nat_cmp, eq_by_cmp}
+use Rattle.std.proofs.lemmas.Grind.{flat_map-append}
+use Rattle.std.proofs.lemmas.List.{map-append, append-nil}
+use Rattle.std.proofs.lemmas.List.Elements.{Contains-append_left}
+use Rattle.h5_bytes.specs.Blocks.{cover}
+use Rattle.h5_bytes.proofs.BlockLaws.{cover-append}
+use Rattle.h5_model.specs.Symbols.{Target, Header, Text}
+use Rattle.h5_breach.proofs.Lists.{In, contains_in}
+use Rattle.h5_breach.proofs.Pigeonhole.{Apart, apart_of_distinct, distinct_of_apart}
+use Rattle.h5_tree.specs.declared.object.OpenedObject.{OpenedObject}
+use Rattle.h5_tree.specs.Objects.{headers, links_of, object_blocks}
+use Rattle.h5_whole.specs.Whole.{IsLed, AreLed, HasParent, AreNamed}
+use Rattle.h5_open.proofs.PlaceLaws.{weaken_all}
+
+-- ---- links that lead to objects
+
+pub led_grows : (objects more : List OpenedObject) (depth : ℕ) (link : List ℕ × Target) → IsLed objects depth link → IsLed (objects ++ more) depth link
+led_grows objects more depth (name, Header header) led = (led.0, (led.1.0, Contains-append_left objects more led.1.0 led.1.1, led.1.2, led.1.3))
+led_grows objects more depth (name, Text text) led = led
+
+pub all_led_grow : (objects more : List OpenedObject) (depth : ℕ) (links : List (List ℕ × Target)) → AllByRecursion (IsLed objects depth) links → AllByRecursion (IsLed (objects ++ more) depth) links
+all_led_grow objects more depth links all = weaken_all (IsLed objects depth) (IsLed (objects ++ more) depth) links (λ link led. led_grows objects more depth link led) all
+
+pub objects_led_grow : (image : List ℕ) (objects more others : List OpenedObject) → AllByRecursion (AreLed image objects) others → AllByRecursion (AreLed image (objects ++ more)) others
+objects_led_grow image objects more others all = weaken_all (AreLed image objects) (AreLed image (objects ++ more)) others (λ o led. all_led_grow objects more o.depth (links_of image o.content) led) all
+
+-- ---- one object more
+
+pub headers-append : (objects more : List OpenedObject) → headers (objects ++ more) ≡ headers objects ++ headers more
+headers-append objects more = map-append (λ (o : OpenedObject). o.messages.header) objects more
+
+pub cover-objects : (image : List ℕ) (p : ℕ) (objects more : List OpenedObject)
+    → cover p (flat_map (object_blocks image) (objects ++ more)) ≡ cover p (flat_map (object_blocks image) objects) + cover p (flat_map (object_blocks image) more)
+cover-objects image p objects more = ap (cover p) (flat_map-append (object_blocks image) objects more) ∙ cover-append p (flat_map (object_blocks image) objects) (flat_map (object_blocks image) more)
+
+pub cover-object : (image : List ℕ) (p : ℕ) (o : OpenedObject) → cover p (flat_map (object_blocks image) (o ∷ [])) ≡ cover p (object_blocks image o)
+cover-object image p o = ap (cover p) (append-nil (object_blocks image o))
+
+pub apart_push : (xs : List ℕ) (y : ℕ) → Apart xs → (In y xs → ⊥) → Apart (xs ++ y ∷ [])
+apart_push [] y apart none = ((λ at. at), tt)
+apart_push (x ∷ xs) y apart none = ((λ at. either x xs y apart.0 (λ e. none (inl e)) at), apart_push xs y apart.1 (λ at. none (inr at))) where
+  either : (x : ℕ) (xs : List ℕ) (y : ℕ) → (In x xs → ⊥) → (x ≡ y → ⊥) → In x (xs ++ y ∷ []) → ⊥
+  either x [] y other apart (inl e) = apart (sym e)
+  either x [] y other apart (inr at) = at
+  either x (z ∷ xs) y other apart (inl e) = other (inl e)
+  either x (z ∷ xs) y other apart (inr at) = either x xs y (λ in_rest. other (inr in_rest)) apart at
+
+pub distinct_push : (objects : List OpenedObject) (o : OpenedObject) → IsDistinct (eq_by_cmp nat_cmp) (headers objects) → (Contains (headers objects) o.messages.header → ⊥)
+    → IsDistinct (eq_by_cmp nat_cmp) (headers (objects ++ o ∷ []))
+distinct_push objects o distinct none =
+    subst (IsDistinct (eq_by_cmp nat_cmp)) (sym (headers-append objects (o ∷ [])))
+    (distinct_of_apart (headers objects ++ o.messages.header ∷ [])
+    (apart_push (headers objects) o.messages.header (apart_of_distinct (headers objects) distinct) (λ at. none (contained at)))) where
+      contained : In o.messages.header (headers objects) → Contains (headers objects) o.messages.header
+      contained at = contains_in o.messages.header (headers objects) at
+
+pub named_push : (image : List ℕ) (before objects : List OpenedObject) (o : OpenedObject) → AreNamed image before objects
+    → (before ++ objects ≡ []) ⊎ HasParent image (before ++ objects) o.messages.header → AreNamed image before (objects ++ o ∷ [])
+named_push image before [] o named parent =
+    (subst (λ (xs : List OpenedObject). (xs ≡ []) ⊎ HasParent image xs o.messages.header) (append-nil before) parent, tt)
+named_push image before (x ∷ objects) o named parent = (
+  named.0,
+  named_push image (before ++ x ∷ []) objects o named.1
+      (subst (λ (xs : List OpenedObject). (xs ≡ []) ⊎ HasParent image xs o.messages.header) (sym (append_assoc before (x ∷ []) objects)) parent),
+)

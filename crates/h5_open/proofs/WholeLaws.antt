@@ -1,0 +1,92 @@
+-- The whole walk: it begins at the superblock, and ends when all objects are read.
+use Rattle.std.proofs.Common.{◌≡◌, inl, ℕ, List, [], ◌++◌, length, refl, sym, subst, arith}
+use Rattle.std.specs.Prelude.{Some, MatchOption, slice_get}
+use Rattle.std.specs.List.{AllByRecursion, Contains, IsDistinct}
+use Rattle.std.specs.Map.{lookup}
+use Rattle.std.specs.Ordering.{nat_cmp, eq_by_cmp}
+use Rattle.std.specs.BTreeMap.{BTreeMap, is_at}
+use Rattle.h5_bytes.specs.Blocks.{holds, Separate}
+use Rattle.h5_bytes.specs.declared.Block.{Block}
+use Rattle.h5_bytes.proofs.BlockLaws.{holds_in}
+use Rattle.h5_model.specs.Superblock.{IsSuperblock, end_of_file, root_header}
+use Rattle.h5_model.specs.Reached.{by_superblock}
+use Rattle.h5_model.specs.Reads.{ReadsAs}
+use Rattle.h5_breach.proofs.Lists.{in_contains}
+use Rattle.h5_walk.specs.Walked.{IsWalked}
+use Rattle.h5_tree.specs.declared.object.OpenedObject.{OpenedObject}
+use Rattle.h5_tree.specs.Kept.{IsIndex, IsOpened}
+use Rattle.h5_tree.specs.Objects.{table_of, tree_of}
+use Rattle.h5_whole.specs.Whole.{AreLed, IsWhole, placed_of}
+use Rattle.h5_open.specs.Walk.{IsNumbered, IsUnder, IsReady, IsTreeRead}
+
+empty_distinct : IsDistinct (eq_by_cmp nat_cmp) []
+unfolding IsDistinct
+empty_distinct = tt
+
+-- no object has a number yet
+empty_index : (numbers : BTreeMap ℕ ℕ) → numbers.entries ≡ [] → IsIndex [] numbers
+empty_index numbers none q = subst (λ (es : List (ℕ × ℕ)). MatchOption (lookup (is_at (nat_cmp q)) es) (Contains [] q → ⊥) (λ k. slice_get [] k ≡ Some q)) (sym none) (in_contains q [])
+
+pub none_numbered : (objects : List OpenedObject) (numbers : BTreeMap ℕ ℕ) → objects ≡ [] → numbers.entries ≡ [] → IsNumbered objects numbers
+none_numbered objects numbers none empty = subst (λ (xs : List OpenedObject). IsNumbered xs numbers) (sym none) (record { index = empty_index numbers empty; distinct = empty_distinct; low = tt })
+
+-- the root's header is met first
+pub root_ready : (image : List ℕ) (held : List Block) → IsSuperblock image → IsWalked image held [] → Separate held → IsReady image held [] [] 64 (root_header image) 0
+root_ready image held is walked separate = record {
+  under = record {
+    walked = walked;
+    separate = separate;
+    covered = walked.covered;
+    within = tt;
+    each = tt;
+    distinct = empty_distinct;
+    parents = tt;
+    known = tt;
+    named = tt;
+  };
+  met = record {
+    reached = (let long = is.whole in by_superblock (omega (arith, long)) refl);
+    behind = omega arith;
+    stands = (let here : holds 56 0 96 ≡ 1 = holds_in 56 0 96 (omega arith) (omega arith) in omega (arith, here, walked.covered 56));
+    fresh = tt;
+  };
+  parent = inl refl;
+}
+
+pub ready_at : (image : List ℕ) (held : List Block) (objects : List OpenedObject) (header : ℕ) → IsSuperblock image → IsWalked image held [] → Separate held → objects ≡ [] → header ≡ root_header image
+    → IsReady image held [] objects 64 header 0
+ready_at image held objects header is walked separate none at =
+    subst (λ (xs : List OpenedObject). IsReady image held [] xs 64 header 0) (sym none) (subst (λ (h : ℕ). IsReady image held [] [] 64 h 0) (sym at) (root_ready image held is walked separate))
+
+whole : (image : List ℕ) (held now : List Block) (objects : List OpenedObject) → IsSuperblock image → end_of_file image ≡ length image
+    → IsTreeRead image held now [] [] objects 64 (root_header image) 0 → IsWhole image objects
+whole image held now objects is ends tree =
+    let under : IsUnder image now ((tree.further).new ++ []) objects = (tree.further).under in
+    record {
+      superblock = is;
+      whole = ends;
+      begins = record {
+        root = tree.object;
+        others = tree.others;
+        is = (tree.further).grown;
+        at_root = tree.header_is;
+        group = tree.top refl;
+        top = tree.depth_is;
+      };
+      each = under.each;
+      distinct = under.distinct;
+      led = subst (AllByRecursion (AreLed image objects)) (sym (tree.further).grown) (tree.further).led;
+      parents = under.parents;
+      apart = λ p. omega (arith, under.covered p, under.separate p);
+      within = ((let long = is.whole in omega (arith, long)), under.within);
+    }
+
+pub whole_at : (image : List ℕ) (held now : List Block) (before objects : List OpenedObject) (header : ℕ) → IsSuperblock image → end_of_file image ≡ length image → before ≡ []
+    → header ≡ root_header image → IsTreeRead image held now [] before objects 64 header 0 → IsWhole image objects
+whole_at image held now before objects header is ends none at tree =
+    whole image held now objects is ends
+    (subst (λ (xs : List OpenedObject). IsTreeRead image held now [] xs objects 64 (root_header image) 0) none (subst (λ (h : ℕ). IsTreeRead image held now [] before objects 64 h 0) at tree))
+
+pub opened : (image : List ℕ) (objects : List OpenedObject) (numbers : BTreeMap ℕ ℕ) → IsWhole image objects → IsIndex objects numbers
+    → ReadsAs image (table_of objects) (tree_of image objects) (placed_of image objects) → IsOpened image objects numbers
+opened image objects numbers is index reads = record { reads = (placed_of image objects, reads); each = is.each; index = index }

@@ -1,0 +1,19 @@
+use Rattle.std.proofs.Common.{◌≡◌, ℕ, ◌+◌, ◌-◌, ◌*◌, ◌≤◌, List, length}
+use Rattle.h5_model.specs.Reached.{Named}
+use Rattle.h5_open.specs.Walk.{IsNumbered, IsReady, IsPartly}
+use Rattle.h5_open.proofs.steps.+tree.Given as goal
+
+abbrev pub decreases-follow : goal.decreases-follow
+decreases-follow l = 2 * (65 - l.depth)
+
+abbrev pub decreases-read_tree : goal.decreases-read_tree
+decreases-read_tree l = 2 * (65 - l.depth) + 1
+
+abbrev pub invariant-read_tree-loop-link : goal.invariant-read_tree-loop-link
+invariant-read_tree-loop-link l = record {
+  end : l.claims.end ≡ length l.image.bytes;
+  index : IsNumbered l.opened.objects.items l.opened.numbers;
+  deep : 1 ≤ length l.link-items → l.depth + 1 ≤ 64;
+  read : (followed : List Named) (field : ℕ) → IsReady l.image.bytes l.fn.claims.held followed l.fn.opened.objects.items field l.header l.depth
+      → IsPartly l.image.bytes l.fn.claims.held l.claims.held followed l.fn.opened.objects.items l.opened.objects.items field l.header l.depth l.link-items l.link-index;
+}

@@ -1,0 +1,72 @@
+-- An object that was read in a walk (File Format Specification 3.0, sections III.C and IV.A).
+use Rattle.std.specs.Prelude.{◌≡◌, ◌≢◌, ℕ, ◌+◌, ◌-◌, ◌≤◌, ◌⊎◌, true, IsTrue, List, [], ◌∷◌, ◌++◌, length}
+use Rattle.std.specs.List.{AllByRecursion, Contains}
+use Rattle.h5_bytes.specs.Blocks.{cover, Inside}
+use Rattle.h5_bytes.specs.declared.Block.{Block}
+use Rattle.h5_model.specs.Messages.{HasMessages}
+use Rattle.h5_model.specs.Reached.{Named, named, ObjectHeader}
+use Rattle.h5_model.specs.Symbols.{Target, Header, Text, symbol_bytes, symbols_in}
+use Rattle.h5_model.specs.Faults.{is_header}
+use Rattle.h5_model.specs.Superblock.{leaf_k}
+use Rattle.h5_header.specs.Heads.{is_read}
+use Rattle.h5_header.specs.Listed.{Listed, messages_in, IsWithin}
+use Rattle.h5_group.specs.declared.group.Group.{Group}
+use Rattle.h5_walk.specs.Walked.{IsWalked}
+use Rattle.h5_walk.specs.Met.{IsMet, IsHeaderMet}
+use Rattle.h5_tree.specs.declared.object.OpenedObject.{OpenedObject}
+use Rattle.h5_tree.specs.Kept.{IsObjectKept}
+use Rattle.h5_tree.specs.Objects.{links_of, object_blocks}
+use Rattle.h5_whole.specs.Whole.{IsGroupContent}
+
+-- The object stands in the image, with its header there, and its blocks are claimed. The root is a group; a group 64 links below it
+-- has no links.
+pub record IsObjectRead (image : List ℕ) (held now : List Block) (header depth : ℕ) (o : OpenedObject) : Type 0 where
+  pub kept : IsObjectKept image o
+  pub header_is : o.messages.header ≡ header
+  pub depth_is : o.depth ≡ depth
+  pub top : depth ≡ 0 → IsGroupContent o.content
+  pub shallow : 1 ≤ length (links_of image o.content) → depth + 1 ≤ 64
+  pub inside : Inside (length image) (object_blocks image o)
+  pub claimed : (p : ℕ) → cover p now ≡ cover p held + cover p (object_blocks image o)
+
+-- The fields of these links, those of soft links aside, were met. They differ, and stand in blocks that were not claimed before.
+abbrev pub AreWaiting : List ℕ → List Block → List Block → List Named → ℕ → List (List ℕ × Target) → List ℕ → Type 0
+AreWaiting image held now followed depth [] fields = fields ≡ []
+AreWaiting image held now followed depth ((name, Text text) ∷ links) fields = AreWaiting image held now followed depth links fields
+AreWaiting image held now followed depth ((name, Header header) ∷ links) [] = ⊥
+AreWaiting image held now followed depth ((name, Header header) ∷ links) (field ∷ fields) =
+    IsMet image now followed (named field ObjectHeader header (depth + 1)) × (cover (field - 8) held ≡ 0)
+    × AllByRecursion (λ other. other ≢ field) fields × AreWaiting image held now followed depth links fields
+
+-- the field is this one, or stands in a block that was not claimed before
+abbrev pub IsOwn : List Block → ℕ → Named → Type 0
+IsOwn held field y = (y.field ≡ field) ⊎ (cover (y.field - 8) held ≡ 0)
+
+-- More fields were followed, of which one names the object's header, and none another. The links of the object wait.
+pub record IsObjectFollowed (image : List ℕ) (held now : List Block) (followed : List Named) (field : ℕ) (o : OpenedObject) : Type 0 where
+  pub new : List Named
+  pub walked : IsWalked image now (new ++ followed)
+  pub stands : AllByRecursion (IsOwn held field) new
+  pub only : AllByRecursion (λ (y : Named). is_header y.role ≡ true → y.at ≡ o.messages.header) new
+  pub first : Contains new (named field ObjectHeader o.messages.header o.depth)
+  pub fields : List ℕ
+  pub waiting : AreWaiting image held now (new ++ followed) o.depth (links_of image o.content) fields
+
+-- the messages of a header were read
+pub record IsHeaderRead (image : List ℕ) (m : Listed) : Type 0 where
+  pub has : HasMessages image m.header (messages_in image m.list) m.blocks
+  pub known : AllByRecursion (λ x. IsTrue (is_read x.kind)) m.list
+  pub within : IsWithin (length image) m.list
+  pub inside : Inside (length image) m.blocks
+
+-- a symbol node of a group at the last level, with a link
+pub record IsDeepAt (image : List ℕ) (g : Group) (depth node : ℕ) : Type 0 where
+  pub node_of : Contains g.symbol_nodes.items node
+  pub deep : 64 ≤ depth
+  pub some : 1 ≤ symbols_in (symbol_bytes image (leaf_k image) node)
+
+-- a header was met, and its messages are read
+pub record IsHeaderDone (image : List ℕ) (held now : List Block) (followed : List Named) (field depth : ℕ) (m : Listed) : Type 0 where
+  pub met : IsHeaderMet image held followed field m.header depth
+  pub read : IsHeaderRead image m
+  pub claimed : (p : ℕ) → cover p now ≡ cover p held + cover p m.blocks

@@ -1,0 +1,184 @@
+//! The reading of one object: its header, and its group or the cells of its array (File Format Specification 3.0, sections III and
+//! IV.A).
+
+ghost use Rattle.std.specs.Prelude.{◌≡◌, ℕ, ◌+◌, ◌≤◌, ◌⊎◌, Some, List, length, map, IfOk, IfErr, OnOk};
+ghost use Rattle.h5_bytes.specs.Blocks.{cover, Separate, Inside};
+ghost use Rattle.h5_bytes.specs.declared.Block.{Block};
+ghost use Rattle.h5_model.specs.Superblock.{IsSuperblock};
+ghost use Rattle.h5_model.specs.Reached.{Named};
+ghost use Rattle.h5_header.specs.Kinds.{IsOfGroup, IsOfDataset};
+ghost use Rattle.h5_header.specs.Listed.{messages_in};
+ghost use Rattle.h5_header.specs.Progress.{ClaimBreach};
+ghost use Rattle.h5_group.specs.Links.{IsGroupRead, links_of, link_from};
+ghost use Rattle.h5_walk.specs.Met.{IsHeaderMet};
+ghost use Rattle.h5_tree.specs.Array.{data_blocks};
+ghost use Rattle.h5_tree.specs.Kept.{IsObjectKept};
+ghost use Rattle.h5_tree.specs.NotYet.{IsRefusedAt};
+ghost use Rattle.h5_tree.specs.Objects.{links_of as object_links};
+ghost use Rattle.h5_open.specs.Read.{IsHeaderRead, IsHeaderDone, IsObjectRead, IsObjectFollowed, IsDeepAt};
+
+use crate::judge::{fault, judge_line, judge_root};
+use h5_bytes::Block;
+use h5_group::{Group, LinkRef, entries, links_at, read_group};
+use h5_header::{Messages, ObjectKind, claim};
+use h5_model::{Cause, OpenFault};
+use h5_space::{Claims, Image};
+use h5_tree::{OpenedContent, OpenedObject};
+use std::alloc::Global;
+
+/// How many links below the root the last objects may stand.
+const LAST: u8 = 64;
+
+/// Reads the object at `header`, so many links below the root, and claims its blocks; the links of a group are not followed.
+///
+/// What is wrong with its header comes first, then with the bodies of its messages, all at the header; then, of a group, what
+/// `read_group` refuses, and `TooDeep` at its first symbol node with a link where it stands 64 links below the root; or of an array
+/// what is wrong with the block of its cells, at that block. `NotYet` at the header where an array has not one dimension or its
+/// cells are not in one block.
+pub(crate) fn read_object(
+    alloc: Global,
+    image: &Image,
+    claims: &mut Claims,
+    header: u64,
+    depth: u8,
+) -> Result<OpenedObject, OpenFault>
+    requires superblock { IsSuperblock image.now.bytes }
+    requires end { claims.old.end ≡ length image.now.bytes }
+    ensures read { IfOk result (λ o. IsObjectRead image.now.bytes claims.old.held claims.new.held header depth o) }
+    ensures separate { OnOk result (Separate claims.new.held) }
+    ensures end { claims.new.end ≡ claims.old.end }
+    ensures followed { IfOk result (λ o. (followed : List Named) (field : ℕ)
+        → IsHeaderMet image.now.bytes claims.old.held followed field header depth
+        → IsObjectFollowed image.now.bytes claims.old.held claims.new.held followed field o) }
+    ensures refused { IfErr result (λ fault. (followed : List Named) (field : ℕ)
+        → IsHeaderMet image.now.bytes claims.old.held followed field header depth → IsRefusedAt image.now.bytes fault.cause fault.address) }
+{
+    let messages = h5_header::messages(alloc, image, claims, header)?;
+    if depth == 0 {
+        return read_group_object(alloc, image, claims, messages, depth);
+    }
+    match messages.object_kind()? {
+        ObjectKind::Group => read_group_object(alloc, image, claims, messages, depth),
+        ObjectKind::Dataset => read_array_object(alloc, image, claims, messages, depth),
+    }
+}
+
+/// Reads the group of a header whose messages were read; the root's header may be none of a group.
+fn read_group_object(
+    alloc: Global,
+    image: &Image,
+    claims: &mut Claims,
+    messages: Messages,
+    depth: u8,
+) -> Result<OpenedObject, OpenFault>
+    requires superblock { IsSuperblock image.now.bytes }
+    requires end { claims.old.end ≡ length image.now.bytes }
+    requires header { IsHeaderRead image.now.bytes messages }
+    requires separate { Separate claims.old.held }
+    requires kind { (depth ≡ 0) ⊎ IsOfGroup (messages_in image.now.bytes messages.list) }
+    ensures read { IfOk result (λ o. (held : List Block)
+        → ((p : ℕ) → cover p claims.old.held ≡ cover p held + cover p messages.blocks)
+        → IsObjectRead image.now.bytes held claims.new.held messages.header depth o) }
+    ensures separate { OnOk result (Separate claims.new.held) }
+    ensures end { claims.new.end ≡ claims.old.end }
+    ensures followed { IfOk result (λ o. (held : List Block) (followed : List Named) (field : ℕ)
+        → IsHeaderDone image.now.bytes held claims.old.held followed field depth messages
+        → IsObjectFollowed image.now.bytes held claims.new.held followed field o) }
+    ensures refused { IfErr result (λ fault. (held : List Block) (followed : List Named) (field : ℕ)
+        → IsHeaderDone image.now.bytes held claims.old.held followed field depth messages → IsRefusedAt image.now.bytes fault.cause fault.address) }
+{
+    let table = judge_root(alloc, image, &messages)?;
+    let group = read_group(alloc, image, claims, table)?;
+    check_depth(image, &group, depth)?;
+    Ok(OpenedObject {
+        messages,
+        content: OpenedContent::Group(group),
+        depth,
+    })
+}
+
+/// Reads the array of a dataset's header whose messages were read.
+fn read_array_object(
+    alloc: Global,
+    image: &Image,
+    claims: &mut Claims,
+    messages: Messages,
+    depth: u8,
+) -> Result<OpenedObject, OpenFault>
+    requires end { claims.old.end ≡ length image.now.bytes }
+    requires header { IsHeaderRead image.now.bytes messages }
+    requires separate { Separate claims.old.held }
+    requires kind { IsOfDataset (messages_in image.now.bytes messages.list) }
+    requires inner { 1 ≤ depth }
+    ensures read { IfOk result (λ o. (held : List Block)
+        → ((p : ℕ) → cover p claims.old.held ≡ cover p held + cover p messages.blocks)
+        → IsObjectRead image.now.bytes held claims.new.held messages.header depth o) }
+    ensures separate { OnOk result (Separate claims.new.held) }
+    ensures end { claims.new.end ≡ claims.old.end }
+    ensures followed { IfOk result (λ o. (held : List Block) (followed : List Named) (field : ℕ)
+        → IsHeaderDone image.now.bytes held claims.old.held followed field depth messages
+        → IsObjectFollowed image.now.bytes held claims.new.held followed field o) }
+    ensures refused { IfErr result (λ fault. (held : List Block) (followed : List Named) (field : ℕ)
+        → IsHeaderDone image.now.bytes held claims.old.held followed field depth messages → IsRefusedAt image.now.bytes fault.cause fault.address) }
+{
+    let line = judge_line(alloc, image, &messages)?;
+    claim_data(claims, line.cells)?;
+    Ok(OpenedObject {
+        messages,
+        content: OpenedContent::Array(line),
+        depth,
+    })
+}
+
+/// Refuses a group at the last level below the root that has a link, at its first symbol node with one.
+fn check_depth(image: &Image, group: &Group, depth: u8) -> Result<(), OpenFault>
+    requires { IsGroupRead image.now.bytes group.now }
+    ensures shallow { OnOk result (1 ≤ length (links_of image.now.bytes group.now) → depth + 1 ≤ 64) }
+    ensures cause { IfErr result (λ fault. fault.cause ≡ Cause.TooDeep) }
+    ensures refused { IfErr result (λ fault. IsDeepAt image.now.bytes group.now depth fault.address) }
+{
+    if depth < LAST {
+        return Ok(());
+    }
+    for node in &group.symbol_nodes {
+        if links_at(image, group, *node) > 0 {
+            return Err(fault(Cause::TooDeep, *node));
+        }
+    }
+    Ok(())
+}
+
+/// Claims the block of an array's cells, where it has one; a refusal has the block's address.
+fn claim_data(claims: &mut Claims, cells: Option<Block>) -> Result<(), OpenFault>
+    requires { Separate claims.old.held }
+    ensures inside { OnOk result (Inside claims.old.end (data_blocks cells)) }
+    ensures claimed { OnOk result ((p : ℕ) → cover p claims.new.held ≡ cover p claims.old.held + cover p (data_blocks cells)) }
+    ensures separate { Separate claims.new.held }
+    ensures end { claims.new.end ≡ claims.old.end }
+    ensures refused { IfErr result (λ fault. (b : Block)
+        × (cells ≡ Some b) × ClaimBreach claims.old.end claims.old.held b fault.cause fault.address) }
+{
+    match cells {
+        Some(block) => claim(claims, block),
+        None => Ok(()),
+    }
+}
+
+/// The links of an object; an array has none.
+pub(crate) fn links_in<'a>(
+    alloc: Global,
+    image: &'a Image,
+    object: &OpenedObject,
+) -> Result<Vec<LinkRef<'a>>, OpenFault>
+    requires { IsObjectKept image.now.bytes object.now }
+    ensures links { IfOk result (λ links. map link_from links.items ≡ object_links image.now.bytes object.now.content) }
+    ensures refused { IfErr result (λ fault. fault.cause ≡ Cause.NoMemory) }
+{
+    let OpenedContent::Group(group) = &object.content else {
+        return Ok(Vec::new(alloc));
+    };
+    match entries(alloc, image, group) {
+        Ok(links) => Ok(links),
+        Err(_) => Err(fault(Cause::NoMemory, object.messages.header())),
+    }
+}
