@@ -40,11 +40,12 @@ fn opened(alloc: Global, image: Vec<u8>) -> Option<File> {
     }
 }
 
-/// The letter of what stands at a path, `g` or `d`.
+/// The letter of what stands at a path: `g`, `d` or `s`.
 fn letter(file: &File, path: &[u8]) -> char {
     match file.kind(path) {
         Ok(Kind::Group) => 'g',
         Ok(Kind::Dataset { .. }) => 'd',
+        Ok(Kind::Soft(_)) => 's',
         Err(_) => '?',
     }
 }
