@@ -1,6 +1,7 @@
 """Random scripts, whose answers are those of the reference."""
 
 import random
+from concurrent.futures import ProcessPoolExecutor
 
 from . import today
 from .support import InFolder, empty_image, h5i, reference
@@ -13,6 +14,8 @@ SEEDS = range(30)
 MOST_LINES = 30
 ATTRIBUTE_SEEDS = range(50)
 MOST_ATTRIBUTE_LINES = 80
+GROUP_SEEDS = range(200)
+GROUP_LINES = 300
 TYPES = [f"{sign}{bits}{order}" for sign in "iu" for bits in (8, 16, 32, 64) for order in ("le", "be", "")]
 NAMES = ["/d", "/e", "/" + "n" * 1023, "/" + "n" * 1024, "/a\\x20b", "/\\xff\\x00", "/\\xff", "/..", "/.", "/",
          "d", "", "//", "/d/", "/x/d", "/d/e", "/a\\x2", "/a\\X20", "/\\x2fd", "/a\tb", "\\x2fd", "/~!"]
@@ -23,7 +26,9 @@ FORMS = ["ls", "ls ", "ls x", "dump", "group /g", "repack", "show 0", "close 1",
          "dataset", "dataset /d", "# note", "", "dump /d /e", "resize /d 1", "attr /d a u8 - 1", "unattr /d a",
          "attr / a u8 2 1", "unattr / a", "dump /"]
 # How often each kind of line is drawn where attributes are set and removed.
-MOOD = dict(attr=40, unattr=14, dump=10, root=6, ls=3, line=6, dataset=2, bad=8, note=1, group=1, write=1, resize=1)
+ATTRIBUTES = dict(attr=40, unattr=14, dump=10, root=6, ls=3, line=6, dataset=2, bad=8, note=1, group=1, write=1, resize=1)
+# And where groups and links are made.
+GROUPS = dict(group=16, many=24, line=12, link=14, soft=12, attr=8, unattr=3, dump=8, dataset=2, bad=6, note=1, write=1, unlink=1)
 
 
 def limits(name):
@@ -56,12 +61,16 @@ def draw(rng):
     return rng.choice(FORMS)
 
 
-class AttributeMaker(Maker):
-    """Draws lines that set and remove attributes, by following what the reference answers to them."""
+class LineMaker(Maker):
+    """Draws lines of some kinds, by following what the reference answers to them."""
+
+    def __init__(self, rng, session, kinds):
+        super().__init__(rng, session)
+        self.kinds = kinds
 
     def line(self):
         """The next line, which is also run."""
-        kind = self.rng.choices(list(MOOD), list(MOOD.values()))[0]
+        kind = self.rng.choices(list(self.kinds), list(self.kinds.values()))[0]
         line = getattr(self, "make_" + kind)()
         line = line.encode("ascii") if isinstance(line, str) else line
         return line, today.answer(self.session, line)
@@ -75,6 +84,14 @@ class AttributeMaker(Maker):
         fixed = self.pick(FIXED.values())
         fill = f" fill={self.value(fixed)}" if self.odd(0.4) else ""
         return f"dataset {self.new_path()} {fixed.text()} {self.rng.randrange(9)} contiguous{fill}"
+
+
+def script_of_groups(seed):
+    """A script that makes groups, arrays and links, what the reference answers to it, and its file: how many edits it accepts."""
+    maker = LineMaker(random.Random(f"groups {seed}"), today.session_of(empty_image()), GROUPS)
+    made = [maker.line() for _ in range(GROUP_LINES)]
+    script = b"".join(line + b"\n" for line, _ in made)
+    return script, b"".join(text for _, (text, _) in made), maker.session.image(), sum(edited for _, (_, edited) in made)
 
 
 class RandomScripts(InFolder):
@@ -110,10 +127,22 @@ class RandomScripts(InFolder):
                 image = empty_image()
                 # The second script goes on where the first has ended.
                 for _ in range(2):
-                    maker = AttributeMaker(rng, today.session_of(image))
+                    maker = LineMaker(rng, today.session_of(image), ATTRIBUTES)
                     made = [maker.line() for _ in range(rng.randrange(1, MOST_ATTRIBUTE_LINES))]
                     image = self.assert_runs(image, b"".join(line + b"\n" for line, _ in made))
                     accepted += sum(edited for _, (_, edited) in made)
                 path, other = self.written("a.h5", image), self.written("b.h5", maker.session.image())
                 self.assertEqual(reference("same", path, other)[:2], (0, b"same\n"))
         self.assertGreater(accepted, 10 * len(ATTRIBUTE_SEEDS))
+
+    def test_scripts_of_groups(self):
+        accepted = 0
+        with ProcessPoolExecutor() as pool:
+            for seed, (script, wanted, image, edits) in enumerate(pool.map(script_of_groups, GROUP_SEEDS)):
+                with self.subTest(seed=seed):
+                    path = self.new(f"{seed}.h5")
+                    self.assertEqual(h5i("run", path, script=script), (today.status_of(wanted), wanted, b""))
+                    self.assertEqual(self.read(path), image)
+                    self.assertEqual(h5i("ls", path), (0, today.listing(today.session_of(image).tree), b""))
+                    accepted += edits
+        self.assertGreater(accepted, GROUP_LINES // 2 * len(GROUP_SEEDS))

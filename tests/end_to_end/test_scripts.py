@@ -35,7 +35,7 @@ class Answers(InFolder):
         self.assert_answers(path, b"dump /d\n", b"/d dataset i32le {3} contiguous fill -7\n-7 -7 -7\n")
         self.assert_answers(path, b"ls\n", b"/ group\n/d dataset i32le {3}\n")
         self.assertEqual(h5i("ls", path), (0, b"/ group\n/d dataset i32le {3}\n", b""))
-        self.assert_answers(path, b"dataset /e u8 1 contiguous\n", b"refused 32 NotYet\n", 1)
+        self.assert_answers(path, b"dataset /e u8 1 compact\n", b"refused 32 NotYet\n", 1)
         self.assertEqual(self.read(path), image)
 
     def test_refusals_on_the_empty_file(self):
@@ -61,7 +61,21 @@ class Answers(InFolder):
             b"dump d": b"refused 1 BadPath",
             b"dump /d/e": b"refused 4 NoSuchParent",
             b"dump " + b"/a" * 65: b"refused 2 PathTooDeep",
-            b"group /g": b"bad line",
+            b"group g": b"refused 1 BadPath",
+            b"group /": b"refused 3 IsRoot",
+            b"group /x/y": b"refused 4 NoSuchParent",
+            b"link /d /e": b"refused 6 NotFound",
+            b"link / /e": b"refused 10 GroupLink",
+            b"link / /": b"refused 3 IsRoot",
+            b"link /d/e /f": b"refused 4 NoSuchParent",
+            b"soft /a\\x00 /s": b"refused 1 BadPath",
+            b"soft t /": b"refused 3 IsRoot",
+            b"soft " + b"t" * 1024 + b" /s": b"refused 8 NameTooLong",
+            b"group": b"bad line",
+            b"link /d": b"bad line",
+            b"soft /s": b"bad line",
+            b"unlink /d": b"bad line",
+            b"resize /d 1": b"bad line",
             b"repack": b"bad line",
             b"show 0": b"bad line",
             b"write /d 0 1 1 1 5": b"bad line",
@@ -98,7 +112,7 @@ class Answers(InFolder):
         self.assert_answers(
             self.new(), b"ls\ndump /d\n" + ARRAY + b"no line\ndump /d\n" + ARRAY,
             b"/ group\nrefused 6 NotFound\nok 0\nbad line\n"
-            b"/d dataset i32le {3} contiguous fill -7\n-7 -7 -7\nrefused 32 NotYet\n", 1)
+            b"/d dataset i32le {3} contiguous fill -7\n-7 -7 -7\nrefused 7 AlreadyThere\n", 1)
 
     def test_a_long_line(self):
         path = self.new()
@@ -110,7 +124,7 @@ class Answers(InFolder):
         self.assert_answers(path, ARRAY, b"ok 0\n")
         image = self.read(path)
         self.assert_answers(path, ARRAY + b"dump /d\n",
-                            b"refused 32 NotYet\n/d dataset i32le {3} contiguous fill -7\n-7 -7 -7\n", 1)
+                            b"refused 7 AlreadyThere\n/d dataset i32le {3} contiguous fill -7\n-7 -7 -7\n", 1)
         self.assertEqual(self.read(path), image)
 
     def test_the_reference_reads_and_writes_the_same(self):
@@ -141,7 +155,7 @@ class Written(InFolder):
     def test_with_a_refused_line(self):
         path = self.new()
         self.assertEqual(h5i("run", path, script=b"no line\n" + ARRAY + ARRAY),
-                         (1, b"bad line\nok 0\nrefused 32 NotYet\n", b""))
+                         (1, b"bad line\nok 0\nrefused 7 AlreadyThere\n", b""))
         self.assertEqual(self.read(path), self.read(self.with_array(name="other.h5")))
 
     def test_a_script_of_the_greatest_length(self):

@@ -13,15 +13,15 @@ sys.path.insert(0, os.path.dirname(REFERENCE))
 
 # pylint: disable=wrong-import-position
 from h5oracle import reader  # noqa: E402
-from h5oracle.model import CreateDataset, Dataset, RemoveAttr, SetAttr  # noqa: E402
+from h5oracle.model import CreateDataset, Dataset  # noqa: E402
 from h5oracle.script import BadLine, attr_line, dump_lines, edit_of, ls_lines, run_script  # noqa: E402
 from h5oracle.session import Session  # noqa: E402
 from h5oracle.values import LINE_LIMIT, OpenFault  # noqa: E402
 
 # The forms that are read: all but superblock 1, fill version 3 and attribute versions 2 and 3.
 FORMS = 14
-# The lines that are taken: `dataset`, `attr`, `unattr`, `ls` and `dump`.
-LINES = 3
+# The lines that are taken: `group`, `dataset`, `link`, `soft`, `attr`, `unattr`, `ls` and `dump`.
+LINES = 4
 NOT_YET = b"refused 32 NotYet\n"
 
 
@@ -59,15 +59,6 @@ def is_read_yet(tree):
     return all(is_line(thing) for thing in tree.objects.values() if isinstance(thing, Dataset))
 
 
-def is_small(tree):
-    """Whether the tree is one of which edits are carried: one link at most, to an array."""
-    links = list(tree.objects[0].links.values())
-    if not links:
-        return True
-    [(kind, number), *others] = links
-    return not others and kind == "object" and not tree.is_group(number)
-
-
 def printed(lines):
     """Lines as the program prints them."""
     return "".join(line + "\n" for line in lines).encode("ascii")
@@ -88,9 +79,9 @@ def attributes(thing):
     return [attr_line(thing.attrs[name]) for name in sorted(thing.attrs)]
 
 
-def is_carried(session, line):
-    """Whether a line asks for no edit, or for one that is carried: of attributes in a small tree, or a first array, of one size, in
-    one block."""
+def is_carried(line):
+    """Whether a line asks for no edit, or for one that is carried: all that are taken, but for arrays that have not one size or are
+    not in one block."""
     words = line.split(b" ")
     if len(line) > LINE_LIMIT or b"" in words:
         return True
@@ -98,17 +89,12 @@ def is_carried(session, line):
         edit = edit_of(words)
     except BadLine:
         return True
-    if isinstance(edit, (SetAttr, RemoveAttr)):
-        return is_small(session.tree)
-    if not isinstance(edit, CreateDataset):
-        return True
-    spec = edit.spec
-    return spec.store == "contiguous" and len(spec.dims) == 1 and not session.tree.objects[0].links
+    return not isinstance(edit, CreateDataset) or (edit.spec.store == "contiguous" and len(edit.spec.dims) == 1)
 
 
 def answer(session, line):
     """The answer to one line of a script, and whether an edit was accepted."""
-    if not is_carried(session, line):
+    if not is_carried(line):
         return NOT_YET, False
     run = run_script(session, line + b"\n")
     return run.output(), run.edits > 0

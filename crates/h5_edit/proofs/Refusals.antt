@@ -1,31 +1,58 @@
 -- How an edit that is carried is refused: by a rule of the tree, by what the image decides, or for want of memory.
-use Rattle.std.proofs.Common.{◌≡◌, refl, Bool, true, false, Some, None}
-use Rattle.h5_model.specs.Edits.{applied}
+use Rattle.std.proofs.Common.{◌≡◌, ℕ, refl, sym, ◌∙◌, Bool, true, false, Some, None}
+use Rattle.std.specs.FinMap.{entries}
+use Rattle.h5_image.specs.Plain.{AreLow}
 use Rattle.h5_model.specs.Refusal.{refusal_of}
+use Rattle.h5_model.specs.Superblock.{leaf_k, internal_k}
 use Rattle.h5_model.specs.declared.edits.Edit.{Edit}
 use Rattle.h5_model.specs.declared.edit_fault.EditFault.{EditFault}
 use Rattle.h5_model.specs.declared.edit_fault.EditFault.TheVariants as fault
 use Rattle.h5_tree.specs.State.{FileState}
-use Rattle.h5_anew.specs.Anew.{is_too_long}
-use Rattle.h5_edit.specs.Carried.{is_header_full, IsRefusedBy}
+use Rattle.h5_edit.specs.Carried.{is_carried, is_header_full, is_too_long, tree_after, IsRefused, IsRefusedBy}
+use Rattle.h5_edit.proofs.Low.{are_low, low_of, of_low}
 
 module _ (f : FileState) (edit : Edit) where
-  abbrev is_long : Bool
-  is_long = is_too_long f (applied f.tree edit f.next)
+  abbrev leaf : ℕ
+  leaf = leaf_k f.image
 
-  by_given : (e : EditFault) (full long : Bool) → is_header_full f edit ≡ full → is_long ≡ long → refusal_of f.tree f.next edit ≡ Some e → IsRefusedBy f edit e
-  by_given e true long has is h = record { given = Some fault.HeaderFull; allowed = has; answer = rw h refl }
-  by_given e false true has is h = record { given = Some fault.ImageFull; allowed = (has, is); answer = rw h refl }
-  by_given e false false has is h = record { given = None; allowed = (has, is); answer = rw h refl }
+  abbrev internal : ℕ
+  internal = internal_k f.image
 
-  pub by_rule : (e : EditFault) → refusal_of f.tree f.next edit ≡ Some e → IsRefusedBy f edit e
-  by_rule e h = by_given e (is_header_full f edit) is_long refl refl h
+  by_given : (e : EditFault) (full long low : Bool) → is_header_full f edit ≡ full → is_too_long f (tree_after f edit) ≡ long
+      → are_low leaf internal (entries (tree_after f edit)) ≡ low → refusal_of f.tree f.next edit ≡ Some e → IsRefusedBy f edit e
+  by_given e true long low has is lies h = record { given = Some fault.HeaderFull; allowed = has; answer = rw h refl }
+  by_given e false true low has is lies h = record { given = Some fault.ImageFull; allowed = (has, is); answer = rw h refl }
+  by_given e false false true has is lies h =
+      record { given = None; allowed = (has, is, low_of leaf internal (tree_after f edit) lies); answer = rw h refl }
+  by_given e false false false has is lies h = record {
+    given = Some fault.TreeTooDeep;
+    allowed = (has, λ low. let never : true ≡ false = sym (of_low leaf internal (tree_after f edit) low) ∙ lies in absurd (cc));
+    answer = rw h refl;
+  }
 
-  pub by_memory : IsRefusedBy f edit fault.NoMemory
-  by_memory = record { given = Some fault.NoMemory; allowed = tt; answer = refl }
+  as_carried : (e : EditFault) → is_carried edit ≡ true → IsRefusedBy f edit e → IsRefused f edit e
+  as_carried e carried by = rw carried by
 
-  pub by_header : refusal_of f.tree f.next edit ≡ None → is_header_full f edit ≡ true → IsRefusedBy f edit fault.HeaderFull
-  by_header h full = record { given = Some fault.HeaderFull; allowed = full; answer = rw h refl }
+  -- ---- an edit that is carried
 
-  pub by_length : refusal_of f.tree f.next edit ≡ None → is_header_full f edit ≡ false → is_too_long f (applied f.tree edit f.next) ≡ true → IsRefusedBy f edit fault.ImageFull
-  by_length h room long = record { given = Some fault.ImageFull; allowed = (room, long); answer = rw h refl }
+  module _ (carried : is_carried edit ≡ true) where
+    pub by_rule : (e : EditFault) → refusal_of f.tree f.next edit ≡ Some e → IsRefused f edit e
+    by_rule e h = as_carried e carried
+        (by_given e (is_header_full f edit) (is_too_long f (tree_after f edit)) (are_low leaf internal (entries (tree_after f edit))) refl refl refl h)
+
+    pub by_memory : IsRefused f edit fault.NoMemory
+    by_memory = as_carried fault.NoMemory carried (record { given = Some fault.NoMemory; allowed = tt; answer = refl })
+
+    pub by_header : refusal_of f.tree f.next edit ≡ None → is_header_full f edit ≡ true → IsRefused f edit fault.HeaderFull
+    by_header h full = as_carried fault.HeaderFull carried (record { given = Some fault.HeaderFull; allowed = full; answer = rw h refl })
+
+    pub by_length : refusal_of f.tree f.next edit ≡ None → is_header_full f edit ≡ false → is_too_long f (tree_after f edit) ≡ true → IsRefused f edit fault.ImageFull
+    by_length h room long = as_carried fault.ImageFull carried (record { given = Some fault.ImageFull; allowed = (room, long); answer = rw h refl })
+
+    pub by_depth : refusal_of f.tree f.next edit ≡ None → is_header_full f edit ≡ false → (AreLow leaf internal (tree_after f edit) → ⊥) → IsRefused f edit fault.TreeTooDeep
+    by_depth h room deep = as_carried fault.TreeTooDeep carried (record { given = Some fault.TreeTooDeep; allowed = (room, deep); answer = rw h refl })
+
+  -- ---- one that is not
+
+  pub not_carried : is_carried edit ≡ false → IsRefused f edit fault.NotYet
+  not_carried other = rw other refl

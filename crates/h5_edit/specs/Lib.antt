@@ -1,5 +1,3 @@
 pub mod Carried
 pub mod Made
-pub mod Rules
-pub mod NewArray
-pub mod Place
+pub mod Answers

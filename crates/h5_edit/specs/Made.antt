@@ -1,20 +1,30 @@
--- What an accepted edit makes: the image of the tree that it gives.
-use Rattle.std.specs.Prelude.{◌≡◌, true, Some, None}
-use Rattle.h5_model.specs.Edits.{applied, state_after, named_object}
+-- What an accepted edit makes: the image of the tree that it gives, written anew (File Format Specification 3.0, sections II.A, III and
+-- IV.A).
+use Rattle.std.specs.Prelude.{◌≡◌, ℕ, true, None, List, length}
+use Rattle.std.specs.Option.{option_map}
+use Rattle.h5_model.specs.Edits.{state_after, named_object}
 use Rattle.h5_model.specs.Refusal.{refusal_of}
+use Rattle.h5_model.specs.Superblock.{leaf_k, internal_k}
+use Rattle.h5_model.specs.Tree.{Tree}
 use Rattle.h5_model.specs.declared.edits.Edit.{Edit}
 use Rattle.h5_tree.specs.State.{FileState, state_of}
-use Rattle.h5_anew.specs.Anew.{IsAnew}
+use Rattle.h5_bodies.specs.Laws.{IsPlainReading}
+use Rattle.h5_renumber.specs.Headers.{table_with}
 use Rattle.h5_edit.specs.declared.made.Made.{Made}
-use Rattle.h5_edit.specs.Carried.{is_carried, IsGivenFor}
+use Rattle.h5_edit.specs.Carried.{is_carried, tree_after, IsGivenFor}
+
+-- it reads as the tree, without gaps, and keeps the K values; these are the headers of its objects by their numbers
+pub record IsAnew (f : FileState) (tree : Tree) (next : ℕ) (image headers : List ℕ) : Type 0 where
+  pub reads : IsPlainReading image (leaf_k f.image) (internal_k f.image) (table_with headers) tree
+  pub numbered : length headers ≡ next
 
 -- no rule of the tree refuses the edit, nor what is given beside them
 pub record IsAccepted (f : FileState) (edit : Edit) : Type 0 where
-  pub carried : is_carried f.tree edit ≡ true
+  pub carried : is_carried edit ≡ true
   pub accepted : refusal_of f.tree f.next edit ≡ None
   pub given : IsGivenFor f edit None
 
 pub record IsMade (f : FileState) (edit : Edit) (made : Made) : Type 0 where
   pub accepted : IsAccepted f edit
-  pub anew : IsAnew f (applied f.tree edit f.next) (state_after (state_of f) edit).next made.image.items
-  pub object : named_object f.tree edit f.next ≡ Some (made.object).0
+  pub anew : IsAnew f (tree_after f edit) (state_after (state_of f) edit).next made.image.items made.headers.items
+  pub object : option_map (λ o. o.0) made.object ≡ named_object f.tree edit f.next

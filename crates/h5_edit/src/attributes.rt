@@ -2,21 +2,22 @@
 
 ghost use Rattle.std.specs.Prelude.{MatchResult};
 ghost use Rattle.h5_model.specs.declared.edits.Edit.TheVariants.{SetAttr, RemoveAttr};
-ghost use Rattle.h5_tree.specs.SmallKept.{IsSmallOpened};
-ghost use Rattle.h5_tree.specs.State.{small_state};
-ghost use Rattle.h5_edit.specs.Carried.{IsRefusedBy};
+ghost use Rattle.h5_tree.specs.Kept.{IsOpened};
+ghost use Rattle.h5_tree.specs.State.{opened_state};
+ghost use Rattle.h5_edit.specs.Carried.{IsRefused};
 ghost use Rattle.h5_edit.specs.Made.{IsMade};
 
-use crate::limits::MAX_MESSAGES;
-use crate::made::{Made, edit_fault};
-use crate::place::{messages_at, object_of, target_at};
-use crate::values::check_attribute;
-use h5_anew::{Change, change_attributes};
-use h5_attr::get;
-use h5_model::{AttrSpec, EditFault};
+use crate::anew::write_changed;
+use crate::made::{Made, answer};
+use h5_change::Change;
+use h5_model::{AttrSpec, EditFault, ObjectNo};
+use h5_rules::{check_attribute, check_removal};
 use h5_space::Image;
-use h5_tree::Small;
+use h5_tree::Opened;
 use std::alloc::Global;
+
+/// The most messages of a header.
+const MAX_MESSAGES: usize = 65535;
 
 /// Adds an attribute to the object at the path, or puts it in place of the one of its name.
 ///
@@ -27,26 +28,27 @@ use std::alloc::Global;
 pub fn set_attribute(
     alloc: Global,
     image: &Image,
-    opened: &Small,
+    opened: &Opened,
     path: &[u8],
     attr: &AttrSpec,
 ) -> Result<Made, EditFault>
-    requires { IsSmallOpened image.now.bytes opened.now.root opened.now.link }
-    ensures { let f = small_state image.now.bytes opened.now.root opened.now.link in
-        MatchResult result (IsMade f (SetAttr path.now attr.now)) (IsRefusedBy f (SetAttr path.now attr.now)) }
+    requires { IsOpened image.now.bytes opened.now.objects.items opened.now.numbers }
+    ensures { let f = opened_state image.now.bytes opened.now.objects.items in
+        MatchResult result (IsMade f (SetAttr path.now attr.now)) (IsRefused f (SetAttr path.now attr.now)) }
 {
-    let target = target_at(opened, path)?;
-    check_attribute(alloc, attr)?;
-    if messages_at(opened, target).list().len() + 2 > MAX_MESSAGES {
+    let number = check_attribute(alloc, image, opened, path, attr)?;
+    // A Continuation may come with the message.
+    if opened.objects[number as usize].messages.list().len() + 2 > MAX_MESSAGES {
         return Err(EditFault::HeaderFull);
     }
-    match change_attributes(alloc, image, opened, target, &Change::Set(attr)) {
-        Ok(image) => Ok(Made {
-            image,
-            object: object_of(target),
-        }),
-        Err(fault) => Err(edit_fault(fault)),
-    }
+    // The call's contract says that the type is a sound one.
+    let _size = attr.fixed.size();
+    let change = Change::Set {
+        object: number,
+        attr,
+    };
+    let written = write_changed(alloc, image, opened, &change);
+    answer(written, Some(ObjectNo(number)))
 }
 
 /// Removes the attribute of this name from the object at the path.
@@ -56,23 +58,19 @@ pub fn set_attribute(
 pub fn remove_attribute(
     alloc: Global,
     image: &Image,
-    opened: &Small,
+    opened: &Opened,
     path: &[u8],
     name: &[u8],
 ) -> Result<Made, EditFault>
-    requires { IsSmallOpened image.now.bytes opened.now.root opened.now.link }
-    ensures { let f = small_state image.now.bytes opened.now.root opened.now.link in
-        MatchResult result (IsMade f (RemoveAttr path.now name.now)) (IsRefusedBy f (RemoveAttr path.now name.now)) }
+    requires { IsOpened image.now.bytes opened.now.objects.items opened.now.numbers }
+    ensures { let f = opened_state image.now.bytes opened.now.objects.items in
+        MatchResult result (IsMade f (RemoveAttr path.now name.now)) (IsRefused f (RemoveAttr path.now name.now)) }
 {
-    let target = target_at(opened, path)?;
-    if get(image, messages_at(opened, target), name).is_none() {
-        return Err(EditFault::NoSuchAttribute);
-    }
-    match change_attributes(alloc, image, opened, target, &Change::Remove(name)) {
-        Ok(image) => Ok(Made {
-            image,
-            object: object_of(target),
-        }),
-        Err(fault) => Err(edit_fault(fault)),
-    }
+    let number = check_removal(image, opened, path, name)?;
+    let change = Change::Remove {
+        object: number,
+        name,
+    };
+    let written = write_changed(alloc, image, opened, &change);
+    answer(written, Some(ObjectNo(number)))
 }

@@ -1,14 +1,14 @@
-//! Edits of an opened image: why one is refused, in the order of the refusals' numbers, and the image that an accepted one gives.
+//! Edits of an opened image: why one is refused, in the order of the refusals' numbers, and the image that an accepted one gives, written
+//! anew (File Format Specification 3.0, sections III.C and IV.A).
+//!
+//! Each call writes the whole image, however small the edit is.
 #![tactic(auto)]
 
-mod array;
+mod anew;
 mod attributes;
-mod limits;
-mod line;
+mod links;
 mod made;
-mod place;
-mod values;
 
-pub use array::new_array;
 pub use attributes::{remove_attribute, set_attribute};
+pub use links::{new_array, new_group, new_hard_link, new_soft_link};
 pub use made::Made;

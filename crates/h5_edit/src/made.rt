@@ -1,24 +1,35 @@
 //! What an accepted edit makes.
 
 ghost use Rattle.std.specs.Prelude.{◌≡◌};
-ghost use Rattle.h5_edit.specs.Rules.{edit_fault_of};
+ghost use Rattle.h5_edit.specs.Answers.{answer_to};
 
-use h5_anew::WriteFault;
 use h5_model::{EditFault, ObjectNo};
+use h5_write::{WriteFault, Written};
 
-/// The image that an edit gives, and the object that it makes or names.
+/// The image that an edit gives, with the addresses of its objects' headers by their numbers, and the object that the edit makes or
+/// names.
 #[derive(Drop)]
 pub struct Made {
     pub image: Vec<u8>,
-    pub object: ObjectNo,
+    pub headers: Vec<u64>,
+    pub object: Option<ObjectNo>,
 }
 
-/// Why an edit is refused whose image is not written.
-pub(crate) fn edit_fault(fault: WriteFault) -> EditFault
-    ensures { result ≡ edit_fault_of fault }
+/// What an edit is answered that no rule refuses, by what was written; this is the object that it makes or names.
+pub(crate) fn answer(
+    written: Result<Written, WriteFault>,
+    object: Option<ObjectNo>,
+) -> Result<Made, EditFault>
+    ensures { result ≡ answer_to written object }
 {
-    match fault {
-        WriteFault::TooLong => EditFault::ImageFull,
-        WriteFault::NoMemory => EditFault::NoMemory,
+    match written {
+        Ok(Written { image, headers }) => Ok(Made {
+            image,
+            headers,
+            object,
+        }),
+        Err(WriteFault::TooLong) => Err(EditFault::ImageFull),
+        Err(WriteFault::TooDeep) => Err(EditFault::TreeTooDeep),
+        Err(WriteFault::NoMemory) => Err(EditFault::NoMemory),
     }
 }

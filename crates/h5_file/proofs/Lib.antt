@@ -3,4 +3,3 @@ pub mod Signed
 pub mod Sounds
 pub mod Opens
 pub mod Made
-pub mod Carrying

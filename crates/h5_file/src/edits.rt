@@ -2,111 +2,119 @@
 
 ghost use Rattle.std.specs.Prelude.{◌≡◌, MatchResult};
 ghost use Rattle.h5_model.specs.declared.edits.Edit.{Edit as TheEdit};
-ghost use Rattle.h5_model.specs.declared.edits.Edit.TheVariants.{CreateDataset, SetAttr, RemoveAttr};
+ghost use Rattle.h5_model.specs.declared.edits.Edit.TheVariants.{CreateGroup, CreateDataset, HardLink, SoftLink, SetAttr, RemoveAttr};
 ghost use Rattle.h5_edit.specs.Carried.{IsRefused};
 ghost use Rattle.h5_edit.specs.Made.{IsMade};
 ghost use Rattle.h5_file.specs.Edited.{IsEdited};
 
 use crate::file::File;
-use h5_edit::{Made, new_array, remove_attribute, set_attribute};
+use h5_edit::{
+    Made, new_array, new_group, new_hard_link, new_soft_link, remove_attribute, set_attribute,
+};
 use h5_model::{AttrSpec, Edit, EditFault, Edited, Spec};
 use h5_open::walk;
+use h5_renumber::renumber;
 use h5_space::Image;
-use h5_tree::as_small;
 
 impl File {
     /// Carries an edit out: the image is then that of the tree that the edit gives.
     ///
-    /// Refused as `NotYet`, before any other check, unless it sets or removes an attribute in a file whose
-    /// root has one link at most, to an array, or creates a contiguous array of one size in a file whose
-    /// root has no link; then as the call of its own is. A refusal changes nothing.
+    /// Refused as `NotYet`, before any other check, where it removes a link, writes or resizes, or creates an array that is not contiguous
+    /// of one size; then as the call of its own is. A refusal changes nothing.
     pub fn edit(&mut self, edit: &Edit) -> Result<Edited, EditFault>
         ensures { MatchResult result (IsEdited self.old edit.now self.new) (λ e. IsRefused self.old edit.now e × (self.new ≡ self.old)) }
     {
         match edit {
+            Edit::CreateGroup { path } => self.create_group(path.as_slice()),
             Edit::CreateDataset { path, spec } => self.create_dataset(path.as_slice(), spec),
+            Edit::HardLink { target, path } => self.hard_link(target.as_slice(), path.as_slice()),
+            Edit::SoftLink { text, path } => self.soft_link(text.as_slice(), path.as_slice()),
             Edit::SetAttr { path, attr } => self.set_attr(path.as_slice(), attr),
             Edit::RemoveAttr { path, name } => self.remove_attr(path.as_slice(), name.as_slice()),
             _ => Err(EditFault::NotYet),
         }
     }
 
+    /// Creates an empty group at the path.
+    ///
+    /// Refused by the lowest number that holds: `BadPath`, `PathTooDeep`, `IsRoot`, `NoSuchParent`, `NotAGroup`, `AlreadyThere`,
+    /// `NameTooLong` above 1023 bytes, `TooManyObjects`, `TreeTooDeep` where the tree of the group that takes the link would have more
+    /// than 16 levels, `ImageFull` where the image would pass 2147483648 bytes, `NoMemory`. A refusal changes nothing.
+    pub fn create_group(&mut self, path: &[u8]) -> Result<Edited, EditFault>
+        ensures { MatchResult result (IsEdited self.old (CreateGroup path.now) self.new)
+            (λ e. IsRefused self.old (CreateGroup path.now) e × (self.new ≡ self.old)) }
+    {
+        let made = new_group(self.alloc, &self.image, &self.opened, path)?;
+        self.take(made)
+    }
+
     /// Creates an array at the path, every cell of which is the fill.
     ///
-    /// Refused as `NotYet`, before any other check, unless the array is contiguous, of one size, and
-    /// the root has no link. Else the lowest number that holds: `BadPath`, `PathTooDeep`, `IsRoot`,
-    /// `NoSuchParent`, `NameTooLong`, `BadSpec`, `TooManyCells`, `ValueRange`, `ImageFull` where the
-    /// image would pass 2147483648 bytes, `NoMemory`. A refusal changes nothing.
+    /// Refused as `NotYet`, before any other check, unless the array is contiguous and of one size. Else by the lowest number that holds:
+    /// `BadPath`, `PathTooDeep`, `IsRoot`, `NoSuchParent`, `NotAGroup`, `AlreadyThere`, `NameTooLong` above 1023 bytes, `BadSpec` where the
+    /// maximum is not the size, `TooManyCells`, `ValueRange`, `TooManyObjects`, `TreeTooDeep`, `ImageFull`, `NoMemory`. A refusal changes
+    /// nothing.
     pub fn create_dataset(&mut self, path: &[u8], spec: &Spec) -> Result<Edited, EditFault>
         ensures { MatchResult result (IsEdited self.old (CreateDataset path.now spec.now) self.new)
             (λ e. IsRefused self.old (CreateDataset path.now spec.now) e × (self.new ≡ self.old)) }
     {
-        let made = self.created(path, spec)?;
+        let made = new_array(self.alloc, &self.image, &self.opened, path, spec)?;
+        self.take(made)
+    }
+
+    /// Gives the array at `target` a second name, `path`.
+    ///
+    /// Refused by the lowest number that holds, of either path: `BadPath`, `PathTooDeep`, `IsRoot`, `NoSuchParent`, `NotAGroup`, `NotFound`
+    /// where nothing or a soft link stands at `target`, `AlreadyThere`, `NameTooLong` above 1023 bytes, `GroupLink` where a group stands
+    /// at `target`, `TooManyLinks` above 65535, `TreeTooDeep`, `ImageFull`, `NoMemory`. A refusal changes nothing.
+    pub fn hard_link(&mut self, target: &[u8], path: &[u8]) -> Result<Edited, EditFault>
+        ensures { MatchResult result (IsEdited self.old (HardLink target.now path.now) self.new)
+            (λ e. IsRefused self.old (HardLink target.now path.now) e × (self.new ≡ self.old)) }
+    {
+        let made = new_hard_link(self.alloc, &self.image, &self.opened, target, path)?;
+        self.take(made)
+    }
+
+    /// Makes a soft link at the path, with this text, which is not followed.
+    ///
+    /// Refused by the lowest number that holds: `BadPath` also where the text is empty or has a zero byte, `PathTooDeep`, `IsRoot`,
+    /// `NoSuchParent`, `NotAGroup`, `AlreadyThere`, `NameTooLong` where the name or the text has more than 1023 bytes, `TreeTooDeep`,
+    /// `ImageFull`, `NoMemory`. A refusal changes nothing.
+    pub fn soft_link(&mut self, text: &[u8], path: &[u8]) -> Result<Edited, EditFault>
+        ensures { MatchResult result (IsEdited self.old (SoftLink text.now path.now) self.new)
+            (λ e. IsRefused self.old (SoftLink text.now path.now) e × (self.new ≡ self.old)) }
+    {
+        let made = new_soft_link(self.alloc, &self.image, &self.opened, text, path)?;
         self.take(made)
     }
 
     /// Adds an attribute to the object at the path, or puts it in place of the one of its name.
     ///
-    /// Refused as `NotYet`, before any other check, where the root has other links than one to an array.
-    /// Else by the lowest number that holds: `BadPath`, `PathTooDeep`, `NoSuchParent`, `NotAGroup`,
-    /// `NotFound`, `NameTooLong` above 1023 bytes, `BadSpec` where the name is empty or has a zero byte, or
-    /// the rank is above 32, `TooManyCells`, `ValueCount`, `ValueRange`, `AttributeTooLarge` where the
-    /// message's body would pass 65528 bytes, `HeaderFull` where the header's total of messages plus 2
-    /// passes 65535, `ImageFull` where the image would pass 2147483648 bytes, `NoMemory`. A refusal
-    /// changes nothing.
+    /// Refused by the lowest number that holds: `BadPath`, `PathTooDeep`, `NoSuchParent`, `NotAGroup`, `NotFound`, `NameTooLong` above 1023
+    /// bytes, `BadSpec` where the name is empty or has a zero byte, or the rank is above 32, `TooManyCells`, `ValueCount`, `ValueRange`,
+    /// `AttributeTooLarge` where the message's body would pass 65528 bytes, `HeaderFull` where the header's total of messages plus 2
+    /// passes 65535, `ImageFull` where the image would pass 2147483648 bytes, `NoMemory`. A refusal changes nothing.
     pub fn set_attr(&mut self, path: &[u8], attr: &AttrSpec) -> Result<Edited, EditFault>
         ensures { MatchResult result (IsEdited self.old (SetAttr path.now attr.now) self.new)
             (λ e. IsRefused self.old (SetAttr path.now attr.now) e × (self.new ≡ self.old)) }
     {
-        let made = self.set(path, attr)?;
+        let made = set_attribute(self.alloc, &self.image, &self.opened, path, attr)?;
         self.take(made)
     }
 
     /// Removes the attribute of this name from the object at the path.
     ///
-    /// Refused as `NotYet`, before any other check, where the root has other links than one to an array.
-    /// Else by the lowest number that holds: `BadPath`, `PathTooDeep`, `NoSuchParent`, `NotAGroup`,
-    /// `NotFound`, `NoSuchAttribute`, `ImageFull` where the image would pass 2147483648 bytes,
-    /// `NoMemory`. A refusal changes nothing.
+    /// Refused by the lowest number that holds: `BadPath`, `PathTooDeep`, `NoSuchParent`, `NotAGroup`, `NotFound`, `NoSuchAttribute`,
+    /// `ImageFull` where the image would pass 2147483648 bytes, `NoMemory`. A refusal changes nothing.
     pub fn remove_attr(&mut self, path: &[u8], name: &[u8]) -> Result<Edited, EditFault>
         ensures { MatchResult result (IsEdited self.old (RemoveAttr path.now name.now) self.new)
             (λ e. IsRefused self.old (RemoveAttr path.now name.now) e × (self.new ≡ self.old)) }
     {
-        let made = self.removed(path, name)?;
+        let made = remove_attribute(self.alloc, &self.image, &self.opened, path, name)?;
         self.take(made)
     }
 
-    /// What the creation of an array makes.
-    fn created(&self, path: &[u8], spec: &Spec) -> Result<Made, EditFault>
-        ensures { MatchResult result (IsMade self.now (CreateDataset path.now spec.now)) (IsRefused self.now (CreateDataset path.now spec.now)) }
-    {
-        let Some(small) = as_small(&self.image, &self.opened) else {
-            return Err(EditFault::NotYet);
-        };
-        new_array(self.alloc, &self.image, &small, path, spec)
-    }
-
-    /// What an attribute that is set makes.
-    fn set(&self, path: &[u8], attr: &AttrSpec) -> Result<Made, EditFault>
-        ensures { MatchResult result (IsMade self.now (SetAttr path.now attr.now)) (IsRefused self.now (SetAttr path.now attr.now)) }
-    {
-        let Some(small) = as_small(&self.image, &self.opened) else {
-            return Err(EditFault::NotYet);
-        };
-        set_attribute(self.alloc, &self.image, &small, path, attr)
-    }
-
-    /// What the removal of an attribute makes.
-    fn removed(&self, path: &[u8], name: &[u8]) -> Result<Made, EditFault>
-        ensures { MatchResult result (IsMade self.now (RemoveAttr path.now name.now)) (IsRefused self.now (RemoveAttr path.now name.now)) }
-    {
-        let Some(small) = as_small(&self.image, &self.opened) else {
-            return Err(EditFault::NotYet);
-        };
-        remove_attribute(self.alloc, &self.image, &small, path, name)
-    }
-
-    /// Takes the image that an edit gives in place of the file's own.
+    /// Takes the image that an edit gives in place of the file's own. Its objects keep their numbers.
     fn take(&mut self, made: Made) -> Result<Edited, EditFault>
         requires { (edit : TheEdit) × IsMade self.old edit made }
         ensures { (edit : TheEdit) → IsMade self.old edit made
@@ -114,16 +122,17 @@ impl File {
     {
         let image = Image::new(self.alloc, made.image);
         // The image reads as a tree, so only memory can be short.
-        let Ok(opened) = walk(self.alloc, &image) else {
+        let Ok(mut opened) = walk(self.alloc, &image) else {
             return Err(EditFault::NoMemory);
         };
+        renumber(&image, &mut opened, &made.headers);
         *self = File {
             image,
             opened,
             alloc: self.alloc,
         };
         Ok(Edited {
-            object: Some(made.object),
+            object: made.object,
             refreshed: 0,
         })
     }

@@ -4,8 +4,9 @@
 //! rule that bytes break by an [`OpenFault`]. The form of the bytes is the HDF5 File Format
 //! Specification's, version 3.0; docs/FORMAT.md says which part of it is accepted. This version
 //! opens files of any groups and links whose arrays have one dimension in one block, with any
-//! attributes. Where the root has one link at most, to an array, it makes that array, and sets and
-//! removes attributes.
+//! attributes. It makes groups, hard and soft links, and contiguous arrays of one size, and sets and
+//! removes attributes of any object; links that are removed, cells that are written, sizes that are
+//! changed and arrays of other forms are refused as `NotYet`.
 #![tactic(auto)]
 
 mod edits;

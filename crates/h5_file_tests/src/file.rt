@@ -2,7 +2,7 @@
 
 use h5_file::{Cause, File, Kind, OpenFault};
 use h5_lines::{Command, read_line};
-use h5_model::EditFault;
+use h5_model::{EditFault, ObjectNo};
 use std::alloc::{AllocError, Global};
 
 /// Carries out the edit that is asked for.
@@ -121,12 +121,118 @@ fn creates_and_opens_an_array(rt: HostRuntime) -> Result<(), AllocError> {
 }
 
 #[test]
-fn creates_no_second_array(rt: HostRuntime) -> Result<(), AllocError> {
+fn creates_a_second_array(rt: HostRuntime) -> Result<(), AllocError> {
     let mut file = File::create(rt.alloc())?;
     assert!(rt; edit(rt.alloc(), &mut file, LINE).is_ok());
-    let second = edit(rt.alloc(), &mut file, b"dataset /e i32le 1 contiguous");
-    assert!(rt; second == Err(EditFault::NotYet));
-    assert!(rt; file.image().len() == 1260);
+    assert!(rt; edit(rt.alloc(), &mut file, b"dataset /e i32le 1 contiguous").is_ok());
+    // A header of 120 bytes and 4 bytes of data more.
+    assert!(rt; file.image().len() == 1384);
+    assert!(rt; count(rt.alloc(), &file, b"/") == Some(2));
+    assert!(rt; file.cell(b"/d", &[2]) == Ok(-7));
+    assert!(rt; file.cell(b"/e", &[0]) == Ok(0));
+    Ok(())
+}
+
+/// Lines that ask for what no call carries out yet.
+static NOT_YET: [&[u8]; 5] = [
+    b"unlink /d",
+    b"resize /d 4",
+    b"write /d 0 1 1 1 5",
+    b"dataset /e u8 1 compact",
+    b"dataset /e u8 1 chunked:1",
+];
+
+#[test]
+fn says_what_is_not_carried_yet(rt: HostRuntime) -> Result<(), AllocError> {
+    let mut file = File::create(rt.alloc())?;
+    assert!(rt; edit(rt.alloc(), &mut file, LINE).is_ok());
+    for k in 0..NOT_YET.len() {
+        let refused = edit(rt.alloc(), &mut file, NOT_YET[k]);
+        assert!(rt;
+            refused == Err(EditFault::NotYet) && file.image().len() == 1260,
+            "row {k}"
+        );
+    }
+    Ok(())
+}
+
+/// Makes two groups, an array in the first, and a hard and a soft link to it in the second.
+fn make_links(alloc: Global, file: &mut File) -> Result<(), EditFault> {
+    file.create_group(b"/g")?;
+    file.create_group(b"/h")?;
+    edit(alloc, file, b"dataset /g/d i32le 3 contiguous fill=-7")?;
+    file.hard_link(b"/g/d", b"/h/e")?;
+    file.soft_link(b"/g/d", b"/h/s")?;
+    Ok(())
+}
+
+/// Whether these two names stand at a path.
+fn are_listed(alloc: Global, file: &File, path: &[u8], first: &[u8], second: &[u8]) -> bool {
+    match file.list(alloc, path) {
+        Ok(names) => names.len() == 2 && names[0] == first && names[1] == second,
+        Err(_) => false,
+    }
+}
+
+/// Whether the link at the path is a soft one with this text.
+fn is_soft(file: &File, path: &[u8], wanted: &[u8]) -> bool {
+    match file.kind(path) {
+        Ok(Kind::Soft(text)) => text == wanted,
+        _ => false,
+    }
+}
+
+/// Whether the file holds what [`make_links`] makes.
+fn has_links(alloc: Global, file: &File) -> bool {
+    if letter(file, b"/g") != 'g' || letter(file, b"/g/d") != 'd' || letter(file, b"/h/e") != 'd' {
+        return false;
+    }
+    if !are_listed(alloc, file, b"/", b"g", b"h") || !are_listed(alloc, file, b"/h", b"e", b"s") {
+        return false;
+    }
+    is_soft(file, b"/h/s", b"/g/d") && file.cell(b"/h/e", &[2]) == Ok(-7)
+}
+
+#[test]
+fn makes_groups_and_links(rt: HostRuntime) -> Result<(), AllocError> {
+    let mut file = File::create(rt.alloc())?;
+    assert!(rt; make_links(rt.alloc(), &mut file).is_ok());
+    assert!(rt; has_links(rt.alloc(), &file));
+    // In the order in which they were made, which is not that of their headers.
+    assert!(rt; file.number(b"/g") == Ok(ObjectNo(1)));
+    assert!(rt; file.number(b"/h") == Ok(ObjectNo(2)));
+    assert!(rt; file.number(b"/h/e") == Ok(ObjectNo(3)));
+    match opened(rt.alloc(), file.into_image()) {
+        Some(file) => assert!(rt; has_links(rt.alloc(), &file)),
+        None => assert!(rt; false, "the file was refused"),
+    }
+    Ok(())
+}
+
+#[test]
+fn makes_groups_without_gaps(rt: HostRuntime) -> Result<(), AllocError> {
+    let mut file = File::create(rt.alloc())?;
+    assert!(rt; file.create_group(b"/g").is_ok());
+    assert!(rt; file.create_group(b"/h").is_ok());
+    assert!(rt; file.image().len() == 2536);
+    assert!(rt; file.create_group(b"/g").is_err());
+    assert!(rt; file.hard_link(b"/g", b"/k").is_err());
+    assert!(rt; file.soft_link(b"", b"/k").is_err());
+    assert!(rt; file.image().len() == 2536);
+    Ok(())
+}
+
+#[test]
+fn links_an_array_nine_times(rt: HostRuntime) -> Result<(), AllocError> {
+    let mut file = File::create(rt.alloc())?;
+    assert!(rt; edit(rt.alloc(), &mut file, LINE).is_ok());
+    for name in b'e'..b'm' {
+        assert!(rt; file.hard_link(b"/d", &[b'/', name]).is_ok());
+    }
+    // Nine links stand in two nodes.
+    assert!(rt; file.image().len() == 1580);
+    assert!(rt; count(rt.alloc(), &file, b"/") == Some(9));
+    assert!(rt; file.number(b"/l") == Ok(ObjectNo(1)));
     Ok(())
 }
 

@@ -89,7 +89,7 @@ fn told(alloc: Global, file: &mut File, script: &[u8], answers: &[u8], ran: Ran)
 fn answers_lines(rt: HostRuntime) -> Result<(), Fail> {
     let mut file = File::create(rt.alloc())?;
     let refusals =
-        b"ls\ndump /d\ndataset /x/d u8 1 contiguous\ndataset /d u8 1 contiguous fill=256\ngroup /g\n# none\n\nls ";
+        b"ls\ndump /d\ndataset /x/d u8 1 contiguous\ndataset /d u8 1 contiguous fill=256\nunlink /d\n# none\n\nls ";
     let answers =
         b"/ group\nrefused 6 NotFound\nrefused 4 NoSuchParent\nrefused 23 ValueRange\nbad line\nbad line\n";
     let ran = Ran {
@@ -99,7 +99,7 @@ fn answers_lines(rt: HostRuntime) -> Result<(), Fail> {
     assert!(rt; told(rt.alloc(), &mut file, refusals, answers, ran));
     assert_eq!(rt; file.image().len(), 800);
     let script =
-        b"dataset /d i32le 3 contiguous fill=-7\ndump /d\ndataset /e u8 1 contiguous\nls\ndump /\ndump /d/x";
+        b"dataset /d i32le 3 contiguous fill=-7\ndump /d\ndataset /e u8 1 compact\nls\ndump /\ndump /d/x";
     let answers =
         b"ok 0\n/d dataset i32le {3} contiguous fill -7\n-7 -7 -7\nrefused 32 NotYet\n/ group\n/d dataset i32le {3}\n/ group\nrefused 5 NotAGroup\n";
     let ran = Ran {
@@ -111,6 +111,30 @@ fn answers_lines(rt: HostRuntime) -> Result<(), Fail> {
     assert_eq!(rt; image.len(), 1260);
     let cells = b"\xf9\xff\xff\xff\xf9\xff\xff\xff\xf9\xff\xff\xff";
     assert_eq!(rt; image.get(1248..), Some(cells.as_slice()));
+    Ok(())
+}
+
+#[test]
+fn makes_groups_and_links(rt: HostRuntime) -> Result<(), Fail> {
+    let mut file = File::create(rt.alloc())?;
+    let script =
+        b"group /g\ndataset /d i32le 3 contiguous fill=-7\ndataset /g/e u8 1 contiguous\nlink /d /g/f\nsoft /d /s\nlink /g /h\nwrite /d 0 1 1 1 5\nunlink /s\n";
+    let answers = b"ok 0\nok 0\nok 0\nok 0\nok 0\nrefused 10 GroupLink\nbad line\nbad line\n";
+    let ran = Ran {
+        refused: 3,
+        edits: 5,
+    };
+    assert!(rt; told(rt.alloc(), &mut file, script, answers, ran));
+    let script = b"ls\ndump /g\ndump /g/f\ndump /s\n";
+    let answers =
+        b"/ group\n/d dataset i32le {3}\n/g group\n/g/e dataset u8 {1}\n/g/f dataset i32le {3}\n/s soft /d\n/g group\n/g/f dataset i32le {3} contiguous fill -7\n-7 -7 -7\n/s soft /d\n";
+    let ran = Ran {
+        refused: 0,
+        edits: 0,
+    };
+    assert!(rt; told(rt.alloc(), &mut file, script, answers, ran));
+    // The superblock, two groups of 1032 bytes, and two arrays of 132 and 121.
+    assert_eq!(rt; file.image().len(), 2413);
     Ok(())
 }
 

@@ -20,7 +20,7 @@ use Rattle.h5_tree.proofs.Entries.{get_table, get_tree}
 use Rattle.h5_header.specs.Listed.{messages_in}
 use Rattle.h5_layout.proofs.RoomLaws.{is_array}
 use Rattle.h5_group.specs.Links.{IsGroupRead}
-use Rattle.h5_tree.specs.SmallTree.{described}
+use Rattle.h5_tree.specs.Array.{described}
 use Rattle.h5_look.specs.Kept.{line_dataset, IsLineKept}
 
 -- ---- lists

@@ -15,12 +15,11 @@ use Rattle.h5_layout.specs.Stored.{has_room}
 use Rattle.h5_group.specs.Links.{links_of}
 use Rattle.h5_group.specs.declared.group.Group.{Group}
 use Rattle.h5_group.specs.declared.link.LinkRef.{LinkRef}
-use Rattle.h5_tree.specs.Array.{data_blocks}
+use Rattle.h5_tree.specs.Array.{described, data_blocks}
 use Rattle.h5_header.specs.Listed.{Listed, messages_in}
 use Rattle.h5_attr.specs.Attributes.{attributes_of}
 use Rattle.h5_layout.specs.Described.{dataset_in}
 use Rattle.h5_tree.specs.declared.line.Line.{Line}
-use Rattle.h5_tree.specs.SmallTree.{described}
 use Rattle.h5_tree.specs.Headers.{IsHeaderKept}
 
 -- an object stands there, whose attributes are those of this header

@@ -21,7 +21,7 @@ use Rattle.h5_walk.proofs.MetFields.{met_truncated, met_overlaps}
 use Rattle.h5_walk.proofs.MetHeader.{met_walked, message_met}
 use Rattle.h5_tree.specs.declared.line.Line.{Line}
 use Rattle.h5_tree.specs.NotYet.{IsRefusedAt}
-use Rattle.h5_tree.specs.SmallTree.{described}
+use Rattle.h5_tree.specs.Array.{described}
 use Rattle.h5_tree.specs.Judged.{IsLineBreach, IsLineList}
 use Rattle.h5_open.proofs.FoundLaws.{counted_found}
 use Rattle.h5_open.proofs.RefusedLaws.{as_refused}

@@ -1,15 +1,15 @@
 -- A link that leads to no object, to one that was read before, or to a new one.
-use Rattle.std.proofs.Common.{◌≡◌, ◌≢◌, inl, ℕ, ◌+◌, ◌≤◌, List, [], ◌∷◌, ◌++◌, length, refl, sym, ◌∙◌, subst}
+use Rattle.std.proofs.Common.{◌≡◌, ◌≢◌, ◌==◌, inl, ℕ, ◌+◌, ◌≤◌, List, [], ◌∷◌, ◌++◌, length, refl, sym, ◌∙◌, subst}
 use Rattle.std.specs.List.{Contains}
 use Rattle.std.proofs.lemmas.List.{append-nil}
 use Rattle.h5_bytes.specs.declared.Block.{Block}
 use Rattle.h5_model.specs.Reached.{Named, named, ObjectHeader}
+use Rattle.h5_model.specs.HeaderFaults.{SomeMessage}
 use Rattle.h5_model.specs.Symbols.{Header, Text}
 use Rattle.h5_model.specs.declared.open_fault.Cause.TheVariants.{GroupLinkedTwice}
 use Rattle.h5_header.specs.Listed.{messages_in}
 use Rattle.h5_breach.proofs.Lists.{In, in_all, in_contains, contains_in, in_right}
 use Rattle.h5_walk.specs.Walked.{IsFollowed}
-use Rattle.h5_walk.specs.NotYet.{IsOfGroupAt}
 use Rattle.h5_walk.proofs.ListLaws.{prefix_there}
 use Rattle.h5_header.specs.Kinds.{IsOfGroup}
 use Rattle.h5_tree.specs.declared.object.OpenedObject.{OpenedObject}
@@ -80,7 +80,7 @@ twice image held followed objects field header depth ready o among same group =
         subst (λ (h : ℕ). h + 16 ≤ length image) same (prefix_there image o.messages.header (messages_in image o.messages.list) o.messages.blocks (kept.header).has (kept.header).inside),
         (
           refl,
-          subst (IsOfGroupAt image) same (group_at image o.messages.header (messages_in image o.messages.list) o.messages.blocks (kept.header).has (group_of image o kept group)),
+          subst (λ (h : ℕ). SomeMessage image h (λ kind. kind == 17)) same (group_at image o.messages.header (messages_in image o.messages.list) o.messages.blocks (kept.header).has (group_of image o kept group)),
           (by.0, is.reached, other, by.2 ∙ same, by.3),
         ),
       ),

@@ -7,8 +7,8 @@ use Rattle.std.proofs.lemmas.Option.{same_Some}
 use Rattle.h5_bytes.specs.declared.Block.{Block}
 use Rattle.h5_model.specs.Messages.{Message, HasMessages, count_of}
 use Rattle.h5_model.specs.Reached.{kind_at}
+use Rattle.h5_model.specs.HeaderFaults.{SomeMessage}
 use Rattle.h5_header.specs.Kinds.{IsOfGroup}
-use Rattle.h5_walk.specs.NotYet.{IsOfGroupAt}
 use Rattle.h5_walk.proofs.DataLaws.{found_all}
 use Rattle.h5_walk.proofs.MessagePlaces.{IsPlacedMessage, messages_placed}
 
@@ -29,7 +29,7 @@ counted_found k (x ∷ ms) some = elim (x.kind == k) as (λ b. 1 ≤ cond b 1 0 
 ] some
 
 -- a header of a group has a Symbol Table at some place
-pub group_at : (image : List ℕ) (header : ℕ) (ms : List Message) (blocks : List Block) → HasMessages image header ms blocks → IsOfGroup ms → IsOfGroupAt image header
+pub group_at : (image : List ℕ) (header : ℕ) (ms : List Message) (blocks : List Block) → HasMessages image header ms blocks → IsOfGroup ms → SomeMessage image header (λ kind. kind == 17)
 group_at image header ms blocks has is =
     let one = is.table in
     let found = counted_found 17 ms (omega (arith, one)) in

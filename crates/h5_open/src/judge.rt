@@ -5,7 +5,7 @@ ghost use Rattle.h5_bytes.specs.declared.Block.{Block};
 ghost use Rattle.h5_attr.specs.Attributes.{HasNamesOnce};
 ghost use Rattle.h5_header.specs.Kinds.{IsOfDataset};
 ghost use Rattle.h5_header.specs.Listed.{messages_in, IsWithin};
-ghost use Rattle.h5_tree.specs.SmallTree.{described};
+ghost use Rattle.h5_tree.specs.Array.{described};
 ghost use Rattle.h5_tree.specs.Judged.{IsGroupList, IsLineList, IsRootBreach, IsLineBreach, IsNoLineOf};
 
 use h5_attr::{check_bodies, check_names};

@@ -6,7 +6,7 @@ use Rattle.h5_model.specs.Fixed.{Fixed, IsFixed}
 use Rattle.h5_model.specs.Plain.{message_bytes, messages_bytes, short, word, zeros, extent_body, type_body, fill_body, contiguous_body, cells_bytes}
 use Rattle.h5_model.specs.Tree.{are_sizes}
 use Rattle.h5_model.proofs.PlainValues.{size-high, length-fill_body, length-cells_bytes}
-use Rattle.h5_small.specs.Bodies.{space_body, bounded_body, maximum_word}
+use Rattle.h5_bodies.specs.Bodies.{space_body, bounded_body, maximum_word}
 use Rattle.h5_plain.specs.declared.array.Array.{Array}
 use Rattle.h5_plain.specs.ArrayHeader.{array_list, fill_list, header_written, messages_count, messages_size}
 use Rattle.h5_plain.specs.Parts.{prefix_bytes, message_head}
@@ -73,16 +73,16 @@ module _ (a : Array) (address : ℕ) where
       ≡ message_bytes space ++ ((message_head 3 16 ++ type_body a.fixed) ++ (messages_bytes fills ++ ((message_head 8 24 ++ layout) ++ [])))
   list_is = ap (λ bytes. message_bytes space ++ ((message_head 3 16 ++ type_body a.fixed) ++ bytes)) (messages_bytes-append fills ((8, layout) ∷ []))
 
-  pub header_pushed : (out o1 o2 o3 o4 o5 o6 o7 o8 : List ℕ) → o1 ≡ out ++ prefix_bytes 1 (messages_count a address) (messages_size a address)
+  pub header_pushed : (count : ℕ) (out o1 o2 o3 o4 o5 o6 o7 o8 : List ℕ) → o1 ≡ out ++ prefix_bytes count (messages_count a address) (messages_size a address)
       → o2 ≡ o1 ++ message_bytes space → o3 ≡ o2 ++ message_head 3 16 → o4 ≡ o3 ++ type_body a.fixed → o5 ≡ o4 ++ messages_bytes fills
-      → o6 ≡ o5 ++ message_head 8 24 → o7 ≡ o6 ++ layout → o8 ≡ o7 ++ (a.others.now).bytes → o8 ≡ out ++ header_written a address
-  header_pushed out o1 o2 o3 o4 o5 o6 o7 o8 e1 e2 e3 e4 e5 e6 e7 e8 =
-      nine out o1 o2 o3 o4 o5 o6 o7 o8 (prefix_bytes 1 (messages_count a address) (messages_size a address)) (message_bytes space) (message_head 3 16) (type_body a.fixed)
+      → o6 ≡ o5 ++ message_head 8 24 → o7 ≡ o6 ++ layout → o8 ≡ o7 ++ (a.others.now).bytes → o8 ≡ out ++ header_written count a address
+  header_pushed count out o1 o2 o3 o4 o5 o6 o7 o8 e1 e2 e3 e4 e5 e6 e7 e8 =
+      nine out o1 o2 o3 o4 o5 o6 o7 o8 (prefix_bytes count (messages_count a address) (messages_size a address)) (message_bytes space) (message_head 3 16) (type_body a.fixed)
       (messages_bytes fills) (message_head 8 24) layout (a.others.now).bytes e1 e2 e3 e4 e5 e6 e7 e8
-      ∙ ap (λ bytes. out ++ (prefix_bytes 1 (messages_count a address) (messages_size a address) ++ (bytes ++ (a.others.now).bytes))) (sym list_is)
+      ∙ ap (λ bytes. out ++ (prefix_bytes count (messages_count a address) (messages_size a address) ++ (bytes ++ (a.others.now).bytes))) (sym list_is)
 
-  pub length-header : length (header_written a address) ≡ 16 + messages_size a address
-  length-header = omega (arith, length-append (messages_bytes (array_list a address)) (a.others.now).bytes)
+  pub length-header : (count : ℕ) → length (header_written count a address) ≡ 16 + messages_size a address
+  length-header count = omega (arith, length-append (messages_bytes (array_list a address)) (a.others.now).bytes)
 
 -- the bytes of equal cells
 pub length-filled : (t : Fixed) (fill : ℤ) (size width : ℕ) → width ≡ t.size → size * width ≡ length (cells_bytes t (replicate size fill))

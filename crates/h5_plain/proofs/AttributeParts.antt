@@ -14,8 +14,8 @@ use Rattle.h5_msg.specs.Written.{attribute_bytes, attribute_head, padded, dataty
 use Rattle.h5_msg.proofs.AttributeLaws.{cells_few}
 use Rattle.h5_msg.proofs.CellLaws.{length-value_bytes}
 use Rattle.h5_msg.proofs.WordLaws.{words_long}
-use Rattle.h5_small.specs.Bodies.{attribute_message}
-use Rattle.h5_small.specs.Sound.{IsPlainAttribute}
+use Rattle.h5_bodies.specs.Bodies.{attribute_message}
+use Rattle.h5_bodies.specs.Sound.{IsPlainAttribute}
 use Rattle.h5_plain.specs.Parts.{attribute_front, message_head}
 
 -- ---- a type with its padding

@@ -1,10 +1,8 @@
--- Nodes and symbol nodes as they are appended: a head, rows or entries, and zeros.
-use Rattle.std.proofs.Common.{◌≡◌, ℕ, ◌+◌, ◌-◌, ◌*◌, ◌≤◌, ◌<◌, List, [], ◌∷◌, ◌++◌, length, map, drop, get_or, slice_index, refl, ap, arith}
-use Rattle.std.proofs.lemmas.List.{drop_more, drop_all}
-use Rattle.std.specs.List.{flat_map}
+-- Nodes of a group as they are appended: a head, rows, and zeros.
+use Rattle.std.proofs.Common.{◌≡◌, ℕ, ◌+◌, ◌-◌, ◌*◌, ◌≤◌, ◌<◌, List, [], ◌∷◌, ◌++◌, length, map, drop, slice_index, refl, ap, arith}
+use Rattle.std.proofs.lemmas.List.{drop_more}
 use Rattle.h5_model.specs.Nodes.{group_kind}
-use Rattle.h5_model.specs.Symbols as symbols
-use Rattle.h5_model.specs.Plain.{word, short, zeros, node_bytes_of, entry_bytes, symbol_node_bytes}
+use Rattle.h5_model.specs.Plain.{word, zeros, node_bytes_of}
 use Rattle.h5_plain.specs.Parts.{node_head, group_rows}
 
 -- the rows from one place on
@@ -27,22 +25,3 @@ pub node_parts : (k level left right : ℕ) (keys children : List ℕ) → lengt
 node_parts k level left right keys children one room =
     let rest : 24 + 8 + 2 * k * 16 - length (node_head level (length children) left right ++ group_rows keys children) ≡ (2 * k - length children) * 16 = omega (arith, length-rows keys children one) in
     ap (λ n. node_head level (length children) left right ++ (group_rows keys children ++ zeros n)) rest
-
-length-entries : (es : List symbols.Entry) → length (flat_map entry_bytes es) ≡ 40 * length es
-length-entries [] = refl
-length-entries (e ∷ es) = omega (arith, length-entries es)
-
--- a symbol node
-pub symbol_parts : (leaf : ℕ) (es : List symbols.Entry) → length es ≤ 2 * leaf
-    → symbol_node_bytes leaf es ≡ (83 ∷ 78 ∷ 79 ∷ 68 ∷ 1 ∷ 0 ∷ short (length es)) ++ (flat_map entry_bytes es ++ zeros ((2 * leaf - length es) * 40))
-symbol_parts leaf es room =
-    let rest : 8 + 80 * leaf - length ((83 ∷ 78 ∷ 79 ∷ 68 ∷ 1 ∷ 0 ∷ short (length es)) ++ flat_map entry_bytes es) ≡ (2 * leaf - length es) * 40 = omega (arith, length-entries es) in
-    ap (λ n. (83 ∷ 78 ∷ 79 ∷ 68 ∷ 1 ∷ 0 ∷ short (length es)) ++ (flat_map entry_bytes es ++ zeros n)) rest
-
--- the entries from one place on
-pub entries_step : {E : Type 0} (from : E → symbols.Entry) (es : List E) (i : ℕ) (d : E) → i < length es
-    → flat_map entry_bytes (map from (drop i es)) ≡ entry_bytes (from (get_or es i d)) ++ flat_map entry_bytes (map from (drop (i + 1) es))
-entries_step from es i d low = ap (λ xs. flat_map entry_bytes (map from xs)) (drop_more es i d low)
-
-pub entries_done : {E : Type 0} (from : E → symbols.Entry) (es : List E) (i : ℕ) → length es ≤ i → flat_map entry_bytes (map from (drop i es)) ≡ []
-entries_done from es i high = ap (λ xs. flat_map entry_bytes (map from xs)) (drop_all i es high)

@@ -3,16 +3,16 @@ use Rattle.std.specs.Prelude.{ℕ, ◌+◌, ◌*◌, ◌==◌, nat_lt, if◌then
 use Rattle.h5_bytes.specs.Bytes.{undefined}
 use Rattle.h5_model.specs.Fixed.{Fixed}
 use Rattle.h5_model.specs.Plain.{word, messages_bytes, type_body, fill_body, contiguous_body, cells_bytes}
-use Rattle.h5_small.specs.Bodies.{space_body}
+use Rattle.h5_bodies.specs.Bodies.{space_body}
 use Rattle.h5_plain.specs.declared.array.Array.{Array}
 use Rattle.h5_plain.specs.declared.array.Cells.{Cells}
 use Rattle.h5_plain.specs.declared.array.Cells.TheVariants.{Unset, Filled, Stored}
 use Rattle.h5_plain.specs.Others.{OthersBytes}
 use Rattle.h5_plain.specs.Parts.{prefix_bytes, message_head}
 
--- a group's header, with these messages besides its Symbol Table
-abbrev pub root_written : ℕ → ℕ → OthersBytes → List ℕ
-root_written tree heap o = prefix_bytes 1 (1 + o.count) (24 + length o.bytes) ++ (message_head 17 16 ++ (word tree ++ (word heap ++ o.bytes)))
+-- the header of a group whose tree and heap begin at these addresses, with these messages besides its Symbol Table
+abbrev pub group_written : ℕ → ℕ → OthersBytes → List ℕ
+group_written tree heap o = prefix_bytes 1 (1 + o.count) (24 + length o.bytes) ++ (message_head 17 16 ++ (word tree ++ (word heap ++ o.bytes)))
 
 -- the fill of an array with so many other messages
 abbrev pub fill_list : Fixed → ℤ → ℕ → List (ℕ × List ℕ)
@@ -31,9 +31,10 @@ messages_count a address = length (array_list a address) + (a.others.now).count
 abbrev pub messages_size : Array → ℕ → ℕ
 messages_size a address = length (messages_bytes (array_list a address)) + length (a.others.now).bytes
 
-abbrev pub header_written : Array → ℕ → List ℕ
-header_written a address =
-    prefix_bytes 1 (messages_count a address) (messages_size a address) ++ (messages_bytes (array_list a address) ++ (a.others.now).bytes)
+-- the header of the array, to which so many links lead
+abbrev pub header_written : ℕ → Array → ℕ → List ℕ
+header_written count a address =
+    prefix_bytes count (messages_count a address) (messages_size a address) ++ (messages_bytes (array_list a address) ++ (a.others.now).bytes)
 
 -- the data, where there are any
 abbrev pub data_written : Cells → Array → List ℕ

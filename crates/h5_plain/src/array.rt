@@ -14,10 +14,9 @@ pub enum Cells<'a> {
     Stored(&'a [u8]),
 }
 
-/// An array of one dimension in one block, the name of the root's link to it, and the messages behind those of the array.
+/// An array of one dimension in one block, and the messages behind those of the array.
 #[derive(Clone, Copy)]
 pub struct Array<'a> {
-    pub name: &'a [u8],
     pub fixed: Fixed,
     /// How many cells there are.
     pub size: u64,

@@ -5,8 +5,8 @@ ghost use Rattle.h5_bytes.specs.Texts.{pad8};
 ghost use Rattle.h5_model.specs.Edits.{attribute_from};
 ghost use Rattle.h5_model.specs.Plain.{cells_bytes, message_bytes};
 ghost use Rattle.h5_model.specs.Sound.{AreOf};
-ghost use Rattle.h5_small.specs.Bodies.{attribute_message};
-ghost use Rattle.h5_small.specs.Sound.{IsPlainAttribute};
+ghost use Rattle.h5_bodies.specs.Bodies.{attribute_message};
+ghost use Rattle.h5_bodies.specs.Sound.{IsPlainAttribute};
 ghost use Rattle.h5_plain.specs.Parts.{attribute_front};
 
 use crate::cells::value_bytes;

@@ -1,13 +1,15 @@
-//! The bytes of cells (File Format Specification 3.0, section IV.A.2.d, class 0).
-ghost use Rattle.std.specs.Prelude.{◌≡◌, ◌-◌, ◌^◌, ◌≤◌, ◌++◌, OnOk, true, length, replicate};
+//! The bytes of cells (File Format Specification 3.0, section IV.A.2.d, class 0), and where they stand.
+ghost use Rattle.std.specs.Prelude.{◌≡◌, ◌-◌, ◌^◌, ◌==◌, ◌≤◌, ◌++◌, OnOk, true, if◌then◌else◌, length, replicate};
+ghost use Rattle.h5_bytes.specs.Bytes.{undefined};
 ghost use Rattle.h5_model.specs.Fixed.{bytes_of, fits};
 ghost use Rattle.h5_model.specs.Plain.{zeros, cells_bytes};
-ghost use Rattle.h5_plain.specs.ArrayHeader.{data_written};
+ghost use Rattle.h5_plain.specs.ArrayHeader.{data_written, address_written};
 ghost use Rattle.h5_plain.specs.Parts.{copies};
 ghost use Rattle.h5_plain.specs.Written.{IsWritable};
 
 use crate::array::{Array, Cells};
 use crate::fields::push_bytes;
+use h5_bytes::UNDEF;
 use h5_model::Fixed;
 use h5_types::encode;
 use std::alloc::{AllocError, Global};
@@ -57,7 +59,7 @@ fn push_cells(
 }
 
 /// How many bytes of data an array has.
-pub(crate) fn data_length(array: &Array<'_>) -> u64
+pub fn data_length(array: &Array<'_>) -> u64
     requires { IsWritable array.now }
     ensures exact { result ≡ length (data_written array.now.cells array.now) }
     ensures few { result ≤ 2 ^ 44 }
@@ -70,12 +72,26 @@ pub(crate) fn data_length(array: &Array<'_>) -> u64
     }
 }
 
-/// The data of an array.
-pub(crate) fn push_data(
-    alloc: Global,
-    out: &mut Vec<u8>,
-    array: &Array<'_>,
-) -> Result<(), AllocError>
+/// The address of the data of so many cells, which begin at a place where there are any.
+fn data_address(place: u64, cells: u64) -> u64
+    ensures { result ≡ (if cells == 0 then undefined else place) }
+{
+    if cells == 0 { UNDEF } else { place }
+}
+
+/// The address of an array's data, which begin at this place where there are any, and are undefined where there are none.
+pub fn cells_address(array: &Array<'_>, place: u64) -> u64
+    ensures { result ≡ address_written array.now.cells array.now.size place }
+{
+    match array.cells {
+        Cells::Unset => UNDEF,
+        Cells::Filled => data_address(place, array.size),
+        Cells::Stored(_) => place,
+    }
+}
+
+/// The data of an array, where there are any.
+pub fn push_data(alloc: Global, out: &mut Vec<u8>, array: &Array<'_>) -> Result<(), AllocError>
     requires { IsWritable array.now }
     ensures { OnOk result (out.new.items ≡ out.old.items ++ data_written array.now.cells array.now) }
 {

@@ -5,35 +5,35 @@ ghost use Rattle.h5_model.specs.Plain.{short, middle, word, zeros};
 use std::alloc::AllocError;
 
 /// A number of two bytes.
-pub(crate) fn push_short(out: &mut Vec<u8>, n: u16) -> Result<(), AllocError>
+pub fn push_short(out: &mut Vec<u8>, n: u16) -> Result<(), AllocError>
     ensures { OnOk result (out.new.items ≡ out.old.items ++ short n) }
 {
     out.extend_from_slice(&n.to_le_bytes())
 }
 
 /// A number of four bytes.
-pub(crate) fn push_middle(out: &mut Vec<u8>, n: u32) -> Result<(), AllocError>
+pub fn push_middle(out: &mut Vec<u8>, n: u32) -> Result<(), AllocError>
     ensures { OnOk result (out.new.items ≡ out.old.items ++ middle n) }
 {
     out.extend_from_slice(&n.to_le_bytes())
 }
 
 /// A number of eight bytes: an address, a size or a length.
-pub(crate) fn push_word(out: &mut Vec<u8>, n: u64) -> Result<(), AllocError>
+pub fn push_word(out: &mut Vec<u8>, n: u64) -> Result<(), AllocError>
     ensures { OnOk result (out.new.items ≡ out.old.items ++ word n) }
 {
     out.extend_from_slice(&n.to_le_bytes())
 }
 
 /// Bytes as they are.
-pub(crate) fn push_bytes(out: &mut Vec<u8>, bytes: &[u8]) -> Result<(), AllocError>
+pub fn push_bytes(out: &mut Vec<u8>, bytes: &[u8]) -> Result<(), AllocError>
     ensures { OnOk result (out.new.items ≡ out.old.items ++ bytes.now) }
 {
     out.extend_from_slice(bytes)
 }
 
 /// So many zero bytes.
-pub(crate) fn push_zeros(out: &mut Vec<u8>, count: usize) -> Result<(), AllocError>
+pub fn push_zeros(out: &mut Vec<u8>, count: usize) -> Result<(), AllocError>
     ensures { OnOk result (out.new.items ≡ out.old.items ++ zeros count) }
 {
     let len = out.len().checked_add(count).ok_or(AllocError)?;

@@ -1,7 +1,7 @@
 //! The nodes and the heap of a group (File Format Specification 3.0, sections III.A.1 and III.D).
-ghost use Rattle.std.specs.Prelude.{◌≡◌, ◌+◌, ◌*◌, ◌^◌, ◌<◌, ◌≤◌, ◌++◌, [], ◌∷◌, OnOk, IsTrue, length, map};
+ghost use Rattle.std.specs.Prelude.{◌≡◌, ◌+◌, ◌*◌, ◌^◌, ◌<◌, ◌≤◌, ◌++◌, OnOk, length, map};
 ghost use Rattle.h5_model.specs.Nodes.{group_kind};
-ghost use Rattle.h5_model.specs.Plain.{word, node_bytes_of, heap_header_bytes, padded_text, segment_bytes};
+ghost use Rattle.h5_model.specs.Plain.{word, node_bytes_of, heap_header_bytes, padded_text};
 ghost use Rattle.h5_model.specs.Sizes.{text_span as span};
 ghost use Rattle.h5_plain.specs.Parts.{node_head, group_rows, free_rest};
 
@@ -39,7 +39,7 @@ fn push_rows(out: &mut Vec<u8>, keys: &[u64], children: &[u64]) -> Result<(), Al
 }
 
 /// The node of a group's tree with room for 2 `internal` children, filled from the left.
-pub(crate) fn push_group_node(
+pub fn push_group_node(
     out: &mut Vec<u8>,
     internal: u16,
     level: u8,
@@ -60,7 +60,7 @@ pub(crate) fn push_group_node(
 }
 
 /// The header of a heap whose segment has this size, first free block and address.
-pub(crate) fn push_heap_header(
+pub fn push_heap_header(
     out: &mut Vec<u8>,
     size: u64,
     head: u64,
@@ -77,14 +77,14 @@ pub(crate) fn push_heap_header(
 }
 
 /// What a text occupies in a heap, its zero with it.
-pub(crate) fn text_span(text: &[u8]) -> usize
+pub fn text_span(text: &[u8]) -> usize
     ensures { result ≡ span text.now }
 {
     (text.len() + 8) / 8 * 8
 }
 
 /// A text in a heap, with its zero, padded.
-pub(crate) fn push_text(out: &mut Vec<u8>, text: &[u8]) -> Result<(), AllocError>
+pub fn push_text(out: &mut Vec<u8>, text: &[u8]) -> Result<(), AllocError>
     ensures { OnOk result (out.new.items ≡ out.old.items ++ padded_text text.now) }
 {
     push_bytes(out, text)?;
@@ -93,7 +93,7 @@ pub(crate) fn push_text(out: &mut Vec<u8>, text: &[u8]) -> Result<(), AllocError
 }
 
 /// What stands behind the used bytes of a heap's segment: a free block where at most 72 are used.
-fn push_free_rest(out: &mut Vec<u8>, used: u64) -> Result<(), AllocError>
+pub fn push_free_rest(out: &mut Vec<u8>, used: u64) -> Result<(), AllocError>
     ensures { OnOk result (out.new.items ≡ out.old.items ++ free_rest used) }
 {
     if used > 72 {
@@ -102,24 +102,5 @@ fn push_free_rest(out: &mut Vec<u8>, used: u64) -> Result<(), AllocError>
     push_word(out, 1)?;
     push_word(out, 88 - used)?;
     push_zeros(out, 72 - used as usize)?;
-    Ok(())
-}
-
-/// The segment of a heap that holds only the empty name.
-pub(crate) fn push_empty_segment(out: &mut Vec<u8>) -> Result<(), AllocError>
-    ensures { OnOk result (out.new.items ≡ out.old.items ++ segment_bytes []) }
-{
-    push_zeros(out, 8)?;
-    push_free_rest(out, 8)?;
-    Ok(())
-}
-
-/// The segment of a heap that holds the empty name and one more.
-pub(crate) fn push_segment(out: &mut Vec<u8>, name: &[u8]) -> Result<(), AllocError>
-    ensures { OnOk result (out.new.items ≡ out.old.items ++ segment_bytes (name.now ∷ [])) }
-{
-    push_zeros(out, 8)?;
-    push_text(out, name)?;
-    push_free_rest(out, 8 + text_span(name) as u64)?;
     Ok(())
 }

@@ -4,8 +4,8 @@ ghost use Rattle.std.specs.Prelude.{◌≡◌, ℕ, ◌+◌, ◌*◌, ◌^◌, �
 ghost use Rattle.h5_model.specs.Plain.{extent_body, type_body, fill_body, contiguous_body, class_bits, message_bytes, messages_bytes, word};
 ghost use Rattle.h5_model.specs.Fixed.{fits};
 ghost use Rattle.h5_model.specs.Tree.{are_sizes};
-ghost use Rattle.h5_small.specs.Bodies.{maximum_word, space_body};
-ghost use Rattle.h5_plain.specs.ArrayHeader.{array_list, fill_list, header_written, messages_count as count_of, messages_size as size_of, root_written};
+ghost use Rattle.h5_bodies.specs.Bodies.{maximum_word, space_body};
+ghost use Rattle.h5_plain.specs.ArrayHeader.{array_list, fill_list, group_written, header_written, messages_count as count_of, messages_size as size_of};
 ghost use Rattle.h5_plain.specs.Parts.{prefix_bytes, message_head};
 ghost use Rattle.h5_plain.specs.Written.{IsWritable};
 
@@ -100,8 +100,20 @@ fn push_contiguous(out: &mut Vec<u8>, address: u64, size: u64) -> Result<(), All
     Ok(())
 }
 
-/// The header of a root whose tree and heap begin at these addresses, with these messages besides its Symbol Table.
-pub(crate) fn push_root_header(
+/// How many bytes the header of a group has with these messages besides its Symbol Table, its prefix with them.
+pub fn group_header_length(others: &Others) -> u64
+    requires { others.now.count + 1 ≤ 65535 }
+    ensures exact { (tree heap : ℕ) → result ≡ length (group_written tree heap others.now) }
+    ensures few { result ≤ 2 ^ 33 }
+    ensures holds { length others.now.bytes ≤ result }
+{
+    40 + others.bytes().len() as u64
+}
+
+/// The header of a group whose tree and heap begin at these addresses, with these messages besides its Symbol Table.
+///
+/// How long these may be can be told by `group_header_length`.
+pub fn push_group_header(
     out: &mut Vec<u8>,
     tree: u64,
     heap: u64,
@@ -109,7 +121,7 @@ pub(crate) fn push_root_header(
 ) -> Result<(), AllocError>
     requires few { others.now.count + 1 ≤ 65535 }
     requires low { length others.now.bytes ≤ 2 ^ 31 }
-    ensures { OnOk result (out.new.items ≡ out.old.items ++ root_written tree heap others.now) }
+    ensures { OnOk result (out.new.items ≡ out.old.items ++ group_written tree heap others.now) }
 {
     let bytes = others.bytes();
     push_prefix(out, 1 + others.count() as u16, 1, 24 + bytes.len() as u32)?;
@@ -221,10 +233,10 @@ fn messages_count(array: &Array<'_>) -> u16
 }
 
 /// How many bytes these have.
-pub(crate) fn messages_size(array: &Array<'_>) -> u64
+fn messages_size(array: &Array<'_>) -> u64
     requires { array.now.others.now.count + 3 ≤ 65535 }
     ensures exact { (address : ℕ) → result ≡ size_of array.now address }
-    ensures few { result ≤ 2 ^ 40 }
+    ensures few { result + 16 ≤ 2 ^ 33 }
     ensures added { result ≤ length array.now.others.now.bytes + 112 }
 {
     let others = array.others.bytes().len() as u64;
@@ -233,17 +245,35 @@ pub(crate) fn messages_size(array: &Array<'_>) -> u64
     space + 24 + fill + 32 + others
 }
 
-/// The header of an array whose data stand at this address.
-pub(crate) fn push_array_header(
+/// How many bytes an array's header has, its prefix with them.
+pub fn array_header_length(array: &Array<'_>) -> u64
+    requires { array.now.others.now.count + 3 ≤ 65535 }
+    ensures exact { (count address : ℕ) → result ≡ length (header_written count array.now address) }
+    ensures few { result ≤ 2 ^ 33 }
+    ensures holds { length array.now.others.now.bytes ≤ result }
+{
+    16 + messages_size(array)
+}
+
+/// The header of an array to which so many links lead and whose data stand at this address.
+///
+/// How long its other messages may be can be told by `array_header_length`; `cells_address` gives the address.
+pub fn push_array_header(
     out: &mut Vec<u8>,
     array: &Array<'_>,
     address: u64,
+    references: u32,
 ) -> Result<(), AllocError>
     requires writable { IsWritable array.now }
     requires low { length array.now.others.now.bytes ≤ 2 ^ 31 }
-    ensures { OnOk result (out.new.items ≡ out.old.items ++ header_written array.now address) }
+    ensures { OnOk result (out.new.items ≡ out.old.items ++ header_written references array.now address) }
 {
-    push_prefix(out, messages_count(array), 1, messages_size(array) as u32)?;
+    push_prefix(
+        out,
+        messages_count(array),
+        references,
+        messages_size(array) as u32,
+    )?;
     push_space(out, array.size, array.maximum)?;
     push_message_head(out, 3, 16)?;
     push_type(out, &array.fixed)?;

@@ -1,21 +1,24 @@
-//! The plain layout: the blocks of a file one behind the other, without gaps (File Format Specification 3.0).
+//! The blocks of the plain layout, each appended behind the bytes that stand there: the superblock, the headers of objects, the data
+//! of arrays, and the nodes and heaps of groups (File Format Specification 3.0, sections II.A, III and IV.A).
 //!
-//! Addresses are computed first, then blocks are appended. Where memory is refused, how many bytes have been appended is not said.
+//! Addresses are handed in. Where memory is refused, how many bytes have been appended is not said.
 #![tactic(auto)]
 
 mod array;
 mod attribute;
 mod cells;
-mod entry;
 mod fields;
 mod group;
 mod header;
 mod others;
-mod places;
-mod small;
 mod superblock;
-mod symbols;
 
 pub use crate::array::{Array, Cells};
+pub use crate::cells::{cells_address, data_length, push_data};
+pub use crate::fields::{push_bytes, push_middle, push_short, push_word, push_zeros};
+pub use crate::group::{push_free_rest, push_group_node, push_heap_header, push_text, text_span};
+pub use crate::header::{
+    array_header_length, group_header_length, push_array_header, push_group_header,
+};
 pub use crate::others::Others;
-pub use crate::small::{WriteFault, write_small};
+pub use crate::superblock::{Superblock, push_superblock};

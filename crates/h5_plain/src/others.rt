@@ -3,8 +3,8 @@
 ghost use Rattle.std.specs.Prelude.{◌≡◌, ℕ, ◌*◌, ◌%◌, ◌<◌, ◌≤◌, [], ◌∷◌, ◌++◌, List, OnOk, length};
 ghost use Rattle.h5_model.specs.Edits.{attribute_from};
 ghost use Rattle.h5_model.specs.Plain.{message_bytes};
-ghost use Rattle.h5_small.specs.Bodies.{attribute_message};
-ghost use Rattle.h5_small.specs.Sound.{IsPlainAttribute};
+ghost use Rattle.h5_bodies.specs.Bodies.{attribute_message};
+ghost use Rattle.h5_bodies.specs.Sound.{IsPlainAttribute};
 ghost use Rattle.h5_plain.specs.Written.{AreOthers};
 
 use crate::attribute::{push_new_attribute, push_stored_attribute};

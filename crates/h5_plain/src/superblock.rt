@@ -9,7 +9,7 @@ use std::alloc::AllocError;
 /// The fields of a superblock that differ from file to file: the K values, the end of the file, and the addresses of the
 /// root's header, tree and heap.
 #[derive(Clone, Copy)]
-pub(crate) struct Superblock {
+pub struct Superblock {
     pub leaf: u16,
     pub internal: u16,
     pub end: u64,
@@ -19,7 +19,7 @@ pub(crate) struct Superblock {
 }
 
 /// A superblock with addresses and lengths of 8 bytes.
-pub(crate) fn push_superblock(out: &mut Vec<u8>, fields: &Superblock) -> Result<(), AllocError>
+pub fn push_superblock(out: &mut Vec<u8>, fields: &Superblock) -> Result<(), AllocError>
     ensures { OnOk result (out.new.items ≡ out.old.items ++ superblock_bytes fields.now.leaf fields.now.internal fields.now.end fields.now.root fields.now.tree fields.now.heap) }
 {
     push_bytes(out, b"\x89HDF\r\n\x1a\n")?;

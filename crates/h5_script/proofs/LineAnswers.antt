@@ -61,17 +61,19 @@ pub shown_as : (s t : FileState) (command : Command) (text shown : List ℕ) (o 
 shown_as s t command text shown o same is = subst (λ (told : List ℕ). IsAnswered s command t told o) (sym same) is
 
 -- an edit that no line asks for yet
-pub taken_edit : (edit : Edit) → ((path : List ℕ) (spec : Spec) → edit ≡ CreateDataset path spec → ⊥) → ((path : List ℕ) (attr : AttrSpec) → edit ≡ SetAttr path attr → ⊥)
-    → ((path name : List ℕ) → edit ≡ RemoveAttr path name → ⊥) → taken (Change edit) ≡ Unread
-taken_edit (CreateGroup path) no_array no_set no_remove = refl
-taken_edit (CreateDataset path spec) no_array no_set no_remove = absurd (no_array path spec refl)
-taken_edit (HardLink target path) no_array no_set no_remove = refl
-taken_edit (SoftLink text path) no_array no_set no_remove = refl
-taken_edit (Unlink path) no_array no_set no_remove = refl
-taken_edit (SetAttr path attr) no_array no_set no_remove = absurd (no_set path attr refl)
-taken_edit (RemoveAttr path name) no_array no_set no_remove = absurd (no_remove path name refl)
-taken_edit (Write path hyper values) no_array no_set no_remove = refl
-taken_edit (Resize path dims) no_array no_set no_remove = refl
+pub taken_edit : (edit : Edit) → ((path : List ℕ) → edit ≡ CreateGroup path → ⊥) → ((path : List ℕ) (spec : Spec) → edit ≡ CreateDataset path spec → ⊥)
+    → ((target path : List ℕ) → edit ≡ HardLink target path → ⊥) → ((text path : List ℕ) → edit ≡ SoftLink text path → ⊥)
+    → ((path : List ℕ) (attr : AttrSpec) → edit ≡ SetAttr path attr → ⊥) → ((path name : List ℕ) → edit ≡ RemoveAttr path name → ⊥)
+    → taken (Change edit) ≡ Unread
+taken_edit (CreateGroup path) no_group no_array no_hard no_soft no_set no_remove = absurd (no_group path refl)
+taken_edit (CreateDataset path spec) no_group no_array no_hard no_soft no_set no_remove = absurd (no_array path spec refl)
+taken_edit (HardLink target path) no_group no_array no_hard no_soft no_set no_remove = absurd (no_hard target path refl)
+taken_edit (SoftLink text path) no_group no_array no_hard no_soft no_set no_remove = absurd (no_soft text path refl)
+taken_edit (Unlink path) no_group no_array no_hard no_soft no_set no_remove = refl
+taken_edit (SetAttr path attr) no_group no_array no_hard no_soft no_set no_remove = absurd (no_set path attr refl)
+taken_edit (RemoveAttr path name) no_group no_array no_hard no_soft no_set no_remove = absurd (no_remove path name refl)
+taken_edit (Write path hyper values) no_group no_array no_hard no_soft no_set no_remove = refl
+taken_edit (Resize path dims) no_group no_array no_hard no_soft no_set no_remove = refl
 
 -- neither an edit nor `ls` nor `dump`
 pub taken_other : (command : asked.Command) → ((edit : Edit) → command ≡ form.Change edit → ⊥) → (command ≡ form.ListAll → ⊥) → ((path : List ℕ) → command ≡ form.Dump path → ⊥)
@@ -125,7 +127,7 @@ edit_accepted before after edit e asked is = record {
 }
 
 -- a refused one
-refused_carried : (s : FileState) (edit : Edit) (f : EditFault) → taken (Change edit) ≡ Change edit → is_carried s.tree edit ≡ true → IsRefusedBy s edit f
+refused_carried : (s : FileState) (edit : Edit) (f : EditFault) → taken (Change edit) ≡ Change edit → is_carried edit ≡ true → IsRefusedBy s edit f
     → IsAnswered s (Change edit) s (refused_text f) Refused
 unfolding line_answer IsGivenAt
 refused_carried s edit f asked carried is = record {
@@ -135,7 +137,7 @@ refused_carried s edit f asked carried is = record {
   outcome_is = rw (asked, carried, is.answer) refl;
 }
 
-refused_other : (s : FileState) (edit : Edit) (f : EditFault) → taken (Change edit) ≡ Change edit → is_carried s.tree edit ≡ false → f ≡ fault.NotYet
+refused_other : (s : FileState) (edit : Edit) (f : EditFault) → taken (Change edit) ≡ Change edit → is_carried edit ≡ false → f ≡ fault.NotYet
     → IsAnswered s (Change edit) s (refused_text f) Refused
 unfolding line_answer IsGivenAt
 refused_other s edit f asked carried is = record {
@@ -148,8 +150,8 @@ refused_other s edit f asked carried is = record {
 pub edit_refused : (before after : FileState) (edit : Edit) (f : EditFault) → taken (Change edit) ≡ Change edit → IsRefused before edit f → after ≡ before
     → IsAnswered before (Change edit) after (refused_text f) Refused
 edit_refused before after edit f asked refused stays =
-    subst (λ (file : FileState). IsAnswered before (Change edit) file (refused_text f) Refused) (sym stays) (by (is_carried before.tree edit) refl refused) where
-      by : (b : Bool) → is_carried before.tree edit ≡ b → RefusedAs b before edit f → IsAnswered before (Change edit) before (refused_text f) Refused
+    subst (λ (file : FileState). IsAnswered before (Change edit) file (refused_text f) Refused) (sym stays) (by (is_carried edit) refl refused) where
+      by : (b : Bool) → is_carried edit ≡ b → RefusedAs b before edit f → IsAnswered before (Change edit) before (refused_text f) Refused
       by true carried is = refused_carried before edit f asked carried is
       by false carried is = refused_other before edit f asked carried is
 

@@ -5,14 +5,18 @@ use Rattle.h5_model.specs.EditFaults.{refused_text}
 use Rattle.h5_model.specs.Lines.{Command, Change, ListAll, Dump, Unread}
 use Rattle.h5_model.specs.Script.{Answer, Given, Refused, answered, answer_of}
 use Rattle.h5_model.specs.States.{new_session}
-use Rattle.h5_model.specs.declared.edits.Edit.TheVariants.{CreateDataset, SetAttr, RemoveAttr}
+use Rattle.h5_model.specs.declared.edits.Edit.TheVariants.{CreateGroup, CreateDataset, HardLink, SoftLink, SetAttr, RemoveAttr}
 use Rattle.h5_model.specs.declared.edit_fault.EditFault.TheVariants as fault
 use Rattle.h5_tree.specs.State.{FileState}
 use Rattle.h5_edit.specs.Carried.{is_carried, IsGivenFor}
 
--- the commands so far: `dataset`, `attr`, `unattr`, `ls` and `dump`; a line that asks for anything else is a bad line
+-- the commands so far: `group`, `dataset`, `link`, `soft`, `attr`, `unattr`, `ls` and `dump`; a line that asks for anything else is a bad
+-- line
 abbrev pub taken : Command → Command
+taken (Change (CreateGroup path)) = Change (CreateGroup path)
 taken (Change (CreateDataset path spec)) = Change (CreateDataset path spec)
+taken (Change (HardLink target path)) = Change (HardLink target path)
+taken (Change (SoftLink text path)) = Change (SoftLink text path)
 taken (Change (SetAttr path attr)) = Change (SetAttr path attr)
 taken (Change (RemoveAttr path name)) = Change (RemoveAttr path name)
 taken ListAll = ListAll
@@ -22,7 +26,7 @@ taken _ = Unread
 -- what a command answers: NotYet, before every other check, to an edit that is not carried; no view is open
 abbrev pub answer_so_far : State → Command → Given → Answer
 answer_so_far s (Change edit) given =
-    if is_carried s.tree edit then answer_of (new_session s) (Change edit) given
+    if is_carried edit then answer_of (new_session s) (Change edit) given
     else answered Refused (refused_text fault.NotYet) (new_session s)
 answer_so_far s command given = answer_of (new_session s) command given
 
@@ -38,7 +42,7 @@ IsMemory _ = ⊥
 
 -- what may be given to a command: to an edit that is carried what the file decides, to `ls` and `dump` memory
 abbrev pub IsGivenSoFar : FileState → Command → Given → Type 0
-IsGivenSoFar f (Change edit) given = MatchBool (is_carried f.tree edit) (IsGivenFor f edit given) (given ≡ None)
+IsGivenSoFar f (Change edit) given = MatchBool (is_carried edit) (IsGivenFor f edit given) (given ≡ None)
 IsGivenSoFar f ListAll given = IsMemory given
 IsGivenSoFar f (Dump path) given = IsMemory given
 IsGivenSoFar f _ given = given ≡ None

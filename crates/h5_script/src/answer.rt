@@ -64,9 +64,12 @@ fn answer_edit(file: &mut File, edit: &Edit, text: &mut Vec<u8>) -> Result<Outco
         (λ _. IsUntold file.old (lines.Change edit.now) file.new) }
 {
     match edit {
-        Edit::CreateDataset { .. } | Edit::SetAttr { .. } | Edit::RemoveAttr { .. } => {
-            carry_out(file, edit, text)
-        }
+        Edit::CreateGroup { .. }
+        | Edit::CreateDataset { .. }
+        | Edit::HardLink { .. }
+        | Edit::SoftLink { .. }
+        | Edit::SetAttr { .. }
+        | Edit::RemoveAttr { .. } => carry_out(file, edit, text),
         _ => bad_line(text),
     }
 }

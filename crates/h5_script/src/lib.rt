@@ -1,8 +1,9 @@
 //! Scripts: lines that edit a file and ask what it holds, run as they are read.
 //!
 //! [`run_script`] reads a script, runs each line as soon as it is read whole, and writes its answer
-//! before the next line is run. docs/SCRIPT.md has the forms of lines. This version takes `dataset`,
-//! `attr`, `unattr`, `ls` and `dump`; lines of other forms are answered as bad lines.
+//! before the next line is run. docs/SCRIPT.md has the forms of lines. This version takes `group`,
+//! `dataset`, `link`, `soft`, `attr`, `unattr`, `ls` and `dump`; lines of other forms are answered as
+//! bad lines.
 #![tactic(auto)]
 
 mod answer;

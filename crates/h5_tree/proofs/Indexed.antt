@@ -1,21 +1,15 @@
 -- The objects of an opened image by their numbers, and numbers by headers.
-use Rattle.std.proofs.Common.{get_or, ◌≡◌, ℕ, zero, suc, ◌+◌, ◌<◌, List, [], ◌∷◌, length, refl, sym, ap, ◌∙◌, subst, Some, None, true, false, Bool, arith}
-use Rattle.std.specs.Prelude.{◌==◌, slice_get, if◌then◌else◌, option_map, option_and_then}
+use Rattle.std.proofs.Common.{◌≡◌, ℕ, zero, suc, ◌+◌, List, [], ◌∷◌, refl, sym, ap, ◌∙◌, subst, Some, true, false, Bool, arith}
+use Rattle.std.specs.Prelude.{◌==◌, slice_get, if◌then◌else◌, option_map}
 use Rattle.std.specs.List.{AllByRecursion}
-use Rattle.std.specs.FinMap.{get}
 use Rattle.std.proofs.lemmas.Bool.Decides.{nat_tests}
-use Rattle.std.proofs.lemmas.Option.{same_Some, slice_get-map, slice_get-get_or}
+use Rattle.std.proofs.lemmas.Option.{same_Some, slice_get-map}
+use Rattle.std.specs.FinMap.{get}
 use Rattle.std.specs.BTreeMap.{BTreeMap}
-use Rattle.h5_model.specs.Tree.{Object, Links, links_of, dataset_of, link_in, links_in, dataset_in as dataset_by}
-use Rattle.h5_group.specs.Links as group
-use Rattle.h5_group.specs.declared.group.Group.{Group as GroupRead}
-use Rattle.h5_tree.specs.declared.line.Line.{Line}
 use Rattle.h5_tree.specs.declared.object.OpenedObject.{OpenedObject}
-use Rattle.h5_tree.specs.declared.object.OpenedContent.{OpenedContent}
-use Rattle.h5_tree.specs.declared.object.OpenedContent.TheVariants as content
 use Rattle.h5_tree.specs.Kept.{IsOpened, IsObjectKept}
-use Rattle.h5_tree.specs.Objects.{headers, number_of, links_by, content_in, object_in, tree_of}
-use Rattle.h5_tree.proofs.Entries.{get_table, get_tree}
+use Rattle.h5_tree.specs.Objects.{headers, number_of, object_in, tree_of}
+use Rattle.h5_tree.proofs.Entries.{get_tree}
 use Rattle.h5_tree.proofs.Own.{own_headers}
 
 -- ---- lists
@@ -37,55 +31,16 @@ first_number (x ∷ xs) zero h at =
     number_here x xs h (x == h) refl (λ other. absurd (let never : true ≡ false = sym same ∙ other in cc))
 first_number (x ∷ xs) (suc k) h at = number_here x xs h (x == h) refl (λ _. first_number xs k h at)
 
--- and a number that a list has is that of what stands there
-number_was : (x : ℕ) (xs : List ℕ) (h y : ℕ) (b : Bool) → (x == h) ≡ b → (slice_get xs (number_of xs h) ≡ Some y → y ≡ h) → slice_get (x ∷ xs) (if b then 0 else 1 + number_of xs h) ≡ Some y → y ≡ h
-number_was x xs h y true is rest at = let same : x ≡ h = grind (arith, nat_tests) in sym (same_Some x y at) ∙ same
-number_was x xs h y false is rest at = let next : 1 + number_of xs h ≡ suc (number_of xs h) = omega arith in rest (sym (ap (slice_get (x ∷ xs)) next) ∙ at)
-
-pub number_is : (hs : List ℕ) (h y : ℕ) → slice_get hs (number_of hs h) ≡ Some y → y ≡ h
-number_is [] h y at = absurd (cc)
-number_is (x ∷ xs) h y at = number_was x xs h y (x == h) refl (number_is xs h y) at
-
 -- ---- objects
 
 pub header_at : (objects : List OpenedObject) (k : ℕ) (o : OpenedObject) → slice_get objects k ≡ Some o → slice_get (headers objects) k ≡ Some o.messages.header
 header_at objects k o at = slice_get-map (λ (x : OpenedObject). x.messages.header) objects k ∙ ap (option_map (λ (x : OpenedObject). x.messages.header)) at
 
-module _ (image : List ℕ) (objects : List OpenedObject) where
-  pub object_there : (k : ℕ) (o : OpenedObject) → slice_get objects k ≡ Some o → get (tree_of image objects) k ≡ Some (object_in image (headers objects) o)
-  object_there k o at =
-      get_tree image objects k ∙ slice_get-map (object_in image (headers objects)) objects k ∙ ap (option_map (object_in image (headers objects))) at
-
-  -- no object has the number
-  pub no_array_there : (k : ℕ) → slice_get objects k ≡ None → dataset_of (tree_of image objects) k ≡ None
-  no_array_there k at =
-      ap (option_and_then (λ (o : Object). dataset_by o.content))
-      (get_tree image objects k ∙ slice_get-map (object_in image (headers objects)) objects k ∙ ap (option_map (object_in image (headers objects))) at)
-
-  module _ (k : ℕ) (o : OpenedObject) (at : slice_get objects k ≡ Some o) where
-    -- a group has it
-    module _ (g : GroupRead) (is : o.content ≡ content.Group g) where
-      pub group_links : links_of (tree_of image objects) k ≡ Some (links_by (headers objects) (group.links_of image g))
-      group_links =
-          ap (option_and_then (λ (x : Object). links_in x.content)) (object_there k o at)
-          ∙ ap (λ (c : OpenedContent). links_in (content_in image (headers objects) c)) is
-
-      pub group_no_array : dataset_of (tree_of image objects) k ≡ None
-      group_no_array =
-          ap (option_and_then (λ (x : Object). dataset_by x.content)) (object_there k o at)
-          ∙ ap (λ (c : OpenedContent). dataset_by (content_in image (headers objects) c)) is
-
-    -- an array has it
-    module _ (line : Line) (is : o.content ≡ content.Array line) where
-      pub array_no_group : links_of (tree_of image objects) k ≡ None
-      array_no_group =
-          ap (option_and_then (λ (x : Object). links_in x.content)) (object_there k o at)
-          ∙ ap (λ (c : OpenedContent). links_in (content_in image (headers objects) c)) is
-
-      pub array_no_link : (name : List ℕ) → link_in (tree_of image objects) k name ≡ None
-      array_no_link name = ap (option_and_then (λ (ls : Links). get ls name)) array_no_group
-
--- ---- what is kept
+-- the tree has it under its number
+pub object_there : (image : List ℕ) (objects : List OpenedObject) (k : ℕ) (o : OpenedObject) → slice_get objects k ≡ Some o
+    → get (tree_of image objects) k ≡ Some (object_in image (headers objects) o)
+object_there image objects k o at =
+    get_tree image objects k ∙ slice_get-map (object_in image (headers objects)) objects k ∙ ap (option_map (object_in image (headers objects))) at
 
 module _ (image : List ℕ) (objects : List OpenedObject) (numbers : BTreeMap ℕ ℕ) (opened : IsOpened image objects numbers) where
   pub object_kept : (k : ℕ) (o : OpenedObject) → slice_get objects k ≡ Some o → IsObjectKept image o
@@ -94,13 +49,3 @@ module _ (image : List ℕ) (objects : List OpenedObject) (numbers : BTreeMap �
   -- the number of a header is the one at which it stands
   pub number_at_header : (k h : ℕ) → slice_get (headers objects) k ≡ Some h → number_of (headers objects) h ≡ k
   number_at_header k h at = own_headers image objects (tree_of image objects) opened.reads (number_of (headers objects) h) k h (first_number (headers objects) k h at) at
-
-  header_there : (os : List OpenedObject) (h : ℕ) → slice_get (headers os) 0 ≡ Some h → 0 < length os
-  header_there [] h at = absurd (cc)
-  header_there (o ∷ os) h at = omega arith
-
-  pub root_there : 0 < length objects
-  root_there = header_there objects _ (sym (get_table objects 0) ∙ (opened.reads.1).root)
-
-  pub root_at : (o : OpenedObject) → o ≡ get_or objects 0 o → slice_get objects 0 ≡ Some o
-  root_at o is = slice_get-get_or objects 0 o root_there ∙ ap (λ (x : OpenedObject). Some x) (sym is)

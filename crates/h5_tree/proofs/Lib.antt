@@ -2,10 +2,5 @@ pub mod Made
 pub mod Entries
 pub mod Own
 pub mod SharedHeaders
-pub mod SameSmall
 pub mod Numbers
 pub mod Indexed
-pub mod Reaching
-pub mod NotSmall
-pub mod SmallStates
-pub mod FewLaws

@@ -13,7 +13,7 @@ use Rattle.h5_attr.specs.Attributes.{attributes_of}
 use Rattle.h5_layout.specs.Described.{Described, HasArray}
 use Rattle.h5_tree.specs.NotYet.{IsNoLine}
 use Rattle.h5_tree.specs.declared.line.Line.{Line}
-use Rattle.h5_tree.specs.SmallTree.{described}
+use Rattle.h5_tree.specs.Array.{described}
 
 -- messages of a group, with this tree and heap, and attributes
 pub record IsGroupList (ms : List Message) (table : SymbolTable) : Type 0 where

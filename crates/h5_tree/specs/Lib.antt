@@ -1,11 +1,7 @@
 pub mod Array
-pub mod Few
 pub mod Headers
 pub mod Judged
 pub mod Kept
 pub mod NotYet
 pub mod Objects
-pub mod SmallKept
-pub mod SmallTree
-pub mod SmallView
 pub mod State

@@ -1,20 +1,18 @@
 -- The tree that an opened image holds, by what is kept of its objects (File Format Specification 3.0, section IV.A).
-use Rattle.std.specs.Prelude.{ℕ, ◌+◌, ◌==◌, if◌then◌else◌, Bool, true, false, is_some, List, [], ◌∷◌, ◌++◌, map}
+use Rattle.std.specs.Prelude.{ℕ, ◌+◌, ◌==◌, if◌then◌else◌, List, [], ◌∷◌, ◌++◌, map}
 use Rattle.std.specs.Ordering.{nat_cmp}
-use Rattle.std.specs.FinMap.{FinMap, empty, entries, from_entries}
-use Rattle.std.specs.Option.{option_map_or}
+use Rattle.std.specs.FinMap.{FinMap, empty, from_entries}
 use Rattle.h5_bytes.specs.declared.Block.{Block}
 use Rattle.h5_model.specs.Symbols.{Target, Header, Text}
-use Rattle.h5_model.specs.Tree.{Tree, Object, Content, Group, Array, Link, Links, ToObject, Soft, dataset_of}
-use Rattle.h5_model.specs.Tree as tree
+use Rattle.h5_model.specs.Tree.{Tree, Object, Content, Group, Array, Link, Links, ToObject, Soft}
 use Rattle.h5_header.specs.Listed.{messages_in}
 use Rattle.h5_layout.specs.Described.{dataset_in}
 use Rattle.h5_group.specs.Links as group
 use Rattle.h5_tree.specs.declared.object.OpenedObject.{OpenedObject}
 use Rattle.h5_tree.specs.declared.object.OpenedContent.{OpenedContent}
 use Rattle.h5_tree.specs.declared.object.OpenedContent.TheVariants as content
-use Rattle.h5_tree.specs.Array.{data_blocks}
-use Rattle.h5_tree.specs.SmallTree.{described, object_with}
+use Rattle.h5_tree.specs.Array.{described, data_blocks}
+use Rattle.h5_tree.specs.Headers.{object_with}
 
 -- ---- headers and numbers
 
@@ -70,15 +68,3 @@ table_of objects = from_entries (numbered 0 (headers objects))
 
 abbrev pub tree_of : List ℕ → List OpenedObject → Tree
 tree_of image objects = from_entries (numbered 0 (map (object_in image (headers objects)) objects))
-
--- ---- small trees
-
--- no links, or one to an array
-abbrev pub are_small : Tree → List (List ℕ × Link) → Bool
-are_small t [] = true
-are_small t ((name, ToObject number) ∷ []) = is_some (dataset_of t number)
-are_small t _ = false
-
--- the root has no link, or one, which leads to an array
-abbrev pub is_small : Tree → Bool
-is_small t = option_map_or (λ links. are_small t (entries links)) (tree.links_of t 0) false

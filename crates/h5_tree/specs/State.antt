@@ -1,17 +1,14 @@
 -- What a file is to its callers: its bytes, where the header of each object stands, the next object number, and the tree that its
 -- bytes read as (File Format Specification 3.0, sections II.A, III and IV.A).
-use Rattle.std.specs.Prelude.{ℕ, Option, Some, None, List, length, refl}
+use Rattle.std.specs.Prelude.{ℕ, List, length, refl}
 use Rattle.std.specs.Ordering.{nat_cmp}
 use Rattle.std.specs.FinMap.{FinMap, code}
 use Rattle.std.specs.Coded.{Coded, code_by, coded×, coded_ℕ, coded_list}
 use Rattle.h5_model.specs.Tree.{Tree}
 use Rattle.h5_model.specs.Codes.{coded_tree}
 use Rattle.h5_model.specs.Edits.{State}
-use Rattle.h5_header.specs.Listed.{Listed}
 use Rattle.h5_tree.specs.declared.object.OpenedObject.{OpenedObject}
 use Rattle.h5_tree.specs.Objects.{table_of, tree_of}
-use Rattle.h5_tree.specs.SmallTree as small
-use Rattle.h5_tree.specs.SmallView.{Linked}
 
 pub record FileState : Type 0 where
   pub image : List ℕ
@@ -23,18 +20,9 @@ pub record FileState : Type 0 where
 abbrev pub state_of : FileState → State
 state_of f = record { tree = f.tree; next = f.next }
 
--- object 0 is the root, object 1 what its link leads to
-abbrev pub next_of : Option Linked → ℕ
-next_of None = 1
-next_of (Some l) = 2
-
 -- an image by what is kept of it
 abbrev pub opened_state : List ℕ → List OpenedObject → FileState
 opened_state image objects = record { image = image; table = table_of objects; next = length objects; tree = tree_of image objects }
-
--- an image of a root with one link at most
-abbrev pub small_state : List ℕ → Listed → Option Linked → FileState
-small_state image root link = record { image = image; table = small.table_of root link; next = next_of link; tree = small.tree_of image root link }
 
 abbrev pub coded_state : Coded FileState
 coded_state =

@@ -1,11 +1,8 @@
 //! What is kept of an opened image: its objects, and the tree that these tell (File Format Specification 3.0, section IV.A).
 #![tactic(auto)]
 
-mod few;
 mod line;
 mod object;
-mod small;
 
 pub use line::Line;
 pub use object::{Opened, OpenedContent, OpenedObject};
-pub use small::{Linked, Small, as_small};

@@ -1,7 +1,3 @@
-pub mod SmallLaws
-pub mod SmallReads
-pub mod SmallOnce
-pub mod SmallGroupLaws
 pub mod WalkedLaws
 pub mod HeaderLaws
 pub mod ClaimLaws
@@ -10,6 +6,5 @@ pub mod MessagePlaces
 pub mod MetFields
 pub mod ListLaws
 pub mod SpanLaws
-pub mod RefusedLaws
 pub mod DataLaws
 pub mod MetHeader

@@ -1,4 +1,4 @@
--- A header that was met: why it is refused, what is followed when it was read, and fields that stand in its messages.
+-- A header that was met: what is followed when it was read, and fields that stand in its messages.
 use Rattle.std.proofs.Common.{◌≡◌, ◌≢◌, ℕ, ◌+◌, ◌-◌, ◌<◌, ◌≤◌, List, [], ◌∷◌, length, refl, sym, subst, arith, Some, false}
 use Rattle.std.specs.Prelude.{map, ◌==◌}
 use Rattle.std.specs.List.{AllByRecursion, find}
@@ -8,15 +8,10 @@ use Rattle.h5_bytes.proofs.BlockLaws.{holds_in, all_append}
 use Rattle.h5_model.specs.Messages.{Message, HasMessages}
 use Rattle.h5_model.specs.Reached.{Named, named, ObjectHeader, Reached}
 use Rattle.h5_model.specs.Faults.{is_header}
-use Rattle.h5_model.specs.declared.open_fault.Cause.{Cause}
-use Rattle.h5_header.specs.Refused.{IsRefused}
 use Rattle.h5_walk.specs.Walked.{IsWalked, continuation_fields}
 use Rattle.h5_walk.specs.Met.{IsMet, IsHeaderMet, with_header}
-use Rattle.h5_walk.specs.NotYet.{IsRefusedAt}
 use Rattle.h5_walk.proofs.WalkedLaws.{IsOther, not_followed}
-use Rattle.h5_walk.proofs.HeaderLaws.{header_refused}
 use Rattle.h5_walk.proofs.ClaimLaws.{header_walked}
-use Rattle.h5_walk.proofs.RefusedLaws.{as_refused}
 use Rattle.h5_walk.proofs.MessagePlaces.{messages_placed}
 use Rattle.h5_walk.proofs.SpanLaws.{span_of, header_spans, all_low, found_covers, inside_apart}
 use Rattle.h5_walk.proofs.DataLaws.{found_all}
@@ -29,10 +24,6 @@ header_others field header depth (y ∷ ys) fresh alone = ((fresh.0, λ e. rw (a
 module _ (image : List ℕ) (held : List Block) (followed : List Named) (field header depth : ℕ) (is : IsHeaderMet image held followed field header depth) where
   others : AllByRecursion (IsOther (named field ObjectHeader header depth)) followed
   others = header_others field header depth followed (is.met).fresh is.alone
-
-  pub met_refused : (cause : Cause) (address : ℕ) → IsRefused image header held cause address → IsRefusedAt image cause address
-  met_refused cause address refused = as_refused image cause address
-      (header_refused image held followed is.walked field header depth (is.met).reached others (is.met).behind (is.met).stands cause address refused)
 
   module _ (ms : List Message) (blocks : List Block) (has : HasMessages image header ms blocks) (now : List Block)
       (claimed : (p : ℕ) → cover p now ≡ cover p held + cover p blocks) where

@@ -20,8 +20,7 @@ use Rattle.h5_tree.specs.declared.line.Line.{Line}
 use Rattle.h5_tree.specs.declared.object.OpenedObject.{OpenedObject}
 use Rattle.h5_tree.specs.declared.object.OpenedContent.{OpenedContent}
 use Rattle.h5_tree.specs.declared.object.OpenedContent.TheVariants as content
-use Rattle.h5_tree.specs.Array.{data_blocks}
-use Rattle.h5_tree.specs.SmallTree.{described}
+use Rattle.h5_tree.specs.Array.{described, data_blocks}
 use Rattle.h5_tree.specs.Kept.{IsObjectKept, IsContentKept}
 use Rattle.h5_tree.specs.Objects.{headers, number_of, links_of, link_to, content_in, content_blocks, object_in, object_blocks, table_of}
 use Rattle.h5_breach.proofs.Lists.{In, in_contains}

@@ -1,55 +1,63 @@
-use Rattle.std.proofs.Common.{arith}
+use Rattle.std.proofs.Common.{refl, sym, Some, arith}
 use Rattle.std.proofs.lemmas.Result.{err_from_is_err_and}
+use Rattle.h5_change.specs.declared.change.Change.TheVariants.{Set}
 use Rattle.h5_model.specs.declared.edits.Edit.TheVariants.{SetAttr}
-use Rattle.h5_tree.specs.State.{small_state}
-use Rattle.h5_edit.specs.Carried.{IsRefusedBy}
-use Rattle.h5_edit.proofs.AttributeLaws.{set_refused_path, set_refused_own, set_refused_header, set_refused_write, set_made}
-use Rattle.h5_edit.proofs.ValueLaws.{plain_of_rules}
+use Rattle.h5_tree.specs.State.{opened_state}
+use Rattle.h5_edit.specs.Carried.{IsRefused}
+use Rattle.h5_edit.proofs.Answered.{IsFitting, sound_change, plain_change, answered}
+use Rattle.h5_edit.proofs.Fitting.{set_fits, number_low, full_here, roomy_here}
+use Rattle.h5_edit.proofs.Refusals.{by_rule, by_header}
 use Rattle.h5_edit.proofs.attributes.set_attribute.Goals as goal
 
-pub returns-in_err-target : goal.returns-in_err-target
-returns-in_err-target c =
-    let image = c.args.image.now.bytes in
+pub returns-in_err-number : goal.returns-in_err-number
+returns-in_err-number c =
     let p = err_from_is_err_and c.from_residual.result c.from_residual.ensures.1 in
-    let refused : IsRefusedBy (small_state image c.args.opened.now.root c.args.opened.now.link) (SetAttr c.args.path.now c.args.attr.now) c.in_err-target.field-0.0
-    = set_refused_path image c.args.opened.now.root c.args.opened.now.link c.args.path.now c.args.attr.now c.in_err-target.field-0.0 (c.in_err-target.ensures image) in
+    let refused : IsRefused (opened_state c.args.image.now.bytes c.args.opened.now.objects.items) (SetAttr c.args.path.now c.args.attr.now) c.in_err-number.field-0.0
+    = by_rule (opened_state c.args.image.now.bytes c.args.opened.now.objects.items) (SetAttr c.args.path.now c.args.attr.now) refl c.in_err-number.field-0.0 c.in_err-number.ensures in
     rw (p.1, p.2) refused
 
-pub returns-in_err-check_attribute : goal.returns-in_err-check_attribute
-returns-in_err-check_attribute c =
-    let image = c.args.image.now.bytes in
-    let p = err_from_is_err_and c.from_residual-in_err-check_attribute.result c.from_residual-in_err-check_attribute.ensures.1 in
-    let refused : IsRefusedBy (small_state image c.args.opened.now.root c.args.opened.now.link) (SetAttr c.args.path.now c.args.attr.now) c.in_err-check_attribute.field-0.0
-    = set_refused_own image c.args.opened.now.root c.args.opened.now.link c.args.path.now c.in_ok-target.target (c.in_ok-target.ensures image).0 c.args.attr.now
-    c.in_err-check_attribute.field-0.0 c.in_err-check_attribute.ensures.refused in
-    rw (p.1, p.2) refused
+pub index-requires : goal.index-requires
+index-requires c =
+    let at = c.in_ok-number.ensures in
+    let low = number_low c.args.image.now.bytes c.args.opened.now.objects.items c.args.opened.now.numbers c.requires c.args.path.now c.in_ok-number.number at.object in
+    omega (arith, low)
 
 pub returns-then-list-gt-MAX_MESSAGES : goal.returns-then-list-gt-MAX_MESSAGES
 returns-then-list-gt-MAX_MESSAGES c =
-    let image = c.args.image.now.bytes in
-    let at = c.in_ok-target.ensures image in
-    let many = rw (c.list.ensures, c.messages_at.ensures) at c.if-list-gt-MAX_MESSAGES.true in
-    set_refused_header image c.args.opened.now.root c.args.opened.now.link c.args.path.now c.in_ok-target.target at.0 c.requires at.1 c.args.attr
-    c.in_ok-check_attribute.ensures.accepted (omega (arith, many))
+    let at = c.in_ok-number.ensures in
+    let many = rw c.list.ensures at c.if-list-gt-MAX_MESSAGES.true in
+    by_header (opened_state c.args.image.now.bytes c.args.opened.now.objects.items) (SetAttr c.args.path.now c.args.attr.now) refl at.allowed
+    (full_here c.args.image.now.bytes c.args.opened.now.objects.items c.args.opened.now.numbers c.requires c.args.path.now c.args.attr.now c.in_ok-number.number c.index.result.now
+    at.object c.index.ensures many)
 
-pub change_attributes-requires-clause-there : goal.change_attributes-requires-clause-there
-change_attributes-requires-clause-there c = (c.in_ok-target.ensures c.args.image.now.bytes).1
+pub write_changed-written-requires-clause-change : goal.write_changed-written-requires-clause-change
+write_changed-written-requires-clause-change c =
+    let at = c.in_ok-number.ensures in
+    let few = rw c.list.ensures at c.if-list-gt-MAX_MESSAGES.false in
+    let roomy = roomy_here c.args.image.now.bytes c.args.opened.now.objects.items c.args.opened.now.numbers c.requires c.args.path.now c.args.attr.now c.in_ok-number.number c.index.result.now
+    at.object c.index.ensures few in
+    let fits : IsFitting c.args.image.now.bytes c.args.opened.now.objects.items (SetAttr c.args.path.now c.args.attr.now) (Set c.in_ok-number.number c.args.attr)
+    = set_fits c.args.image.now.bytes c.args.opened.now.objects.items c.args.opened.now.numbers c.requires c.args.path.now c.args.attr c.in_ok-number.number c.size-size.ensures.one_of at roomy in
+    plain_change c.args.image.now.bytes c.args.opened.now.objects.items c.args.opened.now.numbers (SetAttr c.args.path.now c.args.attr.now) (Set c.in_ok-number.number c.args.attr) c.requires fits
 
-pub change_attributes-requires-clause-plain : goal.change_attributes-requires-clause-plain
-change_attributes-requires-clause-plain c = plain_of_rules c.args.attr.now c.in_ok-check_attribute.ensures.sound c.in_ok-check_attribute.ensures.accepted
+pub write_changed-written-requires-clause-sound : goal.write_changed-written-requires-clause-sound
+write_changed-written-requires-clause-sound c =
+    let at = c.in_ok-number.ensures in
+    let few = rw c.list.ensures at c.if-list-gt-MAX_MESSAGES.false in
+    let roomy = roomy_here c.args.image.now.bytes c.args.opened.now.objects.items c.args.opened.now.numbers c.requires c.args.path.now c.args.attr.now c.in_ok-number.number c.index.result.now
+    at.object c.index.ensures few in
+    let fits : IsFitting c.args.image.now.bytes c.args.opened.now.objects.items (SetAttr c.args.path.now c.args.attr.now) (Set c.in_ok-number.number c.args.attr)
+    = set_fits c.args.image.now.bytes c.args.opened.now.objects.items c.args.opened.now.numbers c.requires c.args.path.now c.args.attr c.in_ok-number.number c.size-size.ensures.one_of at roomy in
+    sound_change c.args.image.now.bytes c.args.opened.now.objects.items c.args.opened.now.numbers (SetAttr c.args.path.now c.args.attr.now) (Set c.in_ok-number.number c.args.attr) c.requires fits
 
-pub returns-in-Ok : goal.returns-in-Ok
-returns-in-Ok c =
-    let image = c.args.image.now.bytes in
-    let at = c.in_ok-target.ensures image in
-    let few = rw (c.list.ensures, c.messages_at.ensures) at c.if-list-gt-MAX_MESSAGES.false in
-    set_made image c.args.opened.now.root c.args.opened.now.link c.args.path.now c.in_ok-target.target at.0 c.requires at.1 c.args.attr c.in_ok-check_attribute.ensures.accepted (omega (arith, few))
-    (record { image = c.in-Ok.image; object = c.object_of.result }) c.in-Ok.ensures.written c.object_of.ensures
-
-pub returns-in-Err : goal.returns-in-Err
-returns-in-Err c =
-    let image = c.args.image.now.bytes in
-    let at = c.in_ok-target.ensures image in
-    let few = rw (c.list.ensures, c.messages_at.ensures) at c.if-list-gt-MAX_MESSAGES.false in
-    rw c.edit_fault.ensures (set_refused_write image c.args.opened.now.root c.args.opened.now.link c.args.path.now c.in_ok-target.target at.0 c.requires at.1 c.args.attr
-    c.in_ok-check_attribute.ensures.accepted (omega (arith, few)) c.in-Err.fault c.in-Err.ensures.refused)
+pub returns : goal.returns
+returns c =
+    let at = c.in_ok-number.ensures in
+    let few = rw c.list.ensures at c.if-list-gt-MAX_MESSAGES.false in
+    let roomy = roomy_here c.args.image.now.bytes c.args.opened.now.objects.items c.args.opened.now.numbers c.requires c.args.path.now c.args.attr.now c.in_ok-number.number c.index.result.now
+    at.object c.index.ensures few in
+    let fits : IsFitting c.args.image.now.bytes c.args.opened.now.objects.items (SetAttr c.args.path.now c.args.attr.now) (Set c.in_ok-number.number c.args.attr)
+    = set_fits c.args.image.now.bytes c.args.opened.now.objects.items c.args.opened.now.numbers c.requires c.args.path.now c.args.attr c.in_ok-number.number c.size-size.ensures.one_of at roomy in
+    rw c.answer.ensures (answered c.args.image.now.bytes c.args.opened.now.objects.items c.args.opened.now.numbers (SetAttr c.args.path.now c.args.attr.now) (Set c.in_ok-number.number c.args.attr)
+    c.requires fits c.write_changed-written.ensures.bytes c.write_changed-written.result (Some (record { 0 = c.in_ok-number.number })) c.write_changed-written.ensures.written
+    c.write_changed-written.ensures.refused (sym at.object))

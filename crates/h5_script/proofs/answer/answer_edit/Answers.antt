@@ -8,4 +8,5 @@ pub returns-in_default : goal.returns-in_default
 returns-in_default c =
     told_or_not c.bad_line.result c.args.file.now c.args.file.now (Change c.args.edit.now) c.bad_line.new.text.items (codes "bad line\n") Refused
     (bad_answer c.args.file.now (Change c.args.edit.now)
-    (taken_edit c.args.edit.now c.in_default.not-CreateDataset c.in_default.not-SetAttr c.in_default.not-RemoveAttr)) c.bad_line.ensures
+    (taken_edit c.args.edit.now c.in_default.not-CreateGroup c.in_default.not-CreateDataset c.in_default.not-HardLink c.in_default.not-SoftLink
+    c.in_default.not-SetAttr c.in_default.not-RemoveAttr)) c.bad_line.ensures

@@ -1,6 +1,6 @@
-use Rattle.std.proofs.Common.{refl}
+use Rattle.std.proofs.Common.{refl, ◌∙◌}
 use Rattle.h5_tree.specs.Kept.{IsOpened}
-use Rattle.h5_file.proofs.Made.{edited, made_superblock, made_end, not_taken}
+use Rattle.h5_file.proofs.Made.{edited, made_superblock, made_end, made_read, not_taken}
 use Rattle.h5_file.proofs.file.File.take.Goals as goal
 
 pub walk-requires-clause-superblock : goal.walk-requires-clause-superblock
@@ -12,7 +12,12 @@ walk-requires-clause-whole c = rw c.new-image.ensures (made_end c.args.self.now 
 pub returns-in_default : goal.returns-in_default
 returns-in_default c edit is = (not_taken c.args.self.now edit c.args.made is, refl)
 
+pub renumber-requires-clause-read : goal.renumber-requires-clause-read
+renumber-requires-clause-read c = rw (c.new-image.ensures, c.deref.ensures.value) (made_read c.args.self.now c.requires.0 c.args.made c.requires.1)
+
 pub returns : goal.returns
 returns c edit is =
-    let opened : IsOpened c.args.made.image.items c.in-Ok.opened.objects.items c.in-Ok.opened.numbers = rw c.new-image.ensures at c.in-Ok.ensures.kept in
-    rw c.new-image.ensures (edited c.args.self.now edit c.args.made is c.in-Ok.opened.objects.items c.in-Ok.opened.numbers opened _ refl)
+    let now = c.renumber.new.opened in
+    let opened : IsOpened c.args.made.image.items now.objects.items now.numbers = rw c.new-image.ensures at c.renumber.ensures.opened in
+    rw c.new-image.ensures
+    (edited c.args.self.now edit c.args.made is now.objects.items now.numbers opened (c.renumber.ensures.headers ∙ c.deref.ensures.value) _ refl)

@@ -1,6 +1,6 @@
 use Rattle.std.proofs.Common.{◌≡◌, ◌+◌, ◌++◌, ap, ◌∙◌}
 use Rattle.h5_model.specs.Plain.{message_bytes}
-use Rattle.h5_small.specs.Bodies.{attribute_message}
+use Rattle.h5_bodies.specs.Bodies.{attribute_message}
 use Rattle.h5_plain.specs.Others.{OthersBytes}
 use Rattle.h5_plain.proofs.AttributeParts.{length-message}
 use Rattle.h5_plain.proofs.Messages.{one_more, room_more}

@@ -1,4 +1,0 @@
-pub mod Change
-pub mod Anew
-pub mod Appended
-pub mod Rewritten

@@ -1,0 +1,6 @@
+pub mod HeaderAttributes
+pub mod HeaderOthers
+pub mod HeaderGroup
+pub mod HeaderSpace
+pub mod HeaderLengths
+pub mod HeaderArray

@@ -1,0 +1,4 @@
+pub mod Bodies
+pub mod Headers
+pub mod Sound
+pub mod Laws

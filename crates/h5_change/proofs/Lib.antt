@@ -1,0 +1,9 @@
+pub mod PushedLaws
+pub mod MergedLaws
+pub mod RestLaws
+pub mod OthersLaws
+pub mod CellLaws
+pub mod LinkLaws
+pub mod NumberedLaws
+pub mod ObjectLaws
+pub mod ChangeLaws

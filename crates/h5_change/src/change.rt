@@ -1,0 +1,37 @@
+//! Changes of an opened image.
+
+use h5_model::{AttrSpec, Spec};
+
+/// Where a new link leads.
+#[derive(Clone, Copy)]
+pub enum Target<'a> {
+    /// To a new group.
+    Group,
+    /// To a new array of one size, each cell the fill.
+    Array(&'a Spec),
+    /// To the object of this number.
+    Object(u32),
+    /// To a soft link's text.
+    Text(&'a [u8]),
+}
+
+/// A change of an opened image.
+#[derive(Clone, Copy)]
+pub enum Change<'a> {
+    /// The group of this number has a link of this name more.
+    Link {
+        parent: u32,
+        name: &'a [u8],
+        target: Target<'a>,
+    },
+    /// An attribute of the object of this number is added, or takes the place of the one of its name.
+    Set {
+        object: u32,
+        attr: &'a AttrSpec,
+    },
+    /// The attribute of this name is left out of the object of this number.
+    Remove {
+        object: u32,
+        name: &'a [u8],
+    },
+}

@@ -1,0 +1,18 @@
+-- What an edit is answered that no rule refuses, by what was written.
+use Rattle.std.specs.Prelude.{Option, Result, Ok, Err}
+use Rattle.h5_model.specs.declared.edit_fault.EditFault.{EditFault}
+use Rattle.h5_model.specs.declared.edit_fault.EditFault.TheVariants as fault
+use Rattle.h5_model.specs.declared.object_no.ObjectNo.{ObjectNo}
+use Rattle.h5_write.specs.declared.write.Written.{Written}
+use Rattle.h5_write.specs.declared.write.WriteFault.{WriteFault}
+use Rattle.h5_write.specs.declared.write.WriteFault.TheVariants.{TooLong, TooDeep, NoMemory}
+use Rattle.h5_edit.specs.declared.made.Made.{Made}
+
+abbrev pub fault_of : WriteFault → EditFault
+fault_of TooLong = fault.ImageFull
+fault_of TooDeep = fault.TreeTooDeep
+fault_of NoMemory = fault.NoMemory
+
+abbrev pub answer_to : Result Written WriteFault → Option ObjectNo → Result Made EditFault
+answer_to (Ok w) object = Ok (record { image = w.image; headers = w.headers; object = object })
+answer_to (Err f) object = Err (fault_of f)

@@ -1,0 +1,71 @@
+//! An opened image with a change, written anew.
+
+ghost use Rattle.std.specs.Prelude.{◌≡◌, ◌<◌, ℕ, IfOk, IfErr, length, slice_index};
+ghost use Rattle.h5_model.specs.Superblock.{IsSuperblock, leaf_k, internal_k};
+ghost use Rattle.h5_sound.specs.Sound.{IsSoundTree};
+ghost use Rattle.h5_fits.specs.Laws.{AreBytes};
+ghost use Rattle.h5_tree.specs.Kept.{IsOpened};
+ghost use Rattle.h5_tree.specs.Objects.{tree_of};
+ghost use Rattle.h5_change.specs.Change.{IsPlainChange, changed};
+ghost use Rattle.h5_write.specs.Written.{IsWritten, IsUnwritten};
+
+use h5_bytes::get_u16;
+use h5_change::{Change, changed_objects};
+use h5_space::Image;
+use h5_tree::Opened;
+use h5_write::{WriteFault, Written, write_tree};
+use std::alloc::Global;
+
+/// Where the superblock has the K value of symbol nodes.
+const LEAF: usize = 16;
+
+/// Where the superblock has the K value of nodes.
+const INTERNAL: usize = 18;
+
+/// The K values of symbol nodes and of nodes.
+#[derive(Clone, Copy)]
+struct K {
+    leaf: u16,
+    internal: u16,
+}
+
+/// The plain image of the tree that a change gives, with the K values of the image.
+///
+/// `TooLong` where it would have more than 2147483648 bytes, `TooDeep` where the tree of a group would have more than 16 levels, and else
+/// `NoMemory` where memory is refused. The image itself tells that its bytes are below 256, so a caller need not.
+pub(crate) fn write_changed(
+    alloc: Global,
+    image: &Image,
+    opened: &Opened,
+    change: &Change<'_>,
+) -> Result<Written, WriteFault>
+    requires opened { IsOpened image.now.bytes opened.now.objects.items opened.now.numbers }
+    requires change { AreBytes image.now.bytes
+        → IsPlainChange (tree_of image.now.bytes opened.now.objects.items) (length opened.now.objects.items) change.now }
+    requires sound { IsSoundTree (changed (tree_of image.now.bytes opened.now.objects.items) change.now (length opened.now.objects.items)) }
+    ensures written { IfOk result (IsWritten (leaf_k image.now.bytes) (internal_k image.now.bytes)
+        (changed (tree_of image.now.bytes opened.now.objects.items) change.now (length opened.now.objects.items))) }
+    ensures refused { IfErr result (IsUnwritten (leaf_k image.now.bytes) (internal_k image.now.bytes)
+        (changed (tree_of image.now.bytes opened.now.objects.items) change.now (length opened.now.objects.items))) }
+    ensures bytes { AreBytes image.now.bytes }
+{
+    let k = k_of(image);
+    match changed_objects(alloc, image, opened, change) {
+        Ok(objects) => write_tree(alloc, k.leaf, k.internal, &objects),
+        Err(_) => Err(WriteFault::NoMemory),
+    }
+}
+
+/// The K values of an image that begins with a superblock.
+fn k_of(image: &Image) -> K
+    requires { IsSuperblock image.now.bytes }
+    ensures leaf { result.leaf ≡ leaf_k image.now.bytes }
+    ensures internal { result.internal ≡ internal_k image.now.bytes }
+    ensures bytes { (i : ℕ) → slice_index image.now.bytes i < 256 }
+{
+    let bytes = image.bytes();
+    K {
+        leaf: get_u16(bytes, LEAF).unwrap(),
+        internal: get_u16(bytes, INTERNAL).unwrap(),
+    }
+}

@@ -1,0 +1,9 @@
+pub mod PlainBodies
+pub mod NamedEntries
+pub mod PlainObjects
+pub mod PlainArrays
+pub mod NewArrays
+pub mod ChangedAttributes
+pub mod OpenedTrees
+pub mod ChangedTrees
+pub mod EditedTrees

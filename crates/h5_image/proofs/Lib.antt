@@ -1,0 +1,14 @@
+pub mod Totals
+pub mod Places
+pub mod Sorted
+pub mod Superblock
+pub mod BareLinks
+pub mod GroupLinks
+pub mod Objects
+pub mod Arrays
+pub mod Orders
+pub mod ImageLength
+pub mod ImageObjects
+pub mod ImagePlaced
+pub mod ImageReads
+pub mod PlainImages

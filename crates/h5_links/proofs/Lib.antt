@@ -1,0 +1,9 @@
+pub mod SymbolNodes
+pub mod Runs
+pub mod SymbolPlaces
+pub mod Order
+pub mod Steps
+pub mod Lengths
+pub mod GroupReads
+pub mod Counts
+pub mod Pushing

@@ -1,0 +1,5 @@
+pub mod Counting
+pub mod Members
+pub mod Reached
+pub mod Trees
+pub mod Walks

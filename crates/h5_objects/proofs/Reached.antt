@@ -1,0 +1,46 @@
+-- An order in which objects are met has each object of a sound tree.
+use Rattle.std.proofs.Common.{◌≡◌, ℕ, ◌<◌, inl, length, List, [], ◌∷◌, refl, sym, subst, Some, None}
+use Rattle.std.proofs.lemmas.Option.{same_Some}
+use Rattle.std.specs.Prelude.{IsSome}
+use Rattle.std.specs.FinMap.{get}
+use Rattle.std.specs.List.{Contains}
+use Rattle.std.specs.Option.{option_and_then}
+use Rattle.h5_model.specs.Tree.{Tree, ToObject, Soft, follow, link_in}
+use Rattle.h5_sound.specs.Sound.{IsSoundTree}
+use Rattle.h5_objects.specs.declared.object.NewObject.{NewObject}
+use Rattle.h5_objects.specs.Objects.{AreObjects}
+use Rattle.h5_objects.specs.Order.{AreMet}
+use Rattle.h5_objects.proofs.Members.{contains_in}
+use Rattle.h5_objects.proofs.Trees.{some_below}
+
+same_object : (a b : ℕ) → Some (ToObject a) ≡ Some (ToObject b) → a ≡ b
+same_object a b e = cc
+
+no_text : (text : List ℕ) (names : List (List ℕ)) (tree : Tree) (number : ℕ) → follow tree (Soft text) names ≡ Some (ToObject number) → ⊥
+no_text text [] tree number e = let same : Soft text ≡ ToObject number = same_Some (Soft text) (ToObject number) e in cc
+no_text text (name ∷ names) tree number e = cc
+
+-- with an object, each to which a path leads from it
+along : (tree : Tree) (count : ℕ) (order : List ℕ) → AreMet tree count order → (path : List (List ℕ)) (from number : ℕ)
+    → Contains order from → follow tree (ToObject from) path ≡ Some (ToObject number) → Contains order number
+along tree count order met [] from number has is = subst (Contains order) (same_object from number is) has
+along tree count order met (name ∷ path) from number has is = elim (link_in tree from name) as (λ found. link_in tree from name ≡ found
+    → option_and_then (λ link. follow tree link path) found ≡ Some (ToObject number) → Contains order number) [
+      | None ↦ λ _ no. absurd (cc)
+      | Some link ↦ elim link as (λ k. link_in tree from name ≡ Some k → follow tree k path ≡ Some (ToObject number) → Contains order number) [
+        | ToObject other ↦ λ linked rest. along tree count order met path other number (met.closed from other name has linked) rest
+        | Soft text ↦ λ _ rest. absurd (no_text text path tree number rest)
+      ]
+    ] refl is
+
+-- each object of the tree is in the order
+pub met_all : (tree : Tree) (count : ℕ) (order : List ℕ) → IsSoundTree tree → AreMet tree count order → (number : ℕ) → IsSome (get tree number)
+    → Contains order number
+met_all tree count order sound met number some =
+    let path = sound.reached number some in
+    along tree count order met path.0 0 number (subst (λ (ns : List ℕ). Contains ns 0) (sym met.first) (contains_in 0 (0 ∷ met.others) (inl refl))) path.1
+
+-- each number of an object is in the order
+pub met_each : (objects : List NewObject) (tree : Tree) (order : List ℕ) → AreObjects objects tree → IsSoundTree tree → AreMet tree (length objects) order
+    → (number : ℕ) → number < length objects → Contains order number
+met_each objects tree order are sound met number low = met_all tree (length objects) order sound met number (some_below objects tree are number low)

@@ -1,0 +1,10 @@
+pub mod Counts
+pub mod Names
+pub mod Pieces
+pub mod NodeReads
+pub mod RowReads
+pub mod Levels
+pub mod Order
+pub mod Trees
+pub mod TreeLaws
+pub mod Steps

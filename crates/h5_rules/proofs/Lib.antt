@@ -1,0 +1,9 @@
+pub mod FaultLaws
+pub mod TableLaws
+pub mod CutLaws
+pub mod NewPaths
+pub mod Counts
+pub mod Verdicts
+pub mod Attributes
+pub mod NewLinks
+pub mod ObjectNumbers

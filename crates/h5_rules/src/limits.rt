@@ -1,0 +1,13 @@
+//! What links, attributes and objects have at most (File Format Specification 3.0, sections III.C, IV.A.1.a and IV.A.2.m).
+
+/// The most bytes of a link's or an attribute's name, and of the text of a soft link.
+pub(crate) const MAX_NAME: usize = 1023;
+
+/// The most bytes of an attribute's message body.
+pub(crate) const MAX_BODY: u64 = 65528;
+
+/// The most hard links that lead to an object.
+pub(crate) const MAX_LINKS: u32 = 65535;
+
+/// The most objects: the number of each has four bytes, and the last of these is not given out.
+pub(crate) const MAX_OBJECTS: usize = 4294967295;

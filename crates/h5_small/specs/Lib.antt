@@ -1,4 +1,0 @@
-pub mod Bodies
-pub mod Small
-pub mod Sound
-pub mod Laws

@@ -1,0 +1,58 @@
+-- What a map looks up after one entry is put.
+use Rattle.std.proofs.Common.{◌≡◌, ℕ, Bool, true, false, cond, List, refl, sym, ap, ◌∙◌, Some, ◌⊎◌, inl, inr}
+use Rattle.std.specs.Ordering.{nat_cmp, is_eq, eq_by_cmp}
+use Rattle.std.specs.declared.cmp.Ordering.{Ordering}
+use Rattle.std.specs.declared.cmp.Ordering.TheVariants.{Less, Equal, Greater}
+use Rattle.std.specs.Cmp.{IsTotalOrder, tied_itself, nat_cmp_total}
+use Rattle.std.specs.Cmp.Lexicographic.{slice_cmp, nat_list_cmp_total}
+use Rattle.std.specs.FinMap.{FinMap, IsAntisymmetric, nat_cmp-IsAntisymmetric, slice_cmp-IsAntisymmetric, get, insert, get-insert}
+
+pub is_tie : (r : Ordering) → is_eq r ≡ true → r ≡ Equal
+is_tie Less h = absurd (cc)
+is_tie Equal h = refl
+is_tie Greater h = absurd (cc)
+
+module _ {K : Type 0} {R : K → K → Ordering} (o : IsTotalOrder R) (same : IsAntisymmetric R) where
+  tested : (b : Bool) (q k : K) → eq_by_cmp R q k ≡ b → (q ≡ k) ⊎ (q ≡ k → ⊥)
+  tested true q k h = inl (same q k (is_tie (R q k) h))
+  tested false q k h = inr (λ e. let yes : true ≡ false = sym (ap is_eq (tied_itself o k)) ∙ ap (λ x. eq_by_cmp R x k) (sym e) ∙ h in absurd (cc))
+
+  -- a key is another, or it is not
+  pub same_key_or_other : (q k : K) → (q ≡ k) ⊎ (q ≡ k → ⊥)
+  same_key_or_other q k = tested (eq_by_cmp R q k) q k refl
+
+  untied : (b : Bool) (q k : K) → eq_by_cmp R q k ≡ b → (q ≡ k → ⊥) → b ≡ false
+  untied true q k h other = absurd (other (same q k (is_tie (R q k) h)))
+  untied false q k h other = refl
+
+  module _ {X : Type 0} (m : FinMap R X) (k : K) (v : X) where
+    -- the key has the new value
+    pub insert_here : get (insert m k v) k ≡ Some v
+    insert_here = get-insert o m k v k ∙ ap (λ r. cond (is_eq r) (Some v) (get m k)) (tied_itself o k)
+
+    -- and each other key what it had
+    pub insert_other : (q : K) → (q ≡ k → ⊥) → get (insert m k v) q ≡ get m q
+    insert_other q other = get-insert o m k v q ∙ ap (λ b. cond b (Some v) (get m q)) (untied (eq_by_cmp R q k) q k refl other)
+
+-- ---- keys that are numbers, and keys that are names
+
+pub same_number_or_other : (q k : ℕ) → (q ≡ k) ⊎ (q ≡ k → ⊥)
+same_number_or_other q k = same_key_or_other nat_cmp_total nat_cmp-IsAntisymmetric q k
+
+pub number_here : {X : Type 0} (m : FinMap nat_cmp X) (k : ℕ) (v : X) → get (insert m k v) k ≡ Some v
+number_here m k v = insert_here nat_cmp_total nat_cmp-IsAntisymmetric m k v
+
+pub number_other : {X : Type 0} (m : FinMap nat_cmp X) (k : ℕ) (v : X) (q : ℕ) → (q ≡ k → ⊥) → get (insert m k v) q ≡ get m q
+number_other m k v q other = insert_other nat_cmp_total nat_cmp-IsAntisymmetric m k v q other
+
+abbrev pub names_differ : IsAntisymmetric (slice_cmp nat_cmp)
+names_differ = slice_cmp-IsAntisymmetric nat_cmp-IsAntisymmetric
+
+pub same_name_or_other : (q k : List ℕ) → (q ≡ k) ⊎ (q ≡ k → ⊥)
+same_name_or_other q k = same_key_or_other nat_list_cmp_total names_differ q k
+
+pub name_here : {X : Type 0} (m : FinMap (slice_cmp nat_cmp) X) (k : List ℕ) (v : X) → get (insert m k v) k ≡ Some v
+name_here m k v = insert_here nat_list_cmp_total names_differ m k v
+
+pub name_other : {X : Type 0} (m : FinMap (slice_cmp nat_cmp) X) (k : List ℕ) (v : X) (q : List ℕ) → (q ≡ k → ⊥) → get (insert m k v) q ≡ get m q
+name_other m k v q other = insert_other nat_list_cmp_total names_differ m k v q other

@@ -1,0 +1,11 @@
+pub mod Inserted
+pub mod Sums
+pub mod LinksThere
+pub mod Counts
+pub mod Depths
+pub mod Grown
+pub mod Linked
+pub mod Alike
+pub mod NewPaths
+pub mod Applied
+pub mod Read

@@ -1,9 +1,0 @@
-use Rattle.std.proofs.Common.{map, take}
-use Rattle.h5_model.specs.Heap.{segment_of}
-use Rattle.h5_model.specs.Symbols.{link_of}
-use Rattle.h5_model.specs.TreeFaults.{all_entries}
-use Rattle.h5_tree.specs.Few.{IsFew}
-use Rattle.h5_tree.proofs.few.few_links.Given as goal
-
-abbrev pub invariant-loop-node : goal.invariant-loop-node
-invariant-loop-node l = IsFew (map (link_of (segment_of l.image.bytes l.group.table.heap)) (all_entries l.image.bytes (take l.node-index l.group.symbol_nodes.items))) l.few

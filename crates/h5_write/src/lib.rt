@@ -1,0 +1,13 @@
+//! The plain image of a tree: the superblock, and then its objects one behind another, without gaps (File Format Specification 3.0,
+//! sections II.A, III and IV.A).
+//!
+//! Addresses are computed first, then each object is appended, in one pass.
+#![tactic(auto)]
+
+mod group;
+mod object;
+mod place;
+mod size;
+mod write;
+
+pub use write::{WriteFault, Written, write_tree};
