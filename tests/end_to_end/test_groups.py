@@ -3,10 +3,12 @@
 import json
 import os
 import random
+from concurrent.futures import ProcessPoolExecutor
 
 from . import today
 from .support import InFolder, empty_image, h5i, library, reference
-from .test_random_scripts import script_of_groups
+from .test_random_scripts import GROUP_SEEDS, script_of_groups
+from .test_walk import linked_image
 
 # pylint: disable=wrong-import-order
 from h5oracle.model import Dataset, Flat, Tree  # noqa: E402
@@ -15,7 +17,8 @@ from h5oracle.reader import Superblock, open_image  # noqa: E402
 from h5oracle.values import TYPES  # noqa: E402
 
 ARRAY = b"dataset /d i32le 3 contiguous\n"
-LIBRARY_SEEDS = range(20)
+# So many files the library lists and edits in one run.
+AT_ONCE = 20
 
 # Each link's path and where it leads, as the usual library lists them.
 LIST = """
@@ -204,7 +207,6 @@ class Groups(InFolder):
         """What an edit does not speak of stays, whoever wrote the file and however it is laid out."""
         for k in range(60):
             rng = random.Random(f"edited {k}")
-            from .test_walk import linked_image  # pylint: disable=import-outside-toplevel
             image = linked_image(rng)
             reading, refusal = today.opened(image)
             with self.subTest(k=k):
@@ -221,23 +223,33 @@ class Groups(InFolder):
 class Library(InFolder):
     """Files of groups and links that the usual library lists and edits."""
 
-    def test_files_are_listed_edited_and_opened_again(self):
-        paths, wanted = [], []
-        for seed in LIBRARY_SEEDS:
-            script, answers, image, _ = script_of_groups(seed)
-            path = self.new(f"{seed}.h5")
-            self.assertEqual(h5i("run", path, script=script)[1], answers)
-            paths.append(path)
-            wanted.append(links_of(open_image(image).tree))
+    def assert_edited(self, path):
+        """The file that the library has edited is opened and edited again."""
+        reading, refusal = today.opened(self.read(path))
+        self.assertIsNone(refusal)
+        self.assertEqual(h5i("ls", path), (0, today.listing(reading.tree), b""))
+        self.assertIn(b"/made\\x20by/the\\x20library/d39 dataset i32le {39}\n", today.listing(reading.tree))
+        self.assertEqual(h5i("run", path, script=b"group /after\nsoft x /made\\x20by/s\n")[:2], (0, b"ok 0\nok 0\n"))
+        self.assertEqual(reference("check", path)[:2], (0, b"ok\n"))
+
+    def assert_listed_and_edited(self, made):
+        """The files of some scripts: made, listed and edited by the library, and edited again."""
+        paths = []
+        for seed, (script, answers, _, _) in made:
+            paths.append(self.new(f"{seed}.h5"))
+            self.assertEqual(h5i("run", paths[-1], script=script)[1], answers)
         status, output, errors = library(LIST, *paths)
         self.assertEqual((status, errors), (0, b""))
-        self.assertEqual([json.loads(line) for line in output.splitlines()], wanted)
+        for (seed, (_, _, image, _)), line in zip(made, output.splitlines(), strict=True):
+            with self.subTest(seed=seed):
+                self.assertEqual(json.loads(line), links_of(open_image(image).tree))
         self.assertEqual(library(CHANGE, *paths), (0, b"", b""))
         for path in paths:
-            reading, refusal = today.opened(self.read(path))
             with self.subTest(path=path):
-                self.assertIsNone(refusal)
-                self.assertEqual(h5i("ls", path), (0, today.listing(reading.tree), b""))
-                self.assertIn(b"/made\\x20by/the\\x20library/d39 dataset i32le {39}\n", today.listing(reading.tree))
-                self.assertEqual(h5i("run", path, script=b"group /after\nsoft x /made\\x20by/s\n")[:2], (0, b"ok 0\nok 0\n"))
-                self.assertEqual(reference("check", path)[:2], (0, b"ok\n"))
+                self.assert_edited(path)
+
+    def test_files_are_listed_edited_and_opened_again(self):
+        with ProcessPoolExecutor() as pool:
+            made = list(zip(GROUP_SEEDS, pool.map(script_of_groups, GROUP_SEEDS)))
+        for begun in range(0, len(made), AT_ONCE):
+            self.assert_listed_and_edited(made[begun:begun + AT_ONCE])

@@ -5,17 +5,17 @@ ghost use Rattle.h5_model.specs.Plain.{short, middle, word, zeros};
 use std::alloc::AllocError;
 
 /// A number of two bytes.
-pub fn push_short(out: &mut Vec<u8>, n: u16) -> Result<(), AllocError>
-    ensures { OnOk result (out.new.items ≡ out.old.items ++ short n) }
+pub fn push_short(out: &mut Vec<u8>, count: u16) -> Result<(), AllocError>
+    ensures { OnOk result (out.new.items ≡ out.old.items ++ short count) }
 {
-    out.extend_from_slice(&n.to_le_bytes())
+    out.extend_from_slice(&count.to_le_bytes())
 }
 
 /// A number of four bytes.
-pub fn push_middle(out: &mut Vec<u8>, n: u32) -> Result<(), AllocError>
-    ensures { OnOk result (out.new.items ≡ out.old.items ++ middle n) }
+pub fn push_middle(out: &mut Vec<u8>, size: u32) -> Result<(), AllocError>
+    ensures { OnOk result (out.new.items ≡ out.old.items ++ middle size) }
 {
-    out.extend_from_slice(&n.to_le_bytes())
+    out.extend_from_slice(&size.to_le_bytes())
 }
 
 /// A number of eight bytes: an address, a size or a length.
