@@ -5,6 +5,7 @@ from concurrent.futures import ProcessPoolExecutor
 
 from . import today
 from .support import InFolder, empty_image, h5i, reference
+from .test_walk import linked_image
 
 # pylint: disable=wrong-import-order
 from h5oracle.values import TYPES as FIXED  # noqa: E402
@@ -16,6 +17,8 @@ ATTRIBUTE_SEEDS = range(50)
 MOST_ATTRIBUTE_LINES = 80
 GROUP_SEEDS = range(200)
 GROUP_LINES = 300
+OTHERS_SEEDS = range(100)
+OTHERS_LINES = 60
 TYPES = [f"{sign}{bits}{order}" for sign in "iu" for bits in (8, 16, 32, 64) for order in ("le", "be", "")]
 NAMES = ["/d", "/e", "/" + "n" * 1023, "/" + "n" * 1024, "/a\\x20b", "/\\xff\\x00", "/\\xff", "/..", "/.", "/",
          "d", "", "//", "/d/", "/x/d", "/d/e", "/a\\x2", "/a\\X20", "/\\x2fd", "/a\tb", "\\x2fd", "/~!"]
@@ -94,6 +97,15 @@ def script_of_groups(seed):
     return script, b"".join(text for _, (text, _) in made), maker.session.image(), sum(edited for _, (_, edited) in made)
 
 
+def script_of_others(seed):
+    """An image in a layout drawn at random, a script that edits it, and how many edits the reference accepts."""
+    rng = random.Random(f"others {seed}")
+    image = linked_image(rng)
+    maker = LineMaker(rng, today.session_of(image), GROUPS)
+    made = [maker.line() for _ in range(OTHERS_LINES)]
+    return image, b"".join(line + b"\n" for line, _ in made), sum(edited for _, (_, edited) in made)
+
+
 class RandomScripts(InFolder):
     """Scripts, mostly on a file that is empty at first."""
 
@@ -146,3 +158,12 @@ class RandomScripts(InFolder):
                     self.assertEqual(h5i("ls", path), (0, today.listing(today.session_of(image).tree), b""))
                     accepted += edits
         self.assertGreater(accepted, GROUP_LINES // 2 * len(GROUP_SEEDS))
+
+    def test_scripts_on_files_of_others(self):
+        accepted = 0
+        with ProcessPoolExecutor() as pool:
+            for seed, (image, script, edits) in enumerate(pool.map(script_of_others, OTHERS_SEEDS)):
+                with self.subTest(seed=seed):
+                    self.assert_runs(image, script)
+                    accepted += edits
+        self.assertGreater(accepted, OTHERS_LINES // 2 * len(OTHERS_SEEDS))
