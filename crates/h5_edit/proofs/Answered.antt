@@ -1,27 +1,25 @@
 -- What an edit that is carried is answered, by what was written of the tree that it gives.
-use Rattle.std.proofs.Common.{◌≡◌, ℕ, ◌+◌, ◌^◌, ◌<◌, ◌≤◌, List, length, refl, sym, ap, ◌∙◌, subst, true, false, Option, None, nat_lt, arith}
+use Rattle.std.proofs.Common.{◌≡◌, ℕ, ◌+◌, ◌^◌, ◌<◌, ◌≤◌, List, length, refl, sym, ap, ◌∙◌, subst, true, false, Option, nat_lt, arith}
 use Rattle.std.proofs.lemmas.Bool.Decides.{nat_tests}
-use Rattle.std.specs.Prelude.{IfOk, IfErr, MatchResult, Result, Ok, Err, option_map}
+use Rattle.std.specs.Prelude.{IfOk, IfErr, MatchResult, Result, Ok, Err}
 use Rattle.std.specs.Ordering.{nat_cmp}
 use Rattle.std.specs.BTreeMap.{BTreeMap}
 use Rattle.std.specs.FinMap.{FinMap, len}
 use Rattle.h5_change.specs.Change.{IsPlainChange, changed}
 use Rattle.h5_change.specs.declared.change.Change.{Change}
-use Rattle.h5_fits.specs.Laws.{AreBytes, IsTyped, is_full, is_plain_edit}
+use Rattle.h5_fits.specs.Laws.{AreBytes, is_full, is_plain_edit}
 use Rattle.h5_fits.proofs.EditedTrees.{edited_plain}
 use Rattle.h5_fits.proofs.OpenedTrees.{opened_plain}
 use Rattle.h5_image.specs.Plain.{ArePlain, AreLow, IsPlainTree}
-use Rattle.h5_image.specs.Written.{plain_image, image_end}
+use Rattle.h5_image.specs.Written.{plain_image}
 use Rattle.h5_image.specs.Written as image
 use Rattle.h5_image.proofs.ImageLength.{image_length}
-use Rattle.h5_model.specs.Edits.{applied, named_object}
 use Rattle.h5_model.specs.PlainLength.{plain_length}
 use Rattle.h5_model.specs.Reads.{Placed}
-use Rattle.h5_model.specs.Refusal.{refusal_of}
 use Rattle.h5_model.specs.Superblock.{IsSuperblock, leaf_k, internal_k}
 use Rattle.h5_model.specs.Tree.{Tree}
 use Rattle.h5_model.specs.declared.edits.Edit.{Edit}
-use Rattle.h5_model.specs.declared.edits.Edit.TheVariants.{CreateGroup, CreateDataset, HardLink, SoftLink, Unlink, SetAttr, RemoveAttr, Write, Resize}
+use Rattle.h5_model.specs.declared.edits.Edit.TheVariants.{CreateDataset, SetAttr}
 use Rattle.h5_model.specs.declared.object_no.ObjectNo.{ObjectNo}
 use Rattle.h5_renumber.specs.Headers.{table_with}
 use Rattle.h5_bodies.specs.Laws.{IsPlainReading}
@@ -40,9 +38,9 @@ use Rattle.h5_write.specs.declared.write.WriteFault.{WriteFault}
 use Rattle.h5_write.specs.declared.write.WriteFault.TheVariants.{TooLong, TooDeep, NoMemory}
 use Rattle.h5_edit.specs.Answers.{answer_to, fault_of}
 use Rattle.h5_edit.specs.Carried.{is_header_full, is_too_long, IsRefused}
+use Rattle.h5_edit.specs.Fitting.{IsFitting, made_in}
 use Rattle.h5_edit.specs.Made.{IsMade}
-use Rattle.h5_edit.proofs.Changes.{next_free, len_tree, len_changed, made_in}
-use Rattle.h5_edit.proofs.Edits.{IsEditOf}
+use Rattle.h5_edit.proofs.Changes.{next_free, len_tree, len_changed}
 use Rattle.h5_image.proofs.PlainImages.{plain_reads}
 use Rattle.h5_edit.proofs.Numbered.{numbered_map, len_numbered, len_alike}
 use Rattle.h5_edit.proofs.Refusals.{by_memory, by_length, by_depth}
@@ -82,40 +80,15 @@ module _ (leaf internal : ℕ) (tree : Tree) (k : AreK leaf internal) (sound : I
 -- ---- edits
 
 keeps : (edit : Edit) → is_plain_edit edit ≡ true → keeps_links edit ≡ true
-keeps (CreateGroup path) plain = refl
 keeps (CreateDataset path spec) plain = refl
-keeps (HardLink target path) plain = refl
-keeps (SoftLink text path) plain = refl
-keeps (Unlink path) plain = plain
-keeps (SetAttr path attr) plain = refl
-keeps (RemoveAttr path name) plain = refl
-keeps (Write path hyper values) plain = plain
-keeps (Resize path dims) plain = plain
+keeps _ plain = cc
 
 same_full : (image : List ℕ) (objects : List OpenedObject) (edit : Edit) → is_header_full (opened_state image objects) edit ≡ is_full image objects edit
-same_full image objects (CreateGroup path) = refl
-same_full image objects (CreateDataset path spec) = refl
-same_full image objects (HardLink target path) = refl
-same_full image objects (SoftLink text path) = refl
-same_full image objects (Unlink path) = refl
 same_full image objects (SetAttr path attr) = refl
-same_full image objects (RemoveAttr path name) = refl
-same_full image objects (Write path hyper values) = refl
-same_full image objects (Resize path dims) = refl
+same_full image objects _ = refl
 
--- an edit that no rule refuses, and the change that it is
-pub record IsFitting (image : List ℕ) (objects : List OpenedObject) (edit : Edit) (change : Change) : Type 0 where
-  pub typed : IsTyped edit
-  pub carried : is_plain_edit edit ≡ true
-  pub accepted : refusal_of (tree_of image objects) (length objects) edit ≡ None
-  pub roomy : is_header_full (opened_state image objects) edit ≡ false
-  pub is : IsEditOf (tree_of image objects) (length objects) edit change
-
-pub sound_tree : (image : List ℕ) (objects : List OpenedObject) (numbers : BTreeMap ℕ ℕ) → IsOpened image objects numbers → IsSoundTree (tree_of image objects)
-sound_tree image objects numbers opened = reads_sound image (table_of objects) (tree_of image objects) opened.reads
-
-module _ (image : List ℕ) (objects : List OpenedObject) (numbers : BTreeMap ℕ ℕ) (edit : Edit) (change : Change) (opened : IsOpened image objects numbers)
-    (fitting : IsFitting image objects edit change) where
+module _ {image : List ℕ} {objects : List OpenedObject} {numbers : BTreeMap ℕ ℕ} {edit : Edit} {change : Change} {object : Option ObjectNo}
+    (opened : IsOpened image objects numbers) (fitting : IsFitting image objects edit change object) where
   abbrev f : FileState
   f = opened_state image objects
 
@@ -128,22 +101,19 @@ module _ (image : List ℕ) (objects : List OpenedObject) (numbers : BTreeMap �
   abbrev internal : ℕ
   internal = internal_k image
 
-  gives : applied f.tree edit f.next ≡ after
-  gives = (fitting.is).gives
-
   pub sound_change : IsSoundTree after
   sound_change =
-      subst IsSoundTree gives
-      (applied_sound f.tree f.next f.next edit (sound_tree image objects numbers opened) (next_free image objects) (keeps edit fitting.carried) fitting.accepted)
+      subst IsSoundTree fitting.gives
+      (applied_sound f.tree f.next f.next edit (reads_sound image (table_of objects) (tree_of image objects) opened.reads) (next_free image objects) (keeps edit fitting.carried) fitting.accepted)
 
   plain_after : AreBytes image → ArePlain after
   plain_after low =
-      subst ArePlain gives
+      subst ArePlain fitting.gives
       (edited_plain image objects numbers edit low opened fitting.typed fitting.carried fitting.accepted (sym (same_full image objects edit) ∙ fitting.roomy))
 
   pub plain_change : AreBytes image → IsPlainChange f.tree f.next change
   plain_change low = record {
-    there = (fitting.is).there;
+    there = fitting.there;
     plain = opened_plain image objects numbers low opened;
     changed_plain = plain_after low;
   }
@@ -157,39 +127,38 @@ module _ (image : List ℕ) (objects : List OpenedObject) (numbers : BTreeMap �
     refused : (fault : WriteFault) → IsUnwritten leaf internal after fault → IsRefused f edit (fault_of fault)
     refused TooLong long =
         by_length f edit fitting.carried fitting.accepted fitting.roomy
-        (ap (λ (t : Tree). is_too_long f t) gives ∙ above (2 ^ 31) (plain_length leaf internal 32 (λ _. 0) after) long) where
+        (ap (λ (t : Tree). is_too_long f t) fitting.gives ∙ above (2 ^ 31) (plain_length leaf internal 32 (λ _. 0) after) long) where
           above : (most n : ℕ) → most < n → nat_lt most n ≡ true
           above most n high = grind (arith, nat_tests)
     refused TooDeep deep =
         by_depth f edit fitting.carried fitting.accepted fitting.roomy (λ lies.
-        deep.3 (subst (AreLow leaf internal) gives lies deep.0 deep.1 deep.2))
+        deep.3 (subst (AreLow leaf internal) fitting.gives lies deep.0 deep.1 deep.2))
     refused NoMemory none = by_memory f edit fitting.carried
 
     -- ---- written
 
-    made : (w : Written) (object : Option ObjectNo) → IsWritten leaf internal after w → option_map (λ o. o.0) object ≡ named_object f.tree edit f.next
-        → IsMade f edit (record { image = w.image; headers = w.headers; object = object })
-    made w object is named = record {
+    made : (w : Written) → IsWritten leaf internal after w → IsMade f edit (record { image = w.image; headers = w.headers; object = object })
+    made w is = record {
       accepted = record {
         carried = fitting.carried;
         accepted = fitting.accepted;
         given = (
           fitting.roomy,
-          ap (λ (t : Tree). is_too_long f t) gives ∙ short leaf internal after k sound_change (plain_after low) w is,
-          subst (AreLow leaf internal) (sym gives) is.low,
+          ap (λ (t : Tree). is_too_long f t) fitting.gives ∙ short leaf internal after k sound_change (plain_after low) w is,
+          subst (AreLow leaf internal) (sym fitting.gives) is.low,
         );
       };
       anew = record {
-        reads = subst (λ (t : Tree). IsPlainReading w.image.items leaf internal (table_with w.headers.items) t) (sym gives)
+        reads = subst (λ (t : Tree). IsPlainReading w.image.items leaf internal (table_with w.headers.items) t) (sym fitting.gives)
             (read_as leaf internal after k sound_change (plain_after low) w is);
         numbered =
             as_many leaf internal after k sound_change (plain_after low) w is ∙ len_changed f.tree change f.next (next_free image objects)
-            ∙ ap (λ n. n + made_in change) (len_tree image objects) ∙ (fitting.is).counted;
+            ∙ ap (λ n. n + made_in change) (len_tree image objects) ∙ fitting.counted;
       };
-      object = named;
+      object = fitting.named;
     }
 
-    pub answered : (r : Result Written WriteFault) (object : Option ObjectNo) → IfOk r (IsWritten leaf internal after) → IfErr r (IsUnwritten leaf internal after)
-        → option_map (λ o. o.0) object ≡ named_object f.tree edit f.next → MatchResult (answer_to r object) (IsMade f edit) (IsRefused f edit)
-    answered (Ok w) object written not_written named = made w object written named
-    answered (Err fault) object written not_written named = refused fault not_written
+    pub answered : (r : Result Written WriteFault) → IfOk r (IsWritten leaf internal after) → IfErr r (IsUnwritten leaf internal after)
+        → MatchResult (answer_to r object) (IsMade f edit) (IsRefused f edit)
+    answered (Ok w) written not_written = made w written
+    answered (Err fault) written not_written = refused fault not_written

@@ -22,7 +22,8 @@ use Rattle.h5_tree.specs.Kept.{IsOpened}
 use Rattle.h5_tree.specs.Objects.{headers, object_in, tree_of}
 use Rattle.h5_tree.specs.declared.object.OpenedObject.{OpenedObject}
 use Rattle.h5_tree.proofs.Entries.{get_tree}
-use Rattle.h5_edit.proofs.FewObjects.{few_objects}
+use Rattle.h5_tree.proofs.Numbers.{few_objects}
+use Rattle.h5_edit.specs.Fitting.{made_by, made_in}
 use Rattle.h5_edit.proofs.Numbered.{numbered_map, len_numbered}
 
 -- ---- the tree of an opened image
@@ -64,18 +65,6 @@ len_kept tree number change = let same = len_with tree number change in omega (a
 
 -- ---- changes
 
-abbrev pub made_by : Target → ℕ
-made_by target.Group = 1
-made_by (target.Array spec) = 1
-made_by (target.Object number) = 0
-made_by (target.Text text) = 0
-
--- how many objects a change makes
-abbrev pub made_in : Change → ℕ
-made_in (Linked parent name target) = made_by target
-made_in (Set object attr) = 0
-made_in (Remove object name) = 0
-
 pub len_changed : (tree : Tree) (change : Change) (number : ℕ) → get tree number ≡ None → len (changed tree change number) ≡ len tree + made_in change
 unfolding changed
 len_changed tree (Linked parent name target.Group) number none =
@@ -87,13 +76,13 @@ len_changed tree (Linked parent name (target.Text text)) number none = len_kept 
 len_changed tree (Set object attr) number none = len_kept tree object (with_attributes (λ m. insert m (attr.now).name (attribute_from attr.now)))
 len_changed tree (Remove object name) number none = len_kept tree object (with_attributes (λ m. remove m name.now))
 
+by_few : (target : Target) → made_by target ≤ 1
+by_few target.Group = omega arith
+by_few _ = omega arith
+
 made_few : (change : Change) → made_in change ≤ 1
-made_few (Linked parent name target.Group) = omega arith
-made_few (Linked parent name (target.Array spec)) = omega arith
-made_few (Linked parent name (target.Object other)) = omega arith
-made_few (Linked parent name (target.Text text)) = omega arith
-made_few (Set object attr) = omega arith
-made_few (Remove object name) = omega arith
+made_few (Linked parent name target) = by_few target
+made_few _ = omega arith
 
 -- ---- the objects that are written
 
@@ -102,9 +91,9 @@ len_objects objects tree are =
     sym (AllZip-long IsNewObject objects are.listed are.each)
     ∙ sym (ap len (numbered_map tree are.listed (λ n. sym (are.numbered n))) ∙ len_numbered are.listed)
 
-pub few_changed : (image : List ℕ) (objects : List OpenedObject) (numbers : BTreeMap ℕ ℕ) (change : Change) (new : List NewObject) → IsOpened image objects numbers
+pub few_changed : {image : List ℕ} {objects : List OpenedObject} {numbers : BTreeMap ℕ ℕ} → IsOpened image objects numbers → (change : Change) (new : List NewObject)
     → AreObjects new (changed (tree_of image objects) change (length objects)) → length new < 2 ^ 32
-few_changed image objects numbers change new opened are =
+few_changed {image = image} {objects = objects} {numbers = numbers} opened change new are =
     let few = few_objects image objects numbers opened in
     let all = len_objects new (changed (tree_of image objects) change (length objects)) are in
     let more = len_changed (tree_of image objects) change (length objects) (next_free image objects) in

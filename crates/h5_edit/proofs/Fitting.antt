@@ -1,137 +1,173 @@
--- Edits that no rule refuses, as they are carried out.
-use Rattle.std.proofs.Common.{◌≡◌, ℕ, ◌+◌, ◌<◌, ◌≤◌, List, length, refl, sym, ap, ◌∙◌, Bool, true, false, Option, Some, nat_lt, arith}
+-- Edits that no rule refuses, as changes of the tree of an opened image.
+use Rattle.std.proofs.Common.{◌≡◌, inl, ℕ, ◌+◌, ◌<◌, ◌≤◌, List, length, refl, sym, ap, ◌∙◌, true, false, Option, Some, None, nat_lt, arith}
 use Rattle.std.proofs.lemmas.Bool.Decides.{nat_tests}
 use Rattle.std.proofs.lemmas.List.{length-map}
-use Rattle.std.proofs.lemmas.Option.{slice_get_past, slice_get-get_or}
-use Rattle.std.specs.Prelude.{IsSome, map, slice_get, slice_index_or}
+use Rattle.std.proofs.lemmas.Option.{same_Some, slice_get-get_or}
+use Rattle.std.specs.Prelude.{IsSome, slice_get, slice_index_or}
 use Rattle.std.specs.Borrow.{Bor}
 use Rattle.std.specs.BTreeMap.{BTreeMap}
-use Rattle.std.specs.FinMap.{get}
+use Rattle.std.specs.FinMap.{get, insert, remove, empty}
 use Rattle.std.specs.Option.{option_and_then, option_map_or}
+use Rattle.h5_change.specs.Change.{with_link, changed}
 use Rattle.h5_change.specs.declared.change.Change.TheVariants.{Link as Linked, Set, Remove}
 use Rattle.h5_change.specs.declared.change.Target.TheVariants as target
 use Rattle.h5_header.specs.Listed.{message_in}
+use Rattle.h5_model.specs.Edits.{applied, linked, new_object, new_dataset, with_links, with_attributes, attribute_from}
 use Rattle.h5_model.specs.Fixed.{IsFixed}
 use Rattle.h5_model.specs.Messages.{prefix_at, total_in}
 use Rattle.h5_model.specs.Paths.{object_at}
-use Rattle.h5_model.specs.Tree.{Tree}
+use Rattle.h5_model.specs.Refusal.{new_path}
+use Rattle.h5_model.specs.Tree.{Tree, Links, Link, Group, Array, ToObject, Soft, links_of, with_object}
 use Rattle.h5_model.specs.declared.attribute.AttrSpec.{AttrSpec}
 use Rattle.h5_model.specs.declared.dataset.Spec.{Spec}
+use Rattle.h5_model.specs.declared.edits.Edit.{Edit}
 use Rattle.h5_model.specs.declared.edits.Edit.TheVariants.{CreateGroup, CreateDataset, HardLink, SoftLink, SetAttr, RemoveAttr}
+use Rattle.h5_model.specs.declared.object_no.ObjectNo.{ObjectNo}
+use Rattle.h5_breach.proofs.Lists.{In}
 use Rattle.h5_rules.specs.Allowed.{is_line, IsAt, IsPlaced, IsLinkPlaced}
 use Rattle.h5_rules.specs.declared.place.NewPlace.{NewPlace}
 use Rattle.h5_sound.proofs.Applied.{object_stands}
-use Rattle.h5_sound.proofs.Linked.{none_some}
+use Rattle.h5_sound.proofs.LinksThere.{links_are}
+use Rattle.h5_sound.proofs.NewPaths.{new_is_free}
+use Rattle.h5_sound.proofs.Read.{reads_sound}
 use Rattle.h5_tree.specs.Kept.{IsOpened}
-use Rattle.h5_tree.specs.Objects.{headers, object_in, table_of, tree_of}
+use Rattle.h5_tree.specs.Objects.{table_of, tree_of}
 use Rattle.h5_tree.specs.State.{opened_state}
 use Rattle.h5_tree.specs.declared.object.OpenedObject.{OpenedObject}
-use Rattle.h5_tree.proofs.Entries.{get_table, get_tree}
+use Rattle.h5_tree.proofs.Entries.{get_table}
 use Rattle.h5_tree.proofs.Indexed.{header_at, object_kept}
+use Rattle.h5_tree.proofs.Numbers.{numbered}
 use Rattle.h5_edit.specs.Carried.{is_header_full}
-use Rattle.h5_edit.proofs.Answered.{IsFitting, sound_tree}
-use Rattle.h5_edit.proofs.Edits.{group_made, array_made, link_made, text_made, attribute_set, attribute_removed}
+use Rattle.h5_edit.specs.Fitting.{IsFitting}
 
-module _ (image : List ℕ) (objects : List OpenedObject) (numbers : BTreeMap ℕ ℕ) (opened : IsOpened image objects numbers) (path : List ℕ) where
+module _ {image : List ℕ} {objects : List OpenedObject} {numbers : BTreeMap ℕ ℕ} (opened : IsOpened image objects numbers) where
   abbrev tree : Tree
   tree = tree_of image objects
 
   abbrev next : ℕ
   next = length objects
 
-  -- ---- links
+  -- ---- new links
 
-  pub group_fits : (place : NewPlace) → IsPlaced tree next path (CreateGroup path) place
-      → IsFitting image objects (CreateGroup path) (Linked place.parent place.name target.Group)
-  group_fits place is = record {
+  module _ {path : List ℕ} {edit : Edit} {place : NewPlace} (placed : IsPlaced tree next path edit place) where
+    linked_at : (link : Link) → linked tree path link ≡ with_link tree place.parent place.name.now link
+    linked_at link = ap (λ o. option_map_or (λ (p : ℕ × List ℕ). with_object tree p.0 (with_links (λ links. insert links p.1 link))) o tree) placed.parent
+
+    -- the group has no such link yet
+    link_free : In path (new_path edit) → (links : Links) × (links_of tree place.parent ≡ Some links) × (get links place.name.now ≡ None)
+    link_free new =
+        let f = new_is_free tree next edit path new placed.allowed in
+        let same : (f.parent, f.name) ≡ (place.parent, place.name.now) = same_Some (f.parent, f.name) (place.parent, place.name.now) (sym f.found ∙ placed.parent) in
+        let parent : f.parent ≡ place.parent = ap (λ (p : ℕ × List ℕ). p.0) same in
+        let name : f.name ≡ place.name.now = ap (λ (p : ℕ × List ℕ). p.1) same in
+        (f.group.links, ap (links_of tree) (sym parent) ∙ links_are tree f.parent f.group, ap (get f.group.links) (sym name) ∙ f.free)
+
+  pub group_fits : {path : List ℕ} {place : NewPlace} {object : ObjectNo} → IsPlaced tree next path (CreateGroup path) place → object.0 ≡ next
+      → IsFitting image objects (CreateGroup path) (Linked place.parent place.name target.Group) (Some object)
+  unfolding applied changed
+  group_fits placed numbered = record {
     typed = tt;
     carried = refl;
-    accepted = is.allowed;
+    accepted = placed.allowed;
     roomy = refl;
-    is = group_made tree path place is.parent next is.allowed;
+    gives = ap (λ t. insert t next (new_object (Group empty))) (linked_at placed (ToObject next));
+    there = link_free placed (inl refl);
+    counted = refl;
+    named = ap (λ n. Some n) numbered;
   }
 
-  pub array_fits : (spec : Bor Spec) (place : NewPlace) → IsFixed (spec.now).fixed → is_line spec.now ≡ true
-      → IsPlaced tree next path (CreateDataset path spec.now) place
-      → IsFitting image objects (CreateDataset path spec.now) (Linked place.parent place.name (target.Array spec))
-  array_fits spec place typed line is = record {
+  pub array_fits : {path : List ℕ} {place : NewPlace} {object : ObjectNo} (spec : Bor Spec) → IsFixed (spec.now).fixed → is_line spec.now ≡ true
+      → IsPlaced tree next path (CreateDataset path spec.now) place → object.0 ≡ next
+      → IsFitting image objects (CreateDataset path spec.now) (Linked place.parent place.name (target.Array spec)) (Some object)
+  unfolding applied changed
+  array_fits spec typed line placed numbered = record {
     typed = typed;
     carried = line;
-    accepted = is.allowed;
+    accepted = placed.allowed;
     roomy = refl;
-    is = array_made tree path place is.parent next spec is.allowed;
+    gives = ap (λ t. insert t next (new_object (Array (new_dataset spec.now)))) (linked_at placed (ToObject next));
+    there = link_free placed (inl refl);
+    counted = refl;
+    named = ap (λ n. Some n) numbered;
   }
 
-  pub link_fits : (old : List ℕ) (number : ℕ) (place : NewPlace) → IsLinkPlaced tree next old path (HardLink old path) (number, place)
-      → IsFitting image objects (HardLink old path) (Linked place.parent place.name (target.Object number))
-  link_fits old number place is = record {
+  pub link_fits : {path old : List ℕ} {number : ℕ} {place : NewPlace} → IsLinkPlaced tree next old path (HardLink old path) (number, place)
+      → IsFitting image objects (HardLink old path) (Linked place.parent place.name (target.Object number)) (Some (record { 0 = number }))
+  unfolding applied changed
+  link_fits {path = path} {number = number} placed = record {
     typed = tt;
     carried = refl;
-    accepted = (is.1).allowed;
+    accepted = (placed.1).allowed;
     roomy = refl;
-    is = link_made tree path place (is.1).parent next old number is.0 (is.1).allowed;
+    gives = ap (λ o. option_map_or (λ number. linked tree path (ToObject number)) o tree) placed.0 ∙ linked_at placed.1 (ToObject number);
+    there = link_free placed.1 (inl refl);
+    counted = omega arith;
+    named = sym placed.0;
   }
 
-  pub text_fits : (text : Bor (List ℕ)) (place : NewPlace) → IsPlaced tree next path (SoftLink text.now path) place
-      → IsFitting image objects (SoftLink text.now path) (Linked place.parent place.name (target.Text text))
-  text_fits text place is = record {
+  pub text_fits : {path : List ℕ} {place : NewPlace} (text : Bor (List ℕ)) → IsPlaced tree next path (SoftLink text.now path) place
+      → IsFitting image objects (SoftLink text.now path) (Linked place.parent place.name (target.Text text)) None
+  unfolding applied changed
+  text_fits text placed = record {
     typed = tt;
     carried = refl;
-    accepted = is.allowed;
+    accepted = placed.allowed;
     roomy = refl;
-    is = text_made tree path place is.parent next text is.allowed;
+    gives = linked_at placed (Soft text.now);
+    there = link_free placed (inl refl);
+    counted = omega arith;
+    named = refl;
   }
 
   -- ---- attributes
 
-  pub number_low : (number : ℕ) → object_at tree path ≡ Some number → number < length objects
-  number_low number at =
-      let some = object_stands tree path number (sound_tree image objects numbers opened) at in
-      go (nat_lt number (length objects)) refl some where
-        go : (b : Bool) → nat_lt number (length objects) ≡ b → IsSome (get tree number) → number < length objects
-        go true is some = grind (arith, nat_tests)
-        go false is some =
-            let high : length objects ≤ number = grind (arith, nat_tests) in
-            let past = slice_get_past (map (object_in image (headers objects)) objects) number (omega (arith, high, length-map objects (object_in image (headers objects)))) in
-            absurd (none_some (get tree number) (get_tree image objects number ∙ past) some)
+  stands : (path : List ℕ) (number : ℕ) → object_at tree path ≡ Some number → IsSome (get tree number)
+  stands path number at = object_stands tree path number (reads_sound image (table_of objects) tree opened.reads) at
+
+  pub number_low : (path : List ℕ) (number : ℕ) → object_at tree path ≡ Some number → number < next
+  number_low path number at = (numbered image objects numbers opened).given number (stands path number at)
 
   -- whether the header has no place for a message and a Continuation
-  full_at : (attr : AttrSpec) (number : ℕ) (o : OpenedObject) → object_at tree path ≡ Some number → slice_get objects number ≡ Some o
+  full_at : (path : List ℕ) (attr : AttrSpec) (number : ℕ) (o : OpenedObject) → object_at tree path ≡ Some number → o ≡ slice_index_or objects number o
       → is_header_full (opened_state image objects) (SetAttr path attr) ≡ nat_lt 65535 (length o.messages.list + 2)
-  full_at attr number o at stands =
+  full_at path attr number o at is =
+      let there : slice_get objects number ≡ Some o = slice_get-get_or objects number o (number_low path number at) ∙ ap (λ (x : OpenedObject). Some x) (sym is) in
       let test = λ (header : ℕ). nat_lt 65535 (total_in (prefix_at image header) + 2) in
-      let header : get (table_of objects) number ≡ Some o.messages.header = get_table objects number ∙ header_at objects number o stands in
-      let total = (((object_kept image objects numbers opened number o stands).header).has).total in
+      let header : get (table_of objects) number ≡ Some o.messages.header = get_table objects number ∙ header_at objects number o there in
+      let total = (((object_kept image objects numbers opened number o there).header).has).total in
       ap (λ (found : Option ℕ). option_map_or test (option_and_then (get (table_of objects)) found) false) at
       ∙ ap (λ (found : Option ℕ). option_map_or test found false) header
       ∙ ap (λ n. nat_lt 65535 (n + 2)) (total ∙ length-map o.messages.list (message_in image))
 
-  module _ (attr : AttrSpec) (number : ℕ) (o : OpenedObject) (at : object_at tree path ≡ Some number) (is : o ≡ slice_index_or objects number o) where
-    there : slice_get objects number ≡ Some o
-    there = slice_get-get_or objects number o (number_low number at) ∙ ap (λ (x : OpenedObject). Some x) (sym is)
+  pub full_here : (path : List ℕ) (attr : AttrSpec) (number : ℕ) (o : OpenedObject) → object_at tree path ≡ Some number → o ≡ slice_index_or objects number o
+      → 65535 < length o.messages.list + 2 → is_header_full (opened_state image objects) (SetAttr path attr) ≡ true
+  full_here path attr number o at is many = full_at path attr number o at is ∙ grind (arith, nat_tests)
 
-    pub full_here : 65535 < length o.messages.list + 2 → is_header_full (opened_state image objects) (SetAttr path attr) ≡ true
-    full_here many = full_at attr number o at there ∙ grind (arith, nat_tests)
-
-    pub roomy_here : length o.messages.list + 2 ≤ 65535 → is_header_full (opened_state image objects) (SetAttr path attr) ≡ false
-    roomy_here few = full_at attr number o at there ∙ grind (arith, nat_tests)
-
-  pub set_fits : (attr : Bor AttrSpec) (number : ℕ) → IsFixed (attr.now).fixed → IsAt tree next path (SetAttr path attr.now) number
-      → is_header_full (opened_state image objects) (SetAttr path attr.now) ≡ false → IsFitting image objects (SetAttr path attr.now) (Set number attr)
-  set_fits attr number typed is roomy = record {
+  pub set_fits : {path : List ℕ} {number : ℕ} (attr : Bor AttrSpec) (o : OpenedObject) → IsFixed (attr.now).fixed → IsAt tree next path (SetAttr path attr.now) number
+      → o ≡ slice_index_or objects number o → length o.messages.list + 2 ≤ 65535
+      → IsFitting image objects (SetAttr path attr.now) (Set number attr) (Some (record { 0 = number }))
+  unfolding applied changed
+  set_fits {path = path} {number = number} attr o typed at is few = record {
     typed = typed;
     carried = refl;
-    accepted = is.allowed;
-    roomy = roomy;
-    is = attribute_set tree next path number (sound_tree image objects numbers opened) is.object attr;
+    accepted = at.allowed;
+    roomy = full_at path attr.now number o at.object is ∙ grind (arith, nat_tests);
+    gives = ap (λ o. option_map_or (λ n. with_object tree n (with_attributes (λ m. insert m (attr.now).name (attribute_from attr.now)))) o tree) at.object;
+    there = stands path number at.object;
+    counted = omega arith;
+    named = sym at.object;
   }
 
-  pub removal_fits : (name : Bor (List ℕ)) (number : ℕ) → IsAt tree next path (RemoveAttr path name.now) number
-      → IsFitting image objects (RemoveAttr path name.now) (Remove number name)
-  removal_fits name number is = record {
+  pub removal_fits : {path : List ℕ} {number : ℕ} (name : Bor (List ℕ)) → IsAt tree next path (RemoveAttr path name.now) number
+      → IsFitting image objects (RemoveAttr path name.now) (Remove number name) (Some (record { 0 = number }))
+  unfolding applied changed
+  removal_fits {path = path} {number = number} name at = record {
     typed = tt;
     carried = refl;
-    accepted = is.allowed;
+    accepted = at.allowed;
     roomy = refl;
-    is = attribute_removed tree next path number (sound_tree image objects numbers opened) is.object name;
+    gives = ap (λ o. option_map_or (λ n. with_object tree n (with_attributes (λ m. remove m name.now))) o tree) at.object;
+    there = stands path number at.object;
+    counted = omega arith;
+    named = sym at.object;
   }

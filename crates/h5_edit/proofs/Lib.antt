@@ -3,7 +3,6 @@ pub mod FewObjects
 pub mod Changes
 pub mod Low
 pub mod Refusals
-pub mod Edits
+pub mod Fitting
 pub mod Answered
 pub mod Writings
-pub mod Fitting

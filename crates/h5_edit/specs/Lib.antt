@@ -1,3 +1,4 @@
 pub mod Carried
 pub mod Made
 pub mod Answers
+pub mod Fitting

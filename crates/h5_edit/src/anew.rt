@@ -1,16 +1,23 @@
 //! An opened image with a change, written anew.
 
-ghost use Rattle.std.specs.Prelude.{◌≡◌, ◌<◌, ℕ, IfOk, IfErr, length, slice_index};
+ghost use Rattle.std.specs.Prelude.{◌≡◌, ◌<◌, ℕ, IfOk, IfErr, MatchResult, length, slice_index};
 ghost use Rattle.h5_model.specs.Superblock.{IsSuperblock, leaf_k, internal_k};
+ghost use Rattle.h5_model.specs.declared.edits.Edit.{Edit};
 ghost use Rattle.h5_sound.specs.Sound.{IsSoundTree};
 ghost use Rattle.h5_fits.specs.Laws.{AreBytes};
 ghost use Rattle.h5_tree.specs.Kept.{IsOpened};
 ghost use Rattle.h5_tree.specs.Objects.{tree_of};
+ghost use Rattle.h5_tree.specs.State.{opened_state};
 ghost use Rattle.h5_change.specs.Change.{IsPlainChange, changed};
 ghost use Rattle.h5_write.specs.Written.{IsWritten, IsUnwritten};
+ghost use Rattle.h5_edit.specs.Carried.{IsRefused};
+ghost use Rattle.h5_edit.specs.Fitting.{IsFitting};
+ghost use Rattle.h5_edit.specs.Made.{IsMade};
 
+use crate::made::{Made, answer};
 use h5_bytes::get_u16;
 use h5_change::{Change, changed_objects};
+use h5_model::{EditFault, ObjectNo};
 use h5_space::Image;
 use h5_tree::Opened;
 use h5_write::{WriteFault, Written, write_tree};
@@ -29,11 +36,31 @@ struct K {
     internal: u16,
 }
 
+/// Carries an edit out that is this change, and that makes or names this object: no rule refuses it, and no header is full.
+///
+/// `TreeTooDeep` where the tree of a group would have more than 16 levels, `ImageFull` where the image would pass 2147483648 bytes,
+/// `NoMemory` where memory is refused.
+pub(crate) fn carry_out(
+    alloc: Global,
+    image: &Image,
+    opened: &Opened,
+    change: &Change<'_>,
+    object: Option<ObjectNo>,
+) -> Result<Made, EditFault>
+    requires opened { IsOpened image.now.bytes opened.now.objects.items opened.now.numbers }
+    requires edit { (edit : Edit) × IsFitting image.now.bytes opened.now.objects.items edit change.now object }
+    ensures { let f = opened_state image.now.bytes opened.now.objects.items in
+        (edit : Edit) → IsFitting image.now.bytes opened.now.objects.items edit change.now object
+        → MatchResult result (IsMade f edit) (IsRefused f edit) }
+{
+    answer(write_changed(alloc, image, opened, change), object)
+}
+
 /// The plain image of the tree that a change gives, with the K values of the image.
 ///
 /// `TooLong` where it would have more than 2147483648 bytes, `TooDeep` where the tree of a group would have more than 16 levels, and else
 /// `NoMemory` where memory is refused. The image itself tells that its bytes are below 256, so a caller need not.
-pub(crate) fn write_changed(
+fn write_changed(
     alloc: Global,
     image: &Image,
     opened: &Opened,

@@ -7,8 +7,8 @@ ghost use Rattle.h5_tree.specs.State.{opened_state};
 ghost use Rattle.h5_edit.specs.Carried.{IsRefused};
 ghost use Rattle.h5_edit.specs.Made.{IsMade};
 
-use crate::anew::write_changed;
-use crate::made::{Made, answer};
+use crate::anew::carry_out;
+use crate::made::Made;
 use h5_change::Change;
 use h5_model::{AttrSpec, EditFault, ObjectNo};
 use h5_rules::{check_attribute, check_removal};
@@ -47,8 +47,7 @@ pub fn set_attribute(
         object: number,
         attr,
     };
-    let written = write_changed(alloc, image, opened, &change);
-    answer(written, Some(ObjectNo(number)))
+    carry_out(alloc, image, opened, &change, Some(ObjectNo(number)))
 }
 
 /// Removes the attribute of this name from the object at the path.
@@ -71,6 +70,5 @@ pub fn remove_attribute(
         object: number,
         name,
     };
-    let written = write_changed(alloc, image, opened, &change);
-    answer(written, Some(ObjectNo(number)))
+    carry_out(alloc, image, opened, &change, Some(ObjectNo(number)))
 }

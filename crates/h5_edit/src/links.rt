@@ -8,8 +8,8 @@ ghost use Rattle.h5_change.specs.declared.change.Change.TheVariants.{Link as Lin
 ghost use Rattle.h5_edit.specs.Carried.{IsRefused};
 ghost use Rattle.h5_edit.specs.Made.{IsMade};
 
-use crate::anew::write_changed;
-use crate::made::{Made, answer};
+use crate::anew::carry_out;
+use crate::made::Made;
 use h5_change::{Change, Target};
 use h5_model::{EditFault, ObjectNo, Spec};
 use h5_rules::{NewPlace, check_array, check_group, check_hard_link, check_soft_link, is_one_line};
@@ -34,8 +34,7 @@ pub fn new_group(
 {
     let place = check_group(image, opened, path)?;
     let change = link_at(place, Target::Group);
-    let written = write_changed(alloc, image, opened, &change);
-    answer(written, Some(next_object(opened)))
+    carry_out(alloc, image, opened, &change, Some(next_object(opened)))
 }
 
 /// Makes an array at the path, every cell of which is the fill.
@@ -61,8 +60,7 @@ pub fn new_array(
     // The call's contract says that the type is a sound one.
     let _size = spec.fixed.size();
     let change = link_at(place, Target::Array(spec));
-    let written = write_changed(alloc, image, opened, &change);
-    answer(written, Some(next_object(opened)))
+    carry_out(alloc, image, opened, &change, Some(next_object(opened)))
 }
 
 /// Makes a second name for the array at `target`.
@@ -82,8 +80,7 @@ pub fn new_hard_link(
 {
     let (number, place) = check_hard_link(image, opened, target, path)?;
     let change = link_at(place, Target::Object(number));
-    let written = write_changed(alloc, image, opened, &change);
-    answer(written, Some(ObjectNo(number)))
+    carry_out(alloc, image, opened, &change, Some(ObjectNo(number)))
 }
 
 /// Makes a soft link at the path, with this text, which is not followed.
@@ -103,8 +100,7 @@ pub fn new_soft_link(
 {
     let place = check_soft_link(image, opened, text, path)?;
     let change = link_at(place, Target::Text(text));
-    let written = write_changed(alloc, image, opened, &change);
-    answer(written, None)
+    carry_out(alloc, image, opened, &change, None)
 }
 
 /// The change that adds a link at this place.

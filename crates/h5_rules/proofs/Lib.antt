@@ -1,3 +1,4 @@
+pub mod Exits
 pub mod FaultLaws
 pub mod TableLaws
 pub mod CutLaws
@@ -5,5 +6,3 @@ pub mod NewPaths
 pub mod Counts
 pub mod Verdicts
 pub mod Attributes
-pub mod NewLinks
-pub mod ObjectNumbers

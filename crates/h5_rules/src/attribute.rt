@@ -67,7 +67,7 @@ pub fn check_removal(
     }
 }
 
-/// Why the attribute is refused wherever it is to stand, by the lowest number that holds. It takes no memory.
+/// Why the attribute is refused wherever it is to stand, by the lowest number that holds.
 fn check_own(alloc: Global, attr: &AttrSpec) -> Result<(), EditFault>
     ensures { let rules = own_rules attr.now in MatchResult result (λ _. first_holding rules ≡ None) (λ e. first_holding rules ≡ Some e) }
 {

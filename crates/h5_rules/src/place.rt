@@ -22,7 +22,7 @@ pub struct NewPlace<'a> {
 }
 
 /// Where a new link at the path is to stand, or the lowest number of why none can: `BadPath`, `PathTooDeep`, `IsRoot`, `NoSuchParent`,
-/// `NotAGroup`, `AlreadyThere`, or `NameTooLong` above 1023 bytes. It takes no memory.
+/// `NotAGroup`, `AlreadyThere`, or `NameTooLong` above 1023 bytes.
 pub(crate) fn new_place<'a>(
     image: &Image,
     opened: &Opened,
@@ -69,7 +69,7 @@ fn free_place<'a>(image: &Image, opened: &Opened, path: &'a [u8]) -> Result<NewP
 fn cut_last(path: &[u8]) -> (&[u8], &[u8])
     ensures { IsCut path.now result }
 {
-    match path.iter().rposition(|c| *c == b'/') {
+    match path.iter().rposition(|byte| *byte == b'/') {
         Some(0) => (&path[..1], &path[1..]),
         Some(end) => (&path[..end], &path[end + 1..]),
         None => (path, path),
@@ -77,7 +77,7 @@ fn cut_last(path: &[u8]) -> (&[u8], &[u8])
 }
 
 /// The object at the path with its number, or the lowest number of why none stands there: `BadPath`, `PathTooDeep`, `NoSuchParent`,
-/// `NotAGroup`, or `NotFound` also where a soft link does. It takes no memory.
+/// `NotAGroup`, or `NotFound` also where a soft link does.
 pub(crate) fn object_at<'a>(
     image: &'a Image,
     opened: &'a Opened,

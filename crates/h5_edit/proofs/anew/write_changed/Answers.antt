@@ -7,9 +7,7 @@ use Rattle.h5_edit.proofs.Writings.{refused_here}
 use Rattle.h5_edit.proofs.anew.write_changed.Goals as goal
 
 pub write_tree-requires-clause-few : goal.write_tree-requires-clause-few
-write_tree-requires-clause-few c =
-    rw c.deref.ensures.value
-    (few_changed c.args.image.now.bytes c.args.opened.now.objects.items c.args.opened.now.numbers c.args.change.now c.in-Ok.objects.items c.requires.opened c.in-Ok.ensures)
+write_tree-requires-clause-few c = rw c.deref.ensures.value (few_changed c.requires.opened c.args.change.now c.in-Ok.objects.items c.in-Ok.ensures)
 
 pub write_tree-requires-clause-tree : goal.write_tree-requires-clause-tree
 write_tree-requires-clause-tree c = (
@@ -29,4 +27,4 @@ returns-in-Ok-clause-refused c =
       sound = c.requires.sound;
       plain = (c.requires.change c.k_of-k.ensures.bytes).changed_plain;
     } in
-    refused_here c.k_of-k.result.leaf c.k_of-k.result.internal _ _ c.deref.result.now tree c.k_of-k.ensures.leaf c.k_of-k.ensures.internal held c.write_tree.result c.write_tree.ensures.refused
+    refused_here c.k_of-k.ensures.leaf c.k_of-k.ensures.internal held c.write_tree.result c.write_tree.ensures.refused

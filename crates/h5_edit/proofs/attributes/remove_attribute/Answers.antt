@@ -1,37 +1,18 @@
-use Rattle.std.proofs.Common.{refl, sym, Some}
-use Rattle.std.proofs.lemmas.Result.{err_from_is_err_and}
-use Rattle.h5_change.specs.declared.change.Change.TheVariants.{Remove}
+use Rattle.std.proofs.Common.{refl}
 use Rattle.h5_model.specs.declared.edits.Edit.TheVariants.{RemoveAttr}
+use Rattle.h5_rules.proofs.Exits.{passed_on}
 use Rattle.h5_tree.specs.State.{opened_state}
-use Rattle.h5_edit.specs.Carried.{IsRefused}
-use Rattle.h5_edit.proofs.Answered.{IsFitting, sound_change, plain_change, answered}
 use Rattle.h5_edit.proofs.Fitting.{removal_fits}
 use Rattle.h5_edit.proofs.Refusals.{by_rule}
 use Rattle.h5_edit.proofs.attributes.remove_attribute.Goals as goal
 
 pub returns-in_err-number : goal.returns-in_err-number
 returns-in_err-number c =
-    let p = err_from_is_err_and c.from_residual.result c.from_residual.ensures.1 in
-    let refused : IsRefused (opened_state c.args.image.now.bytes c.args.opened.now.objects.items) (RemoveAttr c.args.path.now c.args.name.now) c.in_err-number.field-0.0
-    = by_rule (opened_state c.args.image.now.bytes c.args.opened.now.objects.items) (RemoveAttr c.args.path.now c.args.name.now) refl c.in_err-number.field-0.0 c.in_err-number.ensures in
-    rw (p.1, p.2) refused
+    passed_on _ _ c.from_residual.result _ c.from_residual.ensures.1
+    (by_rule (opened_state c.args.image.now.bytes c.args.opened.now.objects.items) (RemoveAttr c.args.path.now c.args.name.now) refl _ c.in_err-number.ensures)
 
-pub write_changed-written-requires-clause-change : goal.write_changed-written-requires-clause-change
-write_changed-written-requires-clause-change c =
-    let fits : IsFitting c.args.image.now.bytes c.args.opened.now.objects.items (RemoveAttr c.args.path.now c.args.name.now) (Remove c.in_ok-number.number c.args.name)
-    = (removal_fits c.args.image.now.bytes c.args.opened.now.objects.items c.args.opened.now.numbers c.requires c.args.path.now c.args.name c.in_ok-number.number c.in_ok-number.ensures) in
-    plain_change c.args.image.now.bytes c.args.opened.now.objects.items c.args.opened.now.numbers (RemoveAttr c.args.path.now c.args.name.now) (Remove c.in_ok-number.number c.args.name) c.requires fits
-
-pub write_changed-written-requires-clause-sound : goal.write_changed-written-requires-clause-sound
-write_changed-written-requires-clause-sound c =
-    let fits : IsFitting c.args.image.now.bytes c.args.opened.now.objects.items (RemoveAttr c.args.path.now c.args.name.now) (Remove c.in_ok-number.number c.args.name)
-    = (removal_fits c.args.image.now.bytes c.args.opened.now.objects.items c.args.opened.now.numbers c.requires c.args.path.now c.args.name c.in_ok-number.number c.in_ok-number.ensures) in
-    sound_change c.args.image.now.bytes c.args.opened.now.objects.items c.args.opened.now.numbers (RemoveAttr c.args.path.now c.args.name.now) (Remove c.in_ok-number.number c.args.name) c.requires fits
+pub carry_out-requires-clause-edit : goal.carry_out-requires-clause-edit
+carry_out-requires-clause-edit c = (RemoveAttr c.args.path.now c.args.name.now, removal_fits c.requires c.args.name c.in_ok-number.ensures)
 
 pub returns : goal.returns
-returns c =
-    let fits : IsFitting c.args.image.now.bytes c.args.opened.now.objects.items (RemoveAttr c.args.path.now c.args.name.now) (Remove c.in_ok-number.number c.args.name)
-    = (removal_fits c.args.image.now.bytes c.args.opened.now.objects.items c.args.opened.now.numbers c.requires c.args.path.now c.args.name c.in_ok-number.number c.in_ok-number.ensures) in
-    rw c.answer.ensures (answered c.args.image.now.bytes c.args.opened.now.objects.items c.args.opened.now.numbers (RemoveAttr c.args.path.now c.args.name.now) (Remove c.in_ok-number.number c.args.name) c.requires fits
-    c.write_changed-written.ensures.bytes c.write_changed-written.result (Some (record { 0 = c.in_ok-number.number })) c.write_changed-written.ensures.written c.write_changed-written.ensures.refused
-    (sym c.in_ok-number.ensures.object))
+returns c = c.carry_out.ensures (RemoveAttr c.args.path.now c.args.name.now) (removal_fits c.requires c.args.name c.in_ok-number.ensures)

@@ -1,37 +1,23 @@
-use Rattle.std.proofs.Common.{length}
-use Rattle.std.proofs.lemmas.Result.{err_from_is_err_and}
-use Rattle.h5_tree.specs.Objects.{tree_of}
-use Rattle.h5_model.specs.declared.edits.Edit.TheVariants.{HardLink}
-use Rattle.h5_rules.specs.Allowed.{IsRuledOut}
+use Rattle.h5_rules.proofs.Exits.{passed_on}
 use Rattle.h5_rules.proofs.Verdicts.{target_refused, paths_refused, hard_refused, link_refused, link_placed}
 use Rattle.h5_rules.proofs.links.check_hard_link.Goals as goal
 
 pub returns-in_err-check_target-in-Ok-Ok : goal.returns-in_err-check_target-in-Ok-Ok
 returns-in_err-check_target-in-Ok-Ok c =
-    let tree = tree_of c.args.image.now.bytes c.args.opened.now.objects.items in
-    let next = length c.args.opened.now.objects.items in
-    let p = err_from_is_err_and c.from_residual.result c.from_residual.ensures.1 in
-    let refused : IsRuledOut tree next (HardLink c.args.target.now c.args.path.now) c.in_err-check_target-in-Ok-Ok.field-0.0
-    = link_refused tree next c.args.target.now c.args.path.now c.in-Ok-Ok.number c.in-Ok-Ok.ensures.0 c.in-Ok-Ok.place c.in-Ok-Ok.ensures' c.in_err-check_target-in-Ok-Ok.field-0.0
-    c.in_err-check_target-in-Ok-Ok.ensures in
-    rw (p.1, p.2) refused
+    passed_on _ _ c.from_residual.result _ c.from_residual.ensures.1
+    (link_refused _ _ c.args.target.now c.args.path.now c.in-Ok-Ok.number c.in-Ok-Ok.ensures.0 c.in-Ok-Ok.place c.in-Ok-Ok.ensures' _ c.in_err-check_target-in-Ok-Ok.ensures)
 
 pub returns-in_ok-check_target-in-Ok-Ok : goal.returns-in_ok-check_target-in-Ok-Ok
 returns-in_ok-check_target-in-Ok-Ok c =
-    link_placed (tree_of c.args.image.now.bytes c.args.opened.now.objects.items) (length c.args.opened.now.objects.items) c.args.target.now c.args.path.now c.in-Ok-Ok.number
-    c.in-Ok-Ok.ensures.0 c.in-Ok-Ok.place c.in-Ok-Ok.ensures' c.in_ok-check_target-in-Ok-Ok.ensures
+    link_placed _ _ c.args.target.now c.args.path.now c.in-Ok-Ok.number c.in-Ok-Ok.ensures.0 c.in-Ok-Ok.place c.in-Ok-Ok.ensures' c.in_ok-check_target-in-Ok-Ok.ensures
 
 pub returns-in-Ok-Err : goal.returns-in-Ok-Err
-returns-in-Ok-Err c =
-    hard_refused (tree_of c.args.image.now.bytes c.args.opened.now.objects.items) (length c.args.opened.now.objects.items) c.args.target.now c.args.path.now c.in-Ok-Err.field-0-0.0
-    c.in-Ok-Err.ensures.0 c.in-Ok-Err.fault c.in-Ok-Err.ensures'
+returns-in-Ok-Err c = hard_refused _ _ c.args.target.now c.args.path.now c.in-Ok-Err.field-0-0.0 c.in-Ok-Err.ensures.0 c.in-Ok-Err.fault c.in-Ok-Err.ensures'
 
 pub returns-in-Err-Ok : goal.returns-in-Err-Ok
-returns-in-Err-Ok c =
-    target_refused (tree_of c.args.image.now.bytes c.args.opened.now.objects.items) (length c.args.opened.now.objects.items) c.args.target.now c.args.path.now c.in-Err-Ok.field-0-1
-    c.in-Err-Ok.fault c.in-Err-Ok.ensures c.in-Err-Ok.ensures'
+returns-in-Err-Ok c = target_refused _ _ c.args.target.now c.args.path.now c.in-Err-Ok.field-0-1 c.in-Err-Ok.fault c.in-Err-Ok.ensures c.in-Err-Ok.ensures'
 
 pub returns-in-Err-Err : goal.returns-in-Err-Err
 returns-in-Err-Err c =
-    rw c.lower.ensures (paths_refused (tree_of c.args.image.now.bytes c.args.opened.now.objects.items) (length c.args.opened.now.objects.items) c.args.target.now c.args.path.now
-    c.in-Err-Err.of_target c.in-Err-Err.of_path c.in-Err-Err.ensures c.in-Err-Err.ensures')
+    rw c.lower.ensures
+    (paths_refused _ _ c.args.target.now c.args.path.now c.in-Err-Err.of_target c.in-Err-Err.of_path c.in-Err-Err.ensures c.in-Err-Err.ensures')

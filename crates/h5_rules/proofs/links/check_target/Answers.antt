@@ -2,20 +2,15 @@ use Rattle.h5_rules.proofs.Counts.{prefix_inside, group_target, full_target, fre
 use Rattle.h5_rules.proofs.links.check_target.Goals as goal
 
 pub links-requires : goal.links-requires
-links-requires c =
-    prefix_inside c.args.image.now.bytes c.args.opened.now.objects.items c.args.opened.now.numbers c.requires.opened c.args.number c.args.object.now c.requires.object
+links-requires c = prefix_inside _ _ _ c.requires.opened _ _ c.requires.object
 
 pub returns-in-Group : goal.returns-in-Group
-returns-in-Group c =
-    group_target c.args.image.now.bytes c.args.opened.now.objects.items c.args.opened.now.numbers c.requires.opened c.args.number c.args.object.now c.requires.object
-    c.in-Group.field-0 c.in-Group.is
+returns-in-Group c = group_target _ _ _ c.requires.opened _ _ c.requires.object c.in-Group.field-0 c.in-Group.is
 
 pub returns-then-links-ge-MAX_LINKS : goal.returns-then-links-ge-MAX_LINKS
 returns-then-links-ge-MAX_LINKS c =
-    full_target c.args.image.now.bytes c.args.opened.now.objects.items c.args.opened.now.numbers c.requires.opened c.args.number c.args.object.now c.requires.object
-    c.in-Array.field-0 c.in-Array.is c.links.result c.links.ensures c.if-links-ge-MAX_LINKS.true
+    full_target _ _ _ c.requires.opened _ _ c.requires.object c.in-Array.field-0 c.in-Array.is c.links.result c.links.ensures c.if-links-ge-MAX_LINKS.true
 
 pub returns-else-links-ge-MAX_LINKS : goal.returns-else-links-ge-MAX_LINKS
 returns-else-links-ge-MAX_LINKS c =
-    free_target c.args.image.now.bytes c.args.opened.now.objects.items c.args.opened.now.numbers c.requires.opened c.args.number c.args.object.now c.requires.object
-    c.in-Array.field-0 c.in-Array.is c.links.result c.links.ensures c.if-links-ge-MAX_LINKS.false
+    free_target _ _ _ c.requires.opened _ _ c.requires.object c.in-Array.field-0 c.in-Array.is c.links.result c.links.ensures c.if-links-ge-MAX_LINKS.false

@@ -1,0 +1,41 @@
+-- Edits that nothing refuses but the writing of the image, and the changes of the tree that they are.
+use Rattle.std.specs.Prelude.{◌≡◌, ℕ, ◌+◌, if◌then◌else◌, true, false, Option, None, List, length}
+use Rattle.std.specs.Option.{option_map}
+use Rattle.h5_model.specs.Edits.{applied, makes_object, named_object}
+use Rattle.h5_model.specs.Refusal.{refusal_of}
+use Rattle.h5_model.specs.declared.edits.Edit.{Edit}
+use Rattle.h5_model.specs.declared.object_no.ObjectNo.{ObjectNo}
+use Rattle.h5_fits.specs.Laws.{IsTyped}
+use Rattle.h5_tree.specs.Objects.{tree_of}
+use Rattle.h5_tree.specs.State.{opened_state}
+use Rattle.h5_tree.specs.declared.object.OpenedObject.{OpenedObject}
+use Rattle.h5_change.specs.Change.{IsChange, changed}
+use Rattle.h5_change.specs.declared.change.Change.{Change}
+use Rattle.h5_change.specs.declared.change.Change.TheVariants.{Link as Linked, Set, Remove}
+use Rattle.h5_change.specs.declared.change.Target.{Target}
+use Rattle.h5_change.specs.declared.change.Target.TheVariants as target
+use Rattle.h5_edit.specs.Carried.{is_carried, is_header_full}
+
+-- how many objects a change makes
+abbrev pub made_by : Target → ℕ
+made_by target.Group = 1
+made_by (target.Array spec) = 1
+made_by (target.Object number) = 0
+made_by (target.Text text) = 0
+
+abbrev pub made_in : Change → ℕ
+made_in (Linked parent name target) = made_by target
+made_in (Set object attr) = 0
+made_in (Remove object name) = 0
+
+-- no rule of the tree refuses the edit, and no header is full; this change, which can be made, gives its tree, and it makes or names this
+-- object
+pub record IsFitting (image : List ℕ) (objects : List OpenedObject) (edit : Edit) (change : Change) (object : Option ObjectNo) : Type 0 where
+  pub typed : IsTyped edit
+  pub carried : is_carried edit ≡ true
+  pub accepted : refusal_of (tree_of image objects) (length objects) edit ≡ None
+  pub roomy : is_header_full (opened_state image objects) edit ≡ false
+  pub gives : applied (tree_of image objects) edit (length objects) ≡ changed (tree_of image objects) change (length objects)
+  pub there : IsChange (tree_of image objects) change
+  pub counted : length objects + made_in change ≡ (if makes_object edit then length objects + 1 else length objects)
+  pub named : option_map (λ o. o.0) object ≡ named_object (tree_of image objects) edit (length objects)
