@@ -42,6 +42,7 @@ zip_made R f (x ∷ xs) each = (each x (inl refl), zip_made R f xs (λ y at. eac
 
 -- ---- names
 
+-- a name has no zero byte
 neither : (a b c : Bool) → ((a || b) || c) ≡ false → (a ≡ false) × (c ≡ false)
 neither true b c h = absurd (cc)
 neither false true c h = absurd (cc)
