@@ -1,11 +1,11 @@
 -- The header of each object is reached, and so is each field that names it.
-use Rattle.std.proofs.Common.{◌≡◌, ◌≢◌, inl, inr, ℕ, ◌+◌, ◌*◌, ◌<◌, List, [], ◌∷◌, length, refl, sym, ap, ◌∙◌, subst, arith, Option, Some, None, true, false, Bool, cond}
+use Rattle.std.proofs.Common.{◌≡◌, ◌≢◌, inl, inr, ℕ, ◌+◌, ◌*◌, ◌<◌, List, [], ◌∷◌, length, refl, sym, ap, ◌∙◌, subst, arith, Option, Some, None, true, false, Bool}
 use Rattle.std.proofs.lemmas.Bool.Decides.{nat_tests}
 use Rattle.std.specs.Prelude.{◌==◌, if◌then◌else◌, is_some}
 use Rattle.std.specs.Option.{option_and_then}
-use Rattle.std.specs.Ordering.{nat_cmp, eq_by_cmp}
+use Rattle.std.specs.Ordering.{nat_cmp}
 use Rattle.std.specs.Cmp.Lexicographic.{slice_cmp}
-use Rattle.std.specs.FinMap.{FinMap, get, entries, find, get-entries}
+use Rattle.std.specs.FinMap.{FinMap, get, entries, get-entries}
 use Rattle.std.specs.List.{AllByRecursion, range_with_len, flat_map}
 use Rattle.h5_bytes.specs.Bytes.{part}
 use Rattle.h5_bytes.specs.Texts.{text_at}
@@ -19,7 +19,7 @@ use Rattle.h5_model.specs.Reached.{named, ObjectHeader, Reached, by_superblock, 
 use Rattle.h5_model.specs.TreeFaults.{all_entries}
 use Rattle.h5_breach.specs.Holds.{Holds}
 use Rattle.h5_breach.proofs.Lists.{In, in_either, from_map, from_flat, from_table, from_range}
-use Rattle.h5_breach.proofs.Maps.{tied_right}
+use Rattle.h5_breach.proofs.Maps.{found_value, tied_right}
 use Rattle.h5_breach.proofs.Objects.{has_object, content_cases, in_tree, in_table, object_at}
 use Rattle.h5_breach.proofs.Datasets.{said_first}
 use Rattle.h5_breach.proofs.Entries.{links_are}
@@ -27,15 +27,8 @@ use Rattle.h5_breach.proofs.LinkFields.{entry_link, node_links, object_links, pl
 use Rattle.h5_breach.proofs.Reachable.{IsReached, entry_reached}
 use Rattle.h5_breach.proofs.Located.{KnownGroup}
 
--- what is looked up stands under some name
-named_value : (es : List (List ℕ × Link)) (q : List ℕ) (v : Link) → find (slice_cmp nat_cmp) q es ≡ Some v → (k : List ℕ) × In (k, v) es
-named_value [] q v h = absurd (cc)
-named_value ((k, x) ∷ es) q v h = elim (eq_by_cmp (slice_cmp nat_cmp) q k) as (λ b. cond b (Some x) (find (slice_cmp nat_cmp) q es) ≡ Some v → (n : List ℕ) × In (n, v) ((k, x) ∷ es)) [
-  | true ↦ λ here. let same : x ≡ v = cc in (k, inl (ap (λ (l : Link). (k, l)) same))
-  | false ↦ λ later. let rest = named_value es q v later in (rest.0, inr rest.1)
-] h
-
-soft_leads : (tree : Tree) (text : List ℕ) (path : List (List ℕ)) (b : ℕ) → follow tree (Soft text) path ≡ Some (ToObject b) → ⊥
+-- no path through a text leads to an object
+pub soft_leads : (tree : Tree) (text : List ℕ) (path : List (List ℕ)) (b : ℕ) → follow tree (Soft text) path ≡ Some (ToObject b) → ⊥
 soft_leads tree text [] b h = absurd (let e : Some (Soft text) ≡ Some (ToObject b) = h in cc)
 soft_leads tree text (name ∷ path) b h = absurd (let e : None ≡ Some (ToObject b) = h in cc)
 
@@ -172,7 +165,7 @@ module _ (image : List ℕ) (table : FinMap nat_cmp ℕ) (tree : Tree) (placed :
       → get links name ≡ Some (ToObject number) → (p : Placed) × In p placed × (p.number ≡ number) × HeaderReached p
   next_reached o at reached links is name number linked =
       let g = reached_group o at (has_object image table tree placed reads o at) links (content_of o at links is) in
-      let stands = named_value (entries links) name (ToObject number) (sym (get-entries links name) ∙ linked) in
+      let stands = found_value (slice_cmp nat_cmp) (entries links) name (ToObject number) (sym (get-entries links name) ∙ linked) in
       let header = subst (λ (p : Placed). IsReached image ObjectHeader p.header reached.0) (sym g.4) reached.1 in
       let next = linked_reached g.0 reached.0 g.1 g.2 g.3 header stands.0 number (subst (λ (ls : Links). In (stands.0, ToObject number) (entries ls)) (sym g.5) stands.1) in
       let p = object_at image table tree placed reads number next.0 next.1 in

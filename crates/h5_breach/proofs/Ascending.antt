@@ -9,7 +9,7 @@ use Rattle.h5_model.specs.Symbols.{Target}
 use Rattle.h5_model.specs.Links.{Before, Ascend}
 use Rattle.h5_breach.proofs.Lists.{In}
 
-less_of : (r : Ordering) → IsTrue (is_lt r) → r ≡ Less
+pub less_of : (r : Ordering) → IsTrue (is_lt r) → r ≡ Less
 less_of Less h = refl
 less_of Equal h = absurd (let no_way : false ≡ true = h in cc)
 less_of Greater h = absurd (let no_way : false ≡ true = h in cc)

@@ -127,18 +127,23 @@ headed image messages at end s before =
       go [] fills among = absurd (before (omega (arith, s.place, s.ends, fills, length-part s.b.at s.b.len image s.within)))
       go (m ∷ rest) fills among = head_is image messages s.b s.from m rest s.within fills.0 fills.1 among
 
+-- a body that stands in the image begins with two numbers of it
+pub two_numbers : (image : List ℕ) (at size : ℕ) (body : List ℕ) → body ≡ part at size image → at + size ≤ length image → 16 ≤ size
+    → (nat_le 16 (length body) ≡ true) × (number_at body 0 8 ≡ number_at image at 8) × (number_at body 8 8 ≡ number_at image (at + 8) 8)
+two_numbers image at size body is inside long =
+    let len : length body ≡ size = ap length is ∙ length-part at size image inside in
+    let none : at + 0 ≡ at = omega arith in (
+      grind (arith, nat_tests),
+      ap (λ bs. number_at bs 0 8) is ∙ number_at-part 0 8 at size image (omega arith) ∙ ap (λ (p : ℕ). number_at image p 8) none,
+      ap (λ bs. number_at bs 8 8) is ∙ number_at-part 8 8 at size image (omega arith),
+    )
+
 -- a Continuation with its two numbers names the block that they say
 pub names_block : (image : List ℕ) (at size : ℕ) (body : List ℕ) → body ≡ part at size image → at + size ≤ length image → 16 ≤ size
     → continuation_of body ≡ Some (block (number_at image at 8) (number_at image (at + 8) 8))
 unfolding continuation_of
 names_block image at size body is inside long =
-    let len : length body ≡ size = ap length is ∙ length-part at size image inside in
-    let holds : nat_le 16 (length body) ≡ true = grind (arith, nat_tests) in
-    let none : at + 0 ≡ at = omega arith in
-    let first : number_at body 0 8 ≡ number_at image at 8
-    = ap (λ bs. number_at bs 0 8) is ∙ number_at-part 0 8 at size image (omega arith) ∙ ap (λ (p : ℕ). number_at image p 8) none in
-    let second : number_at body 8 8 ≡ number_at image (at + 8) 8 = ap (λ bs. number_at bs 8 8) is ∙ number_at-part 8 8 at size image (omega arith) in
-    rw (holds, first, second) refl
+    let two = two_numbers image at size body is inside long in rw (two.0, two.1, two.2) refl
 
 pub in_continuations : (m : Message) (b : Block) → m.kind ≡ 16 → continuation_of m.body ≡ Some b → In b (continuation m)
 in_continuations m b kind is = let same : (m.kind == 16) ≡ true = grind (arith, nat_tests) in rw (same, is) (inl refl)

@@ -1,6 +1,7 @@
 pub mod Lists
 pub mod Heads
 pub mod Maps
+pub mod Numbered
 pub mod Rows
 pub mod Trees
 pub mod Counts

@@ -1,5 +1,7 @@
 -- Members of lists.
-use Rattle.std.proofs.Common.{◌≡◌, ℕ, zero, suc, ◌+◌, ◌<◌, ◌⊎◌, inl, inr, List, [], ◌∷◌, ◌++◌, map, refl, sym, ap, ◌∙◌, subst, arith}
+use Rattle.std.proofs.Common.{◌≡◌, ℕ, zero, suc, ◌+◌, ◌<◌, ◌⊎◌, inl, inr, List, [], ◌∷◌, ◌++◌, map, refl, sym, ap, ◌∙◌, subst, arith, Some}
+use Rattle.std.proofs.lemmas.Option.{same_Some}
+use Rattle.std.specs.Prelude.{slice_get}
 use Rattle.std.specs.List.{AllByRecursion, flat_map, Contains, range_with_len}
 use Rattle.h5_bytes.specs.Tables.{table}
 
@@ -63,6 +65,17 @@ pub contains_in : {X : Type 0} (x : X) (xs : List X) → In x xs → Contains xs
 contains_in x [] at = absurd at
 contains_in x (y ∷ ys) (inl e) = (0, omega arith, e)
 contains_in x (y ∷ ys) (inr at) = let rest = contains_in x ys at in (suc rest.0, omega (arith, rest.1), rest.2)
+
+-- the place at which it stands, and what stands at a place
+pub stands_at : {X : Type 0} (x : X) (xs : List X) → In x xs → (k : ℕ) × (slice_get xs k ≡ Some x)
+stands_at x [] at = absurd at
+stands_at {X = X} x (y ∷ ys) (inl e) = (zero, ap (λ (z : X). Some z) e)
+stands_at x (y ∷ ys) (inr at) = let rest = stands_at x ys at in (suc rest.0, rest.1)
+
+pub in_at : {X : Type 0} (xs : List X) (k : ℕ) (x : X) → slice_get xs k ≡ Some x → In x xs
+in_at [] k x at = absurd (cc)
+in_at (y ∷ ys) zero x at = inl (same_Some y x at)
+in_at (y ∷ ys) (suc k) x at = inr (in_at ys k x at)
 
 pub in_range : (from n i : ℕ) → i < n → In (from + i) (range_with_len from n)
 in_range from zero i low = absurd (omega (arith, low))

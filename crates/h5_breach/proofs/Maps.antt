@@ -1,13 +1,22 @@
 -- Entries of maps, and what is looked up; lists that are tied item by item.
-use Rattle.std.proofs.Common.{◌≡◌, ℕ, List, [], ◌∷◌, refl, sym, ap, ap₂, ◌∙◌, subst, arith, Some, cond, eqb, true, false, Bool, inl, inr}
-use Rattle.std.proofs.lemmas.Bool.Decides.{nat_tests}
-use Rattle.std.specs.Ordering.{nat_cmp}
+use Rattle.std.proofs.Common.{◌≡◌, ℕ, List, [], ◌∷◌, refl, sym, ap, ap₂, ◌∙◌, subst, Option, Some, None, IsSome, cond, true, false, Bool, inl, inr}
+use Rattle.std.proofs.lemmas.Option.{same_Some}
+use Rattle.std.specs.Prelude.{T}
+use Rattle.std.specs.Ordering.{nat_cmp, eq_by_cmp}
 use Rattle.std.specs.declared.cmp.Ordering.{Ordering}
-use Rattle.std.specs.Cmp.{IsTotalOrder, unsigned_tied}
-use Rattle.std.specs.FinMap.{FinMap, get, entries, find, get-entries, entries_sorted}
+use Rattle.std.specs.Cmp.{IsTotalOrder, Equal-is}
+use Rattle.std.specs.FinMap.{FinMap, IsAntisymmetric, nat_cmp-IsAntisymmetric, get, entries, find, get-entries, entries_sorted}
 use Rattle.std.specs.List.{AllZip}
 use Rattle.h5_model.proofs.ReachLaws.{Entry, find_entry}
 use Rattle.h5_breach.proofs.Lists.{In}
+
+pub true_of : (b : Bool) → T b → b ≡ true
+true_of true h = refl
+true_of false h = absurd h
+
+pub value_of : {X : Type 0} (o : Option X) → IsSome o → (x : X) × (o ≡ Some x)
+value_of None some = absurd (cc)
+value_of (Some x) some = (x, refl)
 
 pub to_entry : {K X : Type 0} (es : List (K × X)) (k : K) (v : X) → In (k, v) es → Entry es k v
 to_entry [] k v at = absurd at
@@ -18,24 +27,25 @@ to_entry (e ∷ es) k v (inr at) = inr (to_entry es k v at)
 pub get_of_entry : {K X : Type 0} {R : K → K → Ordering} → IsTotalOrder R → (m : FinMap R X) (k : K) (v : X) → In (k, v) (entries m) → get m k ≡ Some v
 get_of_entry o m k v at = get-entries m k ∙ find_entry o (entries m) k v (entries_sorted m) (to_entry (entries m) k v at)
 
-found_step : {X : Type 0} (es : List (ℕ × X)) (q k : ℕ) (x v : X) → find nat_cmp q ((k, x) ∷ es) ≡ Some v → (find nat_cmp q es ≡ Some v → In (q, v) es)
-    → In (q, v) ((k, x) ∷ es)
-found_step {X = X} es q k x v h rest = go (eqb q k) refl where
-  go : (b : Bool) → eqb q k ≡ b → In (q, v) ((k, x) ∷ es)
-  go true same =
-      let key : k ≡ q = grind (arith, nat_tests) in
-      let here : Some x ≡ Some v = sym (ap (λ b. cond b (Some x) (find nat_cmp q es)) (unsigned_tied q k ∙ same)) ∙ h in
-      let value : x ≡ v = cc in
-      inl (ap₂ (λ (a : ℕ) (b : X). (a, b)) key value)
-  go false same = inr (rest (sym (ap (λ b. cond b (Some x) (find nat_cmp q es)) (unsigned_tied q k ∙ same)) ∙ h))
+-- what is found is the value of an entry
+pub found_value : {K X : Type 0} (R : K → K → Ordering) (es : List (K × X)) (q : K) (v : X) → find R q es ≡ Some v → (k : K) × In (k, v) es
+found_value R [] q v h = absurd (cc)
+found_value {K = K} R ((k, x) ∷ es) q v h = elim (eq_by_cmp R q k) as (λ b. cond b (Some x) (find R q es) ≡ Some v → (j : K) × In (j, v) ((k, x) ∷ es)) [
+  | true ↦ λ here. (k, inl (ap (λ y. (k, y)) (same_Some x v here)))
+  | false ↦ λ later. let rest = found_value R es q v later in (rest.0, inr rest.1)
+] h
 
-found_entry : {X : Type 0} (es : List (ℕ × X)) (q : ℕ) (v : X) → find nat_cmp q es ≡ Some v → In (q, v) es
-found_entry [] q v h = absurd (cc)
-found_entry ((k, x) ∷ es) q v h = found_step es q k x v h (found_entry es q v)
+-- of the entry with the key, where no others tie with it
+pub found_entry : {K X : Type 0} {R : K → K → Ordering} → IsAntisymmetric R → (es : List (K × X)) (q : K) (v : X) → find R q es ≡ Some v → In (q, v) es
+found_entry same [] q v h = absurd (cc)
+found_entry {K = K} {X = X} {R = R} same ((k, x) ∷ es) q v h = elim (eq_by_cmp R q k) as (λ b. eq_by_cmp R q k ≡ b → cond b (Some x) (find R q es) ≡ Some v → In (q, v) ((k, x) ∷ es)) [
+  | true ↦ λ tied here. inl (ap₂ (λ (a : K) (b : X). (a, b)) (sym (same q k ((Equal-is (R q k)).0 tied))) (same_Some x v here))
+  | false ↦ λ _ later. inr (found_entry same es q v later)
+] refl h
 
 -- and what is looked up by a number is the value of an entry
 pub entry_of_get : {X : Type 0} (m : FinMap nat_cmp X) (q : ℕ) (v : X) → get m q ≡ Some v → In (q, v) (entries m)
-entry_of_get m q v h = found_entry (entries m) q v (sym (get-entries m q) ∙ h)
+entry_of_get m q v h = found_entry nat_cmp-IsAntisymmetric (entries m) q v (sym (get-entries m q) ∙ h)
 
 -- an item on the right is tied to one on the left
 pub tied_left : {A B : Type 0} (R : A → B → Type 0) (xs : List A) (ys : List B) (y : B) → AllZip R xs ys → In y ys → (x : A) × In x xs × R x y

@@ -52,7 +52,7 @@ split_in {X = X} x (y ∷ ys) (inl e) = ([], ys, ap (λ (z : X). z ∷ ys) e)
 split_in {X = X} x (y ∷ ys) (inr at) = let rest = split_in x ys at in (y ∷ rest.0, rest.1, ap (λ (zs : List X). y ∷ zs) rest.2)
 
 -- another member stands in what is left
-left_over : {X : Type 0} (y x : X) (before after : List X) → (x ≡ y → ⊥) → In y (before ++ x ∷ after) → In y (before ++ after)
+pub left_over : {X : Type 0} (y x : X) (before after : List X) → (x ≡ y → ⊥) → In y (before ++ x ∷ after) → In y (before ++ after)
 left_over y x [] after other (inl e) = absurd (other e)
 left_over y x [] after other (inr at) = at
 left_over y x (z ∷ before) after other (inl e) = inl e

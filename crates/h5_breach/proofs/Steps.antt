@@ -1,15 +1,13 @@
 -- Every block that is reached stands in the reading.
-use Rattle.std.proofs.Common.{◌≡◌, inl, inr, ℕ, zero, suc, ◌+◌, ◌*◌, ◌-◌, ◌≤◌, List, [], ◌∷◌, length, refl, sym, ap, ◌∙◌, subst, arith, Some, None, true, false}
+use Rattle.std.proofs.Common.{◌≡◌, inl, inr, ℕ, zero, suc, ◌+◌, ◌*◌, ◌-◌, ◌≤◌, List, [], ◌∷◌, length, refl, sym, ap, ◌∙◌, subst, arith, Some, None, false}
 use Rattle.std.proofs.lemmas.Bool.Decides.{nat_tests}
-use Rattle.std.specs.Prelude.{◌==◌, nat_le, if◌then◌else◌}
+use Rattle.std.specs.Prelude.{◌==◌, if◌then◌else◌}
 use Rattle.std.specs.Ordering.{nat_cmp}
 use Rattle.std.specs.FinMap.{FinMap, values}
 use Rattle.std.specs.List.{flat_map}
 use Rattle.h5_bytes.specs.Bytes.{number_at, part}
 use Rattle.h5_bytes.specs.Blocks.{Inside}
 use Rattle.h5_bytes.specs.declared.Block.{Block}
-use Rattle.h5_bytes.proofs.PartLaws.{length-part}
-use Rattle.h5_bytes.proofs.FieldLaws.{number_at-part}
 use Rattle.h5_bytes.proofs.BlockLaws.{all_left, all_right}
 use Rattle.h5_model.specs.Addresses.{symbol_table_of}
 use Rattle.h5_model.specs.Layout.{InMessage, InBlock, InChunks}
@@ -23,7 +21,7 @@ use Rattle.h5_model.specs.Reached.{Named, named, Role, ObjectHeader, Continuatio
 use Rattle.h5_model.proofs.OneTree.{level_is}
 use Rattle.h5_breach.specs.Holds.{Holds}
 use Rattle.h5_breach.proofs.Lists.{In}
-use Rattle.h5_breach.proofs.Heads.{Headed, headed, standing, names_block}
+use Rattle.h5_breach.proofs.Heads.{Headed, headed, standing, two_numbers, names_block}
 use Rattle.h5_breach.proofs.Rows.{in_row, in_next, named_row}
 use Rattle.h5_breach.proofs.Entries.{in_symbol_nodes, entry_listed, header_listed}
 use Rattle.h5_breach.proofs.Datasets.{all_messages, bytes_known, chunks_known}
@@ -34,13 +32,7 @@ symbol_table_at : (image : List ℕ) (at size : ℕ) (body : List ℕ) → body 
     → symbol_table_of body ≡ Some (record { tree = number_at image at 8; heap = number_at image (at + 8) 8 })
 unfolding symbol_table_of
 symbol_table_at image at size body is inside long =
-    let len : length body ≡ size = ap length is ∙ length-part at size image inside in
-    let holds : nat_le 16 (length body) ≡ true = grind (arith, nat_tests) in
-    let none : at + 0 ≡ at = omega arith in
-    let first : number_at body 0 8 ≡ number_at image at 8
-    = ap (λ bs. number_at bs 0 8) is ∙ number_at-part 0 8 at size image (omega arith) ∙ ap (λ (p : ℕ). number_at image p 8) none in
-    let second : number_at body 8 8 ≡ number_at image (at + 8) 8 = ap (λ bs. number_at bs 8 8) is ∙ number_at-part 8 8 at size image (omega arith) in
-    rw (holds, first, second) refl
+    let two = two_numbers image at size body is inside long in rw (two.0, two.1, two.2) refl
 
 all_inside : (end : ℕ) (placed : List Placed) (o : Placed) → Inside end (flat_map (λ (x : Placed). x.blocks) placed) → In o placed → Inside end o.blocks
 all_inside end [] o inside at = absurd at

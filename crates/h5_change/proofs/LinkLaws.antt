@@ -17,16 +17,13 @@ use Rattle.h5_group.specs.declared.link.LinkRef.{LinkRef}
 use Rattle.h5_tree.specs.Objects.{link_to, links_by}
 use Rattle.h5_tree.proofs.Entries.{group_entries}
 use Rattle.h5_look.specs.Listed.{in_tree}
+use Rattle.h5_look.proofs.ListedLaws.{tree_from}
 use Rattle.h5_objects.specs.Objects.{link_of, tree_link}
 use Rattle.h5_objects.specs.declared.object.TreeLink.{TreeLink}
 use Rattle.h5_change.specs.Appended.{IsPlaceOf}
 use Rattle.h5_change.proofs.MergedLaws.{StandBelow, place_before}
 
 -- ---- the links of a group that was read
-
-tree_from : (hs : List ℕ) (ls : List LinkRef) → map (in_tree hs) ls ≡ map (λ (l : List ℕ × Target). (l.0, link_to hs l.1)) (map link_from ls)
-tree_from hs [] = refl
-tree_from hs (l ∷ ls) = ap (λ (more : List (List ℕ × Link)). in_tree hs l ∷ more) (tree_from hs ls)
 
 module _ (image hs : List ℕ) (g : Group) (read : IsGroupRead image g) (found : List LinkRef) (all : map link_from found ≡ group.links_of image g)
     (links : List TreeLink) (same : map tree_link links ≡ map (in_tree hs) found) where

@@ -1,6 +1,7 @@
 -- Names in their places: the entries of a map by names with one more, or one less.
 use Rattle.std.proofs.Common.{◌≡◌, ℕ, ◌+◌, ◌<◌, ◌≤◌, List, ◌∷◌, ◌++◌, length, take, drop, get_or, refl, sym, ap, ◌∙◌, arith, Bool, true, false}
 use Rattle.std.proofs.lemmas.List.{drop_more, drop_all}
+use Rattle.std.proofs.lemmas.List.Sums.{length-filter, count_by-le-length}
 use Rattle.std.specs.Prelude.{T, not}
 use Rattle.std.specs.Ordering.{nat_cmp, eq_by_cmp}
 use Rattle.std.specs.Cmp.Lexicographic.{slice_cmp, nat_list_cmp_total}
@@ -11,7 +12,6 @@ use Rattle.std.specs.FinMap.Entries.{by_order, is_sorted-where_key}
 use Rattle.h5_model.proofs.MapSteps.{remove_by_name, entries_by_name}
 use Rattle.h5_model.specs.Tree.{Attribute, Attributes}
 use Rattle.h5_change.specs.Appended.{IsPlaceOf, Named, without}
-use Rattle.h5_change.proofs.PushedLaws.{length-filter-le}
 
 abbrev order : List ℕ → List ℕ → Ordering
 order = slice_cmp nat_cmp
@@ -80,4 +80,6 @@ pub entries-set : (m : Attributes) (name : List ℕ) (a : Attribute) → entries
 entries-set m name a = entries-insert nat_list_cmp_total m name a
 
 pub length-without : (name : List ℕ) (es : Named) → length (without name es) ≤ length es
-length-without name es = length-filter-le (λ (e : List ℕ × Attribute). not (eq_by_cmp (slice_cmp nat_cmp) name e.0)) es
+length-without name es =
+    let other : List ℕ × Attribute → Bool = λ e. not (eq_by_cmp (slice_cmp nat_cmp) name e.0) in
+    omega (arith, length-filter other es, count_by-le-length other es)

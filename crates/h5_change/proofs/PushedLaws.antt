@@ -1,7 +1,7 @@
 -- Messages that are appended one by one.
-use Rattle.std.proofs.Common.{◌≡◌, ℕ, suc, ◌+◌, ◌<◌, ◌≤◌, List, [], ◌∷◌, ◌++◌, length, drop, get_or, sym, ap, ◌∙◌, subst, arith, append_assoc, length-append, Bool, true, false, cond}
+use Rattle.std.proofs.Common.{◌≡◌, ℕ, suc, ◌+◌, ◌<◌, ◌≤◌, List, [], ◌∷◌, ◌++◌, length, drop, get_or, sym, ap, ◌∙◌, subst, arith, append_assoc, length-append}
 use Rattle.std.proofs.lemmas.List.{drop_more}
-use Rattle.std.specs.List.{AllByRecursion, filter}
+use Rattle.std.specs.List.{AllByRecursion}
 use Rattle.h5_plain.specs.Others.{OthersBytes}
 use Rattle.h5_plain.specs.Written.{AreOthers}
 use Rattle.h5_change.specs.Appended.{Appends, HasPlaces, IsPushing}
@@ -12,13 +12,6 @@ use Rattle.h5_change.specs.Appended.{Appends, HasPlaces, IsPushing}
 pub all_more : {X : Type 0} (P : X → Type 0) (xs : List X) (i : ℕ) (d : X) → i < length xs → AllByRecursion P (drop i xs)
     → P (get_or xs i d) × AllByRecursion P (drop (i + 1) xs)
 all_more P xs i d low all = subst (AllByRecursion P) (drop_more xs i d low) all
-
-pub length-filter-le : {X : Type 0} (p : X → Bool) (xs : List X) → length (filter p xs) ≤ length xs
-length-filter-le p [] = omega arith
-length-filter-le p (x ∷ xs) = elim (p x) as (λ b. length (cond b (x ∷ filter p xs) (filter p xs)) ≤ suc (length xs)) [
-  | true ↦ omega (arith, length-filter-le p xs)
-  | false ↦ omega (arith, length-filter-le p xs)
-]
 
 -- ---- what is appended
 

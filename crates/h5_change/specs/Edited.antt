@@ -1,14 +1,12 @@
 -- What a change makes of one object of a tree, and which objects it adds.
 use Rattle.std.specs.Prelude.{◌≡◌, ℕ, ◌==◌, if◌then◌else◌, Option, Some, None, List, [], ◌∷◌}
 use Rattle.std.specs.FinMap.{get, insert, remove, empty}
-use Rattle.h5_layout.specs.Described.{dataset_in}
 use Rattle.h5_model.specs.Edits.{attribute_from, with_attributes, with_links, new_object, new_dataset}
-use Rattle.h5_model.specs.Tree.{Object, Content, Dataset, Link, Links, ToObject, Soft, Group, Array}
+use Rattle.h5_model.specs.Tree.{Object, Content, Link, Links, ToObject, Soft, Group, Array}
 use Rattle.h5_objects.specs.Objects.{link_of}
 use Rattle.h5_objects.specs.declared.object.TreeLink.{TreeLink}
 use Rattle.h5_bodies.specs.Sound.{IsPlainAttribute}
-use Rattle.h5_tree.specs.declared.line.Line.{Line}
-use Rattle.h5_tree.specs.Array.{described}
+pub use Rattle.h5_look.specs.Kept.{line_dataset as line_of}
 use Rattle.h5_change.specs.declared.change.Change.{Change}
 use Rattle.h5_change.specs.declared.change.Change.TheVariants.{Link as Linked, Set, Remove}
 use Rattle.h5_change.specs.declared.change.Target.{Target}
@@ -63,10 +61,6 @@ abbrev pub IsPlainEdit : Edit → Type 0
 IsPlainEdit (edit.Link l) = Unit {0}
 IsPlainEdit (edit.Set attr) = IsPlainAttribute ((attr.now).name, attribute_from attr.now)
 IsPlainEdit (edit.Remove name) = Unit {0}
-
--- an array of the image
-abbrev pub line_of : List ℕ → Line → Dataset
-line_of image l = dataset_in image (described l) empty
 
 -- ---- changes
 

@@ -1,7 +1,7 @@
 -- How many bytes an array has in the plain image, and that it reads as that array where they stand, in blocks that hold each of them
 -- once (File Format Specification 3.0, sections IV.A.2.b to IV.A.2.i).
 use Rattle.std.proofs.Common.{◌≡◌, ℕ, ◌+◌, ◌*◌, ◌^◌, ◌≤◌, ◌==◌, List, [], ◌∷◌, ◌++◌, length, length-append, refl, sym, ap, ◌∙◌, subst, arith, Bool, true, false, cond, eqb-true, Option, Some, None}
-use Rattle.std.specs.Prelude.{IsSome, if◌then◌else◌}
+use Rattle.std.specs.Prelude.{IsSome, is_some, if◌then◌else◌}
 use Rattle.std.specs.Ordering.{nat_cmp}
 use Rattle.std.specs.FinMap.{FinMap, get}
 use Rattle.std.specs.Option.{option_and_then}
@@ -21,7 +21,7 @@ use Rattle.h5_bodies.specs.Headers.{is_stored, data_of}
 use Rattle.h5_bodies.specs.Sound.{IsPlainArray}
 use Rattle.h5_image.specs.Plain.{IsPlain, IsPlainContent, IsPlainTree}
 use Rattle.h5_image.specs.Written.{object_length, header_in, content_place, data_address, object_bytes}
-use Rattle.h5_image.proofs.GroupLinks.{header_is, some_of}
+use Rattle.h5_image.proofs.GroupLinks.{header_is}
 use Rattle.h5_image.proofs.Objects.{Stands, first_part, second_part}
 
 -- the data of an array in one block have their own length, whatever is said of chunks
@@ -84,7 +84,7 @@ module _ (array_length : ArrayLength) (leaf internal : ℕ) (tree : Tree) (table
     by_test false other = refl
 
   few_links : hard_links tree number ≤ 65535
-  few_links = (plain.sound).few number (some_of (get tree number) o is)
+  few_links = (plain.sound).few number (ap is_some is)
 
   module _ (array_reads : ArrayReads) (end : ℕ) (fits_in : end ≤ 2 ^ 31) (image : List ℕ) (place : ℕ) (found : get table number ≡ Some place) (high : 1 ≤ place) (low : place + object_length leaf internal o ≤ end)
       (there : part place (length (object_bytes leaf internal tree table (number, o))) image ≡ object_bytes leaf internal tree table (number, o)) where

@@ -2,7 +2,7 @@
 use Rattle.std.proofs.Common.{◌≡◌, ℕ, ◌+◌, ◌*◌, ◌^◌, ◌≤◌, ◌<◌, ◌==◌, ◌||◌, List, [], ◌∷◌, map, length, refl, sym, ap, ◌∙◌, subst, arith, inl, inr, Bool, true, false, Option, Some, None}
 use Rattle.std.proofs.lemmas.List.{length-map}
 use Rattle.std.proofs.lemmas.Simd.{map-map}
-use Rattle.std.specs.Prelude.{T, IsSome, not, ◌&&◌, slice_index}
+use Rattle.std.specs.Prelude.{T, is_some, not, ◌&&◌, slice_index}
 use Rattle.std.specs.Ordering.{nat_cmp, is_lt}
 use Rattle.std.specs.Cmp.Lexicographic.{slice_cmp, nat_list_cmp_total}
 use Rattle.std.specs.FinMap.{FinMap, get, entries, len, len-entries, is_sorted, entries_sorted}
@@ -19,7 +19,7 @@ use Rattle.h5_model.specs.Symbols.{Target, Header}
 use Rattle.h5_model.specs.Tree.{Tree, Object, Content, Group, Array, Link, Links, ToObject, Soft, link_in, links_in}
 use Rattle.h5_model.proofs.ReachLaws.{halves}
 use Rattle.h5_breach.proofs.Lists.{In}
-use Rattle.h5_breach.proofs.Maps.{get_of_entry}
+use Rattle.h5_breach.proofs.Maps.{true_of, value_of, get_of_entry}
 use Rattle.h5_rows.specs.Written.{root_level}
 use Rattle.h5_segment.specs.Laws.{IsLead, IsSpelled}
 use Rattle.h5_segment.specs.Links.{Leads, ToGroup, ToArray, ToText, target_of, target_link}
@@ -40,14 +40,7 @@ zip_made : {X Y : Type 0} (R : X → Y → Type 0) (f : X → Y) (xs : List X) �
 zip_made R f [] each = tt
 zip_made R f (x ∷ xs) each = (each x (inl refl), zip_made R f xs (λ y at. each y (inr at)))
 
-pub some_of : {X : Type 0} (r : Option X) (x : X) → r ≡ Some x → IsSome r
-some_of {X = X} r x e = subst (λ (s : Option X). IsSome s) (sym e) refl
-
 -- ---- names
-
-true_of : (b : Bool) → T b → b ≡ true
-true_of true h = refl
-true_of false h = absurd h
 
 -- a name has no zero byte
 neither : (a b c : Bool) → ((a || b) || c) ≡ false → (a ≡ false) × (c ≡ false)
@@ -143,13 +136,10 @@ module _ (leaf internal : ℕ) (tree : Tree) (table : FinMap nat_cmp ℕ) (sound
         ∙ get_of_entry nat_list_cmp_total links e.0 e.1 at
 
     named : (e : List ℕ × Link) → In e (entries links) → is_name e.0 ≡ true
-    named e at = sound.named number e.0 (some_of (link_in tree number e.0) e.1 (link_is e at))
+    named e at = sound.named number e.0 (ap is_some (link_is e at))
 
     found : (name : List ℕ) (n : ℕ) → In (name, ToObject n) (entries links) → (x : Object) × (get tree n ≡ Some x)
-    found name n at = some_in (get tree n) (sound.linked number n name (link_is (name, ToObject n) at)) where
-      some_in : (r : Option Object) → IsSome r → (x : Object) × (r ≡ Some x)
-      some_in None h = absurd (cc)
-      some_in (Some x) h = (x, refl)
+    found name n at = value_of (get tree n) (sound.linked number n name (link_is (name, ToObject n) at))
 
     no_zero_text : (name text : List ℕ) → In (name, Soft text) (entries links) → has_zero text ≡ false
     no_zero_text name text at = sound.spelled number name text (link_is (name, Soft text) at)

@@ -1,6 +1,7 @@
 -- How many bytes an object has in the plain image, and that it reads as that object where they stand, in blocks that hold each of them
 -- once (File Format Specification 3.0, section IV.A).
 use Rattle.std.proofs.Common.{◌≡◌, ℕ, ◌+◌, ◌*◌, ◌^◌, ◌≤◌, ◌<◌, List, ◌∷◌, ◌++◌, map, length, length-append, refl, sym, ap, ap₂, ◌∙◌, subst, arith, Option, Some}
+use Rattle.std.specs.Prelude.{is_some}
 use Rattle.std.specs.Ordering.{nat_cmp}
 use Rattle.std.specs.FinMap.{FinMap, get}
 use Rattle.std.specs.Option.{option_and_then}
@@ -26,7 +27,7 @@ use Rattle.h5_links.specs.Written as links
 use Rattle.h5_links.specs.Written.{links_bytes, links_length}
 use Rattle.h5_image.specs.Plain.{IsPlain, IsPlainContent, IsPlainTree, IsLow}
 use Rattle.h5_image.specs.Written.{object_length, header_in, content_place, heap_place, written_links, object_bytes}
-use Rattle.h5_image.proofs.GroupLinks.{ArePlaced, header_is, some_of, length-written, length-links, plain_links, same_links, all_written}
+use Rattle.h5_image.proofs.GroupLinks.{ArePlaced, header_is, length-written, length-links, plain_links, same_links, all_written}
 
 -- ---- two parts, one behind the other
 
@@ -164,9 +165,9 @@ module _ (links_length_is : LinksLength) (group_length : GroupLength) (leaf inte
         blocks = block header (length header_part) ∷ linked.blocks;
         object = group_reads.0;
         counted = record {
-          counted = group_reads.1 ∙ sym ((plain.sound).once number (some_of (links_of tree number) group linked_here));
+          counted = group_reads.1 ∙ sym ((plain.sound).once number (ap is_some linked_here));
           once = λ _. group_reads.1;
-          limit = (plain.sound).few number (some_of (get tree number) o is);
+          limit = (plain.sound).few number (ap is_some is);
         };
         covered = group_covered;
         within = group_within;

@@ -4,11 +4,12 @@ use Rattle.std.proofs.Common.{◌≡◌, ℕ, ◌+◌, ◌-◌, ◌≤◌, List,
 use Rattle.std.proofs.lemmas.Bool.Decides.{nat_tests}
 use Rattle.std.specs.Ordering.{nat_cmp}
 use Rattle.std.specs.Cmp.{nat_cmp_total, unsigned_tied}
-use Rattle.std.specs.FinMap.{get, find, get-from_entries}
+use Rattle.std.specs.FinMap.{nat_cmp-IsAntisymmetric, get, find, get-from_entries}
 use Rattle.h5_bytes.specs.Blocks.{holds}
 use Rattle.h5_bytes.proofs.BlockLaws.{holds_join, holds_none}
 use Rattle.h5_model.specs.Tree.{Object}
 use Rattle.h5_breach.proofs.Lists.{In}
+use Rattle.h5_breach.proofs.Maps.{found_entry}
 use Rattle.h5_breach.proofs.Pigeonhole.{Apart}
 use Rattle.h5_image.specs.Written.{object_length, headers_from, end_from, table_of}
 use Rattle.h5_image.proofs.Totals.{total}
@@ -32,22 +33,6 @@ pub found_later : {X : Type 0} (m n : ℕ) (v : X) (es : List (ℕ × X)) → (m
 found_later {X = X} m n v es other =
     let differs : eqb m n ≡ false = grind (arith, nat_tests, other) in
     ap (λ (b : Bool). cond b (Some v) (find nat_cmp m es)) (unsigned_tied m n ∙ differs)
-
-found_step : {X : Type 0} (es : List (ℕ × X)) (q k : ℕ) (x v : X) → find nat_cmp q ((k, x) ∷ es) ≡ Some v → (find nat_cmp q es ≡ Some v → In (q, v) es)
-    → In (q, v) ((k, x) ∷ es)
-found_step {X = X} es q k x v h rest = go (eqb q k) refl where
-  go : (b : Bool) → eqb q k ≡ b → In (q, v) ((k, x) ∷ es)
-  go true same =
-      let key : k ≡ q = grind (arith, nat_tests) in
-      let here : Some x ≡ Some v = sym (ap (λ (b : Bool). cond b (Some x) (find nat_cmp q es)) (unsigned_tied q k ∙ same)) ∙ h in
-      let value : x ≡ v = cc in
-      inl (ap₂ (λ (a : ℕ) (b : X). (a, b)) key value)
-  go false same = inr (rest (sym (ap (λ (b : Bool). cond b (Some x) (find nat_cmp q es)) (unsigned_tied q k ∙ same)) ∙ h))
-
--- what is found is an entry
-pub found_in : {X : Type 0} (es : List (ℕ × X)) (q : ℕ) (v : X) → find nat_cmp q es ≡ Some v → In (q, v) es
-found_in [] q v h = absurd (cc)
-found_in ((k, x) ∷ es) q v h = found_step es q k x v h (found_in es q v)
 
 module _ (leaf internal : ℕ) where
   abbrev long : Object → ℕ
@@ -151,11 +136,11 @@ table_find leaf internal order n = get-from_entries nat_cmp_total (headers_from 
 -- each header is that of one number
 pub table_own : (leaf internal : ℕ) (order : Objects) (a b h : ℕ) → get (table_of leaf internal order) a ≡ Some h → get (table_of leaf internal order) b ≡ Some h → a ≡ b
 table_own leaf internal order a b h p q = one_header leaf internal 96 order a b h
-    (found_in (headers_from leaf internal 96 order) a h (sym (table_find leaf internal order a) ∙ p))
-    (found_in (headers_from leaf internal 96 order) b h (sym (table_find leaf internal order b) ∙ q))
+    (found_entry nat_cmp-IsAntisymmetric (headers_from leaf internal 96 order) a h (sym (table_find leaf internal order a) ∙ p))
+    (found_entry nat_cmp-IsAntisymmetric (headers_from leaf internal 96 order) b h (sym (table_find leaf internal order b) ∙ q))
 
 -- what the table has is an object
 pub table_object : (leaf internal : ℕ) (order : Objects) (n h : ℕ) → get (table_of leaf internal order) n ≡ Some h → (o : Object) × In (n, o) order
 table_object leaf internal order n h p =
-    let found = header_of leaf internal 96 order n h (found_in (headers_from leaf internal 96 order) n h (sym (table_find leaf internal order n) ∙ p)) in
+    let found = header_of leaf internal 96 order n h (found_entry nat_cmp-IsAntisymmetric (headers_from leaf internal 96 order) n h (sym (table_find leaf internal order n) ∙ p)) in
     (found.0, found.1)

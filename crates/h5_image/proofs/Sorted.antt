@@ -7,16 +7,15 @@ use Rattle.std.specs.FinMap.{find, is_sorted, nat_cmp-IsAntisymmetric}
 use Rattle.std.specs.FinMap.Entries.{same_entries}
 use Rattle.h5_model.proofs.ReachLaws.{find_entry}
 use Rattle.h5_breach.proofs.Lists.{In}
-use Rattle.h5_breach.proofs.Maps.{to_entry}
-use Rattle.h5_image.proofs.Places.{found_in}
+use Rattle.h5_breach.proofs.Maps.{to_entry, found_entry}
 
 module _ {X : Type 0} (es fs : List (ℕ × X)) (es_sorted : T (is_sorted nat_cmp es)) (fs_sorted : T (is_sorted nat_cmp fs))
     (into : (q : ℕ) (v : X) → In (q, v) es → In (q, v) fs) (back : (q : ℕ) (v : X) → In (q, v) fs → In (q, v) es) where
   found_both : (q : ℕ) (a b : Option X) → find nat_cmp q es ≡ a → find nat_cmp q fs ≡ b → a ≡ b
   found_both q (Some v) b here there =
-      sym (find_entry nat_cmp_total fs q v fs_sorted (to_entry fs q v (into q v (found_in es q v here)))) ∙ there
+      sym (find_entry nat_cmp_total fs q v fs_sorted (to_entry fs q v (into q v (found_entry nat_cmp-IsAntisymmetric es q v here)))) ∙ there
   found_both q None (Some w) here there =
-      sym here ∙ find_entry nat_cmp_total es q w es_sorted (to_entry es q w (back q w (found_in fs q w there)))
+      sym here ∙ find_entry nat_cmp_total es q w es_sorted (to_entry es q w (back q w (found_entry nat_cmp-IsAntisymmetric fs q w there)))
   found_both q None None here there = refl
 
   pub same_sorted : es ≡ fs

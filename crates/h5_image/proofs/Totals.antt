@@ -3,7 +3,7 @@ use Rattle.std.proofs.Common.{◌≡◌, ℕ, ◌+◌, List, [], ◌∷◌, ◌+
 use Rattle.std.specs.Prelude.{sum_by}
 use Rattle.std.proofs.lemmas.List.Sums.{sum_by-cons}
 use Rattle.h5_breach.proofs.Lists.{In, in_left, in_right, in_either, in_map}
-use Rattle.h5_breach.proofs.Pigeonhole.{Apart, split_in}
+use Rattle.h5_breach.proofs.Pigeonhole.{Apart, split_in, left_over}
 
 -- ---- sums
 
@@ -53,12 +53,6 @@ alone_around x [] after once at = once.0 at
 alone_around x (z ∷ before) after once (inl e) = once.0 (subst (λ w. In w (before ++ x ∷ after)) (sym e) (in_right x before (x ∷ after) (inl refl)))
 alone_around x (z ∷ before) after once (inr at) = alone_around x before after once.1 at
 
-left_around : {X : Type 0} (y x : X) (before after : List X) → (x ≡ y → ⊥) → In y (before ++ x ∷ after) → In y (before ++ after)
-left_around y x [] after other (inl e) = absurd (other e)
-left_around y x [] after other (inr at) = at
-left_around y x (z ∷ before) after other (inl e) = inl e
-left_around y x (z ∷ before) after other (inr at) = inr (left_around y x before after other at)
-
 -- ---- the same members
 
 -- lists of the same members, each once, have the same sum
@@ -69,10 +63,7 @@ total-same {X = X} f (x ∷ xs) ys once once' into back =
     let s = split_in x ys (into x (inl refl)) in
     let around : Once (s.0 ++ x ∷ s.1) = subst (λ (zs : List X). Once zs) s.2 once' in
     let rest : total f xs ≡ total f (s.0 ++ s.1) = total-same f xs (s.0 ++ s.1) once.1 (once_around x s.0 s.1 around)
-    (λ y at. left_around y x s.0 s.1 (λ e. once.0 (subst (λ (z : X). In z xs) (sym e) at)) (subst (λ (zs : List X). In y zs) s.2 (into y (inr at))))
-    (λ y at. behind x y xs (λ e. alone_around x s.0 s.1 around (subst (λ (z : X). In z (s.0 ++ s.1)) (sym e) at))
+    (λ y at. left_over y x s.0 s.1 (λ e. once.0 (subst (λ (z : X). In z xs) (sym e) at)) (subst (λ (zs : List X). In y zs) s.2 (into y (inr at))))
+    (λ y at. left_over y x [] xs (λ e. alone_around x s.0 s.1 around (subst (λ (z : X). In z (s.0 ++ s.1)) (sym e) at))
     (back y (subst (λ (zs : List X). In y zs) (sym s.2) (in_around y x s.0 s.1 at)))) in
-    ap (λ n. f x + n) rest ∙ sym (total-around f s.0 x s.1) ∙ sym (ap (total f) s.2) where
-      behind : (x y : X) (xs : List X) → (x ≡ y → ⊥) → In y (x ∷ xs) → In y xs
-      behind x y xs other (inl e) = absurd (other e)
-      behind x y xs other (inr at) = at
+    ap (λ n. f x + n) rest ∙ sym (total-around f s.0 x s.1) ∙ sym (ap (total f) s.2)

@@ -1,6 +1,6 @@
 -- Which trees the plain layout can hold: those that an image reads as, or that an accepted edit gives, as far as their arrays have one
 -- dimension in one block.
-use Rattle.std.specs.Prelude.{◌≡◌, ℕ, ◌+◌, ◌*◌, ◌≤◌, Some, List, length}
+use Rattle.std.specs.Prelude.{◌≡◌, ℕ, ◌+◌, ◌*◌, ◌≤◌, Some, length}
 use Rattle.std.specs.FinMap.{get, len}
 use Rattle.h5_model.specs.PlainLength.{rows_of}
 use Rattle.h5_model.specs.Tree.{Tree, Object, Content, Group, Array, Links, links_of}

@@ -34,7 +34,7 @@ pub same_names : {E : Type 0} (r : Result (Vec (Bor (List ℕ)) Global) E) (xs y
 same_names (Ok names) xs ys is same = is ∙ same
 same_names (Err e) xs ys is same = tt
 
-tree_from : (hs : List ℕ) (ls : List LinkRef) → map (in_tree hs) ls ≡ map (λ (l : List ℕ × Target). (l.0, link_to hs l.1)) (map link_from ls)
+pub tree_from : (hs : List ℕ) (ls : List LinkRef) → map (in_tree hs) ls ≡ map (λ (l : List ℕ × Target). (l.0, link_to hs l.1)) (map link_from ls)
 tree_from hs [] = refl
 tree_from hs (l ∷ ls) = ap (λ (more : List (List ℕ × tree.Link)). in_tree hs l ∷ more) (tree_from hs ls)
 

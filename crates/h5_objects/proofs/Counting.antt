@@ -12,7 +12,8 @@ use Rattle.h5_objects.specs.declared.object.TreeLink.{TreeLink}
 use Rattle.h5_objects.specs.declared.object.TreeTarget.{TreeTarget}
 use Rattle.h5_objects.specs.declared.object.TreeTarget.TheVariants as target
 use Rattle.h5_objects.specs.Targets.{new_links, object_in, targets, times}
-use Rattle.h5_objects.proofs.Members.{in_contains, contains_in, in_filter_map}
+use Rattle.h5_breach.proofs.Lists.{in_contains, contains_in}
+use Rattle.h5_objects.proofs.Members.{in_filter_map}
 use Rattle.h5_objects.proofs.Trees.{counted}
 
 -- ---- one link more

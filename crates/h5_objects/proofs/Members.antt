@@ -1,35 +1,10 @@
--- Members of lists.
-use Rattle.std.proofs.Common.{◌≡◌, ℕ, zero, suc, ◌⊎◌, inl, inr, List, [], ◌∷◌, ◌++◌, refl, sym, ap, ◌∙◌, subst, arith, eqb, false, reverse, Some, None, Option}
-use Rattle.std.proofs.lemmas.Bool.Decides.{nat_tests}
+-- Members of lists: the last one, of a list turned round, and of what a function gives.
+use Rattle.std.proofs.Common.{◌≡◌, ℕ, ◌⊎◌, inl, inr, List, [], ◌∷◌, ◌++◌, refl, sym, ap, ◌∙◌, subst, reverse, Some, None, Option}
 use Rattle.std.proofs.lemmas.List.{reverse-append}
-use Rattle.std.proofs.lemmas.Map.Keys.{IsDistinct-cons}
 use Rattle.std.proofs.lemmas.Option.{same_Some}
-use Rattle.std.specs.Ordering.{nat_cmp, eq_by_cmp}
-use Rattle.std.specs.Cmp.{unsigned_tied}
-use Rattle.std.specs.List.{AllByRecursion, Contains, IsDistinct, cons_option, filter_map}
-
--- x is one of the list
-abbrev pub In : {X : Type 0} → X → List X → Type 0
-In x [] = ⊥
-In x (y ∷ ys) = (y ≡ x) ⊎ In x ys
-
-pub all_in : {X : Type 0} (P : X → Type 0) (xs : List X) → ((x : X) → In x xs → P x) → AllByRecursion P xs
-all_in P [] f = tt
-all_in P (y ∷ ys) f = (f y (inl refl), all_in P ys (λ x at. f x (inr at)))
-
-pub in_left : {X : Type 0} (x : X) (xs ys : List X) → In x xs → In x (xs ++ ys)
-in_left x [] ys at = absurd at
-in_left x (z ∷ xs) ys (inl e) = inl e
-in_left x (z ∷ xs) ys (inr at) = inr (in_left x xs ys at)
-
-pub in_right : {X : Type 0} (x : X) (xs ys : List X) → In x ys → In x (xs ++ ys)
-in_right x [] ys at = at
-in_right x (z ∷ xs) ys at = inr (in_right x xs ys at)
-
-pub in_either : {X : Type 0} (x : X) (xs ys : List X) → In x (xs ++ ys) → In x xs ⊎ In x ys
-in_either x [] ys at = inr at
-in_either x (z ∷ xs) ys (inl e) = inl (inl e)
-in_either x (z ∷ xs) ys (inr at) = elim (in_either x xs ys at) [ inl l ↦ inl (inr l) | inr r ↦ inr r ]
+use Rattle.std.specs.List.{cons_option, filter_map}
+use Rattle.h5_breach.proofs.Lists.{In, in_left, in_right}
+use Rattle.h5_breach.proofs.Pigeonhole.{Apart}
 
 -- the last member, or one before it
 pub in_front : {X : Type 0} (x y : X) (xs : List X) → In x (xs ++ y ∷ []) → In x xs ⊎ (y ≡ x)
@@ -80,36 +55,9 @@ from_filter_map h y (z ∷ zs) at = elim (from_given (h z) y (filter_map h zs) a
   | inr later ↦ let rest = from_filter_map h y zs later in (rest.0, inr rest.1, rest.2)
 ]
 
--- ---- places
-
-pub in_contains : {X : Type 0} (x : X) (xs : List X) → Contains xs x → In x xs
-in_contains x [] (k, low, is) = absurd (omega (arith, low))
-in_contains x (y ∷ ys) (zero, low, is) = inl is
-in_contains x (y ∷ ys) (suc k, low, is) = inr (in_contains x ys (k, omega (arith, low), is))
-
-pub contains_in : {X : Type 0} (x : X) (xs : List X) → In x xs → Contains xs x
-contains_in x [] at = absurd at
-contains_in x (y ∷ ys) (inl e) = (0, omega arith, e)
-contains_in x (y ∷ ys) (inr at) = let rest = contains_in x ys at in (suc rest.0, omega (arith, rest.1), rest.2)
-
 -- ---- numbers of which none stands twice
-
-abbrev pub Apart : List ℕ → Type 0
-Apart [] = Unit {0}
-Apart (x ∷ xs) = (In x xs → ⊥) × Apart xs
 
 pub apart_push : (xs : List ℕ) (y : ℕ) → Apart xs → (In y xs → ⊥) → Apart (xs ++ y ∷ [])
 apart_push [] y apart new = (λ at. at, tt)
 apart_push (x ∷ xs) y apart new =
     (λ at. elim (in_front x y xs at) [ inl l ↦ apart.0 l | inr e ↦ new (inl (sym e)) ], apart_push xs y apart.1 (λ at. new (inr at)))
-
-other_tested : (x y : ℕ) → (y ≡ x → ⊥) → eq_by_cmp nat_cmp x y ≡ false
-other_tested x y other = unsigned_tied x y ∙ let tested : eqb x y ≡ false = grind (arith, nat_tests, other) in tested
-
-pub distinct_of_apart : (xs : List ℕ) → Apart xs → IsDistinct (eq_by_cmp nat_cmp) xs
-unfolding IsDistinct
-distinct_of_apart [] apart = tt
-distinct_of_apart (x ∷ xs) apart =
-    IsDistinct-cons (eq_by_cmp nat_cmp) x xs
-    (all_in (λ y. eq_by_cmp nat_cmp x y ≡ false) xs (λ y at. other_tested x y (λ e. apart.0 (subst (λ (z : ℕ). In z xs) e at))))
-    (distinct_of_apart xs apart.1)

@@ -1,6 +1,5 @@
 -- An order in which objects are met has each object of a sound tree.
 use Rattle.std.proofs.Common.{◌≡◌, ℕ, ◌<◌, inl, length, List, [], ◌∷◌, refl, sym, subst, Some, None}
-use Rattle.std.proofs.lemmas.Option.{same_Some}
 use Rattle.std.specs.Prelude.{IsSome}
 use Rattle.std.specs.FinMap.{get}
 use Rattle.std.specs.List.{Contains}
@@ -10,15 +9,12 @@ use Rattle.h5_sound.specs.Sound.{IsSoundTree}
 use Rattle.h5_objects.specs.declared.object.NewObject.{NewObject}
 use Rattle.h5_objects.specs.Objects.{AreObjects}
 use Rattle.h5_objects.specs.Order.{AreMet}
-use Rattle.h5_objects.proofs.Members.{contains_in}
+use Rattle.h5_breach.proofs.Lists.{contains_in}
+use Rattle.h5_breach.proofs.AllReached.{soft_leads}
 use Rattle.h5_objects.proofs.Trees.{some_below}
 
 same_object : (a b : ℕ) → Some (ToObject a) ≡ Some (ToObject b) → a ≡ b
 same_object a b e = cc
-
-no_text : (text : List ℕ) (names : List (List ℕ)) (tree : Tree) (number : ℕ) → follow tree (Soft text) names ≡ Some (ToObject number) → ⊥
-no_text text [] tree number e = let same : Soft text ≡ ToObject number = same_Some (Soft text) (ToObject number) e in cc
-no_text text (name ∷ names) tree number e = cc
 
 -- with an object, each to which a path leads from it
 along : (tree : Tree) (count : ℕ) (order : List ℕ) → AreMet tree count order → (path : List (List ℕ)) (from number : ℕ)
@@ -29,7 +25,7 @@ along tree count order met (name ∷ path) from number has is = elim (link_in tr
       | None ↦ λ _ no. absurd (cc)
       | Some link ↦ elim link as (λ k. link_in tree from name ≡ Some k → follow tree k path ≡ Some (ToObject number) → Contains order number) [
         | ToObject other ↦ λ linked rest. along tree count order met path other number (met.closed from other name has linked) rest
-        | Soft text ↦ λ _ rest. absurd (no_text text path tree number rest)
+        | Soft text ↦ λ _ rest. absurd (soft_leads tree text path number rest)
       ]
     ] refl is
 

@@ -1,16 +1,15 @@
 -- The tree that objects make: its objects by their numbers, its links, and where these lead.
-use Rattle.std.proofs.Common.{◌≡◌, ℕ, zero, suc, ◌+◌, ◌<◌, ◌≤◌, inl, inr, List, [], ◌∷◌, Bool, true, false, cond, refl, sym, ap, ◌∙◌, subst, arith, length, map, reverse, Some, None, Option, Ordering, Less}
-use Rattle.std.proofs.lemmas.Bool.Decides.{nat_tests}
+use Rattle.std.proofs.Common.{◌≡◌, ℕ, zero, suc, ◌+◌, ◌<◌, ◌≤◌, inl, inr, List, [], ◌∷◌, true, false, cond, refl, sym, ap, ◌∙◌, subst, arith, length, map, reverse, Some, None, Option}
 use Rattle.std.proofs.lemmas.List.Sums.{sum_by-cons}
 use Rattle.std.proofs.lemmas.Option.{same_Some, slice_get_within}
-use Rattle.std.specs.Prelude.{T, slice_get, ◌&&◌, ◌==◌, is_some, IsSome}
-use Rattle.std.specs.Cmp.{nat_cmp_total, nat_cmp_is, unsigned_tied}
+use Rattle.std.specs.Prelude.{slice_get, ◌==◌, is_some, IsSome}
+use Rattle.std.specs.Cmp.{nat_cmp_total}
 use Rattle.std.specs.Cmp.Lexicographic.{slice_cmp, nat_list_cmp_total}
-use Rattle.std.specs.FinMap.{get, entries, find, is_sorted, values, get-entries, entries_sorted, nat_cmp-IsAntisymmetric}
-use Rattle.std.specs.FinMap.Entries.{below_all, same_entries}
+use Rattle.std.specs.FinMap.{get, entries, find, values, get-entries, entries_sorted, nat_cmp-IsAntisymmetric}
+use Rattle.std.specs.FinMap.Entries.{same_entries}
 use Rattle.std.specs.List.{AllZip, sum_by, count_by, cons_option}
 use Rattle.std.specs.Option.{option_and_then}
-use Rattle.std.specs.Ordering.{nat_cmp, eq_by_cmp, is_lt}
+use Rattle.std.specs.Ordering.{nat_cmp, eq_by_cmp}
 use Rattle.h5_model.proofs.ReachLaws.{Entry, find_entry}
 use Rattle.h5_model.specs.Tree.{Tree, Object, Content, Group, Array, Link, ToObject, links_in, link_in, leads_to, links_to, hard_links}
 use Rattle.h5_sound.specs.Sound.{IsSoundTree}
@@ -22,61 +21,14 @@ use Rattle.h5_objects.specs.declared.object.TreeTarget.{TreeTarget}
 use Rattle.h5_objects.specs.declared.object.TreeTarget.TheVariants as target
 use Rattle.h5_objects.specs.Objects.{link_of, tree_link, IsNewContent, IsNewObject, AreObjects}
 use Rattle.h5_objects.specs.Targets.{new_links, object_in, targets, waiting, times}
-use Rattle.h5_objects.proofs.Members.{In, in_reverse, from_reverse, in_given, in_rest, in_filter_map, from_filter_map}
-
--- ---- places of two lists
-
-pub length_zip : {A B : Type 0} (R : A → B → Type 0) (xs : List A) (ys : List B) → AllZip R xs ys → length xs ≡ length ys
-length_zip R [] [] all = refl
-length_zip R [] (y ∷ ys) all = absurd all
-length_zip R (x ∷ xs) [] all = absurd all
-length_zip R (x ∷ xs) (y ∷ ys) all = ap (λ (n : ℕ). suc n) (length_zip R xs ys all.1)
-
-zip_left : {A B : Type 0} (R : A → B → Type 0) (xs : List A) (ys : List B) (n : ℕ) (y : B) → AllZip R xs ys → slice_get ys n ≡ Some y
-    → (x : A) × (slice_get xs n ≡ Some x) × R x y
-zip_left R [] [] n y all is = absurd (cc)
-zip_left R [] (z ∷ ys) n y all is = absurd all
-zip_left R (x ∷ xs) [] n y all is = absurd all
-zip_left R (x ∷ xs) (z ∷ ys) zero y all is = (x, refl, subst (R x) (same_Some z y is) all.0)
-zip_left R (x ∷ xs) (z ∷ ys) (suc n) y all is = zip_left R xs ys n y all.1 is
-
-zip_right : {A B : Type 0} (R : A → B → Type 0) (xs : List A) (ys : List B) (n : ℕ) (x : A) → AllZip R xs ys → slice_get xs n ≡ Some x
-    → (y : B) × (slice_get ys n ≡ Some y) × R x y
-zip_right R [] [] n x all is = absurd (cc)
-zip_right R [] (z ∷ ys) n x all is = absurd all
-zip_right R (w ∷ xs) [] n x all is = absurd all
-zip_right {B = B} R (w ∷ xs) (z ∷ ys) zero x all is = (z, refl, subst (λ v. R v z) (same_Some w x is) all.0)
-zip_right R (w ∷ xs) (z ∷ ys) (suc n) x all is = zip_right R xs ys n x all.1 is
+use Rattle.h5_breach.specs.Numbered.{numbered}
+use Rattle.h5_breach.proofs.Lists.{In}
+use Rattle.h5_breach.proofs.Maps.{value_of}
+use Rattle.h5_breach.proofs.Numbered.{sorted_numbered, found_numbered}
+use Rattle.h5_objects.proofs.Zips.{zip_left, zip_right}
+use Rattle.h5_objects.proofs.Members.{in_reverse, from_reverse, in_given, in_rest, in_filter_map, from_filter_map}
 
 -- ---- entries by number
-
-abbrev pub numbered : {X : Type 0} → ℕ → List X → List (ℕ × X)
-numbered n [] = []
-numbered n (x ∷ xs) = (n, x) ∷ numbered (n + 1) xs
-
-joined : (a b : Bool) → T a → T b → T (a && b)
-joined true b p q = q
-joined false b p q = absurd p
-
-less_holds : (r : Ordering) → r ≡ Less → T (is_lt r)
-less_holds r e = subst (λ (s : Ordering). T (is_lt s)) (sym e) tt
-
-below_numbered : {X : Type 0} (m n : ℕ) (xs : List X) → m < n → T (below_all nat_cmp m (numbered n xs))
-below_numbered m n [] low = tt
-below_numbered m n (x ∷ xs) low = joined _ _ (less_holds (nat_cmp m n) (sym (nat_cmp_is m n Less low))) (below_numbered m (n + 1) xs (omega arith))
-
-sorted_numbered : {X : Type 0} (n : ℕ) (xs : List X) → T (is_sorted nat_cmp (numbered n xs))
-sorted_numbered n [] = tt
-sorted_numbered n (x ∷ xs) = joined _ _ (below_numbered n (n + 1) xs (omega arith)) (sorted_numbered (n + 1) xs)
-
-found_numbered : {X : Type 0} (m n k : ℕ) (xs : List X) → n + k ≡ m → find nat_cmp m (numbered n xs) ≡ slice_get xs k
-found_numbered m n k [] is = refl
-found_numbered m n zero (x ∷ xs) is =
-    let same : (m == n) ≡ true = grind (arith, nat_tests) in
-    ap (λ b. cond b (Some x) (find nat_cmp m (numbered (n + 1) xs))) (unsigned_tied m n ∙ same)
-found_numbered m n (suc k) (x ∷ xs) is =
-    let other : (m == n) ≡ false = grind (arith, nat_tests) in
-    ap (λ b. cond b (Some x) (find nat_cmp m (numbered (n + 1) xs))) (unsigned_tied m n ∙ other) ∙ found_numbered m (n + 1) k xs (omega arith)
 
 numbered_values : {X : Type 0} (n : ℕ) (xs : List X) → map (λ (e : ℕ × X). e.1) (numbered n xs) ≡ xs
 numbered_values n [] = refl
@@ -93,13 +45,6 @@ values_listed objects tree are =
     ap (λ (es : List (ℕ × Object)). map (λ (e : ℕ × Object). e.1) es) (entries_listed objects tree are) ∙ numbered_values 0 are.listed
 
 -- ---- a number has an object exactly where it is below their count
-
-some_there : {X : Type 0} (o : Option X) (x : X) → o ≡ Some x → IsSome o
-some_there o x is = ap is_some is
-
-value_of : {X : Type 0} (o : Option X) → IsSome o → (x : X) × (o ≡ Some x)
-value_of None some = absurd (cc)
-value_of (Some x) some = (x, refl)
 
 -- the object that a number's is made from, and the one that is made of it
 pub object_from : (objects : List NewObject) (tree : Tree) → AreObjects objects tree → (number : ℕ) (o : Object) → get tree number ≡ Some o
@@ -127,7 +72,7 @@ pub some_below : (objects : List NewObject) (tree : Tree) → AreObjects objects
 some_below objects tree are number low =
     let x = at_place objects number low in
     let o = object_made objects tree are number x.0 x.1 in
-    some_there (get tree number) o.0 o.1
+    ap is_some o.1
 
 -- ---- links
 

@@ -9,7 +9,9 @@ use Rattle.h5_objects.specs.declared.object.NewObject.{NewObject}
 use Rattle.h5_objects.specs.Objects.{AreObjects}
 use Rattle.h5_objects.specs.Order.{AreMet}
 use Rattle.h5_objects.specs.Targets.{waiting}
-use Rattle.h5_objects.proofs.Members.{In, all_in, in_left, in_either, in_front, in_last, in_right, in_contains, contains_in, Apart, apart_push, distinct_of_apart}
+use Rattle.h5_breach.proofs.Lists.{In, all_in, in_left, in_either, in_right, in_contains, contains_in}
+use Rattle.h5_breach.proofs.Pigeonhole.{Apart, distinct_of_apart}
+use Rattle.h5_objects.proofs.Members.{in_front, in_last, apart_push}
 use Rattle.h5_objects.proofs.Trees.{link_waits}
 
 -- What is met is marked and below the count, and no number twice; what a met object's links lead to is met or waits; the root comes first.

@@ -6,7 +6,7 @@ use Rattle.std.specs.BTreeMap.{BTreeMap}
 use Rattle.std.proofs.lemmas.Bool.Decides.{nat_tests}
 use Rattle.std.proofs.lemmas.List.{length-map}
 use Rattle.h5_model.specs.Reads.{Reads}
-use Rattle.h5_breach.proofs.Lists.{In, contains_in}
+use Rattle.h5_breach.proofs.Lists.{In, in_at, contains_in}
 use Rattle.h5_tree.specs.declared.object.OpenedObject.{OpenedObject}
 use Rattle.h5_tree.specs.Kept.{IsOpened, IsObjectKept, IsIndex}
 use Rattle.h5_tree.specs.Objects.{headers, table_of, tree_of}
@@ -15,7 +15,7 @@ use Rattle.h5_tree.proofs.Own.{Own}
 use Rattle.h5_renumber.specs.Headers.{table_with, IsReadAt}
 use Rattle.h5_renumber.specs.Exchanged.{IsExchanged, IsGiven}
 use Rattle.h5_renumber.proofs.SameTree.{same_tree}
-use Rattle.h5_renumber.proofs.SameHeaders.{in_at, same_headers, same_length}
+use Rattle.h5_renumber.proofs.SameHeaders.{same_headers, same_length}
 use Rattle.h5_renumber.proofs.Exchanges.{turned, in_exchanged, exchanged_headers, all_exchanged}
 
 -- the objects, with their numbers, are those at these headers in some order, the first i in the order of the headers

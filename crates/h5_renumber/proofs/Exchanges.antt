@@ -7,12 +7,11 @@ use Rattle.std.specs.Cmp.{unsigned_tied}
 use Rattle.std.specs.BTreeMap.{BTreeMap, get, is_at}
 use Rattle.std.proofs.lemmas.Bool.Decides.{nat_tests}
 use Rattle.std.proofs.lemmas.Option.{same_Some, slice_get-map, slice_get-get_or}
-use Rattle.h5_breach.proofs.Lists.{In, in_all, all_in, in_contains, contains_in}
+use Rattle.h5_breach.proofs.Lists.{In, in_all, all_in, stands_at, in_at, in_contains, contains_in}
 use Rattle.h5_tree.specs.declared.object.OpenedObject.{OpenedObject}
 use Rattle.h5_tree.specs.Kept.{IsIndex}
 use Rattle.h5_tree.specs.Objects.{headers}
 use Rattle.h5_renumber.specs.Exchanged.{IsExchanged}
-use Rattle.h5_renumber.proofs.SameHeaders.{stands_at, in_at}
 
 -- ---- lists
 

@@ -1,10 +1,7 @@
 -- Objects whose headers stand where a table says are those of the tree as which the image reads with that table.
-use Rattle.std.proofs.Common.{◌≡◌, ℕ, zero, suc, ◌+◌, List, [], ◌∷◌, map, refl, sym, ap, ap₂, ◌∙◌, subst, arith, Option, Some, None, drop, true, false, Bool}
-use Rattle.std.specs.Prelude.{◌==◌, slice_get, if◌then◌else◌}
+use Rattle.std.proofs.Common.{◌≡◌, ℕ, ◌+◌, List, [], ◌∷◌, map, refl, sym, ap, ap₂, ◌∙◌, subst, arith, Option, Some, None, drop}
 use Rattle.std.specs.List.{AllByRecursion, AllZip, filter}
 use Rattle.std.specs.FinMap.{entries, empty, same_entries_map}
-use Rattle.std.proofs.lemmas.Bool.Decides.{nat_tests}
-use Rattle.std.proofs.lemmas.Option.{same_Some}
 use Rattle.h5_bytes.specs.declared.Block.{Block}
 use Rattle.h5_model.specs.Addresses.{SymbolTable}
 use Rattle.h5_model.specs.Messages.{Message}
@@ -29,28 +26,12 @@ use Rattle.h5_tree.specs.declared.object.OpenedContent.TheVariants as content
 use Rattle.h5_tree.specs.Array.{described}
 use Rattle.h5_tree.specs.Judged.{IsLineList}
 use Rattle.h5_tree.specs.Kept.{IsObjectKept, IsContentKept}
-use Rattle.h5_tree.specs.Objects.{headers, number_of, numbered, link_to, links_by, content_in, object_in, tree_of}
+use Rattle.h5_tree.specs.Objects.{headers, numbered, link_to, links_by, content_in, object_in, tree_of}
 use Rattle.h5_tree.proofs.Made.{entries_numbered, get_numbered}
 use Rattle.h5_tree.proofs.Entries.{tree_entries, group_entries}
+use Rattle.h5_tree.proofs.Indexed.{number_at}
 use Rattle.h5_tree.proofs.Own.{Own}
 use Rattle.h5_renumber.specs.Headers.{table_with}
-
--- ---- numbers
-
--- where each header stands once, its number is the place at which it stands
-number_next : (x : ℕ) (xs : List ℕ) (k h : ℕ) (b : Bool) → (x == h) ≡ b → (x ≡ h → ⊥) → number_of xs h ≡ k → (if b then 0 else 1 + number_of xs h) ≡ suc k
-number_next x xs k h true is other rest = absurd (let same : x ≡ h = grind (arith, nat_tests) in other same)
-number_next x xs k h false is other rest = omega (arith, rest)
-
-pub number_at : (hs : List ℕ) → Own hs → (k h : ℕ) → slice_get hs k ≡ Some h → number_of hs h ≡ k
-number_at [] own k h at = absurd (cc)
-number_at (x ∷ xs) own zero h at =
-    let same : (x == h) ≡ true = (let e : x ≡ h = same_Some x h at in grind (arith, nat_tests)) in
-    ap (λ (b : Bool). if b then 0 else 1 + number_of xs h) same
-number_at (x ∷ xs) own (suc k) h at =
-    number_next x xs k h (x == h) refl
-    (λ e. let never : 0 ≡ suc k = own 0 (suc k) h (ap (λ (n : ℕ). Some n) e) at in absurd (omega (arith, never)))
-    (number_at xs (λ a b y p q. let same : suc a ≡ suc b = own (suc a) (suc b) y p q in omega (arith, same)) k h at)
 
 -- ---- contents
 

@@ -2,19 +2,13 @@
 use Rattle.std.proofs.Common.{◌≡◌, ℕ, Bool, true, false, cond, List, refl, sym, ap, ◌∙◌, Some, ◌⊎◌, inl, inr}
 use Rattle.std.specs.Ordering.{nat_cmp, is_eq, eq_by_cmp}
 use Rattle.std.specs.declared.cmp.Ordering.{Ordering}
-use Rattle.std.specs.declared.cmp.Ordering.TheVariants.{Less, Equal, Greater}
-use Rattle.std.specs.Cmp.{IsTotalOrder, tied_itself, nat_cmp_total}
+use Rattle.std.specs.Cmp.{IsTotalOrder, Equal-is, tied_itself, nat_cmp_total}
 use Rattle.std.specs.Cmp.Lexicographic.{slice_cmp, nat_list_cmp_total}
 use Rattle.std.specs.FinMap.{FinMap, IsAntisymmetric, nat_cmp-IsAntisymmetric, slice_cmp-IsAntisymmetric, get, insert, get-insert}
 
-pub is_tie : (r : Ordering) → is_eq r ≡ true → r ≡ Equal
-is_tie Less h = absurd (cc)
-is_tie Equal h = refl
-is_tie Greater h = absurd (cc)
-
 module _ {K : Type 0} {R : K → K → Ordering} (o : IsTotalOrder R) (same : IsAntisymmetric R) where
   tested : (b : Bool) (q k : K) → eq_by_cmp R q k ≡ b → (q ≡ k) ⊎ (q ≡ k → ⊥)
-  tested true q k h = inl (same q k (is_tie (R q k) h))
+  tested true q k h = inl (same q k ((Equal-is (R q k)).0 h))
   tested false q k h = inr (λ e. let yes : true ≡ false = sym (ap is_eq (tied_itself o k)) ∙ ap (λ x. eq_by_cmp R x k) (sym e) ∙ h in absurd (cc))
 
   -- a key is another, or it is not
@@ -22,7 +16,7 @@ module _ {K : Type 0} {R : K → K → Ordering} (o : IsTotalOrder R) (same : Is
   same_key_or_other q k = tested (eq_by_cmp R q k) q k refl
 
   untied : (b : Bool) (q k : K) → eq_by_cmp R q k ≡ b → (q ≡ k → ⊥) → b ≡ false
-  untied true q k h other = absurd (other (same q k (is_tie (R q k) h)))
+  untied true q k h other = absurd (other (same q k ((Equal-is (R q k)).0 h)))
   untied false q k h other = refl
 
   module _ {X : Type 0} (m : FinMap R X) (k : K) (v : X) where

@@ -1,9 +1,8 @@
 -- The tree that an image reads as is sound.
-use Rattle.std.proofs.Common.{◌≡◌, ℕ, ◌+◌, ◌≤◌, Bool, true, false, cond, List, [], ◌∷◌, map, refl, sym, ap, ap₂, ◌∙◌, subst, Option, Some, None, inl, inr}
+use Rattle.std.proofs.Common.{◌≡◌, ℕ, ◌+◌, ◌≤◌, Bool, true, false, List, [], ◌∷◌, map, refl, sym, ap, ◌∙◌, subst, Option, Some, None, inl, inr}
 use Rattle.std.specs.Prelude.{drop, IsSome, is_some, IsTrue, ◌==◌, if◌then◌else◌}
-use Rattle.std.specs.Ordering.{nat_cmp, eq_by_cmp}
-use Rattle.std.specs.Cmp.Lexicographic.{slice_cmp}
-use Rattle.std.specs.FinMap.{FinMap, get, entries, find, get-entries}
+use Rattle.std.specs.Ordering.{nat_cmp}
+use Rattle.std.specs.FinMap.{FinMap, get, entries, get-entries}
 use Rattle.h5_bytes.specs.Texts.{text_at, until_zero}
 use Rattle.h5_bytes.specs.declared.Block.{Block}
 use Rattle.h5_model.specs.Messages.{Message}
@@ -14,28 +13,17 @@ use Rattle.h5_model.specs.Symbols.{Entry, Target, Header, Text, link_of, target_
 use Rattle.h5_model.specs.Tree.{Tree, Object, Content, Group, Array, Links, Link, ToObject, Soft, links_of, link_in, hard_links}
 use Rattle.h5_breach.proofs.Holding.{holds_of}
 use Rattle.h5_breach.proofs.Lists.{In, in_all, from_map}
-use Rattle.h5_breach.proofs.Maps.{entry_of_get, tied_right}
+use Rattle.h5_breach.proofs.Maps.{found_entry, entry_of_get, tied_right}
 use Rattle.h5_breach.proofs.Objects.{content_cases, object_at, in_tree}
 use Rattle.h5_sound.specs.Laws.{ReadsSound}
 use Rattle.h5_sound.specs.Sound.{IsSoundTree}
-use Rattle.h5_sound.proofs.Inserted.{is_tie, names_differ}
+use Rattle.h5_sound.proofs.Inserted.{names_differ}
 use Rattle.h5_sound.proofs.LinksThere.{some_group, link_at}
 
 -- ---- what a name looks up is the value of an entry
 
-found_entry : (es : List (List ℕ × Link)) (name : List ℕ) (link : Link) → find (slice_cmp nat_cmp) name es ≡ Some link → In (name, link) es
-found_entry [] name link is = absurd (let never : None ≡ Some link = is in cc)
-found_entry ((k, v) ∷ es) name link is = elim (eq_by_cmp (slice_cmp nat_cmp) name k) as (λ b. eq_by_cmp (slice_cmp nat_cmp) name k ≡ b
-    → cond b (Some v) (find (slice_cmp nat_cmp) name es) ≡ Some link → In (name, link) ((k, v) ∷ es)) [
-      | true ↦ λ tied here.
-          let key : name ≡ k = names_differ name k (is_tie _ tied) in
-          let value : v ≡ link = cc in
-          inl (ap₂ (λ (a : List ℕ) (b : Link). (a, b)) (sym key) value)
-      | false ↦ λ tied later. inr (found_entry es name link later)
-    ] refl is
-
 name_entry : (links : Links) (name : List ℕ) (link : Link) → get links name ≡ Some link → In (name, link) (entries links)
-name_entry links name link is = found_entry (entries links) name link (sym (get-entries links name) ∙ is)
+name_entry links name link is = found_entry names_differ (entries links) name link (sym (get-entries links name) ∙ is)
 
 -- ---- texts
 

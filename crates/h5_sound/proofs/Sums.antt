@@ -12,16 +12,12 @@ use Rattle.std.specs.FinMap.Entries.{below_all, by_order}
 use Rattle.std.proofs.lemmas.List.Sums.{sum_by-cons}
 use Rattle.h5_model.proofs.ReachLaws.{halves}
 use Rattle.h5_breach.proofs.Lists.{In}
-use Rattle.h5_breach.proofs.Maps.{get_of_entry}
+use Rattle.h5_breach.proofs.Maps.{true_of, get_of_entry}
+use Rattle.h5_breach.proofs.Ascending.{less_of}
 use Rattle.h5_sound.proofs.Inserted.{insert_other}
 
 abbrev pub weight : {X : Type 0} → (X → ℕ) → Option X → ℕ
 weight f o = option_map_or f o 0
-
-is_less : (r : Ordering) → T (is_lt r) → r ≡ Less
-is_less Less h = refl
-is_less Equal h = absurd h
-is_less Greater h = absurd h
 
 module _ {K X : Type 0} {R : K → K → Ordering} (o : IsTotalOrder R) where
   -- a key below those of all entries is not found
@@ -29,7 +25,7 @@ module _ {K X : Type 0} {R : K → K → Ordering} (o : IsTotalOrder R) where
   lower x k [] low below = refl
   lower x k (e ∷ es) low below =
       let split : T (is_lt (R x e.0)) × T (below_all R x es) = halves _ _ below in
-      ap (λ r. cond (is_eq r) (Some e.1) (find R k es)) (o.trans k x e.0 low (is_less _ split.0)) ∙ lower x k es low split.1
+      ap (λ r. cond (is_eq r) (Some e.1) (find R k es)) (o.trans k x e.0 low (less_of _ (true_of _ split.0))) ∙ lower x k es low split.1
 
   module _ (f : X → ℕ) where
     abbrev total : List (K × X) → ℕ

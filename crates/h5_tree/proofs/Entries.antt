@@ -1,7 +1,7 @@
 -- The entries of the tables of objects and links that an image was read as, and what these look up.
 use Rattle.std.proofs.Common.{◌≡◌, ℕ, List, [], ◌∷◌, sym, ap, ◌∙◌, subst, Some}
 use Rattle.std.specs.Prelude.{T, map, slice_get}
-use Rattle.std.specs.Ordering.{nat_cmp, is_lt}
+use Rattle.std.specs.Ordering.{nat_cmp}
 use Rattle.std.specs.Cmp.Lexicographic.{slice_cmp, nat_list_cmp_total}
 use Rattle.std.specs.FinMap.{get, entries, is_sorted, get-entries}
 use Rattle.std.specs.FinMap.Entries.{below_all}
@@ -14,8 +14,10 @@ use Rattle.h5_group.specs.declared.group.Group.{Group}
 use Rattle.h5_tree.specs.declared.object.OpenedObject.{OpenedObject}
 use Rattle.h5_tree.specs.Objects.{headers, numbered, link_to, links_by, object_in, table_of, tree_of}
 use Rattle.h5_breach.proofs.Lists.{In, in_map, from_map}
-use Rattle.h5_breach.proofs.Maps.{get_of_entry}
-use Rattle.h5_tree.proofs.Made.{joined, is_less, less_holds, entries_made, entries_numbered, get_numbered, found_value}
+use Rattle.h5_breach.proofs.Maps.{found_value, get_of_entry}
+use Rattle.h5_breach.proofs.Ascending.{less_of, before_trans}
+use Rattle.h5_breach.proofs.Numbered.{joined, less_holds}
+use Rattle.h5_tree.proofs.Made.{entries_made, entries_numbered, get_numbered}
 
 -- ---- headers and objects
 
@@ -33,18 +35,13 @@ get_tree image objects n = get_numbered (map (object_in image (headers objects))
 
 -- ---- links, whose names ascend
 
-after : (a b c : List ℕ) → Before a b → Before b c → Before a c
-after a b c p q =
-    let less = nat_list_cmp_total.trans a b c (is_less (slice_cmp nat_cmp a b) p) (is_less (slice_cmp nat_cmp b c) q) in
-    ap is_lt less
-
 abbrev pub named_links : List ℕ → List (List ℕ × Target) → List (List ℕ × Link)
 named_links at found = map (λ (l : List ℕ × Target). (l.0, link_to at l.1)) found
 
 below_names : (at x : List ℕ) (b : List ℕ × Target) (more : List (List ℕ × Target)) → Before x b.0 → Ascend (b ∷ more) → T (below_all (slice_cmp nat_cmp) x (named_links at (b ∷ more)))
-below_names at x b [] h rise = joined _ _ (less_holds (slice_cmp nat_cmp x b.0) (is_less (slice_cmp nat_cmp x b.0) h)) tt
+below_names at x b [] h rise = joined _ _ (less_holds (slice_cmp nat_cmp x b.0) (less_of (slice_cmp nat_cmp x b.0) h)) tt
 below_names at x b (c ∷ more) h rise =
-    joined _ _ (less_holds (slice_cmp nat_cmp x b.0) (is_less (slice_cmp nat_cmp x b.0) h)) (below_names at x c more (after x b.0 c.0 h rise.0) rise.1)
+    joined _ _ (less_holds (slice_cmp nat_cmp x b.0) (less_of (slice_cmp nat_cmp x b.0) h)) (below_names at x c more (before_trans x b.0 c.0 h rise.0) rise.1)
 
 sorted_names : (at : List ℕ) (found : List (List ℕ × Target)) → Ascend found → T (is_sorted (slice_cmp nat_cmp) (named_links at found))
 sorted_names at [] rise = tt

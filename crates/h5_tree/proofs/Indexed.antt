@@ -1,7 +1,6 @@
 -- The objects of an opened image by their numbers, and numbers by headers.
-use Rattle.std.proofs.Common.{◌≡◌, ℕ, zero, suc, ◌+◌, List, [], ◌∷◌, refl, sym, ap, ◌∙◌, subst, Some, true, false, Bool, arith}
+use Rattle.std.proofs.Common.{◌≡◌, ℕ, zero, suc, ◌+◌, List, [], ◌∷◌, refl, sym, ap, ◌∙◌, Some, true, false, Bool, arith}
 use Rattle.std.specs.Prelude.{◌==◌, slice_get, if◌then◌else◌, option_map}
-use Rattle.std.specs.List.{AllByRecursion}
 use Rattle.std.proofs.lemmas.Bool.Decides.{nat_tests}
 use Rattle.std.proofs.lemmas.Option.{same_Some, slice_get-map}
 use Rattle.std.specs.FinMap.{get}
@@ -10,14 +9,10 @@ use Rattle.h5_tree.specs.declared.object.OpenedObject.{OpenedObject}
 use Rattle.h5_tree.specs.Kept.{IsOpened, IsObjectKept}
 use Rattle.h5_tree.specs.Objects.{headers, number_of, object_in, tree_of}
 use Rattle.h5_tree.proofs.Entries.{get_tree}
-use Rattle.h5_tree.proofs.Own.{own_headers}
+use Rattle.h5_breach.proofs.Lists.{in_all, in_at}
+use Rattle.h5_tree.proofs.Own.{Own, own_headers}
 
 -- ---- lists
-
-all_at : {X : Type 0} (P : X → Type 0) (xs : List X) (k : ℕ) (x : X) → AllByRecursion P xs → slice_get xs k ≡ Some x → P x
-all_at P [] k x all at = absurd (cc)
-all_at P (y ∷ ys) zero x all at = subst P (same_Some y x at) all.0
-all_at P (y ∷ ys) (suc k) x all at = all_at P ys k x all.1 at
 
 -- the number of what stands in a list is the first place at which it stands
 number_here : (x : ℕ) (xs : List ℕ) (h : ℕ) (b : Bool) → (x == h) ≡ b → ((b ≡ false) → slice_get xs (number_of xs h) ≡ Some h) → slice_get (x ∷ xs) (if b then 0 else 1 + number_of xs h) ≡ Some h
@@ -30,6 +25,10 @@ first_number (x ∷ xs) zero h at =
     let same : (x == h) ≡ true = (let e : x ≡ h = same_Some x h at in grind (arith, nat_tests)) in
     number_here x xs h (x == h) refl (λ other. absurd (let never : true ≡ false = sym same ∙ other in cc))
 first_number (x ∷ xs) (suc k) h at = number_here x xs h (x == h) refl (λ _. first_number xs k h at)
+
+-- where each stands once, it is the one at which it stands
+pub number_at : (hs : List ℕ) → Own hs → (k h : ℕ) → slice_get hs k ≡ Some h → number_of hs h ≡ k
+number_at hs own k h at = own (number_of hs h) k h (first_number hs k h at) at
 
 -- ---- objects
 
@@ -44,8 +43,8 @@ object_there image objects k o at =
 
 module _ (image : List ℕ) (objects : List OpenedObject) (numbers : BTreeMap ℕ ℕ) (opened : IsOpened image objects numbers) where
   pub object_kept : (k : ℕ) (o : OpenedObject) → slice_get objects k ≡ Some o → IsObjectKept image o
-  object_kept k o at = all_at (IsObjectKept image) objects k o opened.each at
+  object_kept k o at = in_all (IsObjectKept image) o objects opened.each (in_at objects k o at)
 
   -- the number of a header is the one at which it stands
   pub number_at_header : (k h : ℕ) → slice_get (headers objects) k ≡ Some h → number_of (headers objects) h ≡ k
-  number_at_header k h at = own_headers image objects (tree_of image objects) opened.reads (number_of (headers objects) h) k h (first_number (headers objects) k h at) at
+  number_at_header = number_at (headers objects) (own_headers image objects (tree_of image objects) opened.reads)

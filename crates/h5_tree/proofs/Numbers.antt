@@ -1,5 +1,5 @@
 -- The numbers of an opened image's objects are below the next one, and few enough.
-use Rattle.std.proofs.Common.{◌≡◌, inl, inr, ℕ, zero, suc, ◌+◌, ◌<◌, ◌≤◌, List, [], ◌∷◌, length, map, refl, ap, subst, arith, Option, Some, None, IsSome}
+use Rattle.std.proofs.Common.{◌≡◌, inl, inr, ℕ, suc, ◌+◌, ◌<◌, ◌≤◌, List, [], ◌∷◌, length, map, refl, subst, arith, Option, Some, None, IsSome}
 use Rattle.std.proofs.lemmas.List.{length-map}
 use Rattle.std.proofs.lemmas.List.FromFn.{length-range_with_len}
 use Rattle.std.proofs.lemmas.Option.{slice_get_within}
@@ -12,7 +12,7 @@ use Rattle.h5_model.specs.Messages.{prefix_at, first_size, continuations}
 use Rattle.h5_model.specs.Tree.{Object}
 use Rattle.h5_model.specs.States.{IsState}
 use Rattle.h5_header.specs.Listed.{messages_in}
-use Rattle.h5_breach.proofs.Lists.{In, in_range}
+use Rattle.h5_breach.proofs.Lists.{In, in_range, stands_at}
 use Rattle.h5_breach.proofs.Pigeonhole.{Apart, no_longer}
 use Rattle.h5_tree.specs.declared.object.OpenedObject.{OpenedObject}
 use Rattle.h5_tree.specs.Kept.{IsOpened, IsObjectKept}
@@ -23,12 +23,8 @@ use Rattle.h5_tree.proofs.Own.{Own, own_headers}
 
 -- ---- different headers
 
-stands_at : (x : ℕ) (xs : List ℕ) → In x xs → (k : ℕ) × (slice_get xs k ≡ Some x)
-stands_at x [] at = absurd at
-stands_at x (y ∷ ys) (inl e) = (zero, ap (λ (n : ℕ). Some n) e)
-stands_at x (y ∷ ys) (inr at) = let rest = stands_at x ys at in (suc rest.0, rest.1)
-
-apart_of_own : (hs : List ℕ) → Own hs → Apart hs
+-- where each number stands at one place, none stands twice
+pub apart_of_own : (hs : List ℕ) → Own hs → Apart hs
 apart_of_own [] own = tt
 apart_of_own (x ∷ xs) own = (
   λ at. let k = stands_at x xs at in let same : 0 ≡ suc k.0 = own 0 (suc k.0) x refl k.1 in absurd (omega (arith, same)),

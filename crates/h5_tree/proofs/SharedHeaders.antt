@@ -16,10 +16,10 @@ use Rattle.h5_model.specs.Reads.{Placed, HasGroup, HasDataset, IsSame}
 use Rattle.h5_model.proofs.OneReading.{some_same, one_links, one_messages}
 use Rattle.h5_breach.specs.Holds.{Holds}
 use Rattle.h5_breach.proofs.Lists.{In}
-use Rattle.h5_breach.proofs.Maps.{tied_left, tied_right}
+use Rattle.h5_breach.proofs.Maps.{found_value, tied_left, tied_right}
+use Rattle.h5_breach.proofs.AllReached.{soft_leads}
 use Rattle.h5_breach.proofs.Counts.{none_counted}
 use Rattle.h5_breach.proofs.Objects.{content_cases, has_object, object_at, in_tree, of_dataset_kind}
-use Rattle.h5_tree.proofs.Made.{found_value}
 
 -- ---- one header's links
 
@@ -43,10 +43,6 @@ hard_to table found name a (n, Text t) is at = absurd is
 hard_from : (table : FinMap nat_cmp ℕ) (l : List ℕ × Link) (name : List ℕ) (e : ℕ) → IsSame table l (name, Header e) → (a : ℕ) × (get table a ≡ Some e)
 hard_from table (n, ToObject a) name e is = (a, is.1)
 hard_from table (n, Soft text) name e is = absurd is
-
-no_way : (tree : Tree) (text : List ℕ) (names : List (List ℕ)) (a : ℕ) → follow tree (Soft text) names ≡ Some (ToObject a) → ⊥
-no_way tree text [] a h = absurd (let links : Soft text ≡ ToObject a = cc in cc)
-no_way tree text (n ∷ names) a h = absurd (let none : None ≡ Some (ToObject a) = h in cc)
 
 -- the header at this place has a hard link to that one
 record LinksTo (image : List ℕ) (header e : ℕ) : Type 0 where
@@ -120,7 +116,7 @@ module _ (image : List ℕ) (table table' : FinMap nat_cmp ℕ) (tree tree' : Tr
       → ((c d : ℕ) → get table c ≡ Some d → IsShared d → follow tree (ToObject c) names ≡ Some (ToObject a) → IsShared e)
       → (l : Option Link) → link_in tree number name ≡ l → option_and_then (λ (x : Link). follow tree x names) l ≡ Some (ToObject a) → IsShared e
   after_name names number header at shared name a e rest None linked next = absurd (cc)
-  after_name names number header at shared name a e rest (Some (Soft text)) linked next = absurd (no_way tree text names a next)
+  after_name names number header at shared name a e rest (Some (Soft text)) linked next = absurd (soft_leads tree text names a next)
   after_name names number header at shared name a e rest (Some (ToObject c)) linked next =
       let o = object_at image table tree placed holds number header at in
       let o' = object_at image table' tree' placed' holds' shared.0 header shared.1 in

@@ -3,6 +3,7 @@ use Rattle.std.specs.Prelude.{ℕ, ◌+◌, ◌==◌, if◌then◌else◌, List,
 use Rattle.std.specs.Ordering.{nat_cmp}
 use Rattle.std.specs.FinMap.{FinMap, empty, from_entries}
 use Rattle.h5_bytes.specs.declared.Block.{Block}
+pub use Rattle.h5_breach.specs.Numbered.{numbered}
 use Rattle.h5_model.specs.Symbols.{Target, Header, Text}
 use Rattle.h5_model.specs.Tree.{Tree, Object, Content, Group, Array, Link, Links, ToObject, Soft}
 use Rattle.h5_header.specs.Listed.{messages_in}
@@ -24,11 +25,6 @@ headers objects = map (λ (o : OpenedObject). o.messages.header) objects
 abbrev pub number_of : List ℕ → ℕ → ℕ
 number_of [] header = 0
 number_of (h ∷ hs) header = if h == header then 0 else 1 + number_of hs header
-
--- a list with the numbers from n on
-abbrev pub numbered : {X : Type 0} → ℕ → List X → List (ℕ × X)
-numbered n [] = []
-numbered n (x ∷ xs) = (n, x) ∷ numbered (n + 1) xs
 
 -- ---- objects
 

@@ -11,7 +11,7 @@ use Rattle.h5_image.proofs.ImageLength.{image_length}
 use Rattle.h5_image.proofs.Places.{end_rises}
 use Rattle.h5_objects.specs.Order.{AreMet}
 use Rattle.h5_objects.specs.declared.object.NewObject.{NewObject}
-use Rattle.h5_objects.proofs.Members.{In}
+use Rattle.h5_breach.proofs.Lists.{In}
 use Rattle.h5_write.specs.declared.size.Size.{Size}
 use Rattle.h5_write.specs.declared.write.WriteFault.{WriteFault}
 use Rattle.h5_write.specs.declared.write.WriteFault.TheVariants.{TooLong, TooDeep, NoMemory}

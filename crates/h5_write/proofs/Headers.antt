@@ -10,7 +10,8 @@ use Rattle.std.specs.FinMap.{find}
 use Rattle.h5_model.specs.Tree.{Object}
 use Rattle.h5_image.specs.Written.{object_length, headers_from, end_from}
 use Rattle.h5_image.proofs.Places.{found_first, found_later}
-use Rattle.h5_objects.proofs.Members.{In, Apart}
+use Rattle.h5_breach.proofs.Lists.{In}
+use Rattle.h5_breach.proofs.Pigeonhole.{Apart}
 use Rattle.h5_write.specs.declared.size.Size.{Size}
 use Rattle.h5_write.specs.Layout.{end_of, headers_of, length_at, size_length}
 

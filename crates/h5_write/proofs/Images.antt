@@ -1,5 +1,6 @@
 -- What is appended of all objects is the plain image of their tree.
 use Rattle.std.proofs.Common.{◌≡◌, ℕ, zero, suc, ◌+◌, ◌*◌, ◌<◌, ◌≤◌, inl, inr, List, [], ◌∷◌, ◌++◌, map, refl, sym, ap, ◌∙◌, subst, arith, length, Option, Some, None}
+use Rattle.std.proofs.lemmas.Slice.Zip.{AllZip-long}
 use Rattle.std.proofs.lemmas.List.{length-map}
 use Rattle.std.proofs.lemmas.Option.{slice_get_past, slice_get_cases, get_or_from_slice_get, same_Some}
 use Rattle.std.specs.Borrow.{Bor}
@@ -23,7 +24,7 @@ use Rattle.h5_image.specs.Plain.{AreLow, IsLow}
 use Rattle.h5_image.specs.Written.{content_place, data_address, header_in, heap_place, image_end, leads_to, object_bytes, plain_image, root_heap, superblock_of, table_of, written_link, written_links}
 use Rattle.h5_objects.specs.Order.{AreMet}
 use Rattle.h5_objects.specs.declared.object.NewObject.{NewObject}
-use Rattle.h5_objects.proofs.Members.{In}
+use Rattle.h5_breach.proofs.Lists.{In}
 use Rattle.h5_write.specs.declared.size.Extent.{Extent}
 use Rattle.h5_write.specs.declared.size.Extent.TheVariants as extent
 use Rattle.h5_write.specs.declared.size.Size.{Size}
@@ -34,7 +35,7 @@ use Rattle.h5_write.specs.Written.{IsHeld}
 use Rattle.h5_write.proofs.Leads.{all_written}
 use Rattle.h5_write.proofs.Orders.{below, end_is, headers_are, listed, numbered, numbers, object, pairs, size_of, some_objects, there_is}
 use Rattle.h5_write.proofs.Pushed.{number_at}
-use Rattle.h5_write.proofs.Zips.{length_zip, zip_right}
+use Rattle.h5_objects.proofs.Zips.{zip_right}
 
 -- ---- lists
 
@@ -133,7 +134,7 @@ module _ (leaf internal : ℕ) (objects : List NewObject) (tree : Tree) (held : 
     | inr past ↦
         let none : slice_get sizes_now.now n ≡ None
         = ap (λ (ss : List Size). slice_get ss n) sizes_here
-        ∙ slice_get_past sizes n (omega (arith, past.0, length_zip (IsSize leaf internal) (listed objects tree held) sizes sized)) in
+        ∙ slice_get_past sizes n (omega (arith, past.0, AllZip-long (IsSize leaf internal) (listed objects tree held) sizes sized)) in
         ap (λ (r : Option Size). option_map_or (leads_at (slice_index headers_now.now n)) r (ToArray 0)) none
         ∙ sym (ap (λ (r : Option Object). option_map_or (λ (o : Object). leads_to leaf internal o (header_in table n)) r (ToArray 0)) (numbers objects tree held n ∙ past.1))
   ]

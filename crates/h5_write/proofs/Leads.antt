@@ -1,5 +1,6 @@
 -- Where links lead in a layout, and that their texts don't depend on it.
 use Rattle.std.proofs.Common.{◌≡◌, ℕ, ◌+◌, ◌*◌, ◌^◌, ◌<◌, ◌≤◌, List, [], ◌∷◌, ◌++◌, map, refl, sym, ap, ◌∙◌, subst, arith, length, get_or, take, Option, Some, None}
+use Rattle.std.proofs.lemmas.Slice.Zip.{AllZip-long}
 use Rattle.std.proofs.lemmas.List.{take_more, map-append}
 use Rattle.std.specs.Prelude.{slice_get, slice_index}
 use Rattle.std.specs.List.{AllZip}
@@ -21,7 +22,6 @@ use Rattle.h5_write.specs.declared.size.Extent.TheVariants as extent
 use Rattle.h5_write.specs.declared.size.Size.{Size}
 use Rattle.h5_write.specs.declared.group.Layout.{Layout}
 use Rattle.h5_write.specs.Layout.{IsLowExtent, IsLowSize, extent_length, leads_at, leads_behind, leads_by, size_length, written_at}
-use Rattle.h5_write.proofs.Zips.{length_zip}
 
 -- ---- addresses
 
@@ -91,7 +91,7 @@ pub same_places : (leaf internal : ℕ) (es : List (List ℕ × Link)) (xs ys : 
     → ArePlaces leaf internal xs p → ArePlaces leaf internal ys p
 same_places leaf internal es xs ys p all_xs all_ys are =
     let texts : spelled xs ≡ spelled ys = spelled_is es xs all_xs ∙ sym (spelled_is es ys all_ys) in
-    let count : length xs ≡ length ys = sym (length_zip laws.IsWritten es xs all_xs) ∙ length_zip laws.IsWritten es ys all_ys in
+    let count : length xs ≡ length ys = AllZip-long laws.IsWritten es xs all_xs ∙ sym (AllZip-long laws.IsWritten es ys all_ys) in
     record {
       tree = are.tree ∙ ap (λ n. nodes_over 64 (2 * internal) (rows_of (2 * leaf) n) * group_node internal) count;
       segment = are.segment ∙ ap (λ (t : List (List ℕ)). length (segment_bytes t)) texts;

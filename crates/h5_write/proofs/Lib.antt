@@ -1,4 +1,3 @@
-pub mod Zips
 pub mod Leads
 pub mod Sizes
 pub mod Headers

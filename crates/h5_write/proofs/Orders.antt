@@ -1,14 +1,12 @@
 -- The order in which objects are met is an order of their tree, and where their headers stand is the table of the order.
-use Rattle.std.proofs.Common.{◌≡◌, ℕ, suc, ◌+◌, ◌^◌, ◌<◌, ◌≤◌, inl, inr, List, [], ◌∷◌, map, refl, sym, ap, ◌∙◌, subst, arith, length, get_or, replicate, Option, Some, true, false, eqb}
-use Rattle.std.proofs.lemmas.Bool.Decides.{nat_tests}
+use Rattle.std.proofs.Common.{◌≡◌, ℕ, suc, ◌+◌, ◌^◌, ◌<◌, ◌≤◌, inl, inr, List, [], ◌∷◌, map, refl, sym, ap, ◌∙◌, subst, arith, length, get_or, replicate, Option, Some}
+use Rattle.std.proofs.lemmas.Slice.Zip.{AllZip-long}
 use Rattle.std.proofs.lemmas.List.{length-replicate}
-use Rattle.std.proofs.lemmas.Map.Keys.{IsDistinct-head, IsDistinct-tail}
 use Rattle.std.proofs.lemmas.Option.{same_Some, slice_get-get_or, slice_get_within, slice_get_past, slice_get_cases, get_or_from_slice_get}
 use Rattle.std.specs.Prelude.{slice_get, slice_index, is_some}
 use Rattle.std.specs.Ordering.{nat_cmp, eq_by_cmp}
-use Rattle.std.specs.Cmp.{unsigned_tied}
 use Rattle.std.specs.FinMap.{get, empty}
-use Rattle.std.specs.List.{AllByRecursion, AllZip, Contains, IsDistinct}
+use Rattle.std.specs.List.{AllZip, Contains, IsDistinct}
 use Rattle.std.specs.Option.{option_map_or}
 use Rattle.h5_model.specs.Tree.{Tree, Object, Group}
 use Rattle.h5_image.specs.Plain.{IsPlain}
@@ -17,7 +15,8 @@ use Rattle.h5_image.proofs.Places.{table_find}
 use Rattle.h5_objects.specs.Objects.{IsNewObject}
 use Rattle.h5_objects.specs.Order.{AreMet}
 use Rattle.h5_objects.specs.declared.object.NewObject.{NewObject}
-use Rattle.h5_objects.proofs.Members.{In, Apart, in_contains, contains_in}
+use Rattle.h5_breach.proofs.Lists.{In, in_all, in_map, from_map, in_contains, contains_in}
+use Rattle.h5_breach.proofs.Pigeonhole.{Apart, apart_of_distinct}
 use Rattle.h5_objects.proofs.Reached.{met_all}
 use Rattle.h5_write.specs.declared.size.Size.{Size}
 use Rattle.h5_write.specs.declared.place.Placed.{Placed}
@@ -25,43 +24,22 @@ use Rattle.h5_write.specs.declared.group.Layout.{Layout}
 use Rattle.h5_write.specs.Layout.{AreHeaders, IsHeldObject, IsLowLayout, IsLowSize, IsSize, end_of, length_at, size_length}
 use Rattle.h5_write.specs.Written.{IsHeld}
 use Rattle.h5_write.proofs.Headers.{end_same, find_none, headers_found, length-headers, placed_within}
-use Rattle.h5_write.proofs.Zips.{length_zip, zip_left, zip_right}
+use Rattle.h5_objects.proofs.Zips.{zip_left, zip_right}
 
 -- ---- members
-
-pub in_all : (P : ℕ → Type 0) (n : ℕ) (ns : List ℕ) → AllByRecursion P ns → In n ns → P n
-in_all P n [] all there = absurd there
-in_all P n (m ∷ ns) all (inl e) = subst P e all.0
-in_all P n (m ∷ ns) all (inr there) = in_all P n ns all.1 there
-
-head_apart : (x : ℕ) (xs : List ℕ) → AllByRecursion (λ y. eq_by_cmp nat_cmp x y ≡ false) xs → In x xs → ⊥
-head_apart x xs all there =
-    let not_same : eq_by_cmp nat_cmp x x ≡ false = in_all (λ y. eq_by_cmp nat_cmp x y ≡ false) x xs all there in
-    let itself : eqb x x ≡ true = grind (arith, nat_tests) in
-    let never : false ≡ true = sym not_same ∙ unsigned_tied x x ∙ itself in
-    absurd (cc)
-
-apart_of_distinct : (xs : List ℕ) → IsDistinct (eq_by_cmp nat_cmp) xs → Apart xs
-apart_of_distinct [] is = tt
-apart_of_distinct (x ∷ xs) is =
-    (head_apart x xs (IsDistinct-head (eq_by_cmp nat_cmp) x xs is), apart_of_distinct xs (IsDistinct-tail (eq_by_cmp nat_cmp) x xs is))
 
 module _ (object : ℕ → Object) where
   abbrev pub numbered : ℕ → ℕ × Object
   numbered n = (n, object n)
 
   pub in_pairs : (ns : List ℕ) (n : ℕ) → In n ns → In (n, object n) (map numbered ns)
-  in_pairs [] n there = absurd there
-  in_pairs (m ∷ ns) n (inl e) = inl (ap numbered e)
-  in_pairs (m ∷ ns) n (inr there) = inr (in_pairs ns n there)
+  in_pairs ns n there = in_map numbered n ns there
 
   pub pairs_in : (ns : List ℕ) (n : ℕ) (o : Object) → In (n, o) (map numbered ns) → In n ns × (object n ≡ o)
-  pairs_in [] n o there = absurd there
-  pairs_in (m ∷ ns) n o (inl e) =
-      let number : m ≡ n = ap (λ (x : ℕ × Object). x.0) e in
-      let own : object m ≡ o = ap (λ (x : ℕ × Object). x.1) e in
-      (inl number, ap object (sym number) ∙ own)
-  pairs_in (m ∷ ns) n o (inr there) = let rest = pairs_in ns n o there in (inr rest.0, rest.1)
+  pairs_in ns n o there =
+      let one = from_map numbered (n, o) ns there in
+      let number : one.0 ≡ n = ap (λ (x : ℕ × Object). x.0) one.2 in
+      (subst (λ (m : ℕ). In m ns) number one.1, ap object (sym number) ∙ ap (λ (x : ℕ × Object). x.1) one.2)
 
   numbers_of : (ns : List ℕ) → map (λ (x : ℕ × Object). x.0) (map numbered ns) ≡ ns
   numbers_of [] = refl
@@ -88,7 +66,7 @@ module _ (objects : List NewObject) (tree : Tree) (held : IsHeld objects tree) w
   all_held = zip_held objects listed (held.objects_are).each (λ n o is. held.plain n o (numbers n ∙ is))
 
   pub as_many : length objects ≡ length listed
-  as_many = length_zip IsHeldObject objects listed all_held
+  as_many = sym (AllZip-long IsHeldObject objects listed all_held)
 
   abbrev pub object : ℕ → Object
   object n = get_or listed n no_object
@@ -134,7 +112,7 @@ module _ (objects : List NewObject) (tree : Tree) (held : IsHeld objects tree) w
 
     module _ (leaf internal : ℕ) (sizes : List Size) (sized : AllZip (IsSize leaf internal) listed sizes) where
       pub as_many_sizes : length objects ≡ length sizes
-      as_many_sizes = as_many ∙ length_zip (IsSize leaf internal) listed sizes sized
+      as_many_sizes = as_many ∙ sym (AllZip-long (IsSize leaf internal) listed sizes sized)
 
       pub size_of : (n : ℕ) → n < length objects → (s : Size) × (slice_get sizes n ≡ Some s) × IsSize leaf internal (object n) s
       size_of n low = zip_right (IsSize leaf internal) listed sizes n (object n) sized (there_is n low)

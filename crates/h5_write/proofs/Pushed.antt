@@ -31,7 +31,7 @@ use Rattle.h5_write.specs.declared.size.Size.{Size}
 use Rattle.h5_write.specs.declared.group.Layout.{Layout}
 use Rattle.h5_write.specs.Layout.{IsArrayObject, IsExtent, IsGroupObject, IsHeldObject, IsSize, IsJoined, array_at, content_at, extent_length, numbered_at, object_at, size_length, written_at}
 use Rattle.h5_write.proofs.Sizes.{own_written, own_count, joined_array}
-use Rattle.h5_write.proofs.Zips.{zip_right}
+use Rattle.h5_objects.proofs.Zips.{zip_right}
 
 -- ---- two parts
 

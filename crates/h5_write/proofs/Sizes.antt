@@ -1,5 +1,6 @@
 -- How many bytes objects have, as they are measured.
 use Rattle.std.proofs.Common.{Vec, Global, ◌≡◌, ℕ, ◌+◌, ◌*◌, ◌^◌, ◌<◌, ◌≤◌, List, [], ◌∷◌, map, refl, sym, ap, ap₂, ◌∙◌, subst, arith, length, Some, Option}
+use Rattle.std.proofs.lemmas.Slice.Zip.{AllZip-long}
 use Rattle.std.specs.Prelude.{slice_get}
 use Rattle.std.specs.List.{AllZip}
 use Rattle.std.specs.FinMap.{entries, len, len-entries}
@@ -42,7 +43,6 @@ use Rattle.h5_write.specs.declared.write.WriteFault.{WriteFault}
 use Rattle.h5_write.specs.declared.write.WriteFault.TheVariants.{TooLong, TooDeep, NoMemory}
 use Rattle.h5_write.specs.Layout.{AreUnmeasured, IsArrayObject, IsExtent, IsGroupObject, IsHeldObject, IsSize, IsUnmeasured, IsJoined, written_at}
 use Rattle.h5_write.proofs.Leads.{all_written, same_places}
-use Rattle.h5_write.proofs.Zips.{length_zip}
 
 -- ---- a group and an array among objects
 
@@ -85,7 +85,7 @@ module _ (links : List TreeLink) (others : OthersBytes) (o : Object) (is : IsGro
     own_length = group_length leaf internal is.group bare own_written ∙ sym (ap (content_bytes leaf internal 0 0) is.content)
 
     pub own_count : length bare ≡ len is.group
-    own_count = sym (length_zip laws.IsWritten (entries is.group) bare own_written) ∙ sym (len-entries is.group)
+    own_count = AllZip-long laws.IsWritten (entries is.group) bare own_written ∙ sym (len-entries is.group)
 
     pub group_long : 2 ^ 31 < links_length leaf internal bare → 2 ^ 31 < object_length leaf internal o
     group_long long = omega (arith, long, own_length)

@@ -6,7 +6,7 @@ use Rattle.std.specs.List.{sum_by}
 use Rattle.h5_objects.specs.declared.object.TreeLink.{TreeLink}
 use Rattle.h5_objects.specs.Targets.{new_links, targets, times}
 use Rattle.h5_objects.proofs.Counting.{AreCountedTo, refilled, objects_more, objects_same, objects_room}
-use Rattle.h5_objects.proofs.Members.{In, in_contains}
+use Rattle.h5_breach.proofs.Lists.{In, in_contains}
 use Rattle.h5_objects.proofs.Trees.{counted, counted_few, hard_links_counted, target_below}
 use Rattle.h5_objects.proofs.counts.count_links.Goals as goal
 use Rattle.h5_objects.proofs.counts.count_links.Goals.{in-Group, in_default}

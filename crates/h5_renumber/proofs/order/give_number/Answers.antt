@@ -7,11 +7,10 @@ use Rattle.std.specs.BTreeMap.{get}
 use Rattle.std.proofs.lemmas.List.{length-map}
 use Rattle.std.proofs.lemmas.List.Edits.{length-swap}
 use Rattle.std.proofs.lemmas.Option.{slice_get-get_or, slice_get_within}
-use Rattle.h5_breach.proofs.Lists.{contains_in}
+use Rattle.h5_breach.proofs.Lists.{in_at, contains_in}
 use Rattle.h5_tree.specs.declared.object.OpenedObject.{OpenedObject}
 use Rattle.h5_tree.specs.Objects.{headers}
 use Rattle.h5_tree.proofs.Indexed.{header_at}
-use Rattle.h5_renumber.proofs.SameHeaders.{in_at}
 use Rattle.h5_renumber.proofs.Exchanges.{exchanged, found_at, is_found, is_found_still, index_exchanged}
 use Rattle.h5_renumber.proofs.order.give_number.Goals as goal
 

@@ -1,4 +1,5 @@
 use Rattle.std.proofs.Common.{◌≡◌, ◌+◌, ◌≤◌, ◌++◌, ◌∷◌, [], List, refl, sym, subst, length, take, add-one, Some}
+use Rattle.std.proofs.lemmas.Slice.Zip.{AllZip-long}
 use Rattle.std.proofs.lemmas.List.{take_all}
 use Rattle.std.proofs.lemmas.Option.{slice_get_read}
 use Rattle.std.proofs.lemmas.Result.{err_from_is_err_and}
@@ -7,7 +8,7 @@ use Rattle.std.specs.List.{AllZip}
 use Rattle.h5_model.specs.Tree.{Object}
 use Rattle.h5_write.specs.Layout.{IsHeldObject, IsSize}
 use Rattle.h5_write.proofs.Sizes.{unmeasured_at}
-use Rattle.h5_write.proofs.Zips.{zip_right, zip_more, length_zip}
+use Rattle.h5_objects.proofs.Zips.{zip_right, zip_more}
 use Rattle.h5_write.proofs.size.measure_all.Goals as goal
 
 pub measure-requires-clause-held : goal.measure-requires-clause-held
@@ -45,5 +46,5 @@ loop-object-preserved c listed held =
 pub returns-clause-sizes : goal.returns-clause-sizes
 returns-clause-sizes c listed held =
     let i = c.loop-object.object-index in
-    let all : take i listed ≡ listed = take_all i listed (subst (λ n. n ≤ i) (length_zip IsHeldObject c.args.objects.now listed held) c.loop-object-test.false) in
+    let all : take i listed ≡ listed = take_all i listed (subst (λ n. n ≤ i) (sym (AllZip-long IsHeldObject c.args.objects.now listed held)) c.loop-object-test.false) in
     subst (λ (os : List Object). AllZip (IsSize c.args.leaf c.args.internal) os c.loop-object.sizes.items) all (c.loop-object.invariant listed held)

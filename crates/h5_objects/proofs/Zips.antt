@@ -1,14 +1,8 @@
 -- Two lists of which each element of one belongs to that of the other.
-use Rattle.std.proofs.Common.{◌≡◌, ℕ, zero, suc, ◌<◌, List, [], ◌∷◌, ◌++◌, refl, sym, ap, subst, arith, length, take, Some}
+use Rattle.std.proofs.Common.{◌≡◌, ℕ, zero, suc, List, [], ◌∷◌, ◌++◌, refl, sym, subst, take, Some}
 use Rattle.std.proofs.lemmas.Option.{same_Some}
 use Rattle.std.specs.Prelude.{slice_get}
 use Rattle.std.specs.List.{AllZip}
-
-pub length_zip : {A B : Type 0} (R : A → B → Type 0) (xs : List A) (ys : List B) → AllZip R xs ys → length xs ≡ length ys
-length_zip R [] [] all = refl
-length_zip R [] (y ∷ ys) all = absurd all
-length_zip R (x ∷ xs) [] all = absurd all
-length_zip R (x ∷ xs) (y ∷ ys) all = ap (λ (n : ℕ). suc n) (length_zip R xs ys all.1)
 
 -- the element that belongs to one, and the one to which it belongs
 pub zip_left : {A B : Type 0} (R : A → B → Type 0) (xs : List A) (ys : List B) (n : ℕ) (y : B) → AllZip R xs ys → slice_get ys n ≡ Some y
@@ -27,6 +21,7 @@ zip_right R (w ∷ xs) [] n x all is = absurd all
 zip_right {B = B} R (w ∷ xs) (z ∷ ys) zero x all is = (z, refl, subst (λ v. R v z) (same_Some w x is) all.0)
 zip_right R (w ∷ xs) (z ∷ ys) (suc n) x all is = zip_right R xs ys n x all.1 is
 
+-- with one more of each
 pub zip_more : {A B : Type 0} (R : A → B → Type 0) (xs : List A) (ys : List B) (i : ℕ) (x : A) (y : B) → slice_get xs i ≡ Some x
     → AllZip R (take i xs) ys → R x y → AllZip R (take (suc i) xs) (ys ++ y ∷ [])
 zip_more R [] ys i x y is all r = absurd (cc)
@@ -34,9 +29,3 @@ zip_more R (w ∷ xs) [] zero x y is all r = (subst (λ v. R v y) (sym (same_Som
 zip_more R (w ∷ xs) (z ∷ ys) zero x y is all r = absurd all
 zip_more R (w ∷ xs) [] (suc i) x y is all r = absurd all
 zip_more R (w ∷ xs) (z ∷ ys) (suc i) x y is all r = (all.0, zip_more R xs ys i x y is all.1 r)
-
--- what is there below the length
-pub at_place : {X : Type 0} (xs : List X) (n : ℕ) → n < length xs → (x : X) × (slice_get xs n ≡ Some x)
-at_place [] n low = absurd (omega (arith, low))
-at_place (x ∷ xs) zero low = (x, refl)
-at_place (x ∷ xs) (suc n) low = at_place xs n (omega (arith, low))
