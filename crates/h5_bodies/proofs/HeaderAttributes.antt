@@ -1,9 +1,9 @@
 -- An attribute of the plain layout is read back from its message (File Format Specification 3.0, section IV.A.2.m).
-use Rattle.std.proofs.Common.{◌≡◌, ℕ, ◌+◌, ◌-◌, ◌*◌, ◌%◌, ◌^◌, ◌<◌, ◌≤◌, ◌==◌, List, [], ◌∷◌, length, length-append, map, replicate, refl, sym, ap, ◌∙◌, arith, Bool, true, false, cond, ℤ, Some}
+use Rattle.std.proofs.Common.{◌≡◌, ℕ, ◌+◌, ◌-◌, ◌*◌, ◌%◌, ◌^◌, ◌<◌, ◌≤◌, ◌==◌, List, [], ◌∷◌, length, length-append, map, replicate, refl, sym, ap, ◌∙◌, arith, true, false, cond, ℤ, Some}
 use Rattle.std.proofs.lemmas.Bool.Decides.{nat_tests}
 use Rattle.std.proofs.lemmas.List.{length-replicate}
 use Rattle.std.proofs.Math.Nat.{mul-le-mul_left, mul-le-mul_right}
-use Rattle.std.specs.Prelude.{T, ◌&&◌}
+use Rattle.std.specs.Prelude.{T}
 use Rattle.std.specs.Ordering.{nat_cmp, eq_by_cmp, is_lt, is_eq}
 use Rattle.std.specs.declared.cmp.Ordering.{Ordering}
 use Rattle.std.specs.declared.cmp.Ordering.TheVariants.{Less, Equal, Greater}
@@ -19,6 +19,7 @@ use Rattle.h5_model.specs.Sound.{AreOf}
 use Rattle.h5_model.specs.Tree.{Attribute, Attributes}
 use Rattle.h5_model.specs.AttributeBody.{attribute_of}
 use Rattle.h5_model.proofs.PlainMessages.{IsPlain}
+use Rattle.h5_model.proofs.ReachLaws.{halves}
 use Rattle.h5_msg.specs.Written.{attribute_bytes}
 use Rattle.h5_msg.proofs.WordLaws.{words_long}
 use Rattle.h5_msg.proofs.DataspaceLaws.{Small, small_from}
@@ -108,20 +109,16 @@ less_differs Less h = refl
 less_differs Equal h = absurd h
 less_differs Greater h = refl
 
-first_of_both : (a b : Bool) → T (a && b) → T a × T b
-first_of_both true b h = (tt, h)
-first_of_both false b h = absurd h
-
 below_differ : (name : List ℕ) (es : List (List ℕ × Attribute)) → T (below_all (slice_cmp nat_cmp) name es)
     → AllByRecursion (λ other. eq_by_cmp (slice_cmp nat_cmp) name other ≡ false) (map (λ (e : List ℕ × Attribute). e.0) es)
 below_differ name [] h = tt
-below_differ name (e ∷ es) h = let both = first_of_both _ _ h in (less_differs _ both.0, below_differ name es both.1)
+below_differ name (e ∷ es) h = let both = halves _ _ h in (less_differs _ both.0, below_differ name es both.1)
 
 sorted_differ : (es : List (List ℕ × Attribute)) → T (is_sorted (slice_cmp nat_cmp) es)
     → IsDistinct (eq_by_cmp (slice_cmp nat_cmp)) (map (λ (e : List ℕ × Attribute). e.0) es)
 unfolding IsDistinct
 sorted_differ [] h = tt
-sorted_differ (e ∷ es) h = let both = first_of_both _ _ h in (below_differ e.0 es both.0, sorted_differ es both.1)
+sorted_differ (e ∷ es) h = let both = halves _ _ h in (below_differ e.0 es both.0, sorted_differ es both.1)
 
 -- and no two of its names are the same
 pub names_differ : (m : Attributes) → IsDistinct (eq_by_cmp (slice_cmp nat_cmp)) (map (λ (e : List ℕ × Attribute). e.0) (entries m))

@@ -1,16 +1,15 @@
 -- How many bytes the header of an array has in the plain layout, and its data (File Format Specification 3.0, sections IV.A.1.a and
 -- IV.A.2).
-use Rattle.std.proofs.Common.{◌≡◌, ℕ, ◌+◌, ◌*◌, List, [], ◌∷◌, ◌++◌, length, refl, sym, ap, ◌∙◌, subst, arith, Bool, true, false, cond, not, Option, ℤ}
+use Rattle.std.proofs.Common.{◌≡◌, ℕ, ◌+◌, ◌*◌, List, [], ◌∷◌, ◌++◌, length, refl, sym, ap, ◌∙◌, subst, arith, Bool, true, false, not, Option, ℤ}
 use Rattle.std.specs.Prelude.{nat_lt, if◌then◌else◌}
 use Rattle.h5_model.specs.Fixed.{Fixed, IsFixed}
 use Rattle.h5_model.specs.Places.{cells}
-use Rattle.h5_model.specs.Plain.{header_bytes, messages_bytes, type_body, fill_body, contiguous_body, cells_bytes}
+use Rattle.h5_model.specs.Plain.{header_bytes, messages_bytes, type_body, fill_body, contiguous_body}
 use Rattle.h5_model.specs.Sizes.{array_messages as messages_size, message_size}
 use Rattle.h5_model.specs.Tree.{Dataset, Contiguous, are_sizes}
-use Rattle.h5_model.proofs.PlainValues.{size-low, size-high, length-fill_body, length-cells_bytes}
+use Rattle.h5_model.proofs.PlainValues.{size-low, size-high, length-fill_body}
 use Rattle.h5_bodies.specs.Bodies.{others_of, space_body, fill_messages, array_messages}
 use Rattle.h5_bodies.specs.Laws.{ArrayLength}
-use Rattle.h5_bodies.specs.Headers.{is_stored, data_of}
 use Rattle.h5_bodies.specs.Sound.{IsPlainArray}
 use Rattle.h5_bodies.proofs.HeaderOthers.{one_more, length-messages, length-others, count-others}
 use Rattle.h5_bodies.proofs.HeaderSpace.{length-space_body}
@@ -83,10 +82,3 @@ array_length count address p d plain e is =
     let own = length-header_of count d (others_of p) address in
     let sum = length-others p plain in
     rw e (omega (arith, own, sum, counted, many))
-
--- the data of an array have the bytes of its cells, where they are stored
-pub length-data_of : (d : Dataset) → length d.cells ≡ cells d.sizes → length (data_of d) ≡ (if is_stored d.storage then cells d.sizes * (d.fixed).size else 0)
-length-data_of d counted = elim (is_stored d.storage) as (λ b. length (cond b (cells_bytes d.fixed d.cells) []) ≡ cond b (cells d.sizes * (d.fixed).size) 0) [
-  | true ↦ length-cells_bytes d.fixed d.cells ∙ ap (λ n. n * (d.fixed).size) counted
-  | false ↦ refl
-]

@@ -21,7 +21,7 @@ use Rattle.h5_model.specs.Tree.{Contiguous}
 use Rattle.h5_model.specs.Messages.{Message}
 use Rattle.h5_model.proofs.PlaceLaws.{place-index}
 use Rattle.h5_model.proofs.PlainValues.{size-low, value_at-cells_bytes}
-use Rattle.h5_model.proofs.ValueFrames.{value_at-same}
+use Rattle.h5_model.proofs.ValueLaws.{value_at-same}
 use Rattle.h5_layout.specs.Described.{HasArray}
 use Rattle.h5_layout.proofs.RoomLaws.{is_array}
 use Rattle.h5_tree.specs.Array.{described}

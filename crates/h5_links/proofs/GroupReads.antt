@@ -15,7 +15,7 @@ use Rattle.h5_model.specs.Paths.{is_name}
 use Rattle.h5_model.specs.PlainLength.{nodes_over}
 use Rattle.h5_model.specs.Rows.{Reading}
 use Rattle.h5_model.specs.Sizes.{group_node, symbol_node}
-use Rattle.h5_model.specs.Symbols.{Entry, Target, IsEntry, symbols_at, symbols_of, symbol_block, texts_of}
+use Rattle.h5_model.specs.Symbols.{Entry, Target, IsEntry, symbols_of, symbol_block, texts_of}
 use Rattle.h5_model.specs.Symbols as symbols
 use Rattle.h5_rows.specs.declared.child.Child.{Child}
 use Rattle.h5_rows.specs.Written.{tree_bytes, root_level}

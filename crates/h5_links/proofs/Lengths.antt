@@ -4,7 +4,7 @@ use Rattle.std.specs.Prelude.{sum_by, nat_le, if◌then◌else◌}
 use Rattle.std.specs.List.{AllZip}
 use Rattle.std.specs.FinMap.{entries, len-entries}
 use Rattle.std.proofs.lemmas.List.Sums.{sum_by-cons}
-use Rattle.h5_model.specs.PlainLength.{rows_of, nodes_over, group_bytes}
+use Rattle.h5_model.specs.PlainLength.{rows_of, nodes_over}
 use Rattle.h5_model.specs.PlainLength as plain
 use Rattle.h5_model.specs.Sizes.{group_node, symbol_node}
 use Rattle.h5_model.specs.Tree.{Link, ToObject, Soft}

@@ -1,8 +1,6 @@
 -- The symbol nodes of links whose names ascend are ordered children of a tree (File Format Specification 3.0, section III.A.1).
-use Rattle.std.proofs.Common.{◌≡◌, ℕ, ◌+◌, ◌≤◌, true, List, [], ◌∷◌, ◌++◌, length, Ordering, Less, Equal, Greater, refl, sym, ap, ◌∙◌, subst, arith}
-use Rattle.std.specs.Prelude.{map, IsTrue, ⊤}
-use Rattle.std.specs.Ordering.{nat_cmp, is_lt, is_le}
-use Rattle.std.specs.Cmp.Lexicographic.{slice_cmp}
+use Rattle.std.proofs.Common.{◌≡◌, ℕ, ◌+◌, ◌≤◌, true, List, [], ◌∷◌, ◌++◌, length, refl, sym, ap, ◌∙◌, subst, arith}
+use Rattle.std.specs.Prelude.{map, ⊤}
 use Rattle.std.specs.List.{AllByRecursion}
 use Rattle.std.proofs.lemmas.List.{append-nil}
 use Rattle.h5_bytes.specs.Texts.{text_at}
@@ -11,9 +9,8 @@ use Rattle.h5_model.specs.Paths.{is_name}
 use Rattle.h5_model.specs.Sizes.{symbol_node}
 use Rattle.h5_model.specs.Symbols.{Entry}
 use Rattle.h5_model.specs.Symbols as symbols
-use Rattle.h5_model.proofs.PlainGroup.{name_is}
+use Rattle.h5_model.proofs.TextOrder.{not_after_itself, before_le, after_trans, not_after_trans}
 use Rattle.h5_rows.specs.Laws.{AreOrdered}
-use Rattle.h5_rows.proofs.Names.{not_after_itself, after_trans, not_after_trans}
 use Rattle.h5_segment.specs.Links.{Leads, ToGroup, ToArray, ToText, target_link}
 use Rattle.h5_segment.specs.Written.{entry_of, placed, link_span}
 use Rattle.h5_links.specs.Written.{last_name, children_of}
@@ -23,19 +20,10 @@ use Rattle.h5_links.proofs.SymbolPlaces.{Says}
 
 -- ---- the order of names
 
-less_is_le : (r : Ordering) → IsTrue (is_lt r) → IsTrue (is_le r)
-less_is_le Less h = refl
-less_is_le Equal h = refl
-less_is_le Greater h = h
-
--- a name that is before another is not after it
-before_le : (a b : List ℕ) → Before a b → NotAfter a b
-before_le a b h = less_is_le (slice_cmp nat_cmp a b) h
-
--- the empty name is before a name that has bytes
-empty_before : (name : List ℕ) → 1 ≤ length name → Before [] name
-empty_before [] some = absurd (omega arith)
-empty_before (c ∷ cs) some = refl
+-- the empty name is before any that a link can have
+empty_before : (name : List ℕ) → is_name name ≡ true → Before [] name
+empty_before [] is = absurd (cc)
+empty_before (c ∷ cs) is = refl
 
 cons_same : {X : Type 0} (x y : X) (xs ys : List X) → x ∷ xs ≡ y ∷ ys → (x ≡ y) × (xs ≡ ys)
 cons_same x y xs ys same = (cc, cc)
@@ -137,4 +125,4 @@ module _ (segment : List ℕ) where
       → AllByRecursion (λ (l : List ℕ × Leads). is_name l.0 ≡ true) links → Rises segment 0 (placed at links)
   rises_all at [] none named ascend names = tt
   rises_all at (l ∷ links) none named ascend names = rises_from 0 at (l ∷ links) named ascend
-      (λ k more same. subst (λ n. Before n k.0) (sym none) (subst (λ (j : List ℕ × Leads). Before [] j.0) (cons_same l k links more same).0 (empty_before l.0 (name_is l.0 names.0).0)))
+      (λ k more same. subst (λ n. Before n k.0) (sym none) (subst (λ (j : List ℕ × Leads). Before [] j.0) (cons_same l k links more same).0 (empty_before l.0 names.0)))

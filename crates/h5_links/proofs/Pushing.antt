@@ -24,9 +24,6 @@ module _ (leaf internal : ℕ) (links : List NewLink) (k : AreK leaf internal) (
   whole_is : p.length ≡ p.tree + 32 + p.segment + symbol_nodes leaf those * symbol_node leaf
   whole_is = are.length_is ∙ (λ i. sym are.tree i + 32 + sym are.segment i + symbol_nodes leaf those * symbol_node leaf)
 
-  pub nodes_within : p.tree + 32 + p.segment + symbol_nodes leaf those * symbol_node leaf ≤ 2 ^ 31
-  nodes_within = subst (λ n. n ≤ 2 ^ 31) whole_is are.few
-
   pub parts_within : p.tree + 32 + p.segment ≤ p.length
   parts_within = omega (arith, whole_is)
 

@@ -10,9 +10,9 @@ use Rattle.h5_bytes.proofs.PartLaws.{part-behind, part-front}
 use Rattle.h5_bytes.proofs.TableLaws.{length-table, get_or-table}
 use Rattle.h5_model.specs.Plain.{short, middle, word, zeros}
 use Rattle.h5_model.specs.Sizes.{symbol_node, text_span}
-use Rattle.h5_model.specs.Symbols.{Entry, IsSymbolNode, symbol_signature, symbols_in}
+use Rattle.h5_model.specs.Symbols.{Entry, IsSymbolNode, symbols_in}
 use Rattle.h5_model.specs.Symbols as symbols
-use Rattle.h5_model.proofs.PlainGroup.{reads_back}
+use Rattle.h5_model.proofs.NumberLaws.{reads_back}
 use Rattle.h5_segment.specs.Links.{Leads, ToGroup, ToArray, ToText}
 use Rattle.h5_segment.specs.Written.{entry_of, entry_bytes}
 use Rattle.h5_segment.specs.Laws.{IsEntryLow}

@@ -8,7 +8,7 @@ use Rattle.h5_bytes.specs.Blocks.{Run}
 use Rattle.h5_bytes.proofs.BlockLaws.{all_left, all_right}
 use Rattle.h5_model.specs.Links.{Symbols}
 use Rattle.h5_model.specs.Sizes.{symbol_node}
-use Rattle.h5_model.specs.Symbols.{Entry, IsSymbolNode, symbols_at, symbols_of, symbol_block}
+use Rattle.h5_model.specs.Symbols.{IsSymbolNode, symbols_at, symbols_of, symbol_block}
 use Rattle.h5_model.specs.Symbols as symbols
 use Rattle.h5_model.proofs.RowLaws.{only_here}
 use Rattle.h5_rows.specs.declared.child.Child.{Child}

@@ -1,18 +1,18 @@
 -- Where a rule of the superblock is broken, the bytes up to the end of file address read as no tree.
-use Rattle.std.proofs.Common.{◌≡◌, ◌⊎◌, inl, inr, ℕ, ◌+◌, ◌<◌, ◌≤◌, List, length, sym, ◌∙◌, ap, arith, rules, ◌||◌, eqb, false}
-use Rattle.std.proofs.lemmas.List.{get_or-take, length-take, same_lists, places}
+use Rattle.std.proofs.Common.{◌≡◌, ◌⊎◌, inl, inr, ℕ, ◌+◌, ◌<◌, ◌≤◌, List, length, sym, ◌∙◌, ap, arith, ◌||◌, eqb, false}
+use Rattle.std.proofs.lemmas.List.{length-take}
 use Rattle.std.specs.Prelude.{true}
 use Rattle.std.proofs.lemmas.Bool.Decides.{nat_tests}
 use Rattle.std.specs.Ordering.{nat_cmp}
 use Rattle.std.specs.FinMap.{FinMap}
-use Rattle.h5_bytes.specs.Bytes.{number_at, byte_at, part}
-use Rattle.h5_bytes.proofs.FieldLaws.{number_at-part}
+use Rattle.h5_bytes.specs.Bytes.{number_at, byte_at}
 use Rattle.h5_model.specs.Superblock.{IsSuperblock, end_of_file}
 use Rattle.h5_model.specs.Tree.{Tree}
 use Rattle.h5_model.specs.Reads.{Reads}
 use Rattle.h5_model.specs.Faults.{cut, FieldBreach, StartBreach, SuperblockBreach}
 use Rattle.h5_model.specs.declared.open_fault.Cause.{Cause}
 use Rattle.h5_model.specs.declared.open_fault.Cause.TheVariants.{NotHdf5, Truncated, SuperblockVersion, FieldSizes, BaseAddress, Driver, KRange, TooLarge}
+use Rattle.h5_model.proofs.CutLaws.{cut_part, cut_byte, cut_number, cut_end}
 
 one_of_four : (at : ℕ) → (eqb 8 at || (eqb 9 at || (eqb 10 at || (eqb 12 at || false)))) ≡ true → ((at ≡ 8) ⊎ (at ≡ 9)) ⊎ ((at ≡ 10) ⊎ (at ≡ 12))
 one_of_four at h = grind (arith, nat_tests)
@@ -24,36 +24,19 @@ module _ (bytes : List ℕ) (is : IsSuperblock (cut bytes)) where
   room : (96 ≤ end_of_file bytes) × (96 ≤ length bytes)
   room = let whole = is.whole in let len = length-take (end_of_file bytes) bytes in (omega arith, omega arith)
 
-  same_part : (at len : ℕ) → at + len ≤ 96 → part at len (cut bytes) ≡ part at len bytes
-  unfolding part
-  same_part at len low = let long = room in same_lists _ _ (search (rules, places)) (λ k d l. grind (arith, places))
-
-  same_byte : (at : ℕ) → at < 96 → byte_at (cut bytes) at ≡ byte_at bytes at
-  same_byte at low = let long = room in get_or-take (end_of_file bytes) bytes at 0 (omega arith)
-
-  same_number : (at size : ℕ) → at + size ≤ 96 → number_at (cut bytes) at size ≡ number_at bytes at size
-  same_number at size low =
-      let none : at + 0 ≡ at = omega arith in
-      let this : number_at (part at size (cut bytes)) 0 size ≡ number_at (cut bytes) at size = rw none at (number_at-part 0 size at size (cut bytes) (omega arith)) in
-      let that : number_at (part at size bytes) 0 size ≡ number_at bytes at size = rw none at (number_at-part 0 size at size bytes (omega arith)) in
-      sym this ∙ ap (λ bs. number_at bs 0 size) (same_part at size low) ∙ that
-
-  same_end : end_of_file (cut bytes) ≡ end_of_file bytes
-  same_end = same_number 40 8 (omega arith)
-
   -- a byte of the superblock that is right in the image is right in the bytes
   right_byte : (p at right : ℕ) → p < 96 → at ≡ p → byte_at (cut bytes) p ≡ right → byte_at bytes at ≡ right
-  right_byte p at right low e good = ap (byte_at bytes) e ∙ sym (same_byte p low) ∙ good
+  right_byte p at right low e good = ap (byte_at bytes) e ∙ sym (cut_byte bytes room.0 room.1 p low) ∙ good
 
   ranged : (p at : ℕ) → at ≡ p → p + 2 ≤ 96 → ((number_at bytes at 2 ≡ 0) ⊎ (32767 < number_at bytes at 2))
       → 1 ≤ number_at (cut bytes) p 2 → number_at (cut bytes) p 2 ≤ 32767 → ⊥
   ranged p at e inside bad low high =
-      let same : number_at (cut bytes) p 2 ≡ number_at bytes at 2 = same_number p 2 inside ∙ ap (λ (q : ℕ). number_at bytes q 2) (sym e) in
+      let same : number_at (cut bytes) p 2 ≡ number_at bytes at 2 = cut_number bytes room.0 room.1 p 2 inside ∙ ap (λ (q : ℕ). number_at bytes q 2) (sym e) in
       elim bad [ inl none ↦ absurd (omega arith) | inr large ↦ absurd (omega arith) ]
 
   field : (cause : Cause) (at : ℕ) → FieldBreach bytes cause at → ⊥
   field Truncated at (p, inl low) = absurd (omega (arith, room.0))
-  field Truncated at (p, inr high) = absurd (omega (arith, is.end_high, same_end, length-take (end_of_file bytes) bytes))
+  field Truncated at (p, inr high) = absurd (omega (arith, is.end_high, cut_end bytes room.0 room.1, length-take (end_of_file bytes) bytes))
   field SuperblockVersion at h = elim (one_of_four at h.0) [
     | inl (inl e) ↦ h.1 (right_byte 8 at 0 (omega arith) e is.version)
     | inl (inr e) ↦ h.1 (right_byte 9 at 0 (omega arith) e is.free_space_version)
@@ -64,17 +47,17 @@ module _ (bytes : List ℕ) (is : IsSuperblock (cut bytes)) where
     | inl e ↦ h.1 (right_byte 13 at 8 (omega arith) e is.offset_size)
     | inr e ↦ h.1 (right_byte 14 at 8 (omega arith) e is.length_size)
   ]
-  field BaseAddress at h = h.1 (sym (same_number 24 8 (omega arith)) ∙ is.base)
-  field Driver at h = h.1 (sym (same_number 48 8 (omega arith)) ∙ is.driver)
+  field BaseAddress at h = h.1 (sym (cut_number bytes room.0 room.1 24 8 (omega arith)) ∙ is.base)
+  field Driver at h = h.1 (sym (cut_number bytes room.0 room.1 48 8 (omega arith)) ∙ is.driver)
   field KRange at h = elim (one_of_two 16 18 at h.0) [
     | inl e ↦ ranged 16 at e (omega arith) h.1 is.leaf_low is.leaf_high
     | inr e ↦ ranged 18 at e (omega arith) h.1 is.internal_low is.internal_high
   ]
-  field TooLarge at h = absurd (omega (arith, is.small, same_end, h.1))
+  field TooLarge at h = absurd (omega (arith, is.small, cut_end bytes room.0 room.1, h.1))
   field _ at h = absurd h
 
   start : (cause : Cause) → StartBreach bytes cause → ⊥
-  start NotHdf5 h = h (sym (same_part 0 8 (omega arith)) ∙ is.signed)
+  start NotHdf5 h = h (sym (cut_part bytes room.0 room.1 0 8 (omega arith)) ∙ is.signed)
   start Truncated h = absurd (omega (arith, room.1))
   start _ h = absurd h
 

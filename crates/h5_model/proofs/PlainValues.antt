@@ -1,15 +1,14 @@
 -- The bodies of messages and the cells that the plain layout writes are read back.
 use Rattle.std.proofs.Common.{◌≡◌, ℕ, zero, suc, ◌+◌, ◌-◌, ◌*◌, ◌^◌, ◌<◌, ◌≤◌, ◌==◌, inl, inr, true, false, Bool, cond, ◌&&◌, List, [], ◌∷◌, ◌++◌, length, get_or, refl, sym, ap, ◌∙◌, subst, arith, Option, Some, None, ℤ, pos}
 use Rattle.std.proofs.lemmas.Bool.Decides.{nat_tests}
-use Rattle.std.proofs.lemmas.List.{length-append, length-replicate, get_or-append-add}
+use Rattle.std.proofs.lemmas.List.{length-append, length-replicate}
 use Rattle.std.proofs.lemmas.List.FromFn.{fill_by_all}
-use Rattle.std.specs.Prelude.{nat_le, slice_index}
-use Rattle.byteorder.specs.Endian.{little_from, big_from}
+use Rattle.std.specs.Prelude.{nat_le}
 use Rattle.byteorder.specs.Numbers.{little_number-reads_back}
 use Rattle.h5_bytes.specs.Bytes.{number_at, part, undefined}
 use Rattle.h5_bytes.specs.Blocks.{block}
 use Rattle.h5_bytes.specs.declared.Block.{Block}
-use Rattle.h5_model.specs.Fixed.{Fixed, IsFixed, raw_at, value_at, fits, bytes_of}
+use Rattle.h5_model.specs.Fixed.{Fixed, IsFixed, value_at, fits, bytes_of}
 use Rattle.h5_model.specs.Places.{cells, place_of, index_of}
 use Rattle.h5_model.specs.Extent.{Extent, extent_of}
 use Rattle.h5_model.specs.Datatype.{fixed_of}
@@ -19,6 +18,7 @@ use Rattle.h5_model.specs.Chunks.{Chunks}
 use Rattle.h5_model.specs.Cells.{cells_of}
 use Rattle.h5_model.specs.Sound.{AreOf}
 use Rattle.h5_model.specs.Plain.{zeros, middle, extent_body, type_body, fill_body, contiguous_body, cells_bytes}
+use Rattle.h5_model.proofs.ValueLaws.{value_at-moved, moved-behind}
 use Rattle.h5_model.proofs.FixedLaws.{sizes_of, length-bytes_of, value_back}
 use Rattle.h5_model.proofs.PlaceLaws.{place-index}
 
@@ -36,37 +36,23 @@ unfolding fixed_of number_at
 one_byte true = refl
 one_byte false = refl
 
-two_bytes : (signed big : Bool) → Says 2 signed big
+more_bytes : (signed big : Bool) → Says 2 signed big × Says 4 signed big × Says 8 signed big
 unfolding fixed_of number_at
-two_bytes true true = refl
-two_bytes true false = refl
-two_bytes false true = refl
-two_bytes false false = refl
-
-four_bytes : (signed big : Bool) → Says 4 signed big
-unfolding fixed_of number_at
-four_bytes true true = refl
-four_bytes true false = refl
-four_bytes false true = refl
-four_bytes false false = refl
-
-eight_bytes : (signed big : Bool) → Says 8 signed big
-unfolding fixed_of number_at
-eight_bytes true true = refl
-eight_bytes true false = refl
-eight_bytes false true = refl
-eight_bytes false false = refl
+more_bytes true true = (refl, refl, refl)
+more_bytes true false = (refl, refl, refl)
+more_bytes false true = (refl, refl, refl)
+more_bytes false false = (refl, refl, refl)
 
 -- a type reads back from its message
 pub fixed_of-type_body : (t : Fixed) → IsFixed t → fixed_of (type_body t) ≡ Some t
 fixed_of-type_body t is = elim (sizes_of t.size is.size) [
   | inl low ↦ elim low [
     | inl e ↦ subst (λ n. Says n t.signed t.big) (sym e) (subst (λ b. Says 1 t.signed b) (sym (is.plain e)) (one_byte t.signed))
-    | inr e ↦ subst (λ n. Says n t.signed t.big) (sym e) (two_bytes t.signed t.big)
+    | inr e ↦ subst (λ n. Says n t.signed t.big) (sym e) (more_bytes t.signed t.big).0
   ]
   | inr high ↦ elim high [
-    | inl e ↦ subst (λ n. Says n t.signed t.big) (sym e) (four_bytes t.signed t.big)
-    | inr e ↦ subst (λ n. Says n t.signed t.big) (sym e) (eight_bytes t.signed t.big)
+    | inl e ↦ subst (λ n. Says n t.signed t.big) (sym e) (more_bytes t.signed t.big).1
+    | inr e ↦ subst (λ n. Says n t.signed t.big) (sym e) (more_bytes t.signed t.big).2
   ]
 ]
 
@@ -115,27 +101,9 @@ layout_of-undefined sizes size n = refl
 
 -- ---- values
 
-slice_index-behind : (front rest : List ℕ) (k : ℕ) → slice_index (front ++ rest) (length front + k) ≡ slice_index rest k
-slice_index-behind front rest k = get_or-append-add front rest k 0
-
-little-behind : (n : ℕ) (front rest : List ℕ) (k : ℕ) → little_from (length front + k) n (front ++ rest) ≡ little_from k n rest
-little-behind zero front rest k = refl
-little-behind (suc n) front rest k =
-    let on : suc (length front + k) ≡ length front + suc k = omega arith in
-    ap (λ i. slice_index (front ++ rest) (length front + k) + 256 * little_from i n (front ++ rest)) on
-    ∙ rw (slice_index-behind front rest k, little-behind n front rest (suc k)) refl
-
-big-behind : (n : ℕ) (front rest : List ℕ) (k : ℕ) → big_from (length front + k) n (front ++ rest) ≡ big_from k n rest
-big-behind zero front rest k = refl
-big-behind (suc n) front rest k =
-    let on : suc (length front + k) ≡ length front + suc k = omega arith in
-    ap (λ i. slice_index (front ++ rest) (length front + k) * 256 ^ n + big_from i n (front ++ rest)) on
-    ∙ rw (slice_index-behind front rest k, big-behind n front rest (suc k)) refl
-
 -- a value behind other bytes
 pub value_at-behind : (t : Fixed) (front rest : List ℕ) (k : ℕ) → value_at t (front ++ rest) (length front + k) ≡ value_at t rest k
-unfolding value_at raw_at
-value_at-behind t front rest k = rw (little-behind t.size front rest k, big-behind t.size front rest k) refl
+value_at-behind t front rest k = value_at-moved t rest (front ++ rest) k (length front + k) (moved-behind front rest k t.size)
 
 -- a cell is one of the values that were written
 pub value_at-cells_bytes : (t : Fixed) (cs : List ℤ) (k : ℕ) (d : ℤ) → 1 ≤ t.size → AreOf t cs → k < length cs

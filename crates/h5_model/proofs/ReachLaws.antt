@@ -12,8 +12,8 @@ use Rattle.std.specs.List.{list_any, flat_map, filter_map}
 use Rattle.std.specs.Option.{option_map_or, option_and_then}
 use Rattle.std.proofs.lemmas.List.Folds.{list_any-append}
 use Rattle.std.proofs.lemmas.List.Concat.{flat_map-cons}
-use Rattle.std.proofs.lemmas.Bool.Decides.{nat_tests}
 use Rattle.h5_model.specs.Tree.{Tree, Link, ToObject, Soft, Links, links_of, follow, object_of, named_by, within_names, is_reached}
+use Rattle.h5_model.proofs.RowLaws.{same_number, equal_number, later_of}
 
 -- ---- entries and look-ups
 
@@ -83,7 +83,7 @@ any_from p f (y ∷ ys) h = elim (either (list_any p (f y)) (list_any p (flat_ma
 
 -- ---- the objects that links name
 
-same_object : (a b : ℕ) → Some (ToObject a) ≡ Some (ToObject b) → a ≡ b
+pub same_object : (a b : ℕ) → Some (ToObject a) ≡ Some (ToObject b) → a ≡ b
 same_object a b h = ap (λ o. option_map_or (λ n. n) (option_and_then object_of o) 0) h
 
 soft_is_none : (text : List ℕ) (next : ℕ) → Some (Soft text) ≡ Some (ToObject next) → ⊥
@@ -110,20 +110,10 @@ entry_named ((k, Soft text) ∷ es) next at = let rest : (k : List ℕ) × Entry
 
 -- ---- paths
 
-same_by : (x y : ℕ) → (x == y) ≡ true → x ≡ y
-same_by x y h = grind (arith, nat_tests)
-
-is_itself : (x : ℕ) → (x == x) ≡ true
-is_itself x = grind (arith, nat_tests)
-
 starts : (tree : Tree) (n from number : ℕ) → from ≡ number → list_any (λ x. x == number) (within_names tree n from) ≡ true
 unfolding within_names
-starts tree zero from number h = rw h (rw (is_itself number) refl)
-starts tree (suc n) from number h = rw h (rw (is_itself number) refl)
-
-later_of : (b c : Bool) → c ≡ true → (b || c) ≡ true
-later_of true c h = refl
-later_of false c h = h
+starts tree zero from number h = rw h (rw (same_number number) refl)
+starts tree (suc n) from number h = rw h (rw (same_number number) refl)
 
 -- of a link in a group, what it leads to stands below the group
 below_link : (tree : Tree) (names : List (List ℕ)) (n number : ℕ) (name : List ℕ) (links : Links)
@@ -180,11 +170,11 @@ longer tree n from next number named rest = elim (links_of tree from) as (λ o. 
 pub follow-within_names : (tree : Tree) (n from number : ℕ) → list_any (λ x. x == number) (within_names tree n from) ≡ true → Leads tree n from number
 unfolding within_names
 follow-within_names tree zero from number h = elim (either (from == number) false h) [
-  | inl same ↦ at_once tree zero from number (same_by from number same)
+  | inl same ↦ at_once tree zero from number (equal_number from number same)
   | inr never ↦ absurd (cc)
 ]
 follow-within_names tree (suc n) from number h = elim (either (from == number) _ h) [
-  | inl same ↦ at_once tree (suc n) from number (same_by from number same)
+  | inl same ↦ at_once tree (suc n) from number (equal_number from number same)
   | inr below ↦ let next : (x : ℕ) × Member x (named_by tree from) × (list_any (λ x. x == number) (within_names tree n x) ≡ true)
       = any_from (λ x. x == number) (within_names tree n) (named_by tree from) below in
       longer tree n from next.0 number next.1 (follow-within_names tree n next.0 number next.2)

@@ -98,7 +98,7 @@ pub true_of : (b : Bool) → not b ≡ false → b ≡ true
 true_of true h = refl
 true_of false h = absurd (cc)
 
-same_by : (x y : ℕ) → not (x == y) ≡ false → x ≡ y
+pub same_by : (x y : ℕ) → not (x == y) ≡ false → x ≡ y
 same_by x y h = grind (arith, nat_tests)
 
 pub accepted_write : (tree : Tree) (next : ℕ) (path : List ℕ) (hyper : Hyper) (values : List ℤ) → refusal_of tree next (Write path hyper values) ≡ None

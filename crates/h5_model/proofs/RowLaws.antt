@@ -16,16 +16,16 @@ AreListed owned xs = AllByRecursion (λ at. list_any (λ n. n == at) owned ≡ t
 pub same_number : (n : ℕ) → (n == n) ≡ true
 same_number n = grind (arith, nat_tests)
 
-equal_number : (n at : ℕ) → (n == at) ≡ true → n ≡ at
+pub equal_number : (n at : ℕ) → (n == at) ≡ true → n ≡ at
 equal_number n at h = grind (arith, nat_tests)
 
-later : (a b : Bool) → b ≡ true → (a || b) ≡ true
-later true b h = refl
-later false b h = h
+pub later_of : (a b : Bool) → b ≡ true → (a || b) ≡ true
+later_of true b h = refl
+later_of false b h = h
 
 listed_more : (y : ℕ) (owned xs : List ℕ) → AreListed owned xs → AreListed (y ∷ owned) xs
 listed_more y owned [] all = tt
-listed_more y owned (x ∷ xs) all = (later (y == x) (list_any (λ n. n == x) owned) all.0, listed_more y owned xs all.1)
+listed_more y owned (x ∷ xs) all = (later_of (y == x) (list_any (λ n. n == x) owned) all.0, listed_more y owned xs all.1)
 
 pub all_listed : (owned : List ℕ) → AreListed owned owned
 all_listed [] = tt

@@ -24,7 +24,7 @@ use Rattle.h5_model.specs.declared.view_fault.ViewFault.TheVariants as view_faul
 use Rattle.h5_model.specs.declared.edits.Edit.{Edit}
 use Rattle.h5_model.specs.declared.edits.Edit.TheVariants.{CreateGroup, CreateDataset, HardLink, SoftLink, Unlink, SetAttr, RemoveAttr, Write, Resize}
 use Rattle.h5_model.proofs.StateLaws.{passes, passes-with_object, same_number, next-state_after}
-use Rattle.h5_model.proofs.RefusalLaws.{none_holds, IsState-accepted, length-axes_of, not_refused, here, some_of, true_of}
+use Rattle.h5_model.proofs.RefusalLaws.{none_holds, IsState-accepted, length-axes_of, not_refused, here, some_of, true_of, same_by}
 use Rattle.h5_model.proofs.PathLaws.{located-is_place}
 
 -- ---- ranks
@@ -47,9 +47,6 @@ rank-written rank slab values o = elim (o.content) as (λ content. has_other_ran
   | Group links ↦ refl
   | Array d ↦ refl
 ]
-
-same_by : (x y : ℕ) → not (x == y) ≡ false → x ≡ y
-same_by x y h = grind (arith, nat_tests)
 
 rank-resized : (rank : ℕ) (dims : List ℕ) (o : Object) → option_map_or (λ (d : Dataset). not (length dims == length d.sizes)) (dataset_in o.content) false ≡ false
     → has_other_rank rank (with_dataset (resized dims) o) ≡ has_other_rank rank o

@@ -1,10 +1,9 @@
 -- The values of stored bytes.
-use Rattle.std.proofs.Common.{◌≡◌, ℕ, suc, ◌+◌, ◌-◌, ◌*◌, ◌/◌, ◌^◌, ◌<◌, ◌≤◌, List, [], ◌∷◌, length, map, slice_index, slice_index_or, Bool, true, false, cond, ◌&&◌, ℤ, pos, negsuc, ◌-ℤ◌, refl, ap, sym, ◌∙◌, arith}
+use Rattle.std.proofs.Common.{◌≡◌, ℕ, suc, ◌+◌, ◌-◌, ◌*◌, ◌/◌, ◌^◌, ◌<◌, ◌≤◌, List, [], ◌∷◌, length, map, slice_index, slice_index_or, Bool, true, false, cond, ℤ, pos, negsuc, ◌-ℤ◌, refl, ap, sym, ◌∙◌, arith}
 use Rattle.std.proofs.lemmas.Bool.Decides.{nat_tests}
 use Rattle.std.proofs.lemmas.Int.{ints}
 use Rattle.std.proofs.lemmas.Nat.{div-mul-add, le-div}
 use Rattle.std.proofs.lemmas.List.FromFn.{length-map-range_with_len, get_or-map-range_with_len, fill_by_all}
-use Rattle.std.proofs.Math.Nat.{pow-suc}
 use Rattle.std.specs.Prelude.{nat_lt}
 use Rattle.std.specs.List.{range_with_len}
 use Rattle.byteorder.specs.Endian.{big_from, little_from}
@@ -14,6 +13,7 @@ use Rattle.h5_model.specs.Fixed.{Fixed, IsFixed, raw_at, value_at, fits}
 use Rattle.h5_model.specs.Sound.{AreOf}
 use Rattle.h5_model.specs.Plain.{cells_bytes}
 use Rattle.h5_model.specs.Script.{stored_values}
+use Rattle.h5_model.proofs.FixedLaws.{halves, is_of}
 use Rattle.h5_model.proofs.PlainValues.{size-low, length-cells_bytes, value_at-cells_bytes}
 
 -- as many values as the bytes have room for
@@ -49,13 +49,9 @@ raw_low t bytes at low = elim (t.big) as (λ b. cond b (big_from at t.size bytes
 
 -- over the half and the whole of the numbers of a type
 module _ (half full : ℕ) (twice : full ≡ half + half) where
-  abbrev is_of : Bool → ℤ → Bool
-  is_of s (pos n) = nat_lt n (cond s half full)
-  is_of s (negsuc n) = s && nat_lt n half
-
-  read : (s : Bool) (n : ℕ) → n < full → is_of s (cond s (cond (nat_lt n half) (pos n) (pos n -ℤ pos full)) (pos n)) ≡ true
+  read : (s : Bool) (n : ℕ) → n < full → is_of half full twice s (cond s (cond (nat_lt n half) (pos n) (pos n -ℤ pos full)) (pos n)) ≡ true
   read false n low = grind (arith, nat_tests)
-  read true n low = elim (nat_lt n half) as (λ b. nat_lt n half ≡ b → is_of true (cond b (pos n) (pos n -ℤ pos full)) ≡ true) [
+  read true n low = elim (nat_lt n half) as (λ b. nat_lt n half ≡ b → is_of half full twice true (cond b (pos n) (pos n -ℤ pos full)) ≡ true) [
     | true ↦ λ e. e
     | false ↦ λ e. let below : pos n -ℤ pos full ≡ negsuc (full - suc n) = omega (arith, ints) in
         rw below (grind (arith, nat_tests))
@@ -71,13 +67,11 @@ same_test t twice (negsuc n) = refl
 pub fits_value_at : (t : Fixed) (bytes : List ℕ) (at : ℕ) → IsFixed t → ((i : ℕ) → slice_index bytes i < 256) → fits t (value_at t bytes at) ≡ true
 unfolding value_at
 fits_value_at t bytes at is low =
-    let above : 8 * t.size ≡ suc (8 * t.size - 1) = omega (arith, size-low t is) in
-    let doubled : 2 ^ suc (8 * t.size - 1) ≡ 2 ^ (8 * t.size - 1) * 2 = pow-suc 2 (8 * t.size - 1) in
-    let twice : 2 ^ (8 * t.size) ≡ 2 ^ (8 * t.size - 1) + 2 ^ (8 * t.size - 1) = ap (λ (k : ℕ). 2 ^ k) above ∙ doubled ∙ omega arith in
+    let twice : 2 ^ (8 * t.size) ≡ 2 ^ (8 * t.size - 1) + 2 ^ (8 * t.size - 1) = halves t.size (size-low t is) in
     let raw : raw_at t bytes at < 2 ^ (8 * t.size) = rw (← pow256 t.size) (raw_low t bytes at low) in
     sym (same_test t twice (value_at t bytes at)) ∙ read (2 ^ (8 * t.size - 1)) (2 ^ (8 * t.size)) twice t.signed (raw_at t bytes at) raw
 
-AreOf-map : (t : Fixed) (f : ℕ → ℤ) → ((k : ℕ) → fits t (f k) ≡ true) → (xs : List ℕ) → AreOf t (map f xs)
+pub AreOf-map : (t : Fixed) (f : ℕ → ℤ) → ((k : ℕ) → fits t (f k) ≡ true) → (xs : List ℕ) → AreOf t (map f xs)
 AreOf-map t f each [] = tt
 AreOf-map t f each (x ∷ xs) = (each x, AreOf-map t f each xs)
 

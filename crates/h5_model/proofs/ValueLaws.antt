@@ -1,6 +1,6 @@
 -- A value depends on its own bytes alone, wherever they stand.
-use Rattle.std.proofs.Common.{◌≡◌, ℕ, zero, suc, ◌+◌, ◌-◌, ◌<◌, List, take, drop, refl, sym, ◌∙◌, arith, slice_index}
-use Rattle.std.proofs.lemmas.List.{get_or-take, get_or-drop}
+use Rattle.std.proofs.Common.{◌≡◌, ℕ, zero, suc, ◌+◌, ◌-◌, ◌*◌, ◌<◌, ◌≤◌, List, ◌++◌, length, take, drop, refl, sym, ap, ◌∙◌, arith, slice_index}
+use Rattle.std.proofs.lemmas.List.{get_or-take, get_or-drop, get_or-append-add}
 use Rattle.std.specs.List.{slice_range}
 use Rattle.byteorder.specs.Endian.{little_from, big_from}
 use Rattle.h5_model.specs.Fixed.{Fixed, raw_at, value_at, value_of}
@@ -33,11 +33,26 @@ pub value_at-moved : (t : Fixed) (xs ys : List ℕ) (a b : ℕ) → Moved xs ys 
 unfolding value_at raw_at
 value_at-moved t xs ys a b same = rw (little_moved t.size xs ys a b same, big_moved t.size xs ys a b same) refl
 
+-- where its bytes are kept, so is the value
+pub value_at-same : (t : Fixed) (old new : List ℕ) (at : ℕ) → ((p : ℕ) → at ≤ p → p < at + t.size → slice_index new p ≡ slice_index old p)
+    → value_at t new at ≡ value_at t old at
+value_at-same t old new at same = value_at-moved t old new at at (λ k low. same (at + k) (omega arith) (omega arith))
+
+-- bytes behind others
+pub moved-behind : (front rest : List ℕ) (at size : ℕ) → Moved rest (front ++ rest) at (length front + at) size
+moved-behind front rest at size = λ k low.
+    let over : length front + at + k ≡ length front + (at + k) = omega arith in
+    rw over (get_or-append-add front rest (at + k) 0)
+
 -- the value of a part of the bytes is the value at the part's place
 pub decoded_at : (t : Fixed) (bytes : List ℕ) (at : ℕ) → value_of t (slice_range bytes at (at + t.size)) ≡ value_at t bytes at
 decoded_at t bytes at = value_at-moved t bytes (slice_range bytes at (at + t.size)) at 0 (λ k low.
     let zero_left : 0 + k ≡ k = omega arith in
     rw zero_left (get_or-take (at + t.size - at) (drop at bytes) k 0 (omega arith) ∙ get_or-drop at bytes k 0))
+
+-- the value of the k-th part
+pub decoded_cell : (t : Fixed) (bytes : List ℕ) (k size : ℕ) → size ≡ t.size → value_of t (slice_range bytes (k * size) (k * size + size)) ≡ value_at t bytes (k * t.size)
+decoded_cell t bytes k size is = ap (λ n. value_of t (slice_range bytes (k * n) (k * n + n))) is ∙ decoded_at t bytes (k * t.size)
 
 -- the value at a place is the first value of what begins there
 pub value_at-drop : (t : Fixed) (bytes : List ℕ) (at : ℕ) → value_at t bytes at ≡ value_of t (drop at bytes)

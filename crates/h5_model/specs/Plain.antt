@@ -6,7 +6,6 @@ use Rattle.h5_bytes.specs.Bytes.{little_bytes, undefined}
 use Rattle.h5_model.specs.Superblock.{signature}
 use Rattle.h5_model.specs.Heap.{heap_signature}
 use Rattle.h5_model.specs.Nodes.{Kind, node_signature, node_length}
-use Rattle.h5_model.specs.Symbols.{Entry, symbol_signature}
 use Rattle.h5_model.specs.Fixed.{Fixed, bytes_of}
 use Rattle.h5_model.specs.Sizes.{text_span}
 
@@ -83,13 +82,6 @@ head_of used = if nat_le (length used) 72 then length used else 1
 
 abbrev pub free_head_of : List (List ℕ) → ℕ
 free_head_of texts = head_of (texts_bytes texts)
-
--- an entry without what its scratch says
-abbrev pub entry_bytes : Entry → List ℕ
-entry_bytes e = word e.name ++ (word e.header ++ (middle e.cache ++ (zeros 4 ++ (middle e.text ++ zeros 12))))
-
-abbrev pub symbol_node_bytes : ℕ → List Entry → List ℕ
-symbol_node_bytes leaf es = filled_to (8 + 80 * leaf) (symbol_signature ++ (1 ∷ 0 ∷ (short (length es) ++ flat_map entry_bytes es)))
 
 -- ---- arrays
 

@@ -1,21 +1,17 @@
 -- An attribute's message, as it is appended: what stands before its values, these, and zeros.
-use Rattle.std.proofs.Common.{◌≡◌, ℕ, ◌+◌, ◌-◌, ◌*◌, ◌≤◌, ◌<◌, ◌^◌, ℤ, List, ◌∷◌, ◌++◌, length, drop, get_or, Bool, inl, inr, pos, refl, ap, ◌∙◌, sym, subst, arith, append_assoc}
-use Rattle.std.proofs.lemmas.List.{length-append, length-replicate, drop_more}
+use Rattle.std.proofs.Common.{◌≡◌, ℕ, ◌+◌, ◌-◌, ◌≤◌, ◌<◌, ℤ, List, ◌∷◌, ◌++◌, length, drop, get_or, Bool, inl, inr, pos, refl, ap, ◌∙◌, sym, subst, arith, append_assoc}
+use Rattle.std.proofs.lemmas.List.{drop_more}
 use Rattle.h5_bytes.specs.Texts.{pad8}
 use Rattle.h5_model.specs.Fixed.{Fixed, IsFixed, bytes_of}
-use Rattle.h5_model.specs.Places.{cells}
 use Rattle.h5_model.specs.Plain.{message_bytes, short, zeros, padded_text, type_body, extent_body, cells_bytes}
 use Rattle.h5_model.specs.Sizes.{attribute_size}
 use Rattle.h5_model.specs.Sound.{AreOf}
 use Rattle.h5_model.specs.Tree.{Attribute}
 use Rattle.h5_model.proofs.FixedLaws.{sizes_of}
-use Rattle.h5_model.proofs.PlainValues.{size-low}
 use Rattle.h5_msg.specs.Written.{attribute_bytes, attribute_head, padded, datatype_bytes, dataspace_bytes}
-use Rattle.h5_msg.proofs.AttributeLaws.{cells_few}
-use Rattle.h5_msg.proofs.CellLaws.{length-value_bytes}
-use Rattle.h5_msg.proofs.WordLaws.{words_long}
 use Rattle.h5_bodies.specs.Bodies.{attribute_message}
 use Rattle.h5_bodies.specs.Sound.{IsPlainAttribute}
+use Rattle.h5_bodies.proofs.HeaderAttributes.{length-attribute_bytes}
 use Rattle.h5_plain.specs.Parts.{attribute_front, message_head}
 
 -- ---- a type with its padding
@@ -40,15 +36,6 @@ type_padded t is = elim (sizes_of t.size is.size) [
 
 -- ---- the message
 
--- how many bytes a body has that is raised to n
-length-raised : (name sizes : List ℕ) (t : Fixed) (values : List ℤ) (n : ℕ) → length values ≡ cells sizes → attribute_size (length name) sizes t.size ≤ n
-    → length (attribute_bytes name t sizes values n) ≡ n
-length-raised name sizes t values n count room =
-    let product : length values * t.size ≡ cells sizes * t.size = ap (λ (k : ℕ). k * t.size) count in
-    let zeros_long : length (zeros (n - attribute_size (length name) sizes t.size)) ≡ n - attribute_size (length name) sizes t.size = length-replicate _ 0 in
-    let pad_long : length (zeros (pad8 (length name + 1) - length name)) ≡ pad8 (length name + 1) - length name = length-replicate _ 0 in
-    simp length-append (omega (arith, zeros_long, pad_long, product, words_long sizes, length-value_bytes t values))
-
 joined : (a b c d e r : List ℕ) → a ++ (b ++ (c ++ (d ++ (e ++ r)))) ≡ (a ++ (b ++ (c ++ (d ++ e)))) ++ r
 joined a b c d e r = simp append_assoc refl
 
@@ -62,7 +49,7 @@ module _ (name : List ℕ) (a : Attribute) (is : IsPlainAttribute (name, a)) whe
   pub attribute_is : message_bytes (attribute_message (name, a)) ≡ attribute_front name a.fixed a.sizes (pad8 size) ++ behind
   attribute_is =
       let body = attribute_bytes name a.fixed a.sizes a.values (pad8 size) in
-      let long : length body ≡ pad8 size = length-raised name a.sizes a.fixed a.values (pad8 size) is.counted (omega arith) in
+      let long : length body ≡ pad8 size = length-attribute_bytes name a.sizes a.fixed a.values (pad8 size) is.counted (omega arith) in
       ap (λ n. short 12 ++ (short n ++ (zeros 4 ++ body))) long
       ∙ ap (λ ty. message_head 12 (pad8 size) ++ (attribute_head (length name) (length a.sizes) ++ (padded_text name ++ (ty ++ (dataspace_bytes a.sizes ++ behind))))) (type_padded a.fixed is.fixed)
       ∙ joined (message_head 12 (pad8 size)) (attribute_head (length name) (length a.sizes)) (padded_text name) (type_body a.fixed) (extent_body a.sizes) behind
@@ -71,14 +58,8 @@ module _ (name : List ℕ) (a : Attribute) (is : IsPlainAttribute (name, a)) whe
   pub length-message : length (message_bytes (attribute_message (name, a))) ≤ 65544
   length-message =
       let body = attribute_bytes name a.fixed a.sizes a.values (pad8 size) in
-      let long : length body ≡ pad8 size = length-raised name a.sizes a.fixed a.values (pad8 size) is.counted (omega arith) in
+      let long : length body ≡ pad8 size = length-attribute_bytes name a.sizes a.fixed a.values (pad8 size) is.counted (omega arith) in
       omega (arith, long, is.room)
-
-  pub few_cells : length a.values ≤ 2 ^ 40
-  few_cells =
-      let most : cells a.sizes * (a.fixed).size ≤ 65528 = omega (arith, is.room) in
-      let few : cells a.sizes ≤ 65528 = cells_few 0 (cells a.sizes) (a.fixed).size 65528 (size-low a.fixed is.fixed) (omega (arith, most)) in
-      omega (arith, few, is.counted)
 
   -- the message, when its parts are appended
   pub attribute_pushed : (used rest : ℕ) (before first second third : List ℕ) → used ≡ size → used + rest ≡ pad8 used

@@ -1,5 +1,4 @@
 pub mod Counts
-pub mod Names
 pub mod Pieces
 pub mod NodeReads
 pub mod RowReads

@@ -9,7 +9,7 @@ use Rattle.h5_bytes.proofs.TableLaws.{length-table, get_or-table}
 use Rattle.h5_model.specs.Nodes.{IsNode, group_kind, node_length, node_of, node_signature, key_in, child_in, entries_in}
 use Rattle.h5_model.specs.Plain.{word, short, zeros, rows_bytes, filled_to, node_bytes_of}
 use Rattle.h5_model.specs.Sizes.{group_node}
-use Rattle.h5_model.proofs.PlainGroup.{reads_back, number_at-append}
+use Rattle.h5_model.proofs.NumberLaws.{reads_back, number_at-append}
 
 abbrev pub AreKeys : List (List ℕ) → Type 0
 AreKeys keys = AllByRecursion (λ (key : List ℕ). length key ≡ 8) keys

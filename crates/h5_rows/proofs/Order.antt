@@ -14,7 +14,7 @@ use Rattle.h5_rows.specs.Laws.{AreOrdered, IsChild}
 use Rattle.h5_rows.specs.Written.{last_below, right_of, raised}
 use Rattle.h5_rows.specs.declared.child.Child.{Child}
 use Rattle.h5_rows.proofs.Levels.{beneath, beneath-more}
-use Rattle.h5_rows.proofs.Names.{not_after_itself, after_trans, not_after_trans}
+use Rattle.h5_model.proofs.TextOrder.{not_after_itself, after_trans, not_after_trans}
 use Rattle.h5_rows.proofs.RowReads.{AreRead, IsPiece, addresses, keys_of, node_over, offset_is, places_of, last_small}
 
 pub all_map : {X : Type 0} (P Q : X → Type 0) (xs : List X) → ((x : X) → P x → Q x) → AllByRecursion P xs → AllByRecursion Q xs

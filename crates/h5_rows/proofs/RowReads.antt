@@ -12,7 +12,7 @@ use Rattle.h5_model.specs.Nodes.{IsNode, group_kind, node_at, node_bytes, node_l
 use Rattle.h5_model.specs.Plain.{word, node_bytes_of}
 use Rattle.h5_model.specs.Rows.{Node, Reading, IsRow, next_row, first_or_undefined}
 use Rattle.h5_model.specs.Sizes.{group_node}
-use Rattle.h5_model.proofs.PlainGroup.{reads_back}
+use Rattle.h5_model.proofs.NumberLaws.{reads_back}
 use Rattle.h5_rows.specs.Laws.{IsChild}
 use Rattle.h5_rows.specs.Written.{last_below, right_of, row_bytes, raised}
 use Rattle.h5_rows.specs.declared.child.Child.{Child}

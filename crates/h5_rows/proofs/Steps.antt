@@ -2,7 +2,7 @@
 use Rattle.std.proofs.Common.{◌≡◌, ℕ, suc, ◌+◌, ◌-◌, ◌*◌, ◌^◌, ◌<◌, ◌≤◌, inl, inr, List, [], ◌∷◌, ◌++◌, length, map, take, drop, get_or, refl, sym, ap, ◌∙◌, arith, append-nil, append_assoc, length-append, ◌==◌, true, false}
 use Rattle.std.proofs.lemmas.Bool.{cases_lt}
 use Rattle.std.proofs.lemmas.Bool.Decides.{nat_tests}
-use Rattle.std.proofs.lemmas.List.{take_all, drop_all, take_more, map-append, length-drop}
+use Rattle.std.proofs.lemmas.List.{take_all, drop_all, length-drop}
 use Rattle.h5_bytes.specs.Bytes.{undefined}
 use Rattle.h5_model.specs.Nodes.{group_kind}
 use Rattle.h5_model.specs.Plain.{word, node_bytes_of}
@@ -34,13 +34,6 @@ keys_are_words before cs = ap (λ (ks : List (List ℕ)). word before ∷ ks) (e
   each : (cs : List Child) → map word (lasts_of cs) ≡ map (λ (c : Child). word c.last) cs
   each [] = refl
   each (c ∷ cs) = ap (λ (ks : List (List ℕ)). word c.last ∷ ks) (each cs)
-
--- one child more
-pub lasts_more : (cs : List Child) (i : ℕ) (d : Child) → i < length cs → lasts_of (take (i + 1) cs) ≡ lasts_of (take i cs) ++ (get_or cs i d).last ∷ []
-lasts_more cs i d low = ap lasts_of (take_more cs i d low) ∙ map-append (λ (c : Child). c.last) (take i cs) (get_or cs i d ∷ [])
-
-pub places_more : (cs : List Child) (i : ℕ) (d : Child) → i < length cs → places_of (take (i + 1) cs) ≡ places_of (take i cs) ++ (get_or cs i d).at ∷ []
-places_more cs i d low = ap places_of (take_more cs i d low) ∙ map-append (λ (c : Child). c.at) (take i cs) (get_or cs i d ∷ [])
 
 -- ---- one row
 

@@ -88,9 +88,6 @@ module _ (image : List ℕ) (V : Reading) (Q : ℕ → Type 0) (first : Q 0) (k 
     above_long : length above ≡ nodes_over levels (2 * k) width * group_node k
     above_long = length-rows_bytes levels k (level + 1) at upper some ∙ ap (λ n. nodes_over levels (2 * k) n * group_node k) upper_wide
 
-    row_long : length row ≡ length cs * group_node k
-    row_long = length-row k level undefined 0 place cs (chunks_short k children some many)
-
     all_long : length (rows_bytes (suc levels) k level at children) ≡ nodes_over levels (2 * k) width * group_node k + length cs * group_node k
     all_long = length-rows_bytes (suc levels) k level at children some ∙ ap (λ n. n * group_node k) count ∙ omega arith
 

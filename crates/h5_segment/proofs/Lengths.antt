@@ -1,10 +1,10 @@
 -- How long a heap's segment is.
-use Rattle.std.proofs.Common.{◌≡◌, ℕ, ◌+◌, ◌-◌, ◌≤◌, ◌<◌, List, [], ◌∷◌, ◌++◌, map, length, get_or, cond, true, false, inl, inr, refl, ap, ◌∙◌, sym, arith, append-nil}
+use Rattle.std.proofs.Common.{◌≡◌, ℕ, ◌+◌, ◌-◌, ◌≤◌, ◌<◌, List, [], ◌∷◌, ◌++◌, length, cond, true, false, inl, inr, refl, ap, ◌∙◌, sym, arith, append-nil}
 use Rattle.std.specs.Prelude.{nat_le, if◌then◌else◌}
 use Rattle.std.specs.List.{flat_map, sum_by}
 use Rattle.std.proofs.lemmas.Bool.Decides.{leb_tells, nat_tests}
-use Rattle.std.proofs.lemmas.List.{length-append, length-replicate, length-map, get_or-map}
-use Rattle.std.proofs.lemmas.List.Sums.{sum_by-cons, get_or-le-sum_by}
+use Rattle.std.proofs.lemmas.List.{length-append, length-replicate}
+use Rattle.std.proofs.lemmas.List.Sums.{sum_by-cons}
 use Rattle.h5_model.specs.Sizes.{text_span}
 use Rattle.h5_model.specs.Plain.{word, zeros, padded_text, texts_bytes, segment_with, heap_header_bytes, free_head_of}
 use Rattle.h5_plain.specs.Parts.{free_rest}
@@ -90,13 +90,6 @@ long_length links n e high =
 -- the first free block stands behind the used bytes
 pub head_is : (links : List (List ℕ × Leads)) → free_head_of (spelled links) ≡ (if nat_le (8 + links_span links) 72 then 8 + links_span links else 1)
 head_is links = ap (λ n. if nat_le n 72 then n else 1) (length-used links)
-
--- no link occupies more than all
-pub span-le : {E : Type 0} (from : E → List ℕ × Leads) (es : List E) (i : ℕ) (d : E) → i < length es → link_span (from (get_or es i d)) ≤ links_span (map from es)
-span-le from es i d low =
-    let count = length-map es from in
-    let here : get_or (map from es) i (from d) ≡ from (get_or es i d) = get_or-map from es i d (from d) low in
-    rw here at (get_or-le-sum_by link_span (map from es) i (from d) (omega arith))
 
 -- a heap is its header and its segment
 pub length-heap_bytes : (at : ℕ) (links : List (List ℕ × Leads)) → length (heap_bytes at links) ≡ 32 + length (segment_of links)

@@ -1,13 +1,13 @@
 -- Texts that stand one behind another, padded, are read back where they stand; and so are the links whose entries name them.
-use Rattle.std.proofs.Common.{◌≡◌, ℕ, zero, suc, ◌+◌, ◌-◌, ◌≤◌, ◌==◌, List, [], ◌∷◌, ◌++◌, map, length, Bool, true, false, refl, sym, ap, ◌∙◌, subst, arith, append_assoc, length-append}
+use Rattle.std.proofs.Common.{◌≡◌, ℕ, zero, suc, ◌+◌, ◌-◌, ◌≤◌, ◌==◌, List, [], ◌∷◌, ◌++◌, map, length, false, refl, sym, ap, ◌∙◌, subst, arith, append_assoc, length-append}
 use Rattle.std.proofs.Math.Seq.{drop-append_seam}
-use Rattle.std.specs.Prelude.{◌||◌}
 use Rattle.std.specs.List.{AllByRecursion, flat_map}
 use Rattle.h5_bytes.specs.Texts.{until_zero, text_at}
 use Rattle.h5_model.specs.Plain.{zeros, padded_text}
 use Rattle.h5_model.specs.Refusal.{has_zero}
 use Rattle.h5_model.specs.Sizes.{text_span}
 use Rattle.h5_model.specs.Symbols as symbols
+use Rattle.h5_model.proofs.WithinLaws.{neither}
 use Rattle.h5_plain.specs.Parts.{free_rest}
 use Rattle.h5_segment.specs.Laws.{IsSpelled}
 use Rattle.h5_segment.specs.Links.{Leads, ToGroup, ToArray, ToText, spelled, target_link}
@@ -24,16 +24,12 @@ abbrev pub StandFrom : List ℕ → ℕ → List (List ℕ) → Type 0
 StandFrom segment at [] = Unit {0}
 StandFrom segment at (text ∷ texts) = (text_at segment at ≡ text) × StandFrom segment (at + text_span text) texts
 
-none_first : (a r : Bool) → (a || r) ≡ false → (a ≡ false) × (r ≡ false)
-none_first true r h = cc
-none_first false r h = (refl, h)
-
 -- a text that was padded is what stands before the first zero
 until_padding : (text : List ℕ) (k : ℕ) (rest : List ℕ) → HasNoZero text → 1 ≤ k → until_zero ((text ++ zeros k) ++ rest) ≡ text
 until_padding [] zero rest free some = absurd (omega arith)
 until_padding [] (suc k) rest free some = refl
 until_padding (c ∷ cs) k rest free some =
-    let parts = none_first (c == 0) (has_zero cs) free in
+    let parts = neither (c == 0) (has_zero cs) free in
     let first : (c == 0) ≡ false = parts.0 in
     rw first (ap (λ t. c ∷ t) (until_padding cs k rest parts.1 some))
 

@@ -9,16 +9,23 @@ next_after width column n =
     let sum : column + 1 + n ≡ column + suc n = omega arith in
     mod-add-mod (column + 1) width n ∙ ap (λ k. k % width) sum
 
+-- no cell yet
+pub column_start : (width column : ℕ) → column < width → column ≡ (column + 0) % width
+column_start width column inside = let sum : column + 0 ≡ column = omega arith in sym (ap (λ k. k % width) sum ∙ mod-eq_of_lt inside)
+
+-- cells behind cells
+pub cells_append : (width column : ℕ) (xs ys : List ℤ) → column < width → cells_from width column (xs ++ ys) ≡ cells_from width column xs ++ cells_from width ((column + length xs) % width) ys
+cells_append width column [] ys inside = ap (λ k. cells_from width k ys) (column_start width column inside)
+cells_append width column (x ∷ xs) ys inside =
+    let next = (column + 1) % width in
+    ap (λ t. cell_text width column x ++ t) (cells_append width next xs ys (mod-lt (column + 1) (omega arith)))
+    ∙ sym (append_assoc (cell_text width column x) (cells_from width next xs) (cells_from width ((next + length xs) % width) ys))
+    ∙ ap (λ k. (cell_text width column x ++ cells_from width next xs) ++ cells_from width k ys) (next_after width column (length xs))
+
 -- one more cell stands in the column behind the others
 pub cells_push : (width column : ℕ) (vs : List ℤ) (v : ℤ) → column < width → cells_from width column (vs ++ v ∷ []) ≡ cells_from width column vs ++ cell_text width ((column + length vs) % width) v
-cells_push width column [] v inside =
-    let here : (column + 0) % width ≡ column = ap (λ k. k % width) (let sum : column + 0 ≡ column = omega arith in sum) ∙ mod-eq_of_lt inside in
-    append-nil (cell_text width column v) ∙ ap (λ k. cell_text width k v) (sym here)
-cells_push width column (x ∷ xs) v inside =
-    let next = (column + 1) % width in
-    ap (λ t. cell_text width column x ++ t) (cells_push width next xs v (mod-lt (column + 1) (omega arith)))
-    ∙ sym (append_assoc (cell_text width column x) (cells_from width next xs) (cell_text width ((next + length xs) % width) v))
-    ∙ ap (λ k. (cell_text width column x ++ cells_from width next xs) ++ cell_text width k v) (next_after width column (length xs))
+cells_push width column vs v inside =
+    cells_append width column vs (v ∷ []) inside ∙ ap (λ t. cells_from width column vs ++ t) (append-nil (cell_text width ((column + length vs) % width) v))
 
 -- a cell is appended behind k others
 pub row_step : (width column wide here k : ℕ) (vs more : List ℤ) (v : ℤ) (old out new : List ℕ) → column < width → wide ≡ width → here ≡ (column + k) % width → length vs ≡ k → more ≡ vs ++ v ∷ []
@@ -36,7 +43,3 @@ column_step width column wide here next k same at is =
 
 pub replicate_more : (k : ℕ) (v : ℤ) → replicate (k + 1) v ≡ replicate k v ++ v ∷ []
 replicate_more k v = sym (replicate-append-replicate k 1 v)
-
--- no cell yet
-pub column_start : (width column : ℕ) → column < width → column ≡ (column + 0) % width
-column_start width column inside = let sum : column + 0 ≡ column = omega arith in sym (ap (λ k. k % width) sum ∙ mod-eq_of_lt inside)

@@ -1,22 +1,13 @@
 -- Cells written one behind the other are the rows of the array.
 use Rattle.std.proofs.Common.{◌≡◌, ℕ, zero, suc, ◌+◌, ◌*◌, ◌%◌, ◌<◌, ◌≤◌, false, cond, eqb, eq-eqb, ℤ, List, [], ◌∷◌, ◌++◌, length, take, drop, codes, refl, sym, ap, ◌∙◌, append_assoc, append-nil, take-append-drop, length-drop, arith}
-use Rattle.std.proofs.Math.Nat.{mod-eq_of_lt, mod-lt, mod_self, suc-mul}
+use Rattle.std.proofs.Math.Nat.{mod-eq_of_lt, mod_self, suc-mul}
 use Rattle.std.proofs.lemmas.Bool.Decides.{nat_tests}
 use Rattle.std.proofs.lemmas.List.{length-take-le}
 use Rattle.std.specs.Fmt.{signed_decimal}
 use Rattle.std.specs.List.{flat_map, join_by}
 use Rattle.h5_model.specs.Text.{rows_text}
 use Rattle.h5_text.specs.Rows.{cell_text, cells_from}
-use Rattle.h5_text.proofs.RowLaws.{column_start, next_after}
-
--- cells behind cells
-pub cells_append : (width column : ℕ) (xs ys : List ℤ) → column < width → cells_from width column (xs ++ ys) ≡ cells_from width column xs ++ cells_from width ((column + length xs) % width) ys
-cells_append width column [] ys inside = ap (λ k. cells_from width k ys) (column_start width column inside)
-cells_append width column (x ∷ xs) ys inside =
-    let next = (column + 1) % width in
-    ap (λ t. cell_text width column x ++ t) (cells_append width next xs ys (mod-lt (column + 1) (omega arith)))
-    ∙ sym (append_assoc (cell_text width column x) (cells_from width next xs) (cells_from width ((next + length xs) % width) ys))
-    ∙ ap (λ k. (cell_text width column x ++ cells_from width next xs) ++ cells_from width k ys) (next_after width column (length xs))
+use Rattle.h5_text.proofs.RowLaws.{cells_append}
 
 -- a cell as its column has it
 cell_is : (width column : ℕ) (v : ℤ) (b e : List ℕ) → cond (eqb column 0) [] (codes " ") ≡ b → cond (eqb (column + 1) width) (codes "\n") [] ≡ e → cell_text width column v ≡ b ++ (signed_decimal v ++ e)

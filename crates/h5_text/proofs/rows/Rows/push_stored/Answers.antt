@@ -1,11 +1,11 @@
-use Rattle.std.proofs.Common.{◌≡◌, ℕ, ◌+◌, ◌-◌, ◌*◌, ◌∙◌, ◌++◌, take, drop, map, ap, arith, rules}
+use Rattle.std.proofs.Common.{◌≡◌, ℕ, ◌+◌, ◌*◌, ◌∙◌, ◌++◌, map, ap, arith, rules}
 use Rattle.std.specs.Int.{w128}
 use Rattle.std.specs.List.{range_with_len}
 use Rattle.std.proofs.lemmas.Int.{to_z-of_z}
 use Rattle.std.proofs.lemmas.List.FromFn.{length-map-range_with_len, map-range_with_len_more}
 use Rattle.h5_model.specs.Fixed.{value_at}
 use Rattle.h5_text.specs.Rows.{cell_text}
-use Rattle.h5_model.proofs.ValueLaws.{value_of_part}
+use Rattle.h5_model.proofs.ValueLaws.{decoded_cell}
 use Rattle.h5_text.proofs.RowLaws.{row_step, column_step}
 use Rattle.h5_text.proofs.rows.Rows.push_stored.Goals as goal
 
@@ -16,11 +16,7 @@ loop-k-preserved c =
     let k = c.loop-k.k in
     let fixed = c.args.fixed.now in
     let value = λ (j : ℕ). value_at fixed c.args.bytes.now (j * fixed.size) in
-    let size = c.size-size.result in
-    let whole : k * size + size - k * size ≡ size = omega arith in
-    let part : take (k * size + size - k * size) (drop (k * size) c.args.bytes.now) ≡ take fixed.size (drop (k * fixed.size) c.args.bytes.now) =
-    ap (λ n. take n (drop (k * size) c.args.bytes.now)) whole ∙ ap (λ n. take n (drop (k * n) c.args.bytes.now)) c.size-size.ensures.size in
-    let at : c.decode.result ≡ value k = c.decode.ensures.value ∙ value_of_part fixed c.args.bytes.now _ (k * fixed.size) part in
+    let at : c.decode.result ≡ value k = c.decode.ensures.value ∙ decoded_cell fixed c.args.bytes.now k c.size-size.result c.size-size.ensures.size in
     record {
       text =
           row_step width column c.loop-k.self.width c.loop-k.self.column k (map value (range_with_len 0 k)) (map value (range_with_len 0 (k + 1))) (value k) c.args.out.now.items c.loop-k.out.items c.push.new.out.items
