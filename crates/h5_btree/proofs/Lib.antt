@@ -1,7 +1,7 @@
 pub mod NodeLaws
-pub mod TextLaws
 pub mod DescentLaws
 pub mod WayLaws
 pub mod NameOrder
+pub mod LeafLaws
 pub mod NameWay
 pub mod NameFound

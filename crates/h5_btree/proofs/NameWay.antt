@@ -1,31 +1,14 @@
 -- A name in a group's tree stands in the symbol node to which the way leads.
-use Rattle.std.proofs.Common.{◌≡◌, ℕ, zero, suc, ◌<◌, List, [], ◌∷◌, ◌++◌, length, slice_index, slice_index_or, map, refl, sym, ap, subst, ◌∙◌, arith, inl, inr, append-nil}
-use Rattle.std.specs.List.{AllByRecursion, Contains, flat_map}
-use Rattle.std.proofs.lemmas.List.{map-append}
+use Rattle.std.proofs.Common.{◌≡◌, ℕ, zero, suc, ◌<◌, List, [], ◌∷◌, ◌++◌, length, slice_index, slice_index_or, refl, sym, ap, subst, ◌∙◌, arith, inl, inr, append-nil}
+use Rattle.std.specs.List.{AllByRecursion, Contains}
 use Rattle.std.proofs.lemmas.List.Elements.{All-from_recursion, All-get_or, All-contains, Contains-append_cases}
-use Rattle.std.proofs.lemmas.Grind.{flat_map-append}
-use Rattle.h5_bytes.specs.Texts.{text_at}
-use Rattle.h5_model.specs.Rows.{Reading, next_row, leaves}
-use Rattle.h5_model.specs.Symbols.{Entry}
+use Rattle.h5_model.specs.Rows.{Reading, leaves}
 use Rattle.h5_model.specs.Links.{Symbols, IsBetween, IsOrdered, names_in}
 use Rattle.h5_btree.specs.Descent.{LeadsTo}
+use Rattle.h5_btree.proofs.LeafLaws.{leaves-append, leaves-nil, names-append}
 use Rattle.h5_btree.proofs.NameOrder.{name_behind, one_child}
 
 -- ---- where in a list of children a name stands
-
-none_below : (V : Reading) (level : ℕ) → leaves V level [] ≡ []
-none_below V zero = refl
-none_below V (suc level) = none_below V level
-
-leaves-append : (V : Reading) (level : ℕ) (xs ys : List ℕ) → leaves V level (xs ++ ys) ≡ leaves V level xs ++ leaves V level ys
-leaves-append V zero xs ys = flat_map-append (λ n. (V n).children) xs ys
-leaves-append V (suc level) xs ys =
-    ap (leaves V level) (flat_map-append (λ n. (V n).children) xs ys) ∙ leaves-append V level (next_row V xs) (next_row V ys)
-
-names-append : (S : Symbols) (segment xs ys : List ℕ) → names_in S segment (xs ++ ys) ≡ names_in S segment xs ++ names_in S segment ys
-names-append S segment xs ys =
-    ap (map (λ (e : Entry). text_at segment e.name)) (flat_map-append S xs ys)
-    ∙ map-append (λ (e : Entry). text_at segment e.name) (flat_map S xs) (flat_map S ys)
 
 -- what stands in the names of some children stands in those of one
 pick : (G : List ℕ → List (List ℕ)) → G [] ≡ [] → ((x : ℕ) (xs : List ℕ) → G (x ∷ xs) ≡ G (x ∷ []) ++ G xs)
@@ -75,7 +58,7 @@ module _ (V : Reading) (S : Symbols) (segment : List ℕ) where
       let G : List ℕ → List (List ℕ) = λ xs. names_in S segment (leaves V level xs) in
       let all : Contains (G children) name
       = subst (λ (xs : List ℕ). Contains (names_in S segment (leaves V level xs)) name) (append-nil children) has in
-      let found = pick G (ap (names_in S segment) (none_below V level))
+      let found = pick G (ap (names_in S segment) (leaves-nil V level))
       (λ x xs. ap (names_in S segment) (leaves-append V level (x ∷ []) xs) ∙ names-append S segment (leaves V level (x ∷ [])) (leaves V level xs)) children name all in
       let same : found.0 ≡ way.0 = one_child segment (V at) b.1.rising name way.0 found.0 way.1 found.1 (below_more at level found.0 name b.0 b.1 found.1 found.2) in
       let child : ℕ = slice_index children way.0 in

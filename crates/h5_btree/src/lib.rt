@@ -9,7 +9,6 @@ mod descent;
 mod kind;
 mod name;
 mod node;
-mod numbers;
 mod read;
 mod sought;
 

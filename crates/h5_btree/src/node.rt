@@ -7,9 +7,8 @@ ghost use Rattle.h5_model.specs.Nodes.{child_in, entries_in, key_in, key_place, 
 ghost use Rattle.h5_btree.specs.Form.{MayBeRoot, MayStandAt};
 
 use crate::kind::NodeKind;
-use crate::name::text_from;
-use crate::numbers::{u16_at, u64_at};
 use crate::read::NodeFault;
+use h5_bytes::{text_from, u16_at, u64_at};
 use std::marker::Model;
 
 /// How many bytes stand before the first key.

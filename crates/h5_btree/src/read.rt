@@ -1,14 +1,14 @@
 //! The reading of a node's form (File Format Specification 3.0, section III.A.1).
 
-ghost use Rattle.std.specs.Prelude.{◌≡◌, ◌↔◌, ◌+◌, ◌≤◌, IsTrue, IfErr, IfOk, OnOk, length};
+ghost use Rattle.std.specs.Prelude.{◌≡◌, ◌+◌, ◌≤◌, IfErr, IfOk, OnOk, length};
 ghost use Rattle.std.specs.List.{AllByRecursion};
 ghost use Rattle.h5_bytes.specs.Bytes.{part};
-ghost use Rattle.h5_model.specs.Nodes.{IsNode, node_at, node_bytes, node_length, node_of, node_signature};
+ghost use Rattle.h5_model.specs.Nodes.{IsNode, node_at, node_bytes, node_length, node_of};
 ghost use Rattle.h5_btree.specs.Form.{BreaksForm, IsRefusedAt};
 
 use crate::kind::NodeKind;
 use crate::node::Node;
-use crate::numbers::u16_at;
+use h5_bytes::{begins_with, u16_at};
 
 /// The first four bytes of a node.
 static SIGNATURE: [u8; 4] = *b"TREE";
@@ -34,7 +34,7 @@ pub fn read_node(kind: NodeKind, bytes: &[u8]) -> Result<Node<'_>, NodeFault>
     ensures form { OnOk result (IsNode kind bytes.now) }
     ensures refused { IfErr result (λ fault. (fault ≡ NodeFault.NodeForm) × BreaksForm kind bytes.now) }
 {
-    if !is_signed(bytes)
+    if !begins_with(bytes, &SIGNATURE)
         || bytes[4] != kind.type_byte()
         || usize::from(u16_at(bytes, 6)) > kind.capacity()
     {
@@ -68,12 +68,4 @@ fn bytes_at(image: &[u8], kind: NodeKind, at: usize) -> &[u8]
     ensures long { length result.now ≡ node_length kind }
 {
     &image[at..at + kind.node_length()]
-}
-
-/// Whether the bytes begin with the signature.
-fn is_signed(bytes: &[u8]) -> bool
-    requires { 4 ≤ length bytes.now }
-    ensures { IsTrue result ↔ (part 0 4 bytes.now ≡ node_signature) }
-{
-    bytes.starts_with(&SIGNATURE)
 }

@@ -1,6 +1,5 @@
 pub mod MessageLaws
 pub mod FillLaws
-pub mod Unheld
 pub mod PrefixLaws
 pub mod ThroughLaws
 pub mod SameLaws

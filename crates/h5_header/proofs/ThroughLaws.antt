@@ -11,12 +11,13 @@ use Rattle.h5_bytes.proofs.PartLaws.{length-part}
 use Rattle.h5_bytes.proofs.BlockLaws.{all_append, cover-append}
 use Rattle.h5_model.specs.Messages.{Message, Fills, continuation, continuations, first_block}
 use Rattle.h5_model.specs.declared.open_fault.Cause.{Cause}
+use Rattle.h5_space.specs.Claimed.{ClaimBreach}
 use Rattle.h5_header.specs.Listed.{message_in, messages_in, IsWithin}
 use Rattle.h5_header.specs.Refused.{header_block}
-use Rattle.h5_header.specs.Progress.{FillsTo, IsTaken, ReadTo, StopsIn, Partly, ReadThrough, ClaimBreach, StopsAtMessage, StopsAtBlock}
+use Rattle.h5_header.specs.Progress.{FillsTo, IsTaken, ReadTo, StopsIn, Partly, ReadThrough, StopsAtMessage, StopsAtBlock}
 use Rattle.h5_header.specs.declared.message.Message.{Message as Placed}
 use Rattle.h5_header.proofs.FillLaws.{fills_whole, filled_more}
-use Rattle.h5_header.proofs.Unheld.{unheld, unheld-claim}
+use Rattle.h5_space.proofs.Unheld.{unheld, unheld-claim}
 
 -- the block whose turn it is
 turn : (done waiting : List Block) (blocks : List Block) (next : ℕ) (b : Block) → blocks ≡ done ++ waiting → next ≡ length done → next < length blocks

@@ -8,6 +8,7 @@ use Rattle.h5_model.specs.Messages.{Message, IsMessage, Fills, IsContinued, cont
 use Rattle.h5_model.specs.declared.open_fault.Cause.{Cause}
 use Rattle.h5_model.specs.declared.open_fault.Cause.TheVariants.{Truncated, HeaderVersion, Overlap, NoMemory}
 use Rattle.h5_space.specs.Claimed.{Shares}
+pub use Rattle.h5_space.specs.Claimed.{ClaimBreach}
 use Rattle.h5_header.specs.Heads.{HeadBreach, is_read}
 use Rattle.h5_header.specs.Listed.{messages_in, IsWithin}
 use Rattle.h5_header.specs.Refused.{header_block}
@@ -70,13 +71,6 @@ pub record ReadThrough (image : List ℕ) (header : ℕ) (held held' : List Bloc
   pub partly : Partly image header (messages_in image list) done waiting
   pub claimed : IsClaimed image held held' done
   pub within : IsWithin (length image) list
-
--- why a block cannot be claimed, and its address
-abbrev pub ClaimBreach : ℕ → List Block → Block → Cause → ℕ → Type 0
-ClaimBreach end held b Truncated address = (address ≡ b.at) × (end < b.at + b.len)
-ClaimBreach end held b Overlap address = (address ≡ b.at) × Shares held b.at b.len
-ClaimBreach end held b NoMemory address = Unit {0}
-ClaimBreach end held b _ address = ⊥
 
 -- the prefix passes the end, is of another version, or cannot be claimed with its first block
 abbrev pub PrefixBreach : List ℕ → ℕ → List Block → Cause → ℕ → Type 0

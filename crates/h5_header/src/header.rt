@@ -8,12 +8,11 @@ ghost use Rattle.h5_header.specs.Listed.{messages_in, IsWithin};
 ghost use Rattle.h5_header.specs.Progress.{ReadThrough, Stops};
 
 use crate::block::read_block;
-use crate::claims::{PREFIX, claim, claim_prefix};
+use crate::claims::{PREFIX, claim_prefix};
 use crate::message::Message;
-use crate::numbers::u32_at;
-use h5_bytes::Block;
+use h5_bytes::{Block, u32_at};
 use h5_model::{Cause, OpenFault};
-use h5_space::{Claims, Image};
+use h5_space::{Claims, Image, claim, fault};
 use std::alloc::Global;
 use std::marker::Model;
 
@@ -78,7 +77,7 @@ impl Messages {
         requires { self.now.header + 16 ≤ length image.now.bytes }
         ensures { result ≡ reference_count (prefix_at image.now.bytes self.now.header) }
     {
-        u32_at(image.bytes(), self.header + 4)
+        u32_at(image.bytes(), self.header as usize + 4)
     }
 }
 
@@ -125,10 +124,4 @@ pub(crate) fn read_header(
         list,
         blocks,
     })
-}
-
-pub(crate) fn fault(cause: Cause, address: u64) -> OpenFault
-    ensures { result ≡ record { cause = cause; address = address } }
-{
-    OpenFault { cause, address }
 }

@@ -10,12 +10,13 @@ mod find;
 mod header;
 mod kinds;
 mod message;
-mod numbers;
 mod read;
 
-pub use claims::claim;
 pub use find::find_body;
+pub use h5_space::claim;
 pub use header::Messages;
-pub use kinds::ObjectKind;
+pub use kinds::{
+    DATA_LAYOUT, DATASPACE, DATATYPE, FILL_VALUE, OLD_FILL_VALUE, ObjectKind, SYMBOL_TABLE,
+};
 pub use message::Message;
 pub use read::messages;

@@ -6,8 +6,7 @@ ghost use Rattle.h5_model.specs.Messages.{continuation};
 ghost use Rattle.h5_header.specs.Listed.{message_in};
 ghost use Rattle.h5_header.specs.Heads.{IsHead, HeadBreach, KindBreach, is_read};
 
-use crate::numbers::{u16_at, u64_at};
-use h5_bytes::Block;
+use h5_bytes::{Block, u16_at, u64_at};
 use h5_model::Cause;
 
 /// The type of a message that names a block of further messages.
@@ -38,8 +37,8 @@ impl Message {
             return None;
         }
         Some(Block {
-            at: u64_at(image, self.at),
-            len: u64_at(image, self.at + 8),
+            at: u64_at(image, self.at as usize),
+            len: u64_at(image, self.at as usize + 8),
         })
     }
 }
@@ -54,8 +53,8 @@ pub(crate) fn read_message(image: &[u8], at: u64, end: u64) -> Result<Message, C
     if end - at < HEAD {
         return Err(Cause::MessageSize);
     }
-    let kind = u16_at(image, at);
-    let size = u16_at(image, at + 2);
+    let kind = u16_at(image, at as usize);
+    let size = u16_at(image, at as usize + 2);
     let flags = image[at as usize + 4];
     if size % 8 != 0 || size as u64 > end - at - HEAD {
         return Err(Cause::MessageSize);

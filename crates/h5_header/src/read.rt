@@ -8,10 +8,10 @@ ghost use Rattle.h5_header.specs.Heads.{is_read};
 ghost use Rattle.h5_header.specs.Listed.{messages_in, IsWithin};
 ghost use Rattle.h5_header.specs.Refused.{IsRefused, IsReadable};
 
-use crate::header::{Messages, fault, read_header};
-use crate::numbers::u16_at;
+use crate::header::{Messages, read_header};
+use h5_bytes::u16_at;
 use h5_model::{Cause, OpenFault};
-use h5_space::{Claims, Image};
+use h5_space::{Claims, Image, fault};
 use std::alloc::Global;
 
 /// Reads the messages of the object header at `at`, and claims its blocks.
@@ -48,7 +48,7 @@ pub fn messages(
 {
     let bytes = image.bytes();
     let messages = read_header(alloc, bytes, claims, at)?;
-    if messages.list().len() != u16_at(bytes, at + 2) as usize {
+    if messages.list().len() != u16_at(bytes, at as usize + 2) as usize {
         return Err(fault(Cause::MessageCount, at));
     }
     Ok(messages)

@@ -67,7 +67,7 @@ inside_of segment (y ∷ ys) x inside there = elim (contains_cases y ys x there)
 ]
 
 -- the empty name's span
-empty_text : (segment : List ℕ) → byte_at segment 0 ≡ 0 → text_at segment 0 ≡ []
+pub empty_text : (segment : List ℕ) → byte_at segment 0 ≡ 0 → text_at segment 0 ≡ []
 unfolding text_at
 empty_text [] zero = refl
 empty_text (b ∷ bs) zero = let first : (b == 0) ≡ true = grind (arith, nat_tests, zero) in rw first refl

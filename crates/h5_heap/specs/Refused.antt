@@ -14,13 +14,6 @@ pub record IsHeader (header : List ℕ) : Type 0 where
   pub version : byte_at header 4 ≡ 0
   pub size : 8 ≤ segment_size header
 
--- why a block cannot be claimed, and its address
-abbrev pub ClaimBreach : ℕ → List Block → Block → Cause → ℕ → Type 0
-ClaimBreach end held b Truncated address = (address ≡ b.at) × (end < b.at + b.len)
-ClaimBreach end held b Overlap address = (address ≡ b.at) × Shares held b.at b.len
-ClaimBreach end held b NoMemory address = Unit {0}
-ClaimBreach end held b _ address = ⊥
-
 -- the header, or the segment that it names, passes the end
 abbrev pub IsCut : List ℕ → ℕ → ℕ → Type 0
 IsCut image heap address = ((address ≡ heap) × (length image < heap + 32))

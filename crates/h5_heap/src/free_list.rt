@@ -7,8 +7,7 @@ ghost use Rattle.h5_bytes.specs.declared.Block.{Block};
 ghost use Rattle.h5_model.specs.Heap.{IsFree};
 ghost use Rattle.h5_heap.specs.FreeList.{IsFreeList, IsNext};
 
-use crate::numbers::u64_at;
-use h5_bytes::{Block, UNDEF};
+use h5_bytes::{Block, UNDEF, u64_at};
 use h5_model::Cause;
 use h5_space::{ClaimFault, Claims};
 use std::alloc::Global;
@@ -44,7 +43,7 @@ pub(crate) fn read_free(alloc: Global, segment: &[u8], head: u64) -> Result<Free
         if blocks.push(block).is_err() {
             return Err(Cause::NoMemory);
         }
-        next = u64_at(segment, next);
+        next = u64_at(segment, next as usize);
     }
     Ok(FreeList { blocks, spans })
 }
@@ -82,7 +81,7 @@ fn free_block(segment: &[u8], offset: u64) -> Option<Block>
     if offset % 8 != 0 || size < LEAST_FREE || offset > size - LEAST_FREE {
         return None;
     }
-    let len = u64_at(segment, offset + 8);
+    let len = u64_at(segment, offset as usize + 8);
     if len < LEAST_FREE {
         return None;
     }

@@ -5,11 +5,9 @@ ghost use Rattle.h5_bytes.specs.Blocks.{block, cover, Separate, Inside};
 ghost use Rattle.h5_model.specs.Heap.{heap_header, free_head, segment_place, segment_size, segment_block, segment_of, heap_blocks};
 ghost use Rattle.h5_heap.specs.Refused.{IsHeader, IsRefused};
 
-use crate::claim::{claim, fault};
-use crate::numbers::u64_at;
-use h5_bytes::Block;
+use h5_bytes::{Block, begins_with, u64_at};
 use h5_model::{Cause, OpenFault};
-use h5_space::{Claims, Image};
+use h5_space::{Claims, Image, claim, fault};
 
 /// The first four bytes of a header.
 static SIGNATURE: [u8; 4] = *b"HEAP";
@@ -65,7 +63,7 @@ fn read_header(header: &[u8]) -> Option<Header>
         at: u64_at(header, 24),
         len: u64_at(header, 8),
     };
-    if !header.starts_with(&SIGNATURE) || header[4] != 0 || segment.len < LEAST_SEGMENT {
+    if !begins_with(header, &SIGNATURE) || header[4] != 0 || segment.len < LEAST_SEGMENT {
         return None;
     }
     Some(Header {

@@ -5,12 +5,11 @@ ghost use Rattle.h5_bytes.specs.Blocks.{cover, Separate, Inside};
 ghost use Rattle.h5_model.specs.Heap.{heap_header, heap_blocks, segment_block, segment_of, IsHeap};
 ghost use Rattle.h5_heap.specs.Refused.{IsRefused, IsReadable};
 
-use crate::claim::fault;
 use crate::free_list::{FreeList, read_free};
 use crate::header::claim_heap;
 use h5_bytes::Block;
 use h5_model::{Cause, OpenFault};
-use h5_space::{Claims, Image};
+use h5_space::{Claims, Image, fault};
 use std::alloc::Global;
 use std::collections::BTreeSet;
 use std::marker::Model;

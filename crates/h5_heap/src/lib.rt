@@ -4,14 +4,12 @@
 //! Offsets are places in a segment, and all places and sizes are in bytes.
 #![tactic(auto)]
 
-mod claim;
 mod free_list;
 mod header;
 mod heap;
 mod names;
-mod numbers;
 mod text;
 
+pub use h5_bytes::text_from;
 pub use header::segment_at;
 pub use heap::{Heap, read_heap};
-pub use text::text_from;

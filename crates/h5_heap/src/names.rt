@@ -8,11 +8,10 @@ ghost use Rattle.h5_bytes.specs.Texts.{text_at};
 ghost use Rattle.h5_heap.specs.Kept.{segment_in};
 ghost use Rattle.h5_heap.specs.Spans.{IsSpan, Takes, Names, IsHeld, IsNotEmpty, IsUntaken, IsUnnamed, HasTaken, HasNamed};
 
-use crate::claim::fault;
 use crate::heap::Heap;
 use crate::text::{span_len, text_in};
 use h5_model::{Cause, OpenFault};
-use h5_space::{ClaimFault, Image};
+use h5_space::{ClaimFault, Image, fault};
 
 /// Bytes of the empty name, at the beginning of a segment.
 const EMPTY_NAME: u64 = 8;

@@ -2,30 +2,20 @@
 use Rattle.std.proofs.Common.{◌≡◌, ℕ, zero, suc, List, [], ◌∷◌, ◌++◌, refl, sym, ap, ◌∙◌, subst, append-nil}
 use Rattle.std.specs.Prelude.{map}
 use Rattle.std.specs.List.{AllByRecursion, flat_map}
-use Rattle.std.proofs.lemmas.List.{map-append}
-use Rattle.std.proofs.lemmas.List.Concat.{flat_map-append}
 use Rattle.h5_bytes.proofs.BlockLaws.{all_append, all_left, all_right}
 use Rattle.h5_model.specs.Superblock.{leaf_k}
-use Rattle.h5_model.specs.Rows.{Reading, leaves, next_row}
+use Rattle.h5_model.specs.Rows.{Reading, leaves}
 use Rattle.h5_model.specs.Nodes.{node_at}
 use Rattle.h5_model.specs.Symbols.{Entry, symbols_at}
+use Rattle.h5_btree.proofs.LeafLaws.{leaves-append, leaves-nil, names-append}
 use Rattle.h5_nodes.specs.Trees.{kind_in}
 use Rattle.h5_keys.specs.Below.{names_at, symbol_nodes_under}
 use Rattle.h5_keys.specs.Rising.{name_of}
 
 -- ---- what stands below a node stands below its children, in order
 
-none_below : (V : Reading) (level : ℕ) → leaves V level [] ≡ []
-none_below V zero = refl
-none_below V (suc level) = none_below V level
-
-leaves-append : (V : Reading) (level : ℕ) (xs ys : List ℕ) → leaves V level (xs ++ ys) ≡ leaves V level xs ++ leaves V level ys
-leaves-append V zero xs ys = flat_map-append (λ n. (V n).children) xs ys
-leaves-append V (suc level) xs ys =
-    ap (leaves V level) (flat_map-append (λ n. (V n).children) xs ys) ∙ leaves-append V level (next_row V xs) (next_row V ys)
-
 leaves_each : (V : Reading) (level : ℕ) (xs : List ℕ) → leaves V level xs ≡ flat_map (λ n. leaves V level (n ∷ [])) xs
-leaves_each V level [] = none_below V level
+leaves_each V level [] = leaves-nil V level
 leaves_each V level (x ∷ xs) =
     leaves-append V level (x ∷ []) xs ∙ ap (λ (ys : List ℕ). leaves V level (x ∷ []) ++ ys) (leaves_each V level xs)
 
@@ -43,11 +33,6 @@ under_is image (suc level) at =
 -- ---- what holds of each name below
 
 module _ (image segment : List ℕ) (P : List ℕ → Type 0) where
-  names-append : (xs ys : List ℕ) → names_at image segment (xs ++ ys) ≡ names_at image segment xs ++ names_at image segment ys
-  names-append xs ys =
-      ap (map (name_of segment)) (flat_map-append (symbols_at image (leaf_k image)) xs ys)
-      ∙ map-append (name_of segment) (flat_map (symbols_at image (leaf_k image)) xs) (flat_map (symbols_at image (leaf_k image)) ys)
-
   -- each name in these symbol nodes has it
   abbrev pub AllNames : List ℕ → Type 0
   AllNames symbol_nodes = AllByRecursion P (names_at image segment symbol_nodes)
@@ -55,12 +40,12 @@ module _ (image segment : List ℕ) (P : List ℕ → Type 0) where
   flat_up : (f : ℕ → List ℕ) (xs : List ℕ) → AllByRecursion (λ n. AllNames (f n)) xs → AllNames (flat_map f xs)
   flat_up f [] all = tt
   flat_up f (x ∷ xs) all =
-      rw (names-append (f x) (flat_map f xs)) (all_append P (names_at image segment (f x)) (names_at image segment (flat_map f xs)) all.0 (flat_up f xs all.1))
+      rw (names-append (symbols_at image (leaf_k image)) segment (f x) (flat_map f xs)) (all_append P (names_at image segment (f x)) (names_at image segment (flat_map f xs)) all.0 (flat_up f xs all.1))
 
   flat_down : (f : ℕ → List ℕ) (xs : List ℕ) → AllNames (flat_map f xs) → AllByRecursion (λ n. AllNames (f n)) xs
   flat_down f [] all = tt
   flat_down f (x ∷ xs) all =
-      let split = rw (names-append (f x) (flat_map f xs)) at all in (
+      let split = rw (names-append (symbols_at image (leaf_k image)) segment (f x) (flat_map f xs)) at all in (
         all_left P (names_at image segment (f x)) (names_at image segment (flat_map f xs)) split,
         flat_down f xs (all_right P (names_at image segment (f x)) (names_at image segment (flat_map f xs)) split),
       )

@@ -1,11 +1,11 @@
 -- What holds of a node and of all nodes below each child holds of all nodes from it down, and the other way.
 use Rattle.std.proofs.Common.{◌≡◌, ◌≢◌, ℕ, zero, suc, ◌-◌, ◌<◌, List, [], ◌∷◌, ◌++◌, length, get_or, refl, sym, subst, arith, append-nil}
 use Rattle.std.specs.List.{AllByRecursion, Contains}
-use Rattle.std.proofs.lemmas.List.Concat.{flat_map-append}
 use Rattle.std.proofs.lemmas.List.Elements.{All-contains, All-contains_itself, All-from_recursion, recursion_from_All}
 use Rattle.h5_bytes.proofs.BlockLaws.{all_append, all_left, all_right}
 use Rattle.h5_model.specs.Rows.{Node, Reading, next_row, nodes}
 use Rattle.h5_model.specs.Nodes.{node_at}
+use Rattle.h5_btree.proofs.LeafLaws.{next_row-append}
 use Rattle.h5_nodes.specs.Trees.{kind_in}
 use Rattle.h5_keys.specs.Below.{HasSubtree, nodes_from}
 use Rattle.h5_keys.proofs.AllLaws.{all_at}
@@ -14,9 +14,6 @@ module _ (V : Reading) (P : ℕ → Type 0) where
   -- each node of these rows
   abbrev Each : ℕ → List ℕ → Type 0
   Each level row = AllByRecursion P (nodes V level row)
-
-  next-append : (xs ys : List ℕ) → next_row V (xs ++ ys) ≡ next_row V xs ++ next_row V ys
-  next-append xs ys = flat_map-append (λ n. (V n).children) xs ys
 
   each_none : (level : ℕ) → Each level []
   each_none zero = tt
@@ -27,7 +24,7 @@ module _ (V : Reading) (P : ℕ → Type 0) where
   each_append (suc level) xs ys a b =
       all_append P (xs ++ ys) (nodes V level (next_row V (xs ++ ys)))
       (all_append P xs ys (all_left P xs (nodes V level (next_row V xs)) a) (all_left P ys (nodes V level (next_row V ys)) b))
-      (subst (Each level) (sym (next-append xs ys))
+      (subst (Each level) (sym (next_row-append V xs ys))
       (each_append level (next_row V xs) (next_row V ys) (all_right P xs (nodes V level (next_row V xs)) a) (all_right P ys (nodes V level (next_row V ys)) b)))
 
   each_split : (level : ℕ) (xs ys : List ℕ) → Each level (xs ++ ys) → Each level xs × Each level ys
@@ -35,7 +32,7 @@ module _ (V : Reading) (P : ℕ → Type 0) where
   each_split (suc level) xs ys all =
       let here : AllByRecursion P (xs ++ ys) = all_left P (xs ++ ys) (nodes V level (next_row V (xs ++ ys))) all in
       let below : Each level (next_row V (xs ++ ys)) = all_right P (xs ++ ys) (nodes V level (next_row V (xs ++ ys))) all in
-      let parts = each_split level (next_row V xs) (next_row V ys) (subst (Each level) (next-append xs ys) below) in (
+      let parts = each_split level (next_row V xs) (next_row V ys) (subst (Each level) (next_row-append V xs ys) below) in (
         all_append P xs (nodes V level (next_row V xs)) (all_left P xs ys here) parts.0,
         all_append P ys (nodes V level (next_row V ys)) (all_right P xs ys here) parts.1,
       )

@@ -1,5 +1,4 @@
 pub mod AllLaws
-pub mod PartLaws
 pub mod RisingLaws
 pub mod BelowLaws
 pub mod OrderLaws

@@ -1,26 +1,26 @@
 -- Each node of a group's tree stands in the image over the nodes below it.
-use Rattle.std.proofs.Common.{◌≡◌, ℕ, zero, suc, ◌+◌, ◌≤◌, List, [], ◌∷◌, ◌++◌, length, refl, sym, ap, ◌∙◌, subst, arith}
-use Rattle.std.specs.Prelude.{map}
+use Rattle.std.proofs.Common.{◌≡◌, ℕ, zero, suc, ◌+◌, List, [], ◌∷◌, ◌++◌, length, refl, sym, ap, ◌∙◌, subst, arith}
 use Rattle.std.specs.List.{AllByRecursion, Contains}
 use Rattle.std.proofs.lemmas.List.Elements.{Contains-append_right}
 use Rattle.h5_bytes.specs.Bytes.{undefined}
 use Rattle.h5_bytes.specs.Blocks.{Inside}
-use Rattle.h5_bytes.specs.declared.Block.{Block}
 use Rattle.h5_bytes.proofs.BlockLaws.{all_left, all_right}
 use Rattle.h5_model.specs.Addresses.{SymbolTable}
 use Rattle.h5_model.specs.Superblock.{leaf_k}
 use Rattle.h5_model.specs.Heap.{segment_of}
 use Rattle.h5_model.specs.Rows.{Reading, blank, IsRow, AreRows, next_row, nodes, leaves}
-use Rattle.h5_model.specs.Nodes.{IsNode, node_at, node_bytes, reading_of, tree_blocks}
-use Rattle.h5_model.specs.Symbols.{IsEntry, IsSymbolNode, symbol_block, symbol_bytes, symbols_at}
+use Rattle.h5_model.specs.Nodes.{node_at, reading_of}
+use Rattle.h5_model.specs.Symbols.{symbols_at}
 use Rattle.h5_model.specs.Links.{IsOrdered}
-use Rattle.h5_model.specs.TreeFaults.{all_entries, HasSymbolNodes}
+use Rattle.h5_model.specs.TreeFaults.{HasSymbolNodes}
 use Rattle.h5_model.specs.declared.open_fault.Cause.{Cause}
 use Rattle.h5_model.specs.declared.open_fault.Cause.TheVariants.{NameOrder, KeyOrder}
 use Rattle.h5_model.proofs.RowLaws.{Agree, only_here, AreRows-same}
 use Rattle.h5_model.proofs.OneTree.{level_is, owned_is, children_are}
 use Rattle.h5_nodes.specs.Trees.{IsTree, kind_in, nodes_blocks}
-use Rattle.h5_keys.specs.Below.{HasNode, HasSubtree, HasSymbols, nodes_from}
+use Rattle.h5_nodes.specs.Stands.{IsNodeAt, IsSymbolsAt}
+use Rattle.h5_nodes.proofs.StandLaws.{nodes_stand, symbols_stand}
+use Rattle.h5_keys.specs.Below.{HasSubtree, nodes_from}
 use Rattle.h5_keys.specs.Ordered.{IsOrderRefused}
 use Rattle.h5_keys.specs.Rising.{FallAt}
 
@@ -31,7 +31,7 @@ module _ (image : List ℕ) where
   V = node_at image (kind_in image)
 
   -- a row of this level, over a row of subtrees
-  row_over : (level left : ℕ) (row : List ℕ) → IsRow V level left row → AllByRecursion (HasNode image) row
+  row_over : (level left : ℕ) (row : List ℕ) → IsRow V level left row → AllByRecursion (IsNodeAt image) row
       → AllByRecursion (HasSubtree image level) (next_row V row) → AllByRecursion (HasSubtree image (suc level)) row
   row_over level left [] is has below = tt
   row_over level left (n ∷ row) is has below = (
@@ -39,25 +39,12 @@ module _ (image : List ℕ) where
     row_over level n row is.3 has.1 (all_right (HasSubtree image level) (V n).children (next_row V row) below),
   )
 
-  row_has : (level : ℕ) (row : List ℕ) → AreRows V level row → AllByRecursion (HasNode image) (nodes V level row)
-      → AllByRecursion (HasSymbols image) (leaves V level row) → AllByRecursion (HasSubtree image (suc level)) row
+  row_has : (level : ℕ) (row : List ℕ) → AreRows V level row → AllByRecursion (IsNodeAt image) (nodes V level row)
+      → AllByRecursion (IsSymbolsAt image) (leaves V level row) → AllByRecursion (HasSubtree image (suc level)) row
   row_has zero row are has below = row_over 0 undefined row are has below
   row_has (suc level) row are has below =
-      row_over (suc level) undefined row are.0 (all_left (HasNode image) row (nodes V level (next_row V row)) has)
-      (row_has level (next_row V row) are.1 (all_right (HasNode image) row (nodes V level (next_row V row)) has) below)
-
-  each_node : (xs : List ℕ) → AllByRecursion (λ at. IsNode (kind_in image) (node_bytes image (kind_in image) at)) xs
-      → Inside (length image) (tree_blocks (kind_in image) xs) → AllByRecursion (HasNode image) xs
-  each_node [] formed inside = tt
-  each_node (x ∷ xs) formed inside = (record { inside = inside.0; formed = formed.0 }, each_node xs formed.1 inside.1)
-
-  each_symbols : (xs : List ℕ) → AllByRecursion (λ at. IsSymbolNode (leaf_k image) (symbol_bytes image (leaf_k image) at)) xs
-      → AllByRecursion IsEntry (all_entries image xs) → Inside (length image) (map (symbol_block (leaf_k image)) xs) → AllByRecursion (HasSymbols image) xs
-  each_symbols [] formed known inside = tt
-  each_symbols (x ∷ xs) formed known inside = (
-    record { inside = inside.0; formed = formed.0; known = all_left IsEntry (symbols_at image (leaf_k image) x) (all_entries image xs) known },
-    each_symbols xs formed.1 (all_right IsEntry (symbols_at image (leaf_k image) x) (all_entries image xs) known) inside.1,
-  )
+      row_over (suc level) undefined row are.0 (all_left (IsNodeAt image) row (nodes V level (next_row V row)) has)
+      (row_has level (next_row V row) are.1 (all_right (IsNodeAt image) row (nodes V level (next_row V row)) has) below)
 
 -- ---- the tree of a group
 
@@ -70,14 +57,6 @@ module _ (image : List ℕ) (root : ℕ) (owned symbol_nodes : List ℕ) (t : Is
   rows : AreRows (node_at image (kind_in image)) t.level (root ∷ [])
   rows = AreRows-same (reading_of image (kind_in image) owned) (node_at image (kind_in image)) t.level (root ∷ []) agrees (t.tree).rows
 
-  pub symbols_stand : AllByRecursion (HasSymbols image) symbol_nodes
-  symbols_stand = each_symbols image symbol_nodes t.formed t.known
-      (all_right (λ (b : Block). b.at + b.len ≤ length image) (tree_blocks (kind_in image) owned) (map (symbol_block (leaf_k image)) symbol_nodes) inside)
-
-  nodes_stand : AllByRecursion (HasNode image) owned
-  nodes_stand = each_node image owned (t.tree).formed
-      (all_left (λ (b : Block). b.at + b.len ≤ length image) (tree_blocks (kind_in image) owned) (map (symbol_block (leaf_k image)) symbol_nodes) inside)
-
   owned_are : owned ≡ nodes_from image t.level root
   owned_are = owned_is image (kind_in image) root t.level owned symbol_nodes t.tree
 
@@ -88,8 +67,8 @@ module _ (image : List ℕ) (root : ℕ) (owned symbol_nodes : List ℕ) (t : Is
   pub root_stands : HasSubtree image (suc ((node_at image (kind_in image) root).level)) root
   root_stands =
       let symbols_are = children_are image (kind_in image) root t.level owned symbol_nodes t.tree in
-      let row = row_has image t.level (root ∷ []) rows (subst (AllByRecursion (HasNode image)) owned_are nodes_stand)
-      (subst (AllByRecursion (HasSymbols image)) symbols_are symbols_stand) in
+      let row = row_has image t.level (root ∷ []) rows (subst (AllByRecursion (IsNodeAt image)) owned_are (nodes_stand image root owned symbol_nodes t inside))
+      (subst (AllByRecursion (IsSymbolsAt image)) symbols_are (symbols_stand image root owned symbol_nodes t inside)) in
       subst (λ (l : ℕ). HasSubtree image (suc l) root) (sym level_of_root) row.0
 
   pub all_owned : nodes_from image (node_at image (kind_in image) root).level root ≡ owned

@@ -1,28 +1,18 @@
 -- What stands below a node of a group's tree (File Format Specification 3.0, sections III.A.1 and III.B).
-use Rattle.std.specs.Prelude.{◌≡◌, ℕ, zero, suc, ◌+◌, ◌*◌, ◌≤◌, List, [], ◌∷◌, length}
+use Rattle.std.specs.Prelude.{◌≡◌, ℕ, zero, suc, List, [], ◌∷◌}
 use Rattle.std.specs.List.{AllByRecursion}
 use Rattle.h5_model.specs.Superblock.{leaf_k}
 use Rattle.h5_model.specs.Rows.{leaves, nodes}
-use Rattle.h5_model.specs.Nodes.{IsNode, node_at, node_bytes, node_length}
-use Rattle.h5_model.specs.Symbols.{IsEntry, IsSymbolNode, symbols_at, symbol_bytes}
+use Rattle.h5_model.specs.Nodes.{node_at}
+use Rattle.h5_model.specs.Symbols.{symbols_at}
 use Rattle.h5_model.specs.Links.{Before, IsOrdered, NotAfter, names_in}
 use Rattle.h5_nodes.specs.Trees.{kind_in}
-
--- a node of a group's tree stands in the image at this address
-pub record HasNode (image : List ℕ) (at : ℕ) : Type 0 where
-  pub inside : at + node_length (kind_in image) ≤ length image
-  pub formed : IsNode (kind_in image) (node_bytes image (kind_in image) at)
-
--- a symbol node stands in the image at this address
-pub record HasSymbols (image : List ℕ) (at : ℕ) : Type 0 where
-  pub inside : at + (8 + 80 * leaf_k image) ≤ length image
-  pub formed : IsSymbolNode (leaf_k image) (symbol_bytes image (leaf_k image) at)
-  pub known : AllByRecursion IsEntry (symbols_at image (leaf_k image) at)
+use Rattle.h5_nodes.specs.Stands.{IsNodeAt, IsSymbolsAt}
 
 -- at height 0 a symbol node stands at this address; above that a node, of the level below the height, over such as these
 abbrev pub HasSubtree : List ℕ → ℕ → ℕ → Type 0
-HasSubtree image zero at = HasSymbols image at
-HasSubtree image (suc level) at = HasNode image at
+HasSubtree image zero at = IsSymbolsAt image at
+HasSubtree image (suc level) at = IsNodeAt image at
     × ((node_at image (kind_in image) at).level ≡ level)
     × AllByRecursion (HasSubtree image level) (node_at image (kind_in image) at).children
 

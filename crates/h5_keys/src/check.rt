@@ -9,10 +9,9 @@ ghost use Rattle.h5_keys.specs.Ordered.{AreOrdered, IsOrderRefused};
 
 use crate::keys::check_keys;
 use crate::names::check_names;
-use crate::parts::tree_node;
 use h5_model::OpenFault;
 use h5_msg::SymbolTable;
-use h5_nodes::GroupTree;
+use h5_nodes::{GroupTree, tree_node};
 use h5_space::Image;
 
 /// Checks that the names of a group ascend by their bytes, and stand between the keys of its tree, which do not fall. The segment is

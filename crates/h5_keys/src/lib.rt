@@ -5,7 +5,6 @@
 mod check;
 mod keys;
 mod names;
-mod parts;
 mod text;
 
 pub use check::check_order;

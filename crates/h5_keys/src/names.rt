@@ -6,12 +6,12 @@ ghost use Rattle.h5_model.specs.Superblock.{IsSuperblock, leaf_k};
 ghost use Rattle.h5_model.specs.Symbols.{symbols_at, link_of};
 ghost use Rattle.h5_model.specs.Links.{Ascend};
 ghost use Rattle.h5_model.specs.TreeFaults.{all_entries};
-ghost use Rattle.h5_keys.specs.Below.{HasSymbols};
+ghost use Rattle.h5_nodes.specs.Stands.{IsSymbolsAt};
 ghost use Rattle.h5_keys.specs.Rising.{FallAt, FallFrom, IsAbove, RiseFrom, last_name};
 
-use crate::parts::symbol_node;
 use crate::text::is_before;
 use h5_model::{Cause, OpenFault};
+use h5_nodes::symbol_node;
 use h5_space::Image;
 
 /// Checks that the names in these symbol nodes ascend; `NameOrder` at the first that holds a name which is not above the one
@@ -22,7 +22,7 @@ pub(crate) fn check_names(
     symbol_nodes: &[u64],
 ) -> Result<(), OpenFault>
     requires superblock { IsSuperblock image.now.bytes }
-    requires symbols { AllByRecursion (HasSymbols image.now.bytes) symbol_nodes.now }
+    requires symbols { AllByRecursion (IsSymbolsAt image.now.bytes) symbol_nodes.now }
     ensures ascending { OnOk result (Ascend (map (link_of segment.now) (all_entries image.now.bytes symbol_nodes.now))) }
     ensures cause { IfErr result (λ fault. fault.cause ≡ Cause.NameOrder) }
     ensures falls { IfErr result (λ fault. FallAt image.now.bytes segment.now symbol_nodes.now fault.address) }
@@ -42,7 +42,7 @@ fn check_node<'a>(
     before: Option<&'a [u8]>,
 ) -> Result<Option<&'a [u8]>, OpenFault>
     requires superblock { IsSuperblock image.now.bytes }
-    requires symbols { HasSymbols image.now.bytes at }
+    requires symbols { IsSymbolsAt image.now.bytes at }
     ensures rise { OnOk result (RiseFrom segment.now (option_map (λ x. x.now) before.entry)
         (symbols_at image.now.bytes (leaf_k image.now.bytes) at)) }
     ensures last { IfOk result (λ last. option_map (λ x. x.now) last ≡ last_name segment.now (option_map (λ x. x.now) before.entry)

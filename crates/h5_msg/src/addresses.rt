@@ -8,7 +8,7 @@ ghost use Rattle.h5_msg.specs.Written.{padded, pair_bytes};
 
 use crate::fault::FormFault;
 use byteorder::{ByteOrder, LittleEndian};
-use h5_bytes::Block;
+use h5_bytes::{Block, u64_at};
 use std::marker::Model;
 
 /// How many bytes a Symbol Table message's body has as it is written.
@@ -58,7 +58,7 @@ impl SymbolTable {
 }
 
 /// Reads a Symbol Table message; `HeapForm` where it is short.
-#[tactic(auto, unfolding(h5_bytes::specs::Bytes::number_at, h5_model::specs::Addresses::symbol_table_of))]
+#[tactic(auto, unfolding(h5_model::specs::Addresses::symbol_table_of))]
 pub fn read_symbol_table(body: &[u8]) -> Result<SymbolTable, FormFault>
     ensures { result ≡ ok_or (symbol_table_of body.now) FormFault.HeapForm }
 {
@@ -66,8 +66,8 @@ pub fn read_symbol_table(body: &[u8]) -> Result<SymbolTable, FormFault>
         return Err(FormFault::HeapForm);
     }
     Ok(SymbolTable {
-        tree: LittleEndian::read_u64(body),
-        heap: LittleEndian::read_u64(&body[8..]),
+        tree: u64_at(body, 0),
+        heap: u64_at(body, 8),
     })
 }
 
@@ -82,7 +82,7 @@ pub fn write_symbol_table(table: SymbolTable, bytes: &mut [u8])
 }
 
 /// Reads a Continuation message, which names a block of messages; `MessageSize` where it is short.
-#[tactic(auto, unfolding(h5_bytes::specs::Bytes::number_at, h5_model::specs::Addresses::continuation_of))]
+#[tactic(auto, unfolding(h5_model::specs::Addresses::continuation_of))]
 pub fn read_continuation(body: &[u8]) -> Result<Block, FormFault>
     ensures { result ≡ ok_or (continuation_of body.now) FormFault.MessageSize }
 {
@@ -90,8 +90,8 @@ pub fn read_continuation(body: &[u8]) -> Result<Block, FormFault>
         return Err(FormFault::MessageSize);
     }
     Ok(Block {
-        at: LittleEndian::read_u64(body),
-        len: LittleEndian::read_u64(&body[8..]),
+        at: u64_at(body, 0),
+        len: u64_at(body, 8),
     })
 }
 

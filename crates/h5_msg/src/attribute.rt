@@ -1,9 +1,8 @@
 //! Attribute messages, version 1 (File Format Specification 3.0, section IV.A.2.m).
 
-ghost use Rattle.std.specs.Prelude.{◌≡◌, ℕ, List, false, true, ◌+◌, ◌-◌, ◌*◌, ◌^◌, ◌<◌, ◌≤◌, ◌==◌, IfSome, Some, is_some, length, ok_or, position, slice_get};
+ghost use Rattle.std.specs.Prelude.{◌≡◌, ℕ, List, false, true, ◌+◌, ◌-◌, ◌*◌, ◌^◌, ◌<◌, ◌≤◌, ◌==◌, IfSome, Some, is_some, length, ok_or, slice_get};
 ghost use Rattle.std.specs.List.{list_all, list_any};
-ghost use Rattle.h5_bytes.specs.Bytes.{number_at};
-ghost use Rattle.h5_bytes.specs.Texts.{pad8 as padded_to_8, until_zero as text_of};
+ghost use Rattle.h5_bytes.specs.Texts.{pad8 as padded_to_8};
 ghost use Rattle.h5_model.specs.AttributeBody.{attribute_of, is_attribute, values_at};
 ghost use Rattle.h5_msg.specs.Parts.{ArePartsOf};
 ghost use Rattle.h5_model.specs.Fixed.{IsFixed, fits};
@@ -17,6 +16,7 @@ use crate::datatype::{DATATYPE_LENGTH, read_datatype, write_datatype};
 use crate::fault::FormFault;
 use crate::values::{value_at, write_value};
 use byteorder::{ByteOrder, LittleEndian};
+use h5_bytes::{before_zero, u16_at};
 use h5_model::Fixed;
 use h5_shape::Dims;
 use std::alloc::Global;
@@ -155,9 +155,9 @@ fn read_parts(body: &[u8]) -> Option<Parts<'_>>
     if body.len() < NAME || body[0] != 1 {
         return None;
     }
-    let name_size = short_at(body, 2);
-    let datatype_size = short_at(body, 4);
-    let dataspace_size = short_at(body, 6);
+    let name_size = usize::from(u16_at(body, 2));
+    let datatype_size = usize::from(u16_at(body, 4));
+    let dataspace_size = usize::from(u16_at(body, 6));
     let datatype = NAME + pad8(name_size);
     let dataspace = datatype + pad8(datatype_size);
     let values = dataspace + pad8(dataspace_size);
@@ -178,16 +178,6 @@ fn read_parts(body: &[u8]) -> Option<Parts<'_>>
     })
 }
 
-/// The number of 2 bytes at a place.
-#[tactic(auto, unfolding(h5_bytes::specs::Bytes::number_at))]
-fn short_at(body: &[u8], at: usize) -> usize
-    requires { at + 2 ≤ length body.now }
-    ensures number { result ≡ number_at body.now at 2 }
-    ensures small { result < 2 ^ 16 }
-{
-    usize::from(LittleEndian::read_u16(&body[at..]))
-}
-
 /// The next multiple of 8.
 fn pad8(n: usize) -> usize
     requires { n < 2 ^ 16 }
@@ -196,24 +186,6 @@ fn pad8(n: usize) -> usize
     ensures below { result ≤ n + 7 }
 {
     (n + 7) / 8 * 8
-}
-
-/// The bytes before the first zero.
-fn before_zero(bytes: &[u8]) -> &[u8]
-    ensures { result.now ≡ text_of bytes.now }
-{
-    match zero_at(bytes) {
-        Some(end) => &bytes[..end],
-        None => bytes,
-    }
-}
-
-/// Where the first zero is.
-fn zero_at(bytes: &[u8]) -> Option<usize>
-    ensures place { result ≡ position (λ b. b == 0) bytes.now }
-    ensures inside { IfSome result (λ end. end < length bytes.now) }
-{
-    bytes.iter().position(|byte| *byte == 0)
 }
 
 /// How many bytes the body of an Attribute message has as it is written: of a name of so many bytes, and of so many

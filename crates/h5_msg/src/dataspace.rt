@@ -2,7 +2,6 @@
 
 ghost use Rattle.std.specs.Prelude.{◌≡◌, ◌+◌, ◌-◌, ◌*◌, ◌^◌, ◌<◌, ◌≤◌, ◌++◌, Some, length, ok_or, min, slice_index, slice_get, map, if◌then◌else◌, true};
 ghost use Rattle.std.specs.List.{range_with_len, AllByRecursion};
-ghost use Rattle.h5_bytes.specs.Bytes.{number_at};
 ghost use Rattle.h5_model.specs.Extent.{extent_of, is_dataspace as has_form, maximum_fits, size_in};
 ghost use Rattle.h5_model.specs.Refusal.{are_maxima as bound_sizes};
 ghost use Rattle.h5_msg.specs.Written.{bounded_bytes, dataspace_bytes, or_undefined, padded, words};
@@ -12,7 +11,7 @@ ghost use Rattle.h5_model.specs.Tests.{each_below};
 
 use crate::fault::FormFault;
 use byteorder::{ByteOrder, LittleEndian};
-use h5_bytes::UNDEF;
+use h5_bytes::{UNDEF, u64_at};
 use h5_shape::{Dims, MAX_RANK};
 use std::alloc::Global;
 use std::marker::Model;
@@ -61,7 +60,7 @@ impl<'a> Dataspace<'a> {
         requires { k < length self.now.sizes }
         ensures { result ≡ slice_index self.now.sizes k }
     {
-        number(self.body, SIZES + 8 * k)
+        u64_at(self.body, SIZES + 8 * k)
     }
 
     /// The largest size in a dimension, or `None` where it is unlimited.
@@ -72,7 +71,7 @@ impl<'a> Dataspace<'a> {
         if self.body[2] == 0 {
             return Some(self.size(k));
         }
-        let maximum = number(self.body, SIZES + 8 * usize::from(self.body[1]) + 8 * k);
+        let maximum = u64_at(self.body, SIZES + 8 * usize::from(self.body[1]) + 8 * k);
         if maximum == UNDEF {
             None
         } else {
@@ -116,7 +115,7 @@ fn cells_from(body: &[u8], k: usize, count: usize) -> u64
     if count == 0 {
         return 1;
     }
-    number(body, SIZES + 8 * k).saturating_mul(cells_from(body, k + 1, count - 1))
+    u64_at(body, SIZES + 8 * k).saturating_mul(cells_from(body, k + 1, count - 1))
 }
 
 /// Reads a Dataspace message; `DataspaceForm` where it has another form.
@@ -167,16 +166,7 @@ fn is_maximum(body: &[u8], rank: usize, k: usize) -> bool
     requires rank { rank ≡ slice_index body.now 1 }
     ensures { result ≡ maximum_fits body.now k }
 {
-    number(body, SIZES + 8 * k) <= number(body, SIZES + 8 * rank + 8 * k)
-}
-
-/// The number of 8 bytes at a place.
-#[tactic(auto, unfolding(h5_bytes::specs::Bytes::number_at))]
-fn number(body: &[u8], at: usize) -> u64
-    requires { at + 8 ≤ length body.now }
-    ensures { result ≡ number_at body.now at 8 }
-{
-    LittleEndian::read_u64(&body[at..])
+    u64_at(body, SIZES + 8 * k) <= u64_at(body, SIZES + 8 * rank + 8 * k)
 }
 
 /// Writes a Dataspace message without maxima, which are then the sizes, and zeros behind it.

@@ -5,7 +5,7 @@ ghost use Rattle.h5_model.specs.Datatype.{fixed_of, is_fixed_point as has_form};
 ghost use Rattle.h5_msg.specs.Written.{class_bits as bits_of, datatype_bytes, padded};
 
 use crate::fault::FormFault;
-use byteorder::{ByteOrder, LittleEndian};
+use h5_bytes::{u16_at, u32_at};
 use h5_model::Fixed;
 
 /// How many bytes a Datatype message's body has as it is written.
@@ -22,7 +22,7 @@ const SIGNED: u8 = 8;
 
 /// Reads a Datatype message; `DatatypeForm` where it is not that of a fixed-point type of 1, 2, 4 or 8 bytes at full
 /// precision.
-#[tactic(auto, unfolding(h5_bytes::specs::Bytes::number_at, h5_model::specs::Datatype::fixed_of))]
+#[tactic(auto, unfolding(h5_model::specs::Datatype::fixed_of))]
 pub fn read_datatype(body: &[u8]) -> Result<Fixed, FormFault>
     ensures { result ≡ ok_or (fixed_of body.now) FormFault.DatatypeForm }
 {
@@ -31,25 +31,24 @@ pub fn read_datatype(body: &[u8]) -> Result<Fixed, FormFault>
     }
     let signed = body[1] & SIGNED == SIGNED;
     let high_first = body[1] & HIGH_FIRST == HIGH_FIRST;
-    let Ok(size) = u8::try_from(LittleEndian::read_u32(&body[4..])) else {
+    let Ok(size) = u8::try_from(u32_at(body, 4)) else {
         return Err(FormFault::DatatypeForm);
     };
     Fixed::new(size, signed, high_first).ok_or(FormFault::DatatypeForm)
 }
 
 /// Whether a body has all that a fixed-point type of full precision needs but for its size.
-#[tactic(auto, unfolding(h5_bytes::specs::Bytes::number_at))]
 fn is_fixed_point(body: &[u8]) -> bool
     ensures { result ≡ has_form body.now }
 {
     if body.len() < DATATYPE_LENGTH || body[0] != VERSION_AND_CLASS || body[1] >= 16 {
         return false;
     }
-    if LittleEndian::read_u16(&body[2..]) != 0 || LittleEndian::read_u16(&body[8..]) != 0 {
+    if u16_at(body, 2) != 0 || u16_at(body, 8) != 0 {
         return false;
     }
-    let size = LittleEndian::read_u32(&body[4..]);
-    u64::from(LittleEndian::read_u16(&body[10..])) == 8 * u64::from(size)
+    let size = u32_at(body, 4);
+    u64::from(u16_at(body, 10)) == 8 * u64::from(size)
 }
 
 /// Writes a Datatype message, and zeros behind it.

@@ -8,7 +8,7 @@ ghost use Rattle.h5_msg.specs.Times.{time_number};
 
 use crate::fault::FormFault;
 use crate::values::{value_at, write_value};
-use byteorder::{ByteOrder, LittleEndian};
+use h5_bytes::u32_at;
 use h5_model::Fixed;
 
 /// When a dataset's storage is allocated: with the dataset, or chunk by chunk as they are written.
@@ -58,7 +58,6 @@ pub fn read_old_fill(fixed: &Fixed, body: &[u8]) -> Result<i128, FormFault>
 }
 
 /// The value whose size stands at a place, and 0 where that size is 0.
-#[tactic(auto, unfolding(h5_bytes::specs::Bytes::number_at))]
 fn read_sized(fixed: &Fixed, body: &[u8], at: usize) -> Result<i128, FormFault>
     requires { at ≤ 4 }
     ensures { result ≡ ok_or (value_after_size fixed.now body.now at) FormFault.FillForm }
@@ -66,7 +65,7 @@ fn read_sized(fixed: &Fixed, body: &[u8], at: usize) -> Result<i128, FormFault>
     if body.len() < at + 4 {
         return Err(FormFault::FillForm);
     }
-    let size = LittleEndian::read_u32(&body[at..]) as usize;
+    let size = u32_at(body, at) as usize;
     if size == 0 {
         return Ok(0);
     }

@@ -12,7 +12,7 @@ ghost use Rattle.h5_model.specs.Places.{cells as cells_of};
 
 use crate::fault::FormFault;
 use byteorder::{ByteOrder, LittleEndian};
-use h5_bytes::{Block, UNDEF};
+use h5_bytes::{Block, UNDEF, u16_at, u32_at, u64_at};
 use h5_model::Fixed;
 use h5_shape::{Dims, MAX_RANK};
 use std::alloc::Global;
@@ -77,7 +77,7 @@ impl<'a> ChunkSizes<'a> {
         ensures size { result ≡ slice_index self.now k }
         ensures some { 1 ≤ result }
     {
-        short_number(self.body, CHUNK_SIZES + 4 * k)
+        u32_at(self.body, CHUNK_SIZES + 4 * k)
     }
 
     /// The chunk sizes. It takes no memory.
@@ -97,7 +97,7 @@ fn read_sizes(body: &[u8], rank: usize, sizes: &mut [u64])
     ensures { sizes.new ≡ short_numbers_at body.now 11 rank }
 {
     for k in 0..rank {
-        sizes[k] = u64::from(short_number(body, CHUNK_SIZES + 4 * k));
+        sizes[k] = u64::from(u32_at(body, CHUNK_SIZES + 4 * k));
     }
 }
 
@@ -144,7 +144,6 @@ pub fn read_layout<'a>(dims: &Dims, fixed: &Fixed, body: &'a [u8]) -> Result<Lay
 }
 
 /// Class 0: a size and that many bytes.
-#[tactic(auto, unfolding(h5_bytes::specs::Bytes::number_at))]
 fn read_compact(need: u128, body: &[u8]) -> Result<Layout<'_>, FormFault>
     ensures { MatchResult result
         (λ layout. compact_layout need body.now ≡ Some (layout_in layout))
@@ -153,7 +152,7 @@ fn read_compact(need: u128, body: &[u8]) -> Result<Layout<'_>, FormFault>
     if body.len() < 4 {
         return Err(FormFault::LayoutForm);
     }
-    let size = usize::from(LittleEndian::read_u16(&body[2..]));
+    let size = usize::from(u16_at(body, 2));
     if body.len() < 4 + size || need > size as u128 {
         return Err(FormFault::LayoutForm);
     }
@@ -161,7 +160,6 @@ fn read_compact(need: u128, body: &[u8]) -> Result<Layout<'_>, FormFault>
 }
 
 /// Class 1: an address and a size, which counts where there is an address.
-#[tactic(auto, unfolding(h5_bytes::specs::Bytes::number_at))]
 fn read_contiguous(need: u128, body: &[u8]) -> Result<Layout<'_>, FormFault>
     ensures { MatchResult result
         (λ layout. contiguous_layout need body.now ≡ Some (layout_in layout))
@@ -170,8 +168,8 @@ fn read_contiguous(need: u128, body: &[u8]) -> Result<Layout<'_>, FormFault>
     if body.len() < CONTIGUOUS_LENGTH {
         return Err(FormFault::LayoutForm);
     }
-    let at = LittleEndian::read_u64(&body[2..]);
-    let len = LittleEndian::read_u64(&body[10..]);
+    let at = u64_at(body, 2);
+    let len = u64_at(body, 10);
     if at == UNDEF {
         return Ok(Layout::Contiguous(None));
     }
@@ -182,7 +180,6 @@ fn read_contiguous(need: u128, body: &[u8]) -> Result<Layout<'_>, FormFault>
 }
 
 /// Class 2: one more than the rank, the tree's address, the chunk sizes and last the size of an element.
-#[tactic(auto, unfolding(h5_bytes::specs::Bytes::number_at))]
 fn read_chunked(rank: usize, size: usize, body: &[u8]) -> Result<Layout<'_>, FormFault>
     requires { rank ≤ 32 }
     ensures { MatchResult result
@@ -192,11 +189,11 @@ fn read_chunked(rank: usize, size: usize, body: &[u8]) -> Result<Layout<'_>, For
     if rank == 0 || body.len() < CHUNK_SIZES + 4 * (rank + 1) || usize::from(body[2]) != rank + 1 {
         return Err(FormFault::LayoutForm);
     }
-    let element = short_number(body, CHUNK_SIZES + 4 * rank) as usize;
+    let element = u32_at(body, CHUNK_SIZES + 4 * rank) as usize;
     if element != size || has_zero(body, 0, rank) {
         return Err(FormFault::LayoutForm);
     }
-    let tree = LittleEndian::read_u64(&body[3..]);
+    let tree = u64_at(body, 3);
     Ok(Layout::Chunked {
         sizes: ChunkSizes { body, rank },
         tree: if tree == UNDEF { None } else { Some(tree) },
@@ -212,16 +209,7 @@ fn has_zero(body: &[u8], k: usize, count: usize) -> bool
     if count == 0 {
         return false;
     }
-    short_number(body, CHUNK_SIZES + 4 * k) == 0 || has_zero(body, k + 1, count - 1)
-}
-
-/// The number of 4 bytes at a place.
-#[tactic(auto, unfolding(h5_bytes::specs::Bytes::number_at))]
-fn short_number(body: &[u8], at: usize) -> u32
-    requires { at + 4 ≤ length body.now }
-    ensures { result ≡ number_at body.now at 4 }
-{
-    LittleEndian::read_u32(&body[at..])
+    u32_at(body, CHUNK_SIZES + 4 * k) == 0 || has_zero(body, k + 1, count - 1)
 }
 
 /// Writes the Data Layout message of a compact array with these data, and zeros behind it.

@@ -1,3 +1,4 @@
+pub mod StandLaws
 pub mod NodeFaults
 pub mod RowJoin
 pub mod Taken

@@ -7,7 +7,7 @@ use Rattle.h5_bytes.specs.Bytes.{undefined}
 use Rattle.h5_model.specs.Rows.{Reading, IsRow, next_row, first_or_undefined}
 use Rattle.h5_model.specs.TreeFaults.{last_or_undefined}
 use Rattle.h5_nodes.specs.Rows.{IsMisnamed}
-use Rattle.h5_nodes.proofs.RowJoin.{next_row-append}
+use Rattle.h5_btree.proofs.LeafLaws.{next_row-append}
 
 -- what holds of all holds of element k
 pub each_of : (P : ℕ → Type 0) (xs : List ℕ) (k d : ℕ) → AllByRecursion P xs → k < length xs → P (get_or xs k d)

@@ -1,10 +1,11 @@
 -- Rows of two parts: what stands below both is what stands below the first, and then below the second.
-use Rattle.std.proofs.Common.{◌≡◌, ℕ, zero, suc, ◌+◌, List, [], ◌∷◌, ◌++◌, refl, sym, ap, ◌∙◌, append_assoc, arith}
+use Rattle.std.proofs.Common.{◌≡◌, ℕ, zero, suc, ◌+◌, List, [], ◌∷◌, ◌++◌, refl, ap, arith}
 use Rattle.std.specs.Prelude.{map}
 use Rattle.h5_bytes.specs.Blocks.{cover}
 use Rattle.h5_bytes.specs.declared.Block.{Block}
 use Rattle.h5_bytes.proofs.BlockLaws.{all_append}
-use Rattle.h5_model.specs.Rows.{Reading, next_row, row_below, leaves, nodes}
+use Rattle.h5_model.specs.Rows.{Reading, next_row, nodes}
+use Rattle.h5_btree.proofs.LeafLaws.{next_row-append, leaves-append, leaves-nil}
 use Rattle.h5_nodes.specs.Below.{reading_in, IsBottom, IsInner, AreBelow, nodes_below, symbols_below}
 
 pub cover-map : (f : ℕ → Block) (p : ℕ) (xs ys : List ℕ) → cover p (map f (xs ++ ys)) ≡ cover p (map f xs) + cover p (map f ys)
@@ -12,23 +13,12 @@ cover-map f p [] ys = omega arith
 cover-map f p (x ∷ xs) ys = omega (arith, cover-map f p xs ys)
 
 module _ (V : Reading) where
-  pub next_row-append : (xs ys : List ℕ) → next_row V (xs ++ ys) ≡ next_row V xs ++ next_row V ys
-  next_row-append [] ys = refl
-  next_row-append (x ∷ xs) ys = ap (λ (r : List ℕ). (V x).children ++ r) (next_row-append xs ys) ∙ sym (append_assoc (V x).children (next_row V xs) (next_row V ys))
-
-  row_below-append : (depth : ℕ) (xs ys : List ℕ) → row_below V depth (xs ++ ys) ≡ row_below V depth xs ++ row_below V depth ys
-  row_below-append zero xs ys = refl
-  row_below-append (suc depth) xs ys = ap (row_below V depth) (next_row-append xs ys) ∙ row_below-append depth (next_row V xs) (next_row V ys)
-
-  pub leaves-append : (level : ℕ) (xs ys : List ℕ) → leaves V level (xs ++ ys) ≡ leaves V level xs ++ leaves V level ys
-  leaves-append level xs ys = ap (next_row V) (row_below-append level xs ys) ∙ next_row-append (row_below V level xs) (row_below V level ys)
-
   pub cover-nodes : (f : ℕ → Block) (p level : ℕ) (xs ys : List ℕ)
       → cover p (map f (nodes V level (xs ++ ys))) ≡ cover p (map f (nodes V level xs)) + cover p (map f (nodes V level ys))
   cover-nodes f p zero xs ys = cover-map f p xs ys
   cover-nodes f p (suc level) xs ys =
       let next : cover p (map f (nodes V level (next_row V (xs ++ ys)))) ≡ cover p (map f (nodes V level (next_row V xs ++ next_row V ys)))
-      = ap (λ (r : List ℕ). cover p (map f (nodes V level r))) (next_row-append xs ys) in
+      = ap (λ (r : List ℕ). cover p (map f (nodes V level r))) (next_row-append V xs ys) in
       let below = cover-nodes f p level (next_row V xs) (next_row V ys) in
       omega (
         arith,
@@ -39,14 +29,6 @@ module _ (V : Reading) where
         cover-map f p xs (nodes V level (next_row V xs)),
         cover-map f p ys (nodes V level (next_row V ys)),
       )
-
-  -- below an empty row there is nothing
-  row_below-nil : (depth : ℕ) → row_below V depth [] ≡ []
-  row_below-nil zero = refl
-  row_below-nil (suc depth) = row_below-nil depth
-
-  pub leaves-nil : (level : ℕ) → leaves V level [] ≡ []
-  leaves-nil level = ap (next_row V) (row_below-nil level)
 
   pub nodes-nil : (level : ℕ) → nodes V level [] ≡ []
   nodes-nil zero = refl

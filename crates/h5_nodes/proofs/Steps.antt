@@ -1,21 +1,20 @@
 -- One step of a walk down a tree: why a block is refused is a fault, and the fields of a node that was claimed are met.
-use Rattle.std.proofs.Common.{◌≡◌, ℕ, zero, suc, ◌+◌, ◌-◌, ◌*◌, ◌<◌, ◌≤◌, List, ◌∷◌, length, refl, sym, ap, subst, arith}
+use Rattle.std.proofs.Common.{◌≡◌, ℕ, zero, suc, ◌+◌, ◌-◌, ◌*◌, ◌<◌, ◌≤◌, List, ◌∷◌, length, refl, sym, ap, arith}
 use Rattle.std.proofs.lemmas.Bool.Decides.{nat_tests}
 use Rattle.std.specs.Prelude.{Bool, true, false, ◌==◌, if◌then◌else◌}
 use Rattle.h5_bytes.specs.Blocks.{holds, cover, Separate}
 use Rattle.h5_bytes.specs.declared.Block.{Block}
-use Rattle.h5_bytes.proofs.BlockLaws.{holds_in}
 use Rattle.h5_model.specs.Superblock.{leaf_k, internal_k}
 use Rattle.h5_model.specs.Nodes.{node_block, node_bytes, node_length, entries_in, child_in}
 use Rattle.h5_model.specs.Symbols.{symbol_block}
-use Rattle.h5_model.specs.Reached.{Named, Role, named, GroupNode, SymbolNode, Reached, by_block, length_of}
+use Rattle.h5_model.specs.Reached.{Named, Role, named, GroupNode, SymbolNode, Reached, by_block}
 use Rattle.h5_model.specs.TreeFaults.{NodeBreach, SymbolBreach}
 use Rattle.h5_model.specs.declared.open_fault.Cause.{Cause}
 use Rattle.h5_model.specs.declared.open_fault.Cause.TheVariants.{Truncated, Overlap, NodeForm, NoMemory}
 use Rattle.h5_btree.proofs.NodeLaws.{length-children}
 use Rattle.h5_walk.specs.Walked.{IsWalked}
 use Rattle.h5_walk.specs.Met.{IsMet}
-use Rattle.h5_walk.proofs.MetFields.{met_truncated, met_overlaps, met_walked, newly_met}
+use Rattle.h5_walk.proofs.MetFields.{field_after, met_truncated, met_overlaps, met_walked}
 use Rattle.h5_nodes.specs.Trees.{kind_in}
 use Rattle.h5_nodes.specs.Walk.{IsFault}
 use Rattle.h5_nodes.specs.Below.{reading_in, IsStanding}
@@ -41,27 +40,7 @@ module _ (image : List ℕ) (held : List Block) (followed : List Named) (walked 
   node_fault level met NoMemory address e h = tt
   node_fault level met _ address e h = absurd h
 
--- ---- a block that is claimed
-
--- a field of the block is met then
-module _ (image : List ℕ) (held : List Block) (followed : List Named) (walked : IsWalked image held followed) (y : Named) (met : IsMet image held followed y)
-    (now : List Block) (claimed : (p : ℕ) → cover p now ≡ cover p held + holds p y.at (length_of image y)) (apart : Separate now) where
-  field_after : (z : Named) → Reached image z → 8 ≤ z.field → y.at ≤ z.field - 8 → z.field - 8 < y.at + length_of image y → IsMet image now (y ∷ followed) z
-  field_after z reached behind from to =
-      let p = z.field - 8 in
-      let here : holds p y.at (length_of image y) ≡ 1 = holds_in p y.at (length_of image y) from to in
-      let none : cover p held ≡ 0 = omega (arith, here, claimed p, apart p) in
-      let some : 1 ≤ cover p now = omega (arith, here, claimed p) in
-      let new = newly_met image held now followed z walked reached behind none some in
-      record {
-        reached = new.reached;
-        behind = new.behind;
-        stands = new.stands;
-        fresh = (
-          λ e. let one : 1 ≤ cover (z.field - 8) held = subst (λ (f : ℕ). 1 ≤ cover (f - 8) held) e met.stands in omega (arith, one, none),
-          new.fresh,
-        );
-      }
+-- ---- a node that is claimed
 
 -- what stands below a node of a level
 role_is : (root heap level : ℕ) → child_role root heap level ≡ (if level == 0 then SymbolNode root heap else GroupNode root heap (level - 1))

@@ -1,4 +1,5 @@
 pub mod Trees
+pub mod Stands
 pub mod Walk
 pub mod Below
 pub mod Refused

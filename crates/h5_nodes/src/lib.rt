@@ -7,6 +7,8 @@ mod claim;
 mod node;
 mod read;
 mod rows;
+mod stands;
 mod symbol;
 
 pub use read::{GroupTree, read_tree};
+pub use stands::{internal_k, symbol_node, tree_node};

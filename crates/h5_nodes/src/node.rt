@@ -10,10 +10,11 @@ ghost use Rattle.h5_nodes.specs.Trees.{kind_in};
 ghost use Rattle.h5_nodes.specs.Below.{reading_in, IsStanding, IsInner};
 ghost use Rattle.h5_nodes.specs.Refused.{IsRefusedFor};
 
-use crate::claim::{claim, fault, group_kind};
+use crate::claim::claim;
+use crate::stands::group_kind;
 use h5_btree::{Node, read_node};
 use h5_model::{Cause, OpenFault};
-use h5_space::{Claims, Image};
+use h5_space::{Claims, Image, fault};
 
 /// Claims the root of a tree.
 ///
@@ -95,15 +96,4 @@ fn claim_node<'a>(image: &'a Image, claims: &mut Claims, at: u64) -> Result<Node
         Ok(node) => Ok(node),
         Err(_) => Err(fault(Cause::NodeForm, at)),
     }
-}
-
-/// The node at this address, where one of this level was read before.
-pub(crate) fn node_again<'a>(image: &'a Image, at: u64) -> Node<'a>
-    requires superblock { IsSuperblock image.now.bytes }
-    requires stands { (level : ℕ) × IsStanding image.now.bytes level at }
-    ensures { result ≡ reading_in image.now.bytes at }
-{
-    let kind = group_kind(image);
-    let bytes = image.part(at, kind.node_length() as u64).unwrap();
-    read_node(kind, bytes).unwrap()
 }

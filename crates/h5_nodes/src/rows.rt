@@ -10,13 +10,12 @@ ghost use Rattle.h5_nodes.specs.Trees.{kind_in};
 ghost use Rattle.h5_nodes.specs.Below.{reading_in, IsStanding};
 ghost use Rattle.h5_nodes.specs.Rows.{AreAllRows, IsLevel, IsMisnamed};
 
-use crate::claim::fault;
-use crate::node::node_again;
 use crate::read::GroupTree;
+use crate::stands::tree_node;
 use h5_btree::Node;
 use h5_bytes::UNDEF;
 use h5_model::{Cause, OpenFault};
-use h5_space::Image;
+use h5_space::{Image, fault};
 use std::alloc::{AllocError, Global};
 
 /// Lists the rows of a tree that was claimed, from its root, of this level, down to the symbol nodes.
@@ -70,7 +69,7 @@ fn check_siblings(image: &Image, row: &[u64]) -> Result<(), OpenFault>
     let mut left = UNDEF;
     for (k, &at) in row.iter().enumerate() {
         let right = right_of(row, k);
-        let node = node_again(image, at);
+        let node = tree_node(image, at);
         if node.left() != left || node.right() != right {
             return Err(fault(Cause::Sibling, at));
         }
@@ -99,7 +98,7 @@ fn children_of(alloc: Global, image: &Image, row: &[u64]) -> Result<Vec<u64>, Al
 {
     let mut next = Vec::new(alloc);
     for &at in row {
-        push_children(&mut next, &node_again(image, at))?;
+        push_children(&mut next, &tree_node(image, at))?;
     }
     Ok(next)
 }

@@ -11,11 +11,12 @@ ghost use Rattle.h5_nodes.specs.Further.{AreChildrenMet, IsFurther, IsPlaceBelow
 ghost use Rattle.h5_nodes.specs.Refused.{IsRefusedFor};
 ghost use Rattle.h5_nodes.specs.Walk.{IsFault};
 
-use crate::claim::{claim, fault, leaf_k};
+use crate::claim::claim;
+use crate::stands::leaf_k;
 use h5_btree::Node;
 use h5_model::{Cause, OpenFault};
 use h5_snod::read_symbol_node;
-use h5_space::{Claims, Image};
+use h5_space::{Claims, Image, fault};
 
 /// Claims the symbol nodes that a node of level 0 leads to, from left to right.
 pub(crate) fn claim_symbol_nodes(

@@ -1,31 +1,17 @@
 -- Names in a heap's segment, and their order in a symbol node.
-use Rattle.std.proofs.Common.{◌≡◌, ◌≢◌, ℕ, zero, suc, ◌+◌, ◌-◌, ◌<◌, ◌≤◌, List, [], ◌∷◌, length, get_or, slice_get, take, drop, map, Some, refl, sym, ap, subst, ◌∙◌, arith, true, false, Ordering, Less, Equal, Greater, inl, inr}
-use Rattle.std.specs.Prelude.{◌==◌}
+use Rattle.std.proofs.Common.{◌≡◌, ℕ, zero, suc, ◌+◌, ◌-◌, ◌<◌, ◌≤◌, List, [], ◌∷◌, length, get_or, slice_get, take, drop, map, Some, refl, sym, ap, subst, ◌∙◌, arith, true, Ordering, Less, Equal, Greater, inl, inr}
 use Rattle.std.specs.Ordering.{nat_cmp, is_lt, ordering_reverse}
 use Rattle.std.specs.Cmp.Lexicographic.{slice_cmp, nat_list_cmp_total}
 use Rattle.std.specs.FinMap.{nat_cmp-IsAntisymmetric, slice_cmp-IsAntisymmetric}
 use Rattle.std.proofs.lemmas.Bool.{cases_order}
-use Rattle.std.proofs.lemmas.Bool.Decides.{nat_tests}
 use Rattle.std.proofs.lemmas.List.{get_or-take, get_or-drop, length-take, length-drop}
 use Rattle.std.proofs.lemmas.Option.{slice_get-get_or}
 use Rattle.std.proofs.lemmas.List.Elements.{recursion_from_All, All-from_get_or}
-use Rattle.h5_bytes.specs.Texts.{text_at, until_zero}
+use Rattle.h5_bytes.specs.Texts.{text_at}
 use Rattle.h5_model.specs.Links.{Ascend, Before}
 use Rattle.h5_model.specs.Symbols.{Entry, entries_of, link_of, symbols_in}
 use Rattle.h5_snod.specs.Names.{IsPlace, name_at, names_of}
 use Rattle.h5_snod.proofs.EntryLaws.{entry_in, length-entries, get_or-entries}
-
--- ---- one text
-
--- a text ends at the first zero, or where the bytes end
-pub until_at : (xs : List ℕ) (k : ℕ) → k ≤ length xs → ((j : ℕ) → j < k → get_or xs j 0 ≢ 0) → get_or xs k 0 ≡ 0 → until_zero xs ≡ take k xs
-until_at [] zero low before here = refl
-until_at [] (suc k) low before here = absurd (omega arith)
-until_at (x ∷ xs) zero low before here = rw here refl
-until_at (x ∷ xs) (suc k) low before here =
-    let other : x ≢ 0 = before 0 (omega arith) in
-    let test : (x == 0) ≡ false = grind (arith, nat_tests) in
-    rw test (ap (λ (ys : List ℕ). x ∷ ys) (until_at xs k (omega arith) (λ j less. before (suc j) (omega arith)) here))
 
 -- ---- two texts
 

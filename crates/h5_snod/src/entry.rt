@@ -4,7 +4,7 @@ ghost use Rattle.std.specs.Prelude.{◌≡◌, length};
 ghost use Rattle.h5_model.specs.Symbols.{entry_of};
 ghost use Rattle.h5_snod.specs.Entries.{symbol_from};
 
-use crate::numbers::{u32_at, u64_at};
+use h5_bytes::{u32_at, u64_at};
 
 /// The cache type of a soft link's entry.
 const SOFT_LINK: u32 = 2;

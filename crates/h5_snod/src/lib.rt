@@ -6,7 +6,6 @@
 
 mod entry;
 mod node;
-mod numbers;
 mod read;
 mod search;
 mod write;

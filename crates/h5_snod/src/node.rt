@@ -9,8 +9,8 @@ ghost use Rattle.h5_snod.specs.Entries.{symbol_from};
 ghost use Rattle.h5_snod.specs.Names.{IsPlace, names_of};
 
 use crate::entry::{SymbolEntry, read_entry};
-use crate::numbers::u16_at;
 use crate::search::{entry_name, find_name};
+use h5_bytes::u16_at;
 use std::marker::Model;
 
 /// How many bytes stand before the first entry.

@@ -1,13 +1,12 @@
 //! The reading of a symbol node's form (File Format Specification 3.0, section III.B).
 
-ghost use Rattle.std.specs.Prelude.{◌≡◌, ℕ, ◌↔◌, ◌+◌, ◌*◌, ◌<◌, ◌≤◌, IsTrue, IfErr, IfOk, OnOk, MatchBool, length};
+ghost use Rattle.std.specs.Prelude.{◌≡◌, ℕ, ◌+◌, ◌*◌, ◌<◌, ◌≤◌, IfErr, IfOk, OnOk, MatchBool, length};
 ghost use Rattle.std.specs.List.{AllByRecursion};
-ghost use Rattle.h5_bytes.specs.Bytes.{part};
-ghost use Rattle.h5_model.specs.Symbols.{IsEntry, IsSymbolNode, entries_of, symbol_signature, symbols_in};
+ghost use Rattle.h5_model.specs.Symbols.{IsEntry, IsSymbolNode, entries_of, symbols_in};
 ghost use Rattle.h5_snod.specs.Form.{BreaksForm, cache_at};
 
 use crate::node::{SymbolNode, entry_bytes};
-use crate::numbers::{u16_at, u32_at};
+use h5_bytes::{begins_with, u16_at, u32_at};
 
 /// The first four bytes of a symbol node.
 static SIGNATURE: [u8; 4] = *b"SNOD";
@@ -33,7 +32,7 @@ pub fn read_symbol_node(leaf: u16, bytes: &[u8]) -> Result<SymbolNode<'_>, NodeF
     ensures entries { OnOk result (AllByRecursion IsEntry (entries_of bytes.now)) }
     ensures refused { IfErr result (λ fault. (fault ≡ NodeFault.NodeForm) × BreaksForm leaf bytes.now) }
 {
-    if !is_signed(bytes)
+    if !begins_with(bytes, &SIGNATURE)
         || bytes[4] != 1
         || usize::from(u16_at(bytes, 6)) > 2 * usize::from(leaf)
         || !are_known(bytes)
@@ -53,14 +52,6 @@ pub fn known_symbol_node(leaf: u16, bytes: &[u8]) -> SymbolNode<'_>
     // K counts in the contract alone: the bytes say how many entries there are.
     let _leaf = leaf;
     SymbolNode::new(bytes)
-}
-
-/// Whether the bytes begin with the signature.
-fn is_signed(bytes: &[u8]) -> bool
-    requires { 4 ≤ length bytes.now }
-    ensures { IsTrue result ↔ (part 0 4 bytes.now ≡ symbol_signature) }
-{
-    bytes.starts_with(&SIGNATURE)
 }
 
 /// Whether each entry has one of the three cache types.

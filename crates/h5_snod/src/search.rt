@@ -1,13 +1,12 @@
 //! The search for a name in a symbol node (File Format Specification 3.0, section III.B).
 
 ghost use Rattle.std.specs.Prelude.{◌≡◌, ◌+◌, ◌*◌, ◌<◌, ◌≤◌, IfErr, IfOk, Some, length, map, slice_get};
-ghost use Rattle.h5_bytes.specs.Texts.{text_at, until_zero};
 ghost use Rattle.h5_model.specs.Links.{Ascend};
 ghost use Rattle.h5_model.specs.Symbols.{entries_of, link_of, symbols_in};
 ghost use Rattle.h5_snod.specs.Names.{IsPlace, name_at, names_of};
 
 use crate::node::entry_bytes;
-use crate::numbers::u64_at;
+use h5_bytes::{text_from, u64_at};
 use std::cmp::Ordering;
 
 /// Where the entry of this name stands, or else where one would stand.
@@ -42,27 +41,4 @@ pub(crate) fn entry_name<'a>(bytes: &[u8], k: usize, segment: &'a [u8]) -> &'a [
     ensures { result.now ≡ name_at segment.now bytes.now k }
 {
     text_from(segment, u64_at(entry_bytes(bytes, k), 0))
-}
-
-/// The text at an offset, which is empty where the offset passes the end.
-#[tactic(auto, unfolding(h5_bytes::specs::Texts::text_at))]
-fn text_from(segment: &[u8], offset: u64) -> &[u8]
-    ensures { result.now ≡ text_at segment.now offset }
-{
-    if offset >= segment.len() as u64 {
-        return &[];
-    }
-    before_zero(&segment[offset as usize..])
-}
-
-/// The bytes before the first zero.
-fn before_zero(bytes: &[u8]) -> &[u8]
-    ensures { result.now ≡ until_zero bytes.now }
-{
-    for (end, byte) in bytes.iter().enumerate() {
-        if *byte == 0 {
-            return &bytes[..end];
-        }
-    }
-    bytes
 }

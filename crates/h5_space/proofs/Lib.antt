@@ -4,3 +4,4 @@ pub mod GivingLaws
 pub mod PartLaws
 pub mod WholeLaws
 pub mod IslandLaws
+pub mod Unheld

@@ -4,8 +4,10 @@
 #![tactic(auto)]
 
 mod claims;
+mod faults;
 mod free_list;
 mod image;
 
 pub use claims::{ClaimFault, Claims};
+pub use faults::{claim, fault};
 pub use image::{Image, SpaceFault};

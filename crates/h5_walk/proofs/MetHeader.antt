@@ -16,7 +16,7 @@ use Rattle.h5_walk.proofs.MessagePlaces.{messages_placed}
 use Rattle.h5_walk.proofs.SpanLaws.{span_of, header_spans, all_low, found_covers, inside_apart}
 use Rattle.h5_walk.proofs.DataLaws.{found_all}
 
-header_others : (field header depth : ℕ) (followed : List Named) → AllByRecursion (λ (y : Named). y.field ≢ field) followed
+pub header_others : (field header depth : ℕ) (followed : List Named) → AllByRecursion (λ (y : Named). y.field ≢ field) followed
     → AllByRecursion (λ (y : Named). y.at ≡ header → is_header y.role ≡ false) followed → AllByRecursion (IsOther (named field ObjectHeader header depth)) followed
 header_others field header depth [] fresh alone = tt
 header_others field header depth (y ∷ ys) fresh alone = ((fresh.0, λ e. rw (alone.0 e) refl), header_others field header depth ys fresh.1 alone.1)

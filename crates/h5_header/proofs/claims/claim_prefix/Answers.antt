@@ -2,13 +2,13 @@ use Rattle.std.proofs.Common.{◌≡◌, ◌+◌, length, refl, sym, ◌∙◌, 
 use Rattle.std.proofs.lemmas.Result.{err_from_is_err_and}
 use Rattle.h5_bytes.specs.Blocks.{block}
 use Rattle.h5_model.specs.Messages.{prefix_at, first_size}
+use Rattle.h5_space.specs.Claimed.{ClaimBreach}
 use Rattle.h5_header.specs.Refused.{header_block}
-use Rattle.h5_header.specs.Progress.{ClaimBreach}
 use Rattle.h5_header.proofs.PrefixLaws.{first_size-is, version-is, prefix_breach}
 use Rattle.h5_header.proofs.claims.claim_prefix.Goals as goal
 
 pub returns-then-image-header-ne1-clause-refused : goal.returns-then-image-header-ne1-clause-refused
-returns-then-image-header-ne1-clause-refused c = (refl, omega arith, λ one. c.if-image-header-ne1.true (sym (version-is c.args.image.now c.args.header) ∙ one))
+returns-then-image-header-ne1-clause-refused c = rw c.fault-then-image-header-ne1.ensures (refl, omega arith, λ one. c.if-image-header-ne1.true (sym (version-is c.args.image.now c.args.header) ∙ one))
 
 pub returns-in_err-claim-clause-refused : goal.returns-in_err-claim-clause-refused
 returns-in_err-claim-clause-refused c =

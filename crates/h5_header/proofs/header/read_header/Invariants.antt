@@ -1,7 +1,7 @@
 use Rattle.std.proofs.Common.{◌-◌, ◌≡◌, ◌+◌, length}
 use Rattle.h5_bytes.specs.Blocks.{Separate}
 use Rattle.h5_header.specs.Progress.{ReadThrough}
-use Rattle.h5_header.proofs.Unheld.{unheld}
+use Rattle.h5_space.proofs.Unheld.{unheld}
 use Rattle.h5_header.proofs.header.read_header.Given as goal
 
 abbrev pub invariant-loop-next : goal.invariant-loop-next

@@ -1,6 +1,6 @@
 use Rattle.std.proofs.Common.{◌≡◌, ◌≤◌, inl, inr, [], ◌∷◌, ◌++◌, length, ◌∙◌, rules, arith}
 use Rattle.std.proofs.lemmas.Result.{err_from_is_err_and}
-use Rattle.h5_heap.proofs.Unheld.{unheld-claim}
+use Rattle.h5_space.proofs.Unheld.{unheld-claim}
 use Rattle.h5_heap.proofs.FreeLaws.{StandsFor, walked_more, walked_end, walked_no_further}
 use Rattle.h5_heap.proofs.free_list.read_free.Goals as goal
 use Rattle.h5_heap.proofs.free_list.read_free.Goals.{then-head-eq-UNDEF, else-head-eq-UNDEF}

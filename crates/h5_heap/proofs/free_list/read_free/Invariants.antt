@@ -1,6 +1,6 @@
 use Rattle.std.proofs.Common.{◌≡◌, length}
 use Rattle.h5_bytes.specs.Blocks.{Separate}
-use Rattle.h5_heap.proofs.Unheld.{unheld}
+use Rattle.h5_space.proofs.Unheld.{unheld}
 use Rattle.h5_heap.proofs.FreeLaws.{IsWalked}
 use Rattle.h5_heap.proofs.free_list.read_free.Given as goal
 

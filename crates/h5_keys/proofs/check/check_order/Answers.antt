@@ -7,14 +7,16 @@ use Rattle.h5_model.specs.Rows.{Node}
 use Rattle.h5_model.specs.Symbols.{link_of}
 use Rattle.h5_model.specs.TreeFaults.{all_entries}
 use Rattle.h5_nodes.specs.Trees.{kind_in}
-use Rattle.h5_keys.specs.Below.{HasSubtree, HasSymbols, IsNodeOrdered, nodes_from}
+use Rattle.h5_nodes.specs.Stands.{IsSymbolsAt}
+use Rattle.h5_nodes.proofs.StandLaws.{symbols_stand}
+use Rattle.h5_keys.specs.Below.{HasSubtree, IsNodeOrdered, nodes_from}
 use Rattle.h5_keys.specs.Rising.{FallAt}
-use Rattle.h5_keys.proofs.TreeLaws.{all_owned, key_fault, name_fault, root_stands, symbols_stand}
+use Rattle.h5_keys.proofs.TreeLaws.{all_owned, key_fault, name_fault, root_stands}
 use Rattle.h5_keys.proofs.check.check_order.Goals as goal
 
 pub check_names-requires-clause-symbols : goal.check_names-requires-clause-symbols
 check_names-requires-clause-symbols c =
-    subst (AllByRecursion (HasSymbols c.args.image.now.bytes)) (sym c.deref.ensures.value)
+    subst (AllByRecursion (IsSymbolsAt c.args.image.now.bytes)) (sym c.deref.ensures.value)
     (symbols_stand c.args.image.now.bytes c.args.table.tree c.args.tree.now.nodes.items c.args.tree.now.symbol_nodes.items c.requires.tree c.requires.inside)
 
 pub returns-in_err-check_names-clause-refused : goal.returns-in_err-check_names-clause-refused

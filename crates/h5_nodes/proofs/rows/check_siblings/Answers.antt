@@ -11,12 +11,12 @@ returns-then-left-clause-refused c =
     let row = c.args.row.now in
     let k = c.loop-k.k in
     let low : k < length row = omega arith in
-    let left : c.left.result ≡ (V (get_or row k 0)).left = c.left.ensures ∙ ap (λ (n : Node). n.left) c.node_again-node.ensures in
+    let left : c.left.result ≡ (V (get_or row k 0)).left = c.left.ensures ∙ ap (λ (n : Node). n.left) c.tree_node-node.ensures in
     rw c.fault.ensures (
       refl,
       misnamed_at V row k 0 c.loop-k.left c.right_of-right.result low c.loop-k.invariant.before c.right_of-right.ensures (elim c.then-left.branch [
         | then-left-via-then-left w ↦ inl (λ e. w.if-left.true (left ∙ e))
-        | then-left-via-else-left+then-right w ↦ inr (λ e. w.if-right.true (w.right.ensures ∙ ap (λ (n : Node). n.right) c.node_again-node.ensures ∙ e))
+        | then-left-via-else-left+then-right w ↦ inr (λ e. w.if-right.true (w.right.ensures ∙ ap (λ (n : Node). n.right) c.tree_node-node.ensures ∙ e))
       ]),
     )
 
@@ -26,9 +26,9 @@ loop-k-preserved c =
     let row = c.args.row.now in
     let k = c.loop-k.k in
     let low : k < length row = omega arith in
-    let left : (V (get_or row k 0)).left ≡ c.loop-k.left = sym (c.left.ensures ∙ ap (λ (n : Node). n.left) c.node_again-node.ensures) ∙ c.if-left.false in
+    let left : (V (get_or row k 0)).left ≡ c.loop-k.left = sym (c.left.ensures ∙ ap (λ (n : Node). n.left) c.tree_node-node.ensures) ∙ c.if-left.false in
     let right : (V (get_or row k 0)).right ≡ first_or_undefined (drop (k + 1) row)
-    = sym (c.right.ensures ∙ ap (λ (n : Node). n.right) c.node_again-node.ensures) ∙ c.if-right.false ∙ c.right_of-right.ensures in
+    = sym (c.right.ensures ∙ ap (λ (n : Node). n.right) c.tree_node-node.ensures) ∙ c.if-right.false ∙ c.right_of-right.ensures in
     record {
       before = sym (last_taken row k 0 low);
       rows = λ level stand is. c.loop-k.invariant.rows level stand

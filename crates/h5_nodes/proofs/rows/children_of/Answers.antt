@@ -11,8 +11,8 @@ loop-at-preserved c =
     let row = c.args.row.now in
     let k = c.loop-at.at-index in
     let low : k < length row = omega arith in
-    let read : c.node_again.result.children ≡ (V (get_or row k 0)).children = ap (λ (n : Node). n.children) c.node_again.ensures in
-    c.in_ok-push_children.ensures ∙ ap (λ (xs : List ℕ). xs ++ c.node_again.result.children) c.loop-at.invariant
+    let read : c.tree_node.result.children ≡ (V (get_or row k 0)).children = ap (λ (n : Node). n.children) c.tree_node.ensures in
+    c.in_ok-push_children.ensures ∙ ap (λ (xs : List ℕ). xs ++ c.tree_node.result.children) c.loop-at.invariant
     ∙ ap (λ (xs : List ℕ). next_row V (take k row) ++ xs) read ∙ sym (next_taken V row k 0 low)
 
 pub returns : goal.returns

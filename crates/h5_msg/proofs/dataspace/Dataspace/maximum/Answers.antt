@@ -10,8 +10,8 @@ overflow_mul-k c = let room = room_in c.self.inside.body.now c.self.invariant in
 pub overflow_add-from-2 : goal.overflow_add-from-2
 overflow_add-from-2 c = let room = room_in c.self.inside.body.now c.self.invariant in let long = length-sizes c.self.inside.body.now c.args.self.now c.self.view_is in omega arith
 
-pub number-maximum-requires : goal.number-maximum-requires
-number-maximum-requires c =
+pub u64_at-maximum-requires : goal.u64_at-maximum-requires
+u64_at-maximum-requires c =
     let room = room_in c.self.inside.body.now c.self.invariant in
     let long = length-sizes c.self.inside.body.now c.args.self.now c.self.view_is in
     let flag : byte_at c.self.inside.body.now 2 ≡ 1 = grind (arith, room.flag) in
@@ -27,12 +27,12 @@ pub returns-then-maximum : goal.returns-then-maximum
 returns-then-maximum c =
     let room = room_in c.self.inside.body.now c.self.invariant in
     let there = maximum_at c.self.inside.body.now c.args.self.now c.args.k c.self.view_is c.requires in
-    let read : c.number-maximum.result ≡ number_at c.self.inside.body.now (8 + 8 * rank_in c.self.inside.body.now + 8 * c.args.k) 8 = cc in
-    there ∙ ap (λ (x : Option ℕ). Some x) (maximum_unlimited c.self.inside.body.now c.args.k c.number-maximum.result room.flag c.if-self-eq0.false read c.if-maximum.true)
+    let read : c.u64_at-maximum.result ≡ number_at c.self.inside.body.now (8 + 8 * rank_in c.self.inside.body.now + 8 * c.args.k) 8 = cc in
+    there ∙ ap (λ (x : Option ℕ). Some x) (maximum_unlimited c.self.inside.body.now c.args.k c.u64_at-maximum.result room.flag c.if-self-eq0.false read c.if-maximum.true)
 
 pub returns-else-maximum : goal.returns-else-maximum
 returns-else-maximum c =
     let room = room_in c.self.inside.body.now c.self.invariant in
     let there = maximum_at c.self.inside.body.now c.args.self.now c.args.k c.self.view_is c.requires in
-    let read : c.number-maximum.result ≡ number_at c.self.inside.body.now (8 + 8 * rank_in c.self.inside.body.now + 8 * c.args.k) 8 = cc in
-    there ∙ ap (λ (x : Option ℕ). Some x) (maximum_limited c.self.inside.body.now c.args.k c.number-maximum.result room.flag c.if-self-eq0.false read c.if-maximum.false)
+    let read : c.u64_at-maximum.result ≡ number_at c.self.inside.body.now (8 + 8 * rank_in c.self.inside.body.now + 8 * c.args.k) 8 = cc in
+    there ∙ ap (λ (x : Option ℕ). Some x) (maximum_limited c.self.inside.body.now c.args.k c.u64_at-maximum.result room.flag c.if-self-eq0.false read c.if-maximum.false)

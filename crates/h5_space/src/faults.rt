@@ -1,22 +1,20 @@
-//! Claims of a heap's blocks, each refusal with its address.
+//! Faults of opening, and claims that are refused with one.
 
 ghost use Rattle.std.specs.Prelude.{◌≡◌, ℕ, ◌+◌, ◌≤◌, OnOk, IfErr};
 ghost use Rattle.h5_bytes.specs.Blocks.{holds, cover, Separate};
-ghost use Rattle.h5_heap.specs.Refused.{ClaimBreach};
+ghost use Rattle.h5_space.specs.Claimed.{ClaimBreach};
 
+use crate::claims::{ClaimFault, Claims};
 use h5_bytes::Block;
 use h5_model::{Cause, OpenFault};
-use h5_space::{ClaimFault, Claims};
 
 /// Claims a block; a refusal has the block's address.
-pub(crate) fn claim(claims: &mut Claims, block: Block) -> Result<(), OpenFault>
+pub fn claim(claims: &mut Claims, block: Block) -> Result<(), OpenFault>
     ensures inside { OnOk result (block.at + block.len ≤ claims.old.end) }
-    ensures claimed { OnOk result ((p : ℕ)
-        → cover p claims.new.held ≡ cover p claims.old.held + holds p block.at block.len) }
+    ensures claimed { OnOk result ((p : ℕ) → cover p claims.new.held ≡ cover p claims.old.held + holds p block.at block.len) }
     ensures separate { Separate claims.new.held }
     ensures end { claims.new.end ≡ claims.old.end }
-    ensures refused { IfErr result (λ fault.
-        ClaimBreach claims.old.end claims.old.held block fault.cause fault.address) }
+    ensures refused { IfErr result (λ fault. ClaimBreach claims.old.end claims.old.held block fault.cause fault.address) }
 {
     let cause = match claims.claim(block.at, block.len) {
         Ok(()) => return Ok(()),
@@ -27,7 +25,8 @@ pub(crate) fn claim(claims: &mut Claims, block: Block) -> Result<(), OpenFault>
     Err(fault(cause, block.at))
 }
 
-pub(crate) fn fault(cause: Cause, address: u64) -> OpenFault
+/// The fault of this cause, at this address.
+pub fn fault(cause: Cause, address: u64) -> OpenFault
     ensures { result ≡ record { cause = cause; address = address } }
 {
     OpenFault { cause, address }

@@ -1,7 +1,7 @@
 use Rattle.std.proofs.Common.{◌≡◌, get_or, arith, sym, ◌∙◌}
 use Rattle.std.proofs.lemmas.List.{take_all, get_or_past}
-use Rattle.h5_btree.proofs.TextLaws.{until_at}
-use Rattle.h5_btree.proofs.name.before_zero.Goals as goal
+use Rattle.h5_bytes.proofs.TextLaws.{until_at}
+use Rattle.h5_bytes.proofs.texts.before_zero.Goals as goal
 
 pub returns-then-byte-eq0 : goal.returns-then-byte-eq0
 returns-then-byte-eq0 c = sym (until_at c.args.bytes.now c.loop-end.end (omega arith) c.loop-end.invariant c.if-byte-eq0.true)

@@ -2,7 +2,7 @@ use Rattle.std.proofs.Common.{sym}
 use Rattle.std.proofs.lemmas.Bool.Decides.{Decides-eqb}
 use Rattle.std.proofs.lemmas.Slice.Eq.{slice_eq-Decides}
 use Rattle.h5_bytes.specs.Bytes.{part}
-use Rattle.h5_snod.proofs.read.is_signed.Goals as goal
+use Rattle.h5_bytes.proofs.texts.begins_with.Goals as goal
 
 pub returns : goal.returns
 unfolding part
