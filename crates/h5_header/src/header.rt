@@ -1,6 +1,6 @@
 //! The messages of an object header (File Format Specification 3.0, section IV.A.1.a).
 
-ghost use Rattle.std.specs.Prelude.{◌≡◌, ℕ, ◌+◌, ◌<◌, ◌≤◌, Some, length, slice_get, option_map, IfOk, IfErr, OnOk};
+ghost use Rattle.std.specs.Prelude.{◌≡◌, ◌+◌, ◌<◌, ◌≤◌, Some, length, slice_get, option_map, IfOk, IfErr, OnOk};
 ghost use Rattle.h5_bytes.specs.Blocks.{Separate};
 ghost use Rattle.h5_bytes.specs.Bytes.{byte_at};
 ghost use Rattle.h5_model.specs.Messages.{prefix_at, reference_count};

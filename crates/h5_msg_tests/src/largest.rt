@@ -1,6 +1,6 @@
 //! The largest bodies: a message has at most 65528 bytes.
 
-ghost use Rattle.std.specs.Prelude.{◌≡◌, ◌<◌, ◌^◌, length};
+ghost use Rattle.std.specs.Prelude.{◌≡◌, ◌<◌};
 ghost use Rattle.std.specs.List.{list_all};
 ghost use Rattle.h5_model.specs.Fixed.{fits as is_of_type};
 

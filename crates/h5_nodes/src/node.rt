@@ -1,6 +1,6 @@
 //! The nodes of a group's tree (File Format Specification 3.0, section III.A.1).
 
-ghost use Rattle.std.specs.Prelude.{◌≡◌, ◌≢◌, ℕ, ◌+◌, ◌≤◌, length, IfOk, IfErr, OnOk};
+ghost use Rattle.std.specs.Prelude.{◌≡◌, ℕ, ◌+◌, ◌≤◌, length, IfOk, IfErr, OnOk};
 ghost use Rattle.h5_bytes.specs.Blocks.{holds, cover, Separate};
 ghost use Rattle.h5_model.specs.Superblock.{IsSuperblock};
 ghost use Rattle.h5_model.specs.Nodes.{IsNode, entries_in, node_block, node_bytes, node_length};

@@ -1,6 +1,6 @@
 //! The rows of a group's tree (File Format Specification 3.0, section III.A.1).
 
-ghost use Rattle.std.specs.Prelude.{◌≡◌, ◌++◌, ◌∷◌, [], ℕ, ◌≤◌, ◌⊎◌, List, ◌+◌, ◌<◌, length, drop, IfOk, IfErr, OnOk};
+ghost use Rattle.std.specs.Prelude.{◌≡◌, ◌++◌, ◌∷◌, [], ℕ, ◌⊎◌, List, ◌+◌, ◌<◌, length, drop, IfOk, IfErr, OnOk};
 ghost use Rattle.std.specs.List.{AllByRecursion};
 ghost use Rattle.h5_bytes.specs.Bytes.{undefined};
 ghost use Rattle.h5_model.specs.Superblock.{IsSuperblock};

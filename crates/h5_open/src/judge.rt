@@ -1,7 +1,6 @@
 //! What the messages of an object's header have to be.
 
-ghost use Rattle.std.specs.Prelude.{◌≡◌, ◌⊎◌, ℕ, Option, List, IfOk, IfErr, IfSome, IfNone, OnOk, length};
-ghost use Rattle.h5_bytes.specs.declared.Block.{Block};
+ghost use Rattle.std.specs.Prelude.{◌≡◌, Option, IfOk, IfErr, IfSome, IfNone, OnOk, length};
 ghost use Rattle.h5_attr.specs.Attributes.{HasNamesOnce};
 ghost use Rattle.h5_header.specs.Kinds.{IsOfDataset};
 ghost use Rattle.h5_header.specs.Listed.{messages_in, IsWithin};

@@ -5,7 +5,7 @@ ghost use Rattle.h5_model.specs.Plain.{extent_body, type_body, fill_body, contig
 ghost use Rattle.h5_model.specs.Fixed.{fits};
 ghost use Rattle.h5_model.specs.Tree.{are_sizes};
 ghost use Rattle.h5_bodies.specs.Bodies.{maximum_word, space_body};
-ghost use Rattle.h5_plain.specs.ArrayHeader.{array_list, fill_list, group_written, header_written, messages_count as count_of, messages_size as size_of};
+ghost use Rattle.h5_plain.specs.ArrayHeader.{fill_list, group_written, header_written, messages_count as count_of, messages_size as size_of};
 ghost use Rattle.h5_plain.specs.Parts.{prefix_bytes, message_head};
 ghost use Rattle.h5_plain.specs.Written.{IsWritable};
 

@@ -1,6 +1,6 @@
 //! Objects as they are appended: a header, and behind it what belongs to it (File Format Specification 3.0, sections III and IV.A).
 
-ghost use Rattle.std.specs.Prelude.{◌≡◌, ℕ, ◌+◌, ◌^◌, ◌<◌, ◌≤◌, ◌++◌, List, OnOk, Some, length, map, slice_get, slice_index};
+ghost use Rattle.std.specs.Prelude.{◌≡◌, ◌+◌, ◌^◌, ◌<◌, ◌≤◌, ◌++◌, List, OnOk, Some, length, map, slice_get, slice_index};
 ghost use Rattle.std.specs.List.{AllByRecursion, AllZip, flat_map};
 ghost use Rattle.h5_bodies.specs.Sound.{AreK};
 ghost use Rattle.h5_model.specs.Tree.{Object};

@@ -4,9 +4,6 @@ ghost use Rattle.std.specs.Prelude.{◌≡◌, ◌+◌, ◌<◌, ◌≤◌, ◌^
 ghost use Rattle.std.specs.List.{AllByRecursion, AllZip, flat_map};
 ghost use Rattle.h5_model.specs.Tree.{Object, Tree};
 ghost use Rattle.h5_bodies.specs.Sound.{AreK};
-ghost use Rattle.h5_sound.specs.Sound.{IsSoundTree};
-ghost use Rattle.h5_image.specs.Plain.{ArePlain};
-ghost use Rattle.h5_objects.specs.Objects.{AreObjects};
 ghost use Rattle.h5_write.specs.Layout.{IsHeldObject, IsLowLayout, IsLowSize, IsSize, front_at, numbered_at};
 ghost use Rattle.h5_write.specs.Written.{IsHeld, IsWritten, IsUnwritten};
 
