@@ -22,7 +22,7 @@ use Rattle.h5_tree.specs.Kept.{IsOpened}
 use Rattle.h5_tree.specs.Objects.{headers, object_in, tree_of}
 use Rattle.h5_tree.specs.declared.object.OpenedObject.{OpenedObject}
 use Rattle.h5_tree.proofs.Entries.{get_tree}
-use Rattle.h5_edit.proofs.FewObjects.{few_objects}
+use Rattle.h5_tree.proofs.Numbers.{few_objects}
 use Rattle.h5_edit.proofs.Numbered.{numbered_map, len_numbered}
 
 -- ---- the tree of an opened image

@@ -4,7 +4,7 @@ use Rattle.h5_model.specs.declared.edits.Edit.TheVariants.{CreateDataset}
 use Rattle.h5_tree.specs.State.{opened_state}
 use Rattle.h5_edit.specs.Carried.{IsRefused}
 use Rattle.h5_edit.proofs.Answered.{IsFitting, sound_change, plain_change, answered}
-use Rattle.h5_edit.proofs.FewObjects.{few_objects}
+use Rattle.h5_tree.proofs.Numbers.{few_objects}
 use Rattle.h5_edit.proofs.Fitting.{array_fits}
 use Rattle.h5_edit.proofs.Refusals.{by_rule, not_carried}
 use Rattle.h5_edit.proofs.links.new_array.Goals as goal

@@ -4,7 +4,7 @@ use Rattle.h5_model.specs.declared.edits.Edit.TheVariants.{CreateGroup}
 use Rattle.h5_tree.specs.State.{opened_state}
 use Rattle.h5_edit.specs.Carried.{IsRefused}
 use Rattle.h5_edit.proofs.Answered.{IsFitting, sound_change, plain_change, answered}
-use Rattle.h5_edit.proofs.FewObjects.{few_objects}
+use Rattle.h5_tree.proofs.Numbers.{few_objects}
 use Rattle.h5_edit.proofs.Fitting.{group_fits}
 use Rattle.h5_edit.proofs.Refusals.{by_rule}
 use Rattle.h5_edit.proofs.links.new_group.Goals as goal
