@@ -1,5 +1,4 @@
 pub mod Numbered
-pub mod FewObjects
 pub mod Changes
 pub mod Low
 pub mod Refusals
