@@ -9,7 +9,7 @@ use Rattle.h5_model.specs.Links.{Before, NotAfter}
 abbrev order : List ℕ → List ℕ → Ordering
 order a b = slice_cmp nat_cmp a b
 
-pub is_less : (r : Ordering) → IsTrue (is_lt r) → r ≡ Less
+is_less : (r : Ordering) → IsTrue (is_lt r) → r ≡ Less
 is_less Less h = refl
 is_less Equal h = cc
 is_less Greater h = cc
@@ -28,9 +28,6 @@ pub before_itself : (a : List ℕ) → Before a a → ⊥
 before_itself a less = let never : false ≡ true = rw (tied_itself nat_list_cmp_total a) at less in cc
 
 -- ---- three names
-
-pub before_trans : (a b c : List ℕ) → Before a b → Before b c → Before a c
-before_trans a b c h k = ap is_lt (nat_list_cmp_total.trans a b c (is_less (order a b) h) (is_less (order b c) k))
 
 pub after_trans : (a b c : List ℕ) → NotAfter a b → Before b c → Before a c
 after_trans a b c h k = elim (less_or_equal (order a b) h) [
