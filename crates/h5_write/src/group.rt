@@ -1,6 +1,6 @@
 //! Links as they are written, with the addresses to which they lead (File Format Specification 3.0, section III.C).
 
-ghost use Rattle.std.specs.Prelude.{◌≡◌, IfOk, map};
+ghost use Rattle.std.specs.Prelude.{◌≡◌, [], IfOk, map};
 ghost use Rattle.h5_segment.specs.Links.{leads_of, link_of};
 ghost use Rattle.h5_objects.specs.Objects.{tree_link};
 ghost use Rattle.h5_write.specs.Layout.{IsLowLayout, leads_by, written_at};
@@ -21,7 +21,10 @@ pub(crate) struct Layout<'a> {
 
 /// A layout in which no object stands yet.
 pub(crate) fn nowhere<'a>(leaf: u16, internal: u16) -> Layout<'a>
-    ensures { IsLowLayout result }
+    ensures low { IsLowLayout result }
+    ensures leaf { result.leaf ≡ leaf }
+    ensures internal { result.internal ≡ internal }
+    ensures none { result.sizes.now ≡ [] }
 {
     Layout {
         leaf,
