@@ -25,7 +25,7 @@ pub carry_out-requires-clause-edit : goal.carry_out-requires-clause-edit
 carry_out-requires-clause-edit c = (
   CreateDataset c.args.path.now c.args.spec.now,
   rw c.link_at-change.ensures
-  (array_fits c.requires c.args.spec c.size-size.ensures.one_of (sym c.is_one_line.ensures ∙ c.if-not-is_one_line.false) c.in_ok-place.ensures c.next_object.ensures),
+      (array_fits c.requires c.args.spec c.size-size.ensures.one_of (sym c.is_one_line.ensures ∙ c.if-not-is_one_line.false) c.in_ok-place.ensures c.next_object.ensures),
 )
 
 pub returns : goal.returns
