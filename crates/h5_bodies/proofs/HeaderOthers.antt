@@ -7,8 +7,6 @@ use Rattle.std.proofs.lemmas.List.{length-map}
 use Rattle.std.proofs.lemmas.List.Sums.{sum_by-cons}
 use Rattle.std.specs.Prelude.{sum_by, option_map}
 use Rattle.std.specs.List.{AllByRecursion, AllZip, filter, find}
-use Rattle.std.specs.Ordering.{nat_cmp}
-use Rattle.std.specs.Cmp.Lexicographic.{slice_cmp}
 use Rattle.std.specs.FinMap.{entries, len, len-entries}
 use Rattle.h5_bytes.specs.Texts.{pad8}
 use Rattle.h5_bytes.proofs.BlockLaws.{all_append}
@@ -18,9 +16,7 @@ use Rattle.h5_model.specs.Plain.{message_bytes, messages_bytes}
 use Rattle.h5_model.specs.Reads.{HasAttributes, is_kept, kept_of, is_attribute_message}
 use Rattle.h5_model.specs.Sizes.{attribute_message as attribute_length, kept_message as kept_length, attribute_size}
 use Rattle.h5_model.specs.AttributeBody.{attribute_of}
-use Rattle.h5_model.specs.Tree.{Object, Content, Attribute, Kept}
-use Rattle.h5_model.specs.Edits.{new_object}
-use Rattle.h5_model.proofs.EmptyReads.{entries-empty}
+use Rattle.h5_model.specs.Tree.{Object, Attribute, Kept}
 use Rattle.h5_model.proofs.PlainMessages.{IsPlain, messages_from}
 use Rattle.h5_bodies.specs.Bodies.{attribute_message, kept_message, others_of}
 use Rattle.h5_bodies.specs.Sound.{IsPlainKept, IsPlainAttribute, IsPlainObject}
@@ -264,7 +260,3 @@ module _ (o : Object) (is : IsPlainObject o) where
 
       pub first_body-content : first_body k ms ≡ first_body k (messages_from at cs)
       first_body-content = found_before k at cs (others_of o) differ
-
--- a new object has none of them
-pub no_others : (content : Content) → others_of (new_object content) ≡ []
-no_others content = ap (map attribute_message) (entries-empty {X = Attribute} (slice_cmp nat_cmp))

@@ -105,13 +105,6 @@ module _ (image : List ℕ) (kind : Kind) (root level : ℕ) (owned children : L
   pub level_of_root : (node_at image kind root).level ≡ level
   level_of_root = ap (λ (n : Node). n.level) (sym (read_here image kind owned level root t.low root_level)) ∙ root_level
 
-  pub reads_root : (fault : NodeFault) → IsRefusedAt image kind root fault → ⊥
-  reads_root fault refused =
-      let own = owned_here image kind owned level root t.low root_level in
-      read_all image kind root fault
-      (at_listed (λ a. a + node_length kind ≤ length image) owned root (inside_each kind (length image) owned inside) own)
-      (at_listed (λ a. IsNode kind (node_bytes image kind a)) owned root t.formed own) refused
-
   pub root_may : MayBeRoot (node_at image kind root)
   root_may =
       let own = owned_here image kind owned level root t.low root_level in

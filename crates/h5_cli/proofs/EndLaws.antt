@@ -7,7 +7,7 @@ use Rattle.h5_tree.specs.State.{FileState}
 use Rattle.h5_file.specs.State.{IsSound}
 use Rattle.h5_order.specs.Words.{Wanted, WantDump, WantRun}
 use Rattle.h5_cli.specs.Output.{IsDumpText, IsScriptRun}
-use Rattle.h5_cli.specs.Ends.{Ends, Refuses, IsRunOver}
+use Rattle.h5_cli.specs.Ends.{Ends, IsRunOver}
 use Rattle.h5_cli.specs.declared.status.Status.{Status}
 use Rattle.h5_cli.specs.declared.status.Status.TheVariants.{Done, CommandRefused, WrongWords, ImageRefused, StreamFailed, NoMemory}
 
@@ -38,11 +38,6 @@ dump_ends file word input left old new f text NoMemory sound answer printed = ab
 pub asked_ends : (asked wanted : Option Wanted) (input left old new : Option (List ℕ)) (status : Status) → wanted ≡ asked
     → Ends wanted input left old new status → Ends asked input left old new status
 asked_ends asked wanted input left old new status same ends = subst (λ a. Ends a input left old new status) same ends
-
--- a run with the status of a refused command has one
-pub refused_ends : (asked : Option Wanted) (input left old new : Option (List ℕ)) (status : Status) → status ≡ CommandRefused
-    → Ends asked input left old new status → Refuses asked input left old new
-refused_ends asked input left old new status same ends = subst (λ s. Ends asked input left old new s) same ends
 
 -- the same text by another name
 pub appends_as : (old new : Option (List ℕ)) (text shown : List ℕ) → shown ≡ text → Appends old new shown → Appends old new text

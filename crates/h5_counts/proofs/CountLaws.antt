@@ -1,7 +1,6 @@
 -- Counts of links, as one link after another is counted.
-use Rattle.std.proofs.Common.{◌≡◌, ◌≢◌, ℕ, zero, suc, ◌+◌, ◌<◌, ◌≤◌, min, List, [], ◌∷◌, ◌++◌, length, replicate, refl, sym, ap, ◌∙◌, subst, arith, get_or, set, Some, true, false, Bool, get_or-set_same, get_or-set_other}
+use Rattle.std.proofs.Common.{◌≡◌, ◌≢◌, ℕ, zero, suc, ◌+◌, ◌<◌, ◌≤◌, min, List, [], ◌∷◌, ◌++◌, length, refl, sym, ap, ◌∙◌, subst, arith, get_or, set, Some, true, false, Bool, get_or-set_same, get_or-set_other}
 use Rattle.std.proofs.lemmas.Bool.Decides.{nat_tests}
-use Rattle.std.proofs.lemmas.List.{get_or-replicate}
 use Rattle.std.proofs.lemmas.Option.{slice_get_within, get_or_from_slice_get}
 use Rattle.std.specs.Prelude.{◌==◌, nat_le, slice_get}
 use Rattle.std.specs.List.{Contains, IsDistinct}
@@ -42,13 +41,6 @@ none_here : (h header : ℕ) (name : List ℕ) → header ≢ h → leading h ((
 none_here h header name e = let other : (header == h) ≡ false = grind (arith, nat_tests) in rw other refl
 
 -- ---- counts
-
-pub zero_counts : (at : List ℕ) → AreCounts at [] (replicate (length at) 0)
-zero_counts at = record {
-  each = λ number header here.
-      let zero_is : get_or (replicate (length at) 0) number 0 ≡ 0 = get_or-replicate (length at) number 0 0 (slice_get_within at number header here) in
-      record { exact = λ low. zero_is; many = λ high. absurd (omega (arith, high, zero_is)) };
-}
 
 -- more links, none of which leads to one of these headers
 counted_past : (at counts : List ℕ) (before more : List (List ℕ × Target)) → ((h : ℕ) → Contains at h → leading h more ≡ 0)

@@ -1,7 +1,7 @@
 //! Edits of an opened image: why one is refused, in the order of the refusals' numbers, and the image that an accepted one gives, written
 //! anew (File Format Specification 3.0, sections III.C and IV.A).
 //!
-//! Each call writes the whole image, however small the edit is.
+//! Each call writes the whole image, however small the edit is. Where both `TreeTooDeep` and `ImageFull` hold, either is answered.
 #![tactic(auto)]
 
 mod anew;

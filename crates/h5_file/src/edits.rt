@@ -20,7 +20,8 @@ impl File {
     /// Carries an edit out: the image is then that of the tree that the edit gives.
     ///
     /// Refused as `NotYet`, before any other check, where it removes a link, writes or resizes, or creates an array that is not contiguous
-    /// of one size; then as the call of its own is. A refusal changes nothing.
+    /// of one size; then as the call of its own is. Where both `TreeTooDeep` and `ImageFull` hold, either is answered. A refusal changes
+    /// nothing.
     pub fn edit(&mut self, edit: &Edit) -> Result<Edited, EditFault>
         ensures { MatchResult result (IsEdited self.old edit.now self.new) (λ e. IsRefused self.old edit.now e × (self.new ≡ self.old)) }
     {

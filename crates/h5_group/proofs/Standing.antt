@@ -1,20 +1,17 @@
 -- What is known of a group that was read: its blocks are there, its symbol nodes are formed, and its names ascend.
-use Rattle.std.proofs.Common.{◌≡◌, ℕ, ◌+◌, ◌*◌, ◌≤◌, inl, inr, List, [], ◌∷◌, ◌++◌, map, length, refl, sym, ap, subst, ◌∙◌, arith}
-use Rattle.std.specs.Prelude.{Result, Ok, Err, IfErr, IsOk}
-use Rattle.std.specs.List.{AllByRecursion, Contains, flat_map}
+use Rattle.std.proofs.Common.{◌≡◌, ℕ, ◌+◌, ◌*◌, ◌≤◌, inl, inr, List, [], ◌∷◌, ◌++◌, map, length, sym, ap, subst, ◌∙◌}
+use Rattle.std.specs.List.{Contains, flat_map}
 use Rattle.std.proofs.lemmas.List.{map-append}
-use Rattle.h5_bytes.specs.Bytes.{part}
 use Rattle.h5_bytes.specs.Blocks.{Inside}
 use Rattle.h5_bytes.specs.declared.Block.{Block}
 use Rattle.h5_bytes.proofs.BlockLaws.{all_left, all_right}
 use Rattle.h5_model.specs.Superblock.{leaf_k}
 use Rattle.h5_model.specs.Heap.{segment_of, heap_blocks}
 use Rattle.h5_model.specs.Nodes.{tree_blocks}
-use Rattle.h5_model.specs.Symbols.{Entry, Target, IsEntry, IsSymbolNode, symbol_block, symbol_bytes, symbols_at, symbols_of, symbols_in, link_of, entries_of, entry_of}
+use Rattle.h5_model.specs.Symbols.{Entry, Target, IsSymbolNode, symbol_block, symbol_bytes, symbols_at, symbols_of, link_of}
 use Rattle.h5_model.specs.Links.{Ascend}
 use Rattle.h5_model.specs.TreeFaults.{all_entries}
-use Rattle.h5_snod.specs.Form.{BreaksForm}
-use Rattle.h5_breach.proofs.Lists.{In, in_all, all_in, in_map, in_flat, in_table, in_contains}
+use Rattle.h5_breach.proofs.Lists.{In, in_all, in_map, in_contains}
 use Rattle.h5_breach.proofs.Entries.{own_entries}
 use Rattle.h5_nodes.specs.Trees.{kind_in}
 use Rattle.h5_group.specs.declared.group.Group.{Group}
@@ -45,23 +42,7 @@ ascend_at f S at (n ∷ ns) (inr there) rises =
     let both = subst Ascend (map-append f (S n) (flat_map S ns)) rises in
     ascend_at f S at ns there (ascend_right (map f (S n)) (map f (flat_map S ns)) both)
 
--- ---- what cannot be refused
-
-pub must_be_ok : {A E : Type 0} (Refused : E → Type 0) (r : Result A E) → IfErr r Refused → ((e : E) → Refused e → ⊥) → IsOk r
-must_be_ok Refused (Ok x) refused never = refl
-must_be_ok Refused (Err e) refused never = absurd (never e refused)
-
--- ---- a symbol node that is formed
-
--- is refused by no rule
-pub unbroken : (leaf : ℕ) (bytes : List ℕ) → IsSymbolNode leaf bytes → AllByRecursion IsEntry (entries_of bytes) → BreaksForm leaf bytes → ⊥
-unbroken leaf bytes formed known (inl unsigned) = unsigned formed.signed
-unbroken leaf bytes formed known (inr (inl other)) = other formed.version
-unbroken leaf bytes formed known (inr (inr (inl full))) = absurd (omega (arith, formed.roomy, full))
-unbroken leaf bytes formed known (inr (inr (inr (i, low, high)))) =
-    let small = in_all IsEntry (entry_of (part (8 + 40 * i) 40 bytes)) (entries_of bytes) known
-    (in_table (λ (j : ℕ). entry_of (part (8 + 40 * j) 40 bytes)) (symbols_in bytes) i low) in
-    absurd (omega (arith, small, high))
+-- ---- a group that was read
 
 module _ (image : List ℕ) (g : Group) (read : IsGroupRead image g) where
   laid : Inside (length image) ((tree_blocks (kind_in image) (read.linked).owned ++ map (symbol_block (leaf_k image)) (read.linked).symbol_nodes) ++ heap_blocks image g.table.heap)
@@ -86,9 +67,6 @@ module _ (image : List ℕ) (g : Group) (read : IsGroupRead image g) where
   pub ascending : Ascend (links_of image g)
   ascending = subst Ascend ((read.linked).listed.all ∙ ap (map (link_of (segment_of image g.table.heap))) (sym entries_are)) (read.linked).listed.ascending
 
-  known : AllByRecursion IsEntry (all_entries image g.symbol_nodes.items)
-  known = subst (AllByRecursion IsEntry) (sym entries_are) (read.linked).listed.cached
-
   -- one of the symbol nodes
   module _ (at : ℕ) (there : Contains g.symbol_nodes.items at) where
     pub listed : In at g.symbol_nodes.items
@@ -105,12 +83,6 @@ module _ (image : List ℕ) (g : Group) (read : IsGroupRead image g) where
 
     pub node_formed : IsSymbolNode (leaf_k image) (symbol_bytes image (leaf_k image) at)
     node_formed = in_all (λ n. IsSymbolNode (leaf_k image) (symbol_bytes image (leaf_k image) n)) at (read.linked).symbol_nodes (read.linked).formed own_listed
-
-    pub node_known : AllByRecursion IsEntry (symbols_at image (leaf_k image) at)
-    node_known =
-        all_in IsEntry (symbols_at image (leaf_k image) at) (λ e here.
-        in_all IsEntry e (all_entries image g.symbol_nodes.items) known
-        (in_flat (symbols_at image (leaf_k image)) at e g.symbol_nodes.items listed here))
 
     pub node_ascends : Ascend (map (link_of (segment_of image g.table.heap)) (symbols_at image (leaf_k image) at))
     node_ascends = ascend_at (link_of (segment_of image g.table.heap)) (symbols_at image (leaf_k image)) at g.symbol_nodes.items listed ascending

@@ -1,6 +1,6 @@
 -- A message that was read from its place in the image is the one that the definition gives.
-use Rattle.std.proofs.Common.{◌≡◌, ◌≢◌, ℕ, ◌+◌, ◌<◌, ◌≤◌, drop, List, [], ◌∷◌, length, Some, refl, sym, ◌∙◌, ap, arith, get_or}
-use Rattle.std.specs.Prelude.{◌==◌, true, false, nat_le, option_map, slice_get}
+use Rattle.std.proofs.Common.{◌≡◌, ℕ, ◌+◌, ◌<◌, ◌≤◌, drop, List, [], ◌∷◌, length, Some, refl, sym, ◌∙◌, ap, arith, get_or}
+use Rattle.std.specs.Prelude.{true, nat_le, option_map, slice_get}
 use Rattle.std.proofs.lemmas.List.{get_or-take, get_or-drop}
 use Rattle.std.proofs.lemmas.Option.{slice_get-map}
 use Rattle.std.proofs.lemmas.Option.{slice_get_read}
@@ -25,10 +25,6 @@ continuation_of-long : (body : List ℕ) → 16 ≤ length body → continuation
 unfolding continuation_of
 continuation_of-long body long = let holds : nat_le 16 (length body) ≡ true = grind (arith, nat_tests) in rw holds refl
 
--- the block that a body of 16 bytes or more names
-named : List ℕ → ℕ → Block
-named image at = block (number_at image at 8) (number_at image (at + 8) 8)
-
 pub continuation_of-part : (image : List ℕ) (at size : ℕ) → 16 ≤ size → at + size ≤ length image
     → continuation_of (part at size image) ≡ Some (block (number_at image at 8) (number_at image (at + 8) 8))
 continuation_of-part image at size long inside =
@@ -41,9 +37,6 @@ continuation_of-part image at size long inside =
 pub continuation-is : (image : List ℕ) (m : Placed) → m.kind ≡ 16 → 16 ≤ m.size → m.at + m.size ≤ length image
     → continuation (message_in image m) ≡ block (number_at image m.at 8) (number_at image (m.at + 8) 8) ∷ []
 continuation-is image m kind long inside = rw (kind, continuation_of-part image m.at m.size long inside) refl
-
-pub continuation-none : (image : List ℕ) (m : Placed) → m.kind ≢ 16 → continuation (message_in image m) ≡ []
-continuation-none image m other = let no : (m.kind == 16) ≡ false = grind (arith, nat_tests) in rw no refl
 
 -- the message in the definition's form, in the bytes of its block
 pub message-is : (image : List ℕ) (b : Block) (to : ℕ) (m : Placed) → b.at + b.len ≤ length image → IsHead image (b.at + to) (b.at + b.len) m

@@ -14,7 +14,7 @@ use Rattle.h5_bytes.proofs.BlockLaws.{all_append}
 use Rattle.h5_model.specs.Addresses.{continuation_of}
 use Rattle.h5_model.specs.Messages.{Message, IsMessage, Fills, FillBlocks, HasMessages, continuation, continuations, first_block}
 use Rattle.h5_model.specs.Reached.{Met, at_start, behind, in_continuation, kind_at, size_at}
-use Rattle.h5_header.specs.Refused.{NamesBlock, IsBlockOf}
+use Rattle.h5_header.specs.Refused.{NamesBlock}
 use Rattle.h5_header.specs.Progress.{FillsTo, FilledTo}
 
 pub length-part-le : (at len : ℕ) (bytes : List ℕ) → length (part at len bytes) ≤ len
@@ -186,12 +186,3 @@ pub has_naming : (image : List ℕ) (header : ℕ) (messages : List Message) (bl
     → AllByRecursion (IsNaming image header) messages
 has_naming image header messages blocks has = subst (AllByRecursion (IsNaming image header)) (sym has.all)
     (parts_naming image header has.parts [] (whole_filled image (first_block image header ∷ []) has.parts has.filled))
-
--- a header's blocks are its own and those that its Continuations name
-pub has_blocks : (image : List ℕ) (header : ℕ) (messages : List Message) (blocks : List Block) → HasMessages image header messages blocks
-    → AllByRecursion (IsBlockOf image header) blocks
-has_blocks image header messages blocks has = subst (AllByRecursion (IsBlockOf image header)) (sym has.laid)
-    (inl refl, all_blocks (continuations messages) (all_naming image header messages (has_naming image header messages blocks has))) where
-      all_blocks : (bs : List Block) → AllByRecursion (IsNamed image header) bs → AllByRecursion (IsBlockOf image header) bs
-      all_blocks [] all = tt
-      all_blocks (b ∷ bs) all = (inr all.0, all_blocks bs all.1)

@@ -5,7 +5,7 @@ use Rattle.std.proofs.Math.Seq.{get_or-append_seam}
 use Rattle.std.specs.List.{AllByRecursion, flat_map}
 use Rattle.std.proofs.lemmas.List.Concat.{flat_map-append}
 use Rattle.h5_bytes.specs.Bytes.{number_at, part}
-use Rattle.h5_bytes.specs.Blocks.{Inside, holds, cover, Separate}
+use Rattle.h5_bytes.specs.Blocks.{holds, cover, Separate}
 use Rattle.h5_bytes.specs.declared.Block.{Block}
 use Rattle.h5_bytes.proofs.PartLaws.{length-part}
 use Rattle.h5_bytes.proofs.BlockLaws.{all_append, cover-append}
@@ -109,29 +109,6 @@ module _ (image : List ℕ) (header : ℕ) (held held' : List Block) (list : Lis
 
   here : Partly image header (messages_in image list) through.done (b ∷ rest_is.0)
   here = subst (Partly image header (messages_in image list) through.done) rest_is.1 through.partly
-
-  -- the header's own block is done
-  prefix_there : header + 16 ≤ length image
-  prefix_there = go through.done through.begun (through.claimed).inside (through.partly).laid where
-    go : (done : List Block) → 1 ≤ length done → Inside (length image) done → done ++ through.waiting ≡ header_block image header ∷ continuations (messages_in image list)
-        → header + 16 ≤ length image
-    go [] some all laid = absurd (omega (arith, some))
-    go (x ∷ d) some all laid =
-        let laid' : x ∷ (d ++ through.waiting) ≡ header_block image header ∷ continuations (messages_in image list) = laid in
-        let same : x ≡ header_block image header = cc in
-        omega (arith, all.0, ap (λ (y : Block). y.at) same, ap (λ (y : Block). y.len) same)
-
-  -- its messages break a rule
-  pub stops_at_message : (cause : Cause) → b.at + b.len ≤ length image → StopsIn image b cause → StopsAtMessage image header cause
-  stops_at_message cause inside stops = record {
-    prefix = prefix_there;
-    parts = here.parts;
-    here = b;
-    waiting = rest_is.0;
-    filled = here.filled;
-    inside = inside;
-    stops = stops;
-  }
 
   -- it cannot be claimed
   pub stops_at_block : (cause : Cause) (address : ℕ) → Separate held' → ClaimBreach (length image) held' b cause address

@@ -3,7 +3,7 @@ use Rattle.std.proofs.Common.{◌≡◌, ℕ, ◌+◌, ◌≤◌, List, [], ◌�
 use Rattle.std.specs.Prelude.{IsTrue}
 use Rattle.std.specs.List.{AllByRecursion}
 use Rattle.h5_bytes.specs.Bytes.{byte_at}
-use Rattle.h5_bytes.specs.Blocks.{cover, Inside}
+use Rattle.h5_bytes.specs.Blocks.{Inside}
 use Rattle.h5_bytes.specs.declared.Block.{Block}
 use Rattle.h5_model.specs.Messages.{Message, HasMessages, continuations, IsContinued, FillBlocks, prefix_at, total_in, first_block}
 use Rattle.h5_model.specs.Reached.{AllMessages}
@@ -69,9 +69,6 @@ module _ (image : List ℕ) (header : ℕ) (held held' : List Block) (list : Lis
 
   pub kinds_read : AllByRecursion (λ (x : Placed). IsTrue (is_read x.kind)) list
   kinds_read = kinds_of image list (through.partly).taken
-
-  pub blocks_covered : (p : ℕ) → cover p held' ≡ cover p held + cover p blocks
-  blocks_covered p = (through.claimed).covered p ∙ ap (λ bs. cover p held + cover p bs) (sym done_is)
 
   pub filled_to_end : FilledTo image (first_block image header ∷ []) (through.partly).parts []
   filled_to_end = subst (FilledTo image (first_block image header ∷ []) (through.partly).parts) none (through.partly).filled

@@ -1,18 +1,16 @@
 -- A text that is refused is a breach of the heap's names, whose address is the heap's.
-use Rattle.std.proofs.Common.{◌≡◌, ℕ, ◌+◌, ◌≤◌, List, [], ◌∷◌, ◌++◌, length, map, sym, ap, subst, arith}
+use Rattle.std.proofs.Common.{◌≡◌, ℕ, List, ◌++◌, map, sym, subst}
 use Rattle.std.specs.List.{Contains}
-use Rattle.std.specs.List.Sorted.{IsPermutation}
 use Rattle.h5_bytes.specs.Bytes.{part}
 use Rattle.h5_bytes.specs.Blocks.{cover}
 use Rattle.h5_bytes.specs.declared.Block.{Block}
-use Rattle.h5_bytes.proofs.PartLaws.{length-part}
 use Rattle.h5_model.specs.Heap.{heap_header, segment_block, segment_of, IsHeap, HasNames}
 use Rattle.h5_model.specs.Symbols.{Entry, texts_of}
 use Rattle.h5_model.specs.TreeFaults.{HasSymbolNodes, all_entries, all_key_offsets, HeapNameBreach}
 use Rattle.h5_model.specs.declared.open_fault.Cause.TheVariants.{HeapName}
 use Rattle.h5_heap.specs.Kept.{Kept, segment_in}
-use Rattle.h5_heap.specs.Spans.{IsSpan, IsNotEmpty, IsUntaken, IsUnnamed, HasTaken}
-use Rattle.h5_heap.proofs.RefusedLaws.{begin_refused, name_refused, take_refused, key_refused}
+use Rattle.h5_heap.specs.Spans.{IsSpan, IsNotEmpty}
+use Rattle.h5_heap.proofs.RefusedLaws.{begin_refused, name_refused}
 
 -- a group's tree has these symbol nodes, and its heap was read
 module _ (image : List ℕ) (root at : ℕ) (symbol_nodes : List ℕ) (has : HasSymbolNodes image root symbol_nodes) (heap : Kept)
@@ -40,15 +38,3 @@ module _ (image : List ℕ) (root at : ℕ) (symbol_nodes : List ℕ) (has : Has
 
   pub name_breach : (offset : ℕ) → Contains offsets offset → (IsSpan (segment_in image heap) offset → ⊥) → HeapNameBreach image root at
   name_breach offset there refused = breach (λ loose sound. name_refused _ heap _ _ _ loose sound offset there refused)
-
-  pub take_breach : (linked rest : List ℕ) (offset : ℕ) → HasTaken (segment_in image heap) heap linked [] → IsPermutation offsets (linked ++ offset ∷ rest)
-      → IsUntaken (segment_in image heap) heap.held offset HeapName → HeapNameBreach image root at
-  take_breach linked rest offset taken same refused = breach (λ loose sound. take_refused _ heap _ _ _ loose sound linked offset rest taken same refused)
-
-  pub key_breach : (linked loose' : List ℕ) (offset : ℕ) → HasTaken (segment_in image heap) heap linked loose' → IsPermutation offsets linked
-      → ((k : ℕ) → Contains loose' k → Contains (all_key_offsets image root) k) → heap.segment.at + heap.segment.len ≤ length image
-      → IsUnnamed (segment_in image heap) heap offset HeapName → Contains (all_key_offsets image root) offset → HeapNameBreach image root at
-  key_breach linked loose' offset taken same keyed inside refused key = breach (λ loose sound.
-      key_refused _ heap _ _ _ loose sound linked loose' taken same keyed room offset refused key) where
-        room : 8 ≤ length (segment_in image heap)
-        room = let size = ap (λ (b : Block). b.len) place in omega (arith, read.size, size, length-part heap.segment.at heap.segment.len image inside)

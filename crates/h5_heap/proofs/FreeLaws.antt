@@ -29,9 +29,6 @@ leads_more : (segment : List ℕ) (first next : ℕ) (done : List Block) (b : Bl
 leads_more segment first next [] b leads place size = (place ∙ sym leads, size ∙ ap (λ (n : ℕ). number_at segment (n + 8) 8) (sym leads), ap (λ (n : ℕ). number_at segment n 8) leads)
 leads_more segment first next (x ∷ xs) b leads place size = (leads.0, leads.1, leads_more segment (number_at segment first 8) next xs b leads.2 place size)
 
-pub walked_none : (segment : List ℕ) (first : ℕ) → IsWalked segment first first [] []
-walked_none segment first = record { leads = refl; each = tt; within = tt; covered = λ p. refl }
-
 pub walked_more : (segment : List ℕ) (first next : ℕ) (done held held' : List Block) (b : Block) → IsWalked segment first next done held
     → IsNext segment held next b → ((p : ℕ) → cover p held' ≡ cover p held + holds p b.at b.len)
     → IsWalked segment first (number_at segment next 8) (done ++ b ∷ []) held'

@@ -1,10 +1,8 @@
 -- What digits stand for, digit by digit.
-use Rattle.std.proofs.Common.{◌≡◌, ℕ, ◌+◌, ◌*◌, ◌-◌, ◌<◌, ◌≤◌, false, List, [], ◌∷◌, length, get_or, drop, None, refl, sym, ◌∙◌, arith, add-one}
+use Rattle.std.proofs.Common.{◌≡◌, ℕ, ◌+◌, ◌*◌, ◌-◌, ◌<◌, ◌≤◌, List, [], ◌∷◌, length, get_or, drop, None, refl, sym, ◌∙◌, arith, add-one}
 use Rattle.std.proofs.Math.Seq.{drop-cons}
 use Rattle.std.proofs.lemmas.Bool.Decides.{nat_tests}
-use Rattle.std.proofs.lemmas.List.Folds.{list_all_at}
-use Rattle.std.specs.List.{list_all}
-use Rattle.h5_model.specs.Lines.{is_digit, number_on, number_upto}
+use Rattle.h5_model.specs.Lines.{number_on, number_upto}
 
 pub number_on_least : (n : ℕ) (cs : List ℕ) → n ≤ number_on n cs
 number_on_least n [] = omega arith
@@ -18,11 +16,6 @@ number_on_more n i word lt = rw (add-one, drop-cons word i 0 lt) refl
 pub number_upto_large : (most n : ℕ) (cs word : List ℕ) → number_on n cs ≡ number_on 0 word → most < n → number_upto most word ≡ None
 number_upto_large most n cs word same large =
     let more : most < number_on 0 word = omega (arith, number_on_least n cs, same) in
-    grind (arith, nat_tests)
-
-pub number_upto_other : (most i : ℕ) (word : List ℕ) → i < length word → is_digit (get_or word i 0) ≡ false → number_upto most word ≡ None
-number_upto_other most i word lt other =
-    let some : list_all is_digit word ≡ false = list_all_at is_digit word i 0 lt other in
     grind (arith, nat_tests)
 
 -- the next digit makes it too much

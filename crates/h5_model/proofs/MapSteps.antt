@@ -5,7 +5,7 @@ use Rattle.std.specs.Cmp.{IsTotalOrder, nat_cmp_total, eq_by_cmp_equiv}
 use Rattle.std.specs.Cmp.Lexicographic.{slice_cmp, nat_list_cmp_total}
 use Rattle.std.specs.declared.cmp.Ordering.{Ordering}
 use Rattle.std.specs.declared.cmp.Ordering.TheVariants.{Equal}
-use Rattle.std.specs.FinMap.{FinMap, IsAntisymmetric, nat_cmp-IsAntisymmetric, slice_cmp-IsAntisymmetric, find, put, is_sorted, get, insert, retain_keys, remove, entries, len, empty, from_sorted, same_entries_map, same_map, entries_sorted, get-from_sorted, entries-from_sorted, entries-insert, get-retain_keys, get-remove, empty_of_len, len-entries}
+use Rattle.std.specs.FinMap.{IsAntisymmetric, nat_cmp-IsAntisymmetric, slice_cmp-IsAntisymmetric, find, put, is_sorted, get, insert, retain_keys, remove, entries, len, empty, from_sorted, same_entries_map, same_map, get-from_sorted, entries-from_sorted, entries-insert, get-retain_keys, get-remove, empty_of_len, len-entries}
 use Rattle.std.specs.FinMap.Entries.{where_key, find-where_key, is_sorted-where_key, is_sorted-put}
 use Rattle.std.specs.Prelude.{T}
 
@@ -98,19 +98,3 @@ pub retain_by_name : {X : Type 0} (es : List (List ℕ × X)) (p : List ℕ → 
 retain_by_name {X = X} es p h = known-retain nat_list_cmp_total names_differ es p h
 
 pub ruleset known = (get_by_number, get_by_name, entries_by_number, entries_by_name, len_by_number, len_by_name, empty_by_number, empty_by_name, insert_by_number, insert_by_name, remove_by_number, remove_by_name, retain_by_number, retain_by_name)
-
--- ---- a map by name
-
-is_true : (b : Bool) → T b → b ≡ true
-is_true true h = refl
-is_true false h = absurd h
-
--- the entries beside the one that is removed
-pub entries-remove : {X : Type 0} (m : FinMap (slice_cmp nat_cmp) X) (k : List ℕ)
-    → entries (remove m k) ≡ where_key (slice_cmp nat_cmp) (λ x. not (eq_by_cmp (slice_cmp nat_cmp) k x)) (entries m)
-entries-remove m k =
-    let other = λ (x : List ℕ). not (eq_by_cmp (slice_cmp nat_cmp) k x) in
-    let sorted : T (is_sorted (slice_cmp nat_cmp) (entries m)) = entries_sorted m in
-    let same : from_sorted (entries m) ≡ m = same_entries_map _ _ (entries-from_sorted (slice_cmp nat_cmp) (entries m) sorted) in
-    ap (λ x. entries (remove x k)) (sym same) ∙ ap entries (remove_by_name (entries m) k (is_true _ sorted))
-    ∙ entries-from_sorted (slice_cmp nat_cmp) (where_key (slice_cmp nat_cmp) other (entries m)) (is_sorted-where_key (slice_cmp nat_cmp) other (entries m) sorted)

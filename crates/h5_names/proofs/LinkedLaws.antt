@@ -1,5 +1,5 @@
 -- Texts that links name, taken one after another (File Format Specification 3.0, section III.D).
-use Rattle.std.proofs.Common.{◌≡◌, ℕ, ◌+◌, ◌<◌, List, [], ◌∷◌, ◌++◌, length, take, drop, get_or, refl, sym, ap, ◌∙◌, subst, append_assoc}
+use Rattle.std.proofs.Common.{◌≡◌, ℕ, ◌+◌, ◌<◌, List, [], ◌∷◌, ◌++◌, length, take, drop, get_or, sym, ap, ◌∙◌, subst, append_assoc}
 use Rattle.std.specs.List.{flat_map}
 use Rattle.std.specs.List.Sorted.{IsPermutation}
 use Rattle.h5_bytes.specs.Bytes.{part}
@@ -13,9 +13,6 @@ use Rattle.h5_names.specs.Taken.{IsSameHeap, TakesLinked, AreUnsound, AreLinkedR
 use Rattle.h5_names.proofs.ListLaws.{flat_step, flat_around}
 
 -- ---- the heap stays where it is
-
-pub same_none : (heap : Kept) → IsSameHeap heap heap
-same_none heap = record { at = refl; segment = refl; free = refl }
 
 pub same_both : (a b c : Kept) → IsSameHeap a b → IsSameHeap b c → IsSameHeap a c
 same_both a b c first second = record {

@@ -10,7 +10,7 @@ use Rattle.h5_model.specs.Reached.{level_at}
 use Rattle.h5_model.specs.TreeFaults.{NodeBreach}
 use Rattle.h5_model.specs.declared.open_fault.Cause.{Cause}
 use Rattle.h5_model.specs.declared.open_fault.Cause.TheVariants.{Truncated, Overlap, NodeForm, NoMemory}
-use Rattle.h5_btree.specs.Form.{BreaksForm, MayBeRoot, MayStandAt}
+use Rattle.h5_btree.specs.Form.{MayBeRoot, MayStandAt}
 use Rattle.h5_btree.proofs.NodeLaws.{length-children}
 use Rattle.h5_nodes.specs.Refused.{IsRefusedFor}
 
@@ -23,11 +23,6 @@ refused_for P Q end held b NoMemory f h = h
 refused_for P Q end held b _ f h = absurd h
 
 module _ (image : List ℕ) (kind : Kind) where
-  pub form_breach : (root level at : ℕ) → BreaksForm kind (node_bytes image kind at) → NodeBreach image kind root level at
-  form_breach root level at (inl unsigned) = inl unsigned
-  form_breach root level at (inr (inl other)) = inr (inl other)
-  form_breach root level at (inr (inr full)) = inr (inr (inr (inr (inl full))))
-
   above : (at level : ℕ) → 1 ≤ level → IsTrue (not (at == at && level == 0))
   above at level high = let other : (level == 0) ≡ false = grind (arith, nat_tests) in let same : (at == at) ≡ true = grind (arith, nat_tests) in rw (same, other) refl
 

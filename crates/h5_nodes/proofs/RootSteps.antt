@@ -16,8 +16,7 @@ use Rattle.h5_nodes.specs.Walk.{IsFault, IsTreeMet}
 use Rattle.h5_nodes.specs.Below.{reading_in, IsStanding, IsTaken, nodes_below}
 use Rattle.h5_nodes.specs.Further.{child_place, AreChildrenMet, IsPlaceBelow, IsPlaceIn, IsFurther}
 use Rattle.h5_nodes.specs.Refused.{IsRefusedFor}
-use Rattle.h5_nodes.specs.Rows.{IsLevel}
-use Rattle.h5_nodes.proofs.Taken.{blocks_below, blocks_inner, nodes_inner, next_one}
+use Rattle.h5_nodes.proofs.Taken.{blocks_below, blocks_inner, nodes_inner}
 use Rattle.h5_nodes.proofs.Steps.{node_fault, child_within, children_met}
 use Rattle.h5_nodes.proofs.FurtherLaws.{WalksTo, IsFaultBelow, all_weaker}
 
@@ -52,9 +51,6 @@ module _ (image : List ℕ) (root : ℕ) (old : List Block) where
         below _ root heap depth root (below_root followed field heap depth met)
 
     module _ (now : List Block) (taken : IsTaken image level children here now) where
-      pub tree_read : IsLevel image level (root ∷ [])
-      tree_read = record { here = (stands, tt); below = rw (next_one image root) taken.below }
-
       pub tree_claimed : (p : ℕ) → cover p now ≡ cover p old + cover p (nodes_blocks image (nodes (reading_in image) level (root ∷ [])) (leaves (reading_in image) level (root ∷ [])))
       tree_claimed p =
           let all : cover p (nodes_blocks image (nodes (reading_in image) level (root ∷ [])) (leaves (reading_in image) level (root ∷ [])))

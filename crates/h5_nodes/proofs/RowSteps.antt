@@ -6,7 +6,7 @@ use Rattle.h5_model.specs.Rows.{Reading, IsRow, AreRows, next_row, row_below, le
 use Rattle.h5_model.specs.TreeFaults.{SiblingBreach}
 use Rattle.h5_nodes.specs.Trees.{kind_in}
 use Rattle.h5_nodes.specs.Below.{reading_in, IsStanding, IsInner}
-use Rattle.h5_nodes.specs.Rows.{AreAllRows, IsLevel, IsMisnamed}
+use Rattle.h5_nodes.specs.Rows.{IsLevel, IsMisnamed}
 
 -- how far the rows are listed: this row, of this height, is next
 pub record AreListed (image : List ℕ) (root level height : ℕ) (done row : List ℕ) : Type 0 where
@@ -26,18 +26,6 @@ stand_all image level [] all = tt
 stand_all image level (x ∷ xs) all = (all.0.stands, stand_all image level xs all.1)
 
 module _ (image : List ℕ) (root level : ℕ) where
-  pub listed_none : IsLevel image level (root ∷ []) → AreListed image root level level [] (root ∷ [])
-  listed_none read =
-      let none : level - level ≡ 0 = omega arith in
-      record {
-        read = read;
-        high = omega arith;
-        owns = refl;
-        leads = refl;
-        rows = λ are. are;
-        depth = ap (λ (d : ℕ). row_below (reading_in image) d (root ∷ [])) none;
-      }
-
   -- a row that is listed, and the one below it
   pub listed_next : (height : ℕ) (done row : List ℕ) → AreListed image root level (suc height) done row → IsRow (reading_in image) (suc height) undefined row
       → AreListed image root level height (done ++ row) (next_row (reading_in image) row)
@@ -53,11 +41,6 @@ module _ (image : List ℕ) (root level : ℕ) where
         rows = λ are. listed.rows (is, are);
         depth = ap (λ (d : ℕ). row_below V d (root ∷ [])) one ∙ row_below-next V (level - suc height) (root ∷ []) ∙ ap (next_row V) listed.depth;
       }
-
-  -- the last row
-  pub listed_all : (done row : List ℕ) → AreListed image root level 0 done row → IsRow (reading_in image) 0 undefined row
-      → AreAllRows image root level (done ++ row) (next_row (reading_in image) row)
-  listed_all done row listed is = record { rows = listed.rows is; owns = listed.owns; leads = listed.leads }
 
   -- a node that does not name its neighbours
   pub sibling_breach : (height : ℕ) (done row : List ℕ) (at : ℕ) → IsStanding image level root → AreListed image root level height done row

@@ -1,17 +1,14 @@
 -- An order in which objects are met has each object of a sound tree.
-use Rattle.std.proofs.Common.{◌≡◌, ℕ, ◌<◌, inl, length, List, [], ◌∷◌, refl, sym, subst, Some, None}
+use Rattle.std.proofs.Common.{◌≡◌, ℕ, inl, List, [], ◌∷◌, refl, sym, subst, Some, None}
 use Rattle.std.specs.Prelude.{IsSome}
 use Rattle.std.specs.FinMap.{get}
 use Rattle.std.specs.List.{Contains}
 use Rattle.std.specs.Option.{option_and_then}
 use Rattle.h5_model.specs.Tree.{Tree, ToObject, Soft, follow, link_in}
 use Rattle.h5_sound.specs.Sound.{IsSoundTree}
-use Rattle.h5_objects.specs.declared.object.NewObject.{NewObject}
-use Rattle.h5_objects.specs.Objects.{AreObjects}
 use Rattle.h5_objects.specs.Order.{AreMet}
 use Rattle.h5_breach.proofs.Lists.{contains_in}
 use Rattle.h5_breach.proofs.AllReached.{soft_leads}
-use Rattle.h5_objects.proofs.Trees.{some_below}
 
 same_object : (a b : ℕ) → Some (ToObject a) ≡ Some (ToObject b) → a ≡ b
 same_object a b e = cc
@@ -35,8 +32,3 @@ pub met_all : (tree : Tree) (count : ℕ) (order : List ℕ) → IsSoundTree tre
 met_all tree count order sound met number some =
     let path = sound.reached number some in
     along tree count order met path.0 0 number (subst (λ (ns : List ℕ). Contains ns 0) (sym met.first) (contains_in 0 (0 ∷ met.others) (inl refl))) path.1
-
--- each number of an object is in the order
-pub met_each : (objects : List NewObject) (tree : Tree) (order : List ℕ) → AreObjects objects tree → IsSoundTree tree → AreMet tree (length objects) order
-    → (number : ℕ) → number < length objects → Contains order number
-met_each objects tree order are sound met number low = met_all tree (length objects) order sound met number (some_below objects tree are number low)

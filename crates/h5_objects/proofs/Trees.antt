@@ -165,13 +165,6 @@ pub waiting_below : (objects : List NewObject) (tree : Tree) → AreObjects obje
 waiting_below objects tree are sound number other x is at =
     target_below objects tree are sound number other x is (unturned (new_links x.content) other at)
 
--- there is a root
-pub root_below : (objects : List NewObject) (tree : Tree) → AreObjects objects tree → IsSoundTree tree → 0 < length objects
-root_below objects tree are sound = below_count objects tree are 0 (rooted (get tree 0) sound.rooted) where
-  rooted : (o : Option Object) → IsSome (option_and_then (λ x. links_in x.content) o) → IsSome o
-  rooted None some = some
-  rooted (Some x) some = refl
-
 -- ---- how many links lead to an object
 
 link_counted : (number : ℕ) (l : TreeLink) (ls : List TreeLink) → times number (targets (l ∷ ls)) ≡ cond (leads_to number (link_of l.target)) 1 0 + times number (targets ls)

@@ -5,7 +5,7 @@ use Rattle.std.proofs.lemmas.List.{append-nil}
 use Rattle.h5_bytes.specs.declared.Block.{Block}
 use Rattle.h5_model.specs.Reached.{Named, named, ObjectHeader}
 use Rattle.h5_model.specs.HeaderFaults.{SomeMessage}
-use Rattle.h5_model.specs.Symbols.{Header, Text}
+use Rattle.h5_model.specs.Symbols.{Header}
 use Rattle.h5_model.specs.declared.open_fault.Cause.TheVariants.{GroupLinkedTwice}
 use Rattle.h5_header.specs.Listed.{messages_in}
 use Rattle.h5_breach.proofs.Lists.{In, in_all, in_contains, contains_in, in_right}
@@ -30,10 +30,6 @@ use Rattle.h5_open.proofs.FoundLaws.{group_at}
 nothing : (image : List ℕ) (held : List Block) (followed : List Named) (objects : List OpenedObject) (field : ℕ) → IsUnder image held followed objects
     → IsFurther image held held followed field objects objects []
 nothing image held followed objects field under = record { grown = sym (append-nil objects); new = []; under = under; stands = tt; led = tt }
-
-pub soft_read : (image : List ℕ) (held : List Block) (followed : List Named) (objects : List OpenedObject) (field depth : ℕ) (name text : List ℕ) → depth + 1 ≤ 64
-    → IsUnder image held followed objects → IsLinkRead image held held followed objects objects field depth (name, Text text)
-soft_read image held followed objects field depth name text low under = record { more = []; further = nothing image held followed objects field under; led = low }
 
 pub array_read : (image : List ℕ) (held : List Block) (followed : List Named) (objects : List OpenedObject) (field header depth : ℕ) (name : List ℕ) → depth + 1 ≤ 64
     → IsReady image held followed objects field header (depth + 1) → (o : OpenedObject) → Contains objects o → o.messages.header ≡ header → (IsGroupContent o.content → ⊥)

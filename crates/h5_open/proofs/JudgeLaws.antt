@@ -1,49 +1,31 @@
 -- What the messages of a header say of the object, and which rule they break.
-use Rattle.std.proofs.Common.{◌≡◌, ◌⊎◌, inl, inr, ℕ, ◌+◌, List, [], ◌∷◌, length, refl, sym, ◌∙◌, ap, Option, Some, None, Bool, true, false, cond, arith}
-use Rattle.std.specs.Prelude.{◌==◌, option_map, option_and_then, Ok, Err, ok_or, Result, ◌↔◌}
+use Rattle.std.proofs.Common.{◌≡◌, inl, inr, ℕ, ◌+◌, List, [], ◌∷◌, length, refl, sym, ◌∙◌, ap, Option, Some, None, true, false, cond, arith}
+use Rattle.std.specs.Prelude.{◌==◌, option_map, Ok, Err, ok_or, Result, ◌↔◌}
 use Rattle.std.specs.List.{find}
 use Rattle.h5_bytes.specs.declared.Block.{Block}
 use Rattle.h5_model.specs.Messages.{Message, count_of, first_body}
-use Rattle.h5_model.specs.HeaderFaults.{ListBreach, SomeBody, HasNameTwice}
+use Rattle.h5_model.specs.HeaderFaults.{ListBreach, SomeBody}
 use Rattle.h5_model.specs.declared.open_fault.Cause.{Cause}
-use Rattle.h5_model.specs.declared.open_fault.Cause.TheVariants.{MissingMessage, DuplicateMessage, NoMemory, NotYet}
+use Rattle.h5_model.specs.declared.open_fault.Cause.TheVariants.{MissingMessage, NoMemory}
 use Rattle.h5_model.specs.declared.open_fault.OpenFault.{OpenFault}
 use Rattle.h5_header.specs.Kinds.{IsOfGroup, IsOfDataset}
 use Rattle.h5_header.specs.declared.kinds.ObjectKind.{ObjectKind}
 use Rattle.h5_header.specs.declared.kinds.ObjectKind.TheVariants.{Group, Dataset}
 use Rattle.h5_header.proofs.FoundLaws.{found}
 use Rattle.std.proofs.lemmas.Option.{same_Some}
-use Rattle.std.proofs.lemmas.List.{length-map}
-use Rattle.std.specs.List.{range_with_len, slice_get}
-use Rattle.std.specs.Prelude.{map, slice_index_or, if◌then◌else◌, ℤ}
+use Rattle.std.specs.List.{slice_get}
+use Rattle.std.specs.Prelude.{slice_index_or, ℤ}
 use Rattle.h5_model.specs.Fixed.{Fixed}
-use Rattle.h5_model.specs.Extent.{Extent, extent_of, extent_in, is_dataspace, size_in, maximum_in, rank_in}
 use Rattle.h5_model.specs.Layout.{InBlock}
 use Rattle.h5_model.specs.Reached.{layout_among}
 use Rattle.h5_layout.specs.Described.{Described, HasArray}
 use Rattle.h5_tree.specs.NotYet.{IsNoLine}
-use Rattle.h5_tree.specs.Judged.{IsRootBreach, IsLineBreach, IsNoLineOf}
+use Rattle.h5_tree.specs.Judged.{IsRootBreach, IsNoLineOf}
 
 pub root_breach : (image : List ℕ) (header : ℕ) (ms : List Message) (cause : Cause) → ListBreach image header ms cause → IsRootBreach image header ms cause
 root_breach image header ms MissingMessage h = h.0
 root_breach image header ms NoMemory h = tt
 root_breach image header ms _ h = h
-
-pub line_breach : (image : List ℕ) (header : ℕ) (ms : List Message) (cause : Cause) → ListBreach image header ms cause → IsLineBreach image header ms cause
-line_breach image header ms NoMemory h = tt
-line_breach image header ms NotYet h = absurd h
-line_breach image header ms _ h = h
-
--- two attributes have one name, or memory was short
-pub root_names : (image : List ℕ) (header : ℕ) (ms : List Message) (cause : Cause) → (cause ≡ NoMemory) ⊎ ((cause ≡ DuplicateMessage) × HasNameTwice ms)
-    → IsRootBreach image header ms cause
-root_names image header ms cause (inl e) = rw e tt
-root_names image header ms cause (inr twice) = rw twice.0 (inr (inr twice.1))
-
-pub line_names : (image : List ℕ) (header : ℕ) (ms : List Message) (cause : Cause) → (cause ≡ NoMemory) ⊎ ((cause ≡ DuplicateMessage) × HasNameTwice ms)
-    → IsLineBreach image header ms cause
-line_names image header ms cause (inl e) = rw e tt
-line_names image header ms cause (inr twice) = rw twice.0 (inr (inr twice.1))
 
 -- the first body of a type is that of some message
 pub first_fails : {A : Type 0} (f : List ℕ → Option A) (kind : ℕ) (ms : List Message) (body : List ℕ) → Some body ≡ first_body kind ms → f body ≡ None
@@ -89,26 +71,6 @@ pub described_is : (a : Described) (fixed : Fixed) (size : ℕ) (maximum : Optio
     → fixed ≡ a.fixed → size ∷ [] ≡ a.sizes → maximum ∷ [] ≡ a.maxima → fill ≡ a.fill → InBlock at ≡ a.layout
     → record { fixed = fixed; sizes = size ∷ []; maxima = maximum ∷ []; fill = fill; layout = InBlock at } ≡ a
 described_is a fixed size maximum fill at e f g h l = λ i. record { fixed = e i; sizes = f i; maxima = g i; fill = h i; layout = l i }
-
--- as many maxima as sizes stand in a dataspace
-pub as_many : (body : List ℕ) (sizes : List ℕ) (maxima : List (Option ℕ)) → extent_of body ≡ Some (record { sizes = sizes; maxima = maxima }) → length maxima ≡ length sizes
-unfolding extent_of
-as_many body sizes maxima is = go (is_dataspace body) is where
-  go : (b : Bool) → (if b then Some (extent_in body) else None) ≡ Some (record { sizes = sizes; maxima = maxima }) → length maxima ≡ length sizes
-  go true e =
-      let same : extent_in body ≡ record { sizes = sizes; maxima = maxima } = same_Some (extent_in body) (record { sizes = sizes; maxima = maxima }) e in
-      let s : length (map (size_in body) (range_with_len 0 (rank_in body))) ≡ length sizes = ap (λ (x : Extent). length x.sizes) same in
-      let m : length (map (maximum_in body) (range_with_len 0 (rank_in body))) ≡ length maxima = ap (λ (x : Extent). length x.maxima) same in
-      let t = length-map (range_with_len 0 (rank_in body)) (size_in body) in
-      let n = length-map (range_with_len 0 (rank_in body)) (maximum_in body) in
-      sym m ∙ n ∙ sym t ∙ s
-  go false e = absurd (cc)
-
-pub array_maxima : (ms : List Message) (a : Described) → HasArray ms a → length a.maxima ≡ length a.sizes
-array_maxima ms a has = go (first_body 1 ms) has.space where
-  go : (o : Option (List ℕ)) → option_and_then extent_of o ≡ Some (record { sizes = a.sizes; maxima = a.maxima }) → length a.maxima ≡ length a.sizes
-  go None e = absurd (cc)
-  go (Some body) e = as_many body a.sizes a.maxima e
 
 -- an array that has not one dimension, or is not in one block, is one that is not opened yet
 pub no_line : (ms : List Message) (a : Described) → HasArray ms a → IsNoLineOf a → IsNoLine ms

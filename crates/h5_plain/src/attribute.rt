@@ -1,5 +1,5 @@
 //! Attribute messages, version 1, as they are appended (File Format Specification 3.0, section IV.A.2.m).
-ghost use Rattle.std.specs.Prelude.{◌≡◌, ◌+◌, ◌-◌, ◌^◌, ◌<◌, ◌≤◌, ◌++◌, List, OnOk, length};
+ghost use Rattle.std.specs.Prelude.{◌≡◌, ◌+◌, ◌-◌, ◌^◌, ◌<◌, ◌≤◌, ◌++◌, OnOk, length};
 ghost use Rattle.h5_bytes.specs.Texts.{pad8};
 ghost use Rattle.h5_model.specs.Edits.{attribute_from};
 ghost use Rattle.h5_model.specs.Plain.{cells_bytes, message_bytes};

@@ -1,6 +1,5 @@
 -- What `dump` prints of an object.
 use Rattle.std.proofs.Common.{◌≡◌, ℕ, ◌+◌, ◌*◌, ◌/◌, ◌<◌, ℤ, Some, None, List, [], ◌∷◌, ◌++◌, length, codes, refl, sym, ap, ◌∙◌, append-nil, true, arith}
-use Rattle.std.proofs.lemmas.List.Concat.{flat_map-append}
 use Rattle.std.proofs.lemmas.Nat.{div-mul-add}
 use Rattle.std.specs.FinMap.{get, entries}
 use Rattle.std.specs.List.{flat_map}
@@ -8,7 +7,7 @@ use Rattle.std.specs.Option.{option_and_then, option_map_or}
 use Rattle.h5_model.specs.Paths.{Located, Here, Missing, NoParent, NoGroup, NoPath, located, object_at, object_there}
 use Rattle.h5_model.specs.Script.{dumped}
 use Rattle.h5_model.specs.Text.{attribute_line, cells_text, content_text, dataset_text, detail_text, dump_text, escaped, line_of, rows_text}
-use Rattle.h5_model.specs.Tree.{Tree, Links, Object, Content, Group, Array, Attribute, Dataset, Contiguous, ToObject, Soft, dataset_of, dataset_in}
+use Rattle.h5_model.specs.Tree.{Tree, Links, Object, Content, Group, Array, Dataset, Contiguous, ToObject, Soft, dataset_of, dataset_in}
 use Rattle.h5_text.specs.Listing.{dump_line}
 use Rattle.h5_text.specs.Rows.{cells_from}
 use Rattle.h5_text.proofs.RowTexts.{cells_are_rows}
@@ -40,11 +39,6 @@ one-row size values some counted =
     cells_are_rows (length values / size) size values some rows
 
 -- ---- what is dumped of an object
-
--- one more line of an attribute
-pub attributes-push : (attributes : List (List ℕ × Attribute)) (a : List ℕ × Attribute)
-    → flat_map attribute_line (attributes ++ a ∷ []) ≡ flat_map attribute_line attributes ++ attribute_line a
-attributes-push attributes a = flat_map-append attribute_line attributes (a ∷ []) ∙ ap (λ t. flat_map attribute_line attributes ++ t) (append-nil (attribute_line a))
 
 pub dump-group : (path : List ℕ) (o : Object) (links : Links) → o.content ≡ Group links
     → line_of path (codes "group") ++ flat_map attribute_line (entries o.attributes) ≡ dump_text path o

@@ -1,6 +1,5 @@
 -- What `ls` prints of links.
-use Rattle.std.proofs.Common.{◌≡◌, ℕ, zero, suc, Option, Some, None, List, [], ◌∷◌, ◌++◌, map, codes, refl, sym, ap, ◌∙◌, append-nil}
-use Rattle.std.proofs.lemmas.List.Concat.{flat_map-append}
+use Rattle.std.proofs.Common.{◌≡◌, ℕ, zero, suc, Option, Some, None, List, [], ◌++◌, map, codes, refl, sym, ap, ◌∙◌, append-nil}
 use Rattle.std.specs.FinMap.{get, entries}
 use Rattle.std.specs.List.{flat_map}
 use Rattle.std.specs.Option.{option_and_then, option_map_or}
@@ -34,12 +33,6 @@ pub lines_of_listed : (tree : Tree) (depth : ℕ) (path : List ℕ) (number : �
     → flat_map (lines_of_link tree depth path) (map seen_link links) ≡ lines_below tree (suc depth) path number
 lines_of_listed tree depth path number links (all, is, listed) =
     ap (flat_map (lines_of_link tree depth path)) listed ∙ sym (lines_of_group tree depth path number all is)
-
--- one more link
-pub lines_push : (tree : Tree) (depth : ℕ) (path : List ℕ) (links : List (List ℕ × Link)) (l : List ℕ × Link)
-    → flat_map (lines_of_link tree depth path) (links ++ l ∷ []) ≡ flat_map (lines_of_link tree depth path) links ++ lines_of_link tree depth path l
-lines_push tree depth path links l =
-    flat_map-append (lines_of_link tree depth path) links (l ∷ []) ∙ ap (λ t. flat_map (lines_of_link tree depth path) links ++ t) (append-nil (lines_of_link tree depth path l))
 
 -- ---- the lines of one link
 

@@ -85,16 +85,6 @@ module _ (s : FileState) (old : Known) (a : Ran) where
     lines_stopped line shown rest bytes t new endless is parts begun =
         lines_begun line rest bytes t new endless parts (subst (λ (text : List ℕ). HasBegun (commands_of_line text) m t mid new) is begun)
 
-    -- no line ends in the rest
-    pub lines_held : (rest bytes : List ℕ) → HasNoEnd rest → seen ++ rest ≡ bytes → HasRunLines bytes (held ++ rest) s m old mid a b
-    lines_held rest bytes endless is = record {
-      done = so_far.done;
-      parts = sym (append_assoc so_far.done held rest) ∙ ap (λ xs. xs ++ rest) so_far.parts ∙ is;
-      whole = so_far.whole;
-      endless = endless_more held rest so_far.endless endless;
-      run = so_far.run;
-    }
-
     -- the lines were run, and no others are
     pub lines_left : (rest bytes : List ℕ) → seen ++ rest ≡ bytes → HasBegunLines bytes s m old mid
     lines_left rest bytes is = record {

@@ -93,9 +93,6 @@ module _ (s : FileState) (input old : Known) where
     whole_run : HasCounted (commands_of under.run.done) s m old now none_ran a
     whole_run = under.run.run
 
-    pub room_low : room ≤ limit
-    room_low = omega (arith, under.limit)
-
     low : length under.script ≤ limit
     low = omega (arith, under.limit)
 

@@ -1,13 +1,10 @@
 -- Blocks in order with gaps: what an edit of the list leaves, and that they share no byte.
-use Rattle.std.proofs.Common.{◌≡◌, ℕ, suc, ◌+◌, ◌-◌, ◌<◌, ◌≤◌, List, [], ◌∷◌, length, get_or, set, ap, ◌∙◌, arith, inl, inr}
+use Rattle.std.proofs.Common.{◌≡◌, ℕ, ◌+◌, ◌-◌, ◌<◌, ◌≤◌, List, length, get_or, set, ap, ◌∙◌, arith}
 use Rattle.std.specs.List.{insert, remove}
 use Rattle.std.proofs.lemmas.Bool.{cases_lt, cases_eq}
 use Rattle.std.proofs.lemmas.List.{length-set, get_or-set_same, get_or-set_other}
 use Rattle.std.proofs.lemmas.List.Edits.{length-insert, length-remove, get_or-insert_below, get_or-insert_at, get_or-insert_above, get_or-remove_below, get_or-remove_above}
-use Rattle.h5_bytes.specs.Blocks.{Separate}
 use Rattle.h5_bytes.specs.declared.Block.{Block}
-use Rattle.h5_bytes.proofs.BlockLaws.{holds_before, holds_past, holds-le}
-use Rattle.h5_bytes.proofs.CoverLaws.{cover_zero}
 use Rattle.h5_space.specs.Space.{IsSpaced}
 
 -- a block of the list is changed, and stays within its gap
@@ -52,29 +49,3 @@ IsSpaced-remove xs end k s h =
       inside = λ j d l. grind (arith, n, under j d, above j d, s.inside j d, s.inside (j + 1) d, cases_lt j k);
       apart = λ i j d lt l. grind (arith, n, under i d, under j d, above i d, above j d, s.apart i j d, s.apart i (j + 1) d, s.apart (i + 1) (j + 1) d, cases_lt i k, cases_lt j k);
     }
-
--- the bound may rise
-pub IsSpaced-wider : (xs : List Block) (end more : ℕ) → IsSpaced xs end → end ≤ more → IsSpaced xs more
-IsSpaced-wider xs end more s h = record {
-  filled = s.filled;
-  inside = λ j d l. let e = s.inside j d l in omega arith;
-  apart = s.apart;
-}
-
-pub IsSpaced-tail : (x : Block) (xs : List Block) (end : ℕ) → IsSpaced (x ∷ xs) end → IsSpaced xs end
-IsSpaced-tail x xs end s = record {
-  filled = λ j d l. s.filled (suc j) d (omega arith);
-  inside = λ j d l. s.inside (suc j) d (omega arith);
-  apart = λ i j d lt l. s.apart (suc i) (suc j) d (omega arith) (omega arith);
-}
-
-pub Separate-from_spaced : (xs : List Block) (end : ℕ) → IsSpaced xs end → Separate xs
-Separate-from_spaced [] end s p = omega arith
-Separate-from_spaced (x ∷ xs) end s p =
-    let others = Separate-from_spaced xs end (IsSpaced-tail x xs end s) p in
-    elim (cases_lt p (x.at + x.len)) [
-      | inl under ↦
-          let z = cover_zero p xs (λ j d l. let a = s.apart 0 (suc j) d (omega arith) (omega arith) in holds_before p _ _ (omega arith)) in
-          let m = holds-le p x.at x.len in omega arith
-      | inr past ↦ let z = holds_past p x.at x.len past in omega arith
-    ]

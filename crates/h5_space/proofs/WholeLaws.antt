@@ -3,7 +3,7 @@ use Rattle.std.proofs.Common.{◌≡◌, ℕ, ◌+◌, List, ◌∷◌, arith, z
 use Rattle.h5_bytes.specs.Blocks.{holds, cover}
 use Rattle.h5_bytes.specs.declared.Block.{Block}
 use Rattle.h5_bytes.proofs.BlockLaws.{holds_join}
-use Rattle.h5_space.specs.Whole.{IsWhole, IsApart}
+use Rattle.h5_space.specs.Whole.{IsWhole}
 
 -- a taken block is one in use
 module _ (used free free' : List Block) (b : Block) (end grown : ℕ)
@@ -14,14 +14,8 @@ module _ (used free free' : List Block) (b : Block) (end grown : ℕ)
   pub IsWhole-take : IsWhole used free end → IsWhole (b ∷ used) free' (end + grown)
   IsWhole-take whole p = omega (arith, raised p, taken p, whole p)
 
-  pub IsApart-take : IsApart used free end → IsApart (b ∷ used) free' (end + grown)
-  IsApart-take apart p = omega (arith, raised p, taken p, apart p)
-
 -- a block in use is given back
 module _ (used free free' : List Block) (b : Block) (end : ℕ)
     (given : (p : ℕ) → cover p free' ≡ cover p free + holds p b.at b.len) where
   pub IsWhole-give : IsWhole (b ∷ used) free end → IsWhole used free' end
   IsWhole-give whole p = omega (arith, given p, whole p)
-
-  pub IsApart-give : IsApart (b ∷ used) free end → IsApart used free' end
-  IsApart-give apart p = omega (arith, given p, apart p)

@@ -67,9 +67,6 @@ module _ (image : List ℕ) (held' : List Block) (followed : List Named) (walked
           stands = rw back (omega (arith, head_held image header ms blocks has by.0 one, claimed by.0));
         }
 
-  fields_of : Message → List Named
-  fields_of m = map (field_by m) (continuation m)
-
   one_message : (p : ℕ) (m : Message) → IsNaming image header m → cover p (map (block_of image) (map (field_by m) (continuation m))) ≡ cover p (continuation m)
   one_message p m naming = elim (continuation_cases m) [
     | inl none ↦ rw none refl

@@ -1,7 +1,6 @@
 -- Where links lead in a layout, and that their texts don't depend on it.
-use Rattle.std.proofs.Common.{◌≡◌, ℕ, ◌+◌, ◌*◌, ◌^◌, ◌<◌, ◌≤◌, List, [], ◌∷◌, ◌++◌, map, refl, sym, ap, ◌∙◌, subst, arith, length, get_or, take, Option, Some, None}
+use Rattle.std.proofs.Common.{◌≡◌, ℕ, ◌+◌, ◌*◌, ◌^◌, ◌≤◌, List, [], ◌∷◌, map, refl, sym, ap, ◌∙◌, subst, arith, length, Option, Some, None}
 use Rattle.std.proofs.lemmas.Slice.Zip.{AllZip-long}
-use Rattle.std.proofs.lemmas.List.{take_more, map-append}
 use Rattle.std.specs.Prelude.{slice_get, slice_index}
 use Rattle.std.specs.List.{AllZip}
 use Rattle.std.specs.Option.{option_map_or}
@@ -10,13 +9,10 @@ use Rattle.h5_model.specs.PlainLength.{nodes_over, rows_of}
 use Rattle.h5_model.specs.Sizes.{group_node, symbol_node}
 use Rattle.h5_model.specs.Tree.{Link, ToObject, Soft}
 use Rattle.h5_rows.specs.Written.{root_level}
-use Rattle.h5_segment.specs.Links.{Leads, ToGroup, ToArray, ToText, spelled, link_of}
-use Rattle.h5_segment.specs.declared.link.NewLink.{NewLink}
+use Rattle.h5_segment.specs.Links.{Leads, ToGroup, ToArray, ToText, spelled}
 use Rattle.h5_links.specs.Laws as laws
 use Rattle.h5_links.specs.Places.{ArePlaces}
 use Rattle.h5_links.specs.declared.places.GroupPlaces.{GroupPlaces}
-use Rattle.h5_objects.specs.Objects.{tree_link}
-use Rattle.h5_objects.specs.declared.object.TreeLink.{TreeLink}
 use Rattle.h5_write.specs.declared.size.Extent.{Extent}
 use Rattle.h5_write.specs.declared.size.Extent.TheVariants as extent
 use Rattle.h5_write.specs.declared.size.Size.{Size}
@@ -36,19 +32,6 @@ pub leads_found : (l : Layout) (n : ℕ) (s : Size) (x : Extent) → slice_get l
 leads_found l n s x found e =
     ap (leads_behind (slice_index l.headers.now n) (slice_index l.headers.now n + s.header)) (sym e)
     ∙ sym (ap (λ (r : Option Size). option_map_or (leads_at (slice_index l.headers.now n)) r (ToArray 0)) found)
-
-pub leads_nowhere : (l : Layout) (n : ℕ) → slice_get l.sizes.now n ≡ None → ToArray 0 ≡ leads_by l n
-leads_nowhere l n none = sym (ap (λ (r : Option Size). option_map_or (leads_at (slice_index l.headers.now n)) r (ToArray 0)) none)
-
--- one link more
-pub links_more : (l : Layout) (links : List TreeLink) (i : ℕ) (x : TreeLink) (new : List NewLink) (y : NewLink) → i < length links → x ≡ get_or links i x
-    → link_of y ≡ written_at l (tree_link x) → map link_of new ≡ map (written_at l) (map tree_link (take i links))
-    → map link_of (new ++ y ∷ []) ≡ map (written_at l) (map tree_link (take (i + 1) links))
-links_more l links i x new y low is made so_far =
-    let last : map (written_at l) (map tree_link (get_or links i x ∷ [])) ≡ link_of y ∷ [] = ap (λ z. written_at l (tree_link z) ∷ []) (sym is) ∙ ap (λ z. z ∷ []) (sym made) in
-    map-append link_of new (y ∷ []) ∙ (λ k. so_far k ++ sym last k)
-    ∙ sym (map-append (written_at l) (map tree_link (take i links)) (map tree_link (get_or links i x ∷ [])))
-    ∙ ap (map (written_at l)) (sym (map-append tree_link (take i links) (get_or links i x ∷ []))) ∙ ap (λ z. map (written_at l) (map tree_link z)) (sym (take_more links i x low))
 
 -- ---- texts
 

@@ -4,7 +4,6 @@ use Rattle.std.proofs.lemmas.Slice.Zip.{AllZip-long}
 use Rattle.std.specs.Prelude.{slice_get}
 use Rattle.std.specs.List.{AllZip}
 use Rattle.std.specs.FinMap.{entries, len, len-entries}
-use Rattle.h5_model.specs.Fixed.{fits}
 use Rattle.h5_model.specs.Plain.{messages_bytes}
 use Rattle.h5_model.specs.PlainLength.{content_bytes, rows_of}
 use Rattle.h5_model.specs.Sizes.{header_size}
@@ -23,7 +22,7 @@ use Rattle.h5_links.specs.declared.places.GroupPlaces.{GroupPlaces}
 use Rattle.h5_links.proofs.Lengths.{group_length}
 use Rattle.h5_plain.specs.ArrayHeader.{group_written, header_written, data_written}
 use Rattle.h5_plain.specs.Others.{OthersBytes}
-use Rattle.h5_plain.specs.Written.{AreOthers, AreCells, HasRoom, IsArray, IsWritable}
+use Rattle.h5_plain.specs.Written.{AreOthers, AreCells, IsArray}
 use Rattle.h5_plain.specs.declared.array.Array as plain
 use Rattle.h5_plain.specs.declared.array.Cells.{Cells}
 use Rattle.h5_plain.proofs.HeaderLaws.{group_is, header_is, data_is}
@@ -71,11 +70,6 @@ module _ (links : List TreeLink) (others : OthersBytes) (o : Object) (is : IsGro
       ap length (group_is tree heap (others_of o) others is.others_are) ∙ length-group_header tree heap (others_of o)
       ∙ ap (λ n. n + length (messages_bytes (others_of o))) forty ∙ group_header-size o is.group (is.plain).others is.content
 
-  pub group_few : others.count + 1 ≤ 65535
-  group_few =
-      let few : IsPlainContent (length (others_of o)) (Group is.group) = subst (IsPlainContent (length (others_of o))) is.content (is.plain).content in
-      omega (arith, few, (is.others_are).count_is)
-
   -- however the links are written
   module _ (leaf internal : ℕ) (l : Layout) (bare : List (List ℕ × Leads)) (bare_is : bare ≡ map (written_at l) (map tree_link links)) where
     pub own_written : AllZip laws.IsWritten (entries is.group) bare
@@ -110,12 +104,6 @@ module _ (links : List TreeLink) (others : OthersBytes) (o : Object) (is : IsGro
 
 -- ---- arrays
 
-one_size : (a b : ℕ) → a ∷ [] ≡ b ∷ [] → a ≡ b
-one_size a b e = cc
-
-room_is : (x y : Cells) (m n v w : ℕ) → x ≡ y → m ≡ n → v ≡ w → HasRoom y n w → HasRoom x m v
-room_is x y m n v w e f g room = subst (λ (c : Cells). HasRoom c m v) (sym e) (subst (λ k. HasRoom y k v) (sym f) (subst (λ k. HasRoom y n k) (sym g) room))
-
 module _ (n : NewArray) (others : OthersBytes) (a : plain.Array) (named : IsJoined n others a) (o : Object) (is : IsArrayObject n others o) where
   own_content : IsPlainContent (length (others_of o)) (Array is.dataset)
   own_content = subst (IsPlainContent (length (others_of o))) is.content (is.plain).content
@@ -135,17 +123,6 @@ module _ (n : NewArray) (others : OthersBytes) (a : plain.Array) (named : IsJoin
       count_is = ap (λ (x : OthersBytes). x.count) named.others_are ∙ (is.others_are).count_is;
     };
   }
-
-  pub joined_writable : IsWritable a
-  joined_writable =
-      let size : n.size ≡ own_array.size = one_size n.size own_array.size (sym (is.array_is).sizes_are ∙ own_array.sizes_are) in
-      let count : (a.others.now).count ≡ length (others_of o) = ((joined_array).others_are).count_is in
-      record {
-        size = omega (arith, named.size_is, size, own_array.few);
-        of_type = (λ i. fits ((joined_array).fixed_is i) ((joined_array).fill_is i)) ∙ (own_array.sound).fill;
-        cells = room_is a.cells n.cells a.size n.size (a.fixed).size (n.fixed).size named.cells_are named.size_is (λ i. (named.fixed_is i).size) (is.array_is).room;
-        few = omega (arith, count, own_content.1);
-      }
 
   pub array_header_size : (count address : ℕ) → length (header_written count a address) ≡ header_size o
   array_header_size count address =
