@@ -11,7 +11,8 @@ use Rattle.h5_bytes.specs.declared.Block.{Block}
 use Rattle.h5_model.specs.Addresses.{symbol_table_of}
 use Rattle.h5_model.specs.Links.{HasLinks}
 use Rattle.h5_model.specs.Messages.{Message, HasMessages, prefix_at, reference_count}
-use Rattle.h5_model.specs.Plain.{word, messages_bytes, symbol_table_body}
+use Rattle.h5_bytes.specs.Numbers.{word}
+use Rattle.h5_model.specs.Plain.{messages_bytes, symbol_table_body}
 use Rattle.h5_model.specs.Reads.{HasObject, HasContent, HasGroup, InGroup, IsSame}
 use Rattle.h5_model.specs.Sizes.{header_size}
 use Rattle.h5_model.specs.Superblock.{leaf_k, internal_k}

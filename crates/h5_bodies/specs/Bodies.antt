@@ -5,7 +5,8 @@ use Rattle.std.specs.FinMap.{entries}
 use Rattle.h5_bytes.specs.Bytes.{undefined}
 use Rattle.h5_bytes.specs.Texts.{pad8}
 use Rattle.h5_model.specs.Places.{cells}
-use Rattle.h5_model.specs.Plain.{word, zeros, extent_body, type_body, fill_body, contiguous_body}
+use Rattle.h5_bytes.specs.Numbers.{word, zeros}
+use Rattle.h5_model.specs.Plain.{extent_body, type_body, fill_body, contiguous_body}
 use Rattle.h5_model.specs.Sizes.{attribute_size}
 use Rattle.h5_model.specs.Tree.{Object, Dataset, Attribute, Kept, are_sizes}
 use Rattle.h5_msg.specs.Written.{attribute_bytes}

@@ -47,10 +47,3 @@ pub record IsPlainArray (d : Dataset) (others : ℕ) : Type 0 where
   pub filled : stored ≡ true → 1 ≤ size
   pub unset : stored ≡ false → d.cells ≡ replicate size d.fill
   pub unwritten : 65535 < 4 + others → d.fill ≡ pos 0
-
--- the K values of a superblock
-pub record AreK (leaf internal : ℕ) : Type 0 where
-  pub leaf_low : 1 ≤ leaf
-  pub leaf_high : leaf ≤ 32767
-  pub internal_low : 1 ≤ internal
-  pub internal_high : internal ≤ 32767

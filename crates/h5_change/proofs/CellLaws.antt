@@ -24,8 +24,7 @@ use Rattle.h5_model.proofs.PlainValues.{size-low, value_at-cells_bytes}
 use Rattle.h5_model.proofs.ValueLaws.{value_at-same}
 use Rattle.h5_layout.specs.Described.{HasArray}
 use Rattle.h5_layout.proofs.RoomLaws.{is_array}
-use Rattle.h5_tree.specs.Array.{described}
-use Rattle.h5_tree.specs.Array.{data_blocks}
+use Rattle.h5_tree.specs.Array.{described, data_blocks}
 use Rattle.h5_tree.specs.declared.line.Line.{Line}
 use Rattle.h5_plain.proofs.ValueBytes.{HasBytes, values_there}
 use Rattle.h5_change.specs.Edited.{line_of}

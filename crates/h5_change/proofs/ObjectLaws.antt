@@ -30,11 +30,10 @@ use Rattle.h5_objects.specs.declared.object.TreeLink.{TreeLink}
 use Rattle.h5_plain.specs.Others.{OthersBytes}
 use Rattle.h5_plain.specs.Written.{AreOthers}
 use Rattle.h5_bodies.specs.Bodies.{attribute_message, others_of}
-use Rattle.h5_tree.specs.Array.{data_blocks}
+use Rattle.h5_tree.specs.Array.{data_blocks, described}
 use Rattle.h5_tree.specs.Headers.{IsHeaderKept}
 use Rattle.h5_tree.specs.Kept.{IsOpened, IsContentKept, IsObjectKept}
 use Rattle.h5_tree.specs.Objects.{headers}
-use Rattle.h5_tree.specs.Array.{described}
 use Rattle.h5_tree.specs.declared.line.Line.{Line}
 use Rattle.h5_tree.specs.declared.object.OpenedObject.{OpenedObject}
 use Rattle.h5_tree.specs.declared.object.OpenedContent.TheVariants as content

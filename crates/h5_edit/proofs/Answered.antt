@@ -16,14 +16,13 @@ use Rattle.h5_image.specs.Written as image
 use Rattle.h5_image.proofs.ImageLength.{image_length}
 use Rattle.h5_model.specs.PlainLength.{plain_length}
 use Rattle.h5_model.specs.Reads.{Placed}
-use Rattle.h5_model.specs.Superblock.{IsSuperblock, leaf_k, internal_k}
+use Rattle.h5_model.specs.Superblock.{IsSuperblock, leaf_k, internal_k, AreK}
 use Rattle.h5_model.specs.Tree.{Tree}
 use Rattle.h5_model.specs.declared.edits.Edit.{Edit}
 use Rattle.h5_model.specs.declared.edits.Edit.TheVariants.{CreateDataset, SetAttr}
 use Rattle.h5_model.specs.declared.object_no.ObjectNo.{ObjectNo}
 use Rattle.h5_renumber.specs.Headers.{table_with}
 use Rattle.h5_bodies.specs.Laws.{IsPlainReading}
-use Rattle.h5_bodies.specs.Sound.{AreK}
 use Rattle.h5_sound.specs.Laws.{keeps_links}
 use Rattle.h5_sound.specs.Sound.{IsSoundTree}
 use Rattle.h5_sound.proofs.Applied.{applied_sound}

@@ -3,7 +3,8 @@ use Rattle.std.proofs.Common.{◌≡◌, ℕ, zero, suc, ◌+◌, ◌-◌, ◌*�
 use Rattle.std.proofs.lemmas.List.{length-map, length-replicate}
 use Rattle.std.specs.Prelude.{nat_le}
 use Rattle.std.specs.List.{flat_map}
-use Rattle.h5_model.specs.Plain.{short, zeros, filled_to, heap_header_bytes, segment_bytes, free_head_of}
+use Rattle.h5_bytes.specs.Numbers.{short, zeros}
+use Rattle.h5_model.specs.Plain.{filled_to, heap_header_bytes, segment_bytes, free_head_of}
 use Rattle.h5_model.specs.PlainLength.{nodes_over, rows_of}
 use Rattle.h5_model.specs.Sizes.{group_node, symbol_node}
 use Rattle.h5_model.specs.Symbols.{symbol_signature}

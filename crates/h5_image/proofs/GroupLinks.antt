@@ -23,7 +23,7 @@ use Rattle.h5_breach.proofs.Maps.{true_of, value_of, get_of_entry}
 use Rattle.h5_rows.specs.Written.{root_level}
 use Rattle.h5_segment.specs.Laws.{IsLead, IsSpelled}
 use Rattle.h5_segment.specs.Links.{Leads, ToGroup, ToArray, ToText, target_of, target_link}
-use Rattle.h5_bodies.specs.Sound.{AreK}
+use Rattle.h5_model.specs.Superblock.{AreK}
 use Rattle.h5_sound.specs.Sound.{IsSoundTree}
 use Rattle.h5_links.specs.Laws.{ArePlainLinks, IsWritten, LinksLength, GroupLength}
 use Rattle.h5_links.specs.Written.{links_bytes}

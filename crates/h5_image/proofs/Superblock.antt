@@ -3,8 +3,7 @@ use Rattle.std.proofs.Common.{◌≡◌, ℕ, ◌^◌, ◌<◌, ◌≤◌, List,
 use Rattle.h5_bytes.specs.Bytes.{number_at, part, with_part, little_bytes}
 use Rattle.h5_bytes.proofs.FieldLaws.{number_at-with_field}
 use Rattle.h5_model.specs.Plain.{superblock_bytes}
-use Rattle.h5_model.specs.Superblock.{IsSuperblock, end_of_file, leaf_k, internal_k, root_header}
-use Rattle.h5_bodies.specs.Sound.{AreK}
+use Rattle.h5_model.specs.Superblock.{IsSuperblock, end_of_file, leaf_k, internal_k, root_header, AreK}
 
 -- a number in two bytes, and in eight, reads back
 two_back : (n : ℕ) → n < 65536 → number_at (little_bytes 2 n) 0 2 ≡ n

@@ -6,7 +6,8 @@ use Rattle.h5_model.specs.PlainLength.{rows_of}
 use Rattle.h5_model.specs.Tree.{Tree, Object, Content, Group, Array, Links, links_of}
 use Rattle.h5_rows.specs.Written.{root_level}
 use Rattle.h5_bodies.specs.Bodies.{others_of}
-use Rattle.h5_bodies.specs.Sound.{AreK, IsPlainObject, IsPlainArray}
+use Rattle.h5_model.specs.Superblock.{AreK}
+use Rattle.h5_bodies.specs.Sound.{IsPlainObject, IsPlainArray}
 use Rattle.h5_sound.specs.Sound.{IsSoundTree}
 
 -- an array has one dimension in one block; the messages can be counted

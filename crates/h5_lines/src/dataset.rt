@@ -1,7 +1,6 @@
 //! What a script says of a dataset: its type, how it is stored, and its fill.
 ghost use Rattle.std.specs.Prelude.{◌≡◌, IfOk};
-ghost use Rattle.h5_model.specs.Lines.{fill_from as fill_read, store_from as store_read};
-ghost use Rattle.h5_model.specs.Lines.{type_from as type_read};
+ghost use Rattle.h5_model.specs.Lines.{fill_from as fill_read, store_from as store_read, type_from as type_read};
 
 use crate::number::value_from;
 use crate::words::list_from;

@@ -1,7 +1,6 @@
 //! The forms of a script's lines, by how many words stand behind the first.
 ghost use Rattle.std.specs.Prelude.{◌≡◌, IfOk, [], ◌∷◌, codes, map, option_map};
-ghost use Rattle.h5_model.specs.Lines.{dataset_from as dataset_read, fill_from as fill_read};
-ghost use Rattle.h5_model.specs.Lines.{hyper_from as hyper_read, words_ask};
+ghost use Rattle.h5_model.specs.Lines.{dataset_from as dataset_read, fill_from as fill_read, hyper_from as hyper_read, words_ask};
 ghost use Rattle.h5_lines.specs.Commands.{Asks, command_of};
 
 use crate::command::Command;

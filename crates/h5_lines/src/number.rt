@@ -1,7 +1,6 @@
 //! Decimal numbers of a script.
 ghost use Rattle.std.specs.Prelude.{◌≡◌};
-ghost use Rattle.h5_model.specs.Lines.{number_upto as number_read, value_from as value_read};
-ghost use Rattle.h5_model.specs.Lines.{u32_from as u32_read, u64_from as u64_read};
+ghost use Rattle.h5_model.specs.Lines.{number_upto as number_read, value_from as value_read, u32_from as u32_read, u64_from as u64_read};
 
 /// The number that a word stands for: one decimal digit or more, leading zeros allowed, and at most
 /// so much.

@@ -1,9 +1,6 @@
 //! Words of a line, and lists in them.
-ghost use Rattle.std.specs.Prelude.{◌≡◌, ◌<◌, ◌∷◌, ℕ, List, Option, length, option_map};
-ghost use Rattle.std.specs.Prelude.{IfOk, IfSome};
-ghost use Rattle.h5_model.specs.Lines.{maximum_read, size_from as size_read};
-ghost use Rattle.h5_model.specs.Lines.{u32_from as u32_read, u64_from as u64_read};
-ghost use Rattle.h5_model.specs.Lines.{list_from as list_read, value_from as value_read};
+ghost use Rattle.std.specs.Prelude.{◌≡◌, ◌<◌, ◌∷◌, ℕ, List, Option, length, option_map, IfOk, IfSome};
+ghost use Rattle.h5_model.specs.Lines.{maximum_read, size_from as size_read, u32_from as u32_read, u64_from as u64_read, list_from as list_read, value_from as value_read};
 ghost use Rattle.h5_lines.specs.Words.{parts, parts_left};
 
 use crate::number::{u32_from, u64_from, value_from};

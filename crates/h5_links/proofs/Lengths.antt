@@ -14,7 +14,7 @@ use Rattle.h5_rows.proofs.TreeLaws.{tree_length}
 use Rattle.h5_segment.specs.Links.{Leads, ToGroup, ToArray, ToText}
 use Rattle.h5_segment.specs.Written.{placed_links, link_span, segment_of, heap_bytes}
 use Rattle.h5_segment.proofs.Lengths.{segment_length_is, length-heap_bytes}
-use Rattle.h5_bodies.specs.Sound.{AreK}
+use Rattle.h5_model.specs.Superblock.{AreK}
 use Rattle.h5_links.specs.Written.{runs_of, children_of, symbol_nodes, symbols_place, heap_place, links_bytes, tree_level}
 use Rattle.h5_links.specs.Laws.{LinksLength, IsWritten, GroupLength}
 use Rattle.h5_links.proofs.SymbolNodes.{Placed}

@@ -1,7 +1,7 @@
 -- The parts of a group's links as they are appended.
 use Rattle.std.proofs.Common.{◌≡◌, ℕ, ◌+◌, ◌*◌, ◌^◌, ◌<◌, ◌≤◌, List, ◌++◌, length, map, sym, ap, ◌∙◌, subst, arith}
 use Rattle.std.specs.List.{flat_map, sum_by}
-use Rattle.h5_bodies.specs.Sound.{AreK}
+use Rattle.h5_model.specs.Superblock.{AreK}
 use Rattle.h5_model.specs.Sizes.{symbol_node}
 use Rattle.h5_rows.specs.declared.child.Child.{Child}
 use Rattle.h5_rows.specs.Written.{tree_bytes, root_level}

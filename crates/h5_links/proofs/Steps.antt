@@ -11,7 +11,7 @@ use Rattle.h5_segment.specs.Links.{Leads, leads_of, link_of}
 use Rattle.h5_segment.specs.declared.link.NewLink.{NewLink}
 use Rattle.h5_segment.specs.Written.{placed, placed_links, link_span, entry_bytes}
 use Rattle.h5_segment.specs.declared.link.Leads.TheVariants as leads
-use Rattle.h5_model.specs.Plain.{word, middle, zeros}
+use Rattle.h5_bytes.specs.Numbers.{word, middle, zeros}
 use Rattle.h5_links.specs.Written.{runs_of, symbol_bytes, symbol_nodes, last_name, children_of}
 use Rattle.h5_links.proofs.SymbolNodes.{Placed}
 use Rattle.h5_links.proofs.Runs.{length-runs, runs_step}

@@ -8,7 +8,7 @@ use Rattle.h5_bytes.specs.Bytes.{number_at, part, little_bytes, undefined}
 use Rattle.h5_bytes.specs.Tables.{table}
 use Rattle.h5_bytes.proofs.PartLaws.{part-behind, part-front}
 use Rattle.h5_bytes.proofs.TableLaws.{length-table, get_or-table}
-use Rattle.h5_model.specs.Plain.{short, middle, word, zeros}
+use Rattle.h5_bytes.specs.Numbers.{short, middle, word, zeros}
 use Rattle.h5_model.specs.Sizes.{symbol_node, text_span}
 use Rattle.h5_model.specs.Symbols.{Entry, IsSymbolNode, symbols_in}
 use Rattle.h5_model.specs.Symbols as symbols

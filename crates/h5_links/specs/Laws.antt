@@ -10,7 +10,7 @@ use Rattle.h5_model.specs.Links.{HasLinks, Ascend}
 use Rattle.h5_model.specs.Paths.{is_name}
 use Rattle.h5_model.specs.PlainLength.{group_bytes}
 use Rattle.h5_model.specs.Tree.{Link, Links, ToObject, Soft}
-use Rattle.h5_bodies.specs.Sound.{AreK}
+use Rattle.h5_model.specs.Superblock.{AreK}
 use Rattle.h5_segment.specs.Links.{Leads, ToGroup, ToArray, ToText, target_link}
 use Rattle.h5_segment.specs.Laws.{IsSpelled}
 use Rattle.h5_links.specs.Written.{links_bytes, links_length, heap_place, tree_level}

@@ -2,7 +2,8 @@
 -- Specification 3.0, sections III.A.1, III.B and III.D).
 use Rattle.std.specs.Prelude.{ℕ, ◌+◌, ◌*◌, List, [], ◌∷◌, ◌++◌, length}
 use Rattle.std.specs.List.{flat_map}
-use Rattle.h5_model.specs.Plain.{short, filled_to}
+use Rattle.h5_bytes.specs.Numbers.{short}
+use Rattle.h5_model.specs.Plain.{filled_to}
 use Rattle.h5_model.specs.PlainLength.{rows_of, nodes_over}
 use Rattle.h5_model.specs.Sizes.{group_node, symbol_node}
 use Rattle.h5_model.specs.Symbols.{symbol_signature}

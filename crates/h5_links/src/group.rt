@@ -1,6 +1,6 @@
 //! A group's links, one part behind another.
 ghost use Rattle.std.specs.Prelude.{◌≡◌, ◌+◌, ◌^◌, ◌≤◌, ◌++◌, OnOk, map};
-ghost use Rattle.h5_bodies.specs.Sound.{AreK};
+ghost use Rattle.h5_model.specs.Superblock.{AreK};
 ghost use Rattle.h5_segment.specs.Links.{link_of};
 ghost use Rattle.h5_links.specs.Written.{links_bytes};
 ghost use Rattle.h5_links.specs.Places.{ArePlaces};

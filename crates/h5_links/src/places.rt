@@ -1,6 +1,6 @@
 //! Where the parts of a group's links stand.
 ghost use Rattle.std.specs.Prelude.{◌≡◌, ◌*◌, ◌^◌, ◌<◌, ◌≤◌, MatchResult, map};
-ghost use Rattle.h5_bodies.specs.Sound.{AreK};
+ghost use Rattle.h5_model.specs.Superblock.{AreK};
 ghost use Rattle.h5_segment.specs.Links.{link_of};
 ghost use Rattle.h5_links.specs.Places.{IsTooLarge, ArePlaces};
 

@@ -1,15 +1,15 @@
 //! Symbol nodes (File Format Specification 3.0, section III.B) and their entries (section III.C).
 ghost use Rattle.std.specs.Prelude.{◌≡◌, ◌+◌, ◌*◌, ◌^◌, ◌<◌, ◌≤◌, ◌++◌, OnOk, IfOk, length, map, sum_by};
 ghost use Rattle.std.specs.List.{flat_map};
-ghost use Rattle.h5_model.specs.Plain.{word, middle, zeros};
+ghost use Rattle.h5_bytes.specs.Numbers.{word, middle, zeros};
 ghost use Rattle.h5_model.specs.Sizes.{symbol_node};
 ghost use Rattle.h5_segment.specs.Links.{link_of};
 ghost use Rattle.h5_segment.specs.Written.{placed, placed_links, entry_bytes, link_span as span};
 ghost use Rattle.h5_links.specs.Written.{symbol_bytes, symbol_nodes, runs_of, last_name, children_of};
 
-use h5_plain::{push_bytes, push_middle, push_short, push_word, push_zeros, text_span};
+use h5_bytes::{push_bytes, push_middle, push_short, push_word, push_zeros};
 use h5_rows::Child;
-use h5_segment::{Leads, NewLink, link_span};
+use h5_segment::{Leads, NewLink, link_span, text_span};
 use std::alloc::{AllocError, Global};
 
 /// What stands before the scratch of an entry: the offset of its name, its object's header and its cache type.

@@ -1,12 +1,11 @@
 -- Worked examples, by computation.
 use Rattle.std.proofs.Common.{◌≡◌, ℕ, List, [], ◌∷◌, refl, Bool, true, false, Some, None, pos, negsuc, length, replicate}
 use Rattle.h5_model.specs.Fixed.{Fixed, value_at, value_of, raw_at, bytes_of, fits}
-use Rattle.h5_model.specs.Places.{place_of}
+use Rattle.h5_model.specs.Places.{place_of, is_inside}
 use Rattle.h5_model.specs.Selection.{Slab, selection_of, selected_cells, is_within, is_one_run, is_selected}
 use Rattle.h5_model.specs.Grid.{corner_of, inner_of}
 use Rattle.h5_model.specs.Views.{met_boxes, is_lent}
 use Rattle.h5_model.specs.Tree.{Dataset, Storage, Compact, Contiguous, Chunked}
-use Rattle.h5_model.specs.Places.{is_inside}
 use Rattle.h5_model.specs.Extent.{extent_of, maximum_fits}
 use Rattle.h5_model.specs.Datatype.{fixed_of}
 use Rattle.h5_model.specs.Fill.{fill_value}

@@ -17,7 +17,8 @@ use Rattle.h5_model.specs.Layout.{InBlock, layout_of}
 use Rattle.h5_model.specs.Chunks.{Chunks}
 use Rattle.h5_model.specs.Cells.{cells_of}
 use Rattle.h5_model.specs.Sound.{AreOf}
-use Rattle.h5_model.specs.Plain.{zeros, middle, extent_body, type_body, fill_body, contiguous_body, cells_bytes}
+use Rattle.h5_bytes.specs.Numbers.{zeros, middle}
+use Rattle.h5_model.specs.Plain.{extent_body, type_body, fill_body, contiguous_body, cells_bytes}
 use Rattle.h5_model.proofs.ValueLaws.{value_at-moved, moved-behind}
 use Rattle.h5_model.proofs.FixedLaws.{sizes_of, length-bytes_of, value_back}
 use Rattle.h5_model.proofs.PlaceLaws.{place-index}

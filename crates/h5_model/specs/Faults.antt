@@ -7,10 +7,9 @@ use Rattle.std.specs.FinMap.{FinMap}
 use Rattle.h5_bytes.specs.Bytes.{number_at, byte_at, part, undefined}
 use Rattle.h5_bytes.specs.Blocks.{cover}
 use Rattle.h5_bytes.specs.declared.Block.{Block}
-use Rattle.h5_model.specs.Superblock.{signature, superblock_length, end_of_file}
+use Rattle.h5_model.specs.Superblock.{signature, superblock_length, end_of_file, leaf_k, internal_k}
 use Rattle.h5_model.specs.Messages.{Message, count_of, prefix_at, reference_count}
 use Rattle.h5_model.specs.Nodes.{group_kind}
-use Rattle.h5_model.specs.Superblock.{leaf_k, internal_k}
 use Rattle.h5_model.specs.Heap.{heap_header, segment_of, IsHeap}
 use Rattle.h5_model.specs.Symbols.{symbol_bytes, symbols_in}
 use Rattle.h5_model.specs.Tree.{Tree}

@@ -1,26 +1,14 @@
 -- The plain layout: the bytes of each structure as an image that is written anew has them (File Format Specification 3.0, sections
 -- II.A, III and IV.A). Its blocks follow each other without gaps.
-use Rattle.std.specs.Prelude.{ℕ, ◌+◌, ◌-◌, ◌*◌, nat_le, if◌then◌else◌, ℤ, List, [], ◌∷◌, ◌++◌, length, replicate}
+use Rattle.std.specs.Prelude.{ℕ, ◌+◌, ◌-◌, ◌*◌, nat_le, if◌then◌else◌, ℤ, List, [], ◌∷◌, ◌++◌, length}
 use Rattle.std.specs.List.{flat_map}
-use Rattle.h5_bytes.specs.Bytes.{little_bytes, undefined}
+use Rattle.h5_bytes.specs.Bytes.{undefined}
+use Rattle.h5_bytes.specs.Numbers.{short, middle, word, zeros}
 use Rattle.h5_model.specs.Superblock.{signature}
 use Rattle.h5_model.specs.Heap.{heap_signature}
 use Rattle.h5_model.specs.Nodes.{Kind, node_signature, node_length}
 use Rattle.h5_model.specs.Fixed.{Fixed, bytes_of}
 use Rattle.h5_model.specs.Sizes.{text_span}
-
-abbrev pub zeros : ℕ → List ℕ
-zeros n = replicate n 0
-
--- a number in two, four and eight bytes
-abbrev pub short : ℕ → List ℕ
-short n = little_bytes 2 n
-
-abbrev pub middle : ℕ → List ℕ
-middle n = little_bytes 4 n
-
-abbrev pub word : ℕ → List ℕ
-word n = little_bytes 8 n
 
 -- versions 0, sizes of 8 bytes, the K values, base address 0, and the root entry with its tree and heap
 abbrev pub superblock_bytes : ℕ → ℕ → ℕ → ℕ → ℕ → ℕ → List ℕ

@@ -1,7 +1,7 @@
 -- What the messages of a header say of the object, and which rule they break.
 use Rattle.std.proofs.Common.{◌≡◌, inl, inr, ℕ, ◌+◌, List, [], ◌∷◌, length, refl, sym, ◌∙◌, ap, Option, Some, None, true, false, cond, arith}
-use Rattle.std.specs.Prelude.{◌==◌, option_map, Ok, Err, ok_or, Result, ◌↔◌}
-use Rattle.std.specs.List.{find}
+use Rattle.std.specs.Prelude.{◌==◌, option_map, Ok, Err, ok_or, Result, ◌↔◌, slice_index_or, ℤ}
+use Rattle.std.specs.List.{find, slice_get}
 use Rattle.h5_bytes.specs.declared.Block.{Block}
 use Rattle.h5_model.specs.Messages.{Message, count_of, first_body}
 use Rattle.h5_model.specs.HeaderFaults.{ListBreach, SomeBody}
@@ -13,8 +13,6 @@ use Rattle.h5_header.specs.declared.kinds.ObjectKind.{ObjectKind}
 use Rattle.h5_header.specs.declared.kinds.ObjectKind.TheVariants.{Group, Dataset}
 use Rattle.h5_header.proofs.FoundLaws.{found}
 use Rattle.std.proofs.lemmas.Option.{same_Some}
-use Rattle.std.specs.List.{slice_get}
-use Rattle.std.specs.Prelude.{slice_index_or, ℤ}
 use Rattle.h5_model.specs.Fixed.{Fixed}
 use Rattle.h5_model.specs.Layout.{InBlock}
 use Rattle.h5_model.specs.Reached.{layout_among}

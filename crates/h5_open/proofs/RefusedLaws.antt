@@ -1,6 +1,5 @@
 -- Why opening is refused, by what its parts say.
-use Rattle.std.proofs.Common.{◌≡◌, ◌≢◌, ℕ, List, []}
-use Rattle.std.proofs.Common.{◌∷◌, refl}
+use Rattle.std.proofs.Common.{◌≡◌, ◌≢◌, ℕ, List, [], ◌∷◌, refl}
 use Rattle.std.specs.Prelude.{false}
 use Rattle.std.specs.List.{AllByRecursion}
 use Rattle.h5_bytes.specs.declared.Block.{Block}

@@ -3,7 +3,8 @@ use Rattle.std.proofs.Common.{◌≡◌, ℕ, ◌+◌, ◌*◌, ℤ, Option, Som
 use Rattle.std.proofs.lemmas.List.{length-replicate}
 use Rattle.std.specs.Prelude.{nat_lt, if◌then◌else◌}
 use Rattle.h5_model.specs.Fixed.{Fixed, IsFixed}
-use Rattle.h5_model.specs.Plain.{message_bytes, messages_bytes, short, word, zeros, extent_body, type_body, fill_body, contiguous_body, cells_bytes}
+use Rattle.h5_bytes.specs.Numbers.{short, word, zeros}
+use Rattle.h5_model.specs.Plain.{message_bytes, messages_bytes, extent_body, type_body, fill_body, contiguous_body, cells_bytes}
 use Rattle.h5_model.specs.Tree.{are_sizes}
 use Rattle.h5_model.proofs.PlainValues.{size-high, length-fill_body, length-cells_bytes}
 use Rattle.h5_bodies.specs.Bodies.{space_body, bounded_body, maximum_word}

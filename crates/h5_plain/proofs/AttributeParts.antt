@@ -3,7 +3,8 @@ use Rattle.std.proofs.Common.{◌≡◌, ℕ, ◌+◌, ◌-◌, ◌≤◌, ◌<�
 use Rattle.std.proofs.lemmas.List.{drop_more}
 use Rattle.h5_bytes.specs.Texts.{pad8}
 use Rattle.h5_model.specs.Fixed.{Fixed, IsFixed, bytes_of}
-use Rattle.h5_model.specs.Plain.{message_bytes, short, zeros, padded_text, type_body, extent_body, cells_bytes}
+use Rattle.h5_bytes.specs.Numbers.{short, zeros}
+use Rattle.h5_model.specs.Plain.{message_bytes, padded_text, type_body, extent_body, cells_bytes}
 use Rattle.h5_model.specs.Sizes.{attribute_size}
 use Rattle.h5_model.specs.Sound.{AreOf}
 use Rattle.h5_model.specs.Tree.{Attribute}

@@ -2,7 +2,8 @@
 use Rattle.std.proofs.Common.{◌≡◌, ℕ, zero, suc, ◌+◌, ◌-◌, ◌*◌, ◌/◌, ◌%◌, ◌≤◌, ℤ, List, [], ◌++◌, take, replicate, refl, ap, ◌∙◌, sym, arith, append_assoc, append-nil}
 use Rattle.std.proofs.lemmas.List.{take_at}
 use Rattle.h5_model.specs.Fixed.{Fixed, bytes_of}
-use Rattle.h5_model.specs.Plain.{zeros, cells_bytes}
+use Rattle.h5_bytes.specs.Numbers.{zeros}
+use Rattle.h5_model.specs.Plain.{cells_bytes}
 use Rattle.h5_model.proofs.FixedLaws.{length-bytes_of}
 use Rattle.h5_plain.specs.Parts.{copies}
 

@@ -4,7 +4,8 @@ use Rattle.std.proofs.lemmas.Bool.Decides.{nat_tests}
 use Rattle.std.specs.Prelude.{nat_lt, ◌==◌, if◌then◌else◌}
 use Rattle.h5_bytes.specs.Bytes.{undefined}
 use Rattle.h5_model.specs.Places.{cells}
-use Rattle.h5_model.specs.Plain.{word, header_bytes, messages_bytes, symbol_table_body, type_body, fill_body, contiguous_body, cells_bytes}
+use Rattle.h5_bytes.specs.Numbers.{word}
+use Rattle.h5_model.specs.Plain.{header_bytes, messages_bytes, symbol_table_body, type_body, fill_body, contiguous_body, cells_bytes}
 use Rattle.h5_model.specs.Tree.{Dataset}
 use Rattle.h5_bodies.specs.Bodies.{array_messages, space_body}
 use Rattle.h5_bodies.specs.Headers.{is_stored, data_of}

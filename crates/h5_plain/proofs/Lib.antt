@@ -1,4 +1,3 @@
-pub mod Nodes
 pub mod Copies
 pub mod ValueBytes
 pub mod AttributeParts

@@ -2,7 +2,8 @@
 use Rattle.std.specs.Prelude.{ℕ, ◌+◌, ◌*◌, ◌==◌, nat_lt, if◌then◌else◌, ℤ, List, [], ◌∷◌, ◌++◌, length, replicate}
 use Rattle.h5_bytes.specs.Bytes.{undefined}
 use Rattle.h5_model.specs.Fixed.{Fixed}
-use Rattle.h5_model.specs.Plain.{word, messages_bytes, type_body, fill_body, contiguous_body, cells_bytes}
+use Rattle.h5_bytes.specs.Numbers.{word}
+use Rattle.h5_model.specs.Plain.{messages_bytes, type_body, fill_body, contiguous_body, cells_bytes}
 use Rattle.h5_bodies.specs.Bodies.{space_body}
 use Rattle.h5_plain.specs.declared.array.Array.{Array}
 use Rattle.h5_plain.specs.declared.array.Cells.{Cells}

@@ -9,8 +9,8 @@ ghost use Rattle.h5_bodies.specs.Sound.{IsPlainAttribute};
 ghost use Rattle.h5_plain.specs.Parts.{attribute_front};
 
 use crate::cells::value_bytes;
-use crate::fields::{push_bytes, push_short, push_zeros};
-use crate::group::push_text;
+use h5_bytes::{push_bytes, push_short, push_zeros};
+use h5_segment::push_text;
 use crate::header::{push_extent, push_message_head, push_type};
 use h5_model::{AttrSpec, Fixed};
 use h5_msg::{AttributeBody, attribute_length};

@@ -2,13 +2,14 @@
 ghost use Rattle.std.specs.Prelude.{◌≡◌, ◌-◌, ◌^◌, ◌==◌, ◌≤◌, ◌++◌, OnOk, true, if◌then◌else◌, length, replicate};
 ghost use Rattle.h5_bytes.specs.Bytes.{undefined};
 ghost use Rattle.h5_model.specs.Fixed.{bytes_of, fits};
-ghost use Rattle.h5_model.specs.Plain.{zeros, cells_bytes};
+ghost use Rattle.h5_bytes.specs.Numbers.{zeros};
+ghost use Rattle.h5_model.specs.Plain.{cells_bytes};
 ghost use Rattle.h5_plain.specs.ArrayHeader.{data_written, address_written};
 ghost use Rattle.h5_plain.specs.Parts.{copies};
 ghost use Rattle.h5_plain.specs.Written.{IsWritable};
 
 use crate::array::{Array, Cells};
-use crate::fields::push_bytes;
+use h5_bytes::push_bytes;
 use h5_bytes::UNDEF;
 use h5_model::Fixed;
 use h5_types::encode;

@@ -1,7 +1,8 @@
 //! Object headers, version 1, in one block, and the messages of a group and of an array (File Format Specification 3.0,
 //! section IV.A).
 ghost use Rattle.std.specs.Prelude.{◌≡◌, ℕ, ◌+◌, ◌*◌, ◌^◌, ◌≤◌, ◌++◌, [], ◌∷◌, OnOk, true, length, nat_lt, not};
-ghost use Rattle.h5_model.specs.Plain.{extent_body, type_body, fill_body, contiguous_body, class_bits, message_bytes, messages_bytes, word};
+ghost use Rattle.h5_bytes.specs.Numbers.{word};
+ghost use Rattle.h5_model.specs.Plain.{extent_body, type_body, fill_body, contiguous_body, class_bits, message_bytes, messages_bytes};
 ghost use Rattle.h5_model.specs.Fixed.{fits};
 ghost use Rattle.h5_model.specs.Tree.{are_sizes};
 ghost use Rattle.h5_bodies.specs.Bodies.{maximum_word, space_body};
@@ -11,7 +12,7 @@ ghost use Rattle.h5_plain.specs.Written.{IsWritable};
 
 use crate::array::Array;
 use crate::cells::value_bytes;
-use crate::fields::{push_bytes, push_middle, push_short, push_word, push_zeros};
+use h5_bytes::{push_bytes, push_middle, push_short, push_word, push_zeros};
 use crate::others::Others;
 use h5_bytes::UNDEF;
 use h5_model::Fixed;

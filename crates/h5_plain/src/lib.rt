@@ -7,16 +7,12 @@
 mod array;
 mod attribute;
 mod cells;
-mod fields;
-mod group;
 mod header;
 mod others;
 mod superblock;
 
 pub use crate::array::{Array, Cells};
 pub use crate::cells::{cells_address, data_length, push_data};
-pub use crate::fields::{push_bytes, push_middle, push_short, push_word, push_zeros};
-pub use crate::group::{push_free_rest, push_group_node, push_heap_header, push_text, text_span};
 pub use crate::header::{
     array_header_length, group_header_length, push_array_header, push_group_header,
 };

@@ -8,7 +8,7 @@ ghost use Rattle.h5_bodies.specs.Sound.{IsPlainAttribute};
 ghost use Rattle.h5_plain.specs.Written.{AreOthers};
 
 use crate::attribute::{push_new_attribute, push_stored_attribute};
-use crate::fields::push_bytes;
+use h5_bytes::push_bytes;
 use crate::header::push_message_head;
 use h5_model::AttrSpec;
 use h5_msg::AttributeBody;

@@ -2,7 +2,7 @@
 ghost use Rattle.std.specs.Prelude.{◌≡◌, ◌++◌, OnOk};
 ghost use Rattle.h5_model.specs.Plain.{superblock_bytes};
 
-use crate::fields::{push_bytes, push_short, push_word, push_zeros};
+use h5_bytes::{push_bytes, push_short, push_word, push_zeros};
 use h5_bytes::UNDEF;
 use std::alloc::AllocError;
 

@@ -7,3 +7,4 @@ pub mod Order
 pub mod Trees
 pub mod TreeLaws
 pub mod Steps
+pub mod NodeParts

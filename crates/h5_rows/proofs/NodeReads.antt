@@ -7,7 +7,8 @@ use Rattle.h5_bytes.specs.Tables.{table}
 use Rattle.h5_bytes.proofs.PartLaws.{part-behind, part-front}
 use Rattle.h5_bytes.proofs.TableLaws.{length-table, get_or-table}
 use Rattle.h5_model.specs.Nodes.{IsNode, group_kind, node_length, node_of, node_signature, key_in, child_in, entries_in}
-use Rattle.h5_model.specs.Plain.{word, short, zeros, rows_bytes, filled_to, node_bytes_of}
+use Rattle.h5_bytes.specs.Numbers.{word, short, zeros}
+use Rattle.h5_model.specs.Plain.{rows_bytes, filled_to, node_bytes_of}
 use Rattle.h5_model.specs.Sizes.{group_node}
 use Rattle.h5_model.proofs.NumberLaws.{reads_back, number_at-append}
 

@@ -9,7 +9,8 @@ use Rattle.h5_bytes.proofs.BlockLaws.{all_append, all_left, all_right}
 use Rattle.h5_bytes.proofs.PartLaws.{part-part, part-front, part-appended}
 use Rattle.h5_model.specs.Links.{offset_in, key_offsets}
 use Rattle.h5_model.specs.Nodes.{IsNode, group_kind, node_at, node_bytes, node_length, node_of, entries_in, tree_blocks}
-use Rattle.h5_model.specs.Plain.{word, node_bytes_of}
+use Rattle.h5_bytes.specs.Numbers.{word}
+use Rattle.h5_model.specs.Plain.{node_bytes_of}
 use Rattle.h5_model.specs.Rows.{Node, Reading, IsRow, next_row, first_or_undefined}
 use Rattle.h5_model.specs.Sizes.{group_node}
 use Rattle.h5_model.proofs.NumberLaws.{reads_back}

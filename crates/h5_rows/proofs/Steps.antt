@@ -5,7 +5,8 @@ use Rattle.std.proofs.lemmas.Bool.Decides.{nat_tests}
 use Rattle.std.proofs.lemmas.List.{take_all, drop_all, length-drop}
 use Rattle.h5_bytes.specs.Bytes.{undefined}
 use Rattle.h5_model.specs.Nodes.{group_kind}
-use Rattle.h5_model.specs.Plain.{word, node_bytes_of}
+use Rattle.h5_bytes.specs.Numbers.{word}
+use Rattle.h5_model.specs.Plain.{node_bytes_of}
 use Rattle.h5_model.specs.PlainLength.{rows_of, nodes_over}
 use Rattle.h5_model.specs.Sizes.{group_node}
 use Rattle.h5_rows.specs.Steps.{levels_from, rows_from}

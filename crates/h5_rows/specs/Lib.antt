@@ -1,3 +1,4 @@
 pub mod Written
 pub mod Laws
 pub mod Steps
+pub mod Parts

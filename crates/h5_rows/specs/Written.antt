@@ -3,7 +3,8 @@
 use Rattle.std.specs.Prelude.{ℕ, zero, suc, ◌+◌, ◌*◌, nat_le, if◌then◌else◌, List, [], ◌∷◌, ◌++◌, map, length, take, drop}
 use Rattle.h5_bytes.specs.Bytes.{undefined}
 use Rattle.h5_model.specs.Nodes.{group_kind}
-use Rattle.h5_model.specs.Plain.{word, node_bytes_of}
+use Rattle.h5_bytes.specs.Numbers.{word}
+use Rattle.h5_model.specs.Plain.{node_bytes_of}
 use Rattle.h5_model.specs.PlainLength.{rows_of, nodes_over}
 use Rattle.h5_model.specs.Sizes.{group_node}
 use Rattle.h5_rows.specs.declared.child.Child.{Child}

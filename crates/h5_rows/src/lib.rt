@@ -4,6 +4,7 @@
 
 mod child;
 mod count;
+mod group_node;
 mod node;
 mod row;
 mod rows;

@@ -1,13 +1,14 @@
 //! One node of a group's tree (File Format Specification 3.0, section III.A.1).
 ghost use Rattle.std.specs.Prelude.{◌≡◌, ◌*◌, ◌^◌, ◌<◌, ◌≤◌, ◌++◌, ◌∷◌, OnOk, length, map, take, drop};
 ghost use Rattle.h5_model.specs.Nodes.{group_kind};
-ghost use Rattle.h5_model.specs.Plain.{word, node_bytes_of};
+ghost use Rattle.h5_bytes.specs.Numbers.{word};
+ghost use Rattle.h5_model.specs.Plain.{node_bytes_of};
 ghost use Rattle.h5_model.specs.Sizes.{group_node};
 ghost use Rattle.h5_rows.specs.declared.child.Child as declared;
 ghost use Rattle.h5_rows.specs.Written.{last_below as last};
 
 use crate::child::Child;
-use h5_plain::push_group_node;
+use crate::group_node::push_group_node;
 use std::alloc::{AllocError, Global};
 
 /// How many bytes a node with room for 2 `internal` children has.

@@ -1,10 +1,9 @@
 -- A script that is read piece by piece, and how its run ends.
 use Rattle.std.proofs.Common.{◌≡◌, ℕ, ◌+◌, ◌-◌, ◌<◌, ◌≤◌, Bool, true, false, cond, Option, List, [], ◌∷◌, ◌++◌, length, take, drop, take-append-drop, refl, sym, ap, ◌∙◌, subst, append_assoc, append-nil, length-append, length-take, min, arith}
-use Rattle.std.specs.Prelude.{nat_lt}
+use Rattle.std.specs.Prelude.{nat_lt, Result, Ok, Err, MatchResult, IsErrAnd}
 use Rattle.std.specs.Io.KnownBytes.{Consumes, Keeps, IsAtEnd}
 use Rattle.std.proofs.lemmas.Bool.Decides.{nat_tests}
 use Rattle.std.proofs.lemmas.List.{take-take}
-use Rattle.std.specs.Prelude.{Result, Ok, Err, MatchResult, IsErrAnd}
 use Rattle.h5_tree.specs.State.{FileState}
 use Rattle.h5_model.specs.Lines.{Command, commands_of, finished, within_limit}
 use Rattle.h5_script.specs.Pieces.{IsWhole, HasRunLines, HasBegunLines, IsUnderway, commands_of_line}

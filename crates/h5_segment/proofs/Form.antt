@@ -8,7 +8,8 @@ use Rattle.h5_bytes.specs.Blocks.{block}
 use Rattle.h5_bytes.specs.declared.Block.{Block}
 use Rattle.h5_bytes.proofs.BlockLaws.{holds-le}
 use Rattle.h5_model.specs.Heap.{IsHeap, segment_size, free_head, segment_place}
-use Rattle.h5_model.specs.Plain.{heap_header_bytes, head_of, segment_with, word, zeros}
+use Rattle.h5_bytes.specs.Numbers.{word, zeros}
+use Rattle.h5_model.specs.Plain.{heap_header_bytes, head_of, segment_with}
 use Rattle.h5_model.proofs.NumberLaws.{number_at-append, reads_back}
 use Rattle.h5_segment.proofs.Spans.{free_of}
 

@@ -6,8 +6,9 @@ use Rattle.std.proofs.lemmas.Bool.Decides.{leb_tells, nat_tests}
 use Rattle.std.proofs.lemmas.List.{length-append, length-replicate}
 use Rattle.std.proofs.lemmas.List.Sums.{sum_by-cons}
 use Rattle.h5_model.specs.Sizes.{text_span}
-use Rattle.h5_model.specs.Plain.{word, zeros, padded_text, texts_bytes, segment_with, heap_header_bytes, free_head_of}
-use Rattle.h5_plain.specs.Parts.{free_rest}
+use Rattle.h5_bytes.specs.Numbers.{word, zeros}
+use Rattle.h5_model.specs.Plain.{padded_text, texts_bytes, segment_with, heap_header_bytes, free_head_of}
+use Rattle.h5_segment.specs.Parts.{free_rest}
 use Rattle.h5_segment.specs.Links.{Leads, ToGroup, ToArray, ToText, spelled}
 use Rattle.h5_segment.specs.Written.{link_span, segment_of, heap_bytes}
 use Rattle.h5_segment.specs.Laws.{SegmentLength}

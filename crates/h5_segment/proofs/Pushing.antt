@@ -2,8 +2,9 @@
 use Rattle.std.proofs.Common.{◌≡◌, ℕ, ◌+◌, ◌<◌, ◌≤◌, ◌^◌, Option, Some, None, List, ◌++◌, length, rules, ap, ◌∙◌, sym, arith, append_assoc}
 use Rattle.std.specs.Option.{MatchOption, IsSome}
 use Rattle.std.specs.Prelude.{nat_le, if◌then◌else◌}
-use Rattle.h5_model.specs.Plain.{zeros, heap_header_bytes, free_head_of}
-use Rattle.h5_plain.specs.Parts.{free_rest}
+use Rattle.h5_bytes.specs.Numbers.{zeros}
+use Rattle.h5_model.specs.Plain.{heap_header_bytes, free_head_of}
+use Rattle.h5_segment.specs.Parts.{free_rest}
 use Rattle.h5_segment.specs.Links.{Leads, spelled}
 use Rattle.h5_segment.specs.Written.{segment_of, heap_bytes}
 use Rattle.h5_segment.proofs.Lengths.{link_texts, links_span, segment_is, head_is, used-le}

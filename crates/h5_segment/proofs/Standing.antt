@@ -3,12 +3,13 @@ use Rattle.std.proofs.Common.{◌≡◌, ℕ, zero, suc, ◌+◌, ◌-◌, ◌�
 use Rattle.std.proofs.Math.Seq.{drop-append_seam}
 use Rattle.std.specs.List.{AllByRecursion, flat_map}
 use Rattle.h5_bytes.specs.Texts.{until_zero, text_at}
-use Rattle.h5_model.specs.Plain.{zeros, padded_text}
+use Rattle.h5_bytes.specs.Numbers.{zeros}
+use Rattle.h5_model.specs.Plain.{padded_text}
 use Rattle.h5_model.specs.Refusal.{has_zero}
 use Rattle.h5_model.specs.Sizes.{text_span}
 use Rattle.h5_model.specs.Symbols as symbols
 use Rattle.h5_model.proofs.WithinLaws.{neither}
-use Rattle.h5_plain.specs.Parts.{free_rest}
+use Rattle.h5_segment.specs.Parts.{free_rest}
 use Rattle.h5_segment.specs.Laws.{IsSpelled}
 use Rattle.h5_segment.specs.Links.{Leads, ToGroup, ToArray, ToText, spelled, target_link}
 use Rattle.h5_segment.specs.Written.{entry_of, placed, segment_of}

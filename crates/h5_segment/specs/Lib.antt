@@ -1,3 +1,4 @@
 pub mod Links
 pub mod Written
 pub mod Laws
+pub mod Parts

@@ -2,7 +2,8 @@
 -- of the link before it; and the entries that name them (File Format Specification 3.0, sections III.C and III.D).
 use Rattle.std.specs.Prelude.{ℕ, ◌+◌, List, [], ◌∷◌, ◌++◌, map, length}
 use Rattle.h5_bytes.specs.Bytes.{undefined}
-use Rattle.h5_model.specs.Plain.{word, middle, zeros, heap_header_bytes, segment_bytes, free_head_of}
+use Rattle.h5_bytes.specs.Numbers.{word, middle, zeros}
+use Rattle.h5_model.specs.Plain.{heap_header_bytes, segment_bytes, free_head_of}
 use Rattle.h5_model.specs.Sizes.{text_span}
 use Rattle.h5_model.specs.Symbols.{Entry}
 use Rattle.h5_segment.specs.Links.{Leads, ToGroup, ToArray, ToText, spelled}

@@ -7,7 +7,8 @@ ghost use Rattle.h5_segment.specs.Links.{link_of, spelled};
 ghost use Rattle.h5_segment.specs.Written.{heap_bytes, segment_of, link_span as span};
 
 use crate::link::{Leads, NewLink};
-use h5_plain::{push_free_rest, push_heap_header, push_text, push_zeros, text_span};
+use crate::parts::{push_free_rest, push_heap_header, push_text, text_span};
+use h5_bytes::push_zeros;
 use std::alloc::AllocError;
 
 /// The most bytes of a heap's texts.

@@ -4,6 +4,8 @@
 
 mod heap;
 mod link;
+mod parts;
 
 pub use heap::{link_span, push_heap, segment_length};
 pub use link::{Leads, NewLink};
+pub use parts::{push_text, text_span};

@@ -10,7 +10,7 @@ use borrow.Rule.Slice.PartMut.{put_mid}
 use Rattle.byteorder.specs.Numbers.{little_number-reads_back}
 use Rattle.h5_bytes.specs.Bytes.{number_at, byte_at, part}
 use Rattle.h5_bytes.proofs.PartLaws.{put_mid_is, with_part_is, part-behind, part-front}
-use Rattle.h5_model.specs.Plain.{word, middle, short, zeros}
+use Rattle.h5_bytes.specs.Numbers.{word, middle, short, zeros}
 use Rattle.h5_model.specs.Symbols.{Entry, IsEntry, IsSymbolNode, entry_of, entries_of, symbol_signature, symbols_in}
 use Rattle.h5_snod.specs.declared.write.NewSymbol.{NewSymbol}
 use Rattle.h5_snod.specs.declared.write.NewTarget.{NewTarget}

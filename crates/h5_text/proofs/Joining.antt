@@ -1,10 +1,9 @@
 -- Texts joined by a separator, one more at a time.
 use Rattle.std.proofs.Common.{◌≡◌, ℕ, zero, suc, ◌+◌, ◌<◌, ◌≤◌, List, [], ◌∷◌, ◌++◌, length, get_or, take, min, take_all, Option, None, ℤ, codes, refl, sym, ap, ◌∙◌, append_assoc, append-nil, arith}
 use Rattle.std.specs.Fmt.{signed_decimal}
-use Rattle.std.specs.List.{join_by, flat_map}
+use Rattle.std.specs.List.{join_by, flat_map, zip}
 use Rattle.std.proofs.lemmas.List.{take_more, length-take-le}
 use Rattle.std.proofs.lemmas.List.Concat.{flat_map-append}
-use Rattle.std.specs.List.{zip}
 use Rattle.h5_model.specs.Text.{values_text}
 
 -- what stands before the k-th text

@@ -1,6 +1,5 @@
 //! Rows of cells, which may come in pieces.
-ghost use Rattle.std.specs.Prelude.{◌≡◌, ◌+◌, ◌/◌, ◌%◌, ◌<◌, ◌==◌, if◌then◌else◌, OnOk, OnErr};
-ghost use Rattle.std.specs.Prelude.{[], length, replicate, codes};
+ghost use Rattle.std.specs.Prelude.{◌≡◌, ◌+◌, ◌/◌, ◌%◌, ◌<◌, ◌==◌, if◌then◌else◌, OnOk, OnErr, [], length, replicate, codes};
 ghost use Rattle.h5_model.specs.Script.{stored_values};
 ghost use Rattle.h5_model.specs.Text.{rows_text};
 ghost use Rattle.h5_text.specs.Appends.{Appends};

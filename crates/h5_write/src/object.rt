@@ -2,7 +2,7 @@
 
 ghost use Rattle.std.specs.Prelude.{◌≡◌, ◌+◌, ◌^◌, ◌<◌, ◌≤◌, ◌++◌, List, OnOk, Some, length, map, slice_get, slice_index};
 ghost use Rattle.std.specs.List.{AllByRecursion, AllZip, flat_map};
-ghost use Rattle.h5_bodies.specs.Sound.{AreK};
+ghost use Rattle.h5_model.specs.Superblock.{AreK};
 ghost use Rattle.h5_model.specs.Tree.{Object};
 ghost use Rattle.h5_links.specs.Written.{links_bytes};
 ghost use Rattle.h5_plain.specs.ArrayHeader.{group_written};

@@ -2,7 +2,7 @@
 
 ghost use Rattle.std.specs.Prelude.{◌≡◌, ℕ, ◌^◌, ◌<◌, ◌≤◌, List, IfOk, IfErr};
 ghost use Rattle.std.specs.List.{AllZip};
-ghost use Rattle.h5_bodies.specs.Sound.{AreK};
+ghost use Rattle.h5_model.specs.Superblock.{AreK};
 ghost use Rattle.h5_model.specs.Tree.{Object};
 ghost use Rattle.h5_write.specs.Layout.{AreUnmeasured, IsArrayObject, IsGroupObject, IsHeldObject, IsLowSize, IsSize, IsUnmeasured, IsJoined, size_length};
 

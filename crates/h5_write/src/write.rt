@@ -3,7 +3,7 @@
 ghost use Rattle.std.specs.Prelude.{◌≡◌, ◌+◌, ◌<◌, ◌≤◌, ◌^◌, ◌++◌, List, IfOk, IfErr, Some, OnOk, length, slice_get};
 ghost use Rattle.std.specs.List.{AllByRecursion, AllZip, flat_map};
 ghost use Rattle.h5_model.specs.Tree.{Object, Tree};
-ghost use Rattle.h5_bodies.specs.Sound.{AreK};
+ghost use Rattle.h5_model.specs.Superblock.{AreK};
 ghost use Rattle.h5_write.specs.Layout.{IsHeldObject, IsLowLayout, IsLowSize, IsSize, front_at, numbered_at};
 ghost use Rattle.h5_write.specs.Written.{IsHeld, IsWritten, IsUnwritten};
 

@@ -1,9 +1,8 @@
-use Rattle.std.proofs.Common.{◌∙◌, ap, sym, arith, ◌≡◌, List, ℕ}
+use Rattle.std.proofs.Common.{◌∙◌, ap, sym, arith, ◌≡◌, List, ℕ, get_or}
 use Rattle.std.specs.Ordering.{nat_cmp}
 use Rattle.std.specs.Cmp.Lexicographic.{slice_cmp}
 use Rattle.std.specs.declared.cmp.Ordering.{Ordering}
 use Rattle.h5_model.specs.Tree.{Attribute}
-use Rattle.std.proofs.Common.{get_or}
 use Rattle.h5_change.proofs.MergedLaws.{place_before, place_here, place_end}
 use Rattle.h5_change.proofs.attributes.place_of.Goals as goal
 

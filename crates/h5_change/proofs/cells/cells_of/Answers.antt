@@ -5,8 +5,7 @@ use Rattle.h5_bytes.specs.Blocks.{Inside}
 use Rattle.h5_bytes.specs.declared.Block.{Block}
 use Rattle.h5_model.specs.Messages.{Message}
 use Rattle.h5_layout.specs.Described.{HasArray}
-use Rattle.h5_tree.specs.Array.{described}
-use Rattle.h5_tree.specs.Array.{data_blocks}
+use Rattle.h5_tree.specs.Array.{described, data_blocks}
 use Rattle.h5_tree.specs.declared.line.Line.{Line}
 use Rattle.h5_change.proofs.CellLaws.{block_room, block_inside, cells_stored}
 use Rattle.h5_change.proofs.cells.cells_of.Goals as goal

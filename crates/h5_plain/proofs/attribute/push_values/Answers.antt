@@ -1,7 +1,8 @@
 use Rattle.std.proofs.Common.{◌≡◌, ℤ, pos, ◌-◌, ◌++◌, get_or, take, rules, to_z, of_z, ap, ◌∙◌}
 use Rattle.std.specs.Int.{w128}
 use Rattle.h5_model.specs.Fixed.{bytes_of}
-use Rattle.h5_model.specs.Plain.{zeros, cells_bytes}
+use Rattle.h5_bytes.specs.Numbers.{zeros}
+use Rattle.h5_model.specs.Plain.{cells_bytes}
 use Rattle.h5_plain.proofs.AttributeParts.{values_step, are_rest}
 use Rattle.h5_plain.proofs.Copies.{value_front}
 use Rattle.h5_plain.proofs.attribute.push_values.Goals as goal

@@ -1,7 +1,7 @@
 use Rattle.std.proofs.Common.{◌≡◌, ◌-◌, ◌++◌, rules, to_z, of_z, ap, ◌∙◌}
 use Rattle.std.specs.Int.{w128}
 use Rattle.h5_model.specs.Fixed.{bytes_of}
-use Rattle.h5_model.specs.Plain.{zeros}
+use Rattle.h5_bytes.specs.Numbers.{zeros}
 use Rattle.h5_plain.proofs.Copies.{cells_pushed}
 use Rattle.h5_plain.proofs.cells.push_cells.Goals as goal
 

@@ -1,6 +1,6 @@
 use Rattle.std.proofs.Common.{◌≡◌, ◌++◌, drop}
 use Rattle.std.specs.List.{flat_map}
-use Rattle.h5_model.specs.Plain.{word}
+use Rattle.h5_bytes.specs.Numbers.{word}
 use Rattle.h5_plain.proofs.header.push_extent.Given as goal
 
 -- the sizes so far, with those to come

@@ -1,7 +1,8 @@
 use Rattle.std.proofs.Common.{◌≡◌, ℕ, List, ◌∷◌, ◌++◌, OnOk, map, take, ap, ◌∙◌, subst}
 use Rattle.std.proofs.lemmas.List.{take_all}
 use Rattle.h5_model.specs.Nodes.{group_kind}
-use Rattle.h5_model.specs.Plain.{word, node_bytes_of}
+use Rattle.h5_bytes.specs.Numbers.{word}
+use Rattle.h5_model.specs.Plain.{node_bytes_of}
 use Rattle.h5_rows.proofs.RowReads.{places_of}
 use Rattle.h5_rows.proofs.Steps.{lasts_of, keys_are_words}
 use Rattle.h5_rows.proofs.node.push_node.Goals as goal

@@ -1,6 +1,5 @@
-use Rattle.std.proofs.Common.{◌≡◌, false, eqb, take_all}
+use Rattle.std.proofs.Common.{◌≡◌, false, eqb, take_all, arith}
 use Rattle.std.proofs.lemmas.Bool.Decides.{nat_tests}
-use Rattle.std.proofs.Common.{arith}
 use Rattle.std.proofs.lemmas.List.Elements.{All-more}
 use Rattle.h5_script.proofs.lines.cut.Goals as goal
 

@@ -1,6 +1,6 @@
-//! Numbers and zeros at the end of an image, little-endian (File Format Specification 3.0, section I.B).
+//! Numbers, bytes and zeros behind the bytes that stand there, little-endian.
 ghost use Rattle.std.specs.Prelude.{◌≡◌, ◌++◌, OnOk};
-ghost use Rattle.h5_model.specs.Plain.{short, middle, word, zeros};
+ghost use Rattle.h5_bytes.specs.Numbers.{short, middle, word, zeros};
 
 use std::alloc::AllocError;
 

@@ -1,7 +1,7 @@
 use Rattle.std.proofs.Common.{◌≡◌, true, arith, append_assoc}
 use Rattle.std.specs.Prelude.{nat_le}
 use Rattle.std.proofs.lemmas.Bool.Decides.{nat_tests}
-use Rattle.h5_plain.proofs.group.push_free_rest.Goals as goal
+use Rattle.h5_segment.proofs.parts.push_free_rest.Goals as goal
 
 pub returns : goal.returns
 returns c =

@@ -1,6 +1,6 @@
 use Rattle.std.proofs.Common.{◌≡◌, ◌++◌, drop}
-use Rattle.h5_plain.specs.Parts.{group_rows}
-use Rattle.h5_plain.proofs.group.push_rows.Given as goal
+use Rattle.h5_rows.specs.Parts.{group_rows}
+use Rattle.h5_rows.proofs.group_node.push_rows.Given as goal
 
 -- the rows so far, with those to come
 abbrev pub invariant-loop-i : goal.invariant-loop-i

@@ -2,8 +2,9 @@
 use Rattle.std.proofs.Common.{◌≡◌, ℕ, ◌+◌, ◌-◌, ◌*◌, ◌≤◌, ◌<◌, List, [], ◌∷◌, ◌++◌, length, map, drop, slice_index, refl, ap, arith}
 use Rattle.std.proofs.lemmas.List.{drop_more}
 use Rattle.h5_model.specs.Nodes.{group_kind}
-use Rattle.h5_model.specs.Plain.{word, zeros, node_bytes_of}
-use Rattle.h5_plain.specs.Parts.{node_head, group_rows}
+use Rattle.h5_bytes.specs.Numbers.{word, zeros}
+use Rattle.h5_model.specs.Plain.{node_bytes_of}
+use Rattle.h5_rows.specs.Parts.{node_head, group_rows}
 
 -- the rows from one place on
 pub rows_step : (keys children : List ℕ) (i : ℕ) → i < length children → length keys ≡ length children + 1

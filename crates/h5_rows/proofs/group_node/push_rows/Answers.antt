@@ -1,6 +1,6 @@
 use Rattle.std.proofs.Common.{append_assoc}
-use Rattle.h5_plain.proofs.Nodes.{rows_step}
-use Rattle.h5_plain.proofs.group.push_rows.Goals as goal
+use Rattle.h5_rows.proofs.NodeParts.{rows_step}
+use Rattle.h5_rows.proofs.group_node.push_rows.Goals as goal
 
 pub loop-i-preserved : goal.loop-i-preserved
 loop-i-preserved c =
