@@ -4,10 +4,10 @@ use Rattle.std.specs.Ordering.{nat_cmp, eq_by_cmp}
 use Rattle.std.specs.Cmp.Lexicographic.{slice_cmp, nat_list_cmp_total, pointwise, same_text, texts_ties}
 use Rattle.std.specs.List.{AllZip, cons_option, filter, filter_map, find, IsDistinct}
 use Rattle.std.specs.FinMap.{get, find as value_at, from_entries, get-from_entries}
-use Rattle.h5_model.specs.Messages.{Message}
-use Rattle.h5_model.specs.AttributeBody.{attribute_of}
-use Rattle.h5_model.specs.Tree.{Attribute, Attributes}
-use Rattle.h5_model.specs.Reads.{HasAttributes, is_attribute_message}
+use Rattle.h5_model.specs.Format.Messages.{Message}
+use Rattle.h5_model.specs.Format.AttributeBody.{attribute_of}
+use Rattle.h5_model.specs.Tree.Objects.{Attribute, Attributes}
+use Rattle.h5_model.specs.Format.Reads.{HasAttributes, is_attribute_message}
 use Rattle.h5_attr.specs.Attributes.{attributes_in, attribute_named, HasNamesOnce}
 
 listed_by : (ms : List Message) (listed : List (List ℕ × Attribute)) → AllZip (λ (m : Message) a. attribute_of m.body ≡ Some a) ms listed

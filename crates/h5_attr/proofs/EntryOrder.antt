@@ -13,9 +13,9 @@ use Rattle.std.specs.FinMap.{get, entries, entries_sorted, get-entries, find, ge
 use Rattle.std.specs.FinMap.Entries.{is_some-find, same_entries}
 use Rattle.std.proofs.lemmas.List.Sorted.{list_any-IsPermutation, IsPermutation-sym, IsPermutation-map, Contains-permutation}
 use Rattle.std.proofs.lemmas.Map.Keys.{apart_from_distinct, IsDistinct-tail}
-use Rattle.h5_model.specs.Messages.{Message}
-use Rattle.h5_model.specs.Tree.{Attribute, Attributes}
-use Rattle.h5_model.specs.Reads.{HasAttributes}
+use Rattle.h5_model.specs.Format.Messages.{Message}
+use Rattle.h5_model.specs.Tree.Objects.{Attribute, Attributes}
+use Rattle.h5_model.specs.Format.Reads.{HasAttributes}
 use Rattle.h5_attr.specs.Attributes.{attributes_in}
 use Rattle.h5_attr.proofs.EntryLaws.{names_once, attributes-is}
 use Rattle.h5_attr.proofs.OrderLaws.{strictly, sorted-alone, sorted-keys}

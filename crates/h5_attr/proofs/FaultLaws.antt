@@ -4,12 +4,12 @@ use Rattle.std.specs.Prelude.{if◌then◌else◌, nat_le}
 use Rattle.std.specs.Option.{option_or}
 use Rattle.std.specs.List.{AllByRecursion, AllZip, cons_option, filter, filter_map}
 use Rattle.std.proofs.lemmas.Bool.Decides.{nat_tests}
-use Rattle.h5_model.specs.Messages.{Message}
-use Rattle.h5_model.specs.Places.{extent_cells}
-use Rattle.h5_model.specs.AttributeBody.{attribute_of}
-use Rattle.h5_model.specs.Tree.{Attribute, Attributes}
-use Rattle.h5_model.specs.Reads.{HasAttributes, is_attribute_message}
-use Rattle.h5_model.specs.HeaderFaults.{SomeBody, ListBreach}
+use Rattle.h5_model.specs.Format.Messages.{Message}
+use Rattle.h5_model.specs.Tree.Places.{extent_cells}
+use Rattle.h5_model.specs.Format.AttributeBody.{attribute_of}
+use Rattle.h5_model.specs.Tree.Objects.{Attribute, Attributes}
+use Rattle.h5_model.specs.Format.Reads.{HasAttributes, is_attribute_message}
+use Rattle.h5_model.specs.Faults.HeaderFaults.{SomeBody, ListBreach}
 use Rattle.h5_model.specs.declared.open_fault.Cause.{Cause}
 use Rattle.h5_model.specs.declared.open_fault.Cause.TheVariants.{AttributeForm, TooLarge}
 use Rattle.h5_attr.specs.Attributes.{attributes_in, attributes_of, HasNamesOnce, fault_of, first_fault}

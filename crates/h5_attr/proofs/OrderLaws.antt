@@ -15,10 +15,10 @@ use Rattle.std.specs.FinMap.{get, entries, entries_sorted, keys, find, is_sorted
 use Rattle.std.specs.FinMap.Entries.{below_all, is_some-find, same_entries}
 use Rattle.std.proofs.lemmas.List.Sorted.{list_any-IsPermutation, IsPermutation-sym}
 use Rattle.std.proofs.lemmas.Map.Keys.{sorted_head, sorted_tail, sorted_from_all_adjacent, apart_from_distinct, IsDistinct-from_sorted, IsDistinct-IsPermutation}
-use Rattle.h5_model.specs.Messages.{Message}
-use Rattle.h5_model.specs.Tree.{Attribute, Attributes}
-use Rattle.h5_model.specs.Reads.{HasAttributes}
-use Rattle.h5_model.specs.HeaderFaults.{HasNameTwice}
+use Rattle.h5_model.specs.Format.Messages.{Message}
+use Rattle.h5_model.specs.Tree.Objects.{Attribute, Attributes}
+use Rattle.h5_model.specs.Format.Reads.{HasAttributes}
+use Rattle.h5_model.specs.Faults.HeaderFaults.{HasNameTwice}
 use Rattle.h5_attr.specs.Attributes.{attributes_in, names_in, HasNamesOnce}
 use Rattle.h5_attr.proofs.EntryLaws.{names_once, attributes-is}
 

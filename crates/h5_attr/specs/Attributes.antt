@@ -5,11 +5,11 @@ use Rattle.std.specs.Ordering.{nat_cmp, eq_by_cmp}
 use Rattle.std.specs.Cmp.Lexicographic.{slice_cmp, pointwise}
 use Rattle.std.specs.List.{filter, filter_map, find, IsDistinct}
 use Rattle.std.specs.FinMap.{from_entries}
-use Rattle.h5_model.specs.Messages.{Message}
-use Rattle.h5_model.specs.Places.{extent_cells}
-use Rattle.h5_model.specs.AttributeBody.{attribute_of}
-use Rattle.h5_model.specs.Tree.{Attribute, Attributes}
-use Rattle.h5_model.specs.Reads.{is_attribute_message}
+use Rattle.h5_model.specs.Format.Messages.{Message}
+use Rattle.h5_model.specs.Tree.Places.{extent_cells}
+use Rattle.h5_model.specs.Format.AttributeBody.{attribute_of}
+use Rattle.h5_model.specs.Tree.Objects.{Attribute, Attributes}
+use Rattle.h5_model.specs.Format.Reads.{is_attribute_message}
 use Rattle.h5_model.specs.declared.open_fault.Cause.{Cause}
 use Rattle.h5_model.specs.declared.open_fault.Cause.TheVariants.{AttributeForm, TooLarge}
 

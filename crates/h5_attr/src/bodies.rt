@@ -1,9 +1,9 @@
 //! Whether each attribute of a header has the form (File Format Specification 3.0, section IV.A.2.m).
 
 ghost use Rattle.std.specs.Prelude.{◌≡◌, length, Err, IsOk, IfErr, OnOk, MatchOption};
-ghost use Rattle.h5_model.specs.HeaderFaults.{ListBreach};
-ghost use Rattle.h5_model.specs.Reads.{HasAttributes};
-ghost use Rattle.h5_model.specs.Tree.{Attributes};
+ghost use Rattle.h5_model.specs.Faults.HeaderFaults.{ListBreach};
+ghost use Rattle.h5_model.specs.Format.Reads.{HasAttributes};
+ghost use Rattle.h5_model.specs.Tree.Objects.{Attributes};
 ghost use Rattle.h5_header.specs.Listed.{messages_in, IsWithin};
 ghost use Rattle.h5_attr.specs.Attributes.{HasNamesOnce, attributes_of, first_fault as first_fault_in};
 

@@ -2,8 +2,8 @@
 
 ghost use Rattle.std.specs.Prelude.{◌≡◌, length, option_map};
 ghost use Rattle.std.specs.FinMap.{get as at_name};
-ghost use Rattle.h5_model.specs.Reads.{HasAttributes};
-ghost use Rattle.h5_model.specs.Tree.{Attributes};
+ghost use Rattle.h5_model.specs.Format.Reads.{HasAttributes};
+ghost use Rattle.h5_model.specs.Tree.Objects.{Attributes};
 ghost use Rattle.h5_header.specs.Listed.{messages_in, IsWithin};
 ghost use Rattle.h5_attr.specs.Attributes.{attribute_named};
 

@@ -5,9 +5,9 @@ ghost use Rattle.std.specs.Ordering.{nat_cmp, eq_by_cmp};
 ghost use Rattle.std.specs.Cmp.Lexicographic.{slice_cmp};
 ghost use Rattle.std.specs.FinMap.{keys};
 ghost use Rattle.std.specs.List.{IsDistinct};
-ghost use Rattle.h5_model.specs.HeaderFaults.{HasNameTwice};
-ghost use Rattle.h5_model.specs.Reads.{HasAttributes};
-ghost use Rattle.h5_model.specs.Tree.{Attributes};
+ghost use Rattle.h5_model.specs.Faults.HeaderFaults.{HasNameTwice};
+ghost use Rattle.h5_model.specs.Format.Reads.{HasAttributes};
+ghost use Rattle.h5_model.specs.Tree.Objects.{Attributes};
 ghost use Rattle.h5_header.specs.Listed.{messages_in, IsWithin};
 ghost use Rattle.h5_attr.specs.Attributes.{names_in as names_of, HasNamesOnce};
 

@@ -5,8 +5,8 @@ use Rattle.std.specs.List.{AllByRecursion, Contains, list_any}
 use Rattle.std.proofs.lemmas.List.Elements.{Contains-append_left, Contains-append_right}
 use Rattle.h5_bytes.specs.Bytes.{undefined}
 use Rattle.h5_bytes.specs.Blocks.{Inside}
-use Rattle.h5_model.specs.Rows.{Node, Reading, next_row, IsRow, AreRows, nodes}
-use Rattle.h5_model.specs.Nodes.{Kind, HasTree, IsNode, node_at, node_bytes, node_length, entries_in, reading_of, tree_blocks}
+use Rattle.h5_model.specs.Format.Rows.{Node, Reading, next_row, IsRow, AreRows, nodes}
+use Rattle.h5_model.specs.Format.Nodes.{Kind, HasTree, IsNode, node_at, node_bytes, node_length, entries_in, reading_of, tree_blocks}
 use Rattle.h5_model.proofs.RowLaws.{at_listed}
 use Rattle.h5_btree.specs.Form.{IsRefusedAt, MayBeRoot, MayStandAt}
 use Rattle.h5_btree.specs.Descent.{IsInRow}

@@ -4,9 +4,9 @@ use Rattle.std.specs.List.{flat_map}
 use Rattle.std.proofs.lemmas.List.{map-append}
 use Rattle.std.proofs.lemmas.Grind.{flat_map-append}
 use Rattle.h5_bytes.specs.Texts.{text_at}
-use Rattle.h5_model.specs.Rows.{Reading, next_row, leaves}
-use Rattle.h5_model.specs.Symbols.{Entry}
-use Rattle.h5_model.specs.Links.{Symbols, names_in}
+use Rattle.h5_model.specs.Format.Rows.{Reading, next_row, leaves}
+use Rattle.h5_model.specs.Format.Symbols.{Entry}
+use Rattle.h5_model.specs.Format.Links.{Symbols, names_in}
 
 module _ (V : Reading) where
   pub next_row-append : (xs ys : List ℕ) → next_row V (xs ++ ys) ≡ next_row V xs ++ next_row V ys

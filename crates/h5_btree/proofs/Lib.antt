@@ -5,3 +5,4 @@ pub mod NameOrder
 pub mod LeafLaws
 pub mod NameWay
 pub mod NameFound
+pub mod WriteLaws

@@ -5,9 +5,9 @@ use Rattle.std.proofs.lemmas.Grind.{get_or_default_zero}
 use Rattle.h5_bytes.specs.Bytes.{undefined}
 use Rattle.h5_bytes.specs.Blocks.{Inside}
 use Rattle.h5_bytes.proofs.BlockLaws.{all_left, all_right}
-use Rattle.h5_model.specs.Rows.{Node, Reading, next_row, nodes, IsRow, AreRows}
-use Rattle.h5_model.specs.Nodes.{Kind, HasTree, node_at, reading_of, tree_blocks, group_kind}
-use Rattle.h5_model.specs.Links.{Symbols, IsOrdered, names_in}
+use Rattle.h5_model.specs.Format.Rows.{Node, Reading, next_row, nodes, IsRow, AreRows}
+use Rattle.h5_model.specs.Format.Nodes.{Kind, HasTree, node_at, reading_of, tree_blocks, group_kind}
+use Rattle.h5_model.specs.Format.Links.{Symbols, IsOrdered, names_in}
 use Rattle.h5_btree.specs.Descent.{IsChildFor, IsInRow, LeadsTo}
 use Rattle.h5_btree.proofs.DescentLaws.{read_here, level_in_row, child_in_row, level_of_root, root_in_row}
 use Rattle.h5_btree.proofs.NameOrder.{name_behind}

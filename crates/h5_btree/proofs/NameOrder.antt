@@ -4,8 +4,8 @@ use Rattle.std.specs.Ordering.{nat_cmp, is_lt}
 use Rattle.std.specs.Cmp.Lexicographic.{slice_cmp}
 use Rattle.std.proofs.lemmas.Bool.{cases_order}
 use Rattle.h5_bytes.specs.Texts.{text_at}
-use Rattle.h5_model.specs.Rows.{Node}
-use Rattle.h5_model.specs.Links.{NotAfter, IsBetween, key_name, offset_in}
+use Rattle.h5_model.specs.Format.Rows.{Node}
+use Rattle.h5_model.specs.Format.Links.{NotAfter, IsBetween, key_name, offset_in}
 use Rattle.h5_model.proofs.TextOrder.{not_after_itself, after_trans, not_after_trans, before_back}
 use Rattle.h5_btree.specs.Descent.{IsChildFor}
 

@@ -2,8 +2,8 @@
 use Rattle.std.proofs.Common.{◌≡◌, ℕ, zero, suc, ◌<◌, List, [], ◌∷◌, ◌++◌, length, slice_index, slice_index_or, refl, sym, ap, subst, ◌∙◌, arith, inl, inr, append-nil}
 use Rattle.std.specs.List.{AllByRecursion, Contains}
 use Rattle.std.proofs.lemmas.List.Elements.{All-from_recursion, All-get_or, All-contains, Contains-append_cases}
-use Rattle.h5_model.specs.Rows.{Reading, leaves}
-use Rattle.h5_model.specs.Links.{Symbols, IsBetween, IsOrdered, names_in}
+use Rattle.h5_model.specs.Format.Rows.{Reading, leaves}
+use Rattle.h5_model.specs.Format.Links.{Symbols, IsBetween, IsOrdered, names_in}
 use Rattle.h5_btree.specs.Descent.{LeadsTo}
 use Rattle.h5_btree.proofs.LeafLaws.{leaves-append, leaves-nil, names-append}
 use Rattle.h5_btree.proofs.NameOrder.{name_behind, one_child}

@@ -8,8 +8,8 @@ use Rattle.h5_bytes.specs.Bytes.{byte_at, number_at}
 use Rattle.h5_bytes.specs.Tables.{table}
 use Rattle.h5_bytes.proofs.PartLaws.{length-part}
 use Rattle.h5_bytes.proofs.TableLaws.{length-table, get_or-table}
-use Rattle.h5_model.specs.Rows.{Node}
-use Rattle.h5_model.specs.Nodes.{Kind, node_of, node_length, entries_in, key_in, key_place, child_in}
+use Rattle.h5_model.specs.Format.Rows.{Node}
+use Rattle.h5_model.specs.Format.Nodes.{Kind, node_of, node_length, entries_in, key_in, key_place, child_in}
 
 -- an entry of a table
 listed : {X : Type 0} (f : ℕ → X) (n : ℕ) (xs : List X) (i : ℕ) (d : X) → table f n ≡ xs → i < length xs → slice_get xs i ≡ Some (f i)

@@ -1,8 +1,8 @@
 -- One step on the way down a tree.
 use Rattle.std.proofs.Common.{◌≡◌, ◌≢◌, ℕ, zero, suc, ◌-◌, Bool, List, length, get_or, slice_get, Some, inl, inr, refl, sym, ap, subst, ◌∙◌, arith}
 use Rattle.std.proofs.lemmas.Option.{get_or_from_slice_get, slice_get_within}
-use Rattle.h5_model.specs.Rows.{Node, next_row}
-use Rattle.h5_model.specs.Nodes.{Kind, node_at, reading_of}
+use Rattle.h5_model.specs.Format.Rows.{Node, next_row}
+use Rattle.h5_model.specs.Format.Nodes.{Kind, node_at, reading_of}
 use Rattle.h5_btree.specs.Form.{MayStandAt}
 use Rattle.h5_btree.specs.Descent.{IsChildFor, IsInRow, IsStop, LeadsTo, Stops}
 use Rattle.h5_btree.specs.declared.read.NodeFault.{NodeFault}

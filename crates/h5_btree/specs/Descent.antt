@@ -2,8 +2,8 @@
 use Rattle.std.specs.Prelude.{◌≡◌, ℕ, zero, suc, ◌+◌, ◌<◌, ◌≤◌, ◌⊎◌, Bool, true, false, List, [], length, slice_index, slice_index_or}
 use Rattle.std.specs.List.{AllByRecursion, Contains}
 use Rattle.h5_bytes.specs.Blocks.{Inside}
-use Rattle.h5_model.specs.Rows.{Node, Reading, AreRows}
-use Rattle.h5_model.specs.Nodes.{Kind, IsNode, entries_in, node_at, node_bytes, reading_of, tree_blocks}
+use Rattle.h5_model.specs.Format.Rows.{Node, Reading, AreRows}
+use Rattle.h5_model.specs.Format.Nodes.{Kind, IsNode, entries_in, node_at, node_bytes, reading_of, tree_blocks}
 use Rattle.h5_btree.specs.Form.{IsRefusedAt, MayBeRoot, MayStandAt}
 use Rattle.h5_btree.specs.declared.read.NodeFault.{NodeFault}
 use Rattle.h5_btree.specs.declared.read.NodeFault.TheVariants.{NodeForm}

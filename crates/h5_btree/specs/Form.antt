@@ -1,8 +1,8 @@
 -- Which rules the bytes of a B-tree node break, and where a node may stand (File Format Specification 3.0, section III.A.1).
 use Rattle.std.specs.Prelude.{◌≡◌, ◌≢◌, ℕ, ◌+◌, ◌*◌, ◌<◌, ◌≤◌, ◌⊎◌, List, length}
 use Rattle.h5_bytes.specs.Bytes.{byte_at, part}
-use Rattle.h5_model.specs.Rows.{Node}
-use Rattle.h5_model.specs.Nodes.{Kind, node_signature, entries_in, node_bytes, node_length}
+use Rattle.h5_model.specs.Format.Rows.{Node}
+use Rattle.h5_model.specs.Format.Nodes.{Kind, node_signature, entries_in, node_bytes, node_length}
 use Rattle.h5_btree.specs.declared.read.NodeFault.{NodeFault}
 use Rattle.h5_btree.specs.declared.read.NodeFault.TheVariants.{NodeForm, Truncated}
 

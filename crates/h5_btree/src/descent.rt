@@ -3,7 +3,7 @@
 
 ghost use Rattle.std.specs.Prelude.{◌≡◌, ℕ, ◌↔◌, [], List, None, IfErr, IfOk, IfSome, IsOk, length};
 ghost use Rattle.h5_bytes.specs.Blocks.{Inside};
-ghost use Rattle.h5_model.specs.Nodes.{HasTree, node_at, tree_blocks};
+ghost use Rattle.h5_model.specs.Format.Nodes.{HasTree, node_at, tree_blocks};
 ghost use Rattle.h5_btree.specs.Descent.{IsInRow, LeadsTo, Stops, StopsFromRoot};
 
 use crate::read::{NodeFault, read_node_at};

@@ -1,7 +1,7 @@
 //! Kinds of B-trees, by the keys of their nodes (File Format Specification 3.0, section III.A.1).
 
 ghost use Rattle.std.specs.Prelude.{◌≡◌, ◌*◌, ◌≤◌};
-ghost use Rattle.h5_model.specs.Nodes.{chunk_kind, group_kind, node_length as length_of};
+ghost use Rattle.h5_model.specs.Format.Nodes.{chunk_kind, group_kind, node_length as length_of};
 
 use std::marker::Model;
 
@@ -15,7 +15,7 @@ pub struct NodeKind {
 
 impl Model for NodeKind {
     ghost use Rattle.std.specs.Prelude.{◌≤◌};
-    ghost use Rattle.h5_model.specs.Nodes.{Kind};
+    ghost use Rattle.h5_model.specs.Format.Nodes.{Kind};
 
     ghost Value = { Kind };
 

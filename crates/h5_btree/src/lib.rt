@@ -11,6 +11,7 @@ mod name;
 mod node;
 mod read;
 mod sought;
+mod write;
 
 pub use descent::find_leaf;
 pub use kind::NodeKind;
@@ -18,3 +19,4 @@ pub use name::SoughtName;
 pub use node::Node;
 pub use read::{NodeFault, read_node, read_node_at};
 pub use sought::{Sought, child_for};
+pub use write::{Child, nodes_over, push_tree, root_level, rows_of};

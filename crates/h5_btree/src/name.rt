@@ -4,8 +4,8 @@
 ghost use Rattle.std.specs.Ordering.{is_lt, nat_cmp};
 ghost use Rattle.std.specs.Cmp.Lexicographic.{slice_cmp};
 ghost use Rattle.h5_bytes.specs.Texts.{text_at};
-ghost use Rattle.h5_model.specs.Links.{offset_in};
-ghost use Rattle.h5_model.specs.Nodes.{group_kind};
+ghost use Rattle.h5_model.specs.Format.Links.{offset_in};
+ghost use Rattle.h5_model.specs.Format.Nodes.{group_kind};
 
 use crate::kind::NodeKind;
 use crate::sought::Sought;

@@ -2,8 +2,8 @@
 
 ghost use Rattle.std.specs.Prelude.{◌≡◌, ◌↔◌, ◌+◌, ◌*◌, ◌<◌, ◌≤◌, ◌==◌, [], IfErr, IsOk, Some, length, slice_get, slice_index_or};
 ghost use Rattle.std.specs.List.{AllByRecursion};
-ghost use Rattle.h5_model.specs.Links.{key_name, offset_in};
-ghost use Rattle.h5_model.specs.Nodes.{child_in, entries_in, key_in, key_place, node_length, node_of};
+ghost use Rattle.h5_model.specs.Format.Links.{key_name, offset_in};
+ghost use Rattle.h5_model.specs.Format.Nodes.{child_in, entries_in, key_in, key_place, node_length, node_of};
 ghost use Rattle.h5_btree.specs.Form.{MayBeRoot, MayStandAt};
 
 use crate::kind::NodeKind;
@@ -29,8 +29,8 @@ pub struct Node<'a> {
 
 impl<'a> Model for Node<'a> {
     ghost use Rattle.std.specs.Prelude.{◌≡◌, ◌*◌, ◌≤◌, length};
-    ghost use Rattle.h5_model.specs.Nodes.{entries_in, node_length, node_of};
-    ghost use Rattle.h5_model.specs.Rows as rows;
+    ghost use Rattle.h5_model.specs.Format.Nodes.{entries_in, node_length, node_of};
+    ghost use Rattle.h5_model.specs.Format.Rows as rows;
 
     ghost Value = { rows.Node };
 

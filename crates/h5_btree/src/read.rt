@@ -3,7 +3,7 @@
 ghost use Rattle.std.specs.Prelude.{◌≡◌, ◌+◌, ◌≤◌, IfErr, IfOk, OnOk, length};
 ghost use Rattle.std.specs.List.{AllByRecursion};
 ghost use Rattle.h5_bytes.specs.Bytes.{part};
-ghost use Rattle.h5_model.specs.Nodes.{IsNode, node_at, node_bytes, node_length, node_of};
+ghost use Rattle.h5_model.specs.Format.Nodes.{IsNode, node_at, node_bytes, node_length, node_of};
 ghost use Rattle.h5_btree.specs.Form.{BreaksForm, IsRefusedAt};
 
 use crate::kind::NodeKind;

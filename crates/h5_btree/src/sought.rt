@@ -3,7 +3,7 @@
 
 ghost use Rattle.std.specs.Prelude.{◌≡◌, ℕ, ◌≤◌, Bool, List, length};
 ghost use Rattle.std.specs.List.{AllByRecursion};
-ghost use Rattle.h5_model.specs.Nodes.{Kind};
+ghost use Rattle.h5_model.specs.Format.Nodes.{Kind};
 ghost use Rattle.h5_btree.specs.Descent.{IsChildFor};
 
 use crate::kind::NodeKind;

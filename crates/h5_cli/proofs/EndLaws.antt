@@ -2,8 +2,8 @@
 use Rattle.std.proofs.Common.{◌≡◌, ◌⊎◌, ◌==◌, if◌then◌else◌, Bool, true, false, refl, ℕ, List, Option, Some, subst, sym, inl, inr, arith}
 use Rattle.std.proofs.lemmas.Bool.Decides.{nat_tests}
 use Rattle.std.specs.Io.KnownBytes.{Appends}
-use Rattle.h5_order.specs.Words.{Text, Wanted, WantDump, WantRun}
-use Rattle.h5_tree.specs.State.{FileState}
+use Rattle.h5_args.specs.Words.{Text, Wanted, WantDump, WantRun}
+use Rattle.h5_open.specs.Opened.State.{FileState}
 use Rattle.h5_file.specs.State.{IsSound}
 use Rattle.h5_cli.specs.Output.{IsDumpText, IsScriptRun}
 use Rattle.h5_cli.specs.Ends.{Ends, IsRunOver}

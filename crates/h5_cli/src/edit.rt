@@ -1,7 +1,7 @@
 //! Orders that write a file.
 
 ghost use Rattle.std.specs.Prelude.{◌≡◌, ◌⊎◌, ◌==◌, ℕ, IfOk, List, Option, None, Some, if◌then◌else◌};
-ghost use Rattle.h5_order.specs.Words.{WantNew, WantRun};
+ghost use Rattle.h5_args.specs.Words.{WantNew, WantRun};
 ghost use Rattle.h5_cli.specs.Ends.{Ends, IsRunOver, ran_status};
 ghost use Rattle.h5_cli.specs.declared.status.Status.TheVariants.{StreamFailed};
 

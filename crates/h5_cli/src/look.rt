@@ -1,9 +1,9 @@
 //! Orders that open a file and print what it holds.
 
 ghost use Rattle.std.specs.Prelude.{◌≡◌, ℕ, IfOk, List, MatchResult, Option, Some};
-ghost use Rattle.h5_model.specs.Text.{list_text};
+ghost use Rattle.h5_model.specs.Scripts.Text.{list_text};
 ghost use Rattle.h5_file.specs.State.{IsSound};
-ghost use Rattle.h5_order.specs.Words.{WantLs, WantDump};
+ghost use Rattle.h5_args.specs.Words.{WantLs, WantDump};
 ghost use Rattle.h5_cli.specs.Ends.{Ends, IsUnopened};
 ghost use Rattle.h5_cli.specs.Output.{IsDumpText};
 
@@ -11,7 +11,7 @@ use crate::files::{ReadFault, read_whole};
 use crate::status::Status;
 use crate::tell::{failed_on, no_memory, print, refused};
 use h5_file::File;
-use h5_lines::unescaped;
+use h5_command::unescaped;
 use h5_model::EditFault;
 use h5_script::{push_dump, push_list};
 use h5_text::push_refused;

@@ -1,9 +1,9 @@
 //! The whole run of the program.
 
 ghost use Rattle.std.specs.Prelude.{◌≡◌, ◌⊎◌, ◌≤◌, Some, map};
-ghost use Rattle.h5_order.specs.Words.{Taken, asked};
+ghost use Rattle.h5_args.specs.Words.{Taken, asked};
 ghost use Rattle.h5_cli.specs.Ends.{Ends, Refuses};
-ghost use Rattle.h5_order.specs.Order.{texts_of};
+ghost use Rattle.h5_args.specs.Order.{texts_of};
 ghost use Rattle.h5_cli.specs.Status.{status_code, untold};
 ghost use Rattle.h5_cli.specs.declared.status.Status.{Status as StatusValue};
 ghost use Rattle.h5_cli.specs.declared.status.Status.TheVariants.{CommandRefused};
@@ -12,7 +12,7 @@ use crate::edit::{new, run};
 use crate::look::{dump, ls};
 use crate::status::Status;
 use crate::tell::{no_memory, told};
-use h5_order::{Order, OrderFault, order};
+use h5_args::{Order, OrderFault, order};
 use std::alloc::Global;
 use std::convert::AsStr;
 use std::io::{Read, Write};

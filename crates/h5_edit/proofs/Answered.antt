@@ -5,42 +5,42 @@ use Rattle.std.specs.Prelude.{IfOk, IfErr, MatchResult, Result, Ok, Err}
 use Rattle.std.specs.Ordering.{nat_cmp}
 use Rattle.std.specs.BTreeMap.{BTreeMap}
 use Rattle.std.specs.FinMap.{FinMap, len}
-use Rattle.h5_change.specs.Change.{IsPlainChange, changed}
-use Rattle.h5_change.specs.declared.change.Change.{Change}
-use Rattle.h5_fits.specs.Laws.{AreBytes, is_full, is_plain_edit}
-use Rattle.h5_fits.proofs.EditedTrees.{edited_plain}
-use Rattle.h5_fits.proofs.OpenedTrees.{opened_plain}
-use Rattle.h5_image.specs.Plain.{ArePlain, AreLow, IsPlainTree}
-use Rattle.h5_image.specs.Written.{plain_image}
-use Rattle.h5_image.specs.Written as image
-use Rattle.h5_image.proofs.ImageLength.{image_length}
-use Rattle.h5_model.specs.PlainLength.{plain_length}
-use Rattle.h5_model.specs.Reads.{Placed}
-use Rattle.h5_model.specs.Superblock.{IsSuperblock, leaf_k, internal_k, AreK}
-use Rattle.h5_model.specs.Tree.{Tree}
+use Rattle.h5_edit.specs.Changed.Change.{IsPlainChange, changed}
+use Rattle.h5_edit.specs.declared.change.change.Change.{Change}
+use Rattle.h5_edit.specs.Fits.Laws.{AreBytes, is_full, is_plain_edit}
+use Rattle.h5_edit.proofs.FitLaws.EditedTrees.{edited_plain}
+use Rattle.h5_edit.proofs.FitLaws.OpenedTrees.{opened_plain}
+use Rattle.h5_repack.specs.Image.Plain.{ArePlain, AreLow, IsPlainTree}
+use Rattle.h5_repack.specs.Image.Written.{plain_image}
+use Rattle.h5_repack.specs.Image.Written as image
+use Rattle.h5_repack.proofs.ImageLaws.ImageLength.{image_length}
+use Rattle.h5_model.specs.Format.PlainLength.{plain_length}
+use Rattle.h5_model.specs.Format.Reads.{Placed}
+use Rattle.h5_model.specs.Format.Superblock.{IsSuperblock, leaf_k, internal_k, AreK}
+use Rattle.h5_model.specs.Tree.Objects.{Tree}
 use Rattle.h5_model.specs.declared.edits.Edit.{Edit}
 use Rattle.h5_model.specs.declared.edits.Edit.TheVariants.{CreateDataset, SetAttr}
 use Rattle.h5_model.specs.declared.object_no.ObjectNo.{ObjectNo}
-use Rattle.h5_renumber.specs.Headers.{table_with}
-use Rattle.h5_bodies.specs.Laws.{IsPlainReading}
-use Rattle.h5_sound.specs.Laws.{keeps_links}
-use Rattle.h5_sound.specs.Sound.{IsSoundTree}
-use Rattle.h5_sound.proofs.Applied.{applied_sound}
-use Rattle.h5_sound.proofs.Read.{reads_sound}
-use Rattle.h5_tree.specs.Kept.{IsOpened}
-use Rattle.h5_tree.specs.Objects.{table_of, tree_of}
-use Rattle.h5_tree.specs.State.{FileState, opened_state}
-use Rattle.h5_tree.specs.declared.object.OpenedObject.{OpenedObject}
-use Rattle.h5_write.specs.Written.{IsWritten, IsUnwritten}
-use Rattle.h5_write.specs.declared.write.Written.{Written}
-use Rattle.h5_write.specs.declared.write.WriteFault.{WriteFault}
-use Rattle.h5_write.specs.declared.write.WriteFault.TheVariants.{TooLong, TooDeep, NoMemory}
+use Rattle.h5_open.specs.Renumbered.Headers.{table_with}
+use Rattle.h5_repack.specs.Bodies.Laws.{IsPlainReading}
+use Rattle.h5_laws.specs.Trees.Laws.{keeps_links}
+use Rattle.h5_laws.specs.Trees.Sound.{IsSoundTree}
+use Rattle.h5_laws.proofs.SoundLaws.Applied.{applied_sound}
+use Rattle.h5_laws.proofs.SoundLaws.Read.{reads_sound}
+use Rattle.h5_open.specs.Opened.Kept.{IsOpened}
+use Rattle.h5_open.specs.Opened.Objects.{table_of, tree_of}
+use Rattle.h5_open.specs.Opened.State.{FileState, opened_state}
+use Rattle.h5_open.specs.declared.opened.object.OpenedObject.{OpenedObject}
+use Rattle.h5_repack.specs.Written.{IsWritten, IsUnwritten}
+use Rattle.h5_repack.specs.declared.write.Written.{Written}
+use Rattle.h5_repack.specs.declared.write.WriteFault.{WriteFault}
+use Rattle.h5_repack.specs.declared.write.WriteFault.TheVariants.{TooLong, TooDeep, NoMemory}
 use Rattle.h5_edit.specs.Answers.{answer_to, fault_of}
 use Rattle.h5_edit.specs.Carried.{is_header_full, is_too_long, IsRefused}
 use Rattle.h5_edit.specs.Fitting.{IsFitting, made_in}
 use Rattle.h5_edit.specs.Made.{IsMade}
 use Rattle.h5_edit.proofs.Changes.{next_free, len_tree, len_changed}
-use Rattle.h5_image.proofs.PlainImages.{plain_reads}
+use Rattle.h5_repack.proofs.ImageLaws.PlainImages.{plain_reads}
 use Rattle.h5_edit.proofs.Numbered.{numbered_map, len_numbered, len_alike}
 use Rattle.h5_edit.proofs.Refusals.{by_memory, by_length, by_depth}
 

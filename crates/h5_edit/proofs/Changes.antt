@@ -8,21 +8,21 @@ use Rattle.std.specs.BTreeMap.{BTreeMap}
 use Rattle.std.specs.Option.{option_map_or}
 use Rattle.std.specs.Cmp.{nat_cmp_total}
 use Rattle.std.specs.FinMap.{get, len, insert, remove, empty, len-insert}
-use Rattle.h5_model.specs.Edits.{new_object, new_dataset, with_links, with_attributes, attribute_from}
-use Rattle.h5_model.specs.Tree.{Tree, Object, Group, Array, ToObject, Soft, with_object}
-use Rattle.h5_change.specs.Change.{changed}
-use Rattle.h5_change.specs.declared.change.Change.{Change}
-use Rattle.h5_change.specs.declared.change.Change.TheVariants.{Link as Linked, Set, Remove}
-use Rattle.h5_change.specs.declared.change.Target.{Target}
-use Rattle.h5_change.specs.declared.change.Target.TheVariants as target
-use Rattle.h5_objects.specs.Objects.{AreObjects, IsNewObject}
-use Rattle.h5_objects.specs.declared.object.NewObject.{NewObject}
-use Rattle.h5_sound.proofs.Inserted.{number_other}
-use Rattle.h5_tree.specs.Kept.{IsOpened}
-use Rattle.h5_tree.specs.Objects.{headers, object_in, tree_of}
-use Rattle.h5_tree.specs.declared.object.OpenedObject.{OpenedObject}
-use Rattle.h5_tree.proofs.Entries.{get_tree}
-use Rattle.h5_tree.proofs.Numbers.{few_objects}
+use Rattle.h5_model.specs.Edits.Applied.{new_object, new_dataset, with_links, with_attributes, attribute_from}
+use Rattle.h5_model.specs.Tree.Objects.{Tree, Object, Group, Array, ToObject, Soft, with_object}
+use Rattle.h5_edit.specs.Changed.Change.{changed}
+use Rattle.h5_edit.specs.declared.change.change.Change.{Change}
+use Rattle.h5_edit.specs.declared.change.change.Change.TheVariants.{Link as Linked, Set, Remove}
+use Rattle.h5_edit.specs.declared.change.change.Target.{Target}
+use Rattle.h5_edit.specs.declared.change.change.Target.TheVariants as target
+use Rattle.h5_repack.specs.Objects.Objects.{AreObjects, IsNewObject}
+use Rattle.h5_repack.specs.declared.objects.object.NewObject.{NewObject}
+use Rattle.h5_laws.proofs.SoundLaws.Inserted.{number_other}
+use Rattle.h5_open.specs.Opened.Kept.{IsOpened}
+use Rattle.h5_open.specs.Opened.Objects.{headers, object_in, tree_of}
+use Rattle.h5_open.specs.declared.opened.object.OpenedObject.{OpenedObject}
+use Rattle.h5_open.proofs.OpenedLaws.Entries.{get_tree}
+use Rattle.h5_open.proofs.OpenedLaws.Numbers.{few_objects}
 use Rattle.h5_edit.specs.Fitting.{made_by, made_in}
 use Rattle.h5_edit.proofs.Numbered.{numbered_map, len_numbered}
 

@@ -8,35 +8,35 @@ use Rattle.std.specs.Borrow.{Bor}
 use Rattle.std.specs.BTreeMap.{BTreeMap}
 use Rattle.std.specs.FinMap.{get, insert, remove, empty}
 use Rattle.std.specs.Option.{option_and_then, option_map_or}
-use Rattle.h5_change.specs.Change.{with_link, changed}
-use Rattle.h5_change.specs.declared.change.Change.TheVariants.{Link as Linked, Set, Remove}
-use Rattle.h5_change.specs.declared.change.Target.TheVariants as target
+use Rattle.h5_edit.specs.Changed.Change.{with_link, changed}
+use Rattle.h5_edit.specs.declared.change.change.Change.TheVariants.{Link as Linked, Set, Remove}
+use Rattle.h5_edit.specs.declared.change.change.Target.TheVariants as target
 use Rattle.h5_header.specs.Listed.{message_in}
-use Rattle.h5_model.specs.Edits.{applied, linked, new_object, new_dataset, with_links, with_attributes, attribute_from}
-use Rattle.h5_model.specs.Fixed.{IsFixed}
-use Rattle.h5_model.specs.Messages.{prefix_at, total_in}
-use Rattle.h5_model.specs.Paths.{object_at}
-use Rattle.h5_model.specs.Refusal.{new_path}
-use Rattle.h5_model.specs.Tree.{Tree, Links, Link, Group, Array, ToObject, Soft, links_of, with_object}
+use Rattle.h5_model.specs.Edits.Applied.{applied, linked, new_object, new_dataset, with_links, with_attributes, attribute_from}
+use Rattle.h5_model.specs.Format.Fixed.{IsFixed}
+use Rattle.h5_model.specs.Format.Messages.{prefix_at, total_in}
+use Rattle.h5_model.specs.Tree.Paths.{object_at}
+use Rattle.h5_model.specs.Edits.Refusal.{new_path}
+use Rattle.h5_model.specs.Tree.Objects.{Tree, Links, Link, Group, Array, ToObject, Soft, links_of, with_object}
 use Rattle.h5_model.specs.declared.attribute.AttrSpec.{AttrSpec}
 use Rattle.h5_model.specs.declared.dataset.Spec.{Spec}
 use Rattle.h5_model.specs.declared.edits.Edit.{Edit}
 use Rattle.h5_model.specs.declared.edits.Edit.TheVariants.{CreateGroup, CreateDataset, HardLink, SoftLink, SetAttr, RemoveAttr}
 use Rattle.h5_model.specs.declared.object_no.ObjectNo.{ObjectNo}
-use Rattle.h5_breach.proofs.Lists.{In}
-use Rattle.h5_rules.specs.Allowed.{is_line, IsAt, IsPlaced, IsLinkPlaced}
-use Rattle.h5_rules.specs.declared.place.NewPlace.{NewPlace}
-use Rattle.h5_sound.proofs.Applied.{object_stands}
-use Rattle.h5_sound.proofs.LinksThere.{links_are}
-use Rattle.h5_sound.proofs.NewPaths.{new_is_free}
-use Rattle.h5_sound.proofs.Read.{reads_sound}
-use Rattle.h5_tree.specs.Kept.{IsOpened}
-use Rattle.h5_tree.specs.Objects.{table_of, tree_of}
-use Rattle.h5_tree.specs.State.{opened_state}
-use Rattle.h5_tree.specs.declared.object.OpenedObject.{OpenedObject}
-use Rattle.h5_tree.proofs.Entries.{get_table}
-use Rattle.h5_tree.proofs.Indexed.{header_at, object_kept}
-use Rattle.h5_tree.proofs.Numbers.{numbered}
+use Rattle.h5_laws.proofs.Lists.{In}
+use Rattle.h5_edit.specs.Refusals.Allowed.{is_line, IsAt, IsPlaced, IsLinkPlaced}
+use Rattle.h5_edit.specs.declared.rules.place.NewPlace.{NewPlace}
+use Rattle.h5_laws.proofs.SoundLaws.Applied.{object_stands}
+use Rattle.h5_laws.proofs.SoundLaws.LinksThere.{links_are}
+use Rattle.h5_laws.proofs.SoundLaws.NewPaths.{new_is_free}
+use Rattle.h5_laws.proofs.SoundLaws.Read.{reads_sound}
+use Rattle.h5_open.specs.Opened.Kept.{IsOpened}
+use Rattle.h5_open.specs.Opened.Objects.{table_of, tree_of}
+use Rattle.h5_open.specs.Opened.State.{opened_state}
+use Rattle.h5_open.specs.declared.opened.object.OpenedObject.{OpenedObject}
+use Rattle.h5_open.proofs.OpenedLaws.Entries.{get_table}
+use Rattle.h5_open.proofs.OpenedLaws.Indexed.{header_at, object_kept}
+use Rattle.h5_open.proofs.OpenedLaws.Numbers.{numbered}
 use Rattle.h5_edit.specs.Carried.{is_header_full}
 use Rattle.h5_edit.specs.Fitting.{IsFitting}
 

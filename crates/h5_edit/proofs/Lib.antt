@@ -5,3 +5,6 @@ pub mod Refusals
 pub mod Fitting
 pub mod Answered
 pub mod Writings
+pub mod RuleLaws
+pub mod FitLaws
+pub mod ChangedLaws

@@ -5,14 +5,14 @@ use Rattle.std.specs.Option.{option_and_then, option_map_or}
 use Rattle.std.specs.Cmp.{nat_cmp_total}
 use Rattle.std.specs.FinMap.{get, entries, len}
 use Rattle.std.specs.List.{list_all}
-use Rattle.h5_breach.proofs.Lists.{In}
-use Rattle.h5_breach.proofs.Maps.{get_of_entry, entry_of_get}
-use Rattle.h5_image.specs.Plain.{AreLow, IsLow}
-use Rattle.h5_model.specs.PlainLength.{rows_of}
-use Rattle.h5_model.specs.Tree.{Tree, Object, Links, links_in}
+use Rattle.h5_laws.proofs.Lists.{In}
+use Rattle.h5_laws.proofs.Maps.{get_of_entry, entry_of_get}
+use Rattle.h5_repack.specs.Image.Plain.{AreLow, IsLow}
+use Rattle.h5_model.specs.Format.PlainLength.{rows_of}
+use Rattle.h5_model.specs.Tree.Objects.{Tree, Object, Links, links_in}
 use Rattle.h5_model.proofs.WithinLaws.{both}
-use Rattle.h5_rows.specs.Written.{root_level}
-use Rattle.h5_sound.proofs.LinksThere.{group_of}
+use Rattle.h5_btree.specs.Writing.Written.{root_level}
+use Rattle.h5_laws.proofs.SoundLaws.LinksThere.{group_of}
 
 module _ (leaf internal : ℕ) where
   abbrev pub is_low : Option Links → Bool

@@ -1,13 +1,13 @@
 -- How an edit that is carried is refused: by a rule of the tree, by what the image decides, or for want of memory.
 use Rattle.std.proofs.Common.{◌≡◌, ℕ, refl, sym, ◌∙◌, Bool, true, false, Some, None}
 use Rattle.std.specs.FinMap.{entries}
-use Rattle.h5_image.specs.Plain.{AreLow}
-use Rattle.h5_model.specs.Refusal.{refusal_of}
-use Rattle.h5_model.specs.Superblock.{leaf_k, internal_k}
+use Rattle.h5_repack.specs.Image.Plain.{AreLow}
+use Rattle.h5_model.specs.Edits.Refusal.{refusal_of}
+use Rattle.h5_model.specs.Format.Superblock.{leaf_k, internal_k}
 use Rattle.h5_model.specs.declared.edits.Edit.{Edit}
 use Rattle.h5_model.specs.declared.edit_fault.EditFault.{EditFault}
 use Rattle.h5_model.specs.declared.edit_fault.EditFault.TheVariants as fault
-use Rattle.h5_tree.specs.State.{FileState}
+use Rattle.h5_open.specs.Opened.State.{FileState}
 use Rattle.h5_edit.specs.Carried.{is_carried, is_header_full, is_too_long, tree_after, IsRefused, IsRefusedBy}
 use Rattle.h5_edit.proofs.Low.{are_low, low_of, of_low}
 

@@ -1,11 +1,11 @@
 -- What the writer answers of the objects of one tree.
 use Rattle.std.proofs.Common.{◌≡◌, ℕ, List, subst}
 use Rattle.std.specs.Prelude.{IfErr, Result, Ok, Err}
-use Rattle.h5_model.specs.Tree.{Tree}
-use Rattle.h5_objects.specs.declared.object.NewObject.{NewObject}
-use Rattle.h5_write.specs.Written.{IsHeld, IsUnwritten}
-use Rattle.h5_write.specs.declared.write.Written.{Written}
-use Rattle.h5_write.specs.declared.write.WriteFault.{WriteFault}
+use Rattle.h5_model.specs.Tree.Objects.{Tree}
+use Rattle.h5_repack.specs.declared.objects.object.NewObject.{NewObject}
+use Rattle.h5_repack.specs.Written.{IsHeld, IsUnwritten}
+use Rattle.h5_repack.specs.declared.write.Written.{Written}
+use Rattle.h5_repack.specs.declared.write.WriteFault.{WriteFault}
 
 -- with these K values, which are those of the image
 pub refused_here : {l i leaf internal : ℕ} {objects : List NewObject} {tree : Tree} → l ≡ leaf → i ≡ internal → IsHeld objects tree → (r : Result Written WriteFault)

@@ -3,9 +3,9 @@ use Rattle.std.specs.Prelude.{Option, Result, Ok, Err}
 use Rattle.h5_model.specs.declared.edit_fault.EditFault.{EditFault}
 use Rattle.h5_model.specs.declared.edit_fault.EditFault.TheVariants as fault
 use Rattle.h5_model.specs.declared.object_no.ObjectNo.{ObjectNo}
-use Rattle.h5_write.specs.declared.write.Written.{Written}
-use Rattle.h5_write.specs.declared.write.WriteFault.{WriteFault}
-use Rattle.h5_write.specs.declared.write.WriteFault.TheVariants.{TooLong, TooDeep, NoMemory}
+use Rattle.h5_repack.specs.declared.write.Written.{Written}
+use Rattle.h5_repack.specs.declared.write.WriteFault.{WriteFault}
+use Rattle.h5_repack.specs.declared.write.WriteFault.TheVariants.{TooLong, TooDeep, NoMemory}
 use Rattle.h5_edit.specs.declared.made.Made.{Made}
 
 abbrev pub fault_of : WriteFault → EditFault

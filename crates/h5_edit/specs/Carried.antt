@@ -2,21 +2,21 @@
 use Rattle.std.specs.Prelude.{◌≡◌, ◌^◌, ◌+◌, Bool, true, false, IsTrue, IsFalse, nat_lt, Option, Some, None}
 use Rattle.std.specs.FinMap.{get}
 use Rattle.std.specs.Option.{option_map_or, option_and_then}
-use Rattle.h5_model.specs.Edits.{applied}
-use Rattle.h5_model.specs.ImageAnswers.{chosen}
-use Rattle.h5_model.specs.Messages.{prefix_at, total_in}
-use Rattle.h5_model.specs.Paths.{object_at}
-use Rattle.h5_model.specs.PlainLength.{plain_length}
-use Rattle.h5_model.specs.Refusal.{refusal_of}
-use Rattle.h5_model.specs.Superblock.{leaf_k, internal_k}
-use Rattle.h5_model.specs.Tree.{Tree}
+use Rattle.h5_model.specs.Edits.Applied.{applied}
+use Rattle.h5_model.specs.Edits.ImageAnswers.{chosen}
+use Rattle.h5_model.specs.Format.Messages.{prefix_at, total_in}
+use Rattle.h5_model.specs.Tree.Paths.{object_at}
+use Rattle.h5_model.specs.Format.PlainLength.{plain_length}
+use Rattle.h5_model.specs.Edits.Refusal.{refusal_of}
+use Rattle.h5_model.specs.Format.Superblock.{leaf_k, internal_k}
+use Rattle.h5_model.specs.Tree.Objects.{Tree}
 use Rattle.h5_model.specs.declared.edits.Edit.{Edit}
 use Rattle.h5_model.specs.declared.edits.Edit.TheVariants.{SetAttr}
 use Rattle.h5_model.specs.declared.edit_fault.EditFault.{EditFault}
 use Rattle.h5_model.specs.declared.edit_fault.EditFault.TheVariants as fault
-use Rattle.h5_tree.specs.State.{FileState}
-use Rattle.h5_image.specs.Plain.{AreLow}
-use Rattle.h5_fits.specs.Laws.{is_plain_edit}
+use Rattle.h5_open.specs.Opened.State.{FileState}
+use Rattle.h5_repack.specs.Image.Plain.{AreLow}
+use Rattle.h5_edit.specs.Fits.Laws.{is_plain_edit}
 
 -- ---- which edits are carried
 

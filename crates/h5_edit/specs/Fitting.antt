@@ -1,19 +1,19 @@
 -- Edits that nothing refuses but the writing of the image, and the changes of the tree that they are.
 use Rattle.std.specs.Prelude.{◌≡◌, ℕ, ◌+◌, if◌then◌else◌, true, false, Option, None, List, length}
 use Rattle.std.specs.Option.{option_map}
-use Rattle.h5_model.specs.Edits.{applied, makes_object, named_object}
-use Rattle.h5_model.specs.Refusal.{refusal_of}
+use Rattle.h5_model.specs.Edits.Applied.{applied, makes_object, named_object}
+use Rattle.h5_model.specs.Edits.Refusal.{refusal_of}
 use Rattle.h5_model.specs.declared.edits.Edit.{Edit}
 use Rattle.h5_model.specs.declared.object_no.ObjectNo.{ObjectNo}
-use Rattle.h5_fits.specs.Laws.{IsTyped}
-use Rattle.h5_tree.specs.Objects.{tree_of}
-use Rattle.h5_tree.specs.State.{opened_state}
-use Rattle.h5_tree.specs.declared.object.OpenedObject.{OpenedObject}
-use Rattle.h5_change.specs.Change.{IsChange, changed}
-use Rattle.h5_change.specs.declared.change.Change.{Change}
-use Rattle.h5_change.specs.declared.change.Change.TheVariants.{Link as Linked, Set, Remove}
-use Rattle.h5_change.specs.declared.change.Target.{Target}
-use Rattle.h5_change.specs.declared.change.Target.TheVariants as target
+use Rattle.h5_edit.specs.Fits.Laws.{IsTyped}
+use Rattle.h5_open.specs.Opened.Objects.{tree_of}
+use Rattle.h5_open.specs.Opened.State.{opened_state}
+use Rattle.h5_open.specs.declared.opened.object.OpenedObject.{OpenedObject}
+use Rattle.h5_edit.specs.Changed.Change.{IsChange, changed}
+use Rattle.h5_edit.specs.declared.change.change.Change.{Change}
+use Rattle.h5_edit.specs.declared.change.change.Change.TheVariants.{Link as Linked, Set, Remove}
+use Rattle.h5_edit.specs.declared.change.change.Target.{Target}
+use Rattle.h5_edit.specs.declared.change.change.Target.TheVariants as target
 use Rattle.h5_edit.specs.Carried.{is_carried, is_header_full}
 
 -- how many objects a change makes

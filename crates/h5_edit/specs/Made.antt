@@ -2,14 +2,14 @@
 -- IV.A).
 use Rattle.std.specs.Prelude.{◌≡◌, ℕ, true, None, List, length}
 use Rattle.std.specs.Option.{option_map}
-use Rattle.h5_model.specs.Edits.{state_after, named_object}
-use Rattle.h5_model.specs.Refusal.{refusal_of}
-use Rattle.h5_model.specs.Superblock.{leaf_k, internal_k}
-use Rattle.h5_model.specs.Tree.{Tree}
+use Rattle.h5_model.specs.Edits.Applied.{state_after, named_object}
+use Rattle.h5_model.specs.Edits.Refusal.{refusal_of}
+use Rattle.h5_model.specs.Format.Superblock.{leaf_k, internal_k}
+use Rattle.h5_model.specs.Tree.Objects.{Tree}
 use Rattle.h5_model.specs.declared.edits.Edit.{Edit}
-use Rattle.h5_tree.specs.State.{FileState, state_of}
-use Rattle.h5_bodies.specs.Laws.{IsPlainReading}
-use Rattle.h5_renumber.specs.Headers.{table_with}
+use Rattle.h5_open.specs.Opened.State.{FileState, state_of}
+use Rattle.h5_repack.specs.Bodies.Laws.{IsPlainReading}
+use Rattle.h5_open.specs.Renumbered.Headers.{table_with}
 use Rattle.h5_edit.specs.declared.made.Made.{Made}
 use Rattle.h5_edit.specs.Carried.{is_carried, tree_after, IsGivenFor}
 

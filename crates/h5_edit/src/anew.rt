@@ -1,26 +1,26 @@
 //! An opened image with a change, written anew.
 
 ghost use Rattle.std.specs.Prelude.{◌≡◌, ◌<◌, ℕ, IfOk, IfErr, MatchResult, length, slice_index};
-ghost use Rattle.h5_model.specs.Superblock.{IsSuperblock, leaf_k, internal_k};
+ghost use Rattle.h5_model.specs.Format.Superblock.{IsSuperblock, leaf_k, internal_k};
 ghost use Rattle.h5_model.specs.declared.edits.Edit.{Edit};
-ghost use Rattle.h5_sound.specs.Sound.{IsSoundTree};
-ghost use Rattle.h5_fits.specs.Laws.{AreBytes};
-ghost use Rattle.h5_tree.specs.Kept.{IsOpened};
-ghost use Rattle.h5_tree.specs.Objects.{tree_of};
-ghost use Rattle.h5_tree.specs.State.{opened_state};
-ghost use Rattle.h5_change.specs.Change.{IsPlainChange, changed};
-ghost use Rattle.h5_write.specs.Written.{IsWritten, IsUnwritten};
+ghost use Rattle.h5_laws.specs.Trees.Sound.{IsSoundTree};
+ghost use Rattle.h5_edit.specs.Fits.Laws.{AreBytes};
+ghost use Rattle.h5_open.specs.Opened.Kept.{IsOpened};
+ghost use Rattle.h5_open.specs.Opened.Objects.{tree_of};
+ghost use Rattle.h5_open.specs.Opened.State.{opened_state};
+ghost use Rattle.h5_edit.specs.Changed.Change.{IsPlainChange, changed};
+ghost use Rattle.h5_repack.specs.Written.{IsWritten, IsUnwritten};
 ghost use Rattle.h5_edit.specs.Carried.{IsRefused};
 ghost use Rattle.h5_edit.specs.Fitting.{IsFitting};
 ghost use Rattle.h5_edit.specs.Made.{IsMade};
 
 use crate::made::{Made, answer};
 use h5_bytes::get_u16;
-use h5_change::{Change, changed_objects};
+use crate::change::{Change, changed_objects};
 use h5_model::{EditFault, ObjectNo};
 use h5_space::Image;
-use h5_tree::Opened;
-use h5_write::{WriteFault, Written, write_tree};
+use h5_open::Opened;
+use h5_repack::{WriteFault, Written, write_tree};
 use std::alloc::Global;
 
 /// Where the superblock has the K value of symbol nodes.

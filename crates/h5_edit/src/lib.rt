@@ -6,9 +6,13 @@
 
 mod anew;
 mod attributes;
+mod change;
 mod links;
 mod made;
+mod rules;
 
 pub use attributes::{remove_attribute, set_attribute};
 pub use links::{new_array, new_group, new_hard_link, new_soft_link};
 pub use made::Made;
+pub use rules::{NewPlace, check_array, check_attribute, check_group, check_hard_link, check_removal, check_soft_link, is_one_line};
+pub use change::{Change, Target, changed_objects};

@@ -2,19 +2,19 @@
 
 ghost use Rattle.std.specs.Prelude.{◌≡◌, ◌<◌, ◌^◌, MatchResult, length};
 ghost use Rattle.h5_model.specs.declared.edits.Edit.TheVariants.{CreateGroup, CreateDataset, HardLink, SoftLink};
-ghost use Rattle.h5_tree.specs.Kept.{IsOpened};
-ghost use Rattle.h5_tree.specs.State.{opened_state};
-ghost use Rattle.h5_change.specs.declared.change.Change.TheVariants.{Link as Linked};
+ghost use Rattle.h5_open.specs.Opened.Kept.{IsOpened};
+ghost use Rattle.h5_open.specs.Opened.State.{opened_state};
+ghost use Rattle.h5_edit.specs.declared.change.change.Change.TheVariants.{Link as Linked};
 ghost use Rattle.h5_edit.specs.Carried.{IsRefused};
 ghost use Rattle.h5_edit.specs.Made.{IsMade};
 
 use crate::anew::carry_out;
 use crate::made::Made;
-use h5_change::{Change, Target};
+use crate::change::{Change, Target};
 use h5_model::{EditFault, ObjectNo, Spec};
-use h5_rules::{NewPlace, check_array, check_group, check_hard_link, check_soft_link, is_one_line};
+use crate::rules::{NewPlace, check_array, check_group, check_hard_link, check_soft_link, is_one_line};
 use h5_space::Image;
-use h5_tree::Opened;
+use h5_open::Opened;
 use std::alloc::Global;
 
 /// Makes an empty group at the path.

@@ -4,7 +4,7 @@ ghost use Rattle.std.specs.Prelude.{◌≡◌};
 ghost use Rattle.h5_edit.specs.Answers.{answer_to};
 
 use h5_model::{EditFault, ObjectNo};
-use h5_write::{WriteFault, Written};
+use h5_repack::{WriteFault, Written};
 
 /// The image that an edit gives, with the addresses of its objects' headers by their numbers, and the object that the edit makes or
 /// names.

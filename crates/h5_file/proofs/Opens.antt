@@ -4,12 +4,12 @@ use Rattle.std.specs.Prelude.{Result, Ok, Err, IfErr, take}
 use Rattle.std.proofs.lemmas.List.{get_or-take, length-take, same_lists, places, take_all}
 use Rattle.h5_bytes.specs.Bytes.{number_at, byte_at, part}
 use Rattle.h5_bytes.proofs.FieldLaws.{number_at-part}
-use Rattle.h5_model.specs.Faults.{Breach, SuperblockBreach, cut}
-use Rattle.h5_model.specs.Superblock.{IsSuperblock, end_of_file}
+use Rattle.h5_model.specs.Faults.Breaches.{Breach, SuperblockBreach, cut}
+use Rattle.h5_model.specs.Format.Superblock.{IsSuperblock, end_of_file}
 use Rattle.h5_model.specs.declared.open_fault.Cause.{Cause}
 use Rattle.h5_model.specs.declared.open_fault.Cause.TheVariants.{NoMemory, NotYet}
-use Rattle.h5_tree.specs.NotYet.{IsRefusedAt}
-use Rattle.h5_breach.proofs.Excluded.{breach_excludes_reads}
+use Rattle.h5_open.specs.Opened.NotYet.{IsRefusedAt}
+use Rattle.h5_laws.proofs.Excluded.{breach_excludes_reads}
 use Rattle.h5_file.specs.Opening.{RefusedBy, IsReadable, IsNoBreach}
 
 -- ---- bytes that are cut keep their superblock

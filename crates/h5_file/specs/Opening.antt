@@ -2,14 +2,14 @@
 use Rattle.std.specs.Prelude.{◌≡◌, ◌⊎◌, ℕ, List}
 use Rattle.std.specs.Ordering.{nat_cmp}
 use Rattle.std.specs.FinMap.{FinMap}
-use Rattle.h5_model.specs.Superblock.{IsSuperblock}
-use Rattle.h5_model.specs.Faults.{Breach, cut}
-use Rattle.h5_model.specs.Reads.{Reads}
-use Rattle.h5_model.specs.Tree.{Tree}
+use Rattle.h5_model.specs.Format.Superblock.{IsSuperblock}
+use Rattle.h5_model.specs.Faults.Breaches.{Breach, cut}
+use Rattle.h5_model.specs.Format.Reads.{Reads}
+use Rattle.h5_model.specs.Tree.Objects.{Tree}
 use Rattle.h5_model.specs.declared.open_fault.OpenFault.{OpenFault}
 use Rattle.h5_model.specs.declared.open_fault.Cause.{Cause}
 use Rattle.h5_model.specs.declared.open_fault.Cause.TheVariants.{NoMemory, NotYet}
-use Rattle.h5_tree.specs.NotYet.{IsRefusedAt}
+use Rattle.h5_open.specs.Opened.NotYet.{IsRefusedAt}
 
 -- Memory was short; or the superblock is sound, and a block that is reached is of a form that is not read yet; or the cause holds at
 -- the address.

@@ -13,7 +13,7 @@ use h5_edit::{
 };
 use h5_model::{AttrSpec, Edit, EditFault, Edited, Spec};
 use h5_open::walk;
-use h5_renumber::renumber;
+use h5_open::renumber;
 use h5_space::Image;
 
 impl File {

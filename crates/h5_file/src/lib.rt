@@ -16,5 +16,5 @@ mod superblock;
 
 pub use file::File;
 pub use h5_attr::AttrRef;
-pub use h5_look::{ArrayCells, Kind, Link, LinkTo, StoreKind};
+pub use h5_query::{ArrayCells, Kind, Link, LinkTo, StoreKind};
 pub use h5_model::{Cause, OpenFault};

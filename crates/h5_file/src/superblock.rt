@@ -2,8 +2,8 @@
 
 ghost use Rattle.std.specs.Prelude.{◌≡◌, ◌+◌, ◌≤◌, length, MatchOption, Some};
 ghost use Rattle.h5_bytes.specs.Bytes.{number_at};
-ghost use Rattle.h5_model.specs.Superblock.{IsSuperblock};
-ghost use Rattle.h5_model.specs.Faults.{SuperblockBreach};
+ghost use Rattle.h5_model.specs.Format.Superblock.{IsSuperblock};
+ghost use Rattle.h5_model.specs.Faults.Breaches.{SuperblockBreach};
 
 use h5_bytes::{UNDEF, get_u16, get_u64};
 use h5_model::{Cause, OpenFault};

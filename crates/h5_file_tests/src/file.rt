@@ -1,7 +1,7 @@
 //! That calls succeed with ample memory, and what answers and refusals look like from outside.
 
 use h5_file::{Cause, File, Kind, OpenFault};
-use h5_lines::{Command, read_line};
+use h5_command::{Command, read_line};
 use h5_model::{EditFault, ObjectNo};
 use std::alloc::{AllocError, Global};
 

@@ -5,18 +5,18 @@ use Rattle.std.specs.List.{AllByRecursion}
 use Rattle.h5_bytes.specs.Blocks.{holds, cover, Separate, Inside}
 use Rattle.h5_bytes.specs.declared.Block.{Block}
 use Rattle.h5_bytes.proofs.BlockLaws.{holds_in, cover-append, all_append, all_right}
-use Rattle.h5_model.specs.Superblock.{leaf_k}
-use Rattle.h5_model.specs.Heap.{heap_blocks}
-use Rattle.h5_model.specs.Nodes.{tree_blocks}
-use Rattle.h5_model.specs.Symbols.{IsSymbolNode, symbol_block, symbol_bytes}
-use Rattle.h5_model.specs.Reached.{Named, Reached, by_block}
-use Rattle.h5_model.specs.Faults.{is_header}
-use Rattle.h5_walk.specs.Walked.{IsWalked}
-use Rattle.h5_walk.specs.Met.{IsMet}
-use Rattle.h5_walk.proofs.WalkedLaws.{not_followed}
-use Rattle.h5_breach.proofs.Lists.{In, in_all, in_map, in_contains}
-use Rattle.h5_nodes.specs.Trees.{kind_in, nodes_blocks}
-use Rattle.h5_nodes.specs.Walk.{IsTreeFollowed, AreSymbolsReached}
+use Rattle.h5_model.specs.Format.Superblock.{leaf_k}
+use Rattle.h5_model.specs.Format.Heap.{heap_blocks}
+use Rattle.h5_model.specs.Format.Nodes.{tree_blocks}
+use Rattle.h5_model.specs.Format.Symbols.{IsSymbolNode, symbol_block, symbol_bytes}
+use Rattle.h5_model.specs.Format.Reached.{Named, Reached, by_block}
+use Rattle.h5_model.specs.Faults.Breaches.{is_header}
+use Rattle.h5_header.specs.Walk.Walked.{IsWalked}
+use Rattle.h5_header.specs.Walk.Met.{IsMet}
+use Rattle.h5_header.proofs.WalkLaws.WalkedLaws.{not_followed}
+use Rattle.h5_laws.proofs.Lists.{In, in_all, in_map, in_contains}
+use Rattle.h5_group.specs.Nodes.Trees.{kind_in, nodes_blocks}
+use Rattle.h5_group.specs.Nodes.Walk.{IsTreeFollowed, AreSymbolsReached}
 use Rattle.h5_group.specs.declared.group.Group.{Group}
 use Rattle.h5_group.specs.Walk.{IsGroupMet, IsGroupFollowed, IsHard, entry_field}
 use Rattle.h5_group.proofs.HeapSteps.{heap_field, segment_field, heap_walked}

@@ -5,7 +5,7 @@ use Rattle.std.specs.List.{flat_map}
 use Rattle.std.proofs.lemmas.List.{map-append, take_more, take_all}
 use Rattle.std.proofs.lemmas.Grind.{flat_map-append}
 use Rattle.std.proofs.lemmas.Option.{get_or_from_slice_get}
-use Rattle.h5_model.specs.Symbols.{Entry, Target}
+use Rattle.h5_model.specs.Format.Symbols.{Entry, Target}
 
 -- the entry whose link was read
 read_entry : (f : Entry → List ℕ × Target) (o : Option Entry) (x : List ℕ × Target) → option_map f o ≡ Some x → (e : Entry) × (o ≡ Some e) × (f e ≡ x)

@@ -3,16 +3,16 @@ use Rattle.std.proofs.Common.{◌≡◌, ◌≢◌, ℕ, ◌+◌, ◌-◌, ◌�
 use Rattle.h5_bytes.specs.Blocks.{block, holds, cover, Separate, Inside}
 use Rattle.h5_bytes.specs.declared.Block.{Block}
 use Rattle.h5_bytes.proofs.BlockLaws.{holds_in}
-use Rattle.h5_model.specs.Addresses.{SymbolTable}
-use Rattle.h5_model.specs.Heap.{heap_header, heap_blocks, segment_block, segment_place, segment_size}
-use Rattle.h5_model.specs.Reached.{Named, named, HeapHeader, Segment, Reached, by_block, group_root, block_of, length_of}
+use Rattle.h5_model.specs.Format.Addresses.{SymbolTable}
+use Rattle.h5_model.specs.Format.Heap.{heap_header, heap_blocks, segment_block, segment_place, segment_size}
+use Rattle.h5_model.specs.Format.Reached.{Named, named, HeapHeader, Segment, Reached, by_block, group_root, block_of, length_of}
 use Rattle.h5_model.specs.declared.open_fault.Cause.{Cause}
 use Rattle.h5_model.specs.declared.open_fault.Cause.TheVariants.{Truncated, Overlap, HeapForm, NoMemory}
 use Rattle.h5_heap.specs.Refused.{IsRefused}
-use Rattle.h5_walk.specs.Walked.{IsWalked}
-use Rattle.h5_walk.specs.Met.{IsMet}
-use Rattle.h5_walk.proofs.MetFields.{met_truncated, met_overlaps, met_walked, still_met}
-use Rattle.h5_nodes.specs.Walk.{IsFault, IsTreeMet}
+use Rattle.h5_header.specs.Walk.Walked.{IsWalked}
+use Rattle.h5_header.specs.Walk.Met.{IsMet}
+use Rattle.h5_header.proofs.WalkLaws.MetFields.{met_truncated, met_overlaps, met_walked, still_met}
+use Rattle.h5_group.specs.Nodes.Walk.{IsFault, IsTreeMet}
 use Rattle.h5_group.specs.Walk.{IsGroupMet}
 use Rattle.h5_group.proofs.Steps.{field_after, other_field}
 

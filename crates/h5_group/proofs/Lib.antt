@@ -5,6 +5,10 @@ pub mod Gathered
 pub mod Steps
 pub mod HeapSteps
 pub mod Refusals
-pub mod Order
 pub mod Linked
 pub mod Followed
+pub mod EntryOrder
+pub mod NodeLaws
+pub mod TextProofs
+pub mod OrderProofs
+pub mod WriteLaws

@@ -4,24 +4,24 @@ use Rattle.std.specs.List.{AllByRecursion, flat_map}
 use Rattle.h5_bytes.specs.Blocks.{cover, Inside}
 use Rattle.h5_bytes.specs.declared.Block.{Block}
 use Rattle.h5_bytes.proofs.BlockLaws.{all_append, cover-append}
-use Rattle.h5_model.specs.Paths.{is_name}
-use Rattle.h5_model.specs.Superblock.{leaf_k, internal_k}
-use Rattle.h5_model.specs.Heap.{heap_header, segment_of, heap_blocks, IsHeap, HasNames}
-use Rattle.h5_model.specs.Rows.{Node, blank, nodes}
-use Rattle.h5_model.specs.Nodes.{node_at, reading_of}
-use Rattle.h5_model.specs.Symbols.{Entry, Target, IsEntry, symbols_of, link_of, texts_of}
-use Rattle.h5_model.specs.Links.{AreLinks, HasLinks, key_offsets, offset_in}
-use Rattle.h5_model.specs.TreeFaults.{all_entries}
+use Rattle.h5_model.specs.Tree.Paths.{is_name}
+use Rattle.h5_model.specs.Format.Superblock.{leaf_k, internal_k}
+use Rattle.h5_model.specs.Format.Heap.{heap_header, segment_of, heap_blocks, IsHeap, HasNames}
+use Rattle.h5_model.specs.Format.Rows.{Node, blank, nodes}
+use Rattle.h5_model.specs.Format.Nodes.{node_at, reading_of}
+use Rattle.h5_model.specs.Format.Symbols.{Entry, Target, IsEntry, symbols_of, link_of, texts_of}
+use Rattle.h5_model.specs.Format.Links.{AreLinks, HasLinks, key_offsets, offset_in}
+use Rattle.h5_model.specs.Faults.TreeFaults.{all_entries}
 use Rattle.h5_model.proofs.OneTree.{level_is, owned_is}
 use Rattle.h5_model.proofs.RowLaws.{only_here}
-use Rattle.h5_breach.proofs.Lists.{in_all, all_in}
-use Rattle.h5_breach.proofs.Entries.{flat-same, own_entries}
-use Rattle.h5_nodes.specs.Trees.{kind_in, IsTree, nodes_blocks}
-use Rattle.h5_names.specs.Named.{AreTexts}
-use Rattle.h5_keys.specs.Ordered.{AreOrdered}
+use Rattle.h5_laws.proofs.Lists.{in_all, all_in}
+use Rattle.h5_laws.proofs.Entries.{flat-same, own_entries}
+use Rattle.h5_group.specs.Nodes.Trees.{kind_in, IsTree, nodes_blocks}
+use Rattle.h5_group.specs.Texts.Named.{AreTexts}
+use Rattle.h5_group.specs.Order.Ordered.{AreOrdered}
 use Rattle.h5_group.specs.declared.group.Group.{Group}
 use Rattle.h5_group.specs.Links.{IsGroupRead, links_of, blocks_of, nodes_at}
-use Rattle.h5_group.proofs.Order.{owned_order}
+use Rattle.h5_group.proofs.EntryOrder.{owned_order}
 
 all_mapped : {X Y : Type 0} (P : Y → Type 0) (f : X → Y) (xs : List X) → AllByRecursion (λ x. P (f x)) xs → AllByRecursion P (map f xs)
 all_mapped P f [] all = tt

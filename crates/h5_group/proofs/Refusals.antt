@@ -4,20 +4,20 @@ use Rattle.std.specs.Prelude.{map}
 use Rattle.h5_bytes.specs.Blocks.{Inside}
 use Rattle.h5_bytes.specs.declared.Block.{Block}
 use Rattle.h5_bytes.proofs.BlockLaws.{all_left, all_right}
-use Rattle.h5_model.specs.Addresses.{SymbolTable}
-use Rattle.h5_model.specs.Superblock.{leaf_k}
-use Rattle.h5_model.specs.Heap.{heap_blocks}
-use Rattle.h5_model.specs.Nodes.{node_block, tree_blocks}
-use Rattle.h5_model.specs.Symbols.{symbol_block}
-use Rattle.h5_model.specs.Reached.{Named, named, GroupNode, SymbolNode, HeapHeader}
+use Rattle.h5_model.specs.Format.Addresses.{SymbolTable}
+use Rattle.h5_model.specs.Format.Superblock.{leaf_k}
+use Rattle.h5_model.specs.Format.Heap.{heap_blocks}
+use Rattle.h5_model.specs.Format.Nodes.{node_block, tree_blocks}
+use Rattle.h5_model.specs.Format.Symbols.{symbol_block}
+use Rattle.h5_model.specs.Format.Reached.{Named, named, GroupNode, SymbolNode, HeapHeader}
 use Rattle.h5_model.specs.declared.open_fault.Cause.{Cause}
 use Rattle.h5_model.specs.declared.open_fault.Cause.TheVariants.{HeapName, BadName, NameOrder, KeyOrder, NoMemory}
-use Rattle.h5_walk.specs.Met.{IsMet}
-use Rattle.h5_nodes.specs.Trees.{kind_in, nodes_blocks}
-use Rattle.h5_nodes.specs.Walk.{IsFault, IsTreeFollowed, IsNodeReached, AreSymbolsReached}
-use Rattle.h5_names.specs.Refused.{AreTextsRefused}
-use Rattle.h5_keys.specs.Ordered.{IsOrderRefused}
-use Rattle.h5_breach.proofs.Lists.{in_all, in_map, in_contains}
+use Rattle.h5_header.specs.Walk.Met.{IsMet}
+use Rattle.h5_group.specs.Nodes.Trees.{kind_in, nodes_blocks}
+use Rattle.h5_group.specs.Nodes.Walk.{IsFault, IsTreeFollowed, IsNodeReached, AreSymbolsReached}
+use Rattle.h5_group.specs.Texts.Refused.{AreTextsRefused}
+use Rattle.h5_group.specs.Order.Ordered.{IsOrderRefused}
+use Rattle.h5_laws.proofs.Lists.{in_all, in_map, in_contains}
 
 module _ (image : List ℕ) (held : List Block) (followed : List Named) (table : SymbolTable) (second depth : ℕ)
     (met : IsMet image held followed (named second (HeapHeader table.tree) table.heap depth)) (inside : Inside (length image) (heap_blocks image table.heap)) where

@@ -7,13 +7,13 @@ use Rattle.std.proofs.lemmas.Cmp.{tied_itself}
 use Rattle.std.proofs.lemmas.List.{take-append-drop, length-map}
 use Rattle.std.proofs.lemmas.Option.{slice_get_within}
 use Rattle.h5_bytes.specs.Texts.{text_at}
-use Rattle.h5_model.specs.Superblock.{leaf_k}
-use Rattle.h5_model.specs.Heap.{segment_of}
-use Rattle.h5_model.specs.Symbols.{Entry, Target, symbols_at, link_of}
-use Rattle.h5_model.specs.Links.{Before, names_in}
-use Rattle.h5_model.specs.TreeFaults.{all_entries}
+use Rattle.h5_model.specs.Format.Superblock.{leaf_k}
+use Rattle.h5_model.specs.Format.Heap.{segment_of}
+use Rattle.h5_model.specs.Format.Symbols.{Entry, Target, symbols_at, link_of}
+use Rattle.h5_model.specs.Format.Links.{Before, names_in}
+use Rattle.h5_model.specs.Faults.TreeFaults.{all_entries}
 use Rattle.h5_snod.specs.Names.{IsPlace, names_of}
-use Rattle.h5_breach.proofs.Lists.{In, in_all, in_either, in_map, in_flat, from_map, in_contains, contains_in}
+use Rattle.h5_laws.proofs.Lists.{In, in_all, in_either, in_map, in_flat, from_map, in_contains, contains_in}
 use Rattle.h5_group.specs.declared.group.Group.{Group}
 use Rattle.h5_group.specs.declared.link.LinkRef.{LinkRef}
 use Rattle.h5_group.specs.Links.{links_of, link_from, IsLinkNamed, HasNone}

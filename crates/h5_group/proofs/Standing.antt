@@ -5,15 +5,15 @@ use Rattle.std.proofs.lemmas.List.{map-append}
 use Rattle.h5_bytes.specs.Blocks.{Inside}
 use Rattle.h5_bytes.specs.declared.Block.{Block}
 use Rattle.h5_bytes.proofs.BlockLaws.{all_left, all_right}
-use Rattle.h5_model.specs.Superblock.{leaf_k}
-use Rattle.h5_model.specs.Heap.{segment_of, heap_blocks}
-use Rattle.h5_model.specs.Nodes.{tree_blocks}
-use Rattle.h5_model.specs.Symbols.{Entry, Target, IsSymbolNode, symbol_block, symbol_bytes, symbols_at, symbols_of, link_of}
-use Rattle.h5_model.specs.Links.{Ascend}
-use Rattle.h5_model.specs.TreeFaults.{all_entries}
-use Rattle.h5_breach.proofs.Lists.{In, in_all, in_map, in_contains}
-use Rattle.h5_breach.proofs.Entries.{own_entries}
-use Rattle.h5_nodes.specs.Trees.{kind_in}
+use Rattle.h5_model.specs.Format.Superblock.{leaf_k}
+use Rattle.h5_model.specs.Format.Heap.{segment_of, heap_blocks}
+use Rattle.h5_model.specs.Format.Nodes.{tree_blocks}
+use Rattle.h5_model.specs.Format.Symbols.{Entry, Target, IsSymbolNode, symbol_block, symbol_bytes, symbols_at, symbols_of, link_of}
+use Rattle.h5_model.specs.Format.Links.{Ascend}
+use Rattle.h5_model.specs.Faults.TreeFaults.{all_entries}
+use Rattle.h5_laws.proofs.Lists.{In, in_all, in_map, in_contains}
+use Rattle.h5_laws.proofs.Entries.{own_entries}
+use Rattle.h5_group.specs.Nodes.Trees.{kind_in}
 use Rattle.h5_group.specs.declared.group.Group.{Group}
 use Rattle.h5_group.specs.Links.{IsGroupRead, links_of}
 

@@ -3,10 +3,10 @@ use Rattle.std.proofs.Common.{◌≡◌, ◌≢◌, ℕ, ◌+◌, ◌-◌, ◌<�
 use Rattle.h5_bytes.specs.Blocks.{holds, cover, Separate}
 use Rattle.h5_bytes.specs.declared.Block.{Block}
 use Rattle.h5_bytes.proofs.BlockLaws.{holds_in}
-use Rattle.h5_model.specs.Reached.{Named, Reached, length_of}
-use Rattle.h5_walk.specs.Walked.{IsWalked}
-use Rattle.h5_walk.specs.Met.{IsMet}
-use Rattle.h5_walk.proofs.MetFields.{newly_met}
+use Rattle.h5_model.specs.Format.Reached.{Named, Reached, length_of}
+use Rattle.h5_header.specs.Walk.Walked.{IsWalked}
+use Rattle.h5_header.specs.Walk.Met.{IsMet}
+use Rattle.h5_header.proofs.WalkLaws.MetFields.{newly_met}
 
 -- a field of the block that was claimed last is met
 pub field_after : (image : List ℕ) (held : List Block) (followed : List Named) → IsWalked image held followed → (y : Named) → IsMet image held followed y

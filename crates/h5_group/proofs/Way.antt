@@ -3,20 +3,20 @@ use Rattle.std.proofs.Common.{◌≡◌, ℕ, zero, suc, Bool, List, [], ◌∷�
 use Rattle.std.specs.Prelude.{Option, Some, None, IfSome, IfNone, slice_index}
 use Rattle.std.specs.List.{Contains}
 use Rattle.h5_bytes.specs.Texts.{text_at}
-use Rattle.h5_model.specs.Superblock.{leaf_k, internal_k}
-use Rattle.h5_model.specs.Heap.{segment_of}
-use Rattle.h5_model.specs.Rows.{Reading, next_row, leaves}
-use Rattle.h5_model.specs.Nodes.{node_at}
-use Rattle.h5_model.specs.Symbols.{Entry, symbols_at, symbols_of}
-use Rattle.h5_model.specs.Links.{names_in}
+use Rattle.h5_model.specs.Format.Superblock.{leaf_k, internal_k}
+use Rattle.h5_model.specs.Format.Heap.{segment_of}
+use Rattle.h5_model.specs.Format.Rows.{Reading, next_row, leaves}
+use Rattle.h5_model.specs.Format.Nodes.{node_at}
+use Rattle.h5_model.specs.Format.Symbols.{Entry, symbols_at, symbols_of}
+use Rattle.h5_model.specs.Format.Links.{names_in}
 use Rattle.h5_model.proofs.OneTree.{level_is, children_are}
 use Rattle.h5_model.proofs.RowLaws.{only_here}
 use Rattle.h5_btree.specs.Descent.{LeadsTo}
 use Rattle.h5_btree.proofs.NameOrder.{name_behind}
 use Rattle.h5_btree.proofs.NameFound.{name_found}
-use Rattle.h5_breach.proofs.Lists.{In, in_all, in_left, contains_in}
-use Rattle.h5_breach.proofs.Subtrees.{index_in, leaves_within, one_within}
-use Rattle.h5_nodes.specs.Trees.{kind_in}
+use Rattle.h5_laws.proofs.Lists.{In, in_all, in_left, contains_in}
+use Rattle.h5_laws.proofs.Subtrees.{index_in, leaves_within, one_within}
+use Rattle.h5_group.specs.Nodes.Trees.{kind_in}
 use Rattle.h5_group.specs.declared.group.Group.{Group}
 use Rattle.h5_group.specs.Links.{IsGroupRead}
 use Rattle.h5_group.proofs.Standing.{entries_are, nodes_there}

@@ -3,15 +3,15 @@ use Rattle.std.specs.Prelude.{◌≡◌, ℕ, List, [], ◌∷◌, ◌++◌, map
 use Rattle.std.specs.List.{Contains}
 use Rattle.h5_bytes.specs.Blocks.{Inside}
 use Rattle.h5_bytes.specs.declared.Block.{Block}
-use Rattle.h5_model.specs.Superblock.{leaf_k, internal_k}
-use Rattle.h5_model.specs.Rows.{nodes}
-use Rattle.h5_model.specs.Nodes.{node_at}
-use Rattle.h5_model.specs.Reached.{level_at}
-use Rattle.h5_model.specs.Symbols.{Target, Header, Text, link_of}
-use Rattle.h5_model.specs.Links.{HasLinks}
-use Rattle.h5_model.specs.Heap.{segment_of, heap_blocks}
-use Rattle.h5_model.specs.TreeFaults.{all_entries}
-use Rattle.h5_nodes.specs.Trees.{kind_in, nodes_blocks}
+use Rattle.h5_model.specs.Format.Superblock.{leaf_k, internal_k}
+use Rattle.h5_model.specs.Format.Rows.{nodes}
+use Rattle.h5_model.specs.Format.Nodes.{node_at}
+use Rattle.h5_model.specs.Format.Reached.{level_at}
+use Rattle.h5_model.specs.Format.Symbols.{Target, Header, Text, link_of}
+use Rattle.h5_model.specs.Format.Links.{HasLinks}
+use Rattle.h5_model.specs.Format.Heap.{segment_of, heap_blocks}
+use Rattle.h5_model.specs.Faults.TreeFaults.{all_entries}
+use Rattle.h5_group.specs.Nodes.Trees.{kind_in, nodes_blocks}
 use Rattle.h5_group.specs.declared.group.Group.{Group}
 use Rattle.h5_group.specs.declared.link.LinkRef.{LinkRef}
 use Rattle.h5_group.specs.declared.link.LinkTarget.{LinkTarget}

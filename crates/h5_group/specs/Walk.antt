@@ -3,14 +3,14 @@ use Rattle.std.specs.Prelude.{◌≡◌, ◌≢◌, ℕ, ◌+◌, ◌-◌, ◌*�
 use Rattle.std.specs.List.{AllByRecursion, Contains}
 use Rattle.h5_bytes.specs.Blocks.{cover}
 use Rattle.h5_bytes.specs.declared.Block.{Block}
-use Rattle.h5_model.specs.Addresses.{SymbolTable}
-use Rattle.h5_model.specs.Superblock.{leaf_k}
-use Rattle.h5_model.specs.Symbols.{symbol_bytes, symbols_in}
-use Rattle.h5_model.specs.Reached.{Named, named, ObjectHeader, HeapHeader, group_root, entry_in}
-use Rattle.h5_model.specs.Faults.{is_header}
-use Rattle.h5_walk.specs.Walked.{IsWalked}
-use Rattle.h5_walk.specs.Met.{IsMet}
-use Rattle.h5_nodes.specs.Walk.{AreSymbolsReached}
+use Rattle.h5_model.specs.Format.Addresses.{SymbolTable}
+use Rattle.h5_model.specs.Format.Superblock.{leaf_k}
+use Rattle.h5_model.specs.Format.Symbols.{symbol_bytes, symbols_in}
+use Rattle.h5_model.specs.Format.Reached.{Named, named, ObjectHeader, HeapHeader, group_root, entry_in}
+use Rattle.h5_model.specs.Faults.Breaches.{is_header}
+use Rattle.h5_header.specs.Walk.Walked.{IsWalked}
+use Rattle.h5_header.specs.Walk.Met.{IsMet}
+use Rattle.h5_group.specs.Nodes.Walk.{AreSymbolsReached}
 use Rattle.h5_group.specs.declared.group.Group.{Group}
 
 -- the walk has met the two fields of a Symbol Table message

@@ -2,18 +2,18 @@
 
 ghost use Rattle.std.specs.Prelude.{◌≡◌, ℕ, ◌+◌, List, length, IfOk, IfErr, OnOk};
 ghost use Rattle.h5_bytes.specs.Blocks.{cover, Separate};
-ghost use Rattle.h5_model.specs.Superblock.{IsSuperblock};
-ghost use Rattle.h5_model.specs.Reached.{Named};
-ghost use Rattle.h5_nodes.specs.Walk.{IsFault};
+ghost use Rattle.h5_model.specs.Format.Superblock.{IsSuperblock};
+ghost use Rattle.h5_model.specs.Format.Reached.{Named};
+ghost use Rattle.h5_group.specs.Nodes.Walk.{IsFault};
 ghost use Rattle.h5_group.specs.Links.{IsGroupRead, blocks_of};
 ghost use Rattle.h5_group.specs.Walk.{IsGroupMet, IsGroupFollowed};
 
 use h5_heap::{read_heap, segment_at};
-use h5_keys::check_order;
+use crate::order::check_order;
 use h5_model::OpenFault;
 use h5_msg::SymbolTable;
-use h5_names::check_texts;
-use h5_nodes::{GroupTree, read_tree};
+use crate::texts::check_texts;
+use crate::nodes::{GroupTree, read_tree};
 use h5_space::{Claims, Image};
 use std::alloc::Global;
 

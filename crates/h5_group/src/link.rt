@@ -1,7 +1,7 @@
 //! Links of a group (File Format Specification 3.0, section III.C).
 
 ghost use Rattle.std.specs.Prelude.{◌≡◌, ◌<◌, Some, length, option_map, slice_get};
-ghost use Rattle.h5_model.specs.Symbols.{Entry, link_of};
+ghost use Rattle.h5_model.specs.Format.Symbols.{Entry, link_of};
 ghost use Rattle.h5_snod.specs.Entries.{symbol_from};
 ghost use Rattle.h5_group.specs.Links.{link_from};
 

@@ -2,9 +2,9 @@
 
 ghost use Rattle.std.specs.Prelude.{◌≡◌, ◌<◌, ◌++◌, IfOk, OnOk, Some, length, map, slice_get, option_map};
 ghost use Rattle.std.specs.List.{Contains};
-ghost use Rattle.h5_model.specs.Superblock.{leaf_k};
-ghost use Rattle.h5_model.specs.Heap.{segment_of};
-ghost use Rattle.h5_model.specs.Symbols.{symbols_at, link_of};
+ghost use Rattle.h5_model.specs.Format.Superblock.{leaf_k};
+ghost use Rattle.h5_model.specs.Format.Heap.{segment_of};
+ghost use Rattle.h5_model.specs.Format.Symbols.{symbols_at, link_of};
 ghost use Rattle.h5_group.specs.Links.{IsGroupRead, links_of, link_from};
 
 use crate::group::Group;

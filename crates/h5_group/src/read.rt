@@ -2,9 +2,9 @@
 
 ghost use Rattle.std.specs.Prelude.{◌≡◌, ◌≤◌, length};
 ghost use Rattle.std.specs.List.{Contains};
-ghost use Rattle.h5_model.specs.Superblock.{leaf_k as leaf_of, internal_k as internal_of};
-ghost use Rattle.h5_model.specs.Heap.{segment_of};
-ghost use Rattle.h5_model.specs.Symbols.{symbols_at};
+ghost use Rattle.h5_model.specs.Format.Superblock.{leaf_k as leaf_of, internal_k as internal_of};
+ghost use Rattle.h5_model.specs.Format.Heap.{segment_of};
+ghost use Rattle.h5_model.specs.Format.Symbols.{symbols_at};
 ghost use Rattle.h5_group.specs.Links.{IsGroupRead};
 
 use crate::group::Group;

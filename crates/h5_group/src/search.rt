@@ -2,10 +2,10 @@
 
 ghost use Rattle.std.specs.Prelude.{◌≡◌, [], ◌∷◌, IfSome, IfNone};
 ghost use Rattle.std.specs.List.{Contains};
-ghost use Rattle.h5_model.specs.Superblock.{leaf_k};
-ghost use Rattle.h5_model.specs.Heap.{segment_of};
-ghost use Rattle.h5_model.specs.Links.{names_in};
-ghost use Rattle.h5_model.specs.Symbols.{symbols_at};
+ghost use Rattle.h5_model.specs.Format.Superblock.{leaf_k};
+ghost use Rattle.h5_model.specs.Format.Heap.{segment_of};
+ghost use Rattle.h5_model.specs.Format.Links.{names_in};
+ghost use Rattle.h5_model.specs.Format.Symbols.{symbols_at};
 ghost use Rattle.h5_group.specs.Links.{IsGroupRead, IsLinkNamed, HasNone};
 
 use crate::group::Group;

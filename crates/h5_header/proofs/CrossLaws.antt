@@ -10,7 +10,7 @@ use Rattle.h5_bytes.specs.Bytes.{number_at, part}
 use Rattle.h5_bytes.specs.Blocks.{holds, cover, Separate}
 use Rattle.h5_bytes.specs.declared.Block.{Block}
 use Rattle.h5_bytes.proofs.BlockLaws.{holds_join, holds-inner, holds-le, cover-append, all_left, all_right}
-use Rattle.h5_model.specs.Messages.{Message, Fills, continuation, continuations, first_block, prefix_at, first_size}
+use Rattle.h5_model.specs.Format.Messages.{Message, Fills, continuation, continuations, first_block, prefix_at, first_size}
 use Rattle.h5_space.specs.Claimed.{Shares}
 use Rattle.h5_header.specs.Refused.{NamesBlock, header_block, Crosses}
 use Rattle.h5_header.specs.Progress.{FilledTo, Partly, IsClaimed}

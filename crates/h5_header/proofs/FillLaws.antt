@@ -5,7 +5,7 @@ use Rattle.std.proofs.lemmas.List.Concat.{flat_map-append}
 use Rattle.h5_bytes.specs.Bytes.{number_at, part}
 use Rattle.h5_bytes.specs.declared.Block.{Block}
 use Rattle.h5_bytes.proofs.BlockLaws.{all_append}
-use Rattle.h5_model.specs.Messages.{Message, IsMessage, Fills, FillBlocks, continuation, continuations}
+use Rattle.h5_model.specs.Format.Messages.{Message, IsMessage, Fills, FillBlocks, continuation, continuations}
 use Rattle.h5_header.specs.Heads.{IsHead}
 use Rattle.h5_header.specs.Listed.{message_in, messages_in}
 use Rattle.h5_header.specs.Progress.{FillsTo, FilledTo, IsTaken, ReadTo}

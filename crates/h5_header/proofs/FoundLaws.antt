@@ -3,8 +3,8 @@ use Rattle.std.proofs.Common.{◌≡◌, ℕ, suc, ◌+◌, ◌≤◌, List, [],
 use Rattle.std.specs.Prelude.{option_map, option_and_then}
 use Rattle.std.proofs.lemmas.Option.{same_Some}
 use Rattle.std.specs.List.{find, Contains}
-use Rattle.h5_model.specs.Messages.{Message, count_of, first_body}
-use Rattle.h5_model.specs.HeaderFaults.{SomeBody}
+use Rattle.h5_model.specs.Format.Messages.{Message, count_of, first_body}
+use Rattle.h5_model.specs.Faults.HeaderFaults.{SomeBody}
 use Rattle.std.specs.Borrow.{Bor}
 use Rattle.std.specs.Option.{option_copied, IfSome, IsSome}
 use Rattle.h5_bytes.specs.Bytes.{part}

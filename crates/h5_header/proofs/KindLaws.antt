@@ -4,8 +4,8 @@ use Rattle.std.specs.Prelude.{Bool, true, false, cond, if◌then◌else◌}
 use Rattle.std.proofs.lemmas.List.Recursion.{is_count_by}
 use Rattle.std.specs.List.{count_by, list_any}
 use Rattle.std.proofs.lemmas.Bool.Decides.{nat_tests}
-use Rattle.h5_model.specs.Messages.{Message, count_of}
-use Rattle.h5_model.specs.HeaderFaults.{stands_twice}
+use Rattle.h5_model.specs.Format.Messages.{Message, count_of}
+use Rattle.h5_model.specs.Faults.HeaderFaults.{stands_twice}
 use Rattle.h5_header.specs.Listed.{messages_in}
 use Rattle.h5_header.specs.declared.message.Message.{Message as Placed}
 

@@ -10,3 +10,4 @@ pub mod RefusedLaws
 pub mod ReadableLaws
 pub mod KindLaws
 pub mod FoundLaws
+pub mod WalkLaws

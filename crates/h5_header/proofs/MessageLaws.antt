@@ -9,8 +9,8 @@ use Rattle.h5_bytes.specs.Blocks.{block}
 use Rattle.h5_bytes.specs.declared.Block.{Block}
 use Rattle.h5_bytes.proofs.PartLaws.{length-part, part-part}
 use Rattle.h5_bytes.proofs.FieldLaws.{number_at-part}
-use Rattle.h5_model.specs.Addresses.{continuation_of}
-use Rattle.h5_model.specs.Messages.{Message, IsMessage, continuation}
+use Rattle.h5_model.specs.Format.Addresses.{continuation_of}
+use Rattle.h5_model.specs.Format.Messages.{Message, IsMessage, continuation}
 use Rattle.h5_header.specs.Heads.{IsHead}
 use Rattle.h5_header.specs.Listed.{message_in, messages_in}
 use Rattle.h5_header.specs.Progress.{IsTaken}

@@ -10,9 +10,9 @@ use Rattle.h5_bytes.specs.declared.Block.{Block}
 use Rattle.h5_bytes.proofs.PartLaws.{part-part}
 use Rattle.h5_bytes.proofs.FieldLaws.{number_at-part}
 use Rattle.h5_bytes.proofs.BlockLaws.{all_append}
-use Rattle.h5_model.specs.Addresses.{continuation_of}
-use Rattle.h5_model.specs.Messages.{Message, IsMessage, Fills, FillBlocks, HasMessages, continuation, continuations, first_block}
-use Rattle.h5_model.specs.Reached.{Met, at_start, behind, in_continuation, kind_at, size_at}
+use Rattle.h5_model.specs.Format.Addresses.{continuation_of}
+use Rattle.h5_model.specs.Format.Messages.{Message, IsMessage, Fills, FillBlocks, HasMessages, continuation, continuations, first_block}
+use Rattle.h5_model.specs.Format.Reached.{Met, at_start, behind, in_continuation, kind_at, size_at}
 use Rattle.h5_header.specs.Refused.{NamesBlock}
 use Rattle.h5_header.specs.Progress.{FillsTo, FilledTo}
 

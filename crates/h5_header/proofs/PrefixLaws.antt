@@ -3,7 +3,7 @@ use Rattle.std.proofs.Common.{◌≡◌, ℕ, ◌+◌, List, length, ap, ◌∙�
 use Rattle.h5_bytes.specs.Bytes.{number_at, byte_at}
 use Rattle.h5_bytes.specs.declared.Block.{Block}
 use Rattle.h5_bytes.proofs.FieldLaws.{number_at-part}
-use Rattle.h5_model.specs.Messages.{prefix_at, first_size, total_in, reference_count}
+use Rattle.h5_model.specs.Format.Messages.{prefix_at, first_size, total_in, reference_count}
 use Rattle.h5_model.specs.declared.open_fault.Cause.{Cause}
 use Rattle.h5_model.specs.declared.open_fault.Cause.TheVariants.{Truncated, Overlap, NoMemory}
 use Rattle.h5_space.specs.Claimed.{ClaimBreach}

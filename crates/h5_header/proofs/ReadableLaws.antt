@@ -9,10 +9,10 @@ use Rattle.h5_bytes.specs.Blocks.{holds, cover, Inside}
 use Rattle.h5_bytes.specs.declared.Block.{Block}
 use Rattle.h5_bytes.proofs.PartLaws.{length-part}
 use Rattle.h5_bytes.proofs.BlockLaws.{cover-append, all_left, all_right}
-use Rattle.h5_model.specs.Messages.{Message, IsMessage, IsContinued, FillBlocks, continuation, continuations, first_block}
-use Rattle.h5_model.specs.Reached.{Met, kind_at, size_at}
-use Rattle.h5_model.specs.Addresses.{continuation_of}
-use Rattle.h5_model.specs.HeaderFaults.{is_known, is_new_style}
+use Rattle.h5_model.specs.Format.Messages.{Message, IsMessage, IsContinued, FillBlocks, continuation, continuations, first_block}
+use Rattle.h5_model.specs.Format.Reached.{Met, kind_at, size_at}
+use Rattle.h5_model.specs.Format.Addresses.{continuation_of}
+use Rattle.h5_model.specs.Faults.HeaderFaults.{is_known, is_new_style}
 use Rattle.h5_model.specs.declared.open_fault.Cause.{Cause}
 use Rattle.h5_model.specs.declared.open_fault.Cause.TheVariants.{Truncated, HeaderVersion, MessageSize, SharedMessage, UnknownMessage, Filtered, ExternalFiles, NewStyleGroup, Overlap, NoMemory}
 use Rattle.h5_header.specs.Heads.{HeadBreach, is_read}

@@ -1,7 +1,7 @@
 -- Where the reading of a header stops, a rule of the header is broken at the address that is named.
 use Rattle.std.proofs.Common.{◌≡◌, ◌≢◌, ℕ, ◌+◌, ◌≤◌, inl, inr, List, length, refl, sym, subst, arith}
 use Rattle.h5_bytes.specs.declared.Block.{Block}
-use Rattle.h5_model.specs.Reached.{Met}
+use Rattle.h5_model.specs.Format.Reached.{Met}
 use Rattle.h5_model.specs.declared.open_fault.Cause.{Cause}
 use Rattle.h5_model.specs.declared.open_fault.Cause.TheVariants.{Truncated, HeaderVersion, MessageSize, SharedMessage, UnknownMessage, Filtered, ExternalFiles, NewStyleGroup, Overlap, NoMemory}
 use Rattle.h5_header.specs.Heads.{HeadBreach}

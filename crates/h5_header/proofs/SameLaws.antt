@@ -3,7 +3,7 @@ use Rattle.std.proofs.Common.{◌≡◌, ℕ, ◌+◌, ◌<◌, List, [], ◌∷
 use Rattle.std.specs.List.{AllByRecursion}
 use Rattle.h5_bytes.specs.Bytes.{number_at, part}
 use Rattle.h5_bytes.specs.declared.Block.{Block}
-use Rattle.h5_model.specs.Messages.{Message, IsMessage, Fills, FillBlocks, continuations}
+use Rattle.h5_model.specs.Format.Messages.{Message, IsMessage, Fills, FillBlocks, continuations}
 use Rattle.h5_model.proofs.OneReading.{one_fill}
 use Rattle.h5_header.specs.Progress.{FillsTo, FilledTo}
 

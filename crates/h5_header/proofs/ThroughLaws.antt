@@ -9,7 +9,7 @@ use Rattle.h5_bytes.specs.Blocks.{holds, cover, Separate}
 use Rattle.h5_bytes.specs.declared.Block.{Block}
 use Rattle.h5_bytes.proofs.PartLaws.{length-part}
 use Rattle.h5_bytes.proofs.BlockLaws.{all_append, cover-append}
-use Rattle.h5_model.specs.Messages.{Message, Fills, continuation, continuations, first_block}
+use Rattle.h5_model.specs.Format.Messages.{Message, Fills, continuation, continuations, first_block}
 use Rattle.h5_model.specs.declared.open_fault.Cause.{Cause}
 use Rattle.h5_space.specs.Claimed.{ClaimBreach}
 use Rattle.h5_header.specs.Listed.{message_in, messages_in, IsWithin}

@@ -5,8 +5,8 @@ use Rattle.std.specs.List.{AllByRecursion}
 use Rattle.h5_bytes.specs.Bytes.{byte_at}
 use Rattle.h5_bytes.specs.Blocks.{Inside}
 use Rattle.h5_bytes.specs.declared.Block.{Block}
-use Rattle.h5_model.specs.Messages.{Message, HasMessages, continuations, IsContinued, FillBlocks, prefix_at, total_in, first_block}
-use Rattle.h5_model.specs.Reached.{AllMessages}
+use Rattle.h5_model.specs.Format.Messages.{Message, HasMessages, continuations, IsContinued, FillBlocks, prefix_at, total_in, first_block}
+use Rattle.h5_model.specs.Format.Reached.{AllMessages}
 use Rattle.h5_header.specs.Heads.{is_read}
 use Rattle.h5_header.specs.Listed.{messages_in}
 use Rattle.h5_header.specs.Progress.{FilledTo, IsTaken, ReadThrough}

@@ -2,8 +2,8 @@
 use Rattle.std.specs.Prelude.{◌≡◌, ◌≢◌, ℕ, ◌+◌, ◌%◌, ◌≤◌, ◌==◌, Bool, IsTrue, not, bit_and, List, [], ◌∷◌}
 use Rattle.std.specs.List.{list_any}
 use Rattle.h5_bytes.specs.Bytes.{byte_at}
-use Rattle.h5_model.specs.Reached.{kind_at, size_at}
-use Rattle.h5_model.specs.HeaderFaults.{IsMisfit, is_known, is_new_style}
+use Rattle.h5_model.specs.Format.Reached.{kind_at, size_at}
+use Rattle.h5_model.specs.Faults.HeaderFaults.{IsMisfit, is_known, is_new_style}
 use Rattle.h5_model.specs.declared.open_fault.Cause.{Cause}
 use Rattle.h5_model.specs.declared.open_fault.Cause.TheVariants.{MessageSize, SharedMessage, UnknownMessage, Filtered, ExternalFiles, NewStyleGroup}
 use Rattle.h5_header.specs.declared.message.Message.{Message}

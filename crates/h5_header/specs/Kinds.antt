@@ -1,7 +1,7 @@
 -- What an object is by the types of its messages (File Format Specification 3.0, section IV.A.2).
 use Rattle.std.specs.Prelude.{◌≡◌, ◌≤◌, List, [], ◌∷◌}
 use Rattle.std.specs.List.{AllByRecursion}
-use Rattle.h5_model.specs.Messages.{Message, count_of}
+use Rattle.h5_model.specs.Format.Messages.{Message, count_of}
 
 -- one Symbol Table, and no message of a dataset: 1 is a Dataspace, 3 a Datatype, 4 and 5 Fill Values, 8 a Data Layout
 pub record IsOfGroup (ms : List Message) : Type 0 where

@@ -3,3 +3,4 @@ pub mod Listed
 pub mod Refused
 pub mod Progress
 pub mod Kinds
+pub mod Walk

@@ -4,7 +4,7 @@ use Rattle.std.specs.Prelude.{ℕ, ◌+◌, ◌≤◌, List, map}
 use Rattle.std.specs.List.{AllByRecursion}
 use Rattle.h5_bytes.specs.Bytes.{part}
 use Rattle.h5_bytes.specs.declared.Block.{Block}
-use Rattle.h5_model.specs.Messages.{Message}
+use Rattle.h5_model.specs.Format.Messages.{Message}
 use Rattle.h5_header.specs.declared.message.Message.{Message as Placed}
 
 -- what is kept of a header: its address, its messages in order, and the blocks in which they stand, its own first

@@ -4,7 +4,7 @@ use Rattle.std.specs.List.{AllByRecursion, flat_map}
 use Rattle.h5_bytes.specs.Bytes.{number_at, byte_at, part}
 use Rattle.h5_bytes.specs.Blocks.{cover, Separate, Inside}
 use Rattle.h5_bytes.specs.declared.Block.{Block}
-use Rattle.h5_model.specs.Messages.{Message, IsMessage, Fills, IsContinued, continuations, prefix_at, first_size, first_block}
+use Rattle.h5_model.specs.Format.Messages.{Message, IsMessage, Fills, IsContinued, continuations, prefix_at, first_size, first_block}
 use Rattle.h5_model.specs.declared.open_fault.Cause.{Cause}
 use Rattle.h5_model.specs.declared.open_fault.Cause.TheVariants.{Truncated, HeaderVersion, Overlap, NoMemory}
 use Rattle.h5_space.specs.Claimed.{Shares}

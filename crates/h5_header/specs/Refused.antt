@@ -4,9 +4,9 @@ use Rattle.std.specs.List.{AllByRecursion}
 use Rattle.h5_bytes.specs.Bytes.{number_at}
 use Rattle.h5_bytes.specs.Blocks.{block, cover, Inside}
 use Rattle.h5_bytes.specs.declared.Block.{Block}
-use Rattle.h5_model.specs.Messages.{Message, HasMessages, prefix_at, first_size}
-use Rattle.h5_model.specs.Reached.{FittingAt, kind_at, size_at}
-use Rattle.h5_model.specs.HeaderFaults.{HeaderBreach}
+use Rattle.h5_model.specs.Format.Messages.{Message, HasMessages, prefix_at, first_size}
+use Rattle.h5_model.specs.Format.Reached.{FittingAt, kind_at, size_at}
+use Rattle.h5_model.specs.Faults.HeaderFaults.{HeaderBreach}
 use Rattle.h5_model.specs.declared.open_fault.Cause.{Cause}
 use Rattle.h5_model.specs.declared.open_fault.Cause.TheVariants.{Truncated, Overlap, NoMemory}
 use Rattle.h5_space.specs.Claimed.{Shares}

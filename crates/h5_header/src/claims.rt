@@ -3,7 +3,7 @@
 ghost use Rattle.std.specs.Prelude.{◌≡◌, ℕ, ◌+◌, ◌≤◌, length, OnOk, IfOk, IfErr};
 ghost use Rattle.h5_bytes.specs.Bytes.{byte_at};
 ghost use Rattle.h5_bytes.specs.Blocks.{holds, cover, Separate};
-ghost use Rattle.h5_model.specs.Messages.{prefix_at};
+ghost use Rattle.h5_model.specs.Format.Messages.{prefix_at};
 ghost use Rattle.h5_header.specs.Refused.{header_block};
 ghost use Rattle.h5_header.specs.Progress.{PrefixBreach};
 

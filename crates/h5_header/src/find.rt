@@ -2,7 +2,7 @@
 
 ghost use Rattle.std.specs.Prelude.{◌≡◌, ◌==◌, find, length};
 ghost use Rattle.std.specs.Option.{option_copied};
-ghost use Rattle.h5_model.specs.Messages.{first_body};
+ghost use Rattle.h5_model.specs.Format.Messages.{first_body};
 ghost use Rattle.h5_header.specs.Listed.{messages_in, IsWithin};
 
 use crate::header::Messages;

@@ -3,7 +3,7 @@
 ghost use Rattle.std.specs.Prelude.{◌≡◌, ◌+◌, ◌<◌, ◌≤◌, Some, length, slice_get, option_map, IfOk, IfErr, OnOk};
 ghost use Rattle.h5_bytes.specs.Blocks.{Separate};
 ghost use Rattle.h5_bytes.specs.Bytes.{byte_at};
-ghost use Rattle.h5_model.specs.Messages.{prefix_at, reference_count};
+ghost use Rattle.h5_model.specs.Format.Messages.{prefix_at, reference_count};
 ghost use Rattle.h5_header.specs.Listed.{messages_in, IsWithin};
 ghost use Rattle.h5_header.specs.Progress.{ReadThrough, Stops};
 

@@ -1,8 +1,8 @@
 //! What an object is, by the types of its messages (File Format Specification 3.0, section IV.A.2).
 
 ghost use Rattle.std.specs.Prelude.{◌≡◌, ℕ, List, ◌↔◌, Ok, Err, IfErr, MatchResult};
-ghost use Rattle.h5_model.specs.HeaderFaults.{ListBreach};
-ghost use Rattle.h5_model.specs.Messages.{count_of};
+ghost use Rattle.h5_model.specs.Faults.HeaderFaults.{ListBreach};
+ghost use Rattle.h5_model.specs.Format.Messages.{count_of};
 ghost use Rattle.h5_header.specs.Kinds.{IsOfGroup, IsOfDataset};
 ghost use Rattle.h5_header.specs.Listed.{messages_in};
 

@@ -2,7 +2,7 @@
 
 ghost use Rattle.std.specs.Prelude.{◌≡◌, ◌+◌, ◌<◌, ◌≤◌, [], ◌∷◌, length, IfOk, IfErr, MatchOption, IsTrue};
 ghost use Rattle.std.specs.Option.{option_map_or};
-ghost use Rattle.h5_model.specs.Messages.{continuation};
+ghost use Rattle.h5_model.specs.Format.Messages.{continuation};
 ghost use Rattle.h5_header.specs.Listed.{message_in};
 ghost use Rattle.h5_header.specs.Heads.{IsHead, HeadBreach, KindBreach, is_read};
 

@@ -3,7 +3,7 @@
 ghost use Rattle.std.specs.Prelude.{◌≡◌, ℕ, ◌+◌, IsTrue, length, IfOk, IfErr, OnOk};
 ghost use Rattle.std.specs.List.{AllByRecursion};
 ghost use Rattle.h5_bytes.specs.Blocks.{cover, Separate, Inside};
-ghost use Rattle.h5_model.specs.Messages.{HasMessages};
+ghost use Rattle.h5_model.specs.Format.Messages.{HasMessages};
 ghost use Rattle.h5_header.specs.Heads.{is_read};
 ghost use Rattle.h5_header.specs.Listed.{messages_in, IsWithin};
 ghost use Rattle.h5_header.specs.Refused.{IsRefused, IsReadable};

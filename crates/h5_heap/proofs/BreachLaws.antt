@@ -4,9 +4,9 @@ use Rattle.std.specs.List.{Contains}
 use Rattle.h5_bytes.specs.Bytes.{part}
 use Rattle.h5_bytes.specs.Blocks.{cover}
 use Rattle.h5_bytes.specs.declared.Block.{Block}
-use Rattle.h5_model.specs.Heap.{heap_header, segment_block, segment_of, IsHeap, HasNames}
-use Rattle.h5_model.specs.Symbols.{Entry, texts_of}
-use Rattle.h5_model.specs.TreeFaults.{HasSymbolNodes, all_entries, all_key_offsets, HeapNameBreach}
+use Rattle.h5_model.specs.Format.Heap.{heap_header, segment_block, segment_of, IsHeap, HasNames}
+use Rattle.h5_model.specs.Format.Symbols.{Entry, texts_of}
+use Rattle.h5_model.specs.Faults.TreeFaults.{HasSymbolNodes, all_entries, all_key_offsets, HeapNameBreach}
 use Rattle.h5_model.specs.declared.open_fault.Cause.TheVariants.{HeapName}
 use Rattle.h5_heap.specs.Kept.{Kept, segment_in}
 use Rattle.h5_heap.specs.Spans.{IsSpan, IsNotEmpty}

@@ -5,7 +5,7 @@ use Rattle.h5_bytes.specs.Bytes.{number_at, undefined}
 use Rattle.h5_bytes.specs.Blocks.{block, holds, cover, Separate, Inside}
 use Rattle.h5_bytes.specs.declared.Block.{Block}
 use Rattle.h5_bytes.proofs.BlockLaws.{cover-append, all_append, all_right}
-use Rattle.h5_model.specs.Heap.{FreeFrom, IsFree}
+use Rattle.h5_model.specs.Format.Heap.{FreeFrom, IsFree}
 use Rattle.h5_heap.specs.FreeList.{IsFreeList, IsNext}
 
 -- these blocks lead from one offset of the list to another

@@ -3,3 +3,4 @@ pub mod TakenLaws
 pub mod NameLaws
 pub mod RefusedLaws
 pub mod BreachLaws
+pub mod WriteLaws

@@ -7,8 +7,8 @@ use Rattle.std.proofs.lemmas.List.Elements.{All-from_recursion, All-contains, Co
 use Rattle.std.proofs.lemmas.List.Sorted.{IsPermutation-refl, IsPermutation-sym, IsPermutation-cons, IsPermutation-trans, IsPermutation-map, IsPermutation-middle, IsPermutation-append_left, Contains-permutation, sum_by-IsPermutation}
 use Rattle.h5_bytes.specs.Blocks.{cover, Inside}
 use Rattle.h5_bytes.proofs.CoverLaws.{held_by, cover-sum}
-use Rattle.h5_model.specs.Heap.{span_of, KeyNames, HasNames}
-use Rattle.h5_model.specs.Symbols.{Entry, texts_of}
+use Rattle.h5_model.specs.Format.Heap.{span_of, KeyNames, HasNames}
+use Rattle.h5_model.specs.Format.Symbols.{Entry, texts_of}
 use Rattle.h5_heap.specs.Kept.{Kept}
 use Rattle.h5_heap.specs.Spans.{IsSpan, HasTaken}
 use Rattle.h5_heap.proofs.TakenLaws.{cover-all}

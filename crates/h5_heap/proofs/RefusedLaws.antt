@@ -10,7 +10,7 @@ use Rattle.std.proofs.lemmas.List.Sorted.{IsPermutation-sym, Contains-permutatio
 use Rattle.h5_bytes.specs.Bytes.{byte_at}
 use Rattle.h5_bytes.specs.Blocks.{holds, cover, Inside}
 use Rattle.h5_bytes.specs.Texts.{text_at, pad8}
-use Rattle.h5_model.specs.Heap.{span_of, KeyNames, HasNames}
+use Rattle.h5_model.specs.Format.Heap.{span_of, KeyNames, HasNames}
 use Rattle.h5_model.specs.declared.open_fault.Cause.TheVariants.{HeapName}
 use Rattle.h5_space.specs.Claimed.{Shares}
 use Rattle.h5_heap.specs.Kept.{Kept}

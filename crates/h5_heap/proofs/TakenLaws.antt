@@ -11,7 +11,7 @@ use Rattle.std.proofs.lemmas.List.Elements.{Contains-append_left, Contains-appen
 use Rattle.h5_bytes.specs.Blocks.{holds, cover}
 use Rattle.h5_bytes.specs.declared.Block.{Block}
 use Rattle.h5_bytes.proofs.BlockLaws.{cover-append, all_append, all_left, all_right}
-use Rattle.h5_model.specs.Heap.{span_of}
+use Rattle.h5_model.specs.Format.Heap.{span_of}
 use Rattle.h5_heap.specs.Kept.{Kept}
 use Rattle.h5_heap.specs.Spans.{IsSpan, Takes, HasTaken, HasNamed, all_spans}
 

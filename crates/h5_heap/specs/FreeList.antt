@@ -4,7 +4,7 @@ use Rattle.std.specs.List.{AllByRecursion}
 use Rattle.h5_bytes.specs.Bytes.{number_at, undefined}
 use Rattle.h5_bytes.specs.Blocks.{holds, cover, Separate, Inside}
 use Rattle.h5_bytes.specs.declared.Block.{Block}
-use Rattle.h5_model.specs.Heap.{FreeFrom, IsFree}
+use Rattle.h5_model.specs.Format.Heap.{FreeFrom, IsFree}
 
 -- these are the free blocks from the head of the list on
 pub record IsFreeList (segment : List ℕ) (head : ℕ) (free : List Block) : Type 0 where

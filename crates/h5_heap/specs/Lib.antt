@@ -2,3 +2,4 @@ pub mod Refused
 pub mod FreeList
 pub mod Kept
 pub mod Spans
+pub mod Writing

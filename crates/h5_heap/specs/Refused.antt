@@ -3,7 +3,7 @@ use Rattle.std.specs.Prelude.{◌≡◌, ℕ, ◌+◌, ◌<◌, ◌≤◌, ◌�
 use Rattle.h5_bytes.specs.Bytes.{byte_at, part}
 use Rattle.h5_bytes.specs.Blocks.{block, holds, cover, Inside}
 use Rattle.h5_bytes.specs.declared.Block.{Block}
-use Rattle.h5_model.specs.Heap.{heap_signature, heap_header, heap_blocks, segment_size, segment_block, segment_of, IsHeap}
+use Rattle.h5_model.specs.Format.Heap.{heap_signature, heap_header, heap_blocks, segment_size, segment_block, segment_of, IsHeap}
 use Rattle.h5_model.specs.declared.open_fault.Cause.{Cause}
 use Rattle.h5_model.specs.declared.open_fault.Cause.TheVariants.{Truncated, Overlap, HeapForm, NoMemory}
 use Rattle.h5_space.specs.Claimed.{Shares}

@@ -4,7 +4,7 @@ ghost use Rattle.std.specs.Prelude.{◌≡◌, ℕ, ◌+◌, ◌≤◌, ◌⊎�
 ghost use Rattle.h5_bytes.specs.Bytes.{number_at};
 ghost use Rattle.h5_bytes.specs.Blocks.{block, holds, cover, Separate};
 ghost use Rattle.h5_bytes.specs.declared.Block.{Block};
-ghost use Rattle.h5_model.specs.Heap.{IsFree};
+ghost use Rattle.h5_model.specs.Format.Heap.{IsFree};
 ghost use Rattle.h5_heap.specs.FreeList.{IsFreeList, IsNext};
 
 use h5_bytes::{Block, UNDEF, u64_at};

@@ -2,7 +2,7 @@
 
 ghost use Rattle.std.specs.Prelude.{◌≡◌, ℕ, ◌+◌, length, IfOk, IfErr, IfSome, IfNone, OnOk};
 ghost use Rattle.h5_bytes.specs.Blocks.{block, cover, Separate, Inside};
-ghost use Rattle.h5_model.specs.Heap.{heap_header, free_head, segment_place, segment_size, segment_block, segment_of, heap_blocks};
+ghost use Rattle.h5_model.specs.Format.Heap.{heap_header, free_head, segment_place, segment_size, segment_block, segment_of, heap_blocks};
 ghost use Rattle.h5_heap.specs.Refused.{IsHeader, IsRefused};
 
 use h5_bytes::{Block, begins_with, u64_at};

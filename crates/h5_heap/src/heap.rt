@@ -2,7 +2,7 @@
 
 ghost use Rattle.std.specs.Prelude.{◌≡◌, ℕ, ◌+◌, ◌≤◌, [], length, IfOk, IfErr, OnOk};
 ghost use Rattle.h5_bytes.specs.Blocks.{cover, Separate, Inside};
-ghost use Rattle.h5_model.specs.Heap.{heap_header, heap_blocks, segment_block, segment_of, IsHeap};
+ghost use Rattle.h5_model.specs.Format.Heap.{heap_header, heap_blocks, segment_block, segment_of, IsHeap};
 ghost use Rattle.h5_heap.specs.Refused.{IsRefused, IsReadable};
 
 use crate::free_list::{FreeList, read_free};

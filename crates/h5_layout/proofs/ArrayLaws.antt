@@ -4,14 +4,14 @@ use Rattle.std.specs.Prelude.{option_and_then}
 use Rattle.std.proofs.lemmas.Option.{same_Some}
 use Rattle.std.specs.List.{AllByRecursion}
 use Rattle.h5_bytes.specs.declared.Block.{Block}
-use Rattle.h5_model.specs.Messages.{Message, first_body}
-use Rattle.h5_model.specs.Fixed.{Fixed}
-use Rattle.h5_model.specs.Extent.{Extent}
-use Rattle.h5_model.specs.Fill.{fill_value, old_fill_value, chosen_fill}
-use Rattle.h5_model.specs.Layout.{layout_of}
-use Rattle.h5_model.specs.Chunks.{Chunks}
-use Rattle.h5_model.specs.Tree.{Dataset}
-use Rattle.h5_model.specs.Reads.{IsFill, HasData, HasDataset, InDataset}
+use Rattle.h5_model.specs.Format.Messages.{Message, first_body}
+use Rattle.h5_model.specs.Format.Fixed.{Fixed}
+use Rattle.h5_model.specs.Format.Extent.{Extent}
+use Rattle.h5_model.specs.Format.Fill.{fill_value, old_fill_value, chosen_fill}
+use Rattle.h5_model.specs.Format.Layout.{layout_of}
+use Rattle.h5_model.specs.Format.Chunks.{Chunks}
+use Rattle.h5_model.specs.Tree.Objects.{Dataset}
+use Rattle.h5_model.specs.Format.Reads.{IsFill, HasData, HasDataset, InDataset}
 use Rattle.h5_layout.specs.Described.{Described, HasFill, HasArray, dataset_in}
 
 -- ---- one array at most

@@ -4,16 +4,16 @@ use Rattle.std.specs.Prelude.{option_and_then, nat_lt, is_none}
 use Rattle.std.specs.Option.{option_or}
 use Rattle.std.proofs.lemmas.Bool.Decides.{nat_tests}
 use Rattle.std.proofs.lemmas.Option.{same_Some}
-use Rattle.h5_model.specs.Messages.{Message, first_body}
-use Rattle.h5_model.specs.Fixed.{Fixed}
-use Rattle.h5_model.specs.Places.{cells, extent_cells}
-use Rattle.h5_model.specs.Extent.{Extent, extent_of}
-use Rattle.h5_model.specs.Datatype.{fixed_of}
-use Rattle.h5_model.specs.Fill.{fill_value, old_fill_value}
-use Rattle.h5_model.specs.Layout.{Layout, InMessage, InBlock, InChunks, layout_of}
-use Rattle.h5_model.specs.Reached.{extent_among, type_among, layout_among}
-use Rattle.h5_model.specs.Reads.{IsFill, IsChunkSmall}
-use Rattle.h5_model.specs.HeaderFaults.{SomeBody, IsBadFill, IsLarge, ListBreach}
+use Rattle.h5_model.specs.Format.Messages.{Message, first_body}
+use Rattle.h5_model.specs.Format.Fixed.{Fixed}
+use Rattle.h5_model.specs.Tree.Places.{cells, extent_cells}
+use Rattle.h5_model.specs.Format.Extent.{Extent, extent_of}
+use Rattle.h5_model.specs.Format.Datatype.{fixed_of}
+use Rattle.h5_model.specs.Format.Fill.{fill_value, old_fill_value}
+use Rattle.h5_model.specs.Format.Layout.{Layout, InMessage, InBlock, InChunks, layout_of}
+use Rattle.h5_model.specs.Format.Reached.{extent_among, type_among, layout_among}
+use Rattle.h5_model.specs.Format.Reads.{IsFill, IsChunkSmall}
+use Rattle.h5_model.specs.Faults.HeaderFaults.{SomeBody, IsBadFill, IsLarge, ListBreach}
 use Rattle.h5_model.specs.declared.open_fault.Cause.{Cause}
 use Rattle.h5_model.specs.declared.open_fault.Cause.TheVariants.{DataspaceForm, DatatypeForm, FillForm, LayoutForm, TooLarge}
 use Rattle.h5_header.specs.Kinds.{IsOfDataset}

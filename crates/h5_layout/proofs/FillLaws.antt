@@ -4,9 +4,9 @@ use Rattle.std.specs.Prelude.{nat_lt}
 use Rattle.std.proofs.lemmas.Bool.Decides.{nat_tests}
 use Rattle.std.proofs.lemmas.Nat.{pow_pos}
 use Rattle.std.proofs.lemmas.Option.{same_Some}
-use Rattle.h5_model.specs.Fixed.{Fixed, IsFixed, is_size, fixed_from, fits, value_at}
-use Rattle.h5_model.specs.Datatype.{fixed_of, is_fixed_point, type_size, is_signed, is_high_first}
-use Rattle.h5_model.specs.Fill.{sized_value, fill_value, old_fill_value}
+use Rattle.h5_model.specs.Format.Fixed.{Fixed, IsFixed, is_size, fixed_from, fits, value_at}
+use Rattle.h5_model.specs.Format.Datatype.{fixed_of, is_fixed_point, type_size, is_signed, is_high_first}
+use Rattle.h5_model.specs.Format.Fill.{sized_value, fill_value, old_fill_value}
 use Rattle.h5_model.proofs.StoredValues.{fits_value_at}
 
 -- the bytes are numbers below 256

@@ -2,8 +2,8 @@
 use Rattle.std.proofs.Common.{◌≡◌, ℕ, ◌+◌, List, [], ◌∷◌, true, false, cond, ◌==◌, IsTrue, refl, arith}
 use Rattle.std.proofs.lemmas.Bool.Decides.{nat_tests}
 use Rattle.std.specs.List.{AllByRecursion}
-use Rattle.h5_model.specs.Messages.{Message, count_of}
-use Rattle.h5_model.specs.Reads.{InDataset}
+use Rattle.h5_model.specs.Format.Messages.{Message, count_of}
+use Rattle.h5_model.specs.Format.Reads.{InDataset}
 use Rattle.h5_header.specs.Heads.{is_read}
 use Rattle.h5_header.specs.Listed.{message_in, messages_in}
 use Rattle.h5_header.specs.declared.message.Message.{Message as Placed}

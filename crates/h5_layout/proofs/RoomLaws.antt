@@ -9,16 +9,16 @@ use Rattle.std.proofs.lemmas.List.FromFn.{length-map-range_with_len, get_or-map-
 use Rattle.std.proofs.Math.Nat.{mul-le-mul_right}
 use Rattle.h5_bytes.specs.Bytes.{number_at, part}
 use Rattle.h5_bytes.specs.Blocks.{block}
-use Rattle.h5_model.specs.Places.{cells, extent_cells, index_of}
-use Rattle.h5_model.specs.Layout.{Layout, InMessage, InBlock, layout_of, compact_layout, contiguous_layout, chunked_layout, short_numbers_at}
-use Rattle.h5_model.specs.Chunks.{Chunks}
-use Rattle.h5_model.specs.Cells.{cell_of, value_in}
-use Rattle.h5_model.specs.Fixed.{Fixed}
+use Rattle.h5_model.specs.Tree.Places.{cells, extent_cells, index_of}
+use Rattle.h5_model.specs.Format.Layout.{Layout, InMessage, InBlock, layout_of, compact_layout, contiguous_layout, chunked_layout, short_numbers_at}
+use Rattle.h5_model.specs.Format.Chunks.{Chunks}
+use Rattle.h5_model.specs.Format.Cells.{cell_of, value_in}
+use Rattle.h5_model.specs.Format.Fixed.{Fixed}
 use Rattle.std.specs.Option.{option_map_or}
 use Rattle.h5_bytes.specs.declared.Block.{Block}
 use Rattle.h5_shape.proofs.Products.{cells_le}
 use Rattle.h5_model.proofs.PlaceLaws.{place-index}
-use Rattle.h5_model.specs.Messages.{Message}
+use Rattle.h5_model.specs.Format.Messages.{Message}
 use Rattle.h5_layout.specs.Described.{Described, HasArray, dataset_in}
 use Rattle.h5_header.proofs.FoundLaws.{among_some}
 use Rattle.h5_layout.proofs.BreachLaws.{small_chunk}

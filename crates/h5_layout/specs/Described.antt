@@ -1,16 +1,16 @@
 -- An array as the messages of its object header describe it (File Format Specification 3.0, section IV.A.2).
 use Rattle.std.specs.Prelude.{◌≡◌, ℕ, ◌^◌, ◌≤◌, ℤ, Option, Some, List, option_and_then}
-use Rattle.h5_model.specs.Messages.{Message, count_of, first_body}
-use Rattle.h5_model.specs.Fixed.{Fixed}
-use Rattle.h5_model.specs.Places.{extent_cells}
-use Rattle.h5_model.specs.Extent.{Extent, extent_of}
-use Rattle.h5_model.specs.Datatype.{fixed_of}
-use Rattle.h5_model.specs.Fill.{fill_value, old_fill_value, chosen_fill}
-use Rattle.h5_model.specs.Layout.{Layout, layout_of}
-use Rattle.h5_model.specs.Chunks.{Chunks}
-use Rattle.h5_model.specs.Cells.{cells_of}
-use Rattle.h5_model.specs.Tree.{Dataset}
-use Rattle.h5_model.specs.Reads.{IsFill, IsChunkSmall, storage_of}
+use Rattle.h5_model.specs.Format.Messages.{Message, count_of, first_body}
+use Rattle.h5_model.specs.Format.Fixed.{Fixed}
+use Rattle.h5_model.specs.Tree.Places.{extent_cells}
+use Rattle.h5_model.specs.Format.Extent.{Extent, extent_of}
+use Rattle.h5_model.specs.Format.Datatype.{fixed_of}
+use Rattle.h5_model.specs.Format.Fill.{fill_value, old_fill_value, chosen_fill}
+use Rattle.h5_model.specs.Format.Layout.{Layout, layout_of}
+use Rattle.h5_model.specs.Format.Chunks.{Chunks}
+use Rattle.h5_model.specs.Format.Cells.{cells_of}
+use Rattle.h5_model.specs.Tree.Objects.{Dataset}
+use Rattle.h5_model.specs.Format.Reads.{IsFill, IsChunkSmall, storage_of}
 
 -- an array without its stored chunks and its cells; a maximum of None is unlimited
 pub record Described : Type 0 where

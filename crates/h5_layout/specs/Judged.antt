@@ -2,13 +2,13 @@
 -- IV.A.2).
 use Rattle.std.specs.Prelude.{ℕ, ◌*◌, ◌^◌, ◌||◌, Bool, false, nat_lt, is_none, if◌then◌else◌, ℤ, Option, Some, None, List}
 use Rattle.std.specs.Option.{option_map_or, option_or}
-use Rattle.h5_model.specs.Messages.{Message, first_body}
-use Rattle.h5_model.specs.Fixed.{Fixed}
-use Rattle.h5_model.specs.Places.{cells, extent_cells}
-use Rattle.h5_model.specs.Extent.{Extent}
-use Rattle.h5_model.specs.Fill.{fill_value, old_fill_value}
-use Rattle.h5_model.specs.Layout.{Layout, InMessage, InBlock, InChunks}
-use Rattle.h5_model.specs.Reached.{extent_among, type_among, layout_among}
+use Rattle.h5_model.specs.Format.Messages.{Message, first_body}
+use Rattle.h5_model.specs.Format.Fixed.{Fixed}
+use Rattle.h5_model.specs.Tree.Places.{cells, extent_cells}
+use Rattle.h5_model.specs.Format.Extent.{Extent}
+use Rattle.h5_model.specs.Format.Fill.{fill_value, old_fill_value}
+use Rattle.h5_model.specs.Format.Layout.{Layout, InMessage, InBlock, InChunks}
+use Rattle.h5_model.specs.Format.Reached.{extent_among, type_among, layout_among}
 use Rattle.h5_model.specs.declared.open_fault.Cause.{Cause}
 use Rattle.h5_model.specs.declared.open_fault.Cause.TheVariants.{DataspaceForm, DatatypeForm, FillForm, LayoutForm, TooLarge}
 

@@ -1,7 +1,7 @@
 -- Where the cells of an array stand, by its layout (File Format Specification 3.0, section IV.A.2.i).
 use Rattle.std.specs.Prelude.{◌≡◌, ℕ, ◌+◌, ◌*◌, ◌^◌, ◌≤◌, ◌==◌, Bool, true, false, nat_le, None, Some, List, length}
-use Rattle.h5_model.specs.Places.{cells, extent_cells}
-use Rattle.h5_model.specs.Layout.{Layout, InMessage, InBlock, InChunks}
+use Rattle.h5_model.specs.Tree.Places.{cells, extent_cells}
+use Rattle.h5_model.specs.Format.Layout.{Layout, InMessage, InBlock, InChunks}
 use Rattle.h5_layout.specs.Described.{Described}
 use Rattle.h5_layout.specs.Judged.{is_chunk_large}
 

@@ -4,10 +4,10 @@ ghost use Rattle.std.specs.Prelude.{◌≡◌, ◌+◌, ◌*◌, ◌<◌, ◌≤
 ghost use Rattle.std.specs.FinMap.{empty};
 ghost use Rattle.std.specs.Option.{ForSome, option_map_or};
 ghost use Rattle.h5_bytes.specs.Bytes.{part};
-ghost use Rattle.h5_model.specs.Fixed.{fits};
-ghost use Rattle.h5_model.specs.Places.{cells as cells_of, IsInside};
-ghost use Rattle.h5_model.specs.Cells.{value_in as value_at_place};
-ghost use Rattle.h5_model.specs.Reading.{cell_at};
+ghost use Rattle.h5_model.specs.Format.Fixed.{fits};
+ghost use Rattle.h5_model.specs.Tree.Places.{cells as cells_of, IsInside};
+ghost use Rattle.h5_model.specs.Format.Cells.{value_in as value_at_place};
+ghost use Rattle.h5_model.specs.Scripts.Reading.{cell_at};
 ghost use Rattle.h5_msg.specs.Layouts.{layout_in};
 ghost use Rattle.h5_layout.specs.Described.{dataset_in};
 ghost use Rattle.h5_layout.specs.Stored.{IsArray, IsUnchunked};
@@ -33,7 +33,7 @@ pub struct ArrayRef<'a> {
 
 impl<'a> Model for ArrayRef<'a> {
     ghost use Rattle.std.specs.Prelude.{◌≡◌, true};
-    ghost use Rattle.h5_model.specs.Fixed.{fits};
+    ghost use Rattle.h5_model.specs.Format.Fixed.{fits};
     ghost use Rattle.h5_msg.specs.Layouts.{layout_in};
     ghost use Rattle.h5_layout.specs.Described.{Described, array_of};
     ghost use Rattle.h5_layout.specs.Stored.{IsArray};

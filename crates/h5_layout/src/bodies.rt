@@ -1,7 +1,7 @@
 //! The bodies of messages of which a header has one.
 
 ghost use Rattle.std.specs.Prelude.{◌≡◌, Some, length};
-ghost use Rattle.h5_model.specs.Messages.{count_of, first_body};
+ghost use Rattle.h5_model.specs.Format.Messages.{count_of, first_body};
 ghost use Rattle.h5_header.specs.Listed.{messages_in, IsWithin};
 
 use h5_header::{Messages, find_body};

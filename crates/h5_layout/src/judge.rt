@@ -2,13 +2,13 @@
 
 ghost use Rattle.std.specs.Prelude.{◌≡◌, ◌≤◌, ◌^◌, Some, IfOk, IfErr, IfSome, MatchResult, ok_or, false, true};
 ghost use Rattle.std.specs.Option.{option_copied};
-ghost use Rattle.h5_model.specs.Places.{extent_cells};
-ghost use Rattle.h5_model.specs.Extent.{extent_of};
-ghost use Rattle.h5_model.specs.Datatype.{fixed_of};
-ghost use Rattle.h5_model.specs.Fixed.{IsFixed, fits};
-ghost use Rattle.h5_model.specs.Fill.{fill_value, old_fill_value};
-ghost use Rattle.h5_model.specs.Layout.{layout_of};
-ghost use Rattle.h5_model.specs.Reads.{IsFill};
+ghost use Rattle.h5_model.specs.Tree.Places.{extent_cells};
+ghost use Rattle.h5_model.specs.Format.Extent.{extent_of};
+ghost use Rattle.h5_model.specs.Format.Datatype.{fixed_of};
+ghost use Rattle.h5_model.specs.Format.Fixed.{IsFixed, fits};
+ghost use Rattle.h5_model.specs.Format.Fill.{fill_value, old_fill_value};
+ghost use Rattle.h5_model.specs.Format.Layout.{layout_of};
+ghost use Rattle.h5_model.specs.Format.Reads.{IsFill};
 ghost use Rattle.h5_msg.specs.Layouts.{layout_in};
 ghost use Rattle.h5_layout.specs.Judged.{is_bad, is_chunk_large as is_large, layout_breach, space_breach};
 

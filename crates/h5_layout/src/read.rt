@@ -1,8 +1,8 @@
 //! The reading of a dataset's header (File Format Specification 3.0, section IV.A.2).
 
 ghost use Rattle.std.specs.Prelude.{◌≡◌, Ok, Some, true, length, IfOk, IfErr};
-ghost use Rattle.h5_model.specs.Fixed.{IsFixed, fits};
-ghost use Rattle.h5_model.specs.HeaderFaults.{ListBreach};
+ghost use Rattle.h5_model.specs.Format.Fixed.{IsFixed, fits};
+ghost use Rattle.h5_model.specs.Faults.HeaderFaults.{ListBreach};
 ghost use Rattle.h5_header.specs.Kinds.{IsOfDataset};
 ghost use Rattle.h5_header.specs.Listed.{messages_in, IsWithin};
 ghost use Rattle.h5_layout.specs.Described.{Described, HasArray, HasFill};

@@ -1,14 +1,14 @@
 -- Answers that the tree leaves open, how lines count, and the objects that edits touch and name, by computation.
 use Rattle.std.proofs.Common.{◌≡◌, ℕ, [], ◌∷◌, refl, false, Some, None, pos, codes}
 use Rattle.std.specs.Fmt.{digits}
-use Rattle.h5_model.specs.Tree.{Tree, ToObject, Soft, Compact, within_names}
-use Rattle.h5_model.specs.Paths.{names_of}
-use Rattle.h5_model.specs.Edits.{applied, named_object}
-use Rattle.h5_model.specs.Refusal.{refusal_of}
-use Rattle.h5_model.specs.Touched.{touched_by}
-use Rattle.h5_model.specs.States.{Session}
-use Rattle.h5_model.specs.Lines.{Change, OpenView, Show, ListAll, Repack, Unread}
-use Rattle.h5_model.specs.Script.{Refused, Accepted, Told, answer_of, outcomes_of, is_given}
+use Rattle.h5_model.specs.Tree.Objects.{Tree, ToObject, Soft, Compact, within_names}
+use Rattle.h5_model.specs.Tree.Paths.{names_of}
+use Rattle.h5_model.specs.Edits.Applied.{applied, named_object}
+use Rattle.h5_model.specs.Edits.Refusal.{refusal_of}
+use Rattle.h5_model.specs.Edits.Touched.{touched_by}
+use Rattle.h5_model.specs.Scripts.Sessions.{Session}
+use Rattle.h5_model.specs.Scripts.Lines.{Change, OpenView, Show, ListAll, Repack, Unread}
+use Rattle.h5_model.specs.Scripts.Answers.{Refused, Accepted, Told, answer_of, outcomes_of, is_given}
 use Rattle.h5_model.specs.declared.edits.Edit.TheVariants.{CreateGroup, HardLink, SoftLink, Unlink, Write}
 use Rattle.h5_model.specs.declared.hyperslab.Hyper.{Hyper}
 use Rattle.h5_model.specs.declared.edit_fault.EditFault.TheVariants as fault

@@ -6,10 +6,10 @@ use Rattle.std.proofs.lemmas.Bool.Decides.{nat_tests}
 use Rattle.std.specs.Ordering.{nat_cmp}
 use Rattle.std.specs.FinMap.{FinMap}
 use Rattle.h5_bytes.specs.Bytes.{number_at, byte_at}
-use Rattle.h5_model.specs.Superblock.{IsSuperblock, end_of_file}
-use Rattle.h5_model.specs.Tree.{Tree}
-use Rattle.h5_model.specs.Reads.{Reads}
-use Rattle.h5_model.specs.Faults.{cut, FieldBreach, StartBreach, SuperblockBreach}
+use Rattle.h5_model.specs.Format.Superblock.{IsSuperblock, end_of_file}
+use Rattle.h5_model.specs.Tree.Objects.{Tree}
+use Rattle.h5_model.specs.Format.Reads.{Reads}
+use Rattle.h5_model.specs.Faults.Breaches.{cut, FieldBreach, StartBreach, SuperblockBreach}
 use Rattle.h5_model.specs.declared.open_fault.Cause.{Cause}
 use Rattle.h5_model.specs.declared.open_fault.Cause.TheVariants.{NotHdf5, Truncated, SuperblockVersion, FieldSizes, BaseAddress, Driver, KRange, TooLarge}
 use Rattle.h5_model.proofs.CutLaws.{cut_part, cut_byte, cut_number, cut_end}

@@ -3,8 +3,8 @@ use Rattle.std.proofs.Common.{◌≡◌, ℕ, ◌+◌, ◌<◌, ◌≤◌, List,
 use Rattle.std.proofs.lemmas.List.{get_or-take, same_lists, places}
 use Rattle.h5_bytes.specs.Bytes.{number_at, byte_at, part}
 use Rattle.h5_bytes.proofs.FieldLaws.{number_at-part}
-use Rattle.h5_model.specs.Superblock.{end_of_file}
-use Rattle.h5_model.specs.Faults.{cut}
+use Rattle.h5_model.specs.Format.Superblock.{end_of_file}
+use Rattle.h5_model.specs.Faults.Breaches.{cut}
 
 module _ (bytes : List ℕ) (ends : 96 ≤ end_of_file bytes) (long : 96 ≤ length bytes) where
   pub cut_part : (at len : ℕ) → at + len ≤ 96 → part at len (cut bytes) ≡ part at len bytes

@@ -1,16 +1,16 @@
 -- Worked examples, by computation.
 use Rattle.std.proofs.Common.{◌≡◌, ℕ, List, [], ◌∷◌, refl, Bool, true, false, Some, None, pos, negsuc, length, replicate}
-use Rattle.h5_model.specs.Fixed.{Fixed, value_at, value_of, raw_at, bytes_of, fits}
-use Rattle.h5_model.specs.Places.{place_of, is_inside}
-use Rattle.h5_model.specs.Selection.{Slab, selection_of, selected_cells, is_within, is_one_run, is_selected}
-use Rattle.h5_model.specs.Grid.{corner_of, inner_of}
-use Rattle.h5_model.specs.Views.{met_boxes, is_lent}
-use Rattle.h5_model.specs.Tree.{Dataset, Storage, Compact, Contiguous, Chunked}
-use Rattle.h5_model.specs.Extent.{extent_of, maximum_fits}
-use Rattle.h5_model.specs.Datatype.{fixed_of}
-use Rattle.h5_model.specs.Fill.{fill_value}
-use Rattle.h5_model.specs.Layout.{layout_of, InBlock}
-use Rattle.h5_model.specs.AttributeBody.{attribute_of}
+use Rattle.h5_model.specs.Format.Fixed.{Fixed, value_at, value_of, raw_at, bytes_of, fits}
+use Rattle.h5_model.specs.Tree.Places.{place_of, is_inside}
+use Rattle.h5_model.specs.Views.Selection.{Slab, selection_of, selected_cells, is_within, is_one_run, is_selected}
+use Rattle.h5_model.specs.Tree.Grid.{corner_of, inner_of}
+use Rattle.h5_model.specs.Views.Shown.{met_boxes, is_lent}
+use Rattle.h5_model.specs.Tree.Objects.{Dataset, Storage, Compact, Contiguous, Chunked}
+use Rattle.h5_model.specs.Format.Extent.{extent_of, maximum_fits}
+use Rattle.h5_model.specs.Format.Datatype.{fixed_of}
+use Rattle.h5_model.specs.Format.Fill.{fill_value}
+use Rattle.h5_model.specs.Format.Layout.{layout_of, InBlock}
+use Rattle.h5_model.specs.Format.AttributeBody.{attribute_of}
 use Rattle.h5_bytes.specs.Blocks.{block}
 use Rattle.h5_bytes.specs.Bytes.{number_at}
 use Rattle.std.specs.List.{flat_map}

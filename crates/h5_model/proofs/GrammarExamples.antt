@@ -1,7 +1,7 @@
 -- How lines of a script are read, by computation.
 use Rattle.std.proofs.Common.{◌≡◌, [], ◌∷◌, refl, true, false, Some, None, pos, negsuc, codes}
 use Rattle.std.specs.Fmt.{digits}
-use Rattle.h5_model.specs.Lines.{Change, OpenView, Show, Close, ListAll, Dump, Repack, Unread, u64_from, u32_from, value_from, list_from, size_from, store_from, unescaped, type_from, line_asks, commands_of, finished}
+use Rattle.h5_model.specs.Scripts.Lines.{Change, OpenView, Show, Close, ListAll, Dump, Repack, Unread, u64_from, u32_from, value_from, list_from, size_from, store_from, unescaped, type_from, line_asks, commands_of, finished}
 use Rattle.h5_model.specs.declared.dataset.Store.TheVariants as store
 use Rattle.h5_model.specs.declared.edits.Edit.TheVariants.{CreateGroup, SoftLink, Resize}
 

@@ -1,7 +1,7 @@
 -- A root is that of one tree at most.
 use Rattle.std.proofs.Common.{◌≡◌, ℕ, List, [], ◌∷◌, sym, ap, ◌∙◌, subst}
-use Rattle.h5_model.specs.Rows.{Node, blank, leaves, nodes}
-use Rattle.h5_model.specs.Nodes.{Kind, HasTree, node_at, reading_of}
+use Rattle.h5_model.specs.Format.Rows.{Node, blank, leaves, nodes}
+use Rattle.h5_model.specs.Format.Nodes.{Kind, HasTree, node_at, reading_of}
 use Rattle.h5_model.proofs.RowLaws.{Agree, only_here, nodes-same, leaves-same, root_level, root_agrees}
 
 module _ (image : List ℕ) (kind : Kind) (root level : ℕ) (owned children : List ℕ) (has : HasTree image kind root level owned children) where

@@ -2,12 +2,12 @@
 use Rattle.std.proofs.Common.{◌≡◌, ℕ, List, [], ◌∷◌, length, refl, ap, Some, None, Option, true, false, is_none, is_some, Bool, cond, nat_lt}
 use Rattle.std.specs.Option.{option_map_or, option_and_then}
 use Rattle.std.specs.FinMap.{get}
-use Rattle.h5_model.specs.Tree.{Tree, Link, ToObject, Soft, follow, links_of}
-use Rattle.h5_model.specs.Paths.{names_of, locate, located, Located, Here, Missing, NoParent, NoGroup, NoPath, missing_before, parent_from}
+use Rattle.h5_model.specs.Tree.Objects.{Tree, Link, ToObject, Soft, follow, links_of}
+use Rattle.h5_model.specs.Tree.Paths.{names_of, locate, located, Located, Here, Missing, NoParent, NoGroup, NoPath, missing_before, parent_from}
 use Rattle.h5_model.specs.declared.edit_fault.EditFault.{EditFault}
 use Rattle.h5_model.specs.declared.edit_fault.EditFault.TheVariants as fault
-use Rattle.h5_model.specs.Refusal.{first_holding, is_deep, has_no_parent, has_no_group, is_missing}
-use Rattle.h5_model.specs.Reading.{path_rules}
+use Rattle.h5_model.specs.Edits.Refusal.{first_holding, is_deep, has_no_parent, has_no_group, is_missing}
+use Rattle.h5_model.specs.Scripts.Reading.{path_rules}
 
 abbrev pub found : Located → Option Link
 found (Here link) = Some link

@@ -8,9 +8,9 @@ use Rattle.h5_bytes.specs.Bytes.{number_at, byte_at, part}
 use Rattle.h5_bytes.specs.Blocks.{block}
 use Rattle.h5_bytes.proofs.PartLaws.{part-part, part-appended}
 use Rattle.h5_bytes.proofs.FieldLaws.{number_at-part}
-use Rattle.h5_model.specs.Messages.{Message, IsMessage, Fills, FillBlocks, HasMessages, continuations, prefix_at, reference_count, first_size, total_in, IsContinued}
+use Rattle.h5_model.specs.Format.Messages.{Message, IsMessage, Fills, FillBlocks, HasMessages, continuations, prefix_at, reference_count, first_size, total_in, IsContinued}
 use Rattle.h5_bytes.specs.Numbers.{short, zeros}
-use Rattle.h5_model.specs.Plain.{message_bytes, messages_bytes, header_bytes}
+use Rattle.h5_model.specs.Format.Plain.{message_bytes, messages_bytes, header_bytes}
 
 -- ---- bytes one after another
 

@@ -8,17 +8,17 @@ use Rattle.byteorder.specs.Numbers.{little_number-reads_back}
 use Rattle.h5_bytes.specs.Bytes.{number_at, part, undefined}
 use Rattle.h5_bytes.specs.Blocks.{block}
 use Rattle.h5_bytes.specs.declared.Block.{Block}
-use Rattle.h5_model.specs.Fixed.{Fixed, IsFixed, value_at, fits, bytes_of}
-use Rattle.h5_model.specs.Places.{cells, place_of, index_of}
-use Rattle.h5_model.specs.Extent.{Extent, extent_of}
-use Rattle.h5_model.specs.Datatype.{fixed_of}
-use Rattle.h5_model.specs.Fill.{fill_value}
-use Rattle.h5_model.specs.Layout.{InBlock, layout_of}
-use Rattle.h5_model.specs.Chunks.{Chunks}
-use Rattle.h5_model.specs.Cells.{cells_of}
-use Rattle.h5_model.specs.Sound.{AreOf}
+use Rattle.h5_model.specs.Format.Fixed.{Fixed, IsFixed, value_at, fits, bytes_of}
+use Rattle.h5_model.specs.Tree.Places.{cells, place_of, index_of}
+use Rattle.h5_model.specs.Format.Extent.{Extent, extent_of}
+use Rattle.h5_model.specs.Format.Datatype.{fixed_of}
+use Rattle.h5_model.specs.Format.Fill.{fill_value}
+use Rattle.h5_model.specs.Format.Layout.{InBlock, layout_of}
+use Rattle.h5_model.specs.Format.Chunks.{Chunks}
+use Rattle.h5_model.specs.Format.Cells.{cells_of}
+use Rattle.h5_model.specs.Tree.Sound.{AreOf}
 use Rattle.h5_bytes.specs.Numbers.{zeros, middle}
-use Rattle.h5_model.specs.Plain.{extent_body, type_body, fill_body, contiguous_body, cells_bytes}
+use Rattle.h5_model.specs.Format.Plain.{extent_body, type_body, fill_body, contiguous_body, cells_bytes}
 use Rattle.h5_model.proofs.ValueLaws.{value_at-moved, moved-behind}
 use Rattle.h5_model.proofs.FixedLaws.{sizes_of, length-bytes_of, value_back}
 use Rattle.h5_model.proofs.PlaceLaws.{place-index}

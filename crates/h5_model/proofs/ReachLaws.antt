@@ -12,7 +12,7 @@ use Rattle.std.specs.List.{list_any, flat_map, filter_map}
 use Rattle.std.specs.Option.{option_map_or, option_and_then}
 use Rattle.std.proofs.lemmas.List.Folds.{list_any-append}
 use Rattle.std.proofs.lemmas.List.Concat.{flat_map-cons}
-use Rattle.h5_model.specs.Tree.{Tree, Link, ToObject, Soft, Links, links_of, follow, object_of, named_by, within_names, is_reached}
+use Rattle.h5_model.specs.Tree.Objects.{Tree, Link, ToObject, Soft, Links, links_of, follow, object_of, named_by, within_names, is_reached}
 use Rattle.h5_model.proofs.RowLaws.{same_number, equal_number, later_of}
 
 -- ---- entries and look-ups

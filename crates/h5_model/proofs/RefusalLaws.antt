@@ -3,14 +3,14 @@ use Rattle.std.proofs.Common.{◌≡◌, ℕ, Bool, true, false, cond, List, [],
 use Rattle.std.specs.List.{AllByRecursion, list_any, list_all}
 use Rattle.std.specs.Option.{option_map_or}
 use Rattle.std.proofs.lemmas.Bool.Decides.{nat_tests}
-use Rattle.h5_model.specs.Fixed.{fits}
-use Rattle.h5_model.specs.Tree.{Tree, Dataset}
-use Rattle.h5_model.specs.Paths.{names_of, located, Located, Here, Missing, NoParent, NoGroup, NoPath, dataset_at}
-use Rattle.h5_model.specs.Selection.{Slab, axes_of, axes_from, has_rank, is_within, overlaps, selection_of, selected_cells}
-use Rattle.h5_model.specs.Refusal.{first_holding, rules_of, refusal_of, has_many_objects, has_no_parent, has_no_group, is_missing, is_here}
-use Rattle.h5_model.specs.Edits.{State, state_after}
-use Rattle.h5_model.specs.ImageAnswers.{chosen, after_edits}
-use Rattle.h5_model.specs.States.{IsState}
+use Rattle.h5_model.specs.Format.Fixed.{fits}
+use Rattle.h5_model.specs.Tree.Objects.{Tree, Dataset}
+use Rattle.h5_model.specs.Tree.Paths.{names_of, located, Located, Here, Missing, NoParent, NoGroup, NoPath, dataset_at}
+use Rattle.h5_model.specs.Views.Selection.{Slab, axes_of, axes_from, has_rank, is_within, overlaps, selection_of, selected_cells}
+use Rattle.h5_model.specs.Edits.Refusal.{first_holding, rules_of, refusal_of, has_many_objects, has_no_parent, has_no_group, is_missing, is_here}
+use Rattle.h5_model.specs.Edits.Applied.{State, state_after}
+use Rattle.h5_model.specs.Edits.ImageAnswers.{chosen, after_edits}
+use Rattle.h5_model.specs.Scripts.Sessions.{IsState}
 use Rattle.h5_model.specs.declared.hyperslab.Hyper.{Hyper}
 use Rattle.h5_model.specs.declared.edits.Edit.{Edit}
 use Rattle.h5_model.specs.declared.edits.Edit.TheVariants.{Write}

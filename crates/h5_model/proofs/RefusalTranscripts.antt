@@ -1,16 +1,16 @@
 -- Transcripts of scripts, from their bytes: each refusal by its number and name.
 use Rattle.std.proofs.Common.{[], ◌∷◌, refl, true, Some, None, pos, negsuc, codes}
 use Rattle.std.specs.Fmt.{digits}
-use Rattle.h5_model.specs.Fixed.{value_at, raw_at, bytes_of}
-use Rattle.h5_model.specs.Tree.{ToObject, Contiguous, Chunked, within_names, is_reached}
-use Rattle.h5_model.specs.Paths.{names_of}
-use Rattle.h5_model.specs.Edits.{applied}
-use Rattle.h5_model.specs.Refusal.{refusal_of}
-use Rattle.h5_model.specs.Selection.{selection_of}
-use Rattle.h5_model.specs.Views.{met_boxes}
-use Rattle.h5_model.specs.States.{Session}
-use Rattle.h5_model.specs.Lines.{unescaped, type_from, line_asks}
-use Rattle.h5_model.specs.Text.{lines_below}
+use Rattle.h5_model.specs.Format.Fixed.{value_at, raw_at, bytes_of}
+use Rattle.h5_model.specs.Tree.Objects.{ToObject, Contiguous, Chunked, within_names, is_reached}
+use Rattle.h5_model.specs.Tree.Paths.{names_of}
+use Rattle.h5_model.specs.Edits.Applied.{applied}
+use Rattle.h5_model.specs.Edits.Refusal.{refusal_of}
+use Rattle.h5_model.specs.Views.Selection.{selection_of}
+use Rattle.h5_model.specs.Views.Shown.{met_boxes}
+use Rattle.h5_model.specs.Scripts.Sessions.{Session}
+use Rattle.h5_model.specs.Scripts.Lines.{unescaped, type_from, line_asks}
+use Rattle.h5_model.specs.Scripts.Text.{lines_below}
 use Rattle.h5_model.proofs.MapSteps.{known}
 use Rattle.h5_model.proofs.Sessions.{session_of, group_at, array_at, row_of, u8, i32le, TwoLines}
 

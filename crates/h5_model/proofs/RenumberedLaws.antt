@@ -1,8 +1,8 @@
 -- A tree differs from itself in no number.
 use Rattle.std.proofs.Common.{◌≡◌, ℕ, List, [], ◌∷◌, map, refl, sym}
 use Rattle.std.specs.FinMap.{entries}
-use Rattle.h5_model.specs.Tree.{Tree, Link, ToObject, Soft, Content, Group, Array}
-use Rattle.h5_model.specs.Renumbered.{renumbered, IsRenumbered, DifferInNumbers}
+use Rattle.h5_model.specs.Tree.Objects.{Tree, Link, ToObject, Soft, Content, Group, Array}
+use Rattle.h5_model.specs.Tree.Renumbered.{renumbered, IsRenumbered, DifferInNumbers}
 
 same_link : (link : Link) → renumbered (λ n. n) link ≡ link
 same_link (ToObject number) = refl

@@ -5,7 +5,7 @@ use Rattle.std.specs.List.{AllByRecursion, list_any}
 use Rattle.std.proofs.lemmas.Bool.Decides.{nat_tests}
 use Rattle.h5_bytes.specs.Bytes.{undefined}
 use Rattle.h5_bytes.proofs.BlockLaws.{all_left, all_right}
-use Rattle.h5_model.specs.Rows.{Reading, only, next_row, IsRow, AreRows, row_below, leaves, nodes}
+use Rattle.h5_model.specs.Format.Rows.{Reading, only, next_row, IsRow, AreRows, row_below, leaves, nodes}
 
 -- ---- readings of some addresses alone
 

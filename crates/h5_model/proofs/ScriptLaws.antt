@@ -1,8 +1,8 @@
 -- A script's answers, piece by piece.
 use Rattle.std.proofs.Common.{◌≡◌, List, [], ◌∷◌, ◌++◌, refl, sym, ◌∙◌, ap, append_assoc, length, arith}
-use Rattle.h5_model.specs.States.{Session}
-use Rattle.h5_model.specs.Lines.{Command}
-use Rattle.h5_model.specs.Script.{Given, answer_of, transcript_of, session_after, outcomes_of}
+use Rattle.h5_model.specs.Scripts.Sessions.{Session}
+use Rattle.h5_model.specs.Scripts.Lines.{Command}
+use Rattle.h5_model.specs.Scripts.Answers.{Given, answer_of, transcript_of, session_after, outcomes_of}
 
 -- the answers to lines and more lines are those to the first, and then those to the others in the session that the first lead to
 pub transcript_of-append : (s : Session) (first others : List (Command × Given))

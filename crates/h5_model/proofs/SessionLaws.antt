@@ -6,18 +6,18 @@ use Rattle.std.specs.Cmp.{nat_cmp_total}
 use Rattle.std.specs.declared.cmp.Ordering.TheVariants.{Equal}
 use Rattle.std.specs.FinMap.{get, insert, remove, empty, len, contains_key, get-insert, get-remove, get-retain_keys, len-insert, len-remove, len-empty, get-empty, nat_cmp-IsAntisymmetric}
 use Rattle.std.specs.Option.{option_map_or, option_and_then}
-use Rattle.h5_model.specs.Tree.{Tree, Link, ToObject, Soft, Links, Object, Group, Array, Dataset, dataset_in, dataset_of, with_object, only_reached, is_reached}
-use Rattle.h5_model.specs.Paths.{names_of, located, parent_at, object_at, dataset_at}
-use Rattle.h5_model.specs.Selection.{Slab, axes_of, has_rank}
-use Rattle.h5_model.specs.Edits.{State, state_after, applied, linked, unlinked, linked_to, with_links, with_dataset, with_attributes, with_object_at, new_object, new_dataset, attribute_from, written, resized}
-use Rattle.h5_model.specs.Refusal.{refusal_of, rules_of, first_holding, is_here}
-use Rattle.h5_model.specs.Reading.{path_rules, selection_rules}
-use Rattle.h5_model.specs.ImageAnswers.{chosen}
-use Rattle.h5_model.specs.ViewFaults.{view_fault_text}
-use Rattle.h5_model.specs.Lines.{Command, Change, OpenView, Show, Close, ListAll, Dump, Repack, Unread}
-use Rattle.h5_model.specs.Script.{Given, Refused, Told, answered, edit_decided, view_decided, view_answer, show_told, told_unless, dumped, opened, has_many_views, answer_of, session_after}
-use Rattle.h5_model.specs.Views.{View, shows}
-use Rattle.h5_model.specs.States.{Session, new_session, IsState, IsView, IsSession}
+use Rattle.h5_model.specs.Tree.Objects.{Tree, Link, ToObject, Soft, Links, Object, Group, Array, Dataset, dataset_in, dataset_of, with_object, only_reached, is_reached}
+use Rattle.h5_model.specs.Tree.Paths.{names_of, located, parent_at, object_at, dataset_at}
+use Rattle.h5_model.specs.Views.Selection.{Slab, axes_of, has_rank}
+use Rattle.h5_model.specs.Edits.Applied.{State, state_after, applied, linked, unlinked, linked_to, with_links, with_dataset, with_attributes, with_object_at, new_object, new_dataset, attribute_from, written, resized}
+use Rattle.h5_model.specs.Edits.Refusal.{refusal_of, rules_of, first_holding, is_here}
+use Rattle.h5_model.specs.Scripts.Reading.{path_rules, selection_rules}
+use Rattle.h5_model.specs.Edits.ImageAnswers.{chosen}
+use Rattle.h5_model.specs.Views.ViewFaults.{view_fault_text}
+use Rattle.h5_model.specs.Scripts.Lines.{Command, Change, OpenView, Show, Close, ListAll, Dump, Repack, Unread}
+use Rattle.h5_model.specs.Scripts.Answers.{Given, Refused, Told, answered, edit_decided, view_decided, view_answer, show_told, told_unless, dumped, opened, has_many_views, answer_of, session_after}
+use Rattle.h5_model.specs.Views.Shown.{View, shows}
+use Rattle.h5_model.specs.Scripts.Sessions.{Session, new_session, IsState, IsView, IsSession}
 use Rattle.std.specs.Fmt.{decimal}
 use Rattle.h5_model.specs.declared.hyperslab.Hyper.{Hyper}
 use Rattle.h5_model.specs.declared.view_fault.ViewFault.TheVariants as view_fault

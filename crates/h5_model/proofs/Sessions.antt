@@ -2,12 +2,12 @@
 use Rattle.std.proofs.Common.{◌≡◌, ℕ, List, [], ◌∷◌, true, false, Some, None, ℤ, pos}
 use Rattle.std.specs.Prelude.{unwrap_or}
 use Rattle.std.specs.FinMap.{from_sorted}
-use Rattle.h5_model.specs.Fixed.{Fixed}
-use Rattle.h5_model.specs.Tree.{Link, Object, Content, Group, Array, Dataset, Storage}
-use Rattle.h5_model.specs.Views.{View}
-use Rattle.h5_model.specs.States.{Session}
-use Rattle.h5_model.specs.Lines.{line_asks, Command, Unread}
-use Rattle.h5_model.specs.Script.{Answer, answer_of}
+use Rattle.h5_model.specs.Format.Fixed.{Fixed}
+use Rattle.h5_model.specs.Tree.Objects.{Link, Object, Content, Group, Array, Dataset, Storage}
+use Rattle.h5_model.specs.Views.Shown.{View}
+use Rattle.h5_model.specs.Scripts.Sessions.{Session}
+use Rattle.h5_model.specs.Scripts.Lines.{line_asks, Command, Unread}
+use Rattle.h5_model.specs.Scripts.Answers.{Answer, answer_of}
 
 -- a session whose tree and views have these entries
 abbrev pub session_of : List (ℕ × Object) → ℕ → List (ℕ × View) → ℕ → Session

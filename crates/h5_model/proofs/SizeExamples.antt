@@ -1,14 +1,14 @@
 -- Lengths of images and bounds of edits, by computation.
 use Rattle.std.proofs.Common.{◌≡◌, ℕ, [], ◌∷◌, refl, true, false, Some, pos, negsuc, codes}
 use Rattle.std.specs.FinMap.{from_sorted}
-use Rattle.h5_model.specs.Tree.{ToObject, Group, Array, Contiguous}
-use Rattle.h5_model.specs.Paths.{names_of}
-use Rattle.h5_model.specs.Sizes.{attribute_size, header_size}
-use Rattle.h5_model.specs.PlainLength.{plain_length, nodes_over}
-use Rattle.h5_model.specs.Bounds.{Room, bound_of, new_header}
-use Rattle.h5_model.specs.ImageAnswers.{Facts, is_image_full, is_header_full}
-use Rattle.h5_model.specs.Edits.{new_object, new_dataset}
-use Rattle.h5_model.specs.States.{Session}
+use Rattle.h5_model.specs.Tree.Objects.{ToObject, Group, Array, Contiguous}
+use Rattle.h5_model.specs.Tree.Paths.{names_of}
+use Rattle.h5_model.specs.Format.Sizes.{attribute_size, header_size}
+use Rattle.h5_model.specs.Format.PlainLength.{plain_length, nodes_over}
+use Rattle.h5_model.specs.Edits.Bounds.{Room, bound_of, new_header}
+use Rattle.h5_model.specs.Edits.ImageAnswers.{Facts, is_image_full, is_header_full}
+use Rattle.h5_model.specs.Edits.Applied.{new_object, new_dataset}
+use Rattle.h5_model.specs.Scripts.Sessions.{Session}
 use Rattle.h5_model.specs.declared.dataset.Spec.{Spec}
 use Rattle.h5_model.specs.declared.dataset.Store.TheVariants as store
 use Rattle.h5_model.specs.declared.edits.Edit.TheVariants.{CreateGroup, CreateDataset, SetAttr, Resize}

@@ -1,15 +1,15 @@
 -- What a writer counts is what a reader finds.
 use Rattle.std.proofs.Common.{◌≡◌, ℕ, ◌+◌, ◌*◌, ◌≤◌, Bool, true, false, cond, nat_le, Option, Some, None, List, length, refl, arith}
-use Rattle.h5_model.specs.Places.{cells}
-use Rattle.h5_model.specs.Tree.{Array, Compact, Contiguous, Chunked}
-use Rattle.h5_model.specs.Layout.{Layout, compact_layout, contiguous_layout, chunked_layout}
+use Rattle.h5_model.specs.Tree.Places.{cells}
+use Rattle.h5_model.specs.Tree.Objects.{Array, Compact, Contiguous, Chunked}
+use Rattle.h5_model.specs.Format.Layout.{Layout, compact_layout, contiguous_layout, chunked_layout}
 use Rattle.h5_bytes.specs.Bytes.{number_at}
 use Rattle.std.proofs.lemmas.Bool.Decides.{nat_tests}
 use Rattle.h5_model.proofs.WithinLaws.{both}
-use Rattle.h5_model.specs.AttributeBody as body
-use Rattle.h5_model.specs.Sizes.{attribute_size, dataspace_length, header_size, layout_size}
-use Rattle.h5_model.specs.Bounds.{new_header}
-use Rattle.h5_model.specs.Edits.{new_object, new_dataset}
+use Rattle.h5_model.specs.Format.AttributeBody as body
+use Rattle.h5_model.specs.Format.Sizes.{attribute_size, dataspace_length, header_size, layout_size}
+use Rattle.h5_model.specs.Edits.Bounds.{new_header}
+use Rattle.h5_model.specs.Edits.Applied.{new_object, new_dataset}
 use Rattle.h5_model.specs.declared.dataset.Spec.{Spec}
 use Rattle.h5_model.proofs.MapSteps.{known}
 

@@ -6,12 +6,12 @@ use Rattle.std.specs.Cmp.{nat_cmp_total}
 use Rattle.std.specs.declared.cmp.Ordering.TheVariants.{Less, Equal, Greater}
 use Rattle.std.specs.FinMap.{get, insert, remove, empty, get-insert, get_tied, get-retain_keys, nat_cmp-IsAntisymmetric}
 use Rattle.std.specs.Option.{option_map_or, option_and_then}
-use Rattle.h5_model.specs.Tree.{Tree, Link, ToObject, Soft, Links, Object, Group, Array, Dataset, links_in, with_object, only_reached, is_reached, within_names}
-use Rattle.h5_model.specs.Paths.{parent_at, object_at}
-use Rattle.h5_model.specs.Edits.{State, state_after, applied, linked, unlinked, linked_to, with_links, with_dataset, with_attributes, with_object_at, new_object, new_dataset, attribute_from, written, resized, makes_object}
-use Rattle.h5_model.specs.Selection.{axes_of}
-use Rattle.h5_model.specs.Refusal.{has_many_objects}
-use Rattle.h5_model.specs.States.{IsState}
+use Rattle.h5_model.specs.Tree.Objects.{Tree, Link, ToObject, Soft, Links, Object, Group, Array, Dataset, links_in, with_object, only_reached, is_reached, within_names}
+use Rattle.h5_model.specs.Tree.Paths.{parent_at, object_at}
+use Rattle.h5_model.specs.Edits.Applied.{State, state_after, applied, linked, unlinked, linked_to, with_links, with_dataset, with_attributes, with_object_at, new_object, new_dataset, attribute_from, written, resized, makes_object}
+use Rattle.h5_model.specs.Views.Selection.{axes_of}
+use Rattle.h5_model.specs.Edits.Refusal.{has_many_objects}
+use Rattle.h5_model.specs.Scripts.Sessions.{IsState}
 use Rattle.h5_model.specs.declared.edits.Edit.{Edit}
 use Rattle.h5_model.specs.declared.edits.Edit.TheVariants.{CreateGroup, CreateDataset, HardLink, SoftLink, Unlink, SetAttr, RemoveAttr, Write, Resize}
 

@@ -9,10 +9,10 @@ use Rattle.std.specs.List.{range_with_len}
 use Rattle.byteorder.specs.Endian.{big_from, little_from}
 use Rattle.byteorder.specs.Numbers.{big_from-lt, little_from-lt}
 use Rattle.byteorder.proofs.Bytes.{pow256}
-use Rattle.h5_model.specs.Fixed.{Fixed, IsFixed, raw_at, value_at, fits}
-use Rattle.h5_model.specs.Sound.{AreOf}
-use Rattle.h5_model.specs.Plain.{cells_bytes}
-use Rattle.h5_model.specs.Script.{stored_values}
+use Rattle.h5_model.specs.Format.Fixed.{Fixed, IsFixed, raw_at, value_at, fits}
+use Rattle.h5_model.specs.Tree.Sound.{AreOf}
+use Rattle.h5_model.specs.Format.Plain.{cells_bytes}
+use Rattle.h5_model.specs.Scripts.Answers.{stored_values}
 use Rattle.h5_model.proofs.FixedLaws.{halves, is_of}
 use Rattle.h5_model.proofs.PlainValues.{size-low, length-cells_bytes, value_at-cells_bytes}
 

@@ -4,7 +4,7 @@ use Rattle.std.specs.Prelude.{IsTrue}
 use Rattle.std.specs.Ordering.{nat_cmp, is_lt, is_le}
 use Rattle.std.specs.Cmp.Lexicographic.{slice_cmp, nat_list_cmp_total}
 use Rattle.std.proofs.lemmas.Cmp.{alike_right, tied_itself}
-use Rattle.h5_model.specs.Links.{Before, NotAfter}
+use Rattle.h5_model.specs.Format.Links.{Before, NotAfter}
 
 abbrev order : List ℕ → List ℕ → Ordering
 order a b = slice_cmp nat_cmp a b

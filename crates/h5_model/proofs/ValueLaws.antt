@@ -3,7 +3,7 @@ use Rattle.std.proofs.Common.{◌≡◌, ℕ, zero, suc, ◌+◌, ◌-◌, ◌*�
 use Rattle.std.proofs.lemmas.List.{get_or-take, get_or-drop, get_or-append-add}
 use Rattle.std.specs.List.{slice_range}
 use Rattle.byteorder.specs.Endian.{little_from, big_from}
-use Rattle.h5_model.specs.Fixed.{Fixed, raw_at, value_at, value_of}
+use Rattle.h5_model.specs.Format.Fixed.{Fixed, raw_at, value_at, value_of}
 
 -- the size bytes from place b of one list are those from place a of another
 abbrev pub Moved : List ℕ → List ℕ → ℕ → ℕ → ℕ → Type 0

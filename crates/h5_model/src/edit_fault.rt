@@ -73,7 +73,7 @@ pub enum EditFault {
 }
 
 impl EditFault {
-    ghost use Rattle.h5_model.specs.EditFaults.{fault_number, fault_name};
+    ghost use Rattle.h5_model.specs.Edits.EditFaults.{fault_number, fault_name};
 
     /// The number of the rule, from 1 on.
     pub fn number(self) -> u32

@@ -1,7 +1,7 @@
 //! Fixed-point types.
 
 ghost use Rattle.std.specs.Prelude.{◌≡◌};
-ghost use Rattle.h5_model.specs.Fixed.{fixed_from, IsFixed};
+ghost use Rattle.h5_model.specs.Format.Fixed.{fixed_from, IsFixed};
 
 use std::marker::Model;
 
@@ -14,7 +14,7 @@ pub struct Fixed {
 }
 
 impl Model for Fixed {
-    ghost use Rattle.h5_model.specs.Fixed as fixed;
+    ghost use Rattle.h5_model.specs.Format.Fixed as fixed;
 
     ghost Value = { fixed.Fixed };
 

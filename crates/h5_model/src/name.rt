@@ -2,7 +2,7 @@
 
 ghost use Rattle.std.specs.Prelude.{◌≡◌, ◌==◌, ◌||◌};
 ghost use Rattle.std.specs.List.{list_any};
-ghost use Rattle.h5_model.specs.Paths.{is_name};
+ghost use Rattle.h5_model.specs.Tree.Paths.{is_name};
 
 fn has_separator(name: &[u8]) -> bool
     ensures { result ≡ list_any (λ c. (c == 0) || (c == 47)) name.now }

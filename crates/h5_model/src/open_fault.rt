@@ -1,7 +1,7 @@
 //! Why bytes are refused as an image.
 
 ghost use Rattle.std.specs.Prelude.{◌≡◌};
-ghost use Rattle.h5_model.specs.OpenFaults.{cause_number, cause_name};
+ghost use Rattle.h5_model.specs.Faults.OpenFaults.{cause_number, cause_name};
 
 /// What an image breaks, and the address of the block or field that breaks it.
 #[derive(Clone, Copy, PartialEq, Eq, Debug)]

@@ -22,7 +22,7 @@ pub enum ViewFault {
 }
 
 impl ViewFault {
-    ghost use Rattle.h5_model.specs.ViewFaults.{view_fault_number, view_fault_name};
+    ghost use Rattle.h5_model.specs.Views.ViewFaults.{view_fault_number, view_fault_name};
 
     /// The fault's number, from 1 on; where the path or the selection is refused, the rule's.
     pub fn number(self) -> u32

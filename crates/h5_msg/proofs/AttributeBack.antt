@@ -8,12 +8,12 @@ use Rattle.std.specs.List.{list_all, list_any}
 use Rattle.byteorder.specs.Numbers.{little_number-reads_back}
 use Rattle.h5_bytes.specs.Bytes.{number_at, little_bytes}
 use Rattle.h5_bytes.specs.Texts.{pad8, until_zero}
-use Rattle.h5_model.specs.Fixed.{Fixed, IsFixed, fits}
-use Rattle.h5_model.specs.Places.{cells}
-use Rattle.h5_model.specs.Extent.{Extent, extent_of}
-use Rattle.h5_model.specs.Datatype.{fixed_of}
-use Rattle.h5_model.specs.Sizes.{attribute_size}
-use Rattle.h5_model.specs.AttributeBody.{attribute_of, is_attribute, name_in, name_size, datatype_size, dataspace_size, datatype_place, dataspace_place, data_place, values_at}
+use Rattle.h5_model.specs.Format.Fixed.{Fixed, IsFixed, fits}
+use Rattle.h5_model.specs.Tree.Places.{cells}
+use Rattle.h5_model.specs.Format.Extent.{Extent, extent_of}
+use Rattle.h5_model.specs.Format.Datatype.{fixed_of}
+use Rattle.h5_model.specs.Format.Sizes.{attribute_size}
+use Rattle.h5_model.specs.Format.AttributeBody.{attribute_of, is_attribute, name_in, name_size, datatype_size, dataspace_size, datatype_place, dataspace_place, data_place, values_at}
 use Rattle.h5_msg.specs.Written.{padded, datatype_bytes, dataspace_bytes, name_bytes, value_bytes, attribute_head, attribute_bytes}
 use Rattle.h5_msg.proofs.WordLaws.{words_long}
 use Rattle.h5_msg.proofs.DatatypeLaws.{fixed_of-written}

@@ -4,8 +4,8 @@ use Rattle.std.proofs.lemmas.Bool.Decides.{nat_tests}
 use Rattle.std.proofs.lemmas.List.FromFn.{length-map-range_with_len, get_or-map-range_with_len}
 use Rattle.std.proofs.lemmas.Option.{slice_get-get_or}
 use Rattle.std.proofs.Math.Nat.{mul-le-mul_right}
-use Rattle.h5_model.specs.Fixed.{Fixed, IsFixed, value_at}
-use Rattle.h5_model.specs.AttributeBody.{values_at}
+use Rattle.h5_model.specs.Format.Fixed.{Fixed, IsFixed, value_at}
+use Rattle.h5_model.specs.Format.AttributeBody.{values_at}
 
 pub length-values : (t : Fixed) (bytes : List ℕ) (place n : ℕ) → length (values_at t bytes place n) ≡ n
 length-values t bytes place n = length-map-range_with_len (λ k. value_at t bytes (place + k * t.size)) 0 n

@@ -8,8 +8,8 @@ use Rattle.std.proofs.Math.Seq.{take-append_seam, drop-append-add}
 use Rattle.std.specs.List.{list_all}
 use borrow.Rule.Slice.PartMut.{put_mid}
 use Rattle.h5_bytes.proofs.PartLaws.{put_mid_is, with_part_is}
-use Rattle.h5_model.specs.Fixed.{Fixed, value_at, value_of, fits, bytes_of}
-use Rattle.h5_model.specs.AttributeBody.{values_at}
+use Rattle.h5_model.specs.Format.Fixed.{Fixed, value_at, value_of, fits, bytes_of}
+use Rattle.h5_model.specs.Format.AttributeBody.{values_at}
 use Rattle.h5_model.proofs.FixedLaws.{value_back, length-bytes_of}
 use Rattle.h5_msg.specs.Written.{value_bytes}
 use Rattle.h5_msg.proofs.WordLaws.{and_left, and_right}

@@ -6,9 +6,9 @@ use Rattle.std.specs.Prelude.{nat_le, ◌==◌}
 use Rattle.std.specs.List.{range_with_len, AllByRecursion}
 use Rattle.std.proofs.Math.Seq.{drop-append_seam}
 use Rattle.h5_bytes.specs.Bytes.{number_at, undefined}
-use Rattle.h5_model.specs.Refusal.{are_maxima, is_maximum}
-use Rattle.h5_model.specs.Tests.{each_below}
-use Rattle.h5_model.specs.Extent.{extent_of, is_dataspace, size_in, maximum_in, maximum_from, maximum_fits}
+use Rattle.h5_model.specs.Edits.Refusal.{are_maxima, is_maximum}
+use Rattle.h5_model.specs.Scripts.Tests.{each_below}
+use Rattle.h5_model.specs.Format.Extent.{extent_of, is_dataspace, size_in, maximum_in, maximum_from, maximum_fits}
 use Rattle.h5_msg.specs.Written.{padded, dataspace_bytes, bounded_bytes, or_undefined, words}
 use Rattle.h5_msg.proofs.WordLaws.{words_long, bounds_long, as_many_maxima, length-numbers, number_at-drop, number_at-words, and_left, and_right}
 

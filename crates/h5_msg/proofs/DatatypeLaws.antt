@@ -3,8 +3,8 @@ use Rattle.std.proofs.Common.{◌≡◌, ℕ, inl, inr, List, length, Some, refl
 use Rattle.std.proofs.lemmas.Bool.Decides.{nat_tests}
 use Rattle.std.specs.Prelude.{nat_le}
 use Rattle.h5_bytes.specs.Bytes.{number_at}
-use Rattle.h5_model.specs.Fixed.{Fixed, IsFixed}
-use Rattle.h5_model.specs.Datatype.{fixed_of}
+use Rattle.h5_model.specs.Format.Fixed.{Fixed, IsFixed}
+use Rattle.h5_model.specs.Format.Datatype.{fixed_of}
 use Rattle.h5_model.proofs.FixedLaws.{sizes_of}
 use Rattle.h5_msg.specs.Written.{datatype_bytes, padded}
 

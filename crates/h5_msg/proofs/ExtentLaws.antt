@@ -8,8 +8,8 @@ use Rattle.std.specs.Prelude.{◌==◌}
 use Rattle.std.specs.List.{range_with_len, slice_range}
 use Rattle.byteorder.specs.Endian.{IsRead, little_number}
 use Rattle.h5_bytes.specs.Bytes.{number_at, byte_at, undefined}
-use Rattle.h5_model.specs.Places.{cells}
-use Rattle.h5_model.specs.Extent.{Extent, extent_in, is_dataspace, rank_in, size_in, maximum_in}
+use Rattle.h5_model.specs.Tree.Places.{cells}
+use Rattle.h5_model.specs.Format.Extent.{Extent, extent_in, is_dataspace, rank_in, size_in, maximum_in}
 use Rattle.h5_model.proofs.ValueLaws.{little_moved}
 
 -- the sizes are there, and the maxima where the flag is set

@@ -3,8 +3,8 @@ use Rattle.std.proofs.Common.{◌≡◌, ℕ, ◌+◌, ◌≤◌, List, length, 
 use Rattle.std.proofs.lemmas.Bool.Decides.{nat_tests}
 use Rattle.std.specs.Prelude.{nat_le, ◌-◌, ◌==◌}
 use Rattle.h5_bytes.specs.Bytes.{number_at}
-use Rattle.h5_model.specs.Fixed.{Fixed, IsFixed, fits, bytes_of, value_at}
-use Rattle.h5_model.specs.Fill.{fill_value, old_fill_value}
+use Rattle.h5_model.specs.Format.Fixed.{Fixed, IsFixed, fits, bytes_of, value_at}
+use Rattle.h5_model.specs.Format.Fill.{fill_value, old_fill_value}
 use Rattle.h5_model.proofs.FixedLaws.{value_back, length-bytes_of}
 use Rattle.h5_msg.specs.Written.{fill_bytes, old_fill_bytes, padded}
 use Rattle.h5_model.proofs.ValueLaws.{value_at-drop}

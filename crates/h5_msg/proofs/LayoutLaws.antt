@@ -12,8 +12,8 @@ use Rattle.std.specs.List.{list_any, range_with_len}
 use Rattle.byteorder.specs.Numbers.{little_number-reads_back}
 use Rattle.h5_bytes.specs.Bytes.{number_at, little_bytes, undefined}
 use Rattle.h5_bytes.specs.Blocks.{block}
-use Rattle.h5_model.specs.Places.{cells}
-use Rattle.h5_model.specs.Layout.{InMessage, InBlock, InChunks, layout_of, contiguous_layout, short_numbers_at, address_from}
+use Rattle.h5_model.specs.Tree.Places.{cells}
+use Rattle.h5_model.specs.Format.Layout.{InMessage, InBlock, InChunks, layout_of, contiguous_layout, short_numbers_at, address_from}
 use Rattle.h5_msg.specs.Written.{padded, compact_bytes, contiguous_bytes, chunked_bytes, short_words, or_undefined}
 use Rattle.h5_msg.proofs.WordLaws.{number_at-drop}
 

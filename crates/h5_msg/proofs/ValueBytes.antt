@@ -12,9 +12,9 @@ use Rattle.byteorder.specs.Endian.{big_from, little_from, big_bytes, little_byte
 use Rattle.byteorder.specs.Numbers.{big_from-cons, little_from-cons, big_from-lt, little_from-lt}
 use Rattle.byteorder.proofs.Bytes.{pow256}
 use Rattle.std.specs.Int.{bytes_low_first, bytes_high_first, byte_at}
-use Rattle.h5_model.specs.Fixed.{Fixed, IsFixed, raw_at, value_at, value_of, bytes_of, residue_of}
-use Rattle.h5_model.specs.AttributeBody.{values_at}
-use Rattle.h5_model.specs.Plain.{cells_bytes}
+use Rattle.h5_model.specs.Format.Fixed.{Fixed, IsFixed, raw_at, value_at, value_of, bytes_of, residue_of}
+use Rattle.h5_model.specs.Format.AttributeBody.{values_at}
+use Rattle.h5_model.specs.Format.Plain.{cells_bytes}
 use Rattle.h5_model.proofs.PlainValues.{size-low}
 use Rattle.h5_model.proofs.ValueLaws.{value_of_part}
 

@@ -4,7 +4,7 @@ use Rattle.std.proofs.lemmas.List.{get_or-drop}
 use Rattle.byteorder.specs.Numbers.{little_number-reads_back}
 use Rattle.h5_bytes.specs.Bytes.{number_at}
 use Rattle.h5_msg.specs.Written.{words, or_undefined}
-use Rattle.h5_model.specs.Refusal.{are_maxima}
+use Rattle.h5_model.specs.Edits.Refusal.{are_maxima}
 use Rattle.h5_model.proofs.ValueLaws.{little_moved}
 
 pub and_left : (a b : Bool) → (a && b) ≡ true → a ≡ true

@@ -1,5 +1,5 @@
 -- What a layout says (File Format Specification 3.0, section IV.A.2.i).
-use Rattle.h5_model.specs.Layout as model
+use Rattle.h5_model.specs.Format.Layout as model
 use Rattle.h5_msg.specs.declared.layout.Layout.{Layout}
 use Rattle.h5_msg.specs.declared.layout.Layout.TheVariants.{Compact, Contiguous, Chunked}
 

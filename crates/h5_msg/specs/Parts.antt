@@ -1,6 +1,6 @@
 -- The parts of an attribute's body (File Format Specification 3.0, section IV.A.2.m).
 use Rattle.std.specs.Prelude.{◌≡◌, ℕ, ◌≤◌, List, length}
-use Rattle.h5_model.specs.AttributeBody as body
+use Rattle.h5_model.specs.Format.AttributeBody as body
 use Rattle.h5_msg.specs.declared.attribute.Parts.{Parts}
 
 -- the name, and where the other parts stand, all of them inside the body

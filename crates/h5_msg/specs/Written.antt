@@ -3,8 +3,8 @@ use Rattle.std.specs.Prelude.{ℕ, ℤ, ◌+◌, ◌-◌, ◌*◌, if◌then◌e
 use Rattle.std.specs.List.{flat_map}
 use Rattle.h5_bytes.specs.Bytes.{little_bytes, undefined}
 use Rattle.h5_bytes.specs.Texts.{pad8}
-use Rattle.h5_model.specs.Sizes.{attribute_size, dataspace_length as dataspace_size}
-use Rattle.h5_model.specs.Fixed.{Fixed, bytes_of}
+use Rattle.h5_model.specs.Format.Sizes.{attribute_size, dataspace_length as dataspace_size}
+use Rattle.h5_model.specs.Format.Fixed.{Fixed, bytes_of}
 
 -- bytes with zeros behind them, so many in all
 abbrev pub padded : List ℕ → ℕ → List ℕ

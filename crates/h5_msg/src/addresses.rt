@@ -3,7 +3,7 @@
 
 ghost use Rattle.std.specs.Prelude.{◌≡◌, ◌≤◌, Some, length, ok_or};
 ghost use Rattle.h5_bytes.specs.Bytes.{number_at};
-ghost use Rattle.h5_model.specs.Addresses.{symbol_table_of, continuation_of};
+ghost use Rattle.h5_model.specs.Format.Addresses.{symbol_table_of, continuation_of};
 ghost use Rattle.h5_msg.specs.Written.{padded, pair_bytes};
 
 use crate::fault::FormFault;
@@ -25,7 +25,7 @@ pub struct SymbolTable {
 }
 
 impl Model for SymbolTable {
-    ghost use Rattle.h5_model.specs.Addresses as addresses;
+    ghost use Rattle.h5_model.specs.Format.Addresses as addresses;
 
     ghost Value = { addresses.SymbolTable };
 
@@ -58,7 +58,7 @@ impl SymbolTable {
 }
 
 /// Reads a Symbol Table message; `HeapForm` where it is short.
-#[tactic(auto, unfolding(h5_model::specs::Addresses::symbol_table_of))]
+#[tactic(auto, unfolding(h5_model::specs::Format::Addresses::symbol_table_of))]
 pub fn read_symbol_table(body: &[u8]) -> Result<SymbolTable, FormFault>
     ensures { result ≡ ok_or (symbol_table_of body.now) FormFault.HeapForm }
 {
@@ -72,7 +72,7 @@ pub fn read_symbol_table(body: &[u8]) -> Result<SymbolTable, FormFault>
 }
 
 /// Writes a Symbol Table message, and zeros behind it.
-#[tactic(auto, unfolding(h5_model::specs::Addresses::symbol_table_of))]
+#[tactic(auto, unfolding(h5_model::specs::Format::Addresses::symbol_table_of))]
 pub fn write_symbol_table(table: SymbolTable, bytes: &mut [u8])
     requires { 16 ≤ length bytes.old }
     ensures written { bytes.new ≡ padded (pair_bytes table.tree table.heap) (length bytes.old) }
@@ -82,7 +82,7 @@ pub fn write_symbol_table(table: SymbolTable, bytes: &mut [u8])
 }
 
 /// Reads a Continuation message, which names a block of messages; `MessageSize` where it is short.
-#[tactic(auto, unfolding(h5_model::specs::Addresses::continuation_of))]
+#[tactic(auto, unfolding(h5_model::specs::Format::Addresses::continuation_of))]
 pub fn read_continuation(body: &[u8]) -> Result<Block, FormFault>
     ensures { result ≡ ok_or (continuation_of body.now) FormFault.MessageSize }
 {
@@ -96,7 +96,7 @@ pub fn read_continuation(body: &[u8]) -> Result<Block, FormFault>
 }
 
 /// Writes a Continuation message, and zeros behind it.
-#[tactic(auto, unfolding(h5_model::specs::Addresses::continuation_of))]
+#[tactic(auto, unfolding(h5_model::specs::Format::Addresses::continuation_of))]
 pub fn write_continuation(block: Block, bytes: &mut [u8])
     requires { 16 ≤ length bytes.old }
     ensures written { bytes.new ≡ padded (pair_bytes block.at block.len) (length bytes.old) }

@@ -3,12 +3,12 @@
 ghost use Rattle.std.specs.Prelude.{◌≡◌, ℕ, List, false, true, ◌+◌, ◌-◌, ◌*◌, ◌^◌, ◌<◌, ◌≤◌, ◌==◌, IfSome, Some, is_some, length, ok_or, slice_get};
 ghost use Rattle.std.specs.List.{list_all, list_any};
 ghost use Rattle.h5_bytes.specs.Texts.{pad8 as padded_to_8};
-ghost use Rattle.h5_model.specs.AttributeBody.{attribute_of, is_attribute, values_at};
+ghost use Rattle.h5_model.specs.Format.AttributeBody.{attribute_of, is_attribute, values_at};
 ghost use Rattle.h5_msg.specs.Parts.{ArePartsOf};
-ghost use Rattle.h5_model.specs.Fixed.{IsFixed, fits};
-ghost use Rattle.h5_model.specs.Places.{cells as cells_of};
-ghost use Rattle.h5_model.specs.Plain.{cells_bytes};
-ghost use Rattle.h5_model.specs.Sizes.{attribute_size, dataspace_length as dataspace_size};
+ghost use Rattle.h5_model.specs.Format.Fixed.{IsFixed, fits};
+ghost use Rattle.h5_model.specs.Tree.Places.{cells as cells_of};
+ghost use Rattle.h5_model.specs.Format.Plain.{cells_bytes};
+ghost use Rattle.h5_model.specs.Format.Sizes.{attribute_size, dataspace_length as dataspace_size};
 ghost use Rattle.h5_msg.specs.Written.{attribute_bytes, attribute_head, dataspace_bytes, datatype_bytes, name_bytes, padded, value_bytes};
 
 use crate::dataspace::{Dataspace, dataspace_length, read_dataspace, write_dataspace};
@@ -37,9 +37,9 @@ pub struct AttributeBody<'a> {
 
 impl<'a> Model for AttributeBody<'a> {
     ghost use Rattle.std.specs.Prelude.{◌+◌, ◌*◌, ◌≤◌, ℕ, List, length};
-    ghost use Rattle.h5_model.specs.AttributeBody.{values_at};
-    ghost use Rattle.h5_model.specs.Places.{cells};
-    ghost use Rattle.h5_model.specs.Tree.{Attribute};
+    ghost use Rattle.h5_model.specs.Format.AttributeBody.{values_at};
+    ghost use Rattle.h5_model.specs.Tree.Places.{cells};
+    ghost use Rattle.h5_model.specs.Tree.Objects.{Attribute};
 
     ghost Value = { List ℕ × Attribute };
 
@@ -108,7 +108,7 @@ fn bytes_from<'a>(fixed: &Fixed, body: &'a [u8], place: usize, count: u64) -> &'
 }
 
 /// Reads an Attribute message; `AttributeForm` where it has another form.
-#[tactic(auto, unfolding(h5_model::specs::AttributeBody::attribute_of))]
+#[tactic(auto, unfolding(h5_model::specs::Format::AttributeBody::attribute_of))]
 pub fn read_attribute(body: &[u8]) -> Result<AttributeBody<'_>, FormFault>
     ensures { result ≡ ok_or (attribute_of body.now) FormFault.AttributeForm }
 {

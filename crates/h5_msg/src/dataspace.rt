@@ -2,12 +2,12 @@
 
 ghost use Rattle.std.specs.Prelude.{◌≡◌, ◌+◌, ◌-◌, ◌*◌, ◌^◌, ◌<◌, ◌≤◌, ◌++◌, Some, length, ok_or, min, slice_index, slice_get, map, if◌then◌else◌, true};
 ghost use Rattle.std.specs.List.{range_with_len, AllByRecursion};
-ghost use Rattle.h5_model.specs.Extent.{extent_of, is_dataspace as has_form, maximum_fits, size_in};
-ghost use Rattle.h5_model.specs.Refusal.{are_maxima as bound_sizes};
+ghost use Rattle.h5_model.specs.Format.Extent.{extent_of, is_dataspace as has_form, maximum_fits, size_in};
+ghost use Rattle.h5_model.specs.Edits.Refusal.{are_maxima as bound_sizes};
 ghost use Rattle.h5_msg.specs.Written.{bounded_bytes, dataspace_bytes, or_undefined, padded, words};
-ghost use Rattle.h5_model.specs.Places.{cells as cells_of};
-ghost use Rattle.h5_model.specs.Sizes.{dataspace_length as dataspace_size};
-ghost use Rattle.h5_model.specs.Tests.{each_below};
+ghost use Rattle.h5_model.specs.Tree.Places.{cells as cells_of};
+ghost use Rattle.h5_model.specs.Format.Sizes.{dataspace_length as dataspace_size};
+ghost use Rattle.h5_model.specs.Scripts.Tests.{each_below};
 
 use crate::fault::FormFault;
 use byteorder::{ByteOrder, LittleEndian};
@@ -35,7 +35,7 @@ pub struct Dataspace<'a> {
 }
 
 impl<'a> Model for Dataspace<'a> {
-    ghost use Rattle.h5_model.specs.Extent.{Extent, is_dataspace, extent_in};
+    ghost use Rattle.h5_model.specs.Format.Extent.{Extent, is_dataspace, extent_in};
     ghost use Rattle.std.specs.Prelude.{◌≡◌, true};
 
     ghost Value = { Extent };
@@ -119,7 +119,7 @@ fn cells_from(body: &[u8], k: usize, count: usize) -> u64
 }
 
 /// Reads a Dataspace message; `DataspaceForm` where it has another form.
-#[tactic(auto, unfolding(h5_model::specs::Extent::extent_of))]
+#[tactic(auto, unfolding(h5_model::specs::Format::Extent::extent_of))]
 pub fn read_dataspace(body: &[u8]) -> Result<Dataspace<'_>, FormFault>
     ensures { result ≡ ok_or (extent_of body.now) FormFault.DataspaceForm }
 {
@@ -159,7 +159,7 @@ fn are_maxima(body: &[u8], rank: usize) -> bool
 }
 
 /// Whether the maximum in this dimension is not below the size.
-#[tactic(auto, unfolding(h5_model::specs::Extent::maximum_fits))]
+#[tactic(auto, unfolding(h5_model::specs::Format::Extent::maximum_fits))]
 fn is_maximum(body: &[u8], rank: usize, k: usize) -> bool
     requires numbers { 8 + 8 * rank + 8 * rank ≤ length body.now }
     requires dimension { k < rank }

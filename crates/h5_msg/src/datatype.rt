@@ -1,7 +1,7 @@
 //! Datatype messages of class 0, fixed-point, version 1 (File Format Specification 3.0, section IV.A.2.d).
 
 ghost use Rattle.std.specs.Prelude.{◌≡◌, ◌≤◌, Some, length, ok_or};
-ghost use Rattle.h5_model.specs.Datatype.{fixed_of, is_fixed_point as has_form};
+ghost use Rattle.h5_model.specs.Format.Datatype.{fixed_of, is_fixed_point as has_form};
 ghost use Rattle.h5_msg.specs.Written.{class_bits as bits_of, datatype_bytes, padded};
 
 use crate::fault::FormFault;
@@ -22,7 +22,7 @@ const SIGNED: u8 = 8;
 
 /// Reads a Datatype message; `DatatypeForm` where it is not that of a fixed-point type of 1, 2, 4 or 8 bytes at full
 /// precision.
-#[tactic(auto, unfolding(h5_model::specs::Datatype::fixed_of))]
+#[tactic(auto, unfolding(h5_model::specs::Format::Datatype::fixed_of))]
 pub fn read_datatype(body: &[u8]) -> Result<Fixed, FormFault>
     ensures { result ≡ ok_or (fixed_of body.now) FormFault.DatatypeForm }
 {

@@ -1,8 +1,8 @@
 //! Fill values (File Format Specification 3.0, sections IV.A.2.e and IV.A.2.f).
 
 ghost use Rattle.std.specs.Prelude.{◌≡◌, ◌+◌, ◌≤◌, Some, length, ok_or, true};
-ghost use Rattle.h5_model.specs.Fill.{fill_value, old_fill_value, sized_value as value_after_size};
-ghost use Rattle.h5_model.specs.Fixed.{fits};
+ghost use Rattle.h5_model.specs.Format.Fill.{fill_value, old_fill_value, sized_value as value_after_size};
+ghost use Rattle.h5_model.specs.Format.Fixed.{fits};
 ghost use Rattle.h5_msg.specs.Written.{fill_bytes, old_fill_bytes, padded};
 ghost use Rattle.h5_msg.specs.Times.{time_number};
 
@@ -34,7 +34,7 @@ pub fn old_fill_length(fixed: &Fixed) -> usize
 
 /// Reads a Fill Value message, version 2, of a dataset of this type: the value, or 0 where none is defined; `FillForm`
 /// where the message has another form.
-#[tactic(auto, unfolding(h5_model::specs::Fill::fill_value))]
+#[tactic(auto, unfolding(h5_model::specs::Format::Fill::fill_value))]
 pub fn read_fill(fixed: &Fixed, body: &[u8]) -> Result<i128, FormFault>
     ensures { result ≡ ok_or (fill_value fixed.now body.now) FormFault.FillForm }
 {
@@ -50,7 +50,7 @@ pub fn read_fill(fixed: &Fixed, body: &[u8]) -> Result<i128, FormFault>
 
 /// Reads an old Fill Value message of a dataset of this type: the value, or 0 where its size is 0; `FillForm` where the
 /// message has another form.
-#[tactic(auto, unfolding(h5_model::specs::Fill::old_fill_value))]
+#[tactic(auto, unfolding(h5_model::specs::Format::Fill::old_fill_value))]
 pub fn read_old_fill(fixed: &Fixed, body: &[u8]) -> Result<i128, FormFault>
     ensures { result ≡ ok_or (old_fill_value fixed.now body.now) FormFault.FillForm }
 {

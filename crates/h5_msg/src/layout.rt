@@ -5,10 +5,10 @@ ghost use Rattle.std.specs.Option.{ForSome};
 ghost use Rattle.std.specs.List.{list_any, range_with_len};
 ghost use Rattle.h5_bytes.specs.Bytes.{number_at};
 ghost use Rattle.h5_bytes.specs.Blocks.{block};
-ghost use Rattle.h5_model.specs.Layout.{InBlock, InChunks, InMessage, chunked_layout, compact_layout, contiguous_layout, layout_of, short_numbers_at};
+ghost use Rattle.h5_model.specs.Format.Layout.{InBlock, InChunks, InMessage, chunked_layout, compact_layout, contiguous_layout, layout_of, short_numbers_at};
 ghost use Rattle.h5_msg.specs.Written.{chunked_bytes, compact_bytes, contiguous_bytes, padded};
 ghost use Rattle.h5_msg.specs.Layouts.{layout_in};
-ghost use Rattle.h5_model.specs.Places.{cells as cells_of};
+ghost use Rattle.h5_model.specs.Tree.Places.{cells as cells_of};
 
 use crate::fault::FormFault;
 use byteorder::{ByteOrder, LittleEndian};
@@ -51,7 +51,7 @@ pub struct ChunkSizes<'a> {
 }
 
 impl<'a> Model for ChunkSizes<'a> {
-    ghost use Rattle.h5_model.specs.Layout.{short_numbers_at};
+    ghost use Rattle.h5_model.specs.Format.Layout.{short_numbers_at};
     ghost use Rattle.std.specs.Prelude.{◌≡◌, ◌==◌, ◌+◌, ◌*◌, ◌≤◌, ℕ, List, length, false};
     ghost use Rattle.std.specs.List.{list_any};
 
@@ -126,7 +126,7 @@ fn bytes_needed(sizes: &[u64], size: usize) -> u128
 }
 
 /// Reads a Data Layout message of an array of these sizes and this type; `LayoutForm` where it has another form.
-#[tactic(auto, unfolding(h5_model::specs::Layout::layout_of))]
+#[tactic(auto, unfolding(h5_model::specs::Format::Layout::layout_of))]
 pub fn read_layout<'a>(dims: &Dims, fixed: &Fixed, body: &'a [u8]) -> Result<Layout<'a>, FormFault>
     ensures { MatchResult result
         (λ layout. layout_of dims.now fixed.now.size body.now ≡ Some (layout_in layout))

@@ -1,7 +1,7 @@
 //! Values in a body.
 
 ghost use Rattle.std.specs.Prelude.{◌≡◌, ◌+◌, ◌≤◌, length, true};
-ghost use Rattle.h5_model.specs.Fixed.{bytes_of, fits, value_at as value_of_bytes};
+ghost use Rattle.h5_model.specs.Format.Fixed.{bytes_of, fits, value_at as value_of_bytes};
 
 use h5_model::Fixed;
 use h5_types::{decode, encode};

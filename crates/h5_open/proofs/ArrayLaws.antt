@@ -4,25 +4,25 @@ use Rattle.std.specs.Prelude.{◌==◌}
 use Rattle.std.specs.List.{find}
 use Rattle.h5_bytes.specs.Blocks.{cover, Separate, Inside}
 use Rattle.h5_bytes.specs.declared.Block.{Block}
-use Rattle.h5_model.specs.Messages.{Message, HasMessages}
-use Rattle.h5_model.specs.Extent.{Extent}
-use Rattle.h5_model.specs.Layout.{InBlock}
-use Rattle.h5_model.specs.Reached.{Named, named, ObjectHeader, Data, length_of, layout_among}
-use Rattle.h5_model.specs.HeaderFaults.{ListBreach}
+use Rattle.h5_model.specs.Format.Messages.{Message, HasMessages}
+use Rattle.h5_model.specs.Format.Extent.{Extent}
+use Rattle.h5_model.specs.Format.Layout.{InBlock}
+use Rattle.h5_model.specs.Format.Reached.{Named, named, ObjectHeader, Data, length_of, layout_among}
+use Rattle.h5_model.specs.Faults.HeaderFaults.{ListBreach}
 use Rattle.h5_model.specs.declared.open_fault.Cause.{Cause}
 use Rattle.h5_model.specs.declared.open_fault.Cause.TheVariants.{NoMemory, NotYet, Truncated, Overlap}
 use Rattle.h5_header.specs.Progress.{ClaimBreach}
 use Rattle.h5_header.specs.Listed.{Listed, messages_in}
 use Rattle.h5_layout.specs.Described.{HasArray}
-use Rattle.h5_walk.specs.Met.{IsMet, IsHeaderMet, with_header}
-use Rattle.h5_walk.proofs.ListLaws.{all_messages, list_refused}
-use Rattle.h5_walk.proofs.DataLaws.{data_length, data_reached, data_inside}
-use Rattle.h5_walk.proofs.MetFields.{met_truncated, met_overlaps}
-use Rattle.h5_walk.proofs.MetHeader.{met_walked, message_met}
-use Rattle.h5_tree.specs.declared.line.Line.{Line}
-use Rattle.h5_tree.specs.NotYet.{IsRefusedAt}
-use Rattle.h5_tree.specs.Array.{described}
-use Rattle.h5_tree.specs.Judged.{IsLineBreach, IsLineList}
+use Rattle.h5_header.specs.Walk.Met.{IsMet, IsHeaderMet, with_header}
+use Rattle.h5_header.proofs.WalkLaws.ListLaws.{all_messages, list_refused}
+use Rattle.h5_header.proofs.WalkLaws.DataLaws.{data_length, data_reached, data_inside}
+use Rattle.h5_header.proofs.WalkLaws.MetFields.{met_truncated, met_overlaps}
+use Rattle.h5_header.proofs.WalkLaws.MetHeader.{met_walked, message_met}
+use Rattle.h5_open.specs.declared.opened.line.Line.{Line}
+use Rattle.h5_open.specs.Opened.NotYet.{IsRefusedAt}
+use Rattle.h5_open.specs.Opened.Array.{described}
+use Rattle.h5_open.specs.Opened.Judged.{IsLineBreach, IsLineList}
 use Rattle.h5_open.proofs.FoundLaws.{counted_found}
 use Rattle.h5_open.proofs.RefusedLaws.{as_refused}
 

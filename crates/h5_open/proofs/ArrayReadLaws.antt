@@ -5,21 +5,21 @@ use Rattle.std.specs.List.{find}
 use Rattle.h5_bytes.specs.Blocks.{holds, cover, Separate, Inside}
 use Rattle.h5_bytes.specs.declared.Block.{Block}
 use Rattle.h5_bytes.proofs.BlockLaws.{all_append, cover-append, holds_in}
-use Rattle.h5_model.specs.Messages.{Message, HasMessages}
-use Rattle.h5_model.specs.Reached.{Named, length_of}
+use Rattle.h5_model.specs.Format.Messages.{Message, HasMessages}
+use Rattle.h5_model.specs.Format.Reached.{Named, length_of}
 use Rattle.h5_attr.specs.Attributes.{HasNamesOnce}
 use Rattle.h5_header.specs.Listed.{Listed, messages_in}
-use Rattle.h5_walk.specs.Met.{with_header}
-use Rattle.h5_walk.proofs.MessagePlaces.{messages_placed}
-use Rattle.h5_walk.proofs.SpanLaws.{header_spans, all_low, found_covers}
-use Rattle.h5_walk.proofs.DataLaws.{found_all, data_inside}
-use Rattle.h5_walk.proofs.MetHeader.{met_walked}
-use Rattle.h5_walk.proofs.MetFields.{met_walked as field_walked}
-use Rattle.h5_tree.specs.declared.line.Line.{Line}
-use Rattle.h5_tree.specs.declared.object.OpenedObject.{OpenedObject}
-use Rattle.h5_tree.specs.declared.object.OpenedContent.TheVariants as content
-use Rattle.h5_tree.specs.Array.{data_blocks}
-use Rattle.h5_tree.specs.Judged.{IsLineList}
+use Rattle.h5_header.specs.Walk.Met.{with_header}
+use Rattle.h5_header.proofs.WalkLaws.MessagePlaces.{messages_placed}
+use Rattle.h5_header.proofs.WalkLaws.SpanLaws.{header_spans, all_low, found_covers}
+use Rattle.h5_header.proofs.WalkLaws.DataLaws.{found_all, data_inside}
+use Rattle.h5_header.proofs.WalkLaws.MetHeader.{met_walked}
+use Rattle.h5_header.proofs.WalkLaws.MetFields.{met_walked as field_walked}
+use Rattle.h5_open.specs.declared.opened.line.Line.{Line}
+use Rattle.h5_open.specs.declared.opened.object.OpenedObject.{OpenedObject}
+use Rattle.h5_open.specs.declared.opened.object.OpenedContent.TheVariants as content
+use Rattle.h5_open.specs.Opened.Array.{data_blocks}
+use Rattle.h5_open.specs.Opened.Judged.{IsLineList}
 use Rattle.h5_open.specs.Read.{IsHeaderRead, IsHeaderDone, IsObjectRead, IsObjectFollowed}
 use Rattle.h5_open.proofs.HeaderFields.{header_fields, fields_only, fields_stand}
 use Rattle.h5_open.proofs.ArrayLaws.{y, first, y_met, y_length, layout}

@@ -2,10 +2,10 @@
 use Rattle.std.proofs.Common.{◌≡◌, ℕ, suc, ◌<◌, List, [], ◌∷◌, length, get_or, length-append, refl, ◌∙◌, arith}
 use Rattle.std.specs.List.{flat_map}
 use Rattle.std.proofs.lemmas.List.{length-map}
-use Rattle.h5_model.specs.Superblock.{leaf_k}
-use Rattle.h5_model.specs.Heap.{segment_of}
-use Rattle.h5_model.specs.Symbols.{Entry, symbols_at, link_of}
-use Rattle.h5_model.specs.TreeFaults.{all_entries}
+use Rattle.h5_model.specs.Format.Superblock.{leaf_k}
+use Rattle.h5_model.specs.Format.Heap.{segment_of}
+use Rattle.h5_model.specs.Format.Symbols.{Entry, symbols_at, link_of}
+use Rattle.h5_model.specs.Faults.TreeFaults.{all_entries}
 use Rattle.h5_group.specs.declared.group.Group.{Group}
 use Rattle.h5_group.specs.Links.{links_of}
 

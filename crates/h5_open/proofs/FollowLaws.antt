@@ -3,21 +3,21 @@ use Rattle.std.proofs.Common.{◌≡◌, ◌≢◌, ◌==◌, inl, ℕ, ◌+◌,
 use Rattle.std.specs.List.{Contains}
 use Rattle.std.proofs.lemmas.List.{append-nil}
 use Rattle.h5_bytes.specs.declared.Block.{Block}
-use Rattle.h5_model.specs.Reached.{Named, named, ObjectHeader}
-use Rattle.h5_model.specs.HeaderFaults.{SomeMessage}
-use Rattle.h5_model.specs.Symbols.{Header}
+use Rattle.h5_model.specs.Format.Reached.{Named, named, ObjectHeader}
+use Rattle.h5_model.specs.Faults.HeaderFaults.{SomeMessage}
+use Rattle.h5_model.specs.Format.Symbols.{Header}
 use Rattle.h5_model.specs.declared.open_fault.Cause.TheVariants.{GroupLinkedTwice}
 use Rattle.h5_header.specs.Listed.{messages_in}
-use Rattle.h5_breach.proofs.Lists.{In, in_all, in_contains, contains_in, in_right}
-use Rattle.h5_walk.specs.Walked.{IsFollowed}
-use Rattle.h5_walk.proofs.ListLaws.{prefix_there}
+use Rattle.h5_laws.proofs.Lists.{In, in_all, in_contains, contains_in, in_right}
+use Rattle.h5_header.specs.Walk.Walked.{IsFollowed}
+use Rattle.h5_header.proofs.WalkLaws.ListLaws.{prefix_there}
 use Rattle.h5_header.specs.Kinds.{IsOfGroup}
-use Rattle.h5_tree.specs.declared.object.OpenedObject.{OpenedObject}
-use Rattle.h5_tree.specs.declared.object.OpenedContent.{OpenedContent}
-use Rattle.h5_tree.specs.declared.object.OpenedContent.TheVariants as content
-use Rattle.h5_tree.specs.Kept.{IsObjectKept, IsContentKept}
-use Rattle.h5_tree.specs.NotYet.{IsRefusedAt}
-use Rattle.h5_whole.specs.Whole.{IsGroupContent}
+use Rattle.h5_open.specs.declared.opened.object.OpenedObject.{OpenedObject}
+use Rattle.h5_open.specs.declared.opened.object.OpenedContent.{OpenedContent}
+use Rattle.h5_open.specs.declared.opened.object.OpenedContent.TheVariants as content
+use Rattle.h5_open.specs.Opened.Kept.{IsObjectKept, IsContentKept}
+use Rattle.h5_open.specs.Opened.NotYet.{IsRefusedAt}
+use Rattle.h5_open.specs.Placed.Whole.{IsGroupContent}
 use Rattle.h5_open.specs.Walk.{IsNamedBy, IsUnder, IsReady, IsFurther, IsTreeRead, IsLinkReady, IsLinkRead}
 use Rattle.h5_group.specs.Links.{link_from, target_of}
 use Rattle.h5_group.specs.declared.link.LinkRef.{LinkRef}

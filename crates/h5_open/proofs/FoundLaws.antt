@@ -5,12 +5,12 @@ use Rattle.std.specs.List.{find}
 use Rattle.std.proofs.lemmas.Bool.Decides.{nat_tests}
 use Rattle.std.proofs.lemmas.Option.{same_Some}
 use Rattle.h5_bytes.specs.declared.Block.{Block}
-use Rattle.h5_model.specs.Messages.{Message, HasMessages, count_of}
-use Rattle.h5_model.specs.Reached.{kind_at}
-use Rattle.h5_model.specs.HeaderFaults.{SomeMessage}
+use Rattle.h5_model.specs.Format.Messages.{Message, HasMessages, count_of}
+use Rattle.h5_model.specs.Format.Reached.{kind_at}
+use Rattle.h5_model.specs.Faults.HeaderFaults.{SomeMessage}
 use Rattle.h5_header.specs.Kinds.{IsOfGroup}
-use Rattle.h5_walk.proofs.DataLaws.{found_all}
-use Rattle.h5_walk.proofs.MessagePlaces.{IsPlacedMessage, messages_placed}
+use Rattle.h5_header.proofs.WalkLaws.DataLaws.{found_all}
+use Rattle.h5_header.proofs.WalkLaws.MessagePlaces.{IsPlacedMessage, messages_placed}
 
 -- the message that is found is of the type
 pub found_kind : (k : ℕ) (ms : List Message) (m : Message) → find (λ (x : Message). x.kind == k) ms ≡ Some m → m.kind ≡ k

@@ -5,33 +5,33 @@ use Rattle.std.specs.List.{AllByRecursion, find}
 use Rattle.h5_bytes.specs.Blocks.{cover, Separate, Inside}
 use Rattle.h5_bytes.specs.declared.Block.{Block}
 use Rattle.h5_bytes.proofs.BlockLaws.{all_append, all_left, all_right, cover-append}
-use Rattle.h5_model.specs.Addresses.{SymbolTable, symbol_table_of}
-use Rattle.h5_model.specs.Superblock.{leaf_k}
-use Rattle.h5_model.specs.Messages.{Message, HasMessages}
-use Rattle.h5_model.specs.Symbols.{symbol_block}
-use Rattle.h5_model.specs.Heap.{heap_blocks}
-use Rattle.h5_model.specs.Nodes.{tree_blocks}
-use Rattle.h5_model.specs.Reached.{Named, named, ObjectHeader, SymbolNode, Reached}
-use Rattle.h5_model.specs.Faults.{is_header}
-use Rattle.h5_model.specs.HeaderFaults.{ListBreach}
+use Rattle.h5_model.specs.Format.Addresses.{SymbolTable, symbol_table_of}
+use Rattle.h5_model.specs.Format.Superblock.{leaf_k}
+use Rattle.h5_model.specs.Format.Messages.{Message, HasMessages}
+use Rattle.h5_model.specs.Format.Symbols.{symbol_block}
+use Rattle.h5_model.specs.Format.Heap.{heap_blocks}
+use Rattle.h5_model.specs.Format.Nodes.{tree_blocks}
+use Rattle.h5_model.specs.Format.Reached.{Named, named, ObjectHeader, SymbolNode, Reached}
+use Rattle.h5_model.specs.Faults.Breaches.{is_header}
+use Rattle.h5_model.specs.Faults.HeaderFaults.{ListBreach}
 use Rattle.h5_model.specs.declared.open_fault.Cause.{Cause}
 use Rattle.h5_model.specs.declared.open_fault.Cause.TheVariants.{NoMemory, MissingMessage, TooDeep}
 use Rattle.h5_attr.specs.Attributes.{HasNamesOnce}
 use Rattle.h5_header.specs.Kinds.{IsOfGroup}
 use Rattle.h5_header.specs.Listed.{Listed, messages_in}
-use Rattle.h5_breach.proofs.Lists.{In, in_all, in_contains, contains_in, in_right}
-use Rattle.h5_walk.specs.Walked.{IsWalked}
-use Rattle.h5_walk.specs.Met.{IsHeaderMet, with_header}
-use Rattle.h5_walk.proofs.ListLaws.{no_root_refused}
-use Rattle.h5_nodes.specs.Trees.{kind_in, nodes_blocks}
-use Rattle.h5_nodes.specs.Walk.{AreSymbolsReached}
+use Rattle.h5_laws.proofs.Lists.{In, in_all, in_contains, contains_in, in_right}
+use Rattle.h5_header.specs.Walk.Walked.{IsWalked}
+use Rattle.h5_header.specs.Walk.Met.{IsHeaderMet, with_header}
+use Rattle.h5_header.proofs.WalkLaws.ListLaws.{no_root_refused}
+use Rattle.h5_group.specs.Nodes.Trees.{kind_in, nodes_blocks}
+use Rattle.h5_group.specs.Nodes.Walk.{AreSymbolsReached}
 use Rattle.h5_group.specs.declared.group.Group.{Group}
 use Rattle.h5_group.specs.Links.{IsGroupRead, links_of, blocks_of, nodes_at}
 use Rattle.h5_group.specs.Walk.{IsGroupMet, IsGroupFollowed}
-use Rattle.h5_tree.specs.declared.object.OpenedObject.{OpenedObject}
-use Rattle.h5_tree.specs.declared.object.OpenedContent.TheVariants as content
-use Rattle.h5_tree.specs.Judged.{IsGroupList, IsRootBreach}
-use Rattle.h5_tree.specs.NotYet.{IsRefusedAt}
+use Rattle.h5_open.specs.declared.opened.object.OpenedObject.{OpenedObject}
+use Rattle.h5_open.specs.declared.opened.object.OpenedContent.TheVariants as content
+use Rattle.h5_open.specs.Opened.Judged.{IsGroupList, IsRootBreach}
+use Rattle.h5_open.specs.Opened.NotYet.{IsRefusedAt}
 use Rattle.h5_open.specs.Read.{IsHeaderRead, IsHeaderDone, IsObjectRead, IsObjectFollowed, IsOwn, IsDeepAt, AreWaiting}
 use Rattle.h5_open.proofs.HeaderFields.{header_fields, fields_only, fields_stand, only_inner}
 use Rattle.h5_open.proofs.TableLaws.{found_table, table_numbers, tree_met, heap_met, table_walked}

@@ -7,12 +7,12 @@ use Rattle.std.proofs.lemmas.List.{map-append, append-nil}
 use Rattle.std.proofs.lemmas.List.Elements.{Contains-append_left}
 use Rattle.h5_bytes.specs.Blocks.{cover}
 use Rattle.h5_bytes.proofs.BlockLaws.{cover-append}
-use Rattle.h5_model.specs.Symbols.{Target, Header, Text}
-use Rattle.h5_breach.proofs.Lists.{In, contains_in}
-use Rattle.h5_breach.proofs.Pigeonhole.{Apart, apart_of_distinct, distinct_of_apart}
-use Rattle.h5_tree.specs.declared.object.OpenedObject.{OpenedObject}
-use Rattle.h5_tree.specs.Objects.{headers, links_of, object_blocks}
-use Rattle.h5_whole.specs.Whole.{IsLed, AreLed, HasParent, AreNamed}
+use Rattle.h5_model.specs.Format.Symbols.{Target, Header, Text}
+use Rattle.h5_laws.proofs.Lists.{In, contains_in}
+use Rattle.h5_laws.proofs.Pigeonhole.{Apart, apart_of_distinct, distinct_of_apart}
+use Rattle.h5_open.specs.declared.opened.object.OpenedObject.{OpenedObject}
+use Rattle.h5_open.specs.Opened.Objects.{headers, links_of, object_blocks}
+use Rattle.h5_open.specs.Placed.Whole.{IsLed, AreLed, HasParent, AreNamed}
 use Rattle.h5_open.proofs.PlaceLaws.{weaken_all}
 
 -- ---- links that lead to objects

@@ -5,12 +5,12 @@ use Rattle.std.specs.List.{AllByRecursion}
 use Rattle.h5_bytes.specs.Blocks.{holds, cover, Separate}
 use Rattle.h5_bytes.specs.declared.Block.{Block}
 use Rattle.h5_bytes.proofs.BlockLaws.{holds_in, all_append}
-use Rattle.h5_model.specs.Messages.{Message, HasMessages, continuation}
-use Rattle.h5_model.specs.Reached.{Named, named, ObjectHeader, Continuation}
-use Rattle.h5_model.specs.Faults.{is_header}
-use Rattle.h5_walk.specs.Walked.{continuation_fields}
-use Rattle.h5_walk.proofs.MessagePlaces.{messages_placed}
-use Rattle.h5_walk.proofs.SpanLaws.{span_of, header_spans, all_low}
+use Rattle.h5_model.specs.Format.Messages.{Message, HasMessages, continuation}
+use Rattle.h5_model.specs.Format.Reached.{Named, named, ObjectHeader, Continuation}
+use Rattle.h5_model.specs.Faults.Breaches.{is_header}
+use Rattle.h5_header.specs.Walk.Walked.{continuation_fields}
+use Rattle.h5_header.proofs.WalkLaws.MessagePlaces.{messages_placed}
+use Rattle.h5_header.proofs.WalkLaws.SpanLaws.{span_of, header_spans, all_low}
 use Rattle.h5_open.specs.Read.{IsOwn}
 
 -- Continuations name no header

@@ -10,10 +10,10 @@ use Rattle.std.proofs.lemmas.List.{length-map}
 use Rattle.std.proofs.lemmas.Map.Steps.{length-le_from_distinct_below}
 use Rattle.h5_bytes.proofs.BlockLaws.{all_append}
 use Rattle.std.proofs.lemmas.List.Elements.{Contains-append_cases}
-use Rattle.h5_breach.proofs.Lists.{In, in_contains}
-use Rattle.h5_tree.specs.declared.object.OpenedObject.{OpenedObject}
-use Rattle.h5_tree.specs.Kept.{IsIndex}
-use Rattle.h5_tree.specs.Objects.{headers}
+use Rattle.h5_laws.proofs.Lists.{In, in_contains}
+use Rattle.h5_open.specs.declared.opened.object.OpenedObject.{OpenedObject}
+use Rattle.h5_open.specs.Opened.Kept.{IsIndex}
+use Rattle.h5_open.specs.Opened.Objects.{headers}
 use Rattle.h5_open.specs.Walk.{IsNumbered}
 use Rattle.h5_open.proofs.GrowLaws.{headers-append, distinct_push}
 

@@ -3,8 +3,8 @@ use Rattle.std.proofs.Common.{◌≡◌, inl, inr, ℕ, ◌+◌, List, [], ◌�
 use Rattle.std.specs.Prelude.{◌==◌, option_map, Ok, Err, ok_or, Result, ◌↔◌, slice_index_or, ℤ}
 use Rattle.std.specs.List.{find, slice_get}
 use Rattle.h5_bytes.specs.declared.Block.{Block}
-use Rattle.h5_model.specs.Messages.{Message, count_of, first_body}
-use Rattle.h5_model.specs.HeaderFaults.{ListBreach, SomeBody}
+use Rattle.h5_model.specs.Format.Messages.{Message, count_of, first_body}
+use Rattle.h5_model.specs.Faults.HeaderFaults.{ListBreach, SomeBody}
 use Rattle.h5_model.specs.declared.open_fault.Cause.{Cause}
 use Rattle.h5_model.specs.declared.open_fault.Cause.TheVariants.{MissingMessage, NoMemory}
 use Rattle.h5_model.specs.declared.open_fault.OpenFault.{OpenFault}
@@ -13,12 +13,12 @@ use Rattle.h5_header.specs.declared.kinds.ObjectKind.{ObjectKind}
 use Rattle.h5_header.specs.declared.kinds.ObjectKind.TheVariants.{Group, Dataset}
 use Rattle.h5_header.proofs.FoundLaws.{found}
 use Rattle.std.proofs.lemmas.Option.{same_Some}
-use Rattle.h5_model.specs.Fixed.{Fixed}
-use Rattle.h5_model.specs.Layout.{InBlock}
-use Rattle.h5_model.specs.Reached.{layout_among}
+use Rattle.h5_model.specs.Format.Fixed.{Fixed}
+use Rattle.h5_model.specs.Format.Layout.{InBlock}
+use Rattle.h5_model.specs.Format.Reached.{layout_among}
 use Rattle.h5_layout.specs.Described.{Described, HasArray}
-use Rattle.h5_tree.specs.NotYet.{IsNoLine}
-use Rattle.h5_tree.specs.Judged.{IsRootBreach, IsNoLineOf}
+use Rattle.h5_open.specs.Opened.NotYet.{IsNoLine}
+use Rattle.h5_open.specs.Opened.Judged.{IsRootBreach, IsNoLineOf}
 
 pub root_breach : (image : List ℕ) (header : ℕ) (ms : List Message) (cause : Cause) → ListBreach image header ms cause → IsRootBreach image header ms cause
 root_breach image header ms MissingMessage h = h.0

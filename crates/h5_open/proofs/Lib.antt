@@ -15,3 +15,7 @@ pub mod GroupReadLaws
 pub mod IndexLaws
 pub mod WholeLaws
 pub mod DepthLaws
+pub mod OpenedLaws
+pub mod PlacedLaws
+pub mod CountedLaws
+pub mod RenumberedLaws

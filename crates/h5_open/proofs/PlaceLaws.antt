@@ -7,14 +7,14 @@ use Rattle.h5_bytes.specs.Blocks.{holds, cover, Separate}
 use Rattle.h5_bytes.specs.Texts.{text_at}
 use Rattle.h5_bytes.specs.declared.Block.{Block}
 use Rattle.h5_bytes.proofs.BlockLaws.{holds_in, cover-append}
-use Rattle.h5_model.specs.Superblock.{leaf_k}
-use Rattle.h5_model.specs.Symbols.{Entry, Header, Text, symbol_block, symbol_bytes, symbols_in, symbols_at, link_of}
-use Rattle.h5_model.specs.Nodes.{tree_blocks}
-use Rattle.h5_model.specs.Heap.{segment_of, heap_blocks}
-use Rattle.h5_model.specs.Reached.{Named, entry_in}
-use Rattle.h5_breach.proofs.Lists.{In, contains_in, from_range}
-use Rattle.h5_breach.proofs.Pigeonhole.{Apart}
-use Rattle.h5_nodes.specs.Trees.{kind_in, nodes_blocks}
+use Rattle.h5_model.specs.Format.Superblock.{leaf_k}
+use Rattle.h5_model.specs.Format.Symbols.{Entry, Header, Text, symbol_block, symbol_bytes, symbols_in, symbols_at, link_of}
+use Rattle.h5_model.specs.Format.Nodes.{tree_blocks}
+use Rattle.h5_model.specs.Format.Heap.{segment_of, heap_blocks}
+use Rattle.h5_model.specs.Format.Reached.{Named, entry_in}
+use Rattle.h5_laws.proofs.Lists.{In, contains_in, from_range}
+use Rattle.h5_laws.proofs.Pigeonhole.{Apart}
+use Rattle.h5_group.specs.Nodes.Trees.{kind_in, nodes_blocks}
 use Rattle.h5_group.specs.declared.group.Group.{Group}
 use Rattle.h5_group.specs.Links.{links_of, blocks_of, nodes_at}
 use Rattle.h5_group.specs.Walk.{IsGroupFollowed, IsHard}

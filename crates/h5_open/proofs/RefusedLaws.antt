@@ -3,17 +3,17 @@ use Rattle.std.proofs.Common.{◌≡◌, ◌≢◌, ℕ, List, [], ◌∷◌, re
 use Rattle.std.specs.Prelude.{false}
 use Rattle.std.specs.List.{AllByRecursion}
 use Rattle.h5_bytes.specs.declared.Block.{Block}
-use Rattle.h5_model.specs.Reached.{Named, named, Role, ObjectHeader, Continuation, GroupNode, SymbolNode, HeapHeader, Segment, Data, ChunkNode, Chunk}
-use Rattle.h5_model.specs.Faults.{BlockBreach, is_header}
+use Rattle.h5_model.specs.Format.Reached.{Named, named, Role, ObjectHeader, Continuation, GroupNode, SymbolNode, HeapHeader, Segment, Data, ChunkNode, Chunk}
+use Rattle.h5_model.specs.Faults.Breaches.{BlockBreach, is_header}
 use Rattle.h5_model.specs.declared.open_fault.Cause.{Cause}
 use Rattle.h5_model.specs.declared.open_fault.Cause.TheVariants.{NoMemory, NotYet}
 use Rattle.h5_header.specs.Refused.{IsRefused}
-use Rattle.h5_walk.specs.Walked.{Breaches}
-use Rattle.h5_walk.specs.Met.{IsHeaderMet}
-use Rattle.h5_walk.proofs.WalkedLaws.{IsOther}
-use Rattle.h5_walk.proofs.HeaderLaws.{header_refused}
-use Rattle.h5_nodes.specs.Walk.{IsFault}
-use Rattle.h5_tree.specs.NotYet.{IsRefusedAt}
+use Rattle.h5_header.specs.Walk.Walked.{Breaches}
+use Rattle.h5_header.specs.Walk.Met.{IsHeaderMet}
+use Rattle.h5_header.proofs.WalkLaws.WalkedLaws.{IsOther}
+use Rattle.h5_header.proofs.WalkLaws.HeaderLaws.{header_refused}
+use Rattle.h5_group.specs.Nodes.Walk.{IsFault}
+use Rattle.h5_open.specs.Opened.NotYet.{IsRefusedAt}
 
 no_block : (image : List ℕ) (x : Named) (role : Role) → BlockBreach image x role NotYet → ⊥
 no_block image x ObjectHeader h = h.2

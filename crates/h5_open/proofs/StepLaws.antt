@@ -6,16 +6,16 @@ use Rattle.std.proofs.lemmas.List.{map-append, take_more, append-nil}
 use Rattle.h5_bytes.specs.Blocks.{cover, Separate}
 use Rattle.h5_bytes.specs.declared.Block.{Block}
 use Rattle.h5_bytes.proofs.BlockLaws.{all_append, all_left}
-use Rattle.h5_model.specs.Symbols.{Target, Header, Text}
-use Rattle.h5_model.specs.Reached.{Named, named, ObjectHeader}
-use Rattle.h5_breach.proofs.Lists.{In, contains_in, in_left, in_right, in_map}
-use Rattle.h5_walk.specs.Walked.{IsFollowed}
-use Rattle.h5_walk.specs.Met.{IsMet}
+use Rattle.h5_model.specs.Format.Symbols.{Target, Header, Text}
+use Rattle.h5_model.specs.Format.Reached.{Named, named, ObjectHeader}
+use Rattle.h5_laws.proofs.Lists.{In, contains_in, in_left, in_right, in_map}
+use Rattle.h5_header.specs.Walk.Walked.{IsFollowed}
+use Rattle.h5_header.specs.Walk.Met.{IsMet}
 use Rattle.h5_group.specs.Links.{link_from}
 use Rattle.h5_group.specs.declared.link.LinkRef.{LinkRef}
-use Rattle.h5_tree.specs.declared.object.OpenedObject.{OpenedObject}
-use Rattle.h5_tree.specs.Objects.{headers, links_of}
-use Rattle.h5_whole.specs.Whole.{IsLed, AreLed}
+use Rattle.h5_open.specs.declared.opened.object.OpenedObject.{OpenedObject}
+use Rattle.h5_open.specs.Opened.Objects.{headers, links_of}
+use Rattle.h5_open.specs.Placed.Whole.{IsLed, AreLed}
 use Rattle.h5_open.specs.Read.{IsObjectRead, IsObjectFollowed, AreWaiting, IsOwn}
 use Rattle.h5_open.specs.Walk.{IsUnder, IsReady, IsFurther, IsTreeRead, IsLinkReady, IsLinkRead, IsPartly}
 use Rattle.h5_open.proofs.GrowLaws.{objects_led_grow, all_led_grow}

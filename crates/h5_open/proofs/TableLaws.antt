@@ -8,15 +8,15 @@ use Rattle.h5_bytes.specs.Bytes.{number_at}
 use Rattle.h5_bytes.specs.Blocks.{cover, Separate, Inside}
 use Rattle.h5_bytes.specs.declared.Block.{Block}
 use Rattle.h5_bytes.proofs.FieldLaws.{number_at-part}
-use Rattle.h5_model.specs.Addresses.{SymbolTable, symbol_table_of}
-use Rattle.h5_model.specs.Messages.{Message, HasMessages, first_body}
-use Rattle.h5_model.specs.Reached.{Named, named, HeapHeader, Reached, by_block, group_root, kind_at, size_at}
+use Rattle.h5_model.specs.Format.Addresses.{SymbolTable, symbol_table_of}
+use Rattle.h5_model.specs.Format.Messages.{Message, HasMessages, first_body}
+use Rattle.h5_model.specs.Format.Reached.{Named, named, HeapHeader, Reached, by_block, group_root, kind_at, size_at}
 use Rattle.h5_header.proofs.MetLaws.{length-part-le}
-use Rattle.h5_walk.specs.Walked.{IsWalked}
-use Rattle.h5_walk.specs.Met.{IsMet, IsHeaderMet, with_header}
-use Rattle.h5_walk.proofs.DataLaws.{found_all}
-use Rattle.h5_walk.proofs.MessagePlaces.{IsPlacedMessage, messages_placed}
-use Rattle.h5_walk.proofs.MetHeader.{met_walked, message_met}
+use Rattle.h5_header.specs.Walk.Walked.{IsWalked}
+use Rattle.h5_header.specs.Walk.Met.{IsMet, IsHeaderMet, with_header}
+use Rattle.h5_header.proofs.WalkLaws.DataLaws.{found_all}
+use Rattle.h5_header.proofs.WalkLaws.MessagePlaces.{IsPlacedMessage, messages_placed}
+use Rattle.h5_header.proofs.WalkLaws.MetHeader.{met_walked, message_met}
 use Rattle.h5_open.proofs.FoundLaws.{found_kind}
 
 -- ---- the fields of the Symbol Table

@@ -6,14 +6,14 @@ use Rattle.std.proofs.lemmas.List.Elements.{Contains-append_left, Contains-appen
 use Rattle.h5_bytes.specs.Blocks.{cover, Separate, Inside}
 use Rattle.h5_bytes.specs.declared.Block.{Block}
 use Rattle.h5_bytes.proofs.BlockLaws.{all_append}
-use Rattle.h5_model.specs.Reached.{Named, named, ObjectHeader}
-use Rattle.h5_model.specs.Faults.{is_header}
-use Rattle.h5_breach.proofs.Lists.{contains_in, in_right}
-use Rattle.h5_walk.specs.Met.{IsHeaderMet}
-use Rattle.h5_tree.specs.declared.object.OpenedObject.{OpenedObject}
-use Rattle.h5_tree.specs.Kept.{IsObjectKept}
-use Rattle.h5_tree.specs.Objects.{headers, object_blocks}
-use Rattle.h5_whole.specs.Whole.{HasParent, opened_blocks}
+use Rattle.h5_model.specs.Format.Reached.{Named, named, ObjectHeader}
+use Rattle.h5_model.specs.Faults.Breaches.{is_header}
+use Rattle.h5_laws.proofs.Lists.{contains_in, in_right}
+use Rattle.h5_header.specs.Walk.Met.{IsHeaderMet}
+use Rattle.h5_open.specs.declared.opened.object.OpenedObject.{OpenedObject}
+use Rattle.h5_open.specs.Opened.Kept.{IsObjectKept}
+use Rattle.h5_open.specs.Opened.Objects.{headers, object_blocks}
+use Rattle.h5_open.specs.Placed.Whole.{HasParent, opened_blocks}
 use Rattle.h5_open.specs.Read.{IsObjectRead, IsObjectFollowed}
 use Rattle.h5_open.specs.Walk.{IsNamedBy, IsUnder, IsReady}
 use Rattle.h5_open.proofs.PlaceLaws.{weaken_all}

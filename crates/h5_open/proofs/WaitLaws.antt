@@ -4,9 +4,9 @@ use Rattle.std.specs.List.{AllByRecursion}
 use Rattle.h5_bytes.specs.Blocks.{cover}
 use Rattle.h5_bytes.specs.declared.Block.{Block}
 use Rattle.h5_bytes.proofs.BlockLaws.{all_append}
-use Rattle.h5_model.specs.Symbols.{Target, Header, Text}
-use Rattle.h5_model.specs.Reached.{Named, named, ObjectHeader}
-use Rattle.h5_walk.specs.Met.{IsMet}
+use Rattle.h5_model.specs.Format.Symbols.{Target, Header, Text}
+use Rattle.h5_model.specs.Format.Reached.{Named, named, ObjectHeader}
+use Rattle.h5_header.specs.Walk.Met.{IsMet}
 use Rattle.h5_open.specs.Read.{AreWaiting, IsOwn}
 
 -- the fields that were followed then are other ones

@@ -8,15 +8,15 @@ use Rattle.std.specs.BTreeMap.{BTreeMap, is_at}
 use Rattle.h5_bytes.specs.Blocks.{holds, Separate}
 use Rattle.h5_bytes.specs.declared.Block.{Block}
 use Rattle.h5_bytes.proofs.BlockLaws.{holds_in}
-use Rattle.h5_model.specs.Superblock.{IsSuperblock, end_of_file, root_header}
-use Rattle.h5_model.specs.Reached.{by_superblock}
-use Rattle.h5_model.specs.Reads.{ReadsAs}
-use Rattle.h5_breach.proofs.Lists.{in_contains}
-use Rattle.h5_walk.specs.Walked.{IsWalked}
-use Rattle.h5_tree.specs.declared.object.OpenedObject.{OpenedObject}
-use Rattle.h5_tree.specs.Kept.{IsIndex, IsOpened}
-use Rattle.h5_tree.specs.Objects.{table_of, tree_of}
-use Rattle.h5_whole.specs.Whole.{AreLed, IsWhole, placed_of}
+use Rattle.h5_model.specs.Format.Superblock.{IsSuperblock, end_of_file, root_header}
+use Rattle.h5_model.specs.Format.Reached.{by_superblock}
+use Rattle.h5_model.specs.Format.Reads.{ReadsAs}
+use Rattle.h5_laws.proofs.Lists.{in_contains}
+use Rattle.h5_header.specs.Walk.Walked.{IsWalked}
+use Rattle.h5_open.specs.declared.opened.object.OpenedObject.{OpenedObject}
+use Rattle.h5_open.specs.Opened.Kept.{IsIndex, IsOpened}
+use Rattle.h5_open.specs.Opened.Objects.{table_of, tree_of}
+use Rattle.h5_open.specs.Placed.Whole.{AreLed, IsWhole, placed_of}
 use Rattle.h5_open.specs.Walk.{IsNumbered, IsUnder, IsReady, IsTreeRead}
 
 empty_distinct : IsDistinct (eq_by_cmp nat_cmp) []

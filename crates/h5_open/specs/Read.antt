@@ -3,20 +3,20 @@ use Rattle.std.specs.Prelude.{◌≡◌, ◌≢◌, ℕ, ◌+◌, ◌-◌, ◌�
 use Rattle.std.specs.List.{AllByRecursion, Contains}
 use Rattle.h5_bytes.specs.Blocks.{cover, Inside}
 use Rattle.h5_bytes.specs.declared.Block.{Block}
-use Rattle.h5_model.specs.Messages.{HasMessages}
-use Rattle.h5_model.specs.Reached.{Named, named, ObjectHeader}
-use Rattle.h5_model.specs.Symbols.{Target, Header, Text, symbol_bytes, symbols_in}
-use Rattle.h5_model.specs.Faults.{is_header}
-use Rattle.h5_model.specs.Superblock.{leaf_k}
+use Rattle.h5_model.specs.Format.Messages.{HasMessages}
+use Rattle.h5_model.specs.Format.Reached.{Named, named, ObjectHeader}
+use Rattle.h5_model.specs.Format.Symbols.{Target, Header, Text, symbol_bytes, symbols_in}
+use Rattle.h5_model.specs.Faults.Breaches.{is_header}
+use Rattle.h5_model.specs.Format.Superblock.{leaf_k}
 use Rattle.h5_header.specs.Heads.{is_read}
 use Rattle.h5_header.specs.Listed.{Listed, messages_in, IsWithin}
 use Rattle.h5_group.specs.declared.group.Group.{Group}
-use Rattle.h5_walk.specs.Walked.{IsWalked}
-use Rattle.h5_walk.specs.Met.{IsMet, IsHeaderMet}
-use Rattle.h5_tree.specs.declared.object.OpenedObject.{OpenedObject}
-use Rattle.h5_tree.specs.Kept.{IsObjectKept}
-use Rattle.h5_tree.specs.Objects.{links_of, object_blocks}
-use Rattle.h5_whole.specs.Whole.{IsGroupContent}
+use Rattle.h5_header.specs.Walk.Walked.{IsWalked}
+use Rattle.h5_header.specs.Walk.Met.{IsMet, IsHeaderMet}
+use Rattle.h5_open.specs.declared.opened.object.OpenedObject.{OpenedObject}
+use Rattle.h5_open.specs.Opened.Kept.{IsObjectKept}
+use Rattle.h5_open.specs.Opened.Objects.{links_of, object_blocks}
+use Rattle.h5_open.specs.Placed.Whole.{IsGroupContent}
 
 -- The object stands in the image, with its header there, and its blocks are claimed. The root is a group; a group 64 links below it
 -- has no links.

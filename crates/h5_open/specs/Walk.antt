@@ -5,17 +5,17 @@ use Rattle.std.specs.Ordering.{nat_cmp, eq_by_cmp}
 use Rattle.std.specs.BTreeMap.{BTreeMap}
 use Rattle.h5_bytes.specs.Blocks.{cover, Separate, Inside}
 use Rattle.h5_bytes.specs.declared.Block.{Block}
-use Rattle.h5_model.specs.Reached.{Named, named, ObjectHeader}
-use Rattle.h5_model.specs.Symbols.{Target, Header, Text}
-use Rattle.h5_model.specs.Faults.{is_header}
+use Rattle.h5_model.specs.Format.Reached.{Named, named, ObjectHeader}
+use Rattle.h5_model.specs.Format.Symbols.{Target, Header, Text}
+use Rattle.h5_model.specs.Faults.Breaches.{is_header}
 use Rattle.h5_group.specs.Links.{link_from}
 use Rattle.h5_group.specs.declared.link.LinkRef.{LinkRef}
-use Rattle.h5_walk.specs.Walked.{IsWalked}
-use Rattle.h5_walk.specs.Met.{IsMet}
-use Rattle.h5_tree.specs.declared.object.OpenedObject.{OpenedObject}
-use Rattle.h5_tree.specs.Kept.{IsObjectKept, IsIndex}
-use Rattle.h5_tree.specs.Objects.{headers, links_of, object_blocks}
-use Rattle.h5_whole.specs.Whole.{IsGroupContent, IsLed, AreLed, HasParent, AreNamed, opened_blocks}
+use Rattle.h5_header.specs.Walk.Walked.{IsWalked}
+use Rattle.h5_header.specs.Walk.Met.{IsMet}
+use Rattle.h5_open.specs.declared.opened.object.OpenedObject.{OpenedObject}
+use Rattle.h5_open.specs.Opened.Kept.{IsObjectKept, IsIndex}
+use Rattle.h5_open.specs.Opened.Objects.{headers, links_of, object_blocks}
+use Rattle.h5_open.specs.Placed.Whole.{IsGroupContent, IsLed, AreLed, HasParent, AreNamed, opened_blocks}
 use Rattle.h5_open.specs.Read.{IsOwn, AreWaiting}
 
 -- Each object has its number. No two have one header, and headers lie below 2 GiB, so numbers fit.

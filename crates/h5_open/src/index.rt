@@ -2,13 +2,13 @@
 
 ghost use Rattle.std.specs.Prelude.{◌≡◌, ◌^◌, ◌<◌, [], ◌∷◌, ◌++◌, IfSome, IfNone, IfErr, OnOk};
 ghost use Rattle.std.specs.List.{Contains};
-ghost use Rattle.h5_tree.specs.Kept.{IsIndex};
-ghost use Rattle.h5_tree.specs.Objects.{headers};
+ghost use Rattle.h5_open.specs.Opened.Kept.{IsIndex};
+ghost use Rattle.h5_open.specs.Opened.Objects.{headers};
 ghost use Rattle.h5_open.specs.Walk.{IsNumbered};
 
 use crate::judge::fault;
 use h5_model::{Cause, OpenFault};
-use h5_tree::{Opened, OpenedObject};
+use crate::opened::{Opened, OpenedObject};
 
 /// The object whose header is at this address, where it was read.
 pub(crate) fn object_at(opened: &Opened, header: u64) -> Option<&OpenedObject>

@@ -4,8 +4,8 @@ ghost use Rattle.std.specs.Prelude.{◌≡◌, Option, IfOk, IfErr, IfSome, IfNo
 ghost use Rattle.h5_attr.specs.Attributes.{HasNamesOnce};
 ghost use Rattle.h5_header.specs.Kinds.{IsOfDataset};
 ghost use Rattle.h5_header.specs.Listed.{messages_in, IsWithin};
-ghost use Rattle.h5_tree.specs.Array.{described};
-ghost use Rattle.h5_tree.specs.Judged.{IsGroupList, IsLineList, IsRootBreach, IsLineBreach, IsNoLineOf};
+ghost use Rattle.h5_open.specs.Opened.Array.{described};
+ghost use Rattle.h5_open.specs.Opened.Judged.{IsGroupList, IsLineList, IsRootBreach, IsLineBreach, IsNoLineOf};
 
 use h5_attr::{check_bodies, check_names};
 use h5_header::{Messages, find_body};
@@ -13,7 +13,7 @@ use h5_layout::{ArrayRef, read_array};
 use h5_model::{Cause, OpenFault};
 use h5_msg::{Layout, SymbolTable, read_symbol_table};
 use h5_space::Image;
-use h5_tree::Line;
+use crate::opened::Line;
 use std::alloc::Global;
 
 /// The type of a Symbol Table message.

@@ -4,9 +4,15 @@
 //! So far arrays are opened that have one dimension and stand in one block.
 #![tactic(auto)]
 
+mod counts;
 mod index;
 mod judge;
+mod numbers;
 mod object;
+mod opened;
 mod steps;
 
 pub use steps::walk;
+pub use opened::{Line, Opened, OpenedContent, OpenedObject};
+pub use counts::check_counts;
+pub use numbers::renumber;

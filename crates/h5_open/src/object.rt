@@ -4,17 +4,17 @@
 ghost use Rattle.std.specs.Prelude.{◌≡◌, ℕ, ◌+◌, ◌≤◌, ◌⊎◌, Some, List, length, map, IfOk, IfErr, OnOk};
 ghost use Rattle.h5_bytes.specs.Blocks.{cover, Separate, Inside};
 ghost use Rattle.h5_bytes.specs.declared.Block.{Block};
-ghost use Rattle.h5_model.specs.Superblock.{IsSuperblock};
-ghost use Rattle.h5_model.specs.Reached.{Named};
+ghost use Rattle.h5_model.specs.Format.Superblock.{IsSuperblock};
+ghost use Rattle.h5_model.specs.Format.Reached.{Named};
 ghost use Rattle.h5_header.specs.Kinds.{IsOfGroup, IsOfDataset};
 ghost use Rattle.h5_header.specs.Listed.{messages_in};
 ghost use Rattle.h5_header.specs.Progress.{ClaimBreach};
 ghost use Rattle.h5_group.specs.Links.{IsGroupRead, links_of, link_from};
-ghost use Rattle.h5_walk.specs.Met.{IsHeaderMet};
-ghost use Rattle.h5_tree.specs.Array.{data_blocks};
-ghost use Rattle.h5_tree.specs.Kept.{IsObjectKept};
-ghost use Rattle.h5_tree.specs.NotYet.{IsRefusedAt};
-ghost use Rattle.h5_tree.specs.Objects.{links_of as object_links};
+ghost use Rattle.h5_header.specs.Walk.Met.{IsHeaderMet};
+ghost use Rattle.h5_open.specs.Opened.Array.{data_blocks};
+ghost use Rattle.h5_open.specs.Opened.Kept.{IsObjectKept};
+ghost use Rattle.h5_open.specs.Opened.NotYet.{IsRefusedAt};
+ghost use Rattle.h5_open.specs.Opened.Objects.{links_of as object_links};
 ghost use Rattle.h5_open.specs.Read.{IsHeaderRead, IsHeaderDone, IsObjectRead, IsObjectFollowed, IsDeepAt};
 
 use crate::judge::{fault, judge_line, judge_root};
@@ -23,7 +23,7 @@ use h5_group::{Group, LinkRef, entries, links_at, read_group};
 use h5_header::{Messages, ObjectKind, claim};
 use h5_model::{Cause, OpenFault};
 use h5_space::{Claims, Image};
-use h5_tree::{OpenedContent, OpenedObject};
+use crate::opened::{OpenedContent, OpenedObject};
 use std::alloc::Global;
 
 /// How many links below the root the last objects may stand.

@@ -2,13 +2,13 @@
 
 ghost use Rattle.std.specs.Prelude.{◌≡◌, ℕ, ◌+◌, ◌^◌, ◌≤◌, [], List, length, IfOk, IfErr, OnOk};
 ghost use Rattle.std.specs.List.{Contains};
-ghost use Rattle.h5_model.specs.Reached.{Named};
-ghost use Rattle.h5_model.specs.Superblock.{IsSuperblock, end_of_file};
+ghost use Rattle.h5_model.specs.Format.Reached.{Named};
+ghost use Rattle.h5_model.specs.Format.Superblock.{IsSuperblock, end_of_file};
 ghost use Rattle.h5_group.specs.Links.{link_from};
-ghost use Rattle.h5_walk.specs.Walked.{IsWalked};
-ghost use Rattle.h5_tree.specs.Kept.{IsOpened};
-ghost use Rattle.h5_tree.specs.NotYet.{IsRefusedAt};
-ghost use Rattle.h5_tree.specs.Objects.{headers};
+ghost use Rattle.h5_header.specs.Walk.Walked.{IsWalked};
+ghost use Rattle.h5_open.specs.Opened.Kept.{IsOpened};
+ghost use Rattle.h5_open.specs.Opened.NotYet.{IsRefusedAt};
+ghost use Rattle.h5_open.specs.Opened.Objects.{headers};
 ghost use Rattle.h5_bytes.specs.Blocks.{Separate};
 ghost use Rattle.h5_open.specs.Walk.{IsNumbered, IsReady, IsTreeRead, IsLinkReady, IsLinkRead};
 
@@ -16,12 +16,12 @@ use crate::index::{object_at, push_object};
 use crate::judge::fault;
 use crate::object::{links_in, read_object};
 use h5_bytes::{Block, get_u64};
-use h5_counts::check_counts;
+use crate::counts::check_counts;
 use h5_group::{LinkRef, LinkTarget};
 use h5_header::claim;
 use h5_model::{Cause, OpenFault};
 use h5_space::{Claims, Image};
-use h5_tree::{Opened, OpenedContent};
+use crate::opened::{Opened, OpenedContent};
 use std::alloc::Global;
 use std::collections::BTreeMap;
 

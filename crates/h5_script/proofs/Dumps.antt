@@ -4,15 +4,15 @@ use Rattle.std.proofs.lemmas.Nat.{div-mul-add}
 use Rattle.std.specs.FinMap.{get, entries}
 use Rattle.std.specs.List.{flat_map}
 use Rattle.std.specs.Option.{option_and_then, option_map_or}
-use Rattle.h5_model.specs.Paths.{Located, Here, Missing, NoParent, NoGroup, NoPath, located, object_at, object_there}
-use Rattle.h5_model.specs.Script.{dumped}
-use Rattle.h5_model.specs.Text.{attribute_line, cells_text, content_text, dataset_text, detail_text, dump_text, escaped, line_of, rows_text}
-use Rattle.h5_model.specs.Tree.{Tree, Links, Object, Content, Group, Array, Dataset, Contiguous, ToObject, Soft, dataset_of, dataset_in}
+use Rattle.h5_model.specs.Tree.Paths.{Located, Here, Missing, NoParent, NoGroup, NoPath, located, object_at, object_there}
+use Rattle.h5_model.specs.Scripts.Answers.{dumped}
+use Rattle.h5_model.specs.Scripts.Text.{attribute_line, cells_text, content_text, dataset_text, detail_text, dump_text, escaped, line_of, rows_text}
+use Rattle.h5_model.specs.Tree.Objects.{Tree, Links, Object, Content, Group, Array, Dataset, Contiguous, ToObject, Soft, dataset_of, dataset_in}
 use Rattle.h5_text.specs.Listing.{dump_line}
 use Rattle.h5_text.specs.Rows.{cells_from}
 use Rattle.h5_text.proofs.RowTexts.{cells_are_rows}
-use Rattle.h5_look.specs.Look.{IsArray}
-use Rattle.h5_look.specs.declared.array.ArrayCells.{ArrayCells}
+use Rattle.h5_query.specs.Look.{IsArray}
+use Rattle.h5_query.specs.declared.array.ArrayCells.{ArrayCells}
 
 -- ---- what lines tell of the array
 

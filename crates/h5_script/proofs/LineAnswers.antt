@@ -3,22 +3,22 @@ use Rattle.std.proofs.Common.{◌≡◌, ℕ, Bool, true, false, Some, None, Lis
 use Rattle.std.specs.Prelude.{Result, Ok, Err, IsErr, is_err, IfOk, MatchResult}
 use Rattle.std.proofs.lemmas.Bool.{false≢true}
 use Rattle.h5_text.specs.Appends.{Appends}
-use Rattle.h5_lines.specs.Commands.{command_of}
-use Rattle.h5_lines.specs.declared.command.Command as asked
-use Rattle.h5_lines.specs.declared.command.Command.TheVariants as form
+use Rattle.h5_command.specs.Commands.{command_of}
+use Rattle.h5_command.specs.declared.command.Command as asked
+use Rattle.h5_command.specs.declared.command.Command.TheVariants as form
 use Rattle.std.specs.declared.alloc.AllocError.{AllocError}
 use Rattle.std.specs.FinMap.{empty}
 use Rattle.std.specs.Fmt.{decimal}
-use Rattle.h5_model.specs.Edits.{state_after}
-use Rattle.h5_model.specs.EditFaults.{refused_text}
-use Rattle.h5_model.specs.Lines.{Command, Change, ListAll, Dump, Unread}
-use Rattle.h5_model.specs.Paths.{located}
-use Rattle.h5_model.specs.Reading.{path_rules}
-use Rattle.h5_model.specs.Refusal.{first_holding}
-use Rattle.h5_model.specs.Script.{dumped}
-use Rattle.h5_model.specs.Text.{list_text}
-use Rattle.h5_model.specs.Tree.{Tree}
-use Rattle.h5_model.specs.Views.{refreshed_of}
+use Rattle.h5_model.specs.Edits.Applied.{state_after}
+use Rattle.h5_model.specs.Edits.EditFaults.{refused_text}
+use Rattle.h5_model.specs.Scripts.Lines.{Command, Change, ListAll, Dump, Unread}
+use Rattle.h5_model.specs.Tree.Paths.{located}
+use Rattle.h5_model.specs.Scripts.Reading.{path_rules}
+use Rattle.h5_model.specs.Edits.Refusal.{first_holding}
+use Rattle.h5_model.specs.Scripts.Answers.{dumped}
+use Rattle.h5_model.specs.Scripts.Text.{list_text}
+use Rattle.h5_model.specs.Tree.Objects.{Tree}
+use Rattle.h5_model.specs.Views.Shown.{refreshed_of}
 use Rattle.h5_model.specs.declared.attribute.AttrSpec.{AttrSpec}
 use Rattle.h5_model.specs.declared.dataset.Spec.{Spec}
 use Rattle.h5_model.specs.declared.edits.Edit.{Edit}
@@ -26,7 +26,7 @@ use Rattle.h5_model.specs.declared.edits.Edit.TheVariants.{CreateGroup, CreateDa
 use Rattle.h5_model.specs.declared.edits.Edited.{Edited}
 use Rattle.h5_model.specs.declared.edit_fault.EditFault.{EditFault}
 use Rattle.h5_model.specs.declared.edit_fault.EditFault.TheVariants as fault
-use Rattle.h5_tree.specs.State.{FileState, state_of}
+use Rattle.h5_open.specs.Opened.State.{FileState, state_of}
 use Rattle.h5_edit.specs.Carried.{IsRefusedBy, RefusedAs, IsRefused, is_carried}
 use Rattle.h5_file.specs.Edited.{IsEdited}
 use Rattle.h5_script.specs.Answered.{IsAnswered, IsUntold}

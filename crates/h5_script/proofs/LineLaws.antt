@@ -6,7 +6,7 @@ use Rattle.std.proofs.lemmas.List.{reverse-append}
 use Rattle.std.proofs.lemmas.List.Elements.{All-get_or, filter_map-append}
 use Rattle.std.proofs.lemmas.List.Splits.{slice_split_none, length-slice_split}
 use Rattle.std.proofs.lemmas.List.Sums.{suffix_len_is, suffix_len-le-length}
-use Rattle.h5_model.specs.Lines.{Command, line_asks, commands_of, finished}
+use Rattle.h5_model.specs.Scripts.Lines.{Command, line_asks, commands_of, finished}
 use Rattle.h5_script.specs.Pieces.{HasNoEnd, IsWhole, commands_of_line}
 
 -- ---- commands

@@ -3,10 +3,10 @@ use Rattle.std.proofs.Common.{◌≡◌, ℕ, zero, suc, Option, Some, None, Lis
 use Rattle.std.specs.FinMap.{get, entries}
 use Rattle.std.specs.List.{flat_map}
 use Rattle.std.specs.Option.{option_and_then, option_map_or}
-use Rattle.h5_model.specs.Text.{content_text, joined_path, line_of, lines_below, link_line, list_text}
-use Rattle.h5_model.specs.Tree.{Tree, Link, Links, Object, Content, Group, Array, Dataset, ToObject, dataset_of, dataset_in, links_in, links_of}
-use Rattle.h5_look.specs.Listed.{AreLinks, seen_link}
-use Rattle.h5_look.specs.declared.group.Link as look
+use Rattle.h5_model.specs.Scripts.Text.{content_text, joined_path, line_of, lines_below, link_line, list_text}
+use Rattle.h5_model.specs.Tree.Objects.{Tree, Link, Links, Object, Content, Group, Array, Dataset, ToObject, dataset_of, dataset_in, links_in, links_of}
+use Rattle.h5_query.specs.Listed.{AreLinks, seen_link}
+use Rattle.h5_query.specs.declared.group.Link as look
 use Rattle.h5_script.specs.Listing.{lines_of_link}
 
 -- ---- the lines of a group's links

@@ -1,8 +1,8 @@
 -- What a run of a script reads, does to a file, and writes.
 use Rattle.std.specs.Prelude.{ℕ, ◌<◌, ◌≤◌, Option, List, length}
 use Rattle.std.specs.Io.KnownBytes.{Consumes, IsAtEnd}
-use Rattle.h5_tree.specs.State.{FileState}
-use Rattle.h5_model.specs.Lines.{commands_of, finished, within_limit}
+use Rattle.h5_open.specs.Opened.State.{FileState}
+use Rattle.h5_model.specs.Scripts.Lines.{commands_of, finished, within_limit}
 use Rattle.h5_script.specs.Runs.{HasRun, HasCounted, HasBegun}
 use Rattle.h5_script.specs.declared.ran.Ran.{Ran}
 use Rattle.h5_script.specs.declared.fault.RunFault.{RunFault}

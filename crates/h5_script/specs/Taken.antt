@@ -1,13 +1,13 @@
 -- The lines that are taken so far, and what one of them answers.
 use Rattle.std.specs.Prelude.{◌≡◌, if◌then◌else◌, MatchBool, Some, None}
-use Rattle.h5_model.specs.Edits.{State}
-use Rattle.h5_model.specs.EditFaults.{refused_text}
-use Rattle.h5_model.specs.Lines.{Command, Change, ListAll, Dump, Unread}
-use Rattle.h5_model.specs.Script.{Answer, Given, Refused, answered, answer_of}
-use Rattle.h5_model.specs.States.{new_session}
+use Rattle.h5_model.specs.Edits.Applied.{State}
+use Rattle.h5_model.specs.Edits.EditFaults.{refused_text}
+use Rattle.h5_model.specs.Scripts.Lines.{Command, Change, ListAll, Dump, Unread}
+use Rattle.h5_model.specs.Scripts.Answers.{Answer, Given, Refused, answered, answer_of}
+use Rattle.h5_model.specs.Scripts.Sessions.{new_session}
 use Rattle.h5_model.specs.declared.edits.Edit.TheVariants.{CreateGroup, CreateDataset, HardLink, SoftLink, SetAttr, RemoveAttr}
 use Rattle.h5_model.specs.declared.edit_fault.EditFault.TheVariants as fault
-use Rattle.h5_tree.specs.State.{FileState}
+use Rattle.h5_open.specs.Opened.State.{FileState}
 use Rattle.h5_edit.specs.Carried.{is_carried, IsGivenFor}
 
 -- the commands so far: `group`, `dataset`, `link`, `soft`, `attr`, `unattr`, `ls` and `dump`; a line that asks for anything else is a bad

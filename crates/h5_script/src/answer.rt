@@ -1,18 +1,18 @@
 //! What one line answers.
 
 ghost use Rattle.std.specs.Prelude.{◌≡◌, [], IfOk, MatchResult, codes};
-ghost use Rattle.h5_model.specs.EditFaults.{refused_text};
-ghost use Rattle.h5_model.specs.Lines as lines;
+ghost use Rattle.h5_model.specs.Edits.EditFaults.{refused_text};
+ghost use Rattle.h5_model.specs.Scripts.Lines as lines;
 ghost use Rattle.h5_model.specs.declared.edit_fault.EditFault.TheVariants as fault;
 ghost use Rattle.h5_script.specs.declared.ran.Outcome.TheVariants.{Refused};
-ghost use Rattle.h5_lines.specs.Commands.{command_of};
+ghost use Rattle.h5_command.specs.Commands.{command_of};
 ghost use Rattle.h5_script.specs.Answered.{IsAnswered, IsUntold};
 ghost use Rattle.h5_script.specs.Taken.{taken};
 
 use crate::ran::Outcome;
 use crate::texts::{push_dump, push_list};
 use h5_file::File;
-use h5_lines::Command;
+use h5_command::Command;
 use h5_model::{Edit, EditFault};
 use h5_text::{push_accepted, push_refused, push_text};
 use std::alloc::{AllocError, Global};

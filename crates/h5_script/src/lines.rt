@@ -1,7 +1,7 @@
 //! Lines of a script, run one after the other.
 
 ghost use Rattle.std.specs.Prelude.{◌≡◌, ◌+◌, ◌++◌, ◌<◌, ◌≤◌, ◌^◌, ◌∷◌, [], IfOk, OnOk, MatchOption, length};
-ghost use Rattle.h5_lines.specs.Commands.{command_of};
+ghost use Rattle.h5_command.specs.Commands.{command_of};
 ghost use Rattle.h5_script.specs.Pieces.{HasNoEnd, IsFirstLine, RunsLinesTo, commands_of_line};
 ghost use Rattle.h5_script.specs.Runs.{RunsTo};
 ghost use Rattle.h5_script.specs.Script.{none_ran};
@@ -11,7 +11,7 @@ use crate::fault::RunFault;
 use crate::ran::Ran;
 use crate::streams::write_text;
 use h5_file::File;
-use h5_lines::{Command, read_line};
+use h5_command::{Command, read_line};
 use std::alloc::{AllocError, Global};
 use std::io::Write;
 

@@ -1,7 +1,7 @@
 //! How the lines of a script count.
 
 ghost use Rattle.std.specs.Prelude.{◌≡◌, ◌+◌, ◌<◌, ◌^◌, if◌then◌else◌};
-ghost use Rattle.h5_model.specs.Script.{is_refused, is_accepted};
+ghost use Rattle.h5_model.specs.Scripts.Answers.{is_refused, is_accepted};
 ghost use Rattle.h5_script.specs.Answered.{outcome_of};
 
 /// How a line counts.

@@ -3,19 +3,19 @@
 ghost use Rattle.std.specs.Prelude.{◌≡◌, ◌/◌, ◌++◌, List, ℤ, OnOk, codes, length, map};
 ghost use Rattle.std.specs.FinMap.{entries};
 ghost use Rattle.std.specs.List.{flat_map};
-ghost use Rattle.h5_model.specs.Paths.{located};
-ghost use Rattle.h5_model.specs.Script.{dumped};
-ghost use Rattle.h5_model.specs.Text.{attribute_line, content_text, dump_text, escaped, line_of, list_text, rows_text};
-ghost use Rattle.h5_model.specs.Tree.{Array, Dataset, Group, Links, Object, ToObject};
+ghost use Rattle.h5_model.specs.Tree.Paths.{located};
+ghost use Rattle.h5_model.specs.Scripts.Answers.{dumped};
+ghost use Rattle.h5_model.specs.Scripts.Text.{attribute_line, content_text, dump_text, escaped, line_of, list_text, rows_text};
+ghost use Rattle.h5_model.specs.Tree.Objects.{Array, Dataset, Group, Links, Object, ToObject};
 ghost use Rattle.h5_text.specs.Appends.{Appends};
 ghost use Rattle.h5_text.specs.Listing.{path_text};
-ghost use Rattle.h5_look.specs.Listed.{seen_link};
-ghost use Rattle.h5_look.specs.Look.{AreCells, HasKind, IsArray};
+ghost use Rattle.h5_query.specs.Listed.{seen_link};
+ghost use Rattle.h5_query.specs.Look.{AreCells, HasKind, IsArray};
 ghost use Rattle.h5_script.specs.Listing.{lines_of_link};
 
 use h5_attr::AttrRef;
 use h5_file::File;
-use h5_look::{ArrayCells, Kind, Link, LinkTo, MAX_DEPTH};
+use h5_query::{ArrayCells, Kind, Link, LinkTo, MAX_DEPTH};
 use h5_model::ObjectNo;
 use h5_text::{
     ArrayText, Layout, PathText, Rows, push_array_line, push_attribute_head, push_dump_line,

@@ -3,7 +3,7 @@ use Rattle.std.proofs.Common.{◌≡◌, ℕ, ◌*◌, ◌<◌, ◌≤◌, min, 
 use Rattle.std.proofs.lemmas.Bool.Decides.{nat_tests}
 use Rattle.std.proofs.Math.Nat.{mul-le-mul_left}
 use Rattle.std.specs.Prelude.{nat_le, ◌==◌}
-use Rattle.h5_model.specs.Places.{cells, extent_cells}
+use Rattle.h5_model.specs.Tree.Places.{cells, extent_cells}
 
 pub cells_le : (sizes : List ℕ) → cells sizes ≤ extent_cells sizes
 cells_le [] = omega arith

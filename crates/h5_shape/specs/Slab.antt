@@ -2,7 +2,7 @@
 use Rattle.std.specs.Prelude.{◌≡◌, ◌≤◌, ◌&&◌, Bool, false, not, nat_le, length, if◌then◌else◌, Result, Ok, Err}
 use Rattle.std.specs.List.{list_any}
 use Rattle.h5_model.specs.declared.Hyper.{Hyper}
-use Rattle.h5_model.specs.Selection.{Slab, axes_of, has_rank, has_no_stride, overlaps}
+use Rattle.h5_model.specs.Views.Selection.{Slab, axes_of, has_rank, has_no_stride, overlaps}
 use Rattle.h5_shape.specs.declared.slab.SlabFault.{SlabFault}
 use Rattle.h5_shape.specs.declared.slab.SlabFault.TheVariants as fault
 

@@ -1,6 +1,6 @@
 //! The sizes of an array, and the row-major places of its cells (File Format Specification 3.0, section IV.A.2.b).
 ghost use Rattle.std.specs.Prelude.{◌≡◌, ◌-◌, ◌^◌, ◌<◌, ◌≤◌, ◌↔◌, IsTrue, IsSome, IfSome, length, min, nat_le};
-ghost use Rattle.h5_model.specs.Places.{cells as cells_of, extent_cells, place_of, IsInside, is_inside as inside};
+ghost use Rattle.h5_model.specs.Tree.Places.{cells as cells_of, extent_cells, place_of, IsInside, is_inside as inside};
 
 use smallvec::SmallVec;
 use std::alloc::Global;

@@ -1,7 +1,7 @@
 //! Hyperslab selections (HDF5 dataspace reference, H5Sselect_hyperslab).
 ghost use Rattle.std.specs.Prelude.{◌≡◌, ◌-◌, ◌^◌, ◌↔◌, IsTrue, length, min};
 ghost use Rattle.std.specs.List.{list_any};
-ghost use Rattle.h5_model.specs.Selection.{Within, axes_from, fits_along, fits_all, has_no_stride, is_within as is_within_sizes, overlaps, selected_cells, selection_of, selects_none};
+ghost use Rattle.h5_model.specs.Views.Selection.{Within, axes_from, fits_along, fits_all, has_no_stride, is_within as is_within_sizes, overlaps, selected_cells, selection_of, selects_none};
 
 use crate::dims::{Dims, MAX_RANK};
 use h5_model::{Axis, Hyper};

@@ -5,7 +5,7 @@ use Rattle.std.proofs.lemmas.Option.{slice_get-get_or}
 use Rattle.std.proofs.lemmas.List.Elements.{recursion_from_All, All-from_get_or}
 use Rattle.h5_bytes.specs.Bytes.{part}
 use Rattle.h5_bytes.proofs.TableLaws.{length-table, get_or-table}
-use Rattle.h5_model.specs.Symbols.{Entry, IsEntry, entry_of, entries_of, symbols_in}
+use Rattle.h5_model.specs.Format.Symbols.{Entry, IsEntry, entry_of, entries_of, symbols_in}
 use Rattle.h5_snod.specs.Form.{cache_at}
 
 -- entry k of a symbol node's bytes

@@ -8,8 +8,8 @@ use Rattle.std.proofs.lemmas.List.{get_or-take, get_or-drop, length-take, length
 use Rattle.std.proofs.lemmas.Option.{slice_get-get_or}
 use Rattle.std.proofs.lemmas.List.Elements.{recursion_from_All, All-from_get_or}
 use Rattle.h5_bytes.specs.Texts.{text_at}
-use Rattle.h5_model.specs.Links.{Ascend, Before}
-use Rattle.h5_model.specs.Symbols.{Entry, entries_of, link_of, symbols_in}
+use Rattle.h5_model.specs.Format.Links.{Ascend, Before}
+use Rattle.h5_model.specs.Format.Symbols.{Entry, entries_of, link_of, symbols_in}
 use Rattle.h5_snod.specs.Names.{IsPlace, name_at, names_of}
 use Rattle.h5_snod.proofs.EntryLaws.{entry_in, length-entries, get_or-entries}
 

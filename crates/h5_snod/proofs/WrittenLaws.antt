@@ -11,7 +11,7 @@ use Rattle.byteorder.specs.Numbers.{little_number-reads_back}
 use Rattle.h5_bytes.specs.Bytes.{number_at, byte_at, part}
 use Rattle.h5_bytes.proofs.PartLaws.{put_mid_is, with_part_is, part-behind, part-front}
 use Rattle.h5_bytes.specs.Numbers.{word, middle, short, zeros}
-use Rattle.h5_model.specs.Symbols.{Entry, IsEntry, IsSymbolNode, entry_of, entries_of, symbol_signature, symbols_in}
+use Rattle.h5_model.specs.Format.Symbols.{Entry, IsEntry, IsSymbolNode, entry_of, entries_of, symbol_signature, symbols_in}
 use Rattle.h5_snod.specs.declared.write.NewSymbol.{NewSymbol}
 use Rattle.h5_snod.specs.declared.write.NewTarget.{NewTarget}
 use Rattle.h5_snod.specs.declared.write.NewTarget.TheVariants.{Dataset, Group, Text}

@@ -1,6 +1,6 @@
 -- What a symbol table entry says of a link (File Format Specification 3.0, section III.C).
 use Rattle.std.specs.Prelude.{◌==◌, if◌then◌else◌}
-use Rattle.h5_model.specs.Symbols.{Entry}
+use Rattle.h5_model.specs.Format.Symbols.{Entry}
 use Rattle.h5_snod.specs.declared.entry.SymbolEntry.{SymbolEntry}
 use Rattle.h5_snod.specs.declared.entry.SymbolTarget.{SymbolTarget}
 use Rattle.h5_snod.specs.declared.entry.SymbolTarget.TheVariants.{Header, Text}

@@ -1,7 +1,7 @@
 -- Rules that the bytes of a symbol node break (File Format Specification 3.0, sections III.B and III.C).
 use Rattle.std.specs.Prelude.{◌≢◌, ℕ, ◌+◌, ◌*◌, ◌<◌, ◌⊎◌, List}
 use Rattle.h5_bytes.specs.Bytes.{byte_at, part}
-use Rattle.h5_model.specs.Symbols.{entry_of, symbol_signature, symbols_in}
+use Rattle.h5_model.specs.Format.Symbols.{entry_of, symbol_signature, symbols_in}
 
 -- the cache type of entry i
 abbrev pub cache_at : List ℕ → ℕ → ℕ

@@ -3,8 +3,8 @@ use Rattle.std.specs.Prelude.{ℕ, ◌+◌, ◌*◌, ◌≤◌, List, map, take,
 use Rattle.std.specs.List.{AllByRecursion}
 use Rattle.h5_bytes.specs.Bytes.{part}
 use Rattle.h5_bytes.specs.Texts.{text_at}
-use Rattle.h5_model.specs.Symbols.{Entry, entry_of}
-use Rattle.h5_model.specs.Links.{Before}
+use Rattle.h5_model.specs.Format.Symbols.{Entry, entry_of}
+use Rattle.h5_model.specs.Format.Links.{Before}
 
 -- the names of entries, whose bytes stand in a heap's segment
 abbrev pub names_of : List ℕ → List Entry → List (List ℕ)

@@ -2,9 +2,9 @@
 use Rattle.std.specs.Prelude.{ℕ, ◌^◌, ◌<◌, List, ◌∷◌, ◌++◌, length}
 use Rattle.std.specs.List.{flat_map}
 use Rattle.h5_bytes.specs.Bytes.{number_at, undefined}
-use Rattle.h5_model.specs.Symbols.{Entry, symbol_signature}
+use Rattle.h5_model.specs.Format.Symbols.{Entry, symbol_signature}
 use Rattle.h5_bytes.specs.Numbers.{short, middle, word, zeros}
-use Rattle.h5_model.specs.Plain.{filled_to}
+use Rattle.h5_model.specs.Format.Plain.{filled_to}
 use Rattle.h5_snod.specs.declared.write.NewSymbol.{NewSymbol}
 use Rattle.h5_snod.specs.declared.write.NewTarget.{NewTarget}
 use Rattle.h5_snod.specs.declared.write.NewTarget.TheVariants.{Dataset, Group, Text}

@@ -1,7 +1,7 @@
 //! Symbol table entries (File Format Specification 3.0, section III.C).
 
 ghost use Rattle.std.specs.Prelude.{◌≡◌, length};
-ghost use Rattle.h5_model.specs.Symbols.{entry_of};
+ghost use Rattle.h5_model.specs.Format.Symbols.{entry_of};
 ghost use Rattle.h5_snod.specs.Entries.{symbol_from};
 
 use h5_bytes::{u32_at, u64_at};
@@ -26,7 +26,7 @@ pub struct SymbolEntry {
 }
 
 /// Reads the 40 bytes of an entry. Any cache type but that of a soft link is that of an object header.
-#[tactic(auto, unfolding(h5_model::specs::Symbols::entry_of))]
+#[tactic(auto, unfolding(h5_model::specs::Format::Symbols::entry_of))]
 pub(crate) fn read_entry(bytes: &[u8]) -> SymbolEntry
     requires { length bytes.now ≡ 40 }
     ensures { result ≡ symbol_from (entry_of bytes.now) }

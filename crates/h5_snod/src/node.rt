@@ -3,8 +3,8 @@
 ghost use Rattle.std.specs.Prelude.{◌≡◌, ◌+◌, ◌*◌, ◌<◌, ◌≤◌, ◌==◌, IfErr, IfOk, Some, length, map, option_map, slice_get};
 ghost use Rattle.h5_bytes.specs.Bytes.{part};
 ghost use Rattle.h5_bytes.specs.Texts.{text_at};
-ghost use Rattle.h5_model.specs.Links.{Ascend};
-ghost use Rattle.h5_model.specs.Symbols.{Entry, entries_of, link_of, symbols_in};
+ghost use Rattle.h5_model.specs.Format.Links.{Ascend};
+ghost use Rattle.h5_model.specs.Format.Symbols.{Entry, entries_of, link_of, symbols_in};
 ghost use Rattle.h5_snod.specs.Entries.{symbol_from};
 ghost use Rattle.h5_snod.specs.Names.{IsPlace, names_of};
 
@@ -27,7 +27,7 @@ pub struct SymbolNode<'a> {
 
 impl<'a> Model for SymbolNode<'a> {
     ghost use Rattle.std.specs.Prelude.{◌+◌, ◌*◌, ◌≤◌, List, length};
-    ghost use Rattle.h5_model.specs.Symbols.{Entry, entries_of, symbols_in};
+    ghost use Rattle.h5_model.specs.Format.Symbols.{Entry, entries_of, symbols_in};
 
     ghost Value = { List Entry };
 

@@ -2,7 +2,7 @@
 
 ghost use Rattle.std.specs.Prelude.{◌≡◌, ℕ, ◌+◌, ◌*◌, ◌<◌, ◌≤◌, IfErr, IfOk, OnOk, MatchBool, length};
 ghost use Rattle.std.specs.List.{AllByRecursion};
-ghost use Rattle.h5_model.specs.Symbols.{IsEntry, IsSymbolNode, entries_of, symbols_in};
+ghost use Rattle.h5_model.specs.Format.Symbols.{IsEntry, IsSymbolNode, entries_of, symbols_in};
 ghost use Rattle.h5_snod.specs.Form.{BreaksForm, cache_at};
 
 use crate::node::{SymbolNode, entry_bytes};

@@ -1,8 +1,8 @@
 //! The search for a name in a symbol node (File Format Specification 3.0, section III.B).
 
 ghost use Rattle.std.specs.Prelude.{◌≡◌, ◌+◌, ◌*◌, ◌<◌, ◌≤◌, IfErr, IfOk, Some, length, map, slice_get};
-ghost use Rattle.h5_model.specs.Links.{Ascend};
-ghost use Rattle.h5_model.specs.Symbols.{entries_of, link_of, symbols_in};
+ghost use Rattle.h5_model.specs.Format.Links.{Ascend};
+ghost use Rattle.h5_model.specs.Format.Symbols.{entries_of, link_of, symbols_in};
 ghost use Rattle.h5_snod.specs.Names.{IsPlace, name_at, names_of};
 
 use crate::node::entry_bytes;

@@ -2,7 +2,7 @@
 
 ghost use Rattle.std.specs.Prelude.{◌≡◌, ℕ, ◌+◌, ◌*◌, ◌^◌, ◌<◌, ◌≤◌, length, map};
 ghost use Rattle.std.specs.List.{AllByRecursion, flat_map};
-ghost use Rattle.h5_model.specs.Symbols.{IsEntry, IsSymbolNode, entries_of};
+ghost use Rattle.h5_model.specs.Format.Symbols.{IsEntry, IsSymbolNode, entries_of};
 ghost use Rattle.h5_snod.specs.Written.{IsSmall, entry_from, new_bytes, node_bytes};
 
 use crate::node::{ENTRY, HEAD};

@@ -1,6 +1,6 @@
 //! Lines of a script and texts of answers, as the grammar's table and worked sessions have them.
 
-use h5_lines::{Command, MAX_LINE, read_line};
+use h5_command::{Command, MAX_LINE, read_line};
 use h5_model::{Edit, EditFault, Fixed, Hyper, Spec, Store, ViewFault};
 use h5_text::{
     ArrayText, Layout, PathText, Rows, push_accepted, push_array_line, push_dump_line,

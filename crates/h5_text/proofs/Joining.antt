@@ -4,7 +4,7 @@ use Rattle.std.specs.Fmt.{signed_decimal}
 use Rattle.std.specs.List.{join_by, flat_map, zip}
 use Rattle.std.proofs.lemmas.List.{take_more, length-take-le}
 use Rattle.std.proofs.lemmas.List.Concat.{flat_map-append}
-use Rattle.h5_model.specs.Text.{values_text}
+use Rattle.h5_model.specs.Scripts.Text.{values_text}
 
 -- what stands before the k-th text
 abbrev pub before : List ℕ → ℕ → List ℕ

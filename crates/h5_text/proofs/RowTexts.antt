@@ -5,7 +5,7 @@ use Rattle.std.proofs.lemmas.Bool.Decides.{nat_tests}
 use Rattle.std.proofs.lemmas.List.{length-take-le}
 use Rattle.std.specs.Fmt.{signed_decimal}
 use Rattle.std.specs.List.{flat_map, join_by}
-use Rattle.h5_model.specs.Text.{rows_text}
+use Rattle.h5_model.specs.Scripts.Text.{rows_text}
 use Rattle.h5_text.specs.Rows.{cell_text, cells_from}
 use Rattle.h5_text.proofs.RowLaws.{cells_append}
 

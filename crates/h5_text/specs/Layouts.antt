@@ -1,7 +1,7 @@
 -- How a dataset's cells are stored, as `dump` tells it.
 use Rattle.std.specs.Prelude.{ℕ, true, List}
-use Rattle.h5_model.specs.Text.{storage_text}
-use Rattle.h5_model.specs.Tree as tree
+use Rattle.h5_model.specs.Scripts.Text.{storage_text}
+use Rattle.h5_model.specs.Tree.Objects as tree
 use Rattle.h5_text.specs.declared.texts.Layout.{Layout}
 use Rattle.h5_text.specs.declared.texts.Layout.TheVariants.{Compact, Contiguous, Chunked}
 

@@ -1,8 +1,8 @@
 -- The path and the dataset of a line of `ls` or `dump`.
 use Rattle.std.specs.Prelude.{List, [], ◌++◌, ℕ, codes}
-use Rattle.h5_model.specs.Fixed.{Fixed}
-use Rattle.h5_model.specs.Text.{escaped, joined_path, content_text, dataset_text, type_text, sizes_text}
-use Rattle.h5_model.specs.Tree.{Dataset, Array}
+use Rattle.h5_model.specs.Format.Fixed.{Fixed}
+use Rattle.h5_model.specs.Scripts.Text.{escaped, joined_path, content_text, dataset_text, type_text, sizes_text}
+use Rattle.h5_model.specs.Tree.Objects.{Dataset, Array}
 use Rattle.h5_text.specs.Layouts.{storage_of}
 use Rattle.h5_text.specs.declared.listing.ArrayText.{ArrayText}
 use Rattle.h5_text.specs.declared.listing.PathText.{PathText}

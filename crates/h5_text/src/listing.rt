@@ -1,7 +1,7 @@
 //! The lines that `ls` and `dump` write of an object. As with other texts, a buffer that is refused memory keeps what it held.
 ghost use Rattle.std.specs.Prelude.{◌++◌, codes};
-ghost use Rattle.h5_model.specs.Text.{content_text, dataset_text, escaped, line_of};
-ghost use Rattle.h5_model.specs.Tree.{Array};
+ghost use Rattle.h5_model.specs.Scripts.Text.{content_text, dataset_text, escaped, line_of};
+ghost use Rattle.h5_model.specs.Tree.Objects.{Array};
 ghost use Rattle.h5_text.specs.Appends.{Appends};
 ghost use Rattle.h5_text.specs.Listing.{attribute_head, dump_line, path_text, told_dataset};
 

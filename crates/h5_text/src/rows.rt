@@ -1,7 +1,7 @@
 //! Rows of cells, which may come in pieces.
 ghost use Rattle.std.specs.Prelude.{◌≡◌, ◌+◌, ◌/◌, ◌%◌, ◌<◌, ◌==◌, if◌then◌else◌, OnOk, OnErr, [], length, replicate, codes};
-ghost use Rattle.h5_model.specs.Script.{stored_values};
-ghost use Rattle.h5_model.specs.Text.{rows_text};
+ghost use Rattle.h5_model.specs.Scripts.Answers.{stored_values};
+ghost use Rattle.h5_model.specs.Scripts.Text.{rows_text};
 ghost use Rattle.h5_text.specs.Appends.{Appends};
 ghost use Rattle.h5_text.specs.Rows.{cell_text, cells_from};
 

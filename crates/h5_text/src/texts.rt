@@ -2,10 +2,10 @@
 //! what it held, and may have a part of the text behind it.
 ghost use Rattle.std.specs.Prelude.{◌≡◌, ◌<◌, ◌++◌, codes};
 ghost use Rattle.std.specs.Fmt.{decimal, signed_decimal};
-ghost use Rattle.h5_model.specs.Text.{escaped as escaped_text, escaped_byte, hex_digit as digit_of, is_plain as plain, size_text, sizes_text, type_text, values_text};
-ghost use Rattle.h5_model.specs.Script.{stored_values};
-ghost use Rattle.h5_model.specs.EditFaults.{refused_text};
-ghost use Rattle.h5_model.specs.ViewFaults.{view_fault_text};
+ghost use Rattle.h5_model.specs.Scripts.Text.{escaped as escaped_text, escaped_byte, hex_digit as digit_of, is_plain as plain, size_text, sizes_text, type_text, values_text};
+ghost use Rattle.h5_model.specs.Scripts.Answers.{stored_values};
+ghost use Rattle.h5_model.specs.Edits.EditFaults.{refused_text};
+ghost use Rattle.h5_model.specs.Views.ViewFaults.{view_fault_text};
 ghost use Rattle.std.specs.List.{join_by, zip};
 ghost use Rattle.h5_text.specs.Appends.{Appends};
 

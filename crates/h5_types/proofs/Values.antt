@@ -1,6 +1,6 @@
 -- What `encode` writes is read as the value, and what `decode` reads is a value of the type.
 use Rattle.std.proofs.Common.{◌≡◌, ℕ, ◌<◌, List, [], slice_index, true, ℤ, ap, sym, ◌∙◌, append-nil}
-use Rattle.h5_model.specs.Fixed.{Fixed, IsFixed, value_of, bytes_of, fits}
+use Rattle.h5_model.specs.Format.Fixed.{Fixed, IsFixed, value_of, bytes_of, fits}
 use Rattle.h5_model.proofs.FixedLaws.{value_back}
 use Rattle.h5_model.proofs.PlainValues.{size-low}
 use Rattle.h5_model.proofs.StoredValues.{fits_value_at}

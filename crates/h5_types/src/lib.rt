@@ -2,7 +2,7 @@
 #![tactic(auto)]
 
 ghost use Rattle.std.specs.Prelude.{◌≡◌, ◌↔◌, length, IsOk, IsTrue, OnOk, OnErr, true};
-ghost use Rattle.h5_model.specs.Fixed.{value_of, bytes_of, IsFixed, fits as is_of_type};
+ghost use Rattle.h5_model.specs.Format.Fixed.{value_of, bytes_of, IsFixed, fits as is_of_type};
 
 use byteorder::{BigEndian, ByteOrder, LittleEndian};
 use h5_model::Fixed;
@@ -54,7 +54,7 @@ pub fn encode(fixed: &Fixed, value: i128, bytes: &mut [u8]) -> Result<(), ValueR
 }
 
 /// Writes the bytes of a value of the type.
-#[tactic(auto, unfolding(h5_model::specs::Fixed::bytes_of))]
+#[tactic(auto, unfolding(h5_model::specs::Format::Fixed::bytes_of))]
 fn write(fixed: &Fixed, value: i128, bytes: &mut [u8])
     requires room { length bytes.old ≡ fixed.now.size }
     requires of_type { is_of_type fixed.now value ≡ true }
@@ -70,7 +70,7 @@ fn write(fixed: &Fixed, value: i128, bytes: &mut [u8])
 }
 
 /// Reads the bytes of a value.
-#[tactic(auto, unfolding(h5_model::specs::Fixed::value_at, h5_model::specs::Fixed::raw_at))]
+#[tactic(auto, unfolding(h5_model::specs::Format::Fixed::value_at, h5_model::specs::Format::Fixed::raw_at))]
 fn read(fixed: &Fixed, bytes: &[u8]) -> i128
     requires { length bytes.now ≡ fixed.now.size }
     ensures value { result ≡ value_of fixed.now bytes.now }

@@ -1,6 +1,6 @@
 use Rattle.std.proofs.Common.{◌≡◌, rules, to_z, of_z}
 use Rattle.std.specs.Int.{w128}
-use Rattle.h5_model.specs.Fixed.{value_of}
+use Rattle.h5_model.specs.Format.Fixed.{value_of}
 use Rattle.h5_types.proofs.Values.{fits_value_of}
 use Rattle.h5_types.proofs.decode.Goals as goal
 

@@ -4,7 +4,7 @@ use Rattle.std.specs.Cmp.Lexicographic.{slice_cmp, nat_list_cmp_total}
 use Rattle.std.specs.List.Sorted.{IsPermutation}
 use Rattle.std.proofs.lemmas.List.Sorted.{answers_always, ranks_by}
 use Rattle.h5_header.specs.Listed.{messages_in}
-use Rattle.h5_model.specs.Tree.{Attribute}
+use Rattle.h5_model.specs.Tree.Objects.{Attribute}
 use Rattle.h5_attr.proofs.EntryOrder.{entries-are}
 use Rattle.h5_attr.proofs.order.sorted.Goals as goal
 

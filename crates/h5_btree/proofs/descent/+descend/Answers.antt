@@ -1,7 +1,7 @@
 use Rattle.std.proofs.Common.{◌≡◌, ◌-◌, inl, inr, true, false, sym, subst}
 use Rattle.std.proofs.lemmas.Result.{IfOk-weaker, MatchResult-weaker, err_from_is_err_and}
-use Rattle.h5_model.specs.Rows.{Node}
-use Rattle.h5_model.specs.Nodes.{node_at}
+use Rattle.h5_model.specs.Format.Rows.{Node}
+use Rattle.h5_model.specs.Format.Nodes.{node_at}
 use Rattle.h5_btree.specs.Form.{MayStandAt}
 use Rattle.h5_btree.specs.Descent.{LeadsTo}
 use Rattle.h5_btree.proofs.DescentLaws.{reads_in_row}

@@ -2,8 +2,8 @@ use Rattle.std.proofs.Common.{◌≡◌, ◌≤◌, ◌∙◌, ℕ, inl, inr, []
 use Rattle.std.specs.Prelude.{◌==◌}
 use Rattle.std.proofs.lemmas.Bool.Decides.{nat_tests}
 use Rattle.std.proofs.lemmas.Result.{err_from_is_err_and}
-use Rattle.h5_model.specs.Rows.{Node}
-use Rattle.h5_model.specs.Nodes.{node_at}
+use Rattle.h5_model.specs.Format.Rows.{Node}
+use Rattle.h5_model.specs.Format.Nodes.{node_at}
 use Rattle.h5_btree.specs.Form.{MayBeRoot}
 use Rattle.h5_btree.specs.Descent.{IsInRow}
 use Rattle.h5_btree.proofs.DescentLaws.{root_may, root_in_row}

@@ -1,5 +1,5 @@
 use Rattle.std.proofs.Common.{Some}
-use Rattle.h5_order.specs.Words.{WantRun}
+use Rattle.h5_args.specs.Words.{WantRun}
 use Rattle.h5_cli.proofs.EndLaws.{run_ends, written_ends}
 use Rattle.h5_cli.proofs.edit.run.Goals as goal
 

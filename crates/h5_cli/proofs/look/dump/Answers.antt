@@ -1,5 +1,5 @@
 use Rattle.std.proofs.Common.{Some}
-use Rattle.h5_order.specs.Words.{WantDump}
+use Rattle.h5_args.specs.Words.{WantDump}
 use Rattle.h5_cli.proofs.EndLaws.{appends_as, printed_ends, dump_ends}
 use Rattle.h5_cli.proofs.look.dump.Goals as goal
 

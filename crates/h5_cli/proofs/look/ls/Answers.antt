@@ -1,5 +1,5 @@
 use Rattle.std.proofs.Common.{◌∙◌, Some}
-use Rattle.h5_order.specs.Words.{WantLs}
+use Rattle.h5_args.specs.Words.{WantLs}
 use Rattle.h5_cli.specs.declared.status.Status.TheVariants.{Done}
 use Rattle.h5_cli.proofs.EndLaws.{appends_as, printed_ends}
 use Rattle.h5_cli.proofs.look.ls.Goals as goal

@@ -1,6 +1,6 @@
 use Rattle.std.proofs.Common.{Some, rules}
-use Rattle.h5_order.specs.Order.{texts_of}
-use Rattle.h5_order.specs.Words.{WantNew, WantLs, WantDump}
+use Rattle.h5_args.specs.Order.{texts_of}
+use Rattle.h5_args.specs.Words.{WantNew, WantLs, WantDump}
 use Rattle.h5_cli.proofs.EndLaws.{asked_ends}
 use Rattle.h5_cli.proofs.run.carry_out.Goals as goal
 

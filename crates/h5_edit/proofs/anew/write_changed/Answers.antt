@@ -1,7 +1,7 @@
 use Rattle.std.proofs.Common.{length}
-use Rattle.h5_change.specs.Change.{changed}
-use Rattle.h5_tree.specs.Objects.{tree_of}
-use Rattle.h5_write.specs.Written.{IsHeld}
+use Rattle.h5_edit.specs.Changed.Change.{changed}
+use Rattle.h5_open.specs.Opened.Objects.{tree_of}
+use Rattle.h5_repack.specs.Written.{IsHeld}
 use Rattle.h5_edit.proofs.Changes.{few_changed}
 use Rattle.h5_edit.proofs.Writings.{refused_here}
 use Rattle.h5_edit.proofs.anew.write_changed.Goals as goal

@@ -1,5 +1,5 @@
 use Rattle.std.proofs.Common.{◌≡◌, ap, ◌∙◌, take}
-use Rattle.h5_model.specs.Faults.{cut}
+use Rattle.h5_model.specs.Faults.Breaches.{cut}
 use Rattle.h5_file.proofs.Opens.{cut_superblock, cut_ends}
 use Rattle.h5_file.proofs.file.open_front.Goals as goal
 

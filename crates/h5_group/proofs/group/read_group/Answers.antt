@@ -1,9 +1,9 @@
 use Rattle.std.proofs.Common.{◌≡◌, ℕ, ◌+◌, length}
 use Rattle.std.proofs.lemmas.Result.{err_from_is_err_and}
 use Rattle.h5_bytes.specs.Blocks.{cover, Inside}
-use Rattle.h5_model.specs.Heap.{heap_header, segment_of, heap_blocks, IsHeap}
-use Rattle.h5_keys.specs.Ordered.{AreOrdered}
-use Rattle.h5_nodes.specs.Trees.{IsTree}
+use Rattle.h5_model.specs.Format.Heap.{heap_header, segment_of, heap_blocks, IsHeap}
+use Rattle.h5_group.specs.Order.Ordered.{AreOrdered}
+use Rattle.h5_group.specs.Nodes.Trees.{IsTree}
 use Rattle.h5_group.specs.declared.group.Group.{Group}
 use Rattle.h5_group.proofs.HeapSteps.{heap_refused, at_tree}
 use Rattle.h5_group.proofs.Refusals.{texts_refused, order_refused}

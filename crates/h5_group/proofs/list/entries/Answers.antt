@@ -1,7 +1,7 @@
 use Rattle.std.proofs.Common.{◌≡◌, ◌++◌, map, length, get_or, ap, arith}
-use Rattle.h5_model.specs.Superblock.{leaf_k}
-use Rattle.h5_model.specs.Heap.{segment_of}
-use Rattle.h5_model.specs.Symbols.{link_of, symbols_at}
+use Rattle.h5_model.specs.Format.Superblock.{leaf_k}
+use Rattle.h5_model.specs.Format.Heap.{segment_of}
+use Rattle.h5_model.specs.Format.Symbols.{link_of, symbols_at}
 use Rattle.h5_group.specs.Links.{link_from}
 use Rattle.h5_group.proofs.Gathered.{next_node, all_nodes}
 use Rattle.h5_group.proofs.list.entries.Goals as goal

@@ -1,7 +1,7 @@
 use Rattle.std.proofs.Common.{◌≡◌, map, take}
-use Rattle.h5_model.specs.Heap.{segment_of}
-use Rattle.h5_model.specs.Symbols.{link_of}
-use Rattle.h5_model.specs.TreeFaults.{all_entries}
+use Rattle.h5_model.specs.Format.Heap.{segment_of}
+use Rattle.h5_model.specs.Format.Symbols.{link_of}
+use Rattle.h5_model.specs.Faults.TreeFaults.{all_entries}
 use Rattle.h5_group.specs.Links.{link_from}
 use Rattle.h5_group.proofs.list.entries.Given as goal
 

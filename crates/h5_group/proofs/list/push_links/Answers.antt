@@ -1,6 +1,6 @@
 use Rattle.std.proofs.Common.{[], ◌∷◌, map, sym, ap, ◌∙◌, append-nil, arith}
 use Rattle.std.proofs.lemmas.List.{map-append}
-use Rattle.h5_model.specs.Symbols.{link_of}
+use Rattle.h5_model.specs.Format.Symbols.{link_of}
 use Rattle.h5_group.specs.Links.{link_from}
 use Rattle.h5_group.proofs.Gathered.{one_more, all_of_node}
 use Rattle.h5_group.proofs.list.push_links.Goals as goal

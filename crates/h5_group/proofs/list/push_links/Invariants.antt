@@ -1,5 +1,5 @@
 use Rattle.std.proofs.Common.{◌≡◌, ◌++◌, map, take}
-use Rattle.h5_model.specs.Symbols.{link_of}
+use Rattle.h5_model.specs.Format.Symbols.{link_of}
 use Rattle.h5_group.specs.Links.{link_from}
 use Rattle.h5_group.proofs.list.push_links.Given as goal
 

@@ -1,6 +1,6 @@
 use Rattle.std.proofs.Common.{◌≡◌, ◌∙◌, arith, rules}
-use Rattle.h5_model.specs.Superblock.{leaf_k}
-use Rattle.h5_model.specs.Symbols.{symbol_bytes}
+use Rattle.h5_model.specs.Format.Superblock.{leaf_k}
+use Rattle.h5_model.specs.Format.Symbols.{symbol_bytes}
 use Rattle.h5_group.proofs.Standing.{heap_there, node_there, node_formed}
 use Rattle.h5_group.proofs.read.symbol_node.Goals as goal
 

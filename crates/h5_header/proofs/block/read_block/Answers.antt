@@ -1,5 +1,5 @@
 use Rattle.std.proofs.Common.{◌≡◌, ◌+◌, ◌≤◌, [], ◌∷◌, ◌++◌, arith, rules, sym, ◌∙◌, ap, subst, append-nil}
-use Rattle.h5_model.specs.Messages.{continuation}
+use Rattle.h5_model.specs.Format.Messages.{continuation}
 use Rattle.h5_header.specs.Listed.{message_in}
 use Rattle.h5_header.specs.Heads.{IsHead}
 use Rattle.h5_header.proofs.FillLaws.{read_more}

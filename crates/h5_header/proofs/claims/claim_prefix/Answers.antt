@@ -1,7 +1,7 @@
 use Rattle.std.proofs.Common.{◌≡◌, ◌+◌, length, refl, sym, ◌∙◌, ap, arith}
 use Rattle.std.proofs.lemmas.Result.{err_from_is_err_and}
 use Rattle.h5_bytes.specs.Blocks.{block}
-use Rattle.h5_model.specs.Messages.{prefix_at, first_size}
+use Rattle.h5_model.specs.Format.Messages.{prefix_at, first_size}
 use Rattle.h5_space.specs.Claimed.{ClaimBreach}
 use Rattle.h5_header.specs.Refused.{header_block}
 use Rattle.h5_header.proofs.PrefixLaws.{first_size-is, version-is, prefix_breach}

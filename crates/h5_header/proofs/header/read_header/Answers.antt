@@ -2,7 +2,7 @@ use Rattle.std.proofs.Common.{◌≡◌, ◌+◌, ◌-◌, ◌<◌, ◌≤◌, i
 use Rattle.std.proofs.lemmas.Result.{err_from_is_err_and}
 use Rattle.h5_bytes.specs.Blocks.{block}
 use Rattle.h5_bytes.specs.declared.Block.{Block}
-use Rattle.h5_model.specs.Messages.{prefix_at, first_size}
+use Rattle.h5_model.specs.Format.Messages.{prefix_at, first_size}
 use Rattle.h5_header.specs.Progress.{ReadTo, without_memory, at_message, at_block}
 use Rattle.h5_header.proofs.ThroughLaws.{first_through, first_stops, stops_at_block, next_through, next_smaller}
 use Rattle.h5_header.proofs.header.read_header.Goals as goal

@@ -2,7 +2,7 @@ use Rattle.std.proofs.Common.{◌≡◌, ℕ, List, ◌+◌, length, refl, sym, 
 use Rattle.std.proofs.lemmas.List.{length-map}
 use Rattle.std.proofs.lemmas.Result.{err_from_is_err_and}
 use Rattle.h5_bytes.specs.Bytes.{number_at}
-use Rattle.h5_model.specs.Messages.{prefix_at, total_in}
+use Rattle.h5_model.specs.Format.Messages.{prefix_at, total_in}
 use Rattle.h5_header.specs.Listed.{message_in, messages_in}
 use Rattle.h5_header.specs.declared.message.Message.{Message as Placed}
 use Rattle.h5_header.proofs.RefusedLaws.{stops_refused}

@@ -1,7 +1,7 @@
 use Rattle.std.proofs.Common.{rules, ◌≡◌, ◌+◌, ◌*◌, ℕ, to_z, of_z, ◌∙◌, ap}
 use Rattle.std.specs.List.{slice_range}
 use mir.Syntax.{w128}
-use Rattle.h5_model.specs.Fixed.{value_of}
+use Rattle.h5_model.specs.Format.Fixed.{value_of}
 use Rattle.h5_model.proofs.ValueLaws.{decoded_at}
 use Rattle.h5_layout.proofs.array.value_in.Goals as goal
 

@@ -1,7 +1,7 @@
 use Rattle.std.proofs.Common.{rules, ◌≡◌, ◌+◌, ◌-◌, take, drop, to_z, of_z, ◌∙◌, arith}
 use mir.Syntax.{w128}
 use Rattle.h5_bytes.specs.Bytes.{part}
-use Rattle.h5_model.specs.Cells.{value_in}
+use Rattle.h5_model.specs.Format.Cells.{value_in}
 use Rattle.h5_layout.proofs.array.value_in_block.Goals as goal
 
 pub returns : goal.returns

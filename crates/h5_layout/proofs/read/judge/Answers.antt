@@ -1,8 +1,8 @@
 use Rattle.std.proofs.Common.{rules, ◌≡◌, Some, to_z, of_z, arith}
 use Rattle.std.proofs.lemmas.Result.{err_from_is_err_and}
 use mir.Syntax.{w128}
-use Rattle.h5_model.specs.Datatype.{fixed_of}
-use Rattle.h5_model.specs.Reached.{extent_among, type_among}
+use Rattle.h5_model.specs.Format.Datatype.{fixed_of}
+use Rattle.h5_model.specs.Format.Reached.{extent_among, type_among}
 use Rattle.h5_header.specs.Listed.{messages_in}
 use Rattle.h5_msg.specs.Layouts.{layout_in}
 use Rattle.h5_layout.proofs.RoomLaws.{room_of}

@@ -1,7 +1,7 @@
 use Rattle.std.proofs.Common.{◌≡◌, ◌-◌, ◌*◌, ◌++◌, length, replicate, arith}
 use Rattle.std.proofs.lemmas.Grind.{common_steps}
-use Rattle.h5_model.specs.Places.{cells}
-use Rattle.h5_model.specs.Sizes.{attribute_size}
+use Rattle.h5_model.specs.Tree.Places.{cells}
+use Rattle.h5_model.specs.Format.Sizes.{attribute_size}
 use Rattle.h5_msg.proofs.attribute.write_parts.Goals as goal
 
 pub returns-clause-written : goal.returns-clause-written

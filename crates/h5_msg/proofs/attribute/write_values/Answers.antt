@@ -1,7 +1,7 @@
 use Rattle.std.proofs.Common.{rules, ◌≡◌, ◌+◌, ◌-◌, ◌*◌, ℕ, ℤ, pos, length, get_or, sym, ap, ◌∙◌, arith, to_z, of_z, take, drop, ◌++◌}
 use mir.Syntax.{w128}
 use borrow.Rule.Slice.PartMut.{put_mid}
-use Rattle.h5_model.specs.Fixed.{bytes_of, fits}
+use Rattle.h5_model.specs.Format.Fixed.{bytes_of, fits}
 use Rattle.h5_msg.specs.Written.{value_bytes}
 use Rattle.h5_msg.proofs.AttributeLaws.{cell_room}
 use Rattle.h5_msg.proofs.CellLaws.{all_at, one_more, all_written}

@@ -1,5 +1,5 @@
 use Rattle.std.proofs.Common.{◌≡◌, false, sym, arith}
-use Rattle.h5_model.specs.Extent.{maximum_fits}
+use Rattle.h5_model.specs.Format.Extent.{maximum_fits}
 use Rattle.h5_model.proofs.TestLaws.{each_below_not}
 use Rattle.h5_msg.proofs.dataspace.are_maxima.Goals as goal
 

@@ -1,5 +1,5 @@
 use Rattle.std.proofs.Common.{◌-◌, ◌*◌, ◌^◌, ◌≤◌, ℕ, min, ap, sym, ◌∙◌, length, get_or, take, drop, arith, List}
-use Rattle.h5_model.specs.Places.{cells}
+use Rattle.h5_model.specs.Tree.Places.{cells}
 use Rattle.h5_msg.proofs.LayoutLaws.{needed_step, cells_first}
 use Rattle.h5_msg.proofs.layout.+bytes_needed.Goals as goal
 

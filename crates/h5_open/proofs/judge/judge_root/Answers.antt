@@ -1,7 +1,7 @@
 use Rattle.std.proofs.Common.{◌≡◌, sym, ◌∙◌, ap, Some, None}
 use Rattle.std.specs.Prelude.{option_and_then}
 use Rattle.std.proofs.lemmas.Result.{err_from_is_err_and}
-use Rattle.h5_model.specs.Addresses.{symbol_table_of}
+use Rattle.h5_model.specs.Format.Addresses.{symbol_table_of}
 use Rattle.h5_header.specs.Listed.{messages_in}
 use Rattle.h5_header.proofs.FoundLaws.{none_stands}
 use Rattle.h5_open.proofs.JudgeLaws.{root_breach, first_fails, is_group, some_read, none_read}

@@ -1,6 +1,6 @@
 use Rattle.std.proofs.Common.{◌≡◌, ℕ, ◌<◌, length, get_or}
-use Rattle.h5_model.specs.Superblock.{leaf_k}
-use Rattle.h5_model.specs.Symbols.{symbols_at}
+use Rattle.h5_model.specs.Format.Superblock.{leaf_k}
+use Rattle.h5_model.specs.Format.Symbols.{symbols_at}
 use Rattle.h5_open.proofs.object.check_depth.Given as goal
 
 abbrev pub invariant-loop-node : goal.invariant-loop-node

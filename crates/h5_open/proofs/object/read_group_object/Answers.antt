@@ -2,7 +2,7 @@ use Rattle.std.proofs.lemmas.Result.{err_from_is_err_and}
 use Rattle.h5_header.specs.Listed.{messages_in}
 use Rattle.h5_open.proofs.RefusedLaws.{fault_refused}
 use Rattle.h5_open.proofs.GroupReadLaws.{group_fault, group_met, first, group_object_read, group_object_followed, deep_refused}
-use Rattle.h5_walk.specs.Met.{with_header}
+use Rattle.h5_header.specs.Walk.Met.{with_header}
 use Rattle.h5_open.proofs.object.read_group_object.Goals as goal
 
 pub returns-in_err-table-clause-refused : goal.returns-in_err-table-clause-refused

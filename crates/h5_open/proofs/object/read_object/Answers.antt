@@ -1,8 +1,8 @@
 use Rattle.std.proofs.Common.{sym, subst, ◌≡◌, ℕ}
 use Rattle.std.proofs.lemmas.Result.{err_from_is_err_and}
-use Rattle.h5_model.specs.Messages.{HasMessages}
+use Rattle.h5_model.specs.Format.Messages.{HasMessages}
 use Rattle.h5_header.specs.Listed.{messages_in}
-use Rattle.h5_walk.specs.Met.{IsHeaderMet}
+use Rattle.h5_header.specs.Walk.Met.{IsHeaderMet}
 use Rattle.h5_open.proofs.RefusedLaws.{met_refused}
 use Rattle.h5_open.proofs.ArrayLaws.{kind_fault}
 use Rattle.h5_open.proofs.object.read_object.Goals as goal

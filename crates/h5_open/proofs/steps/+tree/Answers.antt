@@ -6,7 +6,7 @@ use Rattle.h5_open.proofs.StepLaws.{begun, step, link_ready, finished}
 use Rattle.h5_open.specs.Walk.{IsPartly}
 use Rattle.h5_group.specs.Links.{link_from}
 use Rattle.std.proofs.lemmas.List.{length-map}
-use Rattle.h5_whole.specs.Whole.{IsGroupContent}
+use Rattle.h5_open.specs.Placed.Whole.{IsGroupContent}
 use Rattle.h5_open.proofs.steps.+tree.Goals as goal
 
 pub follow-returns-in-Group-clause-refused : goal.follow-returns-in-Group-clause-refused

@@ -1,5 +1,5 @@
 use Rattle.std.proofs.Common.{◌≡◌, ℕ, ◌+◌, ◌-◌, ◌*◌, ◌≤◌, List, length}
-use Rattle.h5_model.specs.Reached.{Named}
+use Rattle.h5_model.specs.Format.Reached.{Named}
 use Rattle.h5_open.specs.Walk.{IsNumbered, IsReady, IsPartly}
 use Rattle.h5_open.proofs.steps.+tree.Given as goal
 

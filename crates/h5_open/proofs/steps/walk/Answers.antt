@@ -1,6 +1,6 @@
 use Rattle.std.proofs.Common.{◌≡◌, [], rules}
 use Rattle.std.proofs.lemmas.Result.{err_from_is_err_and}
-use Rattle.h5_model.specs.Superblock.{root_header}
+use Rattle.h5_model.specs.Format.Superblock.{root_header}
 use Rattle.h5_open.proofs.WholeLaws.{none_numbered, ready_at, whole_at, opened}
 use Rattle.h5_open.proofs.steps.walk.Goals as goal
 

@@ -1,5 +1,5 @@
 use Rattle.std.proofs.Common.{codes}
-use Rattle.h5_lines.specs.Commands.{command_of}
+use Rattle.h5_command.specs.Commands.{command_of}
 use Rattle.h5_script.specs.declared.ran.Outcome.TheVariants.{Refused}
 use Rattle.h5_script.proofs.LineAnswers.{told_or_not, bad_answer, taken_other}
 use Rattle.h5_script.proofs.answer.answer.Goals as goal

@@ -1,5 +1,5 @@
 use Rattle.std.proofs.Common.{codes}
-use Rattle.h5_model.specs.Lines.{Change}
+use Rattle.h5_model.specs.Scripts.Lines.{Change}
 use Rattle.h5_script.specs.declared.ran.Outcome.TheVariants.{Refused}
 use Rattle.h5_script.proofs.LineAnswers.{told_or_not, bad_answer, taken_edit}
 use Rattle.h5_script.proofs.answer.answer_edit.Goals as goal

@@ -1,7 +1,7 @@
 use Rattle.std.proofs.Common.{◌++◌, List, ℕ, codes, ap, ◌∙◌}
 use Rattle.std.specs.Fmt.{decimal}
-use Rattle.h5_model.specs.EditFaults.{refused_text}
-use Rattle.h5_model.specs.Lines.{Change}
+use Rattle.h5_model.specs.Edits.EditFaults.{refused_text}
+use Rattle.h5_model.specs.Scripts.Lines.{Change}
 use Rattle.h5_script.specs.declared.ran.Outcome.TheVariants.{Refused, Accepted}
 use Rattle.h5_script.proofs.LineAnswers.{told_or_not, by_error, not_told, shown_as, edit_accepted, edit_refused}
 use Rattle.h5_script.proofs.answer.carry_out.Goals as goal

@@ -1,8 +1,8 @@
 use Rattle.std.proofs.Common.{sym}
-use Rattle.h5_model.specs.EditFaults.{refused_text}
-use Rattle.h5_model.specs.Paths.{located}
-use Rattle.h5_model.specs.Script.{dumped}
-use Rattle.h5_model.specs.Lines.{Dump}
+use Rattle.h5_model.specs.Edits.EditFaults.{refused_text}
+use Rattle.h5_model.specs.Tree.Paths.{located}
+use Rattle.h5_model.specs.Scripts.Answers.{dumped}
+use Rattle.h5_model.specs.Scripts.Lines.{Dump}
 use Rattle.h5_model.specs.declared.edit_fault.EditFault.TheVariants as fault
 use Rattle.h5_script.specs.declared.ran.Outcome.TheVariants.{Refused, Told}
 use Rattle.h5_script.proofs.LineAnswers.{told_or_not, appended, shown_as, dump_told, dump_refused, dump_no_memory}

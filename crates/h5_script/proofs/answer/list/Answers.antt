@@ -1,7 +1,7 @@
 use Rattle.std.proofs.Common.{sym}
-use Rattle.h5_model.specs.EditFaults.{refused_text}
-use Rattle.h5_model.specs.Text.{list_text}
-use Rattle.h5_model.specs.Lines.{ListAll}
+use Rattle.h5_model.specs.Edits.EditFaults.{refused_text}
+use Rattle.h5_model.specs.Scripts.Text.{list_text}
+use Rattle.h5_model.specs.Scripts.Lines.{ListAll}
 use Rattle.h5_model.specs.declared.edit_fault.EditFault.TheVariants as fault
 use Rattle.h5_script.specs.declared.ran.Outcome.TheVariants.{Refused, Told}
 use Rattle.h5_script.proofs.LineAnswers.{told_or_not, appended, shown_as, list_told, list_refused}

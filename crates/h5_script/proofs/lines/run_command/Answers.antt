@@ -1,4 +1,4 @@
-use Rattle.h5_lines.specs.Commands.{command_of}
+use Rattle.h5_command.specs.Commands.{command_of}
 use Rattle.h5_script.proofs.LineRuns.{by_memory, line_untold, line_written}
 use Rattle.h5_script.proofs.lines.run_command.Goals as goal
 

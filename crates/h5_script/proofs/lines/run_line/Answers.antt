@@ -1,7 +1,7 @@
 use Rattle.std.proofs.Common.{Option, ap, sym, ◌∙◌}
 use Rattle.std.specs.Prelude.{option_map}
-use Rattle.h5_lines.specs.Commands.{command_of}
-use Rattle.h5_lines.specs.declared.command.Command.{Command}
+use Rattle.h5_command.specs.Commands.{command_of}
+use Rattle.h5_command.specs.declared.command.Command.{Command}
 use Rattle.h5_script.specs.Pieces.{commands_of_line}
 use Rattle.h5_script.proofs.LineRuns.{by_memory, line_passed, line_asked}
 use Rattle.h5_script.proofs.RunLaws.{has_begun_none}

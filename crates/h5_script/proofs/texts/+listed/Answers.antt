@@ -1,12 +1,12 @@
 use Rattle.std.proofs.Common.{◌≡◌, ℕ, suc, ◌-◌, ◌++◌, List, codes, map, take, sym, ap, ◌∙◌, subst, append_assoc, append-nil, arith}
 use Rattle.std.specs.Prelude.{MatchOption}
 use Rattle.std.specs.List.{flat_map}
-use Rattle.h5_model.specs.Text.{content_text, escaped, joined_path, line_of}
-use Rattle.h5_model.specs.Tree.{Array}
+use Rattle.h5_model.specs.Scripts.Text.{content_text, escaped, joined_path, line_of}
+use Rattle.h5_model.specs.Tree.Objects.{Array}
 use Rattle.h5_text.specs.Appends.{Appends}
 use Rattle.h5_text.proofs.Appending.{appends_err}
 use Rattle.h5_text.proofs.LineTexts.{in_two_pieces}
-use Rattle.h5_look.specs.Listed.{AreLinks, IsNoGroup, seen_link}
+use Rattle.h5_query.specs.Listed.{AreLinks, IsNoGroup, seen_link}
 use Rattle.h5_script.specs.Listing.{lines_of_link}
 use Rattle.h5_script.proofs.Listings.{lines_of_array, lines_of_last, lines_of_next, lines_of_nothing}
 use Rattle.h5_script.proofs.texts.+listed.Goals as goal

@@ -2,7 +2,7 @@ use Rattle.std.proofs.Common.{◌≡◌, List, ℕ, ℤ, ◌++◌, ◌/◌, leng
 use Rattle.std.specs.Int.{w128}
 use Rattle.std.specs.List.{flat_map}
 use Rattle.std.proofs.lemmas.Int.{to_z-of_z}
-use Rattle.h5_model.specs.Text.{attribute_line, escaped, rows_text}
+use Rattle.h5_model.specs.Scripts.Text.{attribute_line, escaped, rows_text}
 use Rattle.h5_text.specs.Appends.{Appends}
 use Rattle.h5_text.specs.Listing.{dump_line}
 use Rattle.h5_text.proofs.Appending.{appends_more}

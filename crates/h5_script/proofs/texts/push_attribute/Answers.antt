@@ -4,7 +4,7 @@ use Rattle.std.specs.Int.{w128}
 use Rattle.std.proofs.lemmas.Int.{to_z-of_z}
 use Rattle.std.proofs.lemmas.List.{take_more}
 use Rattle.std.proofs.lemmas.Option.{get_or_from_slice_get}
-use Rattle.h5_model.specs.Text.{attribute_line, values_text}
+use Rattle.h5_model.specs.Scripts.Text.{attribute_line, values_text}
 use Rattle.h5_text.specs.Listing.{attribute_head}
 use Rattle.h5_text.proofs.Appending.{appends_err, appends_more}
 use Rattle.h5_text.proofs.Joining.{values_step}

@@ -1,5 +1,5 @@
 use Rattle.std.proofs.Common.{◌≡◌, ◌++◌, take}
-use Rattle.h5_model.specs.Text.{values_text}
+use Rattle.h5_model.specs.Scripts.Text.{values_text}
 use Rattle.h5_text.specs.Listing.{attribute_head}
 use Rattle.h5_script.proofs.texts.push_attribute.Given as goal
 

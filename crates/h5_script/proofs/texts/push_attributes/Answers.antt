@@ -1,6 +1,6 @@
 use Rattle.std.proofs.Common.{take}
 use Rattle.std.specs.List.{flat_map}
-use Rattle.h5_model.specs.Text.{attribute_line}
+use Rattle.h5_model.specs.Scripts.Text.{attribute_line}
 use Rattle.h5_text.proofs.Appending.{appends_err}
 use Rattle.h5_script.proofs.texts.push_attributes.Goals as goal
 

@@ -1,10 +1,10 @@
 use Rattle.std.proofs.Common.{◌≡◌, ℕ, ℤ, List, Option, replicate, ap, ◌∙◌, sym, subst, rules, arith, Bor, to_z, of_z}
 use Rattle.std.specs.Int.{w128}
 use Rattle.std.proofs.lemmas.Int.{to_z-of_z}
-use Rattle.h5_model.specs.Script.{stored_values}
+use Rattle.h5_model.specs.Scripts.Answers.{stored_values}
 use Rattle.h5_text.specs.Appends.{Appends}
 use Rattle.h5_text.specs.Rows.{cells_from}
-use Rattle.h5_look.specs.Look.{AreCells}
+use Rattle.h5_query.specs.Look.{AreCells}
 use Rattle.h5_script.proofs.Dumps.{one-row}
 use Rattle.h5_script.proofs.texts.push_cells.Goals as goal
 

@@ -1,6 +1,6 @@
 use Rattle.std.proofs.Common.{List, ℕ, ◌++◌, codes, ap, ◌∙◌, subst}
 use Rattle.std.specs.List.{flat_map}
-use Rattle.h5_model.specs.Text.{attribute_line, escaped, line_of}
+use Rattle.h5_model.specs.Scripts.Text.{attribute_line, escaped, line_of}
 use Rattle.h5_text.specs.Appends.{Appends}
 use Rattle.h5_text.proofs.Appending.{appends_more}
 use Rattle.h5_script.proofs.Dumps.{dump-group}

@@ -1,5 +1,5 @@
 use Rattle.std.proofs.Common.{◌≡◌, ◌+◌, ◌*◌, drop}
-use Rattle.h5_model.specs.Places.{cells, place_of, IsInside}
+use Rattle.h5_model.specs.Tree.Places.{cells, place_of, IsInside}
 use Rattle.h5_shape.proofs.dims.place.Given as goal
 
 -- the place so far, and what the rest of the index adds

@@ -1,5 +1,5 @@
 use Rattle.std.proofs.Common.{◌≡◌, ◌++◌, take, drop}
-use Rattle.h5_model.specs.Selection.{axes_from}
+use Rattle.h5_model.specs.Views.Selection.{axes_from}
 use Rattle.h5_shape.proofs.slab.fill.Given as goal
 
 -- the axes so far, and those of what is left of the lists

@@ -1,5 +1,5 @@
 use Rattle.std.proofs.Common.{ℕ, List, ap, ◌∙◌}
-use Rattle.h5_model.specs.Symbols.{entry_of}
+use Rattle.h5_model.specs.Format.Symbols.{entry_of}
 use Rattle.h5_bytes.specs.Bytes.{number_at}
 use Rattle.h5_snod.proofs.read.cache_type.Goals as goal
 

@@ -1,7 +1,7 @@
 use Rattle.std.proofs.Common.{ℕ, List, ap, ◌∙◌}
 use Rattle.h5_bytes.specs.Bytes.{number_at}
 use Rattle.h5_bytes.specs.Texts.{text_at}
-use Rattle.h5_model.specs.Symbols.{entry_of}
+use Rattle.h5_model.specs.Format.Symbols.{entry_of}
 use Rattle.h5_snod.proofs.search.entry_name.Goals as goal
 
 pub returns : goal.returns

@@ -1,5 +1,5 @@
-use Rattle.h5_model.specs.Text.{content_text}
-use Rattle.h5_model.specs.Tree.{Array}
+use Rattle.h5_model.specs.Scripts.Text.{content_text}
+use Rattle.h5_model.specs.Tree.Objects.{Array}
 use Rattle.h5_text.specs.Listing.{path_text, told_dataset}
 use Rattle.h5_text.proofs.LineTexts.{appends_line}
 use Rattle.h5_text.proofs.listing.push_array_line.Goals as goal

@@ -1,5 +1,5 @@
 use Rattle.std.proofs.Common.{◌++◌, codes}
-use Rattle.h5_model.specs.Text.{escaped, type_text, sizes_text}
+use Rattle.h5_model.specs.Scripts.Text.{escaped, type_text, sizes_text}
 use Rattle.h5_text.proofs.Appending.{appends_more}
 use Rattle.h5_text.proofs.LineTexts.{in_two_pieces}
 use Rattle.h5_text.proofs.listing.push_attribute_head.Goals as goal

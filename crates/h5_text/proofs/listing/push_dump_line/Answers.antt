@@ -1,6 +1,6 @@
 use Rattle.std.proofs.Common.{◌++◌, codes}
-use Rattle.h5_model.specs.Text.{content_text, dataset_text}
-use Rattle.h5_model.specs.Tree.{Array}
+use Rattle.h5_model.specs.Scripts.Text.{content_text, dataset_text}
+use Rattle.h5_model.specs.Tree.Objects.{Array}
 use Rattle.h5_text.specs.Listing.{path_text, told_dataset}
 use Rattle.h5_text.proofs.Appending.{appends_more}
 use Rattle.h5_text.proofs.LineTexts.{in_two_pieces}

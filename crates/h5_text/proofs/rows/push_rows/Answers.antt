@@ -3,7 +3,7 @@ use Rattle.std.proofs.Math.Nat.{mod-add-div'}
 use Rattle.std.specs.Int.{w128}
 use Rattle.std.proofs.lemmas.Int.{to_z-of_z}
 use Rattle.std.proofs.lemmas.List.{length-take-le, take_more}
-use Rattle.h5_model.specs.Text.{rows_text}
+use Rattle.h5_model.specs.Scripts.Text.{rows_text}
 use Rattle.h5_text.specs.Rows.{cell_text, cells_from}
 use Rattle.h5_text.proofs.Appending.{appends_err}
 use Rattle.h5_text.proofs.RowLaws.{row_step, column_step}

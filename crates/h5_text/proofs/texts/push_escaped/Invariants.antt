@@ -1,5 +1,5 @@
 use Rattle.std.proofs.Common.{◌≡◌, ◌++◌, take}
-use Rattle.h5_model.specs.Text.{escaped}
+use Rattle.h5_model.specs.Scripts.Text.{escaped}
 use Rattle.h5_text.proofs.texts.push_escaped.Given as goal
 
 abbrev pub invariant-loop-byte : goal.invariant-loop-byte

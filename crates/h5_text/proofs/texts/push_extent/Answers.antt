@@ -1,6 +1,6 @@
 use Rattle.std.proofs.Common.{◌≡◌, ◌+◌, ◌<◌, ◌++◌, length, get_or, take, codes, None, ap, ◌∙◌, sym, arith}
 use Rattle.std.specs.List.{join_by, zip}
-use Rattle.h5_model.specs.Text.{size_text}
+use Rattle.h5_model.specs.Scripts.Text.{size_text}
 use Rattle.h5_text.proofs.Appending.{appends_more}
 use Rattle.h5_text.proofs.Joining.{before, before_none, before_some, join_more, joined_step, length-pairs, pair_at, pairs_all}
 use Rattle.h5_text.proofs.texts.push_extent.Goals as goal

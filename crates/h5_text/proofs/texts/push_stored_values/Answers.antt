@@ -4,7 +4,7 @@ use Rattle.std.specs.Int.{w128}
 use Rattle.std.specs.List.{range_with_len}
 use Rattle.std.proofs.lemmas.Int.{to_z-of_z}
 use Rattle.std.proofs.lemmas.List.FromFn.{map-range_with_len_more}
-use Rattle.h5_model.specs.Fixed.{value_at}
+use Rattle.h5_model.specs.Format.Fixed.{value_at}
 use Rattle.h5_text.proofs.Joining.{values_step}
 use Rattle.h5_model.proofs.ValueLaws.{decoded_cell}
 use Rattle.h5_text.proofs.texts.push_stored_values.Goals as goal

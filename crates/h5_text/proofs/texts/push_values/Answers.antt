@@ -3,7 +3,7 @@ use Rattle.std.specs.Fmt.{signed_decimal}
 use Rattle.std.specs.Int.{w128}
 use Rattle.std.proofs.lemmas.Int.{to_z-of_z}
 use Rattle.std.proofs.lemmas.List.{take_more}
-use Rattle.h5_model.specs.Text.{values_text}
+use Rattle.h5_model.specs.Scripts.Text.{values_text}
 use Rattle.h5_text.proofs.Appending.{appends_err}
 use Rattle.h5_text.proofs.Joining.{values_step}
 use Rattle.h5_text.proofs.texts.push_values.Goals as goal

@@ -1,5 +1,5 @@
 use Rattle.std.proofs.Common.{[], ap, sym, ◌∙◌, arith}
-use Rattle.h5_model.specs.Links.{offset_in}
+use Rattle.h5_model.specs.Format.Links.{offset_in}
 use Rattle.std.proofs.lemmas.Option.{get_or_from_slice_get}
 use Rattle.h5_btree.proofs.NodeLaws.{length-keys, key_is}
 use Rattle.h5_btree.proofs.node.Node.key_offset.Goals as goal

@@ -3,7 +3,7 @@ use Rattle.std.specs.Prelude.{slice_index_or}
 use Rattle.std.specs.FinMap.{empty}
 use Rattle.std.proofs.lemmas.Option.{get_or_from_slice_get}
 use mir.Syntax.{w128}
-use Rattle.h5_model.specs.Places.{place_of}
+use Rattle.h5_model.specs.Tree.Places.{place_of}
 use Rattle.h5_model.proofs.PlaceLaws.{place_below}
 use Rattle.h5_layout.specs.Described.{dataset_in}
 use Rattle.h5_layout.proofs.RoomLaws.{few}

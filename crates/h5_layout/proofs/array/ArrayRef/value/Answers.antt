@@ -5,8 +5,8 @@ use Rattle.std.specs.Option.{option_map_or}
 use mir.Syntax.{w128}
 use Rattle.h5_bytes.specs.Bytes.{part}
 use Rattle.h5_bytes.specs.declared.Block.{Block}
-use Rattle.h5_model.specs.Places.{cells, index_of}
-use Rattle.h5_model.specs.Cells.{value_in, cell_of}
+use Rattle.h5_model.specs.Tree.Places.{cells, index_of}
+use Rattle.h5_model.specs.Format.Cells.{value_in, cell_of}
 use Rattle.h5_msg.specs.Layouts.{layout_in}
 use Rattle.h5_layout.specs.Described.{Described, array_of, dataset_in}
 use Rattle.h5_layout.proofs.RoomLaws.{place_room, get-cells, message_cell, block_cell}

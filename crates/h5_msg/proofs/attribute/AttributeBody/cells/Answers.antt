@@ -1,6 +1,6 @@
 use Rattle.std.proofs.Common.{◌≡◌, ◌≤◌, ℕ, List, length, ap, sym, ◌∙◌, arith}
-use Rattle.h5_model.specs.Places.{cells}
-use Rattle.h5_model.specs.Tree.{Attribute}
+use Rattle.h5_model.specs.Tree.Places.{cells}
+use Rattle.h5_model.specs.Tree.Objects.{Attribute}
 use Rattle.h5_msg.proofs.AttributeLaws.{cells_few, length-values, size_positive}
 use Rattle.h5_msg.proofs.attribute.AttributeBody.cells.Goals as goal
 

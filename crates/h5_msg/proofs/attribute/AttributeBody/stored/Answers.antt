@@ -1,8 +1,8 @@
 use Rattle.std.proofs.Common.{◌≡◌, ◌+◌, ◌*◌, ◌≤◌, ℕ, List, length, ap, subst, sym, ◌∙◌}
-use Rattle.h5_model.specs.AttributeBody.{values_at}
-use Rattle.h5_model.specs.Places.{cells}
-use Rattle.h5_model.specs.Plain.{cells_bytes}
-use Rattle.h5_model.specs.Tree.{Attribute}
+use Rattle.h5_model.specs.Format.AttributeBody.{values_at}
+use Rattle.h5_model.specs.Tree.Places.{cells}
+use Rattle.h5_model.specs.Format.Plain.{cells_bytes}
+use Rattle.h5_model.specs.Tree.Objects.{Attribute}
 use Rattle.h5_msg.proofs.attribute.AttributeBody.stored.Goals as goal
 use Rattle.h5_msg.proofs.attribute.AttributeBody.stored.Goals.{After-cells}
 

@@ -1,7 +1,7 @@
 use Rattle.std.proofs.Common.{rules, ◌≡◌, ◌≤◌, ◌<◌, ◌+◌, ◌*◌, ℕ, ℤ, List, length, slice_get, ap, sym, ◌∙◌, arith, Some}
-use Rattle.h5_model.specs.Places.{cells}
-use Rattle.h5_model.specs.Tree.{Attribute}
-use Rattle.h5_model.specs.Fixed.{value_at}
+use Rattle.h5_model.specs.Tree.Places.{cells}
+use Rattle.h5_model.specs.Tree.Objects.{Attribute}
+use Rattle.h5_model.specs.Format.Fixed.{value_at}
 use Rattle.h5_msg.proofs.AttributeLaws.{cell_room, length-values, value_in}
 use Rattle.h5_msg.proofs.attribute.AttributeBody.value.Goals as goal
 

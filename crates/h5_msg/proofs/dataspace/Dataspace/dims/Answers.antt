@@ -1,7 +1,7 @@
 use Rattle.std.proofs.Common.{arith, ◌≡◌, ◌∙◌, ap, ℕ, map}
 use Rattle.std.proofs.lemmas.Grind.{common_steps}
 use Rattle.std.specs.List.{range_with_len}
-use Rattle.h5_model.specs.Extent.{Extent, size_in}
+use Rattle.h5_model.specs.Format.Extent.{Extent, size_in}
 use Rattle.h5_msg.proofs.dataspace.Dataspace.dims.Goals as goal
 
 pub returns : goal.returns

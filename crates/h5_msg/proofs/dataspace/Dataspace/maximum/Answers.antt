@@ -1,6 +1,6 @@
 use Rattle.std.proofs.Common.{arith, sym, ap, ◌≡◌, ◌+◌, ◌*◌, ◌∙◌, Some, ℕ, Option}
 use Rattle.h5_bytes.specs.Bytes.{number_at, byte_at}
-use Rattle.h5_model.specs.Extent.{rank_in, size_in}
+use Rattle.h5_model.specs.Format.Extent.{rank_in, size_in}
 use Rattle.h5_msg.proofs.ExtentLaws.{room_in, length-sizes, size_at, maximum_at, maximum_absent, maximum_unlimited, maximum_limited}
 use Rattle.h5_msg.proofs.dataspace.Dataspace.maximum.Goals as goal
 

@@ -1,5 +1,5 @@
 use Rattle.std.proofs.Common.{◌≡◌}
-use Rattle.h5_model.specs.Selection.{is_within}
+use Rattle.h5_model.specs.Views.Selection.{is_within}
 use Rattle.h5_model.proofs.CountLaws.{length-selection}
 use Rattle.h5_model.proofs.WithinLaws.{from_is_within, to_is_within}
 use Rattle.h5_shape.proofs.slab.Slab.within.Goals as goal

@@ -1,5 +1,5 @@
 use Rattle.std.proofs.Common.{Option, Some, option_map, ap, sym, ◌∙◌, arith}
-use Rattle.h5_model.specs.Symbols.{Entry, entry_of}
+use Rattle.h5_model.specs.Format.Symbols.{Entry, entry_of}
 use Rattle.h5_snod.specs.Entries.{symbol_from}
 use Rattle.h5_snod.proofs.EntryLaws.{count_is, entry_is}
 use Rattle.h5_snod.proofs.node.SymbolNode.entry.Goals as goal

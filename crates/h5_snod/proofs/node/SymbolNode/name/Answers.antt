@@ -1,6 +1,6 @@
 use Rattle.std.proofs.Common.{List, ℕ, Option, Some, option_map, ap, sym, ◌∙◌, arith}
 use Rattle.h5_bytes.specs.Texts.{text_at}
-use Rattle.h5_model.specs.Symbols.{Entry}
+use Rattle.h5_model.specs.Format.Symbols.{Entry}
 use Rattle.h5_snod.proofs.EntryLaws.{count_is, entry_is}
 use Rattle.h5_snod.proofs.node.SymbolNode.name.Goals as goal
 

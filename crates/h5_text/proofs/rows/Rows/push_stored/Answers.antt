@@ -3,7 +3,7 @@ use Rattle.std.specs.Int.{w128}
 use Rattle.std.specs.List.{range_with_len}
 use Rattle.std.proofs.lemmas.Int.{to_z-of_z}
 use Rattle.std.proofs.lemmas.List.FromFn.{length-map-range_with_len, map-range_with_len_more}
-use Rattle.h5_model.specs.Fixed.{value_at}
+use Rattle.h5_model.specs.Format.Fixed.{value_at}
 use Rattle.h5_text.specs.Rows.{cell_text}
 use Rattle.h5_model.proofs.ValueLaws.{decoded_cell}
 use Rattle.h5_text.proofs.RowLaws.{row_step, column_step}

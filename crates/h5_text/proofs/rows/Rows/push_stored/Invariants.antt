@@ -1,6 +1,6 @@
 use Rattle.std.proofs.Common.{◌≡◌, ◌+◌, ◌*◌, ◌%◌, ◌++◌, map}
 use Rattle.std.specs.List.{range_with_len}
-use Rattle.h5_model.specs.Fixed.{value_at}
+use Rattle.h5_model.specs.Format.Fixed.{value_at}
 use Rattle.h5_text.specs.Rows.{cells_from}
 use Rattle.h5_text.proofs.rows.Rows.push_stored.Given as goal
 

@@ -1,0 +1,84 @@
+//! The command, as clap takes it.
+
+ghost use Rattle.std.specs.Prelude.{◌≡◌, IfOk, false};
+ghost use Rattle.clap.specs.Words.{app_of, rule_of};
+ghost use Rattle.h5_args.specs.Words.{required_rule, also, file_app, path_app, h5i_app};
+
+use clap::{Arg, Command};
+use std::alloc::{AllocError, Global};
+
+/// A value that has to be given.
+fn value<'a>(alloc: Global, name: &'a str, help: &'a str) -> Arg<'a>
+    ensures rule { rule_of result ≡ required_rule name.entry.now }
+    ensures local { result.global ≡ false }
+{
+    Arg::new(alloc, name).required(true).help(help)
+}
+
+/// The command with a subcommand more, which takes a file.
+fn with_file<'a>(
+    alloc: Global,
+    command: Command<'a>,
+    name: &'a str,
+    about: &'a str,
+    help: &'a str,
+) -> Result<Command<'a>, AllocError>
+    ensures { IfOk result (λ c. app_of c ≡ also (app_of command.entry) (file_app name.entry.now)) }
+{
+    let named = Command::new(alloc, name).about(about);
+    let sub = named.arg(value(alloc, "FILE", help))?;
+    command.subcommand(sub)
+}
+
+/// The command with a subcommand more, which takes a file and a path in it.
+fn with_path<'a>(
+    alloc: Global,
+    command: Command<'a>,
+    name: &'a str,
+    about: &'a str,
+    help: &'a str,
+) -> Result<Command<'a>, AllocError>
+    ensures { IfOk result (λ c. app_of c ≡ also (app_of command.entry) (path_app name.entry.now)) }
+{
+    let named = Command::new(alloc, name).about(about);
+    let with_file = named.arg(value(alloc, "FILE", "The file to read"))?;
+    let sub = with_file.arg(value(alloc, "PATH", help))?;
+    command.subcommand(sub)
+}
+
+/// The command `h5i`, with the line that its help has for each subcommand.
+pub fn h5i<'a>(alloc: Global) -> Result<Command<'a>, AllocError>
+    ensures { IfOk result (λ c. app_of c ≡ h5i_app) }
+{
+    let none = Command::new(alloc, "h5i")
+        .about("Create, read and edit HDF5 files of whole-number arrays")
+        .subcommand_required(true);
+    let with_new = with_file(
+        alloc,
+        none,
+        "new",
+        "Write a file with an empty root group, in place of what was there: h5i new e.h5",
+        "The file to write",
+    )?;
+    let with_ls = with_file(
+        alloc,
+        with_new,
+        "ls",
+        "List what a file holds: h5i ls e.h5",
+        "The file to read",
+    )?;
+    let with_dump = with_path(
+        alloc,
+        with_ls,
+        "dump",
+        "Print an array and its values: h5i dump e.h5 /d",
+        "The path to print, as /d; a byte that does not print is written by its number, as \\x20 for a space",
+    )?;
+    with_file(
+        alloc,
+        with_dump,
+        "run",
+        "Run the script on standard input: echo 'dataset /d i32le 3 contiguous' | h5i run e.h5",
+        "The file to read, and to write back where the script ends and an edit was accepted",
+    )
+}

@@ -1,0 +1,65 @@
+//! Words read as an order.
+
+ghost use Rattle.std.specs.Prelude.{◌≡◌, IfOk, IfErr, map, option_map};
+ghost use Rattle.clap.specs.Words.{kind_of, subcommand_rows_of};
+ghost use Rattle.clap.specs.declared.error.kind.ErrorKind.TheVariants.{OutOfMemory};
+ghost use Rattle.h5_args.specs.Words.{Taken, asked, wanted, wanted_by};
+ghost use Rattle.h5_args.specs.Order.{texts_of};
+ghost use Rattle.h5_args.specs.declared.orders.OrderFault.TheVariants.{NoMemory};
+
+use crate::command::h5i;
+use crate::orders::{Order, OrderFault};
+use clap::error::ErrorKind;
+use clap::{ArgMatches, Error};
+use std::alloc::Global;
+use std::convert::AsStr;
+
+/// The order of this name, where there is such an order and it is given what it needs.
+fn order_of<'a>(name: &str, file: Option<&'a str>, path: Option<&'a str>) -> Option<Order<'a>>
+    ensures { option_map texts_of result ≡ wanted_by name.now (option_map (λ t. t.now) file.entry) (option_map (λ t. t.now) path.entry) }
+{
+    let file = file?;
+    match name {
+        "new" => Some(Order::New { file }),
+        "ls" => Some(Order::Ls { file }),
+        "dump" => Some(Order::Dump { file, path: path? }),
+        "run" => Some(Order::Run { file }),
+        _ => None,
+    }
+}
+
+fn order_in<'a>(matches: &ArgMatches<'a>) -> Option<Order<'a>>
+    ensures { option_map texts_of result ≡ wanted (subcommand_rows_of matches.now) }
+{
+    let (name, inner) = matches.subcommand()?;
+    order_of(name, inner.get_str("FILE"), inner.get_str("PATH"))
+}
+
+/// What clap says of words that it does not take.
+fn fault_of(alloc: Global, error: &Error) -> OrderFault
+    ensures { kind_of error.now ≡ OutOfMemory → result ≡ NoMemory }
+{
+    if error.kind() == ErrorKind::OutOfMemory {
+        return OrderFault::NoMemory;
+    }
+    match format!(in alloc; "{error}") {
+        Ok(text) if error.exit_code() == 0 => OrderFault::Help(text),
+        Ok(text) => OrderFault::Wrong(text),
+        Err(_) => OrderFault::NoMemory,
+    }
+}
+
+/// What the words, the program's name first, ask for.
+///
+/// `None` where the matches lack the subcommand, its file or its path.
+pub fn order<'a, S: AsStr>(alloc: Global, words: &'a [S]) -> Result<Option<Order<'a>>, OrderFault>
+    ensures order { IfOk result (λ o. option_map texts_of o ≡ asked (map S.text words.entry.now)) }
+    // Words that the command takes are refused for want of memory alone.
+    ensures only { Taken (map S.text words.entry.now) → IfErr result (λ e. e ≡ NoMemory) }
+{
+    let command = h5i(alloc)?;
+    match command.try_get_matches_from(words) {
+        Ok(matches) => Ok(order_in(&matches)),
+        Err(error) => Err(fault_of(alloc, &error)),
+    }
+}

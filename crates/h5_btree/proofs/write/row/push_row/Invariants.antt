@@ -1,0 +1,17 @@
+use Rattle.std.proofs.Common.{◌≡◌, ◌+◌, ◌*◌, ◌^◌, ◌<◌, ◌++◌, length}
+use Rattle.h5_bytes.specs.Bytes.{undefined}
+use Rattle.h5_model.specs.Format.Sizes.{group_node}
+use Rattle.h5_btree.specs.Writing.Written.{row_bytes}
+use Rattle.h5_btree.proofs.WriteLaws.Steps.{rest_of}
+use Rattle.h5_btree.proofs.write.row.push_row.Given as goal
+
+-- the nodes so far, with those to come
+abbrev pub invariant-loop-rest : goal.invariant-loop-rest
+invariant-loop-rest l = record {
+  written : l.out.items ++ row_bytes l.internal l.level l.left l.before l.place (rest_of (2 * l.internal) l.rest)
+      ≡ l.initial.out.items ++ row_bytes l.internal l.level undefined 0 l.at (rest_of (2 * l.internal) l.children);
+  room : l.place + length (rest_of (2 * l.internal) l.rest) * group_node l.internal < 2 ^ 63;
+}
+
+abbrev pub decreases-loop-rest : goal.decreases-loop-rest
+decreases-loop-rest l = length l.rest

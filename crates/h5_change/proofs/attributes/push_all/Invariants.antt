@@ -1,9 +1,0 @@
-use Rattle.std.proofs.Common.{drop}
-use Rattle.std.specs.List.{AllByRecursion}
-use Rattle.h5_bodies.specs.Sound.{IsPlainAttribute}
-use Rattle.h5_change.specs.Appended.{IsPushing, attribute_messages}
-use Rattle.h5_change.proofs.attributes.push_all.Given as goal
-
-abbrev pub invariant-loop-attribute : goal.invariant-loop-attribute
-invariant-loop-attribute l = IsPushing l.fn.others l.others (attribute_messages (drop l.attribute-index l.list)) (attribute_messages l.list)
-    × AllByRecursion IsPlainAttribute (drop l.attribute-index l.list)

@@ -1,8 +1,0 @@
-use Rattle.std.proofs.Common.{◌≡◌, map, take}
-use Rattle.h5_tree.specs.Objects.{headers}
-use Rattle.h5_look.specs.Listed.{in_tree}
-use Rattle.h5_objects.specs.Objects.{tree_link}
-use Rattle.h5_change.proofs.links.tree_links.Given as goal
-
-abbrev pub invariant-loop-link : goal.invariant-loop-link
-invariant-loop-link l = map tree_link l.links.items ≡ map (in_tree (headers l.opened.objects.items)) (take l.link-index l.found)

@@ -1,6 +1,0 @@
-use Rattle.h5_change.specs.Edited.{edited}
-use Rattle.h5_change.proofs.ChangeLaws.{AreWritten}
-use Rattle.h5_change.proofs.objects.changed_objects.Given as goal
-
-abbrev pub invariant-loop-object : goal.invariant-loop-object
-invariant-loop-object l = AreWritten l.image.bytes l.opened.objects.items l.place (edited l.edit) l.objects.items l.object-index

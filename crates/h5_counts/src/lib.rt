@@ -1,7 +1,0 @@
-//! Reference counts: each object header says how many links lead to it (File Format Specification 3.0, section IV.A.1.a).
-#![tactic(auto)]
-
-mod check;
-mod links;
-
-pub use check::check_counts;

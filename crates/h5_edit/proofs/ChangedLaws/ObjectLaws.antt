@@ -1,0 +1,93 @@
+-- What is kept of one object of an opened image.
+use Rattle.std.proofs.Common.{◌≡◌, ℕ, List, [], ◌∷◌, Vec, length, map, sym, ap, ◌∙◌, subst, Some}
+use Rattle.std.specs.Prelude.{slice_get}
+use Rattle.std.specs.Borrow.{Bor}
+use Rattle.std.specs.declared.alloc.Global.{Global}
+use Rattle.std.specs.List.{AllByRecursion, AllZip}
+use Rattle.std.specs.Ordering.{nat_cmp}
+use Rattle.std.specs.Cmp.Lexicographic.{slice_cmp}
+use Rattle.std.specs.FinMap.{empty}
+use Rattle.std.specs.BTreeMap.{BTreeMap}
+use Rattle.h5_bytes.specs.Blocks.{Inside}
+use Rattle.h5_header.specs.Listed.{messages_in}
+use Rattle.h5_layout.specs.Described.{HasArray}
+use Rattle.h5_group.specs.Links as group
+use Rattle.h5_group.specs.Links.{IsGroupRead, link_from}
+use Rattle.h5_group.specs.declared.group.Group.{Group}
+use Rattle.h5_group.specs.declared.link.LinkRef.{LinkRef}
+use Rattle.h5_query.specs.Listed.{IsLed}
+use Rattle.h5_query.proofs.ListedLaws.{found_led}
+use Rattle.h5_model.specs.Edits.Applied.{new_object, new_dataset}
+use Rattle.h5_model.specs.Format.Messages.{Message}
+use Rattle.h5_model.specs.Tree.Objects.{Content, Attribute, Link, Group as GroupContent, Array}
+use Rattle.h5_model.specs.declared.dataset.Spec.{Spec}
+use Rattle.h5_model.proofs.EmptyReads.{entries-empty}
+use Rattle.h5_repack.specs.Objects.Objects.{IsNewArray, IsNewContent, IsNewObject, tree_link}
+use Rattle.h5_repack.specs.declared.objects.object.NewArray.{NewArray}
+use Rattle.h5_repack.specs.declared.objects.object.NewContent.{NewContent}
+use Rattle.h5_repack.specs.declared.objects.object.NewContent.TheVariants as new
+use Rattle.h5_repack.specs.declared.objects.object.TreeLink.{TreeLink}
+use Rattle.h5_repack.specs.Blocks.Others.{OthersBytes}
+use Rattle.h5_repack.specs.Blocks.Written.{AreOthers}
+use Rattle.h5_repack.specs.Bodies.Bodies.{attribute_message, others_of}
+use Rattle.h5_open.specs.Opened.Array.{data_blocks, described}
+use Rattle.h5_open.specs.Opened.Headers.{IsHeaderKept}
+use Rattle.h5_open.specs.Opened.Kept.{IsOpened, IsContentKept, IsObjectKept}
+use Rattle.h5_open.specs.Opened.Objects.{headers}
+use Rattle.h5_open.specs.declared.opened.line.Line.{Line}
+use Rattle.h5_open.specs.declared.opened.object.OpenedObject.{OpenedObject}
+use Rattle.h5_open.specs.declared.opened.object.OpenedContent.TheVariants as content
+use Rattle.h5_open.proofs.OpenedLaws.Indexed.{object_kept}
+use Rattle.h5_edit.specs.Changed.Edited.{new_objects, new_target}
+use Rattle.h5_edit.specs.declared.change.change.Change.{Change}
+use Rattle.h5_edit.specs.declared.change.change.Change.TheVariants.{Link as Linked}
+use Rattle.h5_edit.specs.declared.change.change.Target.{Target}
+use Rattle.h5_edit.specs.declared.change.change.Target.TheVariants as target
+
+module _ (image : List ℕ) (objects : List OpenedObject) (numbers : BTreeMap ℕ ℕ) (opened : IsOpened image objects numbers)
+    (o : OpenedObject) (there : (k : ℕ) × (slice_get objects k ≡ Some o)) where
+  abbrev ms : List Message
+  ms = messages_in image o.messages.list
+
+  kept : IsObjectKept image o
+  kept = object_kept image objects numbers opened there.0 o there.1
+
+  pub header_kept : IsHeaderKept image o.messages
+  header_kept = kept.header
+
+  module _ (g : Group) (is : o.content ≡ content.Group g) where
+    pub read : IsGroupRead image g
+    read = (subst (IsContentKept image ms) is kept.content).2
+
+    -- each link leads to an object's header
+    pub led : (found : List LinkRef) → map link_from found ≡ group.links_of image g → AllByRecursion (IsLed (headers objects)) found
+    led found all = found_led image objects numbers opened there.0 o there.1 g is found all
+
+  module _ (line : Line) (is : o.content ≡ content.Array line) where
+    pub array_there : (list : List Message) × HasArray list (described line)
+    array_there = (ms, ((subst (IsContentKept image ms) is kept.content).0).array)
+
+    pub cells_inside : Inside (length image) (data_blocks line.cells)
+    cells_inside = (subst (IsContentKept image ms) is kept.content).1
+
+-- ---- new objects
+
+no_others : (c : Content) → others_of (new_object c) ≡ []
+no_others c = ap (map attribute_message) (entries-empty {X = Attribute} (slice_cmp nat_cmp))
+
+-- a new object without other messages
+module _ (change : Change) (parent : ℕ) (name : Bor (List ℕ)) (t : Target) (linked : change ≡ Linked parent name t) (others : OthersBytes) (none : AreOthers [] others) (x : NewContent) where
+  written : (c : Content) → new_target t ≡ new_object c ∷ [] → IsNewContent x c → AllZip IsNewObject (record { content = x; others = others } ∷ []) (new_objects change)
+  written c is here =
+      subst (AllZip IsNewObject (record { content = x; others = others } ∷ [])) (sym (ap new_objects linked ∙ is))
+      (record { content = here; others = subst (λ ms. AreOthers ms others) (sym (no_others c)) none }, tt)
+
+  pub group_written : t ≡ target.Group → (links : Vec TreeLink Global) → links.items ≡ [] → x ≡ new.Group links → AllZip IsNewObject (record { content = x; others = others } ∷ []) (new_objects change)
+  group_written is links no_links named =
+      let empty_is : IsNewContent (new.Group links) (GroupContent empty) = ap (map tree_link) no_links ∙ sym (entries-empty {X = Link} (slice_cmp nat_cmp)) in
+      written (GroupContent empty) (ap new_target is) (subst (λ (n : NewContent). IsNewContent n (GroupContent empty)) (sym named) empty_is)
+
+  pub array_written : (spec : Bor Spec) → t ≡ target.Array spec → (a : NewArray) → IsNewArray a (new_dataset spec.now) → x ≡ new.Array a
+      → AllZip IsNewObject (record { content = x; others = others } ∷ []) (new_objects change)
+  array_written spec is a same named =
+      written (Array (new_dataset spec.now)) (ap new_target is) (subst (λ (n : NewContent). IsNewContent n (Array (new_dataset spec.now))) (sym named) same)

@@ -1,0 +1,113 @@
+-- Objects that are read, and new ones, can be written in the plain layout (File Format Specification 3.0, section IV.A.2).
+use Rattle.std.proofs.Common.{◌≡◌, ℕ, ◌+◌, ◌^◌, ◌≤◌, List, [], ◌∷◌, length, map, true, false, cond, Some, refl, sym, ap, ◌∙◌, subst, arith, length-append}
+use Rattle.std.specs.Prelude.{◌==◌, ◌||◌}
+use Rattle.std.specs.List.{AllByRecursion, AllZip, filter}
+use Rattle.std.specs.Ordering.{nat_cmp}
+use Rattle.std.specs.Cmp.Lexicographic.{slice_cmp}
+use Rattle.std.specs.FinMap.{entries}
+use Rattle.std.proofs.Math.ListN.{length-map}
+use Rattle.std.proofs.lemmas.Bool.Decides.{nat_tests}
+use Rattle.h5_model.specs.Format.Messages.{Message, count_of}
+use Rattle.h5_model.specs.Tree.Places.{extent_cells}
+use Rattle.h5_model.specs.Format.AttributeBody.{attribute_of}
+use Rattle.h5_model.specs.Tree.Objects.{Object, Content, Attribute, Attributes}
+use Rattle.h5_model.specs.Format.Reads.{is_kept, kept_of, is_attribute_message}
+use Rattle.h5_model.specs.Edits.Applied.{new_object}
+use Rattle.h5_model.proofs.EmptyReads.{entries-empty}
+use Rattle.h5_header.specs.Listed.{Listed, messages_in}
+use Rattle.h5_open.specs.Opened.Headers.{IsHeaderKept, object_with}
+use Rattle.h5_repack.specs.Bodies.Bodies.{others_of, kept_message, attribute_message}
+use Rattle.h5_repack.specs.Bodies.Sound.{IsPlainKept, IsPlainAttribute, IsPlainObject}
+use Rattle.h5_edit.specs.Fits.Laws.{AreBytes}
+use Rattle.h5_edit.proofs.FitLaws.NamedEntries.{all_filter, length_filter, all_entries, few_entries}
+use Rattle.h5_edit.proofs.FitLaws.PlainBodies.{IsPlainBody, plain_bodies, few_messages, plain_attribute}
+
+-- how many messages an object's header has besides those of its content
+pub length-others : (o : Object) → length (others_of o) ≡ length o.kept + length (entries o.attributes)
+length-others o = length-append (map kept_message o.kept) (map attribute_message (entries o.attributes))
+    ∙ omega (arith, length-map o.kept kept_message, length-map (entries o.attributes) attribute_message)
+
+kept_here : (m : Message) → IsPlainBody m → is_kept m ≡ true → IsPlainKept (kept_of m)
+kept_here m body is = record { kind = is; padded = body.padded; low = body.short }
+
+plain_kept : (ms : List Message) → AllByRecursion IsPlainBody ms → AllByRecursion IsPlainKept (map kept_of (filter is_kept ms))
+plain_kept [] all = tt
+plain_kept (m ∷ ms) all = elim (is_kept m) as (λ b. is_kept m ≡ b → AllByRecursion IsPlainKept (map kept_of (cond b (m ∷ filter is_kept ms) (filter is_kept ms)))) [
+  | true ↦ λ is. (kept_here m all.0 is, plain_kept ms all.1)
+  | false ↦ λ _. plain_kept ms all.1
+] refl
+
+abbrev IsRead : Message → List ℕ × Attribute → Type 0
+IsRead m a = attribute_of m.body ≡ Some a
+
+abbrev IsSmall : List ℕ × Attribute → Type 0
+IsSmall a = extent_cells (a.1).sizes ≤ 2 ^ 40
+
+plain_listed : (ms : List Message) (listed : List (List ℕ × Attribute)) → AllByRecursion IsPlainBody ms → AllZip IsRead ms listed → AllByRecursion IsSmall listed
+    → AllByRecursion IsPlainAttribute listed
+plain_listed [] [] all each small = tt
+plain_listed [] (a ∷ listed) all each small = absurd each
+plain_listed (m ∷ ms) [] all each small = tt
+plain_listed (m ∷ ms) (a ∷ listed) all each small =
+    (plain_attribute m.body all.0.low all.0.short all.0.padded a small.0 each.0, plain_listed ms listed all.1 each.1 small.1)
+
+length-listed : (ms : List Message) (listed : List (List ℕ × Attribute)) → AllZip IsRead ms listed → length listed ≡ length ms
+length-listed [] [] each = refl
+length-listed [] (a ∷ listed) each = absurd each
+length-listed (m ∷ ms) [] each = absurd each
+length-listed (m ∷ ms) (a ∷ listed) each = omega (arith, length-listed ms listed each.1)
+
+-- how many messages are of the types that a content has
+abbrev pub content_count : List Message → ℕ
+content_count ms = count_of 1 ms + (count_of 3 ms + (count_of 4 ms + (count_of 5 ms + (count_of 8 ms + count_of 17 ms))))
+
+-- a message has one type
+one_type : (k : ℕ) → cond ((k == 13 || k == 14) || k == 18) 1 0 + cond (k == 12) 1 0
+    + (cond (k == 1) 1 0 + (cond (k == 3) 1 0 + (cond (k == 4) 1 0 + (cond (k == 5) 1 0 + (cond (k == 8) 1 0 + cond (k == 17) 1 0))))) ≤ 1
+one_type k = grind (arith, nat_tests)
+
+each_once : (ms : List Message) → length (filter is_kept ms) + length (filter is_attribute_message ms) + content_count ms ≤ length ms
+each_once [] = omega arith
+each_once (m ∷ ms) = omega (arith, one_type m.kind, length_filter is_kept m ms, length_filter is_attribute_message m ms, each_once ms)
+
+module _ (image : List ℕ) (low : AreBytes image) (m : Listed) (kept : IsHeaderKept image m) where
+  abbrev ms : List Message
+  ms = messages_in image m.list
+
+  bodies : AllByRecursion IsPlainBody ms
+  bodies = plain_bodies image low m.header ms m.blocks kept.has
+
+  -- the object of a header that is kept can be written
+  pub plain_object : (content : Content) → IsPlainObject (object_with content ms)
+  plain_object content =
+      let has = kept.attributes in
+      record {
+        kept = plain_kept ms bodies;
+        attributes = subst (λ (a : Attributes). AllByRecursion IsPlainAttribute (entries a)) (sym has.all)
+            (all_entries IsPlainAttribute has.listed (plain_listed (filter is_attribute_message ms) has.listed (all_filter IsPlainBody is_attribute_message ms bodies) has.each has.small));
+      }
+
+  -- its other messages, and those of a content, are all messages or less
+  pub others_few : (content : Content) → length (others_of (object_with content ms)) + content_count ms ≤ length ms
+  others_few content =
+      let has = kept.attributes in
+      omega (
+        arith,
+        length-others (object_with content ms),
+        length-map (filter is_kept ms) kept_of,
+        ap (λ (a : Attributes). length (entries a)) has.all,
+        few_entries has.listed,
+        length-listed (filter is_attribute_message ms) has.listed has.each,
+        each_once ms,
+      )
+
+  pub total_few : length ms ≤ 65535
+  total_few = few_messages image low m.header ms m.blocks kept.has
+
+-- ---- a new object
+
+pub plain_new : (content : Content) → IsPlainObject (new_object content)
+plain_new content = record { kept = tt; attributes = subst (AllByRecursion IsPlainAttribute) (sym (entries-empty {X = Attribute} (slice_cmp nat_cmp))) tt }
+
+pub no_others : (content : Content) → others_of (new_object content) ≡ []
+no_others content = ap (map attribute_message) (entries-empty {X = Attribute} (slice_cmp nat_cmp))

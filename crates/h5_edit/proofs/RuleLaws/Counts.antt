@@ -1,0 +1,83 @@
+-- The hard links that lead to an array are those that its header counts.
+use Rattle.std.proofs.Common.{◌≡◌, ◌≢◌, ℕ, ◌+◌, ◌≤◌, ◌<◌, List, length, refl, sym, ap, ◌∙◌, subst, true, false, Option, Some, None, IsSome, arith}
+use Rattle.std.specs.Prelude.{◌==◌, nat_le, slice_get, option_map, if◌then◌else◌}
+use Rattle.std.specs.BTreeMap.{BTreeMap}
+use Rattle.std.specs.FinMap.{get, entries}
+use Rattle.std.proofs.lemmas.Bool.Decides.{nat_tests}
+use Rattle.std.proofs.lemmas.Option.{slice_get-map}
+use Rattle.h5_model.specs.Format.Messages.{prefix_at, reference_count}
+use Rattle.h5_model.specs.Format.Reads.{Placed, IsCounted}
+use Rattle.h5_model.specs.Edits.Refusal.{first_holding}
+use Rattle.h5_model.specs.Tree.Objects.{Tree, Links, links_of, hard_links}
+use Rattle.h5_model.specs.declared.edit_fault.EditFault.TheVariants as fault
+use Rattle.h5_laws.proofs.Lists.{In, in_all, from_map}
+use Rattle.h5_laws.proofs.Maps.{entry_of_get}
+use Rattle.h5_header.specs.Listed.{messages_in}
+use Rattle.h5_header.proofs.WalkLaws.ListLaws.{prefix_there}
+use Rattle.h5_group.specs.declared.group.Group.{Group}
+use Rattle.h5_open.specs.declared.opened.line.Line.{Line}
+use Rattle.h5_open.specs.declared.opened.object.OpenedObject.{OpenedObject}
+use Rattle.h5_open.specs.declared.opened.object.OpenedContent.TheVariants as content
+use Rattle.h5_open.specs.Opened.Kept.{IsOpened}
+use Rattle.h5_open.specs.Opened.Objects.{table_of, tree_of}
+use Rattle.h5_open.proofs.OpenedLaws.Entries.{get_table}
+use Rattle.h5_query.proofs.Indexed.{object_kept, array_no_group, group_links}
+use Rattle.h5_edit.specs.Refusals.Rules.{target_rules}
+
+-- links are counted at each object but the root
+counted_at : (image : List ℕ) (tree : Tree) (header number : ℕ) (x : Placed) → x.number ≡ number → x.header ≡ header → IsCounted image tree x → number ≢ 0
+    → reference_count (prefix_at image header) ≡ hard_links tree number
+counted_at image tree header number x numbered placed counted other =
+    let below : (x.number == 0) ≡ false = (let there : x.number ≢ 0 = subst (λ (n : ℕ). n ≢ 0) (sym numbered) other in grind (arith, nat_tests)) in
+    let count : reference_count (prefix_at image x.header) ≡ hard_links tree x.number + 0 = counted.counted ∙ ap (λ b. hard_links tree x.number + (if b then 1 else 0)) below in
+    let whole : reference_count (prefix_at image x.header) ≡ hard_links tree x.number = omega (arith, count) in
+    ap (λ h. reference_count (prefix_at image h)) (sym placed) ∙ whole ∙ ap (hard_links tree) numbered
+
+no_links : (o : Option Links) → o ≡ None → IsSome o → ⊥
+no_links None is some = absurd (cc)
+no_links (Some links) is some = absurd (cc)
+
+module _ (image : List ℕ) (objects : List OpenedObject) (numbers : BTreeMap ℕ ℕ) (opened : IsOpened image objects numbers) (number : ℕ) (o : OpenedObject)
+    (at : slice_get objects number ≡ Some o) where
+  abbrev T : Tree
+  T = tree_of image objects
+
+  -- its prefix stands in the image
+  pub prefix_inside : o.messages.header + 16 ≤ length image
+  prefix_inside =
+      let header = (object_kept image objects numbers opened number o at).header in
+      prefix_there image o.messages.header (messages_in image o.messages.list) o.messages.blocks header.has header.inside
+
+  -- a group is no target
+  pub group_target : (g : Group) → o.content ≡ content.Group g → first_holding (target_rules T number) ≡ Some fault.GroupLink
+  group_target g is = rw (group_links image objects number o at g is) refl
+
+  module _ (line : Line) (is : o.content ≡ content.Array line) where
+    below_root : number ≢ 0
+    below_root zero_number =
+        let none : links_of T 0 ≡ None = subst (λ (n : ℕ). links_of T n ≡ None) zero_number (array_no_group image objects number o at line is) in
+        no_links (links_of T 0) none (opened.reads.1).root_group
+
+    links_counted : reference_count (prefix_at image o.messages.header) ≡ hard_links T number
+    links_counted =
+        let reads = opened.reads.1 in
+        let got : get (table_of objects) number ≡ Some o.messages.header
+        = get_table objects number ∙ slice_get-map (λ (x : OpenedObject). x.messages.header) objects number ∙ ap (option_map (λ (x : OpenedObject). x.messages.header)) at in
+        let entry : In (number, o.messages.header) (entries (table_of objects)) = entry_of_get (table_of objects) number o.messages.header got in
+        let placed = from_map (λ (x : Placed). (x.number, x.header)) (number, o.messages.header) opened.reads.0
+        (subst (λ (es : List (ℕ × ℕ)). In (number, o.messages.header) es) reads.numbered entry) in
+        counted_at image T o.messages.header number placed.0 (ap (λ (p : ℕ × ℕ). p.0) placed.2) (ap (λ (p : ℕ × ℕ). p.1) placed.2)
+        (in_all (IsCounted image T) placed.0 opened.reads.0 reads.counted placed.1) below_root
+
+    module _ (count : ℕ) (counts : count ≡ reference_count (prefix_at image o.messages.header)) where
+      pub full_target : 65535 ≤ count → first_holding (target_rules T number) ≡ Some fault.TooManyLinks
+      full_target many =
+          let all = links_counted in
+          let test : nat_le 65535 (hard_links T number) ≡ true = grind (arith, nat_tests) in
+          rw (array_no_group image objects number o at line is, test) refl
+
+      pub free_target : count < 65535 → first_holding (target_rules T number) ≡ None
+      free_target few =
+          let all = links_counted in
+          let test : nat_le 65535 (hard_links T number) ≡ false = grind (arith, nat_tests) in
+          rw (array_no_group image objects number o at line is, test) refl

@@ -1,0 +1,66 @@
+-- Messages that are appended to those that are to be written behind an object's content (File Format Specification 3.0, section
+-- IV.A.2).
+use Rattle.std.specs.Prelude.{◌≡◌, ℕ, ◌+◌, ◌≤◌, Option, Some, None, List, ◌++◌, map, length, not, take, drop, ◌∷◌}
+use Rattle.std.specs.List.{filter}
+use Rattle.std.specs.Ordering.{nat_cmp, eq_by_cmp}
+use Rattle.std.specs.Cmp.Lexicographic.{slice_cmp}
+use Rattle.std.specs.FinMap.{put}
+use Rattle.h5_model.specs.Edits.Applied.{attribute_from}
+use Rattle.h5_model.specs.Format.Messages.{Message}
+use Rattle.h5_model.specs.Format.Reads.{is_kept, kept_of}
+use Rattle.h5_model.specs.Tree.Objects.{Attribute, Kept}
+use Rattle.h5_repack.specs.Bodies.Bodies.{kept_message, attribute_message}
+use Rattle.h5_repack.specs.Blocks.Others.{OthersBytes}
+use Rattle.h5_repack.specs.Blocks.Written.{AreOthers}
+use Rattle.h5_edit.specs.declared.change.edit.Edit.{Edit}
+use Rattle.h5_edit.specs.declared.change.edit.Edit.TheVariants as edit
+
+-- these messages were appended
+abbrev pub Appends : OthersBytes → OthersBytes → List (ℕ × List ℕ) → Type 0
+Appends old new ms = (before : List (ℕ × List ℕ)) → AreOthers before old → AreOthers (before ++ ms) new
+
+-- so many more messages can be counted
+pub record HasPlaces (o : OthersBytes) (more : ℕ) : Type 0 where
+  pub begun : List (ℕ × List ℕ)
+  pub are : AreOthers begun o
+  pub few : length begun + more ≤ 65535
+
+-- the kept messages of a header
+abbrev pub kept_in : List Message → List Kept
+kept_in ms = map kept_of (filter is_kept ms)
+
+abbrev pub kept_messages : List Message → List (ℕ × List ℕ)
+kept_messages ms = map kept_message (kept_in ms)
+
+-- attributes by their names
+abbrev pub Named : Type 0
+Named = List (List ℕ × Attribute)
+
+abbrev pub attribute_messages : Named → List (ℕ × List ℕ)
+attribute_messages es = map attribute_message es
+
+-- without the attribute of this name
+abbrev pub without : List ℕ → Named → Named
+without name es = filter (λ (e : List ℕ × Attribute). not (eq_by_cmp (slice_cmp nat_cmp) name e.0)) es
+
+-- ascending attributes with an edit among them
+abbrev pub merged : Edit → Named → Named
+merged (edit.Link l) es = es
+merged (edit.Set a) es = put (slice_cmp nat_cmp) (a.now).name (attribute_from a.now) es
+merged (edit.Remove name) es = without name.now es
+
+abbrev pub merged_by : Option Edit → Named → Named
+merged_by None es = es
+merged_by (Some e) es = merged e es
+
+-- Where a name has its place among ascending ones: so many stand before it, and from another place on they stand behind it.
+pub record IsPlaceOf {X : Type 0} (name : List ℕ) (es : List (List ℕ × X)) (before behind : ℕ) : Type 0 where
+  pub rising : before ≤ behind
+  pub within : behind ≤ length es
+  pub placed : (a : X) → put (slice_cmp nat_cmp) name a es ≡ take before es ++ (name, a) ∷ drop behind es
+
+-- Of these messages some were appended, and the rest are to come.
+pub record IsPushing (old now : OthersBytes) (rest all : List (ℕ × List ℕ)) : Type 0 where
+  pub pushed : List (ℕ × List ℕ)
+  pub split : all ≡ pushed ++ rest
+  pub appended : Appends old now pushed

@@ -1,0 +1,37 @@
+-- Edits of an opened image that no rule of its tree refuses, and where they take place.
+use Rattle.std.specs.Prelude.{◌≡◌, ℕ, ◌==◌, ◌&&◌, Bool, true, false, Some, None, List, length}
+use Rattle.h5_model.specs.Tree.Paths.{object_at, parent_at}
+use Rattle.h5_model.specs.Edits.Refusal.{refusal_of}
+use Rattle.h5_model.specs.Tree.Objects.{Tree}
+use Rattle.h5_model.specs.declared.dataset.Spec.{Spec}
+use Rattle.h5_model.specs.declared.dataset.Store.{Store}
+use Rattle.h5_model.specs.declared.dataset.Store.TheVariants as store
+use Rattle.h5_model.specs.declared.edits.Edit.{Edit}
+use Rattle.h5_model.specs.declared.edit_fault.EditFault.{EditFault}
+use Rattle.h5_edit.specs.declared.rules.place.NewPlace.{NewPlace}
+
+abbrev pub is_contiguous : Store → Bool
+is_contiguous store.Contiguous = true
+is_contiguous _ = false
+
+-- an array of one size whose cells stand in one block
+abbrev pub is_line : Spec → Bool
+is_line s = is_contiguous s.store && length s.dims == 1
+
+-- no rule refuses the edit, and its new link is to stand in this group under this name
+pub record IsPlaced (tree : Tree) (next : ℕ) (path : List ℕ) (edit : Edit) (p : NewPlace) : Type 0 where
+  pub allowed : refusal_of tree next edit ≡ None
+  pub parent : parent_at tree path ≡ Some (p.parent, p.name.now)
+
+-- no rule refuses the edit, and the object at its path has this number
+pub record IsAt (tree : Tree) (next : ℕ) (path : List ℕ) (edit : Edit) (number : ℕ) : Type 0 where
+  pub allowed : refusal_of tree next edit ≡ None
+  pub object : object_at tree path ≡ Some number
+
+-- a hard link to the object of this number
+abbrev pub IsLinkPlaced : Tree → ℕ → List ℕ → List ℕ → Edit → (ℕ × NewPlace) → Type 0
+IsLinkPlaced tree next target path edit (number, p) = (object_at tree target ≡ Some number) × IsPlaced tree next path edit p
+
+-- the lowest rule that holds
+abbrev pub IsRuledOut : Tree → ℕ → Edit → EditFault → Type 0
+IsRuledOut tree next edit e = refusal_of tree next edit ≡ Some e

@@ -1,0 +1,117 @@
+-- The rules of the paths of an edit by their faults, and the rules that a target, an attribute or an array alone decides.
+use Rattle.std.specs.Prelude.{◌≡◌, ℕ, ◌^◌, ◌==◌, ◌&&◌, ◌||◌, Bool, false, not, nat_lt, nat_le, if◌then◌else◌, is_none, is_some, Option, Some, None, List, [], ◌∷◌, ◌++◌, length, slice_get}
+use Rattle.std.specs.Borrow.{Bor}
+use Rattle.std.specs.List.{list_all}
+use Rattle.std.specs.Option.{option_map_or}
+use Rattle.h5_model.specs.Edits.EditFaults.{fault_number}
+use Rattle.h5_model.specs.Format.Fixed.{fits}
+use Rattle.h5_model.specs.Tree.Places.{cells, extent_cells}
+use Rattle.h5_model.specs.Format.Sizes.{attribute_size}
+use Rattle.h5_model.specs.Tree.Objects.{Tree, ToObject, links_of, hard_links, are_sizes}
+use Rattle.h5_model.specs.Tree.Paths.{names_of, located, parent_at}
+use Rattle.h5_model.specs.Edits.Refusal.{is_deep, is_root, has_no_parent, has_no_group, is_missing, is_here, is_soft, last_is_long, is_no_text, are_maxima}
+use Rattle.h5_model.specs.declared.attribute.AttrSpec.{AttrSpec}
+use Rattle.h5_model.specs.declared.dataset.Spec.{Spec}
+use Rattle.h5_model.specs.declared.edit_fault.EditFault.{EditFault}
+use Rattle.h5_model.specs.declared.edit_fault.EditFault.TheVariants as fault
+use Rattle.h5_open.specs.declared.opened.object.OpenedObject.{OpenedObject}
+use Rattle.h5_query.specs.Place.{LeadsTo}
+use Rattle.h5_edit.specs.declared.rules.place.NewPlace.{NewPlace}
+
+-- ---- paths
+
+-- the faults of paths and of new names, in the order of their numbers
+abbrev pub path_faults : List EditFault
+path_faults = fault.BadPath ∷ fault.PathTooDeep ∷ fault.IsRoot ∷ fault.NoSuchParent ∷ fault.NotAGroup ∷ fault.NotFound ∷ fault.AlreadyThere ∷ fault.NameTooLong ∷ []
+
+-- the first of the faults whose rule holds
+abbrev pub first_of : List EditFault → (EditFault → Bool) → Option EditFault
+first_of [] holds = None
+first_of (f ∷ fs) holds = if holds f then Some f else first_of fs holds
+
+abbrev pub path_fault : (EditFault → Bool) → Option EditFault
+path_fault holds = first_of path_faults holds
+
+-- the rules of the path of a new link
+abbrev pub is_new_fault : Tree → List ℕ → EditFault → Bool
+is_new_fault tree path fault.BadPath = is_none (names_of path)
+is_new_fault tree path fault.PathTooDeep = is_deep path
+is_new_fault tree path fault.IsRoot = is_root path
+is_new_fault tree path fault.NoSuchParent = has_no_parent (located tree path)
+is_new_fault tree path fault.NotAGroup = has_no_group (located tree path)
+is_new_fault tree path fault.AlreadyThere = is_here (located tree path)
+is_new_fault tree path fault.NameTooLong = option_map_or last_is_long (names_of path) false
+is_new_fault tree path _ = false
+
+-- the rules of a path at which an object has to stand
+abbrev pub is_object_fault : Tree → List ℕ → EditFault → Bool
+is_object_fault tree path fault.BadPath = is_none (names_of path)
+is_object_fault tree path fault.PathTooDeep = is_deep path
+is_object_fault tree path fault.NoSuchParent = has_no_parent (located tree path)
+is_object_fault tree path fault.NotAGroup = has_no_group (located tree path)
+is_object_fault tree path fault.NotFound = is_missing (located tree path) || is_soft (located tree path)
+is_object_fault tree path _ = false
+
+-- the rules of the text of a soft link
+abbrev pub is_text_fault : List ℕ → EditFault → Bool
+is_text_fault text fault.BadPath = is_no_text text
+is_text_fault text fault.NameTooLong = nat_lt 1023 (length text)
+is_text_fault text _ = false
+
+-- the fault with the lower number
+abbrev pub lower_fault : EditFault → EditFault → EditFault
+lower_fault a b = if nat_le (fault_number a) (fault_number b) then a else b
+
+abbrev pub lower_of : Option EditFault → Option EditFault → Option EditFault
+lower_of None b = b
+lower_of (Some a) None = Some a
+lower_of (Some a) (Some b) = Some (lower_fault a b)
+
+-- no rule refuses the path of a new link, which is to stand here
+pub record IsFree (tree : Tree) (path : List ℕ) (p : NewPlace) : Type 0 where
+  pub allowed : path_fault (is_new_fault tree path) ≡ None
+  pub parent : parent_at tree path ≡ Some (p.parent, p.name.now)
+
+abbrev pub IsNotFree : Tree → List ℕ → EditFault → Type 0
+IsNotFree tree path e = path_fault (is_new_fault tree path) ≡ Some e
+
+-- the names of a path of names: those of its front, and the last
+abbrev pub IsCut : List ℕ → (Bor (List ℕ) × Bor (List ℕ)) → Type 0
+IsCut path (front, last) = (name : List ℕ) (names : List (List ℕ)) → names_of path ≡ Some (name ∷ names)
+    → (before : List (List ℕ)) × (names_of front.now ≡ Some before) × (name ∷ names ≡ before ++ last.now ∷ [])
+
+-- this object stands at the path
+abbrev pub IsObject : Tree → List OpenedObject → List ℕ → (ℕ × Bor OpenedObject) → Type 0
+IsObject tree objects path (number, object) = LeadsTo tree path (ToObject number) × (slice_get objects number ≡ Some object.now)
+
+-- ---- what an edit alone decides, in the order of the numbers
+
+-- the target of a hard link
+abbrev pub target_rules : Tree → ℕ → List (EditFault × Bool)
+target_rules tree number =
+    (fault.GroupLink, is_some (links_of tree number))
+    ∷ (fault.TooManyLinks, nat_le 65535 (hard_links tree number))
+    ∷ []
+
+-- a new attribute (section IV.A.2.m)
+abbrev pub own_rules : AttrSpec → List (EditFault × Bool)
+own_rules a =
+    (fault.NameTooLong, nat_lt 1023 (length a.name))
+    ∷ (fault.BadSpec, nat_lt 32 (length a.dims) || is_no_text a.name)
+    ∷ (fault.TooManyCells, nat_lt (2 ^ 40) (extent_cells a.dims))
+    ∷ (fault.ValueCount, not (length a.values == cells a.dims))
+    ∷ (fault.ValueRange, not (list_all (fits a.fixed) a.values))
+    ∷ (fault.AttributeTooLarge, nat_lt 65528 (attribute_size (length a.name) a.dims (a.fixed).size))
+    ∷ []
+
+-- a new array of one size in one block
+abbrev pub line_rules : Spec → List (EditFault × Bool)
+line_rules s =
+    (fault.BadSpec, nat_lt 32 (length s.dims) || not (are_maxima s.dims s.maxima && are_sizes s.dims s.maxima))
+    ∷ (fault.TooManyCells, nat_lt (2 ^ 40) (extent_cells s.dims))
+    ∷ (fault.ValueRange, not (fits s.fixed s.fill))
+    ∷ []
+
+-- a new object
+abbrev pub number_rules : ℕ → List (EditFault × Bool)
+number_rules next = (fault.TooManyObjects, nat_le 4294967295 next) ∷ []

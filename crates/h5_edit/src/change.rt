@@ -1,0 +1,12 @@
+//! The objects of an opened image with one change, as they are handed to the writer (File Format Specification 3.0, sections III.C and
+//! IV.A).
+mod attributes;
+mod cells;
+mod change;
+mod edit;
+mod links;
+mod objects;
+mod parts;
+
+pub use change::{Change, Target};
+pub use objects::changed_objects;

@@ -1,0 +1,71 @@
+//! What a change makes of one object.
+
+ghost use Rattle.std.specs.Prelude.{◌≡◌};
+ghost use Rattle.h5_repack.specs.Objects.Objects.{link_of};
+ghost use Rattle.h5_edit.specs.Changed.Edited.{IsEditOf, new_link};
+ghost use Rattle.h5_edit.specs.Changed.Edited as edited;
+
+use crate::change::change::{Change, Target};
+use h5_model::AttrSpec;
+use h5_repack::{TreeLink, TreeTarget};
+
+/// What a change makes of one object.
+#[derive(Clone, Copy)]
+pub(crate) enum Edit<'a> {
+    /// The group has this link more.
+    Link(TreeLink<'a>),
+    /// The attribute is added, or takes the place of the one of its name.
+    Set(&'a AttrSpec),
+    /// The attribute of this name is left out.
+    Remove(&'a [u8]),
+}
+
+/// The number of the object that the change edits, and how; a new object takes the number `next`.
+pub(crate) fn edit_of<'a>(change: &Change<'a>, next: u32) -> (u32, Edit<'a>)
+    ensures { IsEditOf change.now next result.0 result.1 }
+{
+    match *change {
+        Change::Link {
+            parent,
+            name,
+            target,
+        } => {
+            let target = link_target(target, next);
+            (parent, Edit::Link(TreeLink { name, target }))
+        }
+        Change::Set { object, attr } => (object, Edit::Set(attr)),
+        Change::Remove { object, name } => (object, Edit::Remove(name)),
+    }
+}
+
+/// Where a new link leads; a new object takes the number `next`.
+fn link_target(target: Target<'_>, next: u32) -> TreeTarget<'_>
+    ensures { link_of result ≡ new_link target.entry next }
+{
+    match target {
+        Target::Group | Target::Array(_) => TreeTarget::Object(next),
+        Target::Object(number) => TreeTarget::Object(number),
+        Target::Text(text) => TreeTarget::Text(text),
+    }
+}
+
+/// The edit, where the object of this number is the one that it is made of.
+pub(crate) fn edit_at(edit: Edit<'_>, place: u32, number: usize) -> Option<Edit<'_>>
+    ensures { result ≡ edited.edit_at edit.entry place number }
+{
+    if number == place as usize {
+        Some(edit)
+    } else {
+        None
+    }
+}
+
+/// The new link, where the edit is one.
+pub(crate) fn link_in(edit: Option<Edit<'_>>) -> Option<TreeLink<'_>>
+    ensures { result ≡ edited.link_in edit.entry }
+{
+    match edit {
+        Some(Edit::Link(link)) => Some(link),
+        Some(Edit::Set(_) | Edit::Remove(_)) | None => None,
+    }
+}

@@ -1,0 +1,13 @@
+//! Why an edit of an opened image is refused by its tree, in the order of the refusals' numbers, and where an edit takes place that is
+//! not refused (links and attributes: File Format Specification 3.0, sections III.C and IV.A.2.m). Nothing here takes memory.
+mod array;
+mod attribute;
+mod limits;
+mod links;
+mod place;
+mod text;
+
+pub use array::{check_array, is_one_line};
+pub use attribute::{check_attribute, check_removal};
+pub use links::{check_group, check_hard_link, check_soft_link};
+pub use place::NewPlace;

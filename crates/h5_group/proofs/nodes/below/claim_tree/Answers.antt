@@ -1,0 +1,72 @@
+use Rattle.std.proofs.Common.{◌≡◌, ◌+◌, ℕ, ◌≤◌, List, [], ◌∷◌, sym, ap, ◌∙◌, subst}
+use Rattle.std.proofs.lemmas.Result.{err_from_is_err_and}
+use Rattle.h5_bytes.specs.Blocks.{cover}
+use Rattle.h5_model.specs.Format.Rows.{Node, leaves, nodes}
+use Rattle.h5_model.specs.Format.Reached.{Named}
+use Rattle.h5_group.specs.Nodes.Trees.{nodes_blocks}
+use Rattle.h5_group.specs.Nodes.Walk.{IsTreeMet}
+use Rattle.h5_group.specs.Nodes.Below.{reading_in, IsStanding, IsTaken}
+use Rattle.h5_group.specs.Nodes.Further.{IsFurther, IsPlaceIn}
+use Rattle.h5_group.proofs.NodeLaws.FurtherLaws.{WalksTo, IsFaultBelow}
+use Rattle.h5_group.proofs.NodeLaws.RootSteps.{root_refused, below_refused, tree_claimed, tree_walked}
+use Rattle.h5_group.proofs.nodes.below.claim_tree.Goals as goal
+
+pub returns-in_err-node-clause-refused : goal.returns-in_err-node-clause-refused
+returns-in_err-node-clause-refused c =
+    let p = err_from_is_err_and c.from_residual.result c.from_residual.ensures.1 in
+    rw (p.1, p.2) (root_refused c.args.image.now.bytes c.args.root c.args.claims.now.held _ _ c.in_err-node.ensures.address c.in_err-node.ensures.refused)
+
+pub returns-in_err-claim_below-clause-refused : goal.returns-in_err-claim_below-clause-refused
+returns-in_err-claim_below-clause-refused c =
+    let image = c.args.image.now.bytes in
+    let here = c.claim_root.new.claims.held in
+    let root = reading_in image c.args.root in
+    let is : c.in_ok-node.node ≡ root = c.in_ok-node.ensures.node in
+    let high : c.level-level.result ≡ root.level = c.level-level.ensures ∙ ap (λ (n : Node). n.level) is in
+    let cause = c.in_err-claim_below.field-0.0.cause in
+    let address = c.in_err-claim_below.field-0.0.address in
+    let below : IsFaultBelow image here root.level root cause address
+    = subst (λ (l : ℕ). IsFaultBelow image here l root cause address) high
+    (subst (λ (n : Node). IsFaultBelow image here c.level-level.result n cause address) is c.in_err-claim_below.ensures.refused) in
+    let stands : IsStanding image root.level c.args.root = subst (λ (n : Node). IsStanding image n.level c.args.root) is c.in_ok-node.ensures.stands in
+    let low : root.level ≤ 15 = subst (λ (n : Node). n.level ≤ 15) is c.in_ok-node.ensures.low in
+    let p = err_from_is_err_and c.from_residual-in_err-claim_below.result c.from_residual-in_err-claim_below.ensures.1 in
+    rw (p.1, p.2) (below_refused image c.args.root c.args.claims.now.held here stands low c.in_ok-node.ensures.claimed c.in_ok-node.ensures.separate cause address below)
+
+pub returns-clause-claimed : goal.returns-clause-claimed
+returns-clause-claimed c =
+    let image = c.args.image.now.bytes in
+    let old = c.args.claims.now.held in
+    let here = c.claim_root.new.claims.held in
+    let now = c.claim_below.new.claims.held in
+    let root = reading_in image c.args.root in
+    let is : c.in_ok-node.node ≡ root = c.in_ok-node.ensures.node in
+    let high : c.level-level.result ≡ root.level = c.level-level.ensures ∙ ap (λ (n : Node). n.level) is in
+    let taken : IsTaken image root.level root.children here now
+    = subst (λ (l : ℕ). IsTaken image l root.children here now) high
+    (subst (λ (n : Node). IsTaken image c.level-level.result n.children here now) is c.in_ok-claim_below.ensures.taken) in
+    let stands : IsStanding image root.level c.args.root = subst (λ (n : Node). IsStanding image n.level c.args.root) is c.in_ok-node.ensures.stands in
+    let low : root.level ≤ 15 = subst (λ (n : Node). n.level ≤ 15) is c.in_ok-node.ensures.low in
+    subst (λ (l : ℕ). (p : ℕ) → cover p now ≡ cover p old + cover p (nodes_blocks image (nodes (reading_in image) l (c.args.root ∷ [])) (leaves (reading_in image) l (c.args.root ∷ [])))) (sym high)
+    (tree_claimed image c.args.root old here stands low c.in_ok-node.ensures.claimed c.in_ok-node.ensures.separate now taken)
+
+pub returns-clause-walked : goal.returns-clause-walked
+returns-clause-walked c =
+    let image = c.args.image.now.bytes in
+    let old = c.args.claims.now.held in
+    let here = c.claim_root.new.claims.held in
+    let now = c.claim_below.new.claims.held in
+    let root = reading_in image c.args.root in
+    let is : c.in_ok-node.node ≡ root = c.in_ok-node.ensures.node in
+    let high : c.level-level.result ≡ root.level = c.level-level.ensures ∙ ap (λ (n : Node). n.level) is in
+    let taken : IsTaken image root.level root.children here now
+    = subst (λ (l : ℕ). IsTaken image l root.children here now) high
+    (subst (λ (n : Node). IsTaken image c.level-level.result n.children here now) is c.in_ok-claim_below.ensures.taken) in
+    let walks : WalksTo image here now root.level root root.children
+    = subst (λ (l : ℕ). WalksTo image here now l root root.children) high
+    (subst (λ (n : Node). WalksTo image here now c.level-level.result n n.children) is c.in_ok-claim_below.ensures.walked) in
+    let stands : IsStanding image root.level c.args.root = subst (λ (n : Node). IsStanding image n.level c.args.root) is c.in_ok-node.ensures.stands in
+    let low : root.level ≤ 15 = subst (λ (n : Node). n.level ≤ 15) is c.in_ok-node.ensures.low in
+    subst (λ (l : ℕ). (followed : List Named) (field heap depth : ℕ) → IsTreeMet image old followed field c.args.root heap depth
+    → IsFurther image now followed (IsPlaceIn image field (nodes (reading_in image) l (c.args.root ∷ [])))) (sym high)
+    (tree_walked image c.args.root old here stands low c.in_ok-node.ensures.claimed c.in_ok-node.ensures.separate now taken walks)

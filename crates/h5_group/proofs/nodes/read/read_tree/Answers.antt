@@ -1,0 +1,29 @@
+use Rattle.std.proofs.lemmas.Result.{MatchResult-weaker}
+use Rattle.h5_group.proofs.NodeLaws.AllLaws.{is_tree, tree_inside}
+use Rattle.h5_group.proofs.NodeLaws.TreeLaws.{tree_followed, tree_fault}
+use Rattle.h5_group.proofs.nodes.read.read_tree.Goals as goal
+
+pub returns-clause-tree : goal.returns-clause-tree
+returns-clause-tree c =
+    MatchResult-weaker c.read_rows.result c.read_rows.ensures.rows
+    (λ t rows. is_tree c.args.image.now.bytes c.args.root c.in_ok-level.level c.in_ok-level.ensures.low c.in_ok-level.ensures.read c.in_ok-level.ensures.filled
+    t.nodes.items t.symbol_nodes.items rows) (λ _ h. h)
+
+pub returns-clause-inside : goal.returns-clause-inside
+returns-clause-inside c =
+    MatchResult-weaker c.read_rows.result c.read_rows.ensures.rows
+    (λ t rows. tree_inside c.args.image.now.bytes c.args.root c.in_ok-level.level c.in_ok-level.ensures.low c.in_ok-level.ensures.read c.in_ok-level.ensures.filled
+    t.nodes.items t.symbol_nodes.items rows) (λ _ h. h)
+
+pub returns-clause-walked : goal.returns-clause-walked
+returns-clause-walked c =
+    MatchResult-weaker c.read_rows.result c.read_rows.ensures.rows
+    (λ t rows followed field heap depth met. tree_followed c.args.image.now.bytes c.args.root c.in_ok-level.level c.in_ok-level.ensures.low c.in_ok-level.ensures.read
+    c.args.claims.now.held followed field heap depth met c.claim_tree.new.claims.held t.nodes.items t.symbol_nodes.items rows
+    (c.in_ok-level.ensures.walked followed field heap depth met)) (λ _ h. h)
+
+pub returns-clause-refused : goal.returns-clause-refused
+returns-clause-refused c =
+    MatchResult-weaker c.read_rows.result c.read_rows.ensures.refused (λ _ h. h)
+    (λ fault refused. tree_fault c.args.image.now.bytes c.args.root c.in_ok-level.level c.in_ok-level.ensures.low c.in_ok-level.ensures.read
+    c.args.claims.now.held fault.cause fault.address refused)

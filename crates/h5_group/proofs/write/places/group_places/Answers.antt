@@ -1,0 +1,39 @@
+use Rattle.std.proofs.Common.{◌^◌, ◌≤◌, ◌<◌, arith, subst}
+use Rattle.h5_btree.specs.Writing.Written.{root_level}
+use Rattle.h5_group.proofs.WriteLaws.Counts.{links_few, counted}
+use Rattle.h5_group.proofs.write.places.group_places.Goals as goal
+
+pub rows_of-nodes-requires-clause-count : goal.rows_of-nodes-requires-clause-count
+rows_of-nodes-requires-clause-count c = links_few c.args.links.now (omega (arith, c.in-Some.ensures.0, c.in-Some.ensures.1))
+
+pub nodes_over-requires-clause-few : goal.nodes_over-requires-clause-few
+nodes_over-requires-clause-few c = omega (arith, c.rows_of-nodes.ensures.few, links_few c.args.links.now (omega (arith, c.in-Some.ensures.0, c.in-Some.ensures.1)))
+
+pub bytes_of-requires-clause-count : goal.bytes_of-requires-clause-count
+bytes_of-requires-clause-count c = omega (arith, c.rows_of-nodes.ensures.few, links_few c.args.links.now (omega (arith, c.in-Some.ensures.0, c.in-Some.ensures.1)))
+
+pub returns-then-length-gt-MOST : goal.returns-then-length-gt-MOST
+returns-then-length-gt-MOST c =
+    let all = counted _ _ _ _ _ _ _ _ _ _ c.args.links.now c.from.ensures c.rows_of-nodes.ensures.exact c.from-2.ensures c.nodes_over.ensures.exact
+    c.bytes_of-tree.ensures.exact c.in-Some.ensures.0 c.from-3.ensures c.bytes_of.ensures.exact in
+    subst (λ n. 2 ^ 31 < n) all.whole_is c.if-length-gt-MOST.true
+
+pub returns-then-root_level-gt15 : goal.returns-then-root_level-gt15
+returns-then-root_level-gt15 c =
+    let all = counted _ _ _ _ _ _ _ _ _ _ c.args.links.now c.from.ensures c.rows_of-nodes.ensures.exact c.from-2.ensures c.nodes_over.ensures.exact
+    c.bytes_of-tree.ensures.exact c.in-Some.ensures.0 c.from-3.ensures c.bytes_of.ensures.exact in (
+      subst (λ n. n ≤ 2 ^ 31) all.whole_is c.if-length-gt-MOST.false,
+      subst (λ n. 15 < root_level c.args.internal n) all.nodes_are (subst (λ n. 15 < n) c.root_level.ensures c.if-root_level-gt15.true),
+    )
+
+pub returns : goal.returns
+returns c =
+    let all = counted _ _ _ _ _ _ _ _ _ _ c.args.links.now c.from.ensures c.rows_of-nodes.ensures.exact c.from-2.ensures c.nodes_over.ensures.exact
+    c.bytes_of-tree.ensures.exact c.in-Some.ensures.0 c.from-3.ensures c.bytes_of.ensures.exact in
+    record {
+      tree = all.tree_is;
+      segment = c.in-Some.ensures.0;
+      length_is = all.whole_is;
+      few = c.if-length-gt-MOST.false;
+      low = subst (λ n. root_level c.args.internal n ≤ 15) all.nodes_are (subst (λ n. n ≤ 15) c.root_level.ensures c.if-root_level-gt15.false);
+    }

@@ -1,0 +1,61 @@
+-- A group's links in the plain layout: the tree, the heap with its segment, and the symbol nodes, one behind another (File Format
+-- Specification 3.0, sections III.A.1, III.B and III.D).
+use Rattle.std.specs.Prelude.{ℕ, ◌+◌, ◌*◌, List, [], ◌∷◌, ◌++◌, length}
+use Rattle.std.specs.List.{flat_map}
+use Rattle.h5_bytes.specs.Numbers.{short}
+use Rattle.h5_model.specs.Format.Plain.{filled_to}
+use Rattle.h5_model.specs.Format.PlainLength.{rows_of, nodes_over}
+use Rattle.h5_model.specs.Format.Sizes.{group_node, symbol_node}
+use Rattle.h5_model.specs.Format.Symbols.{symbol_signature}
+use Rattle.h5_btree.specs.Writing.Written.{chunks, tree_bytes, root_level}
+use Rattle.h5_btree.specs.declared.write.child.Child.{Child}
+use Rattle.h5_heap.specs.Writing.Links.{Leads}
+use Rattle.h5_heap.specs.Writing.Written.{placed_links, entry_bytes, segment_of, heap_bytes}
+
+-- ---- symbol nodes
+
+-- the links of each symbol node, with the offsets of their names; none of a group without links
+abbrev pub runs_of : ℕ → List (ℕ × (List ℕ × Leads)) → List (List (ℕ × (List ℕ × Leads)))
+runs_of leaf [] = []
+runs_of leaf (l ∷ links) = chunks (2 * leaf) (l ∷ links)
+
+abbrev pub symbol_bytes : ℕ → List (ℕ × (List ℕ × Leads)) → List ℕ
+symbol_bytes leaf run = filled_to (symbol_node leaf) (symbol_signature ++ (1 ∷ 0 ∷ (short (length run) ++ flat_map entry_bytes run)))
+
+-- the offset of the last name of a run
+abbrev pub last_name : ℕ → List (ℕ × (List ℕ × Leads)) → ℕ
+last_name before [] = before
+last_name before (l ∷ run) = last_name l.0 run
+
+-- the symbol nodes as the children of the tree, the first of them at this place
+abbrev pub children_of : ℕ → ℕ → List (List (ℕ × (List ℕ × Leads))) → List Child
+children_of leaf at [] = []
+children_of leaf at (run ∷ runs) = record { at = at; last = last_name 0 run } ∷ children_of leaf (at + symbol_node leaf) runs
+
+-- ---- the whole
+
+-- how many symbol nodes there are
+abbrev pub symbol_nodes : ℕ → List (List ℕ × Leads) → ℕ
+symbol_nodes leaf links = rows_of (2 * leaf) (length links)
+
+-- the heap behind a tree that begins at this place, and the symbol nodes behind its segment
+abbrev pub heap_place : ℕ → ℕ → ℕ → List (List ℕ × Leads) → ℕ
+heap_place leaf internal at links = at + nodes_over 64 (2 * internal) (symbol_nodes leaf links) * group_node internal
+
+abbrev pub symbols_place : ℕ → ℕ → ℕ → List (List ℕ × Leads) → ℕ
+symbols_place leaf internal at links = heap_place leaf internal at links + 32 + length (segment_of links)
+
+unfoldable pub links_bytes : ℕ → ℕ → ℕ → List (List ℕ × Leads) → List ℕ
+links_bytes leaf internal at links =
+    tree_bytes internal at (children_of leaf (symbols_place leaf internal at links) (runs_of leaf (placed_links links)))
+    ++ (heap_bytes (heap_place leaf internal at links) links ++ flat_map (symbol_bytes leaf) (runs_of leaf (placed_links links)))
+
+-- how long they are
+abbrev pub links_length : ℕ → ℕ → List (List ℕ × Leads) → ℕ
+links_length leaf internal links =
+    nodes_over 64 (2 * internal) (symbol_nodes leaf links) * group_node internal + 32 + length (segment_of links)
+    + symbol_nodes leaf links * symbol_node leaf
+
+-- the level of the tree's root, which is at most 15 in an image
+abbrev pub tree_level : ℕ → ℕ → List (List ℕ × Leads) → ℕ
+tree_level leaf internal links = root_level internal (symbol_nodes leaf links)

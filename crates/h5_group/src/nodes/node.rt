@@ -1,0 +1,99 @@
+//! The nodes of a group's tree (File Format Specification 3.0, section III.A.1).
+
+ghost use Rattle.std.specs.Prelude.{◌≡◌, ℕ, ◌+◌, ◌≤◌, length, IfOk, IfErr, OnOk};
+ghost use Rattle.h5_bytes.specs.Blocks.{holds, cover, Separate};
+ghost use Rattle.h5_model.specs.Format.Superblock.{IsSuperblock};
+ghost use Rattle.h5_model.specs.Format.Nodes.{IsNode, entries_in, node_block, node_bytes, node_length};
+ghost use Rattle.h5_model.specs.Faults.TreeFaults.{NodeBreach};
+ghost use Rattle.h5_btree.specs.Form.{BreaksForm};
+ghost use Rattle.h5_group.specs.Nodes.Trees.{kind_in};
+ghost use Rattle.h5_group.specs.Nodes.Below.{reading_in, IsStanding, IsInner};
+ghost use Rattle.h5_group.specs.Nodes.Refused.{IsRefusedFor};
+
+use crate::nodes::claim::claim;
+use crate::nodes::stands::group_kind;
+use h5_btree::{Node, read_node};
+use h5_model::{Cause, OpenFault};
+use h5_space::{Claims, Image, fault};
+
+/// Claims the root of a tree.
+///
+/// `NodeForm` where it is none, or cannot be a root.
+pub(crate) fn claim_root<'a>(
+    image: &'a Image,
+    claims: &mut Claims,
+    at: u64,
+) -> Result<Node<'a>, OpenFault>
+    requires end { claims.old.end ≡ length image.now.bytes }
+    requires superblock { IsSuperblock image.now.bytes }
+    ensures node { IfOk result (λ node. node ≡ reading_in image.now.bytes at) }
+    ensures low { IfOk result (λ node. node.level ≤ 15) }
+    ensures stands { IfOk result (λ node. IsStanding image.now.bytes node.level at) }
+    ensures filled { IfOk result (λ node. 1 ≤ node.level → 1 ≤ entries_in (node_bytes image.now.bytes (kind_in image.now.bytes) at)) }
+    ensures claimed { OnOk result ((p : ℕ) → cover p claims.new.held ≡ cover p claims.old.held + holds p at (node_length (kind_in image.now.bytes))) }
+    ensures separate { OnOk result (Separate claims.new.held) }
+    ensures end { claims.new.end ≡ claims.old.end }
+    ensures address { IfErr result (λ fault. fault.address ≡ at) }
+    ensures refused { IfErr result (λ fault. IsRefusedFor
+        (NodeBreach image.now.bytes (kind_in image.now.bytes) at (reading_in image.now.bytes at).level at)
+        (length image.now.bytes) claims.old.held (node_block (kind_in image.now.bytes) at) fault.cause) }
+{
+    let node = claim_node(image, claims, at)?;
+    if node.check_root().is_err() {
+        return Err(fault(Cause::NodeForm, at));
+    }
+    Ok(node)
+}
+
+/// Claims a node below the root, which is to be of this level.
+///
+/// `NodeForm` where it is none, has another level, or has no child.
+pub(crate) fn claim_inner<'a>(
+    image: &'a Image,
+    claims: &mut Claims,
+    at: u64,
+    level: u8,
+) -> Result<Node<'a>, OpenFault>
+    requires end { claims.old.end ≡ length image.now.bytes }
+    requires superblock { IsSuperblock image.now.bytes }
+    ensures node { IfOk result (λ node. node ≡ reading_in image.now.bytes at) }
+    ensures inner { OnOk result (IsInner image.now.bytes level at) }
+    ensures claimed { OnOk result ((p : ℕ) → cover p claims.new.held ≡ cover p claims.old.held + holds p at (node_length (kind_in image.now.bytes))) }
+    ensures separate { OnOk result (Separate claims.new.held) }
+    ensures end { claims.new.end ≡ claims.old.end }
+    ensures address { IfErr result (λ fault. fault.address ≡ at) }
+    ensures refused { IfErr result (λ fault. IsRefusedFor
+        ((root : ℕ) → 1 ≤ cover root claims.old.held → NodeBreach image.now.bytes (kind_in image.now.bytes) root level at)
+        (length image.now.bytes) claims.old.held (node_block (kind_in image.now.bytes) at) fault.cause) }
+{
+    let node = claim_node(image, claims, at)?;
+    if node.check_level(level).is_err() {
+        return Err(fault(Cause::NodeForm, at));
+    }
+    Ok(node)
+}
+
+/// Claims a node, of any level.
+fn claim_node<'a>(image: &'a Image, claims: &mut Claims, at: u64) -> Result<Node<'a>, OpenFault>
+    requires end { claims.old.end ≡ length image.now.bytes }
+    requires superblock { IsSuperblock image.now.bytes }
+    ensures node { IfOk result (λ node. node ≡ reading_in image.now.bytes at) }
+    ensures form { OnOk result (IsNode (kind_in image.now.bytes) (node_bytes image.now.bytes (kind_in image.now.bytes) at)) }
+    ensures inside { OnOk result (at + node_length (kind_in image.now.bytes) ≤ length image.now.bytes) }
+    ensures claimed { OnOk result ((p : ℕ) → cover p claims.new.held ≡ cover p claims.old.held + holds p at (node_length (kind_in image.now.bytes))) }
+    ensures separate { OnOk result (Separate claims.new.held) }
+    ensures end { claims.new.end ≡ claims.old.end }
+    ensures address { IfErr result (λ fault. fault.address ≡ at) }
+    ensures refused { IfErr result (λ fault. IsRefusedFor
+        (BreaksForm (kind_in image.now.bytes) (node_bytes image.now.bytes (kind_in image.now.bytes) at))
+        (length image.now.bytes) claims.old.held (node_block (kind_in image.now.bytes) at) fault.cause) }
+{
+    let kind = group_kind(image);
+    let len = kind.node_length() as u64;
+    claim(claims, at, len)?;
+    let bytes = image.part(at, len).unwrap();
+    match read_node(kind, bytes) {
+        Ok(node) => Ok(node),
+        Err(_) => Err(fault(Cause::NodeForm, at)),
+    }
+}

@@ -1,0 +1,42 @@
+//! The checks of a group's order (File Format Specification 3.0, sections III.A.1 and III.B).
+
+ghost use Rattle.std.specs.Prelude.{◌≡◌, length, IfErr, OnOk};
+ghost use Rattle.h5_bytes.specs.Blocks.{Inside};
+ghost use Rattle.h5_model.specs.Format.Superblock.{IsSuperblock};
+ghost use Rattle.h5_model.specs.Format.Heap.{segment_of};
+ghost use Rattle.h5_group.specs.Nodes.Trees.{IsTree, nodes_blocks};
+ghost use Rattle.h5_group.specs.Order.Ordered.{AreOrdered, IsOrderRefused};
+
+use crate::order::keys::check_keys;
+use crate::order::names::check_names;
+use h5_model::OpenFault;
+use h5_msg::SymbolTable;
+use crate::{GroupTree, tree_node};
+use h5_space::Image;
+
+/// Checks that the names of a group ascend by their bytes, and stand between the keys of its tree, which do not fall. The segment is
+/// that of the group's heap; a name is the text at its offset, up to the first zero.
+///
+/// `NameOrder`, at the symbol node that holds the later name, for the first two names that do not ascend; then `KeyOrder`, at the
+/// first node, depth first, whose keys fall, or below a child of which a name is not above the key before the child or is above
+/// the key behind it. It takes no memory.
+///
+/// That the tree was read, and stands in the image, are the caller's conditions.
+pub fn check_order(
+    image: &Image,
+    segment: &[u8],
+    table: SymbolTable,
+    tree: &GroupTree,
+) -> Result<(), OpenFault>
+    requires superblock { IsSuperblock image.now.bytes }
+    requires tree { IsTree image.now.bytes table.tree tree.now.nodes.items tree.now.symbol_nodes.items }
+    requires inside { Inside (length image.now.bytes) (nodes_blocks image.now.bytes tree.now.nodes.items tree.now.symbol_nodes.items) }
+    requires segment { segment.now ≡ segment_of image.now.bytes table.heap }
+    ensures ordered { OnOk result (AreOrdered image.now.bytes segment.now tree.now.nodes.items tree.now.symbol_nodes.items) }
+    ensures refused { IfErr result (λ fault.
+        IsOrderRefused image.now.bytes table tree.now.nodes.items tree.now.symbol_nodes.items fault.cause fault.address) }
+{
+    check_names(image, segment, &tree.symbol_nodes)?;
+    let root = table.tree();
+    check_keys(image, segment, tree_node(image, root).level(), root)
+}

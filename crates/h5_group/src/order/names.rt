@@ -1,0 +1,77 @@
+//! The order of a group's names (File Format Specification 3.0, section III.B).
+
+ghost use Rattle.std.specs.Prelude.{◌≡◌, ◌↔◌, IsTrue, List, map, option_map, IfOk, IfErr, OnOk};
+ghost use Rattle.std.specs.List.{AllByRecursion};
+ghost use Rattle.h5_model.specs.Format.Superblock.{IsSuperblock, leaf_k};
+ghost use Rattle.h5_model.specs.Format.Symbols.{symbols_at, link_of};
+ghost use Rattle.h5_model.specs.Format.Links.{Ascend};
+ghost use Rattle.h5_model.specs.Faults.TreeFaults.{all_entries};
+ghost use Rattle.h5_group.specs.Nodes.Stands.{IsSymbolsAt};
+ghost use Rattle.h5_group.specs.Order.Rising.{FallAt, FallFrom, IsAbove, RiseFrom, last_name};
+
+use crate::order::text::is_before;
+use h5_model::{Cause, OpenFault};
+use crate::symbol_node;
+use h5_space::Image;
+
+/// Checks that the names in these symbol nodes ascend; `NameOrder` at the first that holds a name which is not above the one
+/// before it.
+pub(crate) fn check_names(
+    image: &Image,
+    segment: &[u8],
+    symbol_nodes: &[u64],
+) -> Result<(), OpenFault>
+    requires superblock { IsSuperblock image.now.bytes }
+    requires symbols { AllByRecursion (IsSymbolsAt image.now.bytes) symbol_nodes.now }
+    ensures ascending { OnOk result (Ascend (map (link_of segment.now) (all_entries image.now.bytes symbol_nodes.now))) }
+    ensures cause { IfErr result (λ fault. fault.cause ≡ Cause.NameOrder) }
+    ensures falls { IfErr result (λ fault. FallAt image.now.bytes segment.now symbol_nodes.now fault.address) }
+{
+    let mut last = None;
+    for at in symbol_nodes {
+        last = check_node(image, segment, *at, last)?;
+    }
+    Ok(())
+}
+
+/// Checks that the names in the symbol node at this address ascend, from the one before them on. Gives the last name so far.
+fn check_node<'a>(
+    image: &Image,
+    segment: &'a [u8],
+    at: u64,
+    before: Option<&'a [u8]>,
+) -> Result<Option<&'a [u8]>, OpenFault>
+    requires superblock { IsSuperblock image.now.bytes }
+    requires symbols { IsSymbolsAt image.now.bytes at }
+    ensures rise { OnOk result (RiseFrom segment.now (option_map (λ x. x.now) before.entry)
+        (symbols_at image.now.bytes (leaf_k image.now.bytes) at)) }
+    ensures last { IfOk result (λ last. option_map (λ x. x.now) last ≡ last_name segment.now (option_map (λ x. x.now) before.entry)
+        (symbols_at image.now.bytes (leaf_k image.now.bytes) at)) }
+    ensures refused { IfErr result (λ fault. fault ≡ record { cause = Cause.NameOrder; address = at }) }
+    ensures falls { IfErr result (λ fault. FallFrom segment.now (option_map (λ x. x.now) before.entry)
+        (symbols_at image.now.bytes (leaf_k image.now.bytes) at)) }
+{
+    let node = symbol_node(image, at);
+    let mut last = before;
+    for k in 0..node.len() {
+        let name = node.name(k, segment);
+        if !is_above(last, name) {
+            return Err(OpenFault {
+                cause: Cause::NameOrder,
+                address: at,
+            });
+        }
+        last = Some(name);
+    }
+    Ok(last)
+}
+
+/// Whether a name is above the last one, where there is one.
+fn is_above(last: Option<&[u8]>, name: &[u8]) -> bool
+    ensures { IsTrue result ↔ IsAbove (option_map (λ x. x.now) last.entry) name.now }
+{
+    match last {
+        Some(last) => is_before(last, name),
+        None => true,
+    }
+}

@@ -1,0 +1,39 @@
+//! A group's links, one part behind another.
+ghost use Rattle.std.specs.Prelude.{◌≡◌, ◌+◌, ◌^◌, ◌≤◌, ◌++◌, OnOk, map};
+ghost use Rattle.h5_model.specs.Format.Superblock.{AreK};
+ghost use Rattle.h5_heap.specs.Writing.Links.{link_of};
+ghost use Rattle.h5_group.specs.Writing.Written.{links_bytes};
+ghost use Rattle.h5_group.specs.Writing.Places.{ArePlaces};
+
+use crate::write::places::GroupPlaces;
+use crate::write::symbols::{push_symbol_nodes, symbol_children};
+use h5_btree::push_tree;
+use h5_heap::{NewLink, push_heap};
+use std::alloc::{AllocError, Global};
+
+/// The tree, the heap and the symbol nodes of these links, which lie so, as they stand from the address `at` on.
+///
+/// Takes memory for a child of the tree for each symbol node beside what it appends. An error is memory that was refused; how many
+/// bytes have been appended by then is not said.
+pub fn push_links(
+    alloc: Global,
+    out: &mut Vec<u8>,
+    leaf: u16,
+    internal: u16,
+    at: u64,
+    places: &GroupPlaces,
+    links: &[NewLink<'_>],
+) -> Result<(), AllocError>
+    requires k { AreK leaf internal }
+    requires places { ArePlaces leaf internal (map link_of links.now) places.now }
+    requires low { at + places.now.length ≤ 2 ^ 31 }
+    ensures { OnOk result (out.new.items ≡ out.old.items ++ links_bytes leaf internal at (map link_of links.now)) }
+{
+    let heap = at + places.tree;
+    let symbols = heap + 32 + places.segment;
+    let children = symbol_children(alloc, leaf, symbols, links)?;
+    push_tree(alloc, out, internal, at, &children)?;
+    push_heap(out, heap, places.segment, links)?;
+    push_symbol_nodes(out, leaf, links)?;
+    Ok(())
+}

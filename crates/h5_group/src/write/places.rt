@@ -1,0 +1,71 @@
+//! Where the parts of a group's links stand.
+ghost use Rattle.std.specs.Prelude.{◌≡◌, ◌*◌, ◌^◌, ◌<◌, ◌≤◌, MatchResult, map};
+ghost use Rattle.h5_model.specs.Format.Superblock.{AreK};
+ghost use Rattle.h5_heap.specs.Writing.Links.{link_of};
+ghost use Rattle.h5_group.specs.Writing.Places.{IsTooLarge, ArePlaces};
+
+use h5_btree::{nodes_over, root_level, rows_of};
+use h5_heap::{NewLink, segment_length};
+
+/// Why a group's links are not written.
+#[derive(Clone, Copy, PartialEq, Eq, Debug)]
+pub enum GroupFault {
+    /// They would have more than 2147483648 bytes.
+    TooLong,
+    /// Their tree would have more than 16 levels.
+    TooDeep,
+}
+
+/// How the parts of a group's links lie behind the place where they begin.
+#[derive(Clone, Copy)]
+pub struct GroupPlaces {
+    /// The bytes of the tree before the heap.
+    pub tree: u64,
+    /// The bytes of the heap's segment.
+    pub segment: u64,
+    /// The bytes of all.
+    pub length: u64,
+}
+
+/// The most bytes of a group's links.
+const MOST: u64 = 2147483648;
+
+/// The bytes of so many blocks of one size.
+#[tactic(auto, using(crate::proofs::WriteLaws::Counts::product_low))]
+fn bytes_of(count: u64, size: u64) -> u64
+    requires count { count < 2 ^ 33 }
+    requires size { size ≤ 2 ^ 22 }
+    ensures exact { result ≡ count * size }
+    ensures low { result ≤ 2 ^ 55 }
+{
+    count * size
+}
+
+/// How the parts of these links lie. `TooLong` where they have more than 2147483648 bytes, and else `TooDeep` where the tree's root
+/// would have a level above 15.
+pub fn group_places(
+    leaf: u16,
+    internal: u16,
+    links: &[NewLink<'_>],
+) -> Result<GroupPlaces, GroupFault>
+    requires { AreK leaf internal }
+    ensures { MatchResult result (ArePlaces leaf internal (map link_of links.now)) (IsTooLarge leaf internal (map link_of links.now)) }
+{
+    let Some(segment) = segment_length(links) else {
+        return Err(GroupFault::TooLong);
+    };
+    let nodes = rows_of(2 * u64::from(leaf), links.len() as u64);
+    let tree = bytes_of(nodes_over(internal, nodes), 32 + 32 * u64::from(internal));
+    let length = tree + 32 + segment + bytes_of(nodes, 8 + 80 * u64::from(leaf));
+    if length > MOST {
+        return Err(GroupFault::TooLong);
+    }
+    if root_level(internal, nodes) > 15 {
+        return Err(GroupFault::TooDeep);
+    }
+    Ok(GroupPlaces {
+        tree,
+        segment,
+        length,
+    })
+}

@@ -1,0 +1,156 @@
+//! Symbol nodes (File Format Specification 3.0, section III.B) and their entries (section III.C).
+ghost use Rattle.std.specs.Prelude.{◌≡◌, ◌+◌, ◌*◌, ◌^◌, ◌<◌, ◌≤◌, ◌++◌, OnOk, IfOk, length, map, sum_by};
+ghost use Rattle.std.specs.List.{flat_map};
+ghost use Rattle.h5_bytes.specs.Numbers.{word, middle, zeros};
+ghost use Rattle.h5_model.specs.Format.Sizes.{symbol_node};
+ghost use Rattle.h5_heap.specs.Writing.Links.{link_of};
+ghost use Rattle.h5_heap.specs.Writing.Written.{placed, placed_links, entry_bytes, link_span as span};
+ghost use Rattle.h5_group.specs.Writing.Written.{symbol_bytes, symbol_nodes, runs_of, last_name, children_of};
+
+use h5_bytes::{push_bytes, push_middle, push_short, push_word, push_zeros};
+use h5_btree::Child;
+use h5_heap::{Leads, NewLink, link_span, text_span};
+use std::alloc::{AllocError, Global};
+
+/// What stands before the scratch of an entry: the offset of its name, its object's header and its cache type.
+fn push_entry_head(out: &mut Vec<u8>, name: u64, header: u64, cache: u32) -> Result<(), AllocError>
+    ensures { OnOk result (out.new.items ≡ out.old.items ++ (word name ++ (word header ++ (middle cache ++ zeros 4)))) }
+{
+    push_word(out, name)?;
+    push_word(out, header)?;
+    push_middle(out, cache)?;
+    push_zeros(out, 4)
+}
+
+/// The entry of a link whose name stands at this offset. Its scratch has a group's tree and heap, or the offset of a soft link's text.
+fn push_entry(out: &mut Vec<u8>, name: u64, link: &NewLink<'_>) -> Result<(), AllocError>
+    requires { name + span (link_of link.now) < 2 ^ 32 }
+    ensures { OnOk result (out.new.items ≡ out.old.items ++ entry_bytes (name, link_of link.now)) }
+{
+    match link.leads {
+        Leads::Group { header, tree, heap } => {
+            push_entry_head(out, name, header, 1)?;
+            push_word(out, tree)?;
+            push_word(out, heap)?;
+            Ok(())
+        }
+        Leads::Array(header) => {
+            push_entry_head(out, name, header, 0)?;
+            push_zeros(out, 16)
+        }
+        Leads::Text(_) => {
+            push_entry_head(out, name, u64::MAX, 2)?;
+            push_middle(out, name as u32 + text_span(link.name) as u32)?;
+            push_zeros(out, 12)
+        }
+    }
+}
+
+/// The entries of these links, the first name of which stands at this offset. `Ok` has the offset behind their texts.
+fn push_entries(out: &mut Vec<u8>, name: u64, links: &[NewLink<'_>]) -> Result<u64, AllocError>
+    requires { name + sum_by span (map link_of links.now) < 2 ^ 32 }
+    ensures entries { OnOk result (out.new.items ≡ out.old.items ++ flat_map entry_bytes (placed name (map link_of links.now))) }
+    ensures next { IfOk result (λ n. n ≡ name + sum_by span (map link_of links.now)) }
+{
+    let mut at = name;
+    for link in links {
+        push_entry(out, at, link)?;
+        at += link_span(link) as u64;
+    }
+    Ok(at)
+}
+
+/// A symbol node with room for 2 `leaf` entries, filled from the left; the first name stands at this offset. `Ok` has the offset
+/// behind the links' texts.
+fn push_symbol_node(
+    out: &mut Vec<u8>,
+    leaf: u16,
+    name: u64,
+    links: &[NewLink<'_>],
+) -> Result<u64, AllocError>
+    requires leaf { leaf ≤ 32767 }
+    requires room { length links.now ≤ 2 * leaf }
+    requires names { name + sum_by span (map link_of links.now) < 2 ^ 32 }
+    ensures node { OnOk result (out.new.items ≡ out.old.items ++ symbol_bytes leaf (placed name (map link_of links.now))) }
+    ensures next { IfOk result (λ n. n ≡ name + sum_by span (map link_of links.now)) }
+{
+    push_bytes(out, b"SNOD\x01\x00")?;
+    push_short(out, links.len() as u16)?;
+    let next = push_entries(out, name, links)?;
+    push_zeros(out, (2 * usize::from(leaf) - links.len()) * 40)?;
+    Ok(next)
+}
+
+/// The symbol nodes of all these links.
+pub(crate) fn push_symbol_nodes(
+    out: &mut Vec<u8>,
+    leaf: u16,
+    links: &[NewLink<'_>],
+) -> Result<(), AllocError>
+    requires low { 1 ≤ leaf }
+    requires high { leaf ≤ 32767 }
+    requires names { 8 + sum_by span (map link_of links.now) < 2 ^ 32 }
+    ensures { OnOk result (out.new.items ≡ out.old.items ++ flat_map (symbol_bytes leaf) (runs_of leaf (placed_links (map link_of links.now)))) }
+{
+    let room = 2 * usize::from(leaf);
+    let mut name = 8;
+    let mut from = 0;
+    while from < links.len() {
+        let end = from + room.min(links.len() - from);
+        name = push_symbol_node(out, leaf, name, &links[from..end])?;
+        from = end;
+    }
+    Ok(())
+}
+
+/// Where the names of some links stand.
+struct Offsets {
+    /// The last name's offset.
+    last: u64,
+    /// The offset behind the last link's texts.
+    next: u64,
+}
+
+/// The offsets of these links' last name, and behind their texts; the first name stands at this offset.
+fn name_offsets(name: u64, links: &[NewLink<'_>]) -> Offsets
+    requires { name + sum_by span (map link_of links.now) < 2 ^ 32 }
+    ensures last { result.last ≡ last_name 0 (placed name (map link_of links.now)) }
+    ensures next { result.next ≡ name + sum_by span (map link_of links.now) }
+{
+    let mut last = 0;
+    let mut next = name;
+    for link in links {
+        last = next;
+        next += link_span(link) as u64;
+    }
+    Offsets { last, next }
+}
+
+/// The symbol nodes of these links as the children of the tree, the first of them at this place.
+pub(crate) fn symbol_children(
+    alloc: Global,
+    leaf: u16,
+    at: u64,
+    links: &[NewLink<'_>],
+) -> Result<Vec<Child>, AllocError>
+    requires low { 1 ≤ leaf }
+    requires high { leaf ≤ 32767 }
+    requires names { 8 + sum_by span (map link_of links.now) < 2 ^ 32 }
+    requires nodes { at + symbol_nodes leaf (map link_of links.now) * symbol_node leaf ≤ 2 ^ 31 }
+    ensures { IfOk result (λ v. v.items ≡ children_of leaf at (runs_of leaf (placed_links (map link_of links.now)))) }
+{
+    let room = 2 * usize::from(leaf);
+    let mut children = Vec::new(alloc);
+    let mut node = at;
+    let mut name = 8;
+    let mut from = 0;
+    while from < links.len() {
+        let end = from + room.min(links.len() - from);
+        let Offsets { last, next } = name_offsets(name, &links[from..end]);
+        children.push(Child { at: node, last })?;
+        node += 8 + 80 * u64::from(leaf);
+        name = next;
+        from = end;
+    }
+    Ok(children)
+}

@@ -1,0 +1,121 @@
+//! A heap with the texts of a group's links (File Format Specification 3.0, section III.D).
+ghost use Rattle.std.specs.Prelude.{◌≡◌, ◌+◌, ◌^◌, ◌<◌, ◌≤◌, ◌++◌, [], ◌∷◌, OnOk, MatchOption, length, map, sum_by, nat_le, if◌then◌else◌};
+ghost use Rattle.std.specs.List.{flat_map};
+ghost use Rattle.h5_model.specs.Format.Plain.{padded_text};
+ghost use Rattle.h5_model.specs.Format.Sizes.{text_span as text_size};
+ghost use Rattle.h5_heap.specs.Writing.Links.{link_of, spelled};
+ghost use Rattle.h5_heap.specs.Writing.Written.{heap_bytes, segment_of, link_span as span};
+
+use crate::write::link::{Leads, NewLink};
+use crate::write::parts::{push_free_rest, push_heap_header, push_text, text_span};
+use h5_bytes::push_zeros;
+use std::alloc::AllocError;
+
+/// The most bytes of a heap's texts.
+const MOST: u64 = 2147483648;
+
+/// How many bytes a link's texts occupy in the heap: its name, and a soft link's text. Those of a link that `segment_length` has
+/// counted are few enough.
+pub fn link_span(link: &NewLink<'_>) -> usize
+    requires { span (link_of link.now) < 2 ^ 64 }
+    ensures { result ≡ span (link_of link.now) }
+{
+    let name = text_span(link.name);
+    match link.leads {
+        Leads::Group { .. } => name,
+        Leads::Array(_) => name,
+        Leads::Text(text) => name + text_span(text),
+    }
+}
+
+/// How many bytes are used with a text behind so many, or `None` where they are more than 2147483648.
+fn behind_text(used: u64, text: &[u8]) -> Option<u64>
+    requires { used ≤ 2 ^ 31 }
+    ensures { MatchOption result (2 ^ 31 < used + text_size text.now) (λ n. (n ≡ used + text_size text.now) × (n ≤ 2 ^ 31)) }
+{
+    let end = used + text_span(text) as u64;
+    if end > MOST { None } else { Some(end) }
+}
+
+/// How many bytes are used with a link's texts behind so many, or `None` where they are more than 2147483648.
+fn behind_link(used: u64, link: &NewLink<'_>) -> Option<u64>
+    requires { used ≤ 2 ^ 31 }
+    ensures { MatchOption result (2 ^ 31 < used + span (link_of link.now)) (λ n. (n ≡ used + span (link_of link.now)) × (n ≤ 2 ^ 31)) }
+{
+    let end = behind_text(used, link.name)?;
+    match link.leads {
+        Leads::Group { .. } => Some(end),
+        Leads::Array(_) => Some(end),
+        Leads::Text(text) => behind_text(end, text),
+    }
+}
+
+/// How many bytes of the segment the empty name and the texts of these links occupy, or `None` where it is more than 2147483648.
+fn used_length(links: &[NewLink<'_>]) -> Option<u64>
+    ensures { MatchOption result (2 ^ 31 < 8 + sum_by span (map link_of links.now))
+        (λ n. (n ≡ 8 + sum_by span (map link_of links.now)) × (n ≤ 2 ^ 31)) }
+{
+    let mut used = 8;
+    for link in links {
+        used = behind_link(used, link)?;
+    }
+    Some(used)
+}
+
+/// How many bytes the segment of these links has, or `None` where it has more than 2147483648.
+pub fn segment_length(links: &[NewLink<'_>]) -> Option<u64>
+    ensures { MatchOption result (2 ^ 31 < length (segment_of (map link_of links.now)))
+        (λ n. (n ≡ length (segment_of (map link_of links.now))) × (n ≤ 2 ^ 31)) }
+{
+    let used = used_length(links)?;
+    Some(if used <= 72 { 88 } else { used })
+}
+
+/// The offset of the first free block of a segment of which so many bytes are used, or 1 where there is none.
+fn free_head(used: u64) -> u64
+    ensures { result ≡ (if nat_le used 72 then used else 1) }
+{
+    if used <= 72 { used } else { 1 }
+}
+
+/// A link's name, and the text of a soft link.
+fn push_link_texts(out: &mut Vec<u8>, link: &NewLink<'_>) -> Result<(), AllocError>
+    ensures { OnOk result (out.new.items ≡ out.old.items ++ flat_map padded_text (spelled (link_of link.now ∷ []))) }
+{
+    push_text(out, link.name)?;
+    match link.leads {
+        Leads::Group { .. } => Ok(()),
+        Leads::Array(_) => Ok(()),
+        Leads::Text(text) => push_text(out, text),
+    }
+}
+
+/// The names of these links and the texts of soft links, one behind another.
+fn push_texts(out: &mut Vec<u8>, links: &[NewLink<'_>]) -> Result<(), AllocError>
+    ensures { OnOk result (out.new.items ≡ out.old.items ++ flat_map padded_text (spelled (map link_of links.now))) }
+{
+    for link in links {
+        push_link_texts(out, link)?;
+    }
+    Ok(())
+}
+
+/// The heap at the place `at`, with its segment of so many bytes behind its header. An error says that memory was refused.
+pub fn push_heap(
+    out: &mut Vec<u8>,
+    at: u64,
+    size: u64,
+    links: &[NewLink<'_>],
+) -> Result<(), AllocError>
+    requires size { size ≡ length (segment_of (map link_of links.now)) }
+    requires low { at + 32 + size ≤ 2 ^ 31 }
+    ensures { OnOk result (out.new.items ≡ out.old.items ++ heap_bytes at (map link_of links.now)) }
+{
+    // a free block is there or not, whatever the segment's size: 88 bytes may all be used
+    let used = used_length(links).unwrap();
+    push_heap_header(out, size, free_head(used), at + 32)?;
+    push_zeros(out, 8)?;
+    push_texts(out, links)?;
+    push_free_rest(out, used)?;
+    Ok(())
+}

@@ -1,2 +1,0 @@
-//! Laws of plain images: the image of any tree, written without gaps, reads as that tree. There is no code here.
-#![tactic(auto)]

@@ -1,9 +1,0 @@
-use Rattle.std.proofs.Common.{take}
-use Rattle.std.specs.List.{AllByRecursion}
-use Rattle.h5_model.specs.Symbols.{Entry}
-use Rattle.h5_keys.specs.Below.{LiesBetween}
-use Rattle.h5_keys.specs.Rising.{name_of}
-use Rattle.h5_keys.proofs.keys.holds_between.Given as goal
-
-abbrev pub invariant-loop-k : goal.invariant-loop-k
-invariant-loop-k l = AllByRecursion (λ (e : Entry). LiesBetween l.bounds.low.now l.bounds.high.now (name_of l.segment e)) (take l.k l.node)

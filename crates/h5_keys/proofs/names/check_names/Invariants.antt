@@ -1,9 +1,0 @@
-use Rattle.std.proofs.Common.{◌≡◌, take, option_map}
-use Rattle.std.specs.Prelude.{None}
-use Rattle.h5_model.specs.TreeFaults.{all_entries}
-use Rattle.h5_keys.specs.Rising.{RiseFrom, last_name}
-use Rattle.h5_keys.proofs.names.check_names.Given as goal
-
-abbrev pub invariant-loop-at : goal.invariant-loop-at
-invariant-loop-at l = RiseFrom l.segment None (all_entries l.image.bytes (take l.at-index l.symbol_nodes))
-    × (option_map (λ x. x.now) l.last ≡ last_name l.segment None (all_entries l.image.bytes (take l.at-index l.symbol_nodes)))

@@ -1,0 +1,71 @@
+-- Sums over the values of a map.
+use Rattle.std.proofs.Common.{◌≡◌, ℕ, ◌+◌, ◌≤◌, cond, List, [], ◌∷◌, map, refl, ap, ◌∙◌, Option, Some, None, inl, inr, arith}
+use Rattle.std.specs.Prelude.{T}
+use Rattle.std.specs.List.{sum_by}
+use Rattle.std.specs.Option.{option_map_or}
+use Rattle.std.specs.Ordering.{is_lt, is_eq}
+use Rattle.std.specs.declared.cmp.Ordering.{Ordering}
+use Rattle.std.specs.declared.cmp.Ordering.TheVariants.{Less, Equal, Greater}
+use Rattle.std.specs.Cmp.{IsTotalOrder}
+use Rattle.std.specs.FinMap.{FinMap, IsAntisymmetric, get, insert, entries, values, find, put, is_sorted, get-entries, entries_sorted, entries-insert}
+use Rattle.std.specs.FinMap.Entries.{below_all, by_order}
+use Rattle.std.proofs.lemmas.List.Sums.{sum_by-cons}
+use Rattle.h5_model.proofs.ReachLaws.{halves}
+use Rattle.h5_laws.proofs.Lists.{In}
+use Rattle.h5_laws.proofs.Maps.{true_of, get_of_entry}
+use Rattle.h5_laws.proofs.Ascending.{less_of}
+use Rattle.h5_laws.proofs.SoundLaws.Inserted.{insert_other}
+
+abbrev pub weight : {X : Type 0} → (X → ℕ) → Option X → ℕ
+weight f o = option_map_or f o 0
+
+module _ {K X : Type 0} {R : K → K → Ordering} (o : IsTotalOrder R) where
+  -- a key below those of all entries is not found
+  lower : (x k : K) (es : List (K × X)) → R k x ≡ Less → T (below_all R x es) → find R k es ≡ None
+  lower x k [] low below = refl
+  lower x k (e ∷ es) low below =
+      let split : T (is_lt (R x e.0)) × T (below_all R x es) = halves _ _ below in
+      ap (λ r. cond (is_eq r) (Some e.1) (find R k es)) (o.trans k x e.0 low (less_of _ (true_of _ split.0))) ∙ lower x k es low split.1
+
+  module _ (f : X → ℕ) where
+    abbrev total : List (K × X) → ℕ
+    total es = sum_by f (map (λ e. e.1) es)
+
+    total_cons : (e : K × X) (es : List (K × X)) → total (e ∷ es) ≡ f e.1 + total es
+    total_cons e es = sum_by-cons f e.1 (map (λ x. x.1) es)
+
+    total_put : (k : K) (v : X) (es : List (K × X)) → T (is_sorted R es) → total (put R k v es) + weight f (find R k es) ≡ total es + f v
+    total_put k v [] sorted = omega (arith, total_cons (k, v) [])
+    total_put k v (e ∷ es) sorted = go (R k e.0) refl (total_put k v es (halves _ _ sorted).1) where
+      go : (r : Ordering) → R k e.0 ≡ r → total (put R k v es) + weight f (find R k es) ≡ total es + f v
+          → total (by_order r ((k, v) ∷ e ∷ es) ((e.0, v) ∷ es) (e ∷ put R k v es)) + weight f (cond (is_eq r) (Some e.1) (find R k es)) ≡ total (e ∷ es) + f v
+      go Less is rest = omega (arith, total_cons (k, v) (e ∷ es), ap (weight f) (lower e.0 k es is (halves _ _ sorted).0))
+      go Equal is rest = omega (arith, total_cons (e.0, v) es, total_cons e es)
+      go Greater is rest = omega (arith, total_cons e (put R k v es), total_cons e es, rest)
+
+    -- the new value is added, and the old one taken away
+    pub sum_insert : (m : FinMap R X) (k : K) (v : X) → sum_by f (values (insert m k v)) + weight f (get m k) ≡ sum_by f (values m) + f v
+    sum_insert m k v =
+        let rest = total_put k v (entries m) (entries_sorted m) in
+        let new = ap total (entries-insert o m k v) in
+        let old = ap (weight f) (get-entries m k) in
+        omega (arith, rest, new, old)
+
+    total_none : (es : List (K × X)) → ((k : K) (v : X) → In (k, v) es → f v ≡ 0) → total es ≡ 0
+    total_none [] none = refl
+    total_none (e ∷ es) none = omega (arith, total_cons e es, none e.0 e.1 (inl refl), total_none es (λ k v at. none k v (inr at)))
+
+    -- where no value counts, there is no sum
+    pub sum_none : (m : FinMap R X) → ((k : K) (v : X) → get m k ≡ Some v → f v ≡ 0) → sum_by f (values m) ≡ 0
+    sum_none m none = total_none (entries m) (λ k v at. none k v (get_of_entry o m k v at))
+
+    -- each value is part of the sum; z is a value that does not count
+    pub sum_least : (z : X) → f z ≡ 0 → (m : FinMap R X) (k : K) (v : X) → get m k ≡ Some v → f v ≤ sum_by f (values m)
+    sum_least z nothing m k v there = omega (arith, sum_insert m k z, nothing, ap (weight f) there)
+
+    -- and so are those of two keys
+    pub sum_two : IsAntisymmetric R → (z : X) → f z ≡ 0 → (m : FinMap R X) (a b : K) (u v : X) → (b ≡ a → ⊥) → get m a ≡ Some u → get m b ≡ Some v
+        → f u + f v ≤ sum_by f (values m)
+    sum_two same z nothing m a b u v other first second =
+        let rest : f v ≤ sum_by f (values (insert m a z)) = sum_least z nothing (insert m a z) b v (insert_other o same m a z b other ∙ second) in
+        omega (arith, sum_insert m a z, nothing, ap (weight f) first, rest)

@@ -1,0 +1,3 @@
+pub mod Holds
+pub mod Numbered
+pub mod Trees

@@ -1,0 +1,84 @@
+-- When an edit is refused for the image: what the image says decides, beside the tree.
+use Rattle.std.specs.Prelude.{◌≡◌, ℕ, ◌+◌, ◌^◌, ◌&&◌, Bool, true, false, not, Option, Some, None, IsTrue, IsFalse, nat_lt, is_none, if◌then◌else◌, List, [], ◌∷◌, length}
+use Rattle.std.specs.Option.{option_map_or}
+use Rattle.h5_model.specs.Tree.Objects.{Tree, Dataset, Storage, Chunked}
+use Rattle.h5_model.specs.Tree.Paths.{dataset_at}
+use Rattle.h5_model.specs.Edits.Bounds.{Room, bound_of, new_boxes}
+use Rattle.h5_model.specs.Edits.Refusal.{refusal_of}
+use Rattle.h5_model.specs.Edits.Applied.{State, state_after}
+use Rattle.h5_model.specs.declared.edits.Edit.{Edit}
+use Rattle.h5_model.specs.declared.edits.Edit.TheVariants.{CreateGroup, CreateDataset, HardLink, SoftLink, SetAttr, Write, Resize}
+use Rattle.h5_model.specs.declared.edit_fault.EditFault.{EditFault}
+use Rattle.h5_model.specs.declared.edit_fault.EditFault.TheVariants as fault
+
+-- the edits that add a message to a header, and those that add a link or a chunk
+abbrev pub adds_message : Edit → Bool
+adds_message (SetAttr path attr) = true
+adds_message (Resize path dims) = true
+adds_message _ = false
+
+abbrev pub adds_entry : Edit → Bool
+adds_entry (CreateGroup path) = true
+adds_entry (CreateDataset path spec) = true
+adds_entry (HardLink target path) = true
+adds_entry (SoftLink text path) = true
+adds_entry (Write path hyper values) = true
+adds_entry _ = false
+
+-- Want of memory may stand in place of any other refusal; what else is given comes behind the rules of the tree. (NotYet would stand
+-- before all of them, while some edit is not carried.)
+abbrev pub chosen : Option EditFault → Option EditFault → Option EditFault
+chosen refusal (Some fault.NoMemory) = Some fault.NoMemory
+chosen (Some f) given = Some f
+chosen None given = given
+
+-- what an image says of an edit: its length, how many messages the named object's header has, the level of the tree that takes
+-- a link or a chunk, and what the bounds need
+pub record Facts : Type 0 where
+  pub length : ℕ
+  pub total : ℕ
+  pub level : ℕ
+  pub room : Room
+
+-- a message must be added: by every SetAttr, and by a Resize whose dataspace message has no maxima
+abbrev pub must_add : Room → Edit → Bool
+must_add r (SetAttr path attr) = true
+must_add r (Resize path dims) = not r.has_maxima
+must_add r _ = false
+
+-- the header's total is 16 bits wide, and a Continuation may come with the message
+abbrev pub is_header_full : Facts → Edit → Bool
+is_header_full f edit = must_add f.room edit && nat_lt 65535 (f.total + 2)
+
+-- The image has at most 2^31 bytes. Until an edit works in place the image is written anew: read `nat_lt (2 ^ 31) (plain_length ..)`
+-- of the tree after the edit, for every edit and for good for a repack; and no header is full and no tree too deep.
+abbrev pub is_image_full : Facts → Tree → Edit → Bool
+is_image_full f tree edit = nat_lt (2 ^ 31) (f.length + bound_of f.room tree edit)
+
+-- a write meets a chunk that is not stored
+abbrev pub adds_chunk : Room → Edit → Dataset → Bool
+adds_chunk r edit d = of_storage d.storage where
+  of_storage : Storage → Bool
+  of_storage (Chunked chunk) = nat_lt 0 (length (new_boxes r edit d.sizes chunk))
+  of_storage _ = false
+
+-- a link finds its group's tree at level 15; of several chunks a later one may, so a Write has only to add one
+abbrev pub AtTop : Facts → Tree → Edit → Type 0
+AtTop f tree (Write path hyper values) = IsTrue (option_map_or (adds_chunk f.room (Write path hyper values)) (dataset_at tree path) false)
+AtTop f tree edit = IsTrue (adds_entry edit) × (f.level ≡ 15)
+
+-- What the image decides of an edit that no rule of the tree refuses, memory aside: HeaderFull exactly where it holds; then ImageFull
+-- exactly where it holds, or TreeTooDeep, in its place or alone.
+abbrev pub IsGiven : Facts → Tree → Edit → Option EditFault → Type 0
+IsGiven f tree edit None = IsFalse (is_header_full f edit) × IsFalse (is_image_full f tree edit)
+IsGiven f tree edit (Some fault.HeaderFull) = IsTrue (is_header_full f edit)
+IsGiven f tree edit (Some fault.TreeTooDeep) = IsFalse (is_header_full f edit) × AtTop f tree edit
+IsGiven f tree edit (Some fault.ImageFull) = IsFalse (is_header_full f edit) × IsTrue (is_image_full f tree edit)
+IsGiven f tree edit (Some fault.NoMemory) = Unit {0}
+IsGiven f tree edit _ = ⊥
+
+-- the state after edits, each with what the image or memory decided of it; refused ones are passed over
+abbrev pub after_edits : State → List (Edit × Option EditFault) → State
+after_edits s [] = s
+after_edits s (step ∷ steps) =
+    after_edits (if is_none (chosen (refusal_of s.tree s.next step.0) step.1) then state_after s step.0 else s) steps

@@ -1,0 +1,95 @@
+-- The plain layout: the bytes of each structure as an image that is written anew has them (File Format Specification 3.0, sections
+-- II.A, III and IV.A). Its blocks follow each other without gaps.
+use Rattle.std.specs.Prelude.{ℕ, ◌+◌, ◌-◌, ◌*◌, nat_le, if◌then◌else◌, ℤ, List, [], ◌∷◌, ◌++◌, length}
+use Rattle.std.specs.List.{flat_map}
+use Rattle.h5_bytes.specs.Bytes.{undefined}
+use Rattle.h5_bytes.specs.Numbers.{short, middle, word, zeros}
+use Rattle.h5_model.specs.Format.Superblock.{signature}
+use Rattle.h5_model.specs.Format.Heap.{heap_signature}
+use Rattle.h5_model.specs.Format.Nodes.{Kind, node_signature, node_length}
+use Rattle.h5_model.specs.Format.Fixed.{Fixed, bytes_of}
+use Rattle.h5_model.specs.Format.Sizes.{text_span}
+
+-- versions 0, sizes of 8 bytes, the K values, base address 0, and the root entry with its tree and heap
+abbrev pub superblock_bytes : ℕ → ℕ → ℕ → ℕ → ℕ → ℕ → List ℕ
+superblock_bytes leaf internal end root tree heap =
+    signature ++ (zeros 5 ++ (8 ∷ 8 ∷ 0 ∷ (short leaf ++ (short internal ++ (zeros 12 ++ (word undefined ++ (word end ++ (word undefined
+    ++ (word 0 ++ (word root ++ (word 1 ++ (word tree ++ word heap))))))))))))
+
+-- ---- headers
+
+-- a message: its type, and a body of a multiple of 8 bytes
+abbrev pub message_bytes : (ℕ × List ℕ) → List ℕ
+message_bytes m = short m.0 ++ (short (length m.1) ++ (zeros 4 ++ m.1))
+
+abbrev pub messages_bytes : List (ℕ × List ℕ) → List ℕ
+messages_bytes ms = flat_map message_bytes ms
+
+-- a header of this reference count, with all its messages in one block
+abbrev pub header_bytes : ℕ → List (ℕ × List ℕ) → List ℕ
+header_bytes count ms = 1 ∷ 0 ∷ (short (length ms) ++ (middle count ++ (middle (length (messages_bytes ms)) ++ (zeros 4 ++ messages_bytes ms))))
+
+abbrev pub symbol_table_body : ℕ → ℕ → List ℕ
+symbol_table_body tree heap = word tree ++ word heap
+
+-- ---- groups
+
+-- key 0, child 0, key 1, .., the last key
+abbrev pub rows_bytes : List (List ℕ) → List ℕ → List ℕ
+rows_bytes [] children = []
+rows_bytes (key ∷ keys) [] = key
+rows_bytes (key ∷ keys) (child ∷ children) = key ++ (word child ++ rows_bytes keys children)
+
+abbrev pub filled_to : ℕ → List ℕ → List ℕ
+filled_to len bytes = bytes ++ zeros (len - length bytes)
+
+abbrev pub node_bytes_of : Kind → ℕ → ℕ → ℕ → List (List ℕ) → List ℕ → List ℕ
+node_bytes_of kind level left right keys children = filled_to (node_length kind)
+    (node_signature ++ (kind.type_byte ∷ level ∷ (short (length children) ++ (word left ++ (word right ++ rows_bytes keys children)))))
+
+abbrev pub heap_header_bytes : ℕ → ℕ → ℕ → List ℕ
+heap_header_bytes size head segment = heap_signature ++ (zeros 4 ++ (word size ++ (word head ++ word segment)))
+
+-- a text with its zero, padded
+abbrev pub padded_text : List ℕ → List ℕ
+padded_text text = text ++ zeros (text_span text - length text)
+
+-- the empty name, and then these texts
+abbrev pub texts_bytes : List (List ℕ) → List ℕ
+texts_bytes texts = zeros 8 ++ flat_map padded_text texts
+
+-- a segment has 88 bytes, with a free block at the end, where at most 72 are used
+abbrev pub segment_with : List ℕ → List ℕ
+segment_with used = if nat_le (length used) 72 then used ++ (word 1 ++ (word (88 - length used) ++ zeros (72 - length used))) else used
+
+abbrev pub segment_bytes : List (List ℕ) → List ℕ
+segment_bytes texts = segment_with (texts_bytes texts)
+
+abbrev pub head_of : List ℕ → ℕ
+head_of used = if nat_le (length used) 72 then length used else 1
+
+abbrev pub free_head_of : List (List ℕ) → ℕ
+free_head_of texts = head_of (texts_bytes texts)
+
+-- ---- arrays
+
+-- sizes that are their own maxima
+abbrev pub extent_body : List ℕ → List ℕ
+extent_body sizes = 1 ∷ length sizes ∷ 0 ∷ (zeros 5 ++ flat_map word sizes)
+
+abbrev pub class_bits : Fixed → ℕ
+class_bits t = (if t.big then 1 else 0) + (if t.signed then 8 else 0)
+
+abbrev pub type_body : Fixed → List ℕ
+type_body t = 16 ∷ class_bits t ∷ 0 ∷ 0 ∷ (middle t.size ++ (short 0 ++ (short (8 * t.size) ++ zeros 4)))
+
+-- a fill value that is defined; space is made at this time, and the value is written if it was set
+abbrev pub fill_body : ℕ → Fixed → ℤ → List ℕ
+fill_body time t value = 2 ∷ time ∷ 2 ∷ 1 ∷ (middle t.size ++ (bytes_of t value ++ zeros (8 - t.size)))
+
+abbrev pub contiguous_body : ℕ → ℕ → List ℕ
+contiguous_body address size = 3 ∷ 1 ∷ (word address ++ (word size ++ zeros 6))
+
+-- the bytes of cells, one after another
+abbrev pub cells_bytes : Fixed → List ℤ → List ℕ
+cells_bytes t cells = flat_map (bytes_of t) cells

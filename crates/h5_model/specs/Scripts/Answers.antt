@@ -1,0 +1,171 @@
+-- A script: what each of its lines answers, how the line counts, and the session after it.
+use Rattle.std.specs.Prelude.{ℕ, ◌+◌, ◌*◌, ◌/◌, ◌||◌, Bool, true, false, nat_le, if◌then◌else◌, ℤ, Option, Some, None, is_some, Result, Ok, Err, List, [], ◌∷◌, ◌++◌, map, length, codes}
+use Rattle.std.specs.Fmt.{decimal}
+use Rattle.std.specs.List.{range_with_len}
+use Rattle.std.specs.FinMap.{get, insert, remove, contains_key, len}
+use Rattle.std.specs.Option.{option_map_or}
+use Rattle.h5_model.specs.Format.Fixed.{Fixed, value_at}
+use Rattle.h5_model.specs.Views.Selection.{axes_of}
+use Rattle.h5_model.specs.Tree.Objects.{Tree, ToObject, Soft, dataset_of}
+use Rattle.h5_model.specs.Tree.Paths.{Located, Here, located, object_at}
+use Rattle.h5_model.specs.Edits.Applied.{state_after}
+use Rattle.h5_model.specs.Edits.EditFaults.{refused_text}
+use Rattle.h5_model.specs.Views.ViewFaults.{view_fault_text}
+use Rattle.h5_model.specs.Edits.Refusal.{refusal_of, first_holding}
+use Rattle.h5_model.specs.Scripts.Reading.{path_rules, selection_rules}
+use Rattle.h5_model.specs.Views.Shown.{View, Shown, shows, is_lent, refreshed_of}
+use Rattle.h5_model.specs.Scripts.Sessions.{Session}
+use Rattle.h5_model.specs.Edits.ImageAnswers.{adds_message, adds_entry, chosen}
+use Rattle.h5_model.specs.Scripts.Text.{line_of, escaped, list_text, dump_text, values_text}
+use Rattle.h5_model.specs.Scripts.Lines.{Command, Change, OpenView, Show, Close, ListAll, Dump, Repack, Unread}
+use Rattle.h5_model.specs.declared.hyperslab.Hyper.{Hyper}
+use Rattle.h5_model.specs.declared.edits.Edit.{Edit}
+use Rattle.h5_model.specs.declared.edit_fault.EditFault.{EditFault}
+use Rattle.h5_model.specs.declared.edit_fault.EditFault.TheVariants as fault
+use Rattle.h5_model.specs.declared.view_fault.ViewFault.{ViewFault}
+use Rattle.h5_model.specs.declared.view_fault.ViewFault.TheVariants as view_fault
+
+-- what the rules of the tree leave open: a refusal for the image or for memory
+abbrev pub Given : Type 0
+Given = Option EditFault
+
+-- how a line counts: as a refused or bad one, as an accepted edit or `repack`, or as neither
+pub data Outcome : Type 0 where
+  Refused : Outcome
+  Accepted : Outcome
+  Told : Outcome
+
+pub record Answer : Type 0 where
+  pub text : List ℕ
+  pub session : Session
+  pub outcome : Outcome
+
+abbrev pub answered : Outcome → List ℕ → Session → Answer
+answered outcome text s = record { text = text; session = s; outcome = outcome }
+
+-- The refusals that a line may be given; of `view`, NoMemory is its own fault 5. Until all edits work in place, Unlink and RemoveAttr
+-- may be given ImageFull too.
+abbrev pub may_be : Command → EditFault → Bool
+may_be (Change edit) fault.HeaderFull = adds_message edit
+may_be (Change edit) fault.TreeTooDeep = adds_entry edit
+may_be (Change edit) fault.ImageFull = adds_message edit || adds_entry edit
+may_be (Change edit) fault.NoMemory = true
+may_be (OpenView path hyper) fault.NoMemory = true
+may_be ListAll fault.NoMemory = true
+may_be (Dump path) fault.NoMemory = true
+may_be Repack fault.ImageFull = true
+may_be Repack fault.NoMemory = true
+may_be _ _ = false
+
+abbrev pub is_given : Command → Given → Bool
+is_given command None = true
+is_given command (Some f) = may_be command f
+
+-- an edit's answer: its refusal, else how many chunks were refreshed
+abbrev pub edit_decided : Session → Edit → Option EditFault → Answer
+edit_decided s edit (Some f) = answered Refused (refused_text f) s
+edit_decided s edit None =
+    answered Accepted (codes "ok " ++ decimal (refreshed_of (s.state).tree (state_after s.state edit).tree s.views edit) ++ codes "\n")
+    (record s { state = state_after s.state edit })
+
+abbrev pub edit_answer : Session → Edit → Given → Answer
+edit_answer s edit given = edit_decided s edit (chosen (refusal_of (s.state).tree (s.state).next edit) given)
+
+abbrev pub opened : Session → ℕ → Hyper → Session
+opened s number hyper = record s {
+  views = insert s.views s.next_view (record { object = number; slab = axes_of hyper });
+  next_view = s.next_view + 1;
+}
+
+-- 1024 views are open, or the numbers of views are used up: they are those below 4294967295
+abbrev pub has_many_views : Session → Bool
+has_many_views s = nat_le 1024 (len s.views) || nat_le 4294967295 s.next_view
+
+-- the rules of the path and the selection, then TooManyViews, then NoMemory; a view that is opened takes the next number
+abbrev pub view_decided : Session → Hyper → Given → Option EditFault → Option ℕ → Answer
+view_decided s hyper given (Some f) number = answered Refused (view_fault_text (view_fault.Path f)) s
+view_decided s hyper given None None = answered Refused (view_fault_text (view_fault.Path fault.NotFound)) s
+view_decided s hyper given None (Some number) =
+    if has_many_views s then answered Refused (view_fault_text view_fault.TooManyViews) s
+    else (if is_some given then answered Refused (view_fault_text view_fault.NoMemory) s
+    else answered Told (codes "view " ++ decimal s.next_view ++ codes "\n") (opened s number hyper))
+
+abbrev pub view_answer : Session → List ℕ → Hyper → Given → Answer
+view_answer s path hyper given =
+    view_decided s hyper given (first_holding (selection_rules (s.state).tree path hyper)) (object_at (s.state).tree path)
+
+-- what `dump` prints of what stands at a path
+abbrev pub dumped : Tree → List ℕ → Located → List ℕ
+dumped tree path (Here (ToObject number)) = option_map_or (dump_text (escaped path)) (get tree number) []
+dumped tree path (Here (Soft text)) = line_of (escaped path) (codes "soft " ++ escaped text)
+dumped tree path _ = []
+
+-- text that a refusal stands in place of
+abbrev pub told_unless : Option EditFault → List ℕ → Session → Answer
+told_unless (Some f) text s = answered Refused (refused_text f) s
+told_unless None text s = answered Told text s
+
+abbrev pub dump_answer : Session → List ℕ → Given → Answer
+dump_answer s path given =
+    told_unless (chosen (first_holding (path_rules (s.state).tree path)) given) (dumped (s.state).tree path (located (s.state).tree path)) s
+
+-- the values of stored bytes
+abbrev pub stored_values : Fixed → List ℕ → List ℤ
+stored_values t bytes = map (λ k. value_at t bytes (k * t.size)) (range_with_len 0 (length bytes / t.size))
+
+abbrev pub view_is_lent : Tree → Option View → Bool
+view_is_lent tree None = false
+view_is_lent tree (Some view) = option_map_or (λ d. is_lent d view.slab) (dataset_of tree view.object) false
+
+abbrev pub show_told : Session → ℕ → Result Shown ViewFault → Answer
+show_told s number (Err f) = answered Refused (view_fault_text f) s
+show_told s number (Ok shown) =
+    answered Told ((if view_is_lent (s.state).tree (get s.views number) then codes "lent" else codes "kept")
+    ++ values_text (stored_values shown.fixed shown.bytes) ++ codes "\n") s
+
+abbrev pub show_answer : Session → ℕ → Answer
+show_answer s number = show_told s number (shows (s.state).tree s.views number)
+
+abbrev pub close_answer : Session → ℕ → Answer
+close_answer s number =
+    if contains_key s.views number then answered Told (codes "closed\n") (record s { views = remove s.views number })
+    else answered Refused (view_fault_text view_fault.NoSuchView) s
+
+abbrev pub repack_answer : Session → Given → Answer
+repack_answer s (Some f) = answered Refused (refused_text f) s
+repack_answer s None = answered Accepted (codes "ok 0\n") s
+
+-- what a line answers, and the session after it
+abbrev pub answer_of : Session → Command → Given → Answer
+answer_of s (Change edit) given = edit_answer s edit given
+answer_of s (OpenView path hyper) given = view_answer s path hyper given
+answer_of s (Show number) given = show_answer s number
+answer_of s (Close number) given = close_answer s number
+answer_of s ListAll given = told_unless given (list_text (s.state).tree) s
+answer_of s (Dump path) given = dump_answer s path given
+answer_of s Repack given = repack_answer s given
+answer_of s Unread given = answered Refused (codes "bad line\n") s
+
+-- the text of all lines' answers
+unfoldable pub transcript_of : Session → List (Command × Given) → List ℕ
+transcript_of s [] = []
+transcript_of s (line ∷ lines) =
+    (answer_of s line.0 line.1).text ++ transcript_of (answer_of s line.0 line.1).session lines
+
+-- the session after the lines
+unfoldable pub session_after : Session → List (Command × Given) → Session
+session_after s [] = s
+session_after s (line ∷ lines) = session_after (answer_of s line.0 line.1).session lines
+
+-- the outcomes of the lines
+abbrev pub outcomes_of : Session → List (Command × Given) → List Outcome
+outcomes_of s [] = []
+outcomes_of s (line ∷ lines) = (answer_of s line.0 line.1).outcome ∷ outcomes_of (answer_of s line.0 line.1).session lines
+
+abbrev pub is_refused : Outcome → Bool
+is_refused Refused = true
+is_refused _ = false
+
+abbrev pub is_accepted : Outcome → Bool
+is_accepted Accepted = true
+is_accepted _ = false

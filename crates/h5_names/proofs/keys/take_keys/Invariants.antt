@@ -1,8 +1,0 @@
-use Rattle.std.proofs.Common.{take}
-use Rattle.std.specs.List.{flat_map}
-use Rattle.h5_names.specs.Stands.{keys_at}
-use Rattle.h5_names.specs.Taken.{NamesKeys}
-use Rattle.h5_names.proofs.keys.take_keys.Given as goal
-
-abbrev pub invariant-loop-at : goal.invariant-loop-at
-invariant-loop-at l = NamesKeys l.image.bytes l.initial.heap l.heap (flat_map (keys_at l.image.bytes) (take l.at-index l.nodes))

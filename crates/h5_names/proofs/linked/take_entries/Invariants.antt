@@ -1,8 +1,0 @@
-use Rattle.std.proofs.Common.{take}
-use Rattle.std.specs.List.{flat_map}
-use Rattle.h5_names.specs.Linked.{linked_by}
-use Rattle.h5_names.specs.Taken.{TakesLinked}
-use Rattle.h5_names.proofs.linked.take_entries.Given as goal
-
-abbrev pub invariant-loop-k : goal.invariant-loop-k
-invariant-loop-k l = TakesLinked l.image.bytes l.initial.heap l.heap (flat_map linked_by (take l.k l.node))

@@ -1,8 +1,0 @@
-use Rattle.std.proofs.Common.{take}
-use Rattle.std.specs.List.{flat_map}
-use Rattle.h5_names.specs.Linked.{linked_at}
-use Rattle.h5_names.specs.Taken.{TakesLinked}
-use Rattle.h5_names.proofs.linked.take_linked.Given as goal
-
-abbrev pub invariant-loop-at : goal.invariant-loop-at
-invariant-loop-at l = TakesLinked l.image.bytes l.initial.heap l.heap (flat_map (linked_at l.image.bytes) (take l.at-index l.symbol_nodes))

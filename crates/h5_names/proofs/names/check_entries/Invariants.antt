@@ -1,8 +1,0 @@
-use Rattle.std.proofs.Common.{take}
-use Rattle.std.specs.List.{AllByRecursion}
-use Rattle.h5_heap.specs.Kept.{segment_in}
-use Rattle.h5_names.specs.Linked.{IsNamed}
-use Rattle.h5_names.proofs.names.check_entries.Given as goal
-
-abbrev pub invariant-loop-k : goal.invariant-loop-k
-invariant-loop-k l = AllByRecursion (IsNamed (segment_in l.image.bytes l.heap)) (take l.k l.node)

@@ -1,0 +1,73 @@
+-- As many fields name a header as links lead there.
+use Rattle.std.proofs.Common.{◌≡◌, ℕ, ◌+◌, List, [], ◌∷◌, refl, sym, ap, ◌∙◌, subst, arith, Option, None}
+use Rattle.std.specs.Prelude.{◌==◌, if◌then◌else◌}
+use Rattle.std.specs.Option.{option_map_or}
+use Rattle.std.specs.Ordering.{nat_cmp}
+use Rattle.std.specs.FinMap.{FinMap}
+use Rattle.std.specs.List.{AllByRecursion, flat_map, find}
+use Rattle.h5_model.specs.Format.Addresses.{SymbolTable, symbol_table_of}
+use Rattle.h5_model.specs.Format.Heap.{segment_of}
+use Rattle.h5_model.specs.Format.Messages.{Message}
+use Rattle.h5_model.specs.Format.Reads.{IsPlaced}
+use Rattle.h5_model.specs.Format.Symbols.{Target, Header, Text}
+use Rattle.h5_model.specs.Format.Superblock.{root_header}
+use Rattle.h5_model.specs.Faults.TreeFaults.{all_entries}
+use Rattle.h5_model.proofs.OneReading.{one_messages}
+use Rattle.h5_header.specs.Listed.{messages_in}
+use Rattle.h5_group.specs.declared.group.Group.{Group}
+use Rattle.h5_group.specs.Links as group
+use Rattle.h5_open.specs.declared.opened.object.OpenedObject.{OpenedObject}
+use Rattle.h5_open.specs.declared.opened.object.OpenedContent.{OpenedContent}
+use Rattle.h5_open.specs.declared.opened.object.OpenedContent.TheVariants as content
+use Rattle.h5_open.specs.Opened.Kept.{IsContentKept, IsObjectKept}
+use Rattle.h5_open.specs.Opened.Objects.{links_of}
+use Rattle.h5_open.specs.Placed.Whole.{placed_from}
+use Rattle.h5_laws.proofs.Counts.{counted}
+use Rattle.h5_laws.proofs.Datasets.{find_none, said_first}
+use Rattle.h5_laws.proofs.LinkFields as fields
+use Rattle.h5_laws.proofs.LinkFields.{aimed, aimed_entries, nodes_count, node_links, table_links, placed_links}
+use Rattle.h5_laws.proofs.Pigeonhole.{linking, linking-append}
+use Rattle.h5_open.specs.Counted.Links.{leading, object_links, all_links}
+use Rattle.h5_open.proofs.CountedLaws.CountLaws.{leading-append}
+
+leading_aimed : (h : ℕ) (ls : List (List ℕ × Target)) → leading h ls ≡ aimed h ls
+leading_aimed h [] = refl
+leading_aimed h ((name, Header a) ∷ ls) = ap (λ (n : ℕ). (if a == h then 1 else 0) + n) (leading_aimed h ls)
+leading_aimed h ((name, Text t) ∷ ls) = omega (arith, leading_aimed h ls)
+
+module _ (image : List ℕ) (h : ℕ) where
+  -- those of a group
+  group_count : (ms : List Message) (g : Group) → IsContentKept image ms (content.Group g) → linking h (fields.object_links image ms) ≡ leading h (group.links_of image g)
+  group_count ms g kept =
+      let first = said_first symbol_table_of 17 ms g.table kept.1 in
+      let nodes = g.symbol_nodes.items in
+      let links : fields.object_links image ms ≡ flat_map (node_links image) nodes
+      = table_links image ms first.0 g.table (group.links_of image g) (group.blocks_of image g) first.1 first.2 kept.2.linked ∙ ap (flat_map (node_links image)) kept.2.symbols_are in
+      ap (linking h) links ∙ nodes_count image h nodes ∙ sym (aimed_entries (segment_of image g.table.heap) h (all_entries image nodes)) ∙ sym (leading_aimed h (group.links_of image g))
+
+  -- those of an object
+  content_count : (ms : List Message) (c : OpenedContent) → IsContentKept image ms c → linking h (fields.object_links image ms) ≡ leading h (links_of image c)
+  content_count ms (content.Group g) kept = group_count ms g kept
+  content_count ms (content.Array line) kept =
+      let none : find (λ (m : Message). m.kind == 17) ms ≡ None
+      = find_none 17 ms (λ m at is. absurd (omega (arith, counted 17 ms m at is, kept.0.kinds.no_table))) in
+      ap (λ (o : Option Message). linking h (option_map_or (λ (x : Message). option_map_or (λ (t : SymbolTable). fields.tree_links image t.tree) (symbol_table_of x.body) []) o [])) none
+
+  -- those of several objects
+  objects_count : (table : FinMap nat_cmp ℕ) (at : List ℕ) (n : ℕ) (objects : List OpenedObject) (each : AllByRecursion (IsPlaced image table) (placed_from image at n objects))
+      → AllByRecursion (IsObjectKept image) objects → linking h (placed_links image table (placed_from image at n objects) each) ≡ leading h (object_links image objects)
+  objects_count table at n [] each kept = refl
+  objects_count table at n (o ∷ objects) each kept =
+      let ms = messages_in image o.messages.list in
+      let same : ms ≡ each.0.messages = one_messages image o.messages.header ms each.0.messages o.messages.blocks each.0.header_blocks kept.0.header.has each.0.listed in
+      let a : linking h (fields.object_links image each.0.messages) ≡ leading h (links_of image o.content)
+      = subst (λ (x : List Message). linking h (fields.object_links image x) ≡ leading h (links_of image o.content)) same (content_count ms o.content kept.0.content) in
+      let b = linking-append h (fields.object_links image each.0.messages) (placed_links image table (placed_from image at (n + 1) objects) each.1) in
+      let c = leading-append h (links_of image o.content) (object_links image objects) in
+      let d = objects_count table at (n + 1) objects each.1 kept.1 in
+      omega (arith, a, b, c, d)
+
+  -- all of them
+  pub fields_count : (table : FinMap nat_cmp ℕ) (at : List ℕ) (objects : List OpenedObject) (each : AllByRecursion (IsPlaced image table) (placed_from image at 0 objects))
+      → AllByRecursion (IsObjectKept image) objects → linking h (fields.all_links image table (placed_from image at 0 objects) each) ≡ leading h (all_links image objects)
+  fields_count table at objects each kept = ap (λ (n : ℕ). (if root_header image == h then 1 else 0) + n) (objects_count table at 0 objects each kept)

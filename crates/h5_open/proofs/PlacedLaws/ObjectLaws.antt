@@ -1,0 +1,89 @@
+-- Each object that was read is the one that a reading of the image places at its header.
+use Rattle.std.proofs.Common.{◌≡◌, ℕ, ◌+◌, List, [], ◌∷◌, refl, sym, ap, ◌∙◌, subst, Option, Some, None}
+use Rattle.std.specs.Prelude.{map, option_map, IsTrue}
+use Rattle.std.specs.List.{AllByRecursion, AllZip, IsDistinct}
+use Rattle.std.specs.Ordering.{nat_cmp, eq_by_cmp}
+use Rattle.std.specs.FinMap.{get, empty}
+use Rattle.std.proofs.lemmas.Option.{slice_get-map}
+use Rattle.h5_bytes.specs.declared.Block.{Block}
+use Rattle.h5_model.specs.Format.Symbols.{Target, Header, Text}
+use Rattle.h5_model.specs.Format.Layout.{InBlock}
+use Rattle.h5_model.specs.Tree.Objects.{Link}
+use Rattle.h5_model.specs.Format.Reads.{HasObject, HasContent, HasData, IsSame, IsPlaced}
+use Rattle.h5_header.specs.Heads.{is_read}
+use Rattle.h5_header.specs.Listed.{messages_in}
+use Rattle.h5_header.specs.declared.message.Message.{Message as Stood}
+use Rattle.h5_layout.proofs.ArrayLaws.{has_dataset}
+use Rattle.h5_layout.proofs.KnownLaws.{known_in}
+use Rattle.h5_group.specs.Links as group
+use Rattle.h5_open.specs.declared.opened.line.Line.{Line}
+use Rattle.h5_open.specs.declared.opened.object.OpenedObject.{OpenedObject}
+use Rattle.h5_open.specs.declared.opened.object.OpenedContent.{OpenedContent}
+use Rattle.h5_open.specs.declared.opened.object.OpenedContent.TheVariants as content
+use Rattle.h5_open.specs.Opened.Array.{described, data_blocks}
+use Rattle.h5_open.specs.Opened.Kept.{IsObjectKept, IsContentKept}
+use Rattle.h5_open.specs.Opened.Objects.{headers, number_of, links_of, link_to, content_in, content_blocks, object_in, object_blocks, table_of}
+use Rattle.h5_laws.proofs.Lists.{In, in_contains}
+use Rattle.h5_open.specs.Placed.Whole.{IsLed, AreLed, placed_from}
+use Rattle.h5_open.proofs.OpenedLaws.Entries.{get_table, group_entries}
+use Rattle.h5_open.proofs.PlacedLaws.Places.{at_number}
+use Rattle.h5_open.proofs.PlacedLaws.GroupMessages.{group_known}
+
+-- the block of the cells holds no chunk
+data_stored : (image : List ℕ) (line : Line) (cells : Option Block) → HasData image line.fixed (InBlock cells) empty (data_blocks cells)
+data_stored image line None = (refl, refl)
+data_stored image line (Some b) = (refl, refl)
+
+module _ (image : List ℕ) (objects : List OpenedObject) (distinct : IsDistinct (eq_by_cmp nat_cmp) (headers objects)) where
+  -- the table has each header at its number
+  pub header_at : (o : OpenedObject) → In o objects → get (table_of objects) (number_of (headers objects) o.messages.header) ≡ Some o.messages.header
+  header_at o there =
+      get_table objects (number_of (headers objects) o.messages.header)
+      ∙ slice_get-map (λ (x : OpenedObject). x.messages.header) objects (number_of (headers objects) o.messages.header)
+      ∙ ap (option_map (λ (x : OpenedObject). x.messages.header)) (at_number (λ (x : OpenedObject). x.messages.header) objects o distinct there)
+
+  same_links : (depth : ℕ) (found : List (List ℕ × Target)) → AllByRecursion (IsLed objects depth) found
+      → AllZip (IsSame (table_of objects)) (map (λ (l : List ℕ × Target). (l.0, link_to (headers objects) l.1)) found) found
+  same_links depth [] led = tt
+  same_links depth ((name, Header header) ∷ found) ((low, (o, there, same, deeper)), led) = (
+    (refl, subst (λ (h : ℕ). get (table_of objects) (number_of (headers objects) h) ≡ Some h) same (header_at o (in_contains o objects there))),
+    same_links depth found led,
+  )
+  same_links depth ((name, Text text) ∷ found) (low, led) = ((refl, refl), same_links depth found led)
+
+  has_content : (depth : ℕ) (list : List Stood) (c : OpenedContent) → AllByRecursion (λ (m : Stood). IsTrue (is_read m.kind)) list → IsContentKept image (messages_in image list) c
+      → AllByRecursion (IsLed objects depth) (links_of image c)
+      → HasContent image (table_of objects) (messages_in image list) (content_in image (headers objects) c) (content_blocks image c)
+  has_content depth list (content.Group g) known (kinds, chosen, read) led = (
+    group.links_of image g,
+    record {
+      known = group_known image list known kinds.alone;
+      once = kinds.table;
+      symbol_table = g.table;
+      chosen = chosen;
+      linked = read.linked;
+    },
+    subst (λ (es : List (List ℕ × Link)). AllZip (IsSame (table_of objects)) es (group.links_of image g)) (sym (group_entries image (headers objects) g read))
+        (same_links depth (group.links_of image g) led),
+  )
+  has_content depth list (content.Array line) known (line_list, inside) led =
+      has_dataset image (messages_in image list) (described line) empty (data_blocks line.cells) line_list.array
+      (known_in image list known (line_list.kinds).no_table) (data_stored image line line.cells)
+
+  has_object : (o : OpenedObject) → IsObjectKept image o → AreLed image objects o
+      → HasObject image (table_of objects) o.messages.header (object_in image (headers objects) o) (object_blocks image o)
+  has_object o kept led = record {
+    messages = messages_in image o.messages.list;
+    header_blocks = o.messages.blocks;
+    listed = (kept.header).has;
+    content_blocks = content_blocks image o.content;
+    content = has_content o.depth o.messages.list o.content kept.known kept.content led;
+    attributes = (kept.header).attributes;
+    kept = refl;
+    laid = refl;
+  }
+
+  pub all_placed : (n : ℕ) (os : List OpenedObject) → AllByRecursion (IsObjectKept image) os → AllByRecursion (AreLed image objects) os
+      → AllByRecursion (IsPlaced image (table_of objects)) (placed_from image (headers objects) n os)
+  all_placed n [] kept led = tt
+  all_placed n (o ∷ os) kept led = (has_object o kept.0 led.0, all_placed (n + 1) os kept.1 led.1)

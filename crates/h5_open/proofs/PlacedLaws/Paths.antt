@@ -1,0 +1,126 @@
+-- Where paths of the tree lead: to each object, and through no more than 64 names.
+use Rattle.std.proofs.Common.{◌≡◌, ℕ, ◌+◌, ◌<◌, ◌≤◌, ◌⊎◌, inl, inr, List, [], ◌∷◌, ◌++◌, length, refl, sym, ap, ◌∙◌, subst, arith, Option, Some, None, IsSome}
+use Rattle.std.specs.Prelude.{slice_get, option_and_then}
+use Rattle.std.specs.List.{AllByRecursion, IsDistinct}
+use Rattle.std.specs.Ordering.{nat_cmp, eq_by_cmp}
+use Rattle.std.specs.FinMap.{get}
+use Rattle.std.proofs.lemmas.List.{append_assoc, append-nil, length-append}
+use Rattle.std.proofs.lemmas.Bool.{cases_lt}
+use Rattle.std.proofs.lemmas.Option.{same_Some, slice_get_within}
+use Rattle.h5_model.specs.Format.Symbols.{Target, Header, Text}
+use Rattle.h5_model.specs.Tree.Objects.{Tree, Link, ToObject, Soft, follow, link_in}
+use Rattle.h5_header.specs.Listed.{messages_in}
+use Rattle.h5_open.specs.declared.opened.object.OpenedObject.{OpenedObject}
+use Rattle.h5_open.specs.declared.opened.object.OpenedContent.{OpenedContent}
+use Rattle.h5_open.specs.declared.opened.object.OpenedContent.TheVariants as content
+use Rattle.h5_open.specs.Opened.Kept.{IsObjectKept}
+use Rattle.h5_open.specs.Opened.Objects.{headers, number_of, links_of, link_to, tree_of}
+use Rattle.h5_laws.proofs.Lists.{In, in_all, in_contains}
+use Rattle.h5_open.specs.Placed.Whole.{IsGroupContent, IsLed, AreLed, HasParent, AreNamed}
+use Rattle.h5_open.proofs.PlacedLaws.Places.{place_in, place_before, place_next, place_of, at_number, number_at_place}
+use Rattle.h5_open.proofs.PlacedLaws.TreeLaws.{number_within, link_there, link_leads}
+
+-- ---- one name more
+
+pub follow_more : (tree : Tree) (name : List ℕ) (k m : ℕ) → link_in tree k name ≡ Some (ToObject m) → (path : List (List ℕ)) (link : Link)
+    → follow tree link path ≡ Some (ToObject k) → follow tree link (path ++ name ∷ []) ≡ Some (ToObject m)
+follow_more tree name k m named [] link is =
+    let same : link ≡ ToObject k = same_Some link (ToObject k) is in
+    ap (λ (l : Link). follow tree l (name ∷ [])) same ∙ ap (option_and_then (λ (l : Link). Some l)) named
+follow_more tree name k m named (x ∷ path) (Soft text) is = absurd (cc)
+follow_more tree name k m named (x ∷ path) (ToObject n) is =
+    elim (link_in tree n x) as (λ o. option_and_then (λ (l : Link). follow tree l path) o ≡ Some (ToObject k)
+    → option_and_then (λ (l : Link). follow tree l (path ++ name ∷ [])) o ≡ Some (ToObject m)) [
+      | None ↦ λ no. absurd (cc)
+      | Some l ↦ λ there. follow_more tree name k m named path l there
+    ] is
+
+module _ (image : List ℕ) (objects : List OpenedObject) (distinct : IsDistinct (eq_by_cmp nat_cmp) (headers objects)) (each : AllByRecursion (IsObjectKept image) objects) where
+  abbrev tree : Tree
+  tree = tree_of image objects
+
+  kept_at : (n : ℕ) (o : OpenedObject) → slice_get objects n ≡ Some o → IsObjectKept image o
+  kept_at n o is = in_all (IsObjectKept image) o objects each (place_in objects n o is)
+
+  -- ---- each object is reached
+
+  abbrev Leads : ℕ → Type 0
+  Leads n = (path : List (List ℕ)) × (follow tree (ToObject 0) path ≡ Some (ToObject n))
+
+  -- a link of an object that is reached leads to another
+  leads_on : (k n : ℕ) (p o : OpenedObject) → slice_get objects k ≡ Some p → slice_get objects n ≡ Some o → (name : List ℕ)
+      → In (name, Header o.messages.header) (links_of image p.content) → Leads k → Leads n
+  leads_on k n p o parent child name there (path, leads) =
+      let number : number_of (headers objects) o.messages.header ≡ n = number_at_place (λ (x : OpenedObject). x.messages.header) objects n o distinct child in
+      let named = link_there image objects (messages_in image p.messages.list) k p parent (kept_at k p parent).content name (Header o.messages.header) there in
+      (path ++ name ∷ [], follow_more tree name k n (named ∙ ap (λ (m : ℕ). Some (ToObject m)) number) path (ToObject 0) leads)
+
+  next_leads : (before : List OpenedObject) (o : OpenedObject) (more : List OpenedObject) → before ++ o ∷ more ≡ objects
+      → (before ≡ []) ⊎ HasParent image before o.messages.header → ((n : ℕ) → n < length before → Leads n) → Leads (length before)
+  next_leads before o more all (inl first) earlier = ([], ap (λ (os : List OpenedObject). Some (ToObject (length os))) (sym first))
+  next_leads before o more all (inr (p, parent, (name, link))) earlier =
+      let at_parent : slice_get objects parent.0 ≡ Some p
+      = ap (λ (os : List OpenedObject). slice_get os parent.0) (sym all) ∙ place_before before (o ∷ more) parent.0 p (place_of before p parent) in
+      let at_child : slice_get objects (length before) ≡ Some o
+      = ap (λ (os : List OpenedObject). slice_get os (length before)) (sym all) ∙ place_next before o more in
+      leads_on parent.0 (length before) p o at_parent at_child name (in_contains (name, Header o.messages.header) (links_of image p.content) link) (earlier parent.0 parent.1)
+
+  one_more : (before : List OpenedObject) (o : OpenedObject) → ((n : ℕ) → n < length before → Leads n) → Leads (length before)
+      → (n : ℕ) → n < length (before ++ o ∷ []) → Leads n
+  one_more before o earlier here n low = elim (cases_lt n (length before)) [
+    | inl below ↦ earlier n below
+    | inr not_below ↦ let last : length before ≡ n = omega (arith, low, not_below, length-append before (o ∷ [])) in subst Leads last here
+  ]
+
+  all_lead : (before rest : List OpenedObject) → before ++ rest ≡ objects → AreNamed image before rest → ((n : ℕ) → n < length before → Leads n)
+      → (n : ℕ) → n < length objects → Leads n
+  all_lead before [] all named earlier n low = earlier n (subst (λ (os : List OpenedObject). n < length os) (sym all ∙ append-nil before) low)
+  all_lead before (o ∷ rest) all named earlier n low =
+      all_lead (before ++ o ∷ []) rest (append_assoc before (o ∷ []) rest ∙ all) named.1
+      (λ m below. one_more before o earlier (next_leads before o rest all named.0 earlier) m below) n low
+
+  pub all_reached : AreNamed image [] objects → (n : ℕ) → IsSome (get tree n) → (path : List (List ℕ)) × (follow tree (ToObject 0) path ≡ Some (ToObject n))
+  all_reached named n some =
+      let there = number_within image objects n some in
+      all_lead [] objects refl named (λ m below. absurd (omega (arith, below))) n (slice_get_within objects n there.0 there.1)
+
+  -- ---- and no path is longer than 64 names
+
+  module _ (led : AllByRecursion (AreLed image objects) objects) where
+    has_links : (c : OpenedContent) (l : List ℕ × Target) → In l (links_of image c) → IsGroupContent c
+    has_links (content.Group g) l there = tt
+    has_links (content.Array line) l there = absurd there
+
+    -- a path from an object so many links below the root
+    abbrev IsShort : List (List ℕ) → Type 0
+    IsShort path = (n : ℕ) (o : OpenedObject) (depth : ℕ) → slice_get objects n ≡ Some o → depth ≤ 64 → (IsGroupContent o.content → o.depth ≡ depth)
+        → IsSome (follow tree (ToObject n) path) → length path + depth ≤ 64
+
+    behind_link : (names : List (List ℕ)) → IsShort names → (depth : ℕ) (l : List ℕ × Target) → IsLed objects depth l → IsSome (follow tree (link_to (headers objects) l.1) names)
+        → length names + (depth + 1) ≤ 64
+    behind_link names short depth (name, Header header) (low, (o, there, same, deeper)) some =
+        let at_header : slice_get objects (number_of (headers objects) header) ≡ Some o
+        = ap (λ (h : ℕ). slice_get objects (number_of (headers objects) h)) (sym same) ∙ at_number (λ (x : OpenedObject). x.messages.header) objects o distinct (in_contains o objects there) in
+        short (number_of (headers objects) header) o (depth + 1) at_header low deeper some
+    behind_link [] short depth (name, Text text) low some = omega (arith, low)
+    behind_link (x ∷ names) short depth (name, Text text) low some = absurd (cc)
+
+    from_object : (name : List ℕ) (names : List (List ℕ)) → IsShort names → IsShort (name ∷ names)
+    from_object name names short n o depth is low same some = go (link_in tree n name) refl some where
+      go : (x : Option Link) → link_in tree n name ≡ x → IsSome (option_and_then (λ (l : Link). follow tree l names) x) → length (name ∷ names) + depth ≤ 64
+      go None found there = absurd (cc)
+      go (Some link) found there =
+          let l = link_leads image objects (messages_in image o.messages.list) n o is (kept_at n o is).content name link found in
+          let here : IsLed objects o.depth l.0 = in_all (IsLed objects o.depth) l.0 (links_of image o.content) (in_all (AreLed image objects) o objects led (place_in objects n o is)) l.1 in
+          let deep : o.depth ≡ depth = same (has_links o.content l.0 l.1) in
+          let rest = behind_link names short o.depth l.0 here (subst (λ (y : Link). IsSome (follow tree y names)) (sym l.2) there) in
+          omega (arith, rest, deep)
+
+    all_short : (path : List (List ℕ)) → IsShort path
+    all_short [] n o depth is low same some = omega (arith, low)
+    all_short (name ∷ names) n o depth is low same some = from_object name names (all_short names) n o depth is low same some
+
+    pub all_shallow : (o : OpenedObject) → slice_get objects 0 ≡ Some o → o.depth ≡ 0 → (path : List (List ℕ)) → IsSome (follow tree (ToObject 0) path) → length path ≤ 64
+    all_shallow o is top path some =
+        let short = all_short path 0 o 0 is (omega arith) (λ u. top) some in
+        omega (arith, short)

@@ -1,0 +1,134 @@
+-- Objects whose headers stand where a table says are those of the tree as which the image reads with that table.
+use Rattle.std.proofs.Common.{◌≡◌, ℕ, ◌+◌, List, [], ◌∷◌, map, refl, sym, ap, ap₂, ◌∙◌, subst, arith, Option, Some, None, drop}
+use Rattle.std.specs.List.{AllByRecursion, AllZip, filter}
+use Rattle.std.specs.FinMap.{entries, empty, same_entries_map}
+use Rattle.h5_bytes.specs.declared.Block.{Block}
+use Rattle.h5_model.specs.Format.Addresses.{SymbolTable}
+use Rattle.h5_model.specs.Format.Messages.{Message}
+use Rattle.h5_model.specs.Format.Fixed.{Fixed}
+use Rattle.h5_model.specs.Format.Chunks.{Chunks}
+use Rattle.h5_model.specs.Format.Layout.{Layout, InBlock}
+use Rattle.h5_model.specs.Format.Superblock.{leaf_k, internal_k}
+use Rattle.h5_model.specs.Format.Symbols.{Target, Header, Text}
+use Rattle.h5_model.specs.Format.Links.{HasLinks}
+use Rattle.h5_model.specs.Tree.Objects.{Tree, Object, Content, Group, Array, Dataset, Link, Links, ToObject, Soft}
+use Rattle.h5_model.specs.Format.Reads.{IsSame, HasData, HasDataset, HasContent, HasAttributes, HasObject, Placed, IsPlaced, Reads, is_kept, kept_of}
+use Rattle.h5_model.proofs.OneReading.{some_same, one_messages, one_links, one_attributes}
+use Rattle.h5_header.specs.Listed.{messages_in}
+use Rattle.h5_attr.specs.Attributes.{attributes_of}
+use Rattle.h5_layout.specs.Described.{Described, dataset_in}
+use Rattle.h5_layout.proofs.ArrayLaws.{one_array, in_header, has_array, dataset_in-in_header}
+use Rattle.h5_group.specs.Links as group
+use Rattle.h5_open.specs.declared.opened.line.Line.{Line}
+use Rattle.h5_open.specs.declared.opened.object.OpenedObject.{OpenedObject}
+use Rattle.h5_open.specs.declared.opened.object.OpenedContent.{OpenedContent}
+use Rattle.h5_open.specs.declared.opened.object.OpenedContent.TheVariants as content
+use Rattle.h5_open.specs.Opened.Array.{described}
+use Rattle.h5_open.specs.Opened.Judged.{IsLineList}
+use Rattle.h5_open.specs.Opened.Kept.{IsObjectKept, IsContentKept}
+use Rattle.h5_open.specs.Opened.Objects.{headers, numbered, link_to, links_by, content_in, object_in, tree_of}
+use Rattle.h5_open.proofs.OpenedLaws.Made.{entries_numbered, get_numbered}
+use Rattle.h5_open.proofs.OpenedLaws.Entries.{tree_entries, group_entries}
+use Rattle.h5_open.proofs.OpenedLaws.Indexed.{number_at}
+use Rattle.h5_open.proofs.OpenedLaws.Own.{Own}
+use Rattle.h5_open.specs.Renumbered.Headers.{table_with}
+
+-- ---- contents
+
+-- an array in one block has no stored chunks
+no_chunks : (image : List ℕ) (t : Fixed) (cells : Option Block) (chunks : Chunks) (blocks : List Block) → HasData image t (InBlock cells) chunks blocks → chunks ≡ empty
+no_chunks image t None chunks blocks stored = stored.0
+no_chunks image t (Some b) chunks blocks stored = stored.0
+
+dataset_is : (image : List ℕ) (ms : List Message) (d : Dataset) (blocks : List Block) (line : Line) → HasDataset image ms d blocks → IsLineList ms line
+    → dataset_in image (described line) empty ≡ d
+dataset_is image ms d blocks line has list =
+    let same : described line ≡ in_header image ms d blocks has = one_array ms (described line) (in_header image ms d blocks has) list.array (has_array image ms d blocks has) in
+    let layout : InBlock line.cells ≡ has.layout = ap (λ (a : Described). a.layout) same in
+    let stored : HasData image d.fixed (InBlock line.cells) has.chunks blocks = subst (λ (l : Layout). HasData image d.fixed l has.chunks blocks) (sym layout) has.stored in
+    let none : has.chunks ≡ empty = no_chunks image d.fixed line.cells has.chunks blocks stored in
+    (λ i. dataset_in image (same i) ((sym none) i)) ∙ dataset_in-in_header image ms d blocks has
+
+module _ (image at : List ℕ) (own : Own at) where
+  -- a link of the tree is the file's link, by the number of the header
+  link_is : (l : List ℕ × Link) (f : List ℕ × Target) → IsSame (table_with at) l f → l ≡ (f.0, link_to at f.1)
+  link_is (name, ToObject number) (name', Header header) is =
+      ap₂ (λ (x : List ℕ) (n : ℕ). (x, ToObject n)) is.0 (sym (number_at at own number header (sym (get_numbered at number) ∙ is.1)))
+  link_is (name, ToObject number) (name', Text text) is = absurd is
+  link_is (name, Soft text) (name', Header header) is = absurd is
+  link_is (name, Soft text) (name', Text text') is = ap₂ (λ (x y : List ℕ). (x, Soft y)) is.0 is.1
+
+  links_are : (ls : List (List ℕ × Link)) (found : List (List ℕ × Target)) → AllZip (IsSame (table_with at)) ls found
+      → ls ≡ map (λ (l : List ℕ × Target). (l.0, link_to at l.1)) found
+  links_are [] [] same = refl
+  links_are [] (f ∷ found) same = absurd same
+  links_are (l ∷ ls) [] same = absurd same
+  links_are (l ∷ ls) (f ∷ found) same = ap₂ (λ (x : List ℕ × Link) (xs : List (List ℕ × Link)). x ∷ xs) (link_is l f same.0) (links_are ls found same.1)
+
+  content_is : (ms : List Message) (c : Content) (blocks : List Block) (o : OpenedContent) → HasContent image (table_with at) ms c blocks → IsContentKept image ms o
+      → content_in image at o ≡ c
+  content_is ms (Group links) blocks (content.Group g) (found, has, same) (kinds, chosen, read) =
+      let table : has.symbol_table ≡ g.table = some_same _ _ _ has.chosen chosen in
+      let linked : HasLinks image (leaf_k image) (internal_k image) (g.table).tree (g.table).heap found blocks
+      = subst (λ (s : SymbolTable). HasLinks image (leaf_k image) (internal_k image) s.tree s.heap found blocks) table has.linked in
+      let one : found ≡ group.links_of image g
+      = one_links image (leaf_k image) (internal_k image) (g.table).tree (g.table).heap found (group.links_of image g) blocks (group.blocks_of image g) linked read.linked in
+      let listed : entries links ≡ entries (links_by at (group.links_of image g)) =
+      links_are (entries links) found same
+      ∙ ap (λ (ls : List (List ℕ × Target)). map (λ (l : List ℕ × Target). (l.0, link_to at l.1)) ls) one
+      ∙ sym (group_entries image at g read) in
+      ap (λ (ls : Links). Group ls) (sym (same_entries_map links (links_by at (group.links_of image g)) listed))
+  content_is ms (Group links) blocks (content.Array line) (found, has, same) (list, inside) = absurd (omega (arith, has.once, (list.kinds).no_table))
+  content_is ms (Array d) blocks (content.Group g) has (kinds, chosen, read) = absurd (omega (arith, has.one_space, (kinds.alone).0))
+  content_is ms (Array d) blocks (content.Array line) has (list, inside) = ap (λ (x : Dataset). Array x) (dataset_is image ms d blocks line has list)
+
+  -- ---- objects
+
+  object_is : (p : OpenedObject) (o : Object) (blocks : List Block) → IsObjectKept image p → HasObject image (table_with at) p.messages.header o blocks → object_in image at p ≡ o
+  object_is p o blocks kept has =
+      let ms : has.messages ≡ messages_in image p.messages.list
+      = one_messages image p.messages.header has.messages (messages_in image p.messages.list) has.header_blocks p.messages.blocks has.listed (kept.header).has in
+      let content_there : HasContent image (table_with at) (messages_in image p.messages.list) o.content has.content_blocks
+      = subst (λ (l : List Message). HasContent image (table_with at) l o.content has.content_blocks) ms has.content in
+      let attributes_there : HasAttributes (messages_in image p.messages.list) o.attributes = subst (λ (l : List Message). HasAttributes l o.attributes) ms has.attributes in
+      let content : content_in image at p.content ≡ o.content
+      = content_is (messages_in image p.messages.list) o.content has.content_blocks p.content content_there kept.content in
+      let attributes : attributes_of (messages_in image p.messages.list) ≡ o.attributes
+      = one_attributes (messages_in image p.messages.list) (attributes_of (messages_in image p.messages.list)) o.attributes (kept.header).attributes attributes_there in
+      let kept_there : map kept_of (filter is_kept (messages_in image p.messages.list)) ≡ o.kept
+      = sym (has.kept ∙ ap (λ (l : List Message). map kept_of (filter is_kept l)) ms) in
+      λ i. record { content = content i; attributes = attributes i; kept = kept_there i }
+
+abbrev where_of : Placed → ℕ × ℕ
+where_of x = (x.number, x.header)
+
+abbrev what_of : Placed → ℕ × Object
+what_of x = (x.number, x.object)
+
+abbrev first_or : List (ℕ × ℕ) → ℕ × ℕ
+first_or [] = (0, 0)
+first_or (x ∷ xs) = x
+
+objects_are : (image at : List ℕ) → Own at → (n : ℕ) (ps : List OpenedObject) (placed : List Placed) → numbered n (headers ps) ≡ map where_of placed
+    → AllByRecursion (IsObjectKept image) ps → AllByRecursion (IsPlaced image (table_with at)) placed → numbered n (map (object_in image at) ps) ≡ map what_of placed
+objects_are image at own n [] [] keys kept each = refl
+objects_are image at own n [] (x ∷ placed) keys kept each = cc
+objects_are image at own n (p ∷ ps) [] keys kept each = cc
+objects_are image at own n (p ∷ ps) (x ∷ placed) keys kept each =
+    let number : n ≡ x.number = ap (λ (ks : List (ℕ × ℕ)). (first_or ks).0) keys in
+    let header : p.messages.header ≡ x.header = ap (λ (ks : List (ℕ × ℕ)). (first_or ks).1) keys in
+    let rest : numbered (n + 1) (headers ps) ≡ map where_of placed = ap (λ (ks : List (ℕ × ℕ)). drop 1 ks) keys in
+    let here : HasObject image (table_with at) p.messages.header x.object x.blocks
+    = subst (λ (h : ℕ). HasObject image (table_with at) h x.object x.blocks) (sym header) each.0 in
+    let object : object_in image at p ≡ x.object = object_is image at own p x.object x.blocks kept.0 here in
+    ap₂ (λ (o : ℕ × Object) (os : List (ℕ × Object)). o ∷ os) (ap₂ (λ (k : ℕ) (o : Object). (k, o)) number object) (objects_are image at own (n + 1) ps placed rest kept.1 each.1)
+
+-- where the image reads as a tree whose objects have these headers, it reads as the tree that the objects tell
+pub same_tree : (image : List ℕ) (ps : List OpenedObject) (tree : Tree) → AllByRecursion (IsObjectKept image) ps → Reads image (table_with (headers ps)) tree
+    → tree_of image ps ≡ tree
+same_tree image ps tree kept reads =
+    let own : Own (headers ps) = λ a b h p q. reads.1.own a b h (get_numbered (headers ps) a ∙ p) (get_numbered (headers ps) b ∙ q) in
+    same_entries_map (tree_of image ps) tree
+    (tree_entries image ps
+    ∙ objects_are image (headers ps) own 0 ps reads.0 (sym (entries_numbered (headers ps)) ∙ reads.1.numbered) kept reads.1.each
+    ∙ sym reads.1.objects)

@@ -1,0 +1,16 @@
+use Rattle.std.proofs.Common.{sym, subst}
+use Rattle.std.proofs.lemmas.Result.{on_ok_weaker}
+use Rattle.h5_open.specs.Opened.Objects.{headers}
+use Rattle.h5_open.specs.Counted.Links.{all_links}
+use Rattle.h5_open.specs.Counted.Counts.{AreCounts}
+use Rattle.h5_open.proofs.CountedLaws.CheckLaws.{all_right}
+use Rattle.h5_open.proofs.counts.check.check_counts.Goals as goal
+
+pub returns-clause-reads : goal.returns-clause-reads
+returns-clause-reads c =
+    let image = c.args.image.now.bytes in
+    let objects = c.args.opened.now.objects.items in
+    let counts = c.deref.result.now in
+    let are : AreCounts (headers objects) (all_links image objects) counts
+    = subst (AreCounts (headers objects) (all_links image objects)) (sym c.deref.ensures.value) c.in-Ok.ensures.counts in
+    on_ok_weaker c.check_each.result (λ right. all_right image objects c.requires.whole counts are right) c.check_each.ensures.right

@@ -1,0 +1,5 @@
+use Rattle.h5_open.proofs.RenumberedLaws.Arranged.{IsArranged}
+use Rattle.h5_open.proofs.numbers.order.renumber.Given as goal
+
+abbrev pub invariant-loop-number : goal.invariant-loop-number
+invariant-loop-number l = IsArranged l.image.bytes l.headers l.opened.objects.items l.opened.numbers l.number

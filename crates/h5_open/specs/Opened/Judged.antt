@@ -1,0 +1,44 @@
+-- What the messages of the root, and of an array, have to be (File Format Specification 3.0, section IV.A.2).
+use Rattle.std.specs.Prelude.{◌≡◌, ◌≢◌, ℕ, ◌⊎◌, Option, Some, List, length, option_and_then}
+use Rattle.h5_bytes.specs.declared.Block.{Block}
+use Rattle.h5_model.specs.Format.Layout.{InBlock}
+use Rattle.h5_model.specs.Format.Addresses.{SymbolTable, symbol_table_of}
+use Rattle.h5_model.specs.Format.Messages.{Message, count_of, first_body}
+use Rattle.h5_model.specs.Format.Reads.{HasAttributes}
+use Rattle.h5_model.specs.Faults.HeaderFaults.{ListBreach}
+use Rattle.h5_model.specs.declared.open_fault.Cause.{Cause}
+use Rattle.h5_model.specs.declared.open_fault.Cause.TheVariants.{MissingMessage, NoMemory, NotYet}
+use Rattle.h5_header.specs.Kinds.{IsOfGroup, IsOfDataset}
+use Rattle.h5_attr.specs.Attributes.{attributes_of}
+use Rattle.h5_layout.specs.Described.{Described, HasArray}
+use Rattle.h5_open.specs.Opened.NotYet.{IsNoLine}
+use Rattle.h5_open.specs.declared.opened.line.Line.{Line}
+use Rattle.h5_open.specs.Opened.Array.{described}
+
+-- messages of a group, with this tree and heap, and attributes
+pub record IsGroupList (ms : List Message) (table : SymbolTable) : Type 0 where
+  pub kinds : IsOfGroup ms
+  pub attributes : HasAttributes ms (attributes_of ms)
+  pub chosen : option_and_then symbol_table_of (first_body 17 ms) ≡ Some table
+
+-- messages of an array, with attributes
+pub record IsLineList (ms : List Message) (line : Line) : Type 0 where
+  pub kinds : IsOfDataset ms
+  pub attributes : HasAttributes ms (attributes_of ms)
+  pub array : HasArray ms (described line)
+
+-- a rule on all messages of the root's header is broken; or it is no group's
+abbrev pub IsRootBreach : List ℕ → ℕ → List Message → Cause → Type 0
+IsRootBreach image header ms NoMemory = Unit {0}
+IsRootBreach image header ms MissingMessage = count_of 17 ms ≡ 0
+IsRootBreach image header ms cause = ListBreach image header ms cause
+
+-- a rule on all messages of the header that a link names is broken; or they are a group's, or those of another array
+abbrev pub IsLineBreach : List ℕ → ℕ → List Message → Cause → Type 0
+IsLineBreach image header ms NoMemory = Unit {0}
+IsLineBreach image header ms NotYet = IsNoLine ms
+IsLineBreach image header ms cause = ListBreach image header ms cause
+
+-- the array has not one dimension, or its cells are not in one block
+abbrev pub IsNoLineOf : Described → Type 0
+IsNoLineOf a = (length a.sizes ≢ 1) ⊎ ((b : Option Block) → a.layout ≢ InBlock b)

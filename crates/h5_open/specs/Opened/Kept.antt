@@ -1,0 +1,44 @@
+-- What is known of an opened image: what is kept of its objects tells all that it holds (File Format Specification 3.0, section
+-- IV.A).
+use Rattle.std.specs.Prelude.{◌≡◌, ℕ, IsTrue, Some, List, length, MatchOption, slice_get, option_and_then}
+use Rattle.std.specs.List.{AllByRecursion, Contains}
+use Rattle.std.specs.Ordering.{nat_cmp}
+use Rattle.std.specs.BTreeMap.{BTreeMap, get}
+use Rattle.h5_bytes.specs.Blocks.{Inside}
+use Rattle.h5_model.specs.Format.Addresses.{symbol_table_of}
+use Rattle.h5_model.specs.Format.Messages.{Message, first_body}
+use Rattle.h5_model.specs.Format.Reads.{Reads}
+use Rattle.h5_header.specs.Heads.{is_read}
+use Rattle.h5_header.specs.Kinds.{IsOfGroup}
+use Rattle.h5_header.specs.Listed.{messages_in}
+use Rattle.h5_group.specs.Links.{IsGroupRead}
+use Rattle.h5_open.specs.declared.opened.object.OpenedObject.{OpenedObject}
+use Rattle.h5_open.specs.declared.opened.object.OpenedContent.{OpenedContent}
+use Rattle.h5_open.specs.declared.opened.object.OpenedContent.TheVariants as content
+use Rattle.h5_open.specs.Opened.Array.{data_blocks}
+use Rattle.h5_open.specs.Opened.Headers.{IsHeaderKept}
+use Rattle.h5_open.specs.Opened.Judged.{IsLineList}
+use Rattle.h5_open.specs.Opened.Objects.{headers, table_of, tree_of}
+
+-- the messages are those of this group, which stands in the image; or those of this array, whose cells do
+abbrev pub IsContentKept : List ℕ → List Message → OpenedContent → Type 0
+IsContentKept image ms (content.Group g) =
+    IsOfGroup ms × (option_and_then symbol_table_of (first_body 17 ms) ≡ Some g.table) × IsGroupRead image g
+IsContentKept image ms (content.Array line) = IsLineList ms line × Inside (length image) (data_blocks line.cells)
+
+-- the object stands in the image
+pub record IsObjectKept (image : List ℕ) (o : OpenedObject) : Type 0 where
+  pub header : IsHeaderKept image o.messages
+  pub known : AllByRecursion (λ x. IsTrue (is_read x.kind)) o.messages.list
+  pub content : IsContentKept image (messages_in image o.messages.list) o.content
+
+-- each header has the number of the object that stands there
+abbrev pub IsIndex : List OpenedObject → BTreeMap ℕ ℕ → Type 0
+IsIndex objects numbers = (header : ℕ) → MatchOption (get nat_cmp numbers header)
+    (Contains (headers objects) header → ⊥) (λ number. slice_get (headers objects) number ≡ Some header)
+
+-- The image reads as the tree that is told by what is kept of its objects.
+pub record IsOpened (image : List ℕ) (objects : List OpenedObject) (numbers : BTreeMap ℕ ℕ) : Type 0 where
+  pub reads : Reads image (table_of objects) (tree_of image objects)
+  pub each : AllByRecursion (IsObjectKept image) objects
+  pub index : IsIndex objects numbers

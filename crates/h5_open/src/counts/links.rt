@@ -1,0 +1,109 @@
+//! How many links lead to each header.
+
+ghost use Rattle.std.specs.Prelude.{◌≡◌, [], ◌∷◌, ◌++◌, List, ℕ, IfOk, length, map};
+ghost use Rattle.std.specs.List.{AllByRecursion, Contains, IsDistinct};
+ghost use Rattle.std.specs.Ordering.{nat_cmp, eq_by_cmp};
+ghost use Rattle.h5_model.specs.Format.Superblock.{leaf_k};
+ghost use Rattle.h5_model.specs.Format.Symbols.{Target, Header, symbols_at, link_of};
+ghost use Rattle.h5_model.specs.Format.Heap.{segment_of};
+ghost use Rattle.h5_group.specs.Links.{IsGroupRead, links_of};
+ghost use Rattle.h5_open.specs.Opened.Kept.{IsIndex, IsObjectKept};
+ghost use Rattle.h5_open.specs.Opened.Objects.{headers};
+ghost use Rattle.h5_open.specs.Placed.Whole.{BeginsAtRoot};
+ghost use Rattle.h5_open.specs.Counted.Links.{all_links};
+ghost use Rattle.h5_open.specs.Counted.Counts.{AreCounts};
+
+use h5_group::{Group, LinkTarget, link_at, links_at};
+use h5_space::Image;
+use crate::{Opened, OpenedContent};
+use std::alloc::{AllocError, Global};
+
+/// How many links lead to each object, by the objects' numbers, 1 of the superblock's to the root among them. Above 65535 a count
+/// may be any that is above it.
+///
+/// Takes memory for a number for each object. Each link is looked at once.
+pub(crate) fn count_links(
+    alloc: Global,
+    image: &Image,
+    opened: &Opened,
+) -> Result<Vec<u32>, AllocError>
+    requires begins { BeginsAtRoot image.now.bytes opened.now.objects.items }
+    requires each { AllByRecursion (IsObjectKept image.now.bytes) opened.now.objects.items }
+    requires distinct { IsDistinct (eq_by_cmp nat_cmp) (headers opened.now.objects.items) }
+    requires index { IsIndex opened.now.objects.items opened.now.numbers }
+    ensures length { IfOk result (λ counts. length counts.items ≡ length opened.now.objects.items) }
+    ensures counts { IfOk result (λ counts. AreCounts (headers opened.now.objects.items) (all_links image.now.bytes opened.now.objects.items) counts.items) }
+{
+    let mut counts = vec![in alloc; 0; opened.objects.len()]?;
+    count_all(image, opened, &mut counts);
+    Ok(counts)
+}
+
+/// Counts all links.
+fn count_all(image: &Image, opened: &Opened, counts: &mut [u32])
+    requires begins { BeginsAtRoot image.now.bytes opened.now.objects.items }
+    requires each { AllByRecursion (IsObjectKept image.now.bytes) opened.now.objects.items }
+    requires distinct { IsDistinct (eq_by_cmp nat_cmp) (headers opened.now.objects.items) }
+    requires index { IsIndex opened.now.objects.items opened.now.numbers }
+    requires length { length counts.old ≡ length opened.now.objects.items }
+    requires none { AreCounts (headers opened.now.objects.items) [] counts.old }
+    ensures length { length counts.new ≡ length counts.old }
+    ensures counts { AreCounts (headers opened.now.objects.items) (all_links image.now.bytes opened.now.objects.items) counts.new }
+{
+    count_link(opened, counts, opened.objects[0].messages.header());
+    for object in &opened.objects {
+        if let OpenedContent::Group(group) = &object.content {
+            count_group(image, opened, group, counts);
+        }
+    }
+}
+
+/// Counts the links of a group.
+fn count_group(image: &Image, opened: &Opened, group: &Group, counts: &mut [u32])
+    requires group { IsGroupRead image.now.bytes group.now }
+    requires distinct { IsDistinct (eq_by_cmp nat_cmp) (headers opened.now.objects.items) }
+    requires index { IsIndex opened.now.objects.items opened.now.numbers }
+    requires length { length counts.old ≡ length opened.now.objects.items }
+    ensures length { length counts.new ≡ length counts.old }
+    ensures counted { (before : List (List ℕ × Target)) → AreCounts (headers opened.now.objects.items) before counts.old
+        → AreCounts (headers opened.now.objects.items) (before ++ links_of image.now.bytes group.now) counts.new }
+{
+    for node in &group.symbol_nodes {
+        count_node(image, opened, group, *node, counts);
+    }
+}
+
+/// Counts the links in the symbol node at `node`, which is one of the group's.
+fn count_node(image: &Image, opened: &Opened, group: &Group, node: u64, counts: &mut [u32])
+    requires group { IsGroupRead image.now.bytes group.now }
+    requires node { Contains group.now.symbol_nodes.items node }
+    requires distinct { IsDistinct (eq_by_cmp nat_cmp) (headers opened.now.objects.items) }
+    requires index { IsIndex opened.now.objects.items opened.now.numbers }
+    requires length { length counts.old ≡ length opened.now.objects.items }
+    ensures length { length counts.new ≡ length counts.old }
+    ensures counted { (before : List (List ℕ × Target)) → AreCounts (headers opened.now.objects.items) before counts.old
+        → AreCounts (headers opened.now.objects.items)
+        (before ++ map (link_of (segment_of image.now.bytes group.now.table.heap)) (symbols_at image.now.bytes (leaf_k image.now.bytes) node)) counts.new }
+{
+    for i in 0..links_at(image, group, node) {
+        match link_at(image, group, node, i).target {
+            LinkTarget::Object(header) => count_link(opened, counts, header),
+            LinkTarget::Soft(_) => {}
+        }
+    }
+}
+
+/// Counts a link to the object at `header`.
+fn count_link(opened: &Opened, counts: &mut [u32], header: u64)
+    requires distinct { IsDistinct (eq_by_cmp nat_cmp) (headers opened.now.objects.items) }
+    requires index { IsIndex opened.now.objects.items opened.now.numbers }
+    requires length { length counts.old ≡ length opened.now.objects.items }
+    ensures length { length counts.new ≡ length counts.old }
+    ensures counted { (before : List (List ℕ × Target)) (name : List ℕ) → AreCounts (headers opened.now.objects.items) before counts.old
+        → AreCounts (headers opened.now.objects.items) (before ++ (name, Header header) ∷ []) counts.new }
+{
+    if let Some(&number) = opened.numbers.get(&header) {
+        let count = counts[number as usize];
+        counts[number as usize] = count.saturating_add(1);
+    }
+}

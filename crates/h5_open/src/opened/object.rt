@@ -1,0 +1,34 @@
+//! The objects of an opened image (File Format Specification 3.0, section IV.A).
+
+use crate::opened::line::Line;
+use h5_group::Group;
+use h5_header::Messages;
+use std::collections::BTreeMap;
+
+/// What an object is.
+#[derive(Drop)]
+pub enum OpenedContent {
+    /// A group, whose links are read where they stand.
+    Group(Group),
+    /// An array of one dimension in one block.
+    Array(Line),
+}
+
+/// An object of an opened image.
+#[derive(Drop)]
+pub struct OpenedObject {
+    /// The messages of its header.
+    pub messages: Messages,
+    pub content: OpenedContent,
+    /// How many links lead to it from the root, by the way on which it was first met.
+    pub depth: u8,
+}
+
+/// The objects of an opened image. Object 0 is the root; the others have their numbers in the order in which they were met, depth
+/// first and by the names of links.
+#[derive(Drop)]
+pub struct Opened {
+    pub objects: Vec<OpenedObject>,
+    /// The number of the object at each header address.
+    pub numbers: BTreeMap<u64, u32>,
+}

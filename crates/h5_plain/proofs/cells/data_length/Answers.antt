@@ -1,9 +1,0 @@
-use Rattle.std.proofs.Common.{length, ap, ◌∙◌, sym}
-use Rattle.h5_plain.specs.ArrayHeader.{data_written}
-use Rattle.h5_plain.proofs.ArrayParts.{length-filled}
-use Rattle.h5_plain.proofs.cells.data_length.Goals as goal
-
-pub returns-in-Filled-clause-exact : goal.returns-in-Filled-clause-exact
-returns-in-Filled-clause-exact c =
-    let a = c.args.array.now in
-    length-filled a.fixed a.fill a.size c.size-size.result c.size-size.ensures.size ∙ sym (ap (λ x. length (data_written x a)) c.in-Filled.is)

@@ -1,0 +1,48 @@
+-- The links of a group that was read, as the tree has them.
+use Rattle.std.proofs.Common.{◌≡◌, ◌≢◌, ℕ, List, [], ◌∷◌, map, refl, sym, ap, ◌∙◌, subst, Some, None, cond, true, false, nat_eq, inl, inr}
+use Rattle.std.specs.Ordering.{nat_cmp, eq_by_cmp}
+use Rattle.std.specs.Cmp.Lexicographic.{slice_cmp, nat_list_cmp_total, pointwise, texts_ties, same_text as same_texts}
+use Rattle.std.specs.FinMap.{get, keys, find, get-from_entries}
+use Rattle.h5_model.specs.Format.Symbols.{Target}
+use Rattle.h5_model.specs.Tree.Objects.{Link}
+use Rattle.h5_laws.proofs.Lists.{In, in_contains, contains_in}
+use Rattle.h5_group.specs.Links as group
+use Rattle.h5_group.specs.Links.{IsGroupRead, IsLinkNamed, HasNone, target_of, link_from}
+use Rattle.h5_group.specs.declared.group.Group.{Group}
+use Rattle.h5_group.specs.declared.link.LinkRef.{LinkRef}
+use Rattle.h5_open.specs.Opened.Objects.{link_to, links_by}
+use Rattle.h5_open.proofs.OpenedLaws.Entries.{get_link, names_ascend, group_entries}
+
+untied : (x name : List ℕ) → x ≢ name → eq_by_cmp (slice_cmp nat_cmp) x name ≡ false
+untied x name other = sym (texts_ties x name) ∙ elim (pointwise nat_eq x name) as (λ b. b ≡ pointwise nat_eq x name → b ≡ false) [
+  | true ↦ λ same. absurd (other (same_texts x name same))
+  | false ↦ λ _. refl
+] refl
+
+none_found : (hs : List ℕ) (found : List (List ℕ × Target)) (name : List ℕ) → ((t : Target) → In (name, t) found → ⊥)
+    → find (slice_cmp nat_cmp) name (map (λ (l : List ℕ × Target). (l.0, link_to hs l.1)) found) ≡ None
+none_found hs [] name none = refl
+none_found hs ((x, t) ∷ found) name none =
+    let other : eq_by_cmp (slice_cmp nat_cmp) name x ≡ false = untied name x (λ same. none t (inl (ap (λ (n : List ℕ). (n, t)) (sym same)))) in
+    ap (λ b. cond b (Some (link_to hs t)) (find (slice_cmp nat_cmp) name (map (λ (l : List ℕ × Target). (l.0, link_to hs l.1)) found))) other
+    ∙ none_found hs found name (λ u at. none u (inr at))
+
+module _ (image hs : List ℕ) (g : Group) (read : IsGroupRead image g) where
+  -- the link of a name
+  pub link_named : (name : List ℕ) (l : LinkRef) → IsLinkNamed image g name l → get (links_by hs (group.links_of image g)) name ≡ Some (link_to hs (target_of l.target))
+  link_named name l is =
+      subst (λ (n : List ℕ). get (links_by hs (group.links_of image g)) n ≡ Some (link_to hs (target_of l.target))) is.1
+      (get_link hs (group.links_of image g) (names_ascend image g read) l.name.now (target_of l.target) (in_contains (link_from l) (group.links_of image g) is.0))
+
+  pub none_named : (name : List ℕ) → HasNone image g name → get (links_by hs (group.links_of image g)) name ≡ None
+  none_named name none =
+      get-from_entries nat_list_cmp_total (map (λ (l : List ℕ × Target). (l.0, link_to hs l.1)) (group.links_of image g)) name
+      ∙ none_found hs (group.links_of image g) name (λ t at. none t (contains_in (name, t) (group.links_of image g) at))
+
+names_alike : (hs : List ℕ) (found : List (List ℕ × Target)) → map (λ (l : List ℕ × Link). l.0) (map (λ (l : List ℕ × Target). (l.0, link_to hs l.1)) found) ≡ map (λ (l : List ℕ × Target). l.0) found
+names_alike hs [] = refl
+names_alike hs (l ∷ found) = ap (λ (names : List (List ℕ)). l.0 ∷ names) (names_alike hs found)
+
+-- the names of the links, ascending
+pub keys_are : (image hs : List ℕ) (g : Group) → IsGroupRead image g → keys (links_by hs (group.links_of image g)) ≡ map (λ (l : List ℕ × Target). l.0) (group.links_of image g)
+keys_are image hs g read = ap (λ (es : List (List ℕ × Link)). map (λ (l : List ℕ × Link). l.0) es) (group_entries image hs g read) ∙ names_alike hs (group.links_of image g)

@@ -1,0 +1,66 @@
+-- The links of a group as they are listed, and those of the tree.
+use Rattle.std.proofs.Common.{◌≡◌, ℕ, List, [], ◌∷◌, map, refl, sym, ap, ◌∙◌, subst, Some, inl, inr, Result, Ok, Err, Vec, Bor, IfOk}
+use Rattle.std.specs.declared.alloc.Global.{Global}
+use Rattle.std.specs.Prelude.{slice_get}
+use Rattle.std.specs.List.{AllByRecursion}
+use Rattle.std.specs.BTreeMap.{BTreeMap}
+use Rattle.h5_model.specs.Format.Symbols.{Target}
+use Rattle.h5_model.specs.Tree.Objects as tree
+use Rattle.h5_laws.proofs.Lists.{In, contains_in}
+use Rattle.h5_group.specs.Links as group
+use Rattle.h5_group.specs.Links.{link_from}
+use Rattle.h5_group.specs.declared.group.Group.{Group}
+use Rattle.h5_group.specs.declared.link.LinkRef.{LinkRef}
+use Rattle.h5_group.specs.declared.link.LinkTarget.{LinkTarget}
+use Rattle.h5_group.specs.declared.link.LinkTarget.TheVariants as target
+use Rattle.h5_open.specs.declared.opened.object.OpenedObject.{OpenedObject}
+use Rattle.h5_open.specs.declared.opened.object.OpenedContent.TheVariants as content
+use Rattle.h5_open.specs.Opened.Kept.{IsOpened}
+use Rattle.h5_open.specs.Opened.Objects.{headers, link_to, links_by, tree_of}
+use Rattle.h5_open.proofs.OpenedLaws.Entries.{group_entries}
+use Rattle.h5_query.specs.declared.group.Link.{Link}
+use Rattle.h5_query.specs.Kept.{name_of}
+use Rattle.h5_query.specs.Listed.{AreLinks, IsLed, IsTargetLed, in_tree, seen_link}
+use Rattle.h5_query.proofs.Indexed.{group_links, group_read}
+use Rattle.h5_query.proofs.StepLaws.{header_contained, header_there}
+
+pub names_from : (ls : List LinkRef) → map name_of ls ≡ map (λ (l : List ℕ × Target). l.0) (map link_from ls)
+names_from [] = refl
+names_from (l ∷ ls) = ap (λ (names : List (List ℕ)). l.name.now ∷ names) (names_from ls)
+
+-- names that were listed are these
+pub same_names : {E : Type 0} (r : Result (Vec (Bor (List ℕ)) Global) E) (xs ys : List (List ℕ)) → IfOk r (λ names. map (λ name. name.now) names.items ≡ xs) → xs ≡ ys
+    → IfOk r (λ names. map (λ name. name.now) names.items ≡ ys)
+same_names (Ok names) xs ys is same = is ∙ same
+same_names (Err e) xs ys is same = tt
+
+pub tree_from : (hs : List ℕ) (ls : List LinkRef) → map (in_tree hs) ls ≡ map (λ (l : List ℕ × Target). (l.0, link_to hs l.1)) (map link_from ls)
+tree_from hs [] = refl
+tree_from hs (l ∷ ls) = ap (λ (more : List (List ℕ × tree.Link)). in_tree hs l ∷ more) (tree_from hs ls)
+
+all_led : (hs : List ℕ) (ls : List LinkRef) → ((l : LinkRef) → In (link_from l) (map link_from ls) → IsLed hs l) → AllByRecursion (IsLed hs) ls
+all_led hs [] each = tt
+all_led hs (l ∷ ls) each = (each l (inl refl), all_led hs ls (λ m at. each m (inr at)))
+
+module _ (image : List ℕ) (objects : List OpenedObject) (numbers : BTreeMap ℕ ℕ) (opened : IsOpened image objects numbers) (k : ℕ) (o : OpenedObject)
+    (at : slice_get objects k ≡ Some o) (g : Group) (is : o.content ≡ content.Group g) where
+  abbrev hs : List ℕ
+  hs = headers objects
+
+  module _ (found : List LinkRef) (all : map link_from found ≡ group.links_of image g) where
+    led_by : (l : LinkRef) → In (link_from l) (group.links_of image g) → (t : LinkTarget) → l.target ≡ t → IsTargetLed hs t
+    led_by l listed (target.Object header) names =
+        header_contained image objects numbers opened header (header_there image objects numbers opened k o at g is l header (contains_in (link_from l) (group.links_of image g) listed) names)
+    led_by l listed (target.Soft text) names = tt
+
+    -- each link leads to an object's header
+    pub found_led : AllByRecursion (IsLed hs) found
+    found_led = all_led hs found (λ l listed. led_by l (subst (In (link_from l)) all listed) l.target refl)
+
+    pub are_links : (links : List Link) → map seen_link links ≡ map (in_tree hs) found → AreLinks (tree_of image objects) k links
+    are_links links same = (
+      links_by hs (group.links_of image g),
+      group_links image objects k o at g is,
+      same ∙ tree_from hs found ∙ ap (map (λ (l : List ℕ × Target). (l.0, link_to hs l.1))) all
+          ∙ sym (group_entries image hs g (group_read image objects numbers opened k o at g is)),
+    )

@@ -1,0 +1,88 @@
+-- Where a name leads from an object of an opened image.
+use Rattle.std.proofs.Common.{◌≡◌, ℕ, List, ◌∷◌, sym, ap, ◌∙◌, subst, Some, Bor}
+use Rattle.std.specs.Prelude.{slice_get}
+use Rattle.std.specs.List.{Contains}
+use Rattle.std.specs.BTreeMap.{BTreeMap}
+use Rattle.std.proofs.lemmas.Option.{slice_get_within, get_or_from_slice_get}
+use Rattle.h5_model.specs.Tree.Objects.{Tree, Link, Links, ToObject, Soft}
+use Rattle.h5_model.specs.Tree.Paths.{NoGroup, locate, missing_before}
+use Rattle.h5_laws.proofs.Lists.{In, in_contains}
+use Rattle.h5_group.specs.Links as group
+use Rattle.h5_group.specs.Links.{IsGroupRead, IsLinkNamed, HasNone, target_of, link_from}
+use Rattle.h5_group.specs.declared.group.Group.{Group}
+use Rattle.h5_group.specs.declared.link.LinkRef.{LinkRef}
+use Rattle.h5_group.specs.declared.link.LinkTarget.{LinkTarget}
+use Rattle.h5_group.specs.declared.link.LinkTarget.TheVariants as target
+use Rattle.h5_open.specs.declared.opened.line.Line.{Line}
+use Rattle.h5_open.specs.declared.opened.object.OpenedObject.{OpenedObject}
+use Rattle.h5_open.specs.declared.opened.object.OpenedContent.TheVariants as content
+use Rattle.h5_open.specs.Opened.Kept.{IsOpened}
+use Rattle.h5_open.specs.Opened.Objects.{headers, number_of, link_to, links_by, tree_of}
+use Rattle.h5_query.specs.declared.place.Place.{Place}
+use Rattle.h5_query.specs.declared.place.Place.TheVariants as place
+use Rattle.h5_query.specs.Place.{IsOfNumber, link_at}
+use Rattle.h5_query.proofs.Indexed.{group_links, array_no_group, group_read, number_at_header}
+use Rattle.h5_query.proofs.Led.{led}
+use Rattle.h5_query.proofs.GroupLaws.{link_named, none_named}
+use Rattle.h5_query.proofs.PathLaws.{locate-no_group, locate-missing, locate-linked}
+
+module _ (image : List ℕ) (objects : List OpenedObject) (numbers : BTreeMap ℕ ℕ) (opened : IsOpened image objects numbers) where
+  abbrev T : Tree
+  T = tree_of image objects
+
+  abbrev hs : List ℕ
+  hs = headers objects
+
+  -- a header that a link names is an object's
+  pub header_there : (k : ℕ) (o : OpenedObject) → slice_get objects k ≡ Some o → (g : Group) → o.content ≡ content.Group g → (l : LinkRef) (header : ℕ)
+      → Contains (group.links_of image g) (link_from l) → l.target ≡ target.Object header → slice_get hs (number_of hs header) ≡ Some header
+  header_there k o at g is l header listed names =
+      led image objects numbers opened k o at g is l.name.now header
+      (subst (λ (t : LinkTarget). In (l.name.now, target_of t) (group.links_of image g)) names (in_contains (link_from l) (group.links_of image g) listed))
+
+  pub header_contained : (header : ℕ) → slice_get hs (number_of hs header) ≡ Some header → Contains hs header
+  header_contained header at =
+      (number_of hs header, slice_get_within hs (number_of hs header) header at, get_or_from_slice_get hs (number_of hs header) header header at)
+
+  module _ (from : Place) (number : ℕ) (object : Bor OpenedObject) (is : from ≡ place.Object number object) (kept : IsOfNumber objects from) where
+    pub at : slice_get objects number ≡ Some object.now
+    at = subst (IsOfNumber objects) is kept
+
+    begins : (names : List (List ℕ)) → locate T (link_at from) names ≡ locate T (ToObject number) names
+    begins names = ap (λ (f : Place). locate T (link_at f) names) is
+
+    pub no_group : (line : Line) → object.now.content ≡ content.Array line → (name : List ℕ) (names : List (List ℕ)) → locate T (link_at from) (name ∷ names) ≡ NoGroup
+    no_group line array name names = begins (name ∷ names) ∙ locate-no_group T number name names (array_no_group image objects number object.now at line array)
+
+    module _ (g : Group) (grouped : object.now.content ≡ content.Group g) where
+      pub read : IsGroupRead image g
+      read = group_read image objects numbers opened number object.now at g grouped
+
+      abbrev links : Links
+      links = links_by hs (group.links_of image g)
+
+      pub no_name : (name : List ℕ) → HasNone image g name → (names : List (List ℕ)) → locate T (link_at from) (name ∷ names) ≡ missing_before names
+      no_name name none names =
+          begins (name ∷ names)
+          ∙ locate-missing T number name names links (group_links image objects number object.now at g grouped) (none_named image hs g read name none)
+
+      module _ (name : List ℕ) (l : LinkRef) (named : IsLinkNamed image g name l) where
+        to_link : (link : Link) → link_to hs (target_of l.target) ≡ link → (names : List (List ℕ)) → locate T (link_at from) (name ∷ names) ≡ locate T link names
+        to_link link leads names =
+            begins (name ∷ names)
+            ∙ locate-linked T number name names links (group_links image objects number object.now at g grouped) (link_to hs (target_of l.target)) (link_named image hs g read name l named)
+            ∙ ap (λ (x : Link). locate T x names) leads
+
+        pub to_text : (text : Bor (List ℕ)) → l.target ≡ target.Soft text → (names : List (List ℕ)) → locate T (link_at from) (name ∷ names) ≡ locate T (Soft text.now) names
+        to_text text is_text = to_link (Soft text.now) (ap (λ (t : LinkTarget). link_to hs (target_of t)) is_text)
+
+        module _ (header : ℕ) (names_header : l.target ≡ target.Object header) where
+          pub header_known : Contains hs header
+          header_known = header_contained header (header_there number object.now at g grouped l header named.0 names_header)
+
+          pub to_object : (n : ℕ) → slice_get hs n ≡ Some header → (next : Place) → link_at next ≡ ToObject n
+              → (names : List (List ℕ)) → locate T (link_at from) (name ∷ names) ≡ locate T (link_at next) names
+          to_object n there next linked =
+              to_link (link_at next)
+              (ap (λ (t : LinkTarget). link_to hs (target_of t)) names_header
+              ∙ ap ToObject (number_at_header image objects numbers opened n header there) ∙ sym linked)

@@ -1,0 +1,41 @@
+use Rattle.h5_query.proofs.Indexed.{number_within}
+use Rattle.h5_query.proofs.StepLaws.{no_group, read, no_name, to_text, header_known, to_object}
+use Rattle.h5_query.proofs.step.follow_name.Goals as goal
+
+pub returns-in_default-content : goal.returns-in_default-content
+returns-in_default-content c =
+    no_group c.args.image.now.bytes c.args.opened.now.objects.items c.args.opened.now.numbers c.requires.opened c.args.from c.in-Object.number c.in-Object.object c.in-Object.is c.requires.from
+    c.in_default-content.field-0 c.in_default-content.is c.args.name.now
+
+pub lookup-requires : goal.lookup-requires
+lookup-requires c =
+    read c.args.image.now.bytes c.args.opened.now.objects.items c.args.opened.now.numbers c.requires.opened c.args.from c.in-Object.number c.in-Object.object c.in-Object.is c.requires.from
+    c.in-Group.group c.in-Group.is
+
+pub returns-in_default-lookup : goal.returns-in_default-lookup
+returns-in_default-lookup c =
+    no_name c.args.image.now.bytes c.args.opened.now.objects.items c.args.opened.now.numbers c.requires.opened c.args.from c.in-Object.number c.in-Object.object c.in-Object.is c.requires.from
+    c.in-Group.group c.in-Group.is c.args.name.now c.in_default-lookup.ensures.absent
+
+pub number_of-requires-clause-there : goal.number_of-requires-clause-there
+number_of-requires-clause-there c =
+    header_known c.args.image.now.bytes c.args.opened.now.objects.items c.args.opened.now.numbers c.requires.opened c.args.from c.in-Object.number c.in-Object.object c.in-Object.is c.requires.from
+    c.in-Group.group c.in-Group.is c.args.name.now c.in-Some.link c.in-Some.ensures.found c.in-Object-target.header c.in-Object-target.is
+
+pub object_place-requires : goal.object_place-requires
+object_place-requires c = number_within c.args.opened.now.objects.items c.number_of.result c.in-Object-target.header c.number_of.ensures
+
+pub returns-in-Object-target : goal.returns-in-Object-target
+returns-in-Object-target c = (
+  c.object_place.ensures.at,
+  to_object c.args.image.now.bytes c.args.opened.now.objects.items c.args.opened.now.numbers c.requires.opened c.args.from c.in-Object.number c.in-Object.object c.in-Object.is c.requires.from
+      c.in-Group.group c.in-Group.is c.args.name.now c.in-Some.link c.in-Some.ensures.found c.in-Object-target.header c.in-Object-target.is c.number_of.result c.number_of.ensures
+      c.object_place.result c.object_place.ensures.link,
+)
+
+pub returns-in-Soft : goal.returns-in-Soft
+returns-in-Soft c = (
+  tt,
+  to_text c.args.image.now.bytes c.args.opened.now.objects.items c.args.opened.now.numbers c.requires.opened c.args.from c.in-Object.number c.in-Object.object c.in-Object.is c.requires.from
+      c.in-Group.group c.in-Group.is c.args.name.now c.in-Some.link c.in-Some.ensures.found c.in-Soft.text c.in-Soft.is,
+)

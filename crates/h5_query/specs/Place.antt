@@ -1,0 +1,39 @@
+-- What a path leads to in an opened image.
+use Rattle.std.specs.Prelude.{◌≡◌, ℕ, List, Some, None, slice_get}
+use Rattle.h5_model.specs.Tree.Objects.{Tree, Link, ToObject, Soft}
+use Rattle.h5_model.specs.Tree.Paths.{Here, located, object_at}
+use Rattle.h5_model.specs.Edits.Refusal.{first_holding}
+use Rattle.h5_model.specs.Scripts.Reading.{path_rules, object_rules}
+use Rattle.h5_model.specs.declared.edit_fault.EditFault.{EditFault}
+use Rattle.h5_open.specs.declared.opened.object.OpenedObject.{OpenedObject}
+use Rattle.h5_query.specs.declared.place.Place.{Place}
+use Rattle.h5_query.specs.declared.place.Place.TheVariants as place
+
+-- no rule of a path refuses it, and it leads to this link
+abbrev pub LeadsTo : Tree → List ℕ → Link → Type 0
+LeadsTo tree path link = (first_holding (path_rules tree path) ≡ None) × (located tree path ≡ Here link)
+
+-- the link of a place
+abbrev pub link_at : Place → Link
+link_at (place.Object number object) = ToObject number
+link_at (place.Soft text) = Soft text.now
+
+-- the object of a place is the one of its number
+abbrev pub IsOfNumber : List OpenedObject → Place → Type 0
+IsOfNumber objects (place.Object number object) = slice_get objects number ≡ Some object.now
+IsOfNumber objects (place.Soft text) = Unit {0}
+
+-- the path leads to this object, or to this text of a soft link
+abbrev pub IsPlace : Tree → List OpenedObject → List ℕ → Place → Type 0
+IsPlace tree objects path at = LeadsTo tree path (link_at at) × IsOfNumber objects at
+
+abbrev pub IsNowhere : Tree → List ℕ → EditFault → Type 0
+IsNowhere tree path e = first_holding (path_rules tree path) ≡ Some e
+
+-- an object of this number stands there
+abbrev pub IsNumber : Tree → List ℕ → ℕ → Type 0
+IsNumber tree path number = (first_holding (object_rules tree path) ≡ None) × (object_at tree path ≡ Some number)
+
+-- no object stands there
+abbrev pub IsNoObject : Tree → List ℕ → EditFault → Type 0
+IsNoObject tree path e = first_holding (object_rules tree path) ≡ Some e

@@ -1,0 +1,91 @@
+//! The attributes of the object at a path (File Format Specification 3.0, section IV.A.2.m).
+
+ghost use Rattle.std.specs.Prelude.{◌≡◌, Some, MatchResult, map};
+ghost use Rattle.h5_model.specs.Edits.Refusal.{first_holding};
+ghost use Rattle.h5_model.specs.Scripts.Reading.{attribute_rules};
+ghost use Rattle.h5_open.specs.Opened.Kept.{IsOpened};
+ghost use Rattle.h5_open.specs.Opened.Objects.{tree_of};
+ghost use Rattle.h5_query.specs.Kept.{IsHeaderThere};
+ghost use Rattle.h5_query.specs.Look.{HasAttribute, HasAttributeNames, HasAttributesOf, IsUnlisted};
+ghost use Rattle.h5_query.specs.Place.{IsNoObject};
+
+use crate::place::{Place, look};
+use h5_attr::{AttrRef, get, list, sorted};
+use h5_header::Messages;
+use h5_model::EditFault;
+use h5_space::Image;
+use h5_open::Opened;
+use std::alloc::Global;
+
+/// The names of the attributes of the object at the path, ascending by their bytes.
+///
+/// Refused as [`crate::look`] is, and as `NoMemory`.
+pub fn names_of_attributes<'a>(
+    alloc: Global,
+    image: &'a Image,
+    opened: &Opened,
+    path: &[u8],
+) -> Result<Vec<&'a [u8]>, EditFault>
+    requires { IsOpened image.now.bytes opened.now.objects.items opened.now.numbers }
+    ensures { let tree = tree_of image.now.bytes opened.now.objects.items in
+        MatchResult result (λ names. HasAttributeNames tree path.now (map (λ name. name.now) names.items)) (IsUnlisted tree path.now) }
+{
+    match list(alloc, image, messages_at(image, opened, path)?) {
+        Ok(names) => Ok(names),
+        Err(_) => Err(EditFault::NoMemory),
+    }
+}
+
+/// The attributes of the object at the path, ascending by the bytes of their names.
+///
+/// Refused as [`crate::look`] is, and as `NoMemory`.
+pub fn attributes_at<'a>(
+    alloc: Global,
+    image: &'a Image,
+    opened: &Opened,
+    path: &[u8],
+) -> Result<Vec<AttrRef<'a>>, EditFault>
+    requires { IsOpened image.now.bytes opened.now.objects.items opened.now.numbers }
+    ensures { let tree = tree_of image.now.bytes opened.now.objects.items in
+        MatchResult result (λ list. HasAttributesOf tree path.now list.items) (IsUnlisted tree path.now) }
+{
+    match sorted(alloc, image, messages_at(image, opened, path)?) {
+        Ok(attributes) => Ok(attributes),
+        Err(_) => Err(EditFault::NoMemory),
+    }
+}
+
+/// The attribute of this name of the object at the path.
+///
+/// Refused as [`crate::look`] is, and as `NoSuchAttribute` where the object has none of this name. It takes no memory.
+pub fn one_attribute<'a>(
+    image: &'a Image,
+    opened: &Opened,
+    path: &[u8],
+    name: &[u8],
+) -> Result<AttrRef<'a>, EditFault>
+    requires { IsOpened image.now.bytes opened.now.objects.items opened.now.numbers }
+    ensures { let tree = tree_of image.now.bytes opened.now.objects.items in
+        MatchResult result (HasAttribute tree path.now name.now) (λ e. first_holding (attribute_rules tree path.now name.now) ≡ Some e) }
+{
+    match get(image, messages_at(image, opened, path)?, name) {
+        Some(attribute) => Ok(attribute),
+        None => Err(EditFault::NoSuchAttribute),
+    }
+}
+
+/// The messages of the object at the path.
+fn messages_at<'a>(
+    image: &'a Image,
+    opened: &'a Opened,
+    path: &[u8],
+) -> Result<&'a Messages, EditFault>
+    requires { IsOpened image.now.bytes opened.now.objects.items opened.now.numbers }
+    ensures { let tree = tree_of image.now.bytes opened.now.objects.items in
+        MatchResult result (λ messages. IsHeaderThere image.now.bytes tree path.now messages.now) (IsNoObject tree path.now) }
+{
+    match look(image, opened, path)? {
+        Place::Object { object, .. } => Ok(&object.messages),
+        Place::Soft(_) => Err(EditFault::NotFound),
+    }
+}

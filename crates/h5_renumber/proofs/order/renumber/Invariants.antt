@@ -1,5 +1,0 @@
-use Rattle.h5_renumber.proofs.Arranged.{IsArranged}
-use Rattle.h5_renumber.proofs.order.renumber.Given as goal
-
-abbrev pub invariant-loop-number : goal.invariant-loop-number
-invariant-loop-number l = IsArranged l.image.bytes l.headers l.opened.objects.items l.opened.numbers l.number

@@ -1,0 +1,141 @@
+-- How many bytes an array has in the plain image, and that it reads as that array where they stand, in blocks that hold each of them
+-- once (File Format Specification 3.0, sections IV.A.2.b to IV.A.2.i).
+use Rattle.std.proofs.Common.{◌≡◌, ℕ, ◌+◌, ◌*◌, ◌^◌, ◌≤◌, ◌==◌, List, [], ◌∷◌, ◌++◌, length, length-append, refl, sym, ap, ◌∙◌, subst, arith, Bool, true, false, cond, eqb-true, Option, Some, None}
+use Rattle.std.specs.Prelude.{IsSome, is_some, if◌then◌else◌}
+use Rattle.std.specs.Ordering.{nat_cmp}
+use Rattle.std.specs.FinMap.{FinMap, get}
+use Rattle.std.specs.Option.{option_and_then}
+use Rattle.h5_bytes.specs.Bytes.{part}
+use Rattle.h5_bytes.specs.Blocks.{block, Inside, cover, holds}
+use Rattle.h5_bytes.specs.declared.Block.{Block}
+use Rattle.h5_bytes.proofs.BlockLaws.{holds_join, holds_none}
+use Rattle.h5_model.specs.Format.Messages.{prefix_at, reference_count}
+use Rattle.h5_model.specs.Format.PlainLength.{content_bytes, data_bytes}
+use Rattle.h5_model.specs.Format.Reads.{HasObject, IsGroup}
+use Rattle.h5_model.specs.Format.Sizes.{header_size}
+use Rattle.h5_model.specs.Tree.Objects.{Tree, Object, Array, Dataset, Contiguous, Links, links_in, links_of, hard_links}
+use Rattle.h5_model.proofs.PlainValues.{length-cells_bytes}
+use Rattle.h5_repack.specs.Bodies.Bodies.{others_of}
+use Rattle.h5_repack.specs.Bodies.Laws.{ArrayReads, ArrayLength, counted_header}
+use Rattle.h5_repack.specs.Bodies.Headers.{is_stored, data_of}
+use Rattle.h5_repack.specs.Bodies.Sound.{IsPlainArray}
+use Rattle.h5_repack.specs.Image.Plain.{IsPlain, IsPlainContent, IsPlainTree}
+use Rattle.h5_repack.specs.Image.Written.{object_length, header_in, content_place, data_address, object_bytes}
+use Rattle.h5_repack.proofs.ImageLaws.GroupLinks.{header_is}
+use Rattle.h5_repack.proofs.ImageLaws.Objects.{Stands, first_part, second_part}
+
+-- the data of an array in one block have their own length, whatever is said of chunks
+pub stored_bytes : (chunk stored others : ℕ) (d : Dataset) → IsPlainArray d others → data_bytes chunk stored d ≡ length (data_of d)
+stored_bytes chunk stored others d is = by_test is.stored is.stored_is where
+  by_test : (b : Bool) → d.storage ≡ Contiguous b → data_bytes chunk stored d ≡ length (data_of d)
+  by_test true e = rw e (sym (length-cells_bytes d.fixed d.cells ∙ ap (λ n. n * (d.fixed).size) is.sound.counted))
+  by_test false e = rw e refl
+
+-- ---- a block that there may be
+
+cover_stored : (p at n : ℕ) (b : Bool) → (b ≡ false → n ≡ 0) → cover p (if b then block at n ∷ [] else []) ≡ holds p at n
+cover_stored p at n true none = omega arith
+cover_stored p at n false none = sym (ap (holds p at) (none refl) ∙ holds_none p at)
+
+inside_stored : (end at n : ℕ) (b : Bool) → at + n ≤ end → Inside end (if b then block at n ∷ [] else [])
+inside_stored end at n true low = (low, tt)
+inside_stored end at n false low = tt
+
+module _ (array_length : ArrayLength) (leaf internal : ℕ) (tree : Tree) (table : FinMap nat_cmp ℕ) (plain : IsPlainTree leaf internal tree)
+    (number : ℕ) (o : Object) (d : Dataset) (is : get tree number ≡ Some o) (e : o.content ≡ Array d) where
+  abbrev header : ℕ
+  header = header_in table number
+
+  abbrev header_part : List ℕ
+  header_part = counted_header (hard_links tree number) o d (data_address d (content_place o header))
+
+  abbrev data_part : List ℕ
+  data_part = data_of d
+
+  array_laid : object_bytes leaf internal tree table (number, o) ≡ header_part ++ data_part
+  array_laid = rw e refl
+
+  own : IsPlain o
+  own = plain.each number o is
+
+  own_content : IsPlainContent (length (others_of o)) (Array d)
+  own_content = subst (IsPlainContent (length (others_of o))) e own.content
+
+  length-header_part : length header_part ≡ header_size o
+  length-header_part = array_length (hard_links tree number) (data_address d (content_place o header)) o d own.others e own_content.0
+
+  array_long : object_length leaf internal o ≡ header_size o + length data_part
+  array_long = ap (λ n. header_size o + n) (ap (content_bytes leaf internal 0 0) e ∙ stored_bytes 0 0 (length (others_of o)) d own_content.0)
+
+  pub length-array : length (object_bytes leaf internal tree table (number, o)) ≡ object_length leaf internal o
+  length-array = ap length array_laid ∙ length-append header_part data_part ∙ ap (λ n. n + length data_part) length-header_part ∙ sym array_long
+
+  -- the root is a group
+  no_links : links_of tree number ≡ None
+  no_links = ap (λ (r : Option Object). option_and_then (λ (x : Object). links_in x.content) r) is ∙ ap links_in e
+
+  no_root : (number == 0) ≡ false
+  no_root = by_test (number == 0) refl where
+    by_test : (b : Bool) → (number == 0) ≡ b → b ≡ false
+    by_test true zero_is =
+        let rooted : IsSome (links_of tree 0) = (plain.sound).rooted in
+        let none : links_of tree 0 ≡ None = ap (links_of tree) (sym (eqb-true number 0 zero_is)) ∙ no_links in
+        let never : false ≡ true = subst (λ (r : Option Links). IsSome r) none rooted in absurd (cc)
+    by_test false other = refl
+
+  few_links : hard_links tree number ≤ 65535
+  few_links = (plain.sound).few number (ap is_some is)
+
+  module _ (array_reads : ArrayReads) (end : ℕ) (fits_in : end ≤ 2 ^ 31) (image : List ℕ) (place : ℕ) (found : get table number ≡ Some place) (high : 1 ≤ place) (low : place + object_length leaf internal o ≤ end)
+      (there : part place (length (object_bytes leaf internal tree table (number, o))) image ≡ object_bytes leaf internal tree table (number, o)) where
+    here : header ≡ place
+    here = header_is table number place found
+
+    both_there : part header (length (header_part ++ data_part)) image ≡ header_part ++ data_part
+    both_there = (λ i. part (here i) (length (sym array_laid i)) image) ∙ there ∙ array_laid
+
+    header_there : part header (header_size o) image ≡ header_part
+    header_there = ap (λ n. part header n image) (sym length-header_part) ∙ first_part header header_part data_part image both_there
+
+    data_there : part (content_place o header) (length data_part) image ≡ data_part
+    data_there = ap (λ n. part (header + n) (length data_part) image) (sym length-header_part) ∙ second_part header header_part data_part image both_there
+
+    abbrev data_blocks : List Block
+    data_blocks = if is_stored d.storage then block (content_place o header) (length data_part) ∷ [] else []
+
+    array_there : HasObject image table header o (block header (header_size o) ∷ data_blocks) × (reference_count (prefix_at image header) ≡ hard_links tree number)
+    array_there = array_reads image table header (content_place o header) (hard_links tree number) o d own.others e own_content.0 own_content.1
+        (omega (arith, few_links)) (omega (arith, here, high, low, fits_in, array_long)) (omega (arith, here, low, fits_in, array_long)) header_there data_there
+
+    unstored : is_stored d.storage ≡ false → length data_part ≡ 0
+    unstored none = rw none refl
+
+    array_covered : (p : ℕ) → cover p (block header (header_size o) ∷ data_blocks) ≡ holds p header (object_length leaf internal o)
+    array_covered p =
+        ap (λ n. holds p header (header_size o) + n) (cover_stored p (content_place o header) (length data_part) (is_stored d.storage) unstored)
+        ∙ sym (holds_join p header (header_size o) (length data_part)) ∙ sym (ap (holds p header) array_long)
+
+    array_within : Inside (header + object_length leaf internal o) (block header (header_size o) ∷ data_blocks)
+    array_within = (
+      omega (arith, array_long),
+      inside_stored (header + object_length leaf internal o) (content_place o header) (length data_part) (is_stored d.storage) (omega (arith, array_long)),
+    )
+
+    not_first : hard_links tree number ≡ hard_links tree number + (if number == 0 then 1 else 0)
+    not_first = omega arith ∙ ap (λ b. hard_links tree number + cond b 1 0) (sym no_root)
+
+    array_here : Stands image leaf internal tree table header (number, o)
+    array_here = record {
+      blocks = block header (header_size o) ∷ data_blocks;
+      object = array_there.0;
+      counted = record {
+        counted = array_there.1 ∙ not_first;
+        once = λ group. absurd (subst IsGroup e group);
+        limit = few_links;
+      };
+      covered = array_covered;
+      within = array_within;
+    }
+
+    pub array_stands : Stands image leaf internal tree table place (number, o)
+    array_stands = subst (λ (k : ℕ). Stands image leaf internal tree table k (number, o)) here array_here

@@ -1,0 +1,163 @@
+-- How long a group's links are does not depend on the addresses to which they lead.
+use Rattle.std.proofs.Common.{◌≡◌, ℕ, zero, suc, ◌+◌, ◌-◌, ◌*◌, List, [], ◌∷◌, ◌++◌, map, length, length-append, take, drop, refl, sym, ap, ap₂, ◌∙◌, arith, Bool, true, false, cond}
+use Rattle.std.proofs.lemmas.List.{length-map, length-replicate}
+use Rattle.std.specs.Prelude.{nat_le}
+use Rattle.std.specs.List.{flat_map}
+use Rattle.h5_bytes.specs.Numbers.{short, zeros}
+use Rattle.h5_model.specs.Format.Plain.{filled_to, heap_header_bytes, segment_bytes, free_head_of}
+use Rattle.h5_model.specs.Format.PlainLength.{nodes_over, rows_of}
+use Rattle.h5_model.specs.Format.Sizes.{group_node, symbol_node}
+use Rattle.h5_model.specs.Format.Symbols.{symbol_signature}
+use Rattle.h5_btree.specs.Writing.Written.{cut, chunks, tree_bytes}
+use Rattle.h5_btree.specs.declared.write.child.Child.{Child}
+use Rattle.h5_heap.specs.Writing.Links.{Leads, ToGroup, ToArray, ToText, spelled}
+use Rattle.h5_heap.specs.Writing.Written.{link_span, placed, placed_links, entry_bytes, segment_of, heap_bytes}
+use Rattle.h5_group.specs.Writing.Written.{runs_of, symbol_bytes, last_name, children_of, heap_place, symbols_place, links_bytes}
+
+-- a link without its addresses
+abbrev pub bare : List ℕ × Leads → List ℕ × Leads
+bare (name, ToGroup header tree heap) = (name, ToGroup 0 0 0)
+bare (name, ToArray header) = (name, ToArray 0)
+bare (name, ToText text) = (name, ToText text)
+
+-- ---- its texts
+
+spelled_bare : (links : List (List ℕ × Leads)) → spelled (map bare links) ≡ spelled links
+spelled_bare [] = refl
+spelled_bare ((name, ToGroup header tree heap) ∷ links) = ap (λ (texts : List (List ℕ)). name ∷ texts) (spelled_bare links)
+spelled_bare ((name, ToArray header) ∷ links) = ap (λ (texts : List (List ℕ)). name ∷ texts) (spelled_bare links)
+spelled_bare ((name, ToText text) ∷ links) = ap (λ (texts : List (List ℕ)). name ∷ text ∷ texts) (spelled_bare links)
+
+heap_bare : (at : ℕ) (links : List (List ℕ × Leads)) → heap_bytes at (map bare links) ≡ heap_bytes at links
+unfolding heap_bytes
+heap_bare at links =
+    ap (λ (texts : List (List ℕ)). heap_header_bytes (length (segment_bytes texts)) (free_head_of texts) (at + 32) ++ segment_bytes texts) (spelled_bare links)
+
+-- ---- where its name stands
+
+span_bare : (l : List ℕ × Leads) → link_span (bare l) ≡ link_span l
+span_bare (name, ToGroup header tree heap) = refl
+span_bare (name, ToArray header) = refl
+span_bare (name, ToText text) = refl
+
+abbrev placed_bare : ℕ × (List ℕ × Leads) → ℕ × (List ℕ × Leads)
+placed_bare x = (x.0, bare x.1)
+
+placed_map : (at : ℕ) (links : List (List ℕ × Leads)) → placed at (map bare links) ≡ map placed_bare (placed at links)
+placed_map at [] = refl
+placed_map at (l ∷ links) =
+    ap (λ n. (at, bare l) ∷ placed (at + n) (map bare links)) (span_bare l)
+    ∙ ap (λ (rest : List (ℕ × (List ℕ × Leads))). (at, bare l) ∷ rest) (placed_map (at + link_span l) links)
+
+-- ---- runs
+
+take_map : {X Y : Type 0} (f : X → Y) (n : ℕ) (xs : List X) → take n (map f xs) ≡ map f (take n xs)
+take_map f zero xs = refl
+take_map f (suc n) [] = refl
+take_map {Y = Y} f (suc n) (x ∷ xs) = ap (λ (rest : List Y). f x ∷ rest) (take_map f n xs)
+
+drop_map : {X Y : Type 0} (f : X → Y) (n : ℕ) (xs : List X) → drop n (map f xs) ≡ map f (drop n xs)
+drop_map f zero xs = refl
+drop_map f (suc n) [] = refl
+drop_map f (suc n) (x ∷ xs) = drop_map f n xs
+
+map_if : {X Y : Type 0} (f : X → Y) (b : Bool) (xs ys : List X) (rest : List (List X))
+    → cond b (map f xs ∷ []) (map f ys ∷ map (map f) rest) ≡ map (map f) (cond b (xs ∷ []) (ys ∷ rest))
+map_if f true xs ys rest = refl
+map_if f false xs ys rest = refl
+
+cut_map : {X Y : Type 0} (f : X → Y) (n m : ℕ) (xs : List X) → cut n m (map f xs) ≡ map (map f) (cut n m xs)
+cut_map f zero m xs = refl
+cut_map {Y = Y} f (suc n) m xs =
+    (λ i. cond (nat_le (length-map xs f i) m) (map f xs ∷ []) (take_map f m xs i ∷ cut n m (drop_map f m xs i)))
+    ∙ ap (λ (rest : List (List Y)). cond (nat_le (length xs) m) (map f xs ∷ []) (map f (take m xs) ∷ rest)) (cut_map f n m (drop m xs))
+    ∙ map_if f (nat_le (length xs) m) xs (take m xs) (cut n m (drop m xs))
+
+chunks_map : {X Y : Type 0} (f : X → Y) (m : ℕ) (xs : List X) → chunks m (map f xs) ≡ map (map f) (chunks m xs)
+chunks_map f m xs = ap (λ n. cut n m (map f xs)) (length-map xs f) ∙ cut_map f (length xs) m xs
+
+runs_map : (leaf : ℕ) (xs : List (ℕ × (List ℕ × Leads))) → runs_of leaf (map placed_bare xs) ≡ map (map placed_bare) (runs_of leaf xs)
+runs_map leaf [] = refl
+runs_map leaf (x ∷ xs) = chunks_map placed_bare (2 * leaf) (x ∷ xs)
+
+last_bare : (before : ℕ) (run : List (ℕ × (List ℕ × Leads))) → last_name before (map placed_bare run) ≡ last_name before run
+last_bare before [] = refl
+last_bare before (x ∷ run) = last_bare x.0 run
+
+children_bare : (leaf at : ℕ) (runs : List (List (ℕ × (List ℕ × Leads)))) → children_of leaf at (map (map placed_bare) runs) ≡ children_of leaf at runs
+children_bare leaf at [] = refl
+children_bare leaf at (run ∷ runs) =
+    ap₂ (λ (last : ℕ) (rest : List Child). record { at = at; last = last } ∷ rest) (last_bare 0 run) (children_bare leaf (at + symbol_node leaf) runs)
+
+-- ---- symbol nodes
+
+length-entry : (x : ℕ × (List ℕ × Leads)) → length (entry_bytes (placed_bare x)) ≡ length (entry_bytes x)
+length-entry (at, (name, ToGroup header tree heap)) = refl
+length-entry (at, (name, ToArray header)) = refl
+length-entry (at, (name, ToText text)) = refl
+
+length-entries : (run : List (ℕ × (List ℕ × Leads))) → length (flat_map entry_bytes (map placed_bare run)) ≡ length (flat_map entry_bytes run)
+length-entries [] = refl
+length-entries (x ∷ run) =
+    length-append (entry_bytes (placed_bare x)) (flat_map entry_bytes (map placed_bare run))
+    ∙ ap₂ (λ (a b : ℕ). a + b) (length-entry x) (length-entries run) ∙ sym (length-append (entry_bytes x) (flat_map entry_bytes run))
+
+length-filled : (n : ℕ) (a b : List ℕ) → length a ≡ length b → length (filled_to n a) ≡ length (filled_to n b)
+length-filled n a b same =
+    length-append a (zeros (n - length a)) ∙ ap (λ k. length a + k) (length-replicate (n - length a) 0) ∙ ap (λ k. k + (n - k)) same
+    ∙ sym (length-append b (zeros (n - length b)) ∙ ap (λ k. length b + k) (length-replicate (n - length b) 0))
+
+length-head : (k : ℕ) (rest : List ℕ) → length (symbol_signature ++ (1 ∷ 0 ∷ (short k ++ rest))) ≡ 8 + length rest
+length-head k rest = omega arith
+
+length-symbol : (leaf : ℕ) (run : List (ℕ × (List ℕ × Leads))) → length (symbol_bytes leaf (map placed_bare run)) ≡ length (symbol_bytes leaf run)
+length-symbol leaf run = length-filled (symbol_node leaf)
+    (symbol_signature ++ (1 ∷ 0 ∷ (short (length (map placed_bare run)) ++ flat_map entry_bytes (map placed_bare run))))
+    (symbol_signature ++ (1 ∷ 0 ∷ (short (length run) ++ flat_map entry_bytes run)))
+    (length-head (length (map placed_bare run)) (flat_map entry_bytes (map placed_bare run)) ∙ ap (λ n. 8 + n) (length-entries run)
+    ∙ sym (length-head (length run) (flat_map entry_bytes run)))
+
+length-symbols : (leaf : ℕ) (runs : List (List (ℕ × (List ℕ × Leads)))) → length (flat_map (symbol_bytes leaf) (map (map placed_bare) runs)) ≡ length (flat_map (symbol_bytes leaf) runs)
+length-symbols leaf [] = refl
+length-symbols leaf (run ∷ runs) =
+    length-append (symbol_bytes leaf (map placed_bare run)) (flat_map (symbol_bytes leaf) (map (map placed_bare) runs))
+    ∙ ap₂ (λ (a b : ℕ). a + b) (length-symbol leaf run) (length-symbols leaf runs) ∙ sym (length-append (symbol_bytes leaf run) (flat_map (symbol_bytes leaf) runs))
+
+-- ---- the whole
+
+module _ (leaf internal at : ℕ) (links : List (List ℕ × Leads)) where
+  runs_bare : runs_of leaf (placed_links (map bare links)) ≡ map (map placed_bare) (runs_of leaf (placed_links links))
+  runs_bare = ap (runs_of leaf) (placed_map 8 links) ∙ runs_map leaf (placed_links links)
+
+  heap_place_bare : heap_place leaf internal at (map bare links) ≡ heap_place leaf internal at links
+  heap_place_bare = ap (λ n. at + nodes_over 64 (2 * internal) (rows_of (2 * leaf) n) * group_node internal) (length-map links bare)
+
+  segment_bare : segment_of (map bare links) ≡ segment_of links
+  segment_bare = ap segment_bytes (spelled_bare links)
+
+  symbols_place_bare : symbols_place leaf internal at (map bare links) ≡ symbols_place leaf internal at links
+  symbols_place_bare = ap₂ (λ (heap n : ℕ). heap + 32 + n) heap_place_bare (ap length segment_bare)
+
+  tree_bare : tree_bytes internal at (children_of leaf (symbols_place leaf internal at (map bare links)) (runs_of leaf (placed_links (map bare links))))
+      ≡ tree_bytes internal at (children_of leaf (symbols_place leaf internal at links) (runs_of leaf (placed_links links)))
+  tree_bare = ap (tree_bytes internal at)
+      (ap₂ (λ (place : ℕ) (runs : List (List (ℕ × (List ℕ × Leads)))). children_of leaf place runs) symbols_place_bare runs_bare
+      ∙ children_bare leaf (symbols_place leaf internal at links) (runs_of leaf (placed_links links)))
+
+  heap_there : heap_bytes (heap_place leaf internal at (map bare links)) (map bare links) ≡ heap_bytes (heap_place leaf internal at links) links
+  heap_there = ap (λ place. heap_bytes place (map bare links)) heap_place_bare ∙ heap_bare (heap_place leaf internal at links) links
+
+  symbols_bare : length (flat_map (symbol_bytes leaf) (runs_of leaf (placed_links (map bare links)))) ≡ length (flat_map (symbol_bytes leaf) (runs_of leaf (placed_links links)))
+  symbols_bare = ap (λ (runs : List (List (ℕ × (List ℕ × Leads)))). length (flat_map (symbol_bytes leaf) runs)) runs_bare ∙ length-symbols leaf (runs_of leaf (placed_links links))
+
+  length-three : (a b c : List ℕ) → length (a ++ (b ++ c)) ≡ length a + (length b + length c)
+  length-three a b c = length-append a (b ++ c) ∙ ap (λ n. length a + n) (length-append b c)
+
+  pub length-bare : length (links_bytes leaf internal at (map bare links)) ≡ length (links_bytes leaf internal at links)
+  unfolding links_bytes
+  length-bare =
+      length-three (tree_bytes internal at (children_of leaf (symbols_place leaf internal at (map bare links)) (runs_of leaf (placed_links (map bare links)))))
+      (heap_bytes (heap_place leaf internal at (map bare links)) (map bare links)) (flat_map (symbol_bytes leaf) (runs_of leaf (placed_links (map bare links))))
+      ∙ ap₂ (λ (a b : ℕ). a + b) (ap length tree_bare) (ap₂ (λ (b c : ℕ). b + c) (ap length heap_there) symbols_bare)
+      ∙ sym (length-three (tree_bytes internal at (children_of leaf (symbols_place leaf internal at links) (runs_of leaf (placed_links links))))
+      (heap_bytes (heap_place leaf internal at links) links) (flat_map (symbol_bytes leaf) (runs_of leaf (placed_links links))))

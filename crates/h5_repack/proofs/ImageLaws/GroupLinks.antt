@@ -1,0 +1,265 @@
+-- The links of a group as they are written are plain links: their names ascend, and they lead where the tree says.
+use Rattle.std.proofs.Common.{◌≡◌, ℕ, ◌+◌, ◌*◌, ◌^◌, ◌≤◌, ◌<◌, ◌==◌, ◌||◌, List, [], ◌∷◌, map, length, refl, sym, ap, ◌∙◌, subst, arith, inl, inr, Bool, true, false, Option, Some, None}
+use Rattle.std.proofs.lemmas.List.{length-map}
+use Rattle.std.proofs.lemmas.Simd.{map-map}
+use Rattle.std.specs.Prelude.{T, is_some, not, ◌&&◌, slice_index}
+use Rattle.std.specs.Ordering.{nat_cmp, is_lt}
+use Rattle.std.specs.Cmp.Lexicographic.{slice_cmp, nat_list_cmp_total}
+use Rattle.std.specs.FinMap.{FinMap, get, entries, len, len-entries, is_sorted, entries_sorted}
+use Rattle.std.specs.FinMap.Entries.{below_all}
+use Rattle.std.specs.List.{AllByRecursion, AllZip, list_any}
+use Rattle.std.specs.Option.{option_map_or, option_and_then}
+use Rattle.h5_model.specs.Format.Links.{Before, Ascend}
+use Rattle.h5_model.specs.Tree.Paths.{is_name}
+use Rattle.h5_model.specs.Format.PlainLength.{content_bytes, group_bytes, nodes_over, rows_of, segment_size}
+use Rattle.h5_model.specs.Format.Reads.{IsSame}
+use Rattle.h5_model.specs.Edits.Refusal.{has_zero}
+use Rattle.h5_model.specs.Format.Sizes.{group_node, symbol_node, header_size}
+use Rattle.h5_model.specs.Format.Symbols.{Target, Header}
+use Rattle.h5_model.specs.Tree.Objects.{Tree, Object, Content, Group, Array, Link, Links, ToObject, Soft, link_in, links_in}
+use Rattle.h5_model.proofs.ReachLaws.{halves}
+use Rattle.h5_laws.proofs.Lists.{In}
+use Rattle.h5_laws.proofs.Maps.{true_of, value_of, get_of_entry}
+use Rattle.h5_btree.specs.Writing.Written.{root_level}
+use Rattle.h5_heap.specs.Writing.Laws.{IsLead, IsSpelled}
+use Rattle.h5_heap.specs.Writing.Links.{Leads, ToGroup, ToArray, ToText, target_of, target_link}
+use Rattle.h5_model.specs.Format.Superblock.{AreK}
+use Rattle.h5_laws.specs.Trees.Sound.{IsSoundTree}
+use Rattle.h5_group.specs.Writing.Laws.{ArePlainLinks, IsWritten, LinksLength, GroupLength}
+use Rattle.h5_group.specs.Writing.Written.{links_bytes}
+use Rattle.h5_repack.specs.Image.Written.{object_length, header_in, leads_to, content_place, heap_place, written_link, written_links}
+use Rattle.h5_repack.proofs.ImageLaws.BareLinks.{bare, length-bare}
+
+-- ---- lists
+
+all_made : {X Y : Type 0} (P : Y → Type 0) (f : X → Y) (xs : List X) → ((x : X) → In x xs → P (f x)) → AllByRecursion P (map f xs)
+all_made P f [] each = tt
+all_made P f (x ∷ xs) each = (each x (inl refl), all_made P f xs (λ y at. each y (inr at)))
+
+zip_made : {X Y : Type 0} (R : X → Y → Type 0) (f : X → Y) (xs : List X) → ((x : X) → In x xs → R x (f x)) → AllZip R xs (map f xs)
+zip_made R f [] each = tt
+zip_made R f (x ∷ xs) each = (each x (inl refl), zip_made R f xs (λ y at. each y (inr at)))
+
+-- ---- names
+
+-- a name has no zero byte
+neither : (a b c : Bool) → ((a || b) || c) ≡ false → (a ≡ false) × (c ≡ false)
+neither true b c h = absurd (cc)
+neither false true c h = absurd (cc)
+neither false false c h = (refl, h)
+
+no_zero_in : (name : List ℕ) → list_any (λ c. c == 0 || c == 47) name ≡ false → has_zero name ≡ false
+no_zero_in [] h = refl
+no_zero_in (c ∷ name) h = let parts = neither (c == 0) (c == 47) (list_any (λ d. d == 0 || d == 47) name) h in rw (parts.0) (no_zero_in name parts.1)
+
+third_false : (a b c : Bool) → (a && b && not c) ≡ true → c ≡ false
+third_false true true false h = refl
+third_false true true true h = absurd (cc)
+third_false true false c h = absurd (cc)
+third_false false b c h = absurd (cc)
+
+pub no_zero : (name : List ℕ) → is_name name ≡ true → has_zero name ≡ false
+no_zero name h = no_zero_in name (third_false (not (length name == 0)) (not (length name == 1 && slice_index name 0 == 46)) (list_any (λ c. c == 0 || c == 47) name) h)
+
+-- names in order ascend, whatever stands beside them
+ascend_made : (f : List ℕ × Link → List ℕ × Target) → ((e : List ℕ × Link) → (f e).0 ≡ e.0) → (es : List (List ℕ × Link)) → T (is_sorted (slice_cmp nat_cmp) es) → Ascend (map f es)
+ascend_made f same [] h = tt
+ascend_made f same (a ∷ []) h = tt
+ascend_made f same (a ∷ b ∷ es) h =
+    let parts : T (below_all (slice_cmp nat_cmp) a.0 (b ∷ es)) × T (is_sorted (slice_cmp nat_cmp) (b ∷ es)) = halves _ _ h in
+    let first : T (is_lt (slice_cmp nat_cmp a.0 b.0)) = (halves (is_lt (slice_cmp nat_cmp a.0 b.0)) (below_all (slice_cmp nat_cmp) a.0 es) parts.0).0 in
+    let before : Before a.0 b.0 = true_of (is_lt (slice_cmp nat_cmp a.0 b.0)) first in
+    ((λ i. is_lt (slice_cmp nat_cmp (same a i) (same b i))) ∙ before, ascend_made f same (b ∷ es) parts.1)
+
+-- ---- where links lead
+
+leads_group : (leaf internal : ℕ) (o : Object) (links : Links) (h : ℕ) → o.content ≡ Group links
+    → leads_to leaf internal o h ≡ ToGroup h (content_place o h) (heap_place leaf internal o links h)
+leads_group leaf internal o links h e = rw e refl
+
+leads_array : (leaf internal : ℕ) (o : Object) (h : ℕ) (c : Content) → o.content ≡ c → (links_in c ≡ None) → leads_to leaf internal o h ≡ ToArray h
+leads_array leaf internal o h (Group links) e none = absurd (cc)
+leads_array leaf internal o h (Array d) e none = rw e refl
+
+-- the heap of a group ends with it
+heap_within : (n s x h hs all : ℕ) → all ≡ n + 32 + s + x → h + (hs + all) ≤ 2 ^ 31 → h + hs + n < 2 ^ 32
+heap_within n s x h hs all is low = omega arith
+
+-- a link to an object that ends low leads there
+lead_to : (leaf internal : ℕ) (o : Object) (h : ℕ) (c : Content) → o.content ≡ c → h + object_length leaf internal o ≤ 2 ^ 31
+    → IsLead (leads_to leaf internal o h) × (target_of (leads_to leaf internal o h) ≡ Header h)
+lead_to leaf internal o h (Group links) e low =
+    let leads = leads_group leaf internal o links h e in
+    let heap_low : heap_place leaf internal o links h < 2 ^ 32
+    = heap_within (nodes_over 64 (2 * internal) (rows_of (2 * leaf) (len links)) * group_node internal) (segment_size links)
+    (rows_of (2 * leaf) (len links) * symbol_node leaf) h (header_size o) (content_bytes leaf internal 0 0 o.content)
+    (ap (content_bytes leaf internal 0 0) e) low in (
+      subst IsLead (sym leads) (omega (arith, low), omega (arith, low), heap_low),
+      ap target_of leads,
+    )
+lead_to leaf internal o h (Array d) e low =
+    let leads = leads_array leaf internal o h (Array d) e refl in
+    (subst IsLead (sym leads) (omega (arith, low)), ap target_of leads)
+
+-- ---- the links of a tree's group
+
+-- the objects of the tree stand where the table says, below this end
+abbrev pub ArePlaced : ℕ → ℕ → Tree → FinMap nat_cmp ℕ → ℕ → Type 0
+ArePlaced leaf internal tree table end = (n : ℕ) (o : Object) → get tree n ≡ Some o
+    → (place : ℕ) × (get table n ≡ Some place) × (place + object_length leaf internal o ≤ end)
+
+pub header_is : (table : FinMap nat_cmp ℕ) (n place : ℕ) → get table n ≡ Some place → header_in table n ≡ place
+header_is table n place e = ap (λ (r : Option ℕ). option_map_or (λ h. h) r 0) e
+
+-- a link to an object leads to no text
+no_text : (leaf internal : ℕ) (r : Option Object) (h : ℕ) (text : List ℕ) → option_map_or (λ (x : Object). leads_to leaf internal x h) r (ToArray 0) ≡ ToText text → ⊥
+no_text leaf internal None h text e = absurd (cc)
+no_text leaf internal (Some o) h text e = by_content o.content refl where
+  by_content : (c : Content) → o.content ≡ c → ⊥
+  by_content (Group links) is = let lead = leads_group leaf internal o links h is in absurd (cc)
+  by_content (Array d) is = let lead = leads_array leaf internal o h (Array d) is refl in absurd (cc)
+
+module _ (leaf internal : ℕ) (tree : Tree) (table : FinMap nat_cmp ℕ) (sound : IsSoundTree tree) where
+  abbrev as_written : List ℕ × Link → List ℕ × Leads
+  as_written e = written_link leaf internal tree table e
+
+  same_name : (e : List ℕ × Link) → (target_link (as_written e)).0 ≡ e.0
+  same_name (name, ToObject n) = refl
+  same_name (name, Soft text) = refl
+
+  module _ (number : ℕ) (o : Object) (links : Links) (is : get tree number ≡ Some o) (group : o.content ≡ Group links) where
+    -- a link of the group is one of the tree
+    link_is : (e : List ℕ × Link) → In e (entries links) → link_in tree number e.0 ≡ Some e.1
+    link_is e at =
+        ap (λ (r : Option Object). option_and_then (λ (l : Links). get l e.0) (option_and_then (λ (x : Object). links_in x.content) r)) is
+        ∙ ap (λ (c : Content). option_and_then (λ (l : Links). get l e.0) (links_in c)) group
+        ∙ get_of_entry nat_list_cmp_total links e.0 e.1 at
+
+    named : (e : List ℕ × Link) → In e (entries links) → is_name e.0 ≡ true
+    named e at = sound.named number e.0 (ap is_some (link_is e at))
+
+    found : (name : List ℕ) (n : ℕ) → In (name, ToObject n) (entries links) → (x : Object) × (get tree n ≡ Some x)
+    found name n at = value_of (get tree n) (sound.linked number n name (link_is (name, ToObject n) at))
+
+    no_zero_text : (name text : List ℕ) → In (name, Soft text) (entries links) → has_zero text ≡ false
+    no_zero_text name text at = sound.spelled number name text (link_is (name, Soft text) at)
+
+    abbrev written : List (List ℕ × Leads)
+    written = written_links leaf internal tree table links
+
+    pub length-written : length written ≡ len links
+    length-written = length-map (entries links) as_written ∙ sym (len-entries links)
+
+    -- ---- how they are spelled
+
+    each_named : (e : List ℕ × Link) → In e (entries links) → is_name (as_written e).0 ≡ true
+    each_named (name, ToObject n) at = named (name, ToObject n) at
+    each_named (name, Soft text) at = named (name, Soft text) at
+
+    each_written : (e : List ℕ × Link) → In e (entries links) → IsWritten e (as_written e)
+    each_written (name, ToObject n) at = by_lead (option_map_or (λ (x : Object). leads_to leaf internal x (header_in table n)) (get tree n) (ToArray 0)) (no_text leaf internal (get tree n) (header_in table n)) where
+      by_lead : (l : Leads) → ((t : List ℕ) → l ≡ ToText t → ⊥) → IsWritten (name, ToObject n) (name, l)
+      by_lead (ToGroup h t p) never = refl
+      by_lead (ToArray h) never = refl
+      by_lead (ToText t) never = absurd (never t refl)
+    each_written (name, Soft text) at = (refl, refl)
+
+    pub all_written : AllZip IsWritten (entries links) written
+    all_written = zip_made IsWritten as_written (entries links) each_written
+
+    -- ---- without addresses
+
+    bare_name : (l : List ℕ × Leads) → (bare l).0 ≡ l.0
+    bare_name (name, ToGroup h t p) = refl
+    bare_name (name, ToArray h) = refl
+    bare_name (name, ToText text) = refl
+
+    bare_same_name : (e : List ℕ × Link) → (target_link (bare (as_written e))).0 ≡ e.0
+    bare_same_name e = bare_name (as_written e) ∙ same_name e
+
+    bare_named : (e : List ℕ × Link) → In e (entries links) → is_name (bare (as_written e)).0 ≡ true
+    bare_named e at = ap is_name (bare_name (as_written e)) ∙ each_named e at
+
+    bare_spelled : (e : List ℕ × Link) → In e (entries links) → IsSpelled (bare (as_written e))
+    bare_spelled (name, ToObject n) at = by_lead (option_map_or (λ (x : Object). leads_to leaf internal x (header_in table n)) (get tree n) (ToArray 0)) (no_text leaf internal (get tree n) (header_in table n)) where
+      by_lead : (l : Leads) → ((t : List ℕ) → l ≡ ToText t → ⊥) → IsSpelled (bare (name, l))
+      by_lead (ToGroup h t p) never = (no_zero name (named (name, ToObject n) at), (omega arith, omega arith, omega arith))
+      by_lead (ToArray h) never = (no_zero name (named (name, ToObject n) at), omega arith)
+      by_lead (ToText t) never = absurd (never t refl)
+    bare_spelled (name, Soft text) at = (no_zero name (named (name, Soft text) at), no_zero_text name text at)
+
+    bare_written : (e : List ℕ × Link) → IsWritten e (as_written e) → IsWritten e (bare (as_written e))
+    bare_written (name, ToObject n) is_written = by_lead (option_map_or (λ (x : Object). leads_to leaf internal x (header_in table n)) (get tree n) (ToArray 0)) is_written where
+      by_lead : (l : Leads) → IsWritten (name, ToObject n) (name, l) → IsWritten (name, ToObject n) (bare (name, l))
+      by_lead (ToGroup h t p) e = e
+      by_lead (ToArray h) e = e
+      by_lead (ToText t) e = absurd e
+    bare_written (name, Soft text) is_written = is_written
+
+    abbrev bare_links : List (List ℕ × Leads)
+    bare_links = map (λ (e : List ℕ × Link). bare (as_written e)) (entries links)
+
+    plain_bare_links : AreK leaf internal → root_level internal (rows_of (2 * leaf) (len links)) ≤ 15 → ArePlainLinks leaf internal bare_links
+    plain_bare_links k low = record {
+      k = k;
+      ascending = subst Ascend (sym (map-map target_link (λ (e : List ℕ × Link). bare (as_written e)) (entries links)))
+          (ascend_made (λ (e : List ℕ × Link). target_link (bare (as_written e))) bare_same_name (entries links) (entries_sorted links));
+      named = all_made (λ (l : List ℕ × Leads). is_name l.0 ≡ true) (λ (e : List ℕ × Link). bare (as_written e)) (entries links) bare_named;
+      spelled = all_made IsSpelled (λ (e : List ℕ × Link). bare (as_written e)) (entries links) bare_spelled;
+      low = subst (λ (n : ℕ). root_level internal (rows_of (2 * leaf) n) ≤ 15) (sym (length-map (entries links) (λ (e : List ℕ × Link). bare (as_written e)) ∙ sym (len-entries links))) low;
+    }
+
+    -- so they are as long as the group's links, wherever they lead
+    pub length-links : LinksLength → GroupLength → (at : ℕ) → AreK leaf internal → root_level internal (rows_of (2 * leaf) (len links)) ≤ 15
+        → length (links_bytes leaf internal at written) ≡ group_bytes leaf internal links
+    length-links links_length_is group_length at k low =
+        sym (length-bare leaf internal at written)
+        ∙ ap (λ (ls : List (List ℕ × Leads)). length (links_bytes leaf internal at ls)) (map-map bare as_written (entries links))
+        ∙ links_length_is leaf internal at bare_links (plain_bare_links k low)
+        ∙ group_length leaf internal links bare_links (zip_made IsWritten (λ (e : List ℕ × Link). bare (as_written e)) (entries links) (λ e there. bare_written e (each_written e there)))
+
+  -- ---- where they lead
+
+  module _ (end : ℕ) (placed : ArePlaced leaf internal tree table end) (fits_in : end ≤ 2 ^ 31) where
+    -- where a link to an object leads
+    object_lead : (n : ℕ) (o : Object) → get tree n ≡ Some o
+        → IsLead (option_map_or (λ (x : Object). leads_to leaf internal x (header_in table n)) (get tree n) (ToArray 0))
+        × (target_of (option_map_or (λ (x : Object). leads_to leaf internal x (header_in table n)) (get tree n) (ToArray 0)) ≡ Header (header_in table n))
+        × (get table n ≡ Some (header_in table n))
+    object_lead n o is =
+        let at = placed n o is in
+        let here = header_is table n at.0 at.1 in
+        let lead : IsLead (leads_to leaf internal o (header_in table n)) × (target_of (leads_to leaf internal o (header_in table n)) ≡ Header (header_in table n))
+        = lead_to leaf internal o (header_in table n) o.content refl (omega (arith, here, at.2)) in
+        let chosen : option_map_or (λ (x : Object). leads_to leaf internal x (header_in table n)) (get tree n) (ToArray 0) ≡ leads_to leaf internal o (header_in table n)
+        = ap (λ (r : Option Object). option_map_or (λ (x : Object). leads_to leaf internal x (header_in table n)) r (ToArray 0)) is in
+        (subst IsLead (sym chosen) lead.0, ap target_of chosen ∙ lead.1, at.1 ∙ ap (λ (h : ℕ). Some h) (sym here))
+
+    module _ (number : ℕ) (o : Object) (links : Links) (is : get tree number ≡ Some o) (group : o.content ≡ Group links) where
+      each_spelled : (e : List ℕ × Link) → In e (entries links) → IsSpelled (as_written e)
+      each_spelled (name, ToObject n) at =
+          let x = found number o links is group name n at in
+          (no_zero name (named number o links is group (name, ToObject n) at), (object_lead n x.0 x.1).0)
+      each_spelled (name, Soft text) at =
+          (no_zero name (named number o links is group (name, Soft text) at), no_zero_text number o links is group name text at)
+
+      -- each leads where the tree says
+      each_same : (e : List ℕ × Link) → In e (entries links) → IsSame table e (target_link (as_written e))
+      each_same (name, ToObject n) at =
+          let x = found number o links is group name n at in
+          let lead = object_lead n x.0 x.1 in
+          subst (λ (t : Target). IsSame table (name, ToObject n) (name, t)) (sym lead.1) (refl, lead.2)
+      each_same (name, Soft text) at = (refl, refl)
+
+      pub plain_links : AreK leaf internal → root_level internal (rows_of (2 * leaf) (len links)) ≤ 15 → ArePlainLinks leaf internal (written_links leaf internal tree table links)
+      plain_links k low = record {
+        k = k;
+        ascending = subst Ascend (sym (map-map target_link as_written (entries links))) (ascend_made (λ (e : List ℕ × Link). target_link (as_written e)) same_name (entries links) (entries_sorted links));
+        named = all_made (λ (l : List ℕ × Leads). is_name l.0 ≡ true) as_written (entries links) (each_named number o links is group);
+        spelled = all_made IsSpelled as_written (entries links) each_spelled;
+        low = subst (λ (n : ℕ). root_level internal (rows_of (2 * leaf) n) ≤ 15) (sym (length-written number o links is group)) low;
+      }
+
+      pub same_links : AllZip (IsSame table) (entries links) (map target_link (written_links leaf internal tree table links))
+      same_links = subst (AllZip (IsSame table) (entries links)) (sym (map-map target_link as_written (entries links)))
+          (zip_made (IsSame table) (λ (e : List ℕ × Link). target_link (as_written e)) (entries links) each_same)

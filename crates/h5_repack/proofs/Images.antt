@@ -1,0 +1,202 @@
+-- What is appended of all objects is the plain image of their tree.
+use Rattle.std.proofs.Common.{◌≡◌, ℕ, zero, suc, ◌+◌, ◌*◌, ◌<◌, ◌≤◌, inl, inr, List, [], ◌∷◌, ◌++◌, map, refl, sym, ap, ◌∙◌, subst, arith, length, Option, Some, None}
+use Rattle.std.proofs.lemmas.Slice.Zip.{AllZip-long}
+use Rattle.std.proofs.lemmas.List.{length-map}
+use Rattle.std.proofs.lemmas.Option.{slice_get_past, slice_get_cases, get_or_from_slice_get, same_Some}
+use Rattle.std.specs.Borrow.{Bor}
+use Rattle.std.specs.Ordering.{nat_cmp}
+use Rattle.std.specs.Prelude.{slice_get, slice_index}
+use Rattle.std.specs.FinMap.{FinMap, get, entries, len, len-entries}
+use Rattle.std.specs.List.{AllZip, flat_map}
+use Rattle.std.specs.Option.{option_map_or, option_and_then}
+use Rattle.h5_model.specs.Format.Plain.{header_bytes, symbol_table_body, superblock_bytes}
+use Rattle.h5_model.specs.Format.PlainLength.{nodes_over, rows_of}
+use Rattle.h5_model.specs.Format.Sizes.{group_node}
+use Rattle.h5_model.specs.Tree.Objects.{Tree, Object, Content, Group, Array, Link, Links, ToObject, Soft, hard_links, links_in}
+use Rattle.h5_btree.specs.Writing.Written.{root_level}
+use Rattle.h5_repack.specs.Bodies.Bodies.{others_of, array_messages}
+use Rattle.h5_repack.specs.Bodies.Headers.{data_of}
+use Rattle.h5_heap.specs.Writing.Links.{Leads, ToGroup, ToArray}
+use Rattle.h5_group.specs.Writing.Places.{ArePlaces}
+use Rattle.h5_group.specs.Writing.Written.{links_bytes}
+use Rattle.h5_group.specs.declared.write.places.GroupPlaces.{GroupPlaces}
+use Rattle.h5_repack.specs.Image.Plain.{AreLow, IsLow}
+use Rattle.h5_repack.specs.Image.Written.{content_place, data_address, header_in, heap_place, image_end, leads_to, object_bytes, plain_image, root_heap, superblock_of, table_of, written_link, written_links}
+use Rattle.h5_repack.specs.Objects.Order.{AreMet}
+use Rattle.h5_repack.specs.declared.objects.object.NewObject.{NewObject}
+use Rattle.h5_laws.proofs.Lists.{In}
+use Rattle.h5_repack.specs.declared.size.Extent.{Extent}
+use Rattle.h5_repack.specs.declared.size.Extent.TheVariants as extent
+use Rattle.h5_repack.specs.declared.size.Size.{Size}
+use Rattle.h5_repack.specs.declared.place.Placed.{Placed}
+use Rattle.h5_repack.specs.declared.group.Layout.{Layout}
+use Rattle.h5_repack.specs.Layout.{AreHeaders, IsExtent, IsSize, content_at, front_at, heap_behind, leads_at, leads_behind, leads_by, numbered_at, object_at, written_at}
+use Rattle.h5_repack.specs.Written.{IsHeld}
+use Rattle.h5_repack.proofs.Leads.{all_written}
+use Rattle.h5_repack.proofs.Orders.{below, end_is, headers_are, listed, numbered, numbers, object, pairs, size_of, some_objects, there_is}
+use Rattle.h5_repack.proofs.Pushed.{number_at}
+use Rattle.h5_repack.proofs.ObjectLaws.Zips.{zip_right}
+
+-- ---- lists
+
+map_same : {X Y : Type 0} (f g : X → Y) (xs : List X) → ((x : X) → f x ≡ g x) → map f xs ≡ map g xs
+map_same f g [] same = refl
+map_same {Y = Y} f g (x ∷ xs) same = (λ i. same x i ∷ map_same f g xs same i)
+
+flat_same : (f : ℕ → List ℕ) (bytes : ℕ × Object → List ℕ) (g : ℕ → Object) (ns : List ℕ) → ((n : ℕ) → In n ns → f n ≡ bytes (n, g n))
+    → flat_map f ns ≡ flat_map bytes (map (numbered g) ns)
+flat_same f bytes g [] same = refl
+flat_same f bytes g (n ∷ ns) same = (λ i. same n (inl refl) i ++ flat_same f bytes g ns (λ m there. same m (inr there)) i)
+
+index_read : (xs : List ℕ) (n : ℕ) → slice_index xs n ≡ option_map_or (λ (h : ℕ). h) (slice_get xs n) 0
+index_read [] n = refl
+index_read (x ∷ xs) zero = refl
+index_read (x ∷ xs) (suc n) = index_read xs n
+
+-- ---- a group's places, from its size
+
+module _ (leaf internal : ℕ) (g : Links) (p : GroupPlaces) (is : IsExtent leaf internal (Group g) (extent.Links p)) (l : Layout) where
+  count_is : length (map (written_at l) (entries g)) ≡ len g
+  count_is = length-map (entries g) (written_at l) ∙ sym (len-entries g)
+
+  own_places : ArePlaces leaf internal (map (written_at l) (entries g)) p
+  own_places = is (map (written_at l) (entries g)) (all_written l (entries g))
+
+  pub own_tree : p.tree ≡ nodes_over 64 (2 * internal) (rows_of (2 * leaf) (len g)) * group_node internal
+  own_tree = (own_places).tree ∙ ap (λ n. nodes_over 64 (2 * internal) (rows_of (2 * leaf) n) * group_node internal) count_is
+
+  pub own_low : IsLow leaf internal g
+  own_low = subst (λ n. root_level internal (rows_of (2 * leaf) n) ≤ 15) count_is (own_places).low
+
+module _ (leaf internal : ℕ) (l : Layout) (o : Object) (s : Size) (size : IsSize leaf internal o s) where
+  -- behind the superblock, as its entry for the root says
+  heap_is : (c : Content) (x : Extent) → o.content ≡ c → s.extent ≡ x → IsExtent leaf internal c x → heap_behind (96 + s.header) s.extent ≡ root_heap leaf internal o
+  heap_is (Group g) (extent.Links p) e f is =
+      let place : 96 + s.header ≡ content_place o 96 = ap (λ k. 96 + k) size.header in
+      let there : root_heap leaf internal o ≡ heap_place leaf internal o g 96 = rw e refl in
+      ap (heap_behind (96 + s.header)) f ∙ (λ i. place i + own_tree leaf internal g p is l i) ∙ sym there
+  heap_is (Group g) (extent.Data n) e f is = absurd is
+  heap_is (Array d) (extent.Links p) e f is = absurd is
+  heap_is (Array d) (extent.Data n) e f is =
+      let none : root_heap leaf internal o ≡ 0 = rw e refl in
+      ap (heap_behind (96 + s.header)) f ∙ sym none
+
+  leads_same_by : (h : ℕ) (c : Content) (x : Extent) → o.content ≡ c → s.extent ≡ x → IsExtent leaf internal c x → leads_at h s ≡ leads_to leaf internal o h
+  leads_same_by h (Group g) (extent.Links p) e f is =
+      let place : h + s.header ≡ content_place o h = ap (λ k. h + k) size.header in
+      let there : leads_to leaf internal o h ≡ ToGroup h (content_place o h) (heap_place leaf internal o g h) = rw e refl in
+      ap (leads_behind h (h + s.header)) f ∙ (λ i. ToGroup h (place i) (place i + own_tree leaf internal g p is l i)) ∙ sym there
+  leads_same_by h (Group g) (extent.Data n) e f is = absurd is
+  leads_same_by h (Array d) (extent.Links p) e f is = absurd is
+  leads_same_by h (Array d) (extent.Data n) e f is =
+      let there : leads_to leaf internal o h ≡ ToArray h = rw e refl in
+      ap (leads_behind h (h + s.header)) f ∙ sym there
+
+  pub leads_same : (h : ℕ) → leads_at h s ≡ leads_to leaf internal o h
+  leads_same h = leads_same_by h o.content s.extent refl refl size.extent_is
+
+  pub root_same : heap_behind (96 + s.header) s.extent ≡ root_heap leaf internal o
+  root_same = heap_is o.content s.extent refl refl size.extent_is
+
+low_by : (leaf internal : ℕ) (l : Layout) (links : Links) (c : Content) (x : Extent) → links_in c ≡ Some links → IsExtent leaf internal c x → IsLow leaf internal links
+low_by leaf internal l links (Group g) (extent.Links p) e is = subst (IsLow leaf internal) (same_Some g links e) (own_low leaf internal g p is l)
+low_by leaf internal l links (Group g) (extent.Data n) e is = absurd is
+low_by leaf internal l links (Array d) x e is = absurd (cc)
+
+-- ---- the image
+
+module _ (leaf internal : ℕ) (objects : List NewObject) (tree : Tree) (held : IsHeld objects tree) (order : List ℕ) (met : AreMet tree (length objects) order)
+    (sizes : List Size) (sized : AllZip (IsSize leaf internal) (listed objects tree held) sizes) (p : Placed) (are : AreHeaders sizes order p)
+    (headers_now : Bor (List ℕ)) (sizes_now : Bor (List Size)) (headers_here : headers_now.now ≡ p.headers.items) (sizes_here : sizes_now.now ≡ sizes) where
+  abbrev layout : Layout
+  layout = record { leaf = leaf; internal = internal; headers = headers_now; sizes = sizes_now }
+
+  abbrev order_of : List (ℕ × Object)
+  order_of = pairs objects tree held order met
+
+  abbrev table : FinMap nat_cmp ℕ
+  table = table_of leaf internal order_of
+
+  header_here : (n : ℕ) → slice_index headers_now.now n ≡ header_in table n
+  header_here n =
+      index_read headers_now.now n
+      ∙ ap (λ (r : Option ℕ). option_map_or (λ (h : ℕ). h) r 0)
+      (ap (λ (hs : List ℕ). slice_get hs n) headers_here ∙ headers_are objects tree held order met leaf internal sizes sized p are n)
+
+  lead_here : (n : ℕ) → leads_by layout n ≡ option_map_or (λ (o : Object). leads_to leaf internal o (header_in table n)) (get tree n) (ToArray 0)
+  lead_here n = elim (slice_get_cases (listed objects tree held) n).1 [
+    | inl there ↦
+        let s = zip_right (IsSize leaf internal) (listed objects tree held) sizes n there.0 sized there.2 in
+        let found : slice_get sizes_now.now n ≡ Some s.0 = ap (λ (ss : List Size). slice_get ss n) sizes_here ∙ s.1 in
+        ap (λ (r : Option Size). option_map_or (leads_at (slice_index headers_now.now n)) r (ToArray 0)) found
+        ∙ ap (λ h. leads_at h s.0) (header_here n) ∙ leads_same leaf internal layout there.0 s.0 s.2 (header_in table n)
+        ∙ sym (ap (λ (r : Option Object). option_map_or (λ (o : Object). leads_to leaf internal o (header_in table n)) r (ToArray 0)) (numbers objects tree held n ∙ there.2))
+    | inr past ↦
+        let none : slice_get sizes_now.now n ≡ None
+        = ap (λ (ss : List Size). slice_get ss n) sizes_here
+        ∙ slice_get_past sizes n (omega (arith, past.0, AllZip-long (IsSize leaf internal) (listed objects tree held) sizes sized)) in
+        ap (λ (r : Option Size). option_map_or (leads_at (slice_index headers_now.now n)) r (ToArray 0)) none
+        ∙ sym (ap (λ (r : Option Object). option_map_or (λ (o : Object). leads_to leaf internal o (header_in table n)) r (ToArray 0)) (numbers objects tree held n ∙ past.1))
+  ]
+
+  link_here : (e : List ℕ × Link) → written_at layout e ≡ written_link leaf internal tree table e
+  link_here (name, ToObject n) = ap (λ (x : Leads). (name, x)) (lead_here n)
+  link_here (name, Soft text) = refl
+
+  object_here : (n : ℕ) (o : Object) (h count : ℕ) → h ≡ header_in table n → count ≡ hard_links tree n → (c : Content) → o.content ≡ c
+      → object_at layout h count o ≡ object_bytes leaf internal tree table (n, o)
+  object_here n o h count place links (Group g) e =
+      let laid : object_bytes leaf internal tree table (n, o)
+      ≡ header_bytes 1 ((17, symbol_table_body (content_place o (header_in table n)) (heap_place leaf internal o g (header_in table n))) ∷ others_of o)
+      ++ links_bytes leaf internal (content_place o (header_in table n)) (written_links leaf internal tree table g) = rw e refl in
+      let written : map (written_at layout) (entries g) ≡ written_links leaf internal tree table g
+      = map_same (written_at layout) (written_link leaf internal tree table) (entries g) link_here in
+      ap (content_at layout h count o) e
+      ∙ (λ i. header_bytes 1 ((17, symbol_table_body (content_place o (place i)) (heap_place leaf internal o g (place i))) ∷ others_of o)
+      ++ links_bytes leaf internal (content_place o (place i)) (written i)) ∙ sym laid
+  object_here n o h count place links (Array d) e =
+      let laid : object_bytes leaf internal tree table (n, o)
+      ≡ header_bytes (hard_links tree n) (array_messages d (data_address d (content_place o (header_in table n))) (length (others_of o)) ++ others_of o) ++ data_of d
+      = rw e refl in
+      ap (content_at layout h count o) e
+      ∙ (λ i. header_bytes (links i) (array_messages d (data_address d (content_place o (place i))) (length (others_of o)) ++ others_of o) ++ data_of d) ∙ sym laid
+
+  module _ (counts : List ℕ) (counted : (n : ℕ) → n < length objects → slice_get counts n ≡ Some (hard_links tree n)) where
+    each_here : (n : ℕ) → In n order → numbered_at layout counts (listed objects tree held) n ≡ object_bytes leaf internal tree table (n, object objects tree held n)
+    each_here n there =
+        let low = below objects tree held order met n there in
+        let o : Object = object objects tree held n in
+        let count : slice_index counts n ≡ hard_links tree n = get_or_from_slice_get counts n (hard_links tree n) 0 (counted n low) in
+        sym (number_at layout counts (listed objects tree held) n o (there_is objects tree held order met n low))
+        ∙ object_here n o (slice_index headers_now.now n) (slice_index counts n) (header_here n) count o.content refl
+
+    -- the superblock and all objects
+    pub image_here : (image : List ℕ) (end : ℕ) → end ≡ p.end
+        → ((root : Size) → slice_get sizes_now.now 0 ≡ Some root → image ≡ front_at layout root end ++ flat_map (numbered_at layout counts (listed objects tree held)) order)
+        → image ≡ plain_image leaf internal tree order_of
+    unfolding plain_image
+    image_here image end end_here pushed =
+        let root = size_of objects tree held order met leaf internal sizes sized 0 (some_objects objects tree held order met) in
+        let first : order_of ≡ (0, object objects tree held 0) ∷ map (numbered (object objects tree held)) met.others = ap (map (numbered (object objects tree held))) met.first in
+        let o : Object = object objects tree held 0 in
+        let place : 96 + (root.0).header ≡ content_place o 96 = ap (λ k. 96 + k) (root.2).header in
+        let heap = root_same leaf internal layout o root.0 root.2 in
+        let ends : end ≡ image_end leaf internal order_of = end_here ∙ are.end_is ∙ sym (end_is objects tree held order met leaf internal sizes sized) in
+        let front : front_at layout root.0 end ≡ superblock_of leaf internal order_of
+        = (λ i. superblock_bytes leaf internal (ends i) 96 (place i) (heap i))
+        ∙ ap (λ (es : List (ℕ × Object)). superblock_bytes leaf internal (image_end leaf internal es) 96 (content_place o 96) (root_heap leaf internal o)) first
+        ∙ sym (ap (superblock_of leaf internal) first) in
+        pushed root.0 (ap (λ (ss : List Size). slice_get ss 0) sizes_here ∙ root.1)
+        ∙ (λ i. front i ++ flat_same (numbered_at layout counts (listed objects tree held)) (object_bytes leaf internal tree table) (object objects tree held) order each_here i)
+
+  pub are_low : AreLow leaf internal tree
+  are_low n links is = elim (slice_get_cases (listed objects tree held) n).1 [
+    | inl there ↦
+        let s = zip_right (IsSize leaf internal) (listed objects tree held) sizes n there.0 sized there.2 in
+        let own : links_in (there.0).content ≡ Some links
+        = sym (ap (λ (r : Option Object). option_and_then (λ (o : Object). links_in o.content) r) (numbers objects tree held n ∙ there.2)) ∙ is in
+        low_by leaf internal layout links (there.0).content (s.0).extent own (s.2).extent_is
+    | inr past ↦
+        let none : None ≡ Some links
+        = sym (ap (λ (r : Option Object). option_and_then (λ (o : Object). links_in o.content) r) (numbers objects tree held n ∙ past.1)) ∙ is in absurd (cc)
+  ]

@@ -1,0 +1,11 @@
+pub mod Leads
+pub mod Sizes
+pub mod Headers
+pub mod Pushed
+pub mod Orders
+pub mod Images
+pub mod Faults
+pub mod BlockLaws
+pub mod BodyLaws
+pub mod ObjectLaws
+pub mod ImageLaws

@@ -1,0 +1,212 @@
+-- The tree that objects make: its objects by their numbers, its links, and where these lead.
+use Rattle.std.proofs.Common.{◌≡◌, ℕ, zero, suc, ◌+◌, ◌<◌, ◌≤◌, inl, inr, List, [], ◌∷◌, true, false, cond, refl, sym, ap, ◌∙◌, subst, arith, length, map, reverse, Some, None, Option}
+use Rattle.std.proofs.lemmas.List.Sums.{sum_by-cons}
+use Rattle.std.proofs.lemmas.Option.{same_Some, slice_get_within}
+use Rattle.std.specs.Prelude.{slice_get, ◌==◌, is_some, IsSome}
+use Rattle.std.specs.Cmp.{nat_cmp_total}
+use Rattle.std.specs.Cmp.Lexicographic.{slice_cmp, nat_list_cmp_total}
+use Rattle.std.specs.FinMap.{get, entries, find, values, get-entries, entries_sorted, nat_cmp-IsAntisymmetric}
+use Rattle.std.specs.FinMap.Entries.{same_entries}
+use Rattle.std.specs.List.{AllZip, sum_by, count_by, cons_option}
+use Rattle.std.specs.Option.{option_and_then}
+use Rattle.std.specs.Ordering.{nat_cmp, eq_by_cmp}
+use Rattle.h5_model.proofs.ReachLaws.{Entry, find_entry}
+use Rattle.h5_model.specs.Tree.Objects.{Tree, Object, Content, Group, Array, Link, ToObject, links_in, link_in, leads_to, links_to, hard_links}
+use Rattle.h5_laws.specs.Trees.Sound.{IsSoundTree}
+use Rattle.h5_repack.specs.declared.objects.object.NewContent.{NewContent}
+use Rattle.h5_repack.specs.declared.objects.object.NewContent.TheVariants as content
+use Rattle.h5_repack.specs.declared.objects.object.NewObject.{NewObject}
+use Rattle.h5_repack.specs.declared.objects.object.TreeLink.{TreeLink}
+use Rattle.h5_repack.specs.declared.objects.object.TreeTarget.{TreeTarget}
+use Rattle.h5_repack.specs.declared.objects.object.TreeTarget.TheVariants as target
+use Rattle.h5_repack.specs.Objects.Objects.{link_of, tree_link, IsNewContent, IsNewObject, AreObjects}
+use Rattle.h5_repack.specs.Objects.Targets.{new_links, object_in, targets, waiting, times}
+use Rattle.h5_laws.specs.Numbered.{numbered}
+use Rattle.h5_laws.proofs.Lists.{In}
+use Rattle.h5_laws.proofs.Maps.{value_of}
+use Rattle.h5_laws.proofs.Numbered.{sorted_numbered, found_numbered}
+use Rattle.h5_repack.proofs.ObjectLaws.Zips.{zip_left, zip_right}
+use Rattle.h5_repack.proofs.ObjectLaws.Members.{in_reverse, from_reverse, in_given, in_rest, in_filter_map, from_filter_map}
+
+-- ---- entries by number
+
+numbered_values : {X : Type 0} (n : ℕ) (xs : List X) → map (λ (e : ℕ × X). e.1) (numbered n xs) ≡ xs
+numbered_values n [] = refl
+numbered_values {X = X} n (x ∷ xs) = ap (λ (ys : List X). x ∷ ys) (numbered_values (n + 1) xs)
+
+-- the entries of the tree are the objects' by their numbers
+pub entries_listed : (objects : List NewObject) (tree : Tree) (are : AreObjects objects tree) → entries tree ≡ numbered 0 are.listed
+entries_listed objects tree are =
+    same_entries nat_cmp nat_cmp_total nat_cmp-IsAntisymmetric (entries tree) (numbered 0 are.listed) (entries_sorted tree) (sorted_numbered 0 are.listed)
+    (λ q. sym (get-entries tree q) ∙ are.numbered q ∙ sym (found_numbered q 0 q are.listed (omega arith)))
+
+pub values_listed : (objects : List NewObject) (tree : Tree) (are : AreObjects objects tree) → values tree ≡ are.listed
+values_listed objects tree are =
+    ap (λ (es : List (ℕ × Object)). map (λ (e : ℕ × Object). e.1) es) (entries_listed objects tree are) ∙ numbered_values 0 are.listed
+
+-- ---- a number has an object exactly where it is below their count
+
+-- the object that a number's is made from, and the one that is made of it
+pub object_from : (objects : List NewObject) (tree : Tree) → AreObjects objects tree → (number : ℕ) (o : Object) → get tree number ≡ Some o
+    → (x : NewObject) × (slice_get objects number ≡ Some x) × IsNewObject x o
+object_from objects tree are number o is = zip_left IsNewObject objects are.listed number o are.each (sym (are.numbered number) ∙ is)
+
+pub object_made : (objects : List NewObject) (tree : Tree) → AreObjects objects tree → (number : ℕ) (x : NewObject) → slice_get objects number ≡ Some x
+    → (o : Object) × (get tree number ≡ Some o) × IsNewObject x o
+object_made objects tree are number x is =
+    let made = zip_right IsNewObject objects are.listed number x are.each is in
+    (made.0, are.numbered number ∙ made.1, made.2)
+
+pub below_count : (objects : List NewObject) (tree : Tree) → AreObjects objects tree → (number : ℕ) → IsSome (get tree number) → number < length objects
+below_count objects tree are number some =
+    let o = value_of (get tree number) some in
+    let x = object_from objects tree are number o.0 o.1 in
+    slice_get_within objects number x.0 x.1
+
+at_place : {X : Type 0} (xs : List X) (n : ℕ) → n < length xs → (x : X) × (slice_get xs n ≡ Some x)
+at_place [] n low = absurd (omega (arith, low))
+at_place (x ∷ xs) zero low = (x, refl)
+at_place (x ∷ xs) (suc n) low = at_place xs n (omega (arith, low))
+
+pub some_below : (objects : List NewObject) (tree : Tree) → AreObjects objects tree → (number : ℕ) → number < length objects → IsSome (get tree number)
+some_below objects tree are number low =
+    let x = at_place objects number low in
+    let o = object_made objects tree are number x.0 x.1 in
+    ap is_some o.1
+
+-- ---- links
+
+object_of_link : (t : TreeTarget) (other : ℕ) → link_of t ≡ ToObject other → object_in t ≡ Some other
+object_of_link (target.Object number) other is = let same : number ≡ other = cc in ap (λ (n : ℕ). Some n) same
+object_of_link (target.Text text) other is = absurd (cc)
+
+link_of_object : (t : TreeTarget) (other : ℕ) → object_in t ≡ Some other → link_of t ≡ ToObject other
+link_of_object (target.Object number) other is = ap (λ (n : ℕ). ToObject n) (same_Some number other is)
+link_of_object (target.Text text) other is = absurd (cc)
+
+-- what a name stands for is where a link leads
+found_target : (ls : List TreeLink) (name : List ℕ) (other : ℕ) → find (slice_cmp nat_cmp) name (map tree_link ls) ≡ Some (ToObject other) → In other (targets ls)
+found_target [] name other is = absurd (cc)
+found_target (l ∷ ls) name other is = elim (eq_by_cmp (slice_cmp nat_cmp) name l.name.now) as (λ b.
+    cond b (Some (link_of l.target)) (find (slice_cmp nat_cmp) name (map tree_link ls)) ≡ Some (ToObject other) → In other (targets (l ∷ ls))) [
+      | true ↦ λ here. in_given (object_in l.target) other (targets ls) (object_of_link l.target other (same_Some _ _ here))
+      | false ↦ λ later. in_rest (object_in l.target) other (targets ls) (found_target ls name other later)
+    ] is
+
+-- and a link stands under its name
+link_entry : (l : TreeLink) (ls : List TreeLink) (other : ℕ) → In l ls → object_in l.target ≡ Some other → Entry (map tree_link ls) l.name.now (ToObject other)
+link_entry l [] other at is = absurd at
+link_entry l (k ∷ ls) other (inl e) is =
+    inl (ap (λ (t : TreeLink). t.name.now) e, ap (λ (t : TreeLink). link_of t.target) e ∙ link_of_object l.target other is)
+link_entry l (k ∷ ls) other (inr at) is = inr (link_entry l ls other at is)
+
+content_target : (c : NewContent) (d : Content) (name : List ℕ) (other : ℕ) → IsNewContent c d
+    → option_and_then (λ links. get links name) (links_in d) ≡ Some (ToObject other) → In other (targets (new_links c))
+content_target (content.Group links) (Group named) name other is there =
+    found_target links.items name other (ap (find (slice_cmp nat_cmp) name) is ∙ sym (get-entries named name) ∙ there)
+content_target (content.Group links) (Array d) name other is there = absurd is
+content_target (content.Array a) (Group named) name other is there = absurd is
+content_target (content.Array a) (Array d) name other is there = absurd (cc)
+
+content_link : (c : NewContent) (d : Content) (other : ℕ) → IsNewContent c d → In other (targets (new_links c))
+    → (name : List ℕ) × (option_and_then (λ links. get links name) (links_in d) ≡ Some (ToObject other))
+content_link (content.Group links) (Group named) other is at =
+    let l = from_filter_map (λ (k : TreeLink). object_in k.target) other links.items at in
+    let entry = link_entry l.0 links.items other l.1 l.2 in
+    let there : Entry (entries named) (l.0).name.now (ToObject other) = subst (λ (es : List (List ℕ × Link)). Entry es (l.0).name.now (ToObject other)) is entry in (
+      (l.0).name.now,
+      get-entries named (l.0).name.now
+          ∙ find_entry nat_list_cmp_total (entries named) (l.0).name.now (ToObject other) (entries_sorted named) there,
+    )
+content_link (content.Group links) (Array d) other is at = absurd is
+content_link (content.Array a) (Group named) other is at = absurd is
+content_link (content.Array a) (Array d) other is at = absurd at
+
+-- the order of links does not matter for where they lead
+turned : (ls : List TreeLink) (other : ℕ) → In other (targets ls) → In other (targets (reverse ls))
+turned ls other at =
+    let l = from_filter_map (λ (k : TreeLink). object_in k.target) other ls at in
+    in_filter_map (λ (k : TreeLink). object_in k.target) l.0 other (reverse ls) (in_reverse l.0 ls l.1) l.2
+
+unturned : (ls : List TreeLink) (other : ℕ) → In other (targets (reverse ls)) → In other (targets ls)
+unturned ls other at =
+    let l = from_filter_map (λ (k : TreeLink). object_in k.target) other (reverse ls) at in
+    in_filter_map (λ (k : TreeLink). object_in k.target) l.0 other ls (from_reverse l.0 ls l.1) l.2
+
+-- a link of the tree leads where one of the object does
+pub link_waits : (objects : List NewObject) (tree : Tree) → AreObjects objects tree → (number other : ℕ) (name : List ℕ)
+    → link_in tree number name ≡ Some (ToObject other) → (x : NewObject) × (slice_get objects number ≡ Some x) × In other (waiting x)
+link_waits objects tree are number other name is = elim (get tree number) as (λ found. get tree number ≡ found
+    → option_and_then (λ links. get links name) (option_and_then (λ o. links_in o.content) found) ≡ Some (ToObject other)
+    → (x : NewObject) × (slice_get objects number ≡ Some x) × In other (waiting x)) [
+      | None ↦ λ _ no. absurd (cc)
+      | Some o ↦ λ found there.
+          let x = object_from objects tree are number o found in
+          (x.0, x.1, turned (new_links (x.0).content) other (content_target (x.0).content o.content name other (x.2).content there))
+    ] refl is
+
+-- and a link of an object is one of the tree
+pub waits_linked : (objects : List NewObject) (tree : Tree) → AreObjects objects tree → (number other : ℕ) (x : NewObject)
+    → slice_get objects number ≡ Some x → In other (targets (new_links x.content)) → (name : List ℕ) × (link_in tree number name ≡ Some (ToObject other))
+waits_linked objects tree are number other x is at =
+    let made = object_made objects tree are number x is in
+    let named = content_link x.content (made.0).content other (made.2).content at in
+    (named.0, ap (λ (found : Option Object). option_and_then (λ links. get links named.0) (option_and_then (λ o. links_in o.content) found)) made.1 ∙ named.1)
+
+-- a link leads to one of the objects
+pub target_below : (objects : List NewObject) (tree : Tree) → AreObjects objects tree → IsSoundTree tree → (number other : ℕ) (x : NewObject)
+    → slice_get objects number ≡ Some x → In other (targets (new_links x.content)) → other < length objects
+target_below objects tree are sound number other x is at =
+    let linked = waits_linked objects tree are number other x is at in
+    below_count objects tree are other (sound.linked number other linked.0 linked.1)
+
+pub waiting_below : (objects : List NewObject) (tree : Tree) → AreObjects objects tree → IsSoundTree tree → (number other : ℕ) (x : NewObject)
+    → slice_get objects number ≡ Some x → In other (waiting x) → other < length objects
+waiting_below objects tree are sound number other x is at =
+    target_below objects tree are sound number other x is (unturned (new_links x.content) other at)
+
+-- ---- how many links lead to an object
+
+link_counted : (number : ℕ) (l : TreeLink) (ls : List TreeLink) → times number (targets (l ∷ ls)) ≡ cond (leads_to number (link_of l.target)) 1 0 + times number (targets ls)
+link_counted number l ls = go l.target where
+  go : (t : TreeTarget) → times number (cons_option (object_in t) (targets ls)) ≡ cond (leads_to number (link_of t)) 1 0 + times number (targets ls)
+  go (target.Object other) = sum_by-cons (λ (m : ℕ). cond (number == m) 1 0) other (targets ls)
+  go (target.Text text) = omega arith
+
+links_counted : (number : ℕ) (ls : List TreeLink) → count_by (leads_to number) (map (λ (e : List ℕ × Link). e.1) (map tree_link ls)) ≡ times number (targets ls)
+links_counted number [] = refl
+links_counted number (l ∷ ls) =
+    sum_by-cons (λ (k : Link). cond (leads_to number k) 1 0) (link_of l.target) (map (λ (e : List ℕ × Link). e.1) (map tree_link ls))
+    ∙ ap (λ (n : ℕ). cond (leads_to number (link_of l.target)) 1 0 + n) (links_counted number ls) ∙ sym (link_counted number l ls)
+
+-- how many links of the object lead to the number
+abbrev pub counted : ℕ → NewObject → ℕ
+counted number x = times number (targets (new_links x.content))
+
+content_counted : (number : ℕ) (c : NewContent) (d : Content) → IsNewContent c d → links_to number d ≡ times number (targets (new_links c))
+content_counted number (content.Group links) (Group named) is =
+    ap (λ (es : List (List ℕ × Link)). count_by (leads_to number) (map (λ (e : List ℕ × Link). e.1) es)) (sym is) ∙ links_counted number links.items
+content_counted number (content.Group links) (Array d) is = absurd is
+content_counted number (content.Array a) (Group named) is = absurd is
+content_counted number (content.Array a) (Array d) is = refl
+
+each_counted : (number : ℕ) (objects : List NewObject) (listed : List Object) → AllZip IsNewObject objects listed
+    → sum_by (λ (o : Object). links_to number o.content) listed ≡ sum_by (counted number) objects
+each_counted number [] [] all = refl
+each_counted number [] (o ∷ os) all = absurd all
+each_counted number (x ∷ xs) [] all = absurd all
+each_counted number (x ∷ xs) (o ∷ os) all =
+    let first : links_to number o.content ≡ counted number x = content_counted number x.content o.content (all.0).content in
+    let rest = each_counted number xs os all.1 in
+    sum_by-cons (λ (p : Object). links_to number p.content) o os ∙ ap (λ (n : ℕ). n + sum_by (λ (p : Object). links_to number p.content) os) first
+    ∙ ap (λ (n : ℕ). counted number x + n) rest ∙ sym (sum_by-cons (counted number) x xs)
+
+-- the hard links of the tree are those of the objects
+pub hard_links_counted : (objects : List NewObject) (tree : Tree) → AreObjects objects tree → (number : ℕ) → hard_links tree number ≡ sum_by (counted number) objects
+hard_links_counted objects tree are number =
+    ap (sum_by (λ (o : Object). links_to number o.content)) (values_listed objects tree are) ∙ each_counted number objects are.listed are.each
+
+-- few enough for a number of 32 bits
+pub counted_few : (objects : List NewObject) (tree : Tree) → AreObjects objects tree → IsSoundTree tree → (number : ℕ) → number < length objects
+    → sum_by (counted number) objects ≤ 65535
+counted_few objects tree are sound number low = omega (arith, hard_links_counted objects tree are number, sound.few number (some_below objects tree are number low))

@@ -1,0 +1,134 @@
+-- What is appended of an object is its bytes in the layout.
+use Rattle.std.proofs.Common.{◌≡◌, ℕ, ◌+◌, ◌*◌, ◌^◌, ◌<◌, ◌≤◌, List, [], ◌∷◌, ◌++◌, map, refl, sym, ap, ◌∙◌, subst, arith, length, get_or, append_assoc, Some, Option, take}
+use Rattle.std.proofs.lemmas.List.{take_more, append-nil}
+use Rattle.std.proofs.lemmas.List.Concat.{flat_map-append}
+use Rattle.std.proofs.lemmas.Option.{get_or_from_slice_get}
+use Rattle.std.specs.Prelude.{slice_get, slice_index}
+use Rattle.std.specs.FinMap.{entries, len}
+use Rattle.std.specs.List.{AllZip, flat_map}
+use Rattle.std.specs.Option.{option_map_or}
+use Rattle.h5_model.specs.Format.Plain.{header_bytes}
+use Rattle.h5_model.specs.Format.PlainLength.{nodes_over, rows_of}
+use Rattle.h5_model.specs.Format.Sizes.{group_node}
+use Rattle.h5_model.specs.Tree.Objects.{Object, Content, Dataset}
+use Rattle.h5_repack.specs.Bodies.Bodies.{others_of, array_messages}
+use Rattle.h5_heap.specs.Writing.Links.{Leads}
+use Rattle.h5_group.specs.Writing.Places.{ArePlaces}
+use Rattle.h5_group.specs.Writing.Written.{links_bytes}
+use Rattle.h5_group.specs.declared.write.places.GroupPlaces.{GroupPlaces}
+use Rattle.h5_repack.specs.Blocks.ArrayHeader.{group_written, header_written, data_written, address_written}
+use Rattle.h5_repack.specs.Blocks.Others.{OthersBytes}
+use Rattle.h5_repack.specs.declared.blocks.array.Array as plain
+use Rattle.h5_repack.proofs.BlockLaws.HeaderLaws.{group_is, header_is, data_is, address_is}
+use Rattle.h5_repack.specs.Image.Written.{content_place, heap_place, data_address}
+use Rattle.h5_repack.specs.Objects.Objects.{tree_link}
+use Rattle.h5_repack.specs.declared.objects.object.NewArray.{NewArray}
+use Rattle.h5_repack.specs.declared.objects.object.NewObject.{NewObject}
+use Rattle.h5_repack.specs.declared.objects.object.TreeLink.{TreeLink}
+use Rattle.h5_repack.specs.declared.size.Extent.{Extent}
+use Rattle.h5_repack.specs.declared.size.Extent.TheVariants as extent
+use Rattle.h5_repack.specs.declared.size.Size.{Size}
+use Rattle.h5_repack.specs.declared.group.Layout.{Layout}
+use Rattle.h5_repack.specs.Layout.{IsArrayObject, IsExtent, IsGroupObject, IsHeldObject, IsSize, IsJoined, array_at, content_at, extent_length, numbered_at, object_at, size_length, written_at}
+use Rattle.h5_repack.proofs.Sizes.{own_written, own_count, joined_array}
+use Rattle.h5_repack.proofs.ObjectLaws.Zips.{zip_right}
+
+-- ---- two parts
+
+pub two_parts : (first second third a b c : List ℕ) → second ≡ first ++ a → third ≡ second ++ b → a ++ b ≡ c → third ≡ first ++ c
+two_parts first second third a b c e f g =
+    f ∙ ap (λ xs. xs ++ b) e ∙ append_assoc first a b ∙ ap (λ xs. first ++ xs) g
+
+-- ---- a size that is read
+
+pub extent_read : (sizes : List Size) (n : ℕ) (s d : Size) (x : Extent) → slice_get sizes n ≡ Some s → (get_or sizes n d).extent ≡ x → s.extent ≡ x
+extent_read sizes n s d x found e = ap (λ (z : Size). z.extent) (sym (get_or_from_slice_get sizes n s d found)) ∙ e
+
+pub header_read : (sizes : List Size) (n : ℕ) (s d : Size) → slice_get sizes n ≡ Some s → (get_or sizes n d).header ≡ s.header
+header_read sizes n s d found = ap (λ (z : Size). z.header) (get_or_from_slice_get sizes n s d found)
+
+pub links_low : (h : ℕ) (sizes : List Size) (n : ℕ) (s d : Size) (p : GroupPlaces) → slice_get sizes n ≡ Some s → (get_or sizes n d).extent ≡ extent.Links p
+    → h + size_length s ≤ 2 ^ 31 → h + (get_or sizes n d).header + p.length ≤ 2 ^ 31
+links_low h sizes n s d p found e low =
+    let own : extent_length s.extent ≡ p.length = ap extent_length (extent_read sizes n s d (extent.Links p) found e) in
+    omega (arith, own, header_read sizes n s d found, low)
+
+-- no group has data
+pub no_data : (leaf internal : ℕ) (links : List TreeLink) (others : OthersBytes) (o : Object) (sizes : List Size) (n : ℕ) (s d : Size) (k : ℕ) → IsGroupObject links others o
+    → slice_get sizes n ≡ Some s → (get_or sizes n d).extent ≡ extent.Data k → IsSize leaf internal o s → ⊥
+no_data leaf internal links others o sizes n s d k is found e size =
+    subst (λ (c : Content). IsExtent leaf internal c (extent.Data k)) is.content
+    (subst (λ (x : Extent). IsExtent leaf internal o.content x) (extent_read sizes n s d (extent.Data k) found e) size.extent_is)
+
+-- ---- groups
+
+module _ (leaf internal : ℕ) (links : List TreeLink) (others : OthersBytes) (o : Object) (is : IsGroupObject links others o) (p : GroupPlaces)
+    (is_extent : IsExtent leaf internal o.content (extent.Links p)) (l : Layout) (ls : List (List ℕ × Leads)) (ls_are : ls ≡ map (written_at l) (map tree_link links)) where
+  pub places_are : ArePlaces leaf internal ls p
+  places_are = subst (λ (c : Content). IsExtent leaf internal c (extent.Links p)) is.content is_extent ls (own_written links others o is leaf internal l ls ls_are)
+
+  pub tree_within : p.tree ≤ p.length
+  tree_within = omega (arith, (places_are).tree, (places_are).length_is)
+
+  pub tree_is : p.tree ≡ nodes_over 64 (2 * internal) (rows_of (2 * leaf) (len is.group)) * group_node internal
+  tree_is = (places_are).tree
+      ∙ ap (λ n. nodes_over 64 (2 * internal) (rows_of (2 * leaf) n) * group_node internal) (own_count links others o is leaf internal l ls ls_are)
+
+pub group_at : (l : Layout) (count n : ℕ) (links : List TreeLink) (others : OthersBytes) (o : Object) (s d : Size) (p : GroupPlaces) (is : IsGroupObject links others o)
+    → slice_get l.sizes.now n ≡ Some s → (get_or l.sizes.now n d).extent ≡ extent.Links p → IsSize l.leaf l.internal o s
+    → group_written (slice_index l.headers.now n + (get_or l.sizes.now n d).header) (slice_index l.headers.now n + (get_or l.sizes.now n d).header + p.tree) others
+    ++ links_bytes l.leaf l.internal (slice_index l.headers.now n + (get_or l.sizes.now n d).header) (map (written_at l) (map tree_link links))
+    ≡ object_at l (slice_index l.headers.now n) count o
+group_at l count n links others o s d p is found e size =
+    let h : ℕ = slice_index l.headers.now n in
+    let own : IsExtent l.leaf l.internal o.content (extent.Links p)
+    = subst (λ (x : Extent). IsExtent l.leaf l.internal o.content x) (extent_read l.sizes.now n s d (extent.Links p) found e) size.extent_is in
+    let tree = tree_is l.leaf l.internal links others o is p own l (map (written_at l) (map tree_link links)) refl in
+    let place : h + (get_or l.sizes.now n d).header ≡ content_place o h = ap (λ k. h + k) (header_read l.sizes.now n s d found ∙ size.header) in
+    let heap : h + (get_or l.sizes.now n d).header + p.tree ≡ heap_place l.leaf l.internal o is.group h = (λ i. place i + tree i) in
+    (λ i. group_written (place i) (heap i) others ++ links_bytes l.leaf l.internal (place i) (map (written_at l) (is.linked i)))
+    ∙ ap (λ xs. xs ++ links_bytes l.leaf l.internal (content_place o h) (map (written_at l) (entries is.group)))
+    (group_is (content_place o h) (heap_place l.leaf l.internal o is.group h) (others_of o) others is.others_are)
+    ∙ sym (ap (content_at l h count o) is.content)
+
+-- ---- arrays
+
+pub array_pushed : (n : NewArray) (others : OthersBytes) (a : plain.Array) (count place address : ℕ) (first second third : List ℕ) → IsJoined n others a
+    → address ≡ address_written a.cells a.size place → second ≡ first ++ header_written count a address → third ≡ second ++ data_written a.cells a
+    → (o : Object) (is : IsArrayObject n others o) → third ≡ first ++ array_at place count o is.dataset
+array_pushed n others a count place address first second third named address_here e f o is =
+    let array = joined_array n others a named o is in
+    let d : Dataset = is.dataset in
+    let stands : address ≡ data_address d place = address_here ∙ address_is a d (others_of o) array place in
+    two_parts first second third (header_written count a address) (data_written a.cells a) (array_at place count o d) e f
+    (λ i. (header_is a d (others_of o) array count address ∙ ap (λ k. header_bytes count (array_messages d k (length (others_of o)) ++ others_of o)) stands) i
+    ++ data_is a d (others_of o) array i)
+
+pub array_object_at : (l : Layout) (count n : ℕ) (array : NewArray) (others : OthersBytes) (o : Object) (s d : Size) (is : IsArrayObject array others o)
+    → slice_get l.sizes.now n ≡ Some s → IsSize l.leaf l.internal o s
+    → array_at (slice_index l.headers.now n + (get_or l.sizes.now n d).header) count o is.dataset ≡ object_at l (slice_index l.headers.now n) count o
+array_object_at l count n array others o s d is found size =
+    let h : ℕ = slice_index l.headers.now n in
+    ap (λ k. array_at (h + k) count o is.dataset) (header_read l.sizes.now n s d found ∙ size.header) ∙ sym (ap (content_at l h count o) is.content)
+
+-- ---- all objects
+
+-- an object's tree and size, by its number
+pub held_at : (leaf internal n : ℕ) (objects : List NewObject) (listed : List Object) (sizes : List Size) (x : NewObject) → AllZip IsHeldObject objects listed
+    → AllZip (IsSize leaf internal) listed sizes → slice_get objects n ≡ Some x
+    → (o : Object) × (s : Size) × (slice_get sizes n ≡ Some s) × IsHeldObject x o × IsSize leaf internal o s × (slice_get listed n ≡ Some o)
+held_at leaf internal n objects listed sizes x held sized is =
+    let o = zip_right IsHeldObject objects listed n x held is in
+    let s = zip_right (IsSize leaf internal) listed sizes n o.0 sized o.1 in
+    (o.0, s.0, s.1, o.2, s.2, o.1)
+
+pub number_at : (l : Layout) (counts : List ℕ) (listed : List Object) (n : ℕ) (o : Object) → slice_get listed n ≡ Some o
+    → object_at l (slice_index l.headers.now n) (slice_index counts n) o ≡ numbered_at l counts listed n
+number_at l counts listed n o is = sym (ap (λ (r : Option Object). option_map_or (object_at l (slice_index l.headers.now n) (slice_index counts n)) r []) is)
+
+pub objects_more : (f : ℕ → List ℕ) (ns : List ℕ) (i : ℕ) (first second third here : List ℕ) → i < length ns → second ≡ first ++ flat_map f (take i ns)
+    → third ≡ second ++ here → here ≡ f (get_or ns i 0) → third ≡ first ++ flat_map f (take (i + 1) ns)
+objects_more f ns i first second third here low so_far e is =
+    e ∙ (λ k. so_far k ++ is k) ∙ append_assoc first (flat_map f (take i ns)) (f (get_or ns i 0))
+    ∙ ap (λ xs. first ++ xs) (ap (λ xs. flat_map f (take i ns) ++ xs) (sym (append-nil (f (get_or ns i 0)))) ∙ sym (flat_map-append f (take i ns) (get_or ns i 0 ∷ []))
+    ∙ ap (flat_map f) (sym (take_more ns i 0 low)))

@@ -1,0 +1,156 @@
+-- How many bytes objects have, as they are measured.
+use Rattle.std.proofs.Common.{Vec, Global, ◌≡◌, ℕ, ◌+◌, ◌*◌, ◌^◌, ◌<◌, ◌≤◌, List, [], ◌∷◌, map, refl, sym, ap, ap₂, ◌∙◌, subst, arith, length, Some, Option}
+use Rattle.std.proofs.lemmas.Slice.Zip.{AllZip-long}
+use Rattle.std.specs.Prelude.{slice_get}
+use Rattle.std.specs.List.{AllZip}
+use Rattle.std.specs.FinMap.{entries, len, len-entries}
+use Rattle.h5_model.specs.Format.Plain.{messages_bytes}
+use Rattle.h5_model.specs.Format.PlainLength.{content_bytes, rows_of}
+use Rattle.h5_model.specs.Format.Sizes.{header_size}
+use Rattle.h5_model.specs.Tree.Objects.{Object, Content, Group, Array, Links}
+use Rattle.h5_btree.specs.Writing.Written.{root_level}
+use Rattle.h5_repack.specs.Bodies.Bodies.{others_of}
+use Rattle.h5_repack.specs.Bodies.Sound.{IsPlainArray}
+use Rattle.h5_repack.proofs.BodyLaws.HeaderGroup.{length-group_header, group_header-size}
+use Rattle.h5_repack.proofs.BodyLaws.HeaderLengths.{array_length}
+use Rattle.h5_repack.proofs.BodyLaws.HeaderOthers.{length-others}
+use Rattle.h5_heap.specs.Writing.Links.{Leads}
+use Rattle.h5_group.specs.Writing.Laws as laws
+use Rattle.h5_group.specs.Writing.Places.{ArePlaces}
+use Rattle.h5_group.specs.Writing.Written.{links_length, tree_level}
+use Rattle.h5_group.specs.declared.write.places.GroupPlaces.{GroupPlaces}
+use Rattle.h5_group.proofs.WriteLaws.Lengths.{group_length}
+use Rattle.h5_repack.specs.Blocks.ArrayHeader.{group_written, header_written, data_written}
+use Rattle.h5_repack.specs.Blocks.Others.{OthersBytes}
+use Rattle.h5_repack.specs.Blocks.Written.{AreOthers, AreCells, IsArray}
+use Rattle.h5_repack.specs.declared.blocks.array.Array as plain
+use Rattle.h5_repack.specs.declared.blocks.array.Cells.{Cells}
+use Rattle.h5_repack.proofs.BlockLaws.HeaderLaws.{group_is, header_is, data_is}
+use Rattle.h5_repack.specs.Image.Plain.{IsPlain, IsPlainContent, IsLow}
+use Rattle.h5_repack.specs.Image.Written.{object_length}
+use Rattle.h5_repack.proofs.ImageLaws.Arrays.{stored_bytes}
+use Rattle.h5_repack.specs.Objects.Objects.{IsNewContent, tree_link}
+use Rattle.h5_repack.specs.declared.objects.object.NewArray.{NewArray}
+use Rattle.h5_repack.specs.declared.objects.object.NewContent.{NewContent}
+use Rattle.h5_repack.specs.declared.objects.object.NewContent.TheVariants as content
+use Rattle.h5_repack.specs.declared.objects.object.NewObject.{NewObject}
+use Rattle.h5_repack.specs.declared.objects.object.TreeLink.{TreeLink}
+use Rattle.h5_repack.specs.declared.size.Extent.TheVariants as extent
+use Rattle.h5_repack.specs.declared.size.Size.{Size}
+use Rattle.h5_repack.specs.declared.group.Layout.{Layout}
+use Rattle.h5_repack.specs.declared.write.WriteFault.{WriteFault}
+use Rattle.h5_repack.specs.declared.write.WriteFault.TheVariants.{TooLong, TooDeep, NoMemory}
+use Rattle.h5_repack.specs.Layout.{AreUnmeasured, IsArrayObject, IsExtent, IsGroupObject, IsHeldObject, IsSize, IsUnmeasured, IsJoined, written_at}
+use Rattle.h5_repack.proofs.Leads.{all_written, same_places}
+
+-- ---- a group and an array among objects
+
+pub group_of : (x : NewObject) (o : Object) (links : Vec TreeLink Global) → x.content ≡ content.Group links → IsHeldObject x o → IsGroupObject links.items x.others o
+group_of x o links is held = by_content o.content refl (subst (λ (k : NewContent). IsNewContent k o.content) is (held.new).content) where
+  by_content : (d : Content) → o.content ≡ d → IsNewContent (content.Group links) d → IsGroupObject links.items x.others o
+  by_content (Group g) e new = record { group = g; content = e; linked = new; others_are = (held.new).others; plain = held.plain }
+  by_content (Array d) e new = absurd new
+
+pub array_of : (x : NewObject) (o : Object) (a : NewArray) → x.content ≡ content.Array a → IsHeldObject x o → IsArrayObject a x.others o
+array_of x o a is held = by_content o.content refl (subst (λ (k : NewContent). IsNewContent k o.content) is (held.new).content) where
+  by_content : (d : Content) → o.content ≡ d → IsNewContent (content.Array a) d → IsArrayObject a x.others o
+  by_content (Group g) e new = absurd new
+  by_content (Array d) e new = record { dataset = d; content = e; array_is = new; others_are = (held.new).others; plain = held.plain }
+
+-- the other messages are no longer than the header
+pub others_low : (leaf internal : ℕ) (others : OthersBytes) (o : Object) (s : Size) → AreOthers (others_of o) others → IsPlain o → IsSize leaf internal o s → length others.bytes ≤ 2 ^ 31
+others_low leaf internal others o s are plain size = omega (arith, ap length are.bytes_are, length-others o plain.others, size.header, (size.low).header)
+
+-- ---- groups
+
+module _ (links : List TreeLink) (others : OthersBytes) (o : Object) (is : IsGroupObject links others o) where
+  pub group_header_length : (tree heap : ℕ) → length (group_written tree heap others) ≡ header_size o
+  group_header_length tree heap =
+      let forty : 40 ≡ 16 + 24 = refl in
+      ap length (group_is tree heap (others_of o) others is.others_are) ∙ length-group_header tree heap (others_of o)
+      ∙ ap (λ n. n + length (messages_bytes (others_of o))) forty ∙ group_header-size o is.group (is.plain).others is.content
+
+  -- however the links are written
+  module _ (leaf internal : ℕ) (l : Layout) (bare : List (List ℕ × Leads)) (bare_is : bare ≡ map (written_at l) (map tree_link links)) where
+    pub own_written : AllZip laws.IsWritten (entries is.group) bare
+    own_written = subst (AllZip laws.IsWritten (entries is.group)) (sym (bare_is ∙ ap (map (written_at l)) is.linked)) (all_written l (entries is.group))
+
+    pub own_length : links_length leaf internal bare ≡ content_bytes leaf internal 0 0 o.content
+    own_length = group_length leaf internal is.group bare own_written ∙ sym (ap (content_bytes leaf internal 0 0) is.content)
+
+    pub own_count : length bare ≡ len is.group
+    own_count = AllZip-long laws.IsWritten (entries is.group) bare own_written ∙ sym (len-entries is.group)
+
+    pub group_long : 2 ^ 31 < links_length leaf internal bare → 2 ^ 31 < object_length leaf internal o
+    group_long long = omega (arith, long, own_length)
+
+    pub group_deep : 15 < tree_level leaf internal bare → (g : Links) × (o.content ≡ Group g) × (IsLow leaf internal g → ⊥)
+    group_deep deep =
+        let level : 15 < root_level internal (rows_of (2 * leaf) (len is.group)) = subst (λ n. 15 < root_level internal (rows_of (2 * leaf) n)) own_count deep in
+        (is.group, is.content, λ low. omega (arith, low, level))
+
+    pub group_size : (header : ℕ) (p : GroupPlaces) → header ≡ length (group_written 0 0 others) → header ≤ 2 ^ 31 → ArePlaces leaf internal bare p
+        → IsSize leaf internal o (record { header = header; extent = extent.Links p })
+    group_size header p header_is low places =
+        let size : header ≡ header_size o = header_is ∙ group_header_length 0 0 in
+        let length_is : p.length ≡ content_bytes leaf internal 0 0 o.content = places.length_is ∙ own_length in
+        record {
+          header = size;
+          extent_is = subst (λ (c : Content). IsExtent leaf internal c (extent.Links p)) (sym is.content)
+              (λ ls all. same_places leaf internal (entries is.group) bare ls p own_written all places);
+          whole = ap₂ (λ (a b : ℕ). a + b) size length_is;
+          low = record { header = low; extent_low = (omega (arith, places.tree, places.length_is), places.few) };
+        }
+
+-- ---- arrays
+
+module _ (n : NewArray) (others : OthersBytes) (a : plain.Array) (named : IsJoined n others a) (o : Object) (is : IsArrayObject n others o) where
+  own_content : IsPlainContent (length (others_of o)) (Array is.dataset)
+  own_content = subst (IsPlainContent (length (others_of o))) is.content (is.plain).content
+
+  own_array : IsPlainArray is.dataset (length (others_of o))
+  own_array = own_content.0
+
+  pub joined_array : IsArray a is.dataset (others_of o)
+  joined_array = record {
+    fixed_is = named.fixed_is ∙ (is.array_is).fixed_is;
+    sizes_are = (is.array_is).sizes_are ∙ ap (λ k. k ∷ []) (sym named.size_is);
+    maxima_are = (is.array_is).maxima_are ∙ ap (λ (m : Option ℕ). m ∷ []) (sym named.maximum_is);
+    fill_is = named.fill_is ∙ (is.array_is).fill_is;
+    cells_are = subst (λ (c : Cells). AreCells c a.size is.dataset) (sym named.cells_are) (subst (λ k. AreCells n.cells k is.dataset) (sym named.size_is) (is.array_is).cells_are);
+    others_are = record {
+      bytes_are = ap (λ (x : OthersBytes). x.bytes) named.others_are ∙ (is.others_are).bytes_are;
+      count_is = ap (λ (x : OthersBytes). x.count) named.others_are ∙ (is.others_are).count_is;
+    };
+  }
+
+  pub array_header_size : (count address : ℕ) → length (header_written count a address) ≡ header_size o
+  array_header_size count address =
+      ap length (header_is a is.dataset (others_of o) joined_array count address)
+      ∙ array_length count address o is.dataset (is.plain).others is.content own_array
+
+  pub array_content : (leaf internal : ℕ) → length (data_written a.cells a) ≡ content_bytes leaf internal 0 0 o.content
+  array_content leaf internal =
+      ap length (data_is a is.dataset (others_of o) joined_array) ∙ sym (stored_bytes 0 0 (length (others_of o)) is.dataset own_array)
+      ∙ sym (ap (content_bytes leaf internal 0 0) is.content)
+
+  pub array_size : (leaf internal header data_length : ℕ) → header ≡ length (header_written 0 a 0) → data_length ≡ length (data_written a.cells a) → header ≤ 2 ^ 31
+      → data_length ≤ 2 ^ 31 → IsSize leaf internal o (record { header = header; extent = extent.Data data_length })
+  array_size leaf internal header data_length header_is length_is low low_data =
+      let size : header ≡ header_size o = header_is ∙ array_header_size 0 0 in
+      record {
+        header = size;
+        extent_is = subst (λ (c : Content). IsExtent leaf internal c (extent.Data data_length)) (sym is.content)
+            (length_is ∙ ap length (data_is a is.dataset (others_of o) joined_array));
+        whole = ap₂ (λ (a b : ℕ). a + b) size (length_is ∙ array_content leaf internal);
+        low = record { header = low; extent_low = low_data };
+      }
+
+-- ---- all objects
+
+-- a fault at one of the objects
+pub unmeasured_at : (leaf internal : ℕ) (listed : List Object) (number : ℕ) (o : Object) (fault : WriteFault) → slice_get listed number ≡ Some o
+    → IsUnmeasured leaf internal o fault → AreUnmeasured leaf internal listed fault
+unmeasured_at leaf internal listed number o TooLong is un = (number, o, is, un)
+unmeasured_at leaf internal listed number o TooDeep is un = (number, o, is, un)
+unmeasured_at leaf internal listed number o NoMemory is un = tt

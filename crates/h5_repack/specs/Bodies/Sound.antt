@@ -1,0 +1,49 @@
+-- Which objects the plain layout can hold: those that an image reads as, or that an accepted edit makes of them.
+use Rattle.std.specs.Prelude.{◌≡◌, ℕ, ◌+◌, ◌^◌, ◌%◌, ◌<◌, ◌≤◌, ◌==◌, ◌||◌, Bool, true, false, IsTrue, IfSome, pos, Option, List, [], ◌∷◌, length, replicate}
+use Rattle.std.specs.List.{AllByRecursion}
+use Rattle.std.specs.FinMap.{entries}
+use Rattle.h5_bytes.specs.Bytes.{undefined}
+use Rattle.h5_model.specs.Format.Fixed.{IsFixed}
+use Rattle.h5_model.specs.Tree.Places.{cells, extent_cells}
+use Rattle.h5_model.specs.Edits.Refusal.{has_zero}
+use Rattle.h5_model.specs.Format.Sizes.{attribute_size}
+use Rattle.h5_model.specs.Tree.Sound.{AreOf, IsDataset}
+use Rattle.h5_model.specs.Tree.Objects.{Object, Dataset, Contiguous, Attribute, Kept}
+
+-- a comment or a modification time, with a body that a message may have
+pub record IsPlainKept (k : Kept) : Type 0 where
+  pub kind : IsTrue ((k.kind == 13 || k.kind == 14) || k.kind == 18)
+  pub padded : length k.body % 8 ≡ 0
+  pub low : length k.body < 65536
+
+-- a name and values that fit in one message
+pub record IsPlainAttribute (e : List ℕ × Attribute) : Type 0 where
+  pub named : 1 ≤ length e.0
+  pub text : has_zero e.0 ≡ false
+  pub fixed : IsFixed (e.1).fixed
+  pub ranked : length (e.1).sizes ≤ 32
+  pub counted : length (e.1).values ≡ cells (e.1).sizes
+  pub of_type : AreOf (e.1).fixed (e.1).values
+  pub few : extent_cells (e.1).sizes ≤ 2 ^ 40
+  pub room : attribute_size (length e.0) (e.1).sizes ((e.1).fixed).size ≤ 65528
+
+pub record IsPlainObject (o : Object) : Type 0 where
+  pub kept : AllByRecursion IsPlainKept o.kept
+  pub attributes : AllByRecursion IsPlainAttribute (entries o.attributes)
+
+-- an array of one dimension in one block; not stored, each cell is the fill; and a fill that is not written, beside so many other
+-- messages, is 0
+pub record IsPlainArray (d : Dataset) (others : ℕ) : Type 0 where
+  pub size : ℕ
+  pub sizes_are : d.sizes ≡ size ∷ []
+  pub maximum : Option ℕ
+  pub maxima_are : d.maxima ≡ maximum ∷ []
+  pub bounded : IfSome maximum (λ m. (size ≤ m) × (m < undefined))
+  pub few : size ≤ 2 ^ 40
+  pub fixed : IsFixed d.fixed
+  pub sound : IsDataset d
+  pub stored : Bool
+  pub stored_is : d.storage ≡ Contiguous stored
+  pub filled : stored ≡ true → 1 ≤ size
+  pub unset : stored ≡ false → d.cells ≡ replicate size d.fill
+  pub unwritten : 65535 < 4 + others → d.fill ≡ pos 0

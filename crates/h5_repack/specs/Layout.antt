@@ -1,0 +1,181 @@
+-- How many bytes objects have, where they stand one behind another, and their bytes, as the writer counts and appends them.
+use Rattle.std.specs.Prelude.{◌≡◌, ℕ, ◌+◌, ◌^◌, ◌≤◌, ◌<◌, Some, List, [], ◌∷◌, ◌++◌, map, length, slice_get, slice_index, slice_set, replicate}
+use Rattle.std.specs.FinMap.{entries}
+use Rattle.std.specs.List.{AllZip}
+use Rattle.std.specs.Option.{option_map_or}
+use Rattle.h5_model.specs.Format.Plain.{header_bytes, symbol_table_body, superblock_bytes}
+use Rattle.h5_model.specs.Format.Sizes.{header_size}
+use Rattle.h5_model.specs.Tree.Objects.{Object, Content, Group, Array, Dataset, Link, Links, ToObject, Soft}
+use Rattle.h5_repack.specs.Bodies.Bodies.{others_of, array_messages}
+use Rattle.h5_repack.specs.Bodies.Headers.{data_of}
+use Rattle.h5_heap.specs.Writing.Links.{Leads, ToGroup, ToArray, ToText}
+use Rattle.h5_group.specs.Writing.Written.{links_bytes}
+use Rattle.h5_group.specs.Writing.Laws as laws
+use Rattle.h5_group.specs.Writing.Places.{ArePlaces}
+use Rattle.h5_repack.specs.Image.Plain.{IsPlain, IsLow}
+use Rattle.h5_repack.specs.Image.Written.{object_length, content_place, heap_place, data_address}
+use Rattle.h5_repack.specs.Blocks.Others.{OthersBytes}
+use Rattle.h5_repack.specs.Blocks.Written.{AreOthers}
+use Rattle.h5_repack.specs.declared.blocks.array.Array as plain
+use Rattle.h5_repack.specs.Objects.Objects.{IsNewArray, IsNewObject, tree_link}
+use Rattle.h5_repack.specs.declared.objects.object.NewArray.{NewArray}
+use Rattle.h5_repack.specs.declared.objects.object.NewObject.{NewObject}
+use Rattle.h5_repack.specs.declared.objects.object.TreeLink.{TreeLink}
+use Rattle.h5_repack.specs.declared.size.Extent.{Extent}
+use Rattle.h5_repack.specs.declared.size.Extent.TheVariants as extent
+use Rattle.h5_repack.specs.declared.size.Size.{Size}
+use Rattle.h5_repack.specs.declared.group.Layout.{Layout}
+use Rattle.h5_repack.specs.declared.place.Placed.{Placed}
+use Rattle.h5_repack.specs.declared.write.WriteFault.{WriteFault}
+use Rattle.h5_repack.specs.declared.write.WriteFault.TheVariants.{TooLong, TooDeep, NoMemory}
+
+-- ---- objects
+
+-- an object that the plain layout can hold
+pub record IsHeldObject (x : NewObject) (o : Object) : Type 0 where
+  pub new : IsNewObject x o
+  pub plain : IsPlain o
+
+pub record IsGroupObject (links : List TreeLink) (others : OthersBytes) (o : Object) : Type 0 where
+  pub group : Links
+  pub content : o.content ≡ Group group
+  pub linked : map tree_link links ≡ entries group
+  pub others_are : AreOthers (others_of o) others
+  pub plain : IsPlain o
+
+-- the array as the writer of headers takes it, with these messages behind its own
+pub record IsJoined (n : NewArray) (others : OthersBytes) (a : plain.Array) : Type 0 where
+  pub fixed_is : a.fixed ≡ n.fixed
+  pub size_is : a.size ≡ n.size
+  pub maximum_is : a.maximum ≡ n.maximum
+  pub fill_is : a.fill ≡ n.fill
+  pub cells_are : a.cells ≡ n.cells
+  pub others_are : a.others.now ≡ others
+
+pub record IsArrayObject (array : NewArray) (others : OthersBytes) (o : Object) : Type 0 where
+  pub dataset : Dataset
+  pub content : o.content ≡ Array dataset
+  pub array_is : IsNewArray array dataset
+  pub others_are : AreOthers (others_of o) others
+  pub plain : IsPlain o
+
+-- ---- sizes
+
+abbrev pub extent_length : Extent → ℕ
+extent_length (extent.Links p) = p.length
+extent_length (extent.Data n) = n
+
+abbrev pub size_length : Size → ℕ
+size_length s = s.header + extent_length s.extent
+
+abbrev pub IsLowExtent : Extent → Type 0
+IsLowExtent (extent.Links p) = (p.tree ≤ p.length) × (p.length ≤ 2 ^ 31)
+IsLowExtent (extent.Data n) = n ≤ 2 ^ 31
+
+-- so many bytes that sums of two sizes and a place are no larger than an address
+pub record IsLowSize (s : Size) : Type 0 where
+  pub header : s.header ≤ 2 ^ 31
+  pub extent_low : IsLowExtent s.extent
+
+-- a group's links lie so wherever their objects stand
+abbrev pub IsExtent : ℕ → ℕ → Content → Extent → Type 0
+IsExtent leaf internal (Group links) (extent.Links p) = (ls : List (List ℕ × Leads)) → AllZip laws.IsWritten (entries links) ls → ArePlaces leaf internal ls p
+IsExtent leaf internal (Array d) (extent.Data n) = n ≡ length (data_of d)
+IsExtent leaf internal _ _ = ⊥
+
+pub record IsSize (leaf internal : ℕ) (o : Object) (s : Size) : Type 0 where
+  pub header : s.header ≡ header_size o
+  pub extent_is : IsExtent leaf internal o.content s.extent
+  pub whole : size_length s ≡ object_length leaf internal o
+  pub low : IsLowSize s
+
+-- why an object's size is none that an image can have
+abbrev pub IsUnmeasured : ℕ → ℕ → Object → WriteFault → Type 0
+IsUnmeasured leaf internal o TooLong = 2 ^ 31 < object_length leaf internal o
+IsUnmeasured leaf internal o TooDeep = (links : Links) × (o.content ≡ Group links) × (IsLow leaf internal links → ⊥)
+IsUnmeasured leaf internal o NoMemory = Unit {0}
+
+abbrev pub AreUnmeasured : ℕ → ℕ → List Object → WriteFault → Type 0
+AreUnmeasured leaf internal listed TooLong = (number : ℕ) × (o : Object) × (slice_get listed number ≡ Some o) × IsUnmeasured leaf internal o TooLong
+AreUnmeasured leaf internal listed TooDeep = (number : ℕ) × (o : Object) × (slice_get listed number ≡ Some o) × IsUnmeasured leaf internal o TooDeep
+AreUnmeasured leaf internal listed NoMemory = Unit {0}
+
+-- ---- places
+
+-- how many bytes the object of a number has
+abbrev pub length_at : List Size → ℕ → ℕ
+length_at sizes number = option_map_or size_length (slice_get sizes number) 0
+
+-- the end of the objects of these numbers, the first of which stands at this place
+abbrev pub end_of : (ℕ → ℕ) → ℕ → List ℕ → ℕ
+end_of lengths at [] = at
+end_of lengths at (number ∷ order) = end_of lengths (at + lengths number) order
+
+-- the headers by number, with those of these objects
+abbrev pub headers_of : (ℕ → ℕ) → ℕ → List ℕ → List ℕ → List ℕ
+headers_of lengths at [] headers = headers
+headers_of lengths at (number ∷ order) headers = headers_of lengths (at + lengths number) order (slice_set headers number at)
+
+pub record AreHeaders (sizes : List Size) (order : List ℕ) (p : Placed) : Type 0 where
+  pub end_is : p.end ≡ end_of (length_at sizes) 96 order
+  pub headers_are : p.headers.items ≡ headers_of (length_at sizes) 96 order (replicate (length sizes) 0)
+  pub few : p.end ≤ 2 ^ 31
+
+abbrev pub IsUnplaced : List Size → List ℕ → WriteFault → Type 0
+IsUnplaced sizes order TooLong = 2 ^ 31 < end_of (length_at sizes) 96 order
+IsUnplaced sizes order TooDeep = ⊥
+IsUnplaced sizes order NoMemory = Unit {0}
+
+-- ---- a layout: the headers and sizes of objects by their numbers
+
+-- each object ends within an image
+pub record IsLowLayout (l : Layout) : Type 0 where
+  pub same : length l.headers.now ≡ length l.sizes.now
+  pub each : (number : ℕ) (s : Size) → slice_get l.sizes.now number ≡ Some s → slice_index l.headers.now number + size_length s ≤ 2 ^ 31
+  pub low : (number : ℕ) (s : Size) → slice_get l.sizes.now number ≡ Some s → IsLowSize s
+
+-- where the heap of a group stands whose tree stands there; nowhere for an array
+abbrev pub heap_behind : ℕ → Extent → ℕ
+heap_behind tree (extent.Links p) = tree + p.tree
+heap_behind tree (extent.Data n) = 0
+
+abbrev pub leads_behind : ℕ → ℕ → Extent → Leads
+leads_behind header tree (extent.Links p) = ToGroup header tree (tree + p.tree)
+leads_behind header tree (extent.Data n) = ToArray header
+
+-- where a link to an object of this size leads, whose header stands there
+abbrev pub leads_at : ℕ → Size → Leads
+leads_at header s = leads_behind header (header + s.header) s.extent
+
+-- where a link to the object of this number leads
+abbrev pub leads_by : Layout → ℕ → Leads
+leads_by l number = option_map_or (leads_at (slice_index l.headers.now number)) (slice_get l.sizes.now number) (ToArray 0)
+
+abbrev pub written_at : Layout → List ℕ × Link → List ℕ × Leads
+written_at l (name, ToObject number) = (name, leads_by l number)
+written_at l (name, Soft text) = (name, ToText text)
+
+-- ---- bytes
+
+-- an array's, whose data have this place
+abbrev pub array_at : ℕ → ℕ → Object → Dataset → List ℕ
+array_at place count o d =
+    header_bytes count (array_messages d (data_address d place) (length (others_of o)) ++ others_of o) ++ data_of d
+
+-- the bytes of an object whose header stands there and to which so many links lead
+abbrev pub content_at : Layout → ℕ → ℕ → Object → Content → List ℕ
+content_at l header count o (Group links) =
+    header_bytes 1 ((17, symbol_table_body (content_place o header) (heap_place l.leaf l.internal o links header)) ∷ others_of o)
+    ++ links_bytes l.leaf l.internal (content_place o header) (map (written_at l) (entries links))
+content_at l header count o (Array d) = array_at (content_place o header) count o d
+
+abbrev pub object_at : Layout → ℕ → ℕ → Object → List ℕ
+object_at l header count o = content_at l header count o o.content
+
+abbrev pub numbered_at : Layout → List ℕ → List Object → ℕ → List ℕ
+numbered_at l counts listed number =
+    option_map_or (object_at l (slice_index l.headers.now number) (slice_index counts number)) (slice_get listed number) []
+
+-- the superblock before objects whose root has this size
+abbrev pub front_at : Layout → Size → ℕ → List ℕ
+front_at l root end = superblock_bytes l.leaf l.internal end 96 (96 + root.header) (heap_behind (96 + root.header) root.extent)

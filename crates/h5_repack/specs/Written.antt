@@ -1,0 +1,33 @@
+-- What the writer makes of a tree's objects: its plain image, with the headers by the objects' numbers.
+use Rattle.std.specs.Prelude.{◌≡◌, ℕ, ◌^◌, ◌<◌, ◌≤◌, Some, List, slice_get}
+use Rattle.std.specs.FinMap.{get}
+use Rattle.h5_model.specs.Format.PlainLength.{plain_length}
+use Rattle.h5_model.specs.Tree.Objects.{Tree, Object, Links, links_of}
+use Rattle.h5_laws.specs.Trees.Sound.{IsSoundTree}
+use Rattle.h5_repack.specs.Image.Plain.{ArePlain, AreLow, IsLow}
+use Rattle.h5_repack.specs.Image.Written.{IsOrder, image_end, plain_image, table_of}
+use Rattle.h5_repack.specs.Objects.Objects.{AreObjects}
+use Rattle.h5_repack.specs.declared.objects.object.NewObject.{NewObject}
+use Rattle.h5_repack.specs.declared.write.Written.{Written}
+use Rattle.h5_repack.specs.declared.write.WriteFault.{WriteFault}
+use Rattle.h5_repack.specs.declared.write.WriteFault.TheVariants.{TooLong, TooDeep, NoMemory}
+
+-- a sound tree of these objects, which the plain layout can hold
+pub record IsHeld (objects : List NewObject) (tree : Tree) : Type 0 where
+  pub objects_are : AreObjects objects tree
+  pub sound : IsSoundTree tree
+  pub plain : ArePlain tree
+
+pub record IsWritten (leaf internal : ℕ) (tree : Tree) (w : Written) : Type 0 where
+  pub low : AreLow leaf internal tree
+  pub order : List (ℕ × Object)
+  pub ordered : IsOrder tree order
+  pub image_is : w.image.items ≡ plain_image leaf internal tree order
+  pub few : image_end leaf internal order ≤ 2 ^ 31
+  pub headers_are : (number : ℕ) → slice_get w.headers.items number ≡ get (table_of leaf internal order) number
+
+-- the image would be too long; or a group's tree too deep; or memory was refused
+abbrev pub IsUnwritten : ℕ → ℕ → Tree → WriteFault → Type 0
+IsUnwritten leaf internal tree TooLong = 2 ^ 31 < plain_length leaf internal 32 (λ number. 0) tree
+IsUnwritten leaf internal tree TooDeep = (number : ℕ) × (links : Links) × (links_of tree number ≡ Some links) × (IsLow leaf internal links → ⊥)
+IsUnwritten leaf internal tree NoMemory = Unit {0}

@@ -1,0 +1,104 @@
+//! The bytes of cells (File Format Specification 3.0, section IV.A.2.d, class 0), and where they stand.
+ghost use Rattle.std.specs.Prelude.{◌≡◌, ◌-◌, ◌^◌, ◌==◌, ◌≤◌, ◌++◌, OnOk, true, if◌then◌else◌, length, replicate};
+ghost use Rattle.h5_bytes.specs.Bytes.{undefined};
+ghost use Rattle.h5_model.specs.Format.Fixed.{bytes_of, fits};
+ghost use Rattle.h5_bytes.specs.Numbers.{zeros};
+ghost use Rattle.h5_model.specs.Format.Plain.{cells_bytes};
+ghost use Rattle.h5_repack.specs.Blocks.ArrayHeader.{data_written, address_written};
+ghost use Rattle.h5_repack.specs.Blocks.Parts.{copies};
+ghost use Rattle.h5_repack.specs.Blocks.Written.{IsWritable};
+
+use crate::blocks::array::{Array, Cells};
+use h5_bytes::push_bytes;
+use h5_bytes::UNDEF;
+use h5_model::Fixed;
+use h5_types::encode;
+use std::alloc::{AllocError, Global};
+
+/// How many cells are appended at a time.
+const TILE: u64 = 1024;
+
+/// The bytes of a value of the type, and zeros behind them.
+pub(crate) fn value_bytes(fixed: &Fixed, value: i128) -> [u8; 8]
+    requires { fits fixed.now value ≡ true }
+    ensures { result ≡ bytes_of fixed.now value ++ zeros (8 - fixed.now.size) }
+{
+    let mut room = [0; 8];
+    let _ = encode(fixed, value, &mut room[..fixed.size()]);
+    room
+}
+
+/// The bytes, so many times.
+#[tactic(auto, using(crate::proofs::BlockLaws::Copies::copies_steps))]
+fn push_copies(out: &mut Vec<u8>, bytes: &[u8], count: u64) -> Result<(), AllocError>
+    ensures { OnOk result (out.new.items ≡ out.old.items ++ copies count bytes.now) }
+{
+    for _copy in 0..count {
+        push_bytes(out, bytes)?;
+    }
+    Ok(())
+}
+
+/// So many cells of one value.
+fn push_cells(
+    alloc: Global,
+    out: &mut Vec<u8>,
+    fixed: &Fixed,
+    value: i128,
+    count: u64,
+) -> Result<(), AllocError>
+    requires { fits fixed.now value ≡ true }
+    ensures { OnOk result (out.new.items ≡ out.old.items ++ cells_bytes fixed.now (replicate count value)) }
+{
+    let room = value_bytes(fixed, value);
+    let cell = &room[..fixed.size()];
+    let mut tile = Vec::new(alloc);
+    push_copies(&mut tile, cell, TILE)?;
+    push_copies(out, &tile, count / TILE)?;
+    push_copies(out, cell, count % TILE)?;
+    Ok(())
+}
+
+/// How many bytes of data an array has.
+pub fn data_length(array: &Array<'_>) -> u64
+    requires { IsWritable array.now }
+    ensures exact { result ≡ length (data_written array.now.cells array.now) }
+    ensures few { result ≤ 2 ^ 44 }
+{
+    let size = array.fixed.size() as u64;
+    match array.cells {
+        Cells::Unset => 0,
+        Cells::Filled => array.size * size,
+        Cells::Stored(_) => array.size * size,
+    }
+}
+
+/// The address of the data of so many cells, which begin at a place where there are any.
+fn data_address(place: u64, cells: u64) -> u64
+    ensures { result ≡ (if cells == 0 then undefined else place) }
+{
+    if cells == 0 { UNDEF } else { place }
+}
+
+/// The address of an array's data, which begin at this place where there are any, and are undefined where there are none.
+pub fn cells_address(array: &Array<'_>, place: u64) -> u64
+    ensures { result ≡ address_written array.now.cells array.now.size place }
+{
+    match array.cells {
+        Cells::Unset => UNDEF,
+        Cells::Filled => data_address(place, array.size),
+        Cells::Stored(_) => place,
+    }
+}
+
+/// The data of an array, where there are any.
+pub fn push_data(alloc: Global, out: &mut Vec<u8>, array: &Array<'_>) -> Result<(), AllocError>
+    requires { IsWritable array.now }
+    ensures { OnOk result (out.new.items ≡ out.old.items ++ data_written array.now.cells array.now) }
+{
+    match array.cells {
+        Cells::Unset => Ok(()),
+        Cells::Filled => push_cells(alloc, out, &array.fixed, array.fill, array.size),
+        Cells::Stored(bytes) => push_bytes(out, bytes),
+    }
+}

@@ -1,0 +1,17 @@
+//! The plain image of a tree: the superblock, and then its objects one behind another, without gaps (File Format Specification 3.0,
+//! sections II.A, III and IV.A).
+//!
+//! Addresses are computed first, then each object is appended, in one pass.
+#![tactic(auto)]
+
+mod blocks;
+mod group;
+mod object;
+mod objects;
+mod place;
+mod size;
+mod write;
+
+pub use write::{WriteFault, Written, write_tree};
+pub use blocks::{Array, Cells, Others, Superblock, array_header_length, cells_address, data_length, group_header_length, push_array_header, push_data, push_group_header, push_superblock};
+pub use objects::{NewArray, NewContent, NewObject, TreeLink, TreeTarget, count_links, met_order};

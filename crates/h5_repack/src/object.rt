@@ -1,0 +1,117 @@
+//! Objects as they are appended: a header, and behind it what belongs to it (File Format Specification 3.0, sections III and IV.A).
+
+ghost use Rattle.std.specs.Prelude.{◌≡◌, ◌+◌, ◌^◌, ◌<◌, ◌≤◌, ◌++◌, List, OnOk, Some, length, map, slice_get, slice_index};
+ghost use Rattle.std.specs.List.{AllByRecursion, AllZip, flat_map};
+ghost use Rattle.h5_model.specs.Format.Superblock.{AreK};
+ghost use Rattle.h5_model.specs.Tree.Objects.{Object};
+ghost use Rattle.h5_group.specs.Writing.Written.{links_bytes};
+ghost use Rattle.h5_repack.specs.Blocks.ArrayHeader.{group_written};
+ghost use Rattle.h5_repack.specs.Objects.Objects.{tree_link};
+ghost use Rattle.h5_repack.specs.declared.size.Extent.TheVariants.{Links};
+ghost use Rattle.h5_repack.specs.Layout.{IsArrayObject, IsExtent, IsGroupObject, IsHeldObject, IsLowLayout, IsSize, array_at, numbered_at, object_at, written_at};
+
+use crate::group::{Layout, new_links};
+use crate::size::{Extent, Size, joined};
+use h5_group::{GroupPlaces, push_links};
+use crate::objects::{NewArray, NewContent, NewObject, TreeLink};
+use crate::blocks::{Others, cells_address, push_array_header, push_data, push_group_header};
+use std::alloc::{AllocError, Global};
+
+/// A group's header, and behind it, at the place `at`, its links.
+fn push_group(
+    alloc: Global,
+    out: &mut Vec<u8>,
+    layout: &Layout<'_>,
+    at: u64,
+    places: &GroupPlaces,
+    links: &[TreeLink<'_>],
+    others: &Others,
+) -> Result<(), AllocError>
+    requires k { AreK layout.now.leaf layout.now.internal }
+    requires layout { IsLowLayout layout.now }
+    requires held { (o : Object) × IsGroupObject links.now others.now o × IsExtent layout.now.leaf layout.now.internal o.content (Links places.now) }
+    requires low { at + places.now.length ≤ 2 ^ 31 }
+    requires header { length others.now.bytes ≤ 2 ^ 31 }
+    ensures { OnOk result (out.new.items ≡ out.old.items ++ (group_written at (at + places.now.tree) others.now
+        ++ links_bytes layout.now.leaf layout.now.internal at (map (written_at layout.now) (map tree_link links.now)))) }
+{
+    let new = new_links(alloc, layout, links)?;
+    push_group_header(out, at, at + places.tree, others)?;
+    push_links(alloc, out, layout.leaf, layout.internal, at, places, &new)?;
+    Ok(())
+}
+
+/// The header of an array to which so many links lead, and behind it, at the place `at`, its data.
+fn push_array(
+    alloc: Global,
+    out: &mut Vec<u8>,
+    at: u64,
+    count: u32,
+    array: &NewArray<'_>,
+    others: &Others,
+) -> Result<(), AllocError>
+    requires held { (o : Object) × IsArrayObject array.now others.now o }
+    requires header { length others.now.bytes ≤ 2 ^ 31 }
+    ensures { OnOk result ((o : Object) (is : IsArrayObject array.now others.now o) → out.new.items ≡ out.old.items ++ array_at at count o is.dataset) }
+{
+    let array = joined(array, others);
+    push_array_header(out, &array, cells_address(&array, at), count)?;
+    push_data(alloc, out, &array)?;
+    Ok(())
+}
+
+/// The object of this number, to which so many links lead.
+fn push_object(
+    alloc: Global,
+    out: &mut Vec<u8>,
+    layout: &Layout<'_>,
+    number: usize,
+    count: u32,
+    object: &NewObject<'_>,
+) -> Result<(), AllocError>
+    requires k { AreK layout.now.leaf layout.now.internal }
+    requires layout { IsLowLayout layout.now }
+    requires held { (o : Object) × (s : Size) × (slice_get layout.now.sizes.now number ≡ Some s) × IsHeldObject object.now o
+        × IsSize layout.now.leaf layout.now.internal o s }
+    ensures { OnOk result ((o : Object) (s : Size) → slice_get layout.now.sizes.now number ≡ Some s → IsHeldObject object.now o
+        → IsSize layout.now.leaf layout.now.internal o s
+        → out.new.items ≡ out.old.items ++ object_at layout.now (slice_index layout.now.headers.now number) count o) }
+{
+    let size = layout.sizes[number];
+    let at = layout.headers[number] + size.header;
+    match &object.content {
+        NewContent::Group(links) => match size.extent {
+            Extent::Links(places) => {
+                push_group(alloc, out, layout, at, &places, links, &object.others)
+            }
+            Extent::Data(_) => unreachable!(),
+        },
+        NewContent::Array(array) => push_array(alloc, out, at, count, array, &object.others),
+    }
+}
+
+/// The objects of these numbers, with the counts of links that lead to each object.
+pub(crate) fn push_objects(
+    alloc: Global,
+    out: &mut Vec<u8>,
+    layout: &Layout<'_>,
+    order: &[u32],
+    counts: &[u32],
+    objects: &[NewObject<'_>],
+) -> Result<(), AllocError>
+    requires k { AreK layout.now.leaf layout.now.internal }
+    requires layout { IsLowLayout layout.now }
+    requires below { AllByRecursion (λ number. number < length objects.now) order.now }
+    requires counted { length counts.now ≡ length objects.now }
+    requires held { (listed : List Object) × AllZip IsHeldObject objects.now listed
+        × AllZip (IsSize layout.now.leaf layout.now.internal) listed layout.now.sizes.now }
+    ensures { OnOk result ((listed : List Object) → AllZip IsHeldObject objects.now listed
+        → AllZip (IsSize layout.now.leaf layout.now.internal) listed layout.now.sizes.now
+        → out.new.items ≡ out.old.items ++ flat_map (numbered_at layout.now counts.now listed) order.now) }
+{
+    for number in order {
+        let number = *number as usize;
+        push_object(alloc, out, layout, number, counts[number], &objects[number])?;
+    }
+    Ok(())
+}

@@ -1,0 +1,46 @@
+//! The order in which objects are written.
+
+ghost use Rattle.std.specs.Prelude.{◌≡◌, ◌++◌, IfOk, ◌<◌, ◌^◌, length};
+ghost use Rattle.h5_model.specs.Tree.Objects.{Tree};
+ghost use Rattle.h5_laws.specs.Trees.Sound.{IsSoundTree};
+ghost use Rattle.h5_repack.specs.Objects.Objects.{AreObjects};
+ghost use Rattle.h5_repack.specs.Objects.Order.{AreMet};
+ghost use Rattle.h5_repack.specs.Objects.Targets.{waiting};
+
+use crate::objects::object::{NewContent, NewObject, TreeTarget};
+use std::alloc::{AllocError, Global};
+
+/// The numbers of the objects in the order in which they are first met, depth first and by the names of links, from the root on.
+///
+/// Takes memory for a mark and a number of each object, and for the links that wait.
+pub fn met_order(alloc: Global, objects: &[NewObject<'_>]) -> Result<Vec<u32>, AllocError>
+    requires few { length objects.now < 2 ^ 32 }
+    requires tree { (tree : Tree) × AreObjects objects.now tree × IsSoundTree tree }
+    ensures { IfOk result (λ order. (tree : Tree) → AreObjects objects.now tree → IsSoundTree tree → AreMet tree (length objects.now) order.items) }
+{
+    let mut order = Vec::new(alloc);
+    let mut is_met = vec![in alloc; false; objects.len()]?;
+    let mut stack = vec![in alloc; 0]?;
+    while let Some(number) = stack.pop() {
+        if !is_met[number as usize] {
+            is_met[number as usize] = true;
+            order.push(number)?;
+            push_waiting(&objects[number as usize], &mut stack)?;
+        }
+    }
+    Ok(order)
+}
+
+/// Lets the objects wait to which an object's links lead, so that the first name's is the next that is taken.
+fn push_waiting(object: &NewObject<'_>, stack: &mut Vec<u32>) -> Result<(), AllocError>
+    ensures { IfOk result (λ _. stack.new.items ≡ stack.old.items ++ waiting object.now) }
+{
+    if let NewContent::Group(links) = &object.content {
+        for link in links.iter().rev() {
+            if let TreeTarget::Object(number) = link.target {
+                stack.push(number)?;
+            }
+        }
+    }
+    Ok(())
+}

@@ -1,0 +1,38 @@
+//! Where the headers of objects stand.
+
+ghost use Rattle.std.specs.Prelude.{◌≡◌, ℕ, ◌<◌, IfOk, IfErr, Some, length, slice_get};
+ghost use Rattle.std.specs.List.{AllByRecursion};
+ghost use Rattle.h5_repack.specs.Layout.{AreHeaders, IsLowSize, IsUnplaced};
+
+use crate::size::{Size, whole_length};
+use crate::write::{FIRST, MOST, WriteFault};
+use std::alloc::Global;
+
+/// Where objects stand one behind another: the addresses of their headers by their numbers, and the end of the last.
+#[derive(Drop)]
+pub(crate) struct Placed {
+    pub headers: Vec<u64>,
+    pub end: u64,
+}
+
+/// Places the objects of these sizes in this order, the first behind the superblock.
+pub(crate) fn place_all(alloc: Global, order: &[u32], sizes: &[Size]) -> Result<Placed, WriteFault>
+    requires below { AllByRecursion (λ number. number < length sizes.now) order.now }
+    requires low { (number : ℕ) (s : Size) → slice_get sizes.now number ≡ Some s → IsLowSize s }
+    ensures placed { IfOk result (AreHeaders sizes.now order.now) }
+    ensures refused { IfErr result (IsUnplaced sizes.now order.now) }
+{
+    let Ok(mut headers) = vec![in alloc; 0; sizes.len()] else {
+        return Err(WriteFault::NoMemory);
+    };
+    let mut end = FIRST;
+    for number in order {
+        let number = *number as usize;
+        headers[number] = end;
+        end += whole_length(&sizes[number]);
+        if end > MOST {
+            return Err(WriteFault::TooLong);
+        }
+    }
+    Ok(Placed { headers, end })
+}

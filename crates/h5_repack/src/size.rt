@@ -1,0 +1,150 @@
+//! How many bytes objects have: their headers, and what belongs to them (File Format Specification 3.0, sections III and IV.A).
+
+ghost use Rattle.std.specs.Prelude.{◌≡◌, ℕ, ◌^◌, ◌<◌, ◌≤◌, List, IfOk, IfErr};
+ghost use Rattle.std.specs.List.{AllZip};
+ghost use Rattle.h5_model.specs.Format.Superblock.{AreK};
+ghost use Rattle.h5_model.specs.Tree.Objects.{Object};
+ghost use Rattle.h5_repack.specs.Layout.{AreUnmeasured, IsArrayObject, IsGroupObject, IsHeldObject, IsLowSize, IsSize, IsUnmeasured, IsJoined, size_length};
+
+use crate::group::{new_links, nowhere};
+use crate::write::{MOST, WriteFault};
+use h5_group::{GroupFault, GroupPlaces, group_places};
+use crate::objects::{NewArray, NewContent, NewObject, TreeLink};
+use crate::blocks::{Array, Others, array_header_length, data_length, group_header_length};
+use std::alloc::Global;
+
+/// What belongs to an object besides its header.
+#[derive(Clone, Copy)]
+pub(crate) enum Extent {
+    /// A group's tree, heap and symbol nodes, which lie so.
+    Links(GroupPlaces),
+    /// So many bytes of an array's data.
+    Data(u64),
+}
+
+/// How many bytes an object has.
+#[derive(Clone, Copy)]
+pub(crate) struct Size {
+    /// Those of its header.
+    pub header: u64,
+    pub extent: Extent,
+}
+
+/// How many bytes an object of this size has in all.
+pub(crate) fn whole_length(size: &Size) -> u64
+    requires { IsLowSize size.now }
+    ensures exact { result ≡ size_length size.now }
+    ensures few { result ≤ 2 ^ 32 }
+{
+    match size.extent {
+        Extent::Links(places) => size.header + places.length,
+        Extent::Data(length) => size.header + length,
+    }
+}
+
+/// An array with the messages behind its own, as the writer of headers takes it.
+pub(crate) fn joined<'a>(array: &NewArray<'a>, others: &'a Others) -> Array<'a>
+    ensures { IsJoined array.now others.now result }
+{
+    Array {
+        fixed: array.fixed,
+        size: array.size,
+        maximum: array.maximum,
+        fill: array.fill,
+        cells: array.cells,
+        others,
+    }
+}
+
+/// The size of an array with these messages besides its own.
+fn measure_array(array: &NewArray<'_>, others: &Others) -> Result<Size, WriteFault>
+    requires { (o : Object) × IsArrayObject array.now others.now o }
+    ensures size { IfOk result (λ s. (leaf internal : ℕ) (o : Object) → IsArrayObject array.now others.now o → IsSize leaf internal o s) }
+    ensures refused { IfErr result (λ fault. (leaf internal : ℕ) (o : Object) → IsArrayObject array.now others.now o → IsUnmeasured leaf internal o fault) }
+{
+    let array = joined(array, others);
+    let header = array_header_length(&array);
+    let length = data_length(&array);
+    if header > MOST {
+        return Err(WriteFault::TooLong);
+    }
+    if length > MOST {
+        return Err(WriteFault::TooLong);
+    }
+    Ok(Size {
+        header,
+        extent: Extent::Data(length),
+    })
+}
+
+/// The size of a group of these links, with these messages besides its Symbol Table. It is the same wherever the objects stand to
+/// which the links lead.
+fn measure_group(
+    alloc: Global,
+    leaf: u16,
+    internal: u16,
+    links: &[TreeLink<'_>],
+    others: &Others,
+) -> Result<Size, WriteFault>
+    requires k { AreK leaf internal }
+    requires held { (o : Object) × IsGroupObject links.now others.now o }
+    ensures size { IfOk result (λ s. (o : Object) → IsGroupObject links.now others.now o → IsSize leaf internal o s) }
+    ensures refused { IfErr result (λ fault. (o : Object) → IsGroupObject links.now others.now o → IsUnmeasured leaf internal o fault) }
+{
+    let header = group_header_length(others);
+    if header > MOST {
+        return Err(WriteFault::TooLong);
+    }
+    let layout = nowhere(leaf, internal);
+    let Ok(bare) = new_links(alloc, &layout, links) else {
+        return Err(WriteFault::NoMemory);
+    };
+    match group_places(leaf, internal, &bare) {
+        Ok(places) => Ok(Size {
+            header,
+            extent: Extent::Links(places),
+        }),
+        Err(GroupFault::TooLong) => Err(WriteFault::TooLong),
+        Err(GroupFault::TooDeep) => Err(WriteFault::TooDeep),
+    }
+}
+
+/// The size of an object.
+fn measure(
+    alloc: Global,
+    leaf: u16,
+    internal: u16,
+    object: &NewObject<'_>,
+) -> Result<Size, WriteFault>
+    requires k { AreK leaf internal }
+    requires held { (o : Object) × IsHeldObject object.now o }
+    ensures size { IfOk result (λ s. (o : Object) → IsHeldObject object.now o → IsSize leaf internal o s) }
+    ensures refused { IfErr result (λ fault. (o : Object) → IsHeldObject object.now o → IsUnmeasured leaf internal o fault) }
+{
+    match &object.content {
+        NewContent::Group(links) => measure_group(alloc, leaf, internal, links, &object.others),
+        NewContent::Array(array) => measure_array(array, &object.others),
+    }
+}
+
+/// The sizes of all these objects.
+pub(crate) fn measure_all(
+    alloc: Global,
+    leaf: u16,
+    internal: u16,
+    objects: &[NewObject<'_>],
+) -> Result<Vec<Size>, WriteFault>
+    requires k { AreK leaf internal }
+    requires held { (listed : List Object) × AllZip IsHeldObject objects.now listed }
+    ensures sizes { IfOk result (λ sizes. (listed : List Object) → AllZip IsHeldObject objects.now listed → AllZip (IsSize leaf internal) listed sizes.items) }
+    ensures refused { IfErr result (λ fault. (listed : List Object) → AllZip IsHeldObject objects.now listed → AreUnmeasured leaf internal listed fault) }
+{
+    let mut sizes = Vec::new(alloc);
+    for object in objects {
+        let size = measure(alloc, leaf, internal, object)?;
+        let Ok(()) = sizes.push(size) else {
+            return Err(WriteFault::NoMemory);
+        };
+    }
+    Ok(sizes)
+}

@@ -1,0 +1,132 @@
+//! The image of a tree.
+
+ghost use Rattle.std.specs.Prelude.{◌≡◌, ◌+◌, ◌<◌, ◌≤◌, ◌^◌, ◌++◌, List, IfOk, IfErr, Some, OnOk, length, slice_get};
+ghost use Rattle.std.specs.List.{AllByRecursion, AllZip, flat_map};
+ghost use Rattle.h5_model.specs.Tree.Objects.{Object, Tree};
+ghost use Rattle.h5_model.specs.Format.Superblock.{AreK};
+ghost use Rattle.h5_repack.specs.Layout.{IsHeldObject, IsLowLayout, IsLowSize, IsSize, front_at, numbered_at};
+ghost use Rattle.h5_repack.specs.Written.{IsHeld, IsWritten, IsUnwritten};
+
+use crate::group::Layout;
+use crate::object::push_objects;
+use crate::place::place_all;
+use crate::size::{Extent, Size, measure_all};
+use crate::objects::{NewObject, count_links, met_order};
+use crate::blocks::{Superblock, push_superblock};
+use std::alloc::{AllocError, Global};
+
+/// Where the first object begins, behind the superblock.
+pub(crate) const FIRST: u64 = 96;
+
+/// The most bytes of an image.
+pub(crate) const MOST: u64 = 2147483648;
+
+/// Why an image is not written.
+#[derive(Clone, Copy, PartialEq, Eq, Debug)]
+pub enum WriteFault {
+    /// It would have more than 2147483648 bytes.
+    TooLong,
+    /// The tree of a group would have more than 16 levels.
+    TooDeep,
+    /// Memory was refused.
+    NoMemory,
+}
+
+/// An image, and where the header of each object stands in it, by the objects' numbers.
+#[derive(Drop)]
+pub struct Written {
+    pub image: Vec<u8>,
+    pub headers: Vec<u64>,
+}
+
+/// The superblock of an image whose root has this size and which ends there.
+fn push_front(
+    out: &mut Vec<u8>,
+    layout: &Layout<'_>,
+    root: &Size,
+    end: u64,
+) -> Result<(), AllocError>
+    requires { IsLowSize root.now }
+    ensures { OnOk result (out.new.items ≡ out.old.items ++ front_at layout.now root.now end) }
+{
+    let tree = FIRST + root.header;
+    let heap = match root.extent {
+        Extent::Links(places) => tree + places.tree,
+        Extent::Data(_) => 0,
+    };
+    let superblock = Superblock {
+        leaf: layout.leaf,
+        internal: layout.internal,
+        end,
+        root: FIRST,
+        tree,
+        heap,
+    };
+    push_superblock(out, &superblock)
+}
+
+/// The image of the objects of these numbers, which lie so and end there, with the counts of links that lead to each object.
+fn image_of(
+    alloc: Global,
+    layout: &Layout<'_>,
+    end: u64,
+    order: &[u32],
+    counts: &[u32],
+    objects: &[NewObject<'_>],
+) -> Result<Vec<u8>, AllocError>
+    requires k { AreK layout.now.leaf layout.now.internal }
+    requires layout { IsLowLayout layout.now }
+    requires some { 0 < length layout.now.sizes.now }
+    requires end { end ≤ 2 ^ 31 }
+    requires below { AllByRecursion (λ number. number < length objects.now) order.now }
+    requires counted { length counts.now ≡ length objects.now }
+    requires held { (listed : List Object) × AllZip IsHeldObject objects.now listed
+        × AllZip (IsSize layout.now.leaf layout.now.internal) listed layout.now.sizes.now }
+    ensures { IfOk result (λ image. (listed : List Object) (root : Size) → AllZip IsHeldObject objects.now listed
+        → AllZip (IsSize layout.now.leaf layout.now.internal) listed layout.now.sizes.now → slice_get layout.now.sizes.now 0 ≡ Some root
+        → image.items ≡ front_at layout.now root end ++ flat_map (numbered_at layout.now counts.now listed) order.now) }
+{
+    let mut image = Vec::with_capacity(alloc, end as usize)?;
+    push_front(&mut image, layout, &layout.sizes[0], end)?;
+    push_objects(alloc, &mut image, layout, order, counts, objects)?;
+    Ok(image)
+}
+
+/// The plain image of the tree of these objects, with these K values of symbol nodes and of nodes.
+///
+/// Takes memory for a few numbers of each object and for the links of one group beside the image. Where there is more than one fault,
+/// any of them may be the answer.
+pub fn write_tree(
+    alloc: Global,
+    leaf: u16,
+    internal: u16,
+    objects: &[NewObject<'_>],
+) -> Result<Written, WriteFault>
+    requires k { AreK leaf internal }
+    requires few { length objects.now < 2 ^ 32 }
+    requires tree { (tree : Tree) × IsHeld objects.now tree }
+    ensures written { IfOk result (λ w. (tree : Tree) → IsHeld objects.now tree → IsWritten leaf internal tree w) }
+    ensures refused { IfErr result (λ fault. (tree : Tree) → IsHeld objects.now tree → IsUnwritten leaf internal tree fault) }
+{
+    let Ok(order) = met_order(alloc, objects) else {
+        return Err(WriteFault::NoMemory);
+    };
+    let Ok(counts) = count_links(alloc, objects) else {
+        return Err(WriteFault::NoMemory);
+    };
+    let sizes = measure_all(alloc, leaf, internal, objects)?;
+    let placed = place_all(alloc, &order, &sizes)?;
+    let layout = Layout {
+        leaf,
+        internal,
+        headers: &placed.headers,
+        sizes: &sizes,
+    };
+    let Ok(image) = image_of(alloc, &layout, placed.end, &order, &counts, objects) else {
+        return Err(WriteFault::NoMemory);
+    };
+    Ok(Written {
+        image,
+        headers: placed.headers,
+    })
+}

@@ -1,4 +1,0 @@
-use Rattle.h5_rows.proofs.count.+level_within.Given as goal
-
-abbrev pub decreases-level_within : goal.decreases-level_within
-decreases-level_within l = l.levels

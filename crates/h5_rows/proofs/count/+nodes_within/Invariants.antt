@@ -1,4 +1,0 @@
-use Rattle.h5_rows.proofs.count.+nodes_within.Given as goal
-
-abbrev pub decreases-nodes_within : goal.decreases-nodes_within
-decreases-nodes_within l = l.levels

@@ -1,5 +1,0 @@
-use Rattle.std.proofs.Common.{◌-◌}
-use Rattle.h5_rows.proofs.rows.+push_rows.Given as goal
-
-abbrev pub decreases-push_rows : goal.decreases-push_rows
-decreases-push_rows l = 16 - l.level

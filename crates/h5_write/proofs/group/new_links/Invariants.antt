@@ -1,9 +1,0 @@
-use Rattle.std.proofs.Common.{◌≡◌, map, take}
-use Rattle.h5_segment.specs.Links.{link_of}
-use Rattle.h5_objects.specs.Objects.{tree_link}
-use Rattle.h5_write.specs.Layout.{written_at}
-use Rattle.h5_write.proofs.group.new_links.Given as goal
-
--- the links so far
-abbrev pub invariant-loop-link : goal.invariant-loop-link
-invariant-loop-link l = map link_of l.new.items ≡ map (written_at l.layout) (map tree_link (take l.link-index l.links))
