@@ -14,13 +14,13 @@ ghost use Rattle.h5_edit.specs.Carried.{IsRefused};
 ghost use Rattle.h5_edit.specs.Fitting.{IsFitting};
 ghost use Rattle.h5_edit.specs.Made.{IsMade};
 
+use crate::change::{Change, changed_objects};
 use crate::made::{Made, answer};
 use h5_bytes::get_u16;
-use crate::change::{Change, changed_objects};
 use h5_model::{EditFault, ObjectNo};
-use h5_space::Image;
 use h5_open::Opened;
 use h5_repack::{WriteFault, Written, write_tree};
+use h5_space::Image;
 use std::alloc::Global;
 
 /// Where the superblock has the K value of symbol nodes.

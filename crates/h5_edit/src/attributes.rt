@@ -8,12 +8,12 @@ ghost use Rattle.h5_edit.specs.Carried.{IsRefused};
 ghost use Rattle.h5_edit.specs.Made.{IsMade};
 
 use crate::anew::carry_out;
-use crate::made::Made;
 use crate::change::Change;
-use h5_model::{AttrSpec, EditFault, ObjectNo};
+use crate::made::Made;
 use crate::rules::{check_attribute, check_removal};
-use h5_space::Image;
+use h5_model::{AttrSpec, EditFault, ObjectNo};
 use h5_open::Opened;
+use h5_space::Image;
 use std::alloc::Global;
 
 /// The most messages of a header.

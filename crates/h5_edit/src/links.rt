@@ -9,12 +9,14 @@ ghost use Rattle.h5_edit.specs.Carried.{IsRefused};
 ghost use Rattle.h5_edit.specs.Made.{IsMade};
 
 use crate::anew::carry_out;
-use crate::made::Made;
 use crate::change::{Change, Target};
+use crate::made::Made;
+use crate::rules::{
+    NewPlace, check_array, check_group, check_hard_link, check_soft_link, is_one_line,
+};
 use h5_model::{EditFault, ObjectNo, Spec};
-use crate::rules::{NewPlace, check_array, check_group, check_hard_link, check_soft_link, is_one_line};
-use h5_space::Image;
 use h5_open::Opened;
+use h5_space::Image;
 use std::alloc::Global;
 
 /// Makes an empty group at the path.

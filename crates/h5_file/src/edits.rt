@@ -12,8 +12,7 @@ use h5_edit::{
     Made, new_array, new_group, new_hard_link, new_soft_link, remove_attribute, set_attribute,
 };
 use h5_model::{AttrSpec, Edit, EditFault, Edited, Spec};
-use h5_open::walk;
-use h5_open::renumber;
+use h5_open::{renumber, walk};
 use h5_space::Image;
 
 impl File {

@@ -11,8 +11,8 @@ use Rattle.h5_model.specs.Tree.Objects.{Tree, Links, Object, Content, Group, Arr
 use Rattle.h5_text.specs.Listing.{dump_line}
 use Rattle.h5_text.specs.Rows.{cells_from}
 use Rattle.h5_text.proofs.RowTexts.{cells_are_rows}
-use Rattle.h5_query.specs.Look.{IsArray}
-use Rattle.h5_query.specs.declared.array.ArrayCells.{ArrayCells}
+use Rattle.h5_file.specs.Look.{IsArray}
+use Rattle.h5_file.specs.ArrayCellsType.{ArrayCells}
 
 -- ---- what lines tell of the array
 

@@ -5,8 +5,8 @@ use Rattle.std.specs.List.{flat_map}
 use Rattle.std.specs.Option.{option_and_then, option_map_or}
 use Rattle.h5_model.specs.Scripts.Text.{content_text, joined_path, line_of, lines_below, link_line, list_text}
 use Rattle.h5_model.specs.Tree.Objects.{Tree, Link, Links, Object, Content, Group, Array, Dataset, ToObject, dataset_of, dataset_in, links_in, links_of}
-use Rattle.h5_query.specs.Listed.{AreLinks, seen_link}
-use Rattle.h5_query.specs.declared.group.Link as look
+use Rattle.h5_file.specs.Listed.{AreLinks, seen_link}
+use Rattle.h5_file.specs.LinkType as look
 use Rattle.h5_script.specs.Listing.{lines_of_link}
 
 -- ---- the lines of a group's links

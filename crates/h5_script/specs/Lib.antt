@@ -5,3 +5,5 @@ pub mod Runs
 pub mod Pieces
 pub mod Script
 pub mod Streams
+pub use Rattle.h5_file.specs.State
+pub use Rattle.h5_file.specs.Opened

@@ -15,6 +15,7 @@ mod streams;
 mod texts;
 
 pub use fault::RunFault;
+pub use h5_file::{Cause, File, OpenFault};
 pub use ran::Ran;
 pub use run::run_script;
 pub use texts::{push_dump, push_list};

@@ -9,13 +9,11 @@ ghost use Rattle.h5_model.specs.Scripts.Text.{attribute_line, content_text, dump
 ghost use Rattle.h5_model.specs.Tree.Objects.{Array, Dataset, Group, Links, Object, ToObject};
 ghost use Rattle.h5_text.specs.Appends.{Appends};
 ghost use Rattle.h5_text.specs.Listing.{path_text};
-ghost use Rattle.h5_query.specs.Listed.{seen_link};
-ghost use Rattle.h5_query.specs.Look.{AreCells, HasKind, IsArray};
+ghost use Rattle.h5_file.specs.Listed.{seen_link};
+ghost use Rattle.h5_file.specs.Look.{AreCells, HasKind, IsArray};
 ghost use Rattle.h5_script.specs.Listing.{lines_of_link};
 
-use h5_attr::AttrRef;
-use h5_file::File;
-use h5_query::{ArrayCells, Kind, Link, LinkTo, MAX_DEPTH};
+use h5_file::{ArrayCells, AttrRef, File, Kind, Link, LinkTo, MAX_DEPTH};
 use h5_model::ObjectNo;
 use h5_text::{
     ArrayText, Layout, PathText, Rows, push_array_line, push_attribute_head, push_dump_line,

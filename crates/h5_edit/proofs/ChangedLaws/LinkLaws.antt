@@ -10,10 +10,10 @@ use Rattle.std.specs.FinMap.{get, entries, insert, find, put, get-entries, entri
 use Rattle.std.specs.FinMap.Entries.{by_order}
 use Rattle.h5_model.specs.Format.Symbols.{Target}
 use Rattle.h5_model.specs.Tree.Objects.{Link, Links}
-use Rattle.h5_group.specs.Links as group
-use Rattle.h5_group.specs.Links.{IsGroupRead, link_from}
-use Rattle.h5_group.specs.declared.group.Group.{Group}
-use Rattle.h5_group.specs.declared.link.LinkRef.{LinkRef}
+use Rattle.h5_open.specs.Links as group
+use Rattle.h5_open.specs.Links.{IsGroupRead, link_from}
+use Rattle.h5_open.specs.GroupType.{Group}
+use Rattle.h5_open.specs.LinkRefType.{LinkRef}
 use Rattle.h5_open.specs.Opened.Objects.{link_to, links_by}
 use Rattle.h5_open.proofs.OpenedLaws.Entries.{group_entries}
 use Rattle.h5_query.specs.Listed.{in_tree}

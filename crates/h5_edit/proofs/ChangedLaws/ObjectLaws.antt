@@ -10,11 +10,11 @@ use Rattle.std.specs.FinMap.{empty}
 use Rattle.std.specs.BTreeMap.{BTreeMap}
 use Rattle.h5_bytes.specs.Blocks.{Inside}
 use Rattle.h5_header.specs.Listed.{messages_in}
-use Rattle.h5_layout.specs.Described.{HasArray}
-use Rattle.h5_group.specs.Links as group
-use Rattle.h5_group.specs.Links.{IsGroupRead, link_from}
-use Rattle.h5_group.specs.declared.group.Group.{Group}
-use Rattle.h5_group.specs.declared.link.LinkRef.{LinkRef}
+use Rattle.h5_open.specs.Described.{HasArray}
+use Rattle.h5_open.specs.Links as group
+use Rattle.h5_open.specs.Links.{IsGroupRead, link_from}
+use Rattle.h5_open.specs.GroupType.{Group}
+use Rattle.h5_open.specs.LinkRefType.{LinkRef}
 use Rattle.h5_query.specs.Listed.{IsLed}
 use Rattle.h5_query.proofs.ListedLaws.{found_led}
 use Rattle.h5_model.specs.Edits.Applied.{new_object, new_dataset}

@@ -8,7 +8,7 @@ use Rattle.h5_model.specs.Tree.Objects.{Tree, Attribute, Attributes, ToObject}
 use Rattle.h5_model.specs.declared.edits.Edit.TheVariants.{RemoveAttr}
 use Rattle.h5_model.specs.declared.edit_fault.EditFault.TheVariants as fault
 use Rattle.h5_header.specs.Listed.{messages_in}
-use Rattle.h5_attr.specs.Attributes.{attributes_of}
+use Rattle.h5_open.specs.Attributes.{attributes_of}
 use Rattle.h5_open.specs.declared.opened.object.OpenedObject.{OpenedObject}
 use Rattle.h5_open.specs.Opened.Kept.{IsOpened}
 use Rattle.h5_open.specs.Opened.Objects.{headers, object_in, tree_of}

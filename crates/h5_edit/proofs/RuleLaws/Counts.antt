@@ -14,7 +14,7 @@ use Rattle.h5_laws.proofs.Lists.{In, in_all, from_map}
 use Rattle.h5_laws.proofs.Maps.{entry_of_get}
 use Rattle.h5_header.specs.Listed.{messages_in}
 use Rattle.h5_header.proofs.WalkLaws.ListLaws.{prefix_there}
-use Rattle.h5_group.specs.declared.group.Group.{Group}
+use Rattle.h5_open.specs.GroupType.{Group}
 use Rattle.h5_open.specs.declared.opened.line.Line.{Line}
 use Rattle.h5_open.specs.declared.opened.object.OpenedObject.{OpenedObject}
 use Rattle.h5_open.specs.declared.opened.object.OpenedContent.TheVariants as content

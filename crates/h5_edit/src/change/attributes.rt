@@ -18,9 +18,9 @@ ghost use Rattle.h5_edit.specs.Changed.Edited.{IsPlainEdit, edited_by};
 
 use crate::change::edit::Edit;
 use crate::change::parts::part_of;
-use h5_attr::{AttrRef, sorted};
 use h5_header::{Message, Messages};
 use h5_model::AttrSpec;
+use h5_open::{AttrRef, sorted};
 use h5_repack::Others;
 use h5_space::Image;
 use std::alloc::{AllocError, Global};

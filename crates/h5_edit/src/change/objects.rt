@@ -14,10 +14,9 @@ use crate::change::cells::{kept_array, new_array};
 use crate::change::change::{Change, Target};
 use crate::change::edit::{Edit, edit_at, edit_of, link_in};
 use crate::change::links::links_in;
-use h5_repack::{NewContent, NewObject};
-use h5_repack::Others;
-use h5_space::Image;
 use h5_open::{Opened, OpenedContent, OpenedObject};
+use h5_repack::{NewContent, NewObject, Others};
+use h5_space::Image;
 use std::alloc::{AllocError, Global};
 
 /// The objects of the tree that the change gives, by their numbers; a new one stands behind the others.

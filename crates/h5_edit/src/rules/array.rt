@@ -12,9 +12,9 @@ ghost use Rattle.h5_edit.specs.Refusals.Rules.{line_rules};
 use crate::rules::place::{NewPlace, is_full, new_place};
 use h5_bytes::UNDEF;
 use h5_model::{EditFault, Spec, Store};
+use h5_open::Opened;
 use h5_shape::MAX_CELLS;
 use h5_space::Image;
-use h5_open::Opened;
 use h5_types::fits;
 
 /// Whether the array has one size, and its cells stand in one block.

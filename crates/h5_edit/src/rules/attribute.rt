@@ -15,11 +15,10 @@ ghost use Rattle.h5_edit.specs.Refusals.Rules.{own_rules};
 use crate::rules::limits::{MAX_BODY, MAX_NAME};
 use crate::rules::place::object_at;
 use crate::rules::text::is_no_text;
-use h5_attr::get;
 use h5_model::{AttrSpec, EditFault, Fixed};
+use h5_open::{Opened, get};
 use h5_shape::Dims;
 use h5_space::Image;
-use h5_open::Opened;
 use h5_types::fits;
 use std::alloc::Global;
 

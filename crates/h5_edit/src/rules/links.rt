@@ -12,8 +12,8 @@ use crate::rules::limits::{MAX_LINKS, MAX_NAME};
 use crate::rules::place::{NewPlace, is_full, lower, new_place, object_at};
 use crate::rules::text::is_no_text;
 use h5_model::EditFault;
-use h5_space::Image;
 use h5_open::{Opened, OpenedContent, OpenedObject};
+use h5_space::Image;
 
 /// Where a new group at the path is to stand.
 ///

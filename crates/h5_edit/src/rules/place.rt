@@ -9,10 +9,10 @@ ghost use Rattle.h5_query.specs.Place.{IsNoObject};
 ghost use Rattle.h5_edit.specs.Refusals.Rules.{IsCut, IsFree, IsNotFree, IsObject, lower_fault};
 
 use crate::rules::limits::{MAX_NAME, MAX_OBJECTS};
-use h5_query::{Names, Place, look, names_in};
 use h5_model::EditFault;
-use h5_space::Image;
 use h5_open::{Opened, OpenedObject};
+use h5_query::{Names, Place, look, names_in};
+use h5_space::Image;
 
 /// A place for a new link: the number of the group, and the name.
 #[derive(Clone, Copy)]

@@ -9,9 +9,9 @@ ghost use Rattle.h5_group.specs.Order.Ordered.{AreOrdered, IsOrderRefused};
 
 use crate::order::keys::check_keys;
 use crate::order::names::check_names;
+use crate::{GroupTree, tree_node};
 use h5_model::OpenFault;
 use h5_msg::SymbolTable;
-use crate::{GroupTree, tree_node};
 use h5_space::Image;
 
 /// Checks that the names of a group ascend by their bytes, and stand between the keys of its tree, which do not fall. The segment is

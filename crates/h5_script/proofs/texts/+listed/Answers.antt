@@ -6,7 +6,7 @@ use Rattle.h5_model.specs.Tree.Objects.{Array}
 use Rattle.h5_text.specs.Appends.{Appends}
 use Rattle.h5_text.proofs.Appending.{appends_err}
 use Rattle.h5_text.proofs.LineTexts.{in_two_pieces}
-use Rattle.h5_query.specs.Listed.{AreLinks, IsNoGroup, seen_link}
+use Rattle.h5_file.specs.Listed.{AreLinks, IsNoGroup, seen_link}
 use Rattle.h5_script.specs.Listing.{lines_of_link}
 use Rattle.h5_script.proofs.Listings.{lines_of_array, lines_of_last, lines_of_next, lines_of_nothing}
 use Rattle.h5_script.proofs.texts.+listed.Goals as goal

@@ -1,6 +1,6 @@
 use Rattle.std.proofs.Common.{◌≡◌, ◌+◌, ◌*◌, ◌++◌, map, take}
 use Rattle.std.specs.List.{flat_map}
-use Rattle.h5_query.specs.Listed.{seen_link}
+use Rattle.h5_file.specs.Listed.{seen_link}
 use Rattle.h5_script.specs.Listing.{lines_of_link}
 use Rattle.h5_script.proofs.texts.+listed.Given as goal
 

@@ -4,7 +4,7 @@ use Rattle.std.proofs.lemmas.Int.{to_z-of_z}
 use Rattle.h5_model.specs.Scripts.Answers.{stored_values}
 use Rattle.h5_text.specs.Appends.{Appends}
 use Rattle.h5_text.specs.Rows.{cells_from}
-use Rattle.h5_query.specs.Look.{AreCells}
+use Rattle.h5_file.specs.Look.{AreCells}
 use Rattle.h5_script.proofs.Dumps.{one-row}
 use Rattle.h5_script.proofs.texts.push_cells.Goals as goal
 
