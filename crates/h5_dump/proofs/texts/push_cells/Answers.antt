@@ -5,8 +5,8 @@ use Rattle.h5_model.specs.Scripts.Answers.{stored_values}
 use Rattle.h5_text.specs.Appends.{Appends}
 use Rattle.h5_text.specs.Rows.{cells_from}
 use Rattle.h5_file.specs.Look.{AreCells}
-use Rattle.h5_script.proofs.Dumps.{one-row}
-use Rattle.h5_script.proofs.texts.push_cells.Goals as goal
+use Rattle.h5_dump.proofs.Dumps.{one-row}
+use Rattle.h5_dump.proofs.texts.push_cells.Goals as goal
 
 pub returns-in-Some : goal.returns-in-Some
 returns-in-Some c values counted are =

@@ -7,7 +7,7 @@ use Rattle.h5_model.specs.Scripts.Text.{content_text, joined_path, line_of, line
 use Rattle.h5_model.specs.Tree.Objects.{Tree, Link, Links, Object, Content, Group, Array, Dataset, ToObject, dataset_of, dataset_in, links_in, links_of}
 use Rattle.h5_file.specs.Listed.{AreLinks, seen_link}
 use Rattle.h5_file.specs.LinkType as look
-use Rattle.h5_script.specs.Listing.{lines_of_link}
+use Rattle.h5_dump.specs.Listing.{lines_of_link}
 
 -- ---- the lines of a group's links
 

@@ -1,7 +1,7 @@
 use Rattle.std.proofs.Common.{List, ℕ, ◌∙◌, subst}
 use Rattle.h5_text.specs.Appends.{Appends}
-use Rattle.h5_script.proofs.Dumps.{dumped-object, holds-array}
-use Rattle.h5_script.proofs.texts.push_dump.Goals as goal
+use Rattle.h5_dump.proofs.Dumps.{dumped-object, holds-array}
+use Rattle.h5_dump.proofs.texts.push_dump.Goals as goal
 
 pub returns-in-Some : goal.returns-in-Some
 returns-in-Some c =

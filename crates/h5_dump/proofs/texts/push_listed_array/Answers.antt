@@ -2,8 +2,8 @@ use Rattle.std.proofs.Common.{List, ℕ, ap, subst}
 use Rattle.h5_model.specs.Scripts.Text.{line_of}
 use Rattle.h5_text.specs.Appends.{Appends}
 use Rattle.h5_text.specs.Listing.{path_text}
-use Rattle.h5_script.proofs.Dumps.{content-told}
-use Rattle.h5_script.proofs.texts.push_listed_array.Goals as goal
+use Rattle.h5_dump.proofs.Dumps.{content-told}
+use Rattle.h5_dump.proofs.texts.push_listed_array.Goals as goal
 
 pub returns : goal.returns
 returns c d is =

@@ -4,9 +4,9 @@ use Rattle.std.specs.List.{flat_map}
 use Rattle.h5_text.specs.Appends.{Appends}
 use Rattle.h5_text.proofs.Appending.{appends_more}
 use Rattle.h5_file.specs.Listed.{AreLinks, IsNoGroup, seen_link}
-use Rattle.h5_script.specs.Listing.{lines_of_link}
-use Rattle.h5_script.proofs.Listings.{list_of_links, list_of_none}
-use Rattle.h5_script.proofs.texts.push_list.Goals as goal
+use Rattle.h5_dump.specs.Listing.{lines_of_link}
+use Rattle.h5_dump.proofs.Listings.{list_of_links, list_of_none}
+use Rattle.h5_dump.proofs.texts.push_list.Goals as goal
 
 pub returns-in_default : goal.returns-in_default
 returns-in_default c =

@@ -2,7 +2,7 @@ use Rattle.std.proofs.Common.{take}
 use Rattle.std.specs.List.{flat_map}
 use Rattle.h5_model.specs.Scripts.Text.{attribute_line}
 use Rattle.h5_text.proofs.Appending.{appends_err}
-use Rattle.h5_script.proofs.texts.push_attributes.Goals as goal
+use Rattle.h5_dump.proofs.texts.push_attributes.Goals as goal
 
 pub returns-in_err-push_attribute : goal.returns-in_err-push_attribute
 returns-in_err-push_attribute c =

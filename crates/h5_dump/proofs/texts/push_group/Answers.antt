@@ -3,8 +3,8 @@ use Rattle.std.specs.List.{flat_map}
 use Rattle.h5_model.specs.Scripts.Text.{attribute_line, escaped, line_of}
 use Rattle.h5_text.specs.Appends.{Appends}
 use Rattle.h5_text.proofs.Appending.{appends_more}
-use Rattle.h5_script.proofs.Dumps.{dump-group}
-use Rattle.h5_script.proofs.texts.push_group.Goals as goal
+use Rattle.h5_dump.proofs.Dumps.{dump-group}
+use Rattle.h5_dump.proofs.texts.push_group.Goals as goal
 
 pub returns : goal.returns
 returns c group links is listed =

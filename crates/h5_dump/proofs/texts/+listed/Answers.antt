@@ -7,9 +7,9 @@ use Rattle.h5_text.specs.Appends.{Appends}
 use Rattle.h5_text.proofs.Appending.{appends_err}
 use Rattle.h5_text.proofs.LineTexts.{in_two_pieces}
 use Rattle.h5_file.specs.Listed.{AreLinks, IsNoGroup, seen_link}
-use Rattle.h5_script.specs.Listing.{lines_of_link}
-use Rattle.h5_script.proofs.Listings.{lines_of_array, lines_of_last, lines_of_next, lines_of_nothing}
-use Rattle.h5_script.proofs.texts.+listed.Goals as goal
+use Rattle.h5_dump.specs.Listing.{lines_of_link}
+use Rattle.h5_dump.proofs.Listings.{lines_of_array, lines_of_last, lines_of_next, lines_of_nothing}
+use Rattle.h5_dump.proofs.texts.+listed.Goals as goal
 
 pub push_links-returns-in_err-push_soft_line-in-Soft-clause-lines : goal.push_links-returns-in_err-push_soft_line-in-Soft-clause-lines
 push_links-returns-in_err-push_soft_line-in-Soft-clause-lines t c =

@@ -8,7 +8,7 @@ use Rattle.h5_model.specs.Scripts.Text.{attribute_line, values_text}
 use Rattle.h5_text.specs.Listing.{attribute_head}
 use Rattle.h5_text.proofs.Appending.{appends_err, appends_more}
 use Rattle.h5_text.proofs.Joining.{values_step}
-use Rattle.h5_script.proofs.texts.push_attribute.Goals as goal
+use Rattle.h5_dump.proofs.texts.push_attribute.Goals as goal
 
 pub returns-in_err-push_spaced_value : goal.returns-in_err-push_spaced_value
 returns-in_err-push_spaced_value c =

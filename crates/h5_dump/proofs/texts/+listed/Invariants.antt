@@ -1,8 +1,8 @@
 use Rattle.std.proofs.Common.{◌≡◌, ◌+◌, ◌*◌, ◌++◌, map, take}
 use Rattle.std.specs.List.{flat_map}
 use Rattle.h5_file.specs.Listed.{seen_link}
-use Rattle.h5_script.specs.Listing.{lines_of_link}
-use Rattle.h5_script.proofs.texts.+listed.Given as goal
+use Rattle.h5_dump.specs.Listing.{lines_of_link}
+use Rattle.h5_dump.proofs.texts.+listed.Given as goal
 
 abbrev pub decreases-push_links : goal.decreases-push_links
 decreases-push_links l = 2 * l.depth + 1

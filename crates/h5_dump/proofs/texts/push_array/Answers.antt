@@ -7,8 +7,8 @@ use Rattle.h5_text.specs.Appends.{Appends}
 use Rattle.h5_text.specs.Listing.{dump_line}
 use Rattle.h5_text.proofs.Appending.{appends_more}
 use Rattle.h5_text.proofs.LineTexts.{in_two_pieces}
-use Rattle.h5_script.proofs.Dumps.{told, dump-array}
-use Rattle.h5_script.proofs.texts.push_array.Goals as goal
+use Rattle.h5_dump.proofs.Dumps.{told, dump-array}
+use Rattle.h5_dump.proofs.texts.push_array.Goals as goal
 
 pub returns : goal.returns
 returns c o d content is listed =

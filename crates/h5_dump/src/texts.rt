@@ -11,7 +11,7 @@ ghost use Rattle.h5_text.specs.Appends.{Appends};
 ghost use Rattle.h5_text.specs.Listing.{path_text};
 ghost use Rattle.h5_file.specs.Listed.{seen_link};
 ghost use Rattle.h5_file.specs.Look.{AreCells, HasKind, IsArray};
-ghost use Rattle.h5_script.specs.Listing.{lines_of_link};
+ghost use Rattle.h5_dump.specs.Listing.{lines_of_link};
 
 use h5_file::{ArrayCells, AttrRef, File, Kind, Link, LinkTo, MAX_DEPTH};
 use h5_model::ObjectNo;
