@@ -1,0 +1,97 @@
+"""Rooms: copies of a crate and of all below it, in which a check disturbs nobody.
+
+A room shares its files with the place that it was made from, by hard links, so it costs next to no time or disk. That
+is sound only as long as nobody writes into a file in place. `rt` replaces the files that it keeps in out/ by new ones,
+and what this tool changes it writes as a new file."""
+
+import contextlib
+import fcntl
+import os
+import shutil
+import subprocess
+
+from .repository import folder_of
+
+PARTS = ("src", "specs", "proofs", "out")
+# What a check of several functions that fail may take at most, in seconds.
+LIMIT = 3600
+
+
+@contextlib.contextmanager
+def shared(folder):
+    """Waits until no `rt` works in the folder of a crate, and lets none begin: it holds a lock on that folder while it
+    works there, and what it keeps in out/ is not whole before it ends."""
+    held = os.open(folder, os.O_RDONLY)
+    try:
+        with contextlib.suppress(OSError):
+            fcntl.flock(held, fcntl.LOCK_SH)
+        yield
+    finally:
+        os.close(held)
+
+
+def link_or_copy(source, target):
+    """Makes a file the same as another, by a hard link where both lie on one file system."""
+    try:
+        os.link(source, target)
+    except OSError:
+        shutil.copy2(source, target)
+
+
+def link_tree(source, target):
+    """Makes a folder the same as another. The folders are new ones, the files are links."""
+    shutil.copytree(source, target, symlinks=True, copy_function=link_or_copy)
+
+
+def write_new(path, text):
+    """Writes a file as a new one. Another link to the old file keeps the old text."""
+    part = path + ".new"
+    with open(part, "w", encoding="utf-8", newline="") as file:
+        file.write(text)
+    os.replace(part, path)
+
+
+class Room:
+    """A folder with crates.txt and some of the crates of another place."""
+
+    def __init__(self, folder):
+        self.folder = folder
+        self.lines = {}
+        os.makedirs(os.path.join(folder, "crates"))
+
+    def crate(self, name):
+        """The folder of a crate in this room."""
+        return os.path.join(self.folder, "crates", name)
+
+    def add(self, root, crate):
+        """Brings in a crate from another place, unless it is here."""
+        if crate.name in self.lines:
+            return
+        source, target = folder_of(root, crate.name), self.crate(crate.name)
+        os.makedirs(target)
+        with shared(source):
+            for part in PARTS:
+                if os.path.isdir(os.path.join(source, part)):
+                    link_tree(os.path.join(source, part), os.path.join(target, part))
+        self.lines[crate.name] = crate.line
+        write_new(os.path.join(self.folder, "crates.txt"), "".join(line + "\n" for line in self.lines.values()))
+
+    def write(self, name, texts):
+        """Writes texts over files of a crate, by their path in it."""
+        for path, text in texts.items():
+            write_new(os.path.join(self.crate(name), path), text)
+
+    def check(self, name, jobs):
+        """Checks a crate: the exit status of `rt check`, and what it printed."""
+        words = ["rt", "check", "--jobs", str(jobs)]
+        how = {"stdin": subprocess.DEVNULL, "stdout": subprocess.PIPE, "stderr": subprocess.STDOUT}
+        try:
+            ran = subprocess.run(words, cwd=self.crate(name), timeout=LIMIT, errors="replace", check=False, **how)
+        except subprocess.TimeoutExpired as error:
+            said = error.stdout or b""
+            return None, said.decode(errors="replace") if isinstance(said, bytes) else said
+        return ran.returncode, ran.stdout
+
+    def remove(self):
+        """Takes the room away. What others share with it stays theirs."""
+        shutil.rmtree(self.folder, ignore_errors=True)
