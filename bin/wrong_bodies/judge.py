@@ -89,10 +89,12 @@ class Judge:
         again = []
         for one in chosen:
             words = {key: report.functions.get(name) for key, name in self.names(report, one).items()}
-            failed = [key for key, word in words.items() if word == verdicts.OWN]
+            # Beside an edit of a function that it calls, only a goal of its own that is named counts.
+            below = self.planner.calls_any(one, chosen)
+            failed = [key for key, word in words.items() if word == verdicts.GOAL or word == verdicts.OWN and not below]
             if failed:
                 self.tell(one, REFUSED, f"by {', '.join(sorted(failed))}")
-            elif words and all(word == verdicts.OTHERS for word in words.values()):
+            elif words and set(words.values()) <= {verdicts.OTHERS, verdicts.OWN}:
                 again.append(one)
             else:
                 self.alone(one)

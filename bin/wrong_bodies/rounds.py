@@ -45,6 +45,10 @@ def candidate(edit, files):
     return Candidate(edit, tuple(functions.values()), alone or not functions)
 
 
+# So many rounds hold no function beside one that it calls. What is left of long chains of calls then shares rounds.
+STRICT = 2
+
+
 class Planner:
     """Plans the rounds of one crate."""
 
@@ -52,14 +56,20 @@ class Planner:
         self.folder = folder
         self.graph = calls(files)
         self.below = {key: reached(self.graph, key) for key in self.graph}
+        self.rounds = 0
+
+    def calls_any(self, one, chosen):
+        """Whether a function of an edit calls one of another edit, itself or through others."""
+        theirs = set().union(*(other.keys for other in chosen if other is not one))
+        return any(self.below[mine] & theirs for mine in one.keys)
 
     def fits(self, one, chosen):
-        """Whether an edit can stand beside others: no function of its and of theirs is the same or calls the other."""
+        """Whether an edit can stand beside others: no function of its and of theirs is the same, and none calls the
+        other. In the late rounds one may call the other, unless both do: the functions of a cycle share one proof."""
         for other in chosen:
-            for mine in one.keys:
-                for theirs in other.keys:
-                    if mine == theirs or theirs in self.below[mine] or mine in self.below[theirs]:
-                        return False
+            up, down = self.calls_any(one, [other]), self.calls_any(other, [one])
+            if one.keys & other.keys or up and down or (up or down) and self.rounds <= STRICT:
+                return False
         return True
 
     def heights(self, left):
@@ -85,6 +95,7 @@ class Planner:
         """The edits of the next round, out of those that are left, and the texts with them all. Those on top of the
         longest chains of calls go first, so that no chain is left for last. An edit that cannot be applied beside the
         others waits."""
+        self.rounds += 1
         heights = self.heights([one for one in left if not one.stands_alone])
         shared = [one for one in left if not one.stands_alone]
         if not shared:

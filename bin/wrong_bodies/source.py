@@ -12,6 +12,8 @@ CLAUSE_HEAD = re.compile(r"\b(?:requires|ensures|invariant|decreases)\b\*?(?:\s+
 ITEM = re.compile(
     r"\bfn\s+(?P<fn>\w+)|\b(?:const|static)\s+(?:mut\s+)?(?P<const>\w+)\s*:|\b(?:impl|trait)\b|\bmod\s+(?P<mod>\w+)\s*(?=\{)"
 )
+# A name in a body, with what stands before it, and whether a call or the end of an argument follows.
+NAMED = re.compile(r"(\.|::)?\s*\b([a-z_]\w*)\b(?:\s*(\(|::<)|(?=\s*([,)])))?")
 CLOSES = {"(": ")", "[": "]", "{": "}"}
 
 
@@ -173,18 +175,31 @@ def skeleton(file):
     return [*parts, file.text[place:]]
 
 
+def named_in(body, known):
+    """The names of functions, out of those known, that a body calls, or hands on as a value. A name of a local
+    variable is none."""
+    found = set()
+    for match in NAMED.finditer(body):
+        name = match[2]
+        if name in known and (match[3] or match[1] == "::" or not match[1] and match[4]):
+            found.add((name, match[1] or ""))
+    return found
+
+
 def calls(files):
-    """The functions that each function of a crate may call, by their keys. Any name in a body that is the name of a
-    function counts for each function of that name: a call too many costs a round, one too few does as well."""
+    """The functions that each function of a crate may call, by their keys. A name counts for each function that bears
+    it, whatever its type. Where this misses a call, as one that an operator stands for, the prover names it, and the
+    caller is judged in a later round."""
     named = {}
     for file in files:
         for one in file.functions:
-            named.setdefault(one.name, set()).add(one.key)
+            named.setdefault(one.name, set()).add((one.key, bool(one.holders)))
     graph = {}
     for file in files:
         for one in file.functions:
-            words = set(re.findall(r"\w+", file.bare[one.start : one.end]))
-            found = set().union(*(named[word] for word in words if word in named))
+            words = named_in(file.bare[one.start : one.end], named)
+            # Behind a dot stands a method, behind `::` either, and alone a function that no type holds.
+            found = {key for word, before in words for key, held in named[word] if before == "::" or held == (before == ".")}
             graph.setdefault(one.key, set()).update(found - {one.key})
     return graph
 

@@ -16,9 +16,12 @@ ONLY_NAMES = re.compile(r"(?:\./)?proofs/.*(?:has no field|is not in scope|has n
 STALE = re.compile(r"Run the lower steps again")
 
 PROVED = "proved"
+# A goal of the function's own is not proved, and the line says which.
+GOAL = "goal"
 OWN = "own"
 OTHERS = "others"
 UNKNOWN = "unknown"
+FAILS = (GOAL, OWN)
 
 
 @dataclass(frozen=True)
@@ -37,7 +40,7 @@ class Report:
 
     def own_failures(self):
         """The functions that are not proved by their own fault."""
-        return sorted(name for name, word in self.functions.items() if word == OWN)
+        return sorted(name for name, word in self.functions.items() if word in FAILS)
 
 
 def word_for(said):
@@ -47,7 +50,7 @@ def word_for(said):
     head, _, rest = said.partition(": ") if said.startswith("no proof: ") else said.partition("; ")
     reasons = [reason for reason in rest.split("; ") if reason]
     if "did not prove" in rest:
-        return OWN
+        return GOAL
     if head in ("no proof", "not proved") and reasons and all(reason.startswith(OF_OTHERS) for reason in reasons):
         return OTHERS
     if head == "not proved" and not any(reason.startswith(OF_OTHERS) for reason in reasons):
