@@ -11,8 +11,8 @@ from concurrent.futures import ThreadPoolExecutor
 from .edits import edit_paths
 from .judge import REFUSED, Judge
 from .record import Judged, change_record, hash_of, read_record
-from .repository import folder_of, read_crates
-from .rooms import Room
+from .repository import crates_below, folder_of, read_crates
+from .rooms import Store
 from .texts import look_at_all
 
 ROOT = os.path.dirname(os.path.dirname(os.path.dirname(os.path.realpath(__file__))))
@@ -59,11 +59,11 @@ class Run:
         with PRINTING:
             self.passed, self.failed = self.passed + passed, self.failed + failed
 
-    def judge(self, base, name, jobs):
+    def judge(self, store, name, jobs):
         """Judges a crate, tells what became of its edits, and records it where all were refused."""
-        began, before = time.monotonic(), hash_of(folder_of(self.root, name))
+        began = time.monotonic()
         try:
-            judge = Judge(base, self.root, self.crates, name, jobs, self.logs)
+            judge = Judge(store, name, jobs, self.logs)
             outcomes = judge.judge()
         except Exception as error:  # a crate that cannot be judged must not end the others
             say(f"{name}: NOT JUDGED: {type(error).__name__}: {error}")
@@ -71,22 +71,28 @@ class Run:
         for one in outcomes:
             say(f"{name}/{one.edit}: {one.word}{' ' if one.word == REFUSED else ': '}{one.why}")
         refused = sum(one.word == REFUSED for one in outcomes)
-        took = f"{judge.checks} rounds, {time.monotonic() - began:.0f} s"
-        say(f"{name}: {refused} of {len(outcomes)} refused ({took})")
+        say(f"{name}: {refused} of {len(outcomes)} refused ({judge.checks} rounds, {time.monotonic() - began:.0f} s)")
         self.count(refused, len(outcomes) - refused)
-        if refused < len(outcomes):
-            return change_record(self.root, self.crates, remove=name)
-        if before != hash_of(folder_of(self.root, name)):
-            say(f"{name}: not recorded, since its files changed meanwhile")
-            return self.count(0, 1)
-        return change_record(self.root, self.crates, add=Judged(name, before, refused))
+        return self.record(judge, outcomes, refused)
+
+    def record(self, judge, outcomes, refused):
+        """Records a crate all of whose edits were refused, if its files are still those that were judged."""
+        if not outcomes or refused < len(outcomes):
+            change_record(self.root, self.crates, remove=judge.name)
+        elif judge.hash != hash_of(folder_of(self.root, judge.name)):
+            say(f"{judge.name}: not recorded, since its files changed meanwhile")
+            self.count(0, 1)
+        else:
+            change_record(self.root, self.crates, add=Judged(judge.name, judge.hash, refused))
 
     def judge_all(self, names, side_by_side):
-        """Judges crates side by side, each in rooms of its own."""
+        """Judges crates side by side, the lowest first, each in rooms of its own."""
         jobs = max(1, processors() // max(1, min(side_by_side, len(names))))
         with tempfile.TemporaryDirectory(prefix="wrong-bodies-") as folder:
+            store = Store(os.path.join(folder, "store"), self.root, self.crates)
+            lowest_first = sorted(names, key=lambda name: len(crates_below(self.crates, name)))
             with ThreadPoolExecutor(side_by_side) as pool:
-                ran = [pool.submit(self.judge, Room(os.path.join(folder, name)), name, jobs) for name in names]
+                ran = [pool.submit(self.judge, store, name, jobs) for name in lowest_first]
                 for one in ran:
                     one.result()
 

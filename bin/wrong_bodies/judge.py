@@ -6,6 +6,7 @@ from dataclasses import dataclass
 
 from . import verdicts
 from .edits import BadEdit, apply, edit_paths, read_edit
+from .record import hash_of
 from .repository import crates_below, read_sources
 from .rooms import Room
 from .rounds import Planner, candidate
@@ -28,41 +29,38 @@ class Outcome:
 class Judge:
     """Judges a crate in rooms that are made from a base, in which the crate as it stands has been checked."""
 
-    def __init__(self, base, root, crates, name, jobs, logs=None):
-        self.base, self.root, self.crates, self.name = base, root, crates, name
-        self.jobs, self.logs = jobs, logs
+    def __init__(self, store, name, jobs, logs=None):
+        self.crates, self.name, self.jobs, self.logs = store.crates, name, jobs, logs
         self.checks = 0
         self.outcomes = {}
+        self.base, status, output = store.base(name, jobs)
+        self.as_it_stands = self.log(status, output, {}, "as-it-stands")
+        self.folder = self.base.crate(name)
+        self.hash = hash_of(self.folder)
 
     def judge(self):
         """An outcome for each of the crate's edits."""
-        for one in crates_below(self.crates, self.name):
-            self.base.add(self.root, self.crates[one])
-        self.base.add(self.root, self.crates[self.name])
         left = self.read()
-        if left:
-            report = self.log(*self.base.check(self.name, self.jobs), {}, "as-it-stands")
-            if report.proved:
-                self.run_rounds(left)
-            else:
-                why = f"the crate is not proved as it stands: {report.first[:200]}"
-                self.outcomes.update({one.edit.path: Outcome(one.edit.path, NOT_JUDGED, why) for one in left})
+        if self.as_it_stands.proved:
+            self.run_rounds(left)
+        else:
+            for one in left:
+                self.tell(one, NOT_JUDGED, f"the crate is not proved as it stands: {self.as_it_stands.first[:200]}")
+        self.base.remove()
         return [self.outcomes[path] for path in sorted(self.outcomes)]
 
     def read(self):
         """The edits that can be tried. For each other one the outcome says what is wrong with it."""
-        folder = self.base.crate(self.name)
-        source = os.path.join(self.root, "crates", self.name)
-        good, bad = edit_paths(source)
+        good, bad = edit_paths(self.folder)
         why = "an edit stands right in its folder, and its name is of letters, digits, _, - and . and ends in .edit"
         self.outcomes = {path: Outcome(path, NOT_JUDGED, why) for path in bad}
-        self.files = {path: scan(path, text) for path, text in read_sources(folder).items()}
-        self.planner = Planner(list(self.files.values()), folder)
+        self.files = {path: scan(path, text) for path, text in read_sources(self.folder).items()}
+        self.planner = Planner(list(self.files.values()), self.folder)
         left = []
         for path in good:
             try:
-                edit = read_edit(source, path)
-                apply(edit, {}, folder)
+                edit = read_edit(self.folder, path)
+                apply(edit, {}, self.folder)
                 left.append(candidate(edit, self.files))
             except BadEdit as error:
                 self.outcomes[path] = Outcome(path, NOT_JUDGED, str(error))
@@ -104,13 +102,13 @@ class Judge:
         """Judges a part of a round that was split, and then what that part leaves."""
         texts = {}
         for one in part:
-            texts = apply(one.edit, texts, self.base.crate(self.name))
+            texts = apply(one.edit, texts, self.folder)
         self.run_rounds(self.run_round(part, texts))
 
     def alone(self, one):
         """Tries an edit by itself. A round counts only what fails in the edit's own function: here, as in the merge
         gate, any failure of the crate refuses the edit."""
-        texts = apply(one.edit, {}, self.base.crate(self.name))
+        texts = apply(one.edit, {}, self.folder)
         self.settle(one, self.check(texts, f"alone-{one.edit.name}"))
 
     def can_be_told_apart(self, report, chosen):

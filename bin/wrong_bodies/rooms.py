@@ -9,10 +9,11 @@ import fcntl
 import os
 import shutil
 import subprocess
+import threading
 
-from .repository import folder_of
+from .repository import crates_below, folder_of
 
-PARTS = ("src", "specs", "proofs", "out")
+PARTS = ("src", "specs", "proofs", "wrong-bodies", "out")
 # What a check of several functions that fail may take at most, in seconds.
 LIMIT = 3600
 
@@ -95,3 +96,25 @@ class Room:
     def remove(self):
         """Takes the room away. What others share with it stays theirs."""
         shutil.rmtree(self.folder, ignore_errors=True)
+
+
+class Store:
+    """The crates as they stand. Each is proved once in a run, whatever the number of crates above it that are judged:
+    what the repository's own checks have kept in out/ is taken over, and what they lack is proved here."""
+
+    def __init__(self, folder, root, crates):
+        self.root, self.crates = root, crates
+        self.room = Room(folder)
+        self.free = threading.Lock()
+
+    def base(self, name, jobs):
+        """A room in which a crate has been checked as it stands, with the status and the output of that check."""
+        with self.free:
+            needed = [self.crates[one] for one in [*crates_below(self.crates, name), name]]
+            for crate in needed:
+                self.room.add(self.root, crate)
+            status, output = self.room.check(name, jobs)
+            base = Room(f"{self.room.folder}-{name}")
+            for crate in needed:
+                base.add(self.room.folder, crate)
+            return base, status, output
