@@ -16,12 +16,25 @@ from .repository import crates_below, folder_of
 PARTS = ("src", "specs", "proofs", "wrong-bodies", "out")
 # What a check of several functions that fail may take at most, in seconds.
 LIMIT = 3600
+# How often a crate is linked without its lock, before the lock is waited for.
+TRIES = 3
+
+
+def listing(folder):
+    """The files of a crate that a room takes over, and which file each of them is at this time."""
+    found = {}
+    for part in PARTS:
+        for at, _, names in os.walk(os.path.join(folder, part)):
+            for name in names:
+                path = os.path.join(at, name)
+                with contextlib.suppress(FileNotFoundError):
+                    found[path] = os.stat(path).st_ino
+    return found
 
 
 @contextlib.contextmanager
-def shared(folder):
-    """Waits until no `rt` works in the folder of a crate, and lets none begin: it holds a lock on that folder while it
-    works there, and what it keeps in out/ is not whole before it ends."""
+def quiet(folder):
+    """Waits until no `rt` works in the folder of a crate, and lets none begin: it holds a lock on the folder then."""
     held = os.open(folder, os.O_RDONLY)
     try:
         with contextlib.suppress(OSError):
@@ -65,17 +78,31 @@ class Room:
         return os.path.join(self.folder, "crates", name)
 
     def add(self, root, crate):
-        """Brings in a crate from another place, unless it is here."""
+        """Brings in a crate from another place, unless it is here. A run of `rt` above that crate holds its lock for
+        long and mostly writes nothing to it: so it is tried without, and only where files came and went meanwhile
+        does it wait for such a run to end."""
         if crate.name in self.lines:
             return
-        source, target = folder_of(root, crate.name), self.crate(crate.name)
-        os.makedirs(target)
-        with shared(source):
-            for part in PARTS:
-                if os.path.isdir(os.path.join(source, part)):
-                    link_tree(os.path.join(source, part), os.path.join(target, part))
+        source = folder_of(root, crate.name)
+        if not any(self.link(source, crate.name) for _ in range(TRIES)):
+            with quiet(source):
+                if not self.link(source, crate.name):
+                    raise OSError(f"the files of {source} change all the time")
         self.lines[crate.name] = crate.line
         write_new(os.path.join(self.folder, "crates.txt"), "".join(line + "\n" for line in self.lines.values()))
+
+    def link(self, source, name):
+        """Links the files of a crate: whether they were the same from the first to the last."""
+        shutil.rmtree(self.crate(name), ignore_errors=True)
+        before = listing(source)
+        os.makedirs(self.crate(name))
+        try:
+            for part in PARTS:
+                if os.path.isdir(os.path.join(source, part)):
+                    link_tree(os.path.join(source, part), os.path.join(self.crate(name), part))
+        except (OSError, shutil.Error):
+            return False
+        return before == listing(source)
 
     def write(self, name, texts):
         """Writes texts over files of a crate, by their path in it."""

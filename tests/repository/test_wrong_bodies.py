@@ -302,6 +302,23 @@ class Rooms(Made):
             self.assertEqual(file.read(), LIB)
 
 
+    def test_takes_no_half_of_what_changes_meanwhile(self):
+        link, seen = rooms.link_tree, []
+
+        def changing(source_folder, target):
+            """Links a folder, and the first time changes a file of it right behind."""
+            link(source_folder, target)
+            if not seen:
+                rooms.write_new(os.path.join(self.folder, "src", "lib.rt"), "changed\n")
+            seen.append(target)
+
+        room = rooms.Room(os.path.join(self.root, "room"))
+        with mock.patch.object(rooms, "link_tree", changing):
+            room.add(self.root, repository.read_crates(self.root)["top"])
+        with open(os.path.join(room.crate("top"), "src", "lib.rt"), encoding="utf-8") as file:
+            self.assertEqual(file.read(), "changed\n")
+
+
 class Record(Made):
     def test_writes_replaces_and_drops_lines(self):
         crates = {"top": None, "low": None}
