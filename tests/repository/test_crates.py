@@ -119,6 +119,9 @@ class Depth(unittest.TestCase):
 class Folders(unittest.TestCase):
     """The folders of crates."""
 
+    # All that lack something are named.
+    maxDiff = None
+
     def test_each_crate_has_its_folder(self):
         lacking = [name for name, _ in listed() if not any(os.path.isdir(os.path.join(CRATES, name, part)) for part in PARTS)]
         self.assertEqual(lacking, [], f"crates of crates.txt with none of the folders {', '.join(PARTS)}")
