@@ -1,1 +1,1 @@
-"""Tests of the repository's own tools, which need neither the prover nor the program."""
+"""Tests of the repository itself: its crates, its files and its tools, which need neither the prover nor the program."""
