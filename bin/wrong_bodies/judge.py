@@ -81,9 +81,7 @@ class Judge:
             self.settle(chosen[0], report)
             return []
         if not self.can_be_told_apart(report, chosen):
-            for part in self.split(chosen, report):
-                self.retry(part)
-            return []
+            return [one for part in self.split(chosen, report) for one in self.retry(part)]
         again = []
         for one in chosen:
             words = {key: report.functions.get(name) for key, name in self.names(report, one).items()}
@@ -99,11 +97,11 @@ class Judge:
         return again
 
     def retry(self, part):
-        """Judges a part of a round that was split, and then what that part leaves."""
+        """Judges a part of a round that was split: the edits that it says nothing of are given back."""
         texts = {}
         for one in part:
             texts = apply(one.edit, texts, self.folder)
-        self.run_rounds(self.run_round(part, texts))
+        return self.run_round(part, texts)
 
     def alone(self, one):
         """Tries an edit by itself. A round counts only what fails in the edit's own function: here, as in the merge

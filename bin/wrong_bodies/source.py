@@ -1,6 +1,7 @@
 """Reads Rattle sources as far as edits need: where the bodies of functions and the values of constants lie, which
 functions a body names, and what is left of a file when bodies and values are cut out."""
 
+import functools
 import re
 from dataclasses import dataclass
 
@@ -107,8 +108,10 @@ def holder_of(head):
     return "".join(ends)
 
 
+@functools.lru_cache(maxsize=None)
 def scan(path, text):
-    """Finds the functions and constants of a file."""
+    """Finds the functions and constants of a file. It keeps what it found, since most edits are of files that others
+    change as well."""
     bare, functions, values, holders = blanked(text), [], [], []
     place = 0
     while match := ITEM.search(bare, place):
