@@ -36,7 +36,7 @@ def arguments(words):
     parser.add_argument("crates", nargs="*", metavar="CRATE", help="judge these, also where the record has them")
     parser.add_argument("--all", action="store_true", help="judge all crates that have wrong bodies")
     parser.add_argument("--texts", action="store_true", help="look over the texts of the edits, and prove nothing")
-    parser.add_argument("--jobs", type=int, default=0, metavar="N", help="crates side by side (3 at most, if not given)")
+    parser.add_argument("--jobs", type=int, default=0, metavar="N", help="crates side by side (default: up to 3)")
     parser.add_argument("--logs", metavar="DIR", help="keep what the checks print in this folder")
     parser.add_argument("--root", default=ROOT, help=argparse.SUPPRESS)
     return parser.parse_args(words)

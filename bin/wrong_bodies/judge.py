@@ -89,7 +89,7 @@ class Judge:
             below = self.planner.calls_any(one, chosen)
             failed = [key for key, word in words.items() if word == verdicts.GOAL or word == verdicts.OWN and not below]
             if failed:
-                self.tell(one, REFUSED, f"by {', '.join(sorted(failed))}")
+                self.tell(one, REFUSED, self.refused_by(failed, report))
             elif words and set(words.values()) <= {verdicts.OTHERS, verdicts.OWN}:
                 again.append(one)
             else:
@@ -153,14 +153,20 @@ class Judge:
 
     def refusal(self, one, report):
         """Which functions refuse an edit that stands alone."""
-        own = {name for name in self.names(report, one).values() if name}
-        failed = [name.partition("::")[2] for name in report.own_failures()]
-        mine = [name for name in report.own_failures() if any(is_within(name, it) for it in own)]
-        if report.only_names:
-            return "by names that a proof file misses alone, which says little of the contract"
+        own = [name for name in self.names(report, one).values() if name]
+        failed = report.own_failures()
+        mine = [name for name in failed if any(is_within(name, it) for it in own)]
         if mine:
-            return f"by {', '.join(name.partition('::')[2] for name in mine)}"
-        return f"by other functions alone: {', '.join(failed)}" if failed else f"by no function: {report.first[:160]}"
+            return self.refused_by([name.partition("::")[2] for name in mine], report)
+        others = ", ".join(name.partition("::")[2] for name in failed)
+        return f"by other functions: {others}" if others else f"by no function: {report.first[:160]}"
+
+    def refused_by(self, keys, report):
+        """The words for functions that refuse an edit of theirs."""
+        said = f"by {', '.join(sorted(keys))}"
+        if all(verdicts.names_alone(report, key) for key in keys):
+            return said + " (only since its proof names what the edit took away, which says little of the contract)"
+        return said
 
     def tell(self, one, word, why):
         """Keeps an outcome."""

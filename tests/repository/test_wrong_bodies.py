@@ -254,7 +254,7 @@ class Verdicts(unittest.TestCase):
         self.assertEqual(words["node::Node::level"], verdicts.OWN)
         for name in ("kind::NodeKind::capacity", "read::read_node_at", "name::SoughtNameSought::is_behind"):
             self.assertEqual(words[name], verdicts.GOAL)
-        self.assertTrue(report.reached and not report.proved and not report.unread and not report.only_names)
+        self.assertTrue(report.reached and not report.proved and not report.unread)
 
     def test_words_it_does_not_know_settle_nothing(self):
         for said in ("could not tell", "no proof: antt ended", "no proof: expected answers in ./proofs/X.antt"):
@@ -272,7 +272,9 @@ class Verdicts(unittest.TestCase):
     def test_texts_that_the_prover_cannot_read(self):
         self.assertTrue(verdicts.read_report(1, UNREAD, ("src/node.rt",)).unread)
         report = verdicts.read_report(1, NO_FIELD, ("src/node.rt",))
-        self.assertTrue(report.only_names and not report.unread)
+        self.assertTrue(verdicts.names_alone(report, "node::child_at") and not report.unread)
+        self.assertFalse(verdicts.names_alone(report, "node::child"))
+        self.assertFalse(verdicts.names_alone(verdicts.read_report(1, CHECKED), "node::Node::level"))
 
 
 class Rooms(Made):
