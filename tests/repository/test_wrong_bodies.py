@@ -314,6 +314,9 @@ class Judging(Made):
         self.assertEqual((status, said.splitlines()[-1], self.checks), (0, "1 passed, 0 failed", 3), said)
         self.edit("low", "    x + x", "    x + 1")
         self.assertEqual(self.run_main()[1].splitlines()[-1], "3 passed, 0 failed")
+        shutil.rmtree(os.path.join(self.folder, "wrong-bodies"))
+        self.assertEqual(self.run_main()[0], 1)
+        self.assertEqual(record.read_record(self.root), {})
 
     def test_a_proved_edit_fails_and_is_not_recorded(self):
         self.lax = {"twice"}
