@@ -36,7 +36,7 @@ def arguments(words):
     parser.add_argument("crates", nargs="*", metavar="CRATE", help="judge these, also where the record has them")
     parser.add_argument("--all", action="store_true", help="judge all crates that have wrong bodies")
     parser.add_argument("--texts", action="store_true", help="look over the texts of the edits, and prove nothing")
-    parser.add_argument("--jobs", type=int, default=0, metavar="N", help="crates side by side (3 at most, if not given)")
+    parser.add_argument("--jobs", type=int, default=0, metavar="N", help="crates side by side (default: up to 3)")
     parser.add_argument("--logs", metavar="DIR", help="keep what the checks print in this folder")
     parser.add_argument("--root", default=ROOT, help=argparse.SUPPRESS)
     return parser.parse_args(words)
@@ -97,9 +97,8 @@ class Run:
                     one.result()
 
 
-def chosen(asked, root, crates):
+def chosen(asked, root, with_edits):
     """The crates to judge, and how many of the others the record has."""
-    with_edits = [name for name in crates if any(edit_paths(folder_of(root, name)))]
     record = read_record(root)
     if asked.crates:
         return asked.crates, 0
@@ -133,11 +132,13 @@ def main(words):
 
 
 def judged(asked, crates):
-    """Judges the crates that are asked for: how many edits passed and failed."""
+    """Judges the crates that are asked for: how many edits passed and failed. The record loses the crates that have
+    gone, and those that have no wrong bodies any more."""
     if asked.logs:
         os.makedirs(asked.logs, exist_ok=True)
-    names, known = chosen(asked, asked.root, crates)
-    change_record(asked.root, crates)
+    with_edits = [name for name in crates if any(edit_paths(folder_of(asked.root, name)))]
+    change_record(asked.root, with_edits)
+    names, known = chosen(asked, asked.root, with_edits)
     if known:
         say(f"{known} crates are as they were when they were last judged.")
     run = Run(asked.root, crates, asked.logs)

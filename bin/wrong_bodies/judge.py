@@ -81,9 +81,7 @@ class Judge:
             self.settle(chosen[0], report)
             return []
         if not self.can_be_told_apart(report, chosen):
-            for part in self.split(chosen, report):
-                self.retry(part)
-            return []
+            return [one for part in self.split(chosen, report) for one in self.retry(part)]
         again = []
         for one in chosen:
             words = {key: report.functions.get(name) for key, name in self.names(report, one).items()}
@@ -91,7 +89,7 @@ class Judge:
             below = self.planner.calls_any(one, chosen)
             failed = [key for key, word in words.items() if word == verdicts.GOAL or word == verdicts.OWN and not below]
             if failed:
-                self.tell(one, REFUSED, f"by {', '.join(sorted(failed))}")
+                self.tell(one, REFUSED, self.refused_by(failed, report))
             elif words and set(words.values()) <= {verdicts.OTHERS, verdicts.OWN}:
                 again.append(one)
             else:
@@ -99,11 +97,11 @@ class Judge:
         return again
 
     def retry(self, part):
-        """Judges a part of a round that was split, and then what that part leaves."""
+        """Judges a part of a round that was split: the edits that it says nothing of are given back."""
         texts = {}
         for one in part:
             texts = apply(one.edit, texts, self.folder)
-        self.run_rounds(self.run_round(part, texts))
+        return self.run_round(part, texts)
 
     def alone(self, one):
         """Tries an edit by itself. A round counts only what fails in the edit's own function: here, as in the merge
@@ -155,14 +153,20 @@ class Judge:
 
     def refusal(self, one, report):
         """Which functions refuse an edit that stands alone."""
-        own = {name for name in self.names(report, one).values() if name}
-        failed = [name.partition("::")[2] for name in report.own_failures()]
-        mine = [name for name in report.own_failures() if any(is_within(name, it) for it in own)]
-        if report.only_names:
-            return "by names that a proof file misses alone, which says little of the contract"
+        own = [name for name in self.names(report, one).values() if name]
+        failed = report.own_failures()
+        mine = [name for name in failed if any(is_within(name, it) for it in own)]
         if mine:
-            return f"by {', '.join(name.partition('::')[2] for name in mine)}"
-        return f"by other functions alone: {', '.join(failed)}" if failed else f"by no function: {report.first[:160]}"
+            return self.refused_by([name.partition("::")[2] for name in mine], report)
+        others = ", ".join(name.partition("::")[2] for name in failed)
+        return f"by other functions: {others}" if others else f"by no function: {report.first[:160]}"
+
+    def refused_by(self, keys, report):
+        """The words for functions that refuse an edit of theirs."""
+        said = f"by {', '.join(sorted(keys))}"
+        if all(verdicts.names_alone(report, key) for key in keys):
+            return said + " (only since its proof names what the edit took away, which says little of the contract)"
+        return said
 
     def tell(self, one, word, why):
         """Keeps an outcome."""

@@ -1,16 +1,25 @@
 """Reads Rattle sources as far as edits need: where the bodies of functions and the values of constants lie, which
 functions a body names, and what is left of a file when bodies and values are cut out."""
 
+import functools
 import re
 from dataclasses import dataclass
 
 from .repository import module_of
 
-HIDDEN = re.compile(r"""//[^\n]*|/\*.*?\*/|b?r(#*)".*?"\1|b?"(?:\\.|[^"\\])*"|b?'(?:\\(?:x..|u\{[^}]*\}|.)|[^\\'\n])'""", re.S)
+# Comments, texts and characters.
+HIDDEN = re.compile(
+    r"""//[^\n]*|/\*.*?\*/|b?r(#*)".*?"\1|b?"(?:\\.|[^"\\])*"|b?'(?:\\(?:x..|u\{[^}]*\}|.)|[^\\'\n])'""", re.S
+)
+# The end of a text behind which a brace opens a clause.
 CLAUSE = re.compile(r"\b(?:requires|ensures|ghost|invariant|decreases)\b\*?(?:\s+[\w-]+)?\s*:?\s*$")
-CLAUSE_HEAD = re.compile(r"\b(?:requires|ensures|invariant|decreases)\b\*?(?:\s+[\w-]+)?\s*(?=\{)|\bghost\b|#!?(?=\[)")
+# A clause, a ghost item or an attribute.
+CLAUSE_HEAD = re.compile(
+    r"\b(?:requires|ensures|invariant|decreases)\b\*?(?:\s+[\w-]+)?\s*(?=\{)|\bghost\b|#!?(?=\[)"
+)
 ITEM = re.compile(
-    r"\bfn\s+(?P<fn>\w+)|\b(?:const|static)\s+(?:mut\s+)?(?P<const>\w+)\s*:|\b(?:impl|trait)\b|\bmod\s+(?P<mod>\w+)\s*(?=\{)"
+    r"\bfn\s+(?P<fn>\w+)|\b(?:const|static)\s+(?:mut\s+)?(?P<const>\w+)\s*:"
+    r"|\b(?:impl|trait)\b|\bmod\s+(?P<mod>\w+)\s*(?=\{)"
 )
 # A name in a body, with what stands before it, and whether a call or the end of an argument follows.
 NAMED = re.compile(r"(\.|::)?\s*\b([a-z_]\w*)\b(?:\s*(\(|::<)|(?=\s*([,)])))?")
@@ -107,8 +116,10 @@ def holder_of(head):
     return "".join(ends)
 
 
+@functools.lru_cache(maxsize=None)
 def scan(path, text):
-    """Finds the functions and constants of a file."""
+    """Finds the functions and constants of a file. It keeps what it found, since most edits are of files that others
+    change as well."""
     bare, functions, values, holders = blanked(text), [], [], []
     place = 0
     while match := ITEM.search(bare, place):
@@ -134,8 +145,9 @@ def scan(path, text):
 
 
 def begins_an_item(bare, place):
-    """Whether only words such as `pub` stand before a place on its line, so that an `impl` is no type of an argument."""
-    return re.fullmatch(r"\s*(?:(?:pub(?:\([^)]*\))?|unsafe)\s+)*", bare[bare.rfind("\n", 0, place) + 1 : place]) is not None
+    """Whether only words such as `pub` stand before a place on its line: an `impl` there is no type of an argument."""
+    before = bare[bare.rfind("\n", 0, place) + 1 : place]
+    return re.fullmatch(r"\s*(?:(?:pub(?:\([^)]*\))?|unsafe)\s+)*", before) is not None
 
 
 def value_of(bare, match):
@@ -199,8 +211,10 @@ def calls(files):
         for one in file.functions:
             words = named_in(file.bare[one.start : one.end], named)
             # Behind a dot stands a method, behind `::` either, and alone a function that no type holds.
-            found = {key for word, before in words for key, held in named[word] if before == "::" or held == (before == ".")}
-            graph.setdefault(one.key, set()).update(found - {one.key})
+            found = graph.setdefault(one.key, set())
+            for word, before in words:
+                found |= {key for key, held in named[word] if before == "::" or held == (before == ".")}
+            found.discard(one.key)
     return graph
 
 

@@ -1,16 +1,14 @@
 """Reads what a check printed: whether it reached the prover, and what the prover said of each function."""
 
 import re
-from dataclasses import dataclass, field
+from dataclasses import dataclass
 
 LINE = re.compile(r"fn (\S+): (.*)")
 # Reasons that lie in another function, which is not proved.
 OF_OTHERS = ("it calls ", "it waits for ", "it passes ", "a call of ")
 ERROR = re.compile(r"(?:\./)?(\S+?):(\d+):\d+: error(?:\[[\w-]+\])?: (?:(`[^`]*`): )?(.*)")
 # What the prover says of a text that it cannot read, where a statement that is only false reads well.
-NOT_READ = re.compile(
-    r"is not in scope|has no field|is no name|operand is missing|expected the end|cannot continue"
-)
+NOT_READ = re.compile(r"is not in scope|has no field|is no name|operand is missing|expected the end|cannot continue")
 # A proof file that names what an edit took away: a refusal that says little of the contract.
 ONLY_NAMES = re.compile(r"(?:\./)?proofs/.*(?:has no field|is not in scope|has no `|was not admitted)")
 STALE = re.compile(r"Run the lower steps again")
@@ -35,8 +33,6 @@ class Report:
     errors: tuple
     unread: str = ""
     first: str = ""
-    only_names: bool = False
-    logs: tuple = field(default=(), compare=False)
 
     def own_failures(self):
         """The functions that are not proved by their own fault."""
@@ -90,8 +86,15 @@ def read_report(status, output, changed=()):
         errors=tuple(errors),
         unread=unread_line(lines, changed),
         first=first or next(iter(said), "it printed nothing"),
-        only_names=bool(told) and not telling,
     )
+
+
+def names_alone(report, key):
+    """Whether a function is refused only since files of its proof name what an edit took away, as a variable. That
+    refuses the edit as well, but it says little of the contract."""
+    folder = f"proofs/{key.replace('::', '/')}/"
+    told = [line for path, _, line in report.errors if path.startswith(folder)]
+    return bool(told) and all(ONLY_NAMES.match(line) for line in told)
 
 
 def matching(report, crate, function):
@@ -101,5 +104,5 @@ def matching(report, crate, function):
         return name
     # The holder of a trait's functions may bear the arguments of the trait too.
     head, ending = name.rsplit("::", 1)
-    found = [it for it in report.functions if it.startswith(head) and it.endswith("::" + ending) and "::" not in it[len(head) : -len(ending) - 2]]
+    found = [it for it in report.functions if re.fullmatch(re.escape(head) + r"\w*::" + re.escape(ending), it)]
     return found[0] if len(found) == 1 else None

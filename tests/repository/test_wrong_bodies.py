@@ -14,95 +14,7 @@ sys.path.insert(0, os.path.abspath(BIN))
 
 from wrong_bodies import command, edits, judge, record, repository, rooms, rounds, source, texts, verdicts  # noqa: E402
 
-LIB = '''//! A crate: "fn no() {".
-#![tactic(auto)]
-
-mod node;
-
-ghost use Rattle.std.specs.Prelude.{◌≡◌, ◌+◌};
-
-/// The most { of all.
-pub const MOST: u16 = 7;
-
-/// Twice a number.
-#[tactic(auto, unfolding(crate::specs::Sums::twice))]
-pub fn twice(x: u16) -> u16
-    requires small { x + x ≤ 100 }
-    ensures { result ≡ x + x }
-{
-    // a brace } in a comment, and one in a text
-    let _text = "}";
-    x + x
-}
-
-/// Four times a number.
-pub fn four(x: u16) -> u16
-    requires { x ≤ 20 }
-    ensures { result ≡ 4 * x }
-{
-    let once = |y: u16| ensures { result ≡ y } { y };
-    twice(twice(once(x)))
-}
-
-fn eight(x: u16) -> u16
-    ensures { result ≡ 8 * x }
-{
-    four(x) + four(x)
-}
-'''
-
-NODE = """pub struct Node<'a> {
-    bytes: &'a [u8],
-}
-
-impl<'a> Model for Node<'a> {
-    ghost view = { λ a. a.bytes };
-}
-
-impl<'a> Node<'a> {
-    /// The length.
-    pub fn len(&self) -> usize
-        ensures { result ≡ length self.now }
-    {
-        self.bytes.len()
-    }
-
-    pub fn is_empty(&self) -> bool {
-        self.len() == 0
-    }
-}
-
-impl<'a> Sought for Node<'a> {
-    fn is_behind(&self, key: &[u8; 4]) -> bool {
-        key[0] < 'b' as u8
-    }
-}
-"""
-
-# Lines of a real check in which five functions were edited at once.
-CHECKED = """rt: chose --jobs 4 for h5_btree
-checked h5_btree::node::Node::level, 1 of 33
-./proofs/node/Node/level/Answers.antt:5:13: error: `returns`: as printed, the two types differ only where one has `4`
-  (expected), right after `mathlib.Core.Path.◌≡◌ (`, and the other has `5` (found)
-impl h5_btree::name::SoughtNameSought: not proved; it waits for the proof of `is_behind`
-impl h5_btree::kind::NodeKindDebug: proved
-note: src/kind.rt:71:5: it is not proved that what the function ensures holds when it returns (`returns-clause-capacity`)
-fn h5_btree::kind::NodeKind::capacity: no proof: expected answers in ./proofs/kind/NodeKind/capacity/Answers.antt; `search` did not prove `returns-clause-capacity`
-fn h5_btree::kind::NodeKind::chunks: proved
-fn h5_btree::kind::NodeKind::node_length: no proof: it calls `h5_btree::kind::NodeKind::capacity`, which is not proved
-fn h5_btree::node::Node::level: not proved
-fn h5_btree::read::read_node_at: no proof: expected answers in ./proofs/read/read_node_at/Answers.antt; `search` did not prove `returns-then`; it calls `h5_btree::kind::NodeKind::node_length`, which is not proved
-fn h5_btree::name::SoughtNameSought::is_behind: no proof: expected answers in ./proofs/name/Answers.antt; `search` did not prove `returns`
-crate h5_btree: modules loaded=1111 checked=102
-logic=not-proved
-rt: rt lemma WORD.. finds a lemma by guessed names or words of the goal
-"""
-NOT_COMPILED = "src/node.rt:86:23: error[mismatched-types]: expected `usize`, found `bool`\n"
-NO_FIELD = """./proofs/node/child_at/Answers.antt:6:117: error: `u64_at-requires`: record `X.In-After-place_of` has no field `key_length`
-fn h5_btree::node::child_at: not proved
-logic=not-proved
-"""
-UNREAD = "src/node.rt:9:3: error: `returns` is not in scope\nlogic=not-proved\n"
+from .wrong_bodies_samples import CHECKED, LIB, NODE, NOT_COMPILED, NO_FIELD, UNREAD
 
 
 def edit_text(old, new, path="src/lib.rt"):
@@ -150,11 +62,13 @@ class Made(unittest.TestCase):
 
 class Edits(Made):
     def test_reads_pairs_of_several_files(self):
-        pairs = edits.parse("file: src/a.rt\nold:   x\nnew:   y\nold: z\nnew:\nfile: src/b.rt\nold: u\nnew: v\n")
-        self.assertEqual([(p.path, p.old, p.new) for p in pairs], [("src/a.rt", "  x", "  y"), ("src/a.rt", "z", ""), ("src/b.rt", "u", "v")])
+        text = "file: src/a.rt\nold:   x\nnew:   y\nold: z\nnew:\nfile: src/b.rt\nold: u\nnew: v\n"
+        wanted = [("src/a.rt", "  x", "  y"), ("src/a.rt", "z", ""), ("src/b.rt", "u", "v")]
+        self.assertEqual([(pair.path, pair.old, pair.new) for pair in edits.parse(text)], wanted)
 
     def test_refuses_what_is_no_edit(self):
-        for text in ("", "old: x\nnew: y\n", "file: ../x\nold: x\nnew: y\n", "file: src/a.rt\nold: x\n", "file: src/a.rt\nold: x\nsome words\nnew: y\n"):
+        pair = "old: x\nnew: y\n"
+        for text in ("", pair, "file: ../x\n" + pair, "file: src/a.rt\nold: x\n", "file: src/a.rt\nwords\n" + pair):
             with self.assertRaises(edits.BadEdit, msg=text):
                 edits.parse(text)
 
@@ -237,8 +151,17 @@ class Rounds(Made):
         self.assertEqual(self.plan(low, high, other), [["high", "other"], ["low"]])
 
     def test_one_edit_a_function_and_constants_alone(self):
-        one, two = self.edit("one", "    x + x", "    x"), self.edit("two", "    x + x", "    0")
+        one, two = self.edit("one", "    x + x", "    x"), self.edit("two", "_text = ", "_other = ")
         self.assertEqual(self.plan(self.edit("most", "= 7;", "= 8;"), one, two), [["one"], ["two"], ["most"]])
+
+    def test_long_chains_share_the_late_rounds_but_cycles_do_not(self):
+        chain = "".join(f"fn f{n}() {{\n    f{n + 1}();\n}}\n" for n in range(6)) + "fn f6() {\n    g();\n}\n"
+        text = chain + "fn g() {\n    h();\n}\nfn h() {\n    g() + 1;\n}\n"
+        self.write("crates/top/src/lib.rt", text)
+        self.files = {"src/lib.rt": source.scan("src/lib.rt", text)}
+        made = [self.edit(f"f{n}", f"    f{n + 1}();", "    ();") for n in range(6)]
+        made += [self.edit("g", "    h();", "    ();"), self.edit("h", "    g() + 1;", "    ();")]
+        self.assertEqual(self.plan(*made), [["f0"], ["f1"], ["f2", "f3", "f4", "f5", "g"], ["h"]])
 
     def test_places_the_change_and_not_the_text_around(self):
         function = rounds.candidate(self.edit("one", "    twice(twice(once(x)))", "    twice(once(x))"), self.files)
@@ -254,7 +177,7 @@ class Verdicts(unittest.TestCase):
         self.assertEqual(words["node::Node::level"], verdicts.OWN)
         for name in ("kind::NodeKind::capacity", "read::read_node_at", "name::SoughtNameSought::is_behind"):
             self.assertEqual(words[name], verdicts.GOAL)
-        self.assertTrue(report.reached and not report.proved and not report.unread and not report.only_names)
+        self.assertTrue(report.reached and not report.proved and not report.unread)
 
     def test_words_it_does_not_know_settle_nothing(self):
         for said in ("could not tell", "no proof: antt ended", "no proof: expected answers in ./proofs/X.antt"):
@@ -272,7 +195,9 @@ class Verdicts(unittest.TestCase):
     def test_texts_that_the_prover_cannot_read(self):
         self.assertTrue(verdicts.read_report(1, UNREAD, ("src/node.rt",)).unread)
         report = verdicts.read_report(1, NO_FIELD, ("src/node.rt",))
-        self.assertTrue(report.only_names and not report.unread)
+        self.assertTrue(verdicts.names_alone(report, "node::child_at") and not report.unread)
+        self.assertFalse(verdicts.names_alone(report, "node::child"))
+        self.assertFalse(verdicts.names_alone(verdicts.read_report(1, CHECKED), "node::Node::level"))
 
 
 class Rooms(Made):
@@ -373,9 +298,10 @@ class Judging(Made):
         graph, lines = source.calls(files), []
         for key in bodies:
             below = sorted(source.reached(graph, key) & failing)
-            word = "not proved" if key in failing else f"no proof: it calls `{below[0]}`, which is not proved" if below else "proved"
-            lines.append(f"fn {name}::{key}: {word}")
-        return (1, "\n".join([*lines, "logic=not-proved\n"])) if failing else (0, "\n".join([*lines, "logic=proved sum=0\n"]))
+            word = f"no proof: it calls `{below[0]}`, which is not proved" if below else "proved"
+            lines.append(f"fn {name}::{key}: {'not proved' if key in failing else word}")
+        lines.append("logic=not-proved" if failing else "logic=proved functions=6 sum=0")
+        return int(bool(failing)), "\n".join(lines) + "\n"
 
     def test_refused_edits_are_recorded(self):
         self.edit("low", "    x + x", "    x")
@@ -388,6 +314,9 @@ class Judging(Made):
         self.assertEqual((status, said.splitlines()[-1], self.checks), (0, "1 passed, 0 failed", 3), said)
         self.edit("low", "    x + x", "    x + 1")
         self.assertEqual(self.run_main()[1].splitlines()[-1], "3 passed, 0 failed")
+        shutil.rmtree(os.path.join(self.folder, "wrong-bodies"))
+        self.assertEqual(self.run_main()[0], 1)
+        self.assertEqual(record.read_record(self.root), {})
 
     def test_a_proved_edit_fails_and_is_not_recorded(self):
         self.lax = {"twice"}
@@ -404,7 +333,22 @@ class Judging(Made):
         self.edit("third", "key[0] < ", "key[1] < ", "src/node.rt")
         status, said = self.run_main("top")
         self.assertEqual((status, said.splitlines()[-1]), (1, "2 passed, 1 failed"), said)
+        self.assertEqual(self.checks, 4)
         self.assertRegex(said, r"low\.edit: NOT JUDGED: its check did not reach the prover: src/lib\.rt:\d+:5: error")
+
+    def test_a_crate_that_changes_meanwhile_is_not_recorded(self):
+        self.edit("low", "    x + x", "    x")
+        judge_all = judge.Judge.judge
+
+        def changing(one):
+            """Judges, and changes the crate behind its back."""
+            self.write("crates/top/specs/More.antt", "x = x\n")
+            return judge_all(one)
+
+        with mock.patch.object(judge.Judge, "judge", changing):
+            status, said = self.run_main("top")
+        self.assertEqual((status, said.splitlines()[-1]), (1, "1 passed, 1 failed"), said)
+        self.assertEqual(record.read_record(self.root), {})
 
     def test_a_crate_that_is_not_proved_judges_nothing(self):
         self.files["src/lib.rt"] = source.scan("src/lib.rt", LIB.replace("four(x) + four(x)", "0"))
@@ -416,7 +360,3 @@ class Judging(Made):
     def test_nothing_to_judge_is_a_failure(self):
         self.assertEqual(self.run_main()[1].splitlines()[-1], "0 passed, 1 failed")
         self.assertIn("no such crate", self.run_main("none")[1])
-
-
-if __name__ == "__main__":
-    unittest.main()
