@@ -6,4 +6,4 @@ pub use Rattle.h5_edit.specs.Listed
 pub use Rattle.h5_edit.specs.Look
 pub use Rattle.h5_edit.specs.LinkType
 pub use Rattle.h5_edit.specs.ArrayCellsType
-pub use Rattle.h5_open.specs.Opened
+pub use Rattle.h5_edit.specs.Opened

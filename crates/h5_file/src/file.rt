@@ -5,7 +5,7 @@ ghost use Rattle.h5_model.specs.Faults.Breaches.{cut};
 ghost use Rattle.h5_model.specs.Edits.Refusal.{first_holding};
 ghost use Rattle.h5_model.specs.Scripts.Reading.{path_rules, attribute_rules, cell_rules};
 ghost use Rattle.h5_model.specs.Format.Superblock.{IsSuperblock, end_of_file};
-ghost use Rattle.h5_open.specs.Opened.NotYet.{IsRefusedAt};
+ghost use Rattle.h5_edit.specs.Opened.NotYet.{IsRefusedAt};
 ghost use Rattle.h5_edit.specs.Listed.{IsNoGroup, AreLinks};
 ghost use Rattle.h5_edit.specs.Look.{HasKind, HasNames, HasCell, HasArray, HasAttribute, HasAttributeNames, HasAttributesOf, IsListRefused, IsNoDataset, IsUnlisted};
 ghost use Rattle.h5_edit.specs.Place.{IsNumber, IsNoObject};
@@ -16,11 +16,10 @@ use crate::empty::EMPTY_FILE;
 use crate::superblock::superblock_fault;
 use h5_bytes::get_u64;
 use h5_edit::{
-    ArrayCells, AttrRef, Kind, Link, array_of, attributes_at, kind_at, links_of, names_at,
-    names_of_attributes, number_at, one_attribute, one_cell,
+    ArrayCells, AttrRef, Kind, Link, Opened, array_of, attributes_at, kind_at, links_of, names_at,
+    names_of_attributes, number_at, one_attribute, one_cell, walk,
 };
 use h5_model::{EditFault, ObjectNo, OpenFault};
-use h5_open::{Opened, walk};
 use h5_space::Image;
 use std::alloc::{AllocError, Global};
 use std::marker::Model;
@@ -37,8 +36,8 @@ pub struct File {
 }
 
 impl Model for File {
-    ghost use Rattle.h5_open.specs.Opened.Kept.{IsOpened};
-    ghost use Rattle.h5_open.specs.Opened.State.{FileState, coded_state, opened_state};
+    ghost use Rattle.h5_edit.specs.Opened.Kept.{IsOpened};
+    ghost use Rattle.h5_edit.specs.Opened.State.{FileState, coded_state, opened_state};
 
     ghost Value = { FileState };
 

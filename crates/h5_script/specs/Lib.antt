@@ -1,4 +1,3 @@
-pub mod Listing
 pub mod Taken
 pub mod Answered
 pub mod Runs

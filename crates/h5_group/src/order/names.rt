@@ -9,8 +9,8 @@ ghost use Rattle.h5_model.specs.Faults.TreeFaults.{all_entries};
 ghost use Rattle.h5_group.specs.Nodes.Stands.{IsSymbolsAt};
 ghost use Rattle.h5_group.specs.Order.Rising.{FallAt, FallFrom, IsAbove, RiseFrom, last_name};
 
+use crate::nodes::symbol_node;
 use crate::order::text::is_before;
-use crate::symbol_node;
 use h5_model::{Cause, OpenFault};
 use h5_space::Image;
 

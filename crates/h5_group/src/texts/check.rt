@@ -8,7 +8,7 @@ ghost use Rattle.h5_group.specs.Nodes.Trees.{IsTree, nodes_blocks};
 ghost use Rattle.h5_group.specs.Texts.Named.{AreTexts, IsFreshHeap};
 ghost use Rattle.h5_group.specs.Texts.Refused.{AreTextsRefused};
 
-use crate::GroupTree;
+use crate::nodes::GroupTree;
 use crate::texts::keys::take_keys;
 use crate::texts::linked::take_linked;
 use crate::texts::names::{check_names, has_empty_name};

@@ -11,7 +11,7 @@ ghost use Rattle.h5_open.specs.Counted.Links.{all_links};
 ghost use Rattle.h5_open.specs.Counted.Counts.{AreCounts, IsRight, IsWrong};
 
 use crate::counts::links::count_links;
-use crate::{Opened, OpenedContent, OpenedObject};
+use crate::opened::{Opened, OpenedContent, OpenedObject};
 use h5_model::{Cause, OpenFault};
 use h5_space::Image;
 use std::alloc::Global;

@@ -13,7 +13,7 @@ ghost use Rattle.h5_open.specs.Placed.Whole.{BeginsAtRoot};
 ghost use Rattle.h5_open.specs.Counted.Links.{all_links};
 ghost use Rattle.h5_open.specs.Counted.Counts.{AreCounts};
 
-use crate::{Opened, OpenedContent};
+use crate::opened::{Opened, OpenedContent};
 use h5_group::{Group, LinkTarget, link_at, links_at};
 use h5_space::Image;
 use std::alloc::{AllocError, Global};

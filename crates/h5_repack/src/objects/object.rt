@@ -1,6 +1,6 @@
 //! Objects to be written.
 
-use crate::{Cells, Others};
+use crate::blocks::{Cells, Others};
 use h5_model::Fixed;
 
 /// Where a link of a tree leads.
