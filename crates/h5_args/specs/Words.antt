@@ -21,13 +21,17 @@ path_app name = with_rule (file_app name) (required_rule (codes "PATH"))
 abbrev pub needing : App → App
 needing a = record a { top = record a.top { subcommand_required = true } }
 
+-- a command that tells its version
+abbrev pub versioned : App → App
+versioned a = record a { top = record a.top { has_version = true } }
+
 -- a command and one subcommand more
 abbrev pub also : App → App → App
 also a sub = with_subcommand a sub.top
 
--- `h5i new FILE`, `h5i ls FILE`, `h5i dump FILE PATH` and `h5i run FILE`
+-- `h5i new FILE`, `h5i ls FILE`, `h5i dump FILE PATH` and `h5i run FILE`; `h5i --version` is told apart from these
 abbrev pub h5i_app : App
-h5i_app = also (also (also (also (needing (new_app (codes "h5i"))) (file_app (codes "new"))) (file_app (codes "ls"))) (path_app (codes "dump"))) (file_app (codes "run"))
+h5i_app = also (also (also (also (needing (versioned (new_app (codes "h5i")))) (file_app (codes "new"))) (file_app (codes "ls"))) (path_app (codes "dump"))) (file_app (codes "run"))
 
 -- what the words ask for, by texts
 pub data Wanted : Type 0 where
