@@ -1,2 +1,3 @@
 pub mod Commands
 pub mod Pairs
+pub mod TakenLaws

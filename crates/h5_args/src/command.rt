@@ -55,7 +55,9 @@ fn with_run<'a>(alloc: Global, command: Command<'a>) -> Result<Command<'a>, Allo
     ensures { IfOk result (λ c. app_of c ≡ also (app_of command.entry) (file_app (codes "run"))) }
 {
     let named = Command::new(alloc, "run")
-        .about("Run the script on standard input: echo 'dataset /d i32le 3 contiguous' | h5i run e.h5")
+        .about(
+            "Run the script on standard input: echo 'dataset /d i32le 3 contiguous' | h5i run e.h5",
+        )
         .after_long_help(LINES);
     let sub = named.arg(value(
         alloc,

@@ -76,7 +76,8 @@ pub(crate) const LINES: &str = concat!(
     "      Writes the file anew without the room that nothing uses.\n",
     "      Example, not yet: repack\n",
     "\n",
-    "An edit that is done is answered 'ok N', where N counts the chunks that open views read anew.\n",
-    "An edit or a path that is refused is answered 'refused NUMBER NAME', and anything else\n",
-    "'bad line'. A byte of a name that does not print, or a space, is written by its number, as \\x20.",
+    "An edit that is done is answered 'ok N', where N counts the chunks that open views read anew. An\n",
+    "edit or a path that is refused is answered 'refused NUMBER NAME', any other refusal of a view\n",
+    "'fault NUMBER NAME', and any other line 'bad line'. A byte of a name that does not print, a space\n",
+    "too, is written by its number, as \\x20.",
 );

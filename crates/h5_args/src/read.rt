@@ -1,6 +1,6 @@
 //! Words read as an order.
 
-ghost use Rattle.std.specs.Prelude.{◌≡◌, IfOk, IfErr, map, option_map};
+ghost use Rattle.std.specs.Prelude.{◌≡◌, IfOk, IfErr, is_some, map, option_map, true};
 ghost use Rattle.clap.specs.Words.{kind_of, subcommand_rows_of};
 ghost use Rattle.clap.specs.declared.error.kind.ErrorKind.TheVariants.{OutOfMemory};
 ghost use Rattle.h5_args.specs.Words.{Taken, asked, wanted, wanted_by};
@@ -51,10 +51,12 @@ fn fault_of(alloc: Global, error: &Error) -> OrderFault
 
 /// What the words, the program's name first, ask for.
 ///
-/// `None` where the matches lack the subcommand, its file or its path.
+/// `None` where the matches lack the subcommand, its file or its path, which no words that the command
+/// takes do.
 pub fn order<'a, S: AsStr>(alloc: Global, words: &'a [S]) -> Result<Option<Order<'a>>, OrderFault>
     ensures order { IfOk result (λ o. option_map texts_of o ≡ asked (map S.text words.entry.now)) }
-    // Words that the command takes are refused for want of memory alone.
+    // Words that the command takes give an order, and are refused for want of memory alone.
+    ensures some { Taken (map S.text words.entry.now) → IfOk result (λ o. is_some o ≡ true) }
     ensures only { Taken (map S.text words.entry.now) → IfErr result (λ e. e ≡ NoMemory) }
 {
     let command = h5i(alloc)?;
