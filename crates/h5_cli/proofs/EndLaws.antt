@@ -1,5 +1,5 @@
 -- How runs end.
-use Rattle.std.proofs.Common.{◌≡◌, ◌⊎◌, ◌==◌, if◌then◌else◌, Bool, true, false, refl, ℕ, List, Option, Some, subst, sym, inl, inr, arith}
+use Rattle.std.proofs.Common.{◌≡◌, ◌≢◌, ◌⊎◌, ◌==◌, if◌then◌else◌, Bool, true, false, refl, ℕ, List, Option, Some, subst, sym, inl, inr, arith}
 use Rattle.std.proofs.lemmas.Bool.Decides.{nat_tests}
 use Rattle.std.specs.Io.KnownBytes.{Appends}
 use Rattle.h5_args.specs.Words.{Text, Wanted, WantDump, WantRun}
@@ -7,8 +7,18 @@ use Rattle.h5_open.specs.Opened.State.{FileState}
 use Rattle.h5_file.specs.State.{IsSound}
 use Rattle.h5_cli.specs.Output.{IsDumpText, IsScriptRun}
 use Rattle.h5_cli.specs.Ends.{Ends, IsRunOver}
+use Rattle.h5_cli.specs.Status.{status_code}
 use Rattle.h5_cli.specs.declared.status.Status.{Status}
 use Rattle.h5_cli.specs.declared.status.Status.TheVariants.{Done, CommandRefused, WrongWords, ImageRefused, StreamFailed, NoMemory}
+
+-- a run that carries an order out does not end with the status of wrong words, 2
+pub ends_of_order : (asked : Option Wanted) (input left old new : Option (List ℕ)) (status : Status) → Ends asked input left old new status → status_code status ≢ 2
+ends_of_order asked input left old new Done ends = λ same. absurd (omega (arith, same))
+ends_of_order asked input left old new CommandRefused ends = λ same. absurd (omega (arith, same))
+ends_of_order asked input left old new WrongWords ends = absurd ends
+ends_of_order asked input left old new ImageRefused ends = λ same. absurd (omega (arith, same))
+ends_of_order asked input left old new StreamFailed ends = λ same. absurd (omega (arith, same))
+ends_of_order asked input left old new NoMemory ends = λ same. absurd (omega (arith, same))
 
 -- what is known of one status is known of the same
 pub ends_as : (asked : Option Wanted) (input left old new : Option (List ℕ)) (status result : Status) → result ≡ status → Ends asked input left old new status → Ends asked input left old new result

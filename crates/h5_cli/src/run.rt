@@ -1,6 +1,6 @@
 //! The whole run of the program.
 
-ghost use Rattle.std.specs.Prelude.{◌≡◌, ◌⊎◌, ◌≤◌, Some, map};
+ghost use Rattle.std.specs.Prelude.{◌≡◌, ◌≢◌, ◌⊎◌, ◌≤◌, Some, map};
 ghost use Rattle.h5_args.specs.Words.{Taken, asked};
 ghost use Rattle.h5_cli.specs.Ends.{Ends, Refuses};
 ghost use Rattle.h5_args.specs.Order.{texts_of};
@@ -88,6 +88,8 @@ pub fn program<R: Files, S: AsStr, I: Read, O: Write, E: Write>(
     // Words that clap takes are an order, and it ends as the status says.
     ensures order { Taken (map S.text words.now) → (status : StatusValue) × (result ≡ status_code status)
         × Ends (asked (map S.text words.now)) (I.remaining input.old) (I.remaining input.new) (O.contents output.old) (O.contents output.new) status }
+    // Status 2 is for words alone that clap does not take.
+    ensures wrong { Taken (map S.text words.now) → result ≢ 2 }
     // With status 1 there is an order with a refused command, whatever the words.
     ensures refused { result ≡ 1
         → Refuses (asked (map S.text words.now)) (I.remaining input.old) (I.remaining input.new) (O.contents output.old) (O.contents output.new) }
