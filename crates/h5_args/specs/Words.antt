@@ -2,7 +2,7 @@
 use Rattle.std.specs.Prelude.{◌≡◌, List, Option, None, if◌then◌else◌, codes, true, option_map}
 use Rattle.std.specs.Option.{option_and_then}
 use Rattle.std.specs.Str.{bytes_eq}
-use Rattle.clap.specs.Words.{App, Row, Rule, first_of, new_app, new_rule, subcommand_of, takes, with_rule, with_subcommand}
+use Rattle.clap.specs.Words.{App, Kinds, Row, Rule, fault_of, first_of, new_app, new_rule, subcommand_of, takes, with_rule, with_subcommand}
 pub use Rattle.clap.specs.Words.{Text}
 
 -- a value that has to be given
@@ -55,6 +55,10 @@ wanted found = option_and_then (λ p. wanted_by p.0 (first_of (codes "FILE") p.1
 -- clap's own definition says that the command takes these words, the program's name first
 abbrev pub Taken : List Text → Type 0
 Taken words = takes h5i_app words ≡ true
+
+-- the kinds of refusal that clap's own definition finds for the words, none where they are an order
+abbrev pub faults : List Text → Kinds
+faults words = fault_of h5i_app words
 
 -- what clap's own definition of the matches gives for the words
 abbrev pub asked : List Text → Option Wanted

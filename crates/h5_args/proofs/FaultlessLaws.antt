@@ -1,13 +1,16 @@
--- Words that the command takes ask for an order: the walk stops at one of its subcommands, and that has all that it requires.
-use Rattle.std.proofs.Common.{◌≡◌, ◌<◌, ◌&&◌, ◌||◌, ◌++◌, not, ℕ, Bool, cond, true, false, zero, suc, refl, sym, subst, arith, codes, List, [], ◌∷◌, length, Option, Some, None, is_some, option_map, true≢false}
+-- Words without a fault ask for an order: the walk stops at one of the command's subcommands, and that has all that it requires.
+use Rattle.std.proofs.Common.{◌≡◌, ◌<◌, ◌&&◌, ◌||◌, ◌++◌, not, ℕ, Bool, cond, true, false, zero, suc, refl, sym, ap, subst, arith, codes, List, [], ◌∷◌, length, Option, Some, None, is_some, option_map, true≢false}
 use Rattle.std.specs.Prelude.{encode_utf8, drop, slice_get, find, fold}
-use Rattle.std.specs.List.{list_all, slice_index_or}
+use Rattle.std.specs.List.{list_any, slice_index_or}
 use Rattle.std.specs.Option.{option_and_then, option_map_or}
 use Rattle.std.specs.Str.{bytes_eq, chars}
 use Rattle.clap.specs.Lexer.{long_of, short_of}
 use Rattle.clap.specs.Walk.{Held, Names, answers_to, stop_after, Outcome, Row, Rule, Step, Waiting, Walk, Text, action_of, after_flag, after_step, arg_by_id, arg_by_index, arg_by_long, arg_by_short, bundle, bundle_met, bundle_step, default_rows, done, finished, first_of, flag_met, idle, is_pending, long_met, long_or_other, more_values, next, nothing_held, option, option_word, plain, plain_word, positional, positional_held, pushed, reacted, reading_by, refused, rows_after, settled, settled_rows, short_met, short_or_plain, started, subcommand, subcommand_met, subcommand_or_other, takes_several, takes_values, to_positional, trailing, used_as, used_by_id, value, values_or_missing, waits, walk, walk_from, walked, walked_from, with_default, with_values, without, word_met}
 use Rattle.clap.specs.Simple.{App, Shape, argument_words, built, entered, help_shape, is_simple, label_of, names_of, rows_at}
-use Rattle.clap.specs.Takes.{built_takes, entered_passes, is_given, is_valid, level_passes, other_passes, settle_passes, default_passes, step_passes, turn_passes, walk_passes, word_passes}
+use Rattle.clap.specs.Takes.{is_given}
+use Rattle.clap.specs.Kinds.{Kinds, check_kinds, or_else}
+use Rattle.clap.specs.Faults.{built_fault, check_fault, defaults_fault, entered_fault, level_fault, other_fault, settle_fault, step_fault, turn_fault, walk_fault, word_fault}
+use Rattle.clap.specs.declared.error.kind.ErrorKind.{ErrorKind}
 use Rattle.clap.specs.declared.builder.action.ArgAction.{ArgAction}
 use Rattle.clap.specs.declared.builder.action.ArgAction.TheVariants as action
 use Rattle.clap.specs.declared.builder.value_parser.Reading.{Reading}
@@ -16,13 +19,32 @@ use Rattle.clap.proofs.WalkLemmas.{both}
 use Rattle.clap.specs.Facts.{explicit_source}
 use Rattle.std.proofs.lemmas.List.{length-append}
 use Rattle.std.proofs.lemmas.Slice.Eq.{bytes_eq-Decides}
-use Rattle.h5_args.specs.Words.{Taken, asked, h5i_app, wanted, WantNew, WantLs, WantDump, WantRun}
+use Rattle.h5_args.specs.Words.{asked, faults, h5i_app, wanted, WantNew, WantLs, WantDump, WantRun}
 
 -- ---- the subcommand is not `help`
 
-is_not : (b : Bool) → (not b || false) ≡ true → b ≡ false
-is_not true e = absurd (true≢false (sym e))
-is_not false e = refl
+abbrev is_none : Kinds → Bool
+is_none [] = true
+is_none (k ∷ ks) = false
+
+no_kinds : (k : ErrorKind) (ks : Kinds) → ◌≡◌ {A = Kinds} (k ∷ ks) [] → ⊥
+no_kinds k ks e = true≢false (sym (ap is_none e))
+
+-- no kind of two is none of either
+neither : (a b : Kinds) → or_else a b ≡ [] → (a ≡ []) × (b ≡ [])
+neither [] b e = (refl, e)
+neither (k ∷ ks) b e = absurd (no_kinds k ks e)
+
+not_help : (b : Bool) (k : ErrorKind) (ks : Kinds) → cond (b && true) (k ∷ ks) [] ≡ [] → b ≡ false
+not_help true k ks e = absurd (no_kinds k ks e)
+not_help false k ks e = refl
+
+-- where the last checks find nothing, no subcommand and no value is missing
+checked : (help sub missing : Bool) → check_kinds help sub missing ≡ [] → (sub ≡ false) × (missing ≡ false)
+checked true sub missing e = absurd (no_kinds _ _ e)
+checked false true missing e = absurd (no_kinds _ _ e)
+checked false false true e = absurd (no_kinds _ _ e)
+checked false false false e = (refl, refl)
 
 abbrev IsOrderName : Text → Type 0
 IsOrderName name = bytes_eq name (codes "help") ≡ false
@@ -55,16 +77,16 @@ long_meets c waiting word h (Some p) = flag_meets c waiting word (long_met c (ar
 long_meets c waiting word h None = short_meets c waiting word h (short_of word)
 
 module _ (s : Shape) (names : Names) (helps : s.disable_help_subcommand ≡ false) where
-  other_meets : (met : Option Text) (waiting : Waiting) (position : ℕ) (word : Text) (h : Held) → other_passes s met word h ≡ true
+  other_meets : (met : Option Text) (waiting : Waiting) (position : ℕ) (word : Text) (h : Held) → other_fault s met word h ≡ []
       → MeetsOrder (subcommand_or_other s.rules met waiting position word h).1
-  other_meets (Some name) waiting position word h e = is_not _ (rw helps at e)
+  other_meets (Some name) waiting position word h e = not_help (bytes_eq name (codes "help")) _ _ (rw helps at e)
   other_meets None waiting position word h e = go (bytes_eq word (45 ∷ 45 ∷ []))
     where
       go : (b : Bool) → MeetsOrder (cond b (h, trailing position) (long_or_other s.rules waiting word (long_of word) h)).1
       go true = tt
       go false = long_meets s.rules waiting word h (long_of word)
 
-  word_meets : (is_trailing : Bool) (waiting : Waiting) (position : ℕ) (word : Text) (h : Held) → word_passes s names is_trailing waiting word h ≡ true
+  word_meets : (is_trailing : Bool) (waiting : Waiting) (position : ℕ) (word : Text) (h : Held) → word_fault s names is_trailing waiting word h ≡ []
       → MeetsOrder (word_met s.rules names is_trailing waiting position word h).1
   word_meets true waiting position word h e = tt
   word_meets false waiting position word h e = other_meets (subcommand_met names waiting word) waiting position word h e
@@ -80,23 +102,23 @@ module _ (s : Shape) (names : Names) (helps : s.disable_help_subcommand ≡ fals
       go (Some a) = tt
 
   from_stops : (stopped : Option (Text × List Text)) (w : Walk) (word : Text) → StopsAtOrder w.stopped → StopsAtOrder stopped
-      → (is_some stopped || (word_passes s names w.is_trailing w.waiting word w.held
-      && step_passes s w.position (word_met s.rules names w.is_trailing w.waiting w.position word w.held).0 (word_met s.rules names w.is_trailing w.waiting w.position word w.held).1)) ≡ true
+      → cond (is_some stopped) [] (or_else (word_fault s names w.is_trailing w.waiting word w.held)
+      (step_fault s w.position (word_met s.rules names w.is_trailing w.waiting w.position word w.held).0 (word_met s.rules names w.is_trailing w.waiting w.position word w.held).1)) ≡ []
       → StopsAtOrder (walked_from s.rules names stopped w word).stopped
   from_stops (Some p) w word at own e = own
   from_stops None w word at own e =
       let met = word_met s.rules names w.is_trailing w.waiting w.position word w.held in
-      step_stops s.rules word w met.0 met.1 at (word_meets w.is_trailing w.waiting w.position word w.held (both (word_passes s names w.is_trailing w.waiting word w.held) _ e).0)
+      step_stops s.rules word w met.0 met.1 at (word_meets w.is_trailing w.waiting w.position word w.held (neither (word_fault s names w.is_trailing w.waiting word w.held) _ e).0)
 
-  turn_stops : (w : Walk) (word : Text) → StopsAtOrder w.stopped → turn_passes s names w word ≡ true → StopsAtOrder (walked s.rules names w word).stopped
+  turn_stops : (w : Walk) (word : Text) → StopsAtOrder w.stopped → turn_fault s names w word ≡ [] → StopsAtOrder (walked s.rules names w word).stopped
   unfolding walked
   turn_stops w word at e = from_stops w.stopped w word at at e
 
-  walk_stops : (w : Walk) (words : List Text) → StopsAtOrder w.stopped → walk_passes s names w words ≡ true → StopsAtOrder (fold (walked s.rules names) w words).stopped
-  unfolding walk_passes
+  walk_stops : (w : Walk) (words : List Text) → StopsAtOrder w.stopped → walk_fault s names w words ≡ [] → StopsAtOrder (fold (walked s.rules names) w words).stopped
+  unfolding walk_fault
   walk_stops w [] at e = at
   walk_stops w (x ∷ xs) at e =
-      let p = both (turn_passes s names w x) _ e in
+      let p = neither (turn_fault s names w x) _ e in
       walk_stops (walked s.rules names w x) xs (turn_stops w x at p.0) p.1
 
 -- ---- each row has a value
@@ -296,24 +318,36 @@ given_first id (r ∷ rs) full e = go (bytes_eq r.id id) (given_first id rs full
 
 -- ---- a subcommand that is entered
 
-level_valid : (s : Shape) (words : List Text) → level_passes s [] nothing_held words false ≡ true → is_valid s (rows_after s.rules [] words) false ≡ true
-level_valid s words e =
-    let end = (walk s.rules [] nothing_held words).held in
-    (both (list_all default_passes s.rules) _ (both (settle_passes s.rules s.args_override_self end) _ (both (walk_passes s [] (walk_from nothing_held) words) _ e).1).1).1
+-- a level without a fault: its walk has none, and nothing is missing then
+level_checked : (s : Shape) (names : Names) (words : List Text) (has : Bool) (below : Kinds) → level_fault s names nothing_held words has below ≡ []
+    → (walk_fault s names (walk_from nothing_held) words ≡ []) × (below ≡ []) × (check_fault s (rows_after s.rules names words) has ≡ [])
+level_checked s names words has below e =
+    let end = (walk s.rules names nothing_held words).held in
+    let walks = neither (walk_fault s names (walk_from nothing_held) words) _ e in
+    let under = neither below _ walks.1 in
+    let settles = neither (settle_fault s.rules s.args_override_self end) _ under.1 in
+    (walks.0, under.0, (neither (defaults_fault (settled s.rules end).rows s.rules) _ settles.1).1)
+
+abbrev is_missing : List Row → Rule → Bool
+is_missing rows a = a.required && not (is_given a.id rows)
 
 -- each value that has to be given is given
-all_given : (s : Shape) (rows : List Row) → s.subcommand_negates_reqs ≡ false → is_valid s rows false ≡ true → list_all (λ a. not a.required || is_given a.id rows) s.rules ≡ true
-all_given s rows negates e =
-    (both (list_all (λ a. a.is_free) s.rules) _ (both (not s.subcommand_required || false) _ (both (not s.arg_required_else_help || _) _ (rw negates at e)).1).1).1
+none_missing : (s : Shape) (words : List Text) → s.subcommand_negates_reqs ≡ false → level_fault s [] nothing_held words false [] ≡ []
+    → list_any (is_missing (rows_after s.rules [] words)) s.rules ≡ false
+none_missing s words negates e = rw negates at (checked _ _ _ (level_checked s [] words false [] e).2).1
 
-entry_given : (s : Shape) (words : List Text) → s.subcommand_negates_reqs ≡ false → level_passes s [] nothing_held words false ≡ true
-    → list_all (λ a. not a.required || is_given a.id (rows_after s.rules [] words)) s.rules ≡ true
-entry_given s words negates e = all_given s (rows_after s.rules [] words) negates (level_valid s words e)
+first_given : (given rest : Bool) → (not given || rest) ≡ false → (given ≡ true) × (rest ≡ false)
+first_given true rest e = (refl, e)
+first_given false rest e = absurd (true≢false e)
 
--- what is entered with words that it takes gives an order, but for `help`
+has_needed : (has : Bool) → (not has && true) ≡ false → has ≡ true
+has_needed true e = refl
+has_needed false e = absurd (true≢false e)
+
+-- what is entered without a fault gives an order, but for `help`
 record Gives (s : Shape) : Type 0 where
   alone : s.aliases ≡ []
-  order : (words : List Text) → IsOrderName s.name → level_passes s [] nothing_held words false ≡ true → is_some (wanted (Some (rows_at s words))) ≡ true
+  order : (words : List Text) → IsOrderName s.name → level_fault s [] nothing_held words false [] ≡ [] → is_some (wanted (Some (rows_at s words))) ≡ true
 
 abbrev AllGive : List Shape → Type 0
 AllGive [] = Unit {0}
@@ -341,27 +375,23 @@ found_gives word (s ∷ rest) all = go (answers_to word (label_of s)) refl (foun
 -- ---- the command
 
 module _ (a : App) (all : AllGive a.subs) where
-  stop_gives : (stop : Option (Text × List Text)) → StopsAtOrder stop → entered_passes a stop ≡ true → is_some (entered a stop) ≡ true → is_some (wanted (entered a stop)) ≡ true
+  stop_gives : (stop : Option (Text × List Text)) → StopsAtOrder stop → entered_fault a stop ≡ [] → is_some (entered a stop) ≡ true → is_some (wanted (entered a stop)) ≡ true
   stop_gives None at passes has = absurd (true≢false (sym has))
   stop_gives (Some p) at passes has = go (find (λ s. answers_to p.0 (label_of s)) a.subs) (found_gives p.0 a.subs all) passes has
     where
-      go : (found : Option Shape) → FoundGives p.0 found → option_map_or (λ s. level_passes s [] nothing_held p.1 false) found true ≡ true
+      go : (found : Option Shape) → FoundGives p.0 found → option_map_or (λ s. level_fault s [] nothing_held p.1 false []) found [] ≡ []
           → is_some (option_map (λ s. rows_at s p.1) found) ≡ true → is_some (wanted (option_map (λ s. rows_at s p.1) found)) ≡ true
       go None gives passes has = absurd (true≢false (sym has))
       go (Some s) gives passes has = gives.0.order p.1 (rw gives.1 at) passes
 
-  takes_gives : (words : List Text) → a.top.subcommand_required ≡ true → a.top.disable_help_subcommand ≡ false → built_takes a nothing_held words ≡ true
+  faultless_gives : (words : List Text) → a.top.subcommand_required ≡ true → a.top.disable_help_subcommand ≡ false → built_fault a nothing_held words ≡ []
       → is_some (wanted (entered a (stop_after a.top.rules (names_of a) words))) ≡ true
-  takes_gives words required helps e =
+  faultless_gives words required helps e =
       let stop = stop_after a.top.rules (names_of a) words in
       let has = is_some (entered a stop) in
-      let end = (walk a.top.rules (names_of a) nothing_held words).held in
-      let rows = finished a.top.rules end in
-      let passes = both (entered_passes a stop) _ e in
-      let walks = both (walk_passes a.top (names_of a) (walk_from nothing_held) words) _ passes.1 in
-      let valid : is_valid a.top rows has ≡ true = (both (list_all default_passes a.top.rules) _ (both (settle_passes a.top.rules a.top.args_override_self end) _ walks.1).1).1 in
-      let needs : (not a.top.subcommand_required || has) ≡ true = (both (not a.top.subcommand_required || has) _ (both (not a.top.arg_required_else_help || _) _ valid).1).0 in
-      stop_gives stop (walk_stops a.top (names_of a) helps (walk_from nothing_held) words tt walks.0) passes.0 (rw required at needs)
+      let level = level_checked a.top (names_of a) words has (entered_fault a stop) e in
+      let needs : (not has && a.top.subcommand_required) ≡ false = (checked _ _ _ level.2).0 in
+      stop_gives stop (walk_stops a.top (names_of a) helps (walk_from nothing_held) words tt level.0) level.1 (has_needed has (rw required at needs))
 
 -- ---- `h5i`
 
@@ -392,7 +422,7 @@ new_gives = record {
   alone = refl;
   order = λ words named e.
       let rows = rows_after (sub_at 0).rules [] words in
-      let file = given_first (codes "FILE") rows (rows_full (sub_at 0).rules file_alone [] words) (both _ _ (entry_given (sub_at 0) words refl e)).0 in
+      let file = given_first (codes "FILE") rows (rows_full (sub_at 0).rules file_alone [] words) (first_given _ _ (none_missing (sub_at 0) words refl e)).0 in
       some_mapped WantNew _ file;
 }
 
@@ -401,7 +431,7 @@ ls_gives = record {
   alone = refl;
   order = λ words named e.
       let rows = rows_after (sub_at 1).rules [] words in
-      let file = given_first (codes "FILE") rows (rows_full (sub_at 1).rules file_alone [] words) (both _ _ (entry_given (sub_at 1) words refl e)).0 in
+      let file = given_first (codes "FILE") rows (rows_full (sub_at 1).rules file_alone [] words) (first_given _ _ (none_missing (sub_at 1) words refl e)).0 in
       some_mapped WantLs _ file;
 }
 
@@ -411,8 +441,8 @@ dump_gives = record {
   order = λ words named e.
       let rows = rows_after (sub_at 2).rules [] words in
       let full = rows_full (sub_at 2).rules path_alone [] words in
-      let given = both _ _ (entry_given (sub_at 2) words refl e) in
-      some_both WantDump _ _ (given_first (codes "FILE") rows full given.0) (given_first (codes "PATH") rows full (both _ _ given.1).0);
+      let given = first_given _ _ (none_missing (sub_at 2) words refl e) in
+      some_both WantDump _ _ (given_first (codes "FILE") rows full given.0) (given_first (codes "PATH") rows full (first_given _ _ given.1).0);
 }
 
 run_gives : Gives (sub_at 3)
@@ -420,14 +450,14 @@ run_gives = record {
   alone = refl;
   order = λ words named e.
       let rows = rows_after (sub_at 3).rules [] words in
-      let file = given_first (codes "FILE") rows (rows_full (sub_at 3).rules file_alone [] words) (both _ _ (entry_given (sub_at 3) words refl e)).0 in
+      let file = given_first (codes "FILE") rows (rows_full (sub_at 3).rules file_alone [] words) (first_given _ _ (none_missing (sub_at 3) words refl e)).0 in
       some_mapped WantRun _ file;
 }
 
 help_gives : Gives (sub_at 4)
 help_gives = record { alone = refl; order = λ words named e. absurd (true≢false named) }
 
--- words that the command takes ask for an order
-pub taken_asked : (words : List Text) → Taken words → is_some (asked words) ≡ true
-taken_asked words taken =
-    takes_gives (built h5i_app) (new_gives, (ls_gives, (dump_gives, (run_gives, (help_gives, tt))))) (argument_words h5i_app words) refl refl (both (is_simple h5i_app) _ taken).1
+-- words in which clap's own definition finds no fault ask for an order
+pub faultless_asked : (words : List Text) → faults words ≡ [] → is_some (asked words) ≡ true
+faultless_asked words none =
+    faultless_gives (built h5i_app) (new_gives, (ls_gives, (dump_gives, (run_gives, (help_gives, tt))))) (argument_words h5i_app words) refl refl none
