@@ -32,14 +32,14 @@ fn reads_extent(alloc: Global) -> bool {
     if extent.rank() != 2 || extent.maximum(0).is_some() || extent.maximum(1) != Some(5) {
         return false;
     }
-    extent.dims(alloc).sizes() == [9, 5]
+    extent.dims(alloc).sizes() == [9, 5].as_slice()
 }
 
 /// Whether the chunk sizes are read.
 fn reads_chunks(dims: &Dims, fixed: &Fixed, alloc: Global) -> bool {
     match read_layout(dims, fixed, &CHUNKS) {
         Ok(Layout::Chunked { sizes, tree }) => {
-            tree == Some(3584) && sizes.dims(alloc).sizes() == [2, 5]
+            tree == Some(3584) && sizes.dims(alloc).sizes() == [2, 5].as_slice()
         }
         _ => false,
     }
@@ -48,7 +48,7 @@ fn reads_chunks(dims: &Dims, fixed: &Fixed, alloc: Global) -> bool {
 /// Whether the cells are read.
 fn reads_cells(dims: &Dims, fixed: &Fixed) -> bool {
     match read_layout(dims, fixed, &CELLS) {
-        Ok(Layout::Compact(cells)) => cells == [0, 1, 2, 100, 127],
+        Ok(Layout::Compact(cells)) => cells == [0, 1, 2, 100, 127].as_slice(),
         _ => false,
     }
 }

@@ -29,8 +29,9 @@ fn counts(alloc: Global, sizes: &[u64], cells: u64, small: bool) -> bool {
 
 #[test]
 fn counts_cells(rt: HostRuntime) {
-    for (sizes, cells, small) in CELLS {
-        assert!(rt; counts(rt.alloc(), sizes, cells, small), "{cells} cells");
+    for k in 0..CELLS.len() {
+        let (sizes, cells, small) = CELLS[k];
+        assert!(rt; counts(rt.alloc(), sizes, cells, small), "row {k}");
     }
     assert!(rt; counts(rt.alloc(), &[1; 32], 1, true));
     assert!(rt; Dims::new(rt.alloc(), &[1; 33]).is_none());
@@ -56,8 +57,9 @@ fn place_in(alloc: Global, sizes: &[u64], index: &[u64]) -> Option<u64> {
 
 #[test]
 fn places_cells(rt: HostRuntime) {
-    for (sizes, index, place) in PLACES {
-        assert!(rt; place_in(rt.alloc(), sizes, index) == place, "{place:?}");
+    for k in 0..PLACES.len() {
+        let (sizes, index, place) = PLACES[k];
+        assert!(rt; place_in(rt.alloc(), sizes, index) == place, "row {k}");
     }
 }
 
@@ -101,8 +103,9 @@ fn has_fault(alloc: Global, lists: &[&[u64]; 4], fault: SlabFault) -> bool {
 
 #[test]
 fn names_the_first_fault(rt: HostRuntime) {
-    for (lists, fault) in FAULTS {
-        assert!(rt; has_fault(rt.alloc(), &lists, fault), "{fault:?}");
+    for k in 0..FAULTS.len() {
+        let (lists, fault) = &FAULTS[k];
+        assert!(rt; has_fault(rt.alloc(), lists, *fault), "row {k}");
     }
     let ones: [u64; 33] = [1; 33];
     assert!(rt; has_fault(rt.alloc(), &[&ones; 4], SlabFault::RankMismatch));
@@ -144,7 +147,8 @@ fn selects(alloc: Global, sizes: &[u64], lists: &[&[u64]; 4], within: bool, cell
 
 #[test]
 fn bounds_and_counts_a_selection(rt: HostRuntime) {
-    for (sizes, lists, within, cells) in SELECTIONS {
-        assert!(rt; selects(rt.alloc(), sizes, &lists, within, cells), "{cells} cells");
+    for k in 0..SELECTIONS.len() {
+        let (sizes, lists, within, cells) = &SELECTIONS[k];
+        assert!(rt; selects(rt.alloc(), sizes, lists, *within, *cells), "row {k}");
     }
 }

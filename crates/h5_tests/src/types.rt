@@ -29,7 +29,8 @@ static VALUES: [(u8, bool, bool, i128, &[u8]); 8] = [
 
 #[test]
 fn reads_and_writes_values(rt: HostRuntime) {
-    for (size, signed, big, value, bytes) in VALUES {
+    for k in 0..VALUES.len() {
+        let (size, signed, big, value, bytes) = VALUES[k];
         let agrees = match Fixed::new(size, signed, big) {
             Some(fixed) => agree(&fixed, value, bytes),
             None => false,
@@ -56,7 +57,8 @@ fn is_refused(fixed: &Fixed, value: i128) -> bool {
 
 #[test]
 fn refuses_what_is_outside(rt: HostRuntime) {
-    for (size, signed, low, high) in BESIDE {
+    for k in 0..BESIDE.len() {
+        let (size, signed, low, high) = BESIDE[k];
         let refuses = match Fixed::new(size, signed, true) {
             Some(fixed) => is_refused(&fixed, low) && is_refused(&fixed, high),
             None => false,
