@@ -9,4 +9,4 @@ mod stands;
 mod symbol;
 
 pub use read::{GroupTree, read_tree};
-pub use stands::{internal_k, symbol_node, tree_node};
+pub use stands::{symbol_node, tree_node};

@@ -12,11 +12,10 @@ ghost use Rattle.h5_group.specs.Nodes.Refused.{IsRefusedFor};
 ghost use Rattle.h5_group.specs.Nodes.Walk.{IsFault};
 
 use crate::nodes::claim::claim;
-use crate::nodes::stands::leaf_k;
 use h5_btree::Node;
 use h5_model::{Cause, OpenFault};
 use h5_snod::read_symbol_node;
-use h5_space::{Claims, Image, fault};
+use h5_space::{Claims, Image, fault, leaf_k};
 
 /// Claims the symbol nodes that a node of level 0 leads to, from left to right.
 pub(crate) fn claim_symbol_nodes(
@@ -56,7 +55,7 @@ fn claim_symbol_node(image: &Image, claims: &mut Claims, at: u64) -> Result<(), 
     ensures refused { IfErr result (λ fault. IsRefusedFor (SymbolBreach image.now.bytes at)
         (length image.now.bytes) claims.old.held (symbol_block (leaf_of image.now.bytes) at) fault.cause) }
 {
-    let leaf = leaf_k(image);
+    let leaf = leaf_k(image.bytes());
     let len = 8 + 80 * u64::from(leaf);
     claim(claims, at, len)?;
     let bytes = image.part(at, len).unwrap();
