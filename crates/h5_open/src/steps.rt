@@ -14,14 +14,13 @@ ghost use Rattle.h5_open.specs.Walk.{IsNumbered, IsReady, IsTreeRead, IsLinkRead
 
 use crate::counts::check_counts;
 use crate::index::{object_at, push_object};
-use crate::judge::fault;
 use crate::object::{links_in, read_object};
 use crate::opened::{Opened, OpenedContent};
 use h5_bytes::Block;
 use h5_group::{LinkRef, LinkTarget};
 use h5_header::claim;
 use h5_model::{Cause, OpenFault};
-use h5_space::{Claims, Image, SUPERBLOCK, root_header};
+use h5_space::{Claims, Image, SUPERBLOCK, fault, root_header};
 use std::alloc::Global;
 use std::collections::BTreeMap;
 
