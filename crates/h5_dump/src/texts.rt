@@ -28,11 +28,11 @@ pub fn push_list(alloc: Global, text: &mut Vec<u8>, file: &File) -> Result<(), A
     ensures { Appends result text.old.items text.new.items (list_text file.now.tree) }
 {
     push_group_line(text, PathText::Escaped(b"/"))?;
-    let Some(links) = file.links(alloc, ObjectNo(0))? else {
+    let Some(links) = file.links(ObjectNo(0))? else {
         return Ok(());
     };
     let mut path = Vec::new(alloc);
-    push_links(alloc, text, file, MAX_DEPTH - 1, &mut path, &links)
+    push_links(text, file, MAX_DEPTH - 1, &mut path, &links)
 }
 
 /// Appends the lines of links of the group at the path, which is escaped already. Each group is
@@ -41,7 +41,6 @@ pub fn push_list(alloc: Global, text: &mut Vec<u8>, file: &File) -> Result<(), A
 /// The path is as before then, unless memory is refused.
 #[cycle(listed)]
 fn push_links(
-    alloc: Global,
     text: &mut Vec<u8>,
     file: &File,
     depth: usize,
@@ -62,7 +61,7 @@ fn push_links(
                 push_soft_line(text, line, target)?;
             }
             LinkTo::Object(number) => {
-                push_object(alloc, text, file, depth, path, link.name, number)?;
+                push_object(text, file, depth, path, link.name, number)?;
             }
         }
     }
@@ -73,7 +72,6 @@ fn push_links(
 /// holds, so many names deep.
 #[cycle(listed)]
 fn push_object(
-    alloc: Global,
     text: &mut Vec<u8>,
     file: &File,
     depth: usize,
@@ -92,7 +90,7 @@ fn push_object(
     if let Some(array) = file.array(number) {
         return push_listed_array(text, head, &array);
     }
-    let Some(links) = file.links(alloc, number)? else {
+    let Some(links) = file.links(number)? else {
         return Ok(());
     };
     push_group_line(text, head)?;
@@ -101,7 +99,7 @@ fn push_object(
     }
     let length = path.len();
     push_name(path, name)?;
-    push_links(alloc, text, file, depth - 1, path, &links)?;
+    push_links(text, file, depth - 1, path, &links)?;
     path.truncate(length);
     Ok(())
 }
@@ -150,10 +148,10 @@ pub fn push_dump(
         return push_soft_line(text, PathText::Plain(path), target);
     }
     // An object stands at the path, so that these are refused for want of memory alone.
-    let Ok(number) = file.number(path) else {
+    let Ok(number) = file.object_number(path) else {
         return Err(AllocError);
     };
-    let Ok(attributes) = file.attributes(alloc, path) else {
+    let Ok(attributes) = file.attributes(path) else {
         return Err(AllocError);
     };
     match file.array(number) {

@@ -17,7 +17,7 @@ use h5_edit::{
     ArrayCells, AttrRef, Kind, Link, Opened, array_of, attributes_at, kind_at, links_of, names_at,
     names_of_attributes, number_at, one_attribute, one_cell, walk,
 };
-use h5_model::{Cause, EditFault, ObjectNo, OpenFault};
+use h5_model::{EditFault, ObjectNo, OpenFault};
 use h5_space::{Image, end_of_file, superblock_fault};
 use std::alloc::{AllocError, Global};
 use std::marker::Model;
@@ -51,7 +51,8 @@ impl File {
     ///
     /// Fails where memory is refused.
     pub fn create(alloc: Global) -> Result<File, AllocError>
-        ensures { IfOk result (λ f. f ≡ created_state) }
+        ensures created { IfOk result (λ f. f ≡ created_state) }
+        ensures sound { IfOk result IsSound }
     {
         let image = Image::new(alloc, Vec::from_slice(alloc, &EMPTY_FILE)?);
         // These bytes read as the root alone, so only memory can be short.
@@ -125,28 +126,28 @@ impl File {
     ///
     /// Refused as [`File::kind`] is, also as `NotAGroup` where no group stands there, and as
     /// `NoMemory`.
-    pub fn list(&self, alloc: Global, path: &[u8]) -> Result<Vec<&[u8]>, EditFault>
+    pub fn list(&self, path: &[u8]) -> Result<Vec<&[u8]>, EditFault>
         ensures { MatchResult result (λ names. HasNames self.now.tree path.now (map (λ name. name.now) names.items)) (IsListRefused self.now.tree path.now) }
     {
-        names_at(alloc, &self.image, &self.opened, path)
+        names_at(self.alloc, &self.image, &self.opened, path)
     }
 
     /// The names of the attributes of the object at the path, ascending by their bytes.
     ///
     /// Refused as [`File::kind`] is, and as `NoMemory`.
-    pub fn attrs(&self, alloc: Global, path: &[u8]) -> Result<Vec<&[u8]>, EditFault>
+    pub fn attrs(&self, path: &[u8]) -> Result<Vec<&[u8]>, EditFault>
         ensures { MatchResult result (λ names. HasAttributeNames self.now.tree path.now (map (λ name. name.now) names.items)) (IsUnlisted self.now.tree path.now) }
     {
-        names_of_attributes(alloc, &self.image, &self.opened, path)
+        names_of_attributes(self.alloc, &self.image, &self.opened, path)
     }
 
     /// The attributes of the object at the path, ascending by the bytes of their names.
     ///
     /// Refused as [`File::attrs`] is.
-    pub fn attributes(&self, alloc: Global, path: &[u8]) -> Result<Vec<AttrRef<'_>>, EditFault>
+    pub fn attributes(&self, path: &[u8]) -> Result<Vec<AttrRef<'_>>, EditFault>
         ensures { MatchResult result (λ list. HasAttributesOf self.now.tree path.now list.items) (IsUnlisted self.now.tree path.now) }
     {
-        attributes_at(alloc, &self.image, &self.opened, path)
+        attributes_at(self.alloc, &self.image, &self.opened, path)
     }
 
     /// The attribute of this name of the object at the path.
@@ -173,7 +174,7 @@ impl File {
     /// The number of the object at the path. It stays the object's while the file is open.
     ///
     /// Refused as [`File::kind`] is, also as `NotFound` where a soft link stands there. It takes no memory.
-    pub fn number(&self, path: &[u8]) -> Result<ObjectNo, EditFault>
+    pub fn object_number(&self, path: &[u8]) -> Result<ObjectNo, EditFault>
         ensures { MatchResult result (λ number. IsNumber self.now.tree path.now number.0) (IsNoObject self.now.tree path.now) }
     {
         number_at(&self.image, &self.opened, path)
@@ -182,14 +183,10 @@ impl File {
     /// The links of the group of this number, ascending by the bytes of their names, or `None` where no group has it.
     ///
     /// Takes memory for a reference to each link.
-    pub fn links(
-        &self,
-        alloc: Global,
-        number: ObjectNo,
-    ) -> Result<Option<Vec<Link<'_>>>, AllocError>
+    pub fn links(&self, number: ObjectNo) -> Result<Option<Vec<Link<'_>>>, AllocError>
         ensures { IfOk result (λ found. MatchOption found (IsNoGroup self.now.tree number.0) (λ links. AreLinks self.now.tree number.0 links.items)) }
     {
-        links_of(alloc, &self.image, &self.opened, number)
+        links_of(self.alloc, &self.image, &self.opened, number)
     }
 
     /// The array of this number, or `None` where no array has it. It takes no memory.
@@ -229,11 +226,7 @@ fn open_front(alloc: Global, bytes: Vec<u8>, end: usize) -> Result<File, (OpenFa
     ensures back { IfErr result (λ e. e.1.items ≡ bytes.items) }
 {
     let Ok(front) = Vec::from_slice(alloc, &bytes[..end]) else {
-        let fault = OpenFault {
-            cause: Cause::NoMemory,
-            address: 0,
-        };
-        return Err((fault, bytes));
+        return Err((OpenFault::from(AllocError), bytes));
     };
     match walked(alloc, Image::new(alloc, front)) {
         Ok(file) => Ok(file),

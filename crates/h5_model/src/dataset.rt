@@ -1,7 +1,11 @@
 //! What a new dataset is to be.
 
+ghost use Rattle.std.specs.Prelude.{◌≡◌, IfOk, Some, map};
+ghost use Rattle.h5_model.specs.declared.dataset.Store.TheVariants as stored;
+
 use crate::fixed_point::Fixed;
 use crate::list::Items;
+use std::alloc::{AllocError, Global};
 
 /// How a dataset's cells are stored.
 #[derive(Drop)]
@@ -19,4 +23,82 @@ pub struct Spec {
     pub maxima: Items<Option<u64>>,
     pub store: Store,
     pub fill: i128,
+}
+
+impl Spec {
+    /// An array of this type and these sizes in cells, the last size running fastest, all in one block; each cell has the fill as its
+    /// value. It cannot be resized. No size makes a scalar, of one cell.
+    ///
+    /// Nothing is asked of these here: what is wrong with an array is told where it is created. Fails where memory is refused.
+    pub fn contiguous(
+        alloc: Global,
+        fixed: Fixed,
+        dims: &[u64],
+        fill: i128,
+    ) -> Result<Spec, AllocError>
+        ensures { IfOk result (λ spec. spec ≡ record {
+            fixed = fixed; dims = dims.now; maxima = map Some dims.now; store = stored.Contiguous; fill = fill }) }
+    {
+        unresizable(alloc, fixed, dims, Store::Contiguous, fill)
+    }
+
+    /// An array as [`Spec::contiguous`] has it, but with its cells in its header, where they may have 65524 bytes.
+    ///
+    /// Fails where memory is refused.
+    pub fn compact(
+        alloc: Global,
+        fixed: Fixed,
+        dims: &[u64],
+        fill: i128,
+    ) -> Result<Spec, AllocError>
+        ensures { IfOk result (λ spec. spec ≡ record {
+            fixed = fixed; dims = dims.now; maxima = map Some dims.now; store = stored.Compact; fill = fill }) }
+    {
+        unresizable(alloc, fixed, dims, Store::Compact, fill)
+    }
+
+    /// An array as [`Spec::contiguous`] has it, but in chunks, each of so many cells along each size. It can be resized up to the
+    /// maxima, `None` being unlimited.
+    ///
+    /// Fails where memory is refused.
+    pub fn chunked(
+        alloc: Global,
+        fixed: Fixed,
+        dims: &[u64],
+        maxima: &[Option<u64>],
+        chunks: &[u32],
+        fill: i128,
+    ) -> Result<Spec, AllocError>
+        ensures { IfOk result (λ spec. spec ≡ record {
+            fixed = fixed; dims = dims.now; maxima = maxima.now; store = stored.Chunked chunks.now; fill = fill }) }
+    {
+        Ok(Spec {
+            fixed,
+            dims: Items::from_slice(alloc, dims)?,
+            maxima: Items::from_slice(alloc, maxima)?,
+            store: Store::Chunked(Items::from_slice(alloc, chunks)?),
+            fill,
+        })
+    }
+}
+
+/// An array that is stored so, and whose maxima are its sizes.
+fn unresizable(
+    alloc: Global,
+    fixed: Fixed,
+    dims: &[u64],
+    store: Store,
+    fill: i128,
+) -> Result<Spec, AllocError>
+    ensures { IfOk result (λ spec. spec ≡ record {
+        fixed = fixed; dims = dims.now; maxima = map Some dims.now; store = store; fill = fill }) }
+{
+    let maxima: Vec<Option<u64>> = dims.iter().map(|size| Some(*size)).collect(alloc)?;
+    Ok(Spec {
+        fixed,
+        dims: Items::from_slice(alloc, dims)?,
+        maxima: Items::from(maxima),
+        store,
+        fill,
+    })
 }

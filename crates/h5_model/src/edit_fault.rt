@@ -2,9 +2,13 @@
 
 ghost use Rattle.std.specs.Prelude.{◌≡◌};
 
+use std::alloc::AllocError;
+use std::fmt;
+use thiserror::Error;
+
 /// Why an edit was refused. Where several rules hold, the one with the lowest number is named; want
 /// of memory may be named in place of any.
-#[derive(Clone, Copy, PartialEq, Eq, Debug)]
+#[derive(Clone, Copy, PartialEq, Eq, Debug, Error)]
 pub enum EditFault {
     /// A path is not of the form of a path, or a soft link text is empty or has a zero byte.
     BadPath,
@@ -153,5 +157,31 @@ impl EditFault {
             EditFault::NoMemory => "NoMemory",
             EditFault::NotYet => "NotYet",
         }
+    }
+}
+
+/// Shows the fault's name.
+impl fmt::Display for EditFault {
+    ghost use Rattle.std.specs.Prelude.{Some};
+    ghost use Rattle.std.specs.Fmt.{padded};
+    ghost use Rattle.h5_model.specs.Edits.EditFaults.{fault_name};
+
+    ghost output = { λ fault. Some (fault_name fault) };
+
+    ghost styled_output = { λ fault spec. Some (padded spec (fault_name fault)) };
+
+    fn fmt<W: fmt::Write>(&self, f: &mut fmt::Formatter<W>) -> fmt::Result {
+        f.pad(self.name())
+    }
+}
+
+/// Want of memory refuses the edit as `NoMemory`.
+impl From<AllocError> for EditFault {
+    ghost use Rattle.h5_model.specs.declared.edit_fault.EditFault.TheVariants.{NoMemory};
+
+    ghost from_gives = { λ _ fault. fault ≡ NoMemory };
+
+    fn from(_error: AllocError) -> Self {
+        Self::NoMemory
     }
 }

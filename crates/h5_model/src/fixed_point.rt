@@ -26,6 +26,104 @@ impl Model for Fixed {
 }
 
 impl Fixed {
+    /// Signed, of one byte.
+    pub const I8: Fixed = Fixed {
+        size: 1,
+        signed: true,
+        big: false,
+    };
+
+    /// Unsigned, of one byte.
+    pub const U8: Fixed = Fixed {
+        size: 1,
+        signed: false,
+        big: false,
+    };
+
+    /// Signed, of two bytes, the low byte first.
+    pub const I16_LE: Fixed = Fixed {
+        size: 2,
+        signed: true,
+        big: false,
+    };
+
+    /// Signed, of two bytes, the high byte first.
+    pub const I16_BE: Fixed = Fixed {
+        size: 2,
+        signed: true,
+        big: true,
+    };
+
+    /// Unsigned, of two bytes, the low byte first.
+    pub const U16_LE: Fixed = Fixed {
+        size: 2,
+        signed: false,
+        big: false,
+    };
+
+    /// Unsigned, of two bytes, the high byte first.
+    pub const U16_BE: Fixed = Fixed {
+        size: 2,
+        signed: false,
+        big: true,
+    };
+
+    /// Signed, of four bytes, the low byte first.
+    pub const I32_LE: Fixed = Fixed {
+        size: 4,
+        signed: true,
+        big: false,
+    };
+
+    /// Signed, of four bytes, the high byte first.
+    pub const I32_BE: Fixed = Fixed {
+        size: 4,
+        signed: true,
+        big: true,
+    };
+
+    /// Unsigned, of four bytes, the low byte first.
+    pub const U32_LE: Fixed = Fixed {
+        size: 4,
+        signed: false,
+        big: false,
+    };
+
+    /// Unsigned, of four bytes, the high byte first.
+    pub const U32_BE: Fixed = Fixed {
+        size: 4,
+        signed: false,
+        big: true,
+    };
+
+    /// Signed, of eight bytes, the low byte first.
+    pub const I64_LE: Fixed = Fixed {
+        size: 8,
+        signed: true,
+        big: false,
+    };
+
+    /// Signed, of eight bytes, the high byte first.
+    pub const I64_BE: Fixed = Fixed {
+        size: 8,
+        signed: true,
+        big: true,
+    };
+
+    /// Unsigned, of eight bytes, the low byte first.
+    pub const U64_LE: Fixed = Fixed {
+        size: 8,
+        signed: false,
+        big: false,
+    };
+
+    /// Unsigned, of eight bytes, the high byte first.
+    pub const U64_BE: Fixed = Fixed {
+        size: 8,
+        signed: false,
+        big: true,
+    };
+
     /// The type, or `None` where there is none of this size. One byte has no order.
     pub fn new(size: u8, signed: bool, big: bool) -> Option<Fixed>
         ensures { result ≡ fixed_from size signed big }

@@ -1,6 +1,9 @@
 //! Hyperslabs: regular selections of an array.
 
+ghost use Rattle.std.specs.Prelude.{◌≡◌, IfOk};
+
 use crate::list::Items;
+use std::alloc::{AllocError, Global};
 
 /// One dimension of a selection: `count` blocks of `block` cells, `stride` apart, from `start` on.
 #[derive(Clone, Copy, PartialEq, Eq, Debug)]
@@ -18,4 +21,26 @@ pub struct Hyper {
     pub stride: Items<u64>,
     pub count: Items<u64>,
     pub block: Items<u64>,
+}
+
+impl Hyper {
+    /// The selection of these lists, each with one number of cells or blocks for each dimension, the one that runs slowest first.
+    ///
+    /// Nothing is asked of the lists here: what is wrong with a selection is told where it is used. Fails where memory is refused.
+    pub fn new(
+        alloc: Global,
+        start: &[u64],
+        stride: &[u64],
+        count: &[u64],
+        block: &[u64],
+    ) -> Result<Hyper, AllocError>
+        ensures { IfOk result (λ hyper. hyper ≡ record { start = start.now; stride = stride.now; count = count.now; block = block.now }) }
+    {
+        Ok(Hyper {
+            start: Items::from_slice(alloc, start)?,
+            stride: Items::from_slice(alloc, stride)?,
+            count: Items::from_slice(alloc, count)?,
+            block: Items::from_slice(alloc, block)?,
+        })
+    }
 }

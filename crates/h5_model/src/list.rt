@@ -1,7 +1,8 @@
 //! Lists that values own.
 
-ghost use Rattle.std.specs.Prelude.{◌≡◌};
+ghost use Rattle.std.specs.Prelude.{◌≡◌, IfOk};
 
+use std::alloc::{AllocError, Global};
 use std::marker::Model;
 
 /// A list that a value owns: sizes, offsets, bytes of a name, values.
@@ -26,6 +27,17 @@ impl<T> Items<T> {
         Items { items }
     }
 
+    /// A list of the slice's items.
+    ///
+    /// Fails where memory is refused.
+    pub fn from_slice(alloc: Global, items: &[T]) -> Result<Self, AllocError>
+    where
+        T: Copy,
+        ensures { IfOk result (λ list. list ≡ items.now) }
+    {
+        Ok(Items::new(Vec::from_slice(alloc, items)?))
+    }
+
     /// The items.
     pub fn as_slice(&self) -> &[T]
         ensures { result.now ≡ self.now }
@@ -38,5 +50,14 @@ impl<T> Items<T> {
         ensures { result.items ≡ self }
     {
         self.items
+    }
+}
+
+/// The list of the vector's items.
+impl<T> From<Vec<T>> for Items<T> {
+    ghost from_gives = { λ items list. list ≡ items.items };
+
+    fn from(vector: Vec<T>) -> Self {
+        Items::new(vector)
     }
 }

@@ -3,15 +3,19 @@
 ghost use Rattle.std.specs.Prelude.{◌≡◌};
 ghost use Rattle.h5_model.specs.Faults.OpenFaults.{cause_number, cause_name};
 
+use std::alloc::AllocError;
+use std::fmt;
+use thiserror::Error;
+
 /// What an image breaks, and the address of the block or field that breaks it.
-#[derive(Clone, Copy, PartialEq, Eq, Debug)]
+#[derive(Clone, Copy, PartialEq, Eq, Debug, Error)]
 pub struct OpenFault {
     pub cause: Cause,
     pub address: u64,
 }
 
 /// What an image breaks.
-#[derive(Clone, Copy, PartialEq, Eq, Debug)]
+#[derive(Clone, Copy, PartialEq, Eq, Debug, Error)]
 pub enum Cause {
     /// The bytes do not begin with the signature.
     NotHdf5,
@@ -202,5 +206,56 @@ impl OpenFault {
         ensures { result ≡ self.address }
     {
         self.address
+    }
+}
+
+/// Shows the cause's name.
+impl fmt::Display for Cause {
+    ghost use Rattle.std.specs.Prelude.{Some};
+    ghost use Rattle.std.specs.Fmt.{padded};
+
+    ghost output = { λ cause. Some (cause_name cause) };
+
+    ghost styled_output = { λ cause spec. Some (padded spec (cause_name cause)) };
+
+    fn fmt<W: fmt::Write>(&self, f: &mut fmt::Formatter<W>) -> fmt::Result {
+        f.pad(self.name())
+    }
+}
+
+/// Want of memory is a cause of its own, `NoMemory`.
+impl From<AllocError> for Cause {
+    ghost use Rattle.h5_model.specs.declared.open_fault.Cause.TheVariants.{NoMemory};
+
+    ghost from_gives = { λ _ cause. cause ≡ NoMemory };
+
+    fn from(_error: AllocError) -> Self {
+        Self::NoMemory
+    }
+}
+
+/// Shows the cause's name and the address, as `Truncated at 40`.
+impl fmt::Display for OpenFault {
+    ghost use Rattle.std.specs.Prelude.{◌++◌, Some, codes};
+    ghost use Rattle.std.specs.Fmt.{decimal};
+
+    ghost output = { λ fault. Some (cause_name fault.cause ++ codes " at " ++ decimal fault.address) };
+
+    fn fmt<W: fmt::Write>(&self, f: &mut fmt::Formatter<W>) -> fmt::Result {
+        write!(f, "{} at {}", self.cause, self.address)
+    }
+}
+
+/// Want of memory has no place in the bytes: its address is 0.
+impl From<AllocError> for OpenFault {
+    ghost use Rattle.h5_model.specs.declared.open_fault.Cause.TheVariants.{NoMemory};
+
+    ghost from_gives = { λ _ fault. fault ≡ record { cause = NoMemory; address = 0 } };
+
+    fn from(error: AllocError) -> Self {
+        OpenFault {
+            cause: Cause::from(error),
+            address: 0,
+        }
     }
 }

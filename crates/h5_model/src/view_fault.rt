@@ -3,9 +3,12 @@
 ghost use Rattle.std.specs.Prelude.{◌≡◌};
 
 use crate::edit_fault::EditFault;
+use std::alloc::AllocError;
+use std::fmt;
+use thiserror::Error;
 
 /// Why a view was not opened, shown or closed.
-#[derive(Clone, Copy, PartialEq, Eq, Debug)]
+#[derive(Clone, Copy, PartialEq, Eq, Debug, Error)]
 pub enum ViewFault {
     /// No open view has this number.
     NoSuchView,
@@ -50,5 +53,31 @@ impl ViewFault {
             ViewFault::NoMemory => "NoMemory",
             ViewFault::Path(fault) => fault.name(),
         }
+    }
+}
+
+/// Shows the fault's name; where the path or the selection is refused, the rule's.
+impl fmt::Display for ViewFault {
+    ghost use Rattle.std.specs.Prelude.{Some};
+    ghost use Rattle.std.specs.Fmt.{padded};
+    ghost use Rattle.h5_model.specs.Views.ViewFaults.{view_fault_name};
+
+    ghost output = { λ fault. Some (view_fault_name fault) };
+
+    ghost styled_output = { λ fault spec. Some (padded spec (view_fault_name fault)) };
+
+    fn fmt<W: fmt::Write>(&self, f: &mut fmt::Formatter<W>) -> fmt::Result {
+        f.pad(self.name())
+    }
+}
+
+/// Want of memory refuses the view as `NoMemory`.
+impl From<AllocError> for ViewFault {
+    ghost use Rattle.h5_model.specs.declared.view_fault.ViewFault.TheVariants.{NoMemory};
+
+    ghost from_gives = { λ _ fault. fault ≡ NoMemory };
+
+    fn from(_error: AllocError) -> Self {
+        Self::NoMemory
     }
 }

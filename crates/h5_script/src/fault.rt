@@ -3,17 +3,22 @@
 ghost use Rattle.std.specs.Prelude.{◌≡◌};
 
 use std::alloc::AllocError;
+use thiserror::Error;
 
 /// Why a run of a script ends early.
-#[derive(Clone, Copy, PartialEq, Eq, Debug)]
+#[derive(Clone, Copy, PartialEq, Eq, Debug, Error)]
 pub enum RunFault {
     /// The script could not be read.
+    #[error("the script cannot be read")]
     ScriptRead,
     /// An answer could not be written.
+    #[error("an answer cannot be written")]
     ScriptWrite,
     /// The script has more than 16777216 bytes.
+    #[error("the script has more than 16777216 bytes")]
     ScriptTooLong,
     /// Memory was refused.
+    #[error("out of memory")]
     NoMemory,
 }
 
