@@ -32,9 +32,14 @@ fn letter(file: &File, path: &[u8]) -> char {
 /// Whether an array of sizes and maxima of 3 and a fill of -7 stands at a path.
 fn is_line(file: &File, path: &[u8]) -> bool {
     match file.kind(path) {
-        Ok(Kind::Dataset {
-            dims, maxima, fill, ..
-        }) => dims.sizes() == [3].as_slice() && maxima.sizes() == [3].as_slice() && fill == -7,
+        Ok(
+            Kind::Dataset {
+                dims,
+                maxima,
+                fill,
+                ..
+            },
+        ) => dims.sizes() == [3].as_slice() && maxima.sizes() == [3].as_slice() && fill == -7,
         _ => false,
     }
 }
@@ -55,7 +60,8 @@ fn tells_what_stands_at_a_path(rt: HostRuntime) -> Result<(), Fail> {
 /// Whether the object at a path has the attribute `note`, of the bytes 7 and 8.
 fn has_note(alloc: Global, file: &File, path: &[u8]) -> bool {
     match file.get_attr(path, b"note") {
-        Ok(note) => note.dims(alloc).sizes() == [2].as_slice() && note.stored() == b"\x07\x08".as_slice(),
+        Ok(note) => note.dims(alloc).sizes() == [2].as_slice()
+            && note.stored() == b"\x07\x08".as_slice(),
         Err(_) => false,
     }
 }

@@ -93,12 +93,22 @@ fn unresizable(
     ensures { IfOk result (λ spec. spec ≡ record {
         fixed = fixed; dims = dims.now; maxima = map Some dims.now; store = store; fill = fill }) }
 {
-    let maxima: Vec<Option<u64>> = dims.iter().map(|size| Some(*size)).collect(alloc)?;
     Ok(Spec {
         fixed,
         dims: Items::from_slice(alloc, dims)?,
-        maxima: Items::from(maxima),
+        maxima: own_maxima(alloc, dims)?,
         store,
         fill,
     })
+}
+
+/// Each size as its own maximum.
+fn own_maxima(alloc: Global, dims: &[u64]) -> Result<Items<Option<u64>>, AllocError>
+    ensures { IfOk result (λ maxima. maxima ≡ map Some dims.now) }
+{
+    let mut maxima = Vec::with_capacity(alloc, dims.len())?;
+    for size in dims {
+        maxima.push(Some(*size))?;
+    }
+    Ok(Items::new(maxima))
 }

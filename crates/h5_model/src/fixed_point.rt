@@ -128,13 +128,21 @@ impl Fixed {
     pub fn new(size: u8, signed: bool, big: bool) -> Option<Fixed>
         ensures { result ≡ fixed_from size signed big }
     {
-        match size {
-            1 => Some(Fixed {
-                size,
-                signed,
-                big: false,
-            }),
-            2 | 4 | 8 => Some(Fixed { size, signed, big }),
+        match (size, signed, big) {
+            (1, true, _) => Some(Fixed::I8),
+            (1, false, _) => Some(Fixed::U8),
+            (2, true, false) => Some(Fixed::I16_LE),
+            (2, true, true) => Some(Fixed::I16_BE),
+            (2, false, false) => Some(Fixed::U16_LE),
+            (2, false, true) => Some(Fixed::U16_BE),
+            (4, true, false) => Some(Fixed::I32_LE),
+            (4, true, true) => Some(Fixed::I32_BE),
+            (4, false, false) => Some(Fixed::U32_LE),
+            (4, false, true) => Some(Fixed::U32_BE),
+            (8, true, false) => Some(Fixed::I64_LE),
+            (8, true, true) => Some(Fixed::I64_BE),
+            (8, false, false) => Some(Fixed::U64_LE),
+            (8, false, true) => Some(Fixed::U64_BE),
             _ => None,
         }
     }

@@ -7,6 +7,7 @@ use std::io::Cursor;
 use std::test::Fail;
 
 const SCRIPT: &[u8] = b"ls\ndataset /d u8 1 contiguous\nls";
+
 const ANSWERS: &[u8] = b"/ group\nok 0\n/ group\n/d dataset u8 {1}\n";
 
 #[test]
@@ -83,6 +84,7 @@ fn refuses_a_long_line_without_an_end(rt: HostRuntime) -> Result<(), Fail> {
 /// An array and a list whose answer needs more memory than short ones do.
 const LONG: &[u8] =
     b"dataset /a-name-of-more-than-sixty-four-bytes-which-needs-more-memory-than-a-short-answer u8 1 contiguous\nls\n";
+
 const LISTED: &[u8] =
     b"ok 0\n/ group\n/a-name-of-more-than-sixty-four-bytes-which-needs-more-memory-than-a-short-answer dataset u8 {1}\n";
 

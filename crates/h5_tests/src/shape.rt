@@ -20,9 +20,7 @@ static CELLS: [(&[u64], u64, bool); 7] = [
 /// Whether the sizes are kept, have so many cells, and these are few enough or not.
 fn counts(alloc: Global, sizes: &[u64], cells: u64, small: bool) -> bool {
     match Dims::new(alloc, sizes) {
-        Some(dims) => {
-            dims.sizes() == sizes && dims.cells() == cells && dims.is_small() == small
-        }
+        Some(dims) => { dims.sizes() == sizes && dims.cells() == cells && dims.is_small() == small }
         None => false,
     }
 }
@@ -83,10 +81,7 @@ fn slab_of(alloc: Global, lists: &[&[u64]; 4]) -> Option<Result<Slab, SlabFault>
 static FAULTS: [([&[u64]; 4], SlabFault); 4] = [
     ([&[0, 0], &[0], &[1], &[1]], SlabFault::RankMismatch),
     ([&[0], &[1], &[1], &[]], SlabFault::RankMismatch),
-    (
-        [&[0, 0], &[1, 0], &[2, 1], &[5, 1]],
-        SlabFault::StrideZero,
-    ),
+    ([&[0, 0], &[1, 0], &[2, 1], &[5, 1]], SlabFault::StrideZero),
     (
         [&[0, 0], &[1, 1], &[1, 2], &[5, 2]],
         SlabFault::BlocksOverlap,
@@ -149,6 +144,9 @@ fn selects(alloc: Global, sizes: &[u64], lists: &[&[u64]; 4], within: bool, cell
 fn bounds_and_counts_a_selection(rt: HostRuntime) {
     for k in 0..SELECTIONS.len() {
         let (sizes, lists, within, cells) = &SELECTIONS[k];
-        assert!(rt; selects(rt.alloc(), sizes, lists, *within, *cells), "row {k}");
+        assert!(rt;
+            selects(rt.alloc(), sizes, lists, *within, *cells),
+            "row {k}"
+        );
     }
 }
