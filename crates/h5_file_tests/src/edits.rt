@@ -1,8 +1,7 @@
 //! Edits by calls: what is accepted where there is memory, the object that is answered, and what no call carries out yet.
 
-use crate::given::{line, note, one, text};
-use h5_file::File;
-use h5_model::{Edit, EditFault, Edited, Hyper, Items, ObjectNo};
+use crate::given::{line, note};
+use h5_file::{Edit, EditFault, Edited, File, Hyper, Items, ObjectNo};
 use std::alloc::{AllocError, Global};
 use std::test::Fail;
 
@@ -22,18 +21,13 @@ fn answers_the_object(rt: HostRuntime) -> Result<(), Fail> {
     assert!(rt; is_of(file.remove_attr(b"/g/d", b"note")?, 2));
     assert!(rt; file.soft_link(b"/nowhere", b"/s")?.object.is_none());
     // Objects have the numbers in which they were made, wherever their headers stand.
-    assert!(rt; file.number(b"/a")? == ObjectNo(3) && file.number(b"/b")? == ObjectNo(2));
+    assert!(rt; file.object_number(b"/a")? == ObjectNo(3) && file.object_number(b"/b")? == ObjectNo(2));
     Ok(())
 }
 
 /// A selection of one cell.
 fn cell(alloc: Global) -> Result<Hyper, AllocError> {
-    Ok(Hyper {
-        start: one(alloc, 0)?,
-        stride: one(alloc, 1)?,
-        count: one(alloc, 1)?,
-        block: one(alloc, 1)?,
-    })
+    Hyper::new(alloc, &[0], &[1], &[1], &[1])
 }
 
 /// Whether no call carries the edit out.
@@ -46,16 +40,16 @@ fn says_what_is_not_carried_yet(rt: HostRuntime) -> Result<(), Fail> {
     let mut file = File::create(rt.alloc())?;
     file.create_dataset(b"/d", &line(rt.alloc())?)?;
     let unlink = Edit::Unlink {
-        path: text(rt.alloc(), b"/d")?,
+        path: Items::from_slice(rt.alloc(), b"/d")?,
     };
     let resize = Edit::Resize {
-        path: text(rt.alloc(), b"/d")?,
-        dims: one(rt.alloc(), 4)?,
+        path: Items::from_slice(rt.alloc(), b"/d")?,
+        dims: Items::from_slice(rt.alloc(), &[4])?,
     };
     let write = Edit::Write {
-        path: text(rt.alloc(), b"/d")?,
+        path: Items::from_slice(rt.alloc(), b"/d")?,
         hyper: cell(rt.alloc())?,
-        values: Items::new([5i128].to_vec(rt.alloc())?),
+        values: Items::from_slice(rt.alloc(), &[5])?,
     };
     assert!(rt; is_not_yet(&mut file, &unlink));
     assert!(rt; is_not_yet(&mut file, &resize));

@@ -9,7 +9,7 @@ fn holds(alloc: Global, image: Vec<u8>, names: usize) -> bool {
     let Ok(file) = File::open(alloc, image) else {
         return false;
     };
-    match file.list(alloc, b"/") {
+    match file.list(b"/") {
         Ok(found) => found.len() == names,
         Err(_) => false,
     }

@@ -4,6 +4,7 @@
 #![tactic(auto)]
 
 #[cfg(test)]
+mod door;
 mod edits;
 #[cfg(test)]
 mod file;

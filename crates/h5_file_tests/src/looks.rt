@@ -1,21 +1,17 @@
 //! What a file answers of paths and of numbers of objects.
 
 use crate::given::{line, note};
-use h5_file::{File, Kind};
-use h5_model::{EditFault, ObjectNo};
+use h5_file::{EditFault, File, Kind, ObjectNo};
 use std::alloc::Global;
 use std::test::Fail;
 
 /// Makes `/g`, an array `/g/d` that is also `/e` and has an attribute, and a soft link `/s`.
 fn make(alloc: Global, file: &mut File) -> Result<(), EditFault> {
-    let (Ok(line), Ok(note)) = (line(alloc), note(alloc)) else {
-        return Err(EditFault::NoMemory);
-    };
     file.create_group(b"/g")?;
-    file.create_dataset(b"/g/d", &line)?;
+    file.create_dataset(b"/g/d", &line(alloc)?)?;
     file.hard_link(b"/g/d", b"/e")?;
     file.soft_link(b"/g/d", b"/s")?;
-    file.set_attr(b"/e", &note)?;
+    file.set_attr(b"/e", &note(alloc)?)?;
     Ok(())
 }
 
@@ -52,7 +48,7 @@ fn tells_what_stands_at_a_path(rt: HostRuntime) -> Result<(), Fail> {
     assert!(rt; is_line(&file, b"/e") && letter(&file, b"/x") == '?');
     assert!(rt; file.cell(b"/e", &[2])? == -7);
     assert!(rt; file.cell(b"/e", &[3]) == Err(EditFault::OutOfExtent));
-    let names = file.list(rt.alloc(), b"/")?;
+    let names = file.list(b"/")?;
     assert!(rt; names.len() == 3 && names[0] == b"e".as_slice());
     Ok(())
 }
@@ -70,17 +66,17 @@ fn has_note(alloc: Global, file: &File, path: &[u8]) -> bool {
 fn tells_attributes(rt: HostRuntime) -> Result<(), Fail> {
     let mut file = File::create(rt.alloc())?;
     make(rt.alloc(), &mut file)?;
-    let names = file.attrs(rt.alloc(), b"/e")?;
+    let names = file.attrs(b"/e")?;
     assert!(rt; names.len() == 1 && names[0] == b"note".as_slice());
     assert!(rt; has_note(rt.alloc(), &file, b"/e") && !has_note(rt.alloc(), &file, b"/g"));
-    assert!(rt; file.attributes(rt.alloc(), b"/e")?.len() == 1);
-    assert!(rt; file.attrs(rt.alloc(), b"/")?.is_empty());
+    assert!(rt; file.attributes(b"/e")?.len() == 1);
+    assert!(rt; file.attrs(b"/")?.is_empty());
     Ok(())
 }
 
 /// How many links the group of this number has.
-fn count(alloc: Global, file: &File, number: u32) -> Option<usize> {
-    match file.links(alloc, ObjectNo(number)) {
+fn count(file: &File, number: u32) -> Option<usize> {
+    match file.links(ObjectNo(number)) {
         Ok(Some(links)) => Some(links.len()),
         _ => None,
     }
@@ -90,8 +86,8 @@ fn count(alloc: Global, file: &File, number: u32) -> Option<usize> {
 fn finds_objects_by_their_numbers(rt: HostRuntime) -> Result<(), Fail> {
     let mut file = File::create(rt.alloc())?;
     make(rt.alloc(), &mut file)?;
-    assert!(rt; count(rt.alloc(), &file, 0) == Some(3) && count(rt.alloc(), &file, 1) == Some(1));
-    assert!(rt; count(rt.alloc(), &file, 2).is_none());
+    assert!(rt; count(&file, 0) == Some(3) && count(&file, 1) == Some(1));
+    assert!(rt; count(&file, 2).is_none());
     assert!(rt; file.array(ObjectNo(2)).is_some() && file.array(ObjectNo(3)).is_none());
     Ok(())
 }
