@@ -5,6 +5,7 @@
 
 #[cfg(test)]
 mod door;
+#[cfg(test)]
 mod edits;
 #[cfg(test)]
 mod file;
