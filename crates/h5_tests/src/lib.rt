@@ -1,10 +1,8 @@
-//! Tests of the libraries of bytes, values, shapes, messages, headers and texts, through their public calls.
+//! Tests of the libraries of bytes, values, shapes, headers and texts, through their public calls.
 //!
 //! A crate with tests is proved twice, so the libraries have none of their own.
 #![tactic(auto)]
 
-#[cfg(test)]
-mod bodies;
 #[cfg(test)]
 mod bytes;
 #[cfg(test)]

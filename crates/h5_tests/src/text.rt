@@ -1,62 +1,12 @@
-//! Lines of a script and texts of answers that the program does not reach yet, as the grammar's table and worked sessions have them.
+//! Texts of answers that the program does not reach yet, as the grammar's table and worked sessions have them.
 
-use h5_command::{Command, read_line};
 use h5_model::{EditFault, Fixed, ViewFault};
 use h5_text::{
     ArrayText, Layout, PathText, push_accepted, push_array_line, push_dump_line, push_opened,
     push_rows, push_view_fault,
 };
-use std::alloc::{AllocError, Global};
+use std::alloc::AllocError;
 use std::test::Fail;
-
-/// The first letter of what a line is read as: a change, a view, to show or to close one, to repack, or nothing of these.
-fn form(command: &Option<Command>) -> char {
-    match command {
-        Some(Command::Change(_)) => 'c',
-        Some(Command::OpenView { .. }) => 'v',
-        Some(Command::Show(4294967295)) => 's',
-        Some(Command::Close(0)) => 'x',
-        Some(Command::Repack) => 'r',
-        Some(Command::Unread) => '?',
-        _ => '-',
-    }
-}
-
-/// Lines, and their forms.
-static LINES: [(&[u8], char); 16] = [
-    (b"unlink /s", 'c'),
-    (b"unlink /s /t", '?'),
-    (b"write /c 4,3 1,2 2,1 1,1 -128,255", 'c'),
-    (b"write /s - - - - -9223372036854775808", 'c'),
-    (b"write /d 0 1 1 1", '?'),
-    (b"resize /c 1,1", 'c'),
-    (b"resize /c 1/2", '?'),
-    (b"resize /c 18446744073709551616", '?'),
-    (b"view /c 4,3 1,1 1,1 1,1", 'v'),
-    (b"view /c 4,3 1,1 1,1", '?'),
-    (b"show 4294967295", 's'),
-    (b"show 4294967296", '?'),
-    (b"show +1", '?'),
-    (b"close 0", 'x'),
-    (b"close", '?'),
-    (b"repack", 'r'),
-];
-
-/// Whether the line is of this form.
-fn is_of_form(alloc: Global, line: &[u8], wanted: char) -> bool {
-    match read_line(alloc, line) {
-        Ok(command) => form(&command) == wanted,
-        Err(_) => false,
-    }
-}
-
-#[test]
-fn reads_forms_that_are_not_run(rt: HostRuntime) {
-    for k in 0..LINES.len() {
-        let (line, wanted) = LINES[k];
-        assert!(rt; is_of_form(rt.alloc(), line, wanted), "row {k}");
-    }
-}
 
 fn push_answers(out: &mut Vec<u8>) -> Result<(), AllocError> {
     push_accepted(out, 12)?;
