@@ -37,7 +37,12 @@ impl Spec {
         fill: i128,
     ) -> Result<Spec, AllocError>
         ensures { IfOk result (λ spec. spec ≡ record {
-            fixed = fixed; dims = dims.now; maxima = map Some dims.now; store = stored.Contiguous; fill = fill }) }
+          fixed = fixed;
+          dims = dims.now;
+          maxima = map Some dims.now;
+          store = stored.Contiguous;
+          fill = fill;
+        }) }
     {
         unresizable(alloc, fixed, dims, Store::Contiguous, fill)
     }
@@ -52,7 +57,12 @@ impl Spec {
         fill: i128,
     ) -> Result<Spec, AllocError>
         ensures { IfOk result (λ spec. spec ≡ record {
-            fixed = fixed; dims = dims.now; maxima = map Some dims.now; store = stored.Compact; fill = fill }) }
+          fixed = fixed;
+          dims = dims.now;
+          maxima = map Some dims.now;
+          store = stored.Compact;
+          fill = fill;
+        }) }
     {
         unresizable(alloc, fixed, dims, Store::Compact, fill)
     }
@@ -70,7 +80,12 @@ impl Spec {
         fill: i128,
     ) -> Result<Spec, AllocError>
         ensures { IfOk result (λ spec. spec ≡ record {
-            fixed = fixed; dims = dims.now; maxima = maxima.now; store = stored.Chunked chunks.now; fill = fill }) }
+          fixed = fixed;
+          dims = dims.now;
+          maxima = maxima.now;
+          store = stored.Chunked chunks.now;
+          fill = fill;
+        }) }
     {
         Ok(Spec {
             fixed,
@@ -91,7 +106,12 @@ fn unresizable(
     fill: i128,
 ) -> Result<Spec, AllocError>
     ensures { IfOk result (λ spec. spec ≡ record {
-        fixed = fixed; dims = dims.now; maxima = map Some dims.now; store = store; fill = fill }) }
+      fixed = fixed;
+      dims = dims.now;
+      maxima = map Some dims.now;
+      store = store;
+      fill = fill;
+    }) }
 {
     Ok(Spec {
         fixed,
