@@ -10,6 +10,6 @@ pub use Rattle.h5_query.specs.Look
 pub use Rattle.h5_query.specs.Place
 pub use Rattle.h5_query.specs.declared.group.Link as LinkType
 pub use Rattle.h5_query.specs.declared.array.ArrayCells as ArrayCellsType
-pub use Rattle.h5_open.specs.Opened
-pub use Rattle.h5_open.specs.declared.opened.object.OpenedObject as OpenedObjectType
-pub use Rattle.h5_open.specs.Renumbered
+pub use Rattle.h5_query.specs.Opened
+pub use Rattle.h5_query.specs.OpenedObjectType
+pub use Rattle.h5_query.specs.Renumbered
