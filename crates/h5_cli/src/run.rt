@@ -46,6 +46,7 @@ fn carry_out<R: Files, I: Read, O: Write, E: Write>(
 }
 
 /// Reads the words as an order, and carries it out.
+#[tactic(auto, using(crate::proofs::EndLaws::never_wrong))]
 fn obey<R: Files, S: AsStr, I: Read, O: Write, E: Write>(
     rt: &R,
     alloc: Global,
@@ -77,6 +78,7 @@ fn obey<R: Files, S: AsStr, I: Read, O: Write, E: Write>(
 /// The status is 0 where the order is done, 1 where a command was refused or bad, 2 where the words
 /// are no order, 3 where the image is refused, 4 where a file or a stream could not be read or
 /// written, and 5 where memory was refused; where several hold, the highest.
+#[tactic(auto, using(crate::proofs::EndLaws::never_wrong, crate::proofs::EndLaws::wrong_code))]
 pub fn program<R: Files, S: AsStr, I: Read, O: Write, E: Write>(
     rt: &R,
     alloc: Global,
