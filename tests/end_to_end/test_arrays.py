@@ -31,6 +31,16 @@ with h5py.File(sys.argv[1], "r+") as file:
     file["d"][...] = range(-1, 2)
 """
 
+# Arrays of three cells, all but the second the fill, each with an attribute of one value.
+WRITE = """
+import json, sys, h5py
+with h5py.File(sys.argv[1], "w", libver=("earliest", "v108")) as file:
+    for name, (kind, value) in json.loads(sys.argv[2]).items():
+        array = file.create_dataset(name, (3,), dtype=kind, fillvalue=value)
+        array[1] = 1
+        array.attrs.create("value", value, dtype=kind)
+"""
+
 
 class Arrays(InFolder):
     """Files with one array."""
@@ -78,6 +88,18 @@ class Arrays(InFolder):
         path = self.with_array("/d i16be 3 contiguous")
         self.assertEqual(library(CHANGE, path), (0, b"", b""))
         self.assertEqual(h5i("dump", path, "/d"), (0, b"/d dataset i16be {3} contiguous fill 0\n-1 0 1\n", b""))
+
+    def test_fills_and_attributes_that_the_library_wrote(self):
+        arrays = {f"{name}_{end}": (read_as, end)
+                  for name, (read_as, *ends) in TYPES.items() for end in ends}
+        self.assertEqual(len(arrays), 28)
+        path = self.path("library.h5")
+        self.assertEqual(library(WRITE, path, json.dumps(arrays)), (0, b"", b""))
+        for array, (_, end) in arrays.items():
+            with self.subTest(array=array):
+                name = array.split("_")[0]
+                text = f"/{array} dataset {name} {{3}} contiguous fill {end}\n@value {name} {{}} {end}\n{end} 1 {end}\n"
+                self.assertEqual(h5i("dump", path, "/" + array), (0, text.encode(), b""))
 
     def test_a_large_array(self):
         path = self.with_array("/d u8 100000000 contiguous fill=7")

@@ -1,2 +1,4 @@
 pub mod Commands
+pub mod FaultLaws
+pub mod FaultlessLaws
 pub mod Pairs

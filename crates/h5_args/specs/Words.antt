@@ -2,7 +2,7 @@
 use Rattle.std.specs.Prelude.{◌≡◌, List, Option, None, if◌then◌else◌, codes, true, option_map}
 use Rattle.std.specs.Option.{option_and_then}
 use Rattle.std.specs.Str.{bytes_eq}
-use Rattle.clap.specs.Words.{App, Row, Rule, first_of, new_app, new_rule, subcommand_of, takes, with_rule, with_subcommand}
+use Rattle.clap.specs.Words.{App, Kinds, Row, Rule, fault_of, first_of, new_app, new_rule, subcommand_of, takes, with_rule, with_subcommand}
 pub use Rattle.clap.specs.Words.{Text}
 
 -- a value that has to be given
@@ -21,13 +21,17 @@ path_app name = with_rule (file_app name) (required_rule (codes "PATH"))
 abbrev pub needing : App → App
 needing a = record a { top = record a.top { subcommand_required = true } }
 
+-- a command that tells its version
+abbrev pub versioned : App → App
+versioned a = record a { top = record a.top { has_version = true } }
+
 -- a command and one subcommand more
 abbrev pub also : App → App → App
 also a sub = with_subcommand a sub.top
 
--- `h5i new FILE`, `h5i ls FILE`, `h5i dump FILE PATH` and `h5i run FILE`
+-- `h5i new FILE`, `h5i ls FILE`, `h5i dump FILE PATH` and `h5i run FILE`; `h5i --version` is told apart from these
 abbrev pub h5i_app : App
-h5i_app = also (also (also (also (needing (new_app (codes "h5i"))) (file_app (codes "new"))) (file_app (codes "ls"))) (path_app (codes "dump"))) (file_app (codes "run"))
+h5i_app = also (also (also (also (needing (versioned (new_app (codes "h5i")))) (file_app (codes "new"))) (file_app (codes "ls"))) (path_app (codes "dump"))) (file_app (codes "run"))
 
 -- what the words ask for, by texts
 pub data Wanted : Type 0 where
@@ -51,6 +55,10 @@ wanted found = option_and_then (λ p. wanted_by p.0 (first_of (codes "FILE") p.1
 -- clap's own definition says that the command takes these words, the program's name first
 abbrev pub Taken : List Text → Type 0
 Taken words = takes h5i_app words ≡ true
+
+-- the kinds of refusal that clap's own definition finds for the words, none where they are an order
+abbrev pub faults : List Text → Kinds
+faults words = fault_of h5i_app words
 
 -- what clap's own definition of the matches gives for the words
 abbrev pub asked : List Text → Option Wanted

@@ -1,11 +1,15 @@
 //! The command, as clap takes it.
 
-ghost use Rattle.std.specs.Prelude.{◌≡◌, IfOk, false};
+ghost use Rattle.std.specs.Prelude.{◌≡◌, IfOk, codes, false};
 ghost use Rattle.clap.specs.Words.{app_of, rule_of};
 ghost use Rattle.h5_args.specs.Words.{required_rule, also, file_app, path_app, h5i_app};
 
+use crate::lines::LINES;
 use clap::{Arg, Command};
 use std::alloc::{AllocError, Global};
+
+/// The program's version, which `--version` prints.
+const VERSION: &str = "0.1.0";
 
 /// A value that has to be given.
 fn value<'a>(alloc: Global, name: &'a str, help: &'a str) -> Arg<'a>
@@ -46,12 +50,30 @@ fn with_path<'a>(
     command.subcommand(sub)
 }
 
+/// The command with the subcommand `run` more, whose help teaches the lines of a script.
+fn with_run<'a>(alloc: Global, command: Command<'a>) -> Result<Command<'a>, AllocError>
+    ensures { IfOk result (λ c. app_of c ≡ also (app_of command.entry) (file_app (codes "run"))) }
+{
+    let named = Command::new(alloc, "run")
+        .about(
+            "Run the script on standard input: echo 'dataset /d i32le 3 contiguous' | h5i run e.h5",
+        )
+        .after_long_help(LINES);
+    let sub = named.arg(value(
+        alloc,
+        "FILE",
+        "The file to read, and to write back where the script ends and an edit was accepted",
+    ))?;
+    command.subcommand(sub)
+}
+
 /// The command `h5i`, with the line that its help has for each subcommand.
 pub fn h5i<'a>(alloc: Global) -> Result<Command<'a>, AllocError>
     ensures { IfOk result (λ c. app_of c ≡ h5i_app) }
 {
     let none = Command::new(alloc, "h5i")
         .about("Create, read and edit HDF5 files of whole-number arrays")
+        .version(VERSION)
         .subcommand_required(true);
     let with_new = with_file(
         alloc,
@@ -74,11 +96,5 @@ pub fn h5i<'a>(alloc: Global) -> Result<Command<'a>, AllocError>
         "Print an array and its values: h5i dump e.h5 /d",
         "The path to print, as /d; a byte that does not print is written by its number, as \\x20 for a space",
     )?;
-    with_file(
-        alloc,
-        with_dump,
-        "run",
-        "Run the script on standard input: echo 'dataset /d i32le 3 contiguous' | h5i run e.h5",
-        "The file to read, and to write back where the script ends and an edit was accepted",
-    )
+    with_run(alloc, with_dump)
 }

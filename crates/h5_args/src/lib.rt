@@ -2,6 +2,7 @@
 #![tactic(auto)]
 
 mod command;
+mod lines;
 mod orders;
 mod read;
 

@@ -18,7 +18,7 @@ pub enum Order<'a> {
 /// Why words give no order.
 #[derive(Drop)]
 pub enum OrderFault {
-    /// The words ask for help, which this is.
+    /// The words ask for help or the version, which this is.
     Help(String),
     /// The words are wrong, for this reason.
     Wrong(String),

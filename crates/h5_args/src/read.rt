@@ -1,9 +1,10 @@
 //! Words read as an order.
 
-ghost use Rattle.std.specs.Prelude.{◌≡◌, IfOk, IfErr, map, option_map};
+ghost use Rattle.std.specs.Prelude.{◌≡◌, [], IfOk, IfErr, MatchResult, Some, map, option_map};
 ghost use Rattle.clap.specs.Words.{kind_of, subcommand_rows_of};
 ghost use Rattle.clap.specs.declared.error.kind.ErrorKind.TheVariants.{OutOfMemory};
-ghost use Rattle.h5_args.specs.Words.{Taken, asked, wanted, wanted_by};
+ghost use Rattle.h5_args.specs.Words.{Taken, asked, faults, wanted, wanted_by};
+ghost use Rattle.h5_args.specs.Faults.{IsFaultOf, IsOfKind};
 ghost use Rattle.h5_args.specs.Order.{texts_of};
 ghost use Rattle.h5_args.specs.declared.orders.OrderFault.TheVariants.{NoMemory};
 
@@ -37,7 +38,8 @@ fn order_in<'a>(matches: &ArgMatches<'a>) -> Option<Order<'a>>
 
 /// What clap says of words that it does not take.
 fn fault_of(alloc: Global, error: &Error) -> OrderFault
-    ensures { kind_of error.now ≡ OutOfMemory → result ≡ NoMemory }
+    ensures memory { kind_of error.now ≡ OutOfMemory → result ≡ NoMemory }
+    ensures kind { IsOfKind (kind_of error.now) result }
 {
     if error.kind() == ErrorKind::OutOfMemory {
         return OrderFault::NoMemory;
@@ -50,16 +52,20 @@ fn fault_of(alloc: Global, error: &Error) -> OrderFault
 }
 
 /// What the words, the program's name first, ask for.
-///
-/// `None` where the matches lack the subcommand, its file or its path.
-pub fn order<'a, S: AsStr>(alloc: Global, words: &'a [S]) -> Result<Option<Order<'a>>, OrderFault>
-    ensures order { IfOk result (λ o. option_map texts_of o ≡ asked (map S.text words.entry.now)) }
+pub fn order<'a, S: AsStr>(alloc: Global, words: &'a [S]) -> Result<Order<'a>, OrderFault>
+    ensures order { IfOk result (λ o. Some (texts_of o) ≡ asked (map S.text words.entry.now)) }
     // Words that the command takes are refused for want of memory alone.
     ensures only { Taken (map S.text words.entry.now) → IfErr result (λ e. e ≡ NoMemory) }
+    // An order comes only of words without a fault, and others are refused for one that they have.
+    ensures faults { MatchResult result (λ _. faults (map S.text words.entry.now) ≡ [])
+        (IsFaultOf (faults (map S.text words.entry.now))) }
 {
     let command = h5i(alloc)?;
     match command.try_get_matches_from(words) {
-        Ok(matches) => Ok(order_in(&matches)),
+        Ok(matches) => match order_in(&matches) {
+            Some(order) => Ok(order),
+            None => unreachable!(),
+        },
         Err(error) => Err(fault_of(alloc, &error)),
     }
 }

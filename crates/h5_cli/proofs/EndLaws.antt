@@ -1,5 +1,5 @@
 -- How runs end.
-use Rattle.std.proofs.Common.{◌≡◌, ◌⊎◌, ◌==◌, if◌then◌else◌, Bool, true, false, refl, ℕ, List, Option, Some, subst, sym, inl, inr, arith}
+use Rattle.std.proofs.Common.{◌≡◌, ◌≢◌, ◌⊎◌, ◌==◌, if◌then◌else◌, Bool, true, false, refl, ℕ, List, Option, Some, subst, sym, inl, inr, arith}
 use Rattle.std.proofs.lemmas.Bool.Decides.{nat_tests}
 use Rattle.std.specs.Io.KnownBytes.{Appends}
 use Rattle.h5_args.specs.Words.{Text, Wanted, WantDump, WantRun}
@@ -7,8 +7,22 @@ use Rattle.h5_script.specs.Opened.State.{FileState}
 use Rattle.h5_script.specs.State.{IsSound}
 use Rattle.h5_cli.specs.Output.{IsDumpText, IsScriptRun}
 use Rattle.h5_cli.specs.Ends.{Ends, IsRunOver}
+use Rattle.h5_cli.specs.Status.{status_code}
 use Rattle.h5_cli.specs.declared.status.Status.{Status}
 use Rattle.h5_cli.specs.declared.status.Status.TheVariants.{Done, CommandRefused, WrongWords, ImageRefused, StreamFailed, NoMemory}
+
+-- a run that carries an order out does not end as one with wrong words
+pub never_wrong : (asked : Option Wanted) (input left old new : Option (List ℕ)) (status : Status) → Ends asked input left old new status → status ≢ WrongWords
+never_wrong asked input left old new status ends = λ same. subst (λ s. Ends asked input left old new s) same ends
+
+-- the status with the code 2
+pub wrong_code : (status : Status) → status_code status ≡ 2 → status ≡ WrongWords
+wrong_code Done same = absurd (omega (arith, same))
+wrong_code CommandRefused same = absurd (omega (arith, same))
+wrong_code WrongWords same = refl
+wrong_code ImageRefused same = absurd (omega (arith, same))
+wrong_code StreamFailed same = absurd (omega (arith, same))
+wrong_code NoMemory same = absurd (omega (arith, same))
 
 -- what is known of one status is known of the same
 pub ends_as : (asked : Option Wanted) (input left old new : Option (List ℕ)) (status result : Status) → result ≡ status → Ends asked input left old new status → Ends asked input left old new result

@@ -29,11 +29,12 @@ Opens (Some (WantNew file)) = ⊥
 Opens (Some _) = Unit {0}
 Opens None = ⊥
 
--- the end of a run, by its status; an image that is refused leaves the output as it was
+-- the end of a run, by its status: never that of wrong words, which no order has; an image that is refused leaves the output
+-- as it was
 abbrev pub Ends : Option Wanted → Option (List ℕ) → Option (List ℕ) → Option (List ℕ) → Option (List ℕ) → Status → Type 0
 Ends asked input left old new Done = Answers asked input left old new
 Ends asked input left old new CommandRefused = Refuses asked input left old new
-Ends asked input left old new WrongWords = asked ≡ None
+Ends asked input left old new WrongWords = ⊥
 Ends asked input left old new ImageRefused = Opens asked × (new ≡ old)
 Ends asked input left old new StreamFailed = Unit {0}
 Ends asked input left old new NoMemory = Unit {0}

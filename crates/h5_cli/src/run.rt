@@ -1,12 +1,13 @@
 //! The whole run of the program.
 
-ghost use Rattle.std.specs.Prelude.{◌≡◌, ◌⊎◌, ◌≤◌, Some, map};
-ghost use Rattle.h5_args.specs.Words.{Taken, asked};
+ghost use Rattle.std.specs.Prelude.{◌≡◌, ◌≢◌, ◌⊎◌, ◌≤◌, Some, map};
+ghost use Rattle.h5_args.specs.Words.{Taken, asked, faults};
+ghost use Rattle.h5_args.specs.Faults.{IsMistaken};
 ghost use Rattle.h5_cli.specs.Ends.{Ends, Refuses};
 ghost use Rattle.h5_args.specs.Order.{texts_of};
 ghost use Rattle.h5_cli.specs.Status.{status_code, untold};
 ghost use Rattle.h5_cli.specs.declared.status.Status.{Status as StatusValue};
-ghost use Rattle.h5_cli.specs.declared.status.Status.TheVariants.{CommandRefused};
+ghost use Rattle.h5_cli.specs.declared.status.Status.TheVariants.{CommandRefused, WrongWords};
 
 use crate::edit::{new, run};
 use crate::look::{dump, ls};
@@ -45,6 +46,7 @@ fn carry_out<R: Files, I: Read, O: Write, E: Write>(
 }
 
 /// Reads the words as an order, and carries it out.
+#[tactic(auto, using(crate::proofs::EndLaws::never_wrong))]
 fn obey<R: Files, S: AsStr, I: Read, O: Write, E: Write>(
     rt: &R,
     alloc: Global,
@@ -55,12 +57,12 @@ fn obey<R: Files, S: AsStr, I: Read, O: Write, E: Write>(
 ) -> Status
     ensures order { Taken (map S.text words.now)
         → Ends (asked (map S.text words.now)) (I.remaining input.old) (I.remaining input.new) (O.contents output.old) (O.contents output.new) result }
+    ensures mistaken { result ≡ WrongWords → IsMistaken (faults (map S.text words.now)) }
     ensures refused { result ≡ CommandRefused
         → Refuses (asked (map S.text words.now)) (I.remaining input.old) (I.remaining input.new) (O.contents output.old) (O.contents output.new) }
 {
     match order(alloc, words) {
-        Ok(Some(order)) => carry_out(rt, alloc, order, input, output, errors),
-        Ok(None) => Status::WrongWords,
+        Ok(order) => carry_out(rt, alloc, order, input, output, errors),
         Err(OrderFault::NoMemory) => no_memory(errors),
         Err(OrderFault::Help(text)) => explain(text.as_str(), Status::Done, output),
         Err(OrderFault::Wrong(text)) => explain(text.as_str(), Status::WrongWords, errors),
@@ -76,6 +78,7 @@ fn obey<R: Files, S: AsStr, I: Read, O: Write, E: Write>(
 /// The status is 0 where the order is done, 1 where a command was refused or bad, 2 where the words
 /// are no order, 3 where the image is refused, 4 where a file or a stream could not be read or
 /// written, and 5 where memory was refused; where several hold, the highest.
+#[tactic(auto, using(crate::proofs::EndLaws::never_wrong, crate::proofs::EndLaws::wrong_code))]
 pub fn program<R: Files, S: AsStr, I: Read, O: Write, E: Write>(
     rt: &R,
     alloc: Global,
@@ -88,6 +91,9 @@ pub fn program<R: Files, S: AsStr, I: Read, O: Write, E: Write>(
     // Words that clap takes are an order, and it ends as the status says.
     ensures order { Taken (map S.text words.now) → (status : StatusValue) × (result ≡ status_code status)
         × Ends (asked (map S.text words.now)) (I.remaining input.old) (I.remaining input.new) (O.contents output.old) (O.contents output.new) status }
+    // Status 2 is for words alone that clap does not take, for a mistake that they have.
+    ensures wrong { Taken (map S.text words.now) → result ≢ 2 }
+    ensures mistaken { result ≡ 2 → IsMistaken (faults (map S.text words.now)) }
     // With status 1 there is an order with a refused command, whatever the words.
     ensures refused { result ≡ 1
         → Refuses (asked (map S.text words.now)) (I.remaining input.old) (I.remaining input.new) (O.contents output.old) (O.contents output.new) }

@@ -16,18 +16,11 @@ ghost use Rattle.h5_edit.specs.Made.{IsMade};
 
 use crate::change::{Change, changed_objects};
 use crate::made::{Made, answer};
-use h5_bytes::get_u16;
 use h5_model::{EditFault, ObjectNo};
 use h5_query::Opened;
 use h5_repack::{WriteFault, Written, write_tree};
-use h5_space::Image;
+use h5_space::{Image, internal_k, leaf_k};
 use std::alloc::Global;
-
-/// Where the superblock has the K value of symbol nodes.
-const LEAF: usize = 16;
-
-/// Where the superblock has the K value of nodes.
-const INTERNAL: usize = 18;
 
 /// The K values of symbol nodes and of nodes.
 #[derive(Clone, Copy)]
@@ -92,7 +85,7 @@ fn k_of(image: &Image) -> K
 {
     let bytes = image.bytes();
     K {
-        leaf: get_u16(bytes, LEAF).unwrap(),
-        internal: get_u16(bytes, INTERNAL).unwrap(),
+        leaf: leaf_k(bytes),
+        internal: internal_k(bytes),
     }
 }

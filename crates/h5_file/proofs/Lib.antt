@@ -1,5 +1,4 @@
 pub mod Literal
-pub mod Signed
 pub mod Sounds
 pub mod Opens
 pub mod Made

@@ -13,14 +13,12 @@ ghost use Rattle.h5_file.specs.State.{IsSound, created_state};
 ghost use Rattle.h5_file.specs.Opening.{IsNoBreach, IsReadable, Refused};
 
 use crate::empty::EMPTY_FILE;
-use crate::superblock::superblock_fault;
-use h5_bytes::get_u64;
 use h5_edit::{
     ArrayCells, AttrRef, Kind, Link, Opened, array_of, attributes_at, kind_at, links_of, names_at,
     names_of_attributes, number_at, one_attribute, one_cell, walk,
 };
 use h5_model::{EditFault, ObjectNo, OpenFault};
-use h5_space::Image;
+use h5_space::{Image, end_of_file, superblock_fault};
 use std::alloc::{AllocError, Global};
 use std::marker::Model;
 
@@ -89,7 +87,7 @@ impl File {
         if let Some(fault) = superblock_fault(&bytes) {
             return Err((fault, bytes));
         }
-        let end = get_u64(&bytes, 40).unwrap() as usize;
+        let end = end_of_file(&bytes) as usize;
         if end < bytes.len() {
             return open_front(alloc, bytes, end);
         }

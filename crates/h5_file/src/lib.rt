@@ -28,7 +28,6 @@
 mod edits;
 mod empty;
 mod file;
-mod superblock;
 
 pub use file::File;
 pub use h5_edit::{ArrayCells, AttrRef, Dims, Kind, Link, LinkTo, MAX_DEPTH, StoreKind};

@@ -1,9 +1,15 @@
-//! Tests of files and of scripts over them, through public calls.
+//! Tests of files, through public calls.
 //!
 //! A crate with tests is proved twice, so the libraries have none of their own.
 #![tactic(auto)]
 
 #[cfg(test)]
+mod door;
+#[cfg(test)]
+mod edits;
+#[cfg(test)]
 mod file;
 #[cfg(test)]
-mod script;
+mod given;
+#[cfg(test)]
+mod looks;

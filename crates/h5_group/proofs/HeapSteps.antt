@@ -11,10 +11,9 @@ use Rattle.h5_model.specs.declared.open_fault.Cause.TheVariants.{Truncated, Over
 use Rattle.h5_heap.specs.Refused.{IsRefused}
 use Rattle.h5_header.specs.Walk.Walked.{IsWalked}
 use Rattle.h5_header.specs.Walk.Met.{IsMet}
-use Rattle.h5_header.proofs.WalkLaws.MetFields.{met_truncated, met_overlaps, met_walked, still_met}
+use Rattle.h5_header.proofs.WalkLaws.MetFields.{met_truncated, met_overlaps, met_walked, still_met, field_after, other_field}
 use Rattle.h5_group.specs.Nodes.Walk.{IsFault, IsTreeMet}
 use Rattle.h5_group.specs.Walk.{IsGroupMet}
-use Rattle.h5_group.proofs.Steps.{field_after, other_field}
 
 module _ (image : List ℕ) (held : List Block) (followed : List Named) (first second depth : ℕ) (table : SymbolTable)
     (met : IsGroupMet image held followed first second depth table) where

@@ -2,7 +2,6 @@ pub mod Standing
 pub mod Searched
 pub mod Way
 pub mod Gathered
-pub mod Steps
 pub mod HeapSteps
 pub mod Refusals
 pub mod Linked

@@ -3,5 +3,4 @@ pub mod EmptyNames
 pub mod EntryLaws
 pub mod LinkedLaws
 pub mod KeyLaws
-pub mod StandLaws
 pub mod TextLaws

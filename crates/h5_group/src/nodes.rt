@@ -1,7 +1,6 @@
 //! The trees of groups: which nodes and symbol nodes they have, and that no other block shares a byte with them (File Format
 //! Specification 3.0, sections III.A.1 and III.B).
 mod below;
-mod claim;
 mod node;
 mod read;
 mod rows;
@@ -9,4 +8,4 @@ mod stands;
 mod symbol;
 
 pub use read::{GroupTree, read_tree};
-pub use stands::{internal_k, symbol_node, tree_node};
+pub use stands::{symbol_node, tree_node};

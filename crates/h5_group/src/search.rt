@@ -10,9 +10,9 @@ ghost use Rattle.h5_group.specs.Links.{IsGroupRead, IsLinkNamed, HasNone};
 
 use crate::group::Group;
 use crate::link::{LinkRef, link_in};
-use crate::read::{internal_k, segment, symbol_node};
+use crate::read::{segment, symbol_node};
 use h5_btree::{SoughtName, find_leaf};
-use h5_space::Image;
+use h5_space::{Image, internal_k};
 
 /// The link of this name, or `None` where the group has none.
 ///
@@ -43,10 +43,11 @@ fn node_of(image: &Image, group: &Group, segment: &[u8], name: &[u8]) -> Option<
         → Contains (names_in (symbols_at image.now.bytes (leaf_k image.now.bytes)) segment.now (at ∷ [])) name.now) }
     ensures none { IfNone result (group.now.symbol_nodes.items ≡ []) }
 {
+    let bytes = image.bytes();
     let sought = SoughtName {
-        k: internal_k(image),
+        k: internal_k(bytes),
         segment,
         name,
     };
-    find_leaf(image.bytes(), group.table.tree(), &sought).unwrap()
+    find_leaf(bytes, group.table.tree(), &sought).unwrap()
 }

@@ -4,6 +4,5 @@ mod check;
 mod keys;
 mod linked;
 mod names;
-mod nodes;
 
 pub use check::check_texts;

@@ -7,26 +7,11 @@ ghost use Rattle.h5_header.specs.Kinds.{IsOfGroup, IsOfDataset};
 ghost use Rattle.h5_header.specs.Listed.{messages_in};
 
 use crate::header::Messages;
+use h5_model::message_type::{
+    DATA_LAYOUT, DATASPACE, DATATYPE, FILL_VALUE, OLD_FILL_VALUE, SYMBOL_TABLE,
+};
 use h5_model::{Cause, OpenFault};
 use h5_space::fault;
-
-/// The type of a Dataspace message.
-pub const DATASPACE: u16 = 1;
-
-/// The type of a Datatype message.
-pub const DATATYPE: u16 = 3;
-
-/// The type of an old Fill Value message.
-pub const OLD_FILL_VALUE: u16 = 4;
-
-/// The type of a Fill Value message.
-pub const FILL_VALUE: u16 = 5;
-
-/// The type of a Data Layout message.
-pub const DATA_LAYOUT: u16 = 8;
-
-/// The type of a Symbol Table message.
-pub const SYMBOL_TABLE: u16 = 17;
 
 /// What an object header is of.
 #[derive(Clone, Copy, Debug, PartialEq, Eq)]

@@ -15,8 +15,6 @@ mod read;
 pub use find::find_body;
 pub use h5_space::claim;
 pub use header::Messages;
-pub use kinds::{
-    DATA_LAYOUT, DATASPACE, DATATYPE, FILL_VALUE, OLD_FILL_VALUE, ObjectKind, SYMBOL_TABLE,
-};
+pub use kinds::ObjectKind;
 pub use message::Message;
 pub use read::messages;

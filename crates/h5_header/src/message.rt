@@ -8,9 +8,11 @@ ghost use Rattle.h5_header.specs.Heads.{IsHead, HeadBreach, KindBreach, is_read}
 
 use h5_bytes::{Block, u16_at, u64_at};
 use h5_model::Cause;
-
-/// The type of a message that names a block of further messages.
-pub const CONTINUATION: u16 = 16;
+use h5_model::message_type::{
+    ATTRIBUTE, COMMENT, CONTINUATION, DATA_LAYOUT, DATASPACE, DATATYPE, EXTERNAL_FILES, FILL_VALUE,
+    FILTER_PIPELINE, GROUP_INFO, LINK, LINK_INFO, MODIFICATION_TIME, NIL, OLD_FILL_VALUE,
+    OLD_MODIFICATION_TIME, SYMBOL_TABLE,
+};
 
 /// Bytes of a message before its body.
 const HEAD: u64 = 8;
@@ -80,10 +82,21 @@ fn kind_fault(kind: u16) -> Option<Cause>
     ensures { MatchOption result (IsTrue (is_read kind)) (KindBreach kind) }
 {
     match kind {
-        0 | 1 | 3 | 4 | 5 | 8 | 12 | 13 | 14 | 16 | 17 | 18 => None,
-        2 | 6 | 10 => Some(Cause::NewStyleGroup),
-        7 => Some(Cause::ExternalFiles),
-        11 => Some(Cause::Filtered),
+        NIL
+        | DATASPACE
+        | DATATYPE
+        | OLD_FILL_VALUE
+        | FILL_VALUE
+        | DATA_LAYOUT
+        | ATTRIBUTE
+        | COMMENT
+        | OLD_MODIFICATION_TIME
+        | CONTINUATION
+        | SYMBOL_TABLE
+        | MODIFICATION_TIME => None,
+        LINK_INFO | LINK | GROUP_INFO => Some(Cause::NewStyleGroup),
+        EXTERNAL_FILES => Some(Cause::ExternalFiles),
+        FILTER_PIPELINE => Some(Cause::Filtered),
         _ => Some(Cause::UnknownMessage),
     }
 }

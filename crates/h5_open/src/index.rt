@@ -6,9 +6,9 @@ ghost use Rattle.h5_open.specs.Opened.Kept.{IsIndex};
 ghost use Rattle.h5_open.specs.Opened.Objects.{headers};
 ghost use Rattle.h5_open.specs.Walk.{IsNumbered};
 
-use crate::judge::fault;
 use crate::opened::{Opened, OpenedObject};
 use h5_model::{Cause, OpenFault};
+use h5_space::fault;
 
 /// The object whose header is at this address, where it was read.
 pub(crate) fn object_at(opened: &Opened, header: u64) -> Option<&OpenedObject>

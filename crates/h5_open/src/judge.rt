@@ -11,13 +11,11 @@ use crate::opened::Line;
 use h5_attr::{check_bodies, check_names};
 use h5_header::{Messages, find_body};
 use h5_layout::{ArrayRef, read_array};
+use h5_model::message_type::SYMBOL_TABLE;
 use h5_model::{Cause, OpenFault};
 use h5_msg::{Layout, SymbolTable, read_symbol_table};
-use h5_space::Image;
+use h5_space::{Image, fault};
 use std::alloc::Global;
-
-/// The type of a Symbol Table message.
-const SYMBOL_TABLE: u16 = 17;
 
 /// The tree and heap of the root, by the messages of its header.
 ///
@@ -90,10 +88,4 @@ fn line_of(array: &ArrayRef<'_>) -> Option<Line>
         fill: array.fill(),
         cells: *cells,
     })
-}
-
-pub(crate) fn fault(cause: Cause, address: u64) -> OpenFault
-    ensures { result ≡ record { cause = cause; address = address } }
-{
-    OpenFault { cause, address }
 }

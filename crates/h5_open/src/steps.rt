@@ -14,22 +14,15 @@ ghost use Rattle.h5_open.specs.Walk.{IsNumbered, IsReady, IsTreeRead, IsLinkRead
 
 use crate::counts::check_counts;
 use crate::index::{object_at, push_object};
-use crate::judge::fault;
 use crate::object::{links_in, read_object};
 use crate::opened::{Opened, OpenedContent};
-use h5_bytes::{Block, get_u64};
+use h5_bytes::Block;
 use h5_group::{LinkRef, LinkTarget};
 use h5_header::claim;
 use h5_model::{Cause, OpenFault};
-use h5_space::{Claims, Image};
+use h5_space::{Claims, Image, SUPERBLOCK, fault, root_header};
 use std::alloc::Global;
 use std::collections::BTreeMap;
-
-/// Bytes of the superblock of version 0.
-const SUPERBLOCK: u64 = 96;
-
-/// Where the superblock has the address of the root's object header.
-const ROOT_HEADER: usize = 64;
 
 /// Opens an image: reads the root, and all objects to which links lead from there.
 ///
@@ -54,7 +47,7 @@ pub fn walk(alloc: Global, image: &Image) -> Result<Opened, OpenFault>
         objects: Vec::new(alloc),
         numbers: BTreeMap::new(alloc),
     };
-    let header = get_u64(image.bytes(), ROOT_HEADER).unwrap();
+    let header = root_header(image.bytes());
     read_tree(alloc, image, &mut claims, &mut opened, header, 0)?;
     check_counts(alloc, image, &opened)?;
     Ok(opened)

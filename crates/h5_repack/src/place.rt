@@ -5,7 +5,8 @@ ghost use Rattle.std.specs.List.{AllByRecursion};
 ghost use Rattle.h5_repack.specs.Layout.{AreHeaders, IsLowSize, IsUnplaced};
 
 use crate::size::{Size, whole_length};
-use crate::write::{FIRST, MOST, WriteFault};
+use crate::write::WriteFault;
+use h5_group::{MAXIMUM_IMAGE, SUPERBLOCK};
 use std::alloc::Global;
 
 /// Where objects stand one behind another: the addresses of their headers by their numbers, and the end of the last.
@@ -25,12 +26,12 @@ pub(crate) fn place_all(alloc: Global, order: &[u32], sizes: &[Size]) -> Result<
     let Ok(mut headers) = vec![in alloc; 0; sizes.len()] else {
         return Err(WriteFault::NoMemory);
     };
-    let mut end = FIRST;
+    let mut end = SUPERBLOCK;
     for number in order {
         let number = *number as usize;
         headers[number] = end;
         end += whole_length(&sizes[number]);
-        if end > MOST {
+        if end > MAXIMUM_IMAGE {
             return Err(WriteFault::TooLong);
         }
     }

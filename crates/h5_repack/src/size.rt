@@ -9,8 +9,8 @@ ghost use Rattle.h5_repack.specs.Layout.{AreUnmeasured, IsArrayObject, IsGroupOb
 use crate::blocks::{Array, Others, array_header_length, data_length, group_header_length};
 use crate::group::{new_links, nowhere};
 use crate::objects::{NewArray, NewContent, NewObject, TreeLink};
-use crate::write::{MOST, WriteFault};
-use h5_group::{GroupFault, GroupPlaces, group_places};
+use crate::write::WriteFault;
+use h5_group::{GroupFault, GroupPlaces, MAXIMUM_IMAGE, group_places};
 use std::alloc::Global;
 
 /// What belongs to an object besides its header.
@@ -65,10 +65,10 @@ fn measure_array(array: &NewArray<'_>, others: &Others) -> Result<Size, WriteFau
     let array = joined(array, others);
     let header = array_header_length(&array);
     let length = data_length(&array);
-    if header > MOST {
+    if header > MAXIMUM_IMAGE {
         return Err(WriteFault::TooLong);
     }
-    if length > MOST {
+    if length > MAXIMUM_IMAGE {
         return Err(WriteFault::TooLong);
     }
     Ok(Size {
@@ -92,7 +92,7 @@ fn measure_group(
     ensures refused { IfErr result (λ fault. (o : Object) → IsGroupObject links.now others.now o → IsUnmeasured leaf internal o fault) }
 {
     let header = group_header_length(others);
-    if header > MOST {
+    if header > MAXIMUM_IMAGE {
         return Err(WriteFault::TooLong);
     }
     let layout = nowhere(leaf, internal);

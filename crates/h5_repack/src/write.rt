@@ -7,19 +7,13 @@ ghost use Rattle.h5_model.specs.Format.Superblock.{AreK};
 ghost use Rattle.h5_repack.specs.Layout.{IsHeldObject, IsLowLayout, IsLowSize, IsSize, front_at, numbered_at};
 ghost use Rattle.h5_repack.specs.Written.{IsHeld, IsWritten, IsUnwritten};
 
-use crate::blocks::{Superblock, push_superblock};
 use crate::group::Layout;
 use crate::object::push_objects;
 use crate::objects::{NewObject, count_links, met_order};
 use crate::place::place_all;
 use crate::size::{Extent, Size, measure_all};
+use h5_group::{SUPERBLOCK, Superblock, push_superblock};
 use std::alloc::{AllocError, Global};
-
-/// Where the first object begins, behind the superblock.
-pub(crate) const FIRST: u64 = 96;
-
-/// The most bytes of an image.
-pub(crate) const MOST: u64 = 2147483648;
 
 /// Why an image is not written.
 #[derive(Clone, Copy, PartialEq, Eq, Debug)]
@@ -49,7 +43,7 @@ fn push_front(
     requires { IsLowSize root.now }
     ensures { OnOk result (out.new.items ≡ out.old.items ++ front_at layout.now root.now end) }
 {
-    let tree = FIRST + root.header;
+    let tree = SUPERBLOCK + root.header;
     let heap = match root.extent {
         Extent::Links(places) => tree + places.tree,
         Extent::Data(_) => 0,
@@ -58,7 +52,7 @@ fn push_front(
         leaf: layout.leaf,
         internal: layout.internal,
         end,
-        root: FIRST,
+        root: SUPERBLOCK,
         tree,
         heap,
     };

@@ -5,3 +5,4 @@ pub mod PartLaws
 pub mod WholeLaws
 pub mod IslandLaws
 pub mod Unheld
+pub mod Signed

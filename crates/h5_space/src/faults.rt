@@ -14,6 +14,7 @@ pub fn claim(claims: &mut Claims, block: Block) -> Result<(), OpenFault>
     ensures claimed { OnOk result ((p : ℕ) → cover p claims.new.held ≡ cover p claims.old.held + holds p block.at block.len) }
     ensures separate { Separate claims.new.held }
     ensures end { claims.new.end ≡ claims.old.end }
+    ensures address { IfErr result (λ fault. fault.address ≡ block.at) }
     ensures refused { IfErr result (λ fault. ClaimBreach claims.old.end claims.old.held block fault.cause fault.address) }
 {
     let cause = match claims.claim(block.at, block.len) {

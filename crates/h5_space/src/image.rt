@@ -6,6 +6,7 @@ ghost use Rattle.h5_space.specs.Space.{IsSpaced, growth};
 ghost use Rattle.h5_space.specs.Lending.{LendsPart};
 
 use crate::free_list::{cut, first_fit, put_back};
+use crate::superblock::MAXIMUM_IMAGE;
 use h5_bytes::Block;
 use std::alloc::Global;
 use std::marker::Model;
@@ -18,9 +19,6 @@ pub enum SpaceFault {
     /// A growth was refused.
     NoMemory,
 }
-
-/// The most bytes that an image may have.
-const LIMIT: u64 = 2147483648;
 
 /// The bytes of a file, and which of them are free.
 ///
@@ -130,7 +128,7 @@ impl Image {
             → length self.old.bytes + bytes ≤ 2 ^ 31 → IsOk result }
     {
         let size = self.bytes.len() as u64;
-        if size > LIMIT || bytes > LIMIT - size {
+        if size > MAXIMUM_IMAGE || bytes > MAXIMUM_IMAGE - size {
             return Err(SpaceFault::ImageFull);
         }
         if self.room_bytes < bytes {

@@ -20,6 +20,7 @@ use crate::change::edit::Edit;
 use crate::change::parts::part_of;
 use h5_header::{Message, Messages};
 use h5_model::AttrSpec;
+use h5_model::message_type::{COMMENT, MODIFICATION_TIME, OLD_MODIFICATION_TIME};
 use h5_query::{AttrRef, sorted};
 use h5_repack::Others;
 use h5_space::Image;
@@ -67,7 +68,7 @@ fn push_kept(others: &mut Others, image: &Image, list: &[Message]) -> Result<(),
 fn is_kept(kind: u16) -> bool
     ensures { result ≡ ((kind == 13 || kind == 14) || kind == 18) }
 {
-    matches!(kind, 13 | 14 | 18)
+    matches!(kind, COMMENT | OLD_MODIFICATION_TIME | MODIFICATION_TIME)
 }
 
 /// Appends attributes that ascend by their names, with an edit among them.

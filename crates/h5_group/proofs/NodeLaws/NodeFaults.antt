@@ -10,6 +10,7 @@ use Rattle.h5_model.specs.Format.Reached.{level_at}
 use Rattle.h5_model.specs.Faults.TreeFaults.{NodeBreach}
 use Rattle.h5_model.specs.declared.open_fault.Cause.{Cause}
 use Rattle.h5_model.specs.declared.open_fault.Cause.TheVariants.{Truncated, Overlap, NodeForm, NoMemory}
+use Rattle.h5_space.specs.Claimed.{ClaimBreach}
 use Rattle.h5_btree.specs.Form.{MayBeRoot, MayStandAt}
 use Rattle.h5_btree.proofs.NodeLaws.{length-children}
 use Rattle.h5_group.specs.Nodes.Refused.{IsRefusedFor}
@@ -21,6 +22,14 @@ refused_for P Q end held b Overlap f h = h
 refused_for P Q end held b NodeForm f h = (h.0, f h.1)
 refused_for P Q end held b NoMemory f h = h
 refused_for P Q end held b _ f h = absurd h
+
+-- so is one that could not be claimed
+pub unclaimed_for : (P : Type 0) (end : ℕ) (held : List Block) (b : Block) (cause : Cause) (address : ℕ) → ClaimBreach end held b cause address
+    → IsRefusedFor P end held b cause
+unclaimed_for P end held b Truncated address h = h.1
+unclaimed_for P end held b Overlap address h = h.1
+unclaimed_for P end held b NoMemory address h = tt
+unclaimed_for P end held b _ address h = absurd h
 
 module _ (image : List ℕ) (kind : Kind) where
   above : (at level : ℕ) → 1 ≤ level → IsTrue (not (at == at && level == 0))

@@ -6,8 +6,7 @@ use Rattle.h5_bytes.specs.declared.Block.{Block}
 use Rattle.h5_bytes.proofs.BlockLaws.{all_left, all_right}
 use Rattle.h5_model.specs.Format.Superblock.{leaf_k}
 use Rattle.h5_model.specs.Format.Nodes.{IsNode, node_bytes, tree_blocks}
-use Rattle.h5_model.specs.Format.Symbols.{IsEntry, IsSymbolNode, symbol_block, symbol_bytes, symbols_at}
-use Rattle.h5_model.specs.Faults.TreeFaults.{all_entries}
+use Rattle.h5_model.specs.Format.Symbols.{IsSymbolNode, symbol_block, symbol_bytes}
 use Rattle.h5_group.specs.Nodes.Trees.{IsTree, kind_in, nodes_blocks}
 use Rattle.h5_group.specs.Nodes.Stands.{IsNodeAt, IsSymbolsAt}
 
@@ -18,13 +17,9 @@ module _ (image : List ℕ) where
   each_node (at ∷ rest) formed inside = (record { formed = formed.0; inside = inside.0 }, each_node rest formed.1 inside.1)
 
   each_symbols : (symbol_nodes : List ℕ) → AllByRecursion (λ at. IsSymbolNode (leaf_k image) (symbol_bytes image (leaf_k image) at)) symbol_nodes
-      → AllByRecursion IsEntry (all_entries image symbol_nodes) → Inside (length image) (map (symbol_block (leaf_k image)) symbol_nodes)
-      → AllByRecursion (IsSymbolsAt image) symbol_nodes
-  each_symbols [] formed known inside = tt
-  each_symbols (at ∷ rest) formed known inside = (
-    record { formed = formed.0; known = all_left IsEntry (symbols_at image (leaf_k image) at) (all_entries image rest) known; inside = inside.0 },
-    each_symbols rest formed.1 (all_right IsEntry (symbols_at image (leaf_k image) at) (all_entries image rest) known) inside.1,
-  )
+      → Inside (length image) (map (symbol_block (leaf_k image)) symbol_nodes) → AllByRecursion (IsSymbolsAt image) symbol_nodes
+  each_symbols [] formed inside = tt
+  each_symbols (at ∷ rest) formed inside = (record { formed = formed.0; inside = inside.0 }, each_symbols rest formed.1 inside.1)
 
   module _ (root : ℕ) (nodes symbol_nodes : List ℕ) (tree : IsTree image root nodes symbol_nodes) (inside : Inside (length image) (nodes_blocks image nodes symbol_nodes)) where
     abbrev IsInside : Block → Type 0
@@ -35,5 +30,5 @@ module _ (image : List ℕ) where
         (all_left IsInside (tree_blocks (kind_in image) nodes) (map (symbol_block (leaf_k image)) symbol_nodes) inside)
 
     pub symbols_stand : AllByRecursion (IsSymbolsAt image) symbol_nodes
-    symbols_stand = each_symbols symbol_nodes tree.formed tree.known
+    symbols_stand = each_symbols symbol_nodes tree.formed
         (all_right IsInside (tree_blocks (kind_in image) nodes) (map (symbol_block (leaf_k image)) symbol_nodes) inside)

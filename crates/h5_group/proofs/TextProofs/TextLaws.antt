@@ -29,7 +29,7 @@ use Rattle.h5_snod.specs.declared.entry.SymbolTarget.TheVariants.{Header, Text}
 use Rattle.h5_group.specs.Nodes.Trees.{IsTree, kind_in}
 use Rattle.h5_group.specs.Texts.Named.{AreTexts, IsFreshHeap}
 use Rattle.h5_group.specs.Texts.Refused.{AreTextsRefused}
-use Rattle.h5_group.specs.Texts.Stands.{entries_at, keys_at}
+use Rattle.h5_group.specs.Nodes.Stands.{entries_at, keys_at}
 use Rattle.h5_group.specs.Texts.Linked.{linked_by, linked_at, text_of, IsNamed, AreEntriesRefused}
 use Rattle.h5_group.specs.Texts.Taken.{IsSameHeap, TakesLinked, NamesKeys, AreKeysNamed, AreLinkedRefused, AreKeysRefused}
 use Rattle.h5_group.proofs.TextProofs.LinkedLaws.{same_both, segment_same}

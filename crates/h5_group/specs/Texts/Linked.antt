@@ -12,7 +12,7 @@ use Rattle.h5_snod.specs.Entries.{symbol_from}
 use Rattle.h5_snod.specs.declared.entry.SymbolEntry.{SymbolEntry}
 use Rattle.h5_snod.specs.declared.entry.SymbolTarget.{SymbolTarget}
 use Rattle.h5_snod.specs.declared.entry.SymbolTarget.TheVariants.{Header, Text}
-use Rattle.h5_group.specs.Texts.Stands.{entries_at}
+use Rattle.h5_group.specs.Nodes.Stands.{entries_at}
 
 -- the offset of a soft link's text
 abbrev pub text_of : SymbolTarget → List ℕ

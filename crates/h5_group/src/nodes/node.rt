@@ -10,11 +10,11 @@ ghost use Rattle.h5_group.specs.Nodes.Trees.{kind_in};
 ghost use Rattle.h5_group.specs.Nodes.Below.{reading_in, IsStanding, IsInner};
 ghost use Rattle.h5_group.specs.Nodes.Refused.{IsRefusedFor};
 
-use crate::nodes::claim::claim;
 use crate::nodes::stands::group_kind;
 use h5_btree::{Node, read_node};
+use h5_bytes::Block;
 use h5_model::{Cause, OpenFault};
-use h5_space::{Claims, Image, fault};
+use h5_space::{Claims, Image, claim, fault};
 
 /// Claims the root of a tree.
 ///
@@ -74,6 +74,7 @@ pub(crate) fn claim_inner<'a>(
 }
 
 /// Claims a node, of any level.
+#[tactic(auto, using(crate::proofs::NodeLaws::NodeFaults::unclaimed_for))]
 fn claim_node<'a>(image: &'a Image, claims: &mut Claims, at: u64) -> Result<Node<'a>, OpenFault>
     requires end { claims.old.end ≡ length image.now.bytes }
     requires superblock { IsSuperblock image.now.bytes }
@@ -90,7 +91,7 @@ fn claim_node<'a>(image: &'a Image, claims: &mut Claims, at: u64) -> Result<Node
 {
     let kind = group_kind(image);
     let len = kind.node_length() as u64;
-    claim(claims, at, len)?;
+    claim(claims, Block { at, len })?;
     let bytes = image.part(at, len).unwrap();
     match read_node(kind, bytes) {
         Ok(node) => Ok(node),

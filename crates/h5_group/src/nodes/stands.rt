@@ -2,16 +2,15 @@
 //! 3.0, sections II.A, III.A.1 and III.B).
 
 ghost use Rattle.std.specs.Prelude.{◌≡◌, ◌≤◌, length};
-ghost use Rattle.h5_model.specs.Format.Superblock.{leaf_k as leaf_of, internal_k as internal_of};
+ghost use Rattle.h5_model.specs.Format.Superblock.{leaf_k as leaf_of};
 ghost use Rattle.h5_model.specs.Format.Nodes.{node_at};
 ghost use Rattle.h5_model.specs.Format.Symbols.{symbols_at};
 ghost use Rattle.h5_group.specs.Nodes.Trees.{kind_in};
 ghost use Rattle.h5_group.specs.Nodes.Stands.{IsNodeAt, IsSymbolsAt};
 
 use h5_btree::{Node, NodeKind, read_node};
-use h5_bytes::u16_at;
 use h5_snod::{SymbolNode, known_symbol_node};
-use h5_space::Image;
+use h5_space::{Image, internal_k, leaf_k};
 
 /// The node of a group's tree at this address. Takes no memory.
 pub fn tree_node(image: &Image, at: u64) -> Node<'_>
@@ -30,25 +29,9 @@ pub fn symbol_node(image: &Image, at: u64) -> SymbolNode<'_>
     requires there { IsSymbolsAt image.now.bytes at }
     ensures { result ≡ symbols_at image.now.bytes (leaf_of image.now.bytes) at }
 {
-    let leaf = leaf_k(image);
+    let leaf = leaf_k(image.bytes());
     let bytes = image.part(at, 8 + 80 * u64::from(leaf)).unwrap();
     known_symbol_node(leaf, bytes)
-}
-
-/// K of symbol nodes.
-pub(crate) fn leaf_k(image: &Image) -> u16
-    requires { 20 ≤ length image.now.bytes }
-    ensures { result ≡ leaf_of image.now.bytes }
-{
-    u16_at(image.bytes(), 16)
-}
-
-/// K of the nodes of a group's tree.
-pub fn internal_k(image: &Image) -> u16
-    requires { 20 ≤ length image.now.bytes }
-    ensures { result ≡ internal_of image.now.bytes }
-{
-    u16_at(image.bytes(), 18)
 }
 
 /// The kind of the trees of groups.
@@ -56,5 +39,5 @@ pub(crate) fn group_kind(image: &Image) -> NodeKind
     requires { 20 ≤ length image.now.bytes }
     ensures { result ≡ kind_in image.now.bytes }
 {
-    NodeKind::group(internal_k(image))
+    NodeKind::group(internal_k(image.bytes()))
 }

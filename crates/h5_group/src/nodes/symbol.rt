@@ -11,12 +11,11 @@ ghost use Rattle.h5_group.specs.Nodes.Further.{AreChildrenMet, IsFurther, IsPlac
 ghost use Rattle.h5_group.specs.Nodes.Refused.{IsRefusedFor};
 ghost use Rattle.h5_group.specs.Nodes.Walk.{IsFault};
 
-use crate::nodes::claim::claim;
-use crate::nodes::stands::leaf_k;
 use h5_btree::Node;
+use h5_bytes::Block;
 use h5_model::{Cause, OpenFault};
 use h5_snod::read_symbol_node;
-use h5_space::{Claims, Image, fault};
+use h5_space::{Claims, Image, claim, fault, leaf_k};
 
 /// Claims the symbol nodes that a node of level 0 leads to, from left to right.
 pub(crate) fn claim_symbol_nodes(
@@ -45,6 +44,7 @@ pub(crate) fn claim_symbol_nodes(
 /// Claims a symbol node.
 ///
 /// `NodeForm` where it is none, or has an entry of an unknown cache type.
+#[tactic(auto, using(crate::proofs::NodeLaws::NodeFaults::unclaimed_for))]
 fn claim_symbol_node(image: &Image, claims: &mut Claims, at: u64) -> Result<(), OpenFault>
     requires end { claims.old.end ≡ length image.now.bytes }
     requires superblock { IsSuperblock image.now.bytes }
@@ -56,9 +56,9 @@ fn claim_symbol_node(image: &Image, claims: &mut Claims, at: u64) -> Result<(), 
     ensures refused { IfErr result (λ fault. IsRefusedFor (SymbolBreach image.now.bytes at)
         (length image.now.bytes) claims.old.held (symbol_block (leaf_of image.now.bytes) at) fault.cause) }
 {
-    let leaf = leaf_k(image);
+    let leaf = leaf_k(image.bytes());
     let len = 8 + 80 * u64::from(leaf);
-    claim(claims, at, len)?;
+    claim(claims, Block { at, len })?;
     let bytes = image.part(at, len).unwrap();
     match read_symbol_node(leaf, bytes) {
         Ok(_) => Ok(()),

@@ -3,10 +3,10 @@
 ghost use Rattle.std.specs.Prelude.{◌≡◌, ◌+◌, ◌≤◌, length, IfErr, OnOk};
 ghost use Rattle.std.specs.List.{AllByRecursion, flat_map};
 ghost use Rattle.h5_model.specs.Format.Superblock.{IsSuperblock};
-ghost use Rattle.h5_group.specs.Texts.Stands.{IsNodeAt, keys_at};
+ghost use Rattle.h5_group.specs.Nodes.Stands.{IsNodeAt, keys_at};
 ghost use Rattle.h5_group.specs.Texts.Taken.{NamesKeys, AreKeysRefused};
 
-use crate::texts::nodes::tree_node;
+use crate::nodes::tree_node;
 use h5_heap::Heap;
 use h5_model::OpenFault;
 use h5_space::Image;

@@ -3,11 +3,11 @@
 ghost use Rattle.std.specs.Prelude.{◌≡◌, ◌+◌, ◌≤◌, length, IfErr, OnOk};
 ghost use Rattle.std.specs.List.{AllByRecursion, flat_map};
 ghost use Rattle.h5_model.specs.Format.Superblock.{IsSuperblock};
-ghost use Rattle.h5_group.specs.Texts.Stands.{IsSymbolsAt};
+ghost use Rattle.h5_group.specs.Nodes.Stands.{IsSymbolsAt};
 ghost use Rattle.h5_group.specs.Texts.Linked.{linked_from, linked_at};
 ghost use Rattle.h5_group.specs.Texts.Taken.{TakesLinked, AreLinkedRefused};
 
-use crate::texts::nodes::symbols_at;
+use crate::nodes::symbol_node;
 use h5_heap::Heap;
 use h5_model::OpenFault;
 use h5_snod::{SymbolEntry, SymbolTarget};
@@ -41,7 +41,7 @@ fn take_entries(image: &Image, heap: &mut Heap, at: u64) -> Result<(), OpenFault
     ensures address { IfErr result (λ fault. fault.address ≡ heap.old.at) }
     ensures refused { IfErr result (λ fault. AreLinkedRefused image.now.bytes heap.old (linked_at image.now.bytes at) fault.cause) }
 {
-    let node = symbols_at(image, at);
+    let node = symbol_node(image, at);
     for k in 0..node.len() {
         take_entry(image, heap, node.entry(k))?;
     }

@@ -7,10 +7,10 @@ ghost use Rattle.h5_bytes.specs.Texts.{text_at};
 ghost use Rattle.h5_model.specs.Format.Superblock.{IsSuperblock};
 ghost use Rattle.h5_model.specs.Tree.Paths.{is_name};
 ghost use Rattle.h5_heap.specs.Kept.{segment_in};
-ghost use Rattle.h5_group.specs.Texts.Stands.{IsSymbolsAt, entries_at};
+ghost use Rattle.h5_group.specs.Nodes.Stands.{IsSymbolsAt, entries_at};
 ghost use Rattle.h5_group.specs.Texts.Linked.{IsNamed, IsEntryRefused, AreEntriesRefused};
 
-use crate::texts::nodes::symbols_at;
+use crate::nodes::symbol_node;
 use h5_heap::Heap;
 use h5_model::{Cause, OpenFault, is_link_name};
 use h5_snod::{SymbolEntry, SymbolTarget};
@@ -59,7 +59,7 @@ fn check_entries(image: &Image, heap: &Heap, address: u64, at: u64) -> Result<()
     ensures address { IfErr result (λ fault. fault.address ≡ address) }
     ensures refused { IfErr result (λ fault. AreEntriesRefused (segment_in image.now.bytes heap.now) (entries_at image.now.bytes at) fault.cause) }
 {
-    let node = symbols_at(image, at);
+    let node = symbol_node(image, at);
     for k in 0..node.len() {
         check_entry(image, heap, address, node.entry(k))?;
     }

@@ -6,6 +6,7 @@ ghost use Rattle.h5_group.specs.Writing.Places.{IsTooLarge, ArePlaces};
 
 use h5_btree::{nodes_over, root_level, rows_of};
 use h5_heap::{NewLink, segment_length};
+use h5_space::MAXIMUM_IMAGE;
 
 /// Why a group's links are not written.
 #[derive(Clone, Copy, PartialEq, Eq, Debug)]
@@ -26,9 +27,6 @@ pub struct GroupPlaces {
     /// The bytes of all.
     pub length: u64,
 }
-
-/// The most bytes of a group's links.
-const MOST: u64 = 2147483648;
 
 /// The bytes of so many blocks of one size.
 #[tactic(auto, using(crate::proofs::WriteLaws::Counts::product_low))]
@@ -57,7 +55,7 @@ pub fn group_places(
     let nodes = rows_of(2 * u64::from(leaf), links.len() as u64);
     let tree = bytes_of(nodes_over(internal, nodes), 32 + 32 * u64::from(internal));
     let length = tree + 32 + segment + bytes_of(nodes, 8 + 80 * u64::from(leaf));
-    if length > MOST {
+    if length > MAXIMUM_IMAGE {
         return Err(GroupFault::TooLong);
     }
     if root_level(internal, nodes) > 15 {

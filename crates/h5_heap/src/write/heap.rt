@@ -9,10 +9,8 @@ ghost use Rattle.h5_heap.specs.Writing.Written.{heap_bytes, segment_of, link_spa
 use crate::write::link::{Leads, NewLink};
 use crate::write::parts::{push_free_rest, push_heap_header, push_text, text_span};
 use h5_bytes::push_zeros;
+use h5_space::MAXIMUM_IMAGE;
 use std::alloc::AllocError;
-
-/// The most bytes of a heap's texts.
-const MOST: u64 = 2147483648;
 
 /// How many bytes a link's texts occupy in the heap: its name, and a soft link's text. Those of a link that `segment_length` has
 /// counted are few enough.
@@ -34,7 +32,7 @@ fn behind_text(used: u64, text: &[u8]) -> Option<u64>
     ensures { MatchOption result (2 ^ 31 < used + text_size text.now) (λ n. (n ≡ used + text_size text.now) × (n ≤ 2 ^ 31)) }
 {
     let end = used + text_span(text) as u64;
-    if end > MOST { None } else { Some(end) }
+    if end > MAXIMUM_IMAGE { None } else { Some(end) }
 }
 
 /// How many bytes are used with a link's texts behind so many, or `None` where they are more than 2147483648.

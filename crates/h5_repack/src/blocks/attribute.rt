@@ -12,12 +12,10 @@ use crate::blocks::cells::value_bytes;
 use crate::blocks::header::{push_extent, push_message_head, push_type};
 use h5_bytes::{push_bytes, push_short, push_zeros};
 use h5_heap::push_text;
+use h5_model::message_type::ATTRIBUTE;
 use h5_model::{AttrSpec, Fixed};
 use h5_msg::{AttributeBody, attribute_length};
 use std::alloc::{AllocError, Global};
-
-/// The type of an attribute's message.
-const ATTRIBUTE: u16 = 12;
 
 /// How many zeros raise a body of so many bytes to a multiple of 8.
 fn padding(size: usize) -> usize

@@ -15,6 +15,7 @@ use crate::blocks::cells::value_bytes;
 use crate::blocks::others::Others;
 use h5_bytes::{UNDEF, push_bytes, push_middle, push_short, push_word, push_zeros};
 use h5_model::Fixed;
+use h5_model::message_type::{DATA_LAYOUT, DATASPACE, DATATYPE, FILL_VALUE, SYMBOL_TABLE};
 use std::alloc::AllocError;
 
 /// The prefix of a header: its count of messages, its reference count and the bytes of its messages.
@@ -125,7 +126,7 @@ pub fn push_group_header(
 {
     let bytes = others.bytes();
     push_prefix(out, 1 + others.count() as u16, 1, 24 + bytes.len() as u32)?;
-    push_message_head(out, 17, 16)?;
+    push_message_head(out, SYMBOL_TABLE, 16)?;
     push_word(out, tree)?;
     push_word(out, heap)?;
     push_bytes(out, bytes)?;
@@ -169,11 +170,11 @@ fn push_space(out: &mut Vec<u8>, size: u64, maximum: Option<u64>) -> Result<(), 
     ensures { OnOk result (out.new.items ≡ out.old.items ++ message_bytes (1, space_body (size ∷ []) (maximum ∷ []))) }
 {
     if is_own_maximum(size, maximum) {
-        push_message_head(out, 1, 16)?;
+        push_message_head(out, DATASPACE, 16)?;
         push_extent(out, &[size])?;
         return Ok(());
     }
-    push_message_head(out, 1, 24)?;
+    push_message_head(out, DATASPACE, 24)?;
     push_bytes(out, &[1, 1, 1])?;
     push_zeros(out, 5)?;
     push_word(out, size)?;
@@ -214,7 +215,7 @@ fn push_fill_message(
     if !has_fill(others) {
         return Ok(());
     }
-    push_message_head(out, 5, 16)?;
+    push_message_head(out, FILL_VALUE, 16)?;
     push_fill(out, 1, fixed, fill)?;
     Ok(())
 }
@@ -275,10 +276,10 @@ pub fn push_array_header(
         messages_size(array) as u32,
     )?;
     push_space(out, array.size, array.maximum)?;
-    push_message_head(out, 3, 16)?;
+    push_message_head(out, DATATYPE, 16)?;
     push_type(out, &array.fixed)?;
     push_fill_message(out, &array.fixed, array.fill, array.others)?;
-    push_message_head(out, 8, 24)?;
+    push_message_head(out, DATA_LAYOUT, 24)?;
     push_contiguous(out, address, array.size * array.fixed.size() as u64)?;
     push_bytes(out, array.others.bytes())?;
     Ok(())

@@ -1,5 +1,5 @@
 use Rattle.std.proofs.Common.{◌≡◌, ◌∙◌, ap, ap₂}
-use Rattle.clap.specs.Words.{App, app_of, with_rule}
+use Rattle.clap.specs.Words.{app_of, with_rule}
 use Rattle.clap.specs.Simple.{app_of_fields}
 use Rattle.h5_args.specs.Words.{also, file_app}
 use Rattle.h5_args.proofs.Commands.{either, if_ok_each}

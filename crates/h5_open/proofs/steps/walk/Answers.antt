@@ -10,23 +10,23 @@ read_tree-requires-clause-index c = none_numbered c.new.result.items c.new-2.res
 pub returns-in_err-read_tree-clause-refused : goal.returns-in_err-read_tree-clause-refused
 returns-in_err-read_tree-clause-refused c =
     let p = err_from_is_err_and c.from_residual-in_err-read_tree.result c.from_residual-in_err-read_tree.ensures.1 in
-    let at : c.unwrap-header.result ≡ root_header c.args.image.now.bytes = search rules in
+    let at : c.root_header-header.result ≡ root_header c.args.image.now.bytes = search rules in
     rw (p.1, p.2) (c.in_err-read_tree.ensures.refused [] 64
-    (ready_at c.args.image.now.bytes c.in_ok-claims.claims.held c.new.result.items c.unwrap-header.result c.requires.superblock c.in_ok-claims.ensures.walked c.in_ok-claims.ensures.separate c.new.ensures.items at))
+    (ready_at c.args.image.now.bytes c.in_ok-claims.claims.held c.new.result.items c.root_header-header.result c.requires.superblock c.in_ok-claims.ensures.walked c.in_ok-claims.ensures.separate c.new.ensures.items at))
 
 pub check_counts-requires-clause-whole : goal.check_counts-requires-clause-whole
 check_counts-requires-clause-whole c =
-    let at : c.unwrap-header.result ≡ root_header c.args.image.now.bytes = search rules in
-    whole_at c.args.image.now.bytes c.in_ok-claims.claims.held c.read_tree.new.claims.held c.new.result.items c.read_tree.new.opened.objects.items c.unwrap-header.result c.requires.superblock c.requires.whole
+    let at : c.root_header-header.result ≡ root_header c.args.image.now.bytes = search rules in
+    whole_at c.args.image.now.bytes c.in_ok-claims.claims.held c.read_tree.new.claims.held c.new.result.items c.read_tree.new.opened.objects.items c.root_header-header.result c.requires.superblock c.requires.whole
     c.new.ensures.items at
     (c.in_ok-read_tree.ensures.read [] 64
-    (ready_at c.args.image.now.bytes c.in_ok-claims.claims.held c.new.result.items c.unwrap-header.result c.requires.superblock c.in_ok-claims.ensures.walked c.in_ok-claims.ensures.separate c.new.ensures.items at))
+    (ready_at c.args.image.now.bytes c.in_ok-claims.claims.held c.new.result.items c.root_header-header.result c.requires.superblock c.in_ok-claims.ensures.walked c.in_ok-claims.ensures.separate c.new.ensures.items at))
 
 pub returns-clause-kept : goal.returns-clause-kept
 returns-clause-kept c =
-    let at : c.unwrap-header.result ≡ root_header c.args.image.now.bytes = search rules in
-    let all = whole_at c.args.image.now.bytes c.in_ok-claims.claims.held c.read_tree.new.claims.held c.new.result.items c.read_tree.new.opened.objects.items c.unwrap-header.result c.requires.superblock c.requires.whole
+    let at : c.root_header-header.result ≡ root_header c.args.image.now.bytes = search rules in
+    let all = whole_at c.args.image.now.bytes c.in_ok-claims.claims.held c.read_tree.new.claims.held c.new.result.items c.read_tree.new.opened.objects.items c.root_header-header.result c.requires.superblock c.requires.whole
     c.new.ensures.items at
     (c.in_ok-read_tree.ensures.read [] 64
-    (ready_at c.args.image.now.bytes c.in_ok-claims.claims.held c.new.result.items c.unwrap-header.result c.requires.superblock c.in_ok-claims.ensures.walked c.in_ok-claims.ensures.separate c.new.ensures.items at)) in
+    (ready_at c.args.image.now.bytes c.in_ok-claims.claims.held c.new.result.items c.root_header-header.result c.requires.superblock c.in_ok-claims.ensures.walked c.in_ok-claims.ensures.separate c.new.ensures.items at)) in
     opened c.args.image.now.bytes c.read_tree.new.opened.objects.items c.read_tree.new.opened.numbers all c.in_ok-read_tree.ensures.index.index c.in_ok-check_counts.ensures.reads

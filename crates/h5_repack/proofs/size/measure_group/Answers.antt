@@ -3,14 +3,14 @@ use Rattle.h5_heap.specs.Writing.Links.{link_of}
 use Rattle.h5_repack.proofs.Sizes.{group_header_length, group_long, group_deep, group_size}
 use Rattle.h5_repack.proofs.size.measure_group.Goals as goal
 
-pub returns-then-header-gt-MOST-clause-refused : goal.returns-then-header-gt-MOST-clause-refused
-returns-then-header-gt-MOST-clause-refused c o is =
-    omega (arith, c.group_header_length-header.ensures.exact 0 0, group_header_length c.args.links.now c.args.others.now o is 0 0, c.if-header-gt-MOST.true)
+pub returns-then-header-gt-MAXIMUM_IMAGE-clause-refused : goal.returns-then-header-gt-MAXIMUM_IMAGE-clause-refused
+returns-then-header-gt-MAXIMUM_IMAGE-clause-refused c o is =
+    omega (arith, c.group_header_length-header.ensures.exact 0 0, group_header_length c.args.links.now c.args.others.now o is 0 0, c.if-header-gt-MAXIMUM_IMAGE.true)
 
 pub returns-in-Ok-group_places-clause-size : goal.returns-in-Ok-group_places-clause-size
 returns-in-Ok-group_places-clause-size c o is =
     group_size c.args.links.now c.args.others.now o is c.args.leaf c.args.internal c.nowhere-layout.result (map link_of c.deref.result.now) (ap (map link_of) c.deref.ensures.value ∙ c.in-Ok.ensures)
-    c.group_header_length-header.result c.in-Ok-group_places.places (c.group_header_length-header.ensures.exact 0 0) c.if-header-gt-MOST.false c.in-Ok-group_places.ensures
+    c.group_header_length-header.result c.in-Ok-group_places.places (c.group_header_length-header.ensures.exact 0 0) c.if-header-gt-MAXIMUM_IMAGE.false c.in-Ok-group_places.ensures
 
 pub returns-in-Err-TooLong-clause-refused : goal.returns-in-Err-TooLong-clause-refused
 returns-in-Err-TooLong-clause-refused c o is =

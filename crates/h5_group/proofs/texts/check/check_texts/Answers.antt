@@ -1,10 +1,10 @@
 use Rattle.std.specs.List.{AllByRecursion, flat_map}
 use Rattle.std.proofs.lemmas.Result.{err_from_is_err_and, on_ok_weaker, MatchResult-weaker}
 use Rattle.h5_heap.specs.Kept.{segment_in}
-use Rattle.h5_group.specs.Texts.Stands.{entries_at}
+use Rattle.h5_group.specs.Nodes.Stands.{entries_at}
 use Rattle.h5_group.specs.Texts.Linked.{linked_at, IsNamed}
 use Rattle.h5_group.specs.Texts.Taken.{TakesLinked}
-use Rattle.h5_group.proofs.TextProofs.StandLaws.{symbols_stand, nodes_stand}
+use Rattle.h5_group.proofs.NodeLaws.StandLaws.{symbols_stand, nodes_stand}
 use Rattle.h5_group.proofs.TextProofs.TextLaws.{same_begun, taken_begun, same_now, taken_now, names_refused, empty_refused, linked_refused, keys_refused, are_texts}
 use Rattle.h5_group.proofs.texts.check.check_texts.Goals as goal
 

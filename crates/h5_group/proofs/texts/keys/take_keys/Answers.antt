@@ -1,6 +1,6 @@
 use Rattle.std.proofs.Common.{arith}
 use Rattle.std.proofs.lemmas.Result.{err_from_is_err_and}
-use Rattle.h5_group.specs.Texts.Stands.{keys_at}
+use Rattle.h5_group.specs.Nodes.Stands.{keys_at}
 use Rattle.h5_group.proofs.TextProofs.KeyLaws.{names_step, refused_step}
 use Rattle.h5_group.proofs.texts.keys.take_keys.Goals as goal
 

@@ -1,6 +1,6 @@
 use Rattle.std.proofs.Common.{take}
 use Rattle.std.specs.List.{flat_map}
-use Rattle.h5_group.specs.Texts.Stands.{keys_at}
+use Rattle.h5_group.specs.Nodes.Stands.{keys_at}
 use Rattle.h5_group.specs.Texts.Taken.{NamesKeys}
 use Rattle.h5_group.proofs.texts.keys.take_keys.Given as goal
 

@@ -4,7 +4,7 @@ use Rattle.std.proofs.lemmas.Result.{err_from_is_err_and}
 use Rattle.std.proofs.Math.ListN.{length-map}
 use Rattle.h5_model.specs.Format.Links.{offset_in}
 use Rattle.h5_model.specs.Format.Rows.{Node}
-use Rattle.h5_group.specs.Texts.Stands.{keys_at}
+use Rattle.h5_group.specs.Nodes.Stands.{keys_at}
 use Rattle.h5_group.specs.Texts.Taken.{NamesKeys}
 use Rattle.h5_group.proofs.TextProofs.KeyLaws.{keys_step, keys_around, names_one, names_both, refused_one, refused_within}
 use Rattle.h5_group.proofs.texts.keys.take_node.Goals as goal

@@ -2,7 +2,7 @@ use Rattle.std.proofs.Common.{◌+◌, take, drop, get_or, arith}
 use Rattle.std.specs.List.{flat_map}
 use Rattle.std.proofs.lemmas.Result.{err_from_is_err_and}
 use Rattle.h5_heap.specs.Kept.{segment_in}
-use Rattle.h5_group.specs.Texts.Stands.{entries_at}
+use Rattle.h5_group.specs.Nodes.Stands.{entries_at}
 use Rattle.h5_group.proofs.TextProofs.ListLaws.{flat_around}
 use Rattle.h5_group.proofs.TextProofs.EntryLaws.{refused_between}
 use Rattle.h5_group.proofs.texts.names.check_names.Goals as goal

@@ -1,7 +1,7 @@
 use Rattle.std.proofs.Common.{take}
 use Rattle.std.specs.List.{AllByRecursion, flat_map}
 use Rattle.h5_heap.specs.Kept.{segment_in}
-use Rattle.h5_group.specs.Texts.Stands.{entries_at}
+use Rattle.h5_group.specs.Nodes.Stands.{entries_at}
 use Rattle.h5_group.specs.Texts.Linked.{IsNamed}
 use Rattle.h5_group.proofs.texts.names.check_names.Given as goal
 

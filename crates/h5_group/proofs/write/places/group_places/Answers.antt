@@ -12,17 +12,17 @@ nodes_over-requires-clause-few c = omega (arith, c.rows_of-nodes.ensures.few, li
 pub bytes_of-requires-clause-count : goal.bytes_of-requires-clause-count
 bytes_of-requires-clause-count c = omega (arith, c.rows_of-nodes.ensures.few, links_few c.args.links.now (omega (arith, c.in-Some.ensures.0, c.in-Some.ensures.1)))
 
-pub returns-then-length-gt-MOST : goal.returns-then-length-gt-MOST
-returns-then-length-gt-MOST c =
+pub returns-then-length-gt-MAXIMUM_IMAGE : goal.returns-then-length-gt-MAXIMUM_IMAGE
+returns-then-length-gt-MAXIMUM_IMAGE c =
     let all = counted _ _ _ _ _ _ _ _ _ _ c.args.links.now c.from.ensures c.rows_of-nodes.ensures.exact c.from-2.ensures c.nodes_over.ensures.exact
     c.bytes_of-tree.ensures.exact c.in-Some.ensures.0 c.from-3.ensures c.bytes_of.ensures.exact in
-    subst (λ n. 2 ^ 31 < n) all.whole_is c.if-length-gt-MOST.true
+    subst (λ n. 2 ^ 31 < n) all.whole_is c.if-length-gt-MAXIMUM_IMAGE.true
 
 pub returns-then-root_level-gt15 : goal.returns-then-root_level-gt15
 returns-then-root_level-gt15 c =
     let all = counted _ _ _ _ _ _ _ _ _ _ c.args.links.now c.from.ensures c.rows_of-nodes.ensures.exact c.from-2.ensures c.nodes_over.ensures.exact
     c.bytes_of-tree.ensures.exact c.in-Some.ensures.0 c.from-3.ensures c.bytes_of.ensures.exact in (
-      subst (λ n. n ≤ 2 ^ 31) all.whole_is c.if-length-gt-MOST.false,
+      subst (λ n. n ≤ 2 ^ 31) all.whole_is c.if-length-gt-MAXIMUM_IMAGE.false,
       subst (λ n. 15 < root_level c.args.internal n) all.nodes_are (subst (λ n. 15 < n) c.root_level.ensures c.if-root_level-gt15.true),
     )
 
@@ -34,6 +34,6 @@ returns c =
       tree = all.tree_is;
       segment = c.in-Some.ensures.0;
       length_is = all.whole_is;
-      few = c.if-length-gt-MOST.false;
+      few = c.if-length-gt-MAXIMUM_IMAGE.false;
       low = subst (λ n. root_level c.args.internal n ≤ 15) all.nodes_are (subst (λ n. n ≤ 15) c.root_level.ensures c.if-root_level-gt15.false);
     }

@@ -1,0 +1,58 @@
+//! Edits by calls: what is accepted where there is memory, the object that is answered, and what no call carries out yet.
+
+use crate::given::{line, note};
+use h5_file::{Edit, EditFault, Edited, File, Hyper, Items, ObjectNo};
+use std::alloc::{AllocError, Global};
+use std::test::Fail;
+
+/// Whether the edit is of the object of this number.
+fn is_of(made: Edited, number: u32) -> bool {
+    made.object == Some(ObjectNo(number)) && made.refreshed == 0
+}
+
+#[test]
+fn answers_the_object(rt: HostRuntime) -> Result<(), Fail> {
+    let mut file = File::create(rt.alloc())?;
+    assert!(rt; is_of(file.create_group(b"/g")?, 1));
+    assert!(rt; is_of(file.create_dataset(b"/g/d", &line(rt.alloc())?)?, 2));
+    assert!(rt; is_of(file.create_group(b"/a")?, 3));
+    assert!(rt; is_of(file.hard_link(b"/g/d", b"/b")?, 2));
+    assert!(rt; is_of(file.set_attr(b"/b", &note(rt.alloc())?)?, 2));
+    assert!(rt; is_of(file.remove_attr(b"/g/d", b"note")?, 2));
+    assert!(rt; file.soft_link(b"/nowhere", b"/s")?.object.is_none());
+    // Objects have the numbers in which they were made, wherever their headers stand.
+    assert!(rt; file.object_number(b"/a")? == ObjectNo(3) && file.object_number(b"/b")? == ObjectNo(2));
+    Ok(())
+}
+
+/// A selection of one cell.
+fn cell(alloc: Global) -> Result<Hyper, AllocError> {
+    Hyper::new(alloc, &[0], &[1], &[1], &[1])
+}
+
+/// Whether no call carries the edit out.
+fn is_not_yet(file: &mut File, edit: &Edit) -> bool {
+    file.edit(edit) == Err(EditFault::NotYet)
+}
+
+#[test]
+fn says_what_is_not_carried_yet(rt: HostRuntime) -> Result<(), Fail> {
+    let mut file = File::create(rt.alloc())?;
+    file.create_dataset(b"/d", &line(rt.alloc())?)?;
+    let unlink = Edit::Unlink {
+        path: Items::from_slice(rt.alloc(), b"/d")?,
+    };
+    let resize = Edit::Resize {
+        path: Items::from_slice(rt.alloc(), b"/d")?,
+        dims: Items::from_slice(rt.alloc(), &[4])?,
+    };
+    let write = Edit::Write {
+        path: Items::from_slice(rt.alloc(), b"/d")?,
+        hyper: cell(rt.alloc())?,
+        values: Items::from_slice(rt.alloc(), &[5])?,
+    };
+    assert!(rt; is_not_yet(&mut file, &unlink));
+    assert!(rt; is_not_yet(&mut file, &resize));
+    assert!(rt; is_not_yet(&mut file, &write));
+    Ok(())
+}
