@@ -1,14 +1,10 @@
-"""Groups, hard links and soft links: made, listed, refused, and read by the usual library."""
+"""Groups, hard links and soft links: made, listed and refused."""
 
-import json
-import os
 import random
-from concurrent.futures import ProcessPoolExecutor
 
 from . import today
-from .support import InFolder, empty_image, h5i, library, reference
-from .test_random_scripts import GROUP_SEEDS, script_of_groups
-from .test_walk import linked_image
+from .drawn_images import linked_image
+from .support import InFolder, empty_image, h5i, reference
 
 # pylint: disable=wrong-import-order
 from h5oracle.model import Dataset, Flat, Tree  # noqa: E402
@@ -17,58 +13,6 @@ from h5oracle.reader import Superblock, open_image  # noqa: E402
 from h5oracle.values import TYPES  # noqa: E402
 
 ARRAY = b"dataset /d i32le 3 contiguous\n"
-# So many files the library lists and edits in one run.
-AT_ONCE = 20
-
-# Each link's path and where it leads, as the usual library lists them.
-LIST = """
-import json, os, sys, h5py
-from h5py import h5g, h5l, h5o
-for name in sys.argv[1:]:
-    with h5py.File(name, "r") as file:
-        links, groups = [], [("", file["/"].id)]
-        while groups:
-            at, group = groups.pop()
-            # Names are bytes here: not all are UTF-8.
-            for key in group:
-                path = at + "/" + os.fsdecode(key)
-                if group.links.get_info(key).type == h5l.TYPE_SOFT:
-                    links.append([path, "soft", os.fsdecode(group.links.get_val(key))])
-                    continue
-                there = h5o.open(group, key)
-                if isinstance(there, h5g.GroupID):
-                    links.append([path, "group", None])
-                    groups.append((path, there))
-                else:
-                    links.append([path, "dataset", there.shape[0]])
-        print(json.dumps(sorted(links)))
-"""
-
-CHANGE = """
-import sys, h5py
-for name in sys.argv[1:]:
-    with h5py.File(name, "r+") as file:
-        group = file.create_group("made by/the library")
-        for k in range(40):
-            group.create_dataset(f"d{k:02}", data=list(range(k)), dtype="<i4")
-        file["linked"] = group["d07"]
-        file["soft"] = h5py.SoftLink("/made by")
-"""
-
-
-def links_of(tree):
-    """The links of a tree as the usual library lists them."""
-    def below(number, path):
-        for name, (kind, target) in tree.objects[number].links.items():
-            here = path + "/" + os.fsdecode(name)
-            if kind == "soft":
-                yield [here, "soft", os.fsdecode(target)]
-            elif tree.is_group(target):
-                yield [here, "group", None]
-                yield from below(target, here)
-            else:
-                yield [here, "dataset", tree.objects[target].dims[0]]
-    return sorted(below(0, ""))
 
 
 def with_links(count):
@@ -218,38 +162,3 @@ class Groups(InFolder):
                 self.assert_run(path, script, wanted, today.status_of(wanted))
                 self.assertEqual(self.read(path), session.image())
                 self.assertEqual(reading.tree.objects.keys() - session.tree.objects.keys(), set())
-
-
-class Library(InFolder):
-    """Files of groups and links that the usual library lists and edits."""
-
-    def assert_edited(self, path):
-        """The file that the library has edited is opened and edited again."""
-        reading, refusal = today.opened(self.read(path))
-        self.assertIsNone(refusal)
-        self.assertEqual(h5i("ls", path), (0, today.listing(reading.tree), b""))
-        self.assertIn(b"/made\\x20by/the\\x20library/d39 dataset i32le {39}\n", today.listing(reading.tree))
-        self.assertEqual(h5i("run", path, script=b"group /after\nsoft x /made\\x20by/s\n")[:2], (0, b"ok 0\nok 0\n"))
-        self.assertEqual(reference("check", path)[:2], (0, b"ok\n"))
-
-    def assert_listed_and_edited(self, made):
-        """The files of some scripts: made, listed and edited by the library, and edited again."""
-        paths = []
-        for seed, (script, answers, _, _) in made:
-            paths.append(self.new(f"{seed}.h5"))
-            self.assertEqual(h5i("run", paths[-1], script=script)[1], answers)
-        status, output, errors = library(LIST, *paths)
-        self.assertEqual((status, errors), (0, b""))
-        for (seed, (_, _, image, _)), line in zip(made, output.splitlines(), strict=True):
-            with self.subTest(seed=seed):
-                self.assertEqual(json.loads(line), links_of(open_image(image).tree))
-        self.assertEqual(library(CHANGE, *paths), (0, b"", b""))
-        for path in paths:
-            with self.subTest(path=path):
-                self.assert_edited(path)
-
-    def test_files_are_listed_edited_and_opened_again(self):
-        with ProcessPoolExecutor() as pool:
-            made = list(zip(GROUP_SEEDS, pool.map(script_of_groups, GROUP_SEEDS)))
-        for begun in range(0, len(made), AT_ONCE):
-            self.assert_listed_and_edited(made[begun:begun + AT_ONCE])

@@ -4,19 +4,14 @@ import random
 from concurrent.futures import ProcessPoolExecutor
 
 from . import today
+from .drawn_images import linked_image
+from .drawn_scripts import GROUPS, LineMaker
 from .support import InFolder, empty_image, h5i, reference
-from .test_walk import linked_image
-
-# pylint: disable=wrong-import-order
-from h5oracle.values import TYPES as FIXED  # noqa: E402
-from randscript import Maker  # noqa: E402
 
 SEEDS = range(30)
 MOST_LINES = 30
 ATTRIBUTE_SEEDS = range(50)
 MOST_ATTRIBUTE_LINES = 80
-GROUP_SEEDS = range(200)
-GROUP_LINES = 300
 OTHERS_SEEDS = range(100)
 OTHERS_LINES = 60
 TYPES = [f"{sign}{bits}{order}" for sign in "iu" for bits in (8, 16, 32, 64) for order in ("le", "be", "")]
@@ -30,8 +25,6 @@ FORMS = ["ls", "ls ", "ls x", "dump", "group /g", "repack", "show 0", "close 1",
          "attr / a u8 2 1", "unattr / a", "dump /"]
 # How often each kind of line is drawn where attributes are set and removed.
 ATTRIBUTES = dict(attr=40, unattr=14, dump=10, root=6, ls=3, line=6, dataset=2, bad=8, note=1, group=1, write=1, resize=1)
-# And where groups and links are made.
-GROUPS = dict(group=16, many=24, line=12, link=14, soft=12, attr=8, unattr=3, dump=8, dataset=2, bad=6, note=1, write=1, unlink=1)
 
 
 def limits(name):
@@ -62,39 +55,6 @@ def draw(rng):
     if kind < 0.85:
         return "dump " + rng.choice(NAMES)
     return rng.choice(FORMS)
-
-
-class LineMaker(Maker):
-    """Draws lines of some kinds, by following what the reference answers to them."""
-
-    def __init__(self, rng, session, kinds):
-        super().__init__(rng, session)
-        self.kinds = kinds
-
-    def line(self):
-        """The next line, which is also run."""
-        kind = self.rng.choices(list(self.kinds), list(self.kinds.values()))[0]
-        line = getattr(self, "make_" + kind)()
-        line = line.encode("ascii") if isinstance(line, str) else line
-        return line, today.answer(self.session, line)
-
-    def make_root(self):
-        """dump of the root"""
-        return "dump /"
-
-    def make_line(self):
-        """A dataset that may be carried."""
-        fixed = self.pick(FIXED.values())
-        fill = f" fill={self.value(fixed)}" if self.odd(0.4) else ""
-        return f"dataset {self.new_path()} {fixed.text()} {self.rng.randrange(9)} contiguous{fill}"
-
-
-def script_of_groups(seed):
-    """A script that makes groups, arrays and links, what the reference answers to it, and its file: how many edits it accepts."""
-    maker = LineMaker(random.Random(f"groups {seed}"), today.session_of(empty_image()), GROUPS)
-    made = [maker.line() for _ in range(GROUP_LINES)]
-    script = b"".join(line + b"\n" for line, _ in made)
-    return script, b"".join(text for _, (text, _) in made), maker.session.image(), sum(edited for _, (_, edited) in made)
 
 
 def script_of_others(seed):
@@ -146,18 +106,6 @@ class RandomScripts(InFolder):
                 path, other = self.written("a.h5", image), self.written("b.h5", maker.session.image())
                 self.assertEqual(reference("same", path, other)[:2], (0, b"same\n"))
         self.assertGreater(accepted, 10 * len(ATTRIBUTE_SEEDS))
-
-    def test_scripts_of_groups(self):
-        accepted = 0
-        with ProcessPoolExecutor() as pool:
-            for seed, (script, wanted, image, edits) in enumerate(pool.map(script_of_groups, GROUP_SEEDS)):
-                with self.subTest(seed=seed):
-                    path = self.new(f"{seed}.h5")
-                    self.assertEqual(h5i("run", path, script=script), (today.status_of(wanted), wanted, b""))
-                    self.assertEqual(self.read(path), image)
-                    self.assertEqual(h5i("ls", path), (0, today.listing(today.session_of(image).tree), b""))
-                    accepted += edits
-        self.assertGreater(accepted, GROUP_LINES // 2 * len(GROUP_SEEDS))
 
     def test_scripts_on_files_of_others(self):
         accepted = 0

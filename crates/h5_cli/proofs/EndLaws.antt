@@ -3,8 +3,8 @@ use Rattle.std.proofs.Common.{◌≡◌, ◌⊎◌, ◌==◌, if◌then◌else�
 use Rattle.std.proofs.lemmas.Bool.Decides.{nat_tests}
 use Rattle.std.specs.Io.KnownBytes.{Appends}
 use Rattle.h5_args.specs.Words.{Text, Wanted, WantDump, WantRun}
-use Rattle.h5_open.specs.Opened.State.{FileState}
-use Rattle.h5_file.specs.State.{IsSound}
+use Rattle.h5_script.specs.Opened.State.{FileState}
+use Rattle.h5_script.specs.State.{IsSound}
 use Rattle.h5_cli.specs.Output.{IsDumpText, IsScriptRun}
 use Rattle.h5_cli.specs.Ends.{Ends, IsRunOver}
 use Rattle.h5_cli.specs.declared.status.Status.{Status}

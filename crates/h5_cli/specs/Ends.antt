@@ -1,7 +1,7 @@
 -- How a run ends for what was asked: which statuses it can have, and what stands on the standard output then. `input` and
 -- `left` are the bytes of the standard input before and after the run, `old` and `new` those of the standard output.
 use Rattle.std.specs.Prelude.{◌≡◌, ℕ, ◌<◌, ◌==◌, List, Option, Some, None, if◌then◌else◌}
-use Rattle.h5_open.specs.Opened.State.{FileState}
+use Rattle.h5_script.specs.Opened.State.{FileState}
 use Rattle.h5_script.specs.Script.{IsDone}
 use Rattle.h5_script.specs.declared.ran.Ran.{Ran}
 use Rattle.h5_args.specs.Words.{Wanted, WantNew, WantLs, WantDump, WantRun}

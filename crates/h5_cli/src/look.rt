@@ -2,7 +2,7 @@
 
 ghost use Rattle.std.specs.Prelude.{◌≡◌, ℕ, IfOk, List, MatchResult, Option, Some};
 ghost use Rattle.h5_model.specs.Scripts.Text.{list_text};
-ghost use Rattle.h5_file.specs.State.{IsSound};
+ghost use Rattle.h5_script.specs.State.{IsSound};
 ghost use Rattle.h5_args.specs.Words.{WantLs, WantDump};
 ghost use Rattle.h5_cli.specs.Ends.{Ends, IsUnopened};
 ghost use Rattle.h5_cli.specs.Output.{IsDumpText};
@@ -10,10 +10,9 @@ ghost use Rattle.h5_cli.specs.Output.{IsDumpText};
 use crate::files::{ReadFault, read_whole};
 use crate::status::Status;
 use crate::tell::{failed_on, no_memory, print, refused};
-use h5_file::File;
 use h5_command::unescaped;
 use h5_model::EditFault;
-use h5_script::{push_dump, push_list};
+use h5_script::{File, push_dump, push_list};
 use h5_text::push_refused;
 use std::alloc::{AllocError, Global};
 use std::io::Write;

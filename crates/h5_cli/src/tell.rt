@@ -6,7 +6,7 @@ ghost use Rattle.h5_cli.specs.Status.{untold};
 ghost use Rattle.h5_cli.specs.declared.status.Status.TheVariants.{ImageRefused, StreamFailed, NoMemory};
 
 use crate::status::Status;
-use h5_file::{Cause, OpenFault};
+use h5_script::{Cause, OpenFault};
 use std::io::{self, Write};
 
 /// The status of a run that ended in a message: the message's own, or that it could not be told.

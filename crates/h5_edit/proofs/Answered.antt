@@ -21,16 +21,16 @@ use Rattle.h5_model.specs.Tree.Objects.{Tree}
 use Rattle.h5_model.specs.declared.edits.Edit.{Edit}
 use Rattle.h5_model.specs.declared.edits.Edit.TheVariants.{CreateDataset, SetAttr}
 use Rattle.h5_model.specs.declared.object_no.ObjectNo.{ObjectNo}
-use Rattle.h5_open.specs.Renumbered.Headers.{table_with}
+use Rattle.h5_query.specs.Renumbered.Headers.{table_with}
 use Rattle.h5_repack.specs.Bodies.Laws.{IsPlainReading}
 use Rattle.h5_laws.specs.Trees.Laws.{keeps_links}
 use Rattle.h5_laws.specs.Trees.Sound.{IsSoundTree}
 use Rattle.h5_laws.proofs.SoundLaws.Applied.{applied_sound}
 use Rattle.h5_laws.proofs.SoundLaws.Read.{reads_sound}
-use Rattle.h5_open.specs.Opened.Kept.{IsOpened}
-use Rattle.h5_open.specs.Opened.Objects.{table_of, tree_of}
-use Rattle.h5_open.specs.Opened.State.{FileState, opened_state}
-use Rattle.h5_open.specs.declared.opened.object.OpenedObject.{OpenedObject}
+use Rattle.h5_query.specs.Opened.Kept.{IsOpened}
+use Rattle.h5_query.specs.Opened.Objects.{table_of, tree_of}
+use Rattle.h5_query.specs.Opened.State.{FileState, opened_state}
+use Rattle.h5_query.specs.OpenedObjectType.{OpenedObject}
 use Rattle.h5_repack.specs.Written.{IsWritten, IsUnwritten}
 use Rattle.h5_repack.specs.declared.write.Written.{Written}
 use Rattle.h5_repack.specs.declared.write.WriteFault.{WriteFault}

@@ -18,11 +18,11 @@ use Rattle.h5_edit.specs.declared.change.change.Target.TheVariants as target
 use Rattle.h5_repack.specs.Objects.Objects.{AreObjects, IsNewObject}
 use Rattle.h5_repack.specs.declared.objects.object.NewObject.{NewObject}
 use Rattle.h5_laws.proofs.SoundLaws.Inserted.{number_other}
-use Rattle.h5_open.specs.Opened.Kept.{IsOpened}
-use Rattle.h5_open.specs.Opened.Objects.{headers, object_in, tree_of}
-use Rattle.h5_open.specs.declared.opened.object.OpenedObject.{OpenedObject}
-use Rattle.h5_open.proofs.OpenedLaws.Entries.{get_tree}
-use Rattle.h5_open.proofs.OpenedLaws.Numbers.{few_objects}
+use Rattle.h5_query.specs.Opened.Kept.{IsOpened}
+use Rattle.h5_query.specs.Opened.Objects.{headers, object_in, tree_of}
+use Rattle.h5_query.specs.OpenedObjectType.{OpenedObject}
+use Rattle.h5_query.proofs.OpenedLaws.Entries.{get_tree}
+use Rattle.h5_query.proofs.OpenedLaws.Numbers.{few_objects}
 use Rattle.h5_edit.specs.Fitting.{made_by, made_in}
 use Rattle.h5_edit.proofs.Numbered.{numbered_map, len_numbered}
 

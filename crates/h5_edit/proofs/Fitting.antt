@@ -30,13 +30,13 @@ use Rattle.h5_laws.proofs.SoundLaws.Applied.{object_stands}
 use Rattle.h5_laws.proofs.SoundLaws.LinksThere.{links_are}
 use Rattle.h5_laws.proofs.SoundLaws.NewPaths.{new_is_free}
 use Rattle.h5_laws.proofs.SoundLaws.Read.{reads_sound}
-use Rattle.h5_open.specs.Opened.Kept.{IsOpened}
-use Rattle.h5_open.specs.Opened.Objects.{table_of, tree_of}
-use Rattle.h5_open.specs.Opened.State.{opened_state}
-use Rattle.h5_open.specs.declared.opened.object.OpenedObject.{OpenedObject}
-use Rattle.h5_open.proofs.OpenedLaws.Entries.{get_table}
-use Rattle.h5_open.proofs.OpenedLaws.Indexed.{header_at, object_kept}
-use Rattle.h5_open.proofs.OpenedLaws.Numbers.{numbered}
+use Rattle.h5_query.specs.Opened.Kept.{IsOpened}
+use Rattle.h5_query.specs.Opened.Objects.{table_of, tree_of}
+use Rattle.h5_query.specs.Opened.State.{opened_state}
+use Rattle.h5_query.specs.OpenedObjectType.{OpenedObject}
+use Rattle.h5_query.proofs.OpenedLaws.Entries.{get_table}
+use Rattle.h5_query.proofs.OpenedLaws.Indexed.{header_at, object_kept}
+use Rattle.h5_query.proofs.OpenedLaws.Numbers.{numbered}
 use Rattle.h5_edit.specs.Carried.{is_header_full}
 use Rattle.h5_edit.specs.Fitting.{IsFitting}
 

@@ -8,3 +8,5 @@ pub mod Writings
 pub mod RuleLaws
 pub mod FitLaws
 pub mod ChangedLaws
+pub use Rattle.h5_query.proofs.OpenedLaws
+pub use Rattle.h5_query.proofs.RenumberedLaws

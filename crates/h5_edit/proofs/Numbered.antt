@@ -5,8 +5,8 @@ use Rattle.std.specs.Prelude.{map, slice_get}
 use Rattle.std.specs.Ordering.{nat_cmp}
 use Rattle.std.specs.Cmp.{nat_cmp_total}
 use Rattle.std.specs.FinMap.{FinMap, get, len, entries, from_entries, len-entries, same_map, nat_cmp-IsAntisymmetric}
-use Rattle.h5_open.specs.Opened.Objects.{numbered}
-use Rattle.h5_open.proofs.OpenedLaws.Made.{entries_numbered, get_numbered}
+use Rattle.h5_query.specs.Opened.Objects.{numbered}
+use Rattle.h5_query.proofs.OpenedLaws.Made.{entries_numbered, get_numbered}
 
 -- a map that looks up the items of a list by their places
 pub numbered_map : {X : Type 0} (m : FinMap nat_cmp X) (xs : List X) → ((n : ℕ) → slice_get xs n ≡ get m n) → m ≡ from_entries (numbered 0 xs)

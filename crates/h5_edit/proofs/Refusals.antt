@@ -7,7 +7,7 @@ use Rattle.h5_model.specs.Format.Superblock.{leaf_k, internal_k}
 use Rattle.h5_model.specs.declared.edits.Edit.{Edit}
 use Rattle.h5_model.specs.declared.edit_fault.EditFault.{EditFault}
 use Rattle.h5_model.specs.declared.edit_fault.EditFault.TheVariants as fault
-use Rattle.h5_open.specs.Opened.State.{FileState}
+use Rattle.h5_query.specs.Opened.State.{FileState}
 use Rattle.h5_edit.specs.Carried.{is_carried, is_header_full, is_too_long, tree_after, IsRefused, IsRefusedBy}
 use Rattle.h5_edit.proofs.Low.{are_low, low_of, of_low}
 

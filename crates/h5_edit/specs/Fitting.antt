@@ -6,9 +6,9 @@ use Rattle.h5_model.specs.Edits.Refusal.{refusal_of}
 use Rattle.h5_model.specs.declared.edits.Edit.{Edit}
 use Rattle.h5_model.specs.declared.object_no.ObjectNo.{ObjectNo}
 use Rattle.h5_edit.specs.Fits.Laws.{IsTyped}
-use Rattle.h5_open.specs.Opened.Objects.{tree_of}
-use Rattle.h5_open.specs.Opened.State.{opened_state}
-use Rattle.h5_open.specs.declared.opened.object.OpenedObject.{OpenedObject}
+use Rattle.h5_query.specs.Opened.Objects.{tree_of}
+use Rattle.h5_query.specs.Opened.State.{opened_state}
+use Rattle.h5_query.specs.OpenedObjectType.{OpenedObject}
 use Rattle.h5_edit.specs.Changed.Change.{IsChange, changed}
 use Rattle.h5_edit.specs.declared.change.change.Change.{Change}
 use Rattle.h5_edit.specs.declared.change.change.Change.TheVariants.{Link as Linked, Set, Remove}

@@ -7,9 +7,9 @@ use Rattle.h5_model.specs.Edits.Refusal.{refusal_of}
 use Rattle.h5_model.specs.Format.Superblock.{leaf_k, internal_k}
 use Rattle.h5_model.specs.Tree.Objects.{Tree}
 use Rattle.h5_model.specs.declared.edits.Edit.{Edit}
-use Rattle.h5_open.specs.Opened.State.{FileState, state_of}
+use Rattle.h5_query.specs.Opened.State.{FileState, state_of}
 use Rattle.h5_repack.specs.Bodies.Laws.{IsPlainReading}
-use Rattle.h5_open.specs.Renumbered.Headers.{table_with}
+use Rattle.h5_query.specs.Renumbered.Headers.{table_with}
 use Rattle.h5_edit.specs.declared.made.Made.{Made}
 use Rattle.h5_edit.specs.Carried.{is_carried, tree_after, IsGivenFor}
 

@@ -5,22 +5,22 @@ ghost use Rattle.h5_model.specs.Format.Superblock.{IsSuperblock, leaf_k, interna
 ghost use Rattle.h5_model.specs.declared.edits.Edit.{Edit};
 ghost use Rattle.h5_laws.specs.Trees.Sound.{IsSoundTree};
 ghost use Rattle.h5_edit.specs.Fits.Laws.{AreBytes};
-ghost use Rattle.h5_open.specs.Opened.Kept.{IsOpened};
-ghost use Rattle.h5_open.specs.Opened.Objects.{tree_of};
-ghost use Rattle.h5_open.specs.Opened.State.{opened_state};
+ghost use Rattle.h5_query.specs.Opened.Kept.{IsOpened};
+ghost use Rattle.h5_query.specs.Opened.Objects.{tree_of};
+ghost use Rattle.h5_query.specs.Opened.State.{opened_state};
 ghost use Rattle.h5_edit.specs.Changed.Change.{IsPlainChange, changed};
 ghost use Rattle.h5_repack.specs.Written.{IsWritten, IsUnwritten};
 ghost use Rattle.h5_edit.specs.Carried.{IsRefused};
 ghost use Rattle.h5_edit.specs.Fitting.{IsFitting};
 ghost use Rattle.h5_edit.specs.Made.{IsMade};
 
+use crate::change::{Change, changed_objects};
 use crate::made::{Made, answer};
 use h5_bytes::get_u16;
-use crate::change::{Change, changed_objects};
 use h5_model::{EditFault, ObjectNo};
-use h5_space::Image;
-use h5_open::Opened;
+use h5_query::Opened;
 use h5_repack::{WriteFault, Written, write_tree};
+use h5_space::Image;
 use std::alloc::Global;
 
 /// Where the superblock has the K value of symbol nodes.

@@ -2,18 +2,18 @@
 
 ghost use Rattle.std.specs.Prelude.{MatchResult};
 ghost use Rattle.h5_model.specs.declared.edits.Edit.TheVariants.{SetAttr, RemoveAttr};
-ghost use Rattle.h5_open.specs.Opened.Kept.{IsOpened};
-ghost use Rattle.h5_open.specs.Opened.State.{opened_state};
+ghost use Rattle.h5_query.specs.Opened.Kept.{IsOpened};
+ghost use Rattle.h5_query.specs.Opened.State.{opened_state};
 ghost use Rattle.h5_edit.specs.Carried.{IsRefused};
 ghost use Rattle.h5_edit.specs.Made.{IsMade};
 
 use crate::anew::carry_out;
-use crate::made::Made;
 use crate::change::Change;
-use h5_model::{AttrSpec, EditFault, ObjectNo};
+use crate::made::Made;
 use crate::rules::{check_attribute, check_removal};
+use h5_model::{AttrSpec, EditFault, ObjectNo};
+use h5_query::Opened;
 use h5_space::Image;
-use h5_open::Opened;
 use std::alloc::Global;
 
 /// The most messages of a header.

@@ -12,7 +12,10 @@ mod made;
 mod rules;
 
 pub use attributes::{remove_attribute, set_attribute};
+pub use h5_query::{
+    ArrayCells, AttrRef, Kind, Link, LinkTo, MAX_DEPTH, Opened, StoreKind, array_of, attributes_at,
+    kind_at, links_of, names_at, names_of_attributes, number_at, one_attribute, one_cell, renumber,
+    walk,
+};
 pub use links::{new_array, new_group, new_hard_link, new_soft_link};
 pub use made::Made;
-pub use rules::{NewPlace, check_array, check_attribute, check_group, check_hard_link, check_removal, check_soft_link, is_one_line};
-pub use change::{Change, Target, changed_objects};

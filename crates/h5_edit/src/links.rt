@@ -2,19 +2,21 @@
 
 ghost use Rattle.std.specs.Prelude.{◌≡◌, ◌<◌, ◌^◌, MatchResult, length};
 ghost use Rattle.h5_model.specs.declared.edits.Edit.TheVariants.{CreateGroup, CreateDataset, HardLink, SoftLink};
-ghost use Rattle.h5_open.specs.Opened.Kept.{IsOpened};
-ghost use Rattle.h5_open.specs.Opened.State.{opened_state};
+ghost use Rattle.h5_query.specs.Opened.Kept.{IsOpened};
+ghost use Rattle.h5_query.specs.Opened.State.{opened_state};
 ghost use Rattle.h5_edit.specs.declared.change.change.Change.TheVariants.{Link as Linked};
 ghost use Rattle.h5_edit.specs.Carried.{IsRefused};
 ghost use Rattle.h5_edit.specs.Made.{IsMade};
 
 use crate::anew::carry_out;
-use crate::made::Made;
 use crate::change::{Change, Target};
+use crate::made::Made;
+use crate::rules::{
+    NewPlace, check_array, check_group, check_hard_link, check_soft_link, is_one_line,
+};
 use h5_model::{EditFault, ObjectNo, Spec};
-use crate::rules::{NewPlace, check_array, check_group, check_hard_link, check_soft_link, is_one_line};
+use h5_query::Opened;
 use h5_space::Image;
-use h5_open::Opened;
 use std::alloc::Global;
 
 /// Makes an empty group at the path.

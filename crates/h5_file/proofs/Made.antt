@@ -7,13 +7,13 @@ use Rattle.h5_model.specs.Format.Superblock.{IsSuperblock, end_of_file}
 use Rattle.h5_model.specs.declared.edits.Edit.{Edit}
 use Rattle.h5_model.specs.declared.edits.Edited.{Edited}
 use Rattle.h5_model.specs.declared.edit_fault.EditFault.TheVariants as fault
-use Rattle.h5_open.specs.declared.opened.object.OpenedObject.{OpenedObject}
-use Rattle.h5_open.specs.Opened.Kept.{IsOpened}
-use Rattle.h5_open.specs.Opened.Objects.{headers, table_of, tree_of}
-use Rattle.h5_open.specs.Opened.State.{FileState, state_of, opened_state}
-use Rattle.h5_open.proofs.OpenedLaws.Numbers.{numbered}
-use Rattle.h5_open.specs.Renumbered.Headers.{table_with, IsReadAt}
-use Rattle.h5_open.proofs.RenumberedLaws.Renumbered.{table_at, length_at, tree_at}
+use Rattle.h5_edit.specs.OpenedObjectType.{OpenedObject}
+use Rattle.h5_edit.specs.Opened.Kept.{IsOpened}
+use Rattle.h5_edit.specs.Opened.Objects.{headers, table_of, tree_of}
+use Rattle.h5_edit.specs.Opened.State.{FileState, state_of, opened_state}
+use Rattle.h5_edit.proofs.OpenedLaws.Numbers.{numbered}
+use Rattle.h5_edit.specs.Renumbered.Headers.{table_with, IsReadAt}
+use Rattle.h5_edit.proofs.RenumberedLaws.Renumbered.{table_at, length_at, tree_at}
 use Rattle.h5_edit.specs.declared.made.Made.{Made}
 use Rattle.h5_edit.specs.Carried.{IsRefused, tree_after}
 use Rattle.h5_edit.specs.Made.{IsMade}

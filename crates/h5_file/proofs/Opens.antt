@@ -8,7 +8,7 @@ use Rattle.h5_model.specs.Faults.Breaches.{Breach, SuperblockBreach, cut}
 use Rattle.h5_model.specs.Format.Superblock.{IsSuperblock, end_of_file}
 use Rattle.h5_model.specs.declared.open_fault.Cause.{Cause}
 use Rattle.h5_model.specs.declared.open_fault.Cause.TheVariants.{NoMemory, NotYet}
-use Rattle.h5_open.specs.Opened.NotYet.{IsRefusedAt}
+use Rattle.h5_edit.specs.Opened.NotYet.{IsRefusedAt}
 use Rattle.h5_laws.proofs.Excluded.{breach_excludes_reads}
 use Rattle.h5_file.specs.Opening.{RefusedBy, IsReadable, IsNoBreach}
 

@@ -6,14 +6,14 @@ use Rattle.h5_model.specs.Format.Reads.{Reads}
 use Rattle.h5_model.specs.Format.Superblock.{IsSuperblock, end_of_file}
 use Rattle.h5_model.proofs.EmptyReads.{empty_reads, empty_reads_as}
 use Rattle.h5_laws.proofs.Lists.{In}
-use Rattle.h5_open.specs.declared.opened.object.OpenedObject.{OpenedObject}
-use Rattle.h5_open.specs.Opened.Kept.{IsOpened}
-use Rattle.h5_open.specs.Opened.Objects.{headers, tree_of}
-use Rattle.h5_open.specs.Opened.State.{opened_state}
-use Rattle.h5_open.proofs.OpenedLaws.Numbers.{numbered}
-use Rattle.h5_open.specs.Renumbered.Headers.{table_with}
-use Rattle.h5_open.proofs.RenumberedLaws.Renumbered.{table_at, length_at, tree_at}
-use Rattle.h5_open.proofs.RenumberedLaws.SameHeaders.{same_headers, same_length}
+use Rattle.h5_edit.specs.OpenedObjectType.{OpenedObject}
+use Rattle.h5_edit.specs.Opened.Kept.{IsOpened}
+use Rattle.h5_edit.specs.Opened.Objects.{headers, tree_of}
+use Rattle.h5_edit.specs.Opened.State.{opened_state}
+use Rattle.h5_edit.proofs.OpenedLaws.Numbers.{numbered}
+use Rattle.h5_edit.specs.Renumbered.Headers.{table_with}
+use Rattle.h5_edit.proofs.RenumberedLaws.Renumbered.{table_at, length_at, tree_at}
+use Rattle.h5_edit.proofs.RenumberedLaws.SameHeaders.{same_headers, same_length}
 use Rattle.h5_file.specs.State.{IsSound, created_state}
 
 pub sound : (image : List ℕ) (objects : List OpenedObject) (numbers : BTreeMap ℕ ℕ) → IsOpened image objects numbers → IsSound (opened_state image objects)

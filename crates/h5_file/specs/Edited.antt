@@ -5,7 +5,7 @@ use Rattle.h5_model.specs.Edits.Applied.{state_after, named_object}
 use Rattle.h5_model.specs.Format.Superblock.{leaf_k, internal_k}
 use Rattle.h5_model.specs.declared.edits.Edit.{Edit}
 use Rattle.h5_model.specs.declared.edits.Edited.{Edited}
-use Rattle.h5_open.specs.Opened.State.{FileState, state_of}
+use Rattle.h5_edit.specs.Opened.State.{FileState, state_of}
 use Rattle.h5_edit.specs.Made.{IsAccepted}
 use Rattle.h5_file.specs.State.{IsWhole}
 

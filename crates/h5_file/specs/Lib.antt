@@ -1,3 +1,9 @@
 pub mod State
 pub mod Opening
 pub mod Edited
+pub use Rattle.h5_edit.specs.Carried
+pub use Rattle.h5_edit.specs.Listed
+pub use Rattle.h5_edit.specs.Look
+pub use Rattle.h5_edit.specs.LinkType
+pub use Rattle.h5_edit.specs.ArrayCellsType
+pub use Rattle.h5_edit.specs.Opened

@@ -9,7 +9,7 @@ use Rattle.h5_model.specs.Tree.Objects.{Tree}
 use Rattle.h5_model.specs.declared.open_fault.OpenFault.{OpenFault}
 use Rattle.h5_model.specs.declared.open_fault.Cause.{Cause}
 use Rattle.h5_model.specs.declared.open_fault.Cause.TheVariants.{NoMemory, NotYet}
-use Rattle.h5_open.specs.Opened.NotYet.{IsRefusedAt}
+use Rattle.h5_edit.specs.Opened.NotYet.{IsRefusedAt}
 
 -- Memory was short; or the superblock is sound, and a block that is reached is of a form that is not read yet; or the cause holds at
 -- the address.

@@ -9,11 +9,10 @@ ghost use Rattle.h5_file.specs.Edited.{IsEdited};
 
 use crate::file::File;
 use h5_edit::{
-    Made, new_array, new_group, new_hard_link, new_soft_link, remove_attribute, set_attribute,
+    Made, new_array, new_group, new_hard_link, new_soft_link, remove_attribute, renumber,
+    set_attribute, walk,
 };
 use h5_model::{AttrSpec, Edit, EditFault, Edited, Spec};
-use h5_open::walk;
-use h5_open::renumber;
 use h5_space::Image;
 
 impl File {

@@ -5,25 +5,22 @@ ghost use Rattle.h5_model.specs.Faults.Breaches.{cut};
 ghost use Rattle.h5_model.specs.Edits.Refusal.{first_holding};
 ghost use Rattle.h5_model.specs.Scripts.Reading.{path_rules, attribute_rules, cell_rules};
 ghost use Rattle.h5_model.specs.Format.Superblock.{IsSuperblock, end_of_file};
-ghost use Rattle.h5_open.specs.Opened.NotYet.{IsRefusedAt};
-ghost use Rattle.h5_query.specs.Listed.{IsNoGroup, AreLinks};
-ghost use Rattle.h5_query.specs.Look.{HasKind, HasNames, HasCell, HasArray, HasAttribute, HasAttributeNames, HasAttributesOf, IsListRefused, IsNoDataset, IsUnlisted};
-ghost use Rattle.h5_query.specs.Place.{IsNumber, IsNoObject};
+ghost use Rattle.h5_edit.specs.Opened.NotYet.{IsRefusedAt};
+ghost use Rattle.h5_edit.specs.Listed.{IsNoGroup, AreLinks};
+ghost use Rattle.h5_edit.specs.Look.{HasKind, HasNames, HasCell, HasArray, HasAttribute, HasAttributeNames, HasAttributesOf, IsListRefused, IsNoDataset, IsUnlisted};
+ghost use Rattle.h5_edit.specs.Place.{IsNumber, IsNoObject};
 ghost use Rattle.h5_file.specs.State.{IsSound, created_state};
 ghost use Rattle.h5_file.specs.Opening.{IsNoBreach, IsReadable, Refused};
 
 use crate::empty::EMPTY_FILE;
 use crate::superblock::superblock_fault;
-use h5_attr::AttrRef;
 use h5_bytes::get_u64;
-use h5_query::{
-    ArrayCells, Kind, Link, array_of, attributes_at, kind_at, links_of, names_at,
-    names_of_attributes, number_at, one_attribute, one_cell,
+use h5_edit::{
+    ArrayCells, AttrRef, Kind, Link, Opened, array_of, attributes_at, kind_at, links_of, names_at,
+    names_of_attributes, number_at, one_attribute, one_cell, walk,
 };
 use h5_model::{Cause, EditFault, ObjectNo, OpenFault};
-use h5_open::walk;
 use h5_space::Image;
-use h5_open::Opened;
 use std::alloc::{AllocError, Global};
 use std::marker::Model;
 
@@ -39,8 +36,8 @@ pub struct File {
 }
 
 impl Model for File {
-    ghost use Rattle.h5_open.specs.Opened.Kept.{IsOpened};
-    ghost use Rattle.h5_open.specs.Opened.State.{FileState, coded_state, opened_state};
+    ghost use Rattle.h5_edit.specs.Opened.Kept.{IsOpened};
+    ghost use Rattle.h5_edit.specs.Opened.State.{FileState, coded_state, opened_state};
 
     ghost Value = { FileState };
 

@@ -15,6 +15,5 @@ mod file;
 mod superblock;
 
 pub use file::File;
-pub use h5_attr::AttrRef;
-pub use h5_query::{ArrayCells, Kind, Link, LinkTo, StoreKind};
+pub use h5_edit::{ArrayCells, AttrRef, Kind, Link, LinkTo, MAX_DEPTH, StoreKind};
 pub use h5_model::{Cause, OpenFault};

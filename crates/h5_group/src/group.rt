@@ -8,12 +8,12 @@ ghost use Rattle.h5_group.specs.Nodes.Walk.{IsFault};
 ghost use Rattle.h5_group.specs.Links.{IsGroupRead, blocks_of};
 ghost use Rattle.h5_group.specs.Walk.{IsGroupMet, IsGroupFollowed};
 
-use h5_heap::{read_heap, segment_at};
+use crate::nodes::{GroupTree, read_tree};
 use crate::order::check_order;
+use crate::texts::check_texts;
+use h5_heap::{read_heap, segment_at};
 use h5_model::OpenFault;
 use h5_msg::SymbolTable;
-use crate::texts::check_texts;
-use crate::nodes::{GroupTree, read_tree};
 use h5_space::{Claims, Image};
 use std::alloc::Global;
 

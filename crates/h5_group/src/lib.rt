@@ -18,7 +18,4 @@ pub use group::{Group, read_group};
 pub use link::{LinkRef, LinkTarget};
 pub use list::{entries, link_at, links_at};
 pub use search::lookup;
-pub use nodes::{GroupTree, internal_k, read_tree, symbol_node, tree_node};
-pub use texts::check_texts;
-pub use order::check_order;
 pub use write::{GroupFault, GroupPlaces, Leads, NewLink, group_places, push_links};

@@ -19,3 +19,5 @@ pub mod OpenedLaws
 pub mod PlacedLaws
 pub mod CountedLaws
 pub mod RenumberedLaws
+pub use Rattle.h5_layout.proofs.RoomLaws
+pub use Rattle.h5_layout.proofs.FillLaws

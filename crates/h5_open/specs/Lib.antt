@@ -4,3 +4,10 @@ pub mod Opened
 pub mod Placed
 pub mod Counted
 pub mod Renumbered
+pub use Rattle.h5_layout.specs.Stored
+pub use Rattle.h5_layout.specs.Described
+pub use Rattle.h5_attr.specs.Attributes
+pub use Rattle.h5_group.specs.Links
+pub use Rattle.h5_group.specs.declared.group.Group as GroupType
+pub use Rattle.h5_group.specs.declared.link.LinkRef as LinkRefType
+pub use Rattle.h5_group.specs.declared.link.LinkTarget as LinkTargetType

@@ -7,8 +7,8 @@ ghost use Rattle.h5_open.specs.Opened.Objects.{headers};
 ghost use Rattle.h5_open.specs.Walk.{IsNumbered};
 
 use crate::judge::fault;
-use h5_model::{Cause, OpenFault};
 use crate::opened::{Opened, OpenedObject};
+use h5_model::{Cause, OpenFault};
 
 /// The object whose header is at this address, where it was read.
 pub(crate) fn object_at(opened: &Opened, header: u64) -> Option<&OpenedObject>

@@ -7,13 +7,13 @@ ghost use Rattle.h5_header.specs.Listed.{messages_in, IsWithin};
 ghost use Rattle.h5_open.specs.Opened.Array.{described};
 ghost use Rattle.h5_open.specs.Opened.Judged.{IsGroupList, IsLineList, IsRootBreach, IsLineBreach, IsNoLineOf};
 
+use crate::opened::Line;
 use h5_attr::{check_bodies, check_names};
 use h5_header::{Messages, find_body};
 use h5_layout::{ArrayRef, read_array};
 use h5_model::{Cause, OpenFault};
 use h5_msg::{Layout, SymbolTable, read_symbol_table};
 use h5_space::Image;
-use crate::opened::Line;
 use std::alloc::Global;
 
 /// The type of a Symbol Table message.

@@ -12,7 +12,8 @@ mod object;
 mod opened;
 mod steps;
 
-pub use steps::walk;
-pub use opened::{Line, Opened, OpenedContent, OpenedObject};
-pub use counts::check_counts;
+pub use h5_attr::{AttrRef, get, list, sorted};
+pub use h5_group::{Group, LinkRef, LinkTarget, entries, lookup};
 pub use numbers::renumber;
+pub use opened::{Line, Opened, OpenedContent, OpenedObject};
+pub use steps::walk;

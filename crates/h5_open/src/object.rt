@@ -18,12 +18,12 @@ ghost use Rattle.h5_open.specs.Opened.Objects.{links_of as object_links};
 ghost use Rattle.h5_open.specs.Read.{IsHeaderRead, IsHeaderDone, IsObjectRead, IsObjectFollowed, IsDeepAt};
 
 use crate::judge::{fault, judge_line, judge_root};
+use crate::opened::{OpenedContent, OpenedObject};
 use h5_bytes::Block;
 use h5_group::{Group, LinkRef, entries, links_at, read_group};
 use h5_header::{Messages, ObjectKind, claim};
 use h5_model::{Cause, OpenFault};
 use h5_space::{Claims, Image};
-use crate::opened::{OpenedContent, OpenedObject};
 use std::alloc::Global;
 
 /// How many links below the root the last objects may stand.

@@ -12,16 +12,16 @@ ghost use Rattle.h5_open.specs.Opened.Objects.{headers};
 ghost use Rattle.h5_bytes.specs.Blocks.{Separate};
 ghost use Rattle.h5_open.specs.Walk.{IsNumbered, IsReady, IsTreeRead, IsLinkReady, IsLinkRead};
 
+use crate::counts::check_counts;
 use crate::index::{object_at, push_object};
 use crate::judge::fault;
 use crate::object::{links_in, read_object};
+use crate::opened::{Opened, OpenedContent};
 use h5_bytes::{Block, get_u64};
-use crate::counts::check_counts;
 use h5_group::{LinkRef, LinkTarget};
 use h5_header::claim;
 use h5_model::{Cause, OpenFault};
 use h5_space::{Claims, Image};
-use crate::opened::{Opened, OpenedContent};
 use std::alloc::Global;
 use std::collections::BTreeMap;
 

@@ -15,8 +15,8 @@ use Rattle.h5_model.specs.Scripts.Reading.{path_rules, list_rules, object_rules,
 use Rattle.h5_model.specs.declared.edit_fault.EditFault.{EditFault}
 use Rattle.h5_model.specs.declared.edit_fault.EditFault.TheVariants.{NotAGroup, NotADataset, NotFound, NoSuchAttribute}
 use Rattle.h5_header.specs.Listed.{Listed, messages_in}
-use Rattle.h5_attr.specs.Attributes.{attributes_of}
-use Rattle.h5_group.specs.declared.group.Group.{Group}
+use Rattle.h5_open.specs.Attributes.{attributes_of}
+use Rattle.h5_open.specs.GroupType.{Group}
 use Rattle.h5_open.specs.declared.opened.line.Line.{Line}
 use Rattle.h5_open.specs.declared.opened.object.OpenedObject.{OpenedObject}
 use Rattle.h5_open.specs.declared.opened.object.OpenedContent.TheVariants as content

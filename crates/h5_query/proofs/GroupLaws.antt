@@ -6,10 +6,10 @@ use Rattle.std.specs.FinMap.{get, keys, find, get-from_entries}
 use Rattle.h5_model.specs.Format.Symbols.{Target}
 use Rattle.h5_model.specs.Tree.Objects.{Link}
 use Rattle.h5_laws.proofs.Lists.{In, in_contains, contains_in}
-use Rattle.h5_group.specs.Links as group
-use Rattle.h5_group.specs.Links.{IsGroupRead, IsLinkNamed, HasNone, target_of, link_from}
-use Rattle.h5_group.specs.declared.group.Group.{Group}
-use Rattle.h5_group.specs.declared.link.LinkRef.{LinkRef}
+use Rattle.h5_open.specs.Links as group
+use Rattle.h5_open.specs.Links.{IsGroupRead, IsLinkNamed, HasNone, target_of, link_from}
+use Rattle.h5_open.specs.GroupType.{Group}
+use Rattle.h5_open.specs.LinkRefType.{LinkRef}
 use Rattle.h5_open.specs.Opened.Objects.{link_to, links_by}
 use Rattle.h5_open.proofs.OpenedLaws.Entries.{get_link, names_ascend, group_entries}
 

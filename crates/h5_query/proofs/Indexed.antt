@@ -8,8 +8,8 @@ use Rattle.std.proofs.lemmas.Option.{same_Some, slice_get_within, slice_get-map,
 use Rattle.std.specs.Slice.{IsItemAt}
 use Rattle.std.specs.BTreeMap.{BTreeMap}
 use Rattle.h5_model.specs.Tree.Objects.{Object, links_of, dataset_of, links_in, dataset_in as dataset_by}
-use Rattle.h5_group.specs.Links as group
-use Rattle.h5_group.specs.declared.group.Group.{Group as GroupRead}
+use Rattle.h5_open.specs.Links as group
+use Rattle.h5_open.specs.GroupType.{Group as GroupRead}
 use Rattle.h5_open.specs.declared.opened.line.Line.{Line}
 use Rattle.h5_open.specs.declared.opened.object.OpenedObject.{OpenedObject}
 use Rattle.h5_open.specs.declared.opened.object.OpenedContent.{OpenedContent}
@@ -19,8 +19,8 @@ use Rattle.h5_open.specs.Opened.Objects.{headers, number_of, links_by, content_i
 use Rattle.h5_open.proofs.OpenedLaws.Entries.{get_table, get_tree}
 pub use Rattle.h5_open.proofs.OpenedLaws.Indexed.{object_there, object_kept, number_at_header}
 use Rattle.h5_header.specs.Listed.{messages_in}
-use Rattle.h5_layout.proofs.RoomLaws.{is_array}
-use Rattle.h5_group.specs.Links.{IsGroupRead}
+use Rattle.h5_open.proofs.RoomLaws.{is_array}
+use Rattle.h5_open.specs.Links.{IsGroupRead}
 use Rattle.h5_open.specs.Opened.Array.{described}
 use Rattle.h5_query.specs.Kept.{line_dataset, IsLineKept}
 

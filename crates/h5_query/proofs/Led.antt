@@ -10,8 +10,8 @@ use Rattle.h5_model.specs.Format.Reads.{Placed, IsPlaced, IsSame}
 use Rattle.h5_laws.proofs.Lists.{In, in_all, in_map, from_map}
 use Rattle.h5_laws.proofs.Maps.{entry_of_get, tied_right}
 use Rattle.h5_laws.proofs.Objects.{content_cases}
-use Rattle.h5_group.specs.Links as group
-use Rattle.h5_group.specs.declared.group.Group.{Group as GroupRead}
+use Rattle.h5_open.specs.Links as group
+use Rattle.h5_open.specs.GroupType.{Group as GroupRead}
 use Rattle.h5_open.specs.declared.opened.object.OpenedObject.{OpenedObject}
 use Rattle.h5_open.specs.declared.opened.object.OpenedContent.TheVariants as content
 use Rattle.h5_open.specs.Opened.Kept.{IsOpened}

@@ -7,12 +7,12 @@ use Rattle.std.specs.BTreeMap.{BTreeMap}
 use Rattle.h5_model.specs.Format.Symbols.{Target}
 use Rattle.h5_model.specs.Tree.Objects as tree
 use Rattle.h5_laws.proofs.Lists.{In, contains_in}
-use Rattle.h5_group.specs.Links as group
-use Rattle.h5_group.specs.Links.{link_from}
-use Rattle.h5_group.specs.declared.group.Group.{Group}
-use Rattle.h5_group.specs.declared.link.LinkRef.{LinkRef}
-use Rattle.h5_group.specs.declared.link.LinkTarget.{LinkTarget}
-use Rattle.h5_group.specs.declared.link.LinkTarget.TheVariants as target
+use Rattle.h5_open.specs.Links as group
+use Rattle.h5_open.specs.Links.{link_from}
+use Rattle.h5_open.specs.GroupType.{Group}
+use Rattle.h5_open.specs.LinkRefType.{LinkRef}
+use Rattle.h5_open.specs.LinkTargetType.{LinkTarget}
+use Rattle.h5_open.specs.LinkTargetType.TheVariants as target
 use Rattle.h5_open.specs.declared.opened.object.OpenedObject.{OpenedObject}
 use Rattle.h5_open.specs.declared.opened.object.OpenedContent.TheVariants as content
 use Rattle.h5_open.specs.Opened.Kept.{IsOpened}

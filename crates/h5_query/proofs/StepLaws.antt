@@ -7,12 +7,12 @@ use Rattle.std.proofs.lemmas.Option.{slice_get_within, get_or_from_slice_get}
 use Rattle.h5_model.specs.Tree.Objects.{Tree, Link, Links, ToObject, Soft}
 use Rattle.h5_model.specs.Tree.Paths.{NoGroup, locate, missing_before}
 use Rattle.h5_laws.proofs.Lists.{In, in_contains}
-use Rattle.h5_group.specs.Links as group
-use Rattle.h5_group.specs.Links.{IsGroupRead, IsLinkNamed, HasNone, target_of, link_from}
-use Rattle.h5_group.specs.declared.group.Group.{Group}
-use Rattle.h5_group.specs.declared.link.LinkRef.{LinkRef}
-use Rattle.h5_group.specs.declared.link.LinkTarget.{LinkTarget}
-use Rattle.h5_group.specs.declared.link.LinkTarget.TheVariants as target
+use Rattle.h5_open.specs.Links as group
+use Rattle.h5_open.specs.Links.{IsGroupRead, IsLinkNamed, HasNone, target_of, link_from}
+use Rattle.h5_open.specs.GroupType.{Group}
+use Rattle.h5_open.specs.LinkRefType.{LinkRef}
+use Rattle.h5_open.specs.LinkTargetType.{LinkTarget}
+use Rattle.h5_open.specs.LinkTargetType.TheVariants as target
 use Rattle.h5_open.specs.declared.opened.line.Line.{Line}
 use Rattle.h5_open.specs.declared.opened.object.OpenedObject.{OpenedObject}
 use Rattle.h5_open.specs.declared.opened.object.OpenedContent.TheVariants as content

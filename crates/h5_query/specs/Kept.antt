@@ -11,14 +11,14 @@ use Rattle.h5_model.specs.Format.Symbols.{Target}
 use Rattle.h5_model.specs.Format.Layout.{InBlock}
 use Rattle.h5_model.specs.declared.edit_fault.EditFault.{EditFault}
 use Rattle.h5_bytes.specs.Blocks.{Inside}
-use Rattle.h5_layout.specs.Stored.{has_room}
-use Rattle.h5_group.specs.Links.{links_of}
-use Rattle.h5_group.specs.declared.group.Group.{Group}
-use Rattle.h5_group.specs.declared.link.LinkRef.{LinkRef}
+use Rattle.h5_open.specs.Stored.{has_room}
+use Rattle.h5_open.specs.Links.{links_of}
+use Rattle.h5_open.specs.GroupType.{Group}
+use Rattle.h5_open.specs.LinkRefType.{LinkRef}
 use Rattle.h5_open.specs.Opened.Array.{described, data_blocks}
 use Rattle.h5_header.specs.Listed.{Listed, messages_in}
-use Rattle.h5_attr.specs.Attributes.{attributes_of}
-use Rattle.h5_layout.specs.Described.{dataset_in}
+use Rattle.h5_open.specs.Attributes.{attributes_of}
+use Rattle.h5_open.specs.Described.{dataset_in}
 use Rattle.h5_open.specs.declared.opened.line.Line.{Line}
 use Rattle.h5_open.specs.Opened.Headers.{IsHeaderKept}
 

@@ -4,10 +4,10 @@ use Rattle.std.specs.List.{Contains}
 use Rattle.std.specs.FinMap.{entries}
 use Rattle.h5_model.specs.Tree.Objects.{Tree, Links, ToObject, Soft, links_of}
 use Rattle.h5_model.specs.Tree.Objects as tree
-use Rattle.h5_group.specs.Links.{target_of}
-use Rattle.h5_group.specs.declared.link.LinkRef.{LinkRef}
-use Rattle.h5_group.specs.declared.link.LinkTarget.{LinkTarget}
-use Rattle.h5_group.specs.declared.link.LinkTarget.TheVariants as target
+use Rattle.h5_open.specs.Links.{target_of}
+use Rattle.h5_open.specs.LinkRefType.{LinkRef}
+use Rattle.h5_open.specs.LinkTargetType.{LinkTarget}
+use Rattle.h5_open.specs.LinkTargetType.TheVariants as target
 use Rattle.h5_open.specs.Opened.Objects.{link_to}
 use Rattle.h5_query.specs.declared.group.Link.{Link}
 use Rattle.h5_query.specs.declared.group.LinkTo.{LinkTo}

@@ -7,8 +7,8 @@ ghost use Rattle.h5_query.specs.Look.{IsNoDataset, HasArray};
 
 use crate::cells::stored;
 use h5_model::{Fixed, ObjectNo};
-use h5_space::Image;
 use h5_open::{Opened, OpenedContent};
+use h5_space::Image;
 
 /// An array of one dimension, with its cells as they are stored.
 #[derive(Clone, Copy)]

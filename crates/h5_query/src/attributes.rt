@@ -10,11 +10,10 @@ ghost use Rattle.h5_query.specs.Look.{HasAttribute, HasAttributeNames, HasAttrib
 ghost use Rattle.h5_query.specs.Place.{IsNoObject};
 
 use crate::place::{Place, look};
-use h5_attr::{AttrRef, get, list, sorted};
 use h5_header::Messages;
 use h5_model::EditFault;
+use h5_open::{AttrRef, Opened, get, list, sorted};
 use h5_space::Image;
-use h5_open::Opened;
 use std::alloc::Global;
 
 /// The names of the attributes of the object at the path, ascending by their bytes.

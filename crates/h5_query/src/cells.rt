@@ -6,7 +6,7 @@ ghost use Rattle.h5_model.specs.Format.Fixed.{IsFixed};
 ghost use Rattle.h5_model.specs.Format.Layout.{InBlock};
 ghost use Rattle.h5_model.specs.Edits.Refusal.{first_holding};
 ghost use Rattle.h5_model.specs.Scripts.Reading.{cell_at, cell_rules};
-ghost use Rattle.h5_layout.specs.Stored.{has_room};
+ghost use Rattle.h5_open.specs.Stored.{has_room};
 ghost use Rattle.h5_open.specs.Opened.Array.{data_blocks};
 ghost use Rattle.h5_open.specs.Opened.Kept.{IsOpened};
 ghost use Rattle.h5_open.specs.Opened.Objects.{tree_of};
@@ -15,8 +15,8 @@ ghost use Rattle.h5_query.specs.Look.{HasCell};
 
 use crate::place::{Place, look};
 use h5_model::EditFault;
-use h5_space::Image;
 use h5_open::{Line, Opened, OpenedContent};
+use h5_space::Image;
 use h5_types::decode;
 
 /// The value of the cell at an index of the array at the path.

@@ -7,10 +7,9 @@ ghost use Rattle.h5_open.specs.Opened.Objects.{headers, tree_of};
 ghost use Rattle.h5_query.specs.Listed.{IsNoGroup, AreLinks, seen_target, seen_link, IsTargetLed, IsLed, target_in, in_tree};
 
 use crate::step::number_of;
-use h5_group::{LinkRef, LinkTarget, entries};
 use h5_model::ObjectNo;
+use h5_open::{LinkRef, LinkTarget, Opened, OpenedContent, entries};
 use h5_space::Image;
-use h5_open::{Opened, OpenedContent};
 use std::alloc::{AllocError, Global};
 
 /// Where a link leads.

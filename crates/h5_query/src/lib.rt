@@ -17,6 +17,7 @@ pub use array::{ArrayCells, array_of};
 pub use attributes::{attributes_at, names_of_attributes, one_attribute};
 pub use cells::one_cell;
 pub use group::{Link, LinkTo, links_of};
+pub use h5_open::{AttrRef, Group, Line, LinkRef, LinkTarget, Opened, OpenedContent, OpenedObject, entries, get, renumber, sorted, walk};
 pub use kind::{Kind, StoreKind};
 pub use links::{kind_at, names_at};
 pub use path::{MAX_DEPTH, Names, names_in};

@@ -5,17 +5,16 @@ ghost use Rattle.h5_model.specs.Edits.Refusal.{first_holding};
 ghost use Rattle.h5_model.specs.Scripts.Reading.{path_rules};
 ghost use Rattle.h5_open.specs.Opened.Kept.{IsOpened};
 ghost use Rattle.h5_open.specs.Opened.Objects.{tree_of};
-ghost use Rattle.h5_group.specs.Links.{IsGroupRead};
+ghost use Rattle.h5_open.specs.Links.{IsGroupRead};
 ghost use Rattle.h5_query.specs.Kept.{name_of, names_of};
 ghost use Rattle.h5_query.specs.Look.{HasKind, HasNames, IsListRefused};
 
 use crate::kind::{Kind, StoreKind};
 use crate::place::{Place, look};
-use h5_group::{Group, LinkRef, entries};
 use h5_model::EditFault;
+use h5_open::{Group, LinkRef, Opened, OpenedContent, entries};
 use h5_shape::Dims;
 use h5_space::Image;
-use h5_open::{Opened, OpenedContent};
 use std::alloc::{AllocError, Global};
 
 /// How a maximum that is unlimited is shown.

@@ -10,8 +10,8 @@ ghost use Rattle.h5_query.specs.Steps.{IsFound, IsLost};
 use crate::path::{MAX_DEPTH, Names, cut, names_in};
 use crate::step::{Step, follow_name, object_place};
 use h5_model::{EditFault, ObjectNo};
-use h5_space::Image;
 use h5_open::{Opened, OpenedObject};
+use h5_space::Image;
 
 /// What stands at a path of an opened image.
 #[derive(Clone, Copy)]

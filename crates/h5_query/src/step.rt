@@ -9,9 +9,8 @@ ghost use Rattle.h5_query.specs.Place.{IsOfNumber, link_at};
 ghost use Rattle.h5_query.specs.Steps.{IsStep};
 
 use crate::place::Place;
-use h5_group::{LinkTarget, lookup};
+use h5_open::{LinkTarget, Opened, OpenedContent, lookup};
 use h5_space::Image;
-use h5_open::{Opened, OpenedContent};
 
 /// Where a name leads from a place.
 #[derive(Clone, Copy)]

@@ -5,9 +5,9 @@ ghost use Rattle.h5_heap.specs.Writing.Links.{leads_of, link_of};
 ghost use Rattle.h5_repack.specs.Objects.Objects.{tree_link};
 ghost use Rattle.h5_repack.specs.Layout.{IsLowLayout, leads_by, written_at};
 
+use crate::objects::{TreeLink, TreeTarget};
 use crate::size::{Extent, Size};
 use h5_group::{Leads, NewLink};
-use crate::objects::{TreeLink, TreeTarget};
 use std::alloc::{AllocError, Global};
 
 /// Where objects stand: the addresses of their headers and their sizes, by their numbers; and the K values of the image.

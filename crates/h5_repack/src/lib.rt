@@ -12,6 +12,6 @@ mod place;
 mod size;
 mod write;
 
+pub use blocks::{Cells, Others};
+pub use objects::{NewArray, NewContent, NewObject, TreeLink, TreeTarget};
 pub use write::{WriteFault, Written, write_tree};
-pub use blocks::{Array, Cells, Others, Superblock, array_header_length, cells_address, data_length, group_header_length, push_array_header, push_data, push_group_header, push_superblock};
-pub use objects::{NewArray, NewContent, NewObject, TreeLink, TreeTarget, count_links, met_order};

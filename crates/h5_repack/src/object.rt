@@ -10,11 +10,11 @@ ghost use Rattle.h5_repack.specs.Objects.Objects.{tree_link};
 ghost use Rattle.h5_repack.specs.declared.size.Extent.TheVariants.{Links};
 ghost use Rattle.h5_repack.specs.Layout.{IsArrayObject, IsExtent, IsGroupObject, IsHeldObject, IsLowLayout, IsSize, array_at, numbered_at, object_at, written_at};
 
+use crate::blocks::{Others, cells_address, push_array_header, push_data, push_group_header};
 use crate::group::{Layout, new_links};
+use crate::objects::{NewArray, NewContent, NewObject, TreeLink};
 use crate::size::{Extent, Size, joined};
 use h5_group::{GroupPlaces, push_links};
-use crate::objects::{NewArray, NewContent, NewObject, TreeLink};
-use crate::blocks::{Others, cells_address, push_array_header, push_data, push_group_header};
 use std::alloc::{AllocError, Global};
 
 /// A group's header, and behind it, at the place `at`, its links.

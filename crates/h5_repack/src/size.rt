@@ -6,11 +6,11 @@ ghost use Rattle.h5_model.specs.Format.Superblock.{AreK};
 ghost use Rattle.h5_model.specs.Tree.Objects.{Object};
 ghost use Rattle.h5_repack.specs.Layout.{AreUnmeasured, IsArrayObject, IsGroupObject, IsHeldObject, IsLowSize, IsSize, IsUnmeasured, IsJoined, size_length};
 
+use crate::blocks::{Array, Others, array_header_length, data_length, group_header_length};
 use crate::group::{new_links, nowhere};
+use crate::objects::{NewArray, NewContent, NewObject, TreeLink};
 use crate::write::{MOST, WriteFault};
 use h5_group::{GroupFault, GroupPlaces, group_places};
-use crate::objects::{NewArray, NewContent, NewObject, TreeLink};
-use crate::blocks::{Array, Others, array_header_length, data_length, group_header_length};
 use std::alloc::Global;
 
 /// What belongs to an object besides its header.

@@ -7,12 +7,12 @@ ghost use Rattle.h5_model.specs.Format.Superblock.{AreK};
 ghost use Rattle.h5_repack.specs.Layout.{IsHeldObject, IsLowLayout, IsLowSize, IsSize, front_at, numbered_at};
 ghost use Rattle.h5_repack.specs.Written.{IsHeld, IsWritten, IsUnwritten};
 
+use crate::blocks::{Superblock, push_superblock};
 use crate::group::Layout;
 use crate::object::push_objects;
+use crate::objects::{NewObject, count_links, met_order};
 use crate::place::place_all;
 use crate::size::{Extent, Size, measure_all};
-use crate::objects::{NewObject, count_links, met_order};
-use crate::blocks::{Superblock, push_superblock};
 use std::alloc::{AllocError, Global};
 
 /// Where the first object begins, behind the superblock.

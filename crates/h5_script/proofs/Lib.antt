@@ -4,6 +4,4 @@ pub mod RunLaws
 pub mod LineRuns
 pub mod PieceLaws
 pub mod ScriptRuns
-pub mod Listings
-pub mod Dumps
 pub mod LineAnswers

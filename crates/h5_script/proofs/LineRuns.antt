@@ -1,7 +1,7 @@
 -- The run of one line.
 use Rattle.std.proofs.Common.{◌≡◌, ℕ, ◌+◌, Option, Some, None, List, [], ◌∷◌, cond, refl, sym, ap, ◌∙◌, subst, append-nil, arith}
 use Rattle.std.specs.Io.KnownBytes.{Appends}
-use Rattle.h5_open.specs.Opened.State.{FileState}
+use Rattle.h5_file.specs.Opened.State.{FileState}
 use Rattle.std.specs.Option.{option_map_or}
 use Rattle.h5_model.specs.Scripts.Lines.{Command, line_asks}
 use Rattle.h5_script.specs.Pieces.{commands_of_line}

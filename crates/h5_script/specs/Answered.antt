@@ -4,7 +4,7 @@ use Rattle.h5_model.specs.Scripts.Lines.{Command, Change}
 use Rattle.h5_model.specs.Scripts.Answers.{Given, Answer}
 use Rattle.h5_model.specs.Scripts.Answers as script
 use Rattle.h5_model.specs.declared.edits.Edited.{Edited}
-use Rattle.h5_open.specs.Opened.State.{FileState, state_of}
+use Rattle.h5_file.specs.Opened.State.{FileState, state_of}
 use Rattle.h5_file.specs.Edited.{IsEdited}
 use Rattle.h5_script.specs.Taken.{line_answer, IsGivenAt}
 use Rattle.h5_script.specs.declared.ran.Outcome.{Outcome}

@@ -1,7 +1,8 @@
-pub mod Listing
 pub mod Taken
 pub mod Answered
 pub mod Runs
 pub mod Pieces
 pub mod Script
 pub mod Streams
+pub use Rattle.h5_file.specs.State
+pub use Rattle.h5_file.specs.Opened

@@ -4,7 +4,7 @@ use Rattle.std.specs.List.{count_by}
 use Rattle.std.specs.Io.KnownBytes.{Appends}
 use Rattle.h5_model.specs.Scripts.Lines.{Command}
 use Rattle.h5_model.specs.Scripts.Answers.{Outcome, is_refused, is_accepted}
-use Rattle.h5_open.specs.Opened.State.{FileState}
+use Rattle.h5_file.specs.Opened.State.{FileState}
 use Rattle.h5_script.specs.Answered.{Line, answer_at, IsRunIn}
 use Rattle.h5_script.specs.declared.ran.Ran.{Ran}
 use Rattle.h5_script.specs.declared.fault.RunFault.{RunFault}

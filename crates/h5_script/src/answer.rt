@@ -10,9 +10,9 @@ ghost use Rattle.h5_script.specs.Answered.{IsAnswered, IsUntold};
 ghost use Rattle.h5_script.specs.Taken.{taken};
 
 use crate::ran::Outcome;
-use crate::texts::{push_dump, push_list};
-use h5_file::File;
 use h5_command::Command;
+use h5_dump::{push_dump, push_list};
+use h5_file::File;
 use h5_model::{Edit, EditFault};
 use h5_text::{push_accepted, push_refused, push_text};
 use std::alloc::{AllocError, Global};

@@ -12,9 +12,9 @@ mod lines;
 mod ran;
 mod run;
 mod streams;
-mod texts;
 
 pub use fault::RunFault;
+pub use h5_dump::{push_dump, push_list};
+pub use h5_file::{Cause, File, OpenFault};
 pub use ran::Ran;
 pub use run::run_script;
-pub use texts::{push_dump, push_list};

@@ -10,8 +10,8 @@ use crate::answer::answer;
 use crate::fault::RunFault;
 use crate::ran::Ran;
 use crate::streams::write_text;
-use h5_file::File;
 use h5_command::{Command, read_line};
+use h5_file::File;
 use std::alloc::{AllocError, Global};
 use std::io::Write;
 

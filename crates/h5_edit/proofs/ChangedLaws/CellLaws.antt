@@ -2,7 +2,7 @@
 use Rattle.std.proofs.Common.{◌≡◌, ℕ, suc, ◌+◌, ◌*◌, ◌<◌, ◌≤◌, List, [], ◌∷◌, length, drop, slice_index, ◌≢◌, ◌&&◌, ℤ, Some, true, sym, ap, ◌∙◌, subst, arith}
 use Rattle.std.specs.Prelude.{nat_le, nat_lt, is_some}
 use Rattle.std.specs.FinMap.{empty}
-use Rattle.h5_layout.specs.Stored.{has_room}
+use Rattle.h5_query.specs.Stored.{has_room}
 use Rattle.std.proofs.lemmas.Bool.Decides.{nat_tests}
 use Rattle.std.proofs.lemmas.List.{get_or-take}
 use Rattle.std.proofs.lemmas.List.FromFn.{fill_by_all}
@@ -22,10 +22,10 @@ use Rattle.h5_model.specs.Format.Messages.{Message}
 use Rattle.h5_model.proofs.PlaceLaws.{place-index}
 use Rattle.h5_model.proofs.PlainValues.{size-low, value_at-cells_bytes}
 use Rattle.h5_model.proofs.ValueLaws.{value_at-same}
-use Rattle.h5_layout.specs.Described.{HasArray}
-use Rattle.h5_layout.proofs.RoomLaws.{is_array}
-use Rattle.h5_open.specs.Opened.Array.{described, data_blocks}
-use Rattle.h5_open.specs.declared.opened.line.Line.{Line}
+use Rattle.h5_query.specs.Described.{HasArray}
+use Rattle.h5_query.proofs.RoomLaws.{is_array}
+use Rattle.h5_query.specs.Opened.Array.{described, data_blocks}
+use Rattle.h5_query.specs.LineType.{Line}
 use Rattle.h5_repack.proofs.BlockLaws.ValueBytes.{HasBytes, values_there}
 use Rattle.h5_edit.specs.Changed.Edited.{line_of}
 

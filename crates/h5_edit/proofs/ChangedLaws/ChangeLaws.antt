@@ -21,9 +21,9 @@ use Rattle.h5_model.specs.declared.attribute.AttrSpec.{AttrSpec}
 use Rattle.h5_repack.specs.Bodies.Sound.{IsPlainAttribute}
 use Rattle.h5_repack.specs.Objects.Objects.{AreObjects, IsNewObject, link_of}
 use Rattle.h5_repack.specs.declared.objects.object.NewObject.{NewObject}
-use Rattle.h5_open.specs.Opened.Objects.{headers, object_in, tree_of}
-use Rattle.h5_open.specs.declared.opened.object.OpenedObject.{OpenedObject}
-use Rattle.h5_open.proofs.OpenedLaws.Entries.{get_tree}
+use Rattle.h5_query.specs.Opened.Objects.{headers, object_in, tree_of}
+use Rattle.h5_query.specs.OpenedObjectType.{OpenedObject}
+use Rattle.h5_query.proofs.OpenedLaws.Entries.{get_tree}
 use Rattle.h5_edit.specs.Changed.Change.{IsPlainChange, changed, with_link, with_target}
 use Rattle.h5_edit.specs.Changed.Edited.{IsEditOf, IsEditable, IsFresh, edit_at, edited, edited_by, new_link, new_objects, new_target}
 use Rattle.h5_edit.specs.declared.change.change.Change.{Change}

@@ -10,12 +10,12 @@ use Rattle.std.specs.FinMap.{get, entries, insert, find, put, get-entries, entri
 use Rattle.std.specs.FinMap.Entries.{by_order}
 use Rattle.h5_model.specs.Format.Symbols.{Target}
 use Rattle.h5_model.specs.Tree.Objects.{Link, Links}
-use Rattle.h5_group.specs.Links as group
-use Rattle.h5_group.specs.Links.{IsGroupRead, link_from}
-use Rattle.h5_group.specs.declared.group.Group.{Group}
-use Rattle.h5_group.specs.declared.link.LinkRef.{LinkRef}
-use Rattle.h5_open.specs.Opened.Objects.{link_to, links_by}
-use Rattle.h5_open.proofs.OpenedLaws.Entries.{group_entries}
+use Rattle.h5_query.specs.Links as group
+use Rattle.h5_query.specs.Links.{IsGroupRead, link_from}
+use Rattle.h5_query.specs.GroupType.{Group}
+use Rattle.h5_query.specs.LinkRefType.{LinkRef}
+use Rattle.h5_query.specs.Opened.Objects.{link_to, links_by}
+use Rattle.h5_query.proofs.OpenedLaws.Entries.{group_entries}
 use Rattle.h5_query.specs.Listed.{in_tree}
 use Rattle.h5_query.proofs.ListedLaws.{tree_from}
 use Rattle.h5_repack.specs.Objects.Objects.{link_of, tree_link}

@@ -10,11 +10,11 @@ use Rattle.std.specs.FinMap.{empty}
 use Rattle.std.specs.BTreeMap.{BTreeMap}
 use Rattle.h5_bytes.specs.Blocks.{Inside}
 use Rattle.h5_header.specs.Listed.{messages_in}
-use Rattle.h5_layout.specs.Described.{HasArray}
-use Rattle.h5_group.specs.Links as group
-use Rattle.h5_group.specs.Links.{IsGroupRead, link_from}
-use Rattle.h5_group.specs.declared.group.Group.{Group}
-use Rattle.h5_group.specs.declared.link.LinkRef.{LinkRef}
+use Rattle.h5_query.specs.Described.{HasArray}
+use Rattle.h5_query.specs.Links as group
+use Rattle.h5_query.specs.Links.{IsGroupRead, link_from}
+use Rattle.h5_query.specs.GroupType.{Group}
+use Rattle.h5_query.specs.LinkRefType.{LinkRef}
 use Rattle.h5_query.specs.Listed.{IsLed}
 use Rattle.h5_query.proofs.ListedLaws.{found_led}
 use Rattle.h5_model.specs.Edits.Applied.{new_object, new_dataset}
@@ -30,14 +30,14 @@ use Rattle.h5_repack.specs.declared.objects.object.TreeLink.{TreeLink}
 use Rattle.h5_repack.specs.Blocks.Others.{OthersBytes}
 use Rattle.h5_repack.specs.Blocks.Written.{AreOthers}
 use Rattle.h5_repack.specs.Bodies.Bodies.{attribute_message, others_of}
-use Rattle.h5_open.specs.Opened.Array.{data_blocks, described}
-use Rattle.h5_open.specs.Opened.Headers.{IsHeaderKept}
-use Rattle.h5_open.specs.Opened.Kept.{IsOpened, IsContentKept, IsObjectKept}
-use Rattle.h5_open.specs.Opened.Objects.{headers}
-use Rattle.h5_open.specs.declared.opened.line.Line.{Line}
-use Rattle.h5_open.specs.declared.opened.object.OpenedObject.{OpenedObject}
-use Rattle.h5_open.specs.declared.opened.object.OpenedContent.TheVariants as content
-use Rattle.h5_open.proofs.OpenedLaws.Indexed.{object_kept}
+use Rattle.h5_query.specs.Opened.Array.{data_blocks, described}
+use Rattle.h5_query.specs.Opened.Headers.{IsHeaderKept}
+use Rattle.h5_query.specs.Opened.Kept.{IsOpened, IsContentKept, IsObjectKept}
+use Rattle.h5_query.specs.Opened.Objects.{headers}
+use Rattle.h5_query.specs.LineType.{Line}
+use Rattle.h5_query.specs.OpenedObjectType.{OpenedObject}
+use Rattle.h5_query.specs.OpenedContentType.TheVariants as content
+use Rattle.h5_query.proofs.OpenedLaws.Indexed.{object_kept}
 use Rattle.h5_edit.specs.Changed.Edited.{new_objects, new_target}
 use Rattle.h5_edit.specs.declared.change.change.Change.{Change}
 use Rattle.h5_edit.specs.declared.change.change.Change.TheVariants.{Link as Linked}

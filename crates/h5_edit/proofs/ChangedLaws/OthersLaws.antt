@@ -7,8 +7,8 @@ use Rattle.std.specs.FinMap.{empty, entries, insert, remove, put}
 use Rattle.h5_model.specs.Format.Messages.{Message}
 use Rattle.h5_model.specs.Edits.Applied.{attribute_from}
 use Rattle.h5_model.specs.Tree.Objects.{Attribute, Content, Group}
-use Rattle.h5_attr.specs.Attributes.{attributes_of}
-use Rattle.h5_open.specs.Opened.Headers.{object_with}
+use Rattle.h5_query.specs.Attributes.{attributes_of}
+use Rattle.h5_query.specs.Opened.Headers.{object_with}
 use Rattle.h5_repack.specs.Bodies.Bodies.{attribute_message, others_of}
 use Rattle.h5_repack.specs.Blocks.Others.{OthersBytes}
 use Rattle.h5_repack.specs.Blocks.Written.{AreOthers}

@@ -16,11 +16,11 @@ use Rattle.h5_header.specs.Listed.{messages_in}
 use Rattle.h5_repack.specs.Image.Plain.{IsPlain, IsPlainContent, ArePlain}
 use Rattle.h5_repack.specs.Bodies.Bodies.{others_of}
 use Rattle.h5_repack.specs.Bodies.Sound.{IsPlainArray, IsPlainAttribute}
-use Rattle.h5_open.specs.Opened.Kept.{IsOpened}
-use Rattle.h5_open.specs.Opened.Objects.{headers, object_in, table_of, tree_of}
-use Rattle.h5_open.specs.declared.opened.object.OpenedObject.{OpenedObject}
-use Rattle.h5_open.proofs.OpenedLaws.Entries.{get_table}
-use Rattle.h5_open.proofs.OpenedLaws.Indexed.{header_at, object_kept}
+use Rattle.h5_query.specs.Opened.Kept.{IsOpened}
+use Rattle.h5_query.specs.Opened.Objects.{headers, object_in, table_of, tree_of}
+use Rattle.h5_query.specs.OpenedObjectType.{OpenedObject}
+use Rattle.h5_query.proofs.OpenedLaws.Entries.{get_table}
+use Rattle.h5_query.proofs.OpenedLaws.Indexed.{header_at, object_kept}
 use Rattle.h5_edit.specs.Fits.Laws.{AreBytes, EditedPlain, is_full}
 use Rattle.h5_edit.proofs.FitLaws.ChangedAttributes.{with_set, plain_set, few_set, with_removed, plain_removed, few_removed_others, accepted_attribute}
 use Rattle.h5_edit.proofs.FitLaws.ChangedTrees.{plain_put, plain_at, plain_linked, plain_linked_to}

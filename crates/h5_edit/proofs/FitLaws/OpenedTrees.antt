@@ -7,14 +7,14 @@ use Rattle.h5_model.specs.Tree.Objects.{Object}
 use Rattle.h5_header.specs.Listed.{Listed, messages_in}
 use Rattle.h5_repack.specs.Image.Plain.{IsPlain, IsPlainContent}
 use Rattle.h5_repack.specs.Bodies.Bodies.{others_of}
-use Rattle.h5_open.specs.Opened.Headers.{IsHeaderKept, object_with}
-use Rattle.h5_open.specs.Opened.Kept.{IsObjectKept, IsContentKept}
-use Rattle.h5_open.specs.Opened.Objects.{headers, content_in, object_in, tree_of}
-use Rattle.h5_open.specs.declared.opened.object.OpenedContent.{OpenedContent}
-use Rattle.h5_open.specs.declared.opened.object.OpenedContent.TheVariants as content
-use Rattle.h5_open.specs.declared.opened.object.OpenedObject.{OpenedObject}
-use Rattle.h5_open.proofs.OpenedLaws.Entries.{get_tree}
-use Rattle.h5_open.proofs.OpenedLaws.Indexed.{object_kept}
+use Rattle.h5_query.specs.Opened.Headers.{IsHeaderKept, object_with}
+use Rattle.h5_query.specs.Opened.Kept.{IsObjectKept, IsContentKept}
+use Rattle.h5_query.specs.Opened.Objects.{headers, content_in, object_in, tree_of}
+use Rattle.h5_query.specs.OpenedContentType.{OpenedContent}
+use Rattle.h5_query.specs.OpenedContentType.TheVariants as content
+use Rattle.h5_query.specs.OpenedObjectType.{OpenedObject}
+use Rattle.h5_query.proofs.OpenedLaws.Entries.{get_tree}
+use Rattle.h5_query.proofs.OpenedLaws.Indexed.{object_kept}
 use Rattle.h5_edit.specs.Fits.Laws.{AreBytes, OpenedPlain}
 use Rattle.h5_edit.proofs.FitLaws.PlainArrays.{plain_line}
 use Rattle.h5_edit.proofs.FitLaws.PlainObjects.{plain_object, others_few, total_few}

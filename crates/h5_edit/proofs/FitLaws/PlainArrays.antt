@@ -30,12 +30,12 @@ use Rattle.h5_msg.proofs.ExtentLaws.{length-sizes, size_at, maximum_at}
 use Rattle.h5_header.specs.Listed.{Listed, messages_in}
 use Rattle.h5_header.specs.declared.message.Message.{Message as Placed}
 use Rattle.h5_header.proofs.FoundLaws.{first_body-in}
-use Rattle.h5_layout.specs.Described.{HasFill, HasArray, dataset_in}
-use Rattle.h5_layout.proofs.FillLaws.{type_sound, fill_fits, old_fill_fits}
-use Rattle.h5_open.specs.declared.opened.line.Line.{Line}
-use Rattle.h5_open.specs.Opened.Headers.{IsHeaderKept, object_with}
-use Rattle.h5_open.specs.Opened.Judged.{IsLineList}
-use Rattle.h5_open.specs.Opened.Array.{described}
+use Rattle.h5_query.specs.Described.{HasFill, HasArray, dataset_in}
+use Rattle.h5_query.proofs.FillLaws.{type_sound, fill_fits, old_fill_fits}
+use Rattle.h5_query.specs.LineType.{Line}
+use Rattle.h5_query.specs.Opened.Headers.{IsHeaderKept, object_with}
+use Rattle.h5_query.specs.Opened.Judged.{IsLineList}
+use Rattle.h5_query.specs.Opened.Array.{described}
 use Rattle.h5_repack.specs.Bodies.Bodies.{others_of}
 use Rattle.h5_repack.specs.Bodies.Sound.{IsPlainArray}
 use Rattle.h5_edit.specs.Fits.Laws.{AreBytes}

@@ -25,7 +25,7 @@ use Rattle.h5_model.specs.Tree.Sound.{AreOf}
 use Rattle.h5_model.specs.Tree.Objects.{Attribute}
 use Rattle.h5_model.specs.Format.AttributeBody.{attribute_of, attribute_with, is_attribute, name_in, name_size, datatype_size, dataspace_size, datatype_place, dataspace_place, data_place, values_at}
 use Rattle.h5_model.proofs.StoredValues.{fits_value_at}
-use Rattle.h5_layout.proofs.FillLaws.{type_sound}
+use Rattle.h5_query.proofs.FillLaws.{type_sound}
 use Rattle.h5_repack.specs.Bodies.Sound.{IsPlainAttribute}
 use Rattle.h5_edit.specs.Fits.Laws.{AreBytes}
 

@@ -15,7 +15,7 @@ use Rattle.h5_model.specs.Format.Reads.{is_kept, kept_of, is_attribute_message}
 use Rattle.h5_model.specs.Edits.Applied.{new_object}
 use Rattle.h5_model.proofs.EmptyReads.{entries-empty}
 use Rattle.h5_header.specs.Listed.{Listed, messages_in}
-use Rattle.h5_open.specs.Opened.Headers.{IsHeaderKept, object_with}
+use Rattle.h5_query.specs.Opened.Headers.{IsHeaderKept, object_with}
 use Rattle.h5_repack.specs.Bodies.Bodies.{others_of, kept_message, attribute_message}
 use Rattle.h5_repack.specs.Bodies.Sound.{IsPlainKept, IsPlainAttribute, IsPlainObject}
 use Rattle.h5_edit.specs.Fits.Laws.{AreBytes}

@@ -8,10 +8,10 @@ use Rattle.h5_model.specs.Tree.Objects.{Tree, Attribute, Attributes, ToObject}
 use Rattle.h5_model.specs.declared.edits.Edit.TheVariants.{RemoveAttr}
 use Rattle.h5_model.specs.declared.edit_fault.EditFault.TheVariants as fault
 use Rattle.h5_header.specs.Listed.{messages_in}
-use Rattle.h5_attr.specs.Attributes.{attributes_of}
-use Rattle.h5_open.specs.declared.opened.object.OpenedObject.{OpenedObject}
-use Rattle.h5_open.specs.Opened.Kept.{IsOpened}
-use Rattle.h5_open.specs.Opened.Objects.{headers, object_in, tree_of}
+use Rattle.h5_query.specs.Attributes.{attributes_of}
+use Rattle.h5_query.specs.OpenedObjectType.{OpenedObject}
+use Rattle.h5_query.specs.Opened.Kept.{IsOpened}
+use Rattle.h5_query.specs.Opened.Objects.{headers, object_in, tree_of}
 use Rattle.h5_query.specs.Place.{LeadsTo}
 use Rattle.h5_query.proofs.Indexed.{object_there, object_kept}
 use Rattle.h5_edit.specs.Refusals.Allowed.{IsAt, IsRuledOut}

@@ -14,13 +14,13 @@ use Rattle.h5_laws.proofs.Lists.{In, in_all, from_map}
 use Rattle.h5_laws.proofs.Maps.{entry_of_get}
 use Rattle.h5_header.specs.Listed.{messages_in}
 use Rattle.h5_header.proofs.WalkLaws.ListLaws.{prefix_there}
-use Rattle.h5_group.specs.declared.group.Group.{Group}
-use Rattle.h5_open.specs.declared.opened.line.Line.{Line}
-use Rattle.h5_open.specs.declared.opened.object.OpenedObject.{OpenedObject}
-use Rattle.h5_open.specs.declared.opened.object.OpenedContent.TheVariants as content
-use Rattle.h5_open.specs.Opened.Kept.{IsOpened}
-use Rattle.h5_open.specs.Opened.Objects.{table_of, tree_of}
-use Rattle.h5_open.proofs.OpenedLaws.Entries.{get_table}
+use Rattle.h5_query.specs.GroupType.{Group}
+use Rattle.h5_query.specs.LineType.{Line}
+use Rattle.h5_query.specs.OpenedObjectType.{OpenedObject}
+use Rattle.h5_query.specs.OpenedContentType.TheVariants as content
+use Rattle.h5_query.specs.Opened.Kept.{IsOpened}
+use Rattle.h5_query.specs.Opened.Objects.{table_of, tree_of}
+use Rattle.h5_query.proofs.OpenedLaws.Entries.{get_table}
 use Rattle.h5_query.proofs.Indexed.{object_kept, array_no_group, group_links}
 use Rattle.h5_edit.specs.Refusals.Rules.{target_rules}
 

@@ -10,9 +10,9 @@ use Rattle.h5_model.specs.Tree.Paths.{object_at}
 use Rattle.h5_model.specs.Edits.Refusal.{refusal_of}
 use Rattle.h5_model.specs.declared.edits.Edit.{Edit}
 use Rattle.h5_model.specs.declared.edits.Edit.TheVariants.{CreateGroup, CreateDataset, HardLink, SoftLink, SetAttr, RemoveAttr}
-use Rattle.h5_open.specs.Opened.Kept.{IsOpened}
-use Rattle.h5_open.specs.Opened.Objects.{table_of, tree_of}
-use Rattle.h5_open.specs.declared.opened.object.OpenedObject.{OpenedObject}
+use Rattle.h5_query.specs.Opened.Kept.{IsOpened}
+use Rattle.h5_query.specs.Opened.Objects.{table_of, tree_of}
+use Rattle.h5_query.specs.OpenedObjectType.{OpenedObject}
 use Rattle.h5_edit.specs.Refusals.Allowed.{is_line}
 use Rattle.h5_repack.specs.Image.Plain.{ArePlain}
 

@@ -4,8 +4,8 @@ ghost use Rattle.std.specs.Prelude.{ℕ, List, length};
 ghost use Rattle.h5_bytes.specs.Blocks.{Inside};
 ghost use Rattle.h5_model.specs.Edits.Applied.{new_dataset};
 ghost use Rattle.h5_model.specs.Format.Messages.{Message};
-ghost use Rattle.h5_open.specs.Opened.Array.{data_blocks, described};
-ghost use Rattle.h5_layout.specs.Described.{HasArray};
+ghost use Rattle.h5_query.specs.Opened.Array.{data_blocks, described};
+ghost use Rattle.h5_query.specs.Described.{HasArray};
 ghost use Rattle.h5_repack.specs.Bodies.Sound.{IsPlainArray};
 ghost use Rattle.h5_repack.specs.Blocks.Written.{AreCells, HasRoom};
 ghost use Rattle.h5_repack.specs.Objects.Objects.{IsNewArray};
@@ -13,10 +13,9 @@ ghost use Rattle.h5_edit.specs.Changed.Edited.{line_of};
 
 use crate::change::parts::part_of;
 use h5_model::Spec;
-use h5_repack::NewArray;
-use h5_repack::Cells;
+use h5_query::Line;
+use h5_repack::{Cells, NewArray};
 use h5_space::Image;
-use h5_open::Line;
 
 /// An array of the image, with its cells as they are stored.
 pub(crate) fn kept_array<'a>(image: &'a Image, line: &Line) -> NewArray<'a>

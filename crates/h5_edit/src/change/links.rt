@@ -5,19 +5,18 @@ ghost use Rattle.std.specs.List.{AllByRecursion, Contains};
 ghost use Rattle.std.specs.FinMap.{entries as entries_of, find, put};
 ghost use Rattle.std.specs.Ordering.{nat_cmp};
 ghost use Rattle.std.specs.Cmp.Lexicographic.{slice_cmp};
-ghost use Rattle.h5_group.specs.Links.{IsGroupRead, link_from, links_of};
-ghost use Rattle.h5_group.specs.declared.link.LinkRef.{LinkRef};
-ghost use Rattle.h5_open.specs.Opened.Kept.{IsOpened, IsIndex};
-ghost use Rattle.h5_open.specs.Opened.Objects.{headers, links_by};
+ghost use Rattle.h5_query.specs.Links.{IsGroupRead, link_from, links_of};
+ghost use Rattle.h5_query.specs.LinkRefType.{LinkRef};
+ghost use Rattle.h5_query.specs.Opened.Kept.{IsOpened, IsIndex};
+ghost use Rattle.h5_query.specs.Opened.Objects.{headers, links_by};
 ghost use Rattle.h5_query.specs.Listed.{IsLed, IsTargetLed, in_tree, target_in};
 ghost use Rattle.h5_repack.specs.Objects.Objects.{link_of, tree_link};
 ghost use Rattle.h5_edit.specs.Changed.Appended.{IsPlaceOf};
 ghost use Rattle.h5_edit.specs.Changed.Edited.{IsFreshIn, links_with};
 
-use h5_group::{Group, LinkRef, LinkTarget, entries};
+use h5_query::{Group, LinkRef, LinkTarget, Opened, entries};
 use h5_repack::{TreeLink, TreeTarget};
 use h5_space::Image;
-use h5_open::Opened;
 use std::alloc::{AllocError, Global};
 use std::cmp::Ordering;
 

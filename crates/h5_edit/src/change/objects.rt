@@ -3,8 +3,8 @@
 ghost use Rattle.std.specs.Prelude.{◌≡◌, ℕ, Some, IfOk, IfSome, length, slice_get, option_to_list};
 ghost use Rattle.std.specs.List.{AllByRecursion, AllZip};
 ghost use Rattle.h5_repack.specs.Image.Plain.{IsPlain};
-ghost use Rattle.h5_open.specs.Opened.Kept.{IsOpened};
-ghost use Rattle.h5_open.specs.Opened.Objects.{headers, object_in, tree_of};
+ghost use Rattle.h5_query.specs.Opened.Kept.{IsOpened};
+ghost use Rattle.h5_query.specs.Opened.Objects.{headers, object_in, tree_of};
 ghost use Rattle.h5_repack.specs.Objects.Objects.{AreObjects, IsNewObject};
 ghost use Rattle.h5_edit.specs.Changed.Change.{IsPlainChange, changed};
 ghost use Rattle.h5_edit.specs.Changed.Edited.{IsEditable, edited_by, new_objects};
@@ -14,10 +14,9 @@ use crate::change::cells::{kept_array, new_array};
 use crate::change::change::{Change, Target};
 use crate::change::edit::{Edit, edit_at, edit_of, link_in};
 use crate::change::links::links_in;
-use h5_repack::{NewContent, NewObject};
-use h5_repack::Others;
+use h5_query::{Opened, OpenedContent, OpenedObject};
+use h5_repack::{NewContent, NewObject, Others};
 use h5_space::Image;
-use h5_open::{Opened, OpenedContent, OpenedObject};
 use std::alloc::{AllocError, Global};
 
 /// The objects of the tree that the change gives, by their numbers; a new one stands behind the others.

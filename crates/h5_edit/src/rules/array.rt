@@ -4,17 +4,17 @@ ghost use Rattle.std.specs.Prelude.{◌≡◌, ◌&&◌, Some, None, true, Match
 ghost use Rattle.h5_model.specs.declared.edits.Edit.TheVariants.{CreateDataset};
 ghost use Rattle.h5_model.specs.Tree.Objects.{are_sizes};
 ghost use Rattle.h5_model.specs.Edits.Refusal.{are_maxima, first_holding};
-ghost use Rattle.h5_open.specs.Opened.Kept.{IsOpened};
-ghost use Rattle.h5_open.specs.Opened.Objects.{tree_of};
+ghost use Rattle.h5_query.specs.Opened.Kept.{IsOpened};
+ghost use Rattle.h5_query.specs.Opened.Objects.{tree_of};
 ghost use Rattle.h5_edit.specs.Refusals.Allowed.{is_line, IsPlaced, IsRuledOut};
 ghost use Rattle.h5_edit.specs.Refusals.Rules.{line_rules};
 
 use crate::rules::place::{NewPlace, is_full, new_place};
 use h5_bytes::UNDEF;
 use h5_model::{EditFault, Spec, Store};
+use h5_query::Opened;
 use h5_shape::MAX_CELLS;
 use h5_space::Image;
-use h5_open::Opened;
 use h5_types::fits;
 
 /// Whether the array has one size, and its cells stand in one block.

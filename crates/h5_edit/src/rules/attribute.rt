@@ -7,19 +7,18 @@ ghost use Rattle.h5_model.specs.Format.Fixed.{fits as is_of_type};
 ghost use Rattle.h5_model.specs.Tree.Places.{cells};
 ghost use Rattle.h5_model.specs.Edits.Refusal.{first_holding};
 ghost use Rattle.h5_model.specs.Format.Sizes.{attribute_size};
-ghost use Rattle.h5_open.specs.Opened.Kept.{IsOpened};
-ghost use Rattle.h5_open.specs.Opened.Objects.{tree_of};
+ghost use Rattle.h5_query.specs.Opened.Kept.{IsOpened};
+ghost use Rattle.h5_query.specs.Opened.Objects.{tree_of};
 ghost use Rattle.h5_edit.specs.Refusals.Allowed.{IsAt, IsRuledOut};
 ghost use Rattle.h5_edit.specs.Refusals.Rules.{own_rules};
 
 use crate::rules::limits::{MAX_BODY, MAX_NAME};
 use crate::rules::place::object_at;
 use crate::rules::text::is_no_text;
-use h5_attr::get;
 use h5_model::{AttrSpec, EditFault, Fixed};
+use h5_query::{Opened, get};
 use h5_shape::Dims;
 use h5_space::Image;
-use h5_open::Opened;
 use h5_types::fits;
 use std::alloc::Global;
 

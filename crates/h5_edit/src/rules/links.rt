@@ -3,8 +3,8 @@
 ghost use Rattle.std.specs.Prelude.{◌≡◌, Some, None, MatchResult, length, slice_get};
 ghost use Rattle.h5_model.specs.declared.edits.Edit.TheVariants.{CreateGroup, HardLink, SoftLink};
 ghost use Rattle.h5_model.specs.Edits.Refusal.{first_holding};
-ghost use Rattle.h5_open.specs.Opened.Kept.{IsOpened};
-ghost use Rattle.h5_open.specs.Opened.Objects.{tree_of};
+ghost use Rattle.h5_query.specs.Opened.Kept.{IsOpened};
+ghost use Rattle.h5_query.specs.Opened.Objects.{tree_of};
 ghost use Rattle.h5_edit.specs.Refusals.Allowed.{IsPlaced, IsLinkPlaced, IsRuledOut};
 ghost use Rattle.h5_edit.specs.Refusals.Rules.{is_text_fault, path_fault, target_rules};
 
@@ -12,8 +12,8 @@ use crate::rules::limits::{MAX_LINKS, MAX_NAME};
 use crate::rules::place::{NewPlace, is_full, lower, new_place, object_at};
 use crate::rules::text::is_no_text;
 use h5_model::EditFault;
+use h5_query::{Opened, OpenedContent, OpenedObject};
 use h5_space::Image;
-use h5_open::{Opened, OpenedContent, OpenedObject};
 
 /// Where a new group at the path is to stand.
 ///

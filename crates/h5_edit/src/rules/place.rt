@@ -3,16 +3,15 @@
 ghost use Rattle.std.specs.Prelude.{◌≡◌, false, nat_le, MatchResult, length};
 ghost use Rattle.h5_model.specs.Tree.Paths.{Missing, located};
 ghost use Rattle.h5_model.specs.Edits.Refusal.{is_deep, is_root as is_path_of_root};
-ghost use Rattle.h5_open.specs.Opened.Kept.{IsOpened};
-ghost use Rattle.h5_open.specs.Opened.Objects.{tree_of};
+ghost use Rattle.h5_query.specs.Opened.Kept.{IsOpened};
+ghost use Rattle.h5_query.specs.Opened.Objects.{tree_of};
 ghost use Rattle.h5_query.specs.Place.{IsNoObject};
 ghost use Rattle.h5_edit.specs.Refusals.Rules.{IsCut, IsFree, IsNotFree, IsObject, lower_fault};
 
 use crate::rules::limits::{MAX_NAME, MAX_OBJECTS};
-use h5_query::{Names, Place, look, names_in};
 use h5_model::EditFault;
+use h5_query::{Names, Opened, OpenedObject, Place, look, names_in};
 use h5_space::Image;
-use h5_open::{Opened, OpenedObject};
 
 /// A place for a new link: the number of the group, and the name.
 #[derive(Clone, Copy)]

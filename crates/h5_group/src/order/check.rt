@@ -7,11 +7,11 @@ ghost use Rattle.h5_model.specs.Format.Heap.{segment_of};
 ghost use Rattle.h5_group.specs.Nodes.Trees.{IsTree, nodes_blocks};
 ghost use Rattle.h5_group.specs.Order.Ordered.{AreOrdered, IsOrderRefused};
 
+use crate::nodes::{GroupTree, tree_node};
 use crate::order::keys::check_keys;
 use crate::order::names::check_names;
 use h5_model::OpenFault;
 use h5_msg::SymbolTable;
-use crate::{GroupTree, tree_node};
 use h5_space::Image;
 
 /// Checks that the names of a group ascend by their bytes, and stand between the keys of its tree, which do not fall. The segment is

@@ -9,10 +9,10 @@ ghost use Rattle.h5_model.specs.Format.Links.{IsOrdered, NotAfter};
 ghost use Rattle.h5_group.specs.Nodes.Trees.{kind_in};
 ghost use Rattle.h5_group.specs.Order.Below.{HasSubtree, IsNodeOrdered, LiesBetween, names_at, nodes_from, symbol_nodes_under};
 
+use crate::nodes::{symbol_node, tree_node};
 use crate::order::text::{is_before, is_not_after};
 use h5_btree::Node;
 use h5_model::{Cause, OpenFault};
-use crate::{symbol_node, tree_node};
 use h5_space::Image;
 
 /// The names of the two keys around a child.

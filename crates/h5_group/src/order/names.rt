@@ -9,9 +9,9 @@ ghost use Rattle.h5_model.specs.Faults.TreeFaults.{all_entries};
 ghost use Rattle.h5_group.specs.Nodes.Stands.{IsSymbolsAt};
 ghost use Rattle.h5_group.specs.Order.Rising.{FallAt, FallFrom, IsAbove, RiseFrom, last_name};
 
+use crate::nodes::symbol_node;
 use crate::order::text::is_before;
 use h5_model::{Cause, OpenFault};
-use crate::symbol_node;
 use h5_space::Image;
 
 /// Checks that the names in these symbol nodes ascend; `NameOrder` at the first that holds a name which is not above the one

@@ -8,13 +8,13 @@ ghost use Rattle.h5_group.specs.Nodes.Trees.{IsTree, nodes_blocks};
 ghost use Rattle.h5_group.specs.Texts.Named.{AreTexts, IsFreshHeap};
 ghost use Rattle.h5_group.specs.Texts.Refused.{AreTextsRefused};
 
+use crate::nodes::GroupTree;
 use crate::texts::keys::take_keys;
 use crate::texts::linked::take_linked;
 use crate::texts::names::{check_names, has_empty_name};
 use h5_heap::Heap;
 use h5_model::{Cause, OpenFault};
 use h5_msg::SymbolTable;
-use crate::GroupTree;
 use h5_space::Image;
 
 /// Checks the names, soft link texts and keys of a group whose tree and heap were read. Their spans are taken from then on.

@@ -7,8 +7,8 @@ ghost use Rattle.h5_heap.specs.Writing.Links.{link_of};
 ghost use Rattle.h5_heap.specs.Writing.Written.{placed, placed_links, entry_bytes, link_span as span};
 ghost use Rattle.h5_group.specs.Writing.Written.{symbol_bytes, symbol_nodes, runs_of, last_name, children_of};
 
-use h5_bytes::{push_bytes, push_middle, push_short, push_word, push_zeros};
 use h5_btree::Child;
+use h5_bytes::{push_bytes, push_middle, push_short, push_word, push_zeros};
 use h5_heap::{Leads, NewLink, link_span, text_span};
 use std::alloc::{AllocError, Global};
 

@@ -11,9 +11,9 @@ ghost use Rattle.h5_open.specs.Counted.Links.{all_links};
 ghost use Rattle.h5_open.specs.Counted.Counts.{AreCounts, IsRight, IsWrong};
 
 use crate::counts::links::count_links;
+use crate::opened::{Opened, OpenedContent, OpenedObject};
 use h5_model::{Cause, OpenFault};
 use h5_space::Image;
-use crate::{Opened, OpenedContent, OpenedObject};
 use std::alloc::Global;
 
 /// The most links that may lead to a header.

@@ -13,9 +13,9 @@ ghost use Rattle.h5_open.specs.Placed.Whole.{BeginsAtRoot};
 ghost use Rattle.h5_open.specs.Counted.Links.{all_links};
 ghost use Rattle.h5_open.specs.Counted.Counts.{AreCounts};
 
+use crate::opened::{Opened, OpenedContent};
 use h5_group::{Group, LinkTarget, link_at, links_at};
 use h5_space::Image;
-use crate::{Opened, OpenedContent};
 use std::alloc::{AllocError, Global};
 
 /// How many links lead to each object, by the objects' numbers, 1 of the superblock's to the root among them. Above 65535 a count

@@ -7,8 +7,8 @@ ghost use Rattle.h5_open.specs.Opened.Objects.{headers as headers_of};
 ghost use Rattle.h5_open.specs.Renumbered.Exchanged.{IsGiven};
 ghost use Rattle.h5_open.specs.Renumbered.Headers.{IsReadAt};
 
+use crate::opened::Opened;
 use h5_space::Image;
-use crate::Opened;
 
 /// Gives each object the number that its header's address has among `headers`. It takes no memory.
 ///

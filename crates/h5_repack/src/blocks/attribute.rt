@@ -9,9 +9,9 @@ ghost use Rattle.h5_repack.specs.Bodies.Sound.{IsPlainAttribute};
 ghost use Rattle.h5_repack.specs.Blocks.Parts.{attribute_front};
 
 use crate::blocks::cells::value_bytes;
+use crate::blocks::header::{push_extent, push_message_head, push_type};
 use h5_bytes::{push_bytes, push_short, push_zeros};
 use h5_heap::push_text;
-use crate::blocks::header::{push_extent, push_message_head, push_type};
 use h5_model::{AttrSpec, Fixed};
 use h5_msg::{AttributeBody, attribute_length};
 use std::alloc::{AllocError, Global};

@@ -9,8 +9,7 @@ ghost use Rattle.h5_repack.specs.Blocks.Parts.{copies};
 ghost use Rattle.h5_repack.specs.Blocks.Written.{IsWritable};
 
 use crate::blocks::array::{Array, Cells};
-use h5_bytes::push_bytes;
-use h5_bytes::UNDEF;
+use h5_bytes::{UNDEF, push_bytes};
 use h5_model::Fixed;
 use h5_types::encode;
 use std::alloc::{AllocError, Global};

@@ -12,9 +12,8 @@ ghost use Rattle.h5_repack.specs.Blocks.Written.{IsWritable};
 
 use crate::blocks::array::Array;
 use crate::blocks::cells::value_bytes;
-use h5_bytes::{push_bytes, push_middle, push_short, push_word, push_zeros};
 use crate::blocks::others::Others;
-use h5_bytes::UNDEF;
+use h5_bytes::{UNDEF, push_bytes, push_middle, push_short, push_word, push_zeros};
 use h5_model::Fixed;
 use std::alloc::AllocError;
 

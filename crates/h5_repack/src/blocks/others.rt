@@ -8,8 +8,8 @@ ghost use Rattle.h5_repack.specs.Bodies.Sound.{IsPlainAttribute};
 ghost use Rattle.h5_repack.specs.Blocks.Written.{AreOthers};
 
 use crate::blocks::attribute::{push_new_attribute, push_stored_attribute};
-use h5_bytes::push_bytes;
 use crate::blocks::header::push_message_head;
+use h5_bytes::push_bytes;
 use h5_model::AttrSpec;
 use h5_msg::AttributeBody;
 use std::alloc::{AllocError, Global};

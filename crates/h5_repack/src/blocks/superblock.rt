@@ -2,8 +2,7 @@
 ghost use Rattle.std.specs.Prelude.{◌≡◌, ◌++◌, OnOk};
 ghost use Rattle.h5_model.specs.Format.Plain.{superblock_bytes};
 
-use h5_bytes::{push_bytes, push_short, push_word, push_zeros};
-use h5_bytes::UNDEF;
+use h5_bytes::{UNDEF, push_bytes, push_short, push_word, push_zeros};
 use std::alloc::AllocError;
 
 /// The fields of a superblock that differ from file to file: the K values, the end of the file, and the addresses of the

@@ -1,7 +1,7 @@
 //! Objects to be written.
 
+use crate::blocks::{Cells, Others};
 use h5_model::Fixed;
-use crate::{Cells, Others};
 
 /// Where a link of a tree leads.
 #[derive(Clone, Copy)]

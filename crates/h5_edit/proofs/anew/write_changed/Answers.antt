@@ -1,6 +1,6 @@
 use Rattle.std.proofs.Common.{length}
 use Rattle.h5_edit.specs.Changed.Change.{changed}
-use Rattle.h5_open.specs.Opened.Objects.{tree_of}
+use Rattle.h5_query.specs.Opened.Objects.{tree_of}
 use Rattle.h5_repack.specs.Written.{IsHeld}
 use Rattle.h5_edit.proofs.Changes.{few_changed}
 use Rattle.h5_edit.proofs.Writings.{refused_here}

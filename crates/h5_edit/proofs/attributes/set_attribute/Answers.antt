@@ -1,7 +1,7 @@
 use Rattle.std.proofs.Common.{refl, arith}
 use Rattle.h5_model.specs.declared.edits.Edit.TheVariants.{SetAttr}
 use Rattle.h5_edit.proofs.RuleLaws.Exits.{passed_on}
-use Rattle.h5_open.specs.Opened.State.{opened_state}
+use Rattle.h5_query.specs.Opened.State.{opened_state}
 use Rattle.h5_edit.proofs.Fitting.{set_fits, number_low, full_here}
 use Rattle.h5_edit.proofs.Refusals.{by_rule, by_header}
 use Rattle.h5_edit.proofs.attributes.set_attribute.Goals as goal

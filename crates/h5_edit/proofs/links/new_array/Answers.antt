@@ -1,8 +1,8 @@
 use Rattle.std.proofs.Common.{sym, ◌∙◌, arith}
 use Rattle.h5_model.specs.declared.edits.Edit.TheVariants.{CreateDataset}
 use Rattle.h5_edit.proofs.RuleLaws.Exits.{passed_on}
-use Rattle.h5_open.specs.Opened.State.{opened_state}
-use Rattle.h5_open.proofs.OpenedLaws.Numbers.{few_objects}
+use Rattle.h5_query.specs.Opened.State.{opened_state}
+use Rattle.h5_query.proofs.OpenedLaws.Numbers.{few_objects}
 use Rattle.h5_edit.proofs.Fitting.{array_fits}
 use Rattle.h5_edit.proofs.Refusals.{by_rule, not_carried}
 use Rattle.h5_edit.proofs.links.new_array.Goals as goal

@@ -1,8 +1,8 @@
 use Rattle.std.proofs.Common.{refl, arith}
 use Rattle.h5_model.specs.declared.edits.Edit.TheVariants.{CreateGroup}
 use Rattle.h5_edit.proofs.RuleLaws.Exits.{passed_on}
-use Rattle.h5_open.specs.Opened.State.{opened_state}
-use Rattle.h5_open.proofs.OpenedLaws.Numbers.{few_objects}
+use Rattle.h5_query.specs.Opened.State.{opened_state}
+use Rattle.h5_query.proofs.OpenedLaws.Numbers.{few_objects}
 use Rattle.h5_edit.proofs.Fitting.{group_fits}
 use Rattle.h5_edit.proofs.Refusals.{by_rule}
 use Rattle.h5_edit.proofs.links.new_group.Goals as goal

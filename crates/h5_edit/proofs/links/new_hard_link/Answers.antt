@@ -1,7 +1,7 @@
 use Rattle.std.proofs.Common.{refl}
 use Rattle.h5_model.specs.declared.edits.Edit.TheVariants.{HardLink}
 use Rattle.h5_edit.proofs.RuleLaws.Exits.{passed_on}
-use Rattle.h5_open.specs.Opened.State.{opened_state}
+use Rattle.h5_query.specs.Opened.State.{opened_state}
 use Rattle.h5_edit.proofs.Fitting.{link_fits}
 use Rattle.h5_edit.proofs.Refusals.{by_rule}
 use Rattle.h5_edit.proofs.links.new_hard_link.Goals as goal

@@ -2,7 +2,7 @@ use Rattle.std.proofs.Common.{◌∙◌, sym, ap}
 use Rattle.std.specs.FinMap.{entries}
 use Rattle.h5_model.specs.Tree.Objects.{Attributes}
 use Rattle.h5_header.specs.Listed.{messages_in}
-use Rattle.h5_attr.specs.Attributes.{attributes_of}
+use Rattle.h5_open.specs.Attributes.{attributes_of}
 use Rattle.h5_query.proofs.attributes.attributes_at.Goals as goal
 
 pub returns-in-Ok : goal.returns-in-Ok

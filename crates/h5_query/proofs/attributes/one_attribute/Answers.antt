@@ -1,5 +1,5 @@
 use Rattle.h5_header.specs.Listed.{messages_in}
-use Rattle.h5_attr.specs.Attributes.{attributes_of}
+use Rattle.h5_open.specs.Attributes.{attributes_of}
 use Rattle.h5_query.proofs.Calls.{has_attribute}
 use Rattle.h5_query.proofs.attributes.one_attribute.Goals as goal
 

@@ -3,7 +3,7 @@ use Rattle.std.specs.Prelude.{◌∷◌}
 use Rattle.h5_bytes.specs.Blocks.{Inside}
 use Rattle.h5_bytes.specs.declared.Block.{Block}
 use Rattle.h5_model.specs.Format.Layout.{InBlock}
-use Rattle.h5_layout.specs.Stored.{has_room}
+use Rattle.h5_open.specs.Stored.{has_room}
 use Rattle.h5_open.specs.Opened.Array.{data_blocks}
 use Rattle.h5_query.proofs.CellLaws.{filled_cells, are_stored}
 use Rattle.h5_query.proofs.cells.stored.Goals as goal

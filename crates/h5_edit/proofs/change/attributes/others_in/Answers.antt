@@ -1,5 +1,5 @@
 use Rattle.std.proofs.Common.{◌≡◌, ◌∙◌, subst, List, ℕ}
-use Rattle.h5_attr.specs.Attributes.{attributes_of}
+use Rattle.h5_query.specs.Attributes.{attributes_of}
 use Rattle.h5_header.specs.Listed.{messages_in}
 use Rattle.h5_header.specs.declared.message.Message.{Message as Placed}
 use Rattle.h5_repack.specs.Blocks.Others.{OthersBytes}

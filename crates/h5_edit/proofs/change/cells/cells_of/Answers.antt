@@ -4,9 +4,9 @@ use Rattle.h5_bytes.proofs.PartLaws.{length-part}
 use Rattle.h5_bytes.specs.Blocks.{Inside}
 use Rattle.h5_bytes.specs.declared.Block.{Block}
 use Rattle.h5_model.specs.Format.Messages.{Message}
-use Rattle.h5_layout.specs.Described.{HasArray}
-use Rattle.h5_open.specs.Opened.Array.{described, data_blocks}
-use Rattle.h5_open.specs.declared.opened.line.Line.{Line}
+use Rattle.h5_query.specs.Described.{HasArray}
+use Rattle.h5_query.specs.Opened.Array.{described, data_blocks}
+use Rattle.h5_query.specs.LineType.{Line}
 use Rattle.h5_edit.proofs.ChangedLaws.CellLaws.{block_room, block_inside, cells_stored}
 use Rattle.h5_edit.proofs.change.cells.cells_of.Goals as goal
 

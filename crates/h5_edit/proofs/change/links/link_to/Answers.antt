@@ -1,6 +1,6 @@
 use Rattle.std.proofs.Common.{sym, ap}
 use Rattle.h5_model.specs.Tree.Objects.{ToObject}
-use Rattle.h5_open.proofs.OpenedLaws.Indexed.{number_at_header}
+use Rattle.h5_query.proofs.OpenedLaws.Indexed.{number_at_header}
 use Rattle.h5_edit.proofs.change.links.link_to.Goals as goal
 
 pub returns-in-Object : goal.returns-in-Object

@@ -1,10 +1,10 @@
 use Rattle.std.proofs.Common.{◌∙◌, Option, Vec, ap, map, subst, sym}
 use Rattle.std.specs.declared.alloc.Global.{Global}
 use Rattle.std.specs.FinMap.{entries}
-use Rattle.h5_group.specs.Links.{links_of}
+use Rattle.h5_query.specs.Links.{links_of}
 use Rattle.h5_repack.specs.Objects.Objects.{link_of, tree_link}
 use Rattle.h5_repack.specs.declared.objects.object.TreeLink.{TreeLink}
-use Rattle.h5_open.specs.Opened.Objects.{headers, links_by}
+use Rattle.h5_query.specs.Opened.Objects.{headers, links_by}
 use Rattle.h5_query.specs.Listed.{in_tree}
 use Rattle.h5_edit.specs.Changed.Edited.{IsFreshIn, links_with}
 use Rattle.h5_edit.proofs.ChangedLaws.LinkLaws.{links_are, links_inserted, not_among}

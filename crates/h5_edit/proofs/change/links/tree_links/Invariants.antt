@@ -1,5 +1,5 @@
 use Rattle.std.proofs.Common.{◌≡◌, map, take}
-use Rattle.h5_open.specs.Opened.Objects.{headers}
+use Rattle.h5_query.specs.Opened.Objects.{headers}
 use Rattle.h5_query.specs.Listed.{in_tree}
 use Rattle.h5_repack.specs.Objects.Objects.{tree_link}
 use Rattle.h5_edit.proofs.change.links.tree_links.Given as goal

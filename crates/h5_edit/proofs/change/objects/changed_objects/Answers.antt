@@ -5,10 +5,10 @@ use Rattle.std.specs.FinMap.{get}
 use Rattle.std.specs.declared.alloc.Global.{Global}
 use Rattle.std.specs.Prelude.{slice_get, option_to_list}
 use Rattle.std.proofs.lemmas.Option.{slice_get_read}
-use Rattle.h5_open.specs.Opened.Objects.{headers, object_in, tree_of}
-use Rattle.h5_open.specs.declared.opened.object.OpenedObject.{OpenedObject}
-use Rattle.h5_open.proofs.OpenedLaws.Indexed.{object_there}
-use Rattle.h5_open.proofs.OpenedLaws.Numbers.{few_objects}
+use Rattle.h5_query.specs.Opened.Objects.{headers, object_in, tree_of}
+use Rattle.h5_query.specs.OpenedObjectType.{OpenedObject}
+use Rattle.h5_query.proofs.OpenedLaws.Indexed.{object_there}
+use Rattle.h5_query.proofs.OpenedLaws.Numbers.{few_objects}
 use Rattle.h5_repack.specs.declared.objects.object.NewObject.{NewObject}
 use Rattle.h5_edit.specs.Changed.Change.{IsPlainChange}
 use Rattle.h5_edit.specs.Changed.Edited.{IsEditOf, IsEditable, edit_at}

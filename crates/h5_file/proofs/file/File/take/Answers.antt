@@ -1,5 +1,5 @@
 use Rattle.std.proofs.Common.{refl, ◌∙◌}
-use Rattle.h5_open.specs.Opened.Kept.{IsOpened}
+use Rattle.h5_edit.specs.Opened.Kept.{IsOpened}
 use Rattle.h5_file.proofs.Made.{edited, made_superblock, made_end, made_read, not_taken}
 use Rattle.h5_file.proofs.file.File.take.Goals as goal
 

@@ -1,0 +1,70 @@
+"""The record of what was judged: a line for each crate with the hash of all that its verdict rests on."""
+
+import contextlib
+import fcntl
+import hashlib
+import os
+import re
+from dataclasses import dataclass
+
+PATH = os.path.join("tests", "wrong-bodies.judged")
+PARTS = ("src", "specs", "proofs", "wrong-bodies")
+LINE = re.compile(r"(\w+) ([0-9a-f]{16,64}) (\d+) refused")
+
+
+@dataclass(frozen=True)
+class Judged:
+    """A crate all of whose wrong bodies were refused, when its files had this hash."""
+
+    name: str
+    hash: str
+    count: int
+
+
+def hash_of(folder):
+    """The hash of a crate's sources, definitions, proofs and wrong bodies: paths and bytes, sorted."""
+    paths = []
+    for part in PARTS:
+        for at, _, names in os.walk(os.path.join(folder, part)):
+            paths += [os.path.relpath(os.path.join(at, name), folder) for name in names]
+    total = hashlib.sha256()
+    for path in sorted(paths):
+        with open(os.path.join(folder, path), "rb") as file:
+            data = file.read()
+        total.update(f"{path}\0{len(data)}\0".encode() + data)
+    return total.hexdigest()[:32]
+
+
+def read_record(root):
+    """The lines of the record by the name of the crate. A line of another form counts for nothing."""
+    try:
+        with open(os.path.join(root, PATH), encoding="utf-8") as file:
+            matches = [LINE.fullmatch(line.rstrip("\n")) for line in file]
+    except FileNotFoundError:
+        return {}
+    return {match[1]: Judged(match[1], match[2], int(match[3])) for match in matches if match}
+
+
+@contextlib.contextmanager
+def locked(root):
+    """Keeps other judges from the record. The lock is on the folder, since the file itself is replaced."""
+    held = os.open(os.path.join(root, os.path.dirname(PATH)), os.O_RDONLY)
+    try:
+        fcntl.flock(held, fcntl.LOCK_EX)
+        yield
+    finally:
+        os.close(held)
+
+
+def change_record(root, known, add=None, remove=None):
+    """Writes a crate's line or takes it away, and drops the lines of crates that have gone. It reads the record anew
+    under the lock, so that two judges keep each other's lines."""
+    with locked(root):
+        lines = {name: one for name, one in read_record(root).items() if name in known and name != remove}
+        if add:
+            lines[add.name] = add
+        whole = os.path.join(root, PATH)
+        with open(whole + ".part", "w", encoding="utf-8") as file:
+            for _, one in sorted(lines.items()):
+                file.write(f"{one.name} {one.hash} {one.count} refused\n")
+        os.replace(whole + ".part", whole)

@@ -1,0 +1,245 @@
+//! What `ls` and `dump` print of a file.
+
+ghost use Rattle.std.specs.Prelude.{◌≡◌, ◌/◌, ◌++◌, List, ℤ, OnOk, codes, length, map};
+ghost use Rattle.std.specs.FinMap.{entries};
+ghost use Rattle.std.specs.List.{flat_map};
+ghost use Rattle.h5_model.specs.Tree.Paths.{located};
+ghost use Rattle.h5_model.specs.Scripts.Answers.{dumped};
+ghost use Rattle.h5_model.specs.Scripts.Text.{attribute_line, content_text, dump_text, escaped, line_of, list_text, rows_text};
+ghost use Rattle.h5_model.specs.Tree.Objects.{Array, Dataset, Group, Links, Object, ToObject};
+ghost use Rattle.h5_text.specs.Appends.{Appends};
+ghost use Rattle.h5_text.specs.Listing.{path_text};
+ghost use Rattle.h5_file.specs.Listed.{seen_link};
+ghost use Rattle.h5_file.specs.Look.{AreCells, HasKind, IsArray};
+ghost use Rattle.h5_dump.specs.Listing.{lines_of_link};
+
+use h5_file::{ArrayCells, AttrRef, File, Kind, Link, LinkTo, MAX_DEPTH};
+use h5_model::ObjectNo;
+use h5_text::{
+    ArrayText, Layout, PathText, Rows, push_array_line, push_attribute_head, push_dump_line,
+    push_escaped, push_group_line, push_soft_line, push_spaced_value, push_text,
+};
+use std::alloc::{AllocError, Global};
+
+/// Appends the list of a file.
+///
+/// Takes memory for the links of the groups on the way to a line, and for its path.
+pub fn push_list(alloc: Global, text: &mut Vec<u8>, file: &File) -> Result<(), AllocError>
+    ensures { Appends result text.old.items text.new.items (list_text file.now.tree) }
+{
+    push_group_line(text, PathText::Escaped(b"/"))?;
+    let Some(links) = file.links(alloc, ObjectNo(0))? else {
+        return Ok(());
+    };
+    let mut path = Vec::new(alloc);
+    push_links(alloc, text, file, MAX_DEPTH - 1, &mut path, &links)
+}
+
+/// Appends the lines of links of the group at the path, which is escaped already. Each group is
+/// followed by what it holds, so many names deep.
+///
+/// The path is as before then, unless memory is refused.
+#[cycle(listed)]
+fn push_links(
+    alloc: Global,
+    text: &mut Vec<u8>,
+    file: &File,
+    depth: usize,
+    path: &mut Vec<u8>,
+    links: &[Link<'_>],
+) -> Result<(), AllocError>
+    ensures lines { Appends result text.old.items text.new.items
+        (flat_map (lines_of_link file.now.tree depth path.old.items) (map seen_link links.now)) }
+    ensures path { OnOk result (path.new.items ≡ path.old.items) }
+{
+    for link in links {
+        match link.to {
+            LinkTo::Soft(target) => {
+                let line = PathText::Below {
+                    path: path.as_slice(),
+                    name: link.name,
+                };
+                push_soft_line(text, line, target)?;
+            }
+            LinkTo::Object(number) => {
+                push_object(alloc, text, file, depth, path, link.name, number)?;
+            }
+        }
+    }
+    Ok(())
+}
+
+/// Appends the line of the object that a link of this name below the path leads to, and what it
+/// holds, so many names deep.
+#[cycle(listed)]
+fn push_object(
+    alloc: Global,
+    text: &mut Vec<u8>,
+    file: &File,
+    depth: usize,
+    path: &mut Vec<u8>,
+    name: &[u8],
+    number: ObjectNo,
+) -> Result<(), AllocError>
+    ensures lines { Appends result text.old.items text.new.items
+        (lines_of_link file.now.tree depth path.old.items (name.now, ToObject number.0)) }
+    ensures path { OnOk result (path.new.items ≡ path.old.items) }
+{
+    let head = PathText::Below {
+        path: path.as_slice(),
+        name,
+    };
+    if let Some(array) = file.array(number) {
+        return push_listed_array(text, head, &array);
+    }
+    let Some(links) = file.links(alloc, number)? else {
+        return Ok(());
+    };
+    push_group_line(text, head)?;
+    if depth == 0 {
+        return Ok(());
+    }
+    let length = path.len();
+    push_name(path, name)?;
+    push_links(alloc, text, file, depth - 1, path, &links)?;
+    path.truncate(length);
+    Ok(())
+}
+
+/// Appends a name to a path that is escaped already.
+fn push_name(path: &mut Vec<u8>, name: &[u8]) -> Result<(), AllocError>
+    ensures { Appends result path.old.items path.new.items (codes "/" ++ escaped name.now) }
+{
+    push_text(path, b"/")?;
+    push_escaped(path, name)
+}
+
+/// Appends the line of an array in a list.
+fn push_listed_array(
+    text: &mut Vec<u8>,
+    path: PathText<'_>,
+    array: &ArrayCells<'_>,
+) -> Result<(), AllocError>
+    ensures { (d : Dataset) → IsArray d array.now
+        → Appends result text.old.items text.new.items (line_of (path_text path.entry) (content_text (Array d))) }
+{
+    let told = ArrayText {
+        fixed: array.fixed,
+        sizes: &[array.size],
+        maxima: &[array.maximum],
+        layout: Layout::Contiguous,
+        fill: array.fill,
+    };
+    push_array_line(text, path, &told)
+}
+
+/// Appends what is dumped of what is of this kind at the path.
+///
+/// Takes memory for a reference to each attribute of an object.
+pub fn push_dump(
+    alloc: Global,
+    text: &mut Vec<u8>,
+    file: &File,
+    path: &[u8],
+    kind: &Kind,
+) -> Result<(), AllocError>
+    requires { HasKind file.now.tree path.now kind.now }
+    ensures { Appends result text.old.items text.new.items (dumped file.now.tree path.now (located file.now.tree path.now)) }
+{
+    if let Kind::Soft(target) = kind {
+        return push_soft_line(text, PathText::Plain(path), target);
+    }
+    // An object stands at the path, so that these are refused for want of memory alone.
+    let Ok(number) = file.number(path) else {
+        return Err(AllocError);
+    };
+    let Ok(attributes) = file.attributes(alloc, path) else {
+        return Err(AllocError);
+    };
+    match file.array(number) {
+        Some(array) => push_array(alloc, text, path, &array, &attributes),
+        None => push_group(alloc, text, path, &attributes),
+    }
+}
+
+/// Appends what is dumped of a group that has these attributes.
+fn push_group(
+    alloc: Global,
+    text: &mut Vec<u8>,
+    path: &[u8],
+    attributes: &[AttrRef<'_>],
+) -> Result<(), AllocError>
+    ensures { (group : Object) (links : Links) → group.content ≡ Group links → attributes.now ≡ entries group.attributes
+        → Appends result text.old.items text.new.items (dump_text (escaped path.now) group) }
+{
+    push_group_line(text, PathText::Plain(path))?;
+    push_attributes(alloc, text, attributes)
+}
+
+/// Appends what is dumped of the array, which has these attributes.
+fn push_array(
+    alloc: Global,
+    text: &mut Vec<u8>,
+    path: &[u8],
+    array: &ArrayCells<'_>,
+    attributes: &[AttrRef<'_>],
+) -> Result<(), AllocError>
+    ensures { (o : Object) (d : Dataset) → o.content ≡ Array d → IsArray d array.now → attributes.now ≡ entries o.attributes
+        → Appends result text.old.items text.new.items (dump_text (escaped path.now) o) }
+{
+    let told = ArrayText {
+        fixed: array.fixed,
+        sizes: &[array.size],
+        maxima: &[array.maximum],
+        layout: Layout::Contiguous,
+        fill: array.fill,
+    };
+    push_dump_line(text, PathText::Plain(path), &told)?;
+    push_attributes(alloc, text, attributes)?;
+    push_cells(text, array)
+}
+
+/// Appends a row of the array's cells, or nothing where there is no cell.
+fn push_cells(text: &mut Vec<u8>, array: &ArrayCells<'_>) -> Result<(), AllocError>
+    ensures { (values : List ℤ) → length values ≡ array.now.size → AreCells array.now.cells array.now values
+        → Appends result text.old.items text.new.items (rows_text (length values / array.now.size) array.now.size values) }
+{
+    if array.size == 0 {
+        return Ok(());
+    }
+    let mut rows = Rows::new(array.size);
+    match array.cells {
+        Some(cells) => rows.push_stored(text, array.fixed, cells),
+        None => rows.push_repeated(text, array.fill, array.size),
+    }
+}
+
+/// Appends a line for each attribute.
+fn push_attributes(
+    alloc: Global,
+    text: &mut Vec<u8>,
+    attributes: &[AttrRef<'_>],
+) -> Result<(), AllocError>
+    ensures { Appends result text.old.items text.new.items (flat_map attribute_line attributes.now) }
+{
+    for attribute in attributes {
+        push_attribute(alloc, text, attribute)?;
+    }
+    Ok(())
+}
+
+/// Appends the line of an attribute.
+fn push_attribute(
+    alloc: Global,
+    text: &mut Vec<u8>,
+    attribute: &AttrRef<'_>,
+) -> Result<(), AllocError>
+    ensures { Appends result text.old.items text.new.items (attribute_line attribute.now) }
+{
+    let dims = attribute.dims(alloc);
+    push_attribute_head(text, attribute.name(), &attribute.fixed(), dims.sizes())?;
+    for k in 0..attribute.cells() {
+        push_spaced_value(text, attribute.value(k))?;
+    }
+    push_text(text, b"\n")
+}
