@@ -21,13 +21,34 @@ fn answers_the_object(rt: HostRuntime) -> Result<(), Fail> {
     assert!(rt; is_of(file.remove_attr(b"/g/d", b"note")?, 2));
     assert!(rt; file.soft_link(b"/nowhere", b"/s")?.object.is_none());
     // Objects have the numbers in which they were made, wherever their headers stand.
-    assert!(rt; file.object_number(b"/a")? == ObjectNo(3) && file.object_number(b"/b")? == ObjectNo(2));
+    assert!(rt;
+        file.object_number(b"/a")? == ObjectNo(3) && file.object_number(b"/b")? == ObjectNo(2)
+    );
     Ok(())
 }
 
-/// A selection of one cell.
-fn cell(alloc: Global) -> Result<Hyper, AllocError> {
-    Hyper::new(alloc, &[0], &[1], &[1], &[1])
+/// The link of `/d` taken away.
+fn unlink(alloc: Global) -> Result<Edit, AllocError> {
+    Ok(Edit::Unlink {
+        path: Items::from_slice(alloc, b"/d")?,
+    })
+}
+
+/// `/d` with four cells.
+fn resize(alloc: Global) -> Result<Edit, AllocError> {
+    Ok(Edit::Resize {
+        path: Items::from_slice(alloc, b"/d")?,
+        dims: Items::from_slice(alloc, &[4])?,
+    })
+}
+
+/// 5 as the first cell of `/d`.
+fn write(alloc: Global) -> Result<Edit, AllocError> {
+    Ok(Edit::Write {
+        path: Items::from_slice(alloc, b"/d")?,
+        hyper: Hyper::new(alloc, &[0], &[1], &[1], &[1])?,
+        values: Items::from_slice(alloc, &[5])?,
+    })
 }
 
 /// Whether no call carries the edit out.
@@ -39,20 +60,8 @@ fn is_not_yet(file: &mut File, edit: &Edit) -> bool {
 fn says_what_is_not_carried_yet(rt: HostRuntime) -> Result<(), Fail> {
     let mut file = File::create(rt.alloc())?;
     file.create_dataset(b"/d", &line(rt.alloc())?)?;
-    let unlink = Edit::Unlink {
-        path: Items::from_slice(rt.alloc(), b"/d")?,
-    };
-    let resize = Edit::Resize {
-        path: Items::from_slice(rt.alloc(), b"/d")?,
-        dims: Items::from_slice(rt.alloc(), &[4])?,
-    };
-    let write = Edit::Write {
-        path: Items::from_slice(rt.alloc(), b"/d")?,
-        hyper: cell(rt.alloc())?,
-        values: Items::from_slice(rt.alloc(), &[5])?,
-    };
-    assert!(rt; is_not_yet(&mut file, &unlink));
-    assert!(rt; is_not_yet(&mut file, &resize));
-    assert!(rt; is_not_yet(&mut file, &write));
+    assert!(rt; is_not_yet(&mut file, &unlink(rt.alloc())?));
+    assert!(rt; is_not_yet(&mut file, &resize(rt.alloc())?));
+    assert!(rt; is_not_yet(&mut file, &write(rt.alloc())?));
     Ok(())
 }
