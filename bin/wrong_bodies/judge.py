@@ -84,12 +84,12 @@ class Judge:
             return [one for part in self.split(chosen, report) for one in self.retry(part)]
         again = []
         for one in chosen:
-            words = {key: report.functions.get(name) for key, name in self.names(report, one).items()}
+            words = {name: report.functions.get(name) for name in self.names(report, one).values()}
             # Beside an edit of a function that it calls, only a goal of its own that is named counts.
             below = self.planner.calls_any(one, chosen)
-            failed = [key for key, word in words.items() if word == verdicts.GOAL or word == verdicts.OWN and not below]
+            failed = [it for it, word in words.items() if word == verdicts.GOAL or word == verdicts.OWN and not below]
             if failed:
-                self.tell(one, REFUSED, self.refused_by(failed, report))
+                self.tell(one, REFUSED, self.refused_by([name.partition("::")[2] for name in failed], report))
             elif words and set(words.values()) <= {verdicts.OTHERS, verdicts.OWN}:
                 again.append(one)
             else:
@@ -161,10 +161,10 @@ class Judge:
         others = ", ".join(name.partition("::")[2] for name in failed)
         return f"by other functions: {others}" if others else f"by no function: {report.first[:160]}"
 
-    def refused_by(self, keys, report):
-        """The words for functions that refuse an edit of theirs."""
-        said = f"by {', '.join(sorted(keys))}"
-        if all(verdicts.names_alone(report, key) for key in keys):
+    def refused_by(self, names, report):
+        """The words for functions that refuse an edit of theirs, by their names without the crate."""
+        said = f"by {', '.join(sorted(names))}"
+        if all(verdicts.names_alone(report, name) for name in names):
             return said + " (only since its proof names what the edit took away, which says little of the contract)"
         return said
 

@@ -7,6 +7,8 @@ import os
 import re
 from dataclasses import dataclass
 
+from .source import HIDDEN
+
 PATH = os.path.join("tests", "wrong-bodies.judged")
 PARTS = ("src", "specs", "proofs", "wrong-bodies")
 LINE = re.compile(r"(\w+) ([0-9a-f]{16,64}) (\d+) refused")
@@ -21,8 +23,34 @@ class Judged:
     count: int
 
 
+def words_of(text):
+    """The words of a Rattle source, without its comments and however its lines are broken: what the prover reads."""
+    words, place = [], 0
+    for match in HIDDEN.finditer(text):
+        words += text[place : match.start()].split()
+        if not match[0].startswith(("//", "/*")):
+            words.append(match[0])
+        place = match.end()
+    return words + text[place:].split()
+
+
+def told_lines(text):
+    """The lines of a definition or a proof that are neither empty nor a comment. How they are indented says something."""
+    lines = [line.rstrip() for line in text.split("\n")]
+    return [line for line in lines if line and not line.lstrip().startswith("--")]
+
+
+def essence(path, data):
+    """What of a file a verdict rests on. A comment, an empty line or a line broken elsewhere changes no verdict."""
+    if path.endswith(".rt"):
+        return "\n".join(words_of(data.decode("utf-8"))).encode()
+    if path.endswith(".antt"):
+        return "\n".join(told_lines(data.decode("utf-8"))).encode()
+    return data
+
+
 def hash_of(folder):
-    """The hash of a crate's sources, definitions, proofs and wrong bodies: paths and bytes, sorted."""
+    """The hash of a crate's sources, definitions, proofs and wrong bodies: paths and what counts in them, sorted."""
     paths = []
     for part in PARTS:
         for at, _, names in os.walk(os.path.join(folder, part)):
@@ -30,7 +58,7 @@ def hash_of(folder):
     total = hashlib.sha256()
     for path in sorted(paths):
         with open(os.path.join(folder, path), "rb") as file:
-            data = file.read()
+            data = essence(path, file.read())
         total.update(f"{path}\0{len(data)}\0".encode() + data)
     return total.hexdigest()[:32]
 

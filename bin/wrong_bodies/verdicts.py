@@ -89,10 +89,10 @@ def read_report(status, output, changed=()):
     )
 
 
-def names_alone(report, key):
-    """Whether a function is refused only since files of its proof name what an edit took away, as a variable. That
-    refuses the edit as well, but it says little of the contract."""
-    folder = f"proofs/{key.replace('::', '/')}/"
+def names_alone(report, name):
+    """Whether a function, by its name without the crate, is refused only since files of its proof name what an edit
+    took away, as a variable. That refuses the edit as well, but it says little of the contract."""
+    folder = f"proofs/{name.replace('::', '/')}/"
     told = [line for path, _, line in report.errors if path.startswith(folder)]
     return bool(told) and all(ONLY_NAMES.match(line) for line in told)
 
@@ -105,4 +105,8 @@ def matching(report, crate, function):
     # The holder of a trait's functions may bear the arguments of the trait too.
     head, ending = name.rsplit("::", 1)
     found = [it for it in report.functions if re.fullmatch(re.escape(head) + r"\w*::" + re.escape(ending), it)]
+    if not found and function.holders:
+        # A method belongs to the module of its type, wherever its `impl` stands.
+        ending = "::".join(["", *function.holders, function.name])
+        found = [it for it in report.functions if it.startswith(f"{crate}::") and it.endswith(ending)]
     return found[0] if len(found) == 1 else None

@@ -199,6 +199,14 @@ class Verdicts(unittest.TestCase):
         self.assertFalse(verdicts.names_alone(report, "node::child"))
         self.assertFalse(verdicts.names_alone(verdicts.read_report(1, CHECKED), "node::Node::level"))
 
+    def test_a_method_goes_by_the_module_of_its_type(self):
+        functions = {"top::file::File::push": verdicts.GOAL, "top::file::Part::push": verdicts.PROVED}
+        report = verdicts.Report(True, False, functions, ())
+        push = source.scan("src/edits.rt", "impl File {\n    pub fn push(&mut self) {\n    }\n}\n").functions[0]
+        self.assertEqual(verdicts.matching(report, "top", push), "top::file::File::push")
+        two = verdicts.Report(True, False, {**functions, "top::other::File::push": verdicts.PROVED}, ())
+        self.assertIsNone(verdicts.matching(two, "top", push))
+
 
 class Rooms(Made):
     def test_nothing_is_written_through_a_link(self):
@@ -263,6 +271,22 @@ class Record(Made):
         self.assertEqual(len(seen), 5)
         self.write("crates/top/out/kept", "x")
         self.assertIn(record.hash_of(self.folder), seen)
+
+    def test_comments_and_line_breaks_change_no_hash(self):
+        def hashed(path, text):
+            """The hash of the crate with this text in a file."""
+            self.write(path, text)
+            return record.hash_of(self.folder)
+
+        source, law = "crates/top/src/new.rt", "crates/top/proofs/Law.antt"
+        first = hashed(source, "// One.\nfn one() -> u8\n    ensures { a × b }\n{ 1 }\n")
+        self.assertEqual(first, hashed(source, "/// The one.\nfn one()\n-> u8 ensures { a\n × b } { 1 } // 1\n"))
+        self.assertNotEqual(first, hashed(source, "fn one() -> u8 ensures { a ⊎ b } { 1 }\n"))
+        text = hashed(source, 'const ONE: &str = "a // b";\n')
+        self.assertNotEqual(text, hashed(source, 'const ONE: &str = "a //  b";\n'))
+        proved = hashed(law, "-- One.\nfn one : A\none = a\n    b\n")
+        self.assertEqual(proved, hashed(law, "fn one : A\n\none = a\n    b  \n  -- the end\n"))
+        self.assertNotEqual(proved, hashed(law, "fn one : A\none = a\nb\n"))
 
 
 class Judging(Made):
