@@ -17,7 +17,8 @@ use std::convert::AsStr;
 
 /// The order of this name, where there is such an order and it is given what it needs.
 fn order_of<'a>(name: &str, file: Option<&'a str>, path: Option<&'a str>) -> Option<Order<'a>>
-    ensures { option_map texts_of result ≡ wanted_by name.now (option_map (λ t. t.now) file.entry) (option_map (λ t. t.now) path.entry) }
+    ensures { option_map texts_of result
+        ≡ wanted_by name.now (option_map (λ t. t.now) file.entry) (option_map (λ t. t.now) path.entry) }
 {
     let file = file?;
     match name {

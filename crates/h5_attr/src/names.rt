@@ -29,7 +29,8 @@ pub fn check_names(alloc: Global, image: &Image, messages: &Messages) -> Result<
     requires { IsWithin (length image.now.bytes) messages.now.list }
     ensures once { OnOk result (HasNamesOnce (messages_in image.now.bytes messages.now.list)) }
     ensures refused { IfErr result (λ fault. (fault.cause ≡ Cause.NoMemory)
-        ⊎ ((fault.cause ≡ Cause.DuplicateMessage) × HasNameTwice (messages_in image.now.bytes messages.now.list))) }
+        ⊎ ((fault.cause ≡ Cause.DuplicateMessage)
+        × HasNameTwice (messages_in image.now.bytes messages.now.list))) }
     ensures address { IfErr result (λ fault. fault.address ≡ messages.now.header) }
     ensures only { (attributes : Attributes)
         → HasAttributes (messages_in image.now.bytes messages.now.list) attributes
@@ -60,9 +61,11 @@ pub fn list<'a>(
     messages: &Messages,
 ) -> Result<Vec<&'a [u8]>, AllocError>
     requires { IsWithin (length image.now.bytes) messages.now.list }
-    ensures sorted { IfOk result (λ names. IsSorted (slice_cmp nat_cmp) (map (λ name. name.now) names.items)) }
+    ensures sorted { IfOk result (λ names.
+        IsSorted (slice_cmp nat_cmp) (map (λ name. name.now) names.items)) }
     ensures same { IfOk result (λ names.
-        IsPermutation (names_of (messages_in image.now.bytes messages.now.list)) (map (λ name. name.now) names.items)) }
+        IsPermutation (names_of (messages_in image.now.bytes messages.now.list))
+        (map (λ name. name.now) names.items)) }
     ensures names { IfOk result (λ names. (attributes : Attributes)
         → HasAttributes (messages_in image.now.bytes messages.now.list) attributes
         → map (λ name. name.now) names.items ≡ keys attributes) }

@@ -39,7 +39,8 @@ fn collected<'a>(
     messages: &Messages,
 ) -> Result<Vec<AttributeBody<'a>>, AllocError>
     requires { IsWithin (length image.now.bytes) messages.now.list }
-    ensures { IfOk result (λ listed. listed.items ≡ attributes_in (messages_in image.now.bytes messages.now.list)) }
+    ensures { IfOk result (λ listed.
+        listed.items ≡ attributes_in (messages_in image.now.bytes messages.now.list)) }
 {
     let bytes = image.bytes();
     let mut listed = Vec::new(alloc);

@@ -19,7 +19,8 @@ pub fn find_leaf<S: Sought>(image: &[u8], root: u64, sought: &S) -> Result<Optio
         ↔ ((node_at image.now (S.tree_kind sought.now) root).children ≡ [])) }
     ensures leads { IfOk result (λ leaf. IfSome leaf (LeadsTo (node_at image.now (S.tree_kind sought.now))
         (S.behind sought.now) (node_at image.now (S.tree_kind sought.now) root).level root)) }
-    ensures refused { IfErr result (StopsFromRoot image.now (S.tree_kind sought.now) (S.behind sought.now) root) }
+    ensures refused { IfErr result
+        (StopsFromRoot image.now (S.tree_kind sought.now) (S.behind sought.now) root) }
     ensures only { (level : ℕ) (owned children : List ℕ)
         → HasTree image.now (S.tree_kind sought.now) root level owned children
         → Inside (length image.now) (tree_blocks (S.tree_kind sought.now) owned) → IsOk result }
@@ -35,9 +36,11 @@ pub fn find_leaf<S: Sought>(image: &[u8], root: u64, sought: &S) -> Result<Optio
 
 /// The child at the bottom below a node that is to stand at this level, with children.
 fn descend<S: Sought>(image: &[u8], at: u64, level: u8, sought: &S) -> Result<u64, NodeFault>
-    ensures leads { IfOk result (LeadsTo (node_at image.now (S.tree_kind sought.now)) (S.behind sought.now) level at) }
+    ensures leads { IfOk result
+        (LeadsTo (node_at image.now (S.tree_kind sought.now)) (S.behind sought.now) level at) }
     ensures refused { IfErr result (Stops image.now (S.tree_kind sought.now) (S.behind sought.now) level at) }
-    ensures only { (owned row : List ℕ) → IsInRow image.now (S.tree_kind sought.now) owned level row at → IsOk result }
+    ensures only { (owned row : List ℕ) → IsInRow image.now (S.tree_kind sought.now) owned level row at
+        → IsOk result }
 {
     let node = read_node_at(image, sought.kind(), at)?;
     node.check_level(level)?;

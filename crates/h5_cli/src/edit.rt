@@ -32,7 +32,8 @@ fn write_whole<R: Files, E: Write>(
 
 /// Writes a file with an empty root group.
 pub(crate) fn new<R: Files, E: Write>(rt: &R, alloc: Global, file: &str, errors: &mut E) -> Status
-    ensures { (input left printed : Option (List ℕ)) → Ends (Some (WantNew file.now)) input left printed printed result }
+    ensures { (input left printed : Option (List ℕ))
+        → Ends (Some (WantNew file.now)) input left printed printed result }
 {
     match File::create(alloc) {
         Ok(made) => write_whole(rt, file, made.image(), Status::Done, errors),
@@ -66,7 +67,9 @@ pub(crate) fn run_over<I: Read, O: Write>(
     input: &mut I,
     output: &mut O,
 ) -> Result<(Status, Option<File>), RunFault>
-    ensures { IfOk result (λ over. IsRunOver file (I.remaining input.old) (I.remaining input.new) (O.contents output.old) (O.contents output.new) over.0 over.1) }
+    ensures { IfOk result (λ over.
+        IsRunOver file (I.remaining input.old) (I.remaining input.new) (O.contents output.old)
+        (O.contents output.new) over.0 over.1) }
 {
     let ran = run_script(alloc, &mut file, input, output)?;
     Ok((status_of(ran), changed_by(ran, file)))
@@ -82,7 +85,8 @@ pub fn run<R: Files, I: Read, O: Write, E: Write>(
     output: &mut O,
     errors: &mut E,
 ) -> Status
-    ensures { Ends (Some (WantRun file.now)) (I.remaining input.old) (I.remaining input.new) (O.contents output.old) (O.contents output.new) result }
+    ensures { Ends (Some (WantRun file.now)) (I.remaining input.old) (I.remaining input.new)
+        (O.contents output.old) (O.contents output.new) result }
 {
     let opened = match opened(rt, alloc, file, errors) {
         Ok(opened) => opened,

@@ -55,7 +55,8 @@ pub(crate) fn ls<R: Files, O: Write, E: Write>(
     output: &mut O,
     errors: &mut E,
 ) -> Status
-    ensures { (input left : Option (List ℕ)) → Ends (Some (WantLs file.now)) input left (O.contents output.old) (O.contents output.new) result }
+    ensures { (input left : Option (List ℕ))
+        → Ends (Some (WantLs file.now)) input left (O.contents output.old) (O.contents output.new) result }
 {
     let opened = match opened(rt, alloc, file, errors) {
         Ok(opened) => opened,
@@ -100,7 +101,9 @@ pub(crate) fn dump<R: Files, O: Write, E: Write>(
     output: &mut O,
     errors: &mut E,
 ) -> Status
-    ensures { (input left : Option (List ℕ)) → Ends (Some (WantDump file.now path.now)) input left (O.contents output.old) (O.contents output.new) result }
+    ensures { (input left : Option (List ℕ))
+        → Ends (Some (WantDump file.now path.now)) input left (O.contents output.old) (O.contents output.new)
+        result }
 {
     let opened = match opened(rt, alloc, file, errors) {
         Ok(opened) => opened,

@@ -35,7 +35,8 @@ fn carry_out<R: Files, I: Read, O: Write, E: Write>(
     output: &mut O,
     errors: &mut E,
 ) -> Status
-    ensures { Ends (Some (texts_of order.entry)) (I.remaining input.old) (I.remaining input.new) (O.contents output.old) (O.contents output.new) result }
+    ensures { Ends (Some (texts_of order.entry)) (I.remaining input.old) (I.remaining input.new)
+        (O.contents output.old) (O.contents output.new) result }
 {
     match order {
         Order::New { file } => new(rt, alloc, file, errors),
@@ -56,10 +57,12 @@ fn obey<R: Files, S: AsStr, I: Read, O: Write, E: Write>(
     errors: &mut E,
 ) -> Status
     ensures order { Taken (map S.text words.now)
-        → Ends (asked (map S.text words.now)) (I.remaining input.old) (I.remaining input.new) (O.contents output.old) (O.contents output.new) result }
+        → Ends (asked (map S.text words.now)) (I.remaining input.old) (I.remaining input.new)
+        (O.contents output.old) (O.contents output.new) result }
     ensures mistaken { result ≡ WrongWords → IsMistaken (faults (map S.text words.now)) }
     ensures refused { result ≡ CommandRefused
-        → Refuses (asked (map S.text words.now)) (I.remaining input.old) (I.remaining input.new) (O.contents output.old) (O.contents output.new) }
+        → Refuses (asked (map S.text words.now)) (I.remaining input.old) (I.remaining input.new)
+        (O.contents output.old) (O.contents output.new) }
 {
     match order(alloc, words) {
         Ok(order) => carry_out(rt, alloc, order, input, output, errors),
@@ -90,13 +93,15 @@ pub fn program<R: Files, S: AsStr, I: Read, O: Write, E: Write>(
     ensures code { result ≤ 5 }
     // Words that clap takes are an order, and it ends as the status says.
     ensures order { Taken (map S.text words.now) → (status : StatusValue) × (result ≡ status_code status)
-        × Ends (asked (map S.text words.now)) (I.remaining input.old) (I.remaining input.new) (O.contents output.old) (O.contents output.new) status }
+        × Ends (asked (map S.text words.now)) (I.remaining input.old) (I.remaining input.new)
+        (O.contents output.old) (O.contents output.new) status }
     // Status 2 is for words alone that clap does not take, for a mistake that they have.
     ensures wrong { Taken (map S.text words.now) → result ≢ 2 }
     ensures mistaken { result ≡ 2 → IsMistaken (faults (map S.text words.now)) }
     // With status 1 there is an order with a refused command, whatever the words.
     ensures refused { result ≡ 1
-        → Refuses (asked (map S.text words.now)) (I.remaining input.old) (I.remaining input.new) (O.contents output.old) (O.contents output.new) }
+        → Refuses (asked (map S.text words.now)) (I.remaining input.old) (I.remaining input.new)
+        (O.contents output.old) (O.contents output.new) }
 {
     obey(rt, alloc, words, input, output, errors).code()
 }

@@ -64,7 +64,8 @@ pub(crate) fn print<O: Write, E: Write>(
     output: &mut O,
     errors: &mut E,
 ) -> Status
-    ensures { (result ≡ StreamFailed) ⊎ ((result ≡ status) × Appends (O.contents output.old) (O.contents output.new) text.now) }
+    ensures { (result ≡ StreamFailed)
+        ⊎ ((result ≡ status) × Appends (O.contents output.old) (O.contents output.new) text.now) }
 {
     match output.write_all(text) {
         Ok(()) => status,

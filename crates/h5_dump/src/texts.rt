@@ -119,7 +119,8 @@ fn push_listed_array(
     array: &ArrayCells<'_>,
 ) -> Result<(), AllocError>
     ensures { (d : Dataset) → IsArray d array.now
-        → Appends result text.old.items text.new.items (line_of (path_text path.entry) (content_text (Array d))) }
+        → Appends result text.old.items text.new.items
+        (line_of (path_text path.entry) (content_text (Array d))) }
 {
     let told = ArrayText {
         fixed: array.fixed,
@@ -142,7 +143,8 @@ pub fn push_dump(
     kind: &Kind,
 ) -> Result<(), AllocError>
     requires { HasKind file.now.tree path.now kind.now }
-    ensures { Appends result text.old.items text.new.items (dumped file.now.tree path.now (located file.now.tree path.now)) }
+    ensures { Appends result text.old.items text.new.items
+        (dumped file.now.tree path.now (located file.now.tree path.now)) }
 {
     if let Kind::Soft(target) = kind {
         return push_soft_line(text, PathText::Plain(path), target);
@@ -167,7 +169,8 @@ fn push_group(
     path: &[u8],
     attributes: &[AttrRef<'_>],
 ) -> Result<(), AllocError>
-    ensures { (group : Object) (links : Links) → group.content ≡ Group links → attributes.now ≡ entries group.attributes
+    ensures { (group : Object) (links : Links) → group.content ≡ Group links
+        → attributes.now ≡ entries group.attributes
         → Appends result text.old.items text.new.items (dump_text (escaped path.now) group) }
 {
     push_group_line(text, PathText::Plain(path))?;
@@ -182,7 +185,8 @@ fn push_array(
     array: &ArrayCells<'_>,
     attributes: &[AttrRef<'_>],
 ) -> Result<(), AllocError>
-    ensures { (o : Object) (d : Dataset) → o.content ≡ Array d → IsArray d array.now → attributes.now ≡ entries o.attributes
+    ensures { (o : Object) (d : Dataset) → o.content ≡ Array d → IsArray d array.now
+        → attributes.now ≡ entries o.attributes
         → Appends result text.old.items text.new.items (dump_text (escaped path.now) o) }
 {
     let told = ArrayText {
@@ -200,7 +204,8 @@ fn push_array(
 /// Appends a row of the array's cells, or nothing where there is no cell.
 fn push_cells(text: &mut Vec<u8>, array: &ArrayCells<'_>) -> Result<(), AllocError>
     ensures { (values : List ℤ) → length values ≡ array.now.size → AreCells array.now.cells array.now values
-        → Appends result text.old.items text.new.items (rows_text (length values / array.now.size) array.now.size values) }
+        → Appends result text.old.items text.new.items
+        (rows_text (length values / array.now.size) array.now.size values) }
 {
     if array.size == 0 {
         return Ok(());

@@ -41,7 +41,8 @@ pub(crate) fn carry_out(
     object: Option<ObjectNo>,
 ) -> Result<Made, EditFault>
     requires opened { IsOpened image.now.bytes opened.now.objects.items opened.now.numbers }
-    requires edit { (edit : Edit) × IsFitting image.now.bytes opened.now.objects.items edit change.now object }
+    requires edit { (edit : Edit)
+        × IsFitting image.now.bytes opened.now.objects.items edit change.now object }
     ensures { let f = opened_state image.now.bytes opened.now.objects.items in
         (edit : Edit) → IsFitting image.now.bytes opened.now.objects.items edit change.now object
         → MatchResult result (IsMade f edit) (IsRefused f edit) }
@@ -61,12 +62,17 @@ fn write_changed(
 ) -> Result<Written, WriteFault>
     requires opened { IsOpened image.now.bytes opened.now.objects.items opened.now.numbers }
     requires change { AreBytes image.now.bytes
-        → IsPlainChange (tree_of image.now.bytes opened.now.objects.items) (length opened.now.objects.items) change.now }
-    requires sound { IsSoundTree (changed (tree_of image.now.bytes opened.now.objects.items) change.now (length opened.now.objects.items)) }
+        → IsPlainChange (tree_of image.now.bytes opened.now.objects.items) (length opened.now.objects.items)
+        change.now }
+    requires sound { IsSoundTree
+        (changed (tree_of image.now.bytes opened.now.objects.items) change.now
+        (length opened.now.objects.items)) }
     ensures written { IfOk result (IsWritten (leaf_k image.now.bytes) (internal_k image.now.bytes)
-        (changed (tree_of image.now.bytes opened.now.objects.items) change.now (length opened.now.objects.items))) }
+        (changed (tree_of image.now.bytes opened.now.objects.items) change.now
+        (length opened.now.objects.items))) }
     ensures refused { IfErr result (IsUnwritten (leaf_k image.now.bytes) (internal_k image.now.bytes)
-        (changed (tree_of image.now.bytes opened.now.objects.items) change.now (length opened.now.objects.items))) }
+        (changed (tree_of image.now.bytes opened.now.objects.items) change.now
+        (length opened.now.objects.items))) }
     ensures bytes { AreBytes image.now.bytes }
 {
     let k = k_of(image);

@@ -63,7 +63,8 @@ pub fn remove_attribute(
 ) -> Result<Made, EditFault>
     requires { IsOpened image.now.bytes opened.now.objects.items opened.now.numbers }
     ensures { let f = opened_state image.now.bytes opened.now.objects.items in
-        MatchResult result (IsMade f (RemoveAttr path.now name.now)) (IsRefused f (RemoveAttr path.now name.now)) }
+        MatchResult result (IsMade f (RemoveAttr path.now name.now))
+        (IsRefused f (RemoveAttr path.now name.now)) }
 {
     let number = check_removal(image, opened, path, name)?;
     let change = Change::Remove {

@@ -53,7 +53,8 @@ pub fn new_array(
 ) -> Result<Made, EditFault>
     requires { IsOpened image.now.bytes opened.now.objects.items opened.now.numbers }
     ensures { let f = opened_state image.now.bytes opened.now.objects.items in
-        MatchResult result (IsMade f (CreateDataset path.now spec.now)) (IsRefused f (CreateDataset path.now spec.now)) }
+        MatchResult result (IsMade f (CreateDataset path.now spec.now))
+        (IsRefused f (CreateDataset path.now spec.now)) }
 {
     if !is_one_line(spec) {
         return Err(EditFault::NotYet);
@@ -78,7 +79,8 @@ pub fn new_hard_link(
 ) -> Result<Made, EditFault>
     requires { IsOpened image.now.bytes opened.now.objects.items opened.now.numbers }
     ensures { let f = opened_state image.now.bytes opened.now.objects.items in
-        MatchResult result (IsMade f (HardLink target.now path.now)) (IsRefused f (HardLink target.now path.now)) }
+        MatchResult result (IsMade f (HardLink target.now path.now))
+        (IsRefused f (HardLink target.now path.now)) }
 {
     let (number, place) = check_hard_link(image, opened, target, path)?;
     let change = link_at(place, Target::Object(number));
@@ -98,7 +100,8 @@ pub fn new_soft_link(
 ) -> Result<Made, EditFault>
     requires { IsOpened image.now.bytes opened.now.objects.items opened.now.numbers }
     ensures { let f = opened_state image.now.bytes opened.now.objects.items in
-        MatchResult result (IsMade f (SoftLink text.now path.now)) (IsRefused f (SoftLink text.now path.now)) }
+        MatchResult result (IsMade f (SoftLink text.now path.now))
+        (IsRefused f (SoftLink text.now path.now)) }
 {
     let place = check_soft_link(image, opened, text, path)?;
     let change = link_at(place, Target::Text(text));

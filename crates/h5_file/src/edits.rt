@@ -22,7 +22,8 @@ impl File {
     /// of one size; then as the call of its own is. Where both `TreeTooDeep` and `ImageFull` hold, either is answered. A refusal changes
     /// nothing.
     pub fn edit(&mut self, edit: &Edit) -> Result<Edited, EditFault>
-        ensures { MatchResult result (IsEdited self.old edit.now self.new) (λ e. IsRefused self.old edit.now e × (self.new ≡ self.old)) }
+        ensures { MatchResult result (IsEdited self.old edit.now self.new) (λ e.
+            IsRefused self.old edit.now e × (self.new ≡ self.old)) }
     {
         match edit {
             Edit::CreateGroup { path } => self.create_group(path.as_slice()),
@@ -118,7 +119,8 @@ impl File {
     fn take(&mut self, made: Made) -> Result<Edited, EditFault>
         requires { (edit : TheEdit) × IsMade self.old edit made }
         ensures { (edit : TheEdit) → IsMade self.old edit made
-            → MatchResult result (IsEdited self.old edit self.new) (λ e. IsRefused self.old edit e × (self.new ≡ self.old)) }
+            → MatchResult result (IsEdited self.old edit self.new) (λ e.
+            IsRefused self.old edit e × (self.new ≡ self.old)) }
     {
         let image = Image::new(self.alloc, made.image);
         // The image reads as a tree, so only memory can be short.

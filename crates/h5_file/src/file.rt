@@ -117,7 +117,8 @@ impl File {
     /// The path is `/`, or `/` before each of up to 64 names. Refused as `BadPath`, `PathTooDeep`,
     /// `NoSuchParent`, `NotAGroup` or `NotFound`, the lowest number that holds. It takes no memory.
     pub fn kind(&self, path: &[u8]) -> Result<Kind<'_>, EditFault>
-        ensures { MatchResult result (HasKind self.now.tree path.now) (λ e. first_holding (path_rules self.now.tree path.now) ≡ Some e) }
+        ensures { MatchResult result (HasKind self.now.tree path.now) (λ e.
+            first_holding (path_rules self.now.tree path.now) ≡ Some e) }
     {
         kind_at(self.alloc, &self.image, &self.opened, path)
     }
@@ -127,7 +128,9 @@ impl File {
     /// Refused as [`File::kind`] is, also as `NotAGroup` where no group stands there, and as
     /// `NoMemory`.
     pub fn list(&self, path: &[u8]) -> Result<Vec<&[u8]>, EditFault>
-        ensures { MatchResult result (λ names. HasNames self.now.tree path.now (map (λ name. name.now) names.items)) (IsListRefused self.now.tree path.now) }
+        ensures { MatchResult result (λ names.
+            HasNames self.now.tree path.now (map (λ name. name.now) names.items))
+            (IsListRefused self.now.tree path.now) }
     {
         names_at(self.alloc, &self.image, &self.opened, path)
     }
@@ -136,7 +139,9 @@ impl File {
     ///
     /// Refused as [`File::kind`] is, and as `NoMemory`.
     pub fn attrs(&self, path: &[u8]) -> Result<Vec<&[u8]>, EditFault>
-        ensures { MatchResult result (λ names. HasAttributeNames self.now.tree path.now (map (λ name. name.now) names.items)) (IsUnlisted self.now.tree path.now) }
+        ensures { MatchResult result (λ names.
+            HasAttributeNames self.now.tree path.now (map (λ name. name.now) names.items))
+            (IsUnlisted self.now.tree path.now) }
     {
         names_of_attributes(self.alloc, &self.image, &self.opened, path)
     }
@@ -145,7 +150,8 @@ impl File {
     ///
     /// Refused as [`File::attrs`] is.
     pub fn attributes(&self, path: &[u8]) -> Result<Vec<AttrRef<'_>>, EditFault>
-        ensures { MatchResult result (λ list. HasAttributesOf self.now.tree path.now list.items) (IsUnlisted self.now.tree path.now) }
+        ensures { MatchResult result (λ list.
+            HasAttributesOf self.now.tree path.now list.items) (IsUnlisted self.now.tree path.now) }
     {
         attributes_at(self.alloc, &self.image, &self.opened, path)
     }
@@ -155,7 +161,8 @@ impl File {
     /// Refused as [`File::kind`] is, and as `NoSuchAttribute` where the object has none of this name.
     /// It takes no memory.
     pub fn get_attr(&self, path: &[u8], name: &[u8]) -> Result<AttrRef<'_>, EditFault>
-        ensures { MatchResult result (HasAttribute self.now.tree path.now name.now) (λ e. first_holding (attribute_rules self.now.tree path.now name.now) ≡ Some e) }
+        ensures { MatchResult result (HasAttribute self.now.tree path.now name.now) (λ e.
+            first_holding (attribute_rules self.now.tree path.now name.now) ≡ Some e) }
     {
         one_attribute(&self.image, &self.opened, path, name)
     }
@@ -166,7 +173,8 @@ impl File {
     /// where the index has not one number for each size, and as `OutOfExtent` where one of them is
     /// not below its size. It takes no memory.
     pub fn cell(&self, path: &[u8], index: &[u64]) -> Result<i128, EditFault>
-        ensures { MatchResult result (HasCell self.now.tree path.now index.now) (λ e. first_holding (cell_rules self.now.tree path.now index.now) ≡ Some e) }
+        ensures { MatchResult result (HasCell self.now.tree path.now index.now) (λ e.
+            first_holding (cell_rules self.now.tree path.now index.now) ≡ Some e) }
     {
         one_cell(&self.image, &self.opened, path, index)
     }
@@ -175,7 +183,8 @@ impl File {
     ///
     /// Refused as [`File::kind`] is, also as `NotFound` where a soft link stands there. It takes no memory.
     pub fn object_number(&self, path: &[u8]) -> Result<ObjectNo, EditFault>
-        ensures { MatchResult result (λ number. IsNumber self.now.tree path.now number.0) (IsNoObject self.now.tree path.now) }
+        ensures { MatchResult result (λ number.
+            IsNumber self.now.tree path.now number.0) (IsNoObject self.now.tree path.now) }
     {
         number_at(&self.image, &self.opened, path)
     }
@@ -184,7 +193,9 @@ impl File {
     ///
     /// Takes memory for a reference to each link.
     pub fn links(&self, number: ObjectNo) -> Result<Option<Vec<Link<'_>>>, AllocError>
-        ensures { IfOk result (λ found. MatchOption found (IsNoGroup self.now.tree number.0) (λ links. AreLinks self.now.tree number.0 links.items)) }
+        ensures { IfOk result (λ found.
+            MatchOption found (IsNoGroup self.now.tree number.0) (λ links.
+            AreLinks self.now.tree number.0 links.items)) }
     {
         links_of(self.alloc, &self.image, &self.opened, number)
     }

@@ -62,7 +62,8 @@ pub fn link_at<'a>(image: &'a Image, group: &Group, node: u64, i: usize) -> Link
     requires group { IsGroupRead image.now.bytes group.now }
     requires node { Contains group.now.symbol_nodes.items node }
     requires entry { i < length (symbols_at image.now.bytes (leaf_k image.now.bytes) node) }
-    ensures { option_map (link_of (segment_of image.now.bytes group.now.table.heap)) (slice_get (symbols_at image.now.bytes (leaf_k image.now.bytes) node) i)
+    ensures { option_map (link_of (segment_of image.now.bytes group.now.table.heap))
+        (slice_get (symbols_at image.now.bytes (leaf_k image.now.bytes) node) i)
         ≡ Some (link_from result) }
 {
     link_in(segment(image, group), &symbol_node(image, group, node), i)

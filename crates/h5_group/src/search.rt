@@ -39,8 +39,10 @@ fn node_of(image: &Image, group: &Group, segment: &[u8], name: &[u8]) -> Option<
     requires segment { segment.now ≡ segment_of image.now.bytes group.now.table.heap }
     ensures one { IfSome result (Contains group.now.symbol_nodes.items) }
     ensures only { IfSome result (λ at.
-        Contains (names_in (symbols_at image.now.bytes (leaf_k image.now.bytes)) segment.now group.now.symbol_nodes.items) name.now
-        → Contains (names_in (symbols_at image.now.bytes (leaf_k image.now.bytes)) segment.now (at ∷ [])) name.now) }
+        Contains (names_in (symbols_at image.now.bytes (leaf_k image.now.bytes)) segment.now
+        group.now.symbol_nodes.items) name.now
+        → Contains (names_in (symbols_at image.now.bytes (leaf_k image.now.bytes)) segment.now (at ∷ []))
+        name.now) }
     ensures none { IfNone result (group.now.symbol_nodes.items ≡ []) }
 {
     let bytes = image.bytes();

@@ -16,7 +16,8 @@ pub(crate) fn read_block(
     blocks: &mut Vec<Block>,
 ) -> Result<(), Cause>
     requires { block.at + block.len ≤ length image.now }
-    ensures read { OnOk result (ReadTo image.now block list.old.items list.new.items blocks.old.items blocks.new.items block.len) }
+    ensures read { OnOk result
+        (ReadTo image.now block list.old.items list.new.items blocks.old.items blocks.new.items block.len) }
     ensures refused { IfErr result (λ cause. (cause ≡ Cause.NoMemory) ⊎ StopsIn image.now block cause) }
 {
     let end = block.at + block.len;

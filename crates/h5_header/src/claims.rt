@@ -24,10 +24,12 @@ pub(crate) fn claim_prefix(
     ensures block { IfOk result (λ b. b ≡ header_block image.now header) }
     ensures version { OnOk result (byte_at (prefix_at image.now header) 0 ≡ 1) }
     ensures inside { IfOk result (λ b. b.at + b.len ≤ length image.now) }
-    ensures claimed { IfOk result (λ b. (p : ℕ) → cover p claims.new.held ≡ cover p claims.old.held + holds p b.at b.len) }
+    ensures claimed { IfOk result (λ b.
+        (p : ℕ) → cover p claims.new.held ≡ cover p claims.old.held + holds p b.at b.len) }
     ensures separate { OnOk result (Separate claims.new.held) }
     ensures end { claims.new.end ≡ claims.old.end }
-    ensures refused { IfErr result (λ fault. PrefixBreach image.now header claims.old.held fault.cause fault.address) }
+    ensures refused { IfErr result (λ fault.
+        PrefixBreach image.now header claims.old.held fault.cause fault.address) }
 {
     let size = image.len() as u64;
     if header > size || PREFIX > size - header {

@@ -64,7 +64,8 @@ impl Messages {
     pub fn body<'a>(&self, image: &'a Image, k: usize) -> &'a [u8]
         requires known { k < length self.now.list }
         requires within { IsWithin (length image.now.bytes) self.now.list }
-        ensures { option_map (λ m. m.body) (slice_get (messages_in image.now.bytes self.now.list) k) ≡ Some result.now }
+        ensures { option_map (λ m.
+            m.body) (slice_get (messages_in image.now.bytes self.now.list) k) ≡ Some result.now }
     {
         let message = self.list[k];
         &image.bytes()[message.at as usize..message.at as usize + message.size as usize]
@@ -90,12 +91,14 @@ pub(crate) fn read_header(
 ) -> Result<Messages, OpenFault>
     requires { claims.old.end ≡ length image.now }
     ensures header { IfOk result (λ m. m.header ≡ header) }
-    ensures read { IfOk result (λ m. ReadThrough image.now header claims.old.held claims.new.held m.list m.blocks (length m.blocks)) }
+    ensures read { IfOk result (λ m.
+        ReadThrough image.now header claims.old.held claims.new.held m.list m.blocks (length m.blocks)) }
     ensures within { IfOk result (λ m. IsWithin (length image.now) m.list) }
     ensures version { OnOk result (byte_at (prefix_at image.now header) 0 ≡ 1) }
     ensures separate { OnOk result (Separate claims.new.held) }
     ensures end { claims.new.end ≡ claims.old.end }
-    ensures refused { IfErr result (λ fault. Stops image.now header claims.old.held fault.cause fault.address) }
+    ensures refused { IfErr result (λ fault.
+        Stops image.now header claims.old.held fault.cause fault.address) }
 {
     let first = claim_prefix(image, claims, header)?;
     let mut list = Vec::new(alloc);

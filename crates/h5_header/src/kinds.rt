@@ -28,10 +28,14 @@ impl Messages {
     /// Else `DuplicateMessage` where one of these or a Fill Value stands twice, or stands beside a Symbol
     /// Table. Both are at the header. The names of attributes are not compared.
     pub fn object_kind(&self) -> Result<ObjectKind, OpenFault>
-        ensures group { (image : List ℕ) → (result ≡ Ok ObjectKind.Group) ↔ IsOfGroup (messages_in image self.now.list) }
-        ensures dataset { (image : List ℕ) → (result ≡ Ok ObjectKind.Dataset) ↔ IsOfDataset (messages_in image self.now.list) }
+        ensures group { (image : List ℕ)
+            → (result ≡ Ok ObjectKind.Group) ↔ IsOfGroup (messages_in image self.now.list) }
+        ensures dataset { (image : List ℕ)
+            → (result ≡ Ok ObjectKind.Dataset) ↔ IsOfDataset (messages_in image self.now.list) }
         ensures address { IfErr result (λ fault. fault.address ≡ self.now.header) }
-        ensures refused { (image : List ℕ) → IfErr result (λ fault. ListBreach image self.now.header (messages_in image self.now.list) fault.cause) }
+        ensures refused { (image : List ℕ)
+            → IfErr result (λ fault.
+            ListBreach image self.now.header (messages_in image self.now.list) fault.cause) }
     {
         let header = self.header();
         let table = self.count(SYMBOL_TABLE);

@@ -36,15 +36,19 @@ pub fn messages(
 ) -> Result<Messages, OpenFault>
     requires { claims.old.end ≡ length image.now.bytes }
     ensures header { IfOk result (λ m. m.header ≡ at) }
-    ensures read { IfOk result (λ m. HasMessages image.now.bytes at (messages_in image.now.bytes m.list) m.blocks) }
+    ensures read { IfOk result (λ m.
+        HasMessages image.now.bytes at (messages_in image.now.bytes m.list) m.blocks) }
     ensures known { IfOk result (λ m. AllByRecursion (λ x. IsTrue (is_read x.kind)) m.list) }
     ensures within { IfOk result (λ m. IsWithin (length image.now.bytes) m.list) }
     ensures inside { IfOk result (λ m. Inside (length image.now.bytes) m.blocks) }
-    ensures claimed { IfOk result (λ m. (p : ℕ) → cover p claims.new.held ≡ cover p claims.old.held + cover p m.blocks) }
+    ensures claimed { IfOk result (λ m.
+        (p : ℕ) → cover p claims.new.held ≡ cover p claims.old.held + cover p m.blocks) }
     ensures separate { OnOk result (Separate claims.new.held) }
     ensures end { claims.new.end ≡ claims.old.end }
-    ensures refused { IfErr result (λ fault. IsRefused image.now.bytes at claims.old.held fault.cause fault.address) }
-    ensures only { IsReadable image.now.bytes at claims.old.held → IfErr result (λ fault. fault.cause ≡ Cause.NoMemory) }
+    ensures refused { IfErr result (λ fault.
+        IsRefused image.now.bytes at claims.old.held fault.cause fault.address) }
+    ensures only { IsReadable image.now.bytes at claims.old.held
+        → IfErr result (λ fault. fault.cause ≡ Cause.NoMemory) }
 {
     let bytes = image.bytes();
     let messages = read_header(alloc, bytes, claims, at)?;

@@ -37,7 +37,8 @@ pub(crate) fn claim_heap(image: &Image, claims: &mut Claims, at: u64) -> Result<
         → cover p claims.new.held ≡ cover p claims.old.held + cover p (heap_blocks image.now.bytes at)) }
     ensures separate { OnOk result (Separate claims.new.held) }
     ensures end { claims.new.end ≡ claims.old.end }
-    ensures refused { IfErr result (λ fault. IsRefused image.now.bytes at claims.old.held fault.cause fault.address) }
+    ensures refused { IfErr result (λ fault.
+        IsRefused image.now.bytes at claims.old.held fault.cause fault.address) }
 {
     let Some(bytes) = image.part(at, HEADER) else {
         return Err(fault(Cause::Truncated, at));
@@ -55,7 +56,8 @@ pub(crate) fn claim_heap(image: &Image, claims: &mut Claims, at: u64) -> Result<
 fn read_header(header: &[u8]) -> Option<Header>
     requires { length header.now ≡ 32 }
     ensures read { IfSome result (λ h. IsHeader header.now) }
-    ensures segment { IfSome result (λ h. h.segment ≡ block (segment_place header.now) (segment_size header.now)) }
+    ensures segment { IfSome result (λ h.
+        h.segment ≡ block (segment_place header.now) (segment_size header.now)) }
     ensures free { IfSome result (λ h. h.free_head ≡ free_head header.now) }
     ensures none { IfNone result (IsHeader header.now → ⊥) }
 {

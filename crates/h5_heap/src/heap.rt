@@ -57,7 +57,8 @@ pub fn read_heap(
     requires { claims.old.end ≡ length image.now.bytes }
     ensures at { IfOk result (λ h. h.at ≡ at) }
     ensures segment { IfOk result (λ h. h.segment ≡ segment_block image.now.bytes at) }
-    ensures read { IfOk result (λ h. IsHeap (heap_header image.now.bytes at) (segment_of image.now.bytes at) h.free) }
+    ensures read { IfOk result (λ h.
+        IsHeap (heap_header image.now.bytes at) (segment_of image.now.bytes at) h.free) }
     ensures held { IfOk result (λ h. (p : ℕ) → cover p h.held ≡ cover p h.free) }
     ensures taken { IfOk result (λ h. h.taken ≡ []) }
     ensures inside { OnOk result (Inside (length image.now.bytes) (heap_blocks image.now.bytes at)) }
@@ -65,7 +66,8 @@ pub fn read_heap(
         → cover p claims.new.held ≡ cover p claims.old.held + cover p (heap_blocks image.now.bytes at)) }
     ensures separate { OnOk result (Separate claims.new.held) }
     ensures end { claims.new.end ≡ claims.old.end }
-    ensures refused { IfErr result (λ fault. IsRefused image.now.bytes at claims.old.held fault.cause fault.address) }
+    ensures refused { IfErr result (λ fault.
+        IsRefused image.now.bytes at claims.old.held fault.cause fault.address) }
     ensures only { IsReadable image.now.bytes at claims.old.held
         → IfErr result (λ fault. fault.cause ≡ Cause.NoMemory) }
 {

@@ -27,7 +27,8 @@ impl Heap {
         requires { self.now.segment.at + self.now.segment.len ≤ length image.now.bytes }
         ensures text { IfOk result (λ x. x.now ≡ text_at (segment_in image.now.bytes self.now) offset) }
         ensures span { OnOk result (IsSpan (segment_in image.now.bytes self.now) offset) }
-        ensures fault { IfErr result (λ fault. fault ≡ record { cause = Cause.HeapName; address = self.now.at }) }
+        ensures fault { IfErr result (λ fault.
+            fault ≡ record { cause = Cause.HeapName; address = self.now.at }) }
         ensures refused { IfErr result (λ fault. IsSpan (segment_in image.now.bytes self.now) offset → ⊥) }
     {
         match text_in(self.segment_bytes(image), offset) {
@@ -45,8 +46,10 @@ impl Heap {
         requires { self.old.segment.at + self.old.segment.len ≤ length image.now.bytes }
         ensures zero { OnOk result (byte_at (segment_in image.now.bytes self.old) 0 ≡ 0) }
         ensures held { OnOk result (self.new ≡ record self.old { held = self.new.held }) }
-        ensures claimed { OnOk result ((p : ℕ) → cover p self.new.held ≡ cover p self.old.held + holds p 0 8) }
-        ensures begun { OnOk result (((p : ℕ) → cover p self.old.held ≡ cover p self.old.free) → self.old.taken ≡ []
+        ensures claimed { OnOk result
+            ((p : ℕ) → cover p self.new.held ≡ cover p self.old.held + holds p 0 8) }
+        ensures begun { OnOk result
+            (((p : ℕ) → cover p self.old.held ≡ cover p self.old.free) → self.old.taken ≡ []
             → HasTaken (segment_in image.now.bytes self.old) self.new [] []) }
         ensures address { IfErr result (λ fault. fault.address ≡ self.old.at) }
         ensures refused { IfErr result (λ fault.

@@ -128,7 +128,8 @@ fn value_in_block(
 ) -> i128
     requires within { ForSome block (λ b. b.at + b.len ≤ length image.now.bytes) }
     requires room { ForSome block (λ b. place * fixed.now.size + fixed.now.size ≤ b.len) }
-    ensures { result ≡ option_map_or (λ b. value_at_place fixed.now (part b.at b.len image.now.bytes) place) block
+    ensures { result ≡ option_map_or (λ b.
+        value_at_place fixed.now (part b.at b.len image.now.bytes) place) block
         fill }
 {
     let Some(block) = block else {

@@ -56,7 +56,8 @@ pub(crate) fn judge_old_fill(fixed: &Fixed, body: Option<&[u8]>) -> Result<Optio
     requires { IsFixed fixed.now }
     ensures form { MatchResult result
         (λ fill. IsFill (old_fill_value fixed.now) (option_copied body.entry) fill)
-        (λ cause. (cause ≡ Cause.FillForm) × (is_bad (old_fill_value fixed.now) (option_copied body.entry) ≡ true)) }
+        (λ cause.
+        (cause ≡ Cause.FillForm) × (is_bad (old_fill_value fixed.now) (option_copied body.entry) ≡ true)) }
     ensures of_type { IfOk result (λ fill. IfSome fill (λ v. fits fixed.now v ≡ true)) }
 {
     let Some(body) = body else {
@@ -84,7 +85,8 @@ pub(crate) fn judge_fill(fixed: &Fixed, body: Option<&[u8]>) -> Result<Option<i1
     requires { IsFixed fixed.now }
     ensures form { MatchResult result
         (λ fill. IsFill (fill_value fixed.now) (option_copied body.entry) fill)
-        (λ cause. (cause ≡ Cause.FillForm) × (is_bad (fill_value fixed.now) (option_copied body.entry) ≡ true)) }
+        (λ cause.
+        (cause ≡ Cause.FillForm) × (is_bad (fill_value fixed.now) (option_copied body.entry) ≡ true)) }
     ensures of_type { IfOk result (λ fill. IfSome fill (λ v. fits fixed.now v ≡ true)) }
 {
     let Some(body) = body else {
@@ -114,7 +116,8 @@ pub(crate) fn judge_layout<'a>(
     fixed: &Fixed,
     body: &'a [u8],
 ) -> Result<Layout<'a>, Cause>
-    ensures told { IfOk result (λ layout. layout_of dims.now fixed.now.size body.now ≡ Some (layout_in layout)) }
+    ensures told { IfOk result (λ layout.
+        layout_of dims.now fixed.now.size body.now ≡ Some (layout_in layout)) }
     ensures small { IfOk result (λ layout. is_large fixed.now (layout_in layout) ≡ false) }
     ensures refused { IfErr result (λ cause.
         layout_breach (Some fixed.now) (layout_of dims.now fixed.now.size body.now) ≡ Some cause) }

@@ -47,7 +47,8 @@ pub fn read_array<'a>(
     ensures first { IfErr result (λ fault.
         breach_in (messages_in image.now.bytes messages.now.list) ≡ Some fault.cause) }
     ensures refused { IfErr result (λ fault.
-        ListBreach image.now.bytes messages.now.header (messages_in image.now.bytes messages.now.list) fault.cause) }
+        ListBreach image.now.bytes messages.now.header (messages_in image.now.bytes messages.now.list)
+        fault.cause) }
 {
     match judge(alloc, image, messages) {
         Ok(array) => Ok(array),
@@ -63,7 +64,8 @@ fn judge<'a>(alloc: Global, image: &'a Image, messages: &Messages) -> Result<Arr
     requires within { IsWithin (length image.now.bytes) messages.now.list }
     requires dataset { IsOfDataset (messages_in image.now.bytes messages.now.list) }
     ensures read { IfOk result (λ array. HasArray (messages_in image.now.bytes messages.now.list) array) }
-    ensures first { IfErr result (λ cause. breach_in (messages_in image.now.bytes messages.now.list) ≡ Some cause) }
+    ensures first { IfErr result (λ cause.
+        breach_in (messages_in image.now.bytes messages.now.list) ≡ Some cause) }
 {
     let (dims, extent) = judge_sizes(alloc, one_body(image, messages, DATASPACE))?;
     let fixed = judge_datatype(one_body(image, messages, DATATYPE))?;
@@ -82,7 +84,8 @@ fn judge<'a>(alloc: Global, image: &'a Image, messages: &Messages) -> Result<Arr
 fn judge_fills(image: &Image, messages: &Messages, fixed: &Fixed) -> Result<i128, Cause>
     requires within { IsWithin (length image.now.bytes) messages.now.list }
     requires sound { IsFixed fixed.now }
-    ensures filled { IfOk result (λ fill. HasFill (messages_in image.now.bytes messages.now.list) fixed.now fill) }
+    ensures filled { IfOk result (λ fill.
+        HasFill (messages_in image.now.bytes messages.now.list) fixed.now fill) }
     ensures of_type { IfOk result (λ fill. fits fixed.now fill ≡ true) }
     ensures refused { IfErr result (λ cause.
         fill_breach (messages_in image.now.bytes messages.now.list) (Some fixed.now) ≡ Some cause) }

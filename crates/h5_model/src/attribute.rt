@@ -27,7 +27,8 @@ impl AttrSpec {
         dims: &[u64],
         values: &[i128],
     ) -> Result<AttrSpec, AllocError>
-        ensures { IfOk result (λ attr. attr ≡ record { name = name.now; fixed = fixed; dims = dims.now; values = values.now }) }
+        ensures { IfOk result (λ attr.
+            attr ≡ record { name = name.now; fixed = fixed; dims = dims.now; values = values.now }) }
     {
         Ok(AttrSpec {
             name: Items::from_slice(alloc, name)?,

@@ -34,7 +34,8 @@ impl Hyper {
         count: &[u64],
         block: &[u64],
     ) -> Result<Hyper, AllocError>
-        ensures { IfOk result (λ hyper. hyper ≡ record { start = start.now; stride = stride.now; count = count.now; block = block.now }) }
+        ensures { IfOk result (λ hyper.
+            hyper ≡ record { start = start.now; stride = stride.now; count = count.now; block = block.now }) }
     {
         Ok(Hyper {
             start: Items::from_slice(alloc, start)?,

@@ -194,7 +194,8 @@ pub fn attribute_length(name: usize, rank: usize, values: usize, fixed: &Fixed) 
     requires name { name < 2 ^ 16 - 1 }
     requires rank { rank ≤ 32 }
     requires values { values ≤ 2 ^ 40 }
-    ensures { (sizes : List ℕ) → length sizes ≡ rank → cells_of sizes ≡ values → result ≡ attribute_size name sizes fixed.now.size }
+    ensures { (sizes : List ℕ) → length sizes ≡ rank → cells_of sizes ≡ values
+        → result ≡ attribute_size name sizes fixed.now.size }
 {
     NAME + pad8(name + 1) + DATATYPE + dataspace_length(rank, false) + values * fixed.size()
 }
@@ -212,7 +213,8 @@ pub fn write_attribute(name: &[u8], fixed: &Fixed, sizes: &[u64], values: &[i128
     requires of_type { list_all (fits fixed.now) values.now ≡ true }
     requires room { attribute_size (length name.now) sizes.now fixed.now.size ≤ length bytes.old }
     ensures written { bytes.new ≡ attribute_bytes name.now fixed.now sizes.now values.now (length bytes.old) }
-    ensures reads { attribute_of bytes.new ≡ Some (name.now, record { fixed = fixed.now; sizes = sizes.now; values = values.now }) }
+    ensures reads { attribute_of bytes.new
+        ≡ Some (name.now, record { fixed = fixed.now; sizes = sizes.now; values = values.now }) }
 {
     write_parts(name, fixed, sizes, values, bytes);
 }

@@ -204,7 +204,8 @@ fn read_chunked(rank: usize, size: usize, body: &[u8]) -> Result<Layout<'_>, For
 #[tactic(auto, using(crate::proofs::LayoutLaws::zero_step))]
 fn has_zero(body: &[u8], k: usize, count: usize) -> bool
     requires { 11 + 4 * (k + count) ≤ length body.now }
-    ensures { result ≡ list_any (λ n. n == 0) (map (λ i. number_at body.now (11 + 4 * i) 4) (range_with_len k count)) }
+    ensures { result ≡ list_any (λ n.
+        n == 0) (map (λ i. number_at body.now (11 + 4 * i) 4) (range_with_len k count)) }
 {
     if count == 0 {
         return false;

@@ -30,7 +30,9 @@ pub(crate) fn judge_root(
     ensures read { IfOk result (λ table. IsGroupList (messages_in image.now.bytes messages.now.list) table) }
     ensures names { OnOk result (HasNamesOnce (messages_in image.now.bytes messages.now.list)) }
     ensures address { IfErr result (λ fault. fault.address ≡ messages.now.header) }
-    ensures refused { IfErr result (λ fault. IsRootBreach image.now.bytes messages.now.header (messages_in image.now.bytes messages.now.list) fault.cause) }
+    ensures refused { IfErr result (λ fault.
+        IsRootBreach image.now.bytes messages.now.header (messages_in image.now.bytes messages.now.list)
+        fault.cause) }
 {
     let Some(body) = find_body(image, messages, SYMBOL_TABLE) else {
         return Err(fault(Cause::MissingMessage, messages.header()));
@@ -58,7 +60,9 @@ pub(crate) fn judge_line(
     ensures read { IfOk result (λ line. IsLineList (messages_in image.now.bytes messages.now.list) line) }
     ensures names { OnOk result (HasNamesOnce (messages_in image.now.bytes messages.now.list)) }
     ensures address { IfErr result (λ fault. fault.address ≡ messages.now.header) }
-    ensures refused { IfErr result (λ fault. IsLineBreach image.now.bytes messages.now.header (messages_in image.now.bytes messages.now.list) fault.cause) }
+    ensures refused { IfErr result (λ fault.
+        IsLineBreach image.now.bytes messages.now.header (messages_in image.now.bytes messages.now.list)
+        fault.cause) }
 {
     check_names(alloc, image, messages)?;
     let array = read_array(alloc, image, messages)?;

@@ -44,14 +44,16 @@ pub(crate) fn read_object(
 ) -> Result<OpenedObject, OpenFault>
     requires superblock { IsSuperblock image.now.bytes }
     requires end { claims.old.end ≡ length image.now.bytes }
-    ensures read { IfOk result (λ o. IsObjectRead image.now.bytes claims.old.held claims.new.held header depth o) }
+    ensures read { IfOk result (λ o.
+        IsObjectRead image.now.bytes claims.old.held claims.new.held header depth o) }
     ensures separate { OnOk result (Separate claims.new.held) }
     ensures end { claims.new.end ≡ claims.old.end }
     ensures followed { IfOk result (λ o. (followed : List Named) (field : ℕ)
         → IsHeaderMet image.now.bytes claims.old.held followed field header depth
         → IsObjectFollowed image.now.bytes claims.old.held claims.new.held followed field o) }
     ensures refused { IfErr result (λ fault. (followed : List Named) (field : ℕ)
-        → IsHeaderMet image.now.bytes claims.old.held followed field header depth → IsRefusedAt image.now.bytes fault.cause fault.address) }
+        → IsHeaderMet image.now.bytes claims.old.held followed field header depth
+        → IsRefusedAt image.now.bytes fault.cause fault.address) }
 {
     let messages = h5_header::messages(alloc, image, claims, header)?;
     if depth == 0 {
@@ -85,7 +87,8 @@ fn read_group_object(
         → IsHeaderDone image.now.bytes held claims.old.held followed field depth messages
         → IsObjectFollowed image.now.bytes held claims.new.held followed field o) }
     ensures refused { IfErr result (λ fault. (held : List Block) (followed : List Named) (field : ℕ)
-        → IsHeaderDone image.now.bytes held claims.old.held followed field depth messages → IsRefusedAt image.now.bytes fault.cause fault.address) }
+        → IsHeaderDone image.now.bytes held claims.old.held followed field depth messages
+        → IsRefusedAt image.now.bytes fault.cause fault.address) }
 {
     let table = judge_root(alloc, image, &messages)?;
     let group = read_group(alloc, image, claims, table)?;
@@ -119,7 +122,8 @@ fn read_array_object(
         → IsHeaderDone image.now.bytes held claims.old.held followed field depth messages
         → IsObjectFollowed image.now.bytes held claims.new.held followed field o) }
     ensures refused { IfErr result (λ fault. (held : List Block) (followed : List Named) (field : ℕ)
-        → IsHeaderDone image.now.bytes held claims.old.held followed field depth messages → IsRefusedAt image.now.bytes fault.cause fault.address) }
+        → IsHeaderDone image.now.bytes held claims.old.held followed field depth messages
+        → IsRefusedAt image.now.bytes fault.cause fault.address) }
 {
     let line = judge_line(alloc, image, &messages)?;
     claim_data(claims, line.cells)?;
@@ -152,7 +156,8 @@ fn check_depth(image: &Image, group: &Group, depth: u8) -> Result<(), OpenFault>
 fn claim_data(claims: &mut Claims, cells: Option<Block>) -> Result<(), OpenFault>
     requires { Separate claims.old.held }
     ensures inside { OnOk result (Inside claims.old.end (data_blocks cells)) }
-    ensures claimed { OnOk result ((p : ℕ) → cover p claims.new.held ≡ cover p claims.old.held + cover p (data_blocks cells)) }
+    ensures claimed { OnOk result
+        ((p : ℕ) → cover p claims.new.held ≡ cover p claims.old.held + cover p (data_blocks cells)) }
     ensures separate { Separate claims.new.held }
     ensures end { claims.new.end ≡ claims.old.end }
     ensures refused { IfErr result (λ fault. (b : Block)
@@ -171,7 +176,8 @@ pub(crate) fn links_in<'a>(
     object: &OpenedObject,
 ) -> Result<Vec<LinkRef<'a>>, OpenFault>
     requires { IsObjectKept image.now.bytes object.now }
-    ensures links { IfOk result (λ links. map link_from links.items ≡ object_links image.now.bytes object.now.content) }
+    ensures links { IfOk result (λ links.
+        map link_from links.items ≡ object_links image.now.bytes object.now.content) }
     ensures refused { IfErr result (λ fault. fault.cause ≡ Cause.NoMemory) }
 {
     let OpenedContent::Group(group) = &object.content else {

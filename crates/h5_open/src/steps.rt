@@ -90,7 +90,8 @@ fn read_tree(
     ensures index { OnOk result (IsNumbered opened.new.objects.items opened.new.numbers) }
     ensures read { OnOk result ((followed : List Named) (field : ℕ)
         → IsReady image.now.bytes claims.old.held followed opened.old.objects.items field header depth
-        → IsTreeRead image.now.bytes claims.old.held claims.new.held followed opened.old.objects.items opened.new.objects.items field header depth) }
+        → IsTreeRead image.now.bytes claims.old.held claims.new.held followed opened.old.objects.items
+        opened.new.objects.items field header depth) }
     ensures refused { IfErr result (λ fault. (followed : List Named) (field : ℕ)
         → IsReady image.now.bytes claims.old.held followed opened.old.objects.items field header depth
         → IsRefusedAt image.now.bytes fault.cause fault.address) }
@@ -122,10 +123,13 @@ fn follow(
     ensures end { claims.new.end ≡ claims.old.end }
     ensures index { OnOk result (IsNumbered opened.new.objects.items opened.new.numbers) }
     ensures read { OnOk result ((followed : List Named) (field : ℕ)
-        → IsLinkReady image.now.bytes claims.old.held followed opened.old.objects.items field depth (link_from link.entry)
-        → IsLinkRead image.now.bytes claims.old.held claims.new.held followed opened.old.objects.items opened.new.objects.items field depth (link_from link.entry)) }
+        → IsLinkReady image.now.bytes claims.old.held followed opened.old.objects.items field depth
+        (link_from link.entry)
+        → IsLinkRead image.now.bytes claims.old.held claims.new.held followed opened.old.objects.items
+        opened.new.objects.items field depth (link_from link.entry)) }
     ensures refused { IfErr result (λ fault. (followed : List Named) (field : ℕ)
-        → IsLinkReady image.now.bytes claims.old.held followed opened.old.objects.items field depth (link_from link.entry)
+        → IsLinkReady image.now.bytes claims.old.held followed opened.old.objects.items field depth
+        (link_from link.entry)
         → IsRefusedAt image.now.bytes fault.cause fault.address) }
 {
     let LinkTarget::Object(header) = link.target else {

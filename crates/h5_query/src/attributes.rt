@@ -27,7 +27,8 @@ pub fn names_of_attributes<'a>(
 ) -> Result<Vec<&'a [u8]>, EditFault>
     requires { IsOpened image.now.bytes opened.now.objects.items opened.now.numbers }
     ensures { let tree = tree_of image.now.bytes opened.now.objects.items in
-        MatchResult result (λ names. HasAttributeNames tree path.now (map (λ name. name.now) names.items)) (IsUnlisted tree path.now) }
+        MatchResult result (λ names.
+        HasAttributeNames tree path.now (map (λ name. name.now) names.items)) (IsUnlisted tree path.now) }
 {
     match list(alloc, image, messages_at(image, opened, path)?) {
         Ok(names) => Ok(names),
@@ -65,7 +66,8 @@ pub fn one_attribute<'a>(
 ) -> Result<AttrRef<'a>, EditFault>
     requires { IsOpened image.now.bytes opened.now.objects.items opened.now.numbers }
     ensures { let tree = tree_of image.now.bytes opened.now.objects.items in
-        MatchResult result (HasAttribute tree path.now name.now) (λ e. first_holding (attribute_rules tree path.now name.now) ≡ Some e) }
+        MatchResult result (HasAttribute tree path.now name.now) (λ e.
+        first_holding (attribute_rules tree path.now name.now) ≡ Some e) }
 {
     match get(image, messages_at(image, opened, path)?, name) {
         Some(attribute) => Ok(attribute),
@@ -81,7 +83,8 @@ fn messages_at<'a>(
 ) -> Result<&'a Messages, EditFault>
     requires { IsOpened image.now.bytes opened.now.objects.items opened.now.numbers }
     ensures { let tree = tree_of image.now.bytes opened.now.objects.items in
-        MatchResult result (λ messages. IsHeaderThere image.now.bytes tree path.now messages.now) (IsNoObject tree path.now) }
+        MatchResult result (λ messages.
+        IsHeaderThere image.now.bytes tree path.now messages.now) (IsNoObject tree path.now) }
 {
     match look(image, opened, path)? {
         Place::Object { object, .. } => Ok(&object.messages),

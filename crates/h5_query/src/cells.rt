@@ -31,7 +31,8 @@ pub fn one_cell(
 ) -> Result<i128, EditFault>
     requires { IsOpened image.now.bytes opened.now.objects.items opened.now.numbers }
     ensures { let tree = tree_of image.now.bytes opened.now.objects.items in
-        MatchResult result (HasCell tree path.now index.now) (λ e. first_holding (cell_rules tree path.now index.now) ≡ Some e) }
+        MatchResult result (HasCell tree path.now index.now) (λ e.
+        first_holding (cell_rules tree path.now index.now) ≡ Some e) }
 {
     let line = line_at(image, opened, path)?;
     let [at] = index else {
@@ -47,7 +48,8 @@ pub fn one_cell(
 fn line_at<'a>(image: &'a Image, opened: &'a Opened, path: &[u8]) -> Result<&'a Line, EditFault>
     requires { IsOpened image.now.bytes opened.now.objects.items opened.now.numbers }
     ensures { let tree = tree_of image.now.bytes opened.now.objects.items in
-        MatchResult result (λ line. IsLineThere image.now.bytes tree path.now line.now) (IsNoLineThere tree path.now) }
+        MatchResult result (λ line.
+        IsLineThere image.now.bytes tree path.now line.now) (IsNoLineThere tree path.now) }
 {
     match look(image, opened, path)? {
         Place::Object { object, .. } => match &object.content {
@@ -77,7 +79,8 @@ fn value(image: &Image, line: &Line, at: u64) -> i128
 pub(crate) fn stored<'a>(image: &'a Image, line: &Line) -> Option<&'a [u8]>
     requires inside { Inside (length image.now.bytes) (data_blocks line.now.cells) }
     requires room { has_room (line.now.size ∷ []) line.now.fixed.size (InBlock line.now.cells) ≡ true }
-    ensures cells { MatchOption result (AreFilled image.now.bytes line.now) (λ bytes. AreStored image.now.bytes line.now bytes.now) }
+    ensures cells { MatchOption result (AreFilled image.now.bytes line.now) (λ bytes.
+        AreStored image.now.bytes line.now bytes.now) }
     ensures sound { IsFixed line.now.fixed }
 {
     let long = line.fixed.size();

@@ -39,7 +39,8 @@ pub fn links_of<'a>(
 ) -> Result<Option<Vec<Link<'a>>>, AllocError>
     requires { IsOpened image.now.bytes opened.now.objects.items opened.now.numbers }
     ensures { let tree = tree_of image.now.bytes opened.now.objects.items in
-        IfOk result (λ found. MatchOption found (IsNoGroup tree number.0) (λ links. AreLinks tree number.0 links.items)) }
+        IfOk result (λ found.
+        MatchOption found (IsNoGroup tree number.0) (λ links. AreLinks tree number.0 links.items)) }
 {
     let Some(object) = opened.objects.get(number.0 as usize) else {
         return Ok(None);
@@ -60,7 +61,8 @@ fn tree_links<'a>(
 ) -> Result<Vec<Link<'a>>, AllocError>
     requires opened { IsOpened image.now.bytes opened.now.objects.items opened.now.numbers }
     requires led { AllByRecursion (IsLed (headers opened.now.objects.items)) found.now }
-    ensures { IfOk result (λ links. map seen_link links.items ≡ map (in_tree (headers opened.now.objects.items)) found.now) }
+    ensures { IfOk result (λ links.
+        map seen_link links.items ≡ map (in_tree (headers opened.now.objects.items)) found.now) }
 {
     let mut links = Vec::new(alloc);
     for link in found {

@@ -57,7 +57,8 @@ pub fn names_at<'a>(
 ) -> Result<Vec<&'a [u8]>, EditFault>
     requires { IsOpened image.now.bytes opened.now.objects.items opened.now.numbers }
     ensures { let tree = tree_of image.now.bytes opened.now.objects.items in
-        MatchResult result (λ names. HasNames tree path.now (map (λ name. name.now) names.items)) (IsListRefused tree path.now) }
+        MatchResult result (λ names.
+        HasNames tree path.now (map (λ name. name.now) names.items)) (IsListRefused tree path.now) }
 {
     let Place::Object { object, .. } = look(image, opened, path)? else {
         return Err(EditFault::NotAGroup);

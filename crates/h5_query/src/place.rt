@@ -63,7 +63,8 @@ pub fn number_at(image: &Image, opened: &Opened, path: &[u8]) -> Result<ObjectNo
 fn follow<'a>(image: &'a Image, opened: &'a Opened, text: &[u8]) -> Result<Place<'a>, EditFault>
     requires { IsOpened image.now.bytes opened.now.objects.items opened.now.numbers }
     ensures { let tree = tree_of image.now.bytes opened.now.objects.items in
-        MatchResult result (IsFound tree opened.now.objects.items (parts text.now)) (IsLost tree (parts text.now)) }
+        MatchResult result (IsFound tree opened.now.objects.items (parts text.now))
+        (IsLost tree (parts text.now)) }
 {
     let mut place = object_place(opened, 0);
     let mut rest = Some(text);

@@ -32,7 +32,8 @@ pub(crate) fn follow_name<'a>(
 ) -> Step<'a>
     requires opened { IsOpened image.now.bytes opened.now.objects.items opened.now.numbers }
     requires from { IsOfNumber opened.now.objects.items from }
-    ensures { IsStep (tree_of image.now.bytes opened.now.objects.items) opened.now.objects.items (link_at from.entry) name.now result }
+    ensures { IsStep (tree_of image.now.bytes opened.now.objects.items) opened.now.objects.items
+        (link_at from.entry) name.now result }
 {
     let Place::Object { object, .. } = from else {
         return Step::NoGroup;

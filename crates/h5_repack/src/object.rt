@@ -29,11 +29,14 @@ fn push_group(
 ) -> Result<(), AllocError>
     requires k { AreK layout.now.leaf layout.now.internal }
     requires layout { IsLowLayout layout.now }
-    requires held { (o : Object) × IsGroupObject links.now others.now o × IsExtent layout.now.leaf layout.now.internal o.content (Links places.now) }
+    requires held { (o : Object) × IsGroupObject links.now others.now o
+        × IsExtent layout.now.leaf layout.now.internal o.content (Links places.now) }
     requires low { at + places.now.length ≤ 2 ^ 31 }
     requires header { length others.now.bytes ≤ 2 ^ 31 }
-    ensures { OnOk result (out.new.items ≡ out.old.items ++ (group_written at (at + places.now.tree) others.now
-        ++ links_bytes layout.now.leaf layout.now.internal at (map (written_at layout.now) (map tree_link links.now)))) }
+    ensures { OnOk result
+        (out.new.items ≡ out.old.items ++ (group_written at (at + places.now.tree) others.now
+        ++ links_bytes layout.now.leaf layout.now.internal at
+        (map (written_at layout.now) (map tree_link links.now)))) }
 {
     let new = new_links(alloc, layout, links)?;
     push_group_header(out, at, at + places.tree, others)?;
@@ -52,7 +55,9 @@ fn push_array(
 ) -> Result<(), AllocError>
     requires held { (o : Object) × IsArrayObject array.now others.now o }
     requires header { length others.now.bytes ≤ 2 ^ 31 }
-    ensures { OnOk result ((o : Object) (is : IsArrayObject array.now others.now o) → out.new.items ≡ out.old.items ++ array_at at count o is.dataset) }
+    ensures { OnOk result
+        ((o : Object) (is : IsArrayObject array.now others.now o)
+        → out.new.items ≡ out.old.items ++ array_at at count o is.dataset) }
 {
     let array = joined(array, others);
     push_array_header(out, &array, cells_address(&array, at), count)?;
@@ -71,11 +76,14 @@ fn push_object(
 ) -> Result<(), AllocError>
     requires k { AreK layout.now.leaf layout.now.internal }
     requires layout { IsLowLayout layout.now }
-    requires held { (o : Object) × (s : Size) × (slice_get layout.now.sizes.now number ≡ Some s) × IsHeldObject object.now o
+    requires held { (o : Object) × (s : Size) × (slice_get layout.now.sizes.now number ≡ Some s)
+        × IsHeldObject object.now o
         × IsSize layout.now.leaf layout.now.internal o s }
-    ensures { OnOk result ((o : Object) (s : Size) → slice_get layout.now.sizes.now number ≡ Some s → IsHeldObject object.now o
+    ensures { OnOk result
+        ((o : Object) (s : Size) → slice_get layout.now.sizes.now number ≡ Some s → IsHeldObject object.now o
         → IsSize layout.now.leaf layout.now.internal o s
-        → out.new.items ≡ out.old.items ++ object_at layout.now (slice_index layout.now.headers.now number) count o) }
+        → out.new.items ≡ out.old.items
+        ++ object_at layout.now (slice_index layout.now.headers.now number) count o) }
 {
     let size = layout.sizes[number];
     let at = layout.headers[number] + size.header;

@@ -59,8 +59,11 @@ pub(crate) fn joined<'a>(array: &NewArray<'a>, others: &'a Others) -> Array<'a>
 /// The size of an array with these messages besides its own.
 fn measure_array(array: &NewArray<'_>, others: &Others) -> Result<Size, WriteFault>
     requires { (o : Object) × IsArrayObject array.now others.now o }
-    ensures size { IfOk result (λ s. (leaf internal : ℕ) (o : Object) → IsArrayObject array.now others.now o → IsSize leaf internal o s) }
-    ensures refused { IfErr result (λ fault. (leaf internal : ℕ) (o : Object) → IsArrayObject array.now others.now o → IsUnmeasured leaf internal o fault) }
+    ensures size { IfOk result (λ s.
+        (leaf internal : ℕ) (o : Object) → IsArrayObject array.now others.now o → IsSize leaf internal o s) }
+    ensures refused { IfErr result (λ fault.
+        (leaf internal : ℕ) (o : Object) → IsArrayObject array.now others.now o
+        → IsUnmeasured leaf internal o fault) }
 {
     let array = joined(array, others);
     let header = array_header_length(&array);
@@ -88,8 +91,10 @@ fn measure_group(
 ) -> Result<Size, WriteFault>
     requires k { AreK leaf internal }
     requires held { (o : Object) × IsGroupObject links.now others.now o }
-    ensures size { IfOk result (λ s. (o : Object) → IsGroupObject links.now others.now o → IsSize leaf internal o s) }
-    ensures refused { IfErr result (λ fault. (o : Object) → IsGroupObject links.now others.now o → IsUnmeasured leaf internal o fault) }
+    ensures size { IfOk result (λ s.
+        (o : Object) → IsGroupObject links.now others.now o → IsSize leaf internal o s) }
+    ensures refused { IfErr result (λ fault.
+        (o : Object) → IsGroupObject links.now others.now o → IsUnmeasured leaf internal o fault) }
 {
     let header = group_header_length(others);
     if header > MAXIMUM_IMAGE {
@@ -119,7 +124,8 @@ fn measure(
     requires k { AreK leaf internal }
     requires held { (o : Object) × IsHeldObject object.now o }
     ensures size { IfOk result (λ s. (o : Object) → IsHeldObject object.now o → IsSize leaf internal o s) }
-    ensures refused { IfErr result (λ fault. (o : Object) → IsHeldObject object.now o → IsUnmeasured leaf internal o fault) }
+    ensures refused { IfErr result (λ fault.
+        (o : Object) → IsHeldObject object.now o → IsUnmeasured leaf internal o fault) }
 {
     match &object.content {
         NewContent::Group(links) => measure_group(alloc, leaf, internal, links, &object.others),
@@ -136,8 +142,12 @@ pub(crate) fn measure_all(
 ) -> Result<Vec<Size>, WriteFault>
     requires k { AreK leaf internal }
     requires held { (listed : List Object) × AllZip IsHeldObject objects.now listed }
-    ensures sizes { IfOk result (λ sizes. (listed : List Object) → AllZip IsHeldObject objects.now listed → AllZip (IsSize leaf internal) listed sizes.items) }
-    ensures refused { IfErr result (λ fault. (listed : List Object) → AllZip IsHeldObject objects.now listed → AreUnmeasured leaf internal listed fault) }
+    ensures sizes { IfOk result (λ sizes.
+        (listed : List Object) → AllZip IsHeldObject objects.now listed
+        → AllZip (IsSize leaf internal) listed sizes.items) }
+    ensures refused { IfErr result (λ fault.
+        (listed : List Object) → AllZip IsHeldObject objects.now listed
+        → AreUnmeasured leaf internal listed fault) }
 {
     let mut sizes = Vec::new(alloc);
     for object in objects {

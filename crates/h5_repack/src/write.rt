@@ -76,9 +76,12 @@ fn image_of(
     requires counted { length counts.now ≡ length objects.now }
     requires held { (listed : List Object) × AllZip IsHeldObject objects.now listed
         × AllZip (IsSize layout.now.leaf layout.now.internal) listed layout.now.sizes.now }
-    ensures { IfOk result (λ image. (listed : List Object) (root : Size) → AllZip IsHeldObject objects.now listed
-        → AllZip (IsSize layout.now.leaf layout.now.internal) listed layout.now.sizes.now → slice_get layout.now.sizes.now 0 ≡ Some root
-        → image.items ≡ front_at layout.now root end ++ flat_map (numbered_at layout.now counts.now listed) order.now) }
+    ensures { IfOk result (λ image.
+        (listed : List Object) (root : Size) → AllZip IsHeldObject objects.now listed
+        → AllZip (IsSize layout.now.leaf layout.now.internal) listed layout.now.sizes.now
+        → slice_get layout.now.sizes.now 0 ≡ Some root
+        → image.items ≡ front_at layout.now root end
+        ++ flat_map (numbered_at layout.now counts.now listed) order.now) }
 {
     let mut image = Vec::with_capacity(alloc, end as usize)?;
     push_front(&mut image, layout, &layout.sizes[0], end)?;
@@ -99,8 +102,10 @@ pub fn write_tree(
     requires k { AreK leaf internal }
     requires few { length objects.now < 2 ^ 32 }
     requires tree { (tree : Tree) × IsHeld objects.now tree }
-    ensures written { IfOk result (λ w. (tree : Tree) → IsHeld objects.now tree → IsWritten leaf internal tree w) }
-    ensures refused { IfErr result (λ fault. (tree : Tree) → IsHeld objects.now tree → IsUnwritten leaf internal tree fault) }
+    ensures written { IfOk result (λ w.
+        (tree : Tree) → IsHeld objects.now tree → IsWritten leaf internal tree w) }
+    ensures refused { IfErr result (λ fault.
+        (tree : Tree) → IsHeld objects.now tree → IsUnwritten leaf internal tree fault) }
 {
     let Ok(order) = met_order(alloc, objects) else {
         return Err(WriteFault::NoMemory);

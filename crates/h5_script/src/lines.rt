@@ -83,7 +83,8 @@ pub(crate) fn run_line<W: Write>(
 
 /// The first line that ends in the bytes, and what stands behind its end.
 fn cut(bytes: &[u8]) -> Option<(&[u8], &[u8])>
-    ensures { MatchOption result (HasNoEnd bytes.now) (λ parts. IsFirstLine bytes.now parts.0.now parts.1.now) }
+    ensures { MatchOption result (HasNoEnd bytes.now) (λ parts.
+        IsFirstLine bytes.now parts.0.now parts.1.now) }
 {
     for (k, byte) in bytes.iter().enumerate() {
         if *byte == b'\n' {

@@ -27,8 +27,10 @@ impl Ran {
     pub fn count(&mut self, outcome: Outcome)
         requires refused { self.old.refused < 2 ^ 63 }
         requires edits { self.old.edits < 2 ^ 63 }
-        ensures refused { self.new.refused ≡ self.old.refused + (if is_refused (outcome_of outcome) then 1 else 0) }
-        ensures edits { self.new.edits ≡ self.old.edits + (if is_accepted (outcome_of outcome) then 1 else 0) }
+        ensures refused { self.new.refused ≡ self.old.refused
+            + (if is_refused (outcome_of outcome) then 1 else 0) }
+        ensures edits { self.new.edits ≡ self.old.edits
+            + (if is_accepted (outcome_of outcome) then 1 else 0) }
     {
         match outcome {
             Outcome::Refused => self.refused += 1,

@@ -31,8 +31,10 @@ fn run_pieces<R: Read, W: Write>(
 ) -> Result<Ran, RunFault>
     requires { 0 < length piece.old }
     ensures { MatchResult result
-        (IsDone file.old file.new (R.remaining input.old) (R.remaining input.new) (W.contents output.old) (W.contents output.new))
-        (IsStopped file.old file.new (R.remaining input.old) (R.remaining input.new) (W.contents output.old) (W.contents output.new)) }
+        (IsDone file.old file.new (R.remaining input.old) (R.remaining input.new) (W.contents output.old)
+        (W.contents output.new))
+        (IsStopped file.old file.new (R.remaining input.old) (R.remaining input.new) (W.contents output.old)
+        (W.contents output.new)) }
 {
     let mut held = Vec::new(alloc);
     let mut answers = Answers::new(alloc)?;
@@ -68,8 +70,10 @@ pub fn run_script<R: Read, W: Write>(
     output: &mut W,
 ) -> Result<Ran, RunFault>
     ensures { MatchResult result
-        (IsDone file.old file.new (R.remaining input.old) (R.remaining input.new) (W.contents output.old) (W.contents output.new))
-        (IsStopped file.old file.new (R.remaining input.old) (R.remaining input.new) (W.contents output.old) (W.contents output.new)) }
+        (IsDone file.old file.new (R.remaining input.old) (R.remaining input.new) (W.contents output.old)
+        (W.contents output.new))
+        (IsStopped file.old file.new (R.remaining input.old) (R.remaining input.new) (W.contents output.old)
+        (W.contents output.new)) }
 {
     let mut piece = vec![in alloc; 0u8; PIECE]?;
     run_pieces(alloc, file, input, output, &mut piece)

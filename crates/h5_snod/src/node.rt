@@ -72,7 +72,8 @@ impl<'a> SymbolNode<'a> {
     /// It is empty where the offset passes the end.
     pub fn name<'b>(&self, k: usize, segment: &'b [u8]) -> &'b [u8]
         requires { k < length self.now }
-        ensures { option_map (λ (e : Entry). text_at segment.now e.name) (slice_get self.now k) ≡ Some result.now }
+        ensures { option_map (λ (e : Entry).
+            text_at segment.now e.name) (slice_get self.now k) ≡ Some result.now }
     {
         entry_name(self.bytes, k, segment)
     }

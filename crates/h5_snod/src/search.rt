@@ -19,7 +19,8 @@ pub(crate) fn find_name(
     requires count { count ≡ symbols_in bytes.now }
     requires entries { 8 + 40 * symbols_in bytes.now ≤ length bytes.now }
     requires ascending { Ascend (map (link_of segment.now) (entries_of bytes.now)) }
-    ensures found { IfOk result (λ k. slice_get (names_of segment.now (entries_of bytes.now)) k ≡ Some name.now) }
+    ensures found { IfOk result (λ k.
+        slice_get (names_of segment.now (entries_of bytes.now)) k ≡ Some name.now) }
     ensures absent { IfErr result (λ k. IsPlace (names_of segment.now (entries_of bytes.now)) name.now k) }
 {
     let mut from = 0;

@@ -11,11 +11,13 @@ use h5_model::{Cause, OpenFault};
 /// Claims a block; a refusal has the block's address.
 pub fn claim(claims: &mut Claims, block: Block) -> Result<(), OpenFault>
     ensures inside { OnOk result (block.at + block.len ≤ claims.old.end) }
-    ensures claimed { OnOk result ((p : ℕ) → cover p claims.new.held ≡ cover p claims.old.held + holds p block.at block.len) }
+    ensures claimed { OnOk result
+        ((p : ℕ) → cover p claims.new.held ≡ cover p claims.old.held + holds p block.at block.len) }
     ensures separate { Separate claims.new.held }
     ensures end { claims.new.end ≡ claims.old.end }
     ensures address { IfErr result (λ fault. fault.address ≡ block.at) }
-    ensures refused { IfErr result (λ fault. ClaimBreach claims.old.end claims.old.held block fault.cause fault.address) }
+    ensures refused { IfErr result (λ fault.
+        ClaimBreach claims.old.end claims.old.held block fault.cause fault.address) }
 {
     let cause = match claims.claim(block.at, block.len) {
         Ok(()) => return Ok(()),

@@ -64,7 +64,8 @@ fn broken(cause: Cause, at: usize) -> Option<OpenFault>
 /// The first version or size of addresses and lengths that is not one that is read.
 fn form_fault(bytes: &[u8]) -> Option<OpenFault>
     requires { 96 ≤ length bytes.now }
-    ensures { MatchOption result ((byte_at bytes.now 8 ≡ 0) × (byte_at bytes.now 9 ≡ 0) × (byte_at bytes.now 10 ≡ 0)
+    ensures { MatchOption result
+        ((byte_at bytes.now 8 ≡ 0) × (byte_at bytes.now 9 ≡ 0) × (byte_at bytes.now 10 ≡ 0)
         × (byte_at bytes.now 12 ≡ 0) × (byte_at bytes.now 13 ≡ 8) × (byte_at bytes.now 14 ≡ 8))
         (λ fault. FieldBreach bytes.now fault.cause fault.address) }
 {
@@ -96,7 +97,8 @@ fn form_fault(bytes: &[u8]) -> Option<OpenFault>
 /// block, `KRange` of K values not from 1 to 32767, and for the end of file address `TooLarge` above 2147483648 and `Truncated`
 /// below 96 or past the bytes. Takes no memory.
 pub fn superblock_fault(bytes: &[u8]) -> Option<OpenFault>
-    ensures { MatchOption result (IsSuperblock bytes.now) (λ fault. SuperblockBreach bytes.now fault.cause fault.address) }
+    ensures { MatchOption result (IsSuperblock bytes.now) (λ fault.
+        SuperblockBreach bytes.now fault.cause fault.address) }
 {
     if !bytes.starts_with(&SIGNATURE) {
         return broken(Cause::NotHdf5, 0);
@@ -168,7 +170,10 @@ pub fn root_header(bytes: &[u8]) -> u64
 
 /// Appends a superblock with addresses and lengths of 8 bytes. The error says that memory was refused.
 pub fn push_superblock(out: &mut Vec<u8>, fields: &Superblock) -> Result<(), AllocError>
-    ensures { OnOk result (out.new.items ≡ out.old.items ++ superblock_bytes fields.now.leaf fields.now.internal fields.now.end fields.now.root fields.now.tree fields.now.heap) }
+    ensures { OnOk result
+        (out.new.items ≡ out.old.items
+        ++ superblock_bytes fields.now.leaf fields.now.internal fields.now.end fields.now.root fields.now.tree
+        fields.now.heap) }
 {
     push_bytes(out, &SIGNATURE)?;
     push_zeros(out, 5)?;

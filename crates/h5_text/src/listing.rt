@@ -59,7 +59,8 @@ pub fn push_group_line(out: &mut Vec<u8>, path: PathText<'_>) -> Result<(), Allo
 
 /// Appends the line of a soft link, which has this text of any bytes.
 pub fn push_soft_line(out: &mut Vec<u8>, path: PathText<'_>, text: &[u8]) -> Result<(), AllocError>
-    ensures { Appends result out.old.items out.new.items (line_of (path_text path.entry) (codes "soft " ++ escaped text.now)) }
+    ensures { Appends result out.old.items out.new.items
+        (line_of (path_text path.entry) (codes "soft " ++ escaped text.now)) }
 {
     path.push_to(out)?;
     push_text(out, b" soft ")?;
@@ -83,7 +84,8 @@ pub fn push_array_line(
     path: PathText<'_>,
     array: &ArrayText<'_, '_>,
 ) -> Result<(), AllocError>
-    ensures { Appends result out.old.items out.new.items (line_of (path_text path.entry) (content_text (Array (told_dataset array.now)))) }
+    ensures { Appends result out.old.items out.new.items
+        (line_of (path_text path.entry) (content_text (Array (told_dataset array.now)))) }
 {
     path.push_to(out)?;
     push_text(out, b" ")?;

@@ -51,7 +51,9 @@ pub(crate) fn push_group_node(
     requires keys { length keys.now ≡ length children.now + 1 }
     requires room { length children.now ≤ 2 * internal }
     requires counted { length children.now < 2 ^ 16 }
-    ensures { OnOk result (out.new.items ≡ out.old.items ++ node_bytes_of (group_kind internal) level left right (map word keys.now) children.now) }
+    ensures { OnOk result
+        (out.new.items ≡ out.old.items
+        ++ node_bytes_of (group_kind internal) level left right (map word keys.now) children.now) }
 {
     push_node_head(out, level, children.len() as u16, left, right)?;
     push_rows(out, keys, children)?;

@@ -49,8 +49,10 @@ pub(crate) fn push_node(
 ) -> Result<(), AllocError>
     requires room { length children.now ≤ 2 * internal }
     requires counted { length children.now < 2 ^ 16 }
-    ensures { OnOk result (out.new.items ≡ out.old.items ++ node_bytes_of (group_kind internal) level left right
-        (word before ∷ map (λ (c : declared.Child). word c.last) children.now) (map (λ (c : declared.Child). c.at) children.now)) }
+    ensures { OnOk result
+        (out.new.items ≡ out.old.items ++ node_bytes_of (group_kind internal) level left right
+        (word before ∷ map (λ (c : declared.Child). word c.last) children.now)
+        (map (λ (c : declared.Child). c.at) children.now)) }
 {
     let mut keys = Vec::with_capacity(alloc, children.len() + 1)?;
     let mut places = Vec::with_capacity(alloc, children.len())?;

@@ -53,7 +53,9 @@ pub(crate) fn push_row(
     requires high { internal ≤ 32767 }
     requires some { 1 ≤ length children.now }
     requires room { at + rows_of (2 * internal) (length children.now) * group_node internal < 2 ^ 63 }
-    ensures { OnOk result (out.new.items ≡ out.old.items ++ row_bytes internal level undefined 0 at (chunks (2 * internal) children.now)) }
+    ensures { OnOk result
+        (out.new.items ≡ out.old.items
+        ++ row_bytes internal level undefined 0 at (chunks (2 * internal) children.now)) }
 {
     let mut rest = children;
     let mut left = UNDEF;

@@ -35,11 +35,17 @@ pub(crate) fn others_in(
     edit: Option<Edit<'_>>,
 ) -> Result<Others, AllocError>
     requires kept { IsHeaderKept image.now.bytes messages.now }
-    requires plain { IsPlainObject (object_with (Group empty) (messages_in image.now.bytes messages.now.list)) }
+    requires plain { IsPlainObject
+        (object_with (Group empty) (messages_in image.now.bytes messages.now.list)) }
     requires edit { IfSome edit IsPlainEdit }
-    requires few { 1 + length (others_of (object_with (Group empty) (messages_in image.now.bytes messages.now.list))) ≤ 65535 }
+    requires few { 1
+        + length (others_of (object_with (Group empty) (messages_in image.now.bytes messages.now.list)))
+        ≤ 65535 }
     ensures { IfOk result (λ others. (content : Content)
-        → AreOthers (others_of (edited_by edit.entry (object_with content (messages_in image.now.bytes messages.now.list)))) others) }
+        → AreOthers
+        (others_of
+        (edited_by edit.entry (object_with content (messages_in image.now.bytes messages.now.list))))
+        others) }
 {
     let mut others = Others::new(alloc);
     push_kept(&mut others, image, messages.list())?;
@@ -53,7 +59,8 @@ fn push_kept(others: &mut Others, image: &Image, list: &[Message]) -> Result<(),
     requires within { IsWithin (length image.now.bytes) list.now }
     requires plain { AllByRecursion IsPlainKept (kept_in (messages_in image.now.bytes list.now)) }
     requires few { HasPlaces others.old (length (kept_messages (messages_in image.now.bytes list.now))) }
-    ensures { OnOk result (Appends others.old others.new (kept_messages (messages_in image.now.bytes list.now))) }
+    ensures { OnOk result
+        (Appends others.old others.new (kept_messages (messages_in image.now.bytes list.now))) }
 {
     for message in list {
         if is_kept(message.kind) {
@@ -80,7 +87,8 @@ fn push_attributes(
     requires plain { AllByRecursion IsPlainAttribute list.now }
     requires edit { IfSome edit IsPlainEdit }
     requires few { HasPlaces others.old (1 + length list.now) }
-    ensures { OnOk result (Appends others.old others.new (attribute_messages (merged_by edit.entry list.now))) }
+    ensures { OnOk result
+        (Appends others.old others.new (attribute_messages (merged_by edit.entry list.now))) }
 {
     match edit {
         None | Some(Edit::Link(_)) => push_all(others, list),

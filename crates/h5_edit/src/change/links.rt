@@ -34,9 +34,12 @@ pub(crate) fn links_in<'a>(
     requires read { IsGroupRead image.now.bytes group.now }
     requires led { (found : List LinkRef) → map link_from found ≡ links_of image.now.bytes group.now
         → AllByRecursion (IsLed (headers opened.now.objects.items)) found }
-    requires fresh { IsFreshIn new (links_by (headers opened.now.objects.items) (links_of image.now.bytes group.now)) }
+    requires fresh { IsFreshIn new
+        (links_by (headers opened.now.objects.items) (links_of image.now.bytes group.now)) }
     ensures { IfOk result (λ links. map tree_link links.items
-        ≡ entries_of (links_with new.entry (links_by (headers opened.now.objects.items) (links_of image.now.bytes group.now)))) }
+        ≡ entries_of
+        (links_with new.entry
+        (links_by (headers opened.now.objects.items) (links_of image.now.bytes group.now)))) }
 {
     let found = entries(alloc, image, group)?;
     let mut links = tree_links(alloc, opened, &found)?;
@@ -54,7 +57,8 @@ fn tree_links<'a>(
 ) -> Result<Vec<TreeLink<'a>>, AllocError>
     requires opened { (image : List ℕ) × IsOpened image opened.now.objects.items opened.now.numbers }
     requires led { AllByRecursion (IsLed (headers opened.now.objects.items)) found.now }
-    ensures { IfOk result (λ links. map tree_link links.items ≡ map (in_tree (headers opened.now.objects.items)) found.now) }
+    ensures { IfOk result (λ links.
+        map tree_link links.items ≡ map (in_tree (headers opened.now.objects.items)) found.now) }
 {
     let mut links = Vec::with_capacity(alloc, found.len())?;
     for link in found {
@@ -91,7 +95,8 @@ fn number_of(opened: &Opened, header: u64) -> u32
 fn insert_link<'a>(links: &mut Vec<TreeLink<'a>>, link: TreeLink<'a>) -> Result<(), AllocError>
     requires fresh { find (slice_cmp nat_cmp) link.name.now (map tree_link links.old.items) ≡ None }
     ensures { OnOk result (map tree_link links.new.items
-        ≡ put (slice_cmp nat_cmp) link.entry.name.now (link_of link.entry.target) (map tree_link links.old.items)) }
+        ≡ put (slice_cmp nat_cmp) link.entry.name.now (link_of link.entry.target)
+        (map tree_link links.old.items)) }
 {
     let at = link_place(link.name, links);
     links.insert(at, link)?;

@@ -30,9 +30,11 @@ pub fn changed_objects<'a>(
     change: &Change<'a>,
 ) -> Result<Vec<NewObject<'a>>, AllocError>
     requires opened { IsOpened image.now.bytes opened.now.objects.items opened.now.numbers }
-    requires change { IsPlainChange (tree_of image.now.bytes opened.now.objects.items) (length opened.now.objects.items) change.now }
+    requires change { IsPlainChange (tree_of image.now.bytes opened.now.objects.items)
+        (length opened.now.objects.items) change.now }
     ensures { let tree = tree_of image.now.bytes opened.now.objects.items in
-        IfOk result (λ objects. AreObjects objects.items (changed tree change.now (length opened.now.objects.items))) }
+        IfOk result (λ objects.
+        AreObjects objects.items (changed tree change.now (length opened.now.objects.items))) }
 {
     let next = opened.objects.len() as u32;
     let (place, edit) = edit_of(change, next);
@@ -58,8 +60,11 @@ fn edited_object<'a>(
     requires opened { IsOpened image.now.bytes opened.now.objects.items opened.now.numbers }
     requires there { (number : ℕ) × (slice_get opened.now.objects.items number ≡ Some object.now) }
     requires plain { IsPlain (object_in image.now.bytes (headers opened.now.objects.items) object.now) }
-    requires edit { IfSome edit (IsEditable (object_in image.now.bytes (headers opened.now.objects.items) object.now)) }
-    ensures { IfOk result (λ x. IsNewObject x (edited_by edit.entry (object_in image.now.bytes (headers opened.now.objects.items) object.now))) }
+    requires edit { IfSome edit
+        (IsEditable (object_in image.now.bytes (headers opened.now.objects.items) object.now)) }
+    ensures { IfOk result (λ x.
+        IsNewObject x
+        (edited_by edit.entry (object_in image.now.bytes (headers opened.now.objects.items) object.now))) }
 {
     let others = others_in(alloc, image, &object.messages, edit)?;
     let content = match &object.content {

@@ -38,7 +38,8 @@ pub fn check_array<'a>(
     requires line { is_line spec.now ≡ true }
     ensures { let tree = tree_of image.now.bytes opened.now.objects.items in
         let next = length opened.now.objects.items in
-        MatchResult result (IsPlaced tree next path.now (CreateDataset path.now spec.now)) (IsRuledOut tree next (CreateDataset path.now spec.now)) }
+        MatchResult result (IsPlaced tree next path.now (CreateDataset path.now spec.now))
+        (IsRuledOut tree next (CreateDataset path.now spec.now)) }
 {
     let place = new_place(image, opened, path)?;
     check_line(spec)?;
@@ -51,7 +52,8 @@ pub fn check_array<'a>(
 /// Why an array of one size is refused wherever it is to stand, by the lowest number that holds.
 fn check_line(spec: &Spec) -> Result<(), EditFault>
     requires { is_line spec.now ≡ true }
-    ensures { let rules = line_rules spec.now in MatchResult result (λ _. first_holding rules ≡ None) (λ e. first_holding rules ≡ Some e) }
+    ensures { let rules = line_rules spec.now in MatchResult result (λ _. first_holding rules ≡ None) (λ e.
+        first_holding rules ≡ Some e) }
 {
     let size = spec.dims.as_slice()[0];
     if !is_own_maximum(size, spec.maxima.as_slice()) {

@@ -37,7 +37,8 @@ pub fn check_attribute(
     requires { IsOpened image.now.bytes opened.now.objects.items opened.now.numbers }
     ensures { let tree = tree_of image.now.bytes opened.now.objects.items in
         let next = length opened.now.objects.items in
-        MatchResult result (IsAt tree next path.now (SetAttr path.now attr.now)) (IsRuledOut tree next (SetAttr path.now attr.now)) }
+        MatchResult result (IsAt tree next path.now (SetAttr path.now attr.now))
+        (IsRuledOut tree next (SetAttr path.now attr.now)) }
 {
     let (number, _) = object_at(image, opened, path)?;
     check_own(alloc, attr)?;
@@ -57,7 +58,8 @@ pub fn check_removal(
     requires { IsOpened image.now.bytes opened.now.objects.items opened.now.numbers }
     ensures { let tree = tree_of image.now.bytes opened.now.objects.items in
         let next = length opened.now.objects.items in
-        MatchResult result (IsAt tree next path.now (RemoveAttr path.now name.now)) (IsRuledOut tree next (RemoveAttr path.now name.now)) }
+        MatchResult result (IsAt tree next path.now (RemoveAttr path.now name.now))
+        (IsRuledOut tree next (RemoveAttr path.now name.now)) }
 {
     let (number, object) = object_at(image, opened, path)?;
     match get(image, &object.messages, name) {
@@ -68,7 +70,8 @@ pub fn check_removal(
 
 /// Why the attribute is refused wherever it is to stand, by the lowest number that holds.
 fn check_own(alloc: Global, attr: &AttrSpec) -> Result<(), EditFault>
-    ensures { let rules = own_rules attr.now in MatchResult result (λ _. first_holding rules ≡ None) (λ e. first_holding rules ≡ Some e) }
+    ensures { let rules = own_rules attr.now in MatchResult result (λ _. first_holding rules ≡ None) (λ e.
+        first_holding rules ≡ Some e) }
 {
     let name = attr.name.as_slice();
     let values = attr.values.as_slice();

@@ -27,7 +27,8 @@ pub fn check_group<'a>(
     requires { IsOpened image.now.bytes opened.now.objects.items opened.now.numbers }
     ensures { let tree = tree_of image.now.bytes opened.now.objects.items in
         let next = length opened.now.objects.items in
-        MatchResult result (IsPlaced tree next path.now (CreateGroup path.now)) (IsRuledOut tree next (CreateGroup path.now)) }
+        MatchResult result (IsPlaced tree next path.now (CreateGroup path.now))
+        (IsRuledOut tree next (CreateGroup path.now)) }
 {
     let place = new_place(image, opened, path)?;
     if is_full(opened) {
@@ -104,7 +105,8 @@ pub fn check_soft_link<'a>(
     requires { IsOpened image.now.bytes opened.now.objects.items opened.now.numbers }
     ensures { let tree = tree_of image.now.bytes opened.now.objects.items in
         let next = length opened.now.objects.items in
-        MatchResult result (IsPlaced tree next path.now (SoftLink text.now path.now)) (IsRuledOut tree next (SoftLink text.now path.now)) }
+        MatchResult result (IsPlaced tree next path.now (SoftLink text.now path.now))
+        (IsRuledOut tree next (SoftLink text.now path.now)) }
 {
     match (check_text(text), new_place(image, opened, path)) {
         (Ok(()), placed) => placed,
@@ -115,7 +117,8 @@ pub fn check_soft_link<'a>(
 
 /// Whether a soft link may have this text: `BadPath` or `NameTooLong`.
 fn check_text(text: &[u8]) -> Result<(), EditFault>
-    ensures { let fault = path_fault (is_text_fault text.now) in MatchResult result (λ _. fault ≡ None) (λ e. fault ≡ Some e) }
+    ensures { let fault = path_fault (is_text_fault text.now) in MatchResult result (λ _. fault ≡ None) (λ e.
+        fault ≡ Some e) }
 {
     if is_no_text(text) {
         return Err(EditFault::BadPath);

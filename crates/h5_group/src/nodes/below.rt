@@ -24,14 +24,19 @@ pub(crate) fn claim_tree(image: &Image, claims: &mut Claims, root: u64) -> Resul
     requires superblock { IsSuperblock image.now.bytes }
     ensures low { IfOk result (λ level. level ≤ 15) }
     ensures read { IfOk result (λ level. IsLevel image.now.bytes level (root ∷ [])) }
-    ensures filled { IfOk result (λ level. 1 ≤ level → 1 ≤ entries_in (node_bytes image.now.bytes (kind_in image.now.bytes) root)) }
+    ensures filled { IfOk result (λ level.
+        1 ≤ level → 1 ≤ entries_in (node_bytes image.now.bytes (kind_in image.now.bytes) root)) }
     ensures claimed { IfOk result (λ level. (p : ℕ) → cover p claims.new.held
-        ≡ cover p claims.old.held + cover p (nodes_blocks image.now.bytes (nodes (reading_in image.now.bytes) level (root ∷ [])) (leaves (reading_in image.now.bytes) level (root ∷ [])))) }
+        ≡ cover p claims.old.held
+        + cover p
+        (nodes_blocks image.now.bytes (nodes (reading_in image.now.bytes) level (root ∷ []))
+        (leaves (reading_in image.now.bytes) level (root ∷ [])))) }
     ensures separate { OnOk result (Separate claims.new.held) }
     ensures end { claims.new.end ≡ claims.old.end }
     ensures walked { IfOk result (λ level. (followed : List Named) (field heap depth : ℕ)
         → IsTreeMet image.now.bytes claims.old.held followed field root heap depth
-        → IsFurther image.now.bytes claims.new.held followed (IsPlaceIn image.now.bytes field (nodes (reading_in image.now.bytes) level (root ∷ [])))) }
+        → IsFurther image.now.bytes claims.new.held followed
+        (IsPlaceIn image.now.bytes field (nodes (reading_in image.now.bytes) level (root ∷ [])))) }
     ensures refused { IfErr result (λ fault. (followed : List Named) (field heap depth : ℕ)
         → IsTreeMet image.now.bytes claims.old.held followed field root heap depth
         → IsFault image.now.bytes fault.cause fault.address) }
@@ -53,11 +58,13 @@ pub(crate) fn claim_below(
     requires end { claims.old.end ≡ length image.now.bytes }
     requires superblock { IsSuperblock image.now.bytes }
     requires separate { Separate claims.old.held }
-    ensures taken { OnOk result (IsTaken image.now.bytes level node.now.children claims.old.held claims.new.held) }
+    ensures taken { OnOk result
+        (IsTaken image.now.bytes level node.now.children claims.old.held claims.new.held) }
     ensures end { claims.new.end ≡ claims.old.end }
     ensures walked { OnOk result ((followed : List Named) (root heap depth at : ℕ)
         → AreChildrenMet image.now.bytes claims.old.held followed root heap depth level at node.now
-        → IsFurther image.now.bytes claims.new.held followed (IsPlaceBelow image.now.bytes level at node.now.children)) }
+        → IsFurther image.now.bytes claims.new.held followed
+        (IsPlaceBelow image.now.bytes level at node.now.children)) }
     ensures refused { IfErr result (λ fault. (followed : List Named) (root heap depth at : ℕ)
         → AreChildrenMet image.now.bytes claims.old.held followed root heap depth level at node.now
         → IsFault image.now.bytes fault.cause fault.address) }

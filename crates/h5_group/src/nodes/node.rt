@@ -29,8 +29,12 @@ pub(crate) fn claim_root<'a>(
     ensures node { IfOk result (λ node. node ≡ reading_in image.now.bytes at) }
     ensures low { IfOk result (λ node. node.level ≤ 15) }
     ensures stands { IfOk result (λ node. IsStanding image.now.bytes node.level at) }
-    ensures filled { IfOk result (λ node. 1 ≤ node.level → 1 ≤ entries_in (node_bytes image.now.bytes (kind_in image.now.bytes) at)) }
-    ensures claimed { OnOk result ((p : ℕ) → cover p claims.new.held ≡ cover p claims.old.held + holds p at (node_length (kind_in image.now.bytes))) }
+    ensures filled { IfOk result (λ node.
+        1 ≤ node.level → 1 ≤ entries_in (node_bytes image.now.bytes (kind_in image.now.bytes) at)) }
+    ensures claimed { OnOk result
+        ((p : ℕ)
+        → cover p claims.new.held ≡ cover p claims.old.held
+        + holds p at (node_length (kind_in image.now.bytes))) }
     ensures separate { OnOk result (Separate claims.new.held) }
     ensures end { claims.new.end ≡ claims.old.end }
     ensures address { IfErr result (λ fault. fault.address ≡ at) }
@@ -58,12 +62,16 @@ pub(crate) fn claim_inner<'a>(
     requires superblock { IsSuperblock image.now.bytes }
     ensures node { IfOk result (λ node. node ≡ reading_in image.now.bytes at) }
     ensures inner { OnOk result (IsInner image.now.bytes level at) }
-    ensures claimed { OnOk result ((p : ℕ) → cover p claims.new.held ≡ cover p claims.old.held + holds p at (node_length (kind_in image.now.bytes))) }
+    ensures claimed { OnOk result
+        ((p : ℕ)
+        → cover p claims.new.held ≡ cover p claims.old.held
+        + holds p at (node_length (kind_in image.now.bytes))) }
     ensures separate { OnOk result (Separate claims.new.held) }
     ensures end { claims.new.end ≡ claims.old.end }
     ensures address { IfErr result (λ fault. fault.address ≡ at) }
     ensures refused { IfErr result (λ fault. IsRefusedFor
-        ((root : ℕ) → 1 ≤ cover root claims.old.held → NodeBreach image.now.bytes (kind_in image.now.bytes) root level at)
+        ((root : ℕ) → 1 ≤ cover root claims.old.held
+        → NodeBreach image.now.bytes (kind_in image.now.bytes) root level at)
         (length image.now.bytes) claims.old.held (node_block (kind_in image.now.bytes) at) fault.cause) }
 {
     let node = claim_node(image, claims, at)?;
@@ -79,9 +87,13 @@ fn claim_node<'a>(image: &'a Image, claims: &mut Claims, at: u64) -> Result<Node
     requires end { claims.old.end ≡ length image.now.bytes }
     requires superblock { IsSuperblock image.now.bytes }
     ensures node { IfOk result (λ node. node ≡ reading_in image.now.bytes at) }
-    ensures form { OnOk result (IsNode (kind_in image.now.bytes) (node_bytes image.now.bytes (kind_in image.now.bytes) at)) }
+    ensures form { OnOk result
+        (IsNode (kind_in image.now.bytes) (node_bytes image.now.bytes (kind_in image.now.bytes) at)) }
     ensures inside { OnOk result (at + node_length (kind_in image.now.bytes) ≤ length image.now.bytes) }
-    ensures claimed { OnOk result ((p : ℕ) → cover p claims.new.held ≡ cover p claims.old.held + holds p at (node_length (kind_in image.now.bytes))) }
+    ensures claimed { OnOk result
+        ((p : ℕ)
+        → cover p claims.new.held ≡ cover p claims.old.held
+        + holds p at (node_length (kind_in image.now.bytes))) }
     ensures separate { OnOk result (Separate claims.new.held) }
     ensures end { claims.new.end ≡ claims.old.end }
     ensures address { IfErr result (λ fault. fault.address ≡ at) }

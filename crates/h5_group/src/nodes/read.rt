@@ -37,14 +37,17 @@ pub fn read_tree(
     requires end { claims.old.end ≡ length image.now.bytes }
     requires superblock { IsSuperblock image.now.bytes }
     ensures tree { IfOk result (λ t. IsTree image.now.bytes root t.nodes.items t.symbol_nodes.items) }
-    ensures inside { IfOk result (λ t. Inside (length image.now.bytes) (nodes_blocks image.now.bytes t.nodes.items t.symbol_nodes.items)) }
+    ensures inside { IfOk result (λ t.
+        Inside (length image.now.bytes) (nodes_blocks image.now.bytes t.nodes.items t.symbol_nodes.items)) }
     ensures claimed { IfOk result (λ t. (p : ℕ)
-        → cover p claims.new.held ≡ cover p claims.old.held + cover p (nodes_blocks image.now.bytes t.nodes.items t.symbol_nodes.items)) }
+        → cover p claims.new.held ≡ cover p claims.old.held
+        + cover p (nodes_blocks image.now.bytes t.nodes.items t.symbol_nodes.items)) }
     ensures separate { OnOk result (Separate claims.new.held) }
     ensures end { claims.new.end ≡ claims.old.end }
     ensures walked { IfOk result (λ t. (followed : List Named) (field heap depth : ℕ)
         → IsTreeMet image.now.bytes claims.old.held followed field root heap depth
-        → IsTreeFollowed image.now.bytes claims.new.held followed field root heap depth t.nodes.items t.symbol_nodes.items) }
+        → IsTreeFollowed image.now.bytes claims.new.held followed field root heap depth t.nodes.items
+        t.symbol_nodes.items) }
     ensures refused { IfErr result (λ fault. (followed : List Named) (field heap depth : ℕ)
         → IsTreeMet image.now.bytes claims.old.held followed field root heap depth
         → IsFault image.now.bytes fault.cause fault.address) }

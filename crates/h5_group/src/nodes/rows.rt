@@ -29,9 +29,11 @@ pub(crate) fn read_rows(
 ) -> Result<GroupTree, OpenFault>
     requires superblock { IsSuperblock image.now.bytes }
     requires read { IsLevel image.now.bytes level (root ∷ []) }
-    ensures rows { IfOk result (λ t. AreAllRows image.now.bytes root level t.nodes.items t.symbol_nodes.items) }
+    ensures rows { IfOk result (λ t.
+        AreAllRows image.now.bytes root level t.nodes.items t.symbol_nodes.items) }
     ensures refused { IfErr result (λ fault. (fault.cause ≡ Cause.NoMemory)
-        ⊎ ((fault.cause ≡ Cause.Sibling) × SiblingBreach image.now.bytes (kind_in image.now.bytes) root fault.address)) }
+        ⊎ ((fault.cause ≡ Cause.Sibling)
+        × SiblingBreach image.now.bytes (kind_in image.now.bytes) root fault.address)) }
 {
     let mut nodes = Vec::new(alloc);
     let mut row = Vec::new(alloc);
@@ -64,7 +66,8 @@ fn check_siblings(image: &Image, row: &[u64]) -> Result<(), OpenFault>
     requires stand { (level : ℕ) × AllByRecursion (IsStanding image.now.bytes level) row.now }
     ensures named { OnOk result ((level : ℕ) → AllByRecursion (IsStanding image.now.bytes level) row.now
         → IsRow (reading_in image.now.bytes) level undefined row.now) }
-    ensures refused { IfErr result (λ fault. (fault.cause ≡ Cause.Sibling) × IsMisnamed (reading_in image.now.bytes) row.now fault.address) }
+    ensures refused { IfErr result (λ fault.
+        (fault.cause ≡ Cause.Sibling) × IsMisnamed (reading_in image.now.bytes) row.now fault.address) }
 {
     let mut left = UNDEF;
     for (k, &at) in row.iter().enumerate() {

@@ -26,11 +26,13 @@ pub(crate) fn claim_symbol_nodes(
     requires end { claims.old.end ≡ length image.now.bytes }
     requires superblock { IsSuperblock image.now.bytes }
     requires separate { Separate claims.old.held }
-    ensures taken { OnOk result (IsTaken image.now.bytes 0 node.now.children claims.old.held claims.new.held) }
+    ensures taken { OnOk result
+        (IsTaken image.now.bytes 0 node.now.children claims.old.held claims.new.held) }
     ensures end { claims.new.end ≡ claims.old.end }
     ensures walked { OnOk result ((followed : List Named) (root heap depth at : ℕ)
         → AreChildrenMet image.now.bytes claims.old.held followed root heap depth 0 at node.now
-        → IsFurther image.now.bytes claims.new.held followed (IsPlaceBelow image.now.bytes 0 at node.now.children)) }
+        → IsFurther image.now.bytes claims.new.held followed
+        (IsPlaceBelow image.now.bytes 0 at node.now.children)) }
     ensures refused { IfErr result (λ fault. (followed : List Named) (root heap depth at : ℕ)
         → AreChildrenMet image.now.bytes claims.old.held followed root heap depth 0 at node.now
         → IsFault image.now.bytes fault.cause fault.address) }
@@ -49,7 +51,9 @@ fn claim_symbol_node(image: &Image, claims: &mut Claims, at: u64) -> Result<(), 
     requires end { claims.old.end ≡ length image.now.bytes }
     requires superblock { IsSuperblock image.now.bytes }
     ensures bottom { OnOk result (IsBottom image.now.bytes at) }
-    ensures claimed { OnOk result ((p : ℕ) → cover p claims.new.held ≡ cover p claims.old.held + holds p at (8 + 80 * leaf_of image.now.bytes)) }
+    ensures claimed { OnOk result
+        ((p : ℕ)
+        → cover p claims.new.held ≡ cover p claims.old.held + holds p at (8 + 80 * leaf_of image.now.bytes)) }
     ensures separate { OnOk result (Separate claims.new.held) }
     ensures end { claims.new.end ≡ claims.old.end }
     ensures address { IfErr result (λ fault. fault.address ≡ at) }

@@ -30,11 +30,14 @@ pub fn check_order(
 ) -> Result<(), OpenFault>
     requires superblock { IsSuperblock image.now.bytes }
     requires tree { IsTree image.now.bytes table.tree tree.now.nodes.items tree.now.symbol_nodes.items }
-    requires inside { Inside (length image.now.bytes) (nodes_blocks image.now.bytes tree.now.nodes.items tree.now.symbol_nodes.items) }
+    requires inside { Inside (length image.now.bytes)
+        (nodes_blocks image.now.bytes tree.now.nodes.items tree.now.symbol_nodes.items) }
     requires segment { segment.now ≡ segment_of image.now.bytes table.heap }
-    ensures ordered { OnOk result (AreOrdered image.now.bytes segment.now tree.now.nodes.items tree.now.symbol_nodes.items) }
+    ensures ordered { OnOk result
+        (AreOrdered image.now.bytes segment.now tree.now.nodes.items tree.now.symbol_nodes.items) }
     ensures refused { IfErr result (λ fault.
-        IsOrderRefused image.now.bytes table tree.now.nodes.items tree.now.symbol_nodes.items fault.cause fault.address) }
+        IsOrderRefused image.now.bytes table tree.now.nodes.items tree.now.symbol_nodes.items fault.cause
+        fault.address) }
 {
     check_names(image, segment, &tree.symbol_nodes)?;
     let root = table.tree();

@@ -27,8 +27,10 @@ struct Bounds<'a> {
 pub(crate) fn check_keys(image: &Image, segment: &[u8], level: u8, at: u64) -> Result<(), OpenFault>
     requires superblock { IsSuperblock image.now.bytes }
     requires subtree { HasSubtree image.now.bytes (suc level) at }
-    ensures ordered { OnOk result (AllByRecursion (IsNodeOrdered image.now.bytes segment.now) (nodes_from image.now.bytes level at)) }
-    ensures refused { IfErr result (λ fault. (fault.cause ≡ Cause.KeyOrder) × Contains (nodes_from image.now.bytes level at) fault.address
+    ensures ordered { OnOk result
+        (AllByRecursion (IsNodeOrdered image.now.bytes segment.now) (nodes_from image.now.bytes level at)) }
+    ensures refused { IfErr result (λ fault.
+        (fault.cause ≡ Cause.KeyOrder) × Contains (nodes_from image.now.bytes level at) fault.address
         × (IsNodeOrdered image.now.bytes segment.now fault.address → ⊥)) }
 {
     let node = tree_node(image, at);
@@ -70,7 +72,9 @@ fn is_ordered(image: &Image, segment: &[u8], node: &Node) -> bool
 fn is_child_ordered(image: &Image, segment: &[u8], bounds: &Bounds, height: u8, at: u64) -> bool
     requires superblock { IsSuperblock image.now.bytes }
     requires subtree { HasSubtree image.now.bytes height at }
-    ensures { IsTrue result ↔ (NotAfter bounds.now.low.now bounds.now.high.now × AllByRecursion (LiesBetween bounds.now.low.now bounds.now.high.now)
+    ensures { IsTrue result ↔
+        (NotAfter bounds.now.low.now bounds.now.high.now
+        × AllByRecursion (LiesBetween bounds.now.low.now bounds.now.high.now)
         (names_at image.now.bytes segment.now (symbol_nodes_under image.now.bytes height at))) }
 {
     is_not_after(bounds.low, bounds.high) && are_between(image, segment, bounds, height, at)

@@ -23,9 +23,11 @@ pub(crate) fn check_names(
 ) -> Result<(), OpenFault>
     requires superblock { IsSuperblock image.now.bytes }
     requires symbols { AllByRecursion (IsSymbolsAt image.now.bytes) symbol_nodes.now }
-    ensures ascending { OnOk result (Ascend (map (link_of segment.now) (all_entries image.now.bytes symbol_nodes.now))) }
+    ensures ascending { OnOk result
+        (Ascend (map (link_of segment.now) (all_entries image.now.bytes symbol_nodes.now))) }
     ensures cause { IfErr result (λ fault. fault.cause ≡ Cause.NameOrder) }
-    ensures falls { IfErr result (λ fault. FallAt image.now.bytes segment.now symbol_nodes.now fault.address) }
+    ensures falls { IfErr result (λ fault.
+        FallAt image.now.bytes segment.now symbol_nodes.now fault.address) }
 {
     let mut last = None;
     for at in symbol_nodes {
@@ -45,7 +47,8 @@ fn check_node<'a>(
     requires symbols { IsSymbolsAt image.now.bytes at }
     ensures rise { OnOk result (RiseFrom segment.now (option_map (λ x. x.now) before.entry)
         (symbols_at image.now.bytes (leaf_k image.now.bytes) at)) }
-    ensures last { IfOk result (λ last. option_map (λ x. x.now) last ≡ last_name segment.now (option_map (λ x. x.now) before.entry)
+    ensures last { IfOk result (λ last.
+        option_map (λ x. x.now) last ≡ last_name segment.now (option_map (λ x. x.now) before.entry)
         (symbols_at image.now.bytes (leaf_k image.now.bytes) at)) }
     ensures refused { IfErr result (λ fault. fault ≡ record { cause = Cause.NameOrder; address = at }) }
     ensures falls { IfErr result (λ fault. FallFrom segment.now (option_map (λ x. x.now) before.entry)

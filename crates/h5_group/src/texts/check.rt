@@ -33,9 +33,12 @@ pub fn check_texts(
 ) -> Result<(), OpenFault>
     requires superblock { IsSuperblock image.now.bytes }
     requires tree { IsTree image.now.bytes table.tree tree.now.nodes.items tree.now.symbol_nodes.items }
-    requires inside { Inside (length image.now.bytes) (nodes_blocks image.now.bytes tree.now.nodes.items tree.now.symbol_nodes.items) }
+    requires inside { Inside (length image.now.bytes)
+        (nodes_blocks image.now.bytes tree.now.nodes.items tree.now.symbol_nodes.items) }
     requires heap { IsFreshHeap image.now.bytes table.heap heap.old }
-    ensures texts { OnOk result (AreTexts image.now.bytes (segment_of image.now.bytes table.heap) heap.old.free tree.now.nodes.items tree.now.symbol_nodes.items) }
+    ensures texts { OnOk result
+        (AreTexts image.now.bytes (segment_of image.now.bytes table.heap) heap.old.free tree.now.nodes.items
+        tree.now.symbol_nodes.items) }
     ensures address { IfErr result (λ fault. fault.address ≡ table.heap) }
     ensures refused { IfErr result (λ fault. AreTextsRefused image.now.bytes table fault.cause) }
 {

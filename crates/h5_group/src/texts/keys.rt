@@ -16,9 +16,11 @@ pub(crate) fn take_keys(image: &Image, heap: &mut Heap, nodes: &[u64]) -> Result
     requires superblock { IsSuperblock image.now.bytes }
     requires there { AllByRecursion (IsNodeAt image.now.bytes) nodes.now }
     requires within { heap.old.segment.at + heap.old.segment.len ≤ length image.now.bytes }
-    ensures names { OnOk result (NamesKeys image.now.bytes heap.old heap.new (flat_map (keys_at image.now.bytes) nodes.now)) }
+    ensures names { OnOk result
+        (NamesKeys image.now.bytes heap.old heap.new (flat_map (keys_at image.now.bytes) nodes.now)) }
     ensures address { IfErr result (λ fault. fault.address ≡ heap.old.at) }
-    ensures refused { IfErr result (λ fault. AreKeysRefused image.now.bytes heap.old (flat_map (keys_at image.now.bytes) nodes.now) fault.cause) }
+    ensures refused { IfErr result (λ fault.
+        AreKeysRefused image.now.bytes heap.old (flat_map (keys_at image.now.bytes) nodes.now) fault.cause) }
 {
     for at in nodes {
         take_node(image, heap, *at)?;
@@ -33,7 +35,8 @@ fn take_node(image: &Image, heap: &mut Heap, at: u64) -> Result<(), OpenFault>
     requires within { heap.old.segment.at + heap.old.segment.len ≤ length image.now.bytes }
     ensures names { OnOk result (NamesKeys image.now.bytes heap.old heap.new (keys_at image.now.bytes at)) }
     ensures address { IfErr result (λ fault. fault.address ≡ heap.old.at) }
-    ensures refused { IfErr result (λ fault. AreKeysRefused image.now.bytes heap.old (keys_at image.now.bytes at) fault.cause) }
+    ensures refused { IfErr result (λ fault.
+        AreKeysRefused image.now.bytes heap.old (keys_at image.now.bytes at) fault.cause) }
 {
     let node = tree_node(image, at);
     for i in 0..=node.len() {

@@ -22,9 +22,13 @@ pub(crate) fn take_linked(
     requires superblock { IsSuperblock image.now.bytes }
     requires there { AllByRecursion (IsSymbolsAt image.now.bytes) symbol_nodes.now }
     requires within { heap.old.segment.at + heap.old.segment.len ≤ length image.now.bytes }
-    ensures takes { OnOk result (TakesLinked image.now.bytes heap.old heap.new (flat_map (linked_at image.now.bytes) symbol_nodes.now)) }
+    ensures takes { OnOk result
+        (TakesLinked image.now.bytes heap.old heap.new
+        (flat_map (linked_at image.now.bytes) symbol_nodes.now)) }
     ensures address { IfErr result (λ fault. fault.address ≡ heap.old.at) }
-    ensures refused { IfErr result (λ fault. AreLinkedRefused image.now.bytes heap.old (flat_map (linked_at image.now.bytes) symbol_nodes.now) fault.cause) }
+    ensures refused { IfErr result (λ fault.
+        AreLinkedRefused image.now.bytes heap.old (flat_map (linked_at image.now.bytes) symbol_nodes.now)
+        fault.cause) }
 {
     for at in symbol_nodes {
         take_entries(image, heap, *at)?;
@@ -37,9 +41,11 @@ fn take_entries(image: &Image, heap: &mut Heap, at: u64) -> Result<(), OpenFault
     requires superblock { IsSuperblock image.now.bytes }
     requires there { IsSymbolsAt image.now.bytes at }
     requires within { heap.old.segment.at + heap.old.segment.len ≤ length image.now.bytes }
-    ensures takes { OnOk result (TakesLinked image.now.bytes heap.old heap.new (linked_at image.now.bytes at)) }
+    ensures takes { OnOk result
+        (TakesLinked image.now.bytes heap.old heap.new (linked_at image.now.bytes at)) }
     ensures address { IfErr result (λ fault. fault.address ≡ heap.old.at) }
-    ensures refused { IfErr result (λ fault. AreLinkedRefused image.now.bytes heap.old (linked_at image.now.bytes at) fault.cause) }
+    ensures refused { IfErr result (λ fault.
+        AreLinkedRefused image.now.bytes heap.old (linked_at image.now.bytes at) fault.cause) }
 {
     let node = symbol_node(image, at);
     for k in 0..node.len() {
@@ -53,7 +59,8 @@ fn take_entry(image: &Image, heap: &mut Heap, entry: SymbolEntry) -> Result<(), 
     requires within { heap.old.segment.at + heap.old.segment.len ≤ length image.now.bytes }
     ensures takes { OnOk result (TakesLinked image.now.bytes heap.old heap.new (linked_from entry)) }
     ensures address { IfErr result (λ fault. fault.address ≡ heap.old.at) }
-    ensures refused { IfErr result (λ fault. AreLinkedRefused image.now.bytes heap.old (linked_from entry) fault.cause) }
+    ensures refused { IfErr result (λ fault.
+        AreLinkedRefused image.now.bytes heap.old (linked_from entry) fault.cause) }
 {
     heap.take(image, entry.name)?;
     if let SymbolTarget::Text(offset) = entry.target {

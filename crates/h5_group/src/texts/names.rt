@@ -39,9 +39,13 @@ pub(crate) fn check_names(
     requires there { AllByRecursion (IsSymbolsAt image.now.bytes) symbol_nodes.now }
     requires within { heap.now.segment.at + heap.now.segment.len ≤ length image.now.bytes }
     requires address { heap.now.at ≡ address }
-    ensures named { OnOk result (AllByRecursion (IsNamed (segment_in image.now.bytes heap.now)) (flat_map (entries_at image.now.bytes) symbol_nodes.now)) }
+    ensures named { OnOk result
+        (AllByRecursion (IsNamed (segment_in image.now.bytes heap.now))
+        (flat_map (entries_at image.now.bytes) symbol_nodes.now)) }
     ensures address { IfErr result (λ fault. fault.address ≡ address) }
-    ensures refused { IfErr result (λ fault. AreEntriesRefused (segment_in image.now.bytes heap.now) (flat_map (entries_at image.now.bytes) symbol_nodes.now) fault.cause) }
+    ensures refused { IfErr result (λ fault.
+        AreEntriesRefused (segment_in image.now.bytes heap.now)
+        (flat_map (entries_at image.now.bytes) symbol_nodes.now) fault.cause) }
 {
     for at in symbol_nodes {
         check_entries(image, heap, address, *at)?;
@@ -55,9 +59,11 @@ fn check_entries(image: &Image, heap: &Heap, address: u64, at: u64) -> Result<()
     requires there { IsSymbolsAt image.now.bytes at }
     requires within { heap.now.segment.at + heap.now.segment.len ≤ length image.now.bytes }
     requires address { heap.now.at ≡ address }
-    ensures named { OnOk result (AllByRecursion (IsNamed (segment_in image.now.bytes heap.now)) (entries_at image.now.bytes at)) }
+    ensures named { OnOk result
+        (AllByRecursion (IsNamed (segment_in image.now.bytes heap.now)) (entries_at image.now.bytes at)) }
     ensures address { IfErr result (λ fault. fault.address ≡ address) }
-    ensures refused { IfErr result (λ fault. AreEntriesRefused (segment_in image.now.bytes heap.now) (entries_at image.now.bytes at) fault.cause) }
+    ensures refused { IfErr result (λ fault.
+        AreEntriesRefused (segment_in image.now.bytes heap.now) (entries_at image.now.bytes at) fault.cause) }
 {
     let node = symbol_node(image, at);
     for k in 0..node.len() {
@@ -77,9 +83,11 @@ fn check_entry(
 ) -> Result<(), OpenFault>
     requires within { heap.now.segment.at + heap.now.segment.len ≤ length image.now.bytes }
     requires address { heap.now.at ≡ address }
-    ensures named { OnOk result (IsTrue (is_name (text_at (segment_in image.now.bytes heap.now) entry.name))) }
+    ensures named { OnOk result
+        (IsTrue (is_name (text_at (segment_in image.now.bytes heap.now) entry.name))) }
     ensures address { IfErr result (λ fault. fault.address ≡ address) }
-    ensures refused { IfErr result (λ fault. IsEntryRefused (segment_in image.now.bytes heap.now) entry fault.cause) }
+    ensures refused { IfErr result (λ fault.
+        IsEntryRefused (segment_in image.now.bytes heap.now) entry fault.cause) }
 {
     let name = heap.name(image, entry.name)?;
     if !is_link_name(name) {

@@ -27,7 +27,8 @@ pub fn push_links(
     requires k { AreK leaf internal }
     requires places { ArePlaces leaf internal (map link_of links.now) places.now }
     requires low { at + places.now.length ≤ 2 ^ 31 }
-    ensures { OnOk result (out.new.items ≡ out.old.items ++ links_bytes leaf internal at (map link_of links.now)) }
+    ensures { OnOk result
+        (out.new.items ≡ out.old.items ++ links_bytes leaf internal at (map link_of links.now)) }
 {
     let heap = at + places.tree;
     let symbols = heap + 32 + places.segment;

@@ -47,7 +47,8 @@ pub fn group_places(
     links: &[NewLink<'_>],
 ) -> Result<GroupPlaces, GroupFault>
     requires { AreK leaf internal }
-    ensures { MatchResult result (ArePlaces leaf internal (map link_of links.now)) (IsTooLarge leaf internal (map link_of links.now)) }
+    ensures { MatchResult result (ArePlaces leaf internal (map link_of links.now))
+        (IsTooLarge leaf internal (map link_of links.now)) }
 {
     let Some(segment) = segment_length(links) else {
         return Err(GroupFault::TooLong);

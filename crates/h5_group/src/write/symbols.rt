@@ -14,7 +14,8 @@ use std::alloc::{AllocError, Global};
 
 /// What stands before the scratch of an entry: the offset of its name, its object's header and its cache type.
 fn push_entry_head(out: &mut Vec<u8>, name: u64, header: u64, cache: u32) -> Result<(), AllocError>
-    ensures { OnOk result (out.new.items ≡ out.old.items ++ (word name ++ (word header ++ (middle cache ++ zeros 4)))) }
+    ensures { OnOk result
+        (out.new.items ≡ out.old.items ++ (word name ++ (word header ++ (middle cache ++ zeros 4)))) }
 {
     push_word(out, name)?;
     push_word(out, header)?;
@@ -49,7 +50,8 @@ fn push_entry(out: &mut Vec<u8>, name: u64, link: &NewLink<'_>) -> Result<(), Al
 /// The entries of these links, the first name of which stands at this offset. `Ok` has the offset behind their texts.
 fn push_entries(out: &mut Vec<u8>, name: u64, links: &[NewLink<'_>]) -> Result<u64, AllocError>
     requires { name + sum_by span (map link_of links.now) < 2 ^ 32 }
-    ensures entries { OnOk result (out.new.items ≡ out.old.items ++ flat_map entry_bytes (placed name (map link_of links.now))) }
+    ensures entries { OnOk result
+        (out.new.items ≡ out.old.items ++ flat_map entry_bytes (placed name (map link_of links.now))) }
     ensures next { IfOk result (λ n. n ≡ name + sum_by span (map link_of links.now)) }
 {
     let mut at = name;
@@ -71,7 +73,8 @@ fn push_symbol_node(
     requires leaf { leaf ≤ 32767 }
     requires room { length links.now ≤ 2 * leaf }
     requires names { name + sum_by span (map link_of links.now) < 2 ^ 32 }
-    ensures node { OnOk result (out.new.items ≡ out.old.items ++ symbol_bytes leaf (placed name (map link_of links.now))) }
+    ensures node { OnOk result
+        (out.new.items ≡ out.old.items ++ symbol_bytes leaf (placed name (map link_of links.now))) }
     ensures next { IfOk result (λ n. n ≡ name + sum_by span (map link_of links.now)) }
 {
     push_bytes(out, b"SNOD\x01\x00")?;
@@ -90,7 +93,9 @@ pub(crate) fn push_symbol_nodes(
     requires low { 1 ≤ leaf }
     requires high { leaf ≤ 32767 }
     requires names { 8 + sum_by span (map link_of links.now) < 2 ^ 32 }
-    ensures { OnOk result (out.new.items ≡ out.old.items ++ flat_map (symbol_bytes leaf) (runs_of leaf (placed_links (map link_of links.now)))) }
+    ensures { OnOk result
+        (out.new.items ≡ out.old.items
+        ++ flat_map (symbol_bytes leaf) (runs_of leaf (placed_links (map link_of links.now)))) }
 {
     let room = 2 * usize::from(leaf);
     let mut name = 8;
@@ -137,7 +142,8 @@ pub(crate) fn symbol_children(
     requires high { leaf ≤ 32767 }
     requires names { 8 + sum_by span (map link_of links.now) < 2 ^ 32 }
     requires nodes { at + symbol_nodes leaf (map link_of links.now) * symbol_node leaf ≤ 2 ^ 31 }
-    ensures { IfOk result (λ v. v.items ≡ children_of leaf at (runs_of leaf (placed_links (map link_of links.now)))) }
+    ensures { IfOk result (λ v.
+        v.items ≡ children_of leaf at (runs_of leaf (placed_links (map link_of links.now)))) }
 {
     let room = 2 * usize::from(leaf);
     let mut children = Vec::new(alloc);

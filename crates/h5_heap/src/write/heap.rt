@@ -29,7 +29,8 @@ pub fn link_span(link: &NewLink<'_>) -> usize
 /// How many bytes are used with a text behind so many, or `None` where they are more than 2147483648.
 fn behind_text(used: u64, text: &[u8]) -> Option<u64>
     requires { used ≤ 2 ^ 31 }
-    ensures { MatchOption result (2 ^ 31 < used + text_size text.now) (λ n. (n ≡ used + text_size text.now) × (n ≤ 2 ^ 31)) }
+    ensures { MatchOption result (2 ^ 31 < used + text_size text.now) (λ n.
+        (n ≡ used + text_size text.now) × (n ≤ 2 ^ 31)) }
 {
     let end = used + text_span(text) as u64;
     if end > MAXIMUM_IMAGE { None } else { Some(end) }
@@ -38,7 +39,8 @@ fn behind_text(used: u64, text: &[u8]) -> Option<u64>
 /// How many bytes are used with a link's texts behind so many, or `None` where they are more than 2147483648.
 fn behind_link(used: u64, link: &NewLink<'_>) -> Option<u64>
     requires { used ≤ 2 ^ 31 }
-    ensures { MatchOption result (2 ^ 31 < used + span (link_of link.now)) (λ n. (n ≡ used + span (link_of link.now)) × (n ≤ 2 ^ 31)) }
+    ensures { MatchOption result (2 ^ 31 < used + span (link_of link.now)) (λ n.
+        (n ≡ used + span (link_of link.now)) × (n ≤ 2 ^ 31)) }
 {
     let end = behind_text(used, link.name)?;
     match link.leads {
@@ -78,7 +80,8 @@ fn free_head(used: u64) -> u64
 
 /// A link's name, and the text of a soft link.
 fn push_link_texts(out: &mut Vec<u8>, link: &NewLink<'_>) -> Result<(), AllocError>
-    ensures { OnOk result (out.new.items ≡ out.old.items ++ flat_map padded_text (spelled (link_of link.now ∷ []))) }
+    ensures { OnOk result
+        (out.new.items ≡ out.old.items ++ flat_map padded_text (spelled (link_of link.now ∷ []))) }
 {
     push_text(out, link.name)?;
     match link.leads {
@@ -90,7 +93,8 @@ fn push_link_texts(out: &mut Vec<u8>, link: &NewLink<'_>) -> Result<(), AllocErr
 
 /// The names of these links and the texts of soft links, one behind another.
 fn push_texts(out: &mut Vec<u8>, links: &[NewLink<'_>]) -> Result<(), AllocError>
-    ensures { OnOk result (out.new.items ≡ out.old.items ++ flat_map padded_text (spelled (map link_of links.now))) }
+    ensures { OnOk result
+        (out.new.items ≡ out.old.items ++ flat_map padded_text (spelled (map link_of links.now))) }
 {
     for link in links {
         push_link_texts(out, link)?;

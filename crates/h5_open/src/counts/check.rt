@@ -30,7 +30,8 @@ pub fn check_counts(alloc: Global, image: &Image, opened: &Opened) -> Result<(),
     requires whole { IsWhole image.now.bytes opened.now.objects.items }
     requires index { IsIndex opened.now.objects.items opened.now.numbers }
     ensures reads { OnOk result (ReadsAs image.now.bytes (table_of opened.now.objects.items)
-        (tree_of image.now.bytes opened.now.objects.items) (placed_of image.now.bytes opened.now.objects.items)) }
+        (tree_of image.now.bytes opened.now.objects.items)
+        (placed_of image.now.bytes opened.now.objects.items)) }
     ensures refused { IfErr result (λ fault. IsFault image.now.bytes fault.cause fault.address) }
 {
     let Ok(counts) = count_links(alloc, image, opened) else {
@@ -46,8 +47,10 @@ pub fn check_counts(alloc: Global, image: &Image, opened: &Opened) -> Result<(),
 fn check_each(image: &Image, opened: &Opened, counts: &[u32]) -> Result<(), OpenFault>
     requires whole { IsWhole image.now.bytes opened.now.objects.items }
     requires length { length counts.now ≡ length opened.now.objects.items }
-    requires counts { AreCounts (headers opened.now.objects.items) (all_links image.now.bytes opened.now.objects.items) counts.now }
-    ensures right { OnOk result ((number : ℕ) (o : OpenedObject) → slice_get opened.now.objects.items number ≡ Some o
+    requires counts { AreCounts (headers opened.now.objects.items)
+        (all_links image.now.bytes opened.now.objects.items) counts.now }
+    ensures right { OnOk result
+        ((number : ℕ) (o : OpenedObject) → slice_get opened.now.objects.items number ≡ Some o
         → IsRight image.now.bytes o (slice_index counts.now number)) }
     ensures refused { IfErr result (λ fault. IsFault image.now.bytes fault.cause fault.address) }
 {

@@ -32,7 +32,9 @@ pub(crate) fn count_links(
     requires distinct { IsDistinct (eq_by_cmp nat_cmp) (headers opened.now.objects.items) }
     requires index { IsIndex opened.now.objects.items opened.now.numbers }
     ensures length { IfOk result (λ counts. length counts.items ≡ length opened.now.objects.items) }
-    ensures counts { IfOk result (λ counts. AreCounts (headers opened.now.objects.items) (all_links image.now.bytes opened.now.objects.items) counts.items) }
+    ensures counts { IfOk result (λ counts.
+        AreCounts (headers opened.now.objects.items) (all_links image.now.bytes opened.now.objects.items)
+        counts.items) }
 {
     let mut counts = vec![in alloc; 0; opened.objects.len()]?;
     count_all(image, opened, &mut counts);
@@ -48,7 +50,8 @@ fn count_all(image: &Image, opened: &Opened, counts: &mut [u32])
     requires length { length counts.old ≡ length opened.now.objects.items }
     requires none { AreCounts (headers opened.now.objects.items) [] counts.old }
     ensures length { length counts.new ≡ length counts.old }
-    ensures counts { AreCounts (headers opened.now.objects.items) (all_links image.now.bytes opened.now.objects.items) counts.new }
+    ensures counts { AreCounts (headers opened.now.objects.items)
+        (all_links image.now.bytes opened.now.objects.items) counts.new }
 {
     count_link(opened, counts, opened.objects[0].messages.header());
     for object in &opened.objects {
@@ -65,8 +68,10 @@ fn count_group(image: &Image, opened: &Opened, group: &Group, counts: &mut [u32]
     requires index { IsIndex opened.now.objects.items opened.now.numbers }
     requires length { length counts.old ≡ length opened.now.objects.items }
     ensures length { length counts.new ≡ length counts.old }
-    ensures counted { (before : List (List ℕ × Target)) → AreCounts (headers opened.now.objects.items) before counts.old
-        → AreCounts (headers opened.now.objects.items) (before ++ links_of image.now.bytes group.now) counts.new }
+    ensures counted { (before : List (List ℕ × Target))
+        → AreCounts (headers opened.now.objects.items) before counts.old
+        → AreCounts (headers opened.now.objects.items) (before ++ links_of image.now.bytes group.now)
+        counts.new }
 {
     for node in &group.symbol_nodes {
         count_node(image, opened, group, *node, counts);
@@ -81,9 +86,11 @@ fn count_node(image: &Image, opened: &Opened, group: &Group, node: u64, counts: 
     requires index { IsIndex opened.now.objects.items opened.now.numbers }
     requires length { length counts.old ≡ length opened.now.objects.items }
     ensures length { length counts.new ≡ length counts.old }
-    ensures counted { (before : List (List ℕ × Target)) → AreCounts (headers opened.now.objects.items) before counts.old
+    ensures counted { (before : List (List ℕ × Target))
+        → AreCounts (headers opened.now.objects.items) before counts.old
         → AreCounts (headers opened.now.objects.items)
-        (before ++ map (link_of (segment_of image.now.bytes group.now.table.heap)) (symbols_at image.now.bytes (leaf_k image.now.bytes) node)) counts.new }
+        (before ++ map (link_of (segment_of image.now.bytes group.now.table.heap))
+        (symbols_at image.now.bytes (leaf_k image.now.bytes) node)) counts.new }
 {
     for i in 0..links_at(image, group, node) {
         match link_at(image, group, node, i).target {
@@ -99,7 +106,8 @@ fn count_link(opened: &Opened, counts: &mut [u32], header: u64)
     requires index { IsIndex opened.now.objects.items opened.now.numbers }
     requires length { length counts.old ≡ length opened.now.objects.items }
     ensures length { length counts.new ≡ length counts.old }
-    ensures counted { (before : List (List ℕ × Target)) (name : List ℕ) → AreCounts (headers opened.now.objects.items) before counts.old
+    ensures counted { (before : List (List ℕ × Target)) (name : List ℕ)
+        → AreCounts (headers opened.now.objects.items) before counts.old
         → AreCounts (headers opened.now.objects.items) (before ++ (name, Header header) ∷ []) counts.new }
 {
     if let Some(&number) = opened.numbers.get(&header) {

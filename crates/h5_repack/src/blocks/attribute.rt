@@ -37,7 +37,8 @@ fn push_attribute_front(
 ) -> Result<(), AllocError>
     requires name { length name.now < 2 ^ 16 - 1 }
     requires rank { length sizes.now ≤ 32 }
-    ensures { OnOk result (out.new.items ≡ out.old.items ++ attribute_front name.now fixed.now sizes.now size) }
+    ensures { OnOk result
+        (out.new.items ≡ out.old.items ++ attribute_front name.now fixed.now sizes.now size) }
 {
     push_message_head(out, ATTRIBUTE, size)?;
     push_bytes(out, &[1, 0])?;
@@ -64,7 +65,9 @@ fn push_values(out: &mut Vec<u8>, fixed: &Fixed, values: &[i128]) -> Result<(), 
 /// The message of an attribute to be set.
 pub(crate) fn push_new_attribute(out: &mut Vec<u8>, attr: &AttrSpec) -> Result<(), AllocError>
     requires { IsPlainAttribute (attr.now.name, attribute_from attr.now) }
-    ensures { OnOk result (out.new.items ≡ out.old.items ++ message_bytes (attribute_message (attr.now.name, attribute_from attr.now))) }
+    ensures { OnOk result
+        (out.new.items ≡ out.old.items
+        ++ message_bytes (attribute_message (attr.now.name, attribute_from attr.now))) }
 {
     let name = attr.name.as_slice();
     let sizes = attr.dims.as_slice();

@@ -167,7 +167,8 @@ fn written_maximum(maximum: Option<u64>) -> u64
 
 /// The dataspace message of an array, with the maximum where it differs from the size.
 fn push_space(out: &mut Vec<u8>, size: u64, maximum: Option<u64>) -> Result<(), AllocError>
-    ensures { OnOk result (out.new.items ≡ out.old.items ++ message_bytes (1, space_body (size ∷ []) (maximum ∷ []))) }
+    ensures { OnOk result
+        (out.new.items ≡ out.old.items ++ message_bytes (1, space_body (size ∷ []) (maximum ∷ []))) }
 {
     if is_own_maximum(size, maximum) {
         push_message_head(out, DATASPACE, 16)?;
@@ -209,7 +210,8 @@ fn push_fill_message(
 ) -> Result<(), AllocError>
     requires few { others.now.count ≤ 65535 }
     requires of_type { fits fixed.now fill ≡ true }
-    ensures { OnOk result (out.new.items ≡ out.old.items ++ messages_bytes (fill_list fixed.now fill others.now.count)) }
+    ensures { OnOk result
+        (out.new.items ≡ out.old.items ++ messages_bytes (fill_list fixed.now fill others.now.count)) }
 {
     let _size = fixed.size();
     if !has_fill(others) {

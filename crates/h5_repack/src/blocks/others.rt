@@ -64,7 +64,9 @@ impl Others {
         requires padded { length body.now % 8 ≡ 0 }
         requires low { length body.now < 65536 }
         requires few { self.old.count < 65536 }
-        ensures { OnOk result ((ms : List (ℕ × List ℕ)) → AreOthers ms self.old → AreOthers (ms ++ (kind, body.now) ∷ []) self.new) }
+        ensures { OnOk result
+            ((ms : List (ℕ × List ℕ)) → AreOthers ms self.old
+            → AreOthers (ms ++ (kind, body.now) ∷ []) self.new) }
     {
         let before = self.bytes.len();
         let Ok(()) = push_message(&mut self.bytes, kind, body) else {
@@ -95,7 +97,9 @@ impl Others {
     pub fn push_stored(&mut self, attr: &AttributeBody<'_>) -> Result<(), AllocError>
         requires plain { IsPlainAttribute attr.now }
         requires few { self.old.count < 65536 }
-        ensures { OnOk result ((ms : List (ℕ × List ℕ)) → AreOthers ms self.old → AreOthers (ms ++ attribute_message attr.now ∷ []) self.new) }
+        ensures { OnOk result
+            ((ms : List (ℕ × List ℕ)) → AreOthers ms self.old
+            → AreOthers (ms ++ attribute_message attr.now ∷ []) self.new) }
     {
         let before = self.bytes.len();
         let alloc = *self.bytes.allocator();

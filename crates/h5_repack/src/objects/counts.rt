@@ -18,7 +18,8 @@ pub fn count_links(alloc: Global, objects: &[NewObject<'_>]) -> Result<Vec<u32>,
     requires tree { (tree : Tree) × AreObjects objects.now tree × IsSoundTree tree }
     ensures length { IfOk result (λ counts. length counts.items ≡ length objects.now) }
     ensures counted { IfOk result (λ counts. (tree : Tree) → AreObjects objects.now tree → IsSoundTree tree
-        → (number : ℕ) → number < length objects.now → slice_get counts.items number ≡ Some (hard_links tree number)) }
+        → (number : ℕ) → number < length objects.now
+        → slice_get counts.items number ≡ Some (hard_links tree number)) }
 {
     let mut counts = vec![in alloc; 0; objects.len()]?;
     for object in objects {
@@ -32,7 +33,8 @@ pub fn count_links(alloc: Global, objects: &[NewObject<'_>]) -> Result<Vec<u32>,
 /// Adds the links of a group to the counts of the objects to which they lead.
 fn count_group(links: &[TreeLink<'_>], counts: &mut [u32])
     requires below { (number : ℕ) → Contains (targets links.now) number → number < length counts.old }
-    requires few { (number : ℕ) → number < length counts.old → slice_index counts.old number + times number (targets links.now) < 2 ^ 32 }
+    requires few { (number : ℕ) → number < length counts.old
+        → slice_index counts.old number + times number (targets links.now) < 2 ^ 32 }
     ensures length { length counts.new ≡ length counts.old }
     ensures counted { (number : ℕ) → number < length counts.old
         → slice_index counts.new number ≡ slice_index counts.old number + times number (targets links.now) }

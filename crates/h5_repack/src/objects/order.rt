@@ -16,7 +16,9 @@ use std::alloc::{AllocError, Global};
 pub fn met_order(alloc: Global, objects: &[NewObject<'_>]) -> Result<Vec<u32>, AllocError>
     requires few { length objects.now < 2 ^ 32 }
     requires tree { (tree : Tree) × AreObjects objects.now tree × IsSoundTree tree }
-    ensures { IfOk result (λ order. (tree : Tree) → AreObjects objects.now tree → IsSoundTree tree → AreMet tree (length objects.now) order.items) }
+    ensures { IfOk result (λ order.
+        (tree : Tree) → AreObjects objects.now tree → IsSoundTree tree
+        → AreMet tree (length objects.now) order.items) }
 {
     let mut order = Vec::new(alloc);
     let mut is_met = vec![in alloc; false; objects.len()]?;
