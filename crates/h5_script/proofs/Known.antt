@@ -6,6 +6,10 @@ pub appends_none : (known : Option (List ℕ)) → Appends known known []
 appends_none None = tt
 appends_none (Some xs) = sym (append-nil xs)
 
+pub keeps_all : (known : Option (List ℕ)) → Keeps known known
+keeps_all None = tt
+keeps_all (Some xs) = refl
+
 pub appends_more : (old mid new : Option (List ℕ)) (first second : List ℕ) → Appends old mid first → Appends mid new second → Appends old new (first ++ second)
 appends_more None mid new first second p q = tt
 appends_more (Some xs) None new first second p q = absurd p

@@ -5,3 +5,4 @@ pub mod LineRuns
 pub mod PieceLaws
 pub mod ScriptRuns
 pub mod LineAnswers
+pub mod Transcripts

@@ -5,7 +5,7 @@ use Rattle.h5_file.specs.Opened.State.{FileState}
 use Rattle.std.specs.Option.{option_map_or}
 use Rattle.h5_model.specs.Scripts.Lines.{Command, line_asks}
 use Rattle.h5_script.specs.Pieces.{commands_of_line}
-use Rattle.h5_script.proofs.RunLaws.{has_counted_none}
+use Rattle.h5_script.proofs.RunLaws.{has_begun_one, has_counted_none}
 use Rattle.h5_model.specs.Scripts.Answers.{Given, is_refused, is_accepted}
 use Rattle.h5_script.specs.Answered.{Line, answer_at, outcome_of, IsAnswered, IsRunIn, IsUntold}
 use Rattle.h5_script.specs.Runs.{file_of_run, text_of_run, outcomes_of_run, AreRunIn, IsRun, HasCounted, HasBegun, IsCut, RunsTo}
@@ -50,31 +50,30 @@ line_ran s t command text outcome old new a b answered written refused edits = r
 -- the line was answered, and a beginning of the answer was written
 pub line_cut : (s t : FileState) (command : Command) (text : List ℕ) (outcome : Outcome) (old new : Known) → IsAnswered s command t text outcome → WritesSome old new text
     → HasBegun (command ∷ []) s t old new
-line_cut s t command text outcome old new answered some = record {
-  first = command ∷ [];
+line_cut s t command text outcome old new answered some = has_begun_one (command ∷ []) s t old new (record {
+  line = line_with command answered.given t;
   others = [];
   asked_are = refl;
-  lines = line_with command answered.given t ∷ [];
-  run = one_run s (line_with command answered.given t) answered.run;
-  told = some.told;
-  untold = some.untold;
-  text = some.whole ∙ answered.text_is ∙ one_text s (line_with command answered.given t);
-  written = some.written;
-}
+  run = answered.run;
+  after_is = refl;
+  written = subst (λ (told : List ℕ). WritesSome old new told) answered.text_is some;
+})
 
 -- there was no memory for the answer
 pub line_untold : (s t : FileState) (command : Command) (known : Known) → IsUntold s command t → HasBegun (command ∷ []) s t known known
-line_untold s t command known untold = record {
-  first = command ∷ [];
+line_untold s t command known untold = has_begun_one (command ∷ []) s t known known (record {
+  line = line_with command untold.given t;
   others = [];
   asked_are = refl;
-  lines = line_with command untold.given t ∷ [];
-  run = one_run s (line_with command untold.given t) untold.run;
-  told = [];
-  untold = (answer_at s (line_with command untold.given t)).text;
-  text = one_text s (line_with command untold.given t);
-  written = appends_none known;
-}
+  run = untold.run;
+  after_is = refl;
+  written = record {
+    told = [];
+    untold = (answer_at s (line_with command untold.given t)).text;
+    whole = refl;
+    written = appends_none known;
+  };
+})
 
 -- memory was refused
 pub by_memory : {T : Type 0} (result : Result T RunFault) (P : T → Type 0) (B : Type 0) → IsErrAnd result (λ f. f ≡ NoMemory) → B → MatchResult result P (λ f. IsCut f × B)

@@ -1,5 +1,5 @@
 -- Lines that are run one after the other.
-use Rattle.std.proofs.Common.{◌≡◌, ℕ, ◌+◌, Bool, Option, List, [], ◌∷◌, ◌++◌, refl, sym, ap, ◌∙◌, subst, append_assoc, append-nil, arith}
+use Rattle.std.proofs.Common.{◌≡◌, ℕ, ◌+◌, Bool, Option, List, [], ◌∷◌, ◌++◌, refl, sym, ap, ◌∙◌, subst, append_assoc, inl, inr, arith}
 use Rattle.std.specs.List.{count_by}
 use Rattle.std.specs.Io.KnownBytes.{Appends}
 use Rattle.std.proofs.lemmas.List.Sums.{sum_by-append}
@@ -7,9 +7,9 @@ use Rattle.h5_file.specs.Opened.State.{FileState}
 use Rattle.h5_model.specs.Scripts.Lines.{Command}
 use Rattle.h5_model.specs.Scripts.Answers.{Outcome, is_refused, is_accepted}
 use Rattle.h5_script.specs.Answered.{Line, answer_at}
-use Rattle.h5_script.specs.Runs.{commands_in, file_of_run, text_of_run, outcomes_of_run, AreRunIn, IsRun, HasRun, HasCounted, HasBegun}
+use Rattle.h5_script.specs.Runs.{commands_in, file_of_run, text_of_run, outcomes_of_run, AreRunIn, IsRun, HasRun, HasCounted, HasBegun, IsPartlyTold}
 use Rattle.h5_script.specs.declared.ran.Ran.{Ran}
-use Rattle.h5_script.proofs.Known.{appends_none, appends_more}
+use Rattle.h5_script.proofs.Known.{appends_none, appends_more, keeps_all}
 
 pub file_of_run-append : (s : FileState) (first others : List Line) → file_of_run s (first ++ others) ≡ file_of_run (file_of_run s first) others
 unfolding file_of_run
@@ -94,17 +94,14 @@ has_counted_more asked more s m t old mid new a b c one two = record {
 
 -- no command was run yet
 pub has_begun_none : (asked : List Command) (s : FileState) (known : Known) → HasBegun asked s s known known
-unfolding text_of_run
 has_begun_none asked s known = record {
   first = [];
   others = asked;
   asked_are = refl;
-  lines = [];
-  run = run_none s;
-  told = [];
-  untold = [];
-  text = refl;
-  written = appends_none known;
+  between = s;
+  written = known;
+  run = has_run_none s known;
+  last = inl (refl, keeps_all known);
 }
 
 -- all commands were run
@@ -113,12 +110,21 @@ has_begun_all asked more s t old new all = record {
   first = asked;
   others = more;
   asked_are = refl;
-  lines = all.lines;
-  run = all.run;
-  told = text_of_run s all.lines;
-  untold = [];
-  text = append-nil _;
-  written = all.written;
+  between = t;
+  written = new;
+  run = all;
+  last = inl (refl, keeps_all new);
+}
+
+-- the first of the commands was run and told in part, whatever others follow
+partly_of : (asked more : List Command) (s t : FileState) (old new : Known) → IsPartlyTold asked s t old new → IsPartlyTold (asked ++ more) s t old new
+partly_of asked more s t old new partly = record {
+  line = partly.line;
+  others = partly.others ++ more;
+  asked_are = ap (λ commands. commands ++ more) partly.asked_are;
+  run = partly.run;
+  after_is = partly.after_is;
+  written = partly.written;
 }
 
 -- more commands may follow
@@ -127,12 +133,13 @@ has_begun_of asked more s t old new begun = record {
   first = begun.first;
   others = begun.others ++ more;
   asked_are = sym (append_assoc begun.first begun.others more) ∙ ap (λ commands. commands ++ more) begun.asked_are;
-  lines = begun.lines;
-  run = begun.run;
-  told = begun.told;
-  untold = begun.untold;
-  text = begun.text;
+  between = begun.between;
   written = begun.written;
+  run = begun.run;
+  last = elim begun.last [
+    | inl none ↦ inl none
+    | inr partly ↦ inr (partly_of begun.others more begun.between t begun.written new partly)
+  ];
 }
 
 -- some commands were run whole, and others behind them were begun
@@ -141,10 +148,20 @@ has_begun_more asked more s m t old mid new one two = record {
   first = asked ++ two.first;
   others = two.others;
   asked_are = append_assoc asked two.first two.others ∙ ap (λ commands. asked ++ commands) two.asked_are;
-  lines = one.lines ++ two.lines;
-  run = run_more asked two.first s m t one.lines two.lines one.run two.run;
-  told = text_of_run s one.lines ++ two.told;
-  untold = two.untold;
-  text = append_assoc (text_of_run s one.lines) two.told two.untold ∙ ap (λ text. text_of_run s one.lines ++ text) two.text ∙ text_more s m one.lines two.lines one.run.after_is;
-  written = appends_more old mid new (text_of_run s one.lines) two.told one.written two.written;
+  between = two.between;
+  written = two.written;
+  run = has_run_more asked two.first s m two.between old mid two.written one two.run;
+  last = two.last;
+}
+
+-- the first command was run, and a beginning of its answer was written
+pub has_begun_one : (asked : List Command) (s t : FileState) (old new : Known) → IsPartlyTold asked s t old new → HasBegun asked s t old new
+has_begun_one asked s t old new partly = record {
+  first = [];
+  others = asked;
+  asked_are = refl;
+  between = s;
+  written = old;
+  run = has_run_none s old;
+  last = inr partly;
 }

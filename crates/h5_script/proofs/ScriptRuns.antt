@@ -1,5 +1,5 @@
 -- A script that is read piece by piece, and how its run ends.
-use Rattle.std.proofs.Common.{◌≡◌, ℕ, ◌+◌, ◌-◌, ◌<◌, ◌≤◌, Bool, true, false, cond, Option, List, [], ◌∷◌, ◌++◌, length, take, drop, take-append-drop, refl, sym, ap, ◌∙◌, subst, append_assoc, append-nil, length-append, length-take, min, arith}
+use Rattle.std.proofs.Common.{◌≡◌, ℕ, ◌+◌, ◌-◌, ◌<◌, ◌≤◌, Bool, true, false, cond, Option, List, [], ◌∷◌, ◌++◌, length, take, drop, take-append-drop, refl, sym, ap, ◌∙◌, subst, append_assoc, append-nil, length-append, length-take, min, inl, inr, arith}
 use Rattle.std.specs.Prelude.{nat_lt, Result, Ok, Err, MatchResult, IsErrAnd}
 use Rattle.std.specs.Io.KnownBytes.{Consumes, Keeps, IsAtEnd}
 use Rattle.std.proofs.lemmas.Bool.Decides.{nat_tests}
@@ -84,7 +84,7 @@ module _ (s : FileState) (input old : Known) where
   stopped_at_first f is = cut_off s s input input old old f is (record {
     script = [];
     read = consumes_none input;
-    run = has_begun_none (commands_of (within_limit [])) s old;
+    run = inl (has_begun_none (commands_of (finished (within_limit []))) s old);
   })
 
   module _ (m : FileState) (mid : Known) (now : Known) (held : List ℕ) (room : ℕ) (a : Ran) (under : IsUnderway s m input mid old now held room a) where
@@ -135,19 +135,20 @@ module _ (s : FileState) (input old : Known) where
         }
 
     -- the last line was begun
-    pub cut_last : (left : Known) (bytes : List ℕ) (t : FileState) (new : Known) → bytes ≡ [] → Consumes mid left bytes → HasBegun (commands_of_line held) m t now new → IsCutOff s t input left old new
-    cut_last left bytes t new none read begun = record {
+    pub cut_last : (left : Known) (bytes : List ℕ) (t : FileState) (new : Known) → bytes ≡ [] → Consumes mid left bytes → IsAtEnd left
+        → HasBegun (commands_of_line held) m t now new → IsCutOff s t input left old new
+    cut_last left bytes t new none read ended begun = record {
       script = under.script;
       read = read_none left bytes none read;
-      run = subst (λ (commands : List Command). HasBegun commands s t old new) (all_commands ∙ ap commands_of (sym (within_short under.script low)))
-          (has_begun_more (commands_of under.run.done) (commands_of_line held) s m t old now new whole_run.run begun);
+      run = inr (ended, subst (λ (commands : List Command). HasBegun commands s t old new) (all_commands ∙ ap commands_of (sym (within_short under.script low)))
+          (has_begun_more (commands_of under.run.done) (commands_of_line held) s m t old now new whole_run.run begun));
     }
 
     -- the last line was run, and what was held back could not be written
-    pub cut_flush : (left : Known) (bytes : List ℕ) (t : FileState) (new last : Known) (b : Ran) → bytes ≡ [] → Consumes mid left bytes
+    pub cut_flush : (left : Known) (bytes : List ℕ) (t : FileState) (new last : Known) (b : Ran) → bytes ≡ [] → Consumes mid left bytes → IsAtEnd left
         → HasCounted (commands_of_line held) m t now new a b → Keeps new last → IsCutOff s t input left old last
-    cut_flush left bytes t new last b none read ran kept =
-        cut_last left bytes t last none read (subst (λ (commands : List Command). HasBegun commands m t now last) (append-nil (commands_of_line held))
+    cut_flush left bytes t new last b none read ended ran kept =
+        cut_last left bytes t last none read ended (subst (λ (commands : List Command). HasBegun commands m t now last) (append-nil (commands_of_line held))
         (has_begun_all (commands_of_line held) [] m t now last (record { lines = ran.run.lines; run = ran.run.run; written = appends_kept now new last _ ran.run.written kept })))
 
     -- ---- a piece
@@ -205,8 +206,9 @@ module _ (s : FileState) (input old : Known) where
           record {
             script = grown;
             read = read_more;
-            run = subst (λ (xs : List ℕ). HasBegun (commands_of xs) s t old new) (begun.parts ∙ ap (λ xs. under.script ++ xs) is ∙ sym (within_short grown short))
-                (begun_within begun.done begun.others s t old new begun.whole begun.run);
+            run = inl (subst (λ (xs : List ℕ). HasBegun (commands_of xs) s t old new)
+                (sym (ap finished (within_short grown short ∙ ap (λ xs. under.script ++ xs) (sym is) ∙ sym begun.parts) ∙ finished-whole begun.done begun.others begun.whole))
+                (begun_within begun.done (finished begun.others) s t old new begun.whole begun.run));
           }
 
       -- only a part of it is
@@ -246,9 +248,10 @@ module _ (s : FileState) (input old : Known) where
           record {
             script = grown;
             read = read_more;
-            run = subst (λ (xs : List ℕ). HasBegun (commands_of xs) s t old new)
-                (sym (within_front part over is ∙ ap finished (sym begun.parts) ∙ finished-whole begun.done begun.others begun.whole))
-                (begun_within begun.done (finished begun.others) s t old new begun.whole begun.run);
+            run = inl (subst (λ (xs : List ℕ). HasBegun (commands_of xs) s t old new)
+                (sym (ap finished (within_front part over is ∙ ap finished (sym begun.parts) ∙ finished-whole begun.done begun.others begun.whole)
+                ∙ finished-whole begun.done (finished begun.others) begun.whole))
+                (begun_within begun.done (finished (finished begun.others)) s t old new begun.whole begun.run));
           }
 
       pub cut_piece : (within : ℕ) (part : List ℕ) (t : FileState) (new : Known) → within ≡ min count room → part ≡ take within piece → HasBegunLines (held ++ part) m t now new

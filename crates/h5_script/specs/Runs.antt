@@ -1,11 +1,12 @@
 -- What the lines of a script do, one after the other, each with what is given to it.
-use Rattle.std.specs.Prelude.{◌≡◌, ℕ, ◌+◌, Option, List, [], ◌∷◌, ◌++◌, map, Result, MatchResult}
+use Rattle.std.specs.Prelude.{◌≡◌, ◌⊎◌, ℕ, ◌+◌, Option, List, [], ◌∷◌, ◌++◌, map, Result, MatchResult}
 use Rattle.std.specs.List.{count_by}
-use Rattle.std.specs.Io.KnownBytes.{Appends}
+use Rattle.std.specs.Io.KnownBytes.{Appends, Keeps}
 use Rattle.h5_model.specs.Scripts.Lines.{Command}
 use Rattle.h5_model.specs.Scripts.Answers.{Outcome, is_refused, is_accepted}
 use Rattle.h5_file.specs.Opened.State.{FileState}
 use Rattle.h5_script.specs.Answered.{Line, answer_at, IsRunIn}
+use Rattle.h5_script.specs.Streams.{WritesSome}
 use Rattle.h5_script.specs.declared.ran.Ran.{Ran}
 use Rattle.h5_script.specs.declared.fault.RunFault.{RunFault}
 use Rattle.h5_script.specs.declared.fault.RunFault.TheVariants.{ScriptWrite, NoMemory}
@@ -51,17 +52,29 @@ pub record HasCounted (asked : List Command) (before after : FileState) (old new
   pub refused : counts.refused ≡ counted.refused + count_by is_refused (outcomes_of_run before run.lines)
   pub edits : counts.edits ≡ counted.edits + count_by is_accepted (outcomes_of_run before run.lines)
 
--- the first of these commands were run, and a beginning of their answers was written
+-- none of these commands was run, and nothing was written
+abbrev pub IsUntouched : FileState → FileState → Option (List ℕ) → Option (List ℕ) → Type 0
+IsUntouched before after old new = (after ≡ before) × Keeps old new
+
+-- the first of these commands was run, and a beginning of its answer was written
+pub record IsPartlyTold (asked : List Command) (before after : FileState) (old new : Option (List ℕ)) : Type 0 where
+  pub line : Line
+  pub others : List Command
+  pub asked_are : line.command ∷ others ≡ asked
+  pub run : IsRunIn before line
+  pub after_is : after ≡ line.after
+  pub written : WritesSome old new (answer_at before line).text
+
+-- the first of these commands were run, and their answers were written; of the others at most one was run, whose answer was written
+-- in part
 pub record HasBegun (asked : List Command) (before after : FileState) (old new : Option (List ℕ)) : Type 0 where
   pub first : List Command
   pub others : List Command
   pub asked_are : first ++ others ≡ asked
-  pub lines : List Line
-  pub run : IsRun first before after lines
-  pub told : List ℕ
-  pub untold : List ℕ
-  pub text : told ++ untold ≡ text_of_run before lines
-  pub written : Appends old new told
+  pub between : FileState
+  pub written : Option (List ℕ)
+  pub run : HasRun first before between old written
+  pub last : IsUntouched between after written new ⊎ IsPartlyTold others between after written new
 
 -- a run ends early because the writer failed or memory was refused
 abbrev pub IsCut : RunFault → Type 0

@@ -1,5 +1,5 @@
 -- What a run of a script reads, does to a file, and writes.
-use Rattle.std.specs.Prelude.{ℕ, ◌<◌, ◌≤◌, Option, List, length}
+use Rattle.std.specs.Prelude.{◌⊎◌, ℕ, ◌<◌, ◌≤◌, Option, List, length}
 use Rattle.std.specs.Io.KnownBytes.{Consumes, IsAtEnd}
 use Rattle.h5_file.specs.Opened.State.{FileState}
 use Rattle.h5_model.specs.Scripts.Lines.{commands_of, finished, within_limit}
@@ -34,11 +34,12 @@ pub record IsTooLong (before after : FileState) (input left old new : Option (Li
   pub long : 16777216 < length script
   pub run : HasRun (commands_of (within_limit script)) before after old new
 
--- the writer failed, or memory was refused: some lines were run
+-- the writer failed, or memory was refused: the first lines were run, an unfinished one only at the end
 pub record IsCutOff (before after : FileState) (input left old new : Option (List ℕ)) : Type 0 where
   pub script : List ℕ
   pub read : Consumes input left script
-  pub run : HasBegun (commands_of (within_limit script)) before after old new
+  pub run : HasBegun (commands_of (finished (within_limit script))) before after old new
+      ⊎ (IsAtEnd left × HasBegun (commands_of (within_limit script)) before after old new)
 
 -- what was done where a run ends early
 abbrev pub IsStopped : FileState → FileState → Option (List ℕ) → Option (List ℕ) → Option (List ℕ) → Option (List ℕ) → RunFault → Type 0

@@ -41,7 +41,7 @@ returns-in_err-run_line g c =
     (cut_last c.args.file.now (g.R.Read.remaining c.args.input.now) (g.W.Write.contents c.args.output.now)
     c.loop-read.file (g.R.Read.remaining c.loop-read.input) (g.W.Write.contents c.loop-read.output) c.loop-read.held.items c.loop-read.room c.loop-read.answers.ran c.loop-read.invariant.under
     (g.R.Read.remaining c.read_piece.new.input) (take c.in_ok-count.count c.read_piece.new.piece) c.run_line.new.file (g.W.Write.contents c.run_line.new.output)
-    (ap (λ (n : ℕ). take n c.read_piece.new.piece) c.if-count-eq0.true) c.in_ok-count.ensures.read
+    (ap (λ (n : ℕ). take n c.read_piece.new.piece) c.if-count-eq0.true) c.in_ok-count.ensures.read (c.in_ok-count.ensures.ended c.if-count-eq0.true)
     (subst (λ (line : List ℕ). HasBegun (commands_of_line line) c.loop-read.file c.run_line.new.file (g.W.Write.contents c.loop-read.output) (g.W.Write.contents c.run_line.new.output))
     c.deref.ensures.value c.in_err-run_line.ensures.run.1)))
 
@@ -51,7 +51,7 @@ returns-in_err-flush g c =
     (cut_flush c.args.file.now (g.R.Read.remaining c.args.input.now) (g.W.Write.contents c.args.output.now)
     c.loop-read.file (g.R.Read.remaining c.loop-read.input) (g.W.Write.contents c.loop-read.output) c.loop-read.held.items c.loop-read.room c.loop-read.answers.ran c.loop-read.invariant.under
     (g.R.Read.remaining c.read_piece.new.input) (take c.in_ok-count.count c.read_piece.new.piece) c.run_line.new.file (g.W.Write.contents c.run_line.new.output) (g.W.Write.contents c.flush.new.output)
-    c.run_line.new.answers.ran (ap (λ (n : ℕ). take n c.read_piece.new.piece) c.if-count-eq0.true) c.in_ok-count.ensures.read
+    c.run_line.new.answers.ran (ap (λ (n : ℕ). take n c.read_piece.new.piece) c.if-count-eq0.true) c.in_ok-count.ensures.read (c.in_ok-count.ensures.ended c.if-count-eq0.true)
     (subst (λ (line : List ℕ). HasCounted (commands_of_line line) c.loop-read.file c.run_line.new.file (g.W.Write.contents c.loop-read.output) (g.W.Write.contents c.run_line.new.output)
     c.loop-read.answers.ran c.run_line.new.answers.ran) c.deref.ensures.value c.in_ok-run_line.ensures.run) c.in_err-flush.ensures.1)
 
