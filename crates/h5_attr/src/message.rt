@@ -7,11 +7,9 @@ ghost use Rattle.h5_attr.specs.Attributes.{attribute_in, fault_in};
 
 use h5_header::Message;
 use h5_model::Cause;
+use h5_model::message_type::ATTRIBUTE;
 use h5_msg::{AttributeBody, read_attribute};
 use std::alloc::Global;
-
-/// The type of an attribute's message.
-const ATTRIBUTE: u16 = 12;
 
 /// The attribute of a message, where it is an attribute's and has the form.
 pub(crate) fn attribute(image: &[u8], message: Message) -> Option<AttributeBody<'_>>

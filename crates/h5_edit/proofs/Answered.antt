@@ -66,7 +66,7 @@ module _ (leaf internal : ℕ) (tree : Tree) (k : AreK leaf internal) (sound : I
   as_many =
       let reads = (read_as).reads in
       sym (len_numbered w.headers.items)
-      ∙ len_alike (table_with w.headers.items) tree (read_as).placed (λ (x : Placed). (x.number, x.header)) (λ (x : Placed). (x.number, x.object)) reads.numbered reads.objects
+      ∙ len_alike (table_with w.headers.items) tree (read_as).placed (λ (x : Placed). (x.number, x.header)) (λ (x : Placed). (x.number, x.object)) reads.holds.numbered reads.holds.objects
 
   pub short : nat_lt (2 ^ 31) (plain_length leaf internal 32 (λ _. 0) tree) ≡ false
   short =
@@ -119,7 +119,7 @@ module _ {image : List ℕ} {objects : List OpenedObject} {numbers : BTreeMap �
 
   module _ (low : AreBytes image) where
     k : AreK leaf internal
-    k = k_there image (opened.reads.1).superblock
+    k = k_there image (opened.reads.1).holds.superblock
 
     -- ---- not written
 

@@ -26,10 +26,10 @@ module _ (f : FileState) (edit : Edit) (made : Made) (is : IsMade f edit made) w
 
   -- the image of an edit can be walked
   pub made_superblock : IsSuperblock image
-  made_superblock = is.anew.reads.reads.superblock
+  made_superblock = is.anew.reads.reads.holds.superblock
 
   pub made_end : end_of_file image ≡ length image
-  made_end = is.anew.reads.reads.whole
+  made_end = is.anew.reads.reads.holds.whole
 
   made_reads : Reads image (table_with made.headers.items) (tree_after f edit)
   made_reads = (is.anew.reads.placed, is.anew.reads.reads)

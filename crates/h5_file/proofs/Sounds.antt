@@ -22,10 +22,10 @@ sound image objects numbers opened = record { reads = opened.reads; numbers = nu
 -- ---- the empty file
 
 pub empty_superblock : (image : List ℕ) → image ≡ empty_file → IsSuperblock image
-empty_superblock image same = subst IsSuperblock (sym same) empty_reads_as.superblock
+empty_superblock image same = subst IsSuperblock (sym same) empty_reads_as.holds.superblock
 
 pub empty_end : (image : List ℕ) → image ≡ empty_file → end_of_file image ≡ length image
-empty_end image same = subst (λ bytes. end_of_file bytes ≡ length bytes) (sym same) empty_reads_as.whole
+empty_end image same = subst (λ bytes. end_of_file bytes ≡ length bytes) (sym same) empty_reads_as.holds.whole
 
 -- it reads as the root alone, whose header stands at 96
 empty_alone : Reads empty_file (table_with (96 ∷ [])) root_tree

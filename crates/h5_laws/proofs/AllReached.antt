@@ -14,10 +14,9 @@ use Rattle.h5_model.specs.Format.Heap.{segment_of}
 use Rattle.h5_model.specs.Format.Symbols.{Entry, entry_of, Target, Header, Text, symbols_at, symbols_in, symbol_bytes, link_of}
 use Rattle.h5_model.specs.Format.Superblock.{leaf_k, root_header}
 use Rattle.h5_model.specs.Tree.Objects.{Tree, Object, Content, Group, Array, Links, Link, ToObject, Soft, follow, links_of, links_in}
-use Rattle.h5_model.specs.Format.Reads.{Placed, HasObject, IsSame, IsPlaced}
+use Rattle.h5_model.specs.Format.Reads.{Placed, HasObject, IsSame, IsPlaced, Holds}
 use Rattle.h5_model.specs.Format.Reached.{named, ObjectHeader, Reached, by_superblock, entry_in}
 use Rattle.h5_model.specs.Faults.TreeFaults.{all_entries}
-use Rattle.h5_laws.specs.Holds.{Holds}
 use Rattle.h5_laws.proofs.Lists.{In, in_either, from_map, from_flat, from_table, from_range}
 use Rattle.h5_laws.proofs.Maps.{found_value, tied_right}
 use Rattle.h5_laws.proofs.Objects.{has_object, content_cases, in_tree, in_table, object_at}

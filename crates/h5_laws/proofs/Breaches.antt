@@ -6,12 +6,11 @@ use Rattle.std.specs.FinMap.{FinMap, values}
 use Rattle.h5_model.specs.Format.Nodes.{group_kind}
 use Rattle.h5_model.specs.Format.Superblock.{internal_k}
 use Rattle.h5_model.specs.Tree.Objects.{Tree}
-use Rattle.h5_model.specs.Format.Reads.{Placed}
+use Rattle.h5_model.specs.Format.Reads.{Placed, Holds}
 use Rattle.h5_model.specs.Format.Reached.{Named, Role, ObjectHeader, GroupNode, SymbolNode, HeapHeader, ChunkNode, Reached, shape_kind}
 use Rattle.h5_model.specs.Faults.Breaches.{BlockBreach, is_header, IsNoRoot}
 use Rattle.h5_model.specs.declared.open_fault.Cause.{Cause}
 use Rattle.h5_model.specs.declared.open_fault.Cause.TheVariants.{HeapForm, HeapName, NodeForm, NameOrder, KeyOrder, Sibling, ChunkKey, TooDeep, BadName}
-use Rattle.h5_laws.specs.Holds.{Holds}
 use Rattle.h5_laws.proofs.Lists.{In}
 use Rattle.h5_laws.proofs.Rows.{in_row}
 use Rattle.h5_laws.proofs.Entries.{in_symbol_nodes}

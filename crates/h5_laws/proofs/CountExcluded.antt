@@ -11,7 +11,7 @@ use Rattle.h5_model.specs.Faults.Breaches.{AreAllLinks, IsMiscounted}
 use Rattle.h5_laws.proofs.Lists.{In, in_all, in_contains, contains_in}
 use Rattle.h5_laws.proofs.Breaches.{header_known}
 use Rattle.h5_laws.proofs.Pigeonhole.{apart_of_distinct, no_longer}
-use Rattle.h5_laws.proofs.Holding.{holds_of, linked_by}
+use Rattle.h5_laws.proofs.Holding.{linked_by}
 
 -- lists of all fields that name a header have one length
 module _ (image : List ℕ) (header : ℕ) where
@@ -29,7 +29,7 @@ module _ (image : List ℕ) (header : ℕ) where
 module _ (image : List ℕ) (table : FinMap nat_cmp ℕ) (tree : Tree) (placed : List Placed) (reads : ReadsAs image table tree placed) where
   pub miscounted_excluded : (x : Named) → Reached image x → IsMiscounted image x → ⊥
   miscounted_excluded x reached (is, (fields, are, wrong)) =
-      let stands = holds_of image table tree placed reads in
+      let stands = reads.holds in
       let k = header_known image table tree placed stands x reached is in
       let here : AreAllLinks image k.0.o.header fields = subst (λ (h : ℕ). AreAllLinks image h fields) (sym k.1) are in
       let all = linked_by image table tree placed stands k.0.o k.0.member in

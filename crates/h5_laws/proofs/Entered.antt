@@ -16,10 +16,9 @@ use Rattle.h5_model.specs.Format.Symbols.{symbol_block}
 use Rattle.h5_model.specs.Format.Layout.{Layout, InBlock, InChunks, layout_of}
 use Rattle.h5_model.specs.Format.Superblock.{leaf_k, internal_k}
 use Rattle.h5_model.specs.Tree.Objects.{Tree}
-use Rattle.h5_model.specs.Format.Reads.{Placed}
+use Rattle.h5_model.specs.Format.Reads.{Placed, Holds}
 use Rattle.h5_model.specs.Format.Reached.{Named, Role, ObjectHeader, Continuation, GroupNode, SymbolNode, HeapHeader, Segment, Data, ChunkNode, Chunk, Shape, shape_kind, level_at, length_by}
 use Rattle.h5_model.proofs.OneTree.{level_is}
-use Rattle.h5_laws.specs.Holds.{Holds}
 use Rattle.h5_laws.proofs.Lists.{In, in_left, in_right, in_map, in_flat}
 use Rattle.h5_laws.proofs.Heads.{in_continuations}
 use Rattle.h5_laws.proofs.Rows.{named_next, named_row}

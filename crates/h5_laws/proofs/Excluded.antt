@@ -3,22 +3,20 @@ use Rattle.std.proofs.Common.{inl, inr, ℕ, List}
 use Rattle.std.specs.Ordering.{nat_cmp}
 use Rattle.std.specs.FinMap.{FinMap}
 use Rattle.h5_model.specs.Tree.Objects.{Tree}
-use Rattle.h5_model.specs.Format.Reads.{Placed, ReadsAs}
+use Rattle.h5_model.specs.Format.Reads.{Placed, ReadsAs, Holds}
 use Rattle.h5_model.specs.Format.Reached.{Named, Reached}
 use Rattle.h5_model.specs.Faults.Breaches.{cut, ReachedBreach, BreachExcludesReads}
 use Rattle.h5_model.specs.declared.open_fault.Cause.{Cause}
 use Rattle.h5_model.specs.declared.open_fault.Cause.TheVariants.{Truncated, Overlap, GroupLinkedTwice, LinkCount, TooLarge, MissingMessage}
 use Rattle.h5_model.proofs.BreachLaws.{superblock_breach_excludes}
-use Rattle.h5_laws.specs.Holds.{Holds}
 use Rattle.h5_laws.proofs.OverlapExcluded.{truncated_excluded, overlap_excluded}
 use Rattle.h5_laws.proofs.LinksExcluded.{often_excluded, twice_excluded}
 use Rattle.h5_laws.proofs.CountExcluded.{miscounted_excluded}
 use Rattle.h5_laws.proofs.Breaches.{form_excluded, root_excluded}
-use Rattle.h5_laws.proofs.Holding.{holds_of}
 
 module _ (image : List ℕ) (table : FinMap nat_cmp ℕ) (tree : Tree) (placed : List Placed) (reads : ReadsAs image table tree placed) where
   abbrev stands : Holds image table tree placed
-  stands = holds_of image table tree placed reads
+  stands = reads.holds
 
   -- of a block that is reached
   pub reached_excluded : (x : Named) → Reached image x → (cause : Cause) → ReachedBreach image x cause → ⊥

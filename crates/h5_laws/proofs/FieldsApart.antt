@@ -14,9 +14,8 @@ use Rattle.h5_model.specs.Format.Nodes.{group_kind, tree_blocks}
 use Rattle.h5_model.specs.Format.Symbols.{IsSymbolNode, symbol_block, symbol_bytes, symbols_in}
 use Rattle.h5_model.specs.Format.Superblock.{leaf_k, internal_k}
 use Rattle.h5_model.specs.Tree.Objects.{Tree, Content, Group, Array}
-use Rattle.h5_model.specs.Format.Reads.{Placed, IsPlaced, HasContent}
+use Rattle.h5_model.specs.Format.Reads.{Placed, IsPlaced, HasContent, Holds}
 use Rattle.h5_model.specs.Format.Reached.{entry_in}
-use Rattle.h5_laws.specs.Holds.{Holds}
 use Rattle.h5_laws.proofs.Lists.{In}
 use Rattle.h5_laws.proofs.Pigeonhole.{linking, Apart}
 use Rattle.h5_laws.proofs.LinkFields.{entry_link, node_links, object_links, placed_links, all_links, group_links, no_links}

@@ -17,12 +17,11 @@ use Rattle.h5_model.specs.Format.Links.{HasLinks, Before, Ascend, offset_in, key
 use Rattle.h5_model.specs.Tree.Paths.{is_name}
 use Rattle.h5_model.specs.Format.Superblock.{leaf_k, internal_k}
 use Rattle.h5_model.specs.Tree.Objects.{Tree}
-use Rattle.h5_model.specs.Format.Reads.{Placed, IsSame}
+use Rattle.h5_model.specs.Format.Reads.{Placed, IsSame, Holds}
 use Rattle.h5_model.specs.Format.Reached.{entry_in}
 use Rattle.h5_model.specs.Faults.TreeFaults.{SymbolBreach, NameBreach, HeapNameBreach, BadNameBreach, HasSymbolNodes, all_entries, all_key_offsets}
 use Rattle.h5_model.proofs.RowLaws.{only_here}
 use Rattle.h5_model.proofs.OneTree.{one_children, level_is, owned_is}
-use Rattle.h5_laws.specs.Holds.{Holds}
 use Rattle.h5_laws.proofs.Lists.{In, in_all, all_in, in_map, in_contains}
 use Rattle.h5_laws.proofs.Maps.{get_of_entry, tied_left}
 use Rattle.h5_laws.proofs.Entries.{flat-same, own_entries, links_are, entry_listed, link_listed}

@@ -8,12 +8,11 @@ use Rattle.h5_bytes.specs.Blocks.{Inside}
 use Rattle.h5_model.specs.Format.Messages.{Message, count_of}
 use Rattle.h5_model.specs.Format.Symbols.{Target}
 use Rattle.h5_model.specs.Tree.Objects.{Tree, Object, Dataset, ToObject, follow, links_of, links_in}
-use Rattle.h5_model.specs.Format.Reads.{Placed, HasGroup, HasDataset, InGroup, InDataset}
+use Rattle.h5_model.specs.Format.Reads.{Placed, HasGroup, HasDataset, InGroup, InDataset, Holds}
 use Rattle.h5_model.specs.Format.Reached.{AllMessages}
 use Rattle.h5_model.specs.Faults.HeaderFaults.{HeaderBreach, ListBreach, is_known, is_new_style}
 use Rattle.h5_model.specs.declared.open_fault.Cause.{Cause}
 use Rattle.h5_model.specs.declared.open_fault.Cause.TheVariants.{HeaderVersion, MessageSize, MessageCount, SharedMessage, UnknownMessage, Filtered, ExternalFiles, NewStyleGroup, MissingMessage, DuplicateMessage, DataspaceForm, DatatypeForm, FillForm, LayoutForm, AttributeForm, HeapForm, TooLarge}
-use Rattle.h5_laws.specs.Holds.{Holds}
 use Rattle.h5_laws.proofs.Lists.{In, in_all}
 use Rattle.h5_laws.proofs.Objects.{content_cases, one_of_two, in_tree, of_group, of_dataset}
 use Rattle.h5_laws.proofs.Datasets.{all_messages}

@@ -1,54 +1,19 @@
--- A reading is a tree that stands in the image, each reference count being the number of links that the image has to the header.
+-- An image that holds a tree has as many links to a header as the tree has to its object.
 use Rattle.std.proofs.Common.{◌≡◌, ℕ, ◌+◌, List, length, refl, subst, ◌∙◌}
 use Rattle.std.specs.Prelude.{◌==◌, IsTrue, if◌then◌else◌}
 use Rattle.std.specs.Ordering.{nat_cmp}
 use Rattle.std.specs.FinMap.{FinMap}
-use Rattle.std.specs.List.{AllByRecursion, Contains}
+use Rattle.std.specs.List.{Contains}
 use Rattle.h5_model.specs.Tree.Objects.{Tree, hard_links}
-use Rattle.h5_model.specs.Format.Reads.{Placed, IsCounted, ReadsAs}
+use Rattle.h5_model.specs.Format.Reads.{Placed, Holds}
 use Rattle.h5_model.specs.Format.Reached.{Named, named, ObjectHeader, Reached}
 use Rattle.h5_model.specs.Faults.Breaches.{is_header, AreAllLinks}
-use Rattle.h5_laws.specs.Holds.{Holds}
 use Rattle.h5_laws.proofs.Lists.{In, in_contains, contains_in}
 use Rattle.h5_laws.proofs.Pigeonhole.{distinct_of_apart}
 use Rattle.h5_laws.proofs.LinkFields.{all_links}
 use Rattle.h5_laws.proofs.AllReached.{link_reached}
 use Rattle.h5_laws.proofs.FieldsApart.{fields_to, length-fields_to, in_fields_to, to_fields, fields_apart, links_once}
 use Rattle.h5_laws.proofs.LinkCounts.{reached_link, object_count}
-
-pub holds_of : (image : List ℕ) (table : FinMap nat_cmp ℕ) (tree : Tree) (placed : List Placed) → ReadsAs image table tree placed → Holds image table tree placed
-holds_of image table tree placed reads = record {
-  superblock = reads.superblock;
-  whole = reads.whole;
-  numbered = reads.numbered;
-  objects = reads.objects;
-  each = reads.each;
-  own = reads.own;
-  root = reads.root;
-  root_group = reads.root_group;
-  reached = reads.reached;
-  shallow = reads.shallow;
-  apart = reads.apart;
-  within = reads.within;
-}
-
-pub reads_of : (image : List ℕ) (table : FinMap nat_cmp ℕ) (tree : Tree) (placed : List Placed) → Holds image table tree placed
-    → AllByRecursion (IsCounted image tree) placed → ReadsAs image table tree placed
-reads_of image table tree placed holds counted = record {
-  superblock = holds.superblock;
-  whole = holds.whole;
-  numbered = holds.numbered;
-  objects = holds.objects;
-  each = holds.each;
-  own = holds.own;
-  root = holds.root;
-  root_group = holds.root_group;
-  reached = holds.reached;
-  shallow = holds.shallow;
-  counted = counted;
-  apart = holds.apart;
-  within = holds.within;
-}
 
 module _ (image : List ℕ) (table : FinMap nat_cmp ℕ) (tree : Tree) (placed : List Placed) (holds : Holds image table tree placed) where
   abbrev links : List (ℕ × ℕ)

@@ -4,10 +4,9 @@ use Rattle.std.specs.Prelude.{◌==◌, IsTrue, if◌then◌else◌}
 use Rattle.std.specs.Ordering.{nat_cmp}
 use Rattle.std.specs.FinMap.{FinMap}
 use Rattle.h5_model.specs.Tree.Objects.{Tree, hard_links}
-use Rattle.h5_model.specs.Format.Reads.{Placed}
+use Rattle.h5_model.specs.Format.Reads.{Placed, Holds}
 use Rattle.h5_model.specs.Format.Reached.{Named, Reached}
 use Rattle.h5_model.specs.Faults.Breaches.{is_header, AreLinks}
-use Rattle.h5_laws.specs.Holds.{Holds}
 use Rattle.h5_laws.proofs.Lists.{In, contains_in}
 use Rattle.h5_laws.proofs.Objects.{in_table}
 use Rattle.h5_laws.proofs.Breaches.{link_known}

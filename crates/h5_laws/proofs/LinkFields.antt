@@ -20,12 +20,11 @@ use Rattle.h5_model.specs.Format.Symbols.{Entry, Target, Header, Text, symbols_a
 use Rattle.h5_model.specs.Format.Links.{HasLinks}
 use Rattle.h5_model.specs.Format.Superblock.{leaf_k, internal_k, root_header}
 use Rattle.h5_model.specs.Tree.Objects.{Tree, Content, Dataset, Group, Array, Object, Link, ToObject, Soft, links_to, leads_to, hard_links}
-use Rattle.h5_model.specs.Format.Reads.{Placed, IsPlaced, HasObject, HasContent, HasDataset, HasGroup, IsSame}
+use Rattle.h5_model.specs.Format.Reads.{Placed, IsPlaced, HasObject, HasContent, HasDataset, HasGroup, IsSame, Holds}
 use Rattle.h5_model.specs.Format.Reached.{entry_in, level_at}
 use Rattle.h5_model.specs.Faults.TreeFaults.{all_entries}
 use Rattle.h5_model.proofs.OneReading.{one_messages}
 use Rattle.h5_model.proofs.OneTree.{level_is, children_are}
-use Rattle.h5_laws.specs.Holds.{Holds}
 use Rattle.h5_laws.proofs.Lists.{In, in_left, in_right, in_range, in_flat}
 use Rattle.h5_laws.proofs.Objects.{of_dataset_kind}
 use Rattle.h5_laws.proofs.Datasets.{find_none, said_first}

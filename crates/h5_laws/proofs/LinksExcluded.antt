@@ -8,11 +8,10 @@ use Rattle.std.specs.FinMap.{FinMap}
 use Rattle.h5_bytes.specs.declared.Block.{Block}
 use Rattle.h5_model.specs.Format.Messages.{Message}
 use Rattle.h5_model.specs.Tree.Objects.{Tree, Object, Content, Group, Array, hard_links, links_of, links_in}
-use Rattle.h5_model.specs.Format.Reads.{Placed, ReadsAs, IsCounted, IsGroup, HasContent}
+use Rattle.h5_model.specs.Format.Reads.{Placed, ReadsAs, IsCounted, IsGroup, HasContent, Holds}
 use Rattle.h5_model.specs.Format.Reached.{Named, Reached, kind_at}
 use Rattle.h5_model.specs.Faults.HeaderFaults.{SomeMessage}
 use Rattle.h5_model.specs.Faults.Breaches.{AreLinks, IsLinkedTwice, IsLinkedTooOften}
-use Rattle.h5_laws.specs.Holds.{Holds}
 use Rattle.h5_laws.proofs.Lists.{In, in_all}
 use Rattle.h5_laws.proofs.Objects.{in_tree, of_dataset_kind}
 use Rattle.h5_laws.proofs.Steps.{header_inside}
@@ -21,7 +20,6 @@ use Rattle.h5_laws.proofs.Breaches.{header_known}
 use Rattle.h5_laws.proofs.Pigeonhole.{apart_of_distinct}
 use Rattle.h5_laws.proofs.LinkFields.{all_links}
 use Rattle.h5_laws.proofs.LinkCounts.{counts, reached_link, linked_fields, fields_bound}
-use Rattle.h5_laws.proofs.Holding.{holds_of}
 
 -- a content with a Symbol Table message is a group's
 table_is_group : (image : List ℕ) (table : FinMap nat_cmp ℕ) (ms : List Message) (c : Content) (blocks : List Block)
@@ -35,13 +33,13 @@ links_are_group (Array d) h = absurd (let never : false ≡ true = h in cc)
 
 module _ (image : List ℕ) (table : FinMap nat_cmp ℕ) (tree : Tree) (placed : List Placed) (reads : ReadsAs image table tree placed) where
   abbrev stands : Holds image table tree placed
-  stands = holds_of image table tree placed reads
+  stands = reads.holds
 
   root_is_group : (o : Placed) → In o placed → o.number ≡ 0 → IsGroup o.object.content
   root_is_group o at zero_number =
       let links : links_of tree o.number ≡ links_in o.object.content
       = ap (option_and_then (λ (ob : Object). links_in ob.content)) (in_tree image table tree placed stands o at) in
-      links_are_group o.object.content (sym (ap is_some (subst (λ (n : ℕ). links_of tree n ≡ links_in o.object.content) zero_number links)) ∙ reads.root_group)
+      links_are_group o.object.content (sym (ap is_some (subst (λ (n : ℕ). links_of tree n ≡ links_in o.object.content) zero_number links)) ∙ stands.root_group)
 
   is_counted : (o : Placed) → In o placed → IsCounted image tree o
   is_counted o at = in_all (IsCounted image tree) o placed reads.counted at

@@ -14,9 +14,8 @@ use Rattle.h5_model.specs.Format.Symbols.{Target, Header}
 use Rattle.h5_model.specs.Format.Links.{HasLinks}
 use Rattle.h5_model.specs.Format.Superblock.{leaf_k, internal_k, root_header}
 use Rattle.h5_model.specs.Tree.Objects.{Tree, Object, Content, Group, Array, Dataset, Links, Link, ToObject, Soft, follow, links_of, links_in, link_in}
-use Rattle.h5_model.specs.Format.Reads.{Placed, HasObject, IsPlaced, HasContent, IsSame, HasGroup, HasDataset, InGroup, InDataset}
+use Rattle.h5_model.specs.Format.Reads.{Placed, HasObject, IsPlaced, HasContent, IsSame, HasGroup, HasDataset, InGroup, InDataset, Holds}
 use Rattle.h5_model.proofs.OneReading.{some_same}
-use Rattle.h5_laws.specs.Holds.{Holds}
 use Rattle.h5_laws.proofs.Lists.{In, in_all, in_map, from_map}
 use Rattle.h5_laws.proofs.Maps.{get_of_entry, entry_of_get, tied_left}
 use Rattle.h5_laws.proofs.Counts.{only_one, only_body}

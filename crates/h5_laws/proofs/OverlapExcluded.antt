@@ -10,11 +10,10 @@ use Rattle.h5_bytes.specs.declared.Block.{Block}
 use Rattle.h5_bytes.proofs.BlockLaws.{holds_in}
 use Rattle.h5_model.specs.Format.Messages.{Message, HasMessages}
 use Rattle.h5_model.specs.Tree.Objects.{Tree}
-use Rattle.h5_model.specs.Format.Reads.{Placed, IsPlaced, HasObject}
+use Rattle.h5_model.specs.Format.Reads.{Placed, IsPlaced, HasObject, Holds}
 use Rattle.h5_model.specs.Format.Reached.{Named, Role, ObjectHeader, Reached, length_of, block_of}
 use Rattle.h5_model.specs.Faults.Breaches.{is_header, IsOverlap}
 use Rattle.h5_model.proofs.OneReading.{one_messages}
-use Rattle.h5_laws.specs.Holds.{Holds}
 use Rattle.h5_laws.proofs.Lists.{In, in_all, in_left, in_right, in_map}
 use Rattle.h5_laws.proofs.Tags.{Tagged, blocks_in, tagged}
 use Rattle.h5_laws.proofs.ObjectBlocks.{object-blocks}

@@ -17,10 +17,9 @@ use Rattle.h5_model.specs.Format.Nodes.{Kind, group_kind, node_at, node_of, node
 use Rattle.h5_model.specs.Format.Symbols.{IsSymbolNode, symbol_block, symbol_bytes, symbols_in}
 use Rattle.h5_model.specs.Format.Superblock.{leaf_k, internal_k}
 use Rattle.h5_model.specs.Tree.Objects.{Tree}
-use Rattle.h5_model.specs.Format.Reads.{Placed}
+use Rattle.h5_model.specs.Format.Reads.{Placed, Holds}
 use Rattle.h5_model.specs.Format.Reached.{named, Role, ObjectHeader, GroupNode, SymbolNode, Reached, by_block, group_root, level_at, entry_in, size_at, kind_at}
 use Rattle.h5_model.proofs.OneTree.{level_is, children_are}
-use Rattle.h5_laws.specs.Holds.{Holds}
 use Rattle.h5_laws.proofs.Lists.{In, in_all, in_map, from_flat, from_table}
 use Rattle.h5_laws.proofs.Rows.{row_after}
 use Rattle.h5_laws.proofs.Trees.{row_owned, row_node}

@@ -16,10 +16,9 @@ use Rattle.h5_model.specs.Format.Messages.{Message}
 use Rattle.h5_model.specs.Format.Nodes.{group_kind, node_bytes, key_place, child_in}
 use Rattle.h5_model.specs.Format.Superblock.{internal_k}
 use Rattle.h5_model.specs.Tree.Objects.{Tree}
-use Rattle.h5_model.specs.Format.Reads.{Placed}
+use Rattle.h5_model.specs.Format.Reads.{Placed, Holds}
 use Rattle.h5_model.specs.Format.Reached.{Named, named, Role, ObjectHeader, Continuation, GroupNode, SymbolNode, HeapHeader, Segment, Data, ChunkNode, Chunk, Reached, by_superblock, by_block, Names, FittingAt, FromMessage, FromHeader, FromNode, FromSymbols, FromLayout, AllMessages, Shape, shape_kind, Met, size_at, entry_in}
 use Rattle.h5_model.proofs.OneTree.{level_is}
-use Rattle.h5_laws.specs.Holds.{Holds}
 use Rattle.h5_laws.proofs.Lists.{In}
 use Rattle.h5_laws.proofs.Heads.{Headed, headed, standing, two_numbers, names_block}
 use Rattle.h5_laws.proofs.Rows.{in_row, in_next, named_row}

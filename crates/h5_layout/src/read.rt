@@ -12,19 +12,10 @@ use crate::array::ArrayRef;
 use crate::bodies::one_body;
 use crate::judge::{judge_datatype, judge_fill, judge_layout, judge_old_fill, judge_sizes};
 use h5_header::{Messages, find_body};
+use h5_model::message_type::{DATA_LAYOUT, DATASPACE, DATATYPE, FILL_VALUE, OLD_FILL_VALUE};
 use h5_model::{Cause, Fixed, OpenFault};
 use h5_space::Image;
 use std::alloc::Global;
-
-const DATASPACE: u16 = 1;
-
-const DATATYPE: u16 = 3;
-
-const OLD_FILL_VALUE: u16 = 4;
-
-const FILL_VALUE: u16 = 5;
-
-const DATA_LAYOUT: u16 = 8;
 
 /// The array that a dataset's messages describe. Takes no memory.
 ///

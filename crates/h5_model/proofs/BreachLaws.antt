@@ -68,4 +68,4 @@ module _ (bytes : List ℕ) (is : IsSuperblock (cut bytes)) where
 -- where the superblock breaks a rule, the bytes read as no tree
 pub superblock_breach_excludes : (bytes : List ℕ) (cause : Cause) (at : ℕ) → SuperblockBreach bytes cause at
     → (table : FinMap nat_cmp ℕ) (tree : Tree) → Reads (cut bytes) table tree → ⊥
-superblock_breach_excludes bytes cause at h table tree reads = no_breach bytes reads.1.superblock cause at h
+superblock_breach_excludes bytes cause at h table tree reads = no_breach bytes reads.1.holds.superblock cause at h

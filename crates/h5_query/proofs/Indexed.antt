@@ -103,4 +103,4 @@ module _ (image : List ℕ) (objects : List OpenedObject) (numbers : BTreeMap �
       record { inside = kept.1; room = (is_array (messages_in image o.messages.list) (described line) (kept.0).array).room }
 
   pub root_there : 0 < length objects
-  root_there = number_within objects 0 _ (sym (get_table objects 0) ∙ (opened.reads.1).root)
+  root_there = number_within objects 0 _ (sym (get_table objects 0) ∙ (opened.reads.1).holds.root)

@@ -37,8 +37,8 @@ module _ (image : List ℕ) (objects : List OpenedObject) (numbers : BTreeMap �
   in_table name number entry =
       let reads = opened.reads.1 in
       let there : In (k, object_in image hs o) (entries (tree_of image objects)) = entry_of_get (tree_of image objects) k (object_in image hs o) (object_there image objects k o at) in
-      let x = from_map (λ (p : Placed). (p.number, p.object)) (k, object_in image hs o) opened.reads.0 (subst (In (k, object_in image hs o)) reads.objects there) in
-      let placed = in_all (IsPlaced image (table_of objects)) x.0 opened.reads.0 reads.each x.1 in
+      let x = from_map (λ (p : Placed). (p.number, p.object)) (k, object_in image hs o) opened.reads.0 (subst (In (k, object_in image hs o)) reads.holds.objects there) in
+      let placed = in_all (IsPlaced image (table_of objects)) x.0 opened.reads.0 reads.holds.each x.1 in
       let same : (x.0).object.content ≡ Group links = ap (λ (p : ℕ × Object). (p.1).content) x.2 ∙ ap (content_in image hs) is in
       elim (content_cases image (table_of objects) placed.messages (x.0).object.content placed.content_blocks placed.content) [
         | inl c ↦

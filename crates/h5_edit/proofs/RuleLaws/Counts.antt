@@ -56,7 +56,7 @@ module _ (image : List ℕ) (objects : List OpenedObject) (numbers : BTreeMap �
     below_root : number ≢ 0
     below_root zero_number =
         let none : links_of T 0 ≡ None = subst (λ (n : ℕ). links_of T n ≡ None) zero_number (array_no_group image objects number o at line is) in
-        no_links (links_of T 0) none (opened.reads.1).root_group
+        no_links (links_of T 0) none (opened.reads.1).holds.root_group
 
     links_counted : reference_count (prefix_at image o.messages.header) ≡ hard_links T number
     links_counted =
@@ -65,7 +65,7 @@ module _ (image : List ℕ) (objects : List OpenedObject) (numbers : BTreeMap �
         = get_table objects number ∙ slice_get-map (λ (x : OpenedObject). x.messages.header) objects number ∙ ap (option_map (λ (x : OpenedObject). x.messages.header)) at in
         let entry : In (number, o.messages.header) (entries (table_of objects)) = entry_of_get (table_of objects) number o.messages.header got in
         let placed = from_map (λ (x : Placed). (x.number, x.header)) (number, o.messages.header) opened.reads.0
-        (subst (λ (es : List (ℕ × ℕ)). In (number, o.messages.header) es) reads.numbered entry) in
+        (subst (λ (es : List (ℕ × ℕ)). In (number, o.messages.header) es) reads.holds.numbered entry) in
         counted_at image T o.messages.header number placed.0 (ap (λ (p : ℕ × ℕ). p.0) placed.2) (ap (λ (p : ℕ × ℕ). p.1) placed.2)
         (in_all (IsCounted image T) placed.0 opened.reads.0 reads.counted placed.1) below_root
 

@@ -11,7 +11,6 @@ use Rattle.h5_model.specs.Format.Reads.{Placed, IsPlaced, HasObject, HasGroup, I
 use Rattle.h5_model.specs.Edits.Refusal.{has_zero}
 use Rattle.h5_model.specs.Format.Symbols.{Entry, Target, Header, Text, link_of, target_of}
 use Rattle.h5_model.specs.Tree.Objects.{Tree, Object, Content, Group, Array, Links, Link, ToObject, Soft, links_of, link_in, hard_links}
-use Rattle.h5_laws.proofs.Holding.{holds_of}
 use Rattle.h5_laws.proofs.Lists.{In, in_all, from_map}
 use Rattle.h5_laws.proofs.Maps.{found_entry, entry_of_get, tied_right}
 use Rattle.h5_laws.proofs.Objects.{content_cases, object_at, in_tree}
@@ -73,7 +72,7 @@ record IsListed (image : List ℕ) (table : FinMap nat_cmp ℕ) (name : List ℕ
 module _ (image : List ℕ) (table : FinMap nat_cmp ℕ) (tree : Tree) (placed : List Placed) (reads : ReadsAs image table tree placed) where
   placed_at : (n : ℕ) (o : Object) → get tree n ≡ Some o → (x : Placed) × In x placed × (x.number ≡ n) × (x.object ≡ o)
   placed_at n o stands =
-      let there : In (n, o) (map (λ (x : Placed). (x.number, x.object)) placed) = subst (In (n, o)) reads.objects (entry_of_get tree n o stands) in
+      let there : In (n, o) (map (λ (x : Placed). (x.number, x.object)) placed) = subst (In (n, o)) reads.holds.objects (entry_of_get tree n o stands) in
       let by = from_map (λ (x : Placed). (x.number, x.object)) (n, o) placed there in
       (by.0, by.1, ap (λ (p : ℕ × Object). p.0) by.2, ap (λ (p : ℕ × Object). p.1) by.2)
 
@@ -82,7 +81,7 @@ module _ (image : List ℕ) (table : FinMap nat_cmp ℕ) (tree : Tree) (placed :
       let l = link_at tree n name link is in
       let by = placed_at n l.group.object l.group.stands in
       let x = by.0 in
-      let has : HasObject image table x.header x.object x.blocks = in_all (IsPlaced image table) x placed reads.each by.1 in
+      let has : HasObject image table x.header x.object x.blocks = in_all (IsPlaced image table) x placed reads.holds.each by.1 in
       let content : x.object.content ≡ Group l.group.links = ap (λ (o : Object). o.content) by.3 ∙ l.group.is in
       elim (content_cases image table has.messages x.object.content has.content_blocks has.content) [
         | inl (links, e, found, group, zip) ↦
@@ -106,9 +105,8 @@ module _ (image : List ℕ) (table : FinMap nat_cmp ℕ) (tree : Tree) (placed :
   linked n other name is =
       let l = listed n name (ToObject other) is in
       let header = same_header table name other l.target l.same in
-      let holds = holds_of image table tree placed reads in
-      let o = object_at image table tree placed holds other header.0 header.1 in
-      let stands = in_tree image table tree placed holds o.0 o.1 in
+      let o = object_at image table tree placed reads.holds other header.0 header.1 in
+      let stands = in_tree image table tree placed reads.holds o.0 o.1 in
       subst (λ (k : ℕ). IsSome (get tree k)) o.2 (ap (λ (x : Option Object). is_some x) stands)
 
   spelled : (n : ℕ) (name text : List ℕ) → link_in tree n name ≡ Some (Soft text) → has_zero text ≡ false
@@ -143,12 +141,12 @@ module _ (image : List ℕ) (table : FinMap nat_cmp ℕ) (tree : Tree) (placed :
 
   pub sound_reading : IsSoundTree tree
   sound_reading = record {
-    rooted = reads.root_group;
+    rooted = reads.holds.root_group;
     named = named;
     linked = linked;
     spelled = spelled;
-    reached = reads.reached;
-    shallow = reads.shallow;
+    reached = reads.holds.reached;
+    shallow = reads.holds.shallow;
     once = once;
     few = few;
   }

@@ -166,8 +166,8 @@ pub record IsCounted (image : List ℕ) (tree : Tree) (x : Placed) : Type 0 wher
 abbrev pub all_blocks : List ℕ → List Placed → List Block
 all_blocks image placed = block 0 (superblock_length image) ∷ flat_map (λ x. x.blocks) placed
 
--- The image, with the objects' headers where the table says, is this tree, each object with its blocks.
-pub record ReadsAs (image : List ℕ) (table : FinMap nat_cmp ℕ) (tree : Tree) (placed : List Placed) : Type 0 where
+-- The image holds this tree, with the objects' headers where the table says, each object with its blocks, reference counts aside.
+pub record Holds (image : List ℕ) (table : FinMap nat_cmp ℕ) (tree : Tree) (placed : List Placed) : Type 0 where
   pub superblock : IsSuperblock image
   pub whole : end_of_file image ≡ length image
   pub numbered : entries table ≡ map (λ x. (x.number, x.header)) placed
@@ -178,9 +178,13 @@ pub record ReadsAs (image : List ℕ) (table : FinMap nat_cmp ℕ) (tree : Tree)
   pub root_group : IsSome (links_of tree 0)
   pub reached : (number : ℕ) → IsSome (get tree number) → (path : List (List ℕ)) × (follow tree (ToObject 0) path ≡ Some (ToObject number))
   pub shallow : (path : List (List ℕ)) → IsSome (follow tree (ToObject 0) path) → length path ≤ 64
-  pub counted : AllByRecursion (IsCounted image tree) placed
   pub apart : Separate (all_blocks image placed)
   pub within : Inside (length image) (all_blocks image placed)
+
+-- The image is this tree: it holds the tree, and each object's reference count is the number of its links.
+pub record ReadsAs (image : List ℕ) (table : FinMap nat_cmp ℕ) (tree : Tree) (placed : List Placed) : Type 0 where
+  pub holds : Holds image table tree placed
+  pub counted : AllByRecursion (IsCounted image tree) placed
 
 abbrev pub Reads : List ℕ → FinMap nat_cmp ℕ → Tree → Type 0
 Reads image table tree = (placed : List Placed) × ReadsAs image table tree placed

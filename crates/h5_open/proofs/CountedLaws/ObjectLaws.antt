@@ -7,7 +7,7 @@ use Rattle.h5_bytes.specs.Blocks.{Inside}
 use Rattle.h5_model.specs.Format.Addresses.{symbol_table_of}
 use Rattle.h5_model.specs.Format.Reached.{Named, named, ObjectHeader, Reached, kind_at}
 use Rattle.h5_model.specs.Tree.Objects.{hard_links}
-use Rattle.h5_model.specs.Format.Reads.{Placed, IsGroup, IsCounted, ReadsAs}
+use Rattle.h5_model.specs.Format.Reads.{Placed, IsGroup, IsCounted, ReadsAs, Holds}
 use Rattle.h5_model.specs.Faults.Breaches.{AreAllLinks, ReachedBreach}
 use Rattle.h5_model.specs.Faults.HeaderFaults.{SomeMessage}
 use Rattle.h5_model.specs.declared.open_fault.Cause.{Cause}
@@ -20,14 +20,13 @@ use Rattle.h5_open.specs.declared.opened.object.OpenedContent.TheVariants as con
 use Rattle.h5_open.specs.Opened.Kept.{IsObjectKept, IsContentKept}
 use Rattle.h5_open.specs.Opened.Objects.{headers, table_of, tree_of, content_in, object_in, object_blocks}
 use Rattle.h5_open.specs.Placed.Whole.{IsGroupContent, IsWhole, placed_from, placed_of}
-use Rattle.h5_laws.specs.Holds.{Holds}
 use Rattle.h5_laws.proofs.Lists.{In, in_all, contains_in}
 use Rattle.h5_laws.proofs.Pigeonhole.{Apart, apart_of_distinct}
 use Rattle.h5_laws.proofs.Datasets.{find_in, said_first}
 use Rattle.h5_laws.proofs.MetMessages.{message_met}
 use Rattle.h5_laws.proofs.LinkCounts.{object_count}
 use Rattle.h5_laws.proofs.AllReached.{all_reached}
-use Rattle.h5_laws.proofs.Holding.{linked_by, reads_of}
+use Rattle.h5_laws.proofs.Holding.{linked_by}
 use Rattle.h5_open.specs.Counted.Links.{leading, all_links}
 use Rattle.h5_open.specs.Counted.Counts.{IsCount, IsRight, IsWrong}
 use Rattle.h5_open.proofs.CountedLaws.FieldCounts.{fields_count}
@@ -142,7 +141,7 @@ module _ (image : List ℕ) (objects : List OpenedObject) (whole : IsWhole image
   -- where each is right, the image reads as this tree
   pub right_reads : ((o : OpenedObject) → In o objects → HasRight o) → ReadsAs image (table_of objects) (tree_of image objects) (placed_of image objects)
   right_reads right =
-      reads_of image (table_of objects) (tree_of image objects) (placed_of image objects) holds (each_counted 0 objects (λ x member. member) right)
+      record { holds = holds; counted = each_counted 0 objects (λ x member. member) right }
 
   -- ---- wrong
 

@@ -54,7 +54,7 @@ module _ (image : List ℕ) (objects : List OpenedObject) (numbers : BTreeMap �
       omega (arith, fit, length-map objects (λ (o : OpenedObject). o.messages.header), length-range_with_len 0 (length image))
 
   pub few_objects : length objects ≤ 2147483648
-  few_objects = omega (arith, few, (opened.reads.1).whole, ((opened.reads.1).superblock).small)
+  few_objects = omega (arith, few, (opened.reads.1).holds.whole, (opened.reads.1).holds.superblock.small)
 
   number_low : (number : ℕ) → IsSome (get (tree_of image objects) number) → number < length objects
   number_low number there = go (slice_get (map (object_in image (headers objects)) objects) number) refl (rw (get_tree image objects number) at there) where
@@ -67,7 +67,7 @@ module _ (image : List ℕ) (objects : List OpenedObject) (numbers : BTreeMap �
 -- the numbers of an opened image were given out
 pub numbered : (image : List ℕ) (objects : List OpenedObject) (numbers : BTreeMap ℕ ℕ) → IsOpened image objects numbers → IsState (state_of (opened_state image objects))
 numbered image objects numbers opened = record {
-  rooted = (opened.reads.1).root_group;
+  rooted = (opened.reads.1).holds.root_group;
   given = number_low image objects numbers opened;
   low = omega (arith, few_objects image objects numbers opened);
 }

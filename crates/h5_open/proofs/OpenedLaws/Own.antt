@@ -12,4 +12,4 @@ abbrev pub Own : List ℕ → Type 0
 Own hs = (a b h : ℕ) → slice_get hs a ≡ Some h → slice_get hs b ≡ Some h → a ≡ b
 
 pub own_headers : (image : List ℕ) (objects : List OpenedObject) (tree : Tree) → Reads image (table_of objects) tree → Own (headers objects)
-own_headers image objects tree reads a b h p q = reads.1.own a b h (get_table objects a ∙ p) (get_table objects b ∙ q)
+own_headers image objects tree reads a b h p q = reads.1.holds.own a b h (get_table objects a ∙ p) (get_table objects b ∙ q)

@@ -12,9 +12,8 @@ use Rattle.h5_model.specs.Format.Superblock.{leaf_k, internal_k, root_header}
 use Rattle.h5_model.specs.Format.Symbols.{Target, Header, Text}
 use Rattle.h5_model.specs.Format.Links.{HasLinks}
 use Rattle.h5_model.specs.Tree.Objects.{Tree, Object, Content, Dataset, Links, Link, ToObject, Soft, links_in, link_in, follow}
-use Rattle.h5_model.specs.Format.Reads.{Placed, HasGroup, HasDataset, IsSame}
+use Rattle.h5_model.specs.Format.Reads.{Placed, HasGroup, HasDataset, IsSame, Holds}
 use Rattle.h5_model.proofs.OneReading.{some_same, one_links, one_messages}
-use Rattle.h5_laws.specs.Holds.{Holds}
 use Rattle.h5_laws.proofs.Lists.{In}
 use Rattle.h5_laws.proofs.Maps.{found_value, tied_left, tied_right}
 use Rattle.h5_laws.proofs.AllReached.{soft_leads}

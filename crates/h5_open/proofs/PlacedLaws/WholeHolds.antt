@@ -10,8 +10,7 @@ use Rattle.h5_bytes.specs.declared.Block.{Block}
 use Rattle.h5_model.specs.Format.Superblock.{superblock_length, root_header}
 use Rattle.h5_model.specs.Tree.Objects.{Object, links_in}
 use Rattle.h5_model.specs.Tree.Objects as tree
-use Rattle.h5_model.specs.Format.Reads.{Placed, all_blocks}
-use Rattle.h5_laws.specs.Holds.{Holds}
+use Rattle.h5_model.specs.Format.Reads.{Placed, all_blocks, Holds}
 use Rattle.h5_open.specs.declared.opened.object.OpenedObject.{OpenedObject}
 use Rattle.h5_open.specs.declared.opened.object.OpenedContent.{OpenedContent}
 use Rattle.h5_open.specs.declared.opened.object.OpenedContent.TheVariants as content

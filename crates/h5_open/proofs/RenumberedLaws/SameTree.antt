@@ -127,8 +127,8 @@ objects_are image at own n (p ∷ ps) (x ∷ placed) keys kept each =
 pub same_tree : (image : List ℕ) (ps : List OpenedObject) (tree : Tree) → AllByRecursion (IsObjectKept image) ps → Reads image (table_with (headers ps)) tree
     → tree_of image ps ≡ tree
 same_tree image ps tree kept reads =
-    let own : Own (headers ps) = λ a b h p q. reads.1.own a b h (get_numbered (headers ps) a ∙ p) (get_numbered (headers ps) b ∙ q) in
+    let own : Own (headers ps) = λ a b h p q. reads.1.holds.own a b h (get_numbered (headers ps) a ∙ p) (get_numbered (headers ps) b ∙ q) in
     same_entries_map (tree_of image ps) tree
     (tree_entries image ps
-    ∙ objects_are image (headers ps) own 0 ps reads.0 (sym (entries_numbered (headers ps)) ∙ reads.1.numbered) kept reads.1.each
-    ∙ sym reads.1.objects)
+    ∙ objects_are image (headers ps) own 0 ps reads.0 (sym (entries_numbered (headers ps)) ∙ reads.1.holds.numbered) kept reads.1.holds.each
+    ∙ sym reads.1.holds.objects)

@@ -84,19 +84,21 @@ module _ (links_length_is : LinksLength) (group_length : GroupLength) (array_len
       reading = record {
         placed = placed;
         reads = record {
-          superblock = subst IsSuperblock (sym laid) (superblock leaf internal end (content_place root 96) (root_heap leaf internal root) rest plain.k front_long fits_in);
-          whole = ap end_of_file laid ∙ whole leaf internal end (content_place root 96) (root_heap leaf internal root) rest plain.k front_long fits_in ∙ ap length (sym laid);
-          numbered = table_is image leaf internal tree order is all;
-          objects = objects_are image leaf internal tree order (entries tree) all;
-          each = all_placed image leaf internal tree order (entries tree) all;
-          own = table_own leaf internal order;
-          root = root_here;
-          root_group = (plain.sound).rooted;
-          reached = (plain.sound).reached;
-          shallow = (plain.sound).shallow;
+          holds = record {
+            superblock = subst IsSuperblock (sym laid) (superblock leaf internal end (content_place root 96) (root_heap leaf internal root) rest plain.k front_long fits_in);
+            whole = ap end_of_file laid ∙ whole leaf internal end (content_place root 96) (root_heap leaf internal root) rest plain.k front_long fits_in ∙ ap length (sym laid);
+            numbered = table_is image leaf internal tree order is all;
+            objects = objects_are image leaf internal tree order (entries tree) all;
+            each = all_placed image leaf internal tree order (entries tree) all;
+            own = table_own leaf internal order;
+            root = root_here;
+            root_group = (plain.sound).rooted;
+            reached = (plain.sound).reached;
+            shallow = (plain.sound).shallow;
+            apart = once_separate (length image) (all_blocks image placed) covered;
+            within = within;
+          };
           counted = all_counted image leaf internal tree order (entries tree) all;
-          apart = once_separate (length image) (all_blocks image placed) covered;
-          within = within;
         };
         covered = covered;
         leaf_is = leaf_here;
