@@ -14,13 +14,15 @@ use Rattle.h5_model.specs.Format.Extent.{Extent, extent_of}
 use Rattle.h5_model.specs.Format.Datatype.{fixed_of}
 use Rattle.h5_model.specs.Format.Sizes.{attribute_size}
 use Rattle.h5_model.specs.Format.AttributeBody.{attribute_of, is_attribute, name_in, name_size, datatype_size, dataspace_size, datatype_place, dataspace_place, data_place, values_at}
-use Rattle.h5_msg.specs.Written.{padded, datatype_bytes, dataspace_bytes, name_bytes, value_bytes, attribute_head, attribute_bytes}
+use Rattle.h5_model.specs.Format.Plain.{cells_bytes, padded_text}
+use Rattle.h5_model.specs.Format.Bodies.{padded, datatype_bytes, dataspace_bytes, attribute_head, attribute_bytes}
+use Rattle.h5_model.proofs.PlainValues.{length-cells_bytes}
 use Rattle.h5_msg.proofs.WordLaws.{words_long}
 use Rattle.h5_msg.proofs.DatatypeLaws.{fixed_of-written}
 use Rattle.h5_msg.proofs.DataspaceLaws.{Small, plain_alone, plain_back}
 use Rattle.h5_msg.proofs.AttributeLaws.{size_positive}
 use Rattle.h5_msg.proofs.LayoutLaws.{or_left, or_right}
-use Rattle.h5_msg.proofs.CellLaws.{length-value_bytes, values_back}
+use Rattle.h5_msg.proofs.CellLaws.{values_back}
 
 -- ---- over any body
 
@@ -55,10 +57,10 @@ named (b ∷ bs) m rest some text =
 module _ (name sizes : List ℕ) (t : Fixed) (values : List ℤ) (rest : List ℕ) (some : 1 ≤ length name) (short : length name < 65535) (text : list_any (λ b. b == 0) name ≡ false)
     (rank : length sizes ≤ 32) (small : Small sizes) (sound : IsFixed t) (all : list_all (fits t) values ≡ true) (count : length values ≡ cells sizes) where
   abbrev body : List ℕ
-  body = attribute_head (length name) (length sizes) ++ (name_bytes name ++ (padded (datatype_bytes t) 16 ++ (dataspace_bytes sizes ++ (value_bytes t values ++ rest))))
+  body = attribute_head (length name) (length sizes) ++ (padded_text name ++ (padded (datatype_bytes t) 16 ++ (dataspace_bytes sizes ++ (cells_bytes t values ++ rest))))
 
   abbrev from_cells : List ℕ
-  from_cells = value_bytes t values ++ rest
+  from_cells = cells_bytes t values ++ rest
 
   abbrev from_dataspace : List ℕ
   from_dataspace = dataspace_bytes sizes ++ from_cells
@@ -71,7 +73,7 @@ module _ (name sizes : List ℕ) (t : Fixed) (values : List ℤ) (rest : List �
 
   name_length : name_size body ≡ length name + 1
   unfolding number_at
-  name_length = little_number-reads_back 2 (length name + 1) (12 ∷ 0 ∷ (little_bytes 2 (8 + 8 * length sizes) ++ (name_bytes name ++ from_datatype))) (omega arith)
+  name_length = little_number-reads_back 2 (length name + 1) (12 ∷ 0 ∷ (little_bytes 2 (8 + 8 * length sizes) ++ (padded_text name ++ from_datatype))) (omega arith)
 
   type_length : datatype_size body ≡ 12
   unfolding number_at
@@ -79,9 +81,9 @@ module _ (name sizes : List ℕ) (t : Fixed) (values : List ℤ) (rest : List �
 
   extent_length : dataspace_size body ≡ 8 + 8 * length sizes
   unfolding number_at
-  extent_length = little_number-reads_back 2 (8 + 8 * length sizes) (name_bytes name ++ from_datatype) (omega arith)
+  extent_length = little_number-reads_back 2 (8 + 8 * length sizes) (padded_text name ++ from_datatype) (omega arith)
 
-  long_name : length (name_bytes name) ≡ name_room
+  long_name : length (padded_text name) ≡ name_room
   long_name = length-append name (replicate (name_room - length name) 0) ∙ omega (arith, length-replicate {A = ℕ} (name_room - length name) 0)
 
   long_extent : length (dataspace_bytes sizes) ≡ 8 + 8 * length sizes
@@ -98,7 +100,7 @@ module _ (name sizes : List ℕ) (t : Fixed) (values : List ℤ) (rest : List �
 
   -- what stands at each place
   type_part : drop (8 + name_room) body ≡ from_datatype
-  type_part = behind 8 name_room body (name_bytes name) from_datatype refl long_name
+  type_part = behind 8 name_room body (padded_text name) from_datatype refl long_name
 
   extent_part : drop (8 + name_room + 16) body ≡ from_dataspace
   extent_part = behind (8 + name_room) 16 body (padded (datatype_bytes t) 16) from_dataspace type_part refl
@@ -110,7 +112,7 @@ module _ (name sizes : List ℕ) (t : Fixed) (values : List ℤ) (rest : List �
   name_is =
       let behind_name : 1 ≤ name_room - length name = omega arith in
       (λ i. until_zero (slice_range body 8 (8 + name_length i)))
-      ∙ ap until_zero (part_of 8 (length name + 1) body (name_bytes name ++ from_datatype) refl)
+      ∙ ap until_zero (part_of 8 (length name + 1) body (padded_text name ++ from_datatype) refl)
       ∙ named name (name_room - length name) from_datatype behind_name text
 
   type_is : fixed_of (slice_range body (datatype_place body) (datatype_place body + datatype_size body)) ≡ Some t
@@ -128,10 +130,10 @@ module _ (name sizes : List ℕ) (t : Fixed) (values : List ℤ) (rest : List �
 
   long_body : length body ≡ 8 + name_room + 16 + (8 + 8 * length sizes) + length values * t.size + length rest
   long_body =
-      let cells_long = length-append (value_bytes t values) rest in
+      let cells_long = length-append (cells_bytes t values) rest in
       let extent_long = length-append (dataspace_bytes sizes) from_cells in
-      let name_long = length-append (name_bytes name) from_datatype in
-      omega (arith, cells_long, extent_long, name_long, long_name, long_extent, length-value_bytes t values)
+      let name_long = length-append (padded_text name) from_datatype in
+      omega (arith, cells_long, extent_long, name_long, long_name, long_extent, length-cells_bytes t values)
 
   form : is_attribute body ≡ true
   form =

@@ -6,7 +6,7 @@ use Rattle.h5_bytes.specs.Bytes.{number_at}
 use Rattle.h5_model.specs.Format.Fixed.{Fixed, IsFixed, fits, bytes_of, value_at}
 use Rattle.h5_model.specs.Format.Fill.{fill_value, old_fill_value}
 use Rattle.h5_model.proofs.FixedLaws.{value_back, length-bytes_of}
-use Rattle.h5_msg.specs.Written.{fill_bytes, old_fill_bytes, padded}
+use Rattle.h5_model.specs.Format.Bodies.{fill_bytes, old_fill_bytes, padded}
 use Rattle.h5_model.proofs.ValueLaws.{value_at-drop}
 
 abbrev body : ℕ → Fixed → ℤ → ℕ → List ℕ

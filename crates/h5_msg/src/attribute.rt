@@ -7,9 +7,9 @@ ghost use Rattle.h5_model.specs.Format.AttributeBody.{attribute_of, is_attribute
 ghost use Rattle.h5_msg.specs.Parts.{ArePartsOf};
 ghost use Rattle.h5_model.specs.Format.Fixed.{IsFixed, fits};
 ghost use Rattle.h5_model.specs.Tree.Places.{cells as cells_of};
-ghost use Rattle.h5_model.specs.Format.Plain.{cells_bytes};
+ghost use Rattle.h5_model.specs.Format.Plain.{cells_bytes, padded_text};
 ghost use Rattle.h5_model.specs.Format.Sizes.{attribute_size, dataspace_length as dataspace_size};
-ghost use Rattle.h5_msg.specs.Written.{attribute_bytes, attribute_head, dataspace_bytes, datatype_bytes, name_bytes, padded, value_bytes};
+ghost use Rattle.h5_model.specs.Format.Bodies.{attribute_bytes, attribute_head, dataspace_bytes, datatype_bytes, padded};
 
 use crate::dataspace::{Dataspace, dataspace_length, read_dataspace, write_dataspace};
 use crate::datatype::{DATATYPE_LENGTH, read_datatype, write_datatype};
@@ -257,7 +257,7 @@ fn write_head(name: usize, rank: usize, bytes: &mut [u8])
 /// Writes a name, and zeros behind it.
 fn write_name(name: &[u8], bytes: &mut [u8])
     requires { length bytes.old ≡ padded_to_8 (length name.now + 1) }
-    ensures { bytes.new ≡ name_bytes name.now }
+    ensures { bytes.new ≡ padded_text name.now }
 {
     let (text, padding) = bytes.split_at_mut(name.len());
     text.copy_from_slice(name);
@@ -285,7 +285,7 @@ fn write_extent(sizes: &[u64], bytes: &mut [u8])
 fn write_values(fixed: &Fixed, values: &[i128], bytes: &mut [u8])
     requires room { length bytes.old ≡ length values.now * fixed.now.size }
     requires of_type { list_all (fits fixed.now) values.now ≡ true }
-    ensures written { bytes.new ≡ value_bytes fixed.now values.now }
+    ensures written { bytes.new ≡ cells_bytes fixed.now values.now }
     ensures sound { IsFixed fixed.now }
 {
     let size = fixed.size();

@@ -9,7 +9,7 @@ use Rattle.h5_model.specs.Format.Sizes.{attribute_size}
 use Rattle.h5_model.specs.Tree.Sound.{AreOf}
 use Rattle.h5_model.specs.Tree.Objects.{Attribute}
 use Rattle.h5_model.proofs.FixedLaws.{sizes_of}
-use Rattle.h5_msg.specs.Written.{attribute_bytes, attribute_head, padded, datatype_bytes, dataspace_bytes}
+use Rattle.h5_model.specs.Format.Bodies.{attribute_bytes, attribute_head, padded, datatype_bytes, dataspace_bytes}
 use Rattle.h5_repack.specs.Bodies.Bodies.{attribute_message}
 use Rattle.h5_repack.specs.Bodies.Sound.{IsPlainAttribute}
 use Rattle.h5_repack.proofs.BodyLaws.HeaderAttributes.{length-attribute_bytes}

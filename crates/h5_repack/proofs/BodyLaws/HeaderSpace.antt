@@ -8,7 +8,7 @@ use Rattle.h5_model.specs.Format.Plain.{extent_body}
 use Rattle.h5_model.specs.Edits.Refusal.{are_maxima}
 use Rattle.h5_model.specs.Tree.Objects.{are_sizes}
 use Rattle.h5_model.proofs.PlainValues.{extent_of-extent_body}
-use Rattle.h5_msg.specs.Written.{padded, bounded_bytes, or_undefined}
+use Rattle.h5_model.specs.Format.Bodies.{padded, bounded_bytes, or_undefined}
 use Rattle.h5_msg.proofs.WordLaws.{and_left}
 use Rattle.h5_msg.proofs.DataspaceLaws.{small_from, bounded_back}
 use Rattle.h5_repack.specs.Bodies.Bodies.{space_body, bounded_body}

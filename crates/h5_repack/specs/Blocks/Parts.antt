@@ -3,7 +3,7 @@ use Rattle.std.specs.Prelude.{ℕ, zero, suc, List, [], ◌∷◌, ◌++◌, len
 use Rattle.h5_model.specs.Format.Fixed.{Fixed}
 use Rattle.h5_bytes.specs.Numbers.{short, middle, word, zeros}
 use Rattle.h5_model.specs.Format.Plain.{padded_text, type_body, extent_body}
-use Rattle.h5_msg.specs.Written.{attribute_head}
+use Rattle.h5_model.specs.Format.Bodies.{attribute_head}
 
 -- a header before its messages: how many there are, the reference count, and how many bytes they have
 abbrev pub prefix_bytes : ℕ → ℕ → ℕ → List ℕ

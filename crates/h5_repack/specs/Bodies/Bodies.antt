@@ -9,7 +9,7 @@ use Rattle.h5_bytes.specs.Numbers.{word, zeros}
 use Rattle.h5_model.specs.Format.Plain.{extent_body, type_body, fill_body, contiguous_body}
 use Rattle.h5_model.specs.Format.Sizes.{attribute_size}
 use Rattle.h5_model.specs.Tree.Objects.{Object, Dataset, Attribute, Kept, are_sizes}
-use Rattle.h5_msg.specs.Written.{attribute_bytes}
+use Rattle.h5_model.specs.Format.Bodies.{attribute_bytes}
 
 -- ---- what every object may have: its kept messages, and then its attributes by their names
 
