@@ -1,26 +1,28 @@
 -- An attribute that was written reads as its name, type, sizes and values.
-use Rattle.std.proofs.Common.{◌≡◌, ℕ, zero, suc, ◌+◌, ◌-◌, ◌*◌, ◌<◌, ◌≤◌, List, [], ◌∷◌, ◌++◌, length, length-append, map, replicate, take, drop, refl, sym, ap, ◌∙◌, arith, true, false, ℤ, Some}
+use Rattle.std.proofs.Common.{◌≡◌, ℕ, zero, suc, ◌+◌, ◌-◌, ◌*◌, ◌<◌, ◌≤◌, List, [], ◌∷◌, ◌++◌, length, length-append, append_assoc, map, replicate, take, drop, refl, sym, ap, ◌∙◌, arith, true, false, ℤ, Some}
 use Rattle.std.proofs.lemmas.Bool.Decides.{nat_tests}
-use Rattle.std.proofs.lemmas.List.{drop-drop, length-replicate}
+use Rattle.std.proofs.lemmas.List.{drop-drop, length-replicate, take_all}
 use Rattle.std.proofs.Math.Seq.{take-append_seam, drop-append_seam}
 use Rattle.std.specs.Prelude.{◌==◌, nat_le, nat_lt, slice_range}
-use Rattle.std.specs.List.{list_all, list_any}
+use Rattle.std.specs.List.{list_all, list_any, range_with_len}
 use Rattle.byteorder.specs.Numbers.{little_number-reads_back}
 use Rattle.h5_bytes.specs.Bytes.{number_at, little_bytes}
 use Rattle.h5_bytes.specs.Texts.{pad8, until_zero}
-use Rattle.h5_model.specs.Format.Fixed.{Fixed, IsFixed, fits}
+use Rattle.h5_model.specs.Format.Fixed.{Fixed, IsFixed, fits, value_at}
 use Rattle.h5_model.specs.Tree.Places.{cells}
 use Rattle.h5_model.specs.Format.Extent.{Extent, extent_of}
 use Rattle.h5_model.specs.Format.Datatype.{fixed_of}
 use Rattle.h5_model.specs.Format.Sizes.{attribute_size}
 use Rattle.h5_model.specs.Format.AttributeBody.{attribute_of, is_attribute, name_in, name_size, datatype_size, dataspace_size, datatype_place, dataspace_place, data_place, values_at}
 use Rattle.h5_model.specs.Format.Plain.{cells_bytes, padded_text}
-use Rattle.h5_model.specs.Format.Bodies.{padded, datatype_bytes, dataspace_bytes, attribute_head, attribute_bytes}
+use Rattle.h5_model.specs.Format.Bodies.{padded, datatype_bytes, dataspace_bytes, attribute_head, attribute_front, attribute_bytes, stored_attribute_bytes}
 use Rattle.h5_model.proofs.PlainValues.{length-cells_bytes}
 use Rattle.h5_msg.proofs.WordLaws.{words_long}
 use Rattle.h5_msg.proofs.DatatypeLaws.{fixed_of-written}
 use Rattle.h5_msg.proofs.DataspaceLaws.{Small, plain_alone, plain_back}
-use Rattle.h5_msg.proofs.AttributeLaws.{size_positive}
+use Rattle.h5_model.proofs.StoredValues.{fits_value_at}
+use Rattle.h5_msg.proofs.AttributeLaws.{size_positive, length-values}
+use Rattle.h5_msg.proofs.ValueBytes.{AreBytes, stored_back}
 use Rattle.h5_msg.proofs.LayoutLaws.{or_left, or_right}
 use Rattle.h5_msg.proofs.CellLaws.{values_back}
 
@@ -156,8 +158,36 @@ module _ (name sizes : List ℕ) (t : Fixed) (values : List ℤ) (rest : List �
   pub attribute_reads : attribute_of body ≡ Some (name, record { fixed = t; sizes = sizes; values = values })
   attribute_reads = found body name t (record { sizes = sizes; maxima = map (λ (x : ℕ). Some x) sizes }) values form type_is extent_is room name_is values_are
 
+-- what stands before the values, and behind it
+joined : (name sizes rest : List ℕ) (t : Fixed) → attribute_front name t sizes ++ rest
+    ≡ attribute_head (length name) (length sizes) ++ (padded_text name ++ (padded (datatype_bytes t) 16 ++ (dataspace_bytes sizes ++ rest)))
+joined name sizes rest t =
+    let head : List ℕ = attribute_head (length name) (length sizes) in
+    let type : List ℕ = padded (datatype_bytes t) 16 in
+    append_assoc head (padded_text name ++ (type ++ dataspace_bytes sizes)) rest
+    ∙ ap (λ xs. head ++ xs) (append_assoc (padded_text name) (type ++ dataspace_bytes sizes) rest)
+    ∙ ap (λ xs. head ++ (padded_text name ++ xs)) (append_assoc type (dataspace_bytes sizes) rest)
+
 pub attribute_back : (name sizes : List ℕ) (t : Fixed) (values : List ℤ) (n : ℕ) (bytes : List ℕ) → 1 ≤ length name → length name < 65535 → list_any (λ b. b == 0) name ≡ false
     → length sizes ≤ 32 → Small sizes → IsFixed t → list_all (fits t) values ≡ true → length values ≡ cells sizes
     → bytes ≡ attribute_bytes name t sizes values n → attribute_of bytes ≡ Some (name, record { fixed = t; sizes = sizes; values = values })
 attribute_back name sizes t values n bytes some short text rank small sound all count same =
-    ap attribute_of same ∙ attribute_reads name sizes t values (replicate (n - attribute_size (length name) sizes t.size) 0) some short text rank small sound all count
+    ap attribute_of (same ∙ joined name sizes (cells_bytes t values ++ replicate (n - attribute_size (length name) sizes t.size) 0) t) ∙ attribute_reads name sizes t values (replicate (n - attribute_size (length name) sizes t.size) 0) some short text rank small sound all count
+
+-- ---- values whose bytes are there
+
+all_fit : (t : Fixed) (f : ℕ → ℤ) → ((k : ℕ) → fits t (f k) ≡ true) → (xs : List ℕ) → list_all (fits t) (map f xs) ≡ true
+all_fit t f each [] = refl
+all_fit t f each (x ∷ xs) = rw (each x, all_fit t f each xs) refl
+
+pub stored_attribute_back : (name sizes : List ℕ) (t : Fixed) (stored : List ℕ) (n : ℕ) (bytes : List ℕ) → 1 ≤ length name → length name < 65535
+    → list_any (λ b. b == 0) name ≡ false → length sizes ≤ 32 → Small sizes → IsFixed t → AreBytes stored → length stored ≡ cells sizes * t.size
+    → bytes ≡ stored_attribute_bytes name t sizes stored n
+    → attribute_of bytes ≡ Some (name, record { fixed = t; sizes = sizes; values = values_at t stored 0 (cells sizes) })
+stored_attribute_back name sizes t stored n bytes some short text rank small sound low long same =
+    let values : List ℤ = values_at t stored 0 (cells sizes) in
+    let are : cells_bytes t values ≡ stored
+    = stored_back t stored 0 sound low (cells sizes) (omega (arith, long)) ∙ take_all (cells sizes * t.size) stored (omega (arith, long)) in
+    attribute_back name sizes t values n bytes some short text rank small sound
+    (all_fit t (λ k. value_at t stored (0 + k * t.size)) (λ k. fits_value_at t stored (0 + k * t.size) sound low) (range_with_len 0 (cells sizes)))
+    (length-values t stored 0 (cells sizes)) (same ∙ ap (λ xs. stored_attribute_bytes name t sizes xs n) (sym are))

@@ -20,7 +20,8 @@ pub enum AllocationTime {
 
 /// How many bytes a Fill Value message's body has as it is written for this type.
 pub fn fill_length(fixed: &Fixed) -> usize
-    ensures { result ≡ 8 + fixed.now.size }
+    ensures exact { result ≡ 8 + fixed.now.size }
+    ensures few { result ≤ 16 }
 {
     8 + fixed.size()
 }

@@ -72,9 +72,16 @@ chunked_bytes chunk tree size = 3 ∷ 2 ∷ (length chunk + 1) ∷ (little_bytes
 abbrev pub attribute_head : ℕ → ℕ → List ℕ
 attribute_head name rank = 1 ∷ 0 ∷ (little_bytes 2 (name + 1) ++ (12 ∷ 0 ∷ little_bytes 2 (dataspace_size rank)))
 
--- the same, then name, datatype and dataspace, each padded to a multiple of 8, the values, and zeros, so many bytes in all
+-- the same, then name, datatype and dataspace, each padded to a multiple of 8
+abbrev pub attribute_front : List ℕ → Fixed → List ℕ → List ℕ
+attribute_front name t sizes =
+    attribute_head (length name) (length sizes) ++ (padded_text name ++ (padded (datatype_bytes t) 16 ++ dataspace_bytes sizes))
+
+-- the same, these bytes of the values, and zeros, so many bytes in all
+abbrev pub stored_attribute_bytes : List ℕ → Fixed → List ℕ → List ℕ → ℕ → List ℕ
+stored_attribute_bytes name t sizes stored n =
+    attribute_front name t sizes ++ (stored ++ replicate (n - attribute_size (length name) sizes t.size) 0)
+
+-- with these values
 abbrev pub attribute_bytes : List ℕ → Fixed → List ℕ → List ℤ → ℕ → List ℕ
-attribute_bytes name t sizes values n =
-    attribute_head (length name) (length sizes)
-    ++ (padded_text name ++ (padded (datatype_bytes t) 16 ++ (dataspace_bytes sizes
-    ++ (cells_bytes t values ++ replicate (n - attribute_size (length name) sizes t.size) 0))))
+attribute_bytes name t sizes values n = stored_attribute_bytes name t sizes (cells_bytes t values) n

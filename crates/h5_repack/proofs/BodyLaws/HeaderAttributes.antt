@@ -59,7 +59,7 @@ all_small (d ∷ ds) all = (omega (arith, all.0), all_small ds all.1)
 pub sizes_small : (sizes : List ℕ) → extent_cells sizes ≤ 2 ^ 40 → Small sizes
 sizes_small sizes few = small_from sizes (all_small sizes (sizes_below sizes (2 ^ 40) few))
 
-all_fit : (t : Fixed) (values : List ℤ) → AreOf t values → list_all (fits t) values ≡ true
+pub all_fit : (t : Fixed) (values : List ℤ) → AreOf t values → list_all (fits t) values ≡ true
 all_fit t [] all = refl
 all_fit t (v ∷ vs) all = rw (all.0, all_fit t vs all.1) refl
 

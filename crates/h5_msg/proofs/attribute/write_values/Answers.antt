@@ -28,8 +28,8 @@ loop-k-preserved c =
     ∙ one_more c.args.fixed.now c.args.values.now c.loop-k.k c.args.bytes.now c.loop-k.bytes c.loop-k-test.true c.requires.room (omega (arith, room)) now
     ∙ ap (λ (n : ℕ). cells_bytes c.args.fixed.now (take (c.loop-k.k + 1) c.args.values.now) ++ drop n c.args.bytes.now) last
 
-pub returns-clause-written : goal.returns-clause-written
-returns-clause-written c =
+pub returns : goal.returns
+returns c =
     let place : c.loop-k.k * c.size-size.result ≡ c.loop-k.k * c.args.fixed.now.size = ap (λ (n : ℕ). c.loop-k.k * n) c.size-size.ensures.size in
     all_written c.args.fixed.now c.args.values.now c.loop-k.k c.args.bytes.now c.loop-k.bytes c.loop-k-test.false c.requires.room
     (c.loop-k.invariant ∙ ap (λ (n : ℕ). cells_bytes c.args.fixed.now (take c.loop-k.k c.args.values.now) ++ drop n c.args.bytes.now) place)
