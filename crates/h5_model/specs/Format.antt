@@ -17,6 +17,7 @@ pub mod Fixed
 pub mod Reached
 pub mod Reads
 pub mod Plain
+pub mod Bodies
 pub mod PlainLength
 pub mod Sizes
 pub mod Empty

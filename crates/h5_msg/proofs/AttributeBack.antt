@@ -1,26 +1,30 @@
 -- An attribute that was written reads as its name, type, sizes and values.
-use Rattle.std.proofs.Common.{◌≡◌, ℕ, zero, suc, ◌+◌, ◌-◌, ◌*◌, ◌<◌, ◌≤◌, List, [], ◌∷◌, ◌++◌, length, length-append, map, replicate, take, drop, refl, sym, ap, ◌∙◌, arith, true, false, ℤ, Some}
+use Rattle.std.proofs.Common.{◌≡◌, ℕ, zero, suc, ◌+◌, ◌-◌, ◌*◌, ◌<◌, ◌≤◌, List, [], ◌∷◌, ◌++◌, length, length-append, append_assoc, map, replicate, take, drop, refl, sym, ap, ◌∙◌, arith, true, false, ℤ, Some}
 use Rattle.std.proofs.lemmas.Bool.Decides.{nat_tests}
-use Rattle.std.proofs.lemmas.List.{drop-drop, length-replicate}
+use Rattle.std.proofs.lemmas.List.{drop-drop, length-replicate, take_all}
 use Rattle.std.proofs.Math.Seq.{take-append_seam, drop-append_seam}
 use Rattle.std.specs.Prelude.{◌==◌, nat_le, nat_lt, slice_range}
-use Rattle.std.specs.List.{list_all, list_any}
+use Rattle.std.specs.List.{list_all, list_any, range_with_len}
 use Rattle.byteorder.specs.Numbers.{little_number-reads_back}
 use Rattle.h5_bytes.specs.Bytes.{number_at, little_bytes}
 use Rattle.h5_bytes.specs.Texts.{pad8, until_zero}
-use Rattle.h5_model.specs.Format.Fixed.{Fixed, IsFixed, fits}
+use Rattle.h5_model.specs.Format.Fixed.{Fixed, IsFixed, fits, value_at}
 use Rattle.h5_model.specs.Tree.Places.{cells}
 use Rattle.h5_model.specs.Format.Extent.{Extent, extent_of}
 use Rattle.h5_model.specs.Format.Datatype.{fixed_of}
 use Rattle.h5_model.specs.Format.Sizes.{attribute_size}
 use Rattle.h5_model.specs.Format.AttributeBody.{attribute_of, is_attribute, name_in, name_size, datatype_size, dataspace_size, datatype_place, dataspace_place, data_place, values_at}
-use Rattle.h5_msg.specs.Written.{padded, datatype_bytes, dataspace_bytes, name_bytes, value_bytes, attribute_head, attribute_bytes}
+use Rattle.h5_model.specs.Format.Plain.{cells_bytes, padded_text}
+use Rattle.h5_model.specs.Format.Bodies.{padded, datatype_bytes, dataspace_bytes, attribute_head, attribute_front, attribute_bytes, stored_attribute_bytes}
+use Rattle.h5_model.proofs.PlainValues.{length-cells_bytes}
 use Rattle.h5_msg.proofs.WordLaws.{words_long}
 use Rattle.h5_msg.proofs.DatatypeLaws.{fixed_of-written}
 use Rattle.h5_msg.proofs.DataspaceLaws.{Small, plain_alone, plain_back}
-use Rattle.h5_msg.proofs.AttributeLaws.{size_positive}
+use Rattle.h5_model.proofs.StoredValues.{fits_value_at}
+use Rattle.h5_msg.proofs.AttributeLaws.{size_positive, length-values}
+use Rattle.h5_msg.proofs.ValueBytes.{AreBytes, stored_back}
 use Rattle.h5_msg.proofs.LayoutLaws.{or_left, or_right}
-use Rattle.h5_msg.proofs.CellLaws.{length-value_bytes, values_back}
+use Rattle.h5_msg.proofs.CellLaws.{values_back}
 
 -- ---- over any body
 
@@ -55,10 +59,10 @@ named (b ∷ bs) m rest some text =
 module _ (name sizes : List ℕ) (t : Fixed) (values : List ℤ) (rest : List ℕ) (some : 1 ≤ length name) (short : length name < 65535) (text : list_any (λ b. b == 0) name ≡ false)
     (rank : length sizes ≤ 32) (small : Small sizes) (sound : IsFixed t) (all : list_all (fits t) values ≡ true) (count : length values ≡ cells sizes) where
   abbrev body : List ℕ
-  body = attribute_head (length name) (length sizes) ++ (name_bytes name ++ (padded (datatype_bytes t) 16 ++ (dataspace_bytes sizes ++ (value_bytes t values ++ rest))))
+  body = attribute_head (length name) (length sizes) ++ (padded_text name ++ (padded (datatype_bytes t) 16 ++ (dataspace_bytes sizes ++ (cells_bytes t values ++ rest))))
 
   abbrev from_cells : List ℕ
-  from_cells = value_bytes t values ++ rest
+  from_cells = cells_bytes t values ++ rest
 
   abbrev from_dataspace : List ℕ
   from_dataspace = dataspace_bytes sizes ++ from_cells
@@ -71,7 +75,7 @@ module _ (name sizes : List ℕ) (t : Fixed) (values : List ℤ) (rest : List �
 
   name_length : name_size body ≡ length name + 1
   unfolding number_at
-  name_length = little_number-reads_back 2 (length name + 1) (12 ∷ 0 ∷ (little_bytes 2 (8 + 8 * length sizes) ++ (name_bytes name ++ from_datatype))) (omega arith)
+  name_length = little_number-reads_back 2 (length name + 1) (12 ∷ 0 ∷ (little_bytes 2 (8 + 8 * length sizes) ++ (padded_text name ++ from_datatype))) (omega arith)
 
   type_length : datatype_size body ≡ 12
   unfolding number_at
@@ -79,9 +83,9 @@ module _ (name sizes : List ℕ) (t : Fixed) (values : List ℤ) (rest : List �
 
   extent_length : dataspace_size body ≡ 8 + 8 * length sizes
   unfolding number_at
-  extent_length = little_number-reads_back 2 (8 + 8 * length sizes) (name_bytes name ++ from_datatype) (omega arith)
+  extent_length = little_number-reads_back 2 (8 + 8 * length sizes) (padded_text name ++ from_datatype) (omega arith)
 
-  long_name : length (name_bytes name) ≡ name_room
+  long_name : length (padded_text name) ≡ name_room
   long_name = length-append name (replicate (name_room - length name) 0) ∙ omega (arith, length-replicate {A = ℕ} (name_room - length name) 0)
 
   long_extent : length (dataspace_bytes sizes) ≡ 8 + 8 * length sizes
@@ -98,7 +102,7 @@ module _ (name sizes : List ℕ) (t : Fixed) (values : List ℤ) (rest : List �
 
   -- what stands at each place
   type_part : drop (8 + name_room) body ≡ from_datatype
-  type_part = behind 8 name_room body (name_bytes name) from_datatype refl long_name
+  type_part = behind 8 name_room body (padded_text name) from_datatype refl long_name
 
   extent_part : drop (8 + name_room + 16) body ≡ from_dataspace
   extent_part = behind (8 + name_room) 16 body (padded (datatype_bytes t) 16) from_dataspace type_part refl
@@ -110,7 +114,7 @@ module _ (name sizes : List ℕ) (t : Fixed) (values : List ℤ) (rest : List �
   name_is =
       let behind_name : 1 ≤ name_room - length name = omega arith in
       (λ i. until_zero (slice_range body 8 (8 + name_length i)))
-      ∙ ap until_zero (part_of 8 (length name + 1) body (name_bytes name ++ from_datatype) refl)
+      ∙ ap until_zero (part_of 8 (length name + 1) body (padded_text name ++ from_datatype) refl)
       ∙ named name (name_room - length name) from_datatype behind_name text
 
   type_is : fixed_of (slice_range body (datatype_place body) (datatype_place body + datatype_size body)) ≡ Some t
@@ -128,10 +132,10 @@ module _ (name sizes : List ℕ) (t : Fixed) (values : List ℤ) (rest : List �
 
   long_body : length body ≡ 8 + name_room + 16 + (8 + 8 * length sizes) + length values * t.size + length rest
   long_body =
-      let cells_long = length-append (value_bytes t values) rest in
+      let cells_long = length-append (cells_bytes t values) rest in
       let extent_long = length-append (dataspace_bytes sizes) from_cells in
-      let name_long = length-append (name_bytes name) from_datatype in
-      omega (arith, cells_long, extent_long, name_long, long_name, long_extent, length-value_bytes t values)
+      let name_long = length-append (padded_text name) from_datatype in
+      omega (arith, cells_long, extent_long, name_long, long_name, long_extent, length-cells_bytes t values)
 
   form : is_attribute body ≡ true
   form =
@@ -154,8 +158,36 @@ module _ (name sizes : List ℕ) (t : Fixed) (values : List ℤ) (rest : List �
   pub attribute_reads : attribute_of body ≡ Some (name, record { fixed = t; sizes = sizes; values = values })
   attribute_reads = found body name t (record { sizes = sizes; maxima = map (λ (x : ℕ). Some x) sizes }) values form type_is extent_is room name_is values_are
 
+-- what stands before the values, and behind it
+joined : (name sizes rest : List ℕ) (t : Fixed) → attribute_front name t sizes ++ rest
+    ≡ attribute_head (length name) (length sizes) ++ (padded_text name ++ (padded (datatype_bytes t) 16 ++ (dataspace_bytes sizes ++ rest)))
+joined name sizes rest t =
+    let head : List ℕ = attribute_head (length name) (length sizes) in
+    let type : List ℕ = padded (datatype_bytes t) 16 in
+    append_assoc head (padded_text name ++ (type ++ dataspace_bytes sizes)) rest
+    ∙ ap (λ xs. head ++ xs) (append_assoc (padded_text name) (type ++ dataspace_bytes sizes) rest)
+    ∙ ap (λ xs. head ++ (padded_text name ++ xs)) (append_assoc type (dataspace_bytes sizes) rest)
+
 pub attribute_back : (name sizes : List ℕ) (t : Fixed) (values : List ℤ) (n : ℕ) (bytes : List ℕ) → 1 ≤ length name → length name < 65535 → list_any (λ b. b == 0) name ≡ false
     → length sizes ≤ 32 → Small sizes → IsFixed t → list_all (fits t) values ≡ true → length values ≡ cells sizes
     → bytes ≡ attribute_bytes name t sizes values n → attribute_of bytes ≡ Some (name, record { fixed = t; sizes = sizes; values = values })
 attribute_back name sizes t values n bytes some short text rank small sound all count same =
-    ap attribute_of same ∙ attribute_reads name sizes t values (replicate (n - attribute_size (length name) sizes t.size) 0) some short text rank small sound all count
+    ap attribute_of (same ∙ joined name sizes (cells_bytes t values ++ replicate (n - attribute_size (length name) sizes t.size) 0) t) ∙ attribute_reads name sizes t values (replicate (n - attribute_size (length name) sizes t.size) 0) some short text rank small sound all count
+
+-- ---- values whose bytes are there
+
+all_fit : (t : Fixed) (f : ℕ → ℤ) → ((k : ℕ) → fits t (f k) ≡ true) → (xs : List ℕ) → list_all (fits t) (map f xs) ≡ true
+all_fit t f each [] = refl
+all_fit t f each (x ∷ xs) = rw (each x, all_fit t f each xs) refl
+
+pub stored_attribute_back : (name sizes : List ℕ) (t : Fixed) (stored : List ℕ) (n : ℕ) (bytes : List ℕ) → 1 ≤ length name → length name < 65535
+    → list_any (λ b. b == 0) name ≡ false → length sizes ≤ 32 → Small sizes → IsFixed t → AreBytes stored → length stored ≡ cells sizes * t.size
+    → bytes ≡ stored_attribute_bytes name t sizes stored n
+    → attribute_of bytes ≡ Some (name, record { fixed = t; sizes = sizes; values = values_at t stored 0 (cells sizes) })
+stored_attribute_back name sizes t stored n bytes some short text rank small sound low long same =
+    let values : List ℤ = values_at t stored 0 (cells sizes) in
+    let are : cells_bytes t values ≡ stored
+    = stored_back t stored 0 sound low (cells sizes) (omega (arith, long)) ∙ take_all (cells sizes * t.size) stored (omega (arith, long)) in
+    attribute_back name sizes t values n bytes some short text rank small sound
+    (all_fit t (λ k. value_at t stored (0 + k * t.size)) (λ k. fits_value_at t stored (0 + k * t.size) sound low) (range_with_len 0 (cells sizes)))
+    (length-values t stored 0 (cells sizes)) (same ∙ ap (λ xs. stored_attribute_bytes name t sizes xs n) (sym are))

@@ -11,7 +11,8 @@ use Rattle.h5_bytes.proofs.PartLaws.{put_mid_is, with_part_is}
 use Rattle.h5_model.specs.Format.Fixed.{Fixed, value_at, value_of, fits, bytes_of}
 use Rattle.h5_model.specs.Format.AttributeBody.{values_at}
 use Rattle.h5_model.proofs.FixedLaws.{value_back, length-bytes_of}
-use Rattle.h5_msg.specs.Written.{value_bytes}
+use Rattle.h5_model.specs.Format.Plain.{cells_bytes}
+use Rattle.h5_model.proofs.PlainValues.{length-cells_bytes}
 use Rattle.h5_msg.proofs.WordLaws.{and_left, and_right}
 use Rattle.h5_model.proofs.ValueLaws.{value_at-drop}
 
@@ -20,19 +21,14 @@ all_at t [] k all low = absurd (omega arith)
 all_at t (v ∷ vs) zero all low = and_left (fits t v) (list_all (fits t) vs) all
 all_at t (v ∷ vs) (suc k) all low = all_at t vs k (and_right (fits t v) (list_all (fits t) vs) all) (omega arith)
 
-pub length-value_bytes : (t : Fixed) (values : List ℤ) → length (value_bytes t values) ≡ length values * t.size
-length-value_bytes t [] = omega arith
-length-value_bytes t (v ∷ vs) =
-    length-append (bytes_of t v) (value_bytes t vs) ∙ omega (arith, length-bytes_of t v, length-value_bytes t vs)
-
 -- one more value is written behind those that are
 pub one_more : (t : Fixed) (values : List ℤ) (k : ℕ) (old now : List ℕ) → k < length values → length old ≡ length values * t.size → k * t.size + t.size ≤ length old
-    → now ≡ value_bytes t (take k values) ++ drop (k * t.size) old
-    → put_mid (k * t.size) t.size now (bytes_of t (get_or values k (pos 0))) ≡ value_bytes t (take (k + 1) values) ++ drop ((k + 1) * t.size) old
+    → now ≡ cells_bytes t (take k values) ++ drop (k * t.size) old
+    → put_mid (k * t.size) t.size now (bytes_of t (get_or values k (pos 0))) ≡ cells_bytes t (take (k + 1) values) ++ drop ((k + 1) * t.size) old
 one_more t values k old now low long room same =
     let v : ℤ = get_or values k (pos 0) in
-    let front : List ℕ = value_bytes t (take k values) in
-    let ahead : length front ≡ k * t.size = length-value_bytes t (take k values) ∙ ap (λ (n : ℕ). n * t.size) (omega (arith, length-take k values)) in
+    let front : List ℕ = cells_bytes t (take k values) in
+    let ahead : length front ≡ k * t.size = length-cells_bytes t (take k values) ∙ ap (λ (n : ℕ). n * t.size) (omega (arith, length-take k values)) in
     let behind : length (drop (k * t.size) old) ≡ length old - k * t.size = length-drop (k * t.size) old in
     let all : length now ≡ length old = ap length same ∙ length-append front (drop (k * t.size) old) ∙ omega arith in
     let size : length (bytes_of t v) ≡ t.size = length-bytes_of t v in
@@ -42,8 +38,8 @@ one_more t values k old now low long room same =
     = ap (λ (n : ℕ). drop (k * t.size + n) now) size ∙ ap (drop (k * t.size + t.size)) same
     ∙ ap (λ (n : ℕ). drop (n + t.size) (front ++ drop (k * t.size) old)) (sym ahead) ∙ drop-append-add front (drop (k * t.size) old) t.size
     ∙ drop-drop t.size (k * t.size) old ∙ ap (λ (n : ℕ). drop n old) (sym next) in
-    let longer : value_bytes t (take (k + 1) values) ≡ front ++ bytes_of t v
-    = ap (value_bytes t) (take_more values k (pos 0) low) ∙ flat_map-append (bytes_of t) (take k values) (v ∷ []) ∙ ap (λ (xs : List ℕ). front ++ xs) (append-nil (bytes_of t v)) in
+    let longer : cells_bytes t (take (k + 1) values) ≡ front ++ bytes_of t v
+    = ap (cells_bytes t) (take_more values k (pos 0) low) ∙ flat_map-append (bytes_of t) (take k values) (v ∷ []) ∙ ap (λ (xs : List ℕ). front ++ xs) (append-nil (bytes_of t v)) in
     put_mid_is (k * t.size) t.size now (bytes_of t v) size (omega arith) ∙ with_part_is (k * t.size) (bytes_of t v) now (omega arith)
     ∙ (λ i. taken i ++ (bytes_of t v ++ dropped i))
     ∙ sym (append_assoc front (bytes_of t v) (drop ((k + 1) * t.size) old))
@@ -51,34 +47,34 @@ one_more t values k old now low long room same =
 
 -- all values are written
 pub all_written : (t : Fixed) (values : List ℤ) (k : ℕ) (old now : List ℕ) → length values ≤ k → length old ≡ length values * t.size
-    → now ≡ value_bytes t (take k values) ++ drop (k * t.size) old → now ≡ value_bytes t values
+    → now ≡ cells_bytes t (take k values) ++ drop (k * t.size) old → now ≡ cells_bytes t values
 all_written t values k old now high long same =
     let past : length old ≤ k * t.size = omega (arith, mul-le-mul_right t.size high) in
-    same ∙ (λ i. value_bytes t (take_all k values high i) ++ drop_all (k * t.size) old past i) ∙ append-nil (value_bytes t values)
+    same ∙ (λ i. cells_bytes t (take_all k values high i) ++ drop_all (k * t.size) old past i) ∙ append-nil (cells_bytes t values)
 
 -- ---- read
 
 value_back_at : (t : Fixed) (values : List ℤ) (rest : List ℕ) (k : ℕ) → 1 ≤ t.size → list_all (fits t) values ≡ true → k < length values
-    → value_at t (value_bytes t values ++ rest) (k * t.size) ≡ get_or values k (pos 0)
+    → value_at t (cells_bytes t values ++ rest) (k * t.size) ≡ get_or values k (pos 0)
 value_back_at t [] rest k some all low = absurd (omega arith)
 value_back_at t (v ∷ vs) rest zero some all low =
     let start : 0 * t.size ≡ 0 = omega arith in
-    let joined : (bytes_of t v ++ value_bytes t vs) ++ rest ≡ bytes_of t v ++ (value_bytes t vs ++ rest) = append_assoc (bytes_of t v) (value_bytes t vs) rest in
-    ap (value_at t ((bytes_of t v ++ value_bytes t vs) ++ rest)) start ∙ ap (value_of t) joined
-    ∙ value_back t v (value_bytes t vs ++ rest) some (and_left (fits t v) (list_all (fits t) vs) all)
+    let joined : (bytes_of t v ++ cells_bytes t vs) ++ rest ≡ bytes_of t v ++ (cells_bytes t vs ++ rest) = append_assoc (bytes_of t v) (cells_bytes t vs) rest in
+    ap (value_at t ((bytes_of t v ++ cells_bytes t vs) ++ rest)) start ∙ ap (value_of t) joined
+    ∙ value_back t v (cells_bytes t vs ++ rest) some (and_left (fits t v) (list_all (fits t) vs) all)
 value_back_at t (v ∷ vs) rest (suc k) some all low =
     let size : length (bytes_of t v) ≡ t.size = length-bytes_of t v in
     let next : suc k * t.size ≡ length (bytes_of t v) + k * t.size = omega arith in
-    let joined : (bytes_of t v ++ value_bytes t vs) ++ rest ≡ bytes_of t v ++ (value_bytes t vs ++ rest) = append_assoc (bytes_of t v) (value_bytes t vs) rest in
-    ap (value_at t ((bytes_of t v ++ value_bytes t vs) ++ rest)) next ∙ ap (λ (bytes : List ℕ). value_at t bytes (length (bytes_of t v) + k * t.size)) joined
-    ∙ value_at-drop t (bytes_of t v ++ (value_bytes t vs ++ rest)) (length (bytes_of t v) + k * t.size)
-    ∙ ap (value_of t) (drop-append-add (bytes_of t v) (value_bytes t vs ++ rest) (k * t.size))
-    ∙ sym (value_at-drop t (value_bytes t vs ++ rest) (k * t.size))
+    let joined : (bytes_of t v ++ cells_bytes t vs) ++ rest ≡ bytes_of t v ++ (cells_bytes t vs ++ rest) = append_assoc (bytes_of t v) (cells_bytes t vs) rest in
+    ap (value_at t ((bytes_of t v ++ cells_bytes t vs) ++ rest)) next ∙ ap (λ (bytes : List ℕ). value_at t bytes (length (bytes_of t v) + k * t.size)) joined
+    ∙ value_at-drop t (bytes_of t v ++ (cells_bytes t vs ++ rest)) (length (bytes_of t v) + k * t.size)
+    ∙ ap (value_of t) (drop-append-add (bytes_of t v) (cells_bytes t vs ++ rest) (k * t.size))
+    ∙ sym (value_at-drop t (cells_bytes t vs ++ rest) (k * t.size))
     ∙ value_back_at t vs rest k some (and_right (fits t v) (list_all (fits t) vs) all) (omega arith)
 
 -- values at a place where they begin
 pub values_back : (t : Fixed) (values : List ℤ) (bytes rest : List ℕ) (place : ℕ) → 1 ≤ t.size → list_all (fits t) values ≡ true
-    → drop place bytes ≡ value_bytes t values ++ rest → values_at t bytes place (length values) ≡ values
+    → drop place bytes ≡ cells_bytes t values ++ rest → values_at t bytes place (length values) ≡ values
 values_back t values bytes rest place some all start = sym (fill_by_all (λ k. value_at t bytes (place + k * t.size)) values (length values) (pos 0) refl (λ k low.
     sym (value_at-drop t bytes (place + k * t.size) ∙ ap (value_of t) (sym (drop-drop (k * t.size) place bytes)) ∙ ap (λ (xs : List ℕ). value_of t (drop (k * t.size) xs)) start
-    ∙ sym (value_at-drop t (value_bytes t values ++ rest) (k * t.size)) ∙ value_back_at t values rest k some all low)))
+    ∙ sym (value_at-drop t (cells_bytes t values ++ rest) (k * t.size)) ∙ value_back_at t values rest k some all low)))

@@ -9,7 +9,8 @@ use Rattle.h5_bytes.specs.Bytes.{number_at, undefined}
 use Rattle.h5_model.specs.Edits.Refusal.{are_maxima, is_maximum}
 use Rattle.h5_model.specs.Scripts.Tests.{each_below}
 use Rattle.h5_model.specs.Format.Extent.{extent_of, is_dataspace, size_in, maximum_in, maximum_from, maximum_fits}
-use Rattle.h5_msg.specs.Written.{padded, dataspace_bytes, bounded_bytes, or_undefined, words}
+use Rattle.h5_model.specs.Format.Bodies.{padded, dataspace_bytes, bounded_bytes, or_undefined, words}
+use Rattle.h5_msg.proofs.PaddedLaws.{padded_full}
 use Rattle.h5_msg.proofs.WordLaws.{words_long, bounds_long, as_many_maxima, length-numbers, number_at-drop, number_at-words, and_left, and_right}
 
 -- numbers that fit in 8 bytes
@@ -144,7 +145,4 @@ bounded_back sizes maxima n bytes rank small fit numbers same =
 
 -- a dataspace that fills its room has no zeros behind it
 pub plain_alone : (sizes : List ℕ) (n : ℕ) → n ≡ 8 + 8 * length sizes → padded (dataspace_bytes sizes) n ≡ dataspace_bytes sizes
-plain_alone sizes n full =
-    let numbers = words_long sizes in
-    let none : n - length (dataspace_bytes sizes) ≡ 0 = omega arith in
-    ap (λ (k : ℕ). dataspace_bytes sizes ++ replicate k 0) none ∙ append-nil (dataspace_bytes sizes)
+plain_alone sizes n full = padded_full (dataspace_bytes sizes) n (omega (arith, full, words_long sizes))

@@ -1,3 +1,4 @@
+pub mod PaddedLaws
 pub mod AddressLaws
 pub mod DatatypeLaws
 pub mod FillLaws

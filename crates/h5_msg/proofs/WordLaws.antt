@@ -3,7 +3,7 @@ use Rattle.std.proofs.Common.{◌≡◌, Option, map, length-append, true, false
 use Rattle.std.proofs.lemmas.List.{get_or-drop}
 use Rattle.byteorder.specs.Numbers.{little_number-reads_back}
 use Rattle.h5_bytes.specs.Bytes.{number_at}
-use Rattle.h5_msg.specs.Written.{words, or_undefined}
+use Rattle.h5_model.specs.Format.Bodies.{words, or_undefined}
 use Rattle.h5_model.specs.Edits.Refusal.{are_maxima}
 use Rattle.h5_model.proofs.ValueLaws.{little_moved}
 

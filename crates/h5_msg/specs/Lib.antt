@@ -1,4 +1,3 @@
-pub mod Written
 pub mod Times
 pub mod Layouts
 pub mod Parts

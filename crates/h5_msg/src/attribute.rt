@@ -7,9 +7,9 @@ ghost use Rattle.h5_model.specs.Format.AttributeBody.{attribute_of, is_attribute
 ghost use Rattle.h5_msg.specs.Parts.{ArePartsOf};
 ghost use Rattle.h5_model.specs.Format.Fixed.{IsFixed, fits};
 ghost use Rattle.h5_model.specs.Tree.Places.{cells as cells_of};
-ghost use Rattle.h5_model.specs.Format.Plain.{cells_bytes};
+ghost use Rattle.h5_model.specs.Format.Plain.{cells_bytes, padded_text};
 ghost use Rattle.h5_model.specs.Format.Sizes.{attribute_size, dataspace_length as dataspace_size};
-ghost use Rattle.h5_msg.specs.Written.{attribute_bytes, attribute_head, dataspace_bytes, datatype_bytes, name_bytes, padded, value_bytes};
+ghost use Rattle.h5_model.specs.Format.Bodies.{attribute_bytes, attribute_front, attribute_head, dataspace_bytes, datatype_bytes, padded, stored_attribute_bytes};
 
 use crate::dataspace::{Dataspace, dataspace_length, read_dataspace, write_dataspace};
 use crate::datatype::{DATATYPE_LENGTH, read_datatype, write_datatype};
@@ -197,7 +197,7 @@ pub fn attribute_length(name: usize, rank: usize, values: usize, fixed: &Fixed) 
     ensures { (sizes : List ℕ) → length sizes ≡ rank → cells_of sizes ≡ values
         → result ≡ attribute_size name sizes fixed.now.size }
 {
-    NAME + pad8(name + 1) + DATATYPE + dataspace_length(rank, false) + values * fixed.size()
+    front_length(name, rank) + values * fixed.size()
 }
 
 /// How many bytes a datatype has in an attribute, with its padding.
@@ -216,30 +216,64 @@ pub fn write_attribute(name: &[u8], fixed: &Fixed, sizes: &[u64], values: &[i128
     ensures reads { attribute_of bytes.new
         ≡ Some (name.now, record { fixed = fixed.now; sizes = sizes.now; values = values.now }) }
 {
-    write_parts(name, fixed, sizes, values, bytes);
+    let (front, behind) = bytes.split_at_mut(front_length(name.len(), sizes.len()));
+    let (cells, padding) = behind.split_at_mut(values.len() * fixed.size());
+    write_front(name, fixed, sizes, front);
+    write_values(fixed, values, cells);
+    padding.fill(0);
 }
 
-/// Writes the parts one behind another, and zeros behind them.
-fn write_parts(name: &[u8], fixed: &Fixed, sizes: &[u64], values: &[i128], bytes: &mut [u8])
+/// Writes an Attribute message whose values have these bytes, and zeros behind it.
+pub fn write_stored_attribute(
+    name: &[u8],
+    fixed: &Fixed,
+    sizes: &[u64],
+    stored: &[u8],
+    bytes: &mut [u8],
+)
+    requires name { 1 ≤ length name.now }
+    requires short { length name.now < 2 ^ 16 - 1 }
+    requires text { list_any (λ b. b == 0) name.now ≡ false }
+    requires rank { length sizes.now ≤ 32 }
+    requires stored { length stored.now ≡ cells_of sizes.now * fixed.now.size }
+    requires room { attribute_size (length name.now) sizes.now fixed.now.size ≤ length bytes.old }
+    ensures written { bytes.new
+        ≡ stored_attribute_bytes name.now fixed.now sizes.now stored.now (length bytes.old) }
+    ensures reads { attribute_of bytes.new ≡ Some (name.now, record { fixed = fixed.now; sizes = sizes.now;
+        values = values_at fixed.now stored.now 0 (cells_of sizes.now) }) }
+{
+    let (front, behind) = bytes.split_at_mut(front_length(name.len(), sizes.len()));
+    let (cells, padding) = behind.split_at_mut(stored.len());
+    write_front(name, fixed, sizes, front);
+    cells.copy_from_slice(stored);
+    padding.fill(0);
+}
+
+/// How many bytes stand before the values.
+fn front_length(name: usize, rank: usize) -> usize
+    requires name { name < 2 ^ 16 - 1 }
+    requires rank { rank ≤ 32 }
+    ensures { result ≡ 8 + padded_to_8 (name + 1) + 16 + dataspace_size rank }
+{
+    NAME + pad8(name + 1) + DATATYPE + dataspace_length(rank, false)
+}
+
+/// Writes what stands before the values: the lengths of the parts, the name, the type and the sizes.
+fn write_front(name: &[u8], fixed: &Fixed, sizes: &[u64], bytes: &mut [u8])
     requires short { length name.now < 2 ^ 16 - 1 }
     requires rank { length sizes.now ≤ 32 }
-    requires values { length values.now ≡ cells_of sizes.now }
-    requires of_type { list_all (fits fixed.now) values.now ≡ true }
-    requires room { attribute_size (length name.now) sizes.now fixed.now.size ≤ length bytes.old }
-    ensures written { bytes.new ≡ attribute_bytes name.now fixed.now sizes.now values.now (length bytes.old) }
+    requires room { length bytes.old
+        ≡ 8 + padded_to_8 (length name.now + 1) + 16 + dataspace_size (length sizes.now) }
+    ensures written { bytes.new ≡ attribute_front name.now fixed.now sizes.now }
     ensures sound { IsFixed fixed.now }
 {
     let (head, behind) = bytes.split_at_mut(NAME);
     let (text, behind) = behind.split_at_mut(pad8(name.len() + 1));
-    let (datatype, behind) = behind.split_at_mut(DATATYPE);
-    let (dataspace, behind) = behind.split_at_mut(dataspace_length(sizes.len(), false));
-    let (cells, padding) = behind.split_at_mut(values.len() * fixed.size());
+    let (datatype, dataspace) = behind.split_at_mut(DATATYPE);
     write_head(name.len(), sizes.len(), head);
     write_name(name, text);
     write_type(fixed, datatype);
     write_extent(sizes, dataspace);
-    write_values(fixed, values, cells);
-    padding.fill(0);
 }
 
 /// Writes the version and the lengths of the parts.
@@ -257,7 +291,7 @@ fn write_head(name: usize, rank: usize, bytes: &mut [u8])
 /// Writes a name, and zeros behind it.
 fn write_name(name: &[u8], bytes: &mut [u8])
     requires { length bytes.old ≡ padded_to_8 (length name.now + 1) }
-    ensures { bytes.new ≡ name_bytes name.now }
+    ensures { bytes.new ≡ padded_text name.now }
 {
     let (text, padding) = bytes.split_at_mut(name.len());
     text.copy_from_slice(name);
@@ -267,7 +301,8 @@ fn write_name(name: &[u8], bytes: &mut [u8])
 /// Writes a datatype with its padding.
 fn write_type(fixed: &Fixed, bytes: &mut [u8])
     requires { length bytes.old ≡ 16 }
-    ensures { bytes.new ≡ padded (datatype_bytes fixed.now) 16 }
+    ensures written { bytes.new ≡ padded (datatype_bytes fixed.now) 16 }
+    ensures sound { IsFixed fixed.now }
 {
     write_datatype(fixed, bytes);
 }
@@ -285,8 +320,7 @@ fn write_extent(sizes: &[u64], bytes: &mut [u8])
 fn write_values(fixed: &Fixed, values: &[i128], bytes: &mut [u8])
     requires room { length bytes.old ≡ length values.now * fixed.now.size }
     requires of_type { list_all (fits fixed.now) values.now ≡ true }
-    ensures written { bytes.new ≡ value_bytes fixed.now values.now }
-    ensures sound { IsFixed fixed.now }
+    ensures { bytes.new ≡ cells_bytes fixed.now values.now }
 {
     let size = fixed.size();
     for k in 0..values.len() {

@@ -2,7 +2,8 @@
 
 ghost use Rattle.std.specs.Prelude.{◌≡◌, ◌≤◌, Some, length, ok_or};
 ghost use Rattle.h5_model.specs.Format.Datatype.{fixed_of, is_fixed_point as has_form};
-ghost use Rattle.h5_msg.specs.Written.{class_bits as bits_of, datatype_bytes, padded};
+ghost use Rattle.h5_model.specs.Format.Fixed.{IsFixed};
+ghost use Rattle.h5_model.specs.Format.Bodies.{class_bits as bits_of, datatype_bytes, padded};
 
 use crate::fault::FormFault;
 use h5_bytes::{u16_at, u32_at};
@@ -56,6 +57,7 @@ pub fn write_datatype(fixed: &Fixed, bytes: &mut [u8])
     requires { 12 ≤ length bytes.old }
     ensures written { bytes.new ≡ padded (datatype_bytes fixed.now) (length bytes.old) }
     ensures reads { fixed_of bytes.new ≡ Some fixed.now }
+    ensures sound { IsFixed fixed.now }
 {
     let size = fixed.size() as u8;
     let bits = class_bits(fixed);

@@ -3,7 +3,7 @@
 ghost use Rattle.std.specs.Prelude.{◌≡◌, ◌+◌, ◌≤◌, Some, length, ok_or, true};
 ghost use Rattle.h5_model.specs.Format.Fill.{fill_value, old_fill_value, sized_value as value_after_size};
 ghost use Rattle.h5_model.specs.Format.Fixed.{fits};
-ghost use Rattle.h5_msg.specs.Written.{fill_bytes, old_fill_bytes, padded};
+ghost use Rattle.h5_model.specs.Format.Bodies.{fill_bytes, old_fill_bytes, padded};
 ghost use Rattle.h5_msg.specs.Times.{time_number};
 
 use crate::fault::FormFault;
@@ -20,7 +20,8 @@ pub enum AllocationTime {
 
 /// How many bytes a Fill Value message's body has as it is written for this type.
 pub fn fill_length(fixed: &Fixed) -> usize
-    ensures { result ≡ 8 + fixed.now.size }
+    ensures exact { result ≡ 8 + fixed.now.size }
+    ensures few { result ≤ 16 }
 {
     8 + fixed.size()
 }

@@ -19,7 +19,9 @@ pub use addresses::{
     CONTINUATION_LENGTH, SYMBOL_TABLE_LENGTH, SymbolTable, read_continuation, read_symbol_table,
     write_continuation, write_symbol_table,
 };
-pub use attribute::{AttributeBody, attribute_length, read_attribute, write_attribute};
+pub use attribute::{
+    AttributeBody, attribute_length, read_attribute, write_attribute, write_stored_attribute,
+};
 pub use dataspace::{
     Dataspace, dataspace_length, read_dataspace, write_bounded_dataspace, write_dataspace,
 };

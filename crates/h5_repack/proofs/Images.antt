@@ -9,7 +9,8 @@ use Rattle.std.specs.Prelude.{slice_get, slice_index}
 use Rattle.std.specs.FinMap.{FinMap, get, entries, len, len-entries}
 use Rattle.std.specs.List.{AllZip, flat_map}
 use Rattle.std.specs.Option.{option_map_or, option_and_then}
-use Rattle.h5_model.specs.Format.Plain.{header_bytes, symbol_table_body, superblock_bytes}
+use Rattle.h5_model.specs.Format.Bodies.{pair_bytes}
+use Rattle.h5_model.specs.Format.Plain.{header_bytes, superblock_bytes}
 use Rattle.h5_model.specs.Format.PlainLength.{nodes_over, rows_of}
 use Rattle.h5_model.specs.Format.Sizes.{group_node}
 use Rattle.h5_model.specs.Tree.Objects.{Tree, Object, Content, Group, Array, Link, Links, ToObject, Soft, hard_links, links_in}
@@ -147,12 +148,12 @@ module _ (leaf internal : ℕ) (objects : List NewObject) (tree : Tree) (held : 
       → object_at layout h count o ≡ object_bytes leaf internal tree table (n, o)
   object_here n o h count place links (Group g) e =
       let laid : object_bytes leaf internal tree table (n, o)
-      ≡ header_bytes 1 ((17, symbol_table_body (content_place o (header_in table n)) (heap_place leaf internal o g (header_in table n))) ∷ others_of o)
+      ≡ header_bytes 1 ((17, pair_bytes (content_place o (header_in table n)) (heap_place leaf internal o g (header_in table n))) ∷ others_of o)
       ++ links_bytes leaf internal (content_place o (header_in table n)) (written_links leaf internal tree table g) = rw e refl in
       let written : map (written_at layout) (entries g) ≡ written_links leaf internal tree table g
       = map_same (written_at layout) (written_link leaf internal tree table) (entries g) link_here in
       ap (content_at layout h count o) e
-      ∙ (λ i. header_bytes 1 ((17, symbol_table_body (content_place o (place i)) (heap_place leaf internal o g (place i))) ∷ others_of o)
+      ∙ (λ i. header_bytes 1 ((17, pair_bytes (content_place o (place i)) (heap_place leaf internal o g (place i))) ∷ others_of o)
       ++ links_bytes leaf internal (content_place o (place i)) (written i)) ∙ sym laid
   object_here n o h count place links (Array d) e =
       let laid : object_bytes leaf internal tree table (n, o)

@@ -93,7 +93,7 @@ group_at l count n links others o s d p is found e size =
 
 -- ---- arrays
 
-pub array_pushed : (n : NewArray) (others : OthersBytes) (a : plain.Array) (count place address : ℕ) (first second third : List ℕ) → IsJoined n others a
+pub array_pushed : (n : NewArray) (others : OthersBytes) (a : plain.Array) (count place : ℕ) (address : Option ℕ) (first second third : List ℕ) → IsJoined n others a
     → address ≡ address_written a.cells a.size place → second ≡ first ++ header_written count a address → third ≡ second ++ data_written a.cells a
     → (o : Object) (is : IsArrayObject n others o) → third ≡ first ++ array_at place count o is.dataset
 array_pushed n others a count place address first second third named address_here e f o is =

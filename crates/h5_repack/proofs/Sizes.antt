@@ -1,9 +1,10 @@
 -- How many bytes objects have, as they are measured.
-use Rattle.std.proofs.Common.{Vec, Global, ◌≡◌, ℕ, ◌+◌, ◌*◌, ◌^◌, ◌<◌, ◌≤◌, List, [], ◌∷◌, map, refl, sym, ap, ap₂, ◌∙◌, subst, arith, length, Some, Option}
+use Rattle.std.proofs.Common.{Vec, Global, ◌≡◌, ℕ, ◌+◌, ◌*◌, ◌^◌, ◌<◌, ◌≤◌, List, [], ◌∷◌, map, refl, sym, ap, ap₂, ◌∙◌, subst, arith, length, Some, None, Option, true}
 use Rattle.std.proofs.lemmas.Slice.Zip.{AllZip-long}
 use Rattle.std.specs.Prelude.{slice_get}
 use Rattle.std.specs.List.{AllZip}
 use Rattle.std.specs.FinMap.{entries, len, len-entries}
+use Rattle.h5_model.specs.Edits.Refusal.{are_maxima}
 use Rattle.h5_model.specs.Format.Plain.{messages_bytes}
 use Rattle.h5_model.specs.Format.PlainLength.{content_bytes, rows_of}
 use Rattle.h5_model.specs.Format.Sizes.{header_size}
@@ -14,6 +15,7 @@ use Rattle.h5_repack.specs.Bodies.Sound.{IsPlainArray}
 use Rattle.h5_repack.proofs.BodyLaws.HeaderGroup.{length-group_header, group_header-size}
 use Rattle.h5_repack.proofs.BodyLaws.HeaderLengths.{array_length}
 use Rattle.h5_repack.proofs.BodyLaws.HeaderOthers.{length-others}
+use Rattle.h5_repack.proofs.BodyLaws.HeaderSpace.{maxima_fit}
 use Rattle.h5_heap.specs.Writing.Links.{Leads}
 use Rattle.h5_group.specs.Writing.Laws as laws
 use Rattle.h5_group.specs.Writing.Places.{ArePlaces}
@@ -124,7 +126,12 @@ module _ (n : NewArray) (others : OthersBytes) (a : plain.Array) (named : IsJoin
     };
   }
 
-  pub array_header_size : (count address : ℕ) → length (header_written count a address) ≡ header_size o
+  pub joined_bounded : are_maxima (a.size ∷ []) (a.maximum ∷ []) ≡ true
+  joined_bounded =
+      (λ i. are_maxima (sym (joined_array).sizes_are i) (sym (joined_array).maxima_are i))
+      ∙ (λ i. are_maxima ((own_array).sizes_are i) ((own_array).maxima_are i)) ∙ maxima_fit (own_array).size (own_array).maximum (own_array).bounded
+
+  pub array_header_size : (count : ℕ) (address : Option ℕ) → length (header_written count a address) ≡ header_size o
   array_header_size count address =
       ap length (header_is a is.dataset (others_of o) joined_array count address)
       ∙ array_length count address o is.dataset (is.plain).others is.content own_array
@@ -134,10 +141,10 @@ module _ (n : NewArray) (others : OthersBytes) (a : plain.Array) (named : IsJoin
       ap length (data_is a is.dataset (others_of o) joined_array) ∙ sym (stored_bytes 0 0 (length (others_of o)) is.dataset own_array)
       ∙ sym (ap (content_bytes leaf internal 0 0) is.content)
 
-  pub array_size : (leaf internal header data_length : ℕ) → header ≡ length (header_written 0 a 0) → data_length ≡ length (data_written a.cells a) → header ≤ 2 ^ 31
+  pub array_size : (leaf internal header data_length : ℕ) → header ≡ length (header_written 0 a None) → data_length ≡ length (data_written a.cells a) → header ≤ 2 ^ 31
       → data_length ≤ 2 ^ 31 → IsSize leaf internal o (record { header = header; extent = extent.Data data_length })
   array_size leaf internal header data_length header_is length_is low low_data =
-      let size : header ≡ header_size o = header_is ∙ array_header_size 0 0 in
+      let size : header ≡ header_size o = header_is ∙ array_header_size 0 None in
       record {
         header = size;
         extent_is = subst (λ (c : Content). IsExtent leaf internal c (extent.Data data_length)) (sym is.content)

@@ -3,7 +3,8 @@ use Rattle.std.specs.Prelude.{◌≡◌, ℕ, ◌+◌, ◌^◌, ◌≤◌, ◌<�
 use Rattle.std.specs.FinMap.{entries}
 use Rattle.std.specs.List.{AllZip}
 use Rattle.std.specs.Option.{option_map_or}
-use Rattle.h5_model.specs.Format.Plain.{header_bytes, symbol_table_body, superblock_bytes}
+use Rattle.h5_model.specs.Format.Bodies.{pair_bytes}
+use Rattle.h5_model.specs.Format.Plain.{header_bytes, superblock_bytes}
 use Rattle.h5_model.specs.Format.Sizes.{header_size}
 use Rattle.h5_model.specs.Tree.Objects.{Object, Content, Group, Array, Dataset, Link, Links, ToObject, Soft}
 use Rattle.h5_repack.specs.Bodies.Bodies.{others_of, array_messages}
@@ -165,7 +166,7 @@ array_at place count o d =
 -- the bytes of an object whose header stands there and to which so many links lead
 abbrev pub content_at : Layout → ℕ → ℕ → Object → Content → List ℕ
 content_at l header count o (Group links) =
-    header_bytes 1 ((17, symbol_table_body (content_place o header) (heap_place l.leaf l.internal o links header)) ∷ others_of o)
+    header_bytes 1 ((17, pair_bytes (content_place o header) (heap_place l.leaf l.internal o links header)) ∷ others_of o)
     ++ links_bytes l.leaf l.internal (content_place o header) (map (written_at l) (entries links))
 content_at l header count o (Array d) = array_at (content_place o header) count o d
 

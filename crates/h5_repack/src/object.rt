@@ -54,6 +54,7 @@ fn push_array(
     others: &Others,
 ) -> Result<(), AllocError>
     requires held { (o : Object) × IsArrayObject array.now others.now o }
+    requires low { at ≤ 2 ^ 31 }
     requires header { length others.now.bytes ≤ 2 ^ 31 }
     ensures { OnOk result
         ((o : Object) (is : IsArrayObject array.now others.now o)

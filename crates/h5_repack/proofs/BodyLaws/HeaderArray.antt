@@ -9,8 +9,9 @@ use Rattle.std.specs.Prelude.{nat_lt, if◌then◌else◌, option_and_then}
 use Rattle.std.specs.Ordering.{nat_cmp}
 use Rattle.std.specs.List.{AllByRecursion}
 use Rattle.std.specs.FinMap.{FinMap, empty}
-use Rattle.h5_bytes.specs.Bytes.{part, undefined}
+use Rattle.h5_bytes.specs.Bytes.{part}
 use Rattle.h5_bytes.specs.Blocks.{block}
+use Rattle.h5_bytes.specs.Texts.{pad8}
 use Rattle.h5_bytes.specs.declared.Block.{Block}
 use Rattle.h5_model.specs.Format.Cells.{cells_of}
 use Rattle.h5_model.specs.Format.Fill.{fill_value, old_fill_value, chosen_fill}
@@ -18,14 +19,19 @@ use Rattle.h5_model.specs.Format.Fixed.{Fixed, IsFixed, fits}
 use Rattle.h5_model.specs.Format.Layout.{InBlock, layout_of}
 use Rattle.h5_model.specs.Format.Messages.{Message, HasMessages, prefix_at, reference_count, count_of, first_body}
 use Rattle.h5_model.specs.Tree.Places.{cells, extent_cells}
-use Rattle.h5_model.specs.Format.Plain.{header_bytes, type_body, fill_body, contiguous_body, cells_bytes}
+use Rattle.h5_model.specs.Format.Bodies.{raised, datatype_bytes, fill_bytes, contiguous_bytes}
+use Rattle.h5_model.specs.Format.Plain.{header_bytes, cells_bytes}
 use Rattle.h5_model.specs.Format.Reads.{HasObject, HasContent, HasDataset, HasData, InDataset, IsFill, storage_of}
 use Rattle.h5_model.specs.Format.Sizes.{header_size}
 use Rattle.h5_model.specs.Tree.Sound.{AreOf}
 use Rattle.h5_model.specs.Tree.Objects.{Object, Content, Array, Dataset, Contiguous}
 use Rattle.h5_model.proofs.PlainMessages.{messages_from, header_reads, header_counted}
-use Rattle.h5_model.proofs.PlainValues.{size-low, size-high, fixed_of-type_body, layout_of-contiguous_body, layout_of-undefined, length-fill_body, fill_value-fill_body, length-cells_bytes, cells_of-cells_bytes}
-use Rattle.h5_repack.specs.Bodies.Bodies.{others_of, space_body}
+use Rattle.h5_model.proofs.PlainValues.{size-low, size-high, length-cells_bytes, cells_of-cells_bytes}
+use Rattle.h5_msg.proofs.DatatypeLaws.{fixed_back}
+use Rattle.h5_msg.proofs.FillLaws.{fill_back, length-fill_bytes}
+use Rattle.h5_msg.proofs.LayoutLaws.{IsAddress, contiguous_back}
+use Rattle.h5_msg.proofs.PaddedLaws.{length-raised}
+use Rattle.h5_repack.specs.Bodies.Bodies.{others_of, space_body, type_message, fill_message, layout_message}
 use Rattle.h5_repack.specs.Bodies.Laws.{ArrayReads, counted_header}
 use Rattle.h5_repack.specs.Bodies.Headers.{is_stored, data_of}
 use Rattle.h5_repack.specs.Bodies.Sound.{IsPlainObject, IsPlainArray}
@@ -48,44 +54,45 @@ module _ (t : Fixed) (size : ℕ) (maximum : Option ℕ) (fill : ℤ) (is : IsFi
 
   -- the messages, with a fill or without
   abbrev fills : Bool → List (ℕ × List ℕ)
-  fills without = if without then [] else (5, fill_body 1 t fill) ∷ []
+  fills without = if without then [] else fill_message t fill ∷ []
 
-  abbrev bodies : Bool → ℕ → List (ℕ × List ℕ)
-  bodies without address = (1, space_body (size ∷ []) (maximum ∷ [])) ∷ (3, type_body t) ∷ (fills without ++ (8, contiguous_body address bytes) ∷ [])
+  abbrev bodies : Bool → Option ℕ → List (ℕ × List ℕ)
+  bodies without address = (1, space_body (size ∷ []) (maximum ∷ [])) ∷ type_message t ∷ (fills without ++ layout_message address bytes ∷ [])
 
   -- ---- they are messages of a content
 
   space_content : IsContentMessage (1, space_body (size ∷ []) (maximum ∷ []))
   space_content = record { plain = record { kind = omega arith; own = refl; padded = (space_padded size maximum).0; low = (space_padded size maximum).1 }; kind = refl }
 
-  type_content : IsContentMessage (3, type_body t)
+  type_content : IsContentMessage (type_message t)
   type_content = record { plain = record { kind = omega arith; own = refl; padded = refl; low = omega arith }; kind = refl }
 
-  fill_content : IsContentMessage (5, fill_body 1 t fill)
+  fill_content : IsContentMessage (fill_message t fill)
   fill_content =
-      let long : length (fill_body 1 t fill) ≡ 16 = length-fill_body 1 t fill (size-high t is) in
+      let long : length (raised (fill_bytes 1 t fill)) ≡ 16
+      = length-raised (fill_bytes 1 t fill) ∙ ap pad8 (length-fill_bytes 1 t fill) ∙ omega (arith, size-low t is, size-high t is) in
       record { plain = record { kind = omega arith; own = refl; padded = ap (λ n. n % 8) long; low = omega arith }; kind = refl }
 
-  layout_content : (address : ℕ) → IsContentMessage (8, contiguous_body address bytes)
+  layout_content : (address : Option ℕ) → IsContentMessage (layout_message address bytes)
   layout_content address = record { plain = record { kind = omega arith; own = refl; padded = refl; low = omega arith }; kind = refl }
 
-  content : (without : Bool) (address : ℕ) → AllByRecursion IsContentMessage (bodies without address)
+  content : (without : Bool) (address : Option ℕ) → AllByRecursion IsContentMessage (bodies without address)
   content true address = (space_content, (type_content, (layout_content address, tt)))
   content false address = (space_content, (type_content, (fill_content, (layout_content address, tt))))
 
   -- ---- which there are
 
-  few_bodies : (without : Bool) (address others : ℕ) → nat_lt 65535 (4 + others) ≡ without → 3 + others ≤ 65535 → length (bodies without address) + others < 65536
+  few_bodies : (without : Bool) (address : Option ℕ) (others : ℕ) → nat_lt 65535 (4 + others) ≡ without → 3 + others ≤ 65535 → length (bodies without address) + others < 65536
   few_bodies true address others e few = omega (arith, few)
   few_bodies false address others e few = grind (arith, nat_tests, e)
 
   module _ (others : List (ℕ × List ℕ)) (all : AllByRecursion (λ (m : ℕ × List ℕ). in_dataset m.0 ≡ true) others) where
-    known : (without : Bool) (address : ℕ) → AllByRecursion (λ (m : ℕ × List ℕ). in_dataset m.0 ≡ true) (bodies without address ++ others)
+    known : (without : Bool) (address : Option ℕ) → AllByRecursion (λ (m : ℕ × List ℕ). in_dataset m.0 ≡ true) (bodies without address ++ others)
     unfolding in_dataset
     known true address = (refl, (refl, (refl, all)))
     known false address = (refl, (refl, (refl, (refl, all))))
 
-  module _ (place address : ℕ) where
+  module _ (place : ℕ) (address : Option ℕ) where
     abbrev ms : Bool → List Message
     ms without = messages_from place (bodies without address)
 
@@ -118,21 +125,21 @@ module _ (t : Fixed) (size : ℕ) (maximum : Option ℕ) (fill : ℤ) (is : IsFi
 
     new_fill_read : (without : Bool) → IsFill (fill_value t) (first_body 5 (ms without)) (new_fill without)
     new_fill_read true = refl
-    new_fill_read false = (fill_value-fill_body 1 t fill is of, refl)
+    new_fill_read false = (fill_back 1 t fill _ (raised (fill_bytes 1 t fill)) is of refl, refl)
 
     chosen : (without : Bool) → (without ≡ true → fill ≡ pos 0) → fill ≡ chosen_fill (new_fill without) None
     chosen true unwritten = unwritten refl
     chosen false unwritten = refl
 
-    layout_found : (without : Bool) → first_body 8 (ms without) ≡ Some (contiguous_body address bytes)
+    layout_found : (without : Bool) → first_body 8 (ms without) ≡ Some (raised (contiguous_bytes address bytes))
     layout_found true = refl
     layout_found false = refl
 
   -- ---- its data
 
   module _ (image : List ℕ) (place : ℕ) (cs : List ℤ) (all : AreOf t cs) (counted : length cs ≡ size) where
-    abbrev address : Bool → ℕ
-    address stored = if stored then place else undefined
+    abbrev address : Bool → Option ℕ
+    address stored = if stored then Some place else None
 
     abbrev stored_bytes : Bool → List ℕ
     stored_bytes stored = if stored then cells_bytes t cs else []
@@ -150,12 +157,17 @@ module _ (t : Fixed) (size : ℕ) (maximum : Option ℕ) (fill : ℤ) (is : IsFi
     long = length-cells_bytes t cs ∙ ap (λ n. n * t.size) as_many
 
     -- as the layout says, there is a block of them or none
-    laid_out : (stored : Bool) → size ≤ 2 ^ 40 → place < 2 ^ 63 → layout_of (size ∷ []) t.size (contiguous_body (address stored) bytes) ≡ Some (InBlock (there stored))
+    laid_out : (stored : Bool) → size ≤ 2 ^ 40 → place < 2 ^ 63 → layout_of (size ∷ []) t.size (raised (contiguous_bytes (address stored) bytes)) ≡ Some (InBlock (there stored))
     laid_out true few low =
         let cells_few : cells (size ∷ []) ≤ 2 ^ 40 = omega (arith, few) in
         let room : cells (size ∷ []) * t.size ≤ 2 ^ 40 * 8 = mul-le-mul cells_few (size-high t is) in
-        layout_of-contiguous_body (size ∷ []) t.size place bytes (omega (arith, low)) (omega (arith, room)) (omega arith)
-    laid_out false few low = layout_of-undefined (size ∷ []) t.size bytes
+        let there : IsAddress (Some place) = λ n e. let same : place ≡ n = cc in omega (arith, low, same) in
+        contiguous_back (Some place) bytes 24 (raised (contiguous_bytes (Some place) bytes)) (size ∷ []) t.size there (omega (arith, room)) refl (omega arith)
+    laid_out false few low =
+        let cells_few : cells (size ∷ []) ≤ 2 ^ 40 = omega (arith, few) in
+        let room : cells (size ∷ []) * t.size ≤ 2 ^ 40 * 8 = mul-le-mul cells_few (size-high t is) in
+        let there : IsAddress None = λ n e. absurd (cc) in
+        contiguous_back None bytes 24 (raised (contiguous_bytes None bytes)) (size ∷ []) t.size there (omega (arith, room)) refl (omega arith)
 
     storage_is : (stored : Bool) → (stored ≡ true → 1 ≤ size) → Contiguous stored ≡ storage_of (size ∷ []) (InBlock (there stored))
     storage_is true filled =
@@ -213,7 +225,7 @@ module _ (t : Fixed) (size : ℕ) (maximum : Option ℕ) (fill : ℤ) (is : IsFi
             old_fills = omega (arith, old);
             fills = omega (arith, new, one_fill (at + 16) (address stored) without);
             space = space_back size maximum (omega (arith, few)) bound;
-            type = fixed_of-type_body t is;
+            type = fixed_back t 16 (raised (datatype_bytes t)) is refl;
             old_fill = None;
             new_fill = new_fill (at + 16) (address stored) without;
             old_filled = subst (λ body. IsFill (old_fill_value t) body None) (sym (found_own 4 refl)) (old_fill_read (at + 16) (address stored) without);
@@ -263,8 +275,8 @@ module _ (t : Fixed) (size : ℕ) (maximum : Option ℕ) (fill : ℤ) (is : IsFi
 -- a header of so many bytes and with this count, and the data, are those of this array, and the header has that count
 abbrev IsRead : List ℕ → FinMap nat_cmp ℕ → ℕ → ℕ → ℕ → ℕ → Object → Dataset → Type 0
 IsRead image table at place count size p d =
-    p.content ≡ Array d → length (counted_header count p d (if is_stored d.storage then place else undefined)) ≡ size
-    → part at size image ≡ counted_header count p d (if is_stored d.storage then place else undefined)
+    p.content ≡ Array d → length (counted_header count p d (if is_stored d.storage then Some place else None)) ≡ size
+    → part at size image ≡ counted_header count p d (if is_stored d.storage then Some place else None)
     → part place (length (data_of d)) image ≡ data_of d
     → HasObject image table at p (block at size ∷ (if is_stored d.storage then block place (length (data_of d)) ∷ [] else []))
     × (reference_count (prefix_at image at) ≡ count)
@@ -302,4 +314,4 @@ module _ (image : List ℕ) (table : FinMap nat_cmp ℕ) (at place count size : 
 pub array_reads : ArrayReads
 array_reads image table at place count p d plain e is most few_links short low stands_at stands =
     any_read image table at place count (header_size p) p plain d is most few_links short low e
-    (array_length count (if is_stored d.storage then place else undefined) p d plain e is) stands_at stands
+    (array_length count (if is_stored d.storage then Some place else None) p d plain e is) stands_at stands

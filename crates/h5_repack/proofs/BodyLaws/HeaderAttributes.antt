@@ -20,10 +20,10 @@ use Rattle.h5_model.specs.Tree.Objects.{Attribute, Attributes}
 use Rattle.h5_model.specs.Format.AttributeBody.{attribute_of}
 use Rattle.h5_model.proofs.PlainMessages.{IsPlain}
 use Rattle.h5_model.proofs.ReachLaws.{halves}
-use Rattle.h5_msg.specs.Written.{attribute_bytes}
+use Rattle.h5_model.specs.Format.Bodies.{attribute_bytes}
 use Rattle.h5_msg.proofs.WordLaws.{words_long}
 use Rattle.h5_msg.proofs.DataspaceLaws.{Small, small_from}
-use Rattle.h5_msg.proofs.CellLaws.{length-value_bytes}
+use Rattle.h5_model.proofs.PlainValues.{length-cells_bytes}
 use Rattle.h5_msg.proofs.AttributeBack.{attribute_back}
 use Rattle.h5_repack.specs.Bodies.Bodies.{attribute_message}
 use Rattle.h5_repack.specs.Bodies.Sound.{IsPlainAttribute}
@@ -59,7 +59,7 @@ all_small (d ∷ ds) all = (omega (arith, all.0), all_small ds all.1)
 pub sizes_small : (sizes : List ℕ) → extent_cells sizes ≤ 2 ^ 40 → Small sizes
 sizes_small sizes few = small_from sizes (all_small sizes (sizes_below sizes (2 ^ 40) few))
 
-all_fit : (t : Fixed) (values : List ℤ) → AreOf t values → list_all (fits t) values ≡ true
+pub all_fit : (t : Fixed) (values : List ℤ) → AreOf t values → list_all (fits t) values ≡ true
 all_fit t [] all = refl
 all_fit t (v ∷ vs) all = rw (all.0, all_fit t vs all.1) refl
 
@@ -72,7 +72,7 @@ length-attribute_bytes name sizes t values n count room =
     let product : length values * t.size ≡ cells sizes * t.size = ap (λ (k : ℕ). k * t.size) count in
     let zeros_long : length (replicate {A = ℕ} (n - attribute_size (length name) sizes t.size) 0) ≡ n - attribute_size (length name) sizes t.size = length-replicate {A = ℕ} _ 0 in
     let pad_long : length (replicate {A = ℕ} (pad8 (length name + 1) - length name) 0) ≡ pad8 (length name + 1) - length name = length-replicate {A = ℕ} _ 0 in
-    simp length-append (omega (arith, zeros_long, pad_long, product, words_long sizes, length-value_bytes t values))
+    simp length-append (omega (arith, zeros_long, pad_long, product, words_long sizes, length-cells_bytes t values))
 
 module _ (name : List ℕ) (a : Attribute) (is : IsPlainAttribute (name, a)) where
   abbrev size : ℕ

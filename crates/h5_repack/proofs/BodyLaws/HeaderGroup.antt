@@ -11,8 +11,8 @@ use Rattle.h5_bytes.specs.declared.Block.{Block}
 use Rattle.h5_model.specs.Format.Addresses.{symbol_table_of}
 use Rattle.h5_model.specs.Format.Links.{HasLinks}
 use Rattle.h5_model.specs.Format.Messages.{Message, HasMessages, prefix_at, reference_count}
-use Rattle.h5_bytes.specs.Numbers.{word}
-use Rattle.h5_model.specs.Format.Plain.{messages_bytes, symbol_table_body}
+use Rattle.h5_model.specs.Format.Bodies.{pair_bytes}
+use Rattle.h5_model.specs.Format.Plain.{messages_bytes}
 use Rattle.h5_model.specs.Format.Reads.{HasObject, HasContent, HasGroup, InGroup, IsSame}
 use Rattle.h5_model.specs.Format.Sizes.{header_size}
 use Rattle.h5_model.specs.Format.Superblock.{leaf_k, internal_k}
@@ -26,11 +26,11 @@ use Rattle.h5_repack.specs.Bodies.Sound.{IsPlainObject}
 use Rattle.h5_repack.proofs.BodyLaws.HeaderOthers.{IsContentMessage, is_other_kind, is_kept_kind, each_message, others_pass, all_plain, has_attributes, has_kept, count_of-content, length-others}
 
 -- a Symbol Table is read back
-pub symbol_table_back : (tree heap : ℕ) → tree < 2 ^ 64 → heap < 2 ^ 64 → symbol_table_of (symbol_table_body tree heap) ≡ Some (record { tree = tree; heap = heap })
+pub symbol_table_back : (tree heap : ℕ) → tree < 2 ^ 64 → heap < 2 ^ 64 → symbol_table_of (pair_bytes tree heap) ≡ Some (record { tree = tree; heap = heap })
 unfolding symbol_table_of
 symbol_table_back tree heap tree_low heap_low =
-    let first : number_at (word tree ++ word heap) 0 8 ≡ tree = first_back tree heap 16 (word tree ++ word heap) tree_low refl in
-    let second : number_at (word tree ++ word heap) 8 8 ≡ heap = second_back tree heap 16 (word tree ++ word heap) heap_low refl in
+    let first : number_at (pair_bytes tree heap) 0 8 ≡ tree = first_back tree heap 16 (pair_bytes tree heap) tree_low refl in
+    let second : number_at (pair_bytes tree heap) 8 8 ≡ heap = second_back tree heap 16 (pair_bytes tree heap) heap_low refl in
     λ i. Some (record { tree = first i; heap = second i })
 
 -- a prefix of 16 bytes, a Symbol Table of 24, and the other messages
@@ -52,7 +52,7 @@ other_in_group kind is = grind (arith, nat_tests)
 module _ (image : List ℕ) (table : FinMap nat_cmp ℕ) (at leaf internal tree heap : ℕ) (o : Object) (links : Links) (found : List (List ℕ × Target)) (blocks : List Block)
     (plain : IsPlainObject o) where
   abbrev cs : List (ℕ × List ℕ)
-  cs = (17, symbol_table_body tree heap) ∷ []
+  cs = (17, pair_bytes tree heap) ∷ []
 
   abbrev ms : List Message
   ms = messages_from (at + 16) (cs ++ others_of o)

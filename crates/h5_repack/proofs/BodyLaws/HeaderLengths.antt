@@ -2,13 +2,16 @@
 -- IV.A.2).
 use Rattle.std.proofs.Common.{◌≡◌, ℕ, ◌+◌, ◌*◌, List, [], ◌∷◌, ◌++◌, length, refl, sym, ap, ◌∙◌, subst, arith, Bool, true, false, not, Option, ℤ}
 use Rattle.std.specs.Prelude.{nat_lt, if◌then◌else◌}
-use Rattle.h5_model.specs.Format.Fixed.{Fixed, IsFixed}
+use Rattle.h5_bytes.specs.Texts.{pad8}
+use Rattle.h5_model.specs.Format.Bodies.{fill_bytes}
+use Rattle.h5_model.specs.Format.Fixed.{Fixed}
 use Rattle.h5_model.specs.Tree.Places.{cells}
-use Rattle.h5_model.specs.Format.Plain.{header_bytes, messages_bytes, type_body, fill_body, contiguous_body}
+use Rattle.h5_model.specs.Format.Plain.{header_bytes, messages_bytes}
 use Rattle.h5_model.specs.Format.Sizes.{array_messages as messages_size, message_size}
 use Rattle.h5_model.specs.Tree.Objects.{Dataset, Contiguous, are_sizes}
-use Rattle.h5_model.proofs.PlainValues.{size-low, size-high, length-fill_body}
-use Rattle.h5_repack.specs.Bodies.Bodies.{others_of, space_body, fill_messages, array_messages}
+use Rattle.h5_msg.proofs.PaddedLaws.{length-raised}
+use Rattle.h5_msg.proofs.FillLaws.{length-fill_bytes}
+use Rattle.h5_repack.specs.Bodies.Bodies.{others_of, space_body, type_message, fill_message, fill_messages, layout_message, array_messages}
 use Rattle.h5_repack.specs.Bodies.Laws.{ArrayLength}
 use Rattle.h5_repack.specs.Bodies.Sound.{IsPlainArray}
 use Rattle.h5_repack.proofs.BodyLaws.HeaderOthers.{one_more, length-messages, length-others, count-others}
@@ -16,28 +19,28 @@ use Rattle.h5_repack.proofs.BodyLaws.HeaderSpace.{length-space_body}
 
 -- ---- any array
 
-abbrev layout_message : Dataset → ℕ → ℕ × List ℕ
-layout_message d address = (8, contiguous_body address (cells d.sizes * (d.fixed).size))
+abbrev laid_message : Dataset → Option ℕ → ℕ × List ℕ
+laid_message d address = layout_message address (cells d.sizes * (d.fixed).size)
 
 -- the bytes of the messages of an array, one of which has an address
-length-array_messages : (d : Dataset) (address others : ℕ) → length (messages_bytes (array_messages d address others))
-    ≡ 8 + length (space_body d.sizes d.maxima) + (24 + (length (messages_bytes (fill_messages d others)) + 32))
+length-array_messages : (d : Dataset) (address : Option ℕ) (others : ℕ) → length (messages_bytes (array_messages d address others))
+    ≡ 8 + length (space_body d.sizes d.maxima) + (24 + (length (messages_bytes (fill_messages d.fixed d.fill others)) + 32))
 length-array_messages d address others =
-    let behind = length-messages (fill_messages d others) (layout_message d address ∷ []) in
-    let last : length (messages_bytes (layout_message d address ∷ [])) ≡ 32 = refl in
-    let rest : length (messages_bytes (fill_messages d others ++ layout_message d address ∷ [])) ≡ length (messages_bytes (fill_messages d others)) + 32
+    let behind = length-messages (fill_messages d.fixed d.fill others) (laid_message d address ∷ []) in
+    let last : length (messages_bytes (laid_message d address ∷ [])) ≡ 32 = refl in
+    let rest : length (messages_bytes (fill_messages d.fixed d.fill others ++ laid_message d address ∷ [])) ≡ length (messages_bytes (fill_messages d.fixed d.fill others)) + 32
     = omega (arith, behind, last) in
-    let typed = one_more (3, type_body d.fixed) (fill_messages d others ++ layout_message d address ∷ []) 16 _ refl rest in
-    one_more (1, space_body d.sizes d.maxima) ((3, type_body d.fixed) ∷ (fill_messages d others ++ layout_message d address ∷ []))
+    let typed = one_more (type_message d.fixed) (fill_messages d.fixed d.fill others ++ laid_message d address ∷ []) 16 _ refl rest in
+    one_more (1, space_body d.sizes d.maxima) (type_message d.fixed ∷ (fill_messages d.fixed d.fill others ++ laid_message d address ∷ []))
     (length (space_body d.sizes d.maxima)) _ refl typed
 
 -- the header of an array with these messages besides, with such a count
-abbrev header_of : ℕ → Dataset → List (ℕ × List ℕ) → ℕ → List ℕ
+abbrev header_of : ℕ → Dataset → List (ℕ × List ℕ) → Option ℕ → List ℕ
 header_of count d others address = header_bytes count (array_messages d address (length others) ++ others)
 
 -- a count has four bytes, and an address has eight
-length-header_of : (count : ℕ) (d : Dataset) (others : List (ℕ × List ℕ)) (address : ℕ) → length (header_of count d others address)
-    ≡ 16 + (8 + length (space_body d.sizes d.maxima) + (24 + (length (messages_bytes (fill_messages d (length others))) + 32))) + length (messages_bytes others)
+length-header_of : (count : ℕ) (d : Dataset) (others : List (ℕ × List ℕ)) (address : Option ℕ) → length (header_of count d others address)
+    ≡ 16 + (8 + length (space_body d.sizes d.maxima) + (24 + (length (messages_bytes (fill_messages d.fixed d.fill (length others))) + 32))) + length (messages_bytes others)
 length-header_of count d others address =
     let both = length-messages (array_messages d address (length others)) others in
     let content = length-array_messages d address (length others) in
@@ -54,30 +57,30 @@ line_is d others is = λ i. record { fixed = d.fixed; sizes = is.sizes_are i; ma
 
 -- the bytes that are counted for the messages of an array
 abbrev IsCounted : ℕ → Dataset → Type 0
-IsCounted others d = 8 + length (space_body d.sizes d.maxima) + (24 + (length (messages_bytes (fill_messages d others)) + 32))
+IsCounted others d = 8 + length (space_body d.sizes d.maxima) + (24 + (length (messages_bytes (fill_messages d.fixed d.fill others)) + 32))
     ≡ messages_size others d.sizes d.maxima d.storage (d.fixed).size
 
 extent_counted : (b : Bool) → 8 + (16 + (if b then 8 else 0)) ≡ message_size (16 + (if b then 8 else 0))
 extent_counted true = refl
 extent_counted false = refl
 
-fill_counted : (t : Fixed) (fill : ℤ) (w : Bool) → IsFixed t → length (messages_bytes (if w then [] else (5, fill_body 1 t fill) ∷ [])) ≡ (if w then 0 else message_size (8 + t.size))
-fill_counted t fill true is = refl
-fill_counted t fill false is =
-    one_more (5, fill_body 1 t fill) [] 16 0 (length-fill_body 1 t fill (size-high t is)) refl ∙ omega (arith, size-low t is, size-high t is)
+fill_counted : (t : Fixed) (fill : ℤ) (w : Bool) → length (messages_bytes (if w then [] else fill_message t fill ∷ [])) ≡ (if w then 0 else message_size (8 + t.size))
+fill_counted t fill true = refl
+fill_counted t fill false =
+    one_more (fill_message t fill) [] (pad8 (8 + t.size)) 0 (length-raised (fill_bytes 1 t fill) ∙ ap pad8 (length-fill_bytes 1 t fill)) refl ∙ omega arith
 
-line_counted : (others : ℕ) (t : Fixed) (size : ℕ) (maximum : Option ℕ) (stored : Bool) (fill : ℤ) (cs : List ℤ) → IsFixed t → IsCounted others (line t size maximum stored fill cs)
-line_counted others t size maximum stored fill cs is =
+line_counted : (others : ℕ) (t : Fixed) (size : ℕ) (maximum : Option ℕ) (stored : Bool) (fill : ℤ) (cs : List ℤ) → IsCounted others (line t size maximum stored fill cs)
+line_counted others t size maximum stored fill cs =
     let space = length-space_body size maximum in
     let extent = extent_counted (not (are_sizes (size ∷ []) (maximum ∷ []))) in
-    let fills = fill_counted t fill (nat_lt 65535 (4 + others)) is in
+    let fills = fill_counted t fill (nat_lt 65535 (4 + others)) in
     omega (arith, space, extent, fills)
 
 -- the header's length is the one that is counted
 pub array_length : ArrayLength
 array_length count address p d plain e is =
     let counted : IsCounted (length (others_of p)) d = subst (IsCounted (length (others_of p))) (sym (line_is d (length (others_of p)) is))
-    (line_counted (length (others_of p)) d.fixed is.size is.maximum is.stored d.fill d.cells is.fixed) in
+    (line_counted (length (others_of p)) d.fixed is.size is.maximum is.stored d.fill d.cells) in
     let many = ap (λ k. messages_size k d.sizes d.maxima d.storage (d.fixed).size) (count-others p plain) in
     let own = length-header_of count d (others_of p) address in
     let sum = length-others p plain in

@@ -1,5 +1,6 @@
 -- An array that is handed over to be written, the messages behind its own, and the dataset that it stands for.
 use Rattle.std.specs.Prelude.{◌≡◌, ℕ, ◌+◌, ◌*◌, ◌^◌, ◌≤◌, true, false, nat_lt, List, [], ◌∷◌, length, replicate}
+use Rattle.h5_model.specs.Edits.Refusal.{are_maxima}
 use Rattle.h5_model.specs.Format.Fixed.{fits}
 use Rattle.h5_model.specs.Format.Plain.{messages_bytes, cells_bytes}
 use Rattle.h5_model.specs.Tree.Objects.{Dataset, Contiguous}
@@ -38,4 +39,5 @@ pub record IsWritable (a : Array) : Type 0 where
   pub size : a.size ≤ 2 ^ 40
   pub of_type : fits a.fixed a.fill ≡ true
   pub cells : HasRoom a.cells a.size (a.fixed).size
+  pub bounded : are_maxima (a.size ∷ []) (a.maximum ∷ []) ≡ true
   pub few : a.others.now.count + 3 ≤ 65535

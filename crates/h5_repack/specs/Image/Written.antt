@@ -1,12 +1,12 @@
 -- The plain image of a tree: the superblock, and then its objects in some order, the root first, each with what belongs to it, without
 -- gaps (File Format Specification 3.0, sections II.A, III and IV.A).
-use Rattle.std.specs.Prelude.{◌≡◌, ℕ, ◌+◌, ◌*◌, if◌then◌else◌, Some, List, [], ◌∷◌, ◌++◌, map, length}
+use Rattle.std.specs.Prelude.{◌≡◌, ℕ, ◌+◌, ◌*◌, if◌then◌else◌, Option, Some, None, List, [], ◌∷◌, ◌++◌, map, length}
 use Rattle.std.specs.Ordering.{nat_cmp, eq_by_cmp}
 use Rattle.std.specs.FinMap.{FinMap, get, entries, len, from_entries}
 use Rattle.std.specs.List.{flat_map, Contains, IsDistinct}
 use Rattle.std.specs.Option.{option_map_or}
-use Rattle.h5_bytes.specs.Bytes.{undefined}
-use Rattle.h5_model.specs.Format.Plain.{superblock_bytes, header_bytes, symbol_table_body}
+use Rattle.h5_model.specs.Format.Bodies.{pair_bytes}
+use Rattle.h5_model.specs.Format.Plain.{superblock_bytes, header_bytes}
 use Rattle.h5_model.specs.Format.PlainLength.{content_bytes, nodes_over, rows_of}
 use Rattle.h5_model.specs.Format.Sizes.{group_node, header_size}
 use Rattle.h5_model.specs.Tree.Objects.{Tree, Object, Content, Group, Array, Dataset, Link, Links, ToObject, Soft, hard_links}
@@ -77,15 +77,15 @@ abbrev pub written_links : ℕ → ℕ → Tree → FinMap nat_cmp ℕ → Links
 written_links leaf internal tree table links = map (written_link leaf internal tree table) (entries links)
 
 -- data that are not stored stand nowhere
-abbrev pub data_address : Dataset → ℕ → ℕ
-data_address d place = if is_stored d.storage then place else undefined
+abbrev pub data_address : Dataset → ℕ → Option ℕ
+data_address d place = if is_stored d.storage then Some place else None
 
 -- an object whose header stands there: a header of one block with as many links as there are, and what belongs to it
 abbrev pub object_bytes : ℕ → ℕ → Tree → FinMap nat_cmp ℕ → ℕ × Object → List ℕ
 object_bytes leaf internal tree table (number, o) = by_content o.content where
   by_content : Content → List ℕ
   by_content (Group links) =
-      header_bytes 1 ((17, symbol_table_body (content_place o (header_in table number)) (heap_place leaf internal o links (header_in table number))) ∷ others_of o)
+      header_bytes 1 ((17, pair_bytes (content_place o (header_in table number)) (heap_place leaf internal o links (header_in table number))) ∷ others_of o)
       ++ links_bytes leaf internal (content_place o (header_in table number)) (written_links leaf internal tree table links)
   by_content (Array d) =
       header_bytes (hard_links tree number)

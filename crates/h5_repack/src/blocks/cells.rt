@@ -1,6 +1,5 @@
 //! The bytes of cells (File Format Specification 3.0, section IV.A.2.d, class 0), and where they stand.
-ghost use Rattle.std.specs.Prelude.{◌≡◌, ◌-◌, ◌^◌, ◌==◌, ◌≤◌, ◌++◌, OnOk, true, if◌then◌else◌, length, replicate};
-ghost use Rattle.h5_bytes.specs.Bytes.{undefined};
+ghost use Rattle.std.specs.Prelude.{◌≡◌, ◌-◌, ◌^◌, ◌==◌, ◌≤◌, ◌++◌, OnOk, true, if◌then◌else◌, None, Some, length, replicate};
 ghost use Rattle.h5_model.specs.Format.Fixed.{bytes_of, fits};
 ghost use Rattle.h5_bytes.specs.Numbers.{zeros};
 ghost use Rattle.h5_model.specs.Format.Plain.{cells_bytes};
@@ -9,7 +8,7 @@ ghost use Rattle.h5_repack.specs.Blocks.Parts.{copies};
 ghost use Rattle.h5_repack.specs.Blocks.Written.{IsWritable};
 
 use crate::blocks::array::{Array, Cells};
-use h5_bytes::{UNDEF, push_bytes};
+use h5_bytes::push_bytes;
 use h5_model::Fixed;
 use h5_types::encode;
 use std::alloc::{AllocError, Global};
@@ -18,7 +17,7 @@ use std::alloc::{AllocError, Global};
 const TILE: u64 = 1024;
 
 /// The bytes of a value of the type, and zeros behind them.
-pub(crate) fn value_bytes(fixed: &Fixed, value: i128) -> [u8; 8]
+fn value_bytes(fixed: &Fixed, value: i128) -> [u8; 8]
     requires { fits fixed.now value ≡ true }
     ensures { result ≡ bytes_of fixed.now value ++ zeros (8 - fixed.now.size) }
 {
@@ -73,20 +72,20 @@ pub fn data_length(array: &Array<'_>) -> u64
 }
 
 /// The address of the data of so many cells, which begin at a place where there are any.
-fn data_address(place: u64, cells: u64) -> u64
-    ensures { result ≡ (if cells == 0 then undefined else place) }
+fn data_address(place: u64, cells: u64) -> Option<u64>
+    ensures { result ≡ (if cells == 0 then None else Some place) }
 {
-    if cells == 0 { UNDEF } else { place }
+    if cells == 0 { None } else { Some(place) }
 }
 
-/// The address of an array's data, which begin at this place where there are any, and are undefined where there are none.
-pub fn cells_address(array: &Array<'_>, place: u64) -> u64
+/// The address of an array's data, which begin at this place where there are any.
+pub fn cells_address(array: &Array<'_>, place: u64) -> Option<u64>
     ensures { result ≡ address_written array.now.cells array.now.size place }
 {
     match array.cells {
-        Cells::Unset => UNDEF,
+        Cells::Unset => None,
         Cells::Filled => data_address(place, array.size),
-        Cells::Stored(_) => place,
+        Cells::Stored(_) => Some(place),
     }
 }
 

@@ -1,21 +1,29 @@
 //! Object headers, version 1, in one block, and the messages of a group and of an array (File Format Specification 3.0,
 //! section IV.A).
-ghost use Rattle.std.specs.Prelude.{◌≡◌, ℕ, ◌+◌, ◌*◌, ◌^◌, ◌≤◌, ◌++◌, [], ◌∷◌, OnOk, true, length, nat_lt, not};
-ghost use Rattle.h5_bytes.specs.Numbers.{word};
-ghost use Rattle.h5_model.specs.Format.Plain.{extent_body, type_body, fill_body, contiguous_body, class_bits, message_bytes, messages_bytes};
+ghost use Rattle.std.specs.Prelude.{◌≡◌, ℕ, ◌+◌, ◌-◌, ◌*◌, ◌^◌, ◌<◌, ◌≤◌, ◌++◌, [], ◌∷◌, IfOk, OnOk, Option, true, length, nat_lt, not};
+ghost use Rattle.std.specs.Option.{ForSome};
+ghost use Rattle.h5_bytes.specs.Texts.{pad8};
+ghost use Rattle.h5_model.specs.Edits.Refusal.{are_maxima};
+ghost use Rattle.h5_model.specs.Format.Bodies.{pair_bytes};
 ghost use Rattle.h5_model.specs.Format.Fixed.{fits};
+ghost use Rattle.h5_model.specs.Format.Plain.{message_bytes, messages_bytes};
+ghost use Rattle.h5_model.specs.Format.Sizes.{message_size};
 ghost use Rattle.h5_model.specs.Tree.Objects.{are_sizes};
-ghost use Rattle.h5_repack.specs.Bodies.Bodies.{maximum_word, space_body};
-ghost use Rattle.h5_repack.specs.Blocks.ArrayHeader.{fill_list, group_written, header_written, messages_count as count_of, messages_size as size_of};
-ghost use Rattle.h5_repack.specs.Blocks.Parts.{prefix_bytes, message_head};
+ghost use Rattle.h5_repack.specs.Bodies.Bodies.{fill_message, fill_messages, layout_message, space_body, type_message};
+ghost use Rattle.h5_repack.specs.Blocks.ArrayHeader.{group_written, header_written, messages_count as count_of, messages_size as size_of};
+ghost use Rattle.h5_repack.specs.Blocks.Parts.{message_head, message_room, prefix_bytes};
 ghost use Rattle.h5_repack.specs.Blocks.Written.{IsWritable};
 
 use crate::blocks::array::Array;
-use crate::blocks::cells::value_bytes;
 use crate::blocks::others::Others;
-use h5_bytes::{UNDEF, push_bytes, push_middle, push_short, push_word, push_zeros};
+use h5_bytes::{push_bytes, push_middle, push_short, push_zeros};
 use h5_model::Fixed;
 use h5_model::message_type::{DATA_LAYOUT, DATASPACE, DATATYPE, FILL_VALUE, SYMBOL_TABLE};
+use h5_msg::{
+    AllocationTime, CONTIGUOUS_LENGTH, DATATYPE_LENGTH, SYMBOL_TABLE_LENGTH, SymbolTable,
+    dataspace_length, fill_length, write_bounded_dataspace, write_contiguous_layout,
+    write_dataspace, write_datatype, write_fill, write_symbol_table,
+};
 use std::alloc::AllocError;
 
 /// The prefix of a header: its count of messages, its reference count and the bytes of its messages.
@@ -45,59 +53,76 @@ pub(crate) fn push_message_head(out: &mut Vec<u8>, kind: u16, size: u16) -> Resu
     Ok(())
 }
 
-/// A dataspace message's body: sizes that are their own maxima.
-pub(crate) fn push_extent(out: &mut Vec<u8>, sizes: &[u64]) -> Result<(), AllocError>
-    requires { length sizes.now ≤ 32 }
-    ensures { OnOk result (out.new.items ≡ out.old.items ++ extent_body sizes.now) }
+/// How many bytes a body of so many has in a message: a multiple of 8.
+fn body_length(size: usize) -> usize
+    requires { size ≤ 65528 }
+    ensures value { result ≡ pad8 size }
+    ensures few { result ≤ 65528 }
 {
-    push_bytes(out, &[1, sizes.len() as u8, 0])?;
-    push_zeros(out, 5)?;
-    for size in sizes {
-        push_word(out, *size)?;
-    }
+    (size + 7) / 8 * 8
+}
+
+/// How many bytes a message has with a body of so many.
+fn message_length(size: usize) -> u64
+    requires { size ≤ 65528 }
+    ensures { result ≡ message_size size }
+{
+    8 + body_length(size) as u64
+}
+
+/// What stands before a message's body of so many bytes, and zeros for the body, raised to a multiple of 8. `Ok` has the place of
+/// the body.
+pub(crate) fn push_message_room(
+    out: &mut Vec<u8>,
+    kind: u16,
+    size: usize,
+) -> Result<usize, AllocError>
+    requires { size ≤ 65528 }
+    ensures room { OnOk result (out.new.items ≡ out.old.items ++ message_room kind size) }
+    ensures place { IfOk result (λ at. at ≡ length out.old.items + 8) }
+{
+    let length = body_length(size);
+    push_message_head(out, kind, length as u16)?;
+    let at = out.len();
+    push_zeros(out, length)?;
+    Ok(at)
+}
+
+/// The message with the addresses of a group's tree and heap.
+fn push_symbol_table(out: &mut Vec<u8>, tree: u64, heap: u64) -> Result<(), AllocError>
+    ensures { OnOk result (out.new.items ≡ out.old.items ++ message_bytes (17, pair_bytes tree heap)) }
+{
+    let at = push_message_room(out, SYMBOL_TABLE, SYMBOL_TABLE_LENGTH)?;
+    write_symbol_table(SymbolTable::new(tree, heap), &mut out[at..]);
     Ok(())
 }
 
-/// The class bits of a fixed-point type: its byte order, and whether it is signed.
-fn type_bits(fixed: &Fixed) -> u8
-    ensures { result ≡ class_bits fixed.now }
+/// The datatype message of an array.
+fn push_type(out: &mut Vec<u8>, fixed: &Fixed) -> Result<(), AllocError>
+    ensures { OnOk result (out.new.items ≡ out.old.items ++ message_bytes (type_message fixed.now)) }
 {
-    let order = if fixed.is_big() { 1 } else { 0 };
-    let sign = if fixed.is_signed() { 8 } else { 0 };
-    order + sign
-}
-
-/// A datatype message's body.
-pub(crate) fn push_type(out: &mut Vec<u8>, fixed: &Fixed) -> Result<(), AllocError>
-    ensures { OnOk result (out.new.items ≡ out.old.items ++ type_body fixed.now) }
-{
-    push_bytes(out, &[16, type_bits(fixed), 0, 0])?;
-    push_middle(out, fixed.size() as u32)?;
-    push_short(out, 0)?;
-    push_short(out, 8 * fixed.size() as u16)?;
-    push_zeros(out, 4)?;
+    let at = push_message_room(out, DATATYPE, DATATYPE_LENGTH)?;
+    write_datatype(fixed, &mut out[at..]);
     Ok(())
 }
 
-/// A fill value message's body, for space that is made at this time: 1 with the array, 3 with each chunk.
-fn push_fill(out: &mut Vec<u8>, time: u8, fixed: &Fixed, fill: i128) -> Result<(), AllocError>
+/// The fill value message of an array whose space is made with it.
+fn push_fill(out: &mut Vec<u8>, fixed: &Fixed, fill: i128) -> Result<(), AllocError>
     requires { fits fixed.now fill ≡ true }
-    ensures { OnOk result (out.new.items ≡ out.old.items ++ fill_body time fixed.now fill) }
+    ensures { OnOk result (out.new.items ≡ out.old.items ++ message_bytes (fill_message fixed.now fill)) }
 {
-    push_bytes(out, &[2, time, 2, 1])?;
-    push_middle(out, fixed.size() as u32)?;
-    push_bytes(out, &value_bytes(fixed, fill))?;
+    let at = push_message_room(out, FILL_VALUE, fill_length(fixed))?;
+    write_fill(AllocationTime::Early, fixed, fill, &mut out[at..]);
     Ok(())
 }
 
-/// A layout message's body, of a contiguous block of this size.
-fn push_contiguous(out: &mut Vec<u8>, address: u64, size: u64) -> Result<(), AllocError>
-    ensures { OnOk result (out.new.items ≡ out.old.items ++ contiguous_body address size) }
+/// The layout message of so many bytes of data in one block at this address, or nowhere.
+fn push_layout(out: &mut Vec<u8>, address: Option<u64>, len: u64) -> Result<(), AllocError>
+    requires { ForSome address (λ at. at < 2 ^ 64 - 1) }
+    ensures { OnOk result (out.new.items ≡ out.old.items ++ message_bytes (layout_message address len)) }
 {
-    push_bytes(out, &[3, 1])?;
-    push_word(out, address)?;
-    push_word(out, size)?;
-    push_zeros(out, 6)?;
+    let at = push_message_room(out, DATA_LAYOUT, CONTIGUOUS_LENGTH)?;
+    write_contiguous_layout(address, len, &mut out[at..]);
     Ok(())
 }
 
@@ -126,9 +151,7 @@ pub fn push_group_header(
 {
     let bytes = others.bytes();
     push_prefix(out, 1 + others.count() as u16, 1, 24 + bytes.len() as u32)?;
-    push_message_head(out, SYMBOL_TABLE, 16)?;
-    push_word(out, tree)?;
-    push_word(out, heap)?;
+    push_symbol_table(out, tree, heap)?;
     push_bytes(out, bytes)?;
     Ok(())
 }
@@ -155,31 +178,19 @@ fn space_length(size: u64, maximum: Option<u64>) -> u64
     }
 }
 
-/// A maximum as it is written: all ones where it is unlimited.
-fn written_maximum(maximum: Option<u64>) -> u64
-    ensures { word result ≡ maximum_word maximum }
-{
-    match maximum {
-        Some(maximum) => maximum,
-        None => UNDEF,
-    }
-}
-
 /// The dataspace message of an array, with the maximum where it differs from the size.
 fn push_space(out: &mut Vec<u8>, size: u64, maximum: Option<u64>) -> Result<(), AllocError>
+    requires { are_maxima (size ∷ []) (maximum ∷ []) ≡ true }
     ensures { OnOk result
         (out.new.items ≡ out.old.items ++ message_bytes (1, space_body (size ∷ []) (maximum ∷ []))) }
 {
     if is_own_maximum(size, maximum) {
-        push_message_head(out, DATASPACE, 16)?;
-        push_extent(out, &[size])?;
-        return Ok(());
+        let at = push_message_room(out, DATASPACE, dataspace_length(1, false))?;
+        write_dataspace(&[size], &mut out[at..]);
+    } else {
+        let at = push_message_room(out, DATASPACE, dataspace_length(1, true))?;
+        write_bounded_dataspace(&[size], &[maximum], &mut out[at..]);
     }
-    push_message_head(out, DATASPACE, 24)?;
-    push_bytes(out, &[1, 1, 1])?;
-    push_zeros(out, 5)?;
-    push_word(out, size)?;
-    push_word(out, written_maximum(maximum))?;
     Ok(())
 }
 
@@ -192,13 +203,16 @@ fn has_fill(others: &Others) -> bool
 }
 
 /// How many bytes the fill value message of an array has, where there is one.
-fn fill_length(fixed: &Fixed, fill: i128, others: &Others) -> u64
+fn fill_message_length(fixed: &Fixed, fill: i128, others: &Others) -> u64
     requires { others.now.count ≤ 65535 }
-    ensures exact { result ≡ length (messages_bytes (fill_list fixed.now fill others.now.count)) }
+    ensures exact { result ≡ length (messages_bytes (fill_messages fixed.now fill others.now.count)) }
     ensures few { result ≤ 24 }
 {
-    let _size = fixed.size();
-    if has_fill(others) { 24 } else { 0 }
+    if has_fill(others) {
+        message_length(fill_length(fixed))
+    } else {
+        0
+    }
 }
 
 /// The fill value message of an array, where there is one.
@@ -211,21 +225,18 @@ fn push_fill_message(
     requires few { others.now.count ≤ 65535 }
     requires of_type { fits fixed.now fill ≡ true }
     ensures { OnOk result
-        (out.new.items ≡ out.old.items ++ messages_bytes (fill_list fixed.now fill others.now.count)) }
+        (out.new.items ≡ out.old.items ++ messages_bytes (fill_messages fixed.now fill others.now.count)) }
 {
-    let _size = fixed.size();
     if !has_fill(others) {
         return Ok(());
     }
-    push_message_head(out, FILL_VALUE, 16)?;
-    push_fill(out, 1, fixed, fill)?;
-    Ok(())
+    push_fill(out, fixed, fill)
 }
 
 /// How many messages an array's header has.
 fn messages_count(array: &Array<'_>) -> u16
     requires { array.now.others.now.count + 3 ≤ 65535 }
-    ensures { (address : ℕ) → result ≡ count_of array.now address }
+    ensures { (address : Option ℕ) → result ≡ count_of array.now address }
 {
     let others = array.others.count() as u16;
     if has_fill(array.others) {
@@ -238,36 +249,37 @@ fn messages_count(array: &Array<'_>) -> u16
 /// How many bytes these have.
 fn messages_size(array: &Array<'_>) -> u64
     requires { array.now.others.now.count + 3 ≤ 65535 }
-    ensures exact { (address : ℕ) → result ≡ size_of array.now address }
+    ensures exact { (address : Option ℕ) → result ≡ size_of array.now address }
     ensures few { result + 16 ≤ 2 ^ 33 }
     ensures added { result ≤ length array.now.others.now.bytes + 112 }
 {
     let others = array.others.bytes().len() as u64;
     let space = space_length(array.size, array.maximum);
-    let fill = fill_length(&array.fixed, array.fill, array.others);
+    let fill = fill_message_length(&array.fixed, array.fill, array.others);
     space + 24 + fill + 32 + others
 }
 
 /// How many bytes an array's header has, its prefix with them.
 pub fn array_header_length(array: &Array<'_>) -> u64
     requires { array.now.others.now.count + 3 ≤ 65535 }
-    ensures exact { (count address : ℕ) → result ≡ length (header_written count array.now address) }
+    ensures exact { (count : ℕ) (address : Option ℕ) → result ≡ length (header_written count array.now address) }
     ensures few { result ≤ 2 ^ 33 }
     ensures holds { length array.now.others.now.bytes ≤ result }
 {
     16 + messages_size(array)
 }
 
-/// The header of an array to which so many links lead and whose data stand at this address.
+/// The header of an array to which so many links lead and whose data stand at this address, or nowhere.
 ///
 /// How long its other messages may be can be told by `array_header_length`; `cells_address` gives the address.
 pub fn push_array_header(
     out: &mut Vec<u8>,
     array: &Array<'_>,
-    address: u64,
+    address: Option<u64>,
     references: u32,
 ) -> Result<(), AllocError>
     requires writable { IsWritable array.now }
+    requires address { ForSome address (λ at. at < 2 ^ 64 - 1) }
     requires low { length array.now.others.now.bytes ≤ 2 ^ 31 }
     ensures { OnOk result (out.new.items ≡ out.old.items ++ header_written references array.now address) }
 {
@@ -278,11 +290,9 @@ pub fn push_array_header(
         messages_size(array) as u32,
     )?;
     push_space(out, array.size, array.maximum)?;
-    push_message_head(out, DATATYPE, 16)?;
     push_type(out, &array.fixed)?;
     push_fill_message(out, &array.fixed, array.fill, array.others)?;
-    push_message_head(out, DATA_LAYOUT, 24)?;
-    push_contiguous(out, address, array.size * array.fixed.size() as u64)?;
+    push_layout(out, address, array.size * array.fixed.size() as u64)?;
     push_bytes(out, array.others.bytes())?;
     Ok(())
 }

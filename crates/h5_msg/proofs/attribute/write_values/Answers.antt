@@ -2,7 +2,7 @@ use Rattle.std.proofs.Common.{rules, ◌≡◌, ◌+◌, ◌-◌, ◌*◌, ℕ, 
 use mir.Syntax.{w128}
 use borrow.Rule.Slice.PartMut.{put_mid}
 use Rattle.h5_model.specs.Format.Fixed.{bytes_of, fits}
-use Rattle.h5_msg.specs.Written.{value_bytes}
+use Rattle.h5_model.specs.Format.Plain.{cells_bytes}
 use Rattle.h5_msg.proofs.AttributeLaws.{cell_room}
 use Rattle.h5_msg.proofs.CellLaws.{all_at, one_more, all_written}
 use Rattle.h5_msg.proofs.attribute.write_values.Goals as goal
@@ -22,14 +22,14 @@ loop-k-preserved c =
     let place : c.loop-k.k * c.size-size.result ≡ c.loop-k.k * c.args.fixed.now.size = ap (λ (n : ℕ). c.loop-k.k * n) same in
     let last : (c.loop-k.k + 1) * c.args.fixed.now.size ≡ (c.loop-k.k + 1) * c.size-size.result = ap (λ (n : ℕ). (c.loop-k.k + 1) * n) (sym same) in
     let room = cell_room 0 c.loop-k.k (length c.args.values.now) c.args.fixed.now.size (length c.args.bytes.now) c.loop-k-test.true (omega (arith, c.requires.room)) in
-    let now : c.loop-k.bytes ≡ value_bytes c.args.fixed.now (take c.loop-k.k c.args.values.now) ++ drop (c.loop-k.k * c.args.fixed.now.size) c.args.bytes.now
-    = c.loop-k.invariant ∙ ap (λ (n : ℕ). value_bytes c.args.fixed.now (take c.loop-k.k c.args.values.now) ++ drop n c.args.bytes.now) place in
+    let now : c.loop-k.bytes ≡ cells_bytes c.args.fixed.now (take c.loop-k.k c.args.values.now) ++ drop (c.loop-k.k * c.args.fixed.now.size) c.args.bytes.now
+    = c.loop-k.invariant ∙ ap (λ (n : ℕ). cells_bytes c.args.fixed.now (take c.loop-k.k c.args.values.now) ++ drop n c.args.bytes.now) place in
     (λ i. put_mid (place i) (width i) c.loop-k.bytes (wrote i))
     ∙ one_more c.args.fixed.now c.args.values.now c.loop-k.k c.args.bytes.now c.loop-k.bytes c.loop-k-test.true c.requires.room (omega (arith, room)) now
-    ∙ ap (λ (n : ℕ). value_bytes c.args.fixed.now (take (c.loop-k.k + 1) c.args.values.now) ++ drop n c.args.bytes.now) last
+    ∙ ap (λ (n : ℕ). cells_bytes c.args.fixed.now (take (c.loop-k.k + 1) c.args.values.now) ++ drop n c.args.bytes.now) last
 
-pub returns-clause-written : goal.returns-clause-written
-returns-clause-written c =
+pub returns : goal.returns
+returns c =
     let place : c.loop-k.k * c.size-size.result ≡ c.loop-k.k * c.args.fixed.now.size = ap (λ (n : ℕ). c.loop-k.k * n) c.size-size.ensures.size in
     all_written c.args.fixed.now c.args.values.now c.loop-k.k c.args.bytes.now c.loop-k.bytes c.loop-k-test.false c.requires.room
-    (c.loop-k.invariant ∙ ap (λ (n : ℕ). value_bytes c.args.fixed.now (take c.loop-k.k c.args.values.now) ++ drop n c.args.bytes.now) place)
+    (c.loop-k.invariant ∙ ap (λ (n : ℕ). cells_bytes c.args.fixed.now (take c.loop-k.k c.args.values.now) ++ drop n c.args.bytes.now) place)

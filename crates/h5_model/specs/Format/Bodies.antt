@@ -5,12 +5,17 @@ use Rattle.h5_bytes.specs.Bytes.{little_bytes, undefined}
 use Rattle.h5_bytes.specs.Texts.{pad8}
 use Rattle.h5_model.specs.Format.Sizes.{attribute_size, dataspace_length as dataspace_size}
 use Rattle.h5_model.specs.Format.Fixed.{Fixed, bytes_of}
+use Rattle.h5_model.specs.Format.Plain.{padded_text, cells_bytes}
 
 -- bytes with zeros behind them, so many in all
 abbrev pub padded : List ℕ → ℕ → List ℕ
 padded bytes n = bytes ++ replicate (n - length bytes) 0
 
--- two numbers of 8 bytes: addresses or lengths
+-- a body as a message has it, with zeros up to a multiple of 8 (section IV.A.1.a)
+abbrev pub raised : List ℕ → List ℕ
+raised body = padded body (pad8 (length body))
+
+-- two numbers of 8 bytes: a Symbol Table's tree and heap, a Continuation's address and length
 abbrev pub pair_bytes : ℕ → ℕ → List ℕ
 pair_bytes first second = little_bytes 8 first ++ little_bytes 8 second
 
@@ -63,21 +68,20 @@ short_words numbers = flat_map (little_bytes 4) numbers
 abbrev pub chunked_bytes : List ℕ → Option ℕ → ℕ → List ℕ
 chunked_bytes chunk tree size = 3 ∷ 2 ∷ (length chunk + 1) ∷ (little_bytes 8 (or_undefined tree) ++ (short_words chunk ++ little_bytes 4 size))
 
--- a name with at least one zero behind it, raised to a multiple of 8
-abbrev pub name_bytes : List ℕ → List ℕ
-name_bytes name = padded name (pad8 (length name + 1))
-
--- the values of cells, one after another
-abbrev pub value_bytes : Fixed → List ℤ → List ℕ
-value_bytes t values = flat_map (bytes_of t) values
-
 -- version 1, the lengths of the name with its zero, of the datatype and of the dataspace
 abbrev pub attribute_head : ℕ → ℕ → List ℕ
 attribute_head name rank = 1 ∷ 0 ∷ (little_bytes 2 (name + 1) ++ (12 ∷ 0 ∷ little_bytes 2 (dataspace_size rank)))
 
--- the same, then name, datatype and dataspace, each padded to a multiple of 8, the values, and zeros, so many bytes in all
+-- the same, then name, datatype and dataspace, each padded to a multiple of 8
+abbrev pub attribute_front : List ℕ → Fixed → List ℕ → List ℕ
+attribute_front name t sizes =
+    attribute_head (length name) (length sizes) ++ (padded_text name ++ (padded (datatype_bytes t) 16 ++ dataspace_bytes sizes))
+
+-- the same, these bytes of the values, and zeros, so many bytes in all
+abbrev pub stored_attribute_bytes : List ℕ → Fixed → List ℕ → List ℕ → ℕ → List ℕ
+stored_attribute_bytes name t sizes stored n =
+    attribute_front name t sizes ++ (stored ++ replicate (n - attribute_size (length name) sizes t.size) 0)
+
+-- with these values
 abbrev pub attribute_bytes : List ℕ → Fixed → List ℕ → List ℤ → ℕ → List ℕ
-attribute_bytes name t sizes values n =
-    attribute_head (length name) (length sizes)
-    ++ (name_bytes name ++ (padded (datatype_bytes t) 16 ++ (dataspace_bytes sizes
-    ++ (value_bytes t values ++ replicate (n - attribute_size (length name) sizes t.size) 0))))
+attribute_bytes name t sizes values n = stored_attribute_bytes name t sizes (cells_bytes t values) n
