@@ -5,6 +5,7 @@ pub mod Gathered
 pub mod HeapSteps
 pub mod Refusals
 pub mod Linked
+pub mod Readable
 pub mod Followed
 pub mod EntryOrder
 pub mod NodeLaws

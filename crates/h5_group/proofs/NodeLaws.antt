@@ -10,3 +10,4 @@ pub mod RowSteps
 pub mod RootSteps
 pub mod AllLaws
 pub mod TreeLaws
+pub mod Readable

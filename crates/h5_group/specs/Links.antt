@@ -1,8 +1,9 @@
 -- The links of a group that was read (File Format Specification 3.0, sections III.A.1, III.B and III.D).
-use Rattle.std.specs.Prelude.{◌≡◌, ℕ, List, [], ◌∷◌, ◌++◌, map, length}
+use Rattle.std.specs.Prelude.{◌≡◌, ℕ, ◌+◌, ◌≤◌, List, [], ◌∷◌, ◌++◌, map, length}
 use Rattle.std.specs.List.{Contains}
-use Rattle.h5_bytes.specs.Blocks.{Inside}
+use Rattle.h5_bytes.specs.Blocks.{cover, Inside}
 use Rattle.h5_bytes.specs.declared.Block.{Block}
+use Rattle.h5_model.specs.Format.Addresses.{SymbolTable}
 use Rattle.h5_model.specs.Format.Superblock.{leaf_k, internal_k}
 use Rattle.h5_model.specs.Format.Rows.{nodes}
 use Rattle.h5_model.specs.Format.Nodes.{node_at}
@@ -33,6 +34,14 @@ pub record IsGroupRead (image : List ℕ) (g : Group) : Type 0 where
   pub linked : HasLinks image (leaf_k image) (internal_k image) g.table.tree g.table.heap (links_of image g) (blocks_of image g)
   pub symbols_are : linked.symbol_nodes ≡ g.symbol_nodes.items
   pub inside : Inside (length image) (blocks_of image g)
+
+-- A group stands at this tree and heap, in blocks that lie in the image and share no byte with each other or with what was claimed.
+pub record IsGroupReadable (image : List ℕ) (table : SymbolTable) (held : List Block) : Type 0 where
+  pub links : List (List ℕ × Target)
+  pub blocks : List Block
+  pub has : HasLinks image (leaf_k image) (internal_k image) table.tree table.heap links blocks
+  pub inside : Inside (length image) blocks
+  pub separate : (p : ℕ) → cover p held + cover p blocks ≤ 1
 
 -- a link, as the file has it
 abbrev pub target_of : LinkTarget → Target

@@ -5,3 +5,4 @@ pub mod Below
 pub mod Refused
 pub mod Further
 pub mod Rows
+pub mod Readable

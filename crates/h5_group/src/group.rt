@@ -4,8 +4,9 @@ ghost use Rattle.std.specs.Prelude.{◌≡◌, ℕ, ◌+◌, List, length, IfOk,
 ghost use Rattle.h5_bytes.specs.Blocks.{cover, Separate};
 ghost use Rattle.h5_model.specs.Format.Superblock.{IsSuperblock};
 ghost use Rattle.h5_model.specs.Format.Reached.{Named};
+ghost use Rattle.h5_model.specs.declared.open_fault.Cause.TheVariants.{NoMemory};
 ghost use Rattle.h5_group.specs.Nodes.Walk.{IsFault};
-ghost use Rattle.h5_group.specs.Links.{IsGroupRead, blocks_of};
+ghost use Rattle.h5_group.specs.Links.{IsGroupRead, IsGroupReadable, blocks_of};
 ghost use Rattle.h5_group.specs.Walk.{IsGroupMet, IsGroupFollowed};
 
 use crate::nodes::{GroupTree, read_tree};
@@ -30,7 +31,8 @@ pub struct Group {
 ///
 /// Refusals, in this order: of the heap `Truncated`, `Overlap` and `HeapForm`; of the tree, depth first, `Truncated`, `Overlap` and
 /// `NodeForm`; `Sibling`, at a node; `HeapName` and `BadName`, at the heap's header; `NameOrder`, at a symbol node; `KeyOrder`, at a
-/// node. `NoMemory` where memory is refused. After a refusal more or less of the blocks is claimed.
+/// node. `NoMemory` where memory is refused; it is the only refusal of a group that stands there in blocks that can all be claimed.
+/// After a refusal more or less of the blocks is claimed.
 ///
 /// The claims end where the image ends, and the image has its superblock: these are the caller's conditions.
 pub fn read_group(
@@ -53,6 +55,8 @@ pub fn read_group(
     ensures refused { IfErr result (λ fault. (followed : List Named) (first second depth : ℕ)
         → IsGroupMet image.now.bytes claims.old.held followed first second depth table
         → IsFault image.now.bytes fault.cause fault.address) }
+    ensures only { IsGroupReadable image.now.bytes table claims.old.held
+        → IfErr result (λ fault. fault.cause ≡ NoMemory) }
 {
     let mut heap = read_heap(alloc, image, claims, table.heap())?;
     let tree = read_tree(alloc, image, claims, table.tree())?;

@@ -79,9 +79,6 @@ module _ (image : List ℕ) (header : ℕ) (ms : List Message) (blocks : List Bl
 -- the same, of a fault at the messages' own header
 module _ (image : List ℕ) (m : Listed) (has : HasMessages image m.header (messages_in image m.list) m.blocks) (inside : Inside (length image) m.blocks)
     (held : List Block) (followed : List Named) (field depth : ℕ) (met : IsHeaderMet image held followed field m.header depth) where
-  pub kind_fault : (cause : Cause) (address : ℕ) → address ≡ m.header → ListBreach image m.header (messages_in image m.list) cause → IsRefusedAt image cause address
-  kind_fault cause address at h = subst (IsRefusedAt image cause) (sym at) (list_breach image m.header (messages_in image m.list) m.blocks has inside held followed field depth met cause h)
-
   pub line_fault : (cause : Cause) (address : ℕ) → address ≡ m.header → IsLineBreach image m.header (messages_in image m.list) cause → IsRefusedAt image cause address
   line_fault cause address at h = subst (IsRefusedAt image cause) (sym at) (line_refused image m.header (messages_in image m.list) m.blocks has inside held followed field depth met cause h)
 

@@ -7,7 +7,7 @@ use Rattle.h5_bytes.specs.declared.Block.{Block}
 use Rattle.h5_bytes.proofs.BlockLaws.{all_append, all_left, all_right, cover-append}
 use Rattle.h5_model.specs.Format.Addresses.{SymbolTable, symbol_table_of}
 use Rattle.h5_model.specs.Format.Superblock.{leaf_k}
-use Rattle.h5_model.specs.Format.Messages.{Message, HasMessages}
+use Rattle.h5_model.specs.Format.Messages.{Message, HasMessages, count_of}
 use Rattle.h5_model.specs.Format.Symbols.{symbol_block}
 use Rattle.h5_model.specs.Format.Heap.{heap_blocks}
 use Rattle.h5_model.specs.Format.Nodes.{tree_blocks}
@@ -17,7 +17,6 @@ use Rattle.h5_model.specs.Faults.HeaderFaults.{ListBreach}
 use Rattle.h5_model.specs.declared.open_fault.Cause.{Cause}
 use Rattle.h5_model.specs.declared.open_fault.Cause.TheVariants.{NoMemory, MissingMessage, TooDeep}
 use Rattle.h5_attr.specs.Attributes.{HasNamesOnce}
-use Rattle.h5_header.specs.Kinds.{IsOfGroup}
 use Rattle.h5_header.specs.Listed.{Listed, messages_in}
 use Rattle.h5_laws.proofs.Lists.{In, in_all, in_contains, contains_in, in_right}
 use Rattle.h5_header.specs.Walk.Walked.{IsWalked}
@@ -30,7 +29,7 @@ use Rattle.h5_group.specs.Links.{IsGroupRead, links_of, blocks_of, nodes_at}
 use Rattle.h5_group.specs.Walk.{IsGroupMet, IsGroupFollowed}
 use Rattle.h5_open.specs.declared.opened.object.OpenedObject.{OpenedObject}
 use Rattle.h5_open.specs.declared.opened.object.OpenedContent.TheVariants as content
-use Rattle.h5_open.specs.Opened.Judged.{IsGroupList, IsRootBreach}
+use Rattle.h5_open.specs.Opened.Judged.{IsGroupList, IsKindBreach, IsGroupBreach}
 use Rattle.h5_open.specs.Opened.NotYet.{IsRefusedAt}
 use Rattle.h5_open.specs.Read.{IsHeaderRead, IsHeaderDone, IsObjectRead, IsObjectFollowed, IsOwn, IsDeepAt, AreWaiting}
 use Rattle.h5_open.proofs.HeaderFields.{header_fields, fields_only, fields_stand, only_inner}
@@ -60,23 +59,29 @@ group_object_read image held now after m table g depth read list names is same s
   claimed = λ p. omega (arith, claimed p, stored p, cover-append p m.blocks (blocks_of image g));
 }
 
--- the messages are no group's
-module _ (image : List ℕ) (m : Listed) (read : IsHeaderRead image m) (held : List Block) (followed : List Named) (field depth : ℕ) (met : IsHeaderMet image held followed field m.header depth) where
+-- the messages are not those of an object that may stand there, or not those of a group
+module _ (image : List ℕ) (m : Listed) (has : HasMessages image m.header (messages_in image m.list) m.blocks) (inside : Inside (length image) m.blocks)
+    (held : List Block) (followed : List Named) (field depth : ℕ) (met : IsHeaderMet image held followed field m.header depth) where
   abbrev all : List Message
   all = messages_in image m.list
 
-  missing : (depth ≡ 0) ⊎ IsOfGroup all → IsRootBreach image m.header all MissingMessage → IsRefusedAt image MissingMessage m.header
-  missing (inl top) none = no_root_refused image m.header all m.blocks read.has read.inside field (subst (λ (d : ℕ). Reached image (named field ObjectHeader m.header d)) top (met.met).reached) none
-  missing (inr group) none = absurd (let one = group.table in omega (arith, one, none))
+  no_root : depth ≡ 0 → count_of 17 all ≡ 0 → IsRefusedAt image MissingMessage m.header
+  no_root top none = no_root_refused image m.header all m.blocks has inside field (subst (λ (d : ℕ). Reached image (named field ObjectHeader m.header d)) top (met.met).reached) none
 
-  by_cause : (depth ≡ 0) ⊎ IsOfGroup all → (cause c : Cause) → cause ≡ c → IsRootBreach image m.header all c → IsRefusedAt image c m.header
-  by_cause kind cause NoMemory e h = tt
-  by_cause kind cause MissingMessage e h = missing kind h
-  by_cause kind cause _ e h = subst (λ (c : Cause). IsRefusedAt image c m.header) e
-      (list_breach image m.header all m.blocks read.has read.inside held followed field depth met cause (subst (λ (c : Cause). ListBreach image m.header all c) (sym e) h))
+  kind_breach : (cause : Cause) → IsKindBreach image m.header depth all cause → IsRefusedAt image cause m.header
+  kind_breach cause (inl (top, is, none)) = subst (λ (c : Cause). IsRefusedAt image c m.header) (sym is) (no_root top none)
+  kind_breach cause (inr breach) = list_breach image m.header all m.blocks has inside held followed field depth met cause breach
 
-  pub group_fault : (depth ≡ 0) ⊎ IsOfGroup all → (cause : Cause) (address : ℕ) → address ≡ m.header → IsRootBreach image m.header all cause → IsRefusedAt image cause address
-  group_fault kind cause address at h = subst (IsRefusedAt image cause) (sym at) (by_cause kind cause cause refl h)
+  by_cause : (cause c : Cause) → cause ≡ c → IsGroupBreach image m.header all c → IsRefusedAt image c m.header
+  by_cause cause NoMemory e h = tt
+  by_cause cause _ e h = subst (λ (c : Cause). IsRefusedAt image c m.header) e
+      (list_breach image m.header all m.blocks has inside held followed field depth met cause (subst (λ (c : Cause). ListBreach image m.header all c) (sym e) h))
+
+  pub kind_fault : (cause : Cause) (address : ℕ) → address ≡ m.header → IsKindBreach image m.header depth all cause → IsRefusedAt image cause address
+  kind_fault cause address at h = subst (IsRefusedAt image cause) (sym at) (kind_breach cause h)
+
+  pub group_fault : (cause : Cause) (address : ℕ) → address ≡ m.header → IsGroupBreach image m.header all cause → IsRefusedAt image cause address
+  group_fault cause address at h = subst (IsRefusedAt image cause) (sym at) (by_cause cause cause refl h)
 
 -- a symbol node of the group lies in the image
 symbols_inside : (image : List ℕ) (nodes : List ℕ) → Inside (length image) (map (symbol_block (leaf_k image)) nodes) → (node : ℕ) → In node nodes → node + (8 + 80 * leaf_k image) ≤ length image

@@ -1,29 +1,22 @@
 -- What the messages of a header say of the object, and which rule they break.
-use Rattle.std.proofs.Common.{◌≡◌, inl, inr, ℕ, ◌+◌, List, [], ◌∷◌, length, refl, sym, ◌∙◌, ap, Option, Some, None, true, false, cond, arith}
-use Rattle.std.specs.Prelude.{◌==◌, option_map, Ok, Err, ok_or, Result, ◌↔◌, slice_index_or, ℤ}
+use Rattle.std.proofs.Common.{◌≡◌, inl, inr, ℕ, ◌+◌, ◌≤◌, List, [], ◌∷◌, length, refl, sym, ◌∙◌, ap, Option, Some, None, true, false, cond, arith}
+use Rattle.std.specs.Prelude.{◌==◌, is_some, option_map, Ok, Err, ok_or, slice_index_or, ℤ}
 use Rattle.std.specs.List.{find, slice_get}
+use Rattle.std.specs.Borrow.{Bor}
+use Rattle.std.specs.Bool.{MatchBool}
+use Rattle.std.specs.Option.{option_copied}
+use Rattle.std.proofs.lemmas.Bool.{cases_lt}
 use Rattle.h5_bytes.specs.declared.Block.{Block}
 use Rattle.h5_model.specs.Format.Messages.{Message, count_of, first_body}
-use Rattle.h5_model.specs.Faults.HeaderFaults.{ListBreach, SomeBody}
-use Rattle.h5_model.specs.declared.open_fault.Cause.{Cause}
-use Rattle.h5_model.specs.declared.open_fault.Cause.TheVariants.{MissingMessage, NoMemory}
-use Rattle.h5_model.specs.declared.open_fault.OpenFault.{OpenFault}
-use Rattle.h5_header.specs.Kinds.{IsOfGroup, IsOfDataset}
-use Rattle.h5_header.specs.declared.kinds.ObjectKind.{ObjectKind}
-use Rattle.h5_header.specs.declared.kinds.ObjectKind.TheVariants.{Group, Dataset}
-use Rattle.h5_header.proofs.FoundLaws.{found}
+use Rattle.h5_model.specs.Faults.HeaderFaults.{SomeBody}
+use Rattle.h5_header.proofs.FoundLaws.{found, none_stands}
 use Rattle.std.proofs.lemmas.Option.{same_Some}
 use Rattle.h5_model.specs.Format.Fixed.{Fixed}
 use Rattle.h5_model.specs.Format.Layout.{InBlock}
 use Rattle.h5_model.specs.Format.Reached.{layout_among}
 use Rattle.h5_layout.specs.Described.{Described, HasArray}
 use Rattle.h5_open.specs.Opened.NotYet.{IsNoLine}
-use Rattle.h5_open.specs.Opened.Judged.{IsRootBreach, IsNoLineOf}
-
-pub root_breach : (image : List ℕ) (header : ℕ) (ms : List Message) (cause : Cause) → ListBreach image header ms cause → IsRootBreach image header ms cause
-root_breach image header ms MissingMessage h = h.0
-root_breach image header ms NoMemory h = tt
-root_breach image header ms _ h = h
+use Rattle.h5_open.specs.Opened.Judged.{IsNoLineOf}
 
 -- the first body of a type is that of some message
 pub first_fails : {A : Type 0} (f : List ℕ → Option A) (kind : ℕ) (ms : List Message) (body : List ℕ) → Some body ≡ first_body kind ms → f body ≡ None
@@ -38,11 +31,14 @@ first_counted kind (m ∷ ms) body is none = elim (m.kind == kind) as (λ b. Som
       | false ↦ λ later zero. first_counted kind ms body later (omega (arith, zero))
     ] is none
 
--- a header that has a Symbol Table is a group's
-pub is_group : (ms : List Message) (body : List ℕ) (r : Result ObjectKind OpenFault) (k : ObjectKind) → Some body ≡ first_body 17 ms → r ≡ Ok k
-    → (r ≡ Ok Group) ↔ IsOfGroup ms → (r ≡ Ok Dataset) ↔ IsOfDataset ms → IsOfGroup ms
-is_group ms body r Group some is group dataset = group.0 is
-is_group ms body r Dataset some is group dataset = absurd (first_counted 17 ms body some (dataset.0 is).no_table)
+-- whether one is found says whether there is one
+pub some_counted : (kind : ℕ) (ms : List Message) (r : Option (Bor (List ℕ))) → option_copied r ≡ first_body kind ms
+    → MatchBool (is_some r) (1 ≤ count_of kind ms) (count_of kind ms ≡ 0)
+some_counted kind ms None is = none_stands kind ms (sym is)
+some_counted kind ms (Some b) is = elim (cases_lt 0 (count_of kind ms)) [
+  | inl some ↦ omega (arith, some)
+  | inr none ↦ absurd (first_counted kind ms b.now is (omega (arith, none)))
+]
 
 -- what a reader answers is what the definition gives
 pub some_read : {A E : Type 0} (o : Option A) (e : E) (x : A) → Ok x ≡ ok_or o e → o ≡ Some x

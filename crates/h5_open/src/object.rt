@@ -1,7 +1,7 @@
 //! The reading of one object: its header, and its group or the cells of its array (File Format Specification 3.0, sections III and
 //! IV.A).
 
-ghost use Rattle.std.specs.Prelude.{◌≡◌, ℕ, ◌+◌, ◌≤◌, ◌⊎◌, Some, List, length, map, IfOk, IfErr, OnOk};
+ghost use Rattle.std.specs.Prelude.{◌≡◌, ℕ, ◌+◌, ◌≤◌, Some, List, length, map, IfOk, IfErr, OnOk};
 ghost use Rattle.h5_bytes.specs.Blocks.{cover, Separate, Inside};
 ghost use Rattle.h5_bytes.specs.declared.Block.{Block};
 ghost use Rattle.h5_model.specs.Format.Superblock.{IsSuperblock};
@@ -17,7 +17,7 @@ ghost use Rattle.h5_open.specs.Opened.NotYet.{IsRefusedAt};
 ghost use Rattle.h5_open.specs.Opened.Objects.{links_of as object_links};
 ghost use Rattle.h5_open.specs.Read.{IsHeaderRead, IsHeaderDone, IsObjectRead, IsObjectFollowed, IsDeepAt};
 
-use crate::judge::{judge_line, judge_root};
+use crate::judge::{judge_group, judge_kind, judge_line};
 use crate::opened::{OpenedContent, OpenedObject};
 use h5_bytes::Block;
 use h5_group::{Group, LinkRef, entries, links_at, read_group};
@@ -56,16 +56,13 @@ pub(crate) fn read_object(
         → IsRefusedAt image.now.bytes fault.cause fault.address) }
 {
     let messages = h5_header::messages(alloc, image, claims, header)?;
-    if depth == 0 {
-        return read_group_object(alloc, image, claims, messages, depth);
-    }
-    match messages.object_kind()? {
+    match judge_kind(image, &messages, depth)? {
         ObjectKind::Group => read_group_object(alloc, image, claims, messages, depth),
         ObjectKind::Dataset => read_array_object(alloc, image, claims, messages, depth),
     }
 }
 
-/// Reads the group of a header whose messages were read; the root's header may be none of a group.
+/// Reads the group of a header whose messages were read.
 fn read_group_object(
     alloc: Global,
     image: &Image,
@@ -77,7 +74,7 @@ fn read_group_object(
     requires end { claims.old.end ≡ length image.now.bytes }
     requires header { IsHeaderRead image.now.bytes messages }
     requires separate { Separate claims.old.held }
-    requires kind { (depth ≡ 0) ⊎ IsOfGroup (messages_in image.now.bytes messages.list) }
+    requires kind { IsOfGroup (messages_in image.now.bytes messages.list) }
     ensures read { IfOk result (λ o. (held : List Block)
         → ((p : ℕ) → cover p claims.old.held ≡ cover p held + cover p messages.blocks)
         → IsObjectRead image.now.bytes held claims.new.held messages.header depth o) }
@@ -90,7 +87,7 @@ fn read_group_object(
         → IsHeaderDone image.now.bytes held claims.old.held followed field depth messages
         → IsRefusedAt image.now.bytes fault.cause fault.address) }
 {
-    let table = judge_root(alloc, image, &messages)?;
+    let table = judge_group(alloc, image, &messages)?;
     let group = read_group(alloc, image, claims, table)?;
     check_depth(image, &group, depth)?;
     Ok(OpenedObject {

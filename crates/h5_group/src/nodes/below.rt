@@ -6,11 +6,13 @@ ghost use Rattle.h5_model.specs.Format.Rows.{leaves, nodes};
 ghost use Rattle.h5_model.specs.Format.Nodes.{entries_in, node_bytes};
 ghost use Rattle.h5_model.specs.Format.Superblock.{IsSuperblock};
 ghost use Rattle.h5_model.specs.Format.Reached.{Named};
+ghost use Rattle.h5_model.specs.declared.open_fault.Cause.TheVariants.{NoMemory};
 ghost use Rattle.h5_group.specs.Nodes.Trees.{kind_in, nodes_blocks};
 ghost use Rattle.h5_group.specs.Nodes.Below.{reading_in, IsTaken};
 ghost use Rattle.h5_group.specs.Nodes.Rows.{IsLevel};
 ghost use Rattle.h5_group.specs.Nodes.Further.{AreChildrenMet, IsFurther, IsPlaceBelow, IsPlaceIn};
 ghost use Rattle.h5_group.specs.Nodes.Walk.{IsFault, IsTreeMet};
+ghost use Rattle.h5_group.specs.Nodes.Readable.{IsTreeReadable, AreReadableBelow};
 
 use crate::nodes::node::{claim_inner, claim_root};
 use crate::nodes::symbol::claim_symbol_nodes;
@@ -40,6 +42,8 @@ pub(crate) fn claim_tree(image: &Image, claims: &mut Claims, root: u64) -> Resul
     ensures refused { IfErr result (λ fault. (followed : List Named) (field heap depth : ℕ)
         → IsTreeMet image.now.bytes claims.old.held followed field root heap depth
         → IsFault image.now.bytes fault.cause fault.address) }
+    ensures only { IsTreeReadable image.now.bytes root claims.old.held
+        → IfErr result (λ fault. fault.cause ≡ NoMemory) }
 {
     let node = claim_root(image, claims, root)?;
     let level = node.level();
@@ -68,6 +72,8 @@ pub(crate) fn claim_below(
     ensures refused { IfErr result (λ fault. (followed : List Named) (root heap depth at : ℕ)
         → AreChildrenMet image.now.bytes claims.old.held followed root heap depth level at node.now
         → IsFault image.now.bytes fault.cause fault.address) }
+    ensures only { AreReadableBelow image.now.bytes level node.now.children claims.old.held
+        → IfErr result (λ fault. fault.cause ≡ NoMemory) }
 {
     if level == 0 {
         return claim_symbol_nodes(image, claims, node);

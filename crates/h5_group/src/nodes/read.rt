@@ -4,8 +4,10 @@ ghost use Rattle.std.specs.Prelude.{◌≡◌, ℕ, ◌+◌, List, length, IfOk,
 ghost use Rattle.h5_bytes.specs.Blocks.{cover, Separate, Inside};
 ghost use Rattle.h5_model.specs.Format.Superblock.{IsSuperblock};
 ghost use Rattle.h5_model.specs.Format.Reached.{Named};
+ghost use Rattle.h5_model.specs.declared.open_fault.Cause.TheVariants.{NoMemory};
 ghost use Rattle.h5_group.specs.Nodes.Trees.{IsTree, nodes_blocks};
 ghost use Rattle.h5_group.specs.Nodes.Walk.{IsFault, IsTreeMet, IsTreeFollowed};
+ghost use Rattle.h5_group.specs.Nodes.Readable.{IsTreeReadable};
 
 use crate::nodes::below::claim_tree;
 use crate::nodes::rows::read_rows;
@@ -26,7 +28,8 @@ pub struct GroupTree {
 ///
 /// Refusals: `Truncated` and `Overlap`, at the block that cannot be claimed; `NodeForm`, at the node or symbol node that is none,
 /// or has another level or count of children than one can have there; and when all are read `Sibling`, at the first node, row by
-/// row from the root down, that does not name its neighbours; `NoMemory`. After a refusal more or less of the blocks is claimed.
+/// row from the root down, that does not name its neighbours; `NoMemory`, the only one of a tree that stands there in blocks that
+/// can all be claimed. After a refusal more or less of the blocks is claimed.
 /// The claims end where the image ends, and the image has its superblock: these are the caller's conditions.
 pub fn read_tree(
     alloc: Global,
@@ -51,6 +54,8 @@ pub fn read_tree(
     ensures refused { IfErr result (λ fault. (followed : List Named) (field heap depth : ℕ)
         → IsTreeMet image.now.bytes claims.old.held followed field root heap depth
         → IsFault image.now.bytes fault.cause fault.address) }
+    ensures only { IsTreeReadable image.now.bytes root claims.old.held
+        → IfErr result (λ fault. fault.cause ≡ NoMemory) }
 {
     let level = claim_tree(image, claims, root)?;
     read_rows(alloc, image, root, level)

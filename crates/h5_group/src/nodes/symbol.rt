@@ -8,6 +8,7 @@ ghost use Rattle.h5_model.specs.Faults.TreeFaults.{SymbolBreach};
 ghost use Rattle.h5_model.specs.Format.Reached.{Named};
 ghost use Rattle.h5_group.specs.Nodes.Below.{IsBottom, IsTaken};
 ghost use Rattle.h5_group.specs.Nodes.Further.{AreChildrenMet, IsFurther, IsPlaceBelow};
+ghost use Rattle.h5_group.specs.Nodes.Readable.{AreReadableBelow};
 ghost use Rattle.h5_group.specs.Nodes.Refused.{IsRefusedFor};
 ghost use Rattle.h5_group.specs.Nodes.Walk.{IsFault};
 
@@ -36,6 +37,8 @@ pub(crate) fn claim_symbol_nodes(
     ensures refused { IfErr result (λ fault. (followed : List Named) (root heap depth at : ℕ)
         → AreChildrenMet image.now.bytes claims.old.held followed root heap depth 0 at node.now
         → IsFault image.now.bytes fault.cause fault.address) }
+    ensures only { AreReadableBelow image.now.bytes 0 node.now.children claims.old.held
+        → IfErr result (λ fault. fault.cause ≡ Cause.NoMemory) }
 {
     for i in 0..node.len() {
         claim_symbol_node(image, claims, node.child(i))?;

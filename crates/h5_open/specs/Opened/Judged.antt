@@ -1,4 +1,4 @@
--- What the messages of the root, and of an array, have to be (File Format Specification 3.0, section IV.A.2).
+-- What the messages of a group, and of an array, have to be (File Format Specification 3.0, section IV.A.2).
 use Rattle.std.specs.Prelude.{◌≡◌, ◌≢◌, ℕ, ◌⊎◌, Option, Some, List, length, option_and_then}
 use Rattle.h5_bytes.specs.declared.Block.{Block}
 use Rattle.h5_model.specs.Format.Layout.{InBlock}
@@ -27,11 +27,15 @@ pub record IsLineList (ms : List Message) (line : Line) : Type 0 where
   pub attributes : HasAttributes ms (attributes_of ms)
   pub array : HasArray ms (described line)
 
--- a rule on all messages of the root's header is broken; or it is no group's
-abbrev pub IsRootBreach : List ℕ → ℕ → List Message → Cause → Type 0
-IsRootBreach image header ms NoMemory = Unit {0}
-IsRootBreach image header ms MissingMessage = count_of 17 ms ≡ 0
-IsRootBreach image header ms cause = ListBreach image header ms cause
+-- the root's header is no group's, as it has no Symbol Table; or a rule on all messages of a header is broken
+abbrev pub IsKindBreach : List ℕ → ℕ → ℕ → List Message → Cause → Type 0
+IsKindBreach image header depth ms cause =
+    ((depth ≡ 0) × (cause ≡ MissingMessage) × (count_of 17 ms ≡ 0)) ⊎ ListBreach image header ms cause
+
+-- a rule on all messages of a group's header is broken
+abbrev pub IsGroupBreach : List ℕ → ℕ → List Message → Cause → Type 0
+IsGroupBreach image header ms NoMemory = Unit {0}
+IsGroupBreach image header ms cause = ListBreach image header ms cause
 
 -- a rule on all messages of the header that a link names is broken; or they are a group's, or those of another array
 abbrev pub IsLineBreach : List ℕ → ℕ → List Message → Cause → Type 0

@@ -1,6 +1,6 @@
 //! The check of reference counts, last of all in opening (File Format Specification 3.0, section IV.A.1.a).
 
-ghost use Rattle.std.specs.Prelude.{◌≡◌, ◌+◌, ◌≤◌, ℕ, length, IfErr, OnOk, MatchBool, Some, slice_get, slice_index};
+ghost use Rattle.std.specs.Prelude.{◌≡◌, ◌+◌, ◌≤◌, ◌⊎◌, ℕ, length, IfErr, OnOk, MatchBool, Some, slice_get, slice_index};
 ghost use Rattle.h5_model.specs.Format.Reads.{ReadsAs};
 ghost use Rattle.h5_group.specs.Nodes.Walk.{IsFault};
 ghost use Rattle.h5_open.specs.declared.opened.object.OpenedObject.{OpenedObject};
@@ -8,7 +8,7 @@ ghost use Rattle.h5_open.specs.Opened.Kept.{IsIndex};
 ghost use Rattle.h5_open.specs.Opened.Objects.{headers, table_of, tree_of};
 ghost use Rattle.h5_open.specs.Placed.Whole.{IsGroupContent, IsWhole, placed_of};
 ghost use Rattle.h5_open.specs.Counted.Links.{all_links};
-ghost use Rattle.h5_open.specs.Counted.Counts.{AreCounts, IsRight, IsWrong};
+ghost use Rattle.h5_open.specs.Counted.Counts.{AreCounts, IsRight, IsWrong, IsMiscounted};
 
 use crate::counts::links::count_links;
 use crate::opened::{Opened, OpenedContent, OpenedObject};
@@ -32,6 +32,8 @@ pub fn check_counts(alloc: Global, image: &Image, opened: &Opened) -> Result<(),
     ensures reads { OnOk result (ReadsAs image.now.bytes (table_of opened.now.objects.items)
         (tree_of image.now.bytes opened.now.objects.items)
         (placed_of image.now.bytes opened.now.objects.items)) }
+    ensures wrong { IfErr result (λ fault. (fault.cause ≡ Cause.NoMemory)
+        ⊎ IsMiscounted image.now.bytes opened.now.objects.items fault.cause fault.address) }
     ensures refused { IfErr result (λ fault. IsFault image.now.bytes fault.cause fault.address) }
 {
     let Ok(counts) = count_links(alloc, image, opened) else {
@@ -52,6 +54,8 @@ fn check_each(image: &Image, opened: &Opened, counts: &[u32]) -> Result<(), Open
     ensures right { OnOk result
         ((number : ℕ) (o : OpenedObject) → slice_get opened.now.objects.items number ≡ Some o
         → IsRight image.now.bytes o (slice_index counts.now number)) }
+    ensures wrong { IfErr result (λ fault.
+        IsMiscounted image.now.bytes opened.now.objects.items fault.cause fault.address) }
     ensures refused { IfErr result (λ fault. IsFault image.now.bytes fault.cause fault.address) }
 {
     for (number, object) in opened.objects.iter().enumerate() {

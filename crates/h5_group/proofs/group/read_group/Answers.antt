@@ -9,6 +9,7 @@ use Rattle.h5_group.proofs.HeapSteps.{heap_refused, at_tree}
 use Rattle.h5_group.proofs.Refusals.{texts_refused, order_refused}
 use Rattle.h5_group.proofs.Linked.{group_read, both_claimed}
 use Rattle.h5_group.proofs.Followed.{group_followed}
+use Rattle.h5_group.proofs.Readable.{heap_readable, tree_readable, texts_memory, order_memory}
 use Rattle.h5_group.proofs.group.read_group.Goals as goal
 
 pub returns-in_err-heap-clause-refused : goal.returns-in_err-heap-clause-refused
@@ -81,3 +82,30 @@ returns-clause-walked c followed first second depth met =
     let stands : IsTree image g.table.tree c.in_ok-tree.tree.nodes.items g.symbol_nodes.items = rw c.tree.ensures at c.in_ok-tree.ensures.tree in
     group_followed image c.args.claims.now.held followed first second depth g met c.read_heap.new.claims.held inside claimed c.in_ok-heap.ensures.separate
     c.read_tree.new.claims.held c.in_ok-tree.tree.nodes.items c.in_ok-tree.ensures.inside c.in_ok-tree.ensures.claimed c.in_ok-tree.ensures.separate stands.formed tree
+
+pub returns-in_err-heap-clause-only : goal.returns-in_err-heap-clause-only
+returns-in_err-heap-clause-only c = λ readable.
+    let p = err_from_is_err_and c.from_residual.result c.from_residual.ensures.1 in
+    rw (p.1, p.2) ((rw c.heap.ensures at c.in_err-heap.ensures.only) (heap_readable c.args.image.now.bytes c.args.table c.args.claims.now.held readable))
+
+pub returns-in_err-tree-clause-only : goal.returns-in_err-tree-clause-only
+returns-in_err-tree-clause-only c = λ readable.
+    let image = c.args.image.now.bytes in
+    let claimed : (p : ℕ) → cover p c.read_heap.new.claims.held ≡ cover p c.args.claims.now.held + cover p (heap_blocks image c.args.table.heap)
+    = λ q. rw c.heap.ensures at (c.in_ok-heap.ensures.claimed q) in
+    let p = err_from_is_err_and c.from_residual-in_err-tree.result c.from_residual-in_err-tree.ensures.1 in
+    rw (p.1, p.2) ((rw c.tree.ensures at c.in_err-tree.ensures.only)
+    (tree_readable image c.args.table c.args.claims.now.held readable c.read_heap.new.claims.held claimed))
+
+pub returns-in_err-check_texts-clause-only : goal.returns-in_err-check_texts-clause-only
+returns-in_err-check_texts-clause-only c = λ readable.
+    let p = err_from_is_err_and c.from_residual-in_err-check_texts.result c.from_residual-in_err-check_texts.ensures.1 in
+    rw (p.1, p.2) (texts_memory c.args.image.now.bytes c.args.table c.args.claims.now.held readable _ c.in_err-check_texts.ensures.refused)
+
+pub returns-in_err-check_order-clause-only : goal.returns-in_err-check_order-clause-only
+returns-in_err-check_order-clause-only c = λ readable.
+    let image = c.args.image.now.bytes in
+    let tree : IsTree image c.args.table.tree c.in_ok-tree.tree.nodes.items c.in_ok-tree.tree.symbol_nodes.items = rw c.tree.ensures at c.in_ok-tree.ensures.tree in
+    let p = err_from_is_err_and c.from_residual-in_err-check_order.result c.from_residual-in_err-check_order.ensures.1 in
+    rw (p.1, p.2) (order_memory image c.args.table c.args.claims.now.held readable c.in_ok-tree.tree.nodes.items c.in_ok-tree.tree.symbol_nodes.items tree _ _
+    c.in_err-check_order.ensures.refused)

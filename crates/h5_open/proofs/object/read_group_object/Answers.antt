@@ -8,7 +8,7 @@ use Rattle.h5_open.proofs.object.read_group_object.Goals as goal
 pub returns-in_err-table-clause-refused : goal.returns-in_err-table-clause-refused
 returns-in_err-table-clause-refused c =
     let p = err_from_is_err_and c.from_residual.result c.from_residual.ensures.1 in
-    rw (p.1, p.2) (λ held followed field done. group_fault c.args.image.now.bytes c.args.messages c.requires.header held followed field c.args.depth done.met c.requires.kind _ _
+    rw (p.1, p.2) (λ held followed field done. group_fault c.args.image.now.bytes c.args.messages c.requires.header.has c.requires.header.inside held followed field c.args.depth done.met _ _
     c.in_err-table.ensures.address c.in_err-table.ensures.refused)
 
 pub returns-in_err-group-clause-refused : goal.returns-in_err-group-clause-refused

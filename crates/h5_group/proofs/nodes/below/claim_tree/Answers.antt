@@ -3,12 +3,15 @@ use Rattle.std.proofs.lemmas.Result.{err_from_is_err_and}
 use Rattle.h5_bytes.specs.Blocks.{cover}
 use Rattle.h5_model.specs.Format.Rows.{Node, leaves, nodes}
 use Rattle.h5_model.specs.Format.Reached.{Named}
+use Rattle.h5_model.specs.declared.open_fault.Cause.TheVariants.{NoMemory}
 use Rattle.h5_group.specs.Nodes.Trees.{nodes_blocks}
 use Rattle.h5_group.specs.Nodes.Walk.{IsTreeMet}
 use Rattle.h5_group.specs.Nodes.Below.{reading_in, IsStanding, IsTaken}
+use Rattle.h5_group.specs.Nodes.Readable.{AreReadableBelow}
 use Rattle.h5_group.specs.Nodes.Further.{IsFurther, IsPlaceIn}
 use Rattle.h5_group.proofs.NodeLaws.FurtherLaws.{WalksTo, IsFaultBelow}
 use Rattle.h5_group.proofs.NodeLaws.RootSteps.{root_refused, below_refused, tree_claimed, tree_walked}
+use Rattle.h5_group.proofs.NodeLaws.Readable.{root_memory, root_readable}
 use Rattle.h5_group.proofs.nodes.below.claim_tree.Goals as goal
 
 pub returns-in_err-node-clause-refused : goal.returns-in_err-node-clause-refused
@@ -70,3 +73,22 @@ returns-clause-walked c =
     subst (λ (l : ℕ). (followed : List Named) (field heap depth : ℕ) → IsTreeMet image old followed field c.args.root heap depth
     → IsFurther image now followed (IsPlaceIn image field (nodes (reading_in image) l (c.args.root ∷ [])))) (sym high)
     (tree_walked image c.args.root old here stands low c.in_ok-node.ensures.claimed c.in_ok-node.ensures.separate now taken walks)
+
+pub returns-in_err-node-clause-only : goal.returns-in_err-node-clause-only
+returns-in_err-node-clause-only c = λ readable.
+    let p = err_from_is_err_and c.from_residual.result c.from_residual.ensures.1 in
+    rw (p.1, p.2) (root_memory c.args.image.now.bytes c.args.root c.args.claims.now.held readable _ c.in_err-node.ensures.refused)
+
+pub returns-in_err-claim_below-clause-only : goal.returns-in_err-claim_below-clause-only
+returns-in_err-claim_below-clause-only c = λ readable.
+    let image = c.args.image.now.bytes in
+    let here = c.claim_root.new.claims.held in
+    let root = reading_in image c.args.root in
+    let is : c.in_ok-node.node ≡ root = c.in_ok-node.ensures.node in
+    let high : c.level-level.result ≡ root.level = c.level-level.ensures ∙ ap (λ (n : Node). n.level) is in
+    let cause = c.in_err-claim_below.field-0.0.cause in
+    let only : AreReadableBelow image root.level root.children here → cause ≡ NoMemory
+    = subst (λ (l : ℕ). AreReadableBelow image l root.children here → cause ≡ NoMemory) high
+    (subst (λ (n : Node). AreReadableBelow image c.level-level.result n.children here → cause ≡ NoMemory) is c.in_err-claim_below.ensures.only) in
+    let p = err_from_is_err_and c.from_residual-in_err-claim_below.result c.from_residual-in_err-claim_below.ensures.1 in
+    rw (p.1, p.2) (only (root_readable image c.args.root c.args.claims.now.held readable here c.in_ok-node.ensures.claimed))

@@ -1,6 +1,7 @@
 use Rattle.std.proofs.lemmas.Result.{MatchResult-weaker}
 use Rattle.h5_group.proofs.NodeLaws.AllLaws.{is_tree, tree_inside}
 use Rattle.h5_group.proofs.NodeLaws.TreeLaws.{tree_followed, tree_fault}
+use Rattle.h5_group.proofs.NodeLaws.Readable.{rows_memory}
 use Rattle.h5_group.proofs.nodes.read.read_tree.Goals as goal
 
 pub returns-clause-tree : goal.returns-clause-tree
@@ -27,3 +28,8 @@ returns-clause-refused c =
     MatchResult-weaker c.read_rows.result c.read_rows.ensures.refused (λ _ h. h)
     (λ fault refused. tree_fault c.args.image.now.bytes c.args.root c.in_ok-level.level c.in_ok-level.ensures.low c.in_ok-level.ensures.read
     c.args.claims.now.held fault.cause fault.address refused)
+
+pub returns-clause-only : goal.returns-clause-only
+returns-clause-only c = λ readable.
+    MatchResult-weaker c.read_rows.result c.read_rows.ensures.refused (λ _ h. h)
+    (λ fault refused. rows_memory c.args.image.now.bytes c.args.root c.args.claims.now.held readable fault.cause fault.address refused)

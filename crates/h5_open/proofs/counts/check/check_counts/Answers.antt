@@ -1,5 +1,5 @@
-use Rattle.std.proofs.Common.{sym, subst}
-use Rattle.std.proofs.lemmas.Result.{on_ok_weaker}
+use Rattle.std.proofs.Common.{inr, sym, subst}
+use Rattle.std.proofs.lemmas.Result.{on_ok_weaker, MatchResult-weaker}
 use Rattle.h5_open.specs.Opened.Objects.{headers}
 use Rattle.h5_open.specs.Counted.Links.{all_links}
 use Rattle.h5_open.specs.Counted.Counts.{AreCounts}
@@ -14,3 +14,6 @@ returns-clause-reads c =
     let are : AreCounts (headers objects) (all_links image objects) counts
     = subst (AreCounts (headers objects) (all_links image objects)) (sym c.deref.ensures.value) c.in-Ok.ensures.counts in
     on_ok_weaker c.check_each.result (λ right. all_right image objects c.requires.whole counts are right) c.check_each.ensures.right
+
+pub returns-clause-wrong : goal.returns-clause-wrong
+returns-clause-wrong c = MatchResult-weaker c.check_each.result c.check_each.ensures.wrong (λ _ h. h) (λ fault wrong. inr wrong)

@@ -4,8 +4,22 @@ use Rattle.std.proofs.lemmas.Result.{err_from_is_err_and}
 use Rattle.std.specs.Prelude.{slice_get}
 use Rattle.h5_open.specs.declared.opened.object.OpenedObject.{OpenedObject}
 use Rattle.h5_open.specs.Counted.Counts.{IsRight}
-use Rattle.h5_open.proofs.CountedLaws.CheckLaws.{one_wrong}
+use Rattle.h5_open.proofs.CountedLaws.CheckLaws.{one_wrong, one_miscounted}
 use Rattle.h5_open.proofs.counts.check.check_each.Goals as goal
+
+pub returns-in_err-check_object-clause-wrong : goal.returns-in_err-check_object-clause-wrong
+returns-in_err-check_object-clause-wrong c =
+    let objects = c.args.opened.now.objects.items in
+    let o = c.object-item.result in
+    let i = c.loop-number.number in
+    let same = c.deref-object-items.ensures.value in
+    let low : i < length objects = rw same at c.loop-number-test.true in
+    let is : o ≡ get_or objects i o = rw same at c.object-item.is in
+    let here = slice_get_read objects (length objects) i o refl low is in
+    let fault = c.in_err-check_object.field-0.0 in
+    let wrong = c.in_err-check_object.ensures in
+    let p = err_from_is_err_and c.from_residual.result c.from_residual.ensures.1 in
+    rw (p.1, p.2) (one_miscounted c.args.image.now.bytes objects c.requires.whole c.args.counts.now c.requires.counts i o here fault.cause fault.address wrong.address wrong.wrong)
 
 pub returns-in_err-check_object-clause-refused : goal.returns-in_err-check_object-clause-refused
 returns-in_err-check_object-clause-refused c =
