@@ -5,12 +5,13 @@ use Rattle.std.specs.FinMap.{FinMap, empty, insert}
 use Rattle.h5_bytes.specs.Bytes.{undefined}
 use Rattle.h5_model.specs.Format.Nodes.{group_kind}
 use Rattle.h5_bytes.specs.Numbers.{word}
-use Rattle.h5_model.specs.Format.Plain.{superblock_bytes, header_bytes, symbol_table_body, node_bytes_of, heap_header_bytes, segment_bytes, free_head_of}
+use Rattle.h5_model.specs.Format.Bodies.{pair_bytes}
+use Rattle.h5_model.specs.Format.Plain.{superblock_bytes, header_bytes, node_bytes_of, heap_header_bytes, segment_bytes, free_head_of}
 use Rattle.h5_model.specs.Tree.Objects.{Tree, Object, Group}
 
 -- leaf K 4 and internal K 16; the header at 96 with one message, the node at 136, the heap at 680 and its segment at 712
 unfoldable pub empty_file : List ℕ
-empty_file = superblock_bytes 4 16 800 96 136 680 ++ (header_bytes 1 ((17, symbol_table_body 136 680) ∷ [])
+empty_file = superblock_bytes 4 16 800 96 136 680 ++ (header_bytes 1 ((17, pair_bytes 136 680) ∷ [])
     ++ (node_bytes_of (group_kind 16) 0 undefined undefined (word 0 ∷ []) [] ++ (heap_header_bytes 88 (free_head_of []) 712 ++ segment_bytes [])))
 
 -- the root's header stands at 96

@@ -1,6 +1,6 @@
 -- The plain layout: the bytes of each structure as an image that is written anew has them (File Format Specification 3.0, sections
 -- II.A, III and IV.A). Its blocks follow each other without gaps.
-use Rattle.std.specs.Prelude.{ℕ, ◌+◌, ◌-◌, ◌*◌, nat_le, if◌then◌else◌, ℤ, List, [], ◌∷◌, ◌++◌, length}
+use Rattle.std.specs.Prelude.{ℕ, ◌-◌, nat_le, if◌then◌else◌, ℤ, List, [], ◌∷◌, ◌++◌, length}
 use Rattle.std.specs.List.{flat_map}
 use Rattle.h5_bytes.specs.Bytes.{undefined}
 use Rattle.h5_bytes.specs.Numbers.{short, middle, word, zeros}
@@ -28,9 +28,6 @@ messages_bytes ms = flat_map message_bytes ms
 -- a header of this reference count, with all its messages in one block
 abbrev pub header_bytes : ℕ → List (ℕ × List ℕ) → List ℕ
 header_bytes count ms = 1 ∷ 0 ∷ (short (length ms) ++ (middle count ++ (middle (length (messages_bytes ms)) ++ (zeros 4 ++ messages_bytes ms))))
-
-abbrev pub symbol_table_body : ℕ → ℕ → List ℕ
-symbol_table_body tree heap = word tree ++ word heap
 
 -- ---- groups
 
@@ -72,23 +69,6 @@ abbrev pub free_head_of : List (List ℕ) → ℕ
 free_head_of texts = head_of (texts_bytes texts)
 
 -- ---- arrays
-
--- sizes that are their own maxima
-abbrev pub extent_body : List ℕ → List ℕ
-extent_body sizes = 1 ∷ length sizes ∷ 0 ∷ (zeros 5 ++ flat_map word sizes)
-
-abbrev pub class_bits : Fixed → ℕ
-class_bits t = (if t.big then 1 else 0) + (if t.signed then 8 else 0)
-
-abbrev pub type_body : Fixed → List ℕ
-type_body t = 16 ∷ class_bits t ∷ 0 ∷ 0 ∷ (middle t.size ++ (short 0 ++ (short (8 * t.size) ++ zeros 4)))
-
--- a fill value that is defined; space is made at this time, and the value is written if it was set
-abbrev pub fill_body : ℕ → Fixed → ℤ → List ℕ
-fill_body time t value = 2 ∷ time ∷ 2 ∷ 1 ∷ (middle t.size ++ (bytes_of t value ++ zeros (8 - t.size)))
-
-abbrev pub contiguous_body : ℕ → ℕ → List ℕ
-contiguous_body address size = 3 ∷ 1 ∷ (word address ++ (word size ++ zeros 6))
 
 -- the bytes of cells, one after another
 abbrev pub cells_bytes : Fixed → List ℤ → List ℕ
