@@ -8,9 +8,10 @@ use Rattle.h5_model.specs.Format.Superblock.{leaf_k}
 use Rattle.h5_model.specs.Format.Symbols.{symbol_bytes, symbols_in}
 use Rattle.h5_model.specs.Format.Reached.{Named, named, ObjectHeader, HeapHeader, group_root, entry_in}
 use Rattle.h5_model.specs.Faults.Breaches.{is_header}
+use Rattle.h5_model.specs.declared.open_fault.Cause.{Cause}
 use Rattle.h5_header.specs.Walk.Walked.{IsWalked}
 use Rattle.h5_header.specs.Walk.Met.{IsMet}
-use Rattle.h5_group.specs.Nodes.Walk.{AreSymbolsReached}
+use Rattle.h5_group.specs.Nodes.Walk.{IsFault, AreSymbolsReached}
 use Rattle.h5_group.specs.declared.group.Group.{Group}
 
 -- the walk has met the two fields of a Symbol Table message
@@ -41,3 +42,15 @@ pub record IsGroupFollowed (image : List ℕ) (held now : List Block) (followed 
   pub entries_met : (node i : ℕ) → IsHard image g node i → IsMet image now (new ++ followed) (entry_field image depth node i)
   pub entries_new : (node i : ℕ) → IsHard image g node i → cover (node + 16 + 40 * i - 8) held ≡ 0
   pub entries_apart : (node i other j : ℕ) → IsHard image g node i → IsHard image g other j → node + 16 + 40 * i ≡ other + 16 + 40 * j → (node ≡ other) × (i ≡ j)
+
+-- ---- a step of the walk, from wherever it has met the two fields of a Symbol Table message
+
+-- then it has followed this group
+abbrev pub FollowsGroup : List ℕ → List Block → List Block → SymbolTable → Group → Type 0
+FollowsGroup image old now table g = (followed : List Named) (first second depth : ℕ)
+    → IsGroupMet image old followed first second depth table → IsGroupFollowed image old now followed first second depth g
+
+-- the group is refused: the cause is a fault at the address
+abbrev pub IsGroupFault : List ℕ → List Block → SymbolTable → Cause → ℕ → Type 0
+IsGroupFault image old table cause address = (followed : List Named) (first second depth : ℕ)
+    → IsGroupMet image old followed first second depth table → IsFault image cause address

@@ -1,13 +1,11 @@
 //! The reading of a group (File Format Specification 3.0, sections III.A.1, III.B, III.D and IV.A.2.r).
 
-ghost use Rattle.std.specs.Prelude.{◌≡◌, ℕ, ◌+◌, List, length, IfOk, IfErr, OnOk};
-ghost use Rattle.h5_bytes.specs.Blocks.{cover, Separate};
+ghost use Rattle.std.specs.Prelude.{◌≡◌, length, IfOk, IfErr};
 ghost use Rattle.h5_model.specs.Format.Superblock.{IsSuperblock};
-ghost use Rattle.h5_model.specs.Format.Reached.{Named};
 ghost use Rattle.h5_model.specs.declared.open_fault.Cause.TheVariants.{NoMemory};
-ghost use Rattle.h5_group.specs.Nodes.Walk.{IsFault};
+ghost use Rattle.h5_space.specs.Claimed.{HasClaimed};
 ghost use Rattle.h5_group.specs.Links.{IsGroupRead, IsGroupReadable, blocks_of};
-ghost use Rattle.h5_group.specs.Walk.{IsGroupMet, IsGroupFollowed};
+ghost use Rattle.h5_group.specs.Walk.{FollowsGroup, IsGroupFault};
 
 use crate::nodes::{GroupTree, read_tree};
 use crate::order::check_order;
@@ -45,16 +43,11 @@ pub fn read_group(
     requires superblock { IsSuperblock image.now.bytes }
     ensures group { IfOk result (IsGroupRead image.now.bytes) }
     ensures table { IfOk result (λ g. g.table ≡ table) }
-    ensures claimed { IfOk result (λ g. (p : ℕ)
-        → cover p claims.new.held ≡ cover p claims.old.held + cover p (blocks_of image.now.bytes g)) }
-    ensures separate { OnOk result (Separate claims.new.held) }
+    ensures claimed { IfOk result (λ g. HasClaimed claims.old claims.new (blocks_of image.now.bytes g)) }
     ensures end { claims.new.end ≡ claims.old.end }
-    ensures walked { IfOk result (λ g. (followed : List Named) (first second depth : ℕ)
-        → IsGroupMet image.now.bytes claims.old.held followed first second depth table
-        → IsGroupFollowed image.now.bytes claims.old.held claims.new.held followed first second depth g) }
-    ensures refused { IfErr result (λ fault. (followed : List Named) (first second depth : ℕ)
-        → IsGroupMet image.now.bytes claims.old.held followed first second depth table
-        → IsFault image.now.bytes fault.cause fault.address) }
+    ensures walked { IfOk result (FollowsGroup image.now.bytes claims.old.held claims.new.held table) }
+    ensures refused { IfErr result (λ fault.
+        IsGroupFault image.now.bytes claims.old.held table fault.cause fault.address) }
     ensures only { IsGroupReadable image.now.bytes table claims.old.held
         → IfErr result (λ fault. fault.cause ≡ NoMemory) }
 {

@@ -8,6 +8,7 @@ use Rattle.h5_model.specs.Format.Reached.{Named, named, ObjectHeader}
 use Rattle.h5_model.specs.Format.Symbols.{Target, Header, Text, symbol_bytes, symbols_in}
 use Rattle.h5_model.specs.Faults.Breaches.{is_header}
 use Rattle.h5_model.specs.Format.Superblock.{leaf_k}
+use Rattle.h5_model.specs.declared.open_fault.Cause.{Cause}
 use Rattle.h5_header.specs.Heads.{is_read}
 use Rattle.h5_header.specs.Listed.{Listed, messages_in, IsWithin}
 use Rattle.h5_group.specs.declared.group.Group.{Group}
@@ -15,6 +16,7 @@ use Rattle.h5_header.specs.Walk.Walked.{IsWalked}
 use Rattle.h5_header.specs.Walk.Met.{IsMet, IsHeaderMet}
 use Rattle.h5_open.specs.declared.opened.object.OpenedObject.{OpenedObject}
 use Rattle.h5_open.specs.Opened.Kept.{IsObjectKept}
+use Rattle.h5_open.specs.Opened.NotYet.{IsRefusedAt}
 use Rattle.h5_open.specs.Opened.Objects.{links_of, object_blocks}
 use Rattle.h5_open.specs.Placed.Whole.{IsGroupContent}
 
@@ -70,3 +72,32 @@ pub record IsHeaderDone (image : List ℕ) (held now : List Block) (followed : L
   pub met : IsHeaderMet image held followed field m.header depth
   pub read : IsHeaderRead image m
   pub claimed : (p : ℕ) → cover p now ≡ cover p held + cover p m.blocks
+
+-- ---- a step of the walk, from wherever it has met a header so many links below the root
+
+-- then it has followed the fields of this object, but for its links
+abbrev pub FollowsObject : List ℕ → List Block → List Block → ℕ → ℕ → OpenedObject → Type 0
+FollowsObject image old now header depth o = (followed : List Named) (field : ℕ)
+    → IsHeaderMet image old followed field header depth → IsObjectFollowed image old now followed field o
+
+-- the object is refused
+abbrev pub IsObjectFault : List ℕ → List Block → ℕ → ℕ → Cause → ℕ → Type 0
+IsObjectFault image old header depth cause address = (followed : List Named) (field : ℕ)
+    → IsHeaderMet image old followed field header depth → IsRefusedAt image cause address
+
+-- ---- the same step, when the messages of the header are read
+
+-- with what was claimed before the header, the object is read
+abbrev pub IsContentRead : List ℕ → List Block → List Block → Listed → ℕ → OpenedObject → Type 0
+IsContentRead image old now m depth o = (held : List Block)
+    → ((p : ℕ) → cover p old ≡ cover p held + cover p m.blocks) → IsObjectRead image held now m.header depth o
+
+-- and its fields are followed
+abbrev pub FollowsContent : List ℕ → List Block → List Block → Listed → ℕ → OpenedObject → Type 0
+FollowsContent image old now m depth o = (held : List Block) (followed : List Named) (field : ℕ)
+    → IsHeaderDone image held old followed field depth m → IsObjectFollowed image held now followed field o
+
+-- or it is refused
+abbrev pub IsContentFault : List ℕ → List Block → Listed → ℕ → Cause → ℕ → Type 0
+IsContentFault image old m depth cause address = (held : List Block) (followed : List Named) (field : ℕ)
+    → IsHeaderDone image held old followed field depth m → IsRefusedAt image cause address

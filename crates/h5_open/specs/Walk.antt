@@ -8,12 +8,14 @@ use Rattle.h5_bytes.specs.declared.Block.{Block}
 use Rattle.h5_model.specs.Format.Reached.{Named, named, ObjectHeader}
 use Rattle.h5_model.specs.Format.Symbols.{Target, Header, Text}
 use Rattle.h5_model.specs.Faults.Breaches.{is_header}
+use Rattle.h5_model.specs.declared.open_fault.Cause.{Cause}
 use Rattle.h5_group.specs.Links.{link_from}
 use Rattle.h5_group.specs.declared.link.LinkRef.{LinkRef}
 use Rattle.h5_header.specs.Walk.Walked.{IsWalked}
 use Rattle.h5_header.specs.Walk.Met.{IsMet}
 use Rattle.h5_open.specs.declared.opened.object.OpenedObject.{OpenedObject}
 use Rattle.h5_open.specs.Opened.Kept.{IsObjectKept, IsIndex}
+use Rattle.h5_open.specs.Opened.NotYet.{IsRefusedAt}
 use Rattle.h5_open.specs.Opened.Objects.{headers, links_of, object_blocks}
 use Rattle.h5_open.specs.Placed.Whole.{IsGroupContent, IsLed, AreLed, HasParent, AreNamed, opened_blocks}
 use Rattle.h5_open.specs.Read.{IsOwn, AreWaiting}
@@ -74,6 +76,27 @@ pub record IsLinkRead (image : List ℕ) (held now : List Block) (followed : Lis
   pub more : List OpenedObject
   pub further : IsFurther image held now followed field objects objects' more
   pub led : IsLed objects' depth link
+
+-- ---- steps of the walk
+
+-- from wherever it has come to a field that names this header, it then has read the object there and all below it
+abbrev pub ReadsFrom : List ℕ → List Block → List Block → List OpenedObject → List OpenedObject → ℕ → ℕ → Type 0
+ReadsFrom image old now objects objects' header depth = (followed : List Named) (field : ℕ)
+    → IsReady image old followed objects field header depth → IsTreeRead image old now followed objects objects' field header depth
+
+-- or one of these objects is refused
+abbrev pub IsFaultFrom : List ℕ → List Block → List OpenedObject → ℕ → ℕ → Cause → ℕ → Type 0
+IsFaultFrom image old objects header depth cause address = (followed : List Named) (field : ℕ)
+    → IsReady image old followed objects field header depth → IsRefusedAt image cause address
+
+-- the same from wherever it has come to this link
+abbrev pub ReadsLink : List ℕ → List Block → List Block → List OpenedObject → List OpenedObject → ℕ → (List ℕ × Target) → Type 0
+ReadsLink image old now objects objects' depth link = (followed : List Named) (field : ℕ)
+    → IsLinkReady image old followed objects field depth link → IsLinkRead image old now followed objects objects' field depth link
+
+abbrev pub IsLinkFault : List ℕ → List Block → List OpenedObject → ℕ → (List ℕ × Target) → Cause → ℕ → Type 0
+IsLinkFault image old objects depth link cause address = (followed : List Named) (field : ℕ)
+    → IsLinkReady image old followed objects field depth link → IsRefusedAt image cause address
 
 -- Of the links of an object that was read, so many were followed; the others wait.
 pub record IsPartly (image : List ℕ) (held now : List Block) (followed : List Named) (objects objects' : List OpenedObject) (field header depth : ℕ) (links : List LinkRef) (k : ℕ) : Type 0 where

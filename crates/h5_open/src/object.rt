@@ -1,21 +1,18 @@
 //! The reading of one object: its header, and its group or the cells of its array (File Format Specification 3.0, sections III and
 //! IV.A).
 
-ghost use Rattle.std.specs.Prelude.{◌≡◌, ℕ, ◌+◌, ◌≤◌, Some, List, length, map, IfOk, IfErr, OnOk};
+ghost use Rattle.std.specs.Prelude.{◌≡◌, ℕ, ◌+◌, ◌≤◌, Some, length, map, IfOk, IfErr, OnOk};
 ghost use Rattle.h5_bytes.specs.Blocks.{cover, Separate, Inside};
 ghost use Rattle.h5_bytes.specs.declared.Block.{Block};
 ghost use Rattle.h5_model.specs.Format.Superblock.{IsSuperblock};
-ghost use Rattle.h5_model.specs.Format.Reached.{Named};
 ghost use Rattle.h5_header.specs.Kinds.{IsOfGroup, IsOfDataset};
 ghost use Rattle.h5_header.specs.Listed.{messages_in};
 ghost use Rattle.h5_header.specs.Progress.{ClaimBreach};
 ghost use Rattle.h5_group.specs.Links.{IsGroupRead, links_of, link_from};
-ghost use Rattle.h5_header.specs.Walk.Met.{IsHeaderMet};
 ghost use Rattle.h5_open.specs.Opened.Array.{data_blocks};
 ghost use Rattle.h5_open.specs.Opened.Kept.{IsObjectKept};
-ghost use Rattle.h5_open.specs.Opened.NotYet.{IsRefusedAt};
 ghost use Rattle.h5_open.specs.Opened.Objects.{links_of as object_links};
-ghost use Rattle.h5_open.specs.Read.{IsHeaderRead, IsHeaderDone, IsObjectRead, IsObjectFollowed, IsDeepAt};
+ghost use Rattle.h5_open.specs.Read.{IsHeaderRead, IsObjectRead, FollowsObject, IsObjectFault, IsContentRead, FollowsContent, IsContentFault, IsDeepAt};
 
 use crate::judge::{judge_group, judge_kind, judge_line};
 use crate::opened::{OpenedContent, OpenedObject};
@@ -48,12 +45,10 @@ pub(crate) fn read_object(
         IsObjectRead image.now.bytes claims.old.held claims.new.held header depth o) }
     ensures separate { OnOk result (Separate claims.new.held) }
     ensures end { claims.new.end ≡ claims.old.end }
-    ensures followed { IfOk result (λ o. (followed : List Named) (field : ℕ)
-        → IsHeaderMet image.now.bytes claims.old.held followed field header depth
-        → IsObjectFollowed image.now.bytes claims.old.held claims.new.held followed field o) }
-    ensures refused { IfErr result (λ fault. (followed : List Named) (field : ℕ)
-        → IsHeaderMet image.now.bytes claims.old.held followed field header depth
-        → IsRefusedAt image.now.bytes fault.cause fault.address) }
+    ensures followed { IfOk result
+        (FollowsObject image.now.bytes claims.old.held claims.new.held header depth) }
+    ensures refused { IfErr result (λ fault.
+        IsObjectFault image.now.bytes claims.old.held header depth fault.cause fault.address) }
 {
     let messages = h5_header::messages(alloc, image, claims, header)?;
     match judge_kind(image, &messages, depth)? {
@@ -75,17 +70,14 @@ fn read_group_object(
     requires header { IsHeaderRead image.now.bytes messages }
     requires separate { Separate claims.old.held }
     requires kind { IsOfGroup (messages_in image.now.bytes messages.list) }
-    ensures read { IfOk result (λ o. (held : List Block)
-        → ((p : ℕ) → cover p claims.old.held ≡ cover p held + cover p messages.blocks)
-        → IsObjectRead image.now.bytes held claims.new.held messages.header depth o) }
+    ensures read { IfOk result
+        (IsContentRead image.now.bytes claims.old.held claims.new.held messages depth) }
     ensures separate { OnOk result (Separate claims.new.held) }
     ensures end { claims.new.end ≡ claims.old.end }
-    ensures followed { IfOk result (λ o. (held : List Block) (followed : List Named) (field : ℕ)
-        → IsHeaderDone image.now.bytes held claims.old.held followed field depth messages
-        → IsObjectFollowed image.now.bytes held claims.new.held followed field o) }
-    ensures refused { IfErr result (λ fault. (held : List Block) (followed : List Named) (field : ℕ)
-        → IsHeaderDone image.now.bytes held claims.old.held followed field depth messages
-        → IsRefusedAt image.now.bytes fault.cause fault.address) }
+    ensures followed { IfOk result
+        (FollowsContent image.now.bytes claims.old.held claims.new.held messages depth) }
+    ensures refused { IfErr result (λ fault.
+        IsContentFault image.now.bytes claims.old.held messages depth fault.cause fault.address) }
 {
     let table = judge_group(alloc, image, &messages)?;
     let group = read_group(alloc, image, claims, table)?;
@@ -110,17 +102,14 @@ fn read_array_object(
     requires separate { Separate claims.old.held }
     requires kind { IsOfDataset (messages_in image.now.bytes messages.list) }
     requires inner { 1 ≤ depth }
-    ensures read { IfOk result (λ o. (held : List Block)
-        → ((p : ℕ) → cover p claims.old.held ≡ cover p held + cover p messages.blocks)
-        → IsObjectRead image.now.bytes held claims.new.held messages.header depth o) }
+    ensures read { IfOk result
+        (IsContentRead image.now.bytes claims.old.held claims.new.held messages depth) }
     ensures separate { OnOk result (Separate claims.new.held) }
     ensures end { claims.new.end ≡ claims.old.end }
-    ensures followed { IfOk result (λ o. (held : List Block) (followed : List Named) (field : ℕ)
-        → IsHeaderDone image.now.bytes held claims.old.held followed field depth messages
-        → IsObjectFollowed image.now.bytes held claims.new.held followed field o) }
-    ensures refused { IfErr result (λ fault. (held : List Block) (followed : List Named) (field : ℕ)
-        → IsHeaderDone image.now.bytes held claims.old.held followed field depth messages
-        → IsRefusedAt image.now.bytes fault.cause fault.address) }
+    ensures followed { IfOk result
+        (FollowsContent image.now.bytes claims.old.held claims.new.held messages depth) }
+    ensures refused { IfErr result (λ fault.
+        IsContentFault image.now.bytes claims.old.held messages depth fault.cause fault.address) }
 {
     let line = judge_line(alloc, image, &messages)?;
     claim_data(claims, line.cells)?;

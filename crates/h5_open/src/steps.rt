@@ -1,8 +1,7 @@
 //! The walk of opening: from the superblock to all objects, depth first (File Format Specification 3.0, sections II.A, III and IV.A).
 
-ghost use Rattle.std.specs.Prelude.{◌≡◌, ℕ, ◌+◌, ◌^◌, ◌≤◌, [], List, length, IfOk, IfErr, OnOk};
+ghost use Rattle.std.specs.Prelude.{◌≡◌, ◌+◌, ◌^◌, ◌≤◌, [], length, IfOk, IfErr, OnOk};
 ghost use Rattle.std.specs.List.{Contains};
-ghost use Rattle.h5_model.specs.Format.Reached.{Named};
 ghost use Rattle.h5_model.specs.Format.Superblock.{IsSuperblock, end_of_file};
 ghost use Rattle.h5_group.specs.Links.{link_from};
 ghost use Rattle.h5_header.specs.Walk.Walked.{IsWalked};
@@ -10,7 +9,7 @@ ghost use Rattle.h5_open.specs.Opened.Kept.{IsOpened};
 ghost use Rattle.h5_open.specs.Opened.NotYet.{IsRefusedAt};
 ghost use Rattle.h5_open.specs.Opened.Objects.{headers};
 ghost use Rattle.h5_bytes.specs.Blocks.{Separate};
-ghost use Rattle.h5_open.specs.Walk.{IsNumbered, IsReady, IsTreeRead, IsLinkReady, IsLinkRead};
+ghost use Rattle.h5_open.specs.Walk.{IsNumbered, ReadsFrom, IsFaultFrom, ReadsLink, IsLinkFault};
 
 use crate::counts::check_counts;
 use crate::index::{object_at, push_object};
@@ -88,13 +87,10 @@ fn read_tree(
     requires depth { depth ≤ 64 }
     ensures end { claims.new.end ≡ claims.old.end }
     ensures index { OnOk result (IsNumbered opened.new.objects.items opened.new.numbers) }
-    ensures read { OnOk result ((followed : List Named) (field : ℕ)
-        → IsReady image.now.bytes claims.old.held followed opened.old.objects.items field header depth
-        → IsTreeRead image.now.bytes claims.old.held claims.new.held followed opened.old.objects.items
-        opened.new.objects.items field header depth) }
-    ensures refused { IfErr result (λ fault. (followed : List Named) (field : ℕ)
-        → IsReady image.now.bytes claims.old.held followed opened.old.objects.items field header depth
-        → IsRefusedAt image.now.bytes fault.cause fault.address) }
+    ensures read { OnOk result (ReadsFrom image.now.bytes claims.old.held claims.new.held
+        opened.old.objects.items opened.new.objects.items header depth) }
+    ensures refused { IfErr result (λ fault. IsFaultFrom image.now.bytes claims.old.held
+        opened.old.objects.items header depth fault.cause fault.address) }
 {
     let object = read_object(alloc, image, claims, header, depth)?;
     let links = links_in(alloc, image, &object)?;
@@ -122,15 +118,10 @@ fn follow(
     requires depth { depth + 1 ≤ 64 }
     ensures end { claims.new.end ≡ claims.old.end }
     ensures index { OnOk result (IsNumbered opened.new.objects.items opened.new.numbers) }
-    ensures read { OnOk result ((followed : List Named) (field : ℕ)
-        → IsLinkReady image.now.bytes claims.old.held followed opened.old.objects.items field depth
-        (link_from link.entry)
-        → IsLinkRead image.now.bytes claims.old.held claims.new.held followed opened.old.objects.items
-        opened.new.objects.items field depth (link_from link.entry)) }
-    ensures refused { IfErr result (λ fault. (followed : List Named) (field : ℕ)
-        → IsLinkReady image.now.bytes claims.old.held followed opened.old.objects.items field depth
-        (link_from link.entry)
-        → IsRefusedAt image.now.bytes fault.cause fault.address) }
+    ensures read { OnOk result (ReadsLink image.now.bytes claims.old.held claims.new.held
+        opened.old.objects.items opened.new.objects.items depth (link_from link.entry)) }
+    ensures refused { IfErr result (λ fault. IsLinkFault image.now.bytes claims.old.held
+        opened.old.objects.items depth (link_from link.entry) fault.cause fault.address) }
 {
     let LinkTarget::Object(header) = link.target else {
         return Ok(());

@@ -1,6 +1,6 @@
 -- What a walk has claimed: the end that no block may pass, and the claimed bytes as blocks.
 use Rattle.std.specs.Prelude.{◌≡◌, ℕ, ◌+◌, ◌<◌, List}
-use Rattle.h5_bytes.specs.Blocks.{holds, cover}
+use Rattle.h5_bytes.specs.Blocks.{holds, cover, Separate}
 use Rattle.h5_bytes.specs.declared.Block.{Block}
 use Rattle.h5_model.specs.declared.open_fault.Cause.{Cause}
 use Rattle.h5_model.specs.declared.open_fault.Cause.TheVariants.{Truncated, Overlap, NoMemory}
@@ -19,3 +19,8 @@ ClaimBreach end held b Truncated address = (address ≡ b.at) × (end < b.at + b
 ClaimBreach end held b Overlap address = (address ≡ b.at) × Shares held b.at b.len
 ClaimBreach end held b NoMemory address = Unit {0}
 ClaimBreach end held b _ address = ⊥
+
+-- these blocks were claimed in addition, and no two claimed blocks share a byte
+pub record HasClaimed (old new : Claimed) (blocks : List Block) : Type 0 where
+  pub covered : (p : ℕ) → cover p new.held ≡ cover p old.held + cover p blocks
+  pub separate : Separate new.held

@@ -20,22 +20,12 @@ use Rattle.h5_header.proofs.WalkLaws.MetFields.{met_walked}
 use Rattle.h5_group.specs.Nodes.Trees.{kind_in}
 use Rattle.h5_group.specs.Nodes.Walk.{IsFault}
 use Rattle.h5_group.specs.Nodes.Below.{reading_in, IsInner, IsTaken, nodes_below, symbols_below}
-use Rattle.h5_group.specs.Nodes.Further.{child_place, child_role, child_field, AreChildrenMet, IsPlaceBelow, IsFurther}
+use Rattle.h5_group.specs.Nodes.Further.{child_place, child_role, child_field, AreChildrenMet, IsPlaceBelow, IsFurther, WalksTo, IsFaultBelow}
 use Rattle.h5_group.specs.Nodes.Refused.{IsRefusedFor}
 use Rattle.h5_group.proofs.NodeLaws.NodeFaults.{refused_for}
 use Rattle.h5_group.proofs.NodeLaws.RowJoin.{cover-below}
 use Rattle.h5_group.proofs.NodeLaws.Taken.{cover-blocks, nodes_inner}
 use Rattle.h5_group.proofs.NodeLaws.Steps.{symbol_fault, node_fault, child_within, children_met}
-
--- a walk that has met a node's children goes as far as these
-abbrev pub WalksTo : List ℕ → List Block → List Block → ℕ → Node → List ℕ → Type 0
-WalksTo image old now level node row = (followed : List Named) (root heap depth at : ℕ)
-    → AreChildrenMet image old followed root heap depth level at node → IsFurther image now followed (IsPlaceBelow image level at row)
-
--- a cause that is a fault on such a walk
-abbrev pub IsFaultBelow : List ℕ → List Block → ℕ → Node → Cause → ℕ → Type 0
-IsFaultBelow image old level node cause address = (followed : List Named) (root heap depth at : ℕ)
-    → AreChildrenMet image old followed root heap depth level at node → IsFault image cause address
 
 pub all_weaker : (P Q : ℕ → Type 0) (ys : List Named) → ((g : ℕ) → P g → Q g) → AllByRecursion (λ (y : Named). P y.field) ys → AllByRecursion (λ (y : Named). Q y.field) ys
 all_weaker P Q [] f all = tt

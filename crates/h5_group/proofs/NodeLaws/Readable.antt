@@ -44,7 +44,7 @@ module _ (image : List ℕ) where
   below_left (suc level) xs ys all = (
     all_left (IsInner image level) xs ys all.0,
     below_left level (next_row (reading_in image) xs) (next_row (reading_in image) ys)
-    (subst (AreBelow image level) (next_row-append (reading_in image) xs ys) all.1),
+        (subst (AreBelow image level) (next_row-append (reading_in image) xs ys) all.1),
   )
 
   below_right : (level : ℕ) (xs ys : List ℕ) → AreBelow image level (xs ++ ys) → AreBelow image level ys
@@ -52,7 +52,7 @@ module _ (image : List ℕ) where
   below_right (suc level) xs ys all = (
     all_right (IsInner image level) xs ys all.0,
     below_right level (next_row (reading_in image) xs) (next_row (reading_in image) ys)
-    (subst (AreBelow image level) (next_row-append (reading_in image) xs ys) all.1),
+        (subst (AreBelow image level) (next_row-append (reading_in image) xs ys) all.1),
   )
 
   -- ---- one block
@@ -151,8 +151,7 @@ module _ (image : List ℕ) where
   rows_inner zero row are stands filled bottoms = (row_inner 0 _ row are stands filled, bottoms)
   rows_inner (suc level) row are stands filled bottoms =
       let next = next_row (reading_in image) row in
-      let ns = nodes (reading_in image) level next in
-      (
+      let ns = nodes (reading_in image) level next in (
         row_inner (suc level) _ row are.0 (all_left (IsNodeAt image) row ns stands) (all_left IsFilled row ns filled),
         rows_inner level next are.1 (all_right (IsNodeAt image) row ns stands) (all_right IsFilled row ns filled) bottoms,
       )

@@ -14,11 +14,11 @@ use Rattle.h5_header.specs.Walk.Walked.{IsWalked}
 use Rattle.h5_group.specs.Nodes.Trees.{kind_in, nodes_blocks}
 use Rattle.h5_group.specs.Nodes.Walk.{IsFault, IsTreeMet}
 use Rattle.h5_group.specs.Nodes.Below.{reading_in, IsStanding, IsTaken, nodes_below}
-use Rattle.h5_group.specs.Nodes.Further.{child_place, AreChildrenMet, IsPlaceBelow, IsPlaceIn, IsFurther}
+use Rattle.h5_group.specs.Nodes.Further.{child_place, AreChildrenMet, IsPlaceBelow, IsPlaceIn, IsFurther, WalksTo, IsFaultBelow}
 use Rattle.h5_group.specs.Nodes.Refused.{IsRefusedFor}
 use Rattle.h5_group.proofs.NodeLaws.Taken.{blocks_below, blocks_inner, nodes_inner}
 use Rattle.h5_group.proofs.NodeLaws.Steps.{node_fault, child_within, children_met}
-use Rattle.h5_group.proofs.NodeLaws.FurtherLaws.{WalksTo, IsFaultBelow, all_weaker}
+use Rattle.h5_group.proofs.NodeLaws.FurtherLaws.{all_weaker}
 
 module _ (image : List ℕ) (root : ℕ) (old : List Block) where
   abbrev level : ℕ

@@ -1,17 +1,19 @@
 -- A walk that comes to the children of a node of a group's tree, and goes further from there (File Format Specification 3.0, section
 -- III.A.1).
-use Rattle.std.specs.Prelude.{◌≡◌, ℕ, zero, suc, ◌+◌, ◌-◌, ◌<◌, ◌≤◌, ◌⊎◌, List, ◌++◌, false, length}
+use Rattle.std.specs.Prelude.{◌≡◌, ℕ, zero, suc, ◌+◌, ◌-◌, ◌<◌, ◌≤◌, ◌⊎◌, List, [], ◌∷◌, ◌++◌, false, length}
 use Rattle.std.specs.List.{AllByRecursion}
 use Rattle.h5_bytes.specs.Blocks.{cover}
 use Rattle.h5_bytes.specs.declared.Block.{Block}
-use Rattle.h5_model.specs.Format.Rows.{Node}
+use Rattle.h5_model.specs.Format.Rows.{Node, nodes}
 use Rattle.h5_model.specs.Format.Nodes.{node_bytes, key_place, child_in, tree_blocks}
 use Rattle.h5_model.specs.Format.Reached.{Named, Role, named, GroupNode, SymbolNode}
 use Rattle.h5_model.specs.Faults.Breaches.{is_header}
+use Rattle.h5_model.specs.declared.open_fault.Cause.{Cause}
 use Rattle.h5_header.specs.Walk.Walked.{IsWalked}
 use Rattle.h5_header.specs.Walk.Met.{IsMet}
 use Rattle.h5_group.specs.Nodes.Trees.{kind_in}
 use Rattle.h5_group.specs.Nodes.Below.{reading_in, nodes_below}
+use Rattle.h5_group.specs.Nodes.Walk.{IsFault, IsTreeMet}
 
 -- where child j of the node at an address is named
 abbrev pub child_place : List ℕ → ℕ → ℕ → ℕ
@@ -51,3 +53,21 @@ pub record IsFurther (image : List ℕ) (now : List Block) (followed : List Name
   pub walked : IsWalked image now (new ++ followed)
   pub inner : AllByRecursion (λ (y : Named). is_header y.role ≡ false) new
   pub places : AllByRecursion (λ (y : Named). Place y.field) new
+
+-- ---- steps of the walk
+
+-- wherever it has met the field that names the root of this level, it then has followed all nodes of the tree
+abbrev pub WalksTree : List ℕ → List Block → List Block → ℕ → ℕ → Type 0
+WalksTree image old now root level = (followed : List Named) (field heap depth : ℕ)
+    → IsTreeMet image old followed field root heap depth
+    → IsFurther image now followed (IsPlaceIn image field (nodes (reading_in image) level (root ∷ [])))
+
+-- wherever it has met the fields of a node, of this level, that name its children, it then has followed these and all below them
+abbrev pub WalksTo : List ℕ → List Block → List Block → ℕ → Node → List ℕ → Type 0
+WalksTo image old now level node row = (followed : List Named) (root heap depth at : ℕ)
+    → AreChildrenMet image old followed root heap depth level at node → IsFurther image now followed (IsPlaceBelow image level at row)
+
+-- a child, or what stands below it, is refused: the cause is a fault at the address
+abbrev pub IsFaultBelow : List ℕ → List Block → ℕ → Node → Cause → ℕ → Type 0
+IsFaultBelow image old level node cause address = (followed : List Named) (root heap depth at : ℕ)
+    → AreChildrenMet image old followed root heap depth level at node → IsFault image cause address

@@ -39,3 +39,15 @@ pub record IsTreeFollowed (image : List ℕ) (now : List Block) (followed : List
   pub stands : AllByRecursion (λ (y : Named). (y.field ≡ field) ⊎ (1 ≤ cover (y.field - 8) (tree_blocks (kind_in image) nodes))) new
   pub nodes_reached : AllByRecursion (IsNodeReached image root heap depth) nodes
   pub symbols_reached : AllByRecursion (AreSymbolsReached image root heap depth) symbol_nodes
+
+-- ---- steps of the walk, from wherever it has met the field that names the root
+
+-- then it has followed this tree
+abbrev pub FollowsTree : List ℕ → List Block → List Block → ℕ → List ℕ → List ℕ → Type 0
+FollowsTree image old now root nodes symbol_nodes = (followed : List Named) (field heap depth : ℕ)
+    → IsTreeMet image old followed field root heap depth → IsTreeFollowed image now followed field root heap depth nodes symbol_nodes
+
+-- the tree is refused: the cause is a fault at the address
+abbrev pub IsTreeFault : List ℕ → List Block → ℕ → Cause → ℕ → Type 0
+IsTreeFault image old root cause address = (followed : List Named) (field heap depth : ℕ)
+    → IsTreeMet image old followed field root heap depth → IsFault image cause address

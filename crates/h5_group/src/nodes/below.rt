@@ -1,17 +1,17 @@
 //! What stands below the nodes of a group's tree (File Format Specification 3.0, sections III.A.1 and III.B).
 
-ghost use Rattle.std.specs.Prelude.{◌≡◌, ℕ, ◌+◌, ◌≤◌, List, [], ◌∷◌, length, IfOk, IfErr, OnOk};
-ghost use Rattle.h5_bytes.specs.Blocks.{cover, Separate};
+ghost use Rattle.std.specs.Prelude.{◌≡◌, ◌≤◌, [], ◌∷◌, length, IfOk, IfErr, OnOk};
+ghost use Rattle.h5_bytes.specs.Blocks.{Separate};
 ghost use Rattle.h5_model.specs.Format.Rows.{leaves, nodes};
 ghost use Rattle.h5_model.specs.Format.Nodes.{entries_in, node_bytes};
 ghost use Rattle.h5_model.specs.Format.Superblock.{IsSuperblock};
-ghost use Rattle.h5_model.specs.Format.Reached.{Named};
 ghost use Rattle.h5_model.specs.declared.open_fault.Cause.TheVariants.{NoMemory};
+ghost use Rattle.h5_space.specs.Claimed.{HasClaimed};
 ghost use Rattle.h5_group.specs.Nodes.Trees.{kind_in, nodes_blocks};
 ghost use Rattle.h5_group.specs.Nodes.Below.{reading_in, IsTaken};
 ghost use Rattle.h5_group.specs.Nodes.Rows.{IsLevel};
-ghost use Rattle.h5_group.specs.Nodes.Further.{AreChildrenMet, IsFurther, IsPlaceBelow, IsPlaceIn};
-ghost use Rattle.h5_group.specs.Nodes.Walk.{IsFault, IsTreeMet};
+ghost use Rattle.h5_group.specs.Nodes.Further.{WalksTree, WalksTo, IsFaultBelow};
+ghost use Rattle.h5_group.specs.Nodes.Walk.{IsTreeFault};
 ghost use Rattle.h5_group.specs.Nodes.Readable.{IsTreeReadable, AreReadableBelow};
 
 use crate::nodes::node::{claim_inner, claim_root};
@@ -28,20 +28,14 @@ pub(crate) fn claim_tree(image: &Image, claims: &mut Claims, root: u64) -> Resul
     ensures read { IfOk result (λ level. IsLevel image.now.bytes level (root ∷ [])) }
     ensures filled { IfOk result (λ level.
         1 ≤ level → 1 ≤ entries_in (node_bytes image.now.bytes (kind_in image.now.bytes) root)) }
-    ensures claimed { IfOk result (λ level. (p : ℕ) → cover p claims.new.held
-        ≡ cover p claims.old.held
-        + cover p
+    ensures claimed { IfOk result (λ level. HasClaimed claims.old claims.new
         (nodes_blocks image.now.bytes (nodes (reading_in image.now.bytes) level (root ∷ []))
         (leaves (reading_in image.now.bytes) level (root ∷ [])))) }
-    ensures separate { OnOk result (Separate claims.new.held) }
     ensures end { claims.new.end ≡ claims.old.end }
-    ensures walked { IfOk result (λ level. (followed : List Named) (field heap depth : ℕ)
-        → IsTreeMet image.now.bytes claims.old.held followed field root heap depth
-        → IsFurther image.now.bytes claims.new.held followed
-        (IsPlaceIn image.now.bytes field (nodes (reading_in image.now.bytes) level (root ∷ [])))) }
-    ensures refused { IfErr result (λ fault. (followed : List Named) (field heap depth : ℕ)
-        → IsTreeMet image.now.bytes claims.old.held followed field root heap depth
-        → IsFault image.now.bytes fault.cause fault.address) }
+    ensures walked { IfOk result (λ level.
+        WalksTree image.now.bytes claims.old.held claims.new.held root level) }
+    ensures refused { IfErr result (λ fault.
+        IsTreeFault image.now.bytes claims.old.held root fault.cause fault.address) }
     ensures only { IsTreeReadable image.now.bytes root claims.old.held
         → IfErr result (λ fault. fault.cause ≡ NoMemory) }
 {
@@ -65,13 +59,10 @@ pub(crate) fn claim_below(
     ensures taken { OnOk result
         (IsTaken image.now.bytes level node.now.children claims.old.held claims.new.held) }
     ensures end { claims.new.end ≡ claims.old.end }
-    ensures walked { OnOk result ((followed : List Named) (root heap depth at : ℕ)
-        → AreChildrenMet image.now.bytes claims.old.held followed root heap depth level at node.now
-        → IsFurther image.now.bytes claims.new.held followed
-        (IsPlaceBelow image.now.bytes level at node.now.children)) }
-    ensures refused { IfErr result (λ fault. (followed : List Named) (root heap depth at : ℕ)
-        → AreChildrenMet image.now.bytes claims.old.held followed root heap depth level at node.now
-        → IsFault image.now.bytes fault.cause fault.address) }
+    ensures walked { OnOk result
+        (WalksTo image.now.bytes claims.old.held claims.new.held level node.now node.now.children) }
+    ensures refused { IfErr result (λ fault.
+        IsFaultBelow image.now.bytes claims.old.held level node.now fault.cause fault.address) }
     ensures only { AreReadableBelow image.now.bytes level node.now.children claims.old.held
         → IfErr result (λ fault. fault.cause ≡ NoMemory) }
 {

@@ -1,12 +1,12 @@
 //! The reading of a group's tree (File Format Specification 3.0, sections III.A.1 and III.B).
 
-ghost use Rattle.std.specs.Prelude.{◌≡◌, ℕ, ◌+◌, List, length, IfOk, IfErr, OnOk};
-ghost use Rattle.h5_bytes.specs.Blocks.{cover, Separate, Inside};
+ghost use Rattle.std.specs.Prelude.{◌≡◌, length, IfOk, IfErr};
+ghost use Rattle.h5_bytes.specs.Blocks.{Inside};
 ghost use Rattle.h5_model.specs.Format.Superblock.{IsSuperblock};
-ghost use Rattle.h5_model.specs.Format.Reached.{Named};
 ghost use Rattle.h5_model.specs.declared.open_fault.Cause.TheVariants.{NoMemory};
+ghost use Rattle.h5_space.specs.Claimed.{HasClaimed};
 ghost use Rattle.h5_group.specs.Nodes.Trees.{IsTree, nodes_blocks};
-ghost use Rattle.h5_group.specs.Nodes.Walk.{IsFault, IsTreeMet, IsTreeFollowed};
+ghost use Rattle.h5_group.specs.Nodes.Walk.{FollowsTree, IsTreeFault};
 ghost use Rattle.h5_group.specs.Nodes.Readable.{IsTreeReadable};
 
 use crate::nodes::below::claim_tree;
@@ -42,18 +42,13 @@ pub fn read_tree(
     ensures tree { IfOk result (λ t. IsTree image.now.bytes root t.nodes.items t.symbol_nodes.items) }
     ensures inside { IfOk result (λ t.
         Inside (length image.now.bytes) (nodes_blocks image.now.bytes t.nodes.items t.symbol_nodes.items)) }
-    ensures claimed { IfOk result (λ t. (p : ℕ)
-        → cover p claims.new.held ≡ cover p claims.old.held
-        + cover p (nodes_blocks image.now.bytes t.nodes.items t.symbol_nodes.items)) }
-    ensures separate { OnOk result (Separate claims.new.held) }
+    ensures claimed { IfOk result (λ t. HasClaimed claims.old claims.new
+        (nodes_blocks image.now.bytes t.nodes.items t.symbol_nodes.items)) }
     ensures end { claims.new.end ≡ claims.old.end }
-    ensures walked { IfOk result (λ t. (followed : List Named) (field heap depth : ℕ)
-        → IsTreeMet image.now.bytes claims.old.held followed field root heap depth
-        → IsTreeFollowed image.now.bytes claims.new.held followed field root heap depth t.nodes.items
-        t.symbol_nodes.items) }
-    ensures refused { IfErr result (λ fault. (followed : List Named) (field heap depth : ℕ)
-        → IsTreeMet image.now.bytes claims.old.held followed field root heap depth
-        → IsFault image.now.bytes fault.cause fault.address) }
+    ensures walked { IfOk result (λ t. FollowsTree image.now.bytes claims.old.held claims.new.held root
+        t.nodes.items t.symbol_nodes.items) }
+    ensures refused { IfErr result (λ fault.
+        IsTreeFault image.now.bytes claims.old.held root fault.cause fault.address) }
     ensures only { IsTreeReadable image.now.bytes root claims.old.held
         → IfErr result (λ fault. fault.cause ≡ NoMemory) }
 {

@@ -1,16 +1,14 @@
 //! The symbol nodes of a group's tree (File Format Specification 3.0, section III.B).
 
-ghost use Rattle.std.specs.Prelude.{◌≡◌, ℕ, ◌+◌, ◌*◌, List, length, IfErr, OnOk};
+ghost use Rattle.std.specs.Prelude.{◌≡◌, ℕ, ◌+◌, ◌*◌, length, IfErr, OnOk};
 ghost use Rattle.h5_bytes.specs.Blocks.{holds, cover, Separate};
 ghost use Rattle.h5_model.specs.Format.Superblock.{IsSuperblock, leaf_k as leaf_of};
 ghost use Rattle.h5_model.specs.Format.Symbols.{symbol_block};
 ghost use Rattle.h5_model.specs.Faults.TreeFaults.{SymbolBreach};
-ghost use Rattle.h5_model.specs.Format.Reached.{Named};
 ghost use Rattle.h5_group.specs.Nodes.Below.{IsBottom, IsTaken};
-ghost use Rattle.h5_group.specs.Nodes.Further.{AreChildrenMet, IsFurther, IsPlaceBelow};
+ghost use Rattle.h5_group.specs.Nodes.Further.{WalksTo, IsFaultBelow};
 ghost use Rattle.h5_group.specs.Nodes.Readable.{AreReadableBelow};
 ghost use Rattle.h5_group.specs.Nodes.Refused.{IsRefusedFor};
-ghost use Rattle.h5_group.specs.Nodes.Walk.{IsFault};
 
 use h5_btree::Node;
 use h5_bytes::Block;
@@ -30,13 +28,10 @@ pub(crate) fn claim_symbol_nodes(
     ensures taken { OnOk result
         (IsTaken image.now.bytes 0 node.now.children claims.old.held claims.new.held) }
     ensures end { claims.new.end ≡ claims.old.end }
-    ensures walked { OnOk result ((followed : List Named) (root heap depth at : ℕ)
-        → AreChildrenMet image.now.bytes claims.old.held followed root heap depth 0 at node.now
-        → IsFurther image.now.bytes claims.new.held followed
-        (IsPlaceBelow image.now.bytes 0 at node.now.children)) }
-    ensures refused { IfErr result (λ fault. (followed : List Named) (root heap depth at : ℕ)
-        → AreChildrenMet image.now.bytes claims.old.held followed root heap depth 0 at node.now
-        → IsFault image.now.bytes fault.cause fault.address) }
+    ensures walked { OnOk result
+        (WalksTo image.now.bytes claims.old.held claims.new.held 0 node.now node.now.children) }
+    ensures refused { IfErr result (λ fault.
+        IsFaultBelow image.now.bytes claims.old.held 0 node.now fault.cause fault.address) }
     ensures only { AreReadableBelow image.now.bytes 0 node.now.children claims.old.held
         → IfErr result (λ fault. fault.cause ≡ Cause.NoMemory) }
 {

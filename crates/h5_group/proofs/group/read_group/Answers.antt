@@ -62,13 +62,17 @@ returns-clause-group c =
     group_read image g c.in_ok-tree.tree.nodes.items tree c.in_ok-heap.heap.free c.in_ok-check_texts.ensures.texts order heap c.in_ok-tree.ensures.inside inside
 
 pub returns-clause-claimed : goal.returns-clause-claimed
-returns-clause-claimed c p =
+returns-clause-claimed c =
     let image = c.args.image.now.bytes in
     let g : Group = record { table = c.args.table; symbol_nodes = c.in_ok-tree.tree.symbol_nodes } in
     let tree : IsTree image g.table.tree c.in_ok-tree.tree.nodes.items g.symbol_nodes.items = rw c.tree.ensures at c.in_ok-tree.ensures.tree in
-    let before : cover p c.read_heap.new.claims.held ≡ cover p c.args.claims.now.held + cover p (heap_blocks image g.table.heap)
-    = rw c.heap.ensures at (c.in_ok-heap.ensures.claimed p) in
-    both_claimed image g c.in_ok-tree.tree.nodes.items tree p c.args.claims.now.held c.read_heap.new.claims.held c.read_tree.new.claims.held before (c.in_ok-tree.ensures.claimed p)
+    let before : (p : ℕ) → cover p c.read_heap.new.claims.held ≡ cover p c.args.claims.now.held + cover p (heap_blocks image g.table.heap)
+    = λ p. rw c.heap.ensures at (c.in_ok-heap.ensures.claimed p) in
+    record {
+      covered = λ p. both_claimed image g c.in_ok-tree.tree.nodes.items tree p c.args.claims.now.held c.read_heap.new.claims.held c.read_tree.new.claims.held (before p)
+          (c.in_ok-tree.ensures.claimed.covered p);
+      separate = c.in_ok-tree.ensures.claimed.separate;
+    }
 
 pub returns-clause-walked : goal.returns-clause-walked
 returns-clause-walked c followed first second depth met =
@@ -81,7 +85,7 @@ returns-clause-walked c followed first second depth met =
     let tree = (rw c.tree.ensures at c.in_ok-tree.ensures.walked) _ first c.args.table.heap depth here in
     let stands : IsTree image g.table.tree c.in_ok-tree.tree.nodes.items g.symbol_nodes.items = rw c.tree.ensures at c.in_ok-tree.ensures.tree in
     group_followed image c.args.claims.now.held followed first second depth g met c.read_heap.new.claims.held inside claimed c.in_ok-heap.ensures.separate
-    c.read_tree.new.claims.held c.in_ok-tree.tree.nodes.items c.in_ok-tree.ensures.inside c.in_ok-tree.ensures.claimed c.in_ok-tree.ensures.separate stands.formed tree
+    c.read_tree.new.claims.held c.in_ok-tree.tree.nodes.items c.in_ok-tree.ensures.inside c.in_ok-tree.ensures.claimed.covered c.in_ok-tree.ensures.claimed.separate stands.formed tree
 
 pub returns-in_err-heap-clause-only : goal.returns-in_err-heap-clause-only
 returns-in_err-heap-clause-only c = λ readable.

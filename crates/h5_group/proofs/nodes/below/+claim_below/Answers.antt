@@ -7,7 +7,8 @@ use Rattle.h5_group.specs.Nodes.Below.{reading_in, IsTaken}
 use Rattle.h5_group.specs.Nodes.Readable.{AreReadableBelow}
 use Rattle.h5_group.proofs.NodeLaws.Prefix.{prefix_long, prefix_next, prefix_split}
 use Rattle.h5_group.proofs.NodeLaws.Taken.{taken_none, taken_inner}
-use Rattle.h5_group.proofs.NodeLaws.FurtherLaws.{WalksTo, IsFaultBelow, walks_none, walks_inner, fault_inner, fault_below}
+use Rattle.h5_group.specs.Nodes.Further.{WalksTo, IsFaultBelow}
+use Rattle.h5_group.proofs.NodeLaws.FurtherLaws.{walks_none, walks_inner, fault_inner, fault_below}
 use Rattle.h5_group.proofs.NodeLaws.Readable.{inner_memory, below_readable}
 use Rattle.h5_group.proofs.nodes.below.+claim_below.Goals as goal
 

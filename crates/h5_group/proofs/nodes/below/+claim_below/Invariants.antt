@@ -1,6 +1,6 @@
 use Rattle.std.proofs.Common.{◌≡◌, take, length}
 use Rattle.h5_group.specs.Nodes.Below.{IsTaken}
-use Rattle.h5_group.proofs.NodeLaws.FurtherLaws.{WalksTo}
+use Rattle.h5_group.specs.Nodes.Further.{WalksTo}
 use Rattle.h5_group.proofs.nodes.below.+claim_below.Given as goal
 
 abbrev pub decreases-claim_below : goal.decreases-claim_below

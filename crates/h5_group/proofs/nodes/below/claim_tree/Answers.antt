@@ -8,8 +8,7 @@ use Rattle.h5_group.specs.Nodes.Trees.{nodes_blocks}
 use Rattle.h5_group.specs.Nodes.Walk.{IsTreeMet}
 use Rattle.h5_group.specs.Nodes.Below.{reading_in, IsStanding, IsTaken}
 use Rattle.h5_group.specs.Nodes.Readable.{AreReadableBelow}
-use Rattle.h5_group.specs.Nodes.Further.{IsFurther, IsPlaceIn}
-use Rattle.h5_group.proofs.NodeLaws.FurtherLaws.{WalksTo, IsFaultBelow}
+use Rattle.h5_group.specs.Nodes.Further.{IsFurther, IsPlaceIn, WalksTo, IsFaultBelow}
 use Rattle.h5_group.proofs.NodeLaws.RootSteps.{root_refused, below_refused, tree_claimed, tree_walked}
 use Rattle.h5_group.proofs.NodeLaws.Readable.{root_memory, root_readable}
 use Rattle.h5_group.proofs.nodes.below.claim_tree.Goals as goal
@@ -50,8 +49,11 @@ returns-clause-claimed c =
     (subst (λ (n : Node). IsTaken image c.level-level.result n.children here now) is c.in_ok-claim_below.ensures.taken) in
     let stands : IsStanding image root.level c.args.root = subst (λ (n : Node). IsStanding image n.level c.args.root) is c.in_ok-node.ensures.stands in
     let low : root.level ≤ 15 = subst (λ (n : Node). n.level ≤ 15) is c.in_ok-node.ensures.low in
-    subst (λ (l : ℕ). (p : ℕ) → cover p now ≡ cover p old + cover p (nodes_blocks image (nodes (reading_in image) l (c.args.root ∷ [])) (leaves (reading_in image) l (c.args.root ∷ [])))) (sym high)
-    (tree_claimed image c.args.root old here stands low c.in_ok-node.ensures.claimed c.in_ok-node.ensures.separate now taken)
+    record {
+      covered = subst (λ (l : ℕ). (p : ℕ) → cover p now ≡ cover p old + cover p (nodes_blocks image (nodes (reading_in image) l (c.args.root ∷ [])) (leaves (reading_in image) l (c.args.root ∷ [])))) (sym high)
+          (tree_claimed image c.args.root old here stands low c.in_ok-node.ensures.claimed c.in_ok-node.ensures.separate now taken);
+      separate = taken.separate;
+    }
 
 pub returns-clause-walked : goal.returns-clause-walked
 returns-clause-walked c =

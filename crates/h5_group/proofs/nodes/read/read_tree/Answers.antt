@@ -33,3 +33,8 @@ pub returns-clause-only : goal.returns-clause-only
 returns-clause-only c = λ readable.
     MatchResult-weaker c.read_rows.result c.read_rows.ensures.refused (λ _ h. h)
     (λ fault refused. rows_memory c.args.image.now.bytes c.args.root c.args.claims.now.held readable fault.cause fault.address refused)
+
+pub returns-clause-claimed : goal.returns-clause-claimed
+returns-clause-claimed c =
+    MatchResult-weaker c.read_rows.result c.read_rows.ensures.rows
+    (λ t rows. rw (rows.owns, rows.leads) c.in_ok-level.ensures.claimed) (λ _ h. h)

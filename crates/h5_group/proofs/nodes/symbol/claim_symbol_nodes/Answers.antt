@@ -3,7 +3,8 @@ use Rattle.std.proofs.lemmas.Result.{err_from_is_err_and}
 use Rattle.std.proofs.lemmas.List.{take_all}
 use Rattle.h5_group.proofs.NodeLaws.Prefix.{prefix_long, prefix_next, prefix_split}
 use Rattle.h5_group.proofs.NodeLaws.Taken.{taken_bottom}
-use Rattle.h5_group.proofs.NodeLaws.FurtherLaws.{WalksTo, walks_bottom, fault_bottom}
+use Rattle.h5_group.specs.Nodes.Further.{WalksTo}
+use Rattle.h5_group.proofs.NodeLaws.FurtherLaws.{walks_bottom, fault_bottom}
 use Rattle.h5_group.proofs.NodeLaws.Readable.{bottom_memory}
 use Rattle.h5_group.proofs.nodes.symbol.claim_symbol_nodes.Goals as goal
 

@@ -1,6 +1,6 @@
 use Rattle.std.proofs.Common.{◌≡◌, take, length}
 use Rattle.h5_group.specs.Nodes.Below.{IsTaken}
-use Rattle.h5_group.proofs.NodeLaws.FurtherLaws.{WalksTo}
+use Rattle.h5_group.specs.Nodes.Further.{WalksTo}
 use Rattle.h5_group.proofs.nodes.symbol.claim_symbol_nodes.Given as goal
 
 abbrev pub invariant-loop-i : goal.invariant-loop-i
