@@ -1,3 +1,4 @@
+pub mod Tails
 pub mod SymbolNodes
 pub mod Runs
 pub mod SymbolPlaces

@@ -44,6 +44,10 @@ pub record IsSmall (s : NewSymbol) : Type 0 where
   pub name : s.name < 2 ^ 64
   pub header : header_to s.target < 2 ^ 64
 
--- signature, version 1, how many entries there are, these, and zeros, so many bytes in all
+-- signature, version 1 and how many entries there are
+abbrev pub head_bytes : ℕ → List ℕ
+head_bytes count = symbol_signature ++ (1 ∷ 0 ∷ short count)
+
+-- the same, the entries, and zeros, so many bytes in all
 abbrev pub node_bytes : List NewSymbol → ℕ → List ℕ
-node_bytes symbols n = filled_to n (symbol_signature ++ (1 ∷ 0 ∷ (short (length symbols) ++ flat_map new_bytes symbols)))
+node_bytes symbols n = filled_to n (head_bytes (length symbols) ++ flat_map new_bytes symbols)

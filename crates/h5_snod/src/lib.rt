@@ -11,6 +11,6 @@ mod search;
 mod write;
 
 pub use entry::{SymbolEntry, SymbolTarget};
-pub use node::SymbolNode;
+pub use node::{ENTRY, HEAD, SymbolNode};
 pub use read::{NodeFault, known_symbol_node, read_symbol_node};
-pub use write::{NewSymbol, NewTarget, write_symbol_node};
+pub use write::{NewSymbol, NewTarget, write_entry, write_head, write_symbol_node};

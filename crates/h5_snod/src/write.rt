@@ -2,8 +2,8 @@
 
 ghost use Rattle.std.specs.Prelude.{◌≡◌, ℕ, ◌+◌, ◌*◌, ◌^◌, ◌<◌, ◌≤◌, length, map};
 ghost use Rattle.std.specs.List.{AllByRecursion, flat_map};
-ghost use Rattle.h5_model.specs.Format.Symbols.{IsEntry, IsSymbolNode, entries_of};
-ghost use Rattle.h5_snod.specs.Written.{IsSmall, entry_from, new_bytes, node_bytes};
+ghost use Rattle.h5_model.specs.Format.Symbols.{IsEntry, IsSymbolNode, entries_of, entry_of};
+ghost use Rattle.h5_snod.specs.Written.{IsSmall, entry_from, head_bytes, new_bytes, node_bytes};
 
 use crate::node::{ENTRY, HEAD};
 use byteorder::{ByteOrder, LittleEndian};
@@ -38,10 +38,18 @@ pub fn write_symbol_node(symbols: &[NewSymbol], bytes: &mut [u8])
 {
     let (head, behind) = bytes.split_at_mut(HEAD);
     let (entries, unused) = behind.split_at_mut(ENTRY * symbols.len());
-    head.copy_from_slice(b"SNOD\x01\x00\x00\x00");
-    LittleEndian::write_u16(&mut head[6..], symbols.len() as u16);
+    write_head(symbols.len() as u16, head);
     write_entries(symbols, entries);
     unused.fill(0);
+}
+
+/// Writes the 8 bytes that stand before the entries: the signature, the version and how many entries there are.
+pub fn write_head(count: u16, bytes: &mut [u8])
+    requires { length bytes.old ≡ 8 }
+    ensures { bytes.new ≡ head_bytes count }
+{
+    bytes.copy_from_slice(b"SNOD\x01\x00\x00\x00");
+    LittleEndian::write_u16(&mut bytes[6..], count);
 }
 
 /// Writes entries one after another.
@@ -51,12 +59,21 @@ fn write_entries(symbols: &[NewSymbol], bytes: &mut [u8])
     ensures small { AllByRecursion IsSmall symbols.now }
 {
     for k in 0..symbols.len() {
-        write_entry(symbols[k], &mut bytes[ENTRY * k..ENTRY * k + ENTRY]);
+        write_parts(symbols[k], &mut bytes[ENTRY * k..ENTRY * k + ENTRY]);
     }
 }
 
-/// Writes an entry.
-fn write_entry(symbol: NewSymbol, bytes: &mut [u8])
+/// Writes the 40 bytes of an entry.
+pub fn write_entry(symbol: NewSymbol, bytes: &mut [u8])
+    requires { length bytes.old ≡ 40 }
+    ensures written { bytes.new ≡ new_bytes symbol }
+    ensures reads { entry_of bytes.new ≡ entry_from symbol }
+{
+    write_parts(symbol, bytes);
+}
+
+/// Writes the parts of an entry, one behind another.
+fn write_parts(symbol: NewSymbol, bytes: &mut [u8])
     requires { length bytes.old ≡ 40 }
     ensures written { bytes.new ≡ new_bytes symbol }
     ensures small { IsSmall symbol }

@@ -1,18 +1,16 @@
 -- Symbol nodes one after another, as the code goes over the links.
-use Rattle.std.proofs.Common.{◌≡◌, ℕ, suc, ◌+◌, ◌-◌, ◌*◌, ◌<◌, ◌≤◌, List, [], ◌∷◌, ◌++◌, length, take, drop, map, refl, sym, ap, ◌∙◌, arith}
+use Rattle.std.proofs.Common.{◌≡◌, ℕ, suc, ◌+◌, ◌-◌, ◌*◌, ◌<◌, ◌≤◌, List, [], ◌∷◌, ◌++◌, length, take, drop, get_or, map, refl, sym, ap, ◌∙◌, arith}
 use Rattle.std.specs.Prelude.{min}
 use Rattle.std.specs.List.{flat_map, sum_by}
-use Rattle.std.proofs.lemmas.List.{append_assoc, map-append, length-map, length-take, length-drop, take-append-drop, drop-drop}
+use Rattle.std.proofs.lemmas.List.{append_assoc, map-append, length-map, length-take, length-drop, take-append-drop, drop-drop, drop_more}
 use Rattle.std.proofs.lemmas.List.Sums.{sum_by-cons}
 use Rattle.h5_model.specs.Format.PlainLength.{rows_of}
 use Rattle.h5_model.specs.Format.Sizes.{symbol_node}
 use Rattle.h5_btree.specs.declared.write.child.Child.{Child}
-use Rattle.h5_heap.specs.Writing.Links.{Leads, leads_of, link_of}
+use Rattle.h5_heap.specs.Writing.Links.{Leads, link_of}
 use Rattle.h5_heap.specs.declared.write.link.NewLink.{NewLink}
-use Rattle.h5_heap.specs.Writing.Written.{placed, placed_links, link_span, entry_bytes}
-use Rattle.h5_heap.specs.declared.write.link.Leads.TheVariants as leads
-use Rattle.h5_bytes.specs.Numbers.{word, middle, zeros}
-use Rattle.h5_group.specs.Writing.Written.{runs_of, symbol_bytes, symbol_nodes, last_name, children_of}
+use Rattle.h5_heap.specs.Writing.Written.{placed, placed_links, link_span}
+use Rattle.h5_group.specs.Writing.Written.{runs_of, entry_bytes, symbol_bytes, symbol_nodes, last_name, children_of}
 use Rattle.h5_group.proofs.WriteLaws.SymbolNodes.{Placed}
 use Rattle.h5_group.proofs.WriteLaws.Runs.{length-runs, runs_step}
 use Rattle.h5_group.proofs.WriteLaws.SymbolPlaces.{one_more}
@@ -110,8 +108,25 @@ module _ (leaf at from end : ℕ) (links : List NewLink) (low : 1 ≤ leaf) (som
 pub nodes_end : (leaf : ℕ) (links : List (List ℕ × Leads)) → 1 ≤ leaf → length (runs_of leaf (placed_links links)) ≡ symbol_nodes leaf links
 nodes_end leaf links low = length-runs leaf low (placed_links links) ∙ ap (λ n. rows_of (2 * leaf) n) (length-placed 8 links)
 
--- ---- an entry
+-- ---- entries one behind another
 
-pub group_entry : (name header tree heap : ℕ) (l : NewLink) → l.leads ≡ leads.Group header tree heap
-    → entry_bytes (name, link_of l) ≡ (word name ++ (word header ++ (middle 1 ++ zeros 4))) ++ (word tree ++ word heap)
-group_entry name header tree heap l is = ap (λ d. entry_bytes (name, (l.name.now, leads_of d))) is
+module _ (links : List NewLink) (i at next : ℕ) (d : NewLink) (low : i < length links) (step : next ≡ at + link_span (link_of (get_or links i d))) where
+  abbrev here : List ℕ × Leads
+  here = link_of (get_or links i d)
+
+  abbrev later : List (List ℕ × Leads)
+  later = map link_of (drop (i + 1) links)
+
+  split : map link_of (drop i links) ≡ here ∷ later
+  split = ap (map link_of) (drop_more links i d low)
+
+  -- one more entry is appended
+  pub entries_more : (out new all : List ℕ) → new ≡ out ++ entry_bytes (at, here) → out ++ flat_map entry_bytes (placed at (map link_of (drop i links))) ≡ all
+      → new ++ flat_map entry_bytes (placed next later) ≡ all
+  entries_more out new all appended whole =
+      (λ k. appended k ++ flat_map entry_bytes (placed (step k) later))
+      ∙ append_assoc out (entry_bytes (at, here)) (flat_map entry_bytes (placed (at + link_span here) later))
+      ∙ ap (λ ls. out ++ flat_map entry_bytes (placed at ls)) (sym split) ∙ whole
+
+  pub spans_less : (total : ℕ) → at + spans (map link_of (drop i links)) ≡ total → next + spans later ≡ total
+  spans_less total whole = omega (arith, step, whole, ap spans split, sum_by-cons link_span here later)

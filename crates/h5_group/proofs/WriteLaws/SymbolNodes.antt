@@ -8,50 +8,42 @@ use Rattle.h5_bytes.specs.Bytes.{number_at, part, little_bytes, undefined}
 use Rattle.h5_bytes.specs.Tables.{table}
 use Rattle.h5_bytes.proofs.PartLaws.{part-behind, part-front}
 use Rattle.h5_bytes.proofs.TableLaws.{length-table, get_or-table}
-use Rattle.h5_bytes.specs.Numbers.{short, middle, word, zeros}
+use Rattle.h5_bytes.specs.Numbers.{word, zeros}
 use Rattle.h5_model.specs.Format.Sizes.{symbol_node, text_span}
 use Rattle.h5_model.specs.Format.Symbols.{Entry, IsSymbolNode, symbols_in}
 use Rattle.h5_model.specs.Format.Symbols as symbols
 use Rattle.h5_model.proofs.NumberLaws.{reads_back}
 use Rattle.h5_heap.specs.Writing.Links.{Leads, ToGroup, ToArray, ToText}
-use Rattle.h5_heap.specs.Writing.Written.{entry_of, entry_bytes}
+use Rattle.h5_heap.specs.Writing.Written.{entry_of}
 use Rattle.h5_heap.specs.Writing.Laws.{IsEntryLow}
-use Rattle.h5_group.specs.Writing.Written.{symbol_bytes}
+use Rattle.h5_snod.specs.Written.{IsSmall, entry_from, head_bytes}
+use Rattle.h5_snod.proofs.WrittenLaws.{entry_back, long_entry}
+use Rattle.h5_group.specs.Writing.Written.{entry_bytes, symbol_bytes, symbol_for}
 
 abbrev pub Placed : Type 0
 Placed = ℕ × (List ℕ × Leads)
 
 -- ---- one entry
 
--- four numbers make an entry
-entry_is : (bytes : List ℕ) (e : Entry) → number_at bytes 0 8 ≡ e.name → number_at bytes 8 8 ≡ e.header → number_at bytes 16 4 ≡ e.cache
-    → number_at bytes 24 4 ≡ e.text → symbols.entry_of bytes ≡ e
-unfolding symbols.entry_of
-entry_is bytes e name header cache text = λ i. record { name = name i; header = header i; cache = cache i; text = text i }
+small_for : (l : Placed) → IsEntryLow (entry_of l) → IsSmall (symbol_for l)
+small_for (at, (name, ToGroup header tree heap)) low = record { name = low.0; header = low.1 }
+small_for (at, (name, ToArray header)) low = record { name = low.0; header = low.1 }
+small_for (at, (name, ToText text)) low = record { name = low.0; header = low.1 }
+
+same_entry : (l : Placed) → IsEntryLow (entry_of l) → entry_from (symbol_for l) ≡ entry_of l
+unfolding number_at
+same_entry (at, (name, ToGroup header tree heap)) low =
+    ap (λ n. record { name = at; header = header; cache = 1; text = n }) (reads_back 4 tree (little_bytes 4 (tree / 256 / 256 / 256 / 256) ++ word heap) low.3)
+same_entry (at, (name, ToArray header)) low = refl
+same_entry (at, (name, ToText text)) low =
+    ap (λ n. record { name = at; header = undefined; cache = 2; text = n }) (reads_back 4 (at + text_span name) (zeros 12) low.3)
 
 -- an entry's bytes read as the entry
 pub entry_reads : (l : Placed) → IsEntryLow (entry_of l) → symbols.entry_of (entry_bytes l) ≡ entry_of l
-unfolding number_at
-entry_reads (at, (name, ToGroup header tree heap)) low = entry_is _ _
-    (reads_back 8 at (word header ++ (middle 1 ++ (zeros 4 ++ (word tree ++ word heap)))) low.0)
-    (reads_back 8 header (middle 1 ++ (zeros 4 ++ (word tree ++ word heap))) low.1)
-    (reads_back 4 1 (zeros 4 ++ (word tree ++ word heap)) (omega arith))
-    (reads_back 4 tree (little_bytes 4 (tree / 256 / 256 / 256 / 256) ++ word heap) low.3)
-entry_reads (at, (name, ToArray header)) low = entry_is _ _
-    (reads_back 8 at (word header ++ (middle 0 ++ (zeros 4 ++ zeros 16))) low.0)
-    (reads_back 8 header (middle 0 ++ (zeros 4 ++ zeros 16)) low.1)
-    refl
-    refl
-entry_reads (at, (name, ToText text)) low = entry_is _ _
-    (reads_back 8 at (word undefined ++ (middle 2 ++ (zeros 4 ++ (middle (at + text_span name) ++ zeros 12)))) low.0)
-    (reads_back 8 undefined (middle 2 ++ (zeros 4 ++ (middle (at + text_span name) ++ zeros 12))) low.1)
-    (reads_back 4 2 (zeros 4 ++ (middle (at + text_span name) ++ zeros 12)) (omega arith))
-    (reads_back 4 (at + text_span name) (zeros 12) low.3)
+entry_reads l low = entry_back (symbol_for l) (small_for l low) ∙ same_entry l low
 
 pub length-entry : (l : Placed) → length (entry_bytes l) ≡ 40
-length-entry (at, (name, ToGroup header tree heap)) = refl
-length-entry (at, (name, ToArray header)) = refl
-length-entry (at, (name, ToText text)) = refl
+length-entry l = long_entry (symbol_for l)
 
 -- ---- entries one behind another
 
@@ -77,15 +69,12 @@ entry_there (l ∷ run) rest (suc k) d low =
 
 -- ---- a symbol node
 
-abbrev head_bytes : List Placed → List ℕ
-head_bytes run = 83 ∷ 78 ∷ 79 ∷ 68 ∷ 1 ∷ 0 ∷ short (length run)
-
 module _ (leaf : ℕ) (run : List Placed) (few : length run ≤ 2 * leaf) where
   -- its parts: a head, the entries, and zeros
-  pub node_parts : symbol_bytes leaf run ≡ head_bytes run ++ (flat_map entry_bytes run ++ zeros ((2 * leaf - length run) * 40))
+  pub node_parts : symbol_bytes leaf run ≡ head_bytes (length run) ++ (flat_map entry_bytes run ++ zeros ((2 * leaf - length run) * 40))
   node_parts =
-      let rest : 8 + 80 * leaf - length (head_bytes run ++ flat_map entry_bytes run) ≡ (2 * leaf - length run) * 40 = omega (arith, length-entries run) in
-      ap (λ n. head_bytes run ++ (flat_map entry_bytes run ++ zeros n)) rest
+      let rest : 8 + 80 * leaf - length (head_bytes (length run) ++ flat_map entry_bytes run) ≡ (2 * leaf - length run) * 40 = omega (arith, length-entries run) in
+      ap (λ n. head_bytes (length run) ++ (flat_map entry_bytes run ++ zeros n)) rest
 
   pub length-node : length (symbol_bytes leaf run) ≡ symbol_node leaf
   length-node =
@@ -106,7 +95,7 @@ module _ (leaf : ℕ) (run : List Placed) (few : length run ≤ 2 * leaf) where
       entry_at : (k : ℕ) (d : Placed) → k < length run → symbols.entry_of (part (8 + 40 * k) 40 (symbol_bytes leaf run)) ≡ entry_of (get_or run k d)
       entry_at k d under =
           ap (λ bs. symbols.entry_of (part (8 + 40 * k) 40 bs)) node_parts
-          ∙ ap symbols.entry_of (part-behind (head_bytes run) (flat_map entry_bytes run ++ zeros ((2 * leaf - length run) * 40)) (40 * k) 40)
+          ∙ ap symbols.entry_of (part-behind (head_bytes (length run)) (flat_map entry_bytes run ++ zeros ((2 * leaf - length run) * 40)) (40 * k) 40)
           ∙ ap symbols.entry_of (entry_there run (zeros ((2 * leaf - length run) * 40)) k d under)
           ∙ entry_reads (get_or run k d) (All-from_recursion (λ l. IsEntryLow (entry_of l)) run low k d under)
 

@@ -2,17 +2,31 @@
 -- Specification 3.0, sections III.A.1, III.B and III.D).
 use Rattle.std.specs.Prelude.{ℕ, ◌+◌, ◌*◌, List, [], ◌∷◌, ◌++◌, length}
 use Rattle.std.specs.List.{flat_map}
-use Rattle.h5_bytes.specs.Numbers.{short}
 use Rattle.h5_model.specs.Format.Plain.{filled_to}
 use Rattle.h5_model.specs.Format.PlainLength.{rows_of, nodes_over}
-use Rattle.h5_model.specs.Format.Sizes.{group_node, symbol_node}
-use Rattle.h5_model.specs.Format.Symbols.{symbol_signature}
+use Rattle.h5_model.specs.Format.Sizes.{group_node, symbol_node, text_span}
 use Rattle.h5_btree.specs.Writing.Written.{chunks, tree_bytes, root_level}
 use Rattle.h5_btree.specs.declared.write.child.Child.{Child}
-use Rattle.h5_heap.specs.Writing.Links.{Leads}
-use Rattle.h5_heap.specs.Writing.Written.{placed_links, entry_bytes, segment_of, heap_bytes}
+use Rattle.h5_heap.specs.Writing.Links.{Leads, ToGroup, ToArray, ToText}
+use Rattle.h5_heap.specs.Writing.Written.{placed_links, segment_of, heap_bytes}
+use Rattle.h5_snod.specs.Written.{new_bytes, head_bytes}
+use Rattle.h5_snod.specs.declared.write.NewSymbol.{NewSymbol}
+use Rattle.h5_snod.specs.declared.write.NewTarget.{NewTarget}
+use Rattle.h5_snod.specs.declared.write.NewTarget.TheVariants as target
 
 -- ---- symbol nodes
+
+-- the entry of a link whose name stands at this offset; a soft link's text stands behind its name
+abbrev pub target_for : ℕ → List ℕ × Leads → NewTarget
+target_for at (name, ToGroup header tree heap) = target.Group header tree heap
+target_for at (name, ToArray header) = target.Dataset header
+target_for at (name, ToText text) = target.Text (at + text_span name)
+
+abbrev pub symbol_for : ℕ × (List ℕ × Leads) → NewSymbol
+symbol_for (at, l) = record { name = at; target = target_for at l }
+
+abbrev pub entry_bytes : ℕ × (List ℕ × Leads) → List ℕ
+entry_bytes l = new_bytes (symbol_for l)
 
 -- the links of each symbol node, with the offsets of their names; none of a group without links
 abbrev pub runs_of : ℕ → List (ℕ × (List ℕ × Leads)) → List (List (ℕ × (List ℕ × Leads)))
@@ -20,7 +34,7 @@ runs_of leaf [] = []
 runs_of leaf (l ∷ links) = chunks (2 * leaf) (l ∷ links)
 
 abbrev pub symbol_bytes : ℕ → List (ℕ × (List ℕ × Leads)) → List ℕ
-symbol_bytes leaf run = filled_to (symbol_node leaf) (symbol_signature ++ (1 ∷ 0 ∷ (short (length run) ++ flat_map entry_bytes run)))
+symbol_bytes leaf run = filled_to (symbol_node leaf) (head_bytes (length run) ++ flat_map entry_bytes run)
 
 -- the offset of the last name of a run
 abbrev pub last_name : ℕ → List (ℕ × (List ℕ × Leads)) → ℕ

@@ -1,50 +1,59 @@
 //! Symbol nodes (File Format Specification 3.0, section III.B) and their entries (section III.C).
 ghost use Rattle.std.specs.Prelude.{◌≡◌, ◌+◌, ◌*◌, ◌^◌, ◌<◌, ◌≤◌, ◌++◌, OnOk, IfOk, length, map, sum_by};
 ghost use Rattle.std.specs.List.{flat_map};
-ghost use Rattle.h5_bytes.specs.Numbers.{word, middle, zeros};
+ghost use Rattle.h5_bytes.specs.Numbers.{zeros};
 ghost use Rattle.h5_model.specs.Format.Sizes.{symbol_node};
 ghost use Rattle.h5_heap.specs.Writing.Links.{link_of};
-ghost use Rattle.h5_heap.specs.Writing.Written.{placed, placed_links, entry_bytes, link_span as span};
-ghost use Rattle.h5_group.specs.Writing.Written.{symbol_bytes, symbol_nodes, runs_of, last_name, children_of};
+ghost use Rattle.h5_heap.specs.Writing.Written.{placed, placed_links, link_span as span};
+ghost use Rattle.h5_group.specs.Writing.Written.{children_of, entry_bytes, last_name, runs_of, symbol_bytes, symbol_for, symbol_nodes};
+ghost use Rattle.h5_snod.specs.Written.{head_bytes};
 
 use h5_btree::Child;
-use h5_bytes::{push_bytes, push_middle, push_short, push_word, push_zeros};
+use h5_bytes::push_zeros;
 use h5_heap::{Leads, NewLink, link_span, text_span};
+use h5_snod::{ENTRY, HEAD, NewSymbol, NewTarget, write_entry, write_head};
 use std::alloc::{AllocError, Global};
 
-/// What stands before the scratch of an entry: the offset of its name, its object's header and its cache type.
-fn push_entry_head(out: &mut Vec<u8>, name: u64, header: u64, cache: u32) -> Result<(), AllocError>
-    ensures { OnOk result
-        (out.new.items ≡ out.old.items ++ (word name ++ (word header ++ (middle cache ++ zeros 4)))) }
+/// Room for so many bytes. `Ok` has its place.
+fn push_room(out: &mut Vec<u8>, len: usize) -> Result<usize, AllocError>
+    ensures room { OnOk result (out.new.items ≡ out.old.items ++ zeros len) }
+    ensures place { IfOk result (λ at. at ≡ length out.old.items) }
 {
-    push_word(out, name)?;
-    push_word(out, header)?;
-    push_middle(out, cache)?;
-    push_zeros(out, 4)
+    let at = out.len();
+    push_zeros(out, len)?;
+    Ok(at)
 }
 
-/// The entry of a link whose name stands at this offset. Its scratch has a group's tree and heap, or the offset of a soft link's text.
+/// What stands before the entries of a symbol node.
+fn push_head(out: &mut Vec<u8>, count: u16) -> Result<(), AllocError>
+    ensures { OnOk result (out.new.items ≡ out.old.items ++ head_bytes count) }
+{
+    let at = push_room(out, HEAD)?;
+    write_head(count, &mut out[at..]);
+    Ok(())
+}
+
+/// The entry of a link whose name stands at this offset. It has a group's tree and heap, or the offset of a soft link's text.
+fn new_symbol(name: u64, link: &NewLink<'_>) -> NewSymbol
+    requires { name + span (link_of link.now) < 2 ^ 32 }
+    ensures { result ≡ symbol_for (name, link_of link.now) }
+{
+    let target = match link.leads {
+        Leads::Group { header, tree, heap } => NewTarget::Group { header, tree, heap },
+        Leads::Array(header) => NewTarget::Dataset(header),
+        Leads::Text(_) => NewTarget::Text(name as u32 + text_span(link.name) as u32),
+    };
+    NewSymbol { name, target }
+}
+
+/// The bytes of the entry of a link whose name stands at this offset.
 fn push_entry(out: &mut Vec<u8>, name: u64, link: &NewLink<'_>) -> Result<(), AllocError>
     requires { name + span (link_of link.now) < 2 ^ 32 }
     ensures { OnOk result (out.new.items ≡ out.old.items ++ entry_bytes (name, link_of link.now)) }
 {
-    match link.leads {
-        Leads::Group { header, tree, heap } => {
-            push_entry_head(out, name, header, 1)?;
-            push_word(out, tree)?;
-            push_word(out, heap)?;
-            Ok(())
-        }
-        Leads::Array(header) => {
-            push_entry_head(out, name, header, 0)?;
-            push_zeros(out, 16)
-        }
-        Leads::Text(_) => {
-            push_entry_head(out, name, u64::MAX, 2)?;
-            push_middle(out, name as u32 + text_span(link.name) as u32)?;
-            push_zeros(out, 12)
-        }
-    }
+    let at = push_room(out, ENTRY)?;
+    write_entry(new_symbol(name, link), &mut out[at..]);
+    Ok(())
 }
 
 /// The entries of these links, the first name of which stands at this offset. `Ok` has the offset behind their texts.
@@ -77,10 +86,9 @@ fn push_symbol_node(
         (out.new.items ≡ out.old.items ++ symbol_bytes leaf (placed name (map link_of links.now))) }
     ensures next { IfOk result (λ n. n ≡ name + sum_by span (map link_of links.now)) }
 {
-    push_bytes(out, b"SNOD\x01\x00")?;
-    push_short(out, links.len() as u16)?;
+    push_head(out, links.len() as u16)?;
     let next = push_entries(out, name, links)?;
-    push_zeros(out, (2 * usize::from(leaf) - links.len()) * 40)?;
+    push_zeros(out, (2 * usize::from(leaf) - links.len()) * ENTRY)?;
     Ok(next)
 }
 

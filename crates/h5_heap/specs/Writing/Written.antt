@@ -2,7 +2,6 @@
 -- of the link before it; and the entries that name them (File Format Specification 3.0, sections III.C and III.D).
 use Rattle.std.specs.Prelude.{ℕ, ◌+◌, List, [], ◌∷◌, ◌++◌, map, length}
 use Rattle.h5_bytes.specs.Bytes.{undefined}
-use Rattle.h5_bytes.specs.Numbers.{word, middle, zeros}
 use Rattle.h5_model.specs.Format.Plain.{heap_header_bytes, segment_bytes, free_head_of}
 use Rattle.h5_model.specs.Format.Sizes.{text_span}
 use Rattle.h5_model.specs.Format.Symbols.{Entry}
@@ -24,12 +23,6 @@ abbrev pub entry_of : ℕ × (List ℕ × Leads) → Entry
 entry_of (at, (name, ToGroup header tree heap)) = record { name = at; header = header; cache = 1; text = tree }
 entry_of (at, (name, ToArray header)) = record { name = at; header = header; cache = 0; text = 0 }
 entry_of (at, (name, ToText text)) = record { name = at; header = undefined; cache = 2; text = at + text_span name }
-
--- its 40 bytes: the scratch has a group's tree and heap
-abbrev pub entry_bytes : ℕ × (List ℕ × Leads) → List ℕ
-entry_bytes (at, (name, ToGroup header tree heap)) = word at ++ (word header ++ (middle 1 ++ (zeros 4 ++ (word tree ++ word heap))))
-entry_bytes (at, (name, ToArray header)) = word at ++ (word header ++ (middle 0 ++ (zeros 4 ++ zeros 16)))
-entry_bytes (at, (name, ToText text)) = word at ++ (word undefined ++ (middle 2 ++ (zeros 4 ++ (middle (at + text_span name) ++ zeros 12))))
 
 -- the links of a group with the offsets of their names, and their entries
 abbrev pub placed_links : List (List ℕ × Leads) → List (ℕ × (List ℕ × Leads))

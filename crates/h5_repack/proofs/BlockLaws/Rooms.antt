@@ -1,13 +1,12 @@
 -- A message whose body is written into its room, at the end of what is appended.
-use Rattle.std.proofs.Common.{◌≡◌, ℕ, ◌+◌, ◌-◌, List, ◌++◌, length, take, drop, ap, ◌∙◌, sym, arith, append_assoc, append-nil, length-append}
-use Rattle.std.proofs.lemmas.List.{length-replicate, length-take, length-drop, take_all, drop_all}
-use Rattle.std.proofs.Math.Seq.{take-append_seam}
+use Rattle.std.proofs.Common.{◌≡◌, ℕ, ◌+◌, ◌-◌, List, ◌++◌, length, take, drop, ap, ◌∙◌, sym, arith, append_assoc, length-append}
+use Rattle.std.proofs.lemmas.List.{length-replicate, length-take, length-drop}
 use borrow.Rule.Slice.PartMut.{put_mid}
 use Rattle.h5_bytes.specs.Numbers.{short, zeros}
 use Rattle.h5_bytes.specs.Texts.{pad8}
-use Rattle.h5_bytes.proofs.PartLaws.{put_mid_is, with_part_is}
 use Rattle.h5_model.specs.Format.Bodies.{padded, raised}
 use Rattle.h5_model.specs.Format.Plain.{message_bytes}
+use Rattle.h5_group.proofs.WriteLaws.Tails.{tail_written}
 use Rattle.h5_msg.proofs.PaddedLaws.{length-raised}
 use Rattle.h5_repack.specs.Blocks.Parts.{message_head, message_room}
 
@@ -33,25 +32,12 @@ module _ (kind size len at : ℕ) (out room whole : List ℕ) (made : room ≡ o
   abbrev head : List ℕ
   head = message_head kind (pad8 size)
 
-  front : take at whole ≡ out ++ head
-  front =
-      let at_is : at ≡ length (out ++ head) = omega (arith, place, length-append out head) in
-      let split : whole ≡ (out ++ head) ++ zeros (pad8 size) = lent ∙ made ∙ sym (append_assoc out head (zeros (pad8 size))) in
-      (λ i. take (at_is i) (split i)) ∙ take-append_seam (out ++ head) (zeros (pad8 size))
-
   -- a body that fills its room
   pub part_written : (part : List ℕ) → length part ≡ pad8 size → after part ≡ out ++ message_bytes (kind, part)
   part_written part fills =
-      let mid : put part ≡ (out ++ head) ++ part
-      = put_mid_is at (length whole - at) whole part (omega (arith, long, fills)) (omega (arith, long))
-      ∙ with_part_is at part whole (omega (arith, long, fills))
-      ∙ ap (λ xs. take at whole ++ (part ++ xs)) (drop_all (at + length part) whole (omega (arith, long, fills)))
-      ∙ ap (λ xs. take at whole ++ xs) (append-nil part) ∙ ap (λ xs. xs ++ part) front in
-      let all : length ((out ++ head) ++ part) ≡ len
-      = length-append (out ++ head) part ∙ omega (arith, length-append out head, place, long, counted, fills) in
-      (λ i. take len (mid i ++ drop (length (mid i)) room))
-      ∙ ap (λ xs. take len (((out ++ head) ++ part) ++ xs)) (drop_all (length ((out ++ head) ++ part)) room (omega (arith, all, counted, ap length lent)))
-      ∙ ap (take len) (append-nil ((out ++ head) ++ part)) ∙ take_all len ((out ++ head) ++ part) (omega (arith, all))
+      let split : room ≡ (out ++ head) ++ zeros (pad8 size) = made ∙ sym (append_assoc out head (zeros (pad8 size))) in
+      let front : at ≡ length (out ++ head) = omega (arith, place, length-append out head) in
+      tail_written len at (out ++ head) (zeros (pad8 size)) room whole part split front lent counted (omega (arith, fills, length-replicate {A = ℕ} (pad8 size) 0))
       ∙ append_assoc out head part ∙ ap (λ n. out ++ (short kind ++ (short n ++ (zeros 4 ++ part)))) (sym fills)
 
   -- a body with zeros behind it

@@ -11,8 +11,8 @@ use Rattle.h5_model.specs.Format.Symbols.{symbol_signature}
 use Rattle.h5_btree.specs.Writing.Written.{cut, chunks, tree_bytes}
 use Rattle.h5_btree.specs.declared.write.child.Child.{Child}
 use Rattle.h5_heap.specs.Writing.Links.{Leads, ToGroup, ToArray, ToText, spelled}
-use Rattle.h5_heap.specs.Writing.Written.{link_span, placed, placed_links, entry_bytes, segment_of, heap_bytes}
-use Rattle.h5_group.specs.Writing.Written.{runs_of, symbol_bytes, last_name, children_of, heap_place, symbols_place, links_bytes}
+use Rattle.h5_heap.specs.Writing.Written.{link_span, placed, placed_links, segment_of, heap_bytes}
+use Rattle.h5_group.specs.Writing.Written.{runs_of, entry_bytes, symbol_bytes, last_name, children_of, heap_place, symbols_place, links_bytes}
 
 -- a link without its addresses
 abbrev pub bare : List ℕ × Leads → List ℕ × Leads

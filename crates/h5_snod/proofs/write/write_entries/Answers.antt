@@ -7,10 +7,10 @@ use Rattle.h5_snod.proofs.write.write_entries.Goals as goal
 pub loop-k-preserved : goal.loop-k-preserved
 loop-k-preserved c =
     let width : 40 * c.loop-k.k + 40 - 40 * c.loop-k.k ≡ 40 = omega arith in
-    let wrote : c.write_entry.new.bytes ≡ new_bytes (get_or c.args.symbols.now c.loop-k.k no_symbol) = c.write_entry.ensures.written in (
+    let wrote : c.write_parts.new.bytes ≡ new_bytes (get_or c.args.symbols.now c.loop-k.k no_symbol) = c.write_parts.ensures.written in (
       (λ i. put_mid (40 * c.loop-k.k) (width i) c.loop-k.bytes (wrote i))
           ∙ one_more c.args.symbols.now c.loop-k.k no_symbol c.args.bytes.now c.loop-k.bytes c.loop-k-test.true c.requires c.loop-k.invariant.0,
-      below_more (λ (j : ℕ). IsSmall (get_or c.args.symbols.now j no_symbol)) c.loop-k.k c.loop-k.invariant.1 c.write_entry.ensures.small,
+      below_more (λ (j : ℕ). IsSmall (get_or c.args.symbols.now j no_symbol)) c.loop-k.k c.loop-k.invariant.1 c.write_parts.ensures.small,
     )
 
 pub returns-clause-written : goal.returns-clause-written

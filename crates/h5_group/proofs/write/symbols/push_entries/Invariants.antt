@@ -1,7 +1,8 @@
 use Rattle.std.proofs.Common.{◌≡◌, ◌+◌, ◌++◌, drop, map}
 use Rattle.std.specs.List.{flat_map, sum_by}
 use Rattle.h5_heap.specs.Writing.Links.{link_of}
-use Rattle.h5_heap.specs.Writing.Written.{placed, entry_bytes, link_span}
+use Rattle.h5_heap.specs.Writing.Written.{placed, link_span}
+use Rattle.h5_group.specs.Writing.Written.{entry_bytes}
 use Rattle.h5_group.proofs.write.symbols.push_entries.Given as goal
 
 -- the entries so far, with those to come

@@ -14,8 +14,7 @@ returns-clause-node c =
       c.in_ok-push_zeros.ensures,
       c.from.ensures,
       c.in_ok-next.ensures.entries,
-      c.in_ok-push_short.ensures,
-      c.in_ok-push_bytes.ensures,
+      c.in_ok-push_head.ensures,
       node_parts c.args.leaf (placed c.args.name (map link_of c.args.links.now)) (omega (arith, c.requires.room, long)),
       long,
     ) (simp append_assoc)
