@@ -1,9 +1,10 @@
 //! The reading of an object header (File Format Specification 3.0, section IV.A.1.a).
 
-ghost use Rattle.std.specs.Prelude.{◌≡◌, ℕ, ◌+◌, IsTrue, length, IfOk, IfErr, OnOk};
+ghost use Rattle.std.specs.Prelude.{◌≡◌, IsTrue, length, IfOk, IfErr};
 ghost use Rattle.std.specs.List.{AllByRecursion};
-ghost use Rattle.h5_bytes.specs.Blocks.{cover, Separate, Inside};
+ghost use Rattle.h5_bytes.specs.Blocks.{Inside};
 ghost use Rattle.h5_model.specs.Format.Messages.{HasMessages};
+ghost use Rattle.h5_space.specs.Claimed.{HasClaimed};
 ghost use Rattle.h5_header.specs.Heads.{is_read};
 ghost use Rattle.h5_header.specs.Listed.{messages_in, IsWithin};
 ghost use Rattle.h5_header.specs.Refused.{IsRefused, IsReadable};
@@ -41,9 +42,7 @@ pub fn messages(
     ensures known { IfOk result (λ m. AllByRecursion (λ x. IsTrue (is_read x.kind)) m.list) }
     ensures within { IfOk result (λ m. IsWithin (length image.now.bytes) m.list) }
     ensures inside { IfOk result (λ m. Inside (length image.now.bytes) m.blocks) }
-    ensures claimed { IfOk result (λ m.
-        (p : ℕ) → cover p claims.new.held ≡ cover p claims.old.held + cover p m.blocks) }
-    ensures separate { OnOk result (Separate claims.new.held) }
+    ensures claimed { IfOk result (λ m. HasClaimed claims.old claims.new m.blocks) }
     ensures end { claims.new.end ≡ claims.old.end }
     ensures refused { IfErr result (λ fault.
         IsRefused image.now.bytes at claims.old.held fault.cause fault.address) }

@@ -1,8 +1,9 @@
 //! The header of a heap (File Format Specification 3.0, section III.D).
 
-ghost use Rattle.std.specs.Prelude.{◌≡◌, ℕ, ◌+◌, length, IfOk, IfErr, IfSome, IfNone, OnOk};
-ghost use Rattle.h5_bytes.specs.Blocks.{block, cover, Separate, Inside};
+ghost use Rattle.std.specs.Prelude.{◌≡◌, length, IfOk, IfErr, IfSome, IfNone, OnOk};
+ghost use Rattle.h5_bytes.specs.Blocks.{block, Inside};
 ghost use Rattle.h5_model.specs.Format.Heap.{heap_header, free_head, segment_place, segment_size, segment_block, segment_of, heap_blocks};
+ghost use Rattle.h5_space.specs.Claimed.{HasClaimed};
 ghost use Rattle.h5_heap.specs.Refused.{IsHeader, IsRefused};
 
 use h5_bytes::{Block, begins_with, u64_at};
@@ -33,9 +34,7 @@ pub(crate) fn claim_heap(image: &Image, claims: &mut Claims, at: u64) -> Result<
     ensures segment { IfOk result (λ h. h.segment ≡ segment_block image.now.bytes at) }
     ensures free { IfOk result (λ h. h.free_head ≡ free_head (heap_header image.now.bytes at)) }
     ensures inside { OnOk result (Inside (length image.now.bytes) (heap_blocks image.now.bytes at)) }
-    ensures claimed { OnOk result ((p : ℕ)
-        → cover p claims.new.held ≡ cover p claims.old.held + cover p (heap_blocks image.now.bytes at)) }
-    ensures separate { OnOk result (Separate claims.new.held) }
+    ensures claimed { OnOk result (HasClaimed claims.old claims.new (heap_blocks image.now.bytes at)) }
     ensures end { claims.new.end ≡ claims.old.end }
     ensures refused { IfErr result (λ fault.
         IsRefused image.now.bytes at claims.old.held fault.cause fault.address) }

@@ -1,8 +1,9 @@
 //! A local heap (File Format Specification 3.0, section III.D).
 
-ghost use Rattle.std.specs.Prelude.{◌≡◌, ℕ, ◌+◌, ◌≤◌, [], length, IfOk, IfErr, OnOk};
-ghost use Rattle.h5_bytes.specs.Blocks.{cover, Separate, Inside};
+ghost use Rattle.std.specs.Prelude.{◌≡◌, ℕ, ◌≤◌, [], length, IfOk, IfErr, OnOk};
+ghost use Rattle.h5_bytes.specs.Blocks.{cover, Inside};
 ghost use Rattle.h5_model.specs.Format.Heap.{heap_header, heap_blocks, segment_block, segment_of, IsHeap};
+ghost use Rattle.h5_space.specs.Claimed.{HasClaimed};
 ghost use Rattle.h5_heap.specs.Refused.{IsRefused, IsReadable};
 
 use crate::free_list::{FreeList, read_free};
@@ -62,9 +63,7 @@ pub fn read_heap(
     ensures held { IfOk result (λ h. (p : ℕ) → cover p h.held ≡ cover p h.free) }
     ensures taken { IfOk result (λ h. h.taken ≡ []) }
     ensures inside { OnOk result (Inside (length image.now.bytes) (heap_blocks image.now.bytes at)) }
-    ensures claimed { OnOk result ((p : ℕ)
-        → cover p claims.new.held ≡ cover p claims.old.held + cover p (heap_blocks image.now.bytes at)) }
-    ensures separate { OnOk result (Separate claims.new.held) }
+    ensures claimed { OnOk result (HasClaimed claims.old claims.new (heap_blocks image.now.bytes at)) }
     ensures end { claims.new.end ≡ claims.old.end }
     ensures refused { IfErr result (λ fault.
         IsRefused image.now.bytes at claims.old.held fault.cause fault.address) }

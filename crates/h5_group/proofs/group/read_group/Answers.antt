@@ -23,10 +23,10 @@ returns-in_err-tree-clause-refused c =
     let image = c.args.image.now.bytes in
     let inside : Inside (length image) (heap_blocks image c.args.table.heap) = rw c.heap.ensures at c.in_ok-heap.ensures.inside in
     let claimed : (p : ℕ) → cover p c.read_heap.new.claims.held ≡ cover p c.args.claims.now.held + cover p (heap_blocks image c.args.table.heap)
-    = λ q. rw c.heap.ensures at (c.in_ok-heap.ensures.claimed q) in
+    = λ q. rw c.heap.ensures at (c.in_ok-heap.ensures.claimed.covered q) in
     let p = err_from_is_err_and c.from_residual-in_err-tree.result c.from_residual-in_err-tree.ensures.1 in
     rw (p.1, p.2) (λ followed first second depth met.
-    let here = at_tree image c.args.claims.now.held followed first second depth c.args.table met c.read_heap.new.claims.held inside claimed c.in_ok-heap.ensures.separate in
+    let here = at_tree image c.args.claims.now.held followed first second depth c.args.table met c.read_heap.new.claims.held inside claimed c.in_ok-heap.ensures.claimed.separate in
     (rw c.tree.ensures at c.in_err-tree.ensures.refused) _ first c.args.table.heap depth here)
 
 pub returns-in_err-check_texts-clause-refused : goal.returns-in_err-check_texts-clause-refused
@@ -42,10 +42,10 @@ returns-in_err-check_order-clause-refused c =
     let image = c.args.image.now.bytes in
     let inside : Inside (length image) (heap_blocks image c.args.table.heap) = rw c.heap.ensures at c.in_ok-heap.ensures.inside in
     let claimed : (p : ℕ) → cover p c.read_heap.new.claims.held ≡ cover p c.args.claims.now.held + cover p (heap_blocks image c.args.table.heap)
-    = λ q. rw c.heap.ensures at (c.in_ok-heap.ensures.claimed q) in
+    = λ q. rw c.heap.ensures at (c.in_ok-heap.ensures.claimed.covered q) in
     let p = err_from_is_err_and c.from_residual-in_err-check_order.result c.from_residual-in_err-check_order.ensures.1 in
     rw (p.1, p.2) (λ followed first second depth met.
-    let here = at_tree image c.args.claims.now.held followed first second depth c.args.table met c.read_heap.new.claims.held inside claimed c.in_ok-heap.ensures.separate in
+    let here = at_tree image c.args.claims.now.held followed first second depth c.args.table met c.read_heap.new.claims.held inside claimed c.in_ok-heap.ensures.claimed.separate in
     let tree = (rw c.tree.ensures at c.in_ok-tree.ensures.walked) _ first c.args.table.heap depth here in
     order_refused image c.read_tree.new.claims.held _ c.args.table first depth c.in_ok-tree.tree.nodes.items c.in_ok-tree.tree.symbol_nodes.items tree c.in_ok-tree.ensures.inside _ _
     c.in_err-check_order.ensures.refused)
@@ -67,7 +67,7 @@ returns-clause-claimed c =
     let g : Group = record { table = c.args.table; symbol_nodes = c.in_ok-tree.tree.symbol_nodes } in
     let tree : IsTree image g.table.tree c.in_ok-tree.tree.nodes.items g.symbol_nodes.items = rw c.tree.ensures at c.in_ok-tree.ensures.tree in
     let before : (p : ℕ) → cover p c.read_heap.new.claims.held ≡ cover p c.args.claims.now.held + cover p (heap_blocks image g.table.heap)
-    = λ p. rw c.heap.ensures at (c.in_ok-heap.ensures.claimed p) in
+    = λ p. rw c.heap.ensures at (c.in_ok-heap.ensures.claimed.covered p) in
     record {
       covered = λ p. both_claimed image g c.in_ok-tree.tree.nodes.items tree p c.args.claims.now.held c.read_heap.new.claims.held c.read_tree.new.claims.held (before p)
           (c.in_ok-tree.ensures.claimed.covered p);
@@ -80,11 +80,11 @@ returns-clause-walked c followed first second depth met =
     let g : Group = record { table = c.args.table; symbol_nodes = c.in_ok-tree.tree.symbol_nodes } in
     let inside : Inside (length image) (heap_blocks image g.table.heap) = rw c.heap.ensures at c.in_ok-heap.ensures.inside in
     let claimed : (p : ℕ) → cover p c.read_heap.new.claims.held ≡ cover p c.args.claims.now.held + cover p (heap_blocks image g.table.heap)
-    = λ q. rw c.heap.ensures at (c.in_ok-heap.ensures.claimed q) in
-    let here = at_tree image c.args.claims.now.held followed first second depth g.table met c.read_heap.new.claims.held inside claimed c.in_ok-heap.ensures.separate in
+    = λ q. rw c.heap.ensures at (c.in_ok-heap.ensures.claimed.covered q) in
+    let here = at_tree image c.args.claims.now.held followed first second depth g.table met c.read_heap.new.claims.held inside claimed c.in_ok-heap.ensures.claimed.separate in
     let tree = (rw c.tree.ensures at c.in_ok-tree.ensures.walked) _ first c.args.table.heap depth here in
     let stands : IsTree image g.table.tree c.in_ok-tree.tree.nodes.items g.symbol_nodes.items = rw c.tree.ensures at c.in_ok-tree.ensures.tree in
-    group_followed image c.args.claims.now.held followed first second depth g met c.read_heap.new.claims.held inside claimed c.in_ok-heap.ensures.separate
+    group_followed image c.args.claims.now.held followed first second depth g met c.read_heap.new.claims.held inside claimed c.in_ok-heap.ensures.claimed.separate
     c.read_tree.new.claims.held c.in_ok-tree.tree.nodes.items c.in_ok-tree.ensures.inside c.in_ok-tree.ensures.claimed.covered c.in_ok-tree.ensures.claimed.separate stands.formed tree
 
 pub returns-in_err-heap-clause-only : goal.returns-in_err-heap-clause-only
@@ -96,7 +96,7 @@ pub returns-in_err-tree-clause-only : goal.returns-in_err-tree-clause-only
 returns-in_err-tree-clause-only c = λ readable.
     let image = c.args.image.now.bytes in
     let claimed : (p : ℕ) → cover p c.read_heap.new.claims.held ≡ cover p c.args.claims.now.held + cover p (heap_blocks image c.args.table.heap)
-    = λ q. rw c.heap.ensures at (c.in_ok-heap.ensures.claimed q) in
+    = λ q. rw c.heap.ensures at (c.in_ok-heap.ensures.claimed.covered q) in
     let p = err_from_is_err_and c.from_residual-in_err-tree.result c.from_residual-in_err-tree.ensures.1 in
     rw (p.1, p.2) ((rw c.tree.ensures at c.in_err-tree.ensures.only)
     (tree_readable image c.args.table c.args.claims.now.held readable c.read_heap.new.claims.held claimed))
