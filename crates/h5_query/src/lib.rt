@@ -24,5 +24,5 @@ pub use h5_open::{
 pub use h5_shape::Dims;
 pub use kind::{Kind, StoreKind};
 pub use links::{kind_at, names_at};
-pub use path::{MAX_DEPTH, Names, names_in};
-pub use place::{Place, look, number_at};
+pub use path::MAX_DEPTH;
+pub use place::{Place, Spot, look, look_up, number_at};
