@@ -6,6 +6,7 @@
 mod array;
 mod attributes;
 mod cells;
+mod found;
 mod group;
 mod kind;
 mod links;
@@ -16,6 +17,7 @@ mod step;
 pub use array::{ArrayCells, array_of};
 pub use attributes::{attributes_at, names_of_attributes, one_attribute};
 pub use cells::one_cell;
+pub use found::{Found, found_at};
 pub use group::{Link, LinkTo, links_of};
 pub use h5_open::{
     AttrRef, Group, Line, LinkRef, LinkTarget, Opened, OpenedContent, OpenedObject, entries, get,
