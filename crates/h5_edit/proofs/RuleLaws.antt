@@ -1,7 +1,6 @@
 pub mod Exits
 pub mod FaultLaws
 pub mod TableLaws
-pub mod CutLaws
 pub mod NewPaths
 pub mod Counts
 pub mod Verdicts

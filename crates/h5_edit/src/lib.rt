@@ -13,9 +13,9 @@ mod rules;
 
 pub use attributes::{remove_attribute, set_attribute};
 pub use h5_query::{
-    ArrayCells, AttrRef, Dims, Kind, Link, LinkTo, MAX_DEPTH, Opened, StoreKind, array_of,
-    attributes_at, kind_at, links_of, names_at, names_of_attributes, number_at, one_attribute,
-    one_cell, renumber, walk,
+    ArrayCells, AttrRef, Dims, Found, Kind, Link, LinkTo, MAX_DEPTH, Opened, StoreKind, array_of,
+    attributes_at, found_at, kind_at, links_of, names_at, names_of_attributes, number_at,
+    one_attribute, one_cell, renumber, walk,
 };
 pub use links::{new_array, new_group, new_hard_link, new_soft_link};
 pub use made::Made;

@@ -4,6 +4,8 @@ pub mod Edited
 pub use Rattle.h5_edit.specs.Carried
 pub use Rattle.h5_edit.specs.Listed
 pub use Rattle.h5_edit.specs.Look
+pub use Rattle.h5_edit.specs.Found
 pub use Rattle.h5_edit.specs.LinkType
 pub use Rattle.h5_edit.specs.ArrayCellsType
+pub use Rattle.h5_edit.specs.FoundType
 pub use Rattle.h5_edit.specs.Opened

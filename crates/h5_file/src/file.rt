@@ -8,14 +8,15 @@ ghost use Rattle.h5_model.specs.Format.Superblock.{IsSuperblock, end_of_file};
 ghost use Rattle.h5_edit.specs.Opened.NotYet.{IsRefusedAt};
 ghost use Rattle.h5_edit.specs.Listed.{IsNoGroup, AreLinks};
 ghost use Rattle.h5_edit.specs.Look.{HasKind, HasNames, HasCell, HasArray, HasAttribute, HasAttributeNames, HasAttributesOf, IsListRefused, IsNoDataset, IsUnlisted};
+ghost use Rattle.h5_edit.specs.Found.{HasFound, IsUnfound};
 ghost use Rattle.h5_edit.specs.Place.{IsNumber, IsNoObject};
 ghost use Rattle.h5_file.specs.State.{IsSound, created_state};
 ghost use Rattle.h5_file.specs.Opening.{IsNoBreach, IsReadable, Refused};
 
 use crate::empty::EMPTY_FILE;
 use h5_edit::{
-    ArrayCells, AttrRef, Kind, Link, Opened, array_of, attributes_at, kind_at, links_of, names_at,
-    names_of_attributes, number_at, one_attribute, one_cell, walk,
+    ArrayCells, AttrRef, Found, Kind, Link, Opened, array_of, attributes_at, found_at, kind_at,
+    links_of, names_at, names_of_attributes, number_at, one_attribute, one_cell, walk,
 };
 use h5_model::{EditFault, ObjectNo, OpenFault};
 use h5_space::{Image, end_of_file, superblock_fault};
@@ -121,6 +122,15 @@ impl File {
             first_holding (path_rules self.now.tree path.now) ≡ Some e) }
     {
         kind_at(self.alloc, &self.image, &self.opened, path)
+    }
+
+    /// What stands at the path, with all that it holds. A soft link is not followed.
+    ///
+    /// Refused as [`File::kind`] is, and as `NoMemory`. Takes memory for a reference to each attribute.
+    pub fn find(&self, path: &[u8]) -> Result<Found<'_>, EditFault>
+        ensures { MatchResult result (HasFound self.now.tree path.now) (IsUnfound self.now.tree path.now) }
+    {
+        found_at(self.alloc, &self.image, &self.opened, path)
     }
 
     /// The names in the group at the path, ascending by their bytes.

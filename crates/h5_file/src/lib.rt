@@ -30,7 +30,7 @@ mod empty;
 mod file;
 
 pub use file::File;
-pub use h5_edit::{ArrayCells, AttrRef, Dims, Kind, Link, LinkTo, MAX_DEPTH, StoreKind};
+pub use h5_edit::{ArrayCells, AttrRef, Dims, Found, Kind, Link, LinkTo, MAX_DEPTH, StoreKind};
 pub use h5_model::{
     AttrSpec, Cause, Edit, EditFault, Edited, Fixed, Hyper, Items, ObjectNo, OpenFault, Spec, Store,
 };

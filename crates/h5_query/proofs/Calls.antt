@@ -1,14 +1,15 @@
 -- What the calls answer at an object.
-use Rattle.std.proofs.Common.{◌≡◌, ℕ, ◌*◌, ◌<◌, ◌&&◌, List, [], ◌∷◌, length, replicate, refl, sym, ap, ◌∙◌, Option, Some, None, Bool, not, true, false, arith, ℤ, Bor}
+use Rattle.std.proofs.Common.{◌≡◌, ℕ, ◌*◌, ◌<◌, ◌&&◌, List, [], ◌∷◌, length, replicate, refl, sym, ap, ◌∙◌, Option, Some, None, Bool, not, true, false, arith, ℤ, Bor, Vec}
 use Rattle.std.specs.Prelude.{nat_lt, MatchOption, slice_get, slice_index, unwrap_or, option_map, option_and_then, is_some}
 use Rattle.std.specs.Option.{option_map_or}
-use Rattle.std.specs.FinMap.{get, contains_key}
+use Rattle.std.specs.FinMap.{get, entries, contains_key}
+use Rattle.std.specs.declared.alloc.Global.{Global}
 use Rattle.std.specs.BTreeMap.{BTreeMap}
 use Rattle.std.proofs.lemmas.Option.{same_Some}
 use Rattle.std.proofs.lemmas.Bool.Decides.{nat_tests}
 use Rattle.h5_model.specs.Format.Fixed.{Fixed, IsFixed}
 use Rattle.h5_model.specs.Scripts.Answers.{stored_values}
-use Rattle.h5_model.specs.Tree.Objects.{Tree, Object, ToObject, Attribute}
+use Rattle.h5_model.specs.Tree.Objects.{Tree, Object, Content, ToObject, Attribute}
 use Rattle.h5_model.specs.Tree.Paths.{located, object_at}
 use Rattle.h5_model.specs.Edits.Refusal.{first_holding, is_soft}
 use Rattle.h5_model.specs.Scripts.Reading.{path_rules, list_rules, object_rules, dataset_rules, cell_at, shown_maximum}
@@ -21,12 +22,16 @@ use Rattle.h5_open.specs.declared.opened.line.Line.{Line}
 use Rattle.h5_open.specs.declared.opened.object.OpenedObject.{OpenedObject}
 use Rattle.h5_open.specs.declared.opened.object.OpenedContent.TheVariants as content
 use Rattle.h5_open.specs.Opened.Kept.{IsOpened}
-use Rattle.h5_open.specs.Opened.Objects.{headers, object_in, tree_of}
+use Rattle.h5_open.specs.Opened.Objects.{headers, links_by, content_in, object_in, tree_of}
+use Rattle.h5_open.specs.Links.{links_of}
 use Rattle.h5_query.specs.declared.array.ArrayCells.{ArrayCells}
 use Rattle.h5_query.specs.declared.kind.Kind.TheVariants as kind
 use Rattle.h5_query.specs.declared.kind.StoreKind.TheVariants as store
+use Rattle.h5_query.specs.declared.found.Found.TheVariants as found
+use Rattle.h5_model.specs.declared.object_no.ObjectNo.{ObjectNo}
+use Rattle.h5_query.specs.Found.{HasFound, HasObject}
 use Rattle.h5_query.specs.Place.{LeadsTo}
-use Rattle.h5_query.specs.Look.{HasKind, HasNames, HasCell, HasAttribute, HasArray, AreCells}
+use Rattle.h5_query.specs.Look.{HasKind, HasNames, HasCell, HasAttribute, IsArray, AreCells}
 use Rattle.h5_query.specs.Kept.{IsHeaderThere, IsLineThere, names_of, line_dataset, AreFilled, AreStored}
 use Rattle.h5_query.proofs.CellLaws.{line_length}
 use Rattle.h5_query.proofs.GroupLaws.{keys_are}
@@ -76,37 +81,31 @@ cell_there image tree path l there index at value one inside same =
       value_is = same;
     })
 
+-- ---- an array
+
+module _ (image : List ℕ) (line : Line) (a : ArrayCells) (fixed : a.fixed.now ≡ line.fixed) (size : a.size ≡ line.size) (fill : a.fill ≡ line.fill) where
+  -- the cells by what was lent
+  lent : (cells : Option (Bor (List ℕ))) → MatchOption cells (AreFilled image line) (λ bytes. AreStored image line bytes.now) → AreCells cells a (line_dataset image line).cells
+  lent None are = are ∙ (λ i. replicate (sym size i) (sym fill i))
+  lent (Some bytes) are = (are.0 ∙ (λ i. sym size i * (sym fixed i).size), are.1 ∙ ap (λ (t : Fixed). stored_values t bytes.now) (sym fixed))
+
+  pub shows_line : a.maximum ≡ line.maximum → IsFixed line.fixed → MatchOption a.cells (AreFilled image line) (λ bytes. AreStored image line bytes.now) → IsArray (line_dataset image line) a
+  shows_line maximum sound are = record {
+    sound = rw fixed sound;
+    fixed_is = fixed;
+    sizes_are = ap (λ (n : ℕ). n ∷ []) (sym size);
+    maxima_are = ap (λ (m : Option ℕ). m ∷ []) (sym maximum);
+    stored = is_some line.cells && nat_lt 0 (line.size * 1);
+    storage_is = refl;
+    fill_is = fill;
+    counted = line_length image line ∙ sym size;
+    cells_are = lent a.cells are;
+  }
+
 module _ (image : List ℕ) (objects : List OpenedObject) (numbers : BTreeMap ℕ ℕ) (opened : IsOpened image objects numbers) (number : ℕ) (object : OpenedObject)
     (at : slice_get objects number ≡ Some object) where
   abbrev T : Tree
   T = tree_of image objects
-
-  -- ---- by its number
-
-  module _ (line : Line) (is : object.content ≡ content.Array line) where
-    -- the cells by what was lent
-    lent : (a : ArrayCells) (cells : Option (Bor (List ℕ))) → a.size ≡ line.size → a.fixed.now ≡ line.fixed → a.fill ≡ line.fill
-        → MatchOption cells (AreFilled image line) (λ bytes. AreStored image line bytes.now) → AreCells cells a (line_dataset image line).cells
-    lent a None size fixed fill are = are ∙ (λ i. replicate (sym size i) (sym fill i))
-    lent a (Some bytes) size fixed fill are = (are.0 ∙ (λ i. sym size i * (sym fixed i).size), are.1 ∙ ap (λ (t : Fixed). stored_values t bytes.now) (sym fixed))
-
-    pub has_array : (a : ArrayCells) → a.fixed.now ≡ line.fixed → a.size ≡ line.size → a.maximum ≡ line.maximum → a.fill ≡ line.fill → IsFixed line.fixed
-        → MatchOption a.cells (AreFilled image line) (λ bytes. AreStored image line bytes.now) → HasArray T number a
-    has_array a fixed size maximum fill sound are = (
-      line_dataset image line,
-      array_there image objects number object at line is,
-      record {
-        sound = rw fixed sound;
-        fixed_is = fixed;
-        sizes_are = ap (λ (n : ℕ). n ∷ []) (sym size);
-        maxima_are = ap (λ (m : Option ℕ). m ∷ []) (sym maximum);
-        stored = is_some line.cells && nat_lt 0 (line.size * 1);
-        storage_is = refl;
-        fill_is = fill;
-        counted = line_length image line ∙ sym size;
-        cells_are = lent a a.cells size fixed fill are;
-      },
-    )
 
   -- ---- by a path
 
@@ -120,11 +119,23 @@ module _ (image : List ℕ) (objects : List OpenedObject) (numbers : BTreeMap �
       attributes_are = refl;
     }
 
+    -- what it holds
+    holds : (attributes : List (List ℕ × Attribute)) → attributes ≡ entries (attributes_of (messages_in image object.messages.list)) → (c : Content)
+        → content_in image (headers objects) object.content ≡ c → HasObject T number attributes c
+    holds attributes listed c same = record { object = object_in image (headers objects) object; found = object_there image objects number object at; listed = listed; content_is = same }
+
     -- ---- a group
 
     module _ (g : Group) (is : object.content ≡ content.Group g) where
       pub group_kind : HasKind T path kind.Group
       group_kind = record { accepted = leads.0; found = rw (leads.1, group_links image objects number object at g is) refl }
+
+      pub group_found : (n : ObjectNo) → n.0 ≡ number → (attributes : Vec (List ℕ × Attribute) Global)
+          → attributes.items ≡ entries (attributes_of (messages_in image object.messages.list)) → HasFound T path (found.Group n attributes)
+      group_found n same attributes listed = record {
+        accepted = leads.0;
+        there = rw leads.1 (same, links_by (headers objects) (links_of image g), holds attributes.items listed _ (ap (content_in image (headers objects)) is));
+      }
 
       pub group_names : (names : List (List ℕ)) → names ≡ names_of image g → HasNames T path names
       group_names names same = record {
@@ -150,6 +161,14 @@ module _ (image : List ℕ) (objects : List OpenedObject) (numbers : BTreeMap �
           array_there image objects number object at line is,
           record { fixed_is = refl; dims_are = refl; maxima_are = ap (λ (m : ℕ). m ∷ []) same; stored_is = tt; fill_is = refl },
         );
+      }
+
+      pub array_found : (n : ObjectNo) → n.0 ≡ number → (attributes : Vec (List ℕ × Attribute) Global)
+          → attributes.items ≡ entries (attributes_of (messages_in image object.messages.list)) → (a : ArrayCells) → IsArray (line_dataset image line) a
+          → HasFound T path (found.Array n attributes a)
+      array_found n same attributes listed a shown = record {
+        accepted = leads.0;
+        there = rw leads.1 (same, line_dataset image line, holds attributes.items listed _ (ap (content_in image (headers objects)) is), shown);
       }
 
       pub array_no_list : first_holding (list_rules T path) ≡ Some NotAGroup

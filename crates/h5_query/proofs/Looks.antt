@@ -1,70 +1,102 @@
 -- What a path leads to, by the names that are followed.
-use Rattle.std.proofs.Common.{◌≡◌, ℕ, ◌-◌, ◌≤◌, List, ◌∷◌, length, take, drop, sym, ap, ◌∙◌, Option, Some, None, Bor, arith, Bool, true, false, not, Result, Ok, Err}
-use Rattle.std.specs.Prelude.{nat_lt, is_some, if◌then◌else◌, MatchResult}
-use Rattle.std.specs.Option.{option_map_or}
+use Rattle.std.proofs.Common.{◌≡◌, ℕ, ◌-◌, ◌<◌, ◌≤◌, List, [], ◌∷◌, length, take, drop, sym, ap, ◌∙◌, subst, Option, Some, arith, false, Result, Ok, Err}
+use Rattle.std.specs.Prelude.{nat_lt, MatchResult}
+use Rattle.std.specs.Option.{option_map_or, option_and_then}
 use Rattle.std.proofs.lemmas.Bool.Decides.{nat_tests}
 use Rattle.std.proofs.lemmas.List.{take_rest}
 use Rattle.std.proofs.lemmas.List.Splits.{length-slice_split}
-use Rattle.h5_model.specs.Tree.Objects.{Tree, Link, ToObject}
-use Rattle.h5_model.specs.Tree.Paths.{Located, Here, Missing, NoParent, NoGroup, NoPath, names_of, locate, located, missing_before}
+use Rattle.h5_model.specs.Tree.Objects.{Tree, Link, ToObject, link_in}
+use Rattle.h5_model.specs.Tree.Paths.{Located, Here, Missing, NoParent, NoGroup, NoPath, names_of, locate, missing_before, parent_from}
 use Rattle.h5_model.specs.declared.edit_fault.EditFault.{EditFault}
-use Rattle.h5_model.specs.declared.edit_fault.EditFault.TheVariants.{NotFound, NoSuchParent, NotAGroup}
+use Rattle.h5_model.specs.declared.edit_fault.EditFault.TheVariants.{NoSuchParent, NotAGroup}
 use Rattle.h5_open.specs.declared.opened.object.OpenedObject.{OpenedObject}
-use Rattle.h5_query.specs.declared.place.Place.{Place}
-use Rattle.h5_query.specs.Names.{parts, parts_left}
-use Rattle.h5_query.specs.Place.{IsPlace, IsNowhere, link_at}
-use Rattle.h5_query.specs.Steps.{IsFound, IsLost}
+use Rattle.h5_query.specs.declared.place.Spot.{Spot}
+use Rattle.h5_query.specs.declared.place.Spot.TheVariants.{Root, Taken, Free}
+use Rattle.h5_query.specs.Names.{parts}
+use Rattle.h5_query.specs.Place.{IsSpotOf, IsNoSpot, link_at}
+use Rattle.h5_query.specs.Steps.{IsReached, IsLost}
 use Rattle.h5_query.proofs.Parts.{some_part, is_slash}
-use Rattle.h5_query.proofs.PathLaws.{names-split}
-use Rattle.h5_query.proofs.RuleLaws.{at_place}
+use Rattle.h5_query.proofs.PathLaws.{names-split, locate-linked, parent-linked}
+use Rattle.h5_query.proofs.RuleLaws.{at_group}
 
 -- ---- one name after the other
 
-module _ (tree : Tree) (begin : Link) (rest : Option (Bor (List ℕ))) (text : Bor (List ℕ)) (is : rest ≡ Some text)
-    (name : List ℕ) (others : Option (Bor (List ℕ))) (cut : parts text.now ≡ name ∷ parts_left others) (all : List (List ℕ))
-    (leads : locate tree begin (parts_left rest) ≡ locate tree (ToObject 0) all) where
-  -- what the names that are left lead to, by the first of them
-  pub first_name : (at : Located) → locate tree begin (name ∷ parts_left others) ≡ at → locate tree (ToObject 0) all ≡ at
-  first_name at here = sym leads ∙ ap (λ (r : Option (Bor (List ℕ))). locate tree begin (parts_left r)) is ∙ ap (locate tree begin) cut ∙ here
+-- from this link the names that are left lead where all of them lead from the root, and to the same group before the last one
+pub record LeadsAs (tree : Tree) (link : Link) (names all : List (List ℕ)) : Type 0 where
+  pub located : locate tree link names ≡ locate tree (ToObject 0) all
+  pub parent : parent_from tree link names ≡ parent_from tree (ToObject 0) all
 
--- a name that is missing, by whether others stand behind it
-pub missing_lost : (tree : Tree) (all : List (List ℕ)) (others : Option (Bor (List ℕ))) (last : Bool) (e : EditFault) → locate tree (ToObject 0) all ≡ missing_before (parts_left others)
-    → is_some others ≡ not last → e ≡ (if last then NotFound else NoSuchParent) → IsLost tree all e
-missing_lost tree all None true e at last is = rw is at
-missing_lost tree all None false e at last is = absurd (cc)
-missing_lost tree all (Some rest) true e at last is = absurd (cc)
-missing_lost tree all (Some rest) false e at last is =
-    let more = some_part (parts rest.now) _ (length-slice_split is_slash rest.now) in
-    rw is (at ∙ ap missing_before more.2)
+module _ (tree : Tree) (link : Link) (text name : List ℕ) (others all : List (List ℕ)) (leads : LeadsAs tree link (parts text) all)
+    (cut : parts text ≡ name ∷ others) where
+  -- the first of them, and those behind it
+  cut_leads : LeadsAs tree link (name ∷ others) all
+  cut_leads = subst (λ names. LeadsAs tree link names all) cut leads
+
+  pub ends_at : (at : Located) → locate tree link (name ∷ others) ≡ at → locate tree (ToObject 0) all ≡ at
+  ends_at at here = sym cut_leads.located ∙ here
+
+  module _ (parent : ℕ) (linked : link ≡ ToObject parent) where
+    pub in_parent : others ≡ [] → parent_from tree (ToObject 0) all ≡ Some (parent, name)
+    in_parent last = sym cut_leads.parent ∙ (λ i. parent_from tree (linked i) (name ∷ last i))
+
+    module _ (next : Link) (there : link_in tree parent name ≡ Some next) where
+      pub ends_there : others ≡ [] → locate tree (ToObject 0) all ≡ Here next
+      ends_there last = sym cut_leads.located ∙ (λ i. locate tree (linked i) (name ∷ last i)) ∙ locate-linked tree parent name [] next there
+
+      pub leads_on : (rest : List ℕ) → others ≡ parts rest → LeadsAs tree next (parts rest) all
+      leads_on rest are =
+          let more = some_part (parts rest) _ (length-slice_split is_slash rest) in
+          let known : LeadsAs tree (ToObject parent) (name ∷ parts rest) all
+          = subst (λ (l : Link). LeadsAs tree l (name ∷ parts rest) all) linked (subst (λ names. LeadsAs tree link (name ∷ names) all) are cut_leads) in
+          record {
+            located = sym (locate-linked tree parent name (parts rest) next there) ∙ known.located;
+            parent =
+                ap (parent_from tree next) more.2
+                ∙ sym (parent-linked tree parent name more.1 more.0 next there)
+                ∙ ap (λ names. parent_from tree (ToObject parent) (name ∷ names)) (sym more.2)
+                ∙ known.parent;
+          }
+
+-- a name that is missing before others
+pub missing_inside : (rest : List ℕ) → missing_before (parts rest) ≡ NoParent
+missing_inside rest = let more = some_part (parts rest) _ (length-slice_split is_slash rest) in ap missing_before more.2
 
 -- ---- the whole path
-
-abbrev names_to : Tree → Option (List (List ℕ)) → Located
-names_to tree found = option_map_or (λ names. locate tree (ToObject 0) names) found NoPath
 
 module _ (tree : Tree) (objects : List OpenedObject) (path x : List ℕ) (xs : List (List ℕ)) (named : names_of path ≡ Some (x ∷ xs)) (low : length (x ∷ xs) ≤ 64) where
   shallow : nat_lt 64 (length (x ∷ xs)) ≡ false
   shallow = grind (arith, nat_tests)
 
-  lost_nowhere : (e : EditFault) → IsLost tree (x ∷ xs) e → IsNowhere tree path e
-  lost_nowhere NotFound lost = at_place tree path (x ∷ xs) Missing named shallow (ap (names_to tree) named ∙ lost)
-  lost_nowhere NoSuchParent lost = at_place tree path (x ∷ xs) NoParent named shallow (ap (names_to tree) named ∙ lost)
-  lost_nowhere NotAGroup lost = at_place tree path (x ∷ xs) NoGroup named shallow (ap (names_to tree) named ∙ lost)
-  lost_nowhere _ lost = absurd lost
+  located_at : (at : Located) → locate tree (ToObject 0) (x ∷ xs) ≡ at → option_map_or (λ names. locate tree (ToObject 0) names) (names_of path) NoPath ≡ at
+  located_at at there = ap (λ o. option_map_or (λ names. locate tree (ToObject 0) names) o NoPath) named ∙ there
 
-  found_there : (at : Place) → IsFound tree objects (x ∷ xs) at → IsPlace tree objects path at
-  found_there at found =
-      let there : located tree path ≡ Here (link_at at) = ap (names_to tree) named ∙ found.1 in
-      ((at_place tree path (x ∷ xs) (Here (link_at at)) named shallow there, there), found.0)
+  parent_of : (p : Option (ℕ × List ℕ)) → parent_from tree (ToObject 0) (x ∷ xs) ≡ p → option_and_then (parent_from tree (ToObject 0)) (names_of path) ≡ p
+  parent_of p there = ap (option_and_then (parent_from tree (ToObject 0))) named ∙ there
 
-  by_names : (r : Result Place EditFault) → MatchResult r (IsFound tree objects (x ∷ xs)) (IsLost tree (x ∷ xs)) → MatchResult r (IsPlace tree objects path) (IsNowhere tree path)
-  by_names (Ok at) found = found_there at found
-  by_names (Err e) lost = lost_nowhere e lost
+  lost_before : (e : EditFault) → IsLost tree (x ∷ xs) e → IsNoSpot tree path e
+  lost_before NoSuchParent lost = at_group tree path (x ∷ xs) NoParent named shallow (located_at NoParent lost)
+  lost_before NotAGroup lost = at_group tree path (x ∷ xs) NoGroup named shallow (located_at NoGroup lost)
+  lost_before _ lost = absurd lost
 
-  -- what the names between the slashes lead to
-  pub followed : (r : Result Place EditFault)
-      → MatchResult r (IsFound tree objects (parts (take (length path - 1) (drop 1 path)))) (IsLost tree (parts (take (length path - 1) (drop 1 path))))
-      → MatchResult r (IsPlace tree objects path) (IsNowhere tree path)
-  followed r is =
-      let same : parts (take (length path - 1) (drop 1 path)) ≡ x ∷ xs = ap parts (take_rest path 1) ∙ names-split path x xs named in
-      by_names r (rw same at is)
+  spot_there : (at : Spot) → IsReached tree objects (x ∷ xs) at → IsSpotOf tree objects path at
+  spot_there Root reached = absurd reached
+  spot_there (Taken parent name place) reached =
+      let there = located_at (Here (link_at place)) reached.1 in
+      (at_group tree path (x ∷ xs) (Here (link_at place)) named shallow there, (parent_of (Some (parent, name.now)) reached.0, there, reached.2))
+  spot_there (Free parent name) reached =
+      let there = located_at Missing reached.1 in
+      (at_group tree path (x ∷ xs) Missing named shallow there, (parent_of (Some (parent, name.now)) reached.0, there))
+
+  by_names : (r : Result Spot EditFault) → MatchResult r (IsReached tree objects (x ∷ xs)) (IsLost tree (x ∷ xs)) → MatchResult r (IsSpotOf tree objects path) (IsNoSpot tree path)
+  by_names (Ok at) reached = spot_there at reached
+  by_names (Err e) lost = lost_before e lost
+
+-- what the names between the slashes lead to
+pub followed : (tree : Tree) (objects : List OpenedObject) (path : List ℕ) (names : List (List ℕ)) → names_of path ≡ Some names → 0 < length names → length names ≤ 64
+    → (r : Result Spot EditFault)
+    → MatchResult r (IsReached tree objects (parts (take (length path - 1) (drop 1 path)))) (IsLost tree (parts (take (length path - 1) (drop 1 path))))
+    → MatchResult r (IsSpotOf tree objects path) (IsNoSpot tree path)
+followed tree objects path [] named some low r is = absurd (omega (arith, some))
+followed tree objects path (x ∷ xs) named some low r is =
+    let same : parts (take (length path - 1) (drop 1 path)) ≡ x ∷ xs = ap parts (take_rest path 1) ∙ names-split path x xs named in
+    by_names tree objects path x xs named low r (rw same at is)

@@ -1,5 +1,5 @@
 -- Which rule of a path is the first that holds, in any tree.
-use Rattle.std.proofs.Common.{◌≡◌, ℕ, List, [], ◌∷◌, ◌++◌, length, refl, ap, ◌∙◌, Bool, cond, not, true, false, Option, Some, None}
+use Rattle.std.proofs.Common.{◌≡◌, ℕ, List, [], ◌∷◌, ◌++◌, length, refl, ap, ◌∙◌, Bool, not, true, false, Option, Some, None}
 use Rattle.std.specs.Prelude.{nat_lt, ◌==◌, if◌then◌else◌, ◌||◌, ◌&&◌, is_none}
 use Rattle.std.specs.Option.{option_map_or}
 use Rattle.h5_model.specs.Tree.Places.{is_inside}
@@ -9,21 +9,41 @@ use Rattle.h5_model.specs.Edits.Refusal.{first_holding, is_deep, is_here, has_no
 use Rattle.h5_model.specs.Scripts.Reading.{path_rules, list_rules, dataset_rules}
 use Rattle.h5_model.specs.declared.edit_fault.EditFault.{EditFault}
 use Rattle.h5_model.specs.declared.edit_fault.EditFault.TheVariants.{BadPath, PathTooDeep, NoSuchParent, NotAGroup, NotFound, NotADataset, RankMismatch, OutOfExtent}
-use Rattle.h5_model.proofs.PathLaws.{first_of_path_rules, refusal_at}
+use Rattle.h5_query.specs.Place.{group_rules}
 
 pub first-behind : (rules others : List (EditFault × Bool)) → first_holding rules ≡ None → first_holding (rules ++ others) ≡ first_holding others
 first-behind [] others h = refl
 first-behind ((f, true) ∷ rules) others h = absurd (cc)
 first-behind ((f, false) ∷ rules) others h = first-behind rules others h
 
+pub first-found : (rules others : List (EditFault × Bool)) (e : EditFault) → first_holding rules ≡ Some e → first_holding (rules ++ others) ≡ Some e
+first-found [] others e h = absurd (cc)
+first-found ((f, true) ∷ rules) others e h = h
+first-found ((f, false) ∷ rules) others e h = first-found rules others e h
+
 -- ---- a path
 
+abbrev missing_rule : Tree → List ℕ → List (EditFault × Bool)
+missing_rule tree path = (NotFound, is_missing (located tree path)) ∷ []
+
+-- where a group stands before the last name, the path is refused where that is missing alone
+pub before_last : (tree : Tree) (path : List ℕ) (at : Located) → first_holding (group_rules tree path) ≡ None → located tree path ≡ at
+    → first_holding (path_rules tree path) ≡ (if is_missing at then Some NotFound else None)
+before_last tree path at h there = first-behind (group_rules tree path) (missing_rule tree path) h ∙ ap (λ (l : Located). if is_missing l then Some NotFound else None) there
+
+pub lost_before : (tree : Tree) (path : List ℕ) (e : EditFault) → first_holding (group_rules tree path) ≡ Some e → first_holding (path_rules tree path) ≡ Some e
+lost_before tree path e h = first-found (group_rules tree path) (missing_rule tree path) e h
+
+abbrev group_table : Bool → Bool → Located → Option EditFault
+group_table bad deep at = first_holding ((BadPath, bad) ∷ (PathTooDeep, deep) ∷ (NoSuchParent, has_no_parent at) ∷ (NotAGroup, has_no_group at) ∷ [])
+
 -- a path that is not deep is refused by what it leads to alone
-pub at_place : (tree : Tree) (path : List ℕ) (names : List (List ℕ)) (at : Located) → names_of path ≡ Some names → nat_lt 64 (length names) ≡ false
-    → located tree path ≡ at → first_holding (path_rules tree path) ≡ refusal_at at
-at_place tree path names at h low there =
-    let shallow : is_deep path ≡ false = rw h low in
-    first_of_path_rules tree path ∙ ap (λ b. cond b (Some PathTooDeep) (refusal_at (located tree path))) shallow ∙ ap refusal_at there
+pub at_group : (tree : Tree) (path : List ℕ) (names : List (List ℕ)) (at : Located) → names_of path ≡ Some names → nat_lt 64 (length names) ≡ false
+    → located tree path ≡ at → first_holding (group_rules tree path) ≡ group_table false false at
+at_group tree path names at h low there =
+    let shallow : is_deep path ≡ false = ap (λ o. option_map_or (λ ns. nat_lt 64 (length ns)) o false) h ∙ low in
+    let good : is_none (names_of path) ≡ false = ap is_none h in
+    (λ i. group_table (good i) (shallow i) (there i))
 
 -- ---- a path to a group
 

@@ -2,9 +2,11 @@
 use Rattle.std.proofs.Common.{◌≡◌, ℕ, List, ◌∷◌, sym, ap, ◌∙◌, subst, Some, Bor}
 use Rattle.std.specs.Prelude.{slice_get}
 use Rattle.std.specs.List.{Contains}
+use Rattle.std.specs.Option.{option_and_then}
+use Rattle.std.specs.FinMap.{get}
 use Rattle.std.specs.BTreeMap.{BTreeMap}
 use Rattle.std.proofs.lemmas.Option.{slice_get_within, get_or_from_slice_get}
-use Rattle.h5_model.specs.Tree.Objects.{Tree, Link, Links, ToObject, Soft}
+use Rattle.h5_model.specs.Tree.Objects.{Tree, Link, Links, ToObject, Soft, link_in}
 use Rattle.h5_model.specs.Tree.Paths.{NoGroup, locate, missing_before}
 use Rattle.h5_laws.proofs.Lists.{In, in_contains}
 use Rattle.h5_open.specs.Links as group
@@ -24,7 +26,7 @@ use Rattle.h5_query.specs.Place.{IsOfNumber, link_at}
 use Rattle.h5_query.proofs.Indexed.{group_links, array_no_group, group_read, number_at_header}
 use Rattle.h5_query.proofs.Led.{led}
 use Rattle.h5_query.proofs.GroupLaws.{link_named, none_named}
-use Rattle.h5_query.proofs.PathLaws.{locate-no_group, locate-missing, locate-linked}
+use Rattle.h5_query.proofs.PathLaws.{locate-no_group, locate-missing}
 
 module _ (image : List ℕ) (objects : List OpenedObject) (numbers : BTreeMap ℕ ℕ) (opened : IsOpened image objects numbers) where
   abbrev T : Tree
@@ -48,8 +50,11 @@ module _ (image : List ℕ) (objects : List OpenedObject) (numbers : BTreeMap �
     pub at : slice_get objects number ≡ Some object.now
     at = subst (IsOfNumber objects) is kept
 
+    pub begins_at : link_at from ≡ ToObject number
+    begins_at = ap link_at is
+
     begins : (names : List (List ℕ)) → locate T (link_at from) names ≡ locate T (ToObject number) names
-    begins names = ap (λ (f : Place). locate T (link_at f) names) is
+    begins names = ap (λ (l : Link). locate T l names) begins_at
 
     pub no_group : (line : Line) → object.now.content ≡ content.Array line → (name : List ℕ) (names : List (List ℕ)) → locate T (link_at from) (name ∷ names) ≡ NoGroup
     no_group line array name names = begins (name ∷ names) ∙ locate-no_group T number name names (array_no_group image objects number object.now at line array)
@@ -67,22 +72,21 @@ module _ (image : List ℕ) (objects : List OpenedObject) (numbers : BTreeMap �
           ∙ locate-missing T number name names links (group_links image objects number object.now at g grouped) (none_named image hs g read name none)
 
       module _ (name : List ℕ) (l : LinkRef) (named : IsLinkNamed image g name l) where
-        to_link : (link : Link) → link_to hs (target_of l.target) ≡ link → (names : List (List ℕ)) → locate T (link_at from) (name ∷ names) ≡ locate T link names
-        to_link link leads names =
-            begins (name ∷ names)
-            ∙ locate-linked T number name names links (group_links image objects number object.now at g grouped) (link_to hs (target_of l.target)) (link_named image hs g read name l named)
-            ∙ ap (λ (x : Link). locate T x names) leads
+        -- the link of the name
+        in_group : (link : Link) → link_to hs (target_of l.target) ≡ link → link_in T number name ≡ Some link
+        in_group link leads =
+            ap (option_and_then (λ (ls : Links). get ls name)) (group_links image objects number object.now at g grouped)
+            ∙ link_named image hs g read name l named ∙ ap Some leads
 
-        pub to_text : (text : Bor (List ℕ)) → l.target ≡ target.Soft text → (names : List (List ℕ)) → locate T (link_at from) (name ∷ names) ≡ locate T (Soft text.now) names
-        to_text text is_text = to_link (Soft text.now) (ap (λ (t : LinkTarget). link_to hs (target_of t)) is_text)
+        pub to_text : (text : Bor (List ℕ)) → l.target ≡ target.Soft text → link_in T number name ≡ Some (Soft text.now)
+        to_text text is_text = in_group (Soft text.now) (ap (λ (t : LinkTarget). link_to hs (target_of t)) is_text)
 
         module _ (header : ℕ) (names_header : l.target ≡ target.Object header) where
           pub header_known : Contains hs header
           header_known = header_contained header (header_there number object.now at g grouped l header named.0 names_header)
 
-          pub to_object : (n : ℕ) → slice_get hs n ≡ Some header → (next : Place) → link_at next ≡ ToObject n
-              → (names : List (List ℕ)) → locate T (link_at from) (name ∷ names) ≡ locate T (link_at next) names
+          pub to_object : (n : ℕ) → slice_get hs n ≡ Some header → (next : Place) → link_at next ≡ ToObject n → link_in T number name ≡ Some (link_at next)
           to_object n there next linked =
-              to_link (link_at next)
+              in_group (link_at next)
               (ap (λ (t : LinkTarget). link_to hs (target_of t)) names_header
               ∙ ap ToObject (number_at_header image objects numbers opened n header there) ∙ sym linked)

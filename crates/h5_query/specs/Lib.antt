@@ -3,6 +3,7 @@ pub mod Place
 pub mod Steps
 pub mod Look
 pub mod Listed
+pub mod Found
 pub mod Kept
 pub use Rattle.h5_open.specs.Opened
 pub use Rattle.h5_open.specs.Described

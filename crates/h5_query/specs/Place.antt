@@ -1,13 +1,16 @@
 -- What a path leads to in an opened image.
-use Rattle.std.specs.Prelude.{◌≡◌, ℕ, List, Some, None, slice_get}
+use Rattle.std.specs.Prelude.{◌≡◌, ℕ, Bool, is_none, List, [], ◌∷◌, Some, None, slice_get}
 use Rattle.h5_model.specs.Tree.Objects.{Tree, Link, ToObject, Soft}
-use Rattle.h5_model.specs.Tree.Paths.{Here, located, object_at}
-use Rattle.h5_model.specs.Edits.Refusal.{first_holding}
+use Rattle.h5_model.specs.Tree.Paths.{Here, Missing, names_of, located, object_at, parent_at}
+use Rattle.h5_model.specs.Edits.Refusal.{first_holding, is_deep, has_no_parent, has_no_group}
 use Rattle.h5_model.specs.Scripts.Reading.{path_rules, object_rules}
 use Rattle.h5_model.specs.declared.edit_fault.EditFault.{EditFault}
+use Rattle.h5_model.specs.declared.edit_fault.EditFault.TheVariants as fault
 use Rattle.h5_open.specs.declared.opened.object.OpenedObject.{OpenedObject}
 use Rattle.h5_query.specs.declared.place.Place.{Place}
 use Rattle.h5_query.specs.declared.place.Place.TheVariants as place
+use Rattle.h5_query.specs.declared.place.Spot.{Spot}
+use Rattle.h5_query.specs.declared.place.Spot.TheVariants as spot
 
 -- no rule of a path refuses it, and it leads to this link
 abbrev pub LeadsTo : Tree → List ℕ → Link → Type 0
@@ -37,3 +40,28 @@ IsNumber tree path number = (first_holding (object_rules tree path) ≡ None) ×
 -- no object stands there
 abbrev pub IsNoObject : Tree → List ℕ → EditFault → Type 0
 IsNoObject tree path e = first_holding (object_rules tree path) ≡ Some e
+
+-- ---- a path whose last name may be missing
+
+-- the rules of a path before whose last name a group has to stand
+abbrev pub group_rules : Tree → List ℕ → List (EditFault × Bool)
+group_rules tree path =
+    (fault.BadPath, is_none (names_of path))
+    ∷ (fault.PathTooDeep, is_deep path)
+    ∷ (fault.NoSuchParent, has_no_parent (located tree path))
+    ∷ (fault.NotAGroup, has_no_group (located tree path))
+    ∷ []
+
+-- the path has no name; or the group before its last name has a link of it, which leads to this place; or it has none
+abbrev pub IsSpotAt : Tree → List OpenedObject → List ℕ → Spot → Type 0
+IsSpotAt tree objects path spot.Root = names_of path ≡ Some []
+IsSpotAt tree objects path (spot.Taken parent name place) =
+    (parent_at tree path ≡ Some (parent, name.now)) × (located tree path ≡ Here (link_at place)) × IsOfNumber objects place
+IsSpotAt tree objects path (spot.Free parent name) = (parent_at tree path ≡ Some (parent, name.now)) × (located tree path ≡ Missing)
+
+-- no rule of these refuses the path, and this is its spot
+abbrev pub IsSpotOf : Tree → List OpenedObject → List ℕ → Spot → Type 0
+IsSpotOf tree objects path at = (first_holding (group_rules tree path) ≡ None) × IsSpotAt tree objects path at
+
+abbrev pub IsNoSpot : Tree → List ℕ → EditFault → Type 0
+IsNoSpot tree path e = first_holding (group_rules tree path) ≡ Some e

@@ -1,29 +1,35 @@
 -- Where names lead from a place of an opened image.
-use Rattle.std.specs.Prelude.{◌≡◌, List, ℕ, ◌∷◌}
-use Rattle.h5_model.specs.Tree.Objects.{Tree, Link, ToObject}
-use Rattle.h5_model.specs.Tree.Paths.{Here, Missing, NoParent, NoGroup, missing_before, locate}
+use Rattle.std.specs.Prelude.{◌≡◌, List, ℕ, ◌∷◌, Some}
+use Rattle.h5_model.specs.Tree.Objects.{Tree, Link, ToObject, link_in}
+use Rattle.h5_model.specs.Tree.Paths.{Here, Missing, NoParent, NoGroup, missing_before, locate, parent_from}
 use Rattle.h5_model.specs.declared.edit_fault.EditFault.{EditFault}
 use Rattle.h5_model.specs.declared.edit_fault.EditFault.TheVariants as fault
 use Rattle.h5_open.specs.declared.opened.object.OpenedObject.{OpenedObject}
-use Rattle.h5_query.specs.declared.place.Place.{Place}
+use Rattle.h5_query.specs.declared.place.Spot.{Spot}
+use Rattle.h5_query.specs.declared.place.Spot.TheVariants as spot
 use Rattle.h5_query.specs.declared.step.Step.{Step}
 use Rattle.h5_query.specs.declared.step.Step.TheVariants as step
 use Rattle.h5_query.specs.Place.{IsOfNumber, link_at}
 
--- no group stands behind the link, or its group has no such name, or the name leads on from this place
+-- no group stands behind the link; or it leads to this group, which has no such name, or a link of it to this place
 abbrev pub IsStep : Tree → List OpenedObject → Link → List ℕ → Step → Type 0
 IsStep tree objects link name step.NoGroup = (names : List (List ℕ)) → locate tree link (name ∷ names) ≡ NoGroup
-IsStep tree objects link name step.Missing = (names : List (List ℕ)) → locate tree link (name ∷ names) ≡ missing_before names
-IsStep tree objects link name (step.To place) =
-    IsOfNumber objects place × ((names : List (List ℕ)) → locate tree link (name ∷ names) ≡ locate tree (link_at place) names)
+IsStep tree objects link name (step.Missing parent) =
+    (link ≡ ToObject parent) × ((names : List (List ℕ)) → locate tree link (name ∷ names) ≡ missing_before names)
+IsStep tree objects link name (step.To parent place) =
+    (link ≡ ToObject parent) × (link_in tree parent name ≡ Some (link_at place)) × IsOfNumber objects place
 
--- the names lead from the root to this place
-abbrev pub IsFound : Tree → List OpenedObject → List (List ℕ) → Place → Type 0
-IsFound tree objects names place = IsOfNumber objects place × (locate tree (ToObject 0) names ≡ Here (link_at place))
+-- the names lead from the root to the group before the last one, which has a link of that name to this place, or none of it
+abbrev pub IsReached : Tree → List OpenedObject → List (List ℕ) → Spot → Type 0
+IsReached tree objects names spot.Root = ⊥
+IsReached tree objects names (spot.Taken parent name place) =
+    (parent_from tree (ToObject 0) names ≡ Some (parent, name.now)) × (locate tree (ToObject 0) names ≡ Here (link_at place))
+    × IsOfNumber objects place
+IsReached tree objects names (spot.Free parent name) =
+    (parent_from tree (ToObject 0) names ≡ Some (parent, name.now)) × (locate tree (ToObject 0) names ≡ Missing)
 
--- they lead nowhere, which is refused so
+-- a group before the last name is missing, or is none, which is refused so
 abbrev pub IsLost : Tree → List (List ℕ) → EditFault → Type 0
-IsLost tree names fault.NotFound = locate tree (ToObject 0) names ≡ Missing
 IsLost tree names fault.NoSuchParent = locate tree (ToObject 0) names ≡ NoParent
 IsLost tree names fault.NotAGroup = locate tree (ToObject 0) names ≡ NoGroup
 IsLost tree names _ = ⊥

@@ -3,11 +3,12 @@
 ghost use Rattle.std.specs.Prelude.{MatchOption};
 ghost use Rattle.h5_open.specs.Opened.Kept.{IsOpened};
 ghost use Rattle.h5_open.specs.Opened.Objects.{tree_of};
-ghost use Rattle.h5_query.specs.Look.{IsNoDataset, HasArray};
+ghost use Rattle.h5_query.specs.Kept.{IsLineKept, line_dataset};
+ghost use Rattle.h5_query.specs.Look.{IsNoDataset, HasArray, IsArray};
 
 use crate::cells::stored;
 use h5_model::{Fixed, ObjectNo};
-use h5_open::{Opened, OpenedContent};
+use h5_open::{Line, Opened, OpenedContent};
 use h5_space::Image;
 
 /// An array of one dimension, with its cells as they are stored.
@@ -37,11 +38,19 @@ pub fn array_of<'a>(
     let OpenedContent::Array(line) = &object.content else {
         return None;
     };
-    Some(ArrayCells {
+    Some(array_cells(image, line))
+}
+
+/// The array of a line.
+pub(crate) fn array_cells<'a>(image: &'a Image, line: &'a Line) -> ArrayCells<'a>
+    requires { IsLineKept image.now.bytes line.now }
+    ensures { IsArray (line_dataset image.now.bytes line.now) result }
+{
+    ArrayCells {
         fixed: &line.fixed,
         size: line.size,
         maximum: line.maximum,
         fill: line.fill,
         cells: stored(image, line),
-    })
+    }
 }

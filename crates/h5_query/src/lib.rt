@@ -6,6 +6,7 @@
 mod array;
 mod attributes;
 mod cells;
+mod found;
 mod group;
 mod kind;
 mod links;
@@ -16,6 +17,7 @@ mod step;
 pub use array::{ArrayCells, array_of};
 pub use attributes::{attributes_at, names_of_attributes, one_attribute};
 pub use cells::one_cell;
+pub use found::{Found, found_at};
 pub use group::{Link, LinkTo, links_of};
 pub use h5_open::{
     AttrRef, Group, Line, LinkRef, LinkTarget, Opened, OpenedContent, OpenedObject, entries, get,
@@ -24,5 +26,5 @@ pub use h5_open::{
 pub use h5_shape::Dims;
 pub use kind::{Kind, StoreKind};
 pub use links::{kind_at, names_at};
-pub use path::{MAX_DEPTH, Names, names_in};
-pub use place::{Place, look, number_at};
+pub use path::MAX_DEPTH;
+pub use place::{Place, Spot, look, look_up, number_at};

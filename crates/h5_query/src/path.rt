@@ -1,27 +1,14 @@
 //! Paths: the names between slashes.
 
-ghost use Rattle.std.specs.Prelude.{◌≡◌, ◌==◌, ◌∷◌, length, position};
+ghost use Rattle.std.specs.Prelude.{◌≡◌, ◌==◌, ◌∷◌, length, option_map, position};
 ghost use Rattle.std.specs.List.{list_all, slice_split};
 ghost use Rattle.h5_model.specs.Tree.Paths.{is_name, names_of};
-ghost use Rattle.h5_query.specs.Names.{AreNames, AreParts, parts, parts_left};
+ghost use Rattle.h5_query.specs.Names.{parts, parts_left};
 
 use h5_model::is_link_name;
 
 /// The most names of a path.
 pub const MAX_DEPTH: usize = 64;
-
-/// The names of a path.
-#[derive(Clone, Copy)]
-pub enum Names<'a> {
-    /// It is no path.
-    Bad,
-    /// `/`, which has none.
-    Root,
-    /// One name.
-    One(&'a [u8]),
-    /// Several names, with the first of them.
-    Several { first: &'a [u8], count: usize },
-}
 
 fn are_names(text: &[u8]) -> bool
     ensures { result ≡ list_all is_name (slice_split (λ c. c == 47) text.now) }
@@ -52,36 +39,21 @@ pub(crate) fn cut(text: &[u8]) -> (&[u8], Option<&[u8]>)
     }
 }
 
-/// The text up to the first slash, and whether there is one.
-fn first_part(text: &[u8]) -> (&[u8], bool)
-    ensures { AreParts (parts text.now) result.0.now result.1 }
-{
-    let (first, others) = cut(text);
-    (first, others.is_some())
-}
-
-/// The names of the path.
+/// How many names the path has, or `None` where it is no path. `/` has none.
 #[tactic(auto, unfolding(h5_model::specs::Tree::Paths::names_of))]
-pub fn names_in(path: &[u8]) -> Names<'_>
-    ensures { AreNames (names_of path.now) result }
+pub(crate) fn count_names(path: &[u8]) -> Option<usize>
+    ensures { result ≡ option_map length (names_of path.now) }
 {
     if path.is_empty() || path[0] != b'/' {
-        return Names::Bad;
+        return None;
     }
     if path.len() == 1 {
-        return Names::Root;
+        return Some(0);
     }
-    let rest = &path[1..];
-    if !are_names(rest) {
-        return Names::Bad;
-    }
-    let (first, several) = first_part(rest);
-    if several {
-        Names::Several {
-            first,
-            count: count_parts(rest),
-        }
+    let names = &path[1..];
+    if are_names(names) {
+        Some(count_parts(names))
     } else {
-        Names::One(first)
+        None
     }
 }

@@ -1,13 +1,13 @@
 //! Looks at a path: groups are gone through name by name (File Format Specification 3.0, sections III.B and IV.A.2.r).
 
-ghost use Rattle.std.specs.Prelude.{◌≡◌, if◌then◌else◌, MatchResult};
+ghost use Rattle.std.specs.Prelude.{◌≡◌, MatchResult};
 ghost use Rattle.h5_open.specs.Opened.Kept.{IsOpened};
 ghost use Rattle.h5_open.specs.Opened.Objects.{tree_of};
 ghost use Rattle.h5_query.specs.Names.{parts};
-ghost use Rattle.h5_query.specs.Place.{IsPlace, IsNowhere, IsNumber, IsNoObject};
-ghost use Rattle.h5_query.specs.Steps.{IsFound, IsLost};
+ghost use Rattle.h5_query.specs.Place.{IsPlace, IsNowhere, IsNumber, IsNoObject, IsSpotOf, IsNoSpot};
+ghost use Rattle.h5_query.specs.Steps.{IsReached, IsLost};
 
-use crate::path::{MAX_DEPTH, Names, cut, names_in};
+use crate::path::{MAX_DEPTH, count_names, cut};
 use crate::step::{Step, follow_name, object_place};
 use h5_model::{EditFault, ObjectNo};
 use h5_open::{Opened, OpenedObject};
@@ -25,6 +25,43 @@ pub enum Place<'a> {
     Soft(&'a [u8]),
 }
 
+/// What a path leads to, of which the last name may be missing.
+#[derive(Clone, Copy)]
+pub enum Spot<'a, 'p> {
+    /// The path has no name.
+    Root,
+    /// The group of the number `parent` has a link of the last name, which leads to `place`.
+    Taken {
+        parent: u32,
+        name: &'p [u8],
+        place: Place<'a>,
+    },
+    /// The group of the number `parent` has no link of the last name.
+    Free {
+        parent: u32,
+        name: &'p [u8],
+    },
+}
+
+/// Looks a path up whose last name may be missing, or says by the lowest number why no group stands before that name: `BadPath`,
+/// `PathTooDeep`, `NoSuchParent` or `NotAGroup`. A soft link is not followed. It takes no memory.
+pub fn look_up<'a, 'p>(
+    image: &'a Image,
+    opened: &'a Opened,
+    path: &'p [u8],
+) -> Result<Spot<'a, 'p>, EditFault>
+    requires { IsOpened image.now.bytes opened.now.objects.items opened.now.numbers }
+    ensures { let tree = tree_of image.now.bytes opened.now.objects.items in
+        MatchResult result (IsSpotOf tree opened.now.objects.items path.now) (IsNoSpot tree path.now) }
+{
+    match count_names(path) {
+        None => Err(EditFault::BadPath),
+        Some(0) => Ok(Spot::Root),
+        Some(count) if count > MAX_DEPTH => Err(EditFault::PathTooDeep),
+        Some(_) => follow(image, opened, &path[1..]),
+    }
+}
+
 /// Looks a path up, or says by the lowest number why nothing stands there: `BadPath`, `PathTooDeep`, `NoSuchParent`, `NotAGroup` or
 /// `NotFound`. A soft link is not followed. It takes no memory.
 pub fn look<'a>(image: &'a Image, opened: &'a Opened, path: &[u8]) -> Result<Place<'a>, EditFault>
@@ -32,16 +69,10 @@ pub fn look<'a>(image: &'a Image, opened: &'a Opened, path: &[u8]) -> Result<Pla
     ensures { let tree = tree_of image.now.bytes opened.now.objects.items in
         MatchResult result (IsPlace tree opened.now.objects.items path.now) (IsNowhere tree path.now) }
 {
-    match names_in(path) {
-        Names::Bad => Err(EditFault::BadPath),
-        Names::Root => Ok(object_place(opened, 0)),
-        Names::One(_) => follow(image, opened, &path[1..]),
-        Names::Several { count, .. } => {
-            if count > MAX_DEPTH {
-                return Err(EditFault::PathTooDeep);
-            }
-            follow(image, opened, &path[1..])
-        }
+    match look_up(image, opened, path)? {
+        Spot::Root => Ok(object_place(opened, 0)),
+        Spot::Taken { place, .. } => Ok(place),
+        Spot::Free { .. } => Err(EditFault::NotFound),
     }
 }
 
@@ -60,33 +91,35 @@ pub fn number_at(image: &Image, opened: &Opened, path: &[u8]) -> Result<ObjectNo
 }
 
 /// Follows the names of a text, which stand between its slashes, from the root.
-fn follow<'a>(image: &'a Image, opened: &'a Opened, text: &[u8]) -> Result<Place<'a>, EditFault>
+fn follow<'a, 'p>(
+    image: &'a Image,
+    opened: &'a Opened,
+    text: &'p [u8],
+) -> Result<Spot<'a, 'p>, EditFault>
     requires { IsOpened image.now.bytes opened.now.objects.items opened.now.numbers }
     ensures { let tree = tree_of image.now.bytes opened.now.objects.items in
-        MatchResult result (IsFound tree opened.now.objects.items (parts text.now))
+        MatchResult result (IsReached tree opened.now.objects.items (parts text.now))
         (IsLost tree (parts text.now)) }
 {
     let mut place = object_place(opened, 0);
-    let mut rest = Some(text);
-    while let Some(names) = rest {
+    let mut names = text;
+    loop {
         let (name, others) = cut(names);
-        match follow_name(image, opened, place, name) {
-            Step::NoGroup => return Err(EditFault::NotAGroup),
-            Step::Missing => return Err(missing_before(others.is_none())),
-            Step::To(next) => place = next,
+        match (follow_name(image, opened, place, name), others) {
+            (Step::NoGroup, _) => return Err(EditFault::NotAGroup),
+            (Step::Missing { .. }, Some(_)) => return Err(EditFault::NoSuchParent),
+            (Step::Missing { parent }, None) => return Ok(Spot::Free { parent, name }),
+            (Step::To { parent, place }, None) => {
+                return Ok(Spot::Taken {
+                    parent,
+                    name,
+                    place,
+                });
+            }
+            (Step::To { place: next, .. }, Some(rest)) => {
+                place = next;
+                names = rest;
+            }
         }
-        rest = others;
-    }
-    Ok(place)
-}
-
-/// Why a name that is missing is refused.
-fn missing_before(last: bool) -> EditFault
-    ensures { result ≡ (if last then EditFault.NotFound else EditFault.NoSuchParent) }
-{
-    if last {
-        EditFault::NotFound
-    } else {
-        EditFault::NoSuchParent
     }
 }

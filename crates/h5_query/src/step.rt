@@ -17,10 +17,10 @@ use h5_space::Image;
 pub(crate) enum Step<'a> {
     /// No group stands at the place.
     NoGroup,
-    /// The group has no link of the name.
-    Missing,
-    /// To what the group's link leads to.
-    To(Place<'a>),
+    /// The group, of this number, has no link of the name.
+    Missing { parent: u32 },
+    /// To what the link of the group, of this number, leads to.
+    To { parent: u32, place: Place<'a> },
 }
 
 /// Where the name leads from the place.
@@ -35,18 +35,24 @@ pub(crate) fn follow_name<'a>(
     ensures { IsStep (tree_of image.now.bytes opened.now.objects.items) opened.now.objects.items
         (link_at from.entry) name.now result }
 {
-    let Place::Object { object, .. } = from else {
+    let Place::Object { number, object } = from else {
         return Step::NoGroup;
     };
     let OpenedContent::Group(group) = &object.content else {
         return Step::NoGroup;
     };
     let Some(link) = lookup(image, group, name) else {
-        return Step::Missing;
+        return Step::Missing { parent: number };
     };
     match link.target {
-        LinkTarget::Object(header) => Step::To(object_place(opened, number_of(opened, header))),
-        LinkTarget::Soft(text) => Step::To(Place::Soft(text)),
+        LinkTarget::Object(header) => Step::To {
+            parent: number,
+            place: object_place(opened, number_of(opened, header)),
+        },
+        LinkTarget::Soft(text) => Step::To {
+            parent: number,
+            place: Place::Soft(text),
+        },
     }
 }
 

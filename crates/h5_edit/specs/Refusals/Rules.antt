@@ -1,5 +1,5 @@
 -- The rules of the paths of an edit by their faults, and the rules that a target, an attribute or an array alone decides.
-use Rattle.std.specs.Prelude.{◌≡◌, ℕ, ◌^◌, ◌==◌, ◌&&◌, ◌||◌, Bool, false, not, nat_lt, nat_le, if◌then◌else◌, is_none, is_some, Option, Some, None, List, [], ◌∷◌, ◌++◌, length, slice_get}
+use Rattle.std.specs.Prelude.{◌≡◌, ℕ, ◌^◌, ◌==◌, ◌&&◌, ◌||◌, Bool, false, not, nat_lt, nat_le, if◌then◌else◌, is_none, is_some, Option, Some, None, List, [], ◌∷◌, length, slice_get}
 use Rattle.std.specs.Borrow.{Bor}
 use Rattle.std.specs.List.{list_all}
 use Rattle.std.specs.Option.{option_map_or}
@@ -74,11 +74,6 @@ pub record IsFree (tree : Tree) (path : List ℕ) (p : NewPlace) : Type 0 where
 
 abbrev pub IsNotFree : Tree → List ℕ → EditFault → Type 0
 IsNotFree tree path e = path_fault (is_new_fault tree path) ≡ Some e
-
--- the names of a path of names: those of its front, and the last
-abbrev pub IsCut : List ℕ → (Bor (List ℕ) × Bor (List ℕ)) → Type 0
-IsCut path (front, last) = (name : List ℕ) (names : List (List ℕ)) → names_of path ≡ Some (name ∷ names)
-    → (before : List (List ℕ)) × (names_of front.now ≡ Some before) × (name ∷ names ≡ before ++ last.now ∷ [])
 
 -- this object stands at the path
 abbrev pub IsObject : Tree → List OpenedObject → List ℕ → (ℕ × Bor OpenedObject) → Type 0

@@ -1,16 +1,14 @@
 //! Where a new link is to stand, and the object at a path.
 
-ghost use Rattle.std.specs.Prelude.{◌≡◌, false, nat_le, MatchResult, length};
-ghost use Rattle.h5_model.specs.Tree.Paths.{Missing, located};
-ghost use Rattle.h5_model.specs.Edits.Refusal.{is_deep, is_root as is_path_of_root};
+ghost use Rattle.std.specs.Prelude.{◌≡◌, nat_le, MatchResult, length};
 ghost use Rattle.h5_query.specs.Opened.Kept.{IsOpened};
 ghost use Rattle.h5_query.specs.Opened.Objects.{tree_of};
 ghost use Rattle.h5_query.specs.Place.{IsNoObject};
-ghost use Rattle.h5_edit.specs.Refusals.Rules.{IsCut, IsFree, IsNotFree, IsObject, lower_fault};
+ghost use Rattle.h5_edit.specs.Refusals.Rules.{IsFree, IsNotFree, IsObject, lower_fault};
 
 use crate::rules::limits::{MAX_NAME, MAX_OBJECTS};
 use h5_model::EditFault;
-use h5_query::{Names, Opened, OpenedObject, Place, look, names_in};
+use h5_query::{Opened, OpenedObject, Place, Spot, look, look_up};
 use h5_space::Image;
 
 /// A place for a new link: the number of the group, and the name.
@@ -31,47 +29,11 @@ pub(crate) fn new_place<'a>(
     ensures { let tree = tree_of image.now.bytes opened.now.objects.items in
         MatchResult result (IsFree tree path.now) (IsNotFree tree path.now) }
 {
-    if is_root(path) {
-        return Err(EditFault::IsRoot);
-    }
-    match look(image, opened, path) {
-        Ok(_) => Err(EditFault::AlreadyThere),
-        Err(EditFault::NotFound) => free_place(image, opened, path),
-        Err(fault) => Err(fault),
-    }
-}
-
-/// Whether the path has no name.
-fn is_root(path: &[u8]) -> bool
-    ensures { result ≡ is_path_of_root path.now }
-{
-    matches!(names_in(path), Names::Root)
-}
-
-/// The place of a new link at the path, of which the last name alone is missing.
-fn free_place<'a>(image: &Image, opened: &Opened, path: &'a [u8]) -> Result<NewPlace<'a>, EditFault>
-    requires opened { IsOpened image.now.bytes opened.now.objects.items opened.now.numbers }
-    requires missing { located (tree_of image.now.bytes opened.now.objects.items) path.now ≡ Missing }
-    requires shallow { is_deep path.now ≡ false }
-    ensures { let tree = tree_of image.now.bytes opened.now.objects.items in
-        MatchResult result (IsFree tree path.now) (IsNotFree tree path.now) }
-{
-    let (front, name) = cut_last(path);
-    let (parent, _) = object_at(image, opened, front)?;
-    if name.len() > MAX_NAME {
-        return Err(EditFault::NameTooLong);
-    }
-    Ok(NewPlace { parent, name })
-}
-
-/// The path without its last name, and that name.
-fn cut_last(path: &[u8]) -> (&[u8], &[u8])
-    ensures { IsCut path.now result }
-{
-    match path.iter().rposition(|byte| *byte == b'/') {
-        Some(0) => (&path[..1], &path[1..]),
-        Some(end) => (&path[..end], &path[end + 1..]),
-        None => (path, path),
+    match look_up(image, opened, path)? {
+        Spot::Root => Err(EditFault::IsRoot),
+        Spot::Taken { .. } => Err(EditFault::AlreadyThere),
+        Spot::Free { name, .. } if name.len() > MAX_NAME => Err(EditFault::NameTooLong),
+        Spot::Free { parent, name } => Ok(NewPlace { parent, name }),
     }
 }
 
