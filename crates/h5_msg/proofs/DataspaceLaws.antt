@@ -1,5 +1,5 @@
 -- A dataspace that was written reads as its sizes and maxima.
-use Rattle.std.proofs.Common.{◌≡◌, ℕ, zero, suc, ◌+◌, ◌-◌, ◌*◌, ◌^◌, ◌<◌, ◌≤◌, List, [], ◌∷◌, ◌++◌, length, length-append, map, get_or, drop, Option, Some, None, refl, sym, ap, ◌∙◌, arith, true, false, Bool, replicate, append_assoc, append-nil}
+use Rattle.std.proofs.Common.{◌≡◌, ℕ, zero, suc, ◌+◌, ◌-◌, ◌*◌, ◌^◌, ◌<◌, ◌≤◌, List, [], ◌∷◌, ◌++◌, length, length-append, map, get_or, drop, Option, Some, None, refl, sym, ap, ◌∙◌, arith, true, false, Bool, replicate, append_assoc}
 use Rattle.std.proofs.lemmas.Bool.Decides.{nat_tests}
 use Rattle.std.proofs.lemmas.List.FromFn.{fill_by_all}
 use Rattle.std.specs.Prelude.{nat_le, ◌==◌}

@@ -1,5 +1,5 @@
 -- Bodies with zeros behind them.
-use Rattle.std.proofs.Common.{◌≡◌, ℕ, ◌+◌, ◌-◌, ◌≤◌, List, ◌++◌, length, length-append, replicate, ap, ◌∙◌, arith, append-nil}
+use Rattle.std.proofs.Common.{◌≡◌, ℕ, ◌-◌, ◌≤◌, List, ◌++◌, length, length-append, replicate, ap, ◌∙◌, arith, append-nil}
 use Rattle.std.proofs.lemmas.List.{length-replicate}
 use Rattle.h5_bytes.specs.Texts.{pad8}
 use Rattle.h5_model.specs.Format.Bodies.{padded, raised}

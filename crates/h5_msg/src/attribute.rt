@@ -239,8 +239,14 @@ pub fn write_stored_attribute(
     requires room { attribute_size (length name.now) sizes.now fixed.now.size ≤ length bytes.old }
     ensures written { bytes.new
         ≡ stored_attribute_bytes name.now fixed.now sizes.now stored.now (length bytes.old) }
-    ensures reads { attribute_of bytes.new ≡ Some (name.now, record { fixed = fixed.now; sizes = sizes.now;
-        values = values_at fixed.now stored.now 0 (cells_of sizes.now) }) }
+    ensures reads { attribute_of bytes.new ≡ Some (
+      name.now,
+      record {
+        fixed = fixed.now;
+        sizes = sizes.now;
+        values = values_at fixed.now stored.now 0 (cells_of sizes.now);
+      },
+    ) }
 {
     let (front, behind) = bytes.split_at_mut(front_length(name.len(), sizes.len()));
     let (cells, padding) = behind.split_at_mut(stored.len());

@@ -1,5 +1,5 @@
 -- An attribute's message, as it is written into its room.
-use Rattle.std.proofs.Common.{◌≡◌, ℕ, ◌≤◌, List, length, take, ap, ◌∙◌, sym, arith}
+use Rattle.std.proofs.Common.{◌≡◌, ℕ, ◌≤◌, List, length, arith}
 use Rattle.h5_bytes.specs.Texts.{pad8}
 use Rattle.h5_model.specs.Format.Bodies.{attribute_bytes}
 use Rattle.h5_model.specs.Format.Plain.{message_bytes}

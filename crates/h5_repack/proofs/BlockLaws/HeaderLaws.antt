@@ -6,7 +6,7 @@ use Rattle.h5_model.specs.Tree.Places.{cells}
 use Rattle.h5_model.specs.Format.Bodies.{pair_bytes}
 use Rattle.h5_model.specs.Format.Plain.{header_bytes, message_bytes, messages_bytes, cells_bytes}
 use Rattle.h5_model.specs.Tree.Objects.{Dataset}
-use Rattle.h5_repack.specs.Bodies.Bodies.{array_messages, space_body, type_message, fill_message, fill_messages, layout_message}
+use Rattle.h5_repack.specs.Bodies.Bodies.{array_messages, space_body, type_message, fill_messages, layout_message}
 use Rattle.h5_repack.specs.Bodies.Headers.{is_stored, data_of}
 use Rattle.h5_repack.specs.declared.blocks.array.Array.{Array}
 use Rattle.h5_repack.specs.declared.blocks.array.Cells.{Cells}

@@ -1,4 +1,4 @@
-use Rattle.std.proofs.Common.{refl, sym, [], ◌∷◌, ap, ◌∙◌, ◌++◌}
+use Rattle.std.proofs.Common.{sym, [], ◌∷◌, ap, ◌∙◌, ◌++◌}
 use Rattle.h5_model.specs.Format.Bodies.{dataspace_bytes, bounded_bytes}
 use Rattle.h5_repack.proofs.BlockLaws.ArrayParts.{space_own, space_bounded}
 use Rattle.h5_repack.proofs.BlockLaws.Rooms.{body_written}
