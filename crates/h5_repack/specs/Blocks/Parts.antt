@@ -1,7 +1,7 @@
 -- Parts of the plain layout's structures, as they are appended one after another (File Format Specification 3.0, sections III and IV.A).
 use Rattle.std.specs.Prelude.{ℕ, zero, suc, List, [], ◌∷◌, ◌++◌, length}
 use Rattle.h5_model.specs.Format.Fixed.{Fixed}
-use Rattle.h5_bytes.specs.Numbers.{short, middle, word, zeros}
+use Rattle.h5_bytes.specs.Numbers.{short, middle, zeros}
 use Rattle.h5_model.specs.Format.Plain.{padded_text, type_body, extent_body}
 use Rattle.h5_msg.specs.Written.{attribute_head}
 
