@@ -1,4 +1,3 @@
-pub mod Literal
 pub mod Sounds
 pub mod Opens
 pub mod Made

@@ -4,7 +4,6 @@ use Rattle.std.specs.BTreeMap.{BTreeMap}
 use Rattle.h5_model.specs.Format.Empty.{empty_file, root_table, root_tree}
 use Rattle.h5_model.specs.Format.Reads.{Reads}
 use Rattle.h5_model.specs.Format.Superblock.{IsSuperblock, end_of_file}
-use Rattle.h5_model.proofs.EmptyReads.{empty_reads, empty_reads_as}
 use Rattle.h5_laws.proofs.Lists.{In}
 use Rattle.h5_edit.specs.OpenedObjectType.{OpenedObject}
 use Rattle.h5_edit.specs.Opened.Kept.{IsOpened}
@@ -15,6 +14,7 @@ use Rattle.h5_edit.specs.Renumbered.Headers.{table_with}
 use Rattle.h5_edit.proofs.RenumberedLaws.Renumbered.{table_at, length_at, tree_at}
 use Rattle.h5_edit.proofs.RenumberedLaws.SameHeaders.{same_headers, same_length}
 use Rattle.h5_file.specs.State.{IsSound, created_state}
+use Rattle.h5_repack.proofs.EmptyFile.{empty_reading}
 
 pub sound : (image : List ℕ) (objects : List OpenedObject) (numbers : BTreeMap ℕ ℕ) → IsOpened image objects numbers → IsSound (opened_state image objects)
 sound image objects numbers opened = record { reads = opened.reads; numbers = numbered image objects numbers opened }
@@ -22,15 +22,15 @@ sound image objects numbers opened = record { reads = opened.reads; numbers = nu
 -- ---- the empty file
 
 pub empty_superblock : (image : List ℕ) → image ≡ empty_file → IsSuperblock image
-empty_superblock image same = subst IsSuperblock (sym same) empty_reads_as.holds.superblock
+empty_superblock image same = subst IsSuperblock (sym same) empty_reading.reads.holds.superblock
 
 pub empty_end : (image : List ℕ) → image ≡ empty_file → end_of_file image ≡ length image
-empty_end image same = subst (λ bytes. end_of_file bytes ≡ length bytes) (sym same) empty_reads_as.holds.whole
+empty_end image same = subst (λ bytes. end_of_file bytes ≡ length bytes) (sym same) empty_reading.reads.holds.whole
 
 -- it reads as the root alone, whose header stands at 96
 empty_alone : Reads empty_file (table_with (96 ∷ [])) root_tree
 unfolding root_table
-empty_alone = empty_reads
+empty_alone = (empty_reading.placed, empty_reading.reads)
 
 only_one : (hs : List ℕ) → length hs ≡ 1 → ((h : ℕ) → In h hs → In h (96 ∷ [])) → hs ≡ 96 ∷ []
 only_one [] long there = absurd (omega (arith, long))

@@ -13,7 +13,7 @@ ghost use Rattle.h5_edit.specs.Place.{IsNumber, IsNoObject};
 ghost use Rattle.h5_file.specs.State.{IsSound, created_state};
 ghost use Rattle.h5_file.specs.Opening.{IsNoBreach, IsReadable, Refused};
 
-use crate::empty::EMPTY_FILE;
+use crate::empty::empty_image;
 use h5_edit::{
     ArrayCells, AttrRef, Found, Kind, Link, Opened, array_of, attributes_at, found_at, kind_at,
     links_of, names_at, names_of_attributes, number_at, one_attribute, one_cell, walk,
@@ -55,7 +55,7 @@ impl File {
         ensures created { IfOk result (λ f. f ≡ created_state) }
         ensures sound { IfOk result IsSound }
     {
-        let image = Image::new(alloc, Vec::from_slice(alloc, &EMPTY_FILE)?);
+        let image = Image::new(alloc, empty_image(alloc)?);
         // These bytes read as the root alone, so only memory can be short.
         let Ok(opened) = walk(alloc, &image) else {
             return Err(AllocError);

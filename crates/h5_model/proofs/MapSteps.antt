@@ -22,6 +22,9 @@ module _ {K X : Type 0} (R : K → K → Ordering) where
   pub known-empty : empty {X = X} {R = R} ≡ from_sorted []
   known-empty = sym (empty_of_len (from_sorted {R = R} []) (known-len [] refl))
 
+  pub entries-empty : entries (empty {X = X} {R = R}) ≡ []
+  entries-empty = ap entries known-empty ∙ known-entries [] refl
+
 module _ {K X : Type 0} {R : K → K → Ordering} (o : IsTotalOrder R) where
   pub known-insert : (es : List (K × X)) (k : K) (v : X) → is_sorted R es ≡ true → insert (from_sorted {R = R} es) k v ≡ from_sorted (put R k v es)
   known-insert es k v h =

@@ -9,3 +9,4 @@ pub mod BlockLaws
 pub mod BodyLaws
 pub mod ObjectLaws
 pub mod ImageLaws
+pub mod EmptyFile

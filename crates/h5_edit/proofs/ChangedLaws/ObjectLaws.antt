@@ -21,7 +21,7 @@ use Rattle.h5_model.specs.Edits.Applied.{new_object, new_dataset}
 use Rattle.h5_model.specs.Format.Messages.{Message}
 use Rattle.h5_model.specs.Tree.Objects.{Content, Attribute, Link, Group as GroupContent, Array}
 use Rattle.h5_model.specs.declared.dataset.Spec.{Spec}
-use Rattle.h5_model.proofs.EmptyReads.{entries-empty}
+use Rattle.h5_model.proofs.MapSteps.{entries-empty}
 use Rattle.h5_repack.specs.Objects.Objects.{IsNewArray, IsNewContent, IsNewObject, tree_link}
 use Rattle.h5_repack.specs.declared.objects.object.NewArray.{NewArray}
 use Rattle.h5_repack.specs.declared.objects.object.NewContent.{NewContent}

@@ -9,7 +9,7 @@ use Rattle.std.specs.declared.cmp.Ordering.{Ordering}
 use Rattle.std.specs.declared.cmp.Ordering.TheVariants.{Less, Equal, Greater}
 use Rattle.std.specs.FinMap.{FinMap, nat_cmp-IsAntisymmetric, slice_cmp-IsAntisymmetric, put, is_sorted, insert, remove, entries, from_sorted, from_entries, same_entries_map, entries_sorted, entries-from_sorted, entries-insert}
 use Rattle.std.specs.FinMap.Entries.{by_order, where_key, is_sorted-where_key}
-use Rattle.h5_model.proofs.EmptyReads.{entries-empty}
+use Rattle.h5_model.proofs.MapSteps.{entries-empty}
 use Rattle.h5_model.proofs.MapSteps.{remove_by_name, entries_by_name}
 
 abbrev by_name : List ℕ → List ℕ → Ordering

@@ -13,7 +13,7 @@ use Rattle.h5_model.specs.Format.AttributeBody.{attribute_of}
 use Rattle.h5_model.specs.Tree.Objects.{Object, Content, Attribute, Attributes}
 use Rattle.h5_model.specs.Format.Reads.{is_kept, kept_of, is_attribute_message}
 use Rattle.h5_model.specs.Edits.Applied.{new_object}
-use Rattle.h5_model.proofs.EmptyReads.{entries-empty}
+use Rattle.h5_model.proofs.MapSteps.{entries-empty}
 use Rattle.h5_header.specs.Listed.{Listed, messages_in}
 use Rattle.h5_query.specs.Opened.Headers.{IsHeaderKept, object_with}
 use Rattle.h5_repack.specs.Bodies.Bodies.{others_of, kept_message, attribute_message}

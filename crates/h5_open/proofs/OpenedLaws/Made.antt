@@ -5,7 +5,7 @@ use Rattle.std.specs.Ordering.{nat_cmp, is_lt}
 use Rattle.std.specs.Cmp.{IsTotalOrder, nat_cmp_total}
 use Rattle.std.specs.FinMap.{get, entries, put, is_sorted, from_entries, entries-insert, get-from_entries}
 use Rattle.std.specs.FinMap.Entries.{below_all, by_order}
-use Rattle.h5_model.proofs.EmptyReads.{entries-empty}
+use Rattle.h5_model.proofs.MapSteps.{entries-empty}
 use Rattle.h5_model.proofs.ReachLaws.{halves}
 use Rattle.h5_laws.specs.Numbered.{numbered}
 use Rattle.h5_laws.proofs.Maps.{true_of}
