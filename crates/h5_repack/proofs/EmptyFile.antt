@@ -11,7 +11,8 @@ use Rattle.std.specs.declared.alloc.Global.{Global}
 use Rattle.std.specs.FinMap.{FinMap, get, entries, empty, len-empty, entries-insert, get-insert, get-empty, put}
 use Rattle.std.specs.List.{AllByRecursion}
 use Rattle.h5_model.specs.Format.Empty.{empty_file, root_table, root_tree, root_object}
-use Rattle.h5_model.specs.Format.Plain.{superblock_bytes, header_bytes, symbol_table_body}
+use Rattle.h5_model.specs.Format.Bodies.{pair_bytes}
+use Rattle.h5_model.specs.Format.Plain.{superblock_bytes, header_bytes}
 use Rattle.h5_model.specs.Format.Superblock.{AreK}
 use Rattle.h5_model.specs.Tree.Objects.{Object, Group, Link, ToObject, Soft, Attribute, follow, hard_links, links_of, link_in}
 use Rattle.h5_model.proofs.MapSteps.{entries-empty}
@@ -173,12 +174,12 @@ none_written : written_links 4 16 root_tree (table_of 4 16 root_order) empty ≡
 none_written = ap (map (written_link 4 16 root_tree (table_of 4 16 root_order))) (entries-empty {X = Link} (slice_cmp nat_cmp))
 
 parts : plain_image 4 16 root_tree root_order
-    ≡ superblock_bytes 4 16 800 96 136 680 ++ ((header_bytes 1 ((17, symbol_table_body 136 680) ∷ []) ++ links_bytes 4 16 136 []) ++ [])
+    ≡ superblock_bytes 4 16 800 96 136 680 ++ ((header_bytes 1 ((17, pair_bytes 136 680) ∷ []) ++ links_bytes 4 16 136 []) ++ [])
 unfolding plain_image
 parts = λ i. superblock_bytes 4 16 (ends i) 96 (tree_at i) (heap_at i)
-    ++ ((header_bytes 1 ((17, symbol_table_body (tree_behind i) (heap_behind i)) ∷ no_others i) ++ links_bytes 4 16 (tree_behind i) (none_written i)) ++ [])
+    ++ ((header_bytes 1 ((17, pair_bytes (tree_behind i) (heap_behind i)) ∷ no_others i) ++ links_bytes 4 16 (tree_behind i) (none_written i)) ++ [])
 
-same_bytes : superblock_bytes 4 16 800 96 136 680 ++ ((header_bytes 1 ((17, symbol_table_body 136 680) ∷ []) ++ links_bytes 4 16 136 []) ++ []) ≡ empty_file
+same_bytes : superblock_bytes 4 16 800 96 136 680 ++ ((header_bytes 1 ((17, pair_bytes 136 680) ∷ []) ++ links_bytes 4 16 136 []) ++ []) ≡ empty_file
 unfolding links_bytes tree_bytes heap_bytes empty_file
 same_bytes = refl
 
