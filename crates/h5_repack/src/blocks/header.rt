@@ -262,7 +262,8 @@ fn messages_size(array: &Array<'_>) -> u64
 /// How many bytes an array's header has, its prefix with them.
 pub fn array_header_length(array: &Array<'_>) -> u64
     requires { array.now.others.now.count + 3 ≤ 65535 }
-    ensures exact { (count : ℕ) (address : Option ℕ) → result ≡ length (header_written count array.now address) }
+    ensures exact { (count : ℕ) (address : Option ℕ)
+        → result ≡ length (header_written count array.now address) }
     ensures few { result ≤ 2 ^ 33 }
     ensures holds { length array.now.others.now.bytes ≤ result }
 {
