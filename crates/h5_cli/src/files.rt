@@ -4,13 +4,11 @@ ghost use Rattle.std.specs.Prelude.{◌≡◌, ◌↔◌, ◌≤◌, ◌^◌, If
 ghost use Rattle.std.specs.IoError.{error_kind};
 ghost use Rattle.std.specs.declared.io.ErrorKind.TheVariants.{OutOfMemory};
 
+use h5_script::MAXIMUM_IMAGE;
 use std::alloc::Global;
 use std::fs::{self, OpenFile};
 use std::io::{self, Read};
 use std::rt::Files;
-
-/// The most bytes of a file that is read.
-const MAXIMUM_IMAGE: u64 = 2147483648;
 
 /// Why a file gives no bytes.
 #[derive(Clone, Copy, PartialEq, Eq, Debug)]

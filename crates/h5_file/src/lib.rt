@@ -34,3 +34,4 @@ pub use h5_edit::{ArrayCells, AttrRef, Dims, Found, Kind, Link, LinkTo, MAX_DEPT
 pub use h5_model::{
     AttrSpec, Cause, Edit, EditFault, Edited, Fixed, Hyper, Items, ObjectNo, OpenFault, Spec, Store,
 };
+pub use h5_space::MAXIMUM_IMAGE;

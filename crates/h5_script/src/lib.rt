@@ -15,6 +15,6 @@ mod streams;
 
 pub use fault::RunFault;
 pub use h5_dump::{push_dump, push_list};
-pub use h5_file::{Cause, File, OpenFault};
+pub use h5_file::{Cause, File, MAXIMUM_IMAGE, OpenFault};
 pub use ran::Ran;
 pub use run::run_script;
