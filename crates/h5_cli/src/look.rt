@@ -1,11 +1,13 @@
 //! Orders that open a file and print what it holds.
 
 ghost use Rattle.std.specs.Prelude.{◌≡◌, ℕ, IfOk, List, MatchResult, Option, Some};
+ghost use Rattle.h5_model.specs.Edits.EditFaults.{refused_text};
 ghost use Rattle.h5_model.specs.Scripts.Text.{list_text};
 ghost use Rattle.h5_script.specs.State.{IsSound};
 ghost use Rattle.h5_args.specs.Words.{WantLs, WantDump};
 ghost use Rattle.h5_cli.specs.Ends.{Ends, IsUnopened};
 ghost use Rattle.h5_cli.specs.Output.{IsDumpText};
+ghost use Rattle.h5_cli.specs.declared.status.Status.TheVariants.{CommandRefused};
 
 use crate::files::{ReadFault, read_whole};
 use crate::status::Status;
@@ -77,17 +79,23 @@ pub(crate) fn dump_text(
 ) -> Result<(Vec<u8>, Status), AllocError>
     ensures { IfOk result (λ answer. IsDumpText file.now.tree word.now answer.0.items answer.1) }
 {
-    let mut text = Vec::new(alloc);
-    let fault = match unescaped(alloc, word.as_bytes())? {
-        None => EditFault::BadPath,
-        Some(path) => match file.kind(path.as_slice()) {
-            Err(fault) => fault,
-            Ok(kind) => {
-                push_dump(alloc, &mut text, file, path.as_slice(), &kind)?;
-                return Ok((text, Status::Done));
-            }
-        },
+    let Some(path) = unescaped(alloc, word.as_bytes())? else {
+        return refusal(alloc, EditFault::BadPath);
     };
+    let mut text = Vec::new(alloc);
+    match push_dump(alloc, &mut text, file, path.as_slice()) {
+        Ok(()) => Ok((text, Status::Done)),
+        Err(EditFault::NoMemory) => Err(AllocError),
+        Err(fault) => refusal(alloc, fault),
+    }
+}
+
+/// The line of a refusal, with the status of a run that prints it.
+fn refusal(alloc: Global, fault: EditFault) -> Result<(Vec<u8>, Status), AllocError>
+    ensures text { IfOk result (λ answer. answer.0.items ≡ refused_text fault) }
+    ensures status { IfOk result (λ answer. answer.1 ≡ CommandRefused) }
+{
+    let mut text = Vec::new(alloc);
     push_refused(&mut text, fault)?;
     Ok((text, Status::CommandRefused))
 }

@@ -1,18 +1,25 @@
 -- What `dump` prints of an object.
-use Rattle.std.proofs.Common.{◌≡◌, ℕ, ◌+◌, ◌*◌, ◌/◌, ◌<◌, ℤ, Some, None, List, [], ◌∷◌, ◌++◌, length, codes, refl, sym, ap, ◌∙◌, append-nil, true, arith}
+use Rattle.std.proofs.Common.{◌≡◌, ℕ, ◌+◌, ◌*◌, ◌/◌, ◌<◌, ℤ, List, [], ◌∷◌, ◌++◌, length, codes, refl, sym, ap, ◌∙◌, append-nil, true, arith, Bor, Vec}
 use Rattle.std.proofs.lemmas.Nat.{div-mul-add}
-use Rattle.std.specs.FinMap.{get, entries}
+use Rattle.std.specs.declared.alloc.Global.{Global}
+use Rattle.std.specs.FinMap.{entries}
 use Rattle.std.specs.List.{flat_map}
-use Rattle.std.specs.Option.{option_and_then, option_map_or}
-use Rattle.h5_model.specs.Tree.Paths.{Located, Here, Missing, NoParent, NoGroup, NoPath, located, object_at, object_there}
+use Rattle.std.specs.Option.{option_map_or}
+use Rattle.h5_model.specs.Tree.Paths.{Located, Here, Missing, NoParent, NoGroup, NoPath}
 use Rattle.h5_model.specs.Scripts.Answers.{dumped}
 use Rattle.h5_model.specs.Scripts.Text.{attribute_line, cells_text, content_text, dataset_text, detail_text, dump_text, escaped, line_of, rows_text}
-use Rattle.h5_model.specs.Tree.Objects.{Tree, Links, Object, Content, Group, Array, Dataset, Contiguous, ToObject, Soft, dataset_of, dataset_in}
+use Rattle.h5_model.specs.Tree.Objects.{Tree, Links, Object, Attribute, Group, Array, Dataset, Contiguous, ToObject, Soft}
 use Rattle.h5_text.specs.Listing.{dump_line}
 use Rattle.h5_text.specs.Rows.{cells_from}
 use Rattle.h5_text.proofs.RowTexts.{cells_are_rows}
 use Rattle.h5_file.specs.Look.{IsArray}
 use Rattle.h5_file.specs.ArrayCellsType.{ArrayCells}
+use Rattle.h5_file.specs.Found.{IsFoundAs, IsUnfound}
+use Rattle.h5_file.specs.FoundType.TheVariants as found
+use Rattle.h5_dump.specs.Dumped.{IsUndumped}
+use Rattle.h5_model.specs.declared.object_no.ObjectNo.{ObjectNo}
+use Rattle.h5_model.specs.declared.edit_fault.EditFault.{EditFault}
+use Rattle.h5_model.specs.declared.edit_fault.EditFault.TheVariants.{NoMemory}
 
 -- ---- what lines tell of the array
 
@@ -57,33 +64,43 @@ dump-array path o d a content is =
     ∙ ap (λ t. path ++ codes " " ++ content_text (Array (told a)) ++ t ++ codes "\n" ++ lines ++ cells_text (Array d)) (dataset-told d a is)
     ∙ ap (λ sizes. dump_line path (told a) ++ lines ++ cells_text (Array (record d { sizes = sizes }))) is.sizes_are)
 
--- ---- which object stands at a path
+-- ---- what was found at a path
 
-abbrev FoundAt : Tree → Located → Object → Type 0
-FoundAt tree l o = option_and_then (get tree) (object_there l) ≡ Some o
+module _ (tree : Tree) (path : List ℕ) where
+  -- a group, by its number and its attributes
+  pub dumped-group : (at : Located) (n : ObjectNo) (attributes : Vec (List ℕ × Attribute) Global) → IsFoundAs tree at (found.Group n attributes)
+      → (group : Object) × (links : Links) × (group.content ≡ Group links) × (attributes.items ≡ entries group.attributes) × (dump_text (escaped path) group ≡ dumped tree path at)
+  dumped-group (Here (ToObject number)) n attributes is =
+      (is.2.object, is.1, is.2.content_is, is.2.listed, sym (ap (λ x. option_map_or (dump_text (escaped path)) x []) is.2.found))
+  dumped-group (Here (Soft text)) n attributes is = absurd is
+  dumped-group Missing n attributes is = absurd is
+  dumped-group NoParent n attributes is = absurd is
+  dumped-group NoGroup n attributes is = absurd is
+  dumped-group NoPath n attributes is = absurd is
 
-pub dumped-object : (tree : Tree) (path : List ℕ) (o : Object) → option_and_then (get tree) (object_at tree path) ≡ Some o
-    → dump_text (escaped path) o ≡ dumped tree path (located tree path)
-dumped-object tree path o found = by (located tree path) found where
-  by : (l : Located) → FoundAt tree l o → dump_text (escaped path) o ≡ dumped tree path l
-  by (Here (ToObject number)) at = sym (ap (λ x. option_map_or (dump_text (escaped path)) x []) at)
-  by (Here (Soft text)) at = absurd (cc)
-  by Missing at = absurd (cc)
-  by NoParent at = absurd (cc)
-  by NoGroup at = absurd (cc)
-  by NoPath at = absurd (cc)
+  -- an array
+  pub dumped-array : (at : Located) (n : ObjectNo) (attributes : Vec (List ℕ × Attribute) Global) (a : ArrayCells) → IsFoundAs tree at (found.Array n attributes a)
+      → (o : Object) × (d : Dataset) × (o.content ≡ Array d) × IsArray d a × (attributes.items ≡ entries o.attributes) × (dump_text (escaped path) o ≡ dumped tree path at)
+  dumped-array (Here (ToObject number)) n attributes a is =
+      (is.2.object, is.1, is.2.content_is, is.3, is.2.listed, sym (ap (λ x. option_map_or (dump_text (escaped path)) x []) is.2.found))
+  dumped-array (Here (Soft text)) n attributes a is = absurd is
+  dumped-array Missing n attributes a is = absurd is
+  dumped-array NoParent n attributes a is = absurd is
+  dumped-array NoGroup n attributes a is = absurd is
+  dumped-array NoPath n attributes a is = absurd is
 
--- what the object at a path holds, by its number
-pub holds-array : (tree : Tree) (path : List ℕ) (number : ℕ) (o : Object) (d : Dataset) → object_at tree path ≡ Some number
-    → option_and_then (get tree) (object_at tree path) ≡ Some o → dataset_of tree number ≡ Some d → o.content ≡ Array d
-holds-array tree path number o d at found is = by o.content refl where
-  there : get tree number ≡ Some o
-  there = sym (ap (option_and_then (get tree)) at) ∙ found
+  -- a soft link
+  pub dumped-soft : (at : Located) (shown : Bor (List ℕ)) → IsFoundAs tree at (found.Soft shown) → line_of (escaped path) (codes "soft " ++ escaped shown.now) ≡ dumped tree path at
+  dumped-soft (Here (Soft text)) shown is = ap (λ t. line_of (escaped path) (codes "soft " ++ escaped t)) is
+  dumped-soft (Here (ToObject number)) shown is = absurd is
+  dumped-soft Missing shown is = absurd is
+  dumped-soft NoParent shown is = absurd is
+  dumped-soft NoGroup shown is = absurd is
+  dumped-soft NoPath shown is = absurd is
 
-  by : (c : Content) → o.content ≡ c → o.content ≡ Array d
-  by (Group links) content =
-      let never : None ≡ Some d = sym (ap (option_and_then (λ (x : Object). dataset_in x.content)) there ∙ ap dataset_in content) ∙ is in absurd (cc)
-  by (Array e) content =
-      let same : Some e ≡ Some d = sym (ap (option_and_then (λ (x : Object). dataset_in x.content)) there ∙ ap dataset_in content) ∙ is in
-      let equal : e ≡ d = cc in
-      content ∙ ap Array equal
+-- ---- a dump that is refused
+
+-- before anything is appended
+pub unfound : (tree : Tree) (path old : List ℕ) (e : EditFault) → IsUnfound tree path e → IsUndumped tree path old old e
+unfound tree path old NoMemory is = record { more = []; whole = sym (append-nil old) }
+unfound tree path old e is = (is, refl)

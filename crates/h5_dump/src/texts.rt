@@ -1,19 +1,21 @@
 //! What `ls` and `dump` print of a file.
 
-ghost use Rattle.std.specs.Prelude.{◌≡◌, ◌/◌, ◌++◌, List, ℤ, OnOk, codes, length, map};
+ghost use Rattle.std.specs.Prelude.{◌≡◌, ◌/◌, ◌++◌, List, ℤ, OnOk, MatchResult, codes, length, map};
 ghost use Rattle.std.specs.FinMap.{entries};
 ghost use Rattle.std.specs.List.{flat_map};
 ghost use Rattle.h5_model.specs.Tree.Paths.{located};
 ghost use Rattle.h5_model.specs.Scripts.Answers.{dumped};
 ghost use Rattle.h5_model.specs.Scripts.Text.{attribute_line, content_text, dump_text, escaped, line_of, list_text, rows_text};
-ghost use Rattle.h5_model.specs.Tree.Objects.{Array, Dataset, Group, Links, Object, ToObject};
+ghost use Rattle.h5_model.specs.Tree.Objects.{Array, Dataset, Group, Links, Object, ToObject, Tree};
 ghost use Rattle.h5_text.specs.Appends.{Appends};
 ghost use Rattle.h5_text.specs.Listing.{path_text};
 ghost use Rattle.h5_file.specs.Listed.{seen_link};
-ghost use Rattle.h5_file.specs.Look.{AreCells, HasKind, IsArray};
+ghost use Rattle.h5_file.specs.Found.{HasFound};
+ghost use Rattle.h5_file.specs.Look.{AreCells, IsArray};
+ghost use Rattle.h5_dump.specs.Dumped.{IsDumped, IsUndumped};
 ghost use Rattle.h5_dump.specs.Listing.{lines_of_link};
 
-use h5_file::{ArrayCells, AttrRef, File, Kind, Link, LinkTo, MAX_DEPTH};
+use h5_file::{ArrayCells, AttrRef, EditFault, File, Found, Link, LinkTo, MAX_DEPTH};
 use h5_model::ObjectNo;
 use h5_text::{
     ArrayText, Layout, PathText, Rows, push_array_line, push_attribute_head, push_dump_line,
@@ -132,33 +134,41 @@ fn push_listed_array(
     push_array_line(text, path, &told)
 }
 
-/// Appends what is dumped of what is of this kind at the path.
+/// Appends what is dumped of what stands at the path. A soft link is not followed.
 ///
-/// Takes memory for a reference to each attribute of an object.
+/// Refused as [`File::find`] is, and then nothing is appended; or as `NoMemory`, which may leave a part. Takes memory for a reference to
+/// each attribute of an object.
 pub fn push_dump(
     alloc: Global,
     text: &mut Vec<u8>,
     file: &File,
     path: &[u8],
-    kind: &Kind,
-) -> Result<(), AllocError>
-    requires { HasKind file.now.tree path.now kind.now }
-    ensures { Appends result text.old.items text.new.items
-        (dumped file.now.tree path.now (located file.now.tree path.now)) }
+) -> Result<(), EditFault>
+    ensures { MatchResult result
+        (λ _. IsDumped file.now.tree path.now text.old.items text.new.items)
+        (IsUndumped file.now.tree path.now text.old.items text.new.items) }
 {
-    if let Kind::Soft(target) = kind {
-        return push_soft_line(text, PathText::Plain(path), target);
-    }
-    // An object stands at the path, so that these are refused for want of memory alone.
-    let Ok(number) = file.object_number(path) else {
-        return Err(AllocError);
-    };
-    let Ok(attributes) = file.attributes(path) else {
-        return Err(AllocError);
-    };
-    match file.array(number) {
-        Some(array) => push_array(alloc, text, path, &array, &attributes),
-        None => push_group(alloc, text, path, &attributes),
+    let found = file.find(path)?;
+    push_found(alloc, text, path, &found)?;
+    Ok(())
+}
+
+/// Appends what is dumped of what was found at the path.
+fn push_found(
+    alloc: Global,
+    text: &mut Vec<u8>,
+    path: &[u8],
+    found: &Found<'_>,
+) -> Result<(), AllocError>
+    ensures { (tree : Tree) → HasFound tree path.now found.now
+        → Appends result text.old.items text.new.items (dumped tree path.now (located tree path.now)) }
+{
+    match found {
+        Found::Group { attributes, .. } => push_group(alloc, text, path, attributes),
+        Found::Array {
+            attributes, array, ..
+        } => push_array(alloc, text, path, array, attributes),
+        Found::Soft(target) => push_soft_line(text, PathText::Plain(path), target),
     }
 }
 

@@ -3,6 +3,7 @@ use Rattle.std.proofs.Common.{◌≡◌, ℕ, Bool, true, false, Some, None, Lis
 use Rattle.std.specs.Prelude.{Result, Ok, Err, IsErr, is_err, IfOk, MatchResult}
 use Rattle.std.proofs.lemmas.Bool.{false≢true}
 use Rattle.h5_text.specs.Appends.{Appends}
+use Rattle.h5_dump.specs.Dumped.{IsUndumped}
 use Rattle.h5_command.specs.Commands.{command_of}
 use Rattle.h5_command.specs.declared.command.Command as asked
 use Rattle.h5_command.specs.declared.command.Command.TheVariants as form
@@ -174,7 +175,7 @@ dump_told s path accepted = record {
   outcome_is = rw accepted refl;
 }
 
-pub dump_refused : (s : FileState) (path : List ℕ) (f : EditFault) → first_holding (path_rules s.tree path) ≡ Some f → IsAnswered s (Dump path) s (refused_text f) Refused
+dump_refused : (s : FileState) (path : List ℕ) (f : EditFault) → first_holding (path_rules s.tree path) ≡ Some f → IsAnswered s (Dump path) s (refused_text f) Refused
 unfolding line_answer IsGivenAt
 dump_refused s path f refused = record {
   given = None;
@@ -183,6 +184,11 @@ dump_refused s path f refused = record {
   outcome_is = rw refused refl;
 }
 
-pub dump_no_memory : (s : FileState) (path : List ℕ) → IsAnswered s (Dump path) s (refused_text fault.NoMemory) Refused
+dump_no_memory : (s : FileState) (path : List ℕ) → IsAnswered s (Dump path) s (refused_text fault.NoMemory) Refused
 unfolding line_answer IsGivenAt
 dump_no_memory s path = record { given = Some fault.NoMemory; run = record { allowed = tt; state_is = refl; left = refl }; text_is = refl; outcome_is = refl }
+
+-- a dump that was refused
+pub dump_undumped : (s : FileState) (path old new : List ℕ) (f : EditFault) → IsUndumped s.tree path old new f → IsAnswered s (Dump path) s (refused_text f) Refused
+dump_undumped s path old new fault.NoMemory is = dump_no_memory s path
+dump_undumped s path old new f is = dump_refused s path f is.0

@@ -6,3 +6,4 @@ pub mod Script
 pub mod Streams
 pub use Rattle.h5_file.specs.State
 pub use Rattle.h5_file.specs.Opened
+pub use Rattle.h5_dump.specs.Dumped

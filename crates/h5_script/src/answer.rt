@@ -3,7 +3,6 @@
 ghost use Rattle.std.specs.Prelude.{◌≡◌, [], IfOk, MatchResult, codes};
 ghost use Rattle.h5_model.specs.Edits.EditFaults.{refused_text};
 ghost use Rattle.h5_model.specs.Scripts.Lines as lines;
-ghost use Rattle.h5_model.specs.declared.edit_fault.EditFault.TheVariants as fault;
 ghost use Rattle.h5_script.specs.declared.ran.Outcome.TheVariants.{Refused};
 ghost use Rattle.h5_command.specs.Commands.{command_of};
 ghost use Rattle.h5_script.specs.Answered.{IsAnswered, IsUntold};
@@ -97,7 +96,7 @@ fn list(alloc: Global, file: &File, text: &mut Vec<u8>) -> Result<Outcome, Alloc
         (λ _. IsUntold file.now lines.ListAll file.now) }
 {
     if push_list(alloc, text, file).is_err() {
-        return no_memory(text);
+        return refused_instead(text, EditFault::NoMemory);
     }
     Ok(Outcome::Told)
 }
@@ -108,20 +107,16 @@ fn dump(alloc: Global, file: &File, path: &[u8], text: &mut Vec<u8>) -> Result<O
     ensures { MatchResult result (IsAnswered file.now (lines.Dump path.now) file.now text.new.items)
         (λ _. IsUntold file.now (lines.Dump path.now) file.now) }
 {
-    let kind = match file.kind(path) {
-        Ok(kind) => kind,
-        Err(fault) => return refused(text, fault),
-    };
-    if push_dump(alloc, text, file, path, &kind).is_err() {
-        return no_memory(text);
+    match push_dump(alloc, text, file, path) {
+        Ok(()) => Ok(Outcome::Told),
+        Err(fault) => refused_instead(text, fault),
     }
-    Ok(Outcome::Told)
 }
 
-/// Puts the refusal for want of memory in place of a part of a text.
-fn no_memory(text: &mut Vec<u8>) -> Result<Outcome, AllocError>
-    ensures { IfOk result (λ outcome. (outcome ≡ Refused) × (text.new.items ≡ refused_text fault.NoMemory)) }
+/// Puts a refusal in place of a part of a text.
+fn refused_instead(text: &mut Vec<u8>, fault: EditFault) -> Result<Outcome, AllocError>
+    ensures { IfOk result (λ outcome. (outcome ≡ Refused) × (text.new.items ≡ refused_text fault)) }
 {
     text.clear();
-    refused(text, EditFault::NoMemory)
+    refused(text, fault)
 }

@@ -1,15 +1,19 @@
-use Rattle.std.proofs.Common.{List, ℕ, ◌∙◌, subst}
-use Rattle.h5_text.specs.Appends.{Appends}
-use Rattle.h5_dump.proofs.Dumps.{dumped-object, holds-array}
+use Rattle.std.proofs.lemmas.Result.{err_from_is_err_and}
+use Rattle.h5_dump.proofs.Dumps.{unfound}
 use Rattle.h5_dump.proofs.texts.push_dump.Goals as goal
 
-pub returns-in-Some : goal.returns-in-Some
-returns-in-Some c =
-    let tree = c.args.file.now.tree in
-    let path = c.args.path.now in
-    let has = c.in-Ok-attributes.ensures in
-    let array = c.in-Some.ensures in
-    subst (λ (text : List ℕ). Appends c.push_array.result c.args.text.now.items c.push_array.new.text.items text)
-    (dumped-object tree path has.object has.found)
-    (c.push_array.ensures has.object array.0
-    (holds-array tree path c.in-Ok.number.0 has.object array.0 c.in-Ok.ensures.1 has.found array.1) array.2 (c.deref.ensures.value ∙ has.listed))
+pub returns-in_err-found : goal.returns-in_err-found
+returns-in_err-found c =
+    let p = err_from_is_err_and c.from_residual.result c.from_residual.ensures.1 in
+    rw (p.1, p.2) (unfound c.args.file.now.tree c.args.path.now c.args.text.now.items _ c.in_err-found.ensures)
+
+pub returns-in_err-push_found : goal.returns-in_err-push_found
+returns-in_err-push_found c =
+    let p = err_from_is_err_and c.from_residual-in_err-push_found.result c.from_residual-in_err-push_found.ensures.1 in
+    rw (p.1, p.2) (c.in_err-push_found.ensures c.args.file.now.tree c.in_ok-found.ensures)
+
+pub returns : goal.returns
+returns c = record {
+  accepted = c.in_ok-found.ensures.accepted;
+  text = c.in_ok-push_found.ensures c.args.file.now.tree c.in_ok-found.ensures;
+}

@@ -9,8 +9,8 @@ use Rattle.h5_script.proofs.answer.list.Goals as goal
 
 pub returns-then-is_err : goal.returns-then-is_err
 returns-then-is_err c =
-    told_or_not c.no_memory.result c.args.file.now c.args.file.now ListAll c.no_memory.new.text.items (refused_text fault.NoMemory) Refused
-    (list_refused c.args.file.now) c.no_memory.ensures
+    told_or_not c.refused_instead.result c.args.file.now c.args.file.now ListAll c.refused_instead.new.text.items (refused_text fault.NoMemory) Refused
+    (list_refused c.args.file.now) c.refused_instead.ensures
 
 pub returns : goal.returns
 returns c =
