@@ -7,11 +7,7 @@ use Rattle.std.specs.declared.alloc.Global.{Global}
 use Rattle.std.specs.declared.alloc.AllocError.{AllocError}
 use Rattle.h5_model.specs.Edits.EditFaults.{refused_text}
 use Rattle.h5_model.specs.Tree.Objects.{Tree}
-use Rattle.h5_model.specs.Edits.Refusal.{first_holding}
-use Rattle.h5_model.specs.Scripts.Reading.{path_rules}
 use Rattle.h5_model.specs.declared.edit_fault.EditFault.{EditFault}
-use Rattle.h5_model.specs.declared.edit_fault.EditFault.TheVariants as fault
-use Rattle.h5_script.specs.Dumped.{IsUndumped}
 use Rattle.h5_script.specs.Opened.State.{FileState}
 use Rattle.h5_script.specs.State.{IsSound}
 use Rattle.h5_cli.specs.Output.{dump_fault, IsDumpText, IsScriptRun}
@@ -81,11 +77,6 @@ pub written_ends : (asked : Option Wanted) (input left old new : Option (List �
     → (result ≡ status) ⊎ (result ≡ StreamFailed) → Ends asked input left old new status → Ends asked input left old new result
 written_ends asked input left old new status result (inl same) ends = ends_as asked input left old new status result same ends
 written_ends asked input left old new status result (inr failed) ends = ends_as asked input left old new StreamFailed result failed tt
-
--- a dump that is refused, but not for want of memory
-pub dump_ruled_out : (tree : Tree) (path old new : List ℕ) (e : EditFault) → (e ≡ fault.NoMemory → ⊥) → IsUndumped tree path old new e → first_holding (path_rules tree path) ≡ Some e
-dump_ruled_out tree path old new fault.NoMemory other is = absurd (other refl)
-dump_ruled_out tree path old new e other is = is.0
 
 -- the line of a refusal is what is printed of a dump that is refused so
 pub refusal_told : (tree : Tree) (word : Text) (r : Result (Vec ℕ Global × Status) AllocError) (e : EditFault) → dump_fault tree word ≡ Some e
