@@ -166,7 +166,9 @@ fn push_found(
     match found {
         Found::Group { attributes, .. } => push_group(alloc, text, path, attributes),
         Found::Array {
-            attributes, array, ..
+            attributes,
+            array,
+            ..
         } => push_array(alloc, text, path, array, attributes),
         Found::Soft(target) => push_soft_line(text, PathText::Plain(path), target),
     }

@@ -140,8 +140,11 @@ module _ (s : FileState) (input old : Known) where
     cut_last left bytes t new none read ended begun = record {
       script = under.script;
       read = read_none left bytes none read;
-      run = inr (ended, subst (λ (commands : List Command). HasBegun commands s t old new) (all_commands ∙ ap commands_of (sym (within_short under.script low)))
-          (has_begun_more (commands_of under.run.done) (commands_of_line held) s m t old now new whole_run.run begun));
+      run = inr (
+        ended,
+        subst (λ (commands : List Command). HasBegun commands s t old new) (all_commands ∙ ap commands_of (sym (within_short under.script low)))
+            (has_begun_more (commands_of under.run.done) (commands_of_line held) s m t old now new whole_run.run begun),
+      );
     }
 
     -- the last line was run, and what was held back could not be written
