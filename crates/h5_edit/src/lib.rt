@@ -17,5 +17,6 @@ pub use h5_query::{
     attributes_at, found_at, kind_at, links_of, names_at, names_of_attributes, number_at,
     one_attribute, one_cell, renumber, walk,
 };
+pub use h5_repack::empty_image;
 pub use links::{new_array, new_group, new_hard_link, new_soft_link};
 pub use made::Made;

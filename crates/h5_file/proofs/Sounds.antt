@@ -14,7 +14,7 @@ use Rattle.h5_edit.specs.Renumbered.Headers.{table_with}
 use Rattle.h5_edit.proofs.RenumberedLaws.Renumbered.{table_at, length_at, tree_at}
 use Rattle.h5_edit.proofs.RenumberedLaws.SameHeaders.{same_headers, same_length}
 use Rattle.h5_file.specs.State.{IsSound, created_state}
-use Rattle.h5_repack.proofs.EmptyFile.{empty_reading}
+use Rattle.h5_edit.proofs.EmptyFile.{empty_reading}
 
 pub sound : (image : List ℕ) (objects : List OpenedObject) (numbers : BTreeMap ℕ ℕ) → IsOpened image objects numbers → IsSound (opened_state image objects)
 sound image objects numbers opened = record { reads = opened.reads; numbers = numbered image objects numbers opened }

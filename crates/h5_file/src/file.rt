@@ -13,10 +13,9 @@ ghost use Rattle.h5_edit.specs.Place.{IsNumber, IsNoObject};
 ghost use Rattle.h5_file.specs.State.{IsSound, created_state};
 ghost use Rattle.h5_file.specs.Opening.{IsNoBreach, IsReadable, Refused};
 
-use crate::empty::empty_image;
 use h5_edit::{
-    ArrayCells, AttrRef, Found, Kind, Link, Opened, array_of, attributes_at, found_at, kind_at,
-    links_of, names_at, names_of_attributes, number_at, one_attribute, one_cell, walk,
+    ArrayCells, AttrRef, Found, Kind, Link, Opened, array_of, attributes_at, empty_image, found_at,
+    kind_at, links_of, names_at, names_of_attributes, number_at, one_attribute, one_cell, walk,
 };
 use h5_model::{EditFault, ObjectNo, OpenFault};
 use h5_space::{Image, end_of_file, superblock_fault};

@@ -26,7 +26,6 @@
 #![tactic(auto)]
 
 mod edits;
-mod empty;
 mod file;
 
 pub use file::File;

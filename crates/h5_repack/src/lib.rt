@@ -5,6 +5,7 @@
 #![tactic(auto)]
 
 mod blocks;
+mod empty;
 mod group;
 mod object;
 mod objects;
@@ -13,5 +14,6 @@ mod size;
 mod write;
 
 pub use blocks::{Cells, Others};
+pub use empty::empty_image;
 pub use objects::{NewArray, NewContent, NewObject, TreeLink, TreeTarget};
 pub use write::{WriteFault, Written, write_tree};

@@ -1,7 +1,7 @@
 use Rattle.std.proofs.Common.{refl}
 use Rattle.h5_model.specs.Format.Empty.{root_tree}
 use Rattle.h5_repack.proofs.EmptyFile.{root_held, written_empty, never_long, never_deep}
-use Rattle.h5_file.proofs.empty.empty_image.Goals as goal
+use Rattle.h5_repack.proofs.empty.empty_image.Goals as goal
 
 pub write_tree-requires-clause-tree : goal.write_tree-requires-clause-tree
 write_tree-requires-clause-tree c = (root_tree, root_held _ c.new.result refl c.new.ensures.items c.new-2.ensures)
