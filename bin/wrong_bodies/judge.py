@@ -115,11 +115,17 @@ class Judge:
         if not report.reached or report.unread:
             return False
         known = {name for one in chosen for name in self.names(report, one).values()}
+        known |= {verdicts.matching(report, self.name, it) for one in chosen for it in self.in_cycle(one)}
         return all(any(is_within(name, own) for own in known) for name in report.own_failures())
 
     def names(self, report, one):
         """The names under which the prover speaks of an edit's functions, by the functions' keys."""
         return {function.key: verdicts.matching(report, self.name, function) for function in one.functions}
+
+    def in_cycle(self, one):
+        """The functions that share one proof with an edit's functions."""
+        cycle = self.planner.cycle(one)
+        return [it for file in self.files.values() for it in file.functions if it.key in cycle]
 
     def split(self, chosen, report):
         """Parts of a round that could not be judged: the edits at which an error points each by itself, and the rest

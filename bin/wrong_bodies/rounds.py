@@ -63,6 +63,10 @@ class Planner:
         theirs = set().union(*(other.keys for other in chosen if other is not one))
         return any(self.below[mine] & theirs for mine in one.keys)
 
+    def cycle(self, one):
+        """The functions that an edit's functions call and that call these: those of a cycle share one proof."""
+        return {key for mine in one.keys for key in self.below[mine] if mine in self.below[key]}
+
     def fits(self, one, chosen):
         """Whether an edit can stand beside others: no function of its and of theirs is the same, and none calls the
         other. In the late rounds one may call the other, unless both do: the functions of a cycle share one proof."""

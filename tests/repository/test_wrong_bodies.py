@@ -289,6 +289,16 @@ class Record(Made):
         self.assertNotEqual(proved, hashed(law, "fn one : A\none = a\nb\n"))
 
 
+class Cycles(Made):
+    def test_functions_that_call_each_other_share_a_proof(self):
+        text = "fn even(n: u8) -> bool {\n    odd(n - 1)\n}\nfn odd(n: u8) -> bool {\n    even(n - 1)\n}\nfn one() -> bool {\n    even(1)\n}\n"
+        file = source.scan("src/lib.rt", text)
+        planner = rounds.Planner([file], self.folder)
+        even, _, one = (rounds.Candidate(None, (function,), False) for function in file.functions)
+        self.assertEqual(planner.cycle(even), {"even", "odd"})
+        self.assertEqual(planner.cycle(one), set())
+
+
 class Judging(Made):
     """The whole way of an edit, with a prover that is played: it refuses each function whose body has changed, unless
     `lax` names it, and does not compile where a text has the word `broken`."""
