@@ -2,5 +2,6 @@ pub mod Space
 pub mod Room
 pub mod Lending
 pub mod Whole
+pub mod Moves
 pub mod Claimed
 pub mod Islands
