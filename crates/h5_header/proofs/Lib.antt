@@ -5,6 +5,7 @@ pub mod ThroughLaws
 pub mod SameLaws
 pub mod WholeLaws
 pub mod MetLaws
+pub mod KeptLaws
 pub mod CrossLaws
 pub mod RefusedLaws
 pub mod ReadableLaws
