@@ -38,3 +38,4 @@ pub mod LinksExcluded
 pub mod CountExcluded
 pub mod Excluded
 pub mod SoundLaws
+pub mod InPlace

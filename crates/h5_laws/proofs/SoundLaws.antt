@@ -6,6 +6,7 @@ pub mod Depths
 pub mod Grown
 pub mod Linked
 pub mod Alike
+pub mod DatasetChanges
 pub mod NewPaths
 pub mod Applied
 pub mod Read

@@ -1,0 +1,6 @@
+pub mod StillThere
+pub mod HeadersApart
+pub mod StepReads
+pub mod OneBlocks
+pub mod CellWrites
+pub mod DatasetWrites
