@@ -1,5 +1,6 @@
 pub mod MessageLaws
 pub mod FillLaws
+pub mod FillInserts
 pub mod PrefixLaws
 pub mod ThroughLaws
 pub mod SameLaws

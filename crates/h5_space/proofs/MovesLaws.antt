@@ -111,6 +111,15 @@ moves_local s t a b m p low = elim (cases_lt 0 (cover p a)) [
   ]
 ]
 
+-- where blocks in use and free ones are apart, each byte that is not as before was in a block that was moved, or in none in use
+pub moves_local_used : (s t : Space) (a b more : List Block) → Moves s t a b → IsApart (a ++ more) s.free (length s.bytes)
+    → (p : ℕ) → p < length s.bytes → (byte_at t.bytes p ≡ byte_at s.bytes p) ⊎ ((1 ≤ cover p a) ⊎ (cover p (a ++ more) ≡ 0))
+moves_local_used s t a b more m apart p low = elim (moves_local s t a b m p low) [
+  | inl same ↦ inl same
+  | inr (inl moved) ↦ inr (inl moved)
+  | inr (inr free) ↦ inr (inr (omega (arith, free, apart p, holds-le p 0 (length s.bytes))))
+]
+
 -- ---- the calls of an image
 
 get_or-append_left : (xs ys : List ℕ) (k d : ℕ) → k < length xs → get_or (xs ++ ys) k d ≡ get_or xs k d
