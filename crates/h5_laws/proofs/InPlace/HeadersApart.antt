@@ -10,6 +10,7 @@ use Rattle.h5_model.specs.Format.Messages.{prefix_at, first_size, continuations}
 use Rattle.h5_model.specs.Format.Reads.{Placed, IsPlaced}
 use Rattle.h5_laws.proofs.Lists.{In}
 
+-- an object's header begins in its blocks
 pub header_covered : (image : List ℕ) (table : FinMap nat_cmp ℕ) (x : Placed) → IsPlaced image table x → 1 ≤ cover x.header x.blocks
 header_covered image table x has =
     let own = block x.header (16 + first_size (prefix_at image x.header)) in

@@ -1,14 +1,27 @@
--- An object is read as before where another table says where headers stand, if that still has the objects that its links name.
-use Rattle.std.proofs.Common.{ℕ, List, [], ◌∷◌, ◌∙◌}
+-- What an edit leaves of an object that it doesn't touch: its bytes are as before where those of all such objects are, and it is read
+-- as before with a table that still has the objects that its links name.
+use Rattle.std.proofs.Common.{ℕ, List, [], ◌∷◌, ◌∙◌, subst, inl, inr}
 use Rattle.std.specs.Ordering.{nat_cmp}
 use Rattle.std.specs.FinMap.{FinMap, entries}
-use Rattle.std.specs.List.{AllByRecursion, AllZip}
+use Rattle.std.specs.List.{AllByRecursion, AllZip, flat_map}
+use Rattle.h5_bytes.specs.Blocks.{Keeps, IsKept}
 use Rattle.h5_bytes.specs.declared.Block.{Block}
+use Rattle.h5_bytes.proofs.BlockLaws.{all_left, all_right}
 use Rattle.h5_model.specs.Format.Messages.{Message}
 use Rattle.h5_model.specs.Format.Symbols.{Target, Header, Text}
-use Rattle.h5_model.specs.Format.Reads.{HasObject, HasContent, IsSame}
+use Rattle.h5_model.specs.Format.Reads.{Placed, HasObject, HasContent, IsSame}
 use Rattle.h5_model.specs.Tree.Objects.{Object, Content, Group, Array, Link, ToObject, Soft}
+use Rattle.h5_laws.proofs.Lists.{In}
 use Rattle.h5_laws.specs.InPlace.{IsStillThere, AreStillThere}
+
+-- an object keeps its bytes where all objects of a list do
+pub kept_each : (old new : List ℕ) (placed : List Placed) (x : Placed) → Keeps old new (flat_map (λ y. y.blocks) placed) → In x placed
+    → Keeps old new x.blocks
+kept_each old new [] x kept at = absurd at
+kept_each old new (y ∷ placed) x kept (inl e) =
+    subst (λ (z : Placed). Keeps old new z.blocks) e (all_left (IsKept old new) y.blocks (flat_map (λ z. z.blocks) placed) kept)
+kept_each old new (y ∷ placed) x kept (inr at) =
+    kept_each old new placed x (all_right (IsKept old new) y.blocks (flat_map (λ z. z.blocks) placed) kept) at
 
 module _ (table table' : FinMap nat_cmp ℕ) where
   link-same : (l : List ℕ × Link) (f : List ℕ × Target) → IsStillThere table table' l → IsSame table l f → IsSame table' l f
