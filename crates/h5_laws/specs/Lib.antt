@@ -1,3 +1,4 @@
 pub mod Numbered
 pub mod Trees
 pub mod InPlace
+pub mod Readings
