@@ -1,4 +1,3 @@
-pub mod Tails
 pub mod SymbolNodes
 pub mod Runs
 pub mod SymbolPlaces

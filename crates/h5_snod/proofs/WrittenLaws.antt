@@ -106,7 +106,7 @@ entry_part (s ∷ ss) rest (suc k) low =
     ap (part (40 * suc k) 40) joined ∙ ap (λ (n : ℕ). part n 40 (new_bytes s ++ (flat_map new_bytes ss ++ rest))) next
     ∙ part-behind (new_bytes s) (flat_map new_bytes ss ++ rest) (40 * k) 40 ∙ entry_part ss rest k (omega arith)
 
-module _ (ss : List NewSymbol) (n : ℕ) (counted : length ss < 2 ^ 16) (small : AllByRecursion IsSmall ss) (bytes : List ℕ) (is : bytes ≡ node_bytes ss n) where
+module _ (ss : List NewSymbol) (n : ℕ) (counted : length ss < 2 ^ 16) (bytes : List ℕ) (is : bytes ≡ node_bytes ss n) where
   abbrev behind : List ℕ
   behind = flat_map new_bytes ss ++ zeros (n - length (symbol_signature ++ (1 ∷ 0 ∷ (short (length ss) ++ flat_map new_bytes ss))))
 
@@ -122,24 +122,25 @@ module _ (ss : List NewSymbol) (n : ℕ) (counted : length ss < 2 ^ 16) (small :
     roomy = omega arith;
   }
 
-  each_back : (k : ℕ) → k < length ss → entry_in bytes k ≡ entry_from (get_or ss k no_symbol)
-  each_back k low =
-      let s : NewSymbol = get_or ss k no_symbol in
-      let fits : IsSmall s = All-get_or IsSmall ss k no_symbol low (All-from_recursion IsSmall ss small) in
-      ap (λ (bs : List ℕ). entry_of (part (8 + 40 * k) 40 bs)) is
-      ∙ ap entry_of (part-behind (symbol_signature ++ (1 ∷ 0 ∷ short (length ss))) behind (40 * k) 40 ∙ entry_part ss _ k low)
-      ∙ entry_back s fits
+  module _ (small : AllByRecursion IsSmall ss) where
+    each_back : (k : ℕ) → k < length ss → entry_in bytes k ≡ entry_from (get_or ss k no_symbol)
+    each_back k low =
+        let s : NewSymbol = get_or ss k no_symbol in
+        let fits : IsSmall s = All-get_or IsSmall ss k no_symbol low (All-from_recursion IsSmall ss small) in
+        ap (λ (bs : List ℕ). entry_of (part (8 + 40 * k) 40 bs)) is
+        ∙ ap entry_of (part-behind (symbol_signature ++ (1 ∷ 0 ∷ short (length ss))) behind (40 * k) 40 ∙ entry_part ss _ k low)
+        ∙ entry_back s fits
 
-  pub known_back : AllByRecursion IsEntry (entries_of bytes)
-  known_back = all_known bytes (λ k low.
-      let count = count_back in
-      let inside : k < length ss = omega arith in
-      omega (arith, ap (λ (e : Entry). e.cache) (each_back k inside), known_cache (get_or ss k no_symbol).target))
+    pub known_back : AllByRecursion IsEntry (entries_of bytes)
+    known_back = all_known bytes (λ k low.
+        let count = count_back in
+        let inside : k < length ss = omega arith in
+        omega (arith, ap (λ (e : Entry). e.cache) (each_back k inside), known_cache (get_or ss k no_symbol).target))
 
-  pub entries_back : entries_of bytes ≡ map entry_from ss
-  entries_back =
-      let count = count_back in
-      let long : length (map entry_from ss) ≡ symbols_in bytes = omega (arith, length-map ss entry_from) in
-      sym (fill_by_all (entry_in bytes) (map entry_from ss) (symbols_in bytes) (entry_from no_symbol) long (λ k low.
-      let inside : k < length ss = omega arith in
-      get_or-map entry_from ss k no_symbol (entry_from no_symbol) inside ∙ sym (each_back k inside)))
+    pub entries_back : entries_of bytes ≡ map entry_from ss
+    entries_back =
+        let count = count_back in
+        let long : length (map entry_from ss) ≡ symbols_in bytes = omega (arith, length-map ss entry_from) in
+        sym (fill_by_all (entry_in bytes) (map entry_from ss) (symbols_in bytes) (entry_from no_symbol) long (λ k low.
+        let inside : k < length ss = omega arith in
+        get_or-map entry_from ss k no_symbol (entry_from no_symbol) inside ∙ sym (each_back k inside)))

@@ -1,15 +1,14 @@
 -- A group's links in the plain layout: the tree, the heap with its segment, and the symbol nodes, one behind another (File Format
 -- Specification 3.0, sections III.A.1, III.B and III.D).
-use Rattle.std.specs.Prelude.{ℕ, ◌+◌, ◌*◌, List, [], ◌∷◌, ◌++◌, length}
+use Rattle.std.specs.Prelude.{ℕ, ◌+◌, ◌*◌, List, [], ◌∷◌, ◌++◌, length, map}
 use Rattle.std.specs.List.{flat_map}
-use Rattle.h5_model.specs.Format.Plain.{filled_to}
 use Rattle.h5_model.specs.Format.PlainLength.{rows_of, nodes_over}
 use Rattle.h5_model.specs.Format.Sizes.{group_node, symbol_node, text_span}
 use Rattle.h5_btree.specs.Writing.Written.{chunks, tree_bytes, root_level}
 use Rattle.h5_btree.specs.declared.write.child.Child.{Child}
 use Rattle.h5_heap.specs.Writing.Links.{Leads, ToGroup, ToArray, ToText}
 use Rattle.h5_heap.specs.Writing.Written.{placed_links, segment_of, heap_bytes}
-use Rattle.h5_snod.specs.Written.{new_bytes, head_bytes}
+use Rattle.h5_snod.specs.Written.{new_bytes, node_bytes}
 use Rattle.h5_snod.specs.declared.write.NewSymbol.{NewSymbol}
 use Rattle.h5_snod.specs.declared.write.NewTarget.{NewTarget}
 use Rattle.h5_snod.specs.declared.write.NewTarget.TheVariants as target
@@ -34,7 +33,7 @@ runs_of leaf [] = []
 runs_of leaf (l ∷ links) = chunks (2 * leaf) (l ∷ links)
 
 abbrev pub symbol_bytes : ℕ → List (ℕ × (List ℕ × Leads)) → List ℕ
-symbol_bytes leaf run = filled_to (symbol_node leaf) (head_bytes (length run) ++ flat_map entry_bytes run)
+symbol_bytes leaf run = node_bytes (map symbol_for run) (symbol_node leaf)
 
 -- the offset of the last name of a run
 abbrev pub last_name : ℕ → List (ℕ × (List ℕ × Leads)) → ℕ

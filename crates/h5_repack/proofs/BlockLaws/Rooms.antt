@@ -6,7 +6,7 @@ use Rattle.h5_bytes.specs.Numbers.{short, zeros}
 use Rattle.h5_bytes.specs.Texts.{pad8}
 use Rattle.h5_model.specs.Format.Bodies.{padded, raised}
 use Rattle.h5_model.specs.Format.Plain.{message_bytes}
-use Rattle.h5_group.proofs.WriteLaws.Tails.{tail_written}
+use Rattle.h5_bytes.proofs.TailLaws.{tail_written}
 use Rattle.h5_msg.proofs.PaddedLaws.{length-raised}
 use Rattle.h5_repack.specs.Blocks.Parts.{message_head, message_room}
 

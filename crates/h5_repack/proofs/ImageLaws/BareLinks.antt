@@ -1,18 +1,17 @@
 -- How long a group's links are does not depend on the addresses to which they lead.
 use Rattle.std.proofs.Common.{◌≡◌, ℕ, zero, suc, ◌+◌, ◌-◌, ◌*◌, List, [], ◌∷◌, ◌++◌, map, length, length-append, take, drop, refl, sym, ap, ap₂, ◌∙◌, arith, Bool, true, false, cond}
-use Rattle.std.proofs.lemmas.List.{length-map, length-replicate}
+use Rattle.std.proofs.lemmas.List.{length-map}
 use Rattle.std.specs.Prelude.{nat_le}
 use Rattle.std.specs.List.{flat_map}
-use Rattle.h5_bytes.specs.Numbers.{short, zeros}
-use Rattle.h5_model.specs.Format.Plain.{filled_to, heap_header_bytes, segment_bytes, free_head_of}
+use Rattle.h5_model.specs.Format.Plain.{heap_header_bytes, segment_bytes, free_head_of}
 use Rattle.h5_model.specs.Format.PlainLength.{nodes_over, rows_of}
 use Rattle.h5_model.specs.Format.Sizes.{group_node, symbol_node}
-use Rattle.h5_model.specs.Format.Symbols.{symbol_signature}
 use Rattle.h5_btree.specs.Writing.Written.{cut, chunks, tree_bytes}
 use Rattle.h5_btree.specs.declared.write.child.Child.{Child}
 use Rattle.h5_heap.specs.Writing.Links.{Leads, ToGroup, ToArray, ToText, spelled}
 use Rattle.h5_heap.specs.Writing.Written.{link_span, placed, placed_links, segment_of, heap_bytes}
-use Rattle.h5_group.specs.Writing.Written.{runs_of, entry_bytes, symbol_bytes, last_name, children_of, heap_place, symbols_place, links_bytes}
+use Rattle.h5_group.specs.Writing.Written.{runs_of, symbol_bytes, last_name, children_of, heap_place, symbols_place, links_bytes}
+use Rattle.h5_group.proofs.WriteLaws.SymbolNodes.{length-node_of}
 
 -- a link without its addresses
 abbrev pub bare : List ℕ × Leads → List ℕ × Leads
@@ -91,31 +90,10 @@ children_bare leaf at (run ∷ runs) =
 
 -- ---- symbol nodes
 
-length-entry : (x : ℕ × (List ℕ × Leads)) → length (entry_bytes (placed_bare x)) ≡ length (entry_bytes x)
-length-entry (at, (name, ToGroup header tree heap)) = refl
-length-entry (at, (name, ToArray header)) = refl
-length-entry (at, (name, ToText text)) = refl
-
-length-entries : (run : List (ℕ × (List ℕ × Leads))) → length (flat_map entry_bytes (map placed_bare run)) ≡ length (flat_map entry_bytes run)
-length-entries [] = refl
-length-entries (x ∷ run) =
-    length-append (entry_bytes (placed_bare x)) (flat_map entry_bytes (map placed_bare run))
-    ∙ ap₂ (λ (a b : ℕ). a + b) (length-entry x) (length-entries run) ∙ sym (length-append (entry_bytes x) (flat_map entry_bytes run))
-
-length-filled : (n : ℕ) (a b : List ℕ) → length a ≡ length b → length (filled_to n a) ≡ length (filled_to n b)
-length-filled n a b same =
-    length-append a (zeros (n - length a)) ∙ ap (λ k. length a + k) (length-replicate (n - length a) 0) ∙ ap (λ k. k + (n - k)) same
-    ∙ sym (length-append b (zeros (n - length b)) ∙ ap (λ k. length b + k) (length-replicate (n - length b) 0))
-
-length-head : (k : ℕ) (rest : List ℕ) → length (symbol_signature ++ (1 ∷ 0 ∷ (short k ++ rest))) ≡ 8 + length rest
-length-head k rest = omega arith
-
 length-symbol : (leaf : ℕ) (run : List (ℕ × (List ℕ × Leads))) → length (symbol_bytes leaf (map placed_bare run)) ≡ length (symbol_bytes leaf run)
-length-symbol leaf run = length-filled (symbol_node leaf)
-    (symbol_signature ++ (1 ∷ 0 ∷ (short (length (map placed_bare run)) ++ flat_map entry_bytes (map placed_bare run))))
-    (symbol_signature ++ (1 ∷ 0 ∷ (short (length run) ++ flat_map entry_bytes run)))
-    (length-head (length (map placed_bare run)) (flat_map entry_bytes (map placed_bare run)) ∙ ap (λ n. 8 + n) (length-entries run)
-    ∙ sym (length-head (length run) (flat_map entry_bytes run)))
+length-symbol leaf run =
+    length-node_of leaf (map placed_bare run) ∙ ap (λ n. 8 + 40 * n + (symbol_node leaf - (8 + 40 * n))) (length-map run placed_bare)
+    ∙ sym (length-node_of leaf run)
 
 length-symbols : (leaf : ℕ) (runs : List (List (ℕ × (List ℕ × Leads)))) → length (flat_map (symbol_bytes leaf) (map (map placed_bare) runs)) ≡ length (flat_map (symbol_bytes leaf) runs)
 length-symbols leaf [] = refl

@@ -3,7 +3,7 @@ use Rattle.h5_bytes.specs.Numbers.{zeros}
 use Rattle.h5_snod.specs.Written.{new_bytes}
 use Rattle.h5_snod.specs.declared.write.NewSymbol.{NewSymbol}
 use Rattle.h5_snod.proofs.WrittenLaws.{long_entry}
-use Rattle.h5_group.proofs.WriteLaws.Tails.{tail_written}
+use Rattle.h5_bytes.proofs.TailLaws.{tail_written}
 use Rattle.h5_group.proofs.write.symbols.push_entry.Goals as goal
 
 pub returns : goal.returns

@@ -1,6 +1,6 @@
 use Rattle.std.proofs.Common.{◌++◌, length, ap, ◌∙◌}
 use Rattle.h5_bytes.specs.Numbers.{zeros}
-use Rattle.h5_group.proofs.WriteLaws.Tails.{tail_written}
+use Rattle.h5_bytes.proofs.TailLaws.{tail_written}
 use Rattle.h5_group.proofs.write.symbols.push_head.Goals as goal
 
 pub returns : goal.returns
