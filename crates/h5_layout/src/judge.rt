@@ -1,16 +1,14 @@
 //! Rules on the bodies of a dataset's messages.
 
-ghost use Rattle.std.specs.Prelude.{◌≡◌, ◌≤◌, ◌^◌, Some, IfOk, IfErr, IfSome, MatchResult, ok_or, false, true};
-ghost use Rattle.std.specs.Option.{option_copied};
+ghost use Rattle.std.specs.Prelude.{◌≡◌, ◌≤◌, ◌^◌, Some, IfOk, IfErr, ok_or, false, true};
 ghost use Rattle.h5_model.specs.Tree.Places.{extent_cells};
 ghost use Rattle.h5_model.specs.Format.Extent.{extent_of};
 ghost use Rattle.h5_model.specs.Format.Datatype.{fixed_of};
 ghost use Rattle.h5_model.specs.Format.Fixed.{IsFixed, fits};
 ghost use Rattle.h5_model.specs.Format.Fill.{fill_value, old_fill_value};
 ghost use Rattle.h5_model.specs.Format.Layout.{layout_of};
-ghost use Rattle.h5_model.specs.Format.Reads.{IsFill};
 ghost use Rattle.h5_msg.specs.Layouts.{layout_in};
-ghost use Rattle.h5_layout.specs.Judged.{is_bad, is_chunk_large as is_large, layout_breach, space_breach};
+ghost use Rattle.h5_layout.specs.Judged.{is_chunk_large as is_large, layout_breach, space_breach};
 
 use h5_model::{Cause, Fixed};
 use h5_msg::{
@@ -51,25 +49,9 @@ pub(crate) fn judge_datatype(body: &[u8]) -> Result<Fixed, Cause>
     Ok(fixed)
 }
 
-/// The value of an old Fill Value message, where there is one.
-pub(crate) fn judge_old_fill(fixed: &Fixed, body: Option<&[u8]>) -> Result<Option<i128>, Cause>
-    requires { IsFixed fixed.now }
-    ensures form { MatchResult result
-        (λ fill. IsFill (old_fill_value fixed.now) (option_copied body.entry) fill)
-        (λ cause.
-        (cause ≡ Cause.FillForm) × (is_bad (old_fill_value fixed.now) (option_copied body.entry) ≡ true)) }
-    ensures of_type { IfOk result (λ fill. IfSome fill (λ v. fits fixed.now v ≡ true)) }
-{
-    let Some(body) = body else {
-        return Ok(None);
-    };
-    let fill = old_fill_in(fixed, body)?;
-    Ok(Some(fill))
-}
-
 /// The value in the body of an old Fill Value message.
 #[tactic(auto, using(crate::proofs::FillLaws::old_fill_fits))]
-fn old_fill_in(fixed: &Fixed, body: &[u8]) -> Result<i128, Cause>
+pub(crate) fn judge_old_fill(fixed: &Fixed, body: &[u8]) -> Result<i128, Cause>
     requires { IsFixed fixed.now }
     ensures value { result ≡ ok_or (old_fill_value fixed.now body.now) Cause.FillForm }
     ensures of_type { IfOk result (λ v. fits fixed.now v ≡ true) }
@@ -80,25 +62,9 @@ fn old_fill_in(fixed: &Fixed, body: &[u8]) -> Result<i128, Cause>
     Ok(fill)
 }
 
-/// The value of a Fill Value message, where there is one.
-pub(crate) fn judge_fill(fixed: &Fixed, body: Option<&[u8]>) -> Result<Option<i128>, Cause>
-    requires { IsFixed fixed.now }
-    ensures form { MatchResult result
-        (λ fill. IsFill (fill_value fixed.now) (option_copied body.entry) fill)
-        (λ cause.
-        (cause ≡ Cause.FillForm) × (is_bad (fill_value fixed.now) (option_copied body.entry) ≡ true)) }
-    ensures of_type { IfOk result (λ fill. IfSome fill (λ v. fits fixed.now v ≡ true)) }
-{
-    let Some(body) = body else {
-        return Ok(None);
-    };
-    let fill = fill_in(fixed, body)?;
-    Ok(Some(fill))
-}
-
 /// The value in the body of a Fill Value message.
 #[tactic(auto, using(crate::proofs::FillLaws::fill_fits))]
-fn fill_in(fixed: &Fixed, body: &[u8]) -> Result<i128, Cause>
+pub(crate) fn judge_fill(fixed: &Fixed, body: &[u8]) -> Result<i128, Cause>
     requires { IsFixed fixed.now }
     ensures value { result ≡ ok_or (fill_value fixed.now body.now) Cause.FillForm }
     ensures of_type { IfOk result (λ v. fits fixed.now v ≡ true) }

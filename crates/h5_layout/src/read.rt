@@ -81,7 +81,13 @@ fn judge_fills(image: &Image, messages: &Messages, fixed: &Fixed) -> Result<i128
     ensures refused { IfErr result (λ cause.
         fill_breach (messages_in image.now.bytes messages.now.list) (Some fixed.now) ≡ Some cause) }
 {
-    let old_fill = judge_old_fill(fixed, find_body(image, messages, OLD_FILL_VALUE))?;
-    let new_fill = judge_fill(fixed, find_body(image, messages, FILL_VALUE))?;
+    let old_fill = match find_body(image, messages, OLD_FILL_VALUE) {
+        Some(body) => Some(judge_old_fill(fixed, body)?),
+        None => None,
+    };
+    let new_fill = match find_body(image, messages, FILL_VALUE) {
+        Some(body) => Some(judge_fill(fixed, body)?),
+        None => None,
+    };
     Ok(new_fill.or(old_fill).unwrap_or(0))
 }
