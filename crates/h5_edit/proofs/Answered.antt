@@ -16,7 +16,7 @@ use Rattle.h5_repack.specs.Image.Written as image
 use Rattle.h5_repack.proofs.ImageLaws.ImageLength.{image_length}
 use Rattle.h5_model.specs.Format.PlainLength.{plain_length}
 use Rattle.h5_model.specs.Format.Reads.{Placed}
-use Rattle.h5_model.specs.Format.Superblock.{IsSuperblock, leaf_k, internal_k, AreK}
+use Rattle.h5_model.specs.Format.Superblock.{IsSuperblock, leaf_k, internal_k, chunk_k, AreK}
 use Rattle.h5_model.specs.Tree.Objects.{Tree}
 use Rattle.h5_model.specs.declared.edits.Edit.{Edit}
 use Rattle.h5_model.specs.declared.edits.Edit.TheVariants.{CreateDataset, SetAttr}
@@ -42,7 +42,7 @@ use Rattle.h5_edit.specs.Made.{IsMade}
 use Rattle.h5_edit.proofs.Changes.{next_free, len_tree, len_changed}
 use Rattle.h5_repack.proofs.ImageLaws.PlainImages.{plain_reads}
 use Rattle.h5_edit.proofs.Numbered.{numbered_map, len_numbered, len_alike}
-use Rattle.h5_edit.proofs.Refusals.{by_memory, by_length, by_depth}
+use Rattle.h5_edit.proofs.Refusals.{adds_link, by_memory, by_length, by_depth}
 
 -- ---- K values
 
@@ -68,11 +68,11 @@ module _ (leaf internal : ℕ) (tree : Tree) (k : AreK leaf internal) (sound : I
       sym (len_numbered w.headers.items)
       ∙ len_alike (table_with w.headers.items) tree (read_as).placed (λ (x : Placed). (x.number, x.header)) (λ (x : Placed). (x.number, x.object)) reads.holds.numbered reads.holds.objects
 
-  pub short : nat_lt (2 ^ 31) (plain_length leaf internal 32 (λ _. 0) tree) ≡ false
+  pub short : nat_lt (2 ^ 31) (plain_length leaf internal (chunk_k w.image.items) (λ _. 0) tree) ≡ false
   short =
-      let same = image_length leaf internal 32 (λ _. 0) tree is.order plain is.ordered in
+      let same = image_length leaf internal (chunk_k w.image.items) (λ _. 0) tree is.order plain is.ordered in
       let few = is.few in
-      not_above (2 ^ 31) (plain_length leaf internal 32 (λ _. 0) tree) (subst (λ (n : ℕ). n ≤ 2 ^ 31) same few) where
+      not_above (2 ^ 31) (plain_length leaf internal (chunk_k w.image.items) (λ _. 0) tree) (subst (λ (n : ℕ). n ≤ 2 ^ 31) same few) where
         not_above : (most n : ℕ) → n ≤ most → nat_lt most n ≡ false
         not_above most n low = grind (arith, nat_tests)
 
@@ -126,12 +126,13 @@ module _ {image : List ℕ} {objects : List OpenedObject} {numbers : BTreeMap �
     refused : (fault : WriteFault) → IsUnwritten leaf internal after fault → IsRefused f edit (fault_of fault)
     refused TooLong long =
         by_length f edit fitting.carried fitting.accepted fitting.roomy
-        (ap (λ (t : Tree). is_too_long f t) fitting.gives ∙ above (2 ^ 31) (plain_length leaf internal 32 (λ _. 0) after) long) where
+        (ap (λ (t : Tree). is_too_long f t) fitting.gives ∙ above (2 ^ 31) (plain_length leaf internal (chunk_k image) (λ _. 0) after) long) where
           above : (most n : ℕ) → most < n → nat_lt most n ≡ true
           above most n high = grind (arith, nat_tests)
     refused TooDeep deep =
         by_depth f edit fitting.carried fitting.accepted fitting.roomy (λ lies.
         deep.3 (subst (AreLow leaf internal) fitting.gives lies deep.0 deep.1 deep.2))
+        (adds_link opened edit fitting.carried)
     refused NoMemory none = by_memory f edit fitting.carried
 
     -- ---- written

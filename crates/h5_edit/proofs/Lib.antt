@@ -1,6 +1,8 @@
 pub mod Numbered
 pub mod Changes
 pub mod Low
+pub mod Levels
+pub mod LowRead
 pub mod Refusals
 pub mod Fitting
 pub mod Answered

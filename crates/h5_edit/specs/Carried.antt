@@ -3,12 +3,12 @@ use Rattle.std.specs.Prelude.{◌≡◌, ◌^◌, ◌+◌, Bool, true, false, Is
 use Rattle.std.specs.FinMap.{get}
 use Rattle.std.specs.Option.{option_map_or, option_and_then}
 use Rattle.h5_model.specs.Edits.Applied.{applied}
-use Rattle.h5_model.specs.Edits.ImageAnswers.{chosen}
+use Rattle.h5_model.specs.Edits.ImageAnswers.{adds_entry, chosen}
 use Rattle.h5_model.specs.Format.Messages.{prefix_at, total_in}
 use Rattle.h5_model.specs.Tree.Paths.{object_at}
 use Rattle.h5_model.specs.Format.PlainLength.{plain_length}
 use Rattle.h5_model.specs.Edits.Refusal.{refusal_of}
-use Rattle.h5_model.specs.Format.Superblock.{leaf_k, internal_k}
+use Rattle.h5_model.specs.Format.Superblock.{leaf_k, internal_k, chunk_k}
 use Rattle.h5_model.specs.Tree.Objects.{Tree}
 use Rattle.h5_model.specs.declared.edits.Edit.{Edit}
 use Rattle.h5_model.specs.declared.edits.Edit.TheVariants.{SetAttr}
@@ -34,20 +34,20 @@ is_header_full f _ = false
 
 -- the image of the tree, written anew, would pass 2^31 bytes
 abbrev pub is_too_long : FileState → Tree → Bool
-is_too_long f tree = nat_lt (2 ^ 31) (plain_length (leaf_k f.image) (internal_k f.image) 32 (λ _. 0) tree)
+is_too_long f tree = nat_lt (2 ^ 31) (plain_length (leaf_k f.image) (internal_k f.image) (chunk_k f.image) (λ _. 0) tree)
 
 -- the tree that an edit gives
 abbrev pub tree_after : FileState → Edit → Tree
 tree_after f edit = applied f.tree edit f.next
 
--- HeaderFull comes first. Then ImageFull goes by the image of the tree that the edit gives, and TreeTooDeep by its groups' trees: either
--- may be answered where both hold. Memory may be short at any time.
+-- HeaderFull comes first. Then ImageFull goes by the image of the tree that the edit gives, and TreeTooDeep, of an edit that adds a link,
+-- by its groups' trees: either may be answered where both hold. Memory may be short at any time.
 abbrev pub IsGivenFor : FileState → Edit → Option EditFault → Type 0
 IsGivenFor f edit None =
     IsFalse (is_header_full f edit) × IsFalse (is_too_long f (tree_after f edit)) × AreLow (leaf_k f.image) (internal_k f.image) (tree_after f edit)
 IsGivenFor f edit (Some fault.HeaderFull) = IsTrue (is_header_full f edit)
 IsGivenFor f edit (Some fault.TreeTooDeep) =
-    IsFalse (is_header_full f edit) × (AreLow (leaf_k f.image) (internal_k f.image) (tree_after f edit) → ⊥)
+    IsFalse (is_header_full f edit) × (AreLow (leaf_k f.image) (internal_k f.image) (tree_after f edit) → ⊥) × IsTrue (adds_entry edit)
 IsGivenFor f edit (Some fault.ImageFull) = IsFalse (is_header_full f edit) × IsTrue (is_too_long f (tree_after f edit))
 IsGivenFor f edit (Some fault.NoMemory) = Unit {0}
 IsGivenFor f edit _ = ⊥

@@ -9,7 +9,7 @@ use Rattle.h5_edit.proofs.attributes.set_attribute.Goals as goal
 pub returns-in_err-number : goal.returns-in_err-number
 returns-in_err-number c =
     passed_on _ _ c.from_residual.result _ c.from_residual.ensures.1
-    (by_rule (opened_state c.args.image.now.bytes c.args.opened.now.objects.items) (SetAttr c.args.path.now c.args.attr.now) refl _ c.in_err-number.ensures)
+    (by_rule c.requires (SetAttr c.args.path.now c.args.attr.now) refl _ c.in_err-number.ensures)
 
 pub index-requires : goal.index-requires
 index-requires c = omega (arith, number_low c.requires c.args.path.now c.in_ok-number.number c.in_ok-number.ensures.object)

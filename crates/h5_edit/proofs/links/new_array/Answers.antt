@@ -15,7 +15,7 @@ returns-then-not-is_one_line c =
 pub returns-in_err-place : goal.returns-in_err-place
 returns-in_err-place c =
     passed_on _ _ c.from_residual.result _ c.from_residual.ensures.1
-    (by_rule (opened_state c.args.image.now.bytes c.args.opened.now.objects.items) (CreateDataset c.args.path.now c.args.spec.now)
+    (by_rule c.requires (CreateDataset c.args.path.now c.args.spec.now)
     (sym c.is_one_line.ensures ∙ c.if-not-is_one_line.false) _ c.in_err-place.ensures)
 
 pub next_object-requires : goal.next_object-requires

@@ -1,7 +1,6 @@
 use Rattle.std.proofs.Common.{refl, arith}
 use Rattle.h5_model.specs.declared.edits.Edit.TheVariants.{CreateGroup}
 use Rattle.h5_edit.proofs.RuleLaws.Exits.{passed_on}
-use Rattle.h5_query.specs.Opened.State.{opened_state}
 use Rattle.h5_query.proofs.OpenedLaws.Numbers.{few_objects}
 use Rattle.h5_edit.proofs.Fitting.{group_fits}
 use Rattle.h5_edit.proofs.Refusals.{by_rule}
@@ -10,7 +9,7 @@ use Rattle.h5_edit.proofs.links.new_group.Goals as goal
 pub returns-in_err-place : goal.returns-in_err-place
 returns-in_err-place c =
     passed_on _ _ c.from_residual.result _ c.from_residual.ensures.1
-    (by_rule (opened_state c.args.image.now.bytes c.args.opened.now.objects.items) (CreateGroup c.args.path.now) refl _ c.in_err-place.ensures)
+    (by_rule c.requires (CreateGroup c.args.path.now) refl _ c.in_err-place.ensures)
 
 pub next_object-requires : goal.next_object-requires
 next_object-requires c = omega (arith, few_objects c.args.image.now.bytes c.args.opened.now.objects.items c.args.opened.now.numbers c.requires)

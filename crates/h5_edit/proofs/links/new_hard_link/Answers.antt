@@ -1,7 +1,6 @@
 use Rattle.std.proofs.Common.{refl}
 use Rattle.h5_model.specs.declared.edits.Edit.TheVariants.{HardLink}
 use Rattle.h5_edit.proofs.RuleLaws.Exits.{passed_on}
-use Rattle.h5_query.specs.Opened.State.{opened_state}
 use Rattle.h5_edit.proofs.Fitting.{link_fits}
 use Rattle.h5_edit.proofs.Refusals.{by_rule}
 use Rattle.h5_edit.proofs.links.new_hard_link.Goals as goal
@@ -9,7 +8,7 @@ use Rattle.h5_edit.proofs.links.new_hard_link.Goals as goal
 pub returns-in_err-number : goal.returns-in_err-number
 returns-in_err-number c =
     passed_on _ _ c.from_residual.result _ c.from_residual.ensures.1
-    (by_rule (opened_state c.args.image.now.bytes c.args.opened.now.objects.items) (HardLink c.args.target.now c.args.path.now) refl _ c.in_err-number.ensures)
+    (by_rule c.requires (HardLink c.args.target.now c.args.path.now) refl _ c.in_err-number.ensures)
 
 pub carry_out-requires-clause-edit : goal.carry_out-requires-clause-edit
 carry_out-requires-clause-edit c = (HardLink c.args.target.now c.args.path.now, rw c.link_at-change.ensures (link_fits c.requires c.in_ok-number.ensures))

@@ -1,7 +1,6 @@
 use Rattle.std.proofs.Common.{refl}
 use Rattle.h5_model.specs.declared.edits.Edit.TheVariants.{SoftLink}
 use Rattle.h5_edit.proofs.RuleLaws.Exits.{passed_on}
-use Rattle.h5_query.specs.Opened.State.{opened_state}
 use Rattle.h5_edit.proofs.Fitting.{text_fits}
 use Rattle.h5_edit.proofs.Refusals.{by_rule}
 use Rattle.h5_edit.proofs.links.new_soft_link.Goals as goal
@@ -9,7 +8,7 @@ use Rattle.h5_edit.proofs.links.new_soft_link.Goals as goal
 pub returns-in_err-place : goal.returns-in_err-place
 returns-in_err-place c =
     passed_on _ _ c.from_residual.result _ c.from_residual.ensures.1
-    (by_rule (opened_state c.args.image.now.bytes c.args.opened.now.objects.items) (SoftLink c.args.text.now c.args.path.now) refl _ c.in_err-place.ensures)
+    (by_rule c.requires (SoftLink c.args.text.now c.args.path.now) refl _ c.in_err-place.ensures)
 
 pub carry_out-requires-clause-edit : goal.carry_out-requires-clause-edit
 carry_out-requires-clause-edit c = (SoftLink c.args.text.now c.args.path.now, rw c.link_at-change.ensures (text_fits c.requires c.args.text c.in_ok-place.ensures))
