@@ -14,6 +14,7 @@ pub mod ArrayReadLaws
 pub mod GroupReadLaws
 pub mod IndexLaws
 pub mod WholeLaws
+pub mod CarriedLaws
 pub mod DepthLaws
 pub mod OpenedLaws
 pub mod PlacedLaws

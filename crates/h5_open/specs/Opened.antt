@@ -1,4 +1,5 @@
 pub mod Array
+pub mod Carried
 pub mod Headers
 pub mod Judged
 pub mod Kept

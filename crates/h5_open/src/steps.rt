@@ -5,6 +5,7 @@ ghost use Rattle.std.specs.List.{Contains};
 ghost use Rattle.h5_model.specs.Format.Superblock.{IsSuperblock, end_of_file};
 ghost use Rattle.h5_group.specs.Links.{link_from};
 ghost use Rattle.h5_header.specs.Walk.Walked.{IsWalked};
+ghost use Rattle.h5_open.specs.Opened.Carried.{IsReadable};
 ghost use Rattle.h5_open.specs.Opened.Kept.{IsOpened};
 ghost use Rattle.h5_open.specs.Opened.NotYet.{IsRefusedAt};
 ghost use Rattle.h5_open.specs.Opened.Objects.{headers};
@@ -30,7 +31,7 @@ use std::collections::BTreeMap;
 /// symbol nodes and names, or of its array's cells; `TooDeep` at a symbol node with a link 65 links below the root;
 /// `GroupLinkedTwice` at the header of a group to which a second link leads; and when all objects are read, of the headers'
 /// reference counts, by the objects' numbers. `NotYet` answers, at its header, an array that has not one dimension or is not in one
-/// block. `NoMemory` where memory is refused.
+/// block. `NoMemory` where memory is refused, and that alone of an image that reads as a tree of arrays that are opened.
 ///
 /// That the image begins with a superblock, and ends where that says, are the caller's conditions. Each block is looked at
 /// once; memory is taken for the messages and symbol nodes that stand in claimed blocks, and for a reference to each link of the
@@ -40,6 +41,7 @@ pub fn walk(alloc: Global, image: &Image) -> Result<Opened, OpenFault>
     requires whole { end_of_file image.now.bytes ≡ length image.now.bytes }
     ensures kept { IfOk result (λ o. IsOpened image.now.bytes o.objects.items o.numbers) }
     ensures refused { IfErr result (λ fault. IsRefusedAt image.now.bytes fault.cause fault.address) }
+    ensures only { IfErr result (λ fault. IsReadable image.now.bytes → fault.cause ≡ Cause.NoMemory) }
 {
     let mut claims = claim_superblock(alloc, image)?;
     let mut opened = Opened {

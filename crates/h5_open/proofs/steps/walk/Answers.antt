@@ -1,6 +1,7 @@
 use Rattle.std.proofs.Common.{◌≡◌, [], rules}
 use Rattle.std.proofs.lemmas.Result.{err_from_is_err_and}
 use Rattle.h5_model.specs.Format.Superblock.{root_header}
+use Rattle.h5_open.proofs.CarriedLaws.{only_memory, fault_only_memory}
 use Rattle.h5_open.proofs.WholeLaws.{none_numbered, ready_at, whole_at, opened}
 use Rattle.h5_open.proofs.steps.walk.Goals as goal
 
@@ -30,3 +31,15 @@ returns-clause-kept c =
     (c.in_ok-read_tree.ensures.read [] 64
     (ready_at c.args.image.now.bytes c.in_ok-claims.claims.held c.new.result.items c.root_header-header.result c.requires.superblock c.in_ok-claims.ensures.walked c.in_ok-claims.ensures.separate c.new.ensures.items at)) in
     opened c.args.image.now.bytes c.read_tree.new.opened.objects.items c.read_tree.new.opened.numbers all c.in_ok-read_tree.ensures.index.index c.in_ok-check_counts.ensures.reads
+
+pub returns-in_err-read_tree-clause-only : goal.returns-in_err-read_tree-clause-only
+returns-in_err-read_tree-clause-only c =
+    let p = err_from_is_err_and c.from_residual-in_err-read_tree.result c.from_residual-in_err-read_tree.ensures.1 in
+    let at : c.root_header-header.result ≡ root_header c.args.image.now.bytes = search rules in
+    rw (p.1, p.2) (only_memory c.args.image.now.bytes _ _ (c.in_err-read_tree.ensures.refused [] 64
+    (ready_at c.args.image.now.bytes c.in_ok-claims.claims.held c.new.result.items c.root_header-header.result c.requires.superblock c.in_ok-claims.ensures.walked c.in_ok-claims.ensures.separate c.new.ensures.items at)))
+
+pub returns-in_err-check_counts-clause-only : goal.returns-in_err-check_counts-clause-only
+returns-in_err-check_counts-clause-only c =
+    let p = err_from_is_err_and c.from_residual-in_err-check_counts.result c.from_residual-in_err-check_counts.ensures.1 in
+    rw (p.1, p.2) (fault_only_memory c.args.image.now.bytes _ _ c.in_err-check_counts.ensures.refused)
