@@ -6,11 +6,13 @@ use Rattle.std.specs.FinMap.{FinMap}
 use Rattle.h5_model.specs.Format.Reads.{Reads}
 use Rattle.h5_model.specs.Tree.Objects.{Tree, Dataset, Contiguous, dataset_of}
 
+-- the array is one that is read so far
 pub record IsCarried (d : Dataset) : Type 0 where
   pub line : length d.sizes ≡ 1
   pub stored : Bool
   pub contiguous : d.storage ≡ Contiguous stored
 
+-- and so is each of the tree
 abbrev pub AreCarried : Tree → Type 0
 AreCarried tree = (number : ℕ) (d : Dataset) → dataset_of tree number ≡ Some d → IsCarried d
 
