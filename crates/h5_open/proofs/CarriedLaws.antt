@@ -20,7 +20,7 @@ use Rattle.h5_laws.proofs.Breaches.{header_known}
 use Rattle.h5_laws.proofs.Excluded.{reached_excluded}
 use Rattle.h5_group.specs.Nodes.Walk.{IsFault}
 use Rattle.h5_open.specs.Opened.NotYet.{IsNoLine, IsLater, IsRefusedAt}
-use Rattle.h5_open.specs.Opened.Carried.{IsCarried, AreCarried, IsReadable}
+use Rattle.h5_open.specs.Opened.Carried.{IsCarried, AreCarried, ReadsCarried}
 
 in_block : (sizes : List ℕ) (layout : Layout) (stored : Bool) → storage_of sizes layout ≡ Contiguous stored → (b : Option Block) × (layout ≡ InBlock b)
 in_block sizes (InMessage bytes) stored e = absurd (cc)
@@ -66,12 +66,12 @@ module _ (image : List ℕ) (table : FinMap nat_cmp ℕ) (tree : Tree) (placed :
   not_later x reached _ is h = absurd h
 
 -- a breach is of bytes that read as no tree
-fault_alone : (image : List ℕ) (cause c : Cause) (address : ℕ) → cause ≡ c → IsFault image c address → IsReadable image → c ≡ NoMemory
+fault_alone : (image : List ℕ) (cause c : Cause) (address : ℕ) → cause ≡ c → IsFault image c address → ReadsCarried image → c ≡ NoMemory
 fault_alone image cause NoMemory address e h r = refl
 fault_alone image cause _ address e h (table, tree, (placed, reads), carried) =
     absurd (reached_excluded image table tree placed reads h.0 h.1 cause (rw e h.3))
 
-memory_alone : (image : List ℕ) (cause c : Cause) (address : ℕ) → cause ≡ c → IsRefusedAt image c address → IsReadable image → c ≡ NoMemory
+memory_alone : (image : List ℕ) (cause c : Cause) (address : ℕ) → cause ≡ c → IsRefusedAt image c address → ReadsCarried image → c ≡ NoMemory
 memory_alone image cause NoMemory address e h r = refl
 memory_alone image cause NotYet address e (x, reached, at, later) (table, tree, (placed, reads), carried) =
     absurd (not_later image table tree placed reads carried x reached x.role refl later)
@@ -79,8 +79,8 @@ memory_alone image cause _ address e h (table, tree, (placed, reads), carried) =
     absurd (reached_excluded image table tree placed reads h.0 h.1 cause (rw e h.3))
 
 -- so such an image is refused for want of memory alone, whatever step of opening refuses it
-pub only_memory : (image : List ℕ) (cause : Cause) (address : ℕ) → IsRefusedAt image cause address → IsReadable image → cause ≡ NoMemory
+pub only_memory : (image : List ℕ) (cause : Cause) (address : ℕ) → IsRefusedAt image cause address → ReadsCarried image → cause ≡ NoMemory
 only_memory image cause address h r = memory_alone image cause cause address refl h r
 
-pub fault_only_memory : (image : List ℕ) (cause : Cause) (address : ℕ) → IsFault image cause address → IsReadable image → cause ≡ NoMemory
+pub fault_only_memory : (image : List ℕ) (cause : Cause) (address : ℕ) → IsFault image cause address → ReadsCarried image → cause ≡ NoMemory
 fault_only_memory image cause address h r = fault_alone image cause cause address refl h r

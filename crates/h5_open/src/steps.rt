@@ -5,7 +5,7 @@ ghost use Rattle.std.specs.List.{Contains};
 ghost use Rattle.h5_model.specs.Format.Superblock.{IsSuperblock, end_of_file};
 ghost use Rattle.h5_group.specs.Links.{link_from};
 ghost use Rattle.h5_header.specs.Walk.Walked.{IsWalked};
-ghost use Rattle.h5_open.specs.Opened.Carried.{IsReadable};
+ghost use Rattle.h5_open.specs.Opened.Carried.{ReadsCarried};
 ghost use Rattle.h5_open.specs.Opened.Kept.{IsOpened};
 ghost use Rattle.h5_open.specs.Opened.NotYet.{IsRefusedAt};
 ghost use Rattle.h5_open.specs.Opened.Objects.{headers};
@@ -41,7 +41,7 @@ pub fn walk(alloc: Global, image: &Image) -> Result<Opened, OpenFault>
     requires whole { end_of_file image.now.bytes ≡ length image.now.bytes }
     ensures kept { IfOk result (λ o. IsOpened image.now.bytes o.objects.items o.numbers) }
     ensures refused { IfErr result (λ fault. IsRefusedAt image.now.bytes fault.cause fault.address) }
-    ensures only { IfErr result (λ fault. IsReadable image.now.bytes → fault.cause ≡ Cause.NoMemory) }
+    ensures only { IfErr result (λ fault. ReadsCarried image.now.bytes → fault.cause ≡ Cause.NoMemory) }
 {
     let mut claims = claim_superblock(alloc, image)?;
     let mut opened = Opened {

@@ -17,5 +17,5 @@ abbrev pub AreCarried : Tree → Type 0
 AreCarried tree = (number : ℕ) (d : Dataset) → dataset_of tree number ≡ Some d → IsCarried d
 
 -- the image reads as a tree whose arrays are all carried
-abbrev pub IsReadable : List ℕ → Type 0
-IsReadable image = (table : FinMap nat_cmp ℕ) × (tree : Tree) × Reads image table tree × AreCarried tree
+abbrev pub ReadsCarried : List ℕ → Type 0
+ReadsCarried image = (table : FinMap nat_cmp ℕ) × (tree : Tree) × Reads image table tree × AreCarried tree
