@@ -55,8 +55,7 @@ module _ (image : List ℕ) (leaf k root heap : ℕ) (links : List (List ℕ × 
 
   pub links_low : 1 ≤ k → root_level k (rows_of (2 * leaf) (length links)) ≤ 15
   links_low some_k =
-      let level = level_read image k root has.level has.owned has.symbol_nodes some_k has.tree (rows_of (2 * leaf) (length links))
-      (rows_fit (2 * leaf) (length links) (length has.symbol_nodes) (omega arith) links_few) in
+      let level = level_read image k root has.level has.owned has.symbol_nodes some_k has.tree (rows_of (2 * leaf) (length links)) (rows_fit (2 * leaf) (length links) (length has.symbol_nodes) (omega arith) links_few) in
       let low = (has.tree).low in
       omega (arith, level, low)
 
@@ -65,8 +64,7 @@ module _ (image : List ℕ) (leaf k root heap : ℕ) (links : List (List ℕ × 
 group_low : (image : List ℕ) (table : FinMap nat_cmp ℕ) (tree : Tree) (placed : List Placed) → ReadsAs image table tree placed → AreLow (leaf_k image) (internal_k image) tree
 group_low image table tree placed reads number links is =
     let g = group_of tree number links is in
-    let there : In (number, g.0.object) (map (λ (x : Placed). (x.number, x.object)) placed) =
-    subst (In (number, g.0.object)) reads.holds.objects (entry_of_get tree number g.0.object g.0.stands) in
+    let there : In (number, g.0.object) (map (λ (x : Placed). (x.number, x.object)) placed) = subst (In (number, g.0.object)) reads.holds.objects (entry_of_get tree number g.0.object g.0.stands) in
     let by = from_map (λ (x : Placed). (x.number, x.object)) (number, g.0.object) placed there in
     let x = by.0 in
     let has : HasObject image table x.header x.object x.blocks = in_all (IsPlaced image table) x placed reads.holds.each by.1 in
