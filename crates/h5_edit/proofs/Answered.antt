@@ -7,7 +7,7 @@ use Rattle.std.specs.BTreeMap.{BTreeMap}
 use Rattle.std.specs.FinMap.{FinMap, len}
 use Rattle.h5_edit.specs.Changed.Change.{IsPlainChange, changed}
 use Rattle.h5_edit.specs.declared.change.change.Change.{Change}
-use Rattle.h5_edit.specs.Fits.Laws.{AreBytes, is_full, is_plain_edit}
+use Rattle.h5_edit.specs.Fits.Laws.{AreBytes, is_full}
 use Rattle.h5_edit.proofs.FitLaws.EditedTrees.{edited_plain}
 use Rattle.h5_edit.proofs.FitLaws.OpenedTrees.{opened_plain}
 use Rattle.h5_repack.specs.Image.Plain.{ArePlain, AreLow, IsPlainTree}
@@ -19,13 +19,12 @@ use Rattle.h5_model.specs.Format.Reads.{Placed}
 use Rattle.h5_model.specs.Format.Superblock.{IsSuperblock, leaf_k, internal_k, chunk_k, AreK}
 use Rattle.h5_model.specs.Tree.Objects.{Tree}
 use Rattle.h5_model.specs.declared.edits.Edit.{Edit}
-use Rattle.h5_model.specs.declared.edits.Edit.TheVariants.{CreateDataset, SetAttr}
+use Rattle.h5_model.specs.declared.edits.Edit.TheVariants.{SetAttr}
 use Rattle.h5_model.specs.declared.object_no.ObjectNo.{ObjectNo}
 use Rattle.h5_query.specs.Renumbered.Headers.{table_with}
 use Rattle.h5_repack.specs.Bodies.Laws.{IsPlainReading}
-use Rattle.h5_laws.specs.Trees.Laws.{keeps_links}
 use Rattle.h5_laws.specs.Trees.Sound.{IsSoundTree}
-use Rattle.h5_laws.proofs.SoundLaws.Applied.{applied_sound}
+use Rattle.h5_laws.proofs.SoundLaws.Applied.{sound_applied}
 use Rattle.h5_laws.proofs.SoundLaws.Read.{reads_sound}
 use Rattle.h5_query.specs.Opened.Kept.{IsOpened}
 use Rattle.h5_query.specs.Opened.Objects.{table_of, tree_of}
@@ -39,6 +38,7 @@ use Rattle.h5_edit.specs.Answers.{answer_to, fault_of}
 use Rattle.h5_edit.specs.Carried.{is_header_full, is_too_long, IsRefused}
 use Rattle.h5_edit.specs.Fitting.{IsFitting, made_in}
 use Rattle.h5_edit.specs.Made.{IsMade}
+use Rattle.h5_edit.proofs.CarriedLaws.{carried_after}
 use Rattle.h5_edit.proofs.Changes.{next_free, len_tree, len_changed}
 use Rattle.h5_repack.proofs.ImageLaws.PlainImages.{plain_reads}
 use Rattle.h5_edit.proofs.Numbered.{numbered_map, len_numbered, len_alike}
@@ -78,10 +78,6 @@ module _ (leaf internal : ℕ) (tree : Tree) (k : AreK leaf internal) (sound : I
 
 -- ---- edits
 
-keeps : (edit : Edit) → is_plain_edit edit ≡ true → keeps_links edit ≡ true
-keeps (CreateDataset path spec) plain = refl
-keeps _ plain = cc
-
 same_full : (image : List ℕ) (objects : List OpenedObject) (edit : Edit) → is_header_full (opened_state image objects) edit ≡ is_full image objects edit
 same_full image objects (SetAttr path attr) = refl
 same_full image objects _ = refl
@@ -103,7 +99,7 @@ module _ {image : List ℕ} {objects : List OpenedObject} {numbers : BTreeMap �
   pub sound_change : IsSoundTree after
   sound_change =
       subst IsSoundTree fitting.gives
-      (applied_sound f.tree f.next f.next edit (reads_sound image (table_of objects) (tree_of image objects) opened.reads) (next_free image objects) (keeps edit fitting.carried) fitting.accepted)
+      (sound_applied f.tree f.next f.next edit (reads_sound image (table_of objects) (tree_of image objects) opened.reads) (next_free image objects) fitting.accepted)
 
   plain_after : AreBytes image → ArePlain after
   plain_after low =
@@ -148,6 +144,7 @@ module _ {image : List ℕ} {objects : List OpenedObject} {numbers : BTreeMap �
           subst (AreLow leaf internal) (sym fitting.gives) is.low,
         );
       };
+      carried = carried_after image objects numbers opened edit fitting.carried;
       anew = record {
         reads = subst (λ (t : Tree). IsPlainReading w.image.items leaf internal (table_with w.headers.items) t) (sym fitting.gives)
             (read_as leaf internal after k sound_change (plain_after low) w is);

@@ -12,7 +12,7 @@ use Rattle.h5_model.specs.Edits.Applied.{new_object, new_dataset, with_links, wi
 use Rattle.h5_model.specs.Tree.Objects.{Tree, Object, Group, Array, ToObject, Soft, with_object}
 use Rattle.h5_edit.specs.Changed.Change.{changed}
 use Rattle.h5_edit.specs.declared.change.change.Change.{Change}
-use Rattle.h5_edit.specs.declared.change.change.Change.TheVariants.{Link as Linked, Set, Remove}
+use Rattle.h5_edit.specs.declared.change.change.Change.TheVariants.{Link as Linked, SetAttr as Set, RemoveAttr as Remove}
 use Rattle.h5_edit.specs.declared.change.change.Target.{Target}
 use Rattle.h5_edit.specs.declared.change.change.Target.TheVariants as target
 use Rattle.h5_repack.specs.Objects.Objects.{AreObjects, IsNewObject}

@@ -9,7 +9,7 @@ use Rattle.std.specs.BTreeMap.{BTreeMap}
 use Rattle.std.specs.FinMap.{get, insert, remove, empty}
 use Rattle.std.specs.Option.{option_and_then, option_map_or}
 use Rattle.h5_edit.specs.Changed.Change.{with_link, changed}
-use Rattle.h5_edit.specs.declared.change.change.Change.TheVariants.{Link as Linked, Set, Remove}
+use Rattle.h5_edit.specs.declared.change.change.Change.TheVariants.{Link as Linked, SetAttr as Set, RemoveAttr as Remove}
 use Rattle.h5_edit.specs.declared.change.change.Target.TheVariants as target
 use Rattle.h5_header.specs.Listed.{message_in}
 use Rattle.h5_model.specs.Edits.Applied.{applied, linked, new_object, new_dataset, with_links, with_attributes, attribute_from}
@@ -62,10 +62,10 @@ module _ {image : List ℕ} {objects : List OpenedObject} {numbers : BTreeMap �
         let name : f.name ≡ place.name.now = ap (λ (p : ℕ × List ℕ). p.1) same in
         (f.group.links, ap (links_of tree) (sym parent) ∙ links_are tree f.parent f.group, ap (get f.group.links) (sym name) ∙ f.free)
 
-  pub group_fits : {path : List ℕ} {place : NewPlace} {object : ObjectNo} → IsPlaced tree next path (CreateGroup path) place → object.0 ≡ next
+  pub create_group_fits : {path : List ℕ} {place : NewPlace} {object : ObjectNo} → IsPlaced tree next path (CreateGroup path) place → object.0 ≡ next
       → IsFitting image objects (CreateGroup path) (Linked place.parent place.name target.Group) (Some object)
   unfolding applied changed
-  group_fits placed numbered = record {
+  create_group_fits placed numbered = record {
     typed = tt;
     carried = refl;
     accepted = placed.allowed;
@@ -76,11 +76,11 @@ module _ {image : List ℕ} {objects : List OpenedObject} {numbers : BTreeMap �
     named = ap (λ n. Some n) numbered;
   }
 
-  pub array_fits : {path : List ℕ} {place : NewPlace} {object : ObjectNo} (spec : Bor Spec) → IsFixed (spec.now).fixed → is_line spec.now ≡ true
+  pub create_dataset_fits : {path : List ℕ} {place : NewPlace} {object : ObjectNo} (spec : Bor Spec) → IsFixed (spec.now).fixed → is_line spec.now ≡ true
       → IsPlaced tree next path (CreateDataset path spec.now) place → object.0 ≡ next
       → IsFitting image objects (CreateDataset path spec.now) (Linked place.parent place.name (target.Array spec)) (Some object)
   unfolding applied changed
-  array_fits spec typed line placed numbered = record {
+  create_dataset_fits spec typed line placed numbered = record {
     typed = typed;
     carried = line;
     accepted = placed.allowed;
@@ -91,10 +91,10 @@ module _ {image : List ℕ} {objects : List OpenedObject} {numbers : BTreeMap �
     named = ap (λ n. Some n) numbered;
   }
 
-  pub link_fits : {path old : List ℕ} {number : ℕ} {place : NewPlace} → IsLinkPlaced tree next old path (HardLink old path) (number, place)
+  pub hard_link_fits : {path old : List ℕ} {number : ℕ} {place : NewPlace} → IsLinkPlaced tree next old path (HardLink old path) (number, place)
       → IsFitting image objects (HardLink old path) (Linked place.parent place.name (target.Object number)) (Some (record { 0 = number }))
   unfolding applied changed
-  link_fits {path = path} {number = number} placed = record {
+  hard_link_fits {path = path} {number = number} placed = record {
     typed = tt;
     carried = refl;
     accepted = (placed.1).allowed;
@@ -105,10 +105,10 @@ module _ {image : List ℕ} {objects : List OpenedObject} {numbers : BTreeMap �
     named = sym placed.0;
   }
 
-  pub text_fits : {path : List ℕ} {place : NewPlace} (text : Bor (List ℕ)) → IsPlaced tree next path (SoftLink text.now path) place
+  pub soft_link_fits : {path : List ℕ} {place : NewPlace} (text : Bor (List ℕ)) → IsPlaced tree next path (SoftLink text.now path) place
       → IsFitting image objects (SoftLink text.now path) (Linked place.parent place.name (target.Text text)) None
   unfolding applied changed
-  text_fits text placed = record {
+  soft_link_fits text placed = record {
     typed = tt;
     carried = refl;
     accepted = placed.allowed;
@@ -143,11 +143,11 @@ module _ {image : List ℕ} {objects : List OpenedObject} {numbers : BTreeMap �
       → 65535 < length o.messages.list + 2 → is_header_full (opened_state image objects) (SetAttr path attr) ≡ true
   full_here path attr number o at is many = full_at path attr number o at is ∙ grind (arith, nat_tests)
 
-  pub set_fits : {path : List ℕ} {number : ℕ} (attr : Bor AttrSpec) (o : OpenedObject) → IsFixed (attr.now).fixed → IsAt tree next path (SetAttr path attr.now) number
+  pub set_attr_fits : {path : List ℕ} {number : ℕ} (attr : Bor AttrSpec) (o : OpenedObject) → IsFixed (attr.now).fixed → IsAt tree next path (SetAttr path attr.now) number
       → o ≡ slice_index_or objects number o → length o.messages.list + 2 ≤ 65535
       → IsFitting image objects (SetAttr path attr.now) (Set number attr) (Some (record { 0 = number }))
   unfolding applied changed
-  set_fits {path = path} {number = number} attr o typed at is few = record {
+  set_attr_fits {path = path} {number = number} attr o typed at is few = record {
     typed = typed;
     carried = refl;
     accepted = at.allowed;
@@ -158,10 +158,10 @@ module _ {image : List ℕ} {objects : List OpenedObject} {numbers : BTreeMap �
     named = sym at.object;
   }
 
-  pub removal_fits : {path : List ℕ} {number : ℕ} (name : Bor (List ℕ)) → IsAt tree next path (RemoveAttr path name.now) number
+  pub remove_attr_fits : {path : List ℕ} {number : ℕ} (name : Bor (List ℕ)) → IsAt tree next path (RemoveAttr path name.now) number
       → IsFitting image objects (RemoveAttr path name.now) (Remove number name) (Some (record { 0 = number }))
   unfolding applied changed
-  removal_fits {path = path} {number = number} name at = record {
+  remove_attr_fits {path = path} {number = number} name at = record {
     typed = tt;
     carried = refl;
     accepted = at.allowed;

@@ -7,6 +7,7 @@ use Rattle.h5_model.specs.Edits.Refusal.{refusal_of}
 use Rattle.h5_model.specs.Format.Superblock.{leaf_k, internal_k}
 use Rattle.h5_model.specs.Tree.Objects.{Tree}
 use Rattle.h5_model.specs.declared.edits.Edit.{Edit}
+use Rattle.h5_query.specs.Opened.Carried.{AreCarried}
 use Rattle.h5_query.specs.Opened.State.{FileState, state_of}
 use Rattle.h5_repack.specs.Bodies.Laws.{IsPlainReading}
 use Rattle.h5_query.specs.Renumbered.Headers.{table_with}
@@ -24,7 +25,9 @@ pub record IsAccepted (f : FileState) (edit : Edit) : Type 0 where
   pub accepted : refusal_of f.tree f.next edit ≡ None
   pub given : IsGivenFor f edit None
 
+-- the image of the tree, whose arrays are all opened
 pub record IsMade (f : FileState) (edit : Edit) (made : Made) : Type 0 where
   pub accepted : IsAccepted f edit
+  pub carried : AreCarried (tree_after f edit)
   pub anew : IsAnew f (tree_after f edit) (state_after (state_of f) edit).next made.image.items made.headers.items
   pub object : option_map (λ o. o.0) made.object ≡ named_object f.tree edit f.next

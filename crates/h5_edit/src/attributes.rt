@@ -10,7 +10,7 @@ ghost use Rattle.h5_edit.specs.Made.{IsMade};
 use crate::anew::carry_out;
 use crate::change::Change;
 use crate::made::Made;
-use crate::rules::{check_attribute, check_removal};
+use crate::rules::{check_remove_attr, check_set_attr};
 use h5_model::{AttrSpec, EditFault, ObjectNo};
 use h5_query::Opened;
 use h5_space::Image;
@@ -25,7 +25,7 @@ const MAX_MESSAGES: usize = 65535;
 /// bytes, `BadSpec` where the name is empty or has a zero byte, or the rank is above 32, `TooManyCells`, `ValueCount`, `ValueRange`,
 /// `AttributeTooLarge` where the message's body would pass 65528 bytes, `HeaderFull` where the header's total of messages plus 2 passes
 /// 65535, `ImageFull` where the image would pass 2147483648 bytes, `NoMemory`.
-pub fn set_attribute(
+pub fn set_attr(
     alloc: Global,
     image: &Image,
     opened: &Opened,
@@ -36,14 +36,14 @@ pub fn set_attribute(
     ensures { let f = opened_state image.now.bytes opened.now.objects.items in
         MatchResult result (IsMade f (SetAttr path.now attr.now)) (IsRefused f (SetAttr path.now attr.now)) }
 {
-    let number = check_attribute(alloc, image, opened, path, attr)?;
+    let number = check_set_attr(alloc, image, opened, path, attr)?;
     // A Continuation may come with the message.
     if opened.objects[number as usize].messages.list().len() + 2 > MAX_MESSAGES {
         return Err(EditFault::HeaderFull);
     }
     // The call's contract says that the type is a sound one.
     let _size = attr.fixed.size();
-    let change = Change::Set {
+    let change = Change::SetAttr {
         object: number,
         attr,
     };
@@ -54,7 +54,7 @@ pub fn set_attribute(
 ///
 /// Refused by the lowest number that holds: `BadPath`, `PathTooDeep`, `NoSuchParent`, `NotAGroup`, `NotFound`, `NoSuchAttribute`, `ImageFull`
 /// where the image would pass 2147483648 bytes, `NoMemory`.
-pub fn remove_attribute(
+pub fn remove_attr(
     alloc: Global,
     image: &Image,
     opened: &Opened,
@@ -66,8 +66,8 @@ pub fn remove_attribute(
         MatchResult result (IsMade f (RemoveAttr path.now name.now))
         (IsRefused f (RemoveAttr path.now name.now)) }
 {
-    let number = check_removal(image, opened, path, name)?;
-    let change = Change::Remove {
+    let number = check_remove_attr(image, opened, path, name)?;
+    let change = Change::RemoveAttr {
         object: number,
         name,
     };

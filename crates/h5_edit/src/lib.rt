@@ -11,12 +11,12 @@ mod links;
 mod made;
 mod rules;
 
-pub use attributes::{remove_attribute, set_attribute};
+pub use attributes::{remove_attr, set_attr};
 pub use h5_query::{
     ArrayCells, AttrRef, Dims, Found, Kind, Link, LinkTo, MAX_DEPTH, Opened, StoreKind, array_of,
     attributes_at, found_at, kind_at, links_of, names_at, names_of_attributes, number_at,
     one_attribute, one_cell, renumber, walk,
 };
 pub use h5_repack::empty_image;
-pub use links::{new_array, new_group, new_hard_link, new_soft_link};
+pub use links::{create_dataset, create_group, hard_link, soft_link};
 pub use made::Made;

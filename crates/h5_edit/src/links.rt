@@ -12,7 +12,8 @@ use crate::anew::carry_out;
 use crate::change::{Change, Target};
 use crate::made::Made;
 use crate::rules::{
-    NewPlace, check_array, check_group, check_hard_link, check_soft_link, is_one_line,
+    NewPlace, check_create_dataset, check_create_group, check_hard_link, check_soft_link,
+    is_one_line,
 };
 use h5_model::{EditFault, ObjectNo, Spec};
 use h5_query::Opened;
@@ -24,7 +25,7 @@ use std::alloc::Global;
 /// Refused by the lowest number that holds: `BadPath`, `PathTooDeep`, `IsRoot`, `NoSuchParent`, `NotAGroup`, `AlreadyThere`, `NameTooLong`,
 /// `TooManyObjects`, `TreeTooDeep` where the tree of the group that takes the link would have more than 16 levels, `ImageFull` where the
 /// image would pass 2147483648 bytes, `NoMemory`.
-pub fn new_group(
+pub fn create_group(
     alloc: Global,
     image: &Image,
     opened: &Opened,
@@ -34,7 +35,7 @@ pub fn new_group(
     ensures { let f = opened_state image.now.bytes opened.now.objects.items in
         MatchResult result (IsMade f (CreateGroup path.now)) (IsRefused f (CreateGroup path.now)) }
 {
-    let place = check_group(image, opened, path)?;
+    let place = check_create_group(image, opened, path)?;
     let change = link_at(place, Target::Group);
     carry_out(alloc, image, opened, &change, Some(next_object(opened)))
 }
@@ -44,7 +45,7 @@ pub fn new_group(
 /// Refused as `NotYet`, before any other check, unless the array is contiguous and of one size. Else by the lowest number that holds:
 /// `BadPath`, `PathTooDeep`, `IsRoot`, `NoSuchParent`, `NotAGroup`, `AlreadyThere`, `NameTooLong`, `BadSpec`, `TooManyCells`, `ValueRange`,
 /// `TooManyObjects`, `TreeTooDeep`, `ImageFull`, `NoMemory`.
-pub fn new_array(
+pub fn create_dataset(
     alloc: Global,
     image: &Image,
     opened: &Opened,
@@ -59,7 +60,7 @@ pub fn new_array(
     if !is_one_line(spec) {
         return Err(EditFault::NotYet);
     }
-    let place = check_array(image, opened, path, spec)?;
+    let place = check_create_dataset(image, opened, path, spec)?;
     // The call's contract says that the type is a sound one.
     let _size = spec.fixed.size();
     let change = link_at(place, Target::Array(spec));
@@ -70,7 +71,7 @@ pub fn new_array(
 ///
 /// Refused by the lowest number that holds: `BadPath`, `PathTooDeep`, `IsRoot`, `NoSuchParent`, `NotAGroup`, `NotFound`, `AlreadyThere`,
 /// `NameTooLong`, `GroupLink` where a group stands at `target`, `TooManyLinks`, `TreeTooDeep`, `ImageFull`, `NoMemory`.
-pub fn new_hard_link(
+pub fn hard_link(
     alloc: Global,
     image: &Image,
     opened: &Opened,
@@ -91,7 +92,7 @@ pub fn new_hard_link(
 ///
 /// Refused by the lowest number that holds: `BadPath`, `PathTooDeep`, `IsRoot`, `NoSuchParent`, `NotAGroup`, `AlreadyThere`, `NameTooLong`,
 /// `TreeTooDeep`, `ImageFull`, `NoMemory`.
-pub fn new_soft_link(
+pub fn soft_link(
     alloc: Global,
     image: &Image,
     opened: &Opened,

@@ -8,6 +8,7 @@ use Rattle.h5_model.specs.declared.edits.Edit.{Edit}
 use Rattle.h5_model.specs.declared.edits.Edited.{Edited}
 use Rattle.h5_model.specs.declared.edit_fault.EditFault.TheVariants as fault
 use Rattle.h5_edit.specs.OpenedObjectType.{OpenedObject}
+use Rattle.h5_edit.specs.Opened.Carried.{ReadsCarried}
 use Rattle.h5_edit.specs.Opened.Kept.{IsOpened}
 use Rattle.h5_edit.specs.Opened.Objects.{headers, table_of, tree_of}
 use Rattle.h5_edit.specs.Opened.State.{FileState, state_of, opened_state}
@@ -37,6 +38,10 @@ module _ (f : FileState) (edit : Edit) (made : Made) (is : IsMade f edit made) w
   -- it reads as a tree whose objects have these headers
   pub made_read : IsReadAt image made.headers.items
   made_read = (tree_after f edit, made_reads)
+
+  -- and that tree has no array that is not opened
+  pub made_carried : ReadsCarried image
+  made_carried = (table_with made.headers.items, tree_after f edit, made_reads, is.carried)
 
   -- want of memory is always a refusal of an edit that is carried
   pub not_taken : IsRefused f edit fault.NoMemory

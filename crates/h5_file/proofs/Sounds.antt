@@ -1,11 +1,13 @@
 -- What is kept of an image tells a sound file, and the empty file.
 use Rattle.std.proofs.Common.{◌≡◌, inl, inr, ℕ, List, [], ◌∷◌, length, refl, sym, ap, ◌∙◌, subst, arith}
 use Rattle.std.specs.BTreeMap.{BTreeMap}
+use Rattle.std.specs.FinMap.{len}
 use Rattle.h5_model.specs.Format.Empty.{empty_file, root_table, root_tree}
 use Rattle.h5_model.specs.Format.Reads.{Reads}
 use Rattle.h5_model.specs.Format.Superblock.{IsSuperblock, end_of_file}
 use Rattle.h5_laws.proofs.Lists.{In}
 use Rattle.h5_edit.specs.OpenedObjectType.{OpenedObject}
+use Rattle.h5_edit.specs.Opened.Carried.{ReadsCarried}
 use Rattle.h5_edit.specs.Opened.Kept.{IsOpened}
 use Rattle.h5_edit.specs.Opened.Objects.{headers, tree_of}
 use Rattle.h5_edit.specs.Opened.State.{opened_state}
@@ -14,10 +16,16 @@ use Rattle.h5_edit.specs.Renumbered.Headers.{table_with}
 use Rattle.h5_edit.proofs.RenumberedLaws.Renumbered.{table_at, length_at, tree_at}
 use Rattle.h5_edit.proofs.RenumberedLaws.SameHeaders.{same_headers, same_length}
 use Rattle.h5_file.specs.State.{IsSound, created_state}
+use Rattle.h5_edit.proofs.CarriedLaws.{root_carried}
+use Rattle.h5_edit.proofs.Changes.{len_tree}
 use Rattle.h5_edit.proofs.EmptyFile.{empty_reading}
 
 pub sound : (image : List ℕ) (objects : List OpenedObject) (numbers : BTreeMap ℕ ℕ) → IsOpened image objects numbers → IsSound (opened_state image objects)
 sound image objects numbers opened = record { reads = opened.reads; numbers = numbered image objects numbers opened }
+
+-- so many numbers are taken as there are objects
+pub counted : (image : List ℕ) (objects : List OpenedObject) → length objects ≡ len (tree_of image objects)
+counted image objects = sym (len_tree image objects)
 
 -- ---- the empty file
 
@@ -31,6 +39,10 @@ empty_end image same = subst (λ bytes. end_of_file bytes ≡ length bytes) (sym
 empty_alone : Reads empty_file (table_with (96 ∷ [])) root_tree
 unfolding root_table
 empty_alone = (empty_reading.placed, empty_reading.reads)
+
+-- and so it reads as a tree of arrays that are opened: it has none
+pub empty_carried : (image : List ℕ) → image ≡ empty_file → ReadsCarried image
+empty_carried image same = subst ReadsCarried (sym same) (table_with (96 ∷ []), root_tree, empty_alone, root_carried)
 
 only_one : (hs : List ℕ) → length hs ≡ 1 → ((h : ℕ) → In h hs → In h (96 ∷ [])) → hs ≡ 96 ∷ []
 only_one [] long there = absurd (omega (arith, long))

@@ -9,6 +9,7 @@ use Rattle.h5_model.specs.Tree.Objects.{Tree}
 use Rattle.h5_model.specs.declared.open_fault.OpenFault.{OpenFault}
 use Rattle.h5_model.specs.declared.open_fault.Cause.{Cause}
 use Rattle.h5_model.specs.declared.open_fault.Cause.TheVariants.{NoMemory, NotYet}
+use Rattle.h5_edit.specs.Opened.Carried.{ReadsCarried}
 use Rattle.h5_edit.specs.Opened.NotYet.{IsRefusedAt}
 
 -- Memory was short; or the superblock is sound, and a block that is reached is of a form that is not read yet; or the cause holds at
@@ -25,6 +26,6 @@ Refused bytes fault = RefusedBy bytes fault.cause fault.address
 abbrev pub IsReadable : List ℕ → Type 0
 IsReadable bytes = (table : FinMap nat_cmp ℕ) × (tree : Tree) × Reads (cut bytes) table tree
 
--- such bytes are refused for want of memory, or because their form is not read yet, alone
-abbrev pub IsNoBreach : Cause → Type 0
-IsNoBreach cause = (cause ≡ NoMemory) ⊎ (cause ≡ NotYet)
+-- such bytes are refused for want of memory alone, or as NotYet where an array of theirs is not opened yet
+abbrev pub IsNoBreach : List ℕ → Cause → Type 0
+IsNoBreach bytes cause = (cause ≡ NoMemory) ⊎ ((cause ≡ NotYet) × (ReadsCarried (cut bytes) → ⊥))

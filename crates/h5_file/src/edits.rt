@@ -7,10 +7,9 @@ ghost use Rattle.h5_edit.specs.Carried.{IsRefused};
 ghost use Rattle.h5_edit.specs.Made.{IsMade};
 ghost use Rattle.h5_file.specs.Edited.{IsEdited};
 
-use crate::file::File;
+use crate::file::{File, walk_written};
 use h5_edit::{
-    Made, new_array, new_group, new_hard_link, new_soft_link, remove_attribute, renumber,
-    set_attribute, walk,
+    Made, create_dataset, create_group, hard_link, remove_attr, renumber, set_attr, soft_link,
 };
 use h5_model::{AttrSpec, Edit, EditFault, Edited, Spec};
 use h5_space::Image;
@@ -45,7 +44,7 @@ impl File {
         ensures { MatchResult result (IsEdited self.old (CreateGroup path.now) self.new)
             (λ e. IsRefused self.old (CreateGroup path.now) e × (self.new ≡ self.old)) }
     {
-        let made = new_group(self.alloc, &self.image, &self.opened, path)?;
+        let made = create_group(self.alloc, &self.image, &self.opened, path)?;
         self.take(made)
     }
 
@@ -59,7 +58,7 @@ impl File {
         ensures { MatchResult result (IsEdited self.old (CreateDataset path.now spec.now) self.new)
             (λ e. IsRefused self.old (CreateDataset path.now spec.now) e × (self.new ≡ self.old)) }
     {
-        let made = new_array(self.alloc, &self.image, &self.opened, path, spec)?;
+        let made = create_dataset(self.alloc, &self.image, &self.opened, path, spec)?;
         self.take(made)
     }
 
@@ -72,7 +71,7 @@ impl File {
         ensures { MatchResult result (IsEdited self.old (HardLink target.now path.now) self.new)
             (λ e. IsRefused self.old (HardLink target.now path.now) e × (self.new ≡ self.old)) }
     {
-        let made = new_hard_link(self.alloc, &self.image, &self.opened, target, path)?;
+        let made = hard_link(self.alloc, &self.image, &self.opened, target, path)?;
         self.take(made)
     }
 
@@ -85,7 +84,7 @@ impl File {
         ensures { MatchResult result (IsEdited self.old (SoftLink text.now path.now) self.new)
             (λ e. IsRefused self.old (SoftLink text.now path.now) e × (self.new ≡ self.old)) }
     {
-        let made = new_soft_link(self.alloc, &self.image, &self.opened, text, path)?;
+        let made = soft_link(self.alloc, &self.image, &self.opened, text, path)?;
         self.take(made)
     }
 
@@ -99,7 +98,7 @@ impl File {
         ensures { MatchResult result (IsEdited self.old (SetAttr path.now attr.now) self.new)
             (λ e. IsRefused self.old (SetAttr path.now attr.now) e × (self.new ≡ self.old)) }
     {
-        let made = set_attribute(self.alloc, &self.image, &self.opened, path, attr)?;
+        let made = set_attr(self.alloc, &self.image, &self.opened, path, attr)?;
         self.take(made)
     }
 
@@ -111,7 +110,7 @@ impl File {
         ensures { MatchResult result (IsEdited self.old (RemoveAttr path.now name.now) self.new)
             (λ e. IsRefused self.old (RemoveAttr path.now name.now) e × (self.new ≡ self.old)) }
     {
-        let made = remove_attribute(self.alloc, &self.image, &self.opened, path, name)?;
+        let made = remove_attr(self.alloc, &self.image, &self.opened, path, name)?;
         self.take(made)
     }
 
@@ -123,8 +122,7 @@ impl File {
             IsRefused self.old edit e × (self.new ≡ self.old)) }
     {
         let image = Image::new(self.alloc, made.image);
-        // The image reads as a tree, so only memory can be short.
-        let Ok(mut opened) = walk(self.alloc, &image) else {
+        let Ok(mut opened) = walk_written(self.alloc, &image) else {
             return Err(EditFault::NoMemory);
         };
         renumber(&image, &mut opened, &made.headers);

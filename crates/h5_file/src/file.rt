@@ -5,6 +5,9 @@ ghost use Rattle.h5_model.specs.Faults.Breaches.{cut};
 ghost use Rattle.h5_model.specs.Edits.Refusal.{first_holding};
 ghost use Rattle.h5_model.specs.Scripts.Reading.{path_rules, attribute_rules, cell_rules};
 ghost use Rattle.h5_model.specs.Format.Superblock.{IsSuperblock, end_of_file};
+ghost use Rattle.std.specs.FinMap.{len};
+ghost use Rattle.h5_edit.specs.Opened.Carried.{ReadsCarried};
+ghost use Rattle.h5_edit.specs.Opened.Kept.{IsOpened};
 ghost use Rattle.h5_edit.specs.Opened.NotYet.{IsRefusedAt};
 ghost use Rattle.h5_edit.specs.Listed.{IsNoGroup, AreLinks};
 ghost use Rattle.h5_edit.specs.Look.{HasKind, HasNames, HasCell, HasArray, HasAttribute, HasAttributeNames, HasAttributesOf, IsListRefused, IsNoDataset, IsUnlisted};
@@ -17,7 +20,7 @@ use h5_edit::{
     ArrayCells, AttrRef, Found, Kind, Link, Opened, array_of, attributes_at, empty_image, found_at,
     kind_at, links_of, names_at, names_of_attributes, number_at, one_attribute, one_cell, walk,
 };
-use h5_model::{EditFault, ObjectNo, OpenFault};
+use h5_model::{Cause, EditFault, ObjectNo, OpenFault};
 use h5_space::{Image, end_of_file, superblock_fault};
 use std::alloc::{AllocError, Global};
 use std::marker::Model;
@@ -55,10 +58,7 @@ impl File {
         ensures sound { IfOk result IsSound }
     {
         let image = Image::new(alloc, empty_image(alloc)?);
-        // These bytes read as the root alone, so only memory can be short.
-        let Ok(opened) = walk(alloc, &image) else {
-            return Err(AllocError);
-        };
+        let opened = walk_written(alloc, &image)?;
         Ok(File {
             image,
             opened,
@@ -80,8 +80,10 @@ impl File {
         ensures image { IfOk result (λ f. f.image ≡ cut bytes.items) }
         ensures sound { IfOk result IsSound }
         ensures refused { IfErr result (λ e. Refused bytes.items e.0) }
-        // Bytes that are a tree are refused for want of memory, or because they are not read yet, alone.
-        ensures only { IsReadable bytes.items → IfErr result (λ e. IsNoBreach e.0.cause) }
+        // Bytes that are a tree are refused for want of memory, or because an array is not opened yet, alone.
+        ensures only { IsReadable bytes.items → IfErr result (λ e. IsNoBreach bytes.items e.0.cause) }
+        // No number was used up before.
+        ensures numbers { IfOk result (λ f. f.next ≡ len f.tree) }
         ensures back { IfErr result (λ e. e.1.items ≡ bytes.items) }
     {
         if let Some(fault) = superblock_fault(&bytes) {
@@ -217,13 +219,31 @@ impl File {
     }
 }
 
+/// The objects of an image that reads as a tree of arrays that are opened. Fails where memory is refused.
+pub(crate) fn walk_written(alloc: Global, image: &Image) -> Result<Opened, AllocError>
+    requires superblock { IsSuperblock image.now.bytes }
+    requires whole { end_of_file image.now.bytes ≡ length image.now.bytes }
+    requires carried { ReadsCarried image.now.bytes }
+    ensures kept { IfOk result (λ o. IsOpened image.now.bytes o.objects.items o.numbers) }
+{
+    match walk(alloc, image) {
+        Ok(opened) => Ok(opened),
+        Err(fault) => match fault.cause {
+            Cause::NoMemory => Err(AllocError),
+            _ => unreachable!(),
+        },
+    }
+}
+
 /// The file of an image that begins with a superblock and ends where that says; a refusal gives the image back.
 fn walked(alloc: Global, image: Image) -> Result<File, (OpenFault, Image)>
     requires superblock { IsSuperblock image.bytes }
     requires whole { end_of_file image.bytes ≡ length image.bytes }
     ensures image { IfOk result (λ f. f.image ≡ image.bytes) }
     ensures sound { IfOk result IsSound }
+    ensures numbers { IfOk result (λ f. f.next ≡ len f.tree) }
     ensures refused { IfErr result (λ e. IsRefusedAt image.bytes e.0.cause e.0.address) }
+    ensures only { IfErr result (λ e. ReadsCarried image.bytes → e.0.cause ≡ Cause.NoMemory) }
     ensures back { IfErr result (λ e. e.1.bytes ≡ image.bytes) }
 {
     match walk(alloc, &image) {
@@ -242,7 +262,9 @@ fn open_front(alloc: Global, bytes: Vec<u8>, end: usize) -> Result<File, (OpenFa
     requires end { end ≡ end_of_file bytes.items }
     ensures image { IfOk result (λ f. f.image ≡ cut bytes.items) }
     ensures sound { IfOk result IsSound }
+    ensures numbers { IfOk result (λ f. f.next ≡ len f.tree) }
     ensures refused { IfErr result (λ e. IsRefusedAt (cut bytes.items) e.0.cause e.0.address) }
+    ensures only { IfErr result (λ e. ReadsCarried (cut bytes.items) → e.0.cause ≡ Cause.NoMemory) }
     ensures back { IfErr result (λ e. e.1.items ≡ bytes.items) }
 {
     let Ok(front) = Vec::from_slice(alloc, &bytes[..end]) else {

@@ -38,4 +38,5 @@ pub mod LinksExcluded
 pub mod CountExcluded
 pub mod Excluded
 pub mod SoundLaws
+pub mod TwoTables
 pub mod InPlace

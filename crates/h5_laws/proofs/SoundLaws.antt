@@ -1,12 +1,15 @@
 pub mod Inserted
 pub mod Sums
 pub mod LinksThere
+pub mod Paths
 pub mod Counts
 pub mod Depths
 pub mod Grown
 pub mod Linked
 pub mod Alike
 pub mod DatasetChanges
+pub mod Fewer
+pub mod Unlinked
 pub mod NewPaths
 pub mod Applied
 pub mod Read

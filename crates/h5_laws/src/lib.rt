@@ -1,4 +1,5 @@
-//! Laws of readings: a fault of opening excludes any, and a table of headers leaves one.
+//! Laws of readings: a fault of opening excludes any, a table of headers leaves one, and those by two tables
+//! differ in the numbers of objects alone; the trees are sound, and accepted edits keep them so.
 //!
 //! A fault is a cause at an address: a rule of the superblock, or of a block that is reached from it, is
 //! broken. A reading is a tree that the bytes are (File Format Specification 3.0, sections II, III and IV).
@@ -6,7 +7,8 @@
 #![tactic(auto)]
 
 ghost use Rattle.h5_model.specs.Faults.Breaches.{BreachExcludesReads};
-ghost use Rattle.h5_laws.specs.Readings.{ReadsOnce};
+ghost use Rattle.h5_laws.specs.Readings.{ReadsOnce, ReadsAlike};
+ghost use Rattle.h5_laws.specs.Trees.Laws.{ReadsSound, SoundApplied};
 
 /// Where a cause holds at an address, the bytes up to the end of file address read as no tree, whatever
 /// headers its objects are said to stand at.
@@ -21,4 +23,20 @@ pub fn breach_excludes_reads()
 /// So what a file says of its tree leaves no choice: the bytes and the headers tell it. It does nothing.
 pub fn table_reads_once()
     ensures { ReadsOnce }
+{}
+
+/// With two tables of headers, an image reads as trees that differ in the numbers of their objects alone.
+///
+/// So the numbers are the only choice that the bytes leave. It does nothing.
+pub fn tables_read_alike()
+    ensures { ReadsAlike }
+{}
+
+/// A tree that an image reads as is sound, and so is what an accepted edit gives of a sound tree.
+///
+/// So each tree of a file has a path of at most 64 names to each object, and groups with one link each. It does
+/// nothing.
+pub fn trees_are_sound()
+    ensures read { ReadsSound }
+    ensures edited { SoundApplied }
 {}

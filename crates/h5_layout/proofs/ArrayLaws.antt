@@ -26,7 +26,7 @@ one_fill ms t f g p q =
     let new : p.new_fill ≡ q.new_fill = one_value (fill_value t) (first_body 5 ms) p.new_fill q.new_fill p.new_filled q.new_filled in
     p.filled ∙ ap₂ chosen_fill new old ∙ sym q.filled
 
-same_array : (a b : Described) → a.fixed ≡ b.fixed → a.sizes ≡ b.sizes → a.maxima ≡ b.maxima → a.fill ≡ b.fill → a.layout ≡ b.layout → a ≡ b
+pub same_array : (a b : Described) → a.fixed ≡ b.fixed → a.sizes ≡ b.sizes → a.maxima ≡ b.maxima → a.fill ≡ b.fill → a.layout ≡ b.layout → a ≡ b
 same_array a b p q r s t = λ i. record { fixed = p i; sizes = q i; maxima = r i; fill = s i; layout = t i }
 
 pub one_array : (ms : List Message) (a b : Described) → HasArray ms a → HasArray ms b → a ≡ b

@@ -3,3 +3,5 @@ pub mod BreachLaws
 pub mod RoomLaws
 pub mod KnownLaws
 pub mod FillLaws
+pub mod ToldLaws
+pub mod StoredLaws

@@ -10,19 +10,19 @@ use Rattle.std.proofs.Math.Nat.{mul-le-mul_right}
 use Rattle.h5_bytes.specs.Bytes.{number_at, part}
 use Rattle.h5_bytes.specs.Blocks.{block}
 use Rattle.h5_model.specs.Tree.Places.{cells, extent_cells, index_of}
-use Rattle.h5_model.specs.Format.Layout.{Layout, InMessage, InBlock, layout_of, compact_layout, contiguous_layout, chunked_layout, short_numbers_at}
+use Rattle.h5_model.specs.Format.Layout.{Layout, InMessage, InBlock, InChunks, layout_of, compact_layout, contiguous_layout, chunked_layout, short_numbers_at}
 use Rattle.h5_model.specs.Format.Chunks.{Chunks}
 use Rattle.h5_model.specs.Format.Cells.{cell_of, value_in}
 use Rattle.h5_model.specs.Format.Fixed.{Fixed}
 use Rattle.std.specs.Option.{option_map_or}
-use Rattle.h5_bytes.specs.declared.Block.{Block}
 use Rattle.h5_shape.proofs.Products.{cells_le}
 use Rattle.h5_model.proofs.PlaceLaws.{place-index}
 use Rattle.h5_model.specs.Format.Messages.{Message}
 use Rattle.h5_layout.specs.Described.{Described, HasArray, dataset_in}
 use Rattle.h5_header.proofs.FoundLaws.{among_some}
 use Rattle.h5_layout.proofs.BreachLaws.{small_chunk}
-use Rattle.h5_layout.specs.Stored.{has_room, IsArray}
+use Rattle.h5_bytes.proofs.PartLaws.{length-part}
+use Rattle.h5_layout.specs.Stored.{has_room, data_in, IsArray, IsUnchunked}
 
 -- ---- what is read has room
 
@@ -90,16 +90,22 @@ get-cells image a chunks place below =
     (omega (arith, length-map-range_with_len (λ k. cell_of image a.fixed a.fill a.sizes a.layout chunks (index_of a.sizes k)) 0 (cells a.sizes)))
     ∙ ap (λ (v : ℤ). Some v) here
 
--- a value in the message is the cell's
-pub message_cell : (image : List ℕ) (t : Fixed) (fill : ℤ) (sizes bytes : List ℕ) (chunks : Chunks) (place : ℕ) → place < cells sizes
-    → value_in t bytes place ≡ cell_of image t fill sizes (InMessage bytes) chunks (index_of sizes place)
-message_cell image t fill sizes bytes chunks place below = ap (value_in t bytes) (sym (place-index sizes place below))
+-- the value in the data, or the fill where there are none, is the cell's
+pub data_cell : (image : List ℕ) (t : Fixed) (fill : ℤ) (sizes : List ℕ) (layout : Layout) (chunks : Chunks) (place : ℕ) → IsUnchunked (length image) layout → place < cells sizes
+    → option_map_or (λ bytes. value_in t bytes place) (data_in image layout) fill ≡ cell_of image t fill sizes layout chunks (index_of sizes place)
+data_cell image t fill sizes (InMessage bytes) chunks place there below = ap (value_in t bytes) (sym (place-index sizes place below))
+data_cell image t fill sizes (InBlock None) chunks place there below = refl
+data_cell image t fill sizes (InBlock (Some b)) chunks place there below = ap (value_in t (part b.at b.len image)) (sym (place-index sizes place below))
+data_cell image t fill sizes (InChunks chunk_sizes root) chunks place there below = absurd there
 
--- the value in the block, or the fill, is the cell's
-pub block_cell : (image : List ℕ) (t : Fixed) (fill : ℤ) (sizes : List ℕ) (b : Option Block) (chunks : Chunks) (place : ℕ) → place < cells sizes
-    → option_map_or (λ x. value_in t (part x.at x.len image) place) b fill ≡ cell_of image t fill sizes (InBlock b) chunks (index_of sizes place)
-block_cell image t fill sizes None chunks place below = refl
-block_cell image t fill sizes (Some b) chunks place below = ap (value_in t (part b.at b.len image)) (sym (place-index sizes place below))
+-- the data have room for the cells
+pub data_room : (image : List ℕ) (sizes : List ℕ) (size : ℕ) (layout : Layout) (held : List ℕ) → IsUnchunked (length image) layout → has_room sizes size layout ≡ true
+    → data_in image layout ≡ Some held → nat_le (cells sizes * size) (length held) ≡ true
+data_room image sizes size (InMessage bytes) held there room is = rw (← same_Some bytes held is) room
+data_room image sizes size (InBlock None) held there room is = absurd (cc)
+data_room image sizes size (InBlock (Some b)) held there room is =
+    rw (← same_Some (part b.at b.len image) held is) (rw (length-part b.at b.len image there) room)
+data_room image sizes size (InChunks chunk_sizes root) held there room is = absurd there
 
 -- ---- an array that messages describe
 

@@ -3,7 +3,7 @@ use Rattle.std.specs.Prelude.{◌≡◌, ℕ, ◌^◌, ◌≤◌, ℤ, Option, S
 use Rattle.h5_model.specs.Format.Messages.{Message, count_of, first_body}
 use Rattle.h5_model.specs.Format.Fixed.{Fixed}
 use Rattle.h5_model.specs.Tree.Places.{extent_cells}
-use Rattle.h5_model.specs.Format.Extent.{Extent, extent_of}
+use Rattle.h5_model.specs.Format.Extent.{extent_of}
 use Rattle.h5_model.specs.Format.Datatype.{fixed_of}
 use Rattle.h5_model.specs.Format.Fill.{fill_value, old_fill_value, chosen_fill}
 use Rattle.h5_model.specs.Format.Layout.{Layout, layout_of}
@@ -20,12 +20,12 @@ pub record Described : Type 0 where
   pub fill : ℤ
   pub layout : Layout
 
--- the array of this type, extent, fill value and layout
-abbrev pub array_of : Fixed → Extent → ℤ → Layout → Described
-array_of t extent fill layout = record {
+-- the array of this type, sizes, maxima, fill value and layout
+abbrev pub array_of : Fixed → List ℕ → List (Option ℕ) → ℤ → Layout → Described
+array_of t sizes maxima fill layout = record {
   fixed = t;
-  sizes = extent.sizes;
-  maxima = extent.maxima;
+  sizes = sizes;
+  maxima = maxima;
   fill = fill;
   layout = layout;
 }

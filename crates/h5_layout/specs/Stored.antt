@@ -1,7 +1,10 @@
 -- Where the cells of an array stand, by its layout (File Format Specification 3.0, section IV.A.2.i).
-use Rattle.std.specs.Prelude.{◌≡◌, ℕ, ◌+◌, ◌*◌, ◌^◌, ◌≤◌, ◌==◌, Bool, true, false, nat_le, None, Some, List, length}
+use Rattle.std.specs.Prelude.{◌≡◌, ◌≢◌, ℕ, ◌+◌, ◌*◌, ◌^◌, ◌≤◌, ◌==◌, Bool, true, false, nat_le, Option, None, Some, List, length, replicate}
 use Rattle.h5_model.specs.Tree.Places.{cells, extent_cells}
 use Rattle.h5_model.specs.Format.Layout.{Layout, InMessage, InBlock, InChunks}
+use Rattle.h5_bytes.specs.Bytes.{part}
+use Rattle.h5_model.specs.Scripts.Answers.{stored_values}
+use Rattle.h5_model.specs.Tree.Objects.{Dataset, Contiguous}
 use Rattle.h5_layout.specs.Described.{Described}
 use Rattle.h5_layout.specs.Judged.{is_chunk_large}
 
@@ -24,3 +27,20 @@ IsUnchunked end (InMessage bytes) = Unit {0}
 IsUnchunked end (InBlock None) = Unit {0}
 IsUnchunked end (InBlock (Some b)) = b.at + b.len ≤ end
 IsUnchunked end (InChunks chunk_sizes root) = ⊥
+
+-- ---- the bytes of the cells
+
+-- the bytes that the cells of a layout without chunks stand in, where they stand in any
+abbrev pub data_in : List ℕ → Layout → Option (List ℕ)
+data_in image (InMessage bytes) = Some bytes
+data_in image (InBlock None) = None
+data_in image (InBlock (Some b)) = Some (part b.at b.len image)
+data_in image (InChunks chunk_sizes root) = None
+
+-- no cell is stored in a block: each reads the fill
+abbrev pub AreFilled : Dataset → Type 0
+AreFilled d = (d.cells ≡ replicate (cells d.sizes) d.fill) × (d.storage ≢ Contiguous true)
+
+-- the cells stand in these bytes, one behind the other, each in as many as the type has
+abbrev pub AreStored : Dataset → List ℕ → Type 0
+AreStored d bytes = (length bytes ≡ cells d.sizes * (d.fixed).size) × (d.cells ≡ stored_values d.fixed bytes) × (d.storage ≢ Contiguous false)

@@ -1,16 +1,16 @@
-//! An array as its header describes it.
+//! An array as its header describes it, or as it is to be written.
 
-ghost use Rattle.std.specs.Prelude.{◌≡◌, ◌+◌, ◌*◌, ◌<◌, ◌≤◌, Some, true, length, slice_get};
+ghost use Rattle.std.specs.Prelude.{◌≡◌, ◌+◌, ◌*◌, ◌<◌, ◌≤◌, None, Some, true, length, slice_get, MatchOption};
 ghost use Rattle.std.specs.FinMap.{empty};
-ghost use Rattle.std.specs.Option.{ForSome, option_map_or};
+ghost use Rattle.std.specs.Option.{ForSome, option_map};
 ghost use Rattle.h5_bytes.specs.Bytes.{part};
 ghost use Rattle.h5_model.specs.Format.Fixed.{fits};
 ghost use Rattle.h5_model.specs.Tree.Places.{cells as cells_of, IsInside};
 ghost use Rattle.h5_model.specs.Format.Cells.{value_in as value_at_place};
 ghost use Rattle.h5_model.specs.Scripts.Reading.{cell_at};
 ghost use Rattle.h5_msg.specs.Layouts.{layout_in};
-ghost use Rattle.h5_layout.specs.Described.{dataset_in};
-ghost use Rattle.h5_layout.specs.Stored.{IsArray, IsUnchunked};
+ghost use Rattle.h5_layout.specs.Described.{array_of, dataset_in};
+ghost use Rattle.h5_layout.specs.Stored.{AreFilled, AreStored, IsArray, IsUnchunked, data_in};
 
 use h5_bytes::Block;
 use h5_model::Fixed;
@@ -20,13 +20,22 @@ use h5_space::Image;
 use h5_types::decode;
 use std::marker::Model;
 
-/// An array as the messages of its object header describe it: type, sizes, maxima, fill value and layout. It borrows
-/// the messages' bodies.
+/// The largest sizes of an array, `None` where one is unlimited.
+#[derive(Drop)]
+pub(crate) enum Maxima<'a> {
+    /// As a Dataspace message has them.
+    Read(Dataspace<'a>),
+    /// As they were handed over, one for each size.
+    Given(&'a [Option<u64>]),
+}
+
+/// An array: its type, sizes, maxima, fill value and layout, as the messages of its object header describe them, whose
+/// bodies it borrows, or as it is to be written.
 #[derive(Drop)]
 pub struct ArrayRef<'a> {
     pub(crate) fixed: Fixed,
     pub(crate) dims: Dims,
-    pub(crate) extent: Dataspace<'a>,
+    pub(crate) maxima: Maxima<'a>,
     pub(crate) fill: i128,
     pub(crate) layout: Layout<'a>,
 }
@@ -36,17 +45,43 @@ impl<'a> Model for ArrayRef<'a> {
     ghost use Rattle.h5_model.specs.Format.Fixed.{fits};
     ghost use Rattle.h5_msg.specs.Layouts.{layout_in};
     ghost use Rattle.h5_layout.specs.Described.{Described, array_of};
+    ghost use Rattle.h5_layout.specs.Maxima.{AreMaximaOf, maxima_in};
     ghost use Rattle.h5_layout.specs.Stored.{IsArray};
 
     ghost Value = { Described };
 
-    ghost view = { λ a. array_of a.fixed a.extent a.fill (layout_in a.layout) };
+    ghost view = { λ a. array_of a.fixed a.dims (maxima_in a.maxima) a.fill (layout_in a.layout) };
 
-    ghost invariant = { λ a. (a.dims ≡ a.extent.sizes) × (fits a.fixed a.fill ≡ true)
-        × IsArray (array_of a.fixed a.extent a.fill (layout_in a.layout)) };
+    ghost invariant = { λ a. AreMaximaOf a.maxima a.dims × (fits a.fixed a.fill ≡ true)
+        × IsArray (array_of a.fixed a.dims (maxima_in a.maxima) a.fill (layout_in a.layout)) };
 }
 
 impl<'a> ArrayRef<'a> {
+    /// An array of this type, these sizes and maxima, this fill value and this layout.
+    ///
+    /// That there is a maximum for each size, that the fill is a value of the type, and that the array is no larger than arrays
+    /// may be and has room where its layout names some, are the caller's conditions.
+    pub fn new(
+        fixed: Fixed,
+        dims: Dims,
+        maxima: &'a [Option<u64>],
+        fill: i128,
+        layout: Layout<'a>,
+    ) -> ArrayRef<'a>
+        requires maxima { length maxima.now ≡ length dims }
+        requires of_type { fits fixed fill ≡ true }
+        requires sound { IsArray (array_of fixed dims maxima.now fill (layout_in layout)) }
+        ensures { result ≡ array_of fixed dims maxima.now fill (layout_in layout.entry) }
+    {
+        ArrayRef {
+            fixed,
+            dims,
+            maxima: Maxima::Given(maxima),
+            fill,
+            layout,
+        }
+    }
+
     /// The type of the cells.
     pub fn fixed(&self) -> Fixed
         ensures { result ≡ self.now.fixed }
@@ -67,7 +102,10 @@ impl<'a> ArrayRef<'a> {
         requires { k < length self.now.sizes }
         ensures { slice_get self.now.maxima k ≡ Some result }
     {
-        self.extent.maximum(k)
+        match &self.maxima {
+            Maxima::Read(extent) => extent.maximum(k),
+            Maxima::Given(maxima) => maximum_at(maxima, k),
+        }
     }
 
     /// The value of a cell that was never written.
@@ -107,36 +145,64 @@ impl<'a> ArrayRef<'a> {
         requires stored { IsUnchunked (length image.now.bytes) self.now.layout }
         ensures { slice_get (dataset_in image.now.bytes self.now empty).cells place ≡ Some result }
     {
-        let place = place as usize;
-        match &self.layout {
-            Layout::Compact(bytes) => value_in(&self.fixed, bytes, place),
-            Layout::Contiguous(block) => {
-                value_in_block(&self.fixed, self.fill, image, *block, place)
-            }
-            Layout::Chunked { .. } => unreachable!(),
+        match data_bytes(&self.layout, image) {
+            Some(bytes) => value_in(&self.fixed, bytes, place as usize),
+            None => self.fill,
+        }
+    }
+
+    /// The bytes of the cells of an array that is not chunked, one cell behind the other, each in as many bytes as the type has;
+    /// `None` where none is stored, so that each reads the fill.
+    ///
+    /// That the array is not chunked, and that the block of its data, where it has one, lies in the image are the caller's
+    /// conditions.
+    pub fn stored(&self, image: &'a Image) -> Option<&'a [u8]>
+        requires { IsUnchunked (length image.now.bytes) self.now.layout }
+        ensures { MatchOption result (AreFilled (dataset_in image.now.bytes self.now empty)) (λ bytes.
+            AreStored (dataset_in image.now.bytes self.now empty) bytes.now) }
+    {
+        let cells = self.dims.cells() as usize;
+        if cells == 0 {
+            return None;
+        }
+        match data_bytes(&self.layout, image) {
+            Some(bytes) => Some(&bytes[..cells * self.fixed.size()]),
+            None => None,
         }
     }
 }
 
-/// The value at a place of cells that stand in a block of the image, or the fill where there is none.
-fn value_in_block(
-    fixed: &Fixed,
-    fill: i128,
-    image: &Image,
-    block: Option<Block>,
-    place: usize,
-) -> i128
-    requires within { ForSome block (λ b. b.at + b.len ≤ length image.now.bytes) }
-    requires room { ForSome block (λ b. place * fixed.now.size + fixed.now.size ≤ b.len) }
-    ensures { result ≡ option_map_or (λ b.
-        value_at_place fixed.now (part b.at b.len image.now.bytes) place) block
-        fill }
+/// The maximum of this dimension.
+fn maximum_at(maxima: &[Option<u64>], k: usize) -> Option<u64>
+    requires { k < length maxima.now }
+    ensures { slice_get maxima.now k ≡ Some result }
+{
+    maxima[k]
+}
+
+/// The bytes that the cells of a layout stand in, where they stand in any.
+fn data_bytes<'b>(layout: &Layout<'b>, image: &'b Image) -> Option<&'b [u8]>
+    requires { IsUnchunked (length image.now.bytes) (layout_in layout.now) }
+    ensures { MatchOption result (data_in image.now.bytes (layout_in layout.now) ≡ None) (λ bytes.
+        data_in image.now.bytes (layout_in layout.now) ≡ Some bytes.now) }
+{
+    match layout {
+        Layout::Compact(bytes) => Some(bytes),
+        Layout::Contiguous(block) => block_bytes(image, *block),
+        Layout::Chunked { .. } => unreachable!(),
+    }
+}
+
+/// The bytes of the block, where there is one.
+fn block_bytes(image: &Image, block: Option<Block>) -> Option<&[u8]>
+    requires { ForSome block (λ b. b.at + b.len ≤ length image.now.bytes) }
+    ensures { MatchOption result (block ≡ None) (λ bytes.
+        option_map (λ b. part b.at b.len image.now.bytes) block ≡ Some bytes.now) }
 {
     let Some(block) = block else {
-        return fill;
+        return None;
     };
-    let bytes = &image.bytes()[block.at as usize..(block.at + block.len) as usize];
-    value_in(fixed, bytes, place)
+    Some(&image.bytes()[block.at as usize..(block.at + block.len) as usize])
 }
 
 /// The value at a place of cells that stand one after another.

@@ -10,4 +10,4 @@ mod judge;
 mod read;
 
 pub use array::ArrayRef;
-pub use read::read_array;
+pub use read::{known_array, read_array};

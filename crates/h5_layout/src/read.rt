@@ -7,8 +7,9 @@ ghost use Rattle.h5_header.specs.Kinds.{IsOfDataset};
 ghost use Rattle.h5_header.specs.Listed.{messages_in, IsWithin};
 ghost use Rattle.h5_layout.specs.Described.{Described, HasArray, HasFill};
 ghost use Rattle.h5_layout.specs.Judged.{breach_in, fill_breach};
+ghost use Rattle.h5_layout.specs.Told.{array_told};
 
-use crate::array::ArrayRef;
+use crate::array::{ArrayRef, Maxima};
 use crate::bodies::one_body;
 use crate::judge::{judge_datatype, judge_fill, judge_layout, judge_old_fill, judge_sizes};
 use h5_header::{Messages, find_body};
@@ -50,6 +51,21 @@ pub fn read_array<'a>(
     }
 }
 
+/// The array of messages that are known to describe one. Takes no memory.
+///
+/// That they do, and lie in the image, are the caller's conditions.
+pub fn known_array<'a>(alloc: Global, image: &'a Image, messages: &Messages) -> ArrayRef<'a>
+    requires within { IsWithin (length image.now.bytes) messages.now.list }
+    requires dataset { IsOfDataset (messages_in image.now.bytes messages.now.list) }
+    requires array { (a : Described) × HasArray (messages_in image.now.bytes messages.now.list) a }
+    ensures { result ≡ array_told (messages_in image.now.bytes messages.now.list) }
+{
+    match read_array(alloc, image, messages) {
+        Ok(array) => array,
+        Err(_) => unreachable!(),
+    }
+}
+
 /// The array, or the first rule that these messages break.
 fn judge<'a>(alloc: Global, image: &'a Image, messages: &Messages) -> Result<ArrayRef<'a>, Cause>
     requires within { IsWithin (length image.now.bytes) messages.now.list }
@@ -65,7 +81,7 @@ fn judge<'a>(alloc: Global, image: &'a Image, messages: &Messages) -> Result<Arr
     Ok(ArrayRef {
         fixed,
         dims,
-        extent,
+        maxima: Maxima::Read(extent),
         fill,
         layout,
     })

@@ -3,7 +3,8 @@ use Rattle.std.proofs.Common.{◌≡◌, ℕ, ◌^◌, ◌<◌, List, ◌++◌, 
 use Rattle.std.specs.Prelude.{◌-◌}
 use Rattle.byteorder.specs.Numbers.{little_number-reads_back}
 use Rattle.h5_bytes.specs.Bytes.{number_at, little_bytes}
-use Rattle.h5_model.specs.Format.Bodies.{padded, pair_bytes}
+use Rattle.h5_model.specs.Format.Bodies.{pair_bytes}
+use Rattle.h5_model.specs.Format.Plain.{padded}
 
 pub first_back : (a b n : ℕ) (bytes : List ℕ) → a < 2 ^ 64 → bytes ≡ padded (pair_bytes a b) n → number_at bytes 0 8 ≡ a
 unfolding number_at

@@ -9,8 +9,9 @@ use Rattle.h5_bytes.specs.Bytes.{number_at, undefined}
 use Rattle.h5_model.specs.Edits.Refusal.{are_maxima, is_maximum}
 use Rattle.h5_model.specs.Scripts.Tests.{each_below}
 use Rattle.h5_model.specs.Format.Extent.{extent_of, is_dataspace, size_in, maximum_in, maximum_from, maximum_fits}
-use Rattle.h5_model.specs.Format.Bodies.{padded, dataspace_bytes, bounded_bytes, or_undefined, words}
-use Rattle.h5_msg.proofs.PaddedLaws.{padded_full}
+use Rattle.h5_model.specs.Format.Bodies.{dataspace_bytes, bounded_bytes, or_undefined, words}
+use Rattle.h5_model.specs.Format.Plain.{padded}
+use Rattle.h5_model.proofs.PaddedLaws.{padded_full}
 use Rattle.h5_msg.proofs.WordLaws.{words_long, bounds_long, as_many_maxima, length-numbers, number_at-drop, number_at-words, and_left, and_right}
 
 -- numbers that fit in 8 bytes

@@ -6,7 +6,8 @@ use Rattle.h5_bytes.specs.Bytes.{number_at}
 use Rattle.h5_model.specs.Format.Fixed.{Fixed, IsFixed}
 use Rattle.h5_model.specs.Format.Datatype.{fixed_of}
 use Rattle.h5_model.proofs.FixedLaws.{sizes_of}
-use Rattle.h5_model.specs.Format.Bodies.{datatype_bytes, padded}
+use Rattle.h5_model.specs.Format.Bodies.{datatype_bytes}
+use Rattle.h5_model.specs.Format.Plain.{padded}
 
 long_datatype : (t : Fixed) (n : ℕ) → nat_le 12 (length (padded (datatype_bytes t) n)) ≡ true
 long_datatype t n = grind (arith, nat_tests)

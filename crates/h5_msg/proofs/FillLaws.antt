@@ -6,7 +6,8 @@ use Rattle.h5_bytes.specs.Bytes.{number_at}
 use Rattle.h5_model.specs.Format.Fixed.{Fixed, IsFixed, fits, bytes_of, value_at}
 use Rattle.h5_model.specs.Format.Fill.{fill_value, old_fill_value}
 use Rattle.h5_model.proofs.FixedLaws.{value_back, length-bytes_of}
-use Rattle.h5_model.specs.Format.Bodies.{fill_bytes, old_fill_bytes, padded}
+use Rattle.h5_model.specs.Format.Bodies.{fill_bytes, old_fill_bytes}
+use Rattle.h5_model.specs.Format.Plain.{padded}
 use Rattle.h5_model.proofs.ValueLaws.{value_at-drop}
 
 pub length-fill_bytes : (time : ℕ) (t : Fixed) (v : ℤ) → length (fill_bytes time t v) ≡ 8 + t.size

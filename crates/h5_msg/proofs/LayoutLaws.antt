@@ -14,7 +14,8 @@ use Rattle.h5_bytes.specs.Bytes.{number_at, little_bytes, undefined}
 use Rattle.h5_bytes.specs.Blocks.{block}
 use Rattle.h5_model.specs.Tree.Places.{cells}
 use Rattle.h5_model.specs.Format.Layout.{InMessage, InBlock, InChunks, layout_of, contiguous_layout, short_numbers_at, address_from}
-use Rattle.h5_model.specs.Format.Bodies.{padded, compact_bytes, contiguous_bytes, chunked_bytes, short_words, or_undefined}
+use Rattle.h5_model.specs.Format.Bodies.{compact_bytes, contiguous_bytes, chunked_bytes, short_words, or_undefined}
+use Rattle.h5_model.specs.Format.Plain.{padded}
 use Rattle.h5_msg.proofs.WordLaws.{number_at-drop}
 
 pub zero_step : (f : ℕ → ℕ) (k n : ℕ) → n ≢ 0 → list_any (λ n. n == 0) (map f (range_with_len k n)) ≡ (f k == 0 || list_any (λ n. n == 0) (map f (range_with_len (k + 1) (n - 1))))

@@ -1,4 +1,3 @@
-pub mod PaddedLaws
 pub mod AddressLaws
 pub mod DatatypeLaws
 pub mod FillLaws

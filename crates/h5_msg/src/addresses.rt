@@ -4,7 +4,8 @@
 ghost use Rattle.std.specs.Prelude.{◌≡◌, ◌≤◌, Some, length, ok_or};
 ghost use Rattle.h5_bytes.specs.Bytes.{number_at};
 ghost use Rattle.h5_model.specs.Format.Addresses.{symbol_table_of, continuation_of};
-ghost use Rattle.h5_model.specs.Format.Bodies.{padded, pair_bytes};
+ghost use Rattle.h5_model.specs.Format.Bodies.{pair_bytes};
+ghost use Rattle.h5_model.specs.Format.Plain.{padded};
 
 use crate::fault::FormFault;
 use byteorder::{ByteOrder, LittleEndian};

@@ -7,9 +7,9 @@ ghost use Rattle.h5_model.specs.Format.AttributeBody.{attribute_of, is_attribute
 ghost use Rattle.h5_msg.specs.Parts.{ArePartsOf};
 ghost use Rattle.h5_model.specs.Format.Fixed.{IsFixed, fits};
 ghost use Rattle.h5_model.specs.Tree.Places.{cells as cells_of};
-ghost use Rattle.h5_model.specs.Format.Plain.{cells_bytes, padded_text};
+ghost use Rattle.h5_model.specs.Format.Plain.{padded, cells_bytes, padded_text};
 ghost use Rattle.h5_model.specs.Format.Sizes.{attribute_size, dataspace_length as dataspace_size};
-ghost use Rattle.h5_model.specs.Format.Bodies.{attribute_bytes, attribute_front, attribute_head, dataspace_bytes, datatype_bytes, padded, stored_attribute_bytes};
+ghost use Rattle.h5_model.specs.Format.Bodies.{attribute_bytes, attribute_front, attribute_head, dataspace_bytes, datatype_bytes, stored_attribute_bytes};
 
 use crate::dataspace::{Dataspace, dataspace_length, read_dataspace, write_dataspace};
 use crate::datatype::{DATATYPE_LENGTH, read_datatype, write_datatype};

@@ -4,7 +4,8 @@ ghost use Rattle.std.specs.Prelude.{◌≡◌, ◌+◌, ◌-◌, ◌*◌, ◌^�
 ghost use Rattle.std.specs.List.{range_with_len, AllByRecursion};
 ghost use Rattle.h5_model.specs.Format.Extent.{extent_of, is_dataspace as has_form, maximum_fits, size_in};
 ghost use Rattle.h5_model.specs.Edits.Refusal.{are_maxima as bound_sizes};
-ghost use Rattle.h5_model.specs.Format.Bodies.{bounded_bytes, dataspace_bytes, or_undefined, padded, words};
+ghost use Rattle.h5_model.specs.Format.Bodies.{bounded_bytes, dataspace_bytes, or_undefined, words};
+ghost use Rattle.h5_model.specs.Format.Plain.{padded};
 ghost use Rattle.h5_model.specs.Tree.Places.{cells as cells_of};
 ghost use Rattle.h5_model.specs.Format.Sizes.{dataspace_length as dataspace_size};
 ghost use Rattle.h5_model.specs.Scripts.Tests.{each_below};

@@ -3,7 +3,8 @@
 ghost use Rattle.std.specs.Prelude.{◌≡◌, ◌≤◌, Some, length, ok_or};
 ghost use Rattle.h5_model.specs.Format.Datatype.{fixed_of, is_fixed_point as has_form};
 ghost use Rattle.h5_model.specs.Format.Fixed.{IsFixed};
-ghost use Rattle.h5_model.specs.Format.Bodies.{class_bits as bits_of, datatype_bytes, padded};
+ghost use Rattle.h5_model.specs.Format.Bodies.{class_bits as bits_of, datatype_bytes};
+ghost use Rattle.h5_model.specs.Format.Plain.{padded};
 
 use crate::fault::FormFault;
 use h5_bytes::{u16_at, u32_at};

@@ -3,7 +3,8 @@
 ghost use Rattle.std.specs.Prelude.{◌≡◌, ◌+◌, ◌≤◌, Some, length, ok_or, true};
 ghost use Rattle.h5_model.specs.Format.Fill.{fill_value, old_fill_value, sized_value as value_after_size};
 ghost use Rattle.h5_model.specs.Format.Fixed.{fits};
-ghost use Rattle.h5_model.specs.Format.Bodies.{fill_bytes, old_fill_bytes, padded};
+ghost use Rattle.h5_model.specs.Format.Bodies.{fill_bytes, old_fill_bytes};
+ghost use Rattle.h5_model.specs.Format.Plain.{padded};
 ghost use Rattle.h5_msg.specs.Times.{time_number};
 
 use crate::fault::FormFault;

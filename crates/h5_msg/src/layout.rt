@@ -6,7 +6,8 @@ ghost use Rattle.std.specs.List.{list_any, range_with_len};
 ghost use Rattle.h5_bytes.specs.Bytes.{number_at};
 ghost use Rattle.h5_bytes.specs.Blocks.{block};
 ghost use Rattle.h5_model.specs.Format.Layout.{InBlock, InChunks, InMessage, chunked_layout, compact_layout, contiguous_layout, layout_of, short_numbers_at};
-ghost use Rattle.h5_model.specs.Format.Bodies.{chunked_bytes, compact_bytes, contiguous_bytes, padded};
+ghost use Rattle.h5_model.specs.Format.Bodies.{chunked_bytes, compact_bytes, contiguous_bytes};
+ghost use Rattle.h5_model.specs.Format.Plain.{padded};
 ghost use Rattle.h5_msg.specs.Layouts.{layout_in};
 ghost use Rattle.h5_model.specs.Tree.Places.{cells as cells_of};
 

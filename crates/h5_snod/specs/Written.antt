@@ -4,7 +4,7 @@ use Rattle.std.specs.List.{flat_map}
 use Rattle.h5_bytes.specs.Bytes.{number_at, undefined}
 use Rattle.h5_model.specs.Format.Symbols.{Entry, symbol_signature}
 use Rattle.h5_bytes.specs.Numbers.{short, middle, word, zeros}
-use Rattle.h5_model.specs.Format.Plain.{filled_to}
+use Rattle.h5_model.specs.Format.Plain.{padded}
 use Rattle.h5_snod.specs.declared.write.NewSymbol.{NewSymbol}
 use Rattle.h5_snod.specs.declared.write.NewTarget.{NewTarget}
 use Rattle.h5_snod.specs.declared.write.NewTarget.TheVariants.{Dataset, Group, Text}
@@ -50,4 +50,4 @@ head_bytes count = symbol_signature ++ (1 ∷ 0 ∷ short count)
 
 -- the same, the entries, and zeros, so many bytes in all
 abbrev pub node_bytes : List NewSymbol → ℕ → List ℕ
-node_bytes symbols n = filled_to n (head_bytes (length symbols) ++ flat_map new_bytes symbols)
+node_bytes symbols n = padded (head_bytes (length symbols) ++ flat_map new_bytes symbols) n

@@ -1,15 +1,16 @@
 -- The bytes of a node of a group's tree read back (File Format Specification 3.0, section III.A.1).
 use Rattle.std.proofs.Common.{◌≡◌, ℕ, zero, suc, ◌+◌, ◌-◌, ◌*◌, ◌^◌, ◌<◌, ◌≤◌, List, [], ◌∷◌, ◌++◌, length, get_or, refl, sym, ap, ◌∙◌, arith, append_assoc, length-append}
 use Rattle.std.specs.List.{AllByRecursion}
-use Rattle.std.proofs.lemmas.List.{same_lists, get_or_default, length-replicate}
+use Rattle.std.proofs.lemmas.List.{same_lists, get_or_default}
 use Rattle.h5_bytes.specs.Bytes.{number_at, part}
 use Rattle.h5_bytes.specs.Tables.{table}
 use Rattle.h5_bytes.proofs.PartLaws.{part-behind, part-front}
 use Rattle.h5_bytes.proofs.TableLaws.{length-table, get_or-table}
 use Rattle.h5_model.specs.Format.Nodes.{IsNode, group_kind, node_length, node_of, node_signature, key_in, child_in, entries_in}
 use Rattle.h5_bytes.specs.Numbers.{word, short, zeros}
-use Rattle.h5_model.specs.Format.Plain.{rows_bytes, filled_to, node_bytes_of}
+use Rattle.h5_model.specs.Format.Plain.{rows_bytes, node_bytes_of}
 use Rattle.h5_model.specs.Format.Sizes.{group_node}
+use Rattle.h5_model.proofs.PaddedLaws.{length-padded}
 use Rattle.h5_model.proofs.NumberLaws.{reads_back, number_at-append}
 
 abbrev pub AreKeys : List (List ℕ) → Type 0
@@ -80,12 +81,6 @@ table_is f n xs x e same =
 
 -- ---- the node
 
--- bytes with zeros behind them have the length that was asked for
-length-filled_to : (n : ℕ) (bytes : List ℕ) → length bytes ≤ n → length (filled_to n bytes) ≡ n
-length-filled_to n bytes low =
-    let zeros_are : length (zeros (n - length bytes)) ≡ n - length bytes = length-replicate (n - length bytes) 0 in
-    simp length-append (omega arith)
-
 -- a node has the length of its kind
 pub length-node : (k level left right : ℕ) (keys : List (List ℕ)) (children : List ℕ) → length children ≤ 2 * k → length keys ≡ length children + 1
     → AreKeys keys → length (node_bytes_of (group_kind k) level left right keys children) ≡ group_node k
@@ -93,7 +88,7 @@ length-node k level left right keys children room one are =
     let written : List ℕ = node_signature ++ (0 ∷ level ∷ (short (length children) ++ (word left ++ (word right ++ rows_bytes keys children)))) in
     let rows = length-rows keys children are one in
     let low : length written ≤ node_length (group_kind k) = omega arith in
-    length-filled_to (node_length (group_kind k)) written low ∙ omega arith
+    length-padded written (node_length (group_kind k)) low ∙ omega arith
 
 module _ (k level left right : ℕ) (keys : List (List ℕ)) (children : List ℕ) (high : k ≤ 32767) (room : length children ≤ 2 * k)
     (one : length keys ≡ length children + 1) (are : AreKeys keys) (small : AreWords children) (left_small : left < 2 ^ 64) (right_small : right < 2 ^ 64) where

@@ -27,11 +27,11 @@ use Rattle.h5_query.proofs.OpenedLaws.Entries.{get_tree}
 use Rattle.h5_edit.specs.Changed.Change.{IsPlainChange, changed, with_link, with_target}
 use Rattle.h5_edit.specs.Changed.Edited.{IsEditOf, IsEditable, IsFresh, edit_at, edited, edited_by, new_link, new_objects, new_target}
 use Rattle.h5_edit.specs.declared.change.change.Change.{Change}
-use Rattle.h5_edit.specs.declared.change.change.Change.TheVariants.{Link as Linked, Set, Remove}
+use Rattle.h5_edit.specs.declared.change.change.Change.TheVariants.{Link as Linked, SetAttr as Set, RemoveAttr as Remove}
 use Rattle.h5_edit.specs.declared.change.change.Target.{Target}
 use Rattle.h5_edit.specs.declared.change.change.Target.TheVariants as target
-use Rattle.h5_edit.specs.declared.change.edit.Edit.{Edit}
-use Rattle.h5_edit.specs.declared.change.edit.Edit.TheVariants as edit
+use Rattle.h5_edit.specs.declared.change.edit.ObjectEdit.{ObjectEdit}
+use Rattle.h5_edit.specs.declared.change.edit.ObjectEdit.TheVariants as edit
 use Rattle.h5_edit.proofs.ChangedLaws.NumberedLaws.{at_place, at_places, get_changed, length-at_places, numbered_more, numbered_with, slice_get-at_places, with_new, zip_append}
 
 -- ---- the changed tree
@@ -55,20 +55,20 @@ target_is tree parent number name (target.Object other) = refl
 target_is tree parent number name (target.Text text) = refl
 
 -- a change is an edit of one object, and new objects
-pub changed_is : (tree : Tree) (change : Change) (number place : ℕ) (e : Edit) → IsEditOf change number place e
+pub changed_is : (tree : Tree) (change : Change) (number place : ℕ) (e : ObjectEdit) → IsEditOf change number place e
     → changed tree change number ≡ with_new (with_object tree place (edited e)) number (new_objects change)
 unfolding changed
 changed_is tree (Linked parent name t) number place (edit.Link l) (p, q, r) =
     target_is tree parent number name.now t
     ∙ ap (λ x. with_new x number (new_target t)) (linked_same tree place parent l.name.now name.now (link_of l.target) (new_link t number) p q r)
-changed_is tree (Linked parent name t) number place (edit.Set a) is = absurd is
-changed_is tree (Linked parent name t) number place (edit.Remove n) is = absurd is
+changed_is tree (Linked parent name t) number place (edit.SetAttr a) is = absurd is
+changed_is tree (Linked parent name t) number place (edit.RemoveAttr n) is = absurd is
 changed_is tree (Set object attr) number place (edit.Link l) is = absurd is
-changed_is tree (Set object attr) number place (edit.Set a) (p, q) = set_same tree place object a.now attr.now p q
-changed_is tree (Set object attr) number place (edit.Remove n) is = absurd is
+changed_is tree (Set object attr) number place (edit.SetAttr a) (p, q) = set_same tree place object a.now attr.now p q
+changed_is tree (Set object attr) number place (edit.RemoveAttr n) is = absurd is
 changed_is tree (Remove object name) number place (edit.Link l) is = absurd is
-changed_is tree (Remove object name) number place (edit.Set a) is = absurd is
-changed_is tree (Remove object name) number place (edit.Remove n) (p, q) = removed_same tree place object n.now name.now p q
+changed_is tree (Remove object name) number place (edit.SetAttr a) is = absurd is
+changed_is tree (Remove object name) number place (edit.RemoveAttr n) (p, q) = removed_same tree place object n.now name.now p q
 
 -- ---- its numbers
 
@@ -85,7 +85,7 @@ new_numbered (Linked parent name t) tree os numbered number is k = more_numbered
 new_numbered (Set object attr) tree os numbered number is k = numbered k ∙ sym (ap (λ (xs : List Object). slice_get xs k) (append-nil os))
 new_numbered (Remove object name) tree os numbered number is k = numbered k ∙ sym (ap (λ (xs : List Object). slice_get xs k) (append-nil os))
 
-module _ (tree : Tree) (change : Change) (number place : ℕ) (e : Edit) (is : IsEditOf change number place e) where
+module _ (tree : Tree) (change : Change) (number place : ℕ) (e : ObjectEdit) (is : IsEditOf change number place e) where
   pub numbered_changed : (os : List Object) → ((k : ℕ) → get tree k ≡ slice_get os k) → number ≡ length os
       → (k : ℕ) → get (changed tree change number) k ≡ slice_get (at_places 0 place (edited e) os ++ new_objects change) k
   numbered_changed os numbered counted k =
@@ -111,25 +111,25 @@ fresh_content (Array d) links name other is none same = absurd (let never : None
 
 module _ (tree : Tree) (number : ℕ) where
   -- the edit can be made of the object that it is for
-  pub editable : (change : Change) (plain : IsPlainChange tree number change) (place : ℕ) (e : Edit) → IsEditOf change number place e
+  pub editable : (change : Change) (plain : IsPlainChange tree number change) (place : ℕ) (e : ObjectEdit) → IsEditOf change number place e
       → (o : Object) → get tree place ≡ Some o → IsEditable o e
   editable (Linked parent name t) plain place (edit.Link l) (p, q, r) o found =
       let here : get tree parent ≡ Some o = ap (get tree) (sym p) ∙ found in
       fresh_content o.content plain.there.0 name.now l.name.now (sym (ap (option_and_then (λ (x : Object). links_in x.content)) here) ∙ plain.there.1) plain.there.2 q
-  editable (Linked parent name t) plain place (edit.Set a) is o found = absurd is
-  editable (Linked parent name t) plain place (edit.Remove n) is o found = absurd is
+  editable (Linked parent name t) plain place (edit.SetAttr a) is o found = absurd is
+  editable (Linked parent name t) plain place (edit.RemoveAttr n) is o found = absurd is
   editable (Set object attr) plain place (edit.Link l) is o found = absurd is
-  editable (Set object attr) plain place (edit.Set a) is o found =
-      let after : Object = edited (edit.Set a) o in
+  editable (Set object attr) plain place (edit.SetAttr a) is o found =
+      let after : Object = edited (edit.SetAttr a) o in
       let there : get (changed tree (Set object attr) number) place ≡ Some after
-      = ap (λ x. get x place) (changed_is tree (Set object attr) number place (edit.Set a) is) ∙ get_changed tree place (edited (edit.Set a)) o found in
+      = ap (λ x. get x place) (changed_is tree (Set object attr) number place (edit.SetAttr a) is) ∙ get_changed tree place (edited (edit.SetAttr a)) o found in
       put_has IsPlainAttribute (a.now).name (attribute_from a.now) (entries o.attributes)
       (subst (AllByRecursion IsPlainAttribute) (entries-insert nat_list_cmp_total o.attributes (a.now).name (attribute_from a.now))
       ((plain.changed_plain place after there).others).attributes)
-  editable (Set object attr) plain place (edit.Remove n) is o found = absurd is
+  editable (Set object attr) plain place (edit.RemoveAttr n) is o found = absurd is
   editable (Remove object name) plain place (edit.Link l) is o found = absurd is
-  editable (Remove object name) plain place (edit.Set a) is o found = absurd is
-  editable (Remove object name) plain place (edit.Remove n) is o found = tt
+  editable (Remove object name) plain place (edit.SetAttr a) is o found = absurd is
+  editable (Remove object name) plain place (edit.RemoveAttr n) is o found = tt
 
   newest : (t : Tree) (o : Object) → get (insert t number o) number ≡ Some o
   newest t o =
@@ -155,14 +155,14 @@ module _ (tree : Tree) (number : ℕ) where
 
 -- ---- the edit of each object
 
-edit_here : (b : Bool) (e : Edit) (o : Object) → edited_by (if b then Some e else None) o ≡ cond b (edited e o) o
+edit_here : (b : Bool) (e : ObjectEdit) (o : Object) → edited_by (if b then Some e else None) o ≡ cond b (edited e o) o
 edit_here true e o = refl
 edit_here false e o = refl
 
-pub edited_at : (e : Edit) (place number : ℕ) (o : Object) → edited_by (edit_at e place number) o ≡ at_place number place (edited e) o
+pub edited_at : (e : ObjectEdit) (place number : ℕ) (o : Object) → edited_by (edit_at e place number) o ≡ at_place number place (edited e) o
 edited_at e place number o = edit_here (number == place) e o
 
-pub editable_at : (e : Edit) (place number : ℕ) (o : Object) → (number ≡ place → IsEditable o e) → IfSome (edit_at e place number) (IsEditable o)
+pub editable_at : (e : ObjectEdit) (place number : ℕ) (o : Object) → (number ≡ place → IsEditable o e) → IfSome (edit_at e place number) (IsEditable o)
 editable_at e place number o can = by_test (number == place) refl where
   by_test : (b : Bool) → (number == place) ≡ b → IfSome (if b then Some e else None) (IsEditable o)
   by_test true same = can (grind (arith, nat_tests))
@@ -197,7 +197,7 @@ zip_next R xs ys i x y at each here =
     ∙ ap (λ d. take i ys ++ d ∷ []) (get_or_from_slice_get ys i y y at) in
     subst (AllZip R (xs ++ x ∷ [])) (sym same) (zip_append R xs (x ∷ []) (take i ys) (y ∷ []) each (here, tt))
 
-pub written_more : (image : List ℕ) (objects : List OpenedObject) (place : ℕ) (e : Edit) (written more : List NewObject) (i : ℕ) (o : OpenedObject) (own : Option Edit) (x : NewObject)
+pub written_more : (image : List ℕ) (objects : List OpenedObject) (place : ℕ) (e : ObjectEdit) (written more : List NewObject) (i : ℕ) (o : OpenedObject) (own : Option ObjectEdit) (x : NewObject)
     → AreWritten image objects place (edited e) written i → slice_get objects i ≡ Some o → own ≡ edit_at e place (length written)
     → IsNewObject x (edited_by own (object_in image (headers objects) o)) → more ≡ written ++ x ∷ [] → AreWritten image objects place (edited e) more (i + 1)
 written_more image objects place e written more i o own x so at is here longer =
@@ -211,7 +211,7 @@ written_more image objects place e written more i o own x so at is here longer =
     })
 
 -- all objects with the new ones behind them are those of the changed tree
-pub all_written : (image : List ℕ) (objects : List OpenedObject) (change : Change) (place : ℕ) (e : Edit) → IsEditOf change (length objects) place e
+pub all_written : (image : List ℕ) (objects : List OpenedObject) (change : Change) (place : ℕ) (e : ObjectEdit) → IsEditOf change (length objects) place e
     → (written all : List NewObject) (n : ℕ) (more : Option NewObject) → AreWritten image objects place (edited e) written n → length objects ≤ n
     → AllZip IsNewObject (option_to_list more) (new_objects change) → all ≡ written ++ option_to_list more
     → AreObjects all (changed (tree_of image objects) change (length objects))

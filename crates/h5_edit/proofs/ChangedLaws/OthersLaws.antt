@@ -12,8 +12,8 @@ use Rattle.h5_query.specs.Opened.Headers.{object_with}
 use Rattle.h5_repack.specs.Bodies.Bodies.{attribute_message, others_of}
 use Rattle.h5_repack.specs.Blocks.Others.{OthersBytes}
 use Rattle.h5_repack.specs.Blocks.Written.{AreOthers}
-use Rattle.h5_edit.specs.declared.change.edit.Edit.{Edit}
-use Rattle.h5_edit.specs.declared.change.edit.Edit.TheVariants as edit
+use Rattle.h5_edit.specs.declared.change.edit.ObjectEdit.{ObjectEdit}
+use Rattle.h5_edit.specs.declared.change.edit.ObjectEdit.TheVariants as edit
 use Rattle.h5_edit.specs.Changed.Appended.{Appends, HasPlaces, IsPlaceOf, Named, attribute_messages, kept_messages, merged, merged_by}
 use Rattle.h5_edit.specs.Changed.Edited.{edited_by}
 use Rattle.h5_edit.proofs.ChangedLaws.PushedLaws.{appends_both}
@@ -42,17 +42,17 @@ module _ (o after : OthersBytes) (ms : List Message) (list : Named) (none : AreO
       record { begun = kept_messages ms; are = kept [] none; few = omega (arith, few, split, long) }
 
   -- what stands behind the content is what was appended
-  pub others_are : (done : OthersBytes) (e : Option Edit) (content : Content) → Appends after done (attribute_messages (merged_by e list))
+  pub others_are : (done : OthersBytes) (e : Option ObjectEdit) (content : Content) → Appends after done (attribute_messages (merged_by e list))
       → AreOthers (others_of (edited_by e (object_with content ms))) done
   others_are done None content appended =
       subst (λ es. AreOthers (kept_messages ms ++ attribute_messages es) done) sorted (appended (kept_messages ms) (kept [] none))
   others_are done (Some (edit.Link l)) content appended =
       subst (λ es. AreOthers (kept_messages ms ++ attribute_messages es) done) sorted (appended (kept_messages ms) (kept [] none))
-  others_are done (Some (edit.Set a)) content appended =
-      let same : merged (edit.Set a) list ≡ entries (insert (attributes_of ms) (a.now).name (attribute_from a.now))
-      = ap (merged (edit.Set a)) sorted ∙ sym (entries-set (attributes_of ms) (a.now).name (attribute_from a.now)) in
+  others_are done (Some (edit.SetAttr a)) content appended =
+      let same : merged (edit.SetAttr a) list ≡ entries (insert (attributes_of ms) (a.now).name (attribute_from a.now))
+      = ap (merged (edit.SetAttr a)) sorted ∙ sym (entries-set (attributes_of ms) (a.now).name (attribute_from a.now)) in
       subst (λ es. AreOthers (kept_messages ms ++ attribute_messages es) done) same (appended (kept_messages ms) (kept [] none))
-  others_are done (Some (edit.Remove name)) content appended =
-      let same : merged (edit.Remove name) list ≡ entries (remove (attributes_of ms) name.now)
-      = ap (merged (edit.Remove name)) sorted ∙ sym (entries-removed (attributes_of ms) name.now) in
+  others_are done (Some (edit.RemoveAttr name)) content appended =
+      let same : merged (edit.RemoveAttr name) list ≡ entries (remove (attributes_of ms) name.now)
+      = ap (merged (edit.RemoveAttr name)) sorted ∙ sym (entries-removed (attributes_of ms) name.now) in
       subst (λ es. AreOthers (kept_messages ms ++ attribute_messages es) done) same (appended (kept_messages ms) (kept [] none))

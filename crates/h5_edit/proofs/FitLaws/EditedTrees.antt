@@ -6,10 +6,10 @@ use Rattle.std.specs.BTreeMap.{BTreeMap}
 use Rattle.std.specs.FinMap.{get, insert, empty}
 use Rattle.std.specs.Option.{option_and_then, option_map_or}
 use Rattle.std.proofs.lemmas.Bool.Decides.{nat_tests}
-use Rattle.h5_model.specs.Edits.Applied.{applied, linked, with_attributes, with_object_at, new_object, new_dataset, attribute_from}
+use Rattle.h5_model.specs.Edits.Applied.{applied, linked, with_attributes, with_links, with_object_at, new_object, new_dataset, attribute_from}
 use Rattle.h5_model.specs.Format.Messages.{prefix_at, total_in}
 use Rattle.h5_model.specs.Tree.Paths.{object_at}
-use Rattle.h5_model.specs.Tree.Objects.{Tree, Object, Content, Group, Array, Dataset, ToObject, Soft}
+use Rattle.h5_model.specs.Tree.Objects.{Tree, Object, Content, Group, Array, Dataset, Links, ToObject, Soft}
 use Rattle.h5_model.specs.declared.attribute.AttrSpec.{AttrSpec}
 use Rattle.h5_model.specs.declared.edits.Edit.TheVariants.{CreateGroup, CreateDataset, HardLink, SoftLink, Unlink, SetAttr, RemoveAttr, Write, Resize}
 use Rattle.h5_header.specs.Listed.{messages_in}
@@ -23,7 +23,7 @@ use Rattle.h5_query.proofs.OpenedLaws.Entries.{get_table}
 use Rattle.h5_query.proofs.OpenedLaws.Indexed.{header_at, object_kept}
 use Rattle.h5_edit.specs.Fits.Laws.{AreBytes, EditedPlain, is_full}
 use Rattle.h5_edit.proofs.FitLaws.ChangedAttributes.{with_set, plain_set, few_set, with_removed, plain_removed, few_removed_others, accepted_attribute}
-use Rattle.h5_edit.proofs.FitLaws.ChangedTrees.{plain_put, plain_at, plain_linked, plain_linked_to}
+use Rattle.h5_edit.proofs.FitLaws.ChangedTrees.{each_put, each_at, each_linked, each_linked_to}
 use Rattle.h5_edit.proofs.FitLaws.NewArrays.{plain_new_line, accepted_line}
 use Rattle.h5_edit.proofs.FitLaws.OpenedTrees.{object_read, plain_content, plain_kept, opened_plain}
 use Rattle.h5_edit.proofs.FitLaws.PlainObjects.{plain_new, no_others}
@@ -39,6 +39,18 @@ new_array : (d : Dataset) → ((n : ℕ) → 4 + n ≤ 65535 → IsPlainArray d 
 new_array d plain =
     let none : length (others_of (new_object (Array d))) ≡ 0 = ap length (no_others (Array d)) in
     record { others = plain_new (Array d); content = (plain (length (others_of (new_object (Array d)))) (omega (arith, none)), omega (arith, none)) }
+
+-- ---- other links: a group stays a group
+
+links_content : (change : Links → Links) (o : Object) (c : Content) (n : ℕ) → IsPlainContent n c → IsPlainContent n ((with_links change (record o { content = c })).content)
+links_content change o (Group links) n plain = plain
+links_content change o (Array d) n plain = plain
+
+plain_links : (change : Links → Links) (o : Object) → IsPlain o → IsPlain (with_links change o)
+plain_links change o plain = record {
+  others = record { kept = (plain.others).kept; attributes = (plain.others).attributes };
+  content = links_content change o o.content (length (others_of o)) plain.content;
+}
 
 -- ---- an attribute less
 
@@ -101,7 +113,7 @@ module _ (image : List ℕ) (objects : List OpenedObject) (numbers : BTreeMap �
         }
 
     plain_attribute_set : ArePlain (with_object_at tree path (with_attributes (λ m. insert m a.name (attribute_from a))))
-    plain_attribute_set = plain_at tree path (λ o. with_set o a.name (attribute_from a)) (opened_plain image objects numbers low opened) (λ number o at there.
+    plain_attribute_set = each_at IsPlain tree path (λ o. with_set o a.name (attribute_from a)) (opened_plain image objects numbers low opened) (λ number o at there.
         let r = object_read image objects number o there in
         subst (λ (x : Object). IsPlain (with_set x a.name (attribute_from a))) r.is (plain_with number r.opened at r.stands))
 
@@ -112,24 +124,24 @@ unfolding applied
 edited_plain image objects numbers (CreateGroup path) low opened typed plain accepted roomy =
     let tree = tree_of image objects in
     let number = length objects in
-    plain_put (linked tree path (ToObject number)) number (new_object (Group empty))
-    (plain_linked tree path (ToObject number) (opened_plain image objects numbers low opened)) new_group
+    each_put IsPlain (linked tree path (ToObject number)) number (new_object (Group empty))
+    (each_linked IsPlain plain_links tree path (ToObject number) (opened_plain image objects numbers low opened)) new_group
 edited_plain image objects numbers (CreateDataset path spec) low opened typed plain accepted roomy =
     let tree = tree_of image objects in
     let number = length objects in
     let line = accepted_line tree number path spec accepted plain in
-    plain_put (linked tree path (ToObject number)) number (new_object (Array (new_dataset spec)))
-    (plain_linked tree path (ToObject number) (opened_plain image objects numbers low opened))
+    each_put IsPlain (linked tree path (ToObject number)) number (new_object (Array (new_dataset spec)))
+    (each_linked IsPlain plain_links tree path (ToObject number) (opened_plain image objects numbers low opened))
     (new_array (new_dataset spec) (λ n few. plain_new_line spec (slice_index spec.dims 0) n typed line few))
 edited_plain image objects numbers (HardLink target path) low opened typed plain accepted roomy =
-    plain_linked_to (tree_of image objects) target path (opened_plain image objects numbers low opened)
+    each_linked_to IsPlain plain_links (tree_of image objects) target path (opened_plain image objects numbers low opened)
 edited_plain image objects numbers (SoftLink text path) low opened typed plain accepted roomy =
-    plain_linked (tree_of image objects) path (Soft text) (opened_plain image objects numbers low opened)
+    each_linked IsPlain plain_links (tree_of image objects) path (Soft text) (opened_plain image objects numbers low opened)
 edited_plain image objects numbers (Unlink path) low opened typed plain accepted roomy = absurd (let never : false ≡ true = plain in cc)
 edited_plain image objects numbers (SetAttr path attr) low opened typed plain accepted roomy =
     plain_attribute_set image objects numbers low opened path attr (accepted_attribute (tree_of image objects) (length objects) path attr typed accepted) roomy
 edited_plain image objects numbers (RemoveAttr path name) low opened typed plain accepted roomy =
     let each = opened_plain image objects numbers low opened in
-    plain_at (tree_of image objects) path (λ o. with_removed o name) each (λ number o at there. plain_without o name (each number o there))
+    each_at IsPlain (tree_of image objects) path (λ o. with_removed o name) each (λ number o at there. plain_without o name (each number o there))
 edited_plain image objects numbers (Write path hyper values) low opened typed plain accepted roomy = absurd (let never : false ≡ true = plain in cc)
 edited_plain image objects numbers (Resize path dims) low opened typed plain accepted roomy = absurd (let never : false ≡ true = plain in cc)

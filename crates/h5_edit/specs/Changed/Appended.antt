@@ -12,8 +12,8 @@ use Rattle.h5_model.specs.Tree.Objects.{Attribute, Kept}
 use Rattle.h5_repack.specs.Bodies.Bodies.{kept_message, attribute_message}
 use Rattle.h5_repack.specs.Blocks.Others.{OthersBytes}
 use Rattle.h5_repack.specs.Blocks.Written.{AreOthers}
-use Rattle.h5_edit.specs.declared.change.edit.Edit.{Edit}
-use Rattle.h5_edit.specs.declared.change.edit.Edit.TheVariants as edit
+use Rattle.h5_edit.specs.declared.change.edit.ObjectEdit.{ObjectEdit}
+use Rattle.h5_edit.specs.declared.change.edit.ObjectEdit.TheVariants as edit
 
 -- these messages were appended
 abbrev pub Appends : OthersBytes → OthersBytes → List (ℕ × List ℕ) → Type 0
@@ -44,12 +44,12 @@ abbrev pub without : List ℕ → Named → Named
 without name es = filter (λ (e : List ℕ × Attribute). not (eq_by_cmp (slice_cmp nat_cmp) name e.0)) es
 
 -- ascending attributes with an edit among them
-abbrev pub merged : Edit → Named → Named
+abbrev pub merged : ObjectEdit → Named → Named
 merged (edit.Link l) es = es
-merged (edit.Set a) es = put (slice_cmp nat_cmp) (a.now).name (attribute_from a.now) es
-merged (edit.Remove name) es = without name.now es
+merged (edit.SetAttr a) es = put (slice_cmp nat_cmp) (a.now).name (attribute_from a.now) es
+merged (edit.RemoveAttr name) es = without name.now es
 
-abbrev pub merged_by : Option Edit → Named → Named
+abbrev pub merged_by : Option ObjectEdit → Named → Named
 merged_by None es = es
 merged_by (Some e) es = merged e es
 

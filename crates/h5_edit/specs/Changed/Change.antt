@@ -5,7 +5,7 @@ use Rattle.h5_model.specs.Edits.Applied.{attribute_from, with_attributes, with_l
 use Rattle.h5_model.specs.Tree.Objects.{Tree, Link, Links, ToObject, Soft, Group, Array, with_object, links_of}
 use Rattle.h5_repack.specs.Image.Plain.{ArePlain}
 use Rattle.h5_edit.specs.declared.change.change.Change.{Change}
-use Rattle.h5_edit.specs.declared.change.change.Change.TheVariants.{Link as Linked, Set, Remove}
+use Rattle.h5_edit.specs.declared.change.change.Change.TheVariants.{Link as Linked, SetAttr as Set, RemoveAttr as Remove}
 use Rattle.h5_edit.specs.declared.change.change.Target.{Target}
 use Rattle.h5_edit.specs.declared.change.change.Target.TheVariants as target
 

@@ -8,19 +8,19 @@ use Rattle.h5_repack.specs.declared.objects.object.TreeLink.{TreeLink}
 use Rattle.h5_repack.specs.Bodies.Sound.{IsPlainAttribute}
 pub use Rattle.h5_query.specs.Kept.{line_dataset as line_of}
 use Rattle.h5_edit.specs.declared.change.change.Change.{Change}
-use Rattle.h5_edit.specs.declared.change.change.Change.TheVariants.{Link as Linked, Set, Remove}
+use Rattle.h5_edit.specs.declared.change.change.Change.TheVariants.{Link as Linked, SetAttr as Set, RemoveAttr as Remove}
 use Rattle.h5_edit.specs.declared.change.change.Target.{Target}
 use Rattle.h5_edit.specs.declared.change.change.Target.TheVariants as target
-use Rattle.h5_edit.specs.declared.change.edit.Edit.{Edit}
-use Rattle.h5_edit.specs.declared.change.edit.Edit.TheVariants as edit
+use Rattle.h5_edit.specs.declared.change.edit.ObjectEdit.{ObjectEdit}
+use Rattle.h5_edit.specs.declared.change.edit.ObjectEdit.TheVariants as edit
 
 -- ---- objects of the tree
 
 -- the link that an edit adds
-abbrev pub link_in : Option Edit → Option TreeLink
+abbrev pub link_in : Option ObjectEdit → Option TreeLink
 link_in (Some (edit.Link l)) = Some l
-link_in (Some (edit.Set attr)) = None
-link_in (Some (edit.Remove name)) = None
+link_in (Some (edit.SetAttr attr)) = None
+link_in (Some (edit.RemoveAttr name)) = None
 link_in None = None
 
 -- the links of a group, and an object, with an edit
@@ -28,17 +28,17 @@ abbrev pub links_with : Option TreeLink → Links → Links
 links_with (Some l) links = insert links l.name.now (link_of l.target)
 links_with None links = links
 
-abbrev pub edited : Edit → Object → Object
+abbrev pub edited : ObjectEdit → Object → Object
 edited (edit.Link l) = with_links (λ links. insert links l.name.now (link_of l.target))
-edited (edit.Set attr) = with_attributes (λ m. insert m (attr.now).name (attribute_from attr.now))
-edited (edit.Remove name) = with_attributes (λ m. remove m name.now)
+edited (edit.SetAttr attr) = with_attributes (λ m. insert m (attr.now).name (attribute_from attr.now))
+edited (edit.RemoveAttr name) = with_attributes (λ m. remove m name.now)
 
-abbrev pub edited_by : Option Edit → Object → Object
+abbrev pub edited_by : Option ObjectEdit → Object → Object
 edited_by None o = o
 edited_by (Some e) o = edited e o
 
 -- the object of this number has the edit, others none
-abbrev pub edit_at : Edit → ℕ → ℕ → Option Edit
+abbrev pub edit_at : ObjectEdit → ℕ → ℕ → Option ObjectEdit
 edit_at e place number = if number == place then Some e else None
 
 -- the group has no link of the name yet
@@ -51,16 +51,16 @@ IsFreshIn (Some l) links = get links l.name.now ≡ None
 IsFreshIn None links = Unit {0}
 
 -- the edit can be made of the object, and be written
-abbrev pub IsEditable : Object → Edit → Type 0
+abbrev pub IsEditable : Object → ObjectEdit → Type 0
 IsEditable o (edit.Link l) = IsFresh l.name.now o.content
-IsEditable o (edit.Set attr) = IsPlainAttribute ((attr.now).name, attribute_from attr.now)
-IsEditable o (edit.Remove name) = Unit {0}
+IsEditable o (edit.SetAttr attr) = IsPlainAttribute ((attr.now).name, attribute_from attr.now)
+IsEditable o (edit.RemoveAttr name) = Unit {0}
 
 -- a new attribute can be written
-abbrev pub IsPlainEdit : Edit → Type 0
+abbrev pub IsPlainEdit : ObjectEdit → Type 0
 IsPlainEdit (edit.Link l) = Unit {0}
-IsPlainEdit (edit.Set attr) = IsPlainAttribute ((attr.now).name, attribute_from attr.now)
-IsPlainEdit (edit.Remove name) = Unit {0}
+IsPlainEdit (edit.SetAttr attr) = IsPlainAttribute ((attr.now).name, attribute_from attr.now)
+IsPlainEdit (edit.RemoveAttr name) = Unit {0}
 
 -- ---- changes
 
@@ -72,10 +72,10 @@ new_link (target.Object other) number = ToObject other
 new_link (target.Text text) number = Soft text.now
 
 -- the change edits the object of this number so
-abbrev pub IsEditOf : Change → ℕ → ℕ → Edit → Type 0
+abbrev pub IsEditOf : Change → ℕ → ℕ → ObjectEdit → Type 0
 IsEditOf (Linked parent name target) number place (edit.Link l) = (place ≡ parent) × (l.name.now ≡ name.now) × (link_of l.target ≡ new_link target number)
-IsEditOf (Set object attr) number place (edit.Set other) = (place ≡ object) × (other.now ≡ attr.now)
-IsEditOf (Remove object name) number place (edit.Remove other) = (place ≡ object) × (other.now ≡ name.now)
+IsEditOf (Set object attr) number place (edit.SetAttr other) = (place ≡ object) × (other.now ≡ attr.now)
+IsEditOf (Remove object name) number place (edit.RemoveAttr other) = (place ≡ object) × (other.now ≡ name.now)
 IsEditOf _ _ _ _ = ⊥
 
 -- the objects that it adds

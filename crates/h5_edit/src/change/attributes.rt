@@ -16,7 +16,7 @@ ghost use Rattle.h5_repack.specs.Blocks.Written.{AreOthers};
 ghost use Rattle.h5_edit.specs.Changed.Appended.{Appends, HasPlaces, IsPlaceOf, attribute_messages, kept_in, kept_messages, merged_by, without};
 ghost use Rattle.h5_edit.specs.Changed.Edited.{IsPlainEdit, edited_by};
 
-use crate::change::edit::Edit;
+use crate::change::edit::ObjectEdit;
 use crate::change::parts::part_of;
 use h5_header::{Message, Messages};
 use h5_model::AttrSpec;
@@ -32,7 +32,7 @@ pub(crate) fn others_in(
     alloc: Global,
     image: &Image,
     messages: &Messages,
-    edit: Option<Edit<'_>>,
+    edit: Option<ObjectEdit<'_>>,
 ) -> Result<Others, AllocError>
     requires kept { IsHeaderKept image.now.bytes messages.now }
     requires plain { IsPlainObject
@@ -82,7 +82,7 @@ fn is_kept(kind: u16) -> bool
 fn push_attributes(
     others: &mut Others,
     list: &[AttrRef<'_>],
-    edit: Option<Edit<'_>>,
+    edit: Option<ObjectEdit<'_>>,
 ) -> Result<(), AllocError>
     requires plain { AllByRecursion IsPlainAttribute list.now }
     requires edit { IfSome edit IsPlainEdit }
@@ -91,9 +91,9 @@ fn push_attributes(
         (Appends others.old others.new (attribute_messages (merged_by edit.entry list.now))) }
 {
     match edit {
-        None | Some(Edit::Link(_)) => push_all(others, list),
-        Some(Edit::Set(attr)) => push_with(others, list, attr),
-        Some(Edit::Remove(name)) => push_without(others, list, name),
+        None | Some(ObjectEdit::Link(_)) => push_all(others, list),
+        Some(ObjectEdit::SetAttr(attr)) => push_with(others, list, attr),
+        Some(ObjectEdit::RemoveAttr(name)) => push_without(others, list, name),
     }
 }
 

@@ -50,7 +50,7 @@ fn cells_of<'a>(image: &'a Image, line: &Line) -> Cells<'a>
 }
 
 /// A new array of one size, each cell the fill.
-pub(crate) fn new_array<'a>(spec: &Spec) -> NewArray<'a>
+pub(crate) fn array_from<'a>(spec: &Spec) -> NewArray<'a>
     requires { (others : ℕ) × IsPlainArray (new_dataset spec.now) others }
     ensures { IsNewArray result (new_dataset spec.now) }
 {

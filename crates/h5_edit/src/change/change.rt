@@ -25,12 +25,12 @@ pub enum Change<'a> {
         target: Target<'a>,
     },
     /// An attribute of the object of this number is added, or takes the place of the one of its name.
-    Set {
+    SetAttr {
         object: u32,
         attr: &'a AttrSpec,
     },
     /// The attribute of this name is left out of the object of this number.
-    Remove {
+    RemoveAttr {
         object: u32,
         name: &'a [u8],
     },

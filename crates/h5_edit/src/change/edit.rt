@@ -11,17 +11,17 @@ use h5_repack::{TreeLink, TreeTarget};
 
 /// What a change makes of one object.
 #[derive(Clone, Copy)]
-pub(crate) enum Edit<'a> {
+pub(crate) enum ObjectEdit<'a> {
     /// The group has this link more.
     Link(TreeLink<'a>),
     /// The attribute is added, or takes the place of the one of its name.
-    Set(&'a AttrSpec),
+    SetAttr(&'a AttrSpec),
     /// The attribute of this name is left out.
-    Remove(&'a [u8]),
+    RemoveAttr(&'a [u8]),
 }
 
 /// The number of the object that the change edits, and how; a new object takes the number `next`.
-pub(crate) fn edit_of<'a>(change: &Change<'a>, next: u32) -> (u32, Edit<'a>)
+pub(crate) fn edit_of<'a>(change: &Change<'a>, next: u32) -> (u32, ObjectEdit<'a>)
     ensures { IsEditOf change.now next result.0 result.1 }
 {
     match *change {
@@ -31,10 +31,10 @@ pub(crate) fn edit_of<'a>(change: &Change<'a>, next: u32) -> (u32, Edit<'a>)
             target,
         } => {
             let target = link_target(target, next);
-            (parent, Edit::Link(TreeLink { name, target }))
+            (parent, ObjectEdit::Link(TreeLink { name, target }))
         }
-        Change::Set { object, attr } => (object, Edit::Set(attr)),
-        Change::Remove { object, name } => (object, Edit::Remove(name)),
+        Change::SetAttr { object, attr } => (object, ObjectEdit::SetAttr(attr)),
+        Change::RemoveAttr { object, name } => (object, ObjectEdit::RemoveAttr(name)),
     }
 }
 
@@ -50,7 +50,7 @@ fn link_target(target: Target<'_>, next: u32) -> TreeTarget<'_>
 }
 
 /// The edit, where the object of this number is the one that it is made of.
-pub(crate) fn edit_at(edit: Edit<'_>, place: u32, number: usize) -> Option<Edit<'_>>
+pub(crate) fn edit_at(edit: ObjectEdit<'_>, place: u32, number: usize) -> Option<ObjectEdit<'_>>
     ensures { result ≡ edited.edit_at edit.entry place number }
 {
     if number == place as usize {
@@ -61,11 +61,11 @@ pub(crate) fn edit_at(edit: Edit<'_>, place: u32, number: usize) -> Option<Edit<
 }
 
 /// The new link, where the edit is one.
-pub(crate) fn link_in(edit: Option<Edit<'_>>) -> Option<TreeLink<'_>>
+pub(crate) fn link_in(edit: Option<ObjectEdit<'_>>) -> Option<TreeLink<'_>>
     ensures { result ≡ edited.link_in edit.entry }
 {
     match edit {
-        Some(Edit::Link(link)) => Some(link),
-        Some(Edit::Set(_) | Edit::Remove(_)) | None => None,
+        Some(ObjectEdit::Link(link)) => Some(link),
+        Some(ObjectEdit::SetAttr(_) | ObjectEdit::RemoveAttr(_)) | None => None,
     }
 }

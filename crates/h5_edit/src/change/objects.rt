@@ -10,9 +10,9 @@ ghost use Rattle.h5_edit.specs.Changed.Change.{IsPlainChange, changed};
 ghost use Rattle.h5_edit.specs.Changed.Edited.{IsEditable, edited_by, new_objects};
 
 use crate::change::attributes::others_in;
-use crate::change::cells::{kept_array, new_array};
+use crate::change::cells::{array_from, kept_array};
 use crate::change::change::{Change, Target};
-use crate::change::edit::{Edit, edit_at, edit_of, link_in};
+use crate::change::edit::{ObjectEdit, edit_at, edit_of, link_in};
 use crate::change::links::links_in;
 use h5_query::{Opened, OpenedContent, OpenedObject};
 use h5_repack::{NewContent, NewObject, Others};
@@ -55,7 +55,7 @@ fn edited_object<'a>(
     image: &'a Image,
     opened: &Opened,
     object: &OpenedObject,
-    edit: Option<Edit<'a>>,
+    edit: Option<ObjectEdit<'a>>,
 ) -> Result<NewObject<'a>, AllocError>
     requires opened { IsOpened image.now.bytes opened.now.objects.items opened.now.numbers }
     requires there { (number : ℕ) × (slice_get opened.now.objects.items number ≡ Some object.now) }
@@ -86,7 +86,7 @@ fn new_object<'a>(alloc: Global, change: &Change<'a>) -> Option<NewObject<'a>>
     };
     let content = match target {
         Target::Group => NewContent::Group(Vec::new(alloc)),
-        Target::Array(spec) => NewContent::Array(new_array(spec)),
+        Target::Array(spec) => NewContent::Array(array_from(spec)),
         Target::Object(_) | Target::Text(_) => return None,
     };
     Some(NewObject {

@@ -28,7 +28,7 @@ pub fn is_one_line(spec: &Spec) -> bool
 ///
 /// Refused by the lowest number that holds: `BadPath`, `PathTooDeep`, `IsRoot`, `NoSuchParent`, `NotAGroup`, `AlreadyThere`,
 /// `NameTooLong` above 1023 bytes, `BadSpec` where the maximum is not the size, `TooManyCells`, `ValueRange`, `TooManyObjects`.
-pub fn check_array<'a>(
+pub fn check_create_dataset<'a>(
     image: &Image,
     opened: &Opened,
     path: &'a [u8],

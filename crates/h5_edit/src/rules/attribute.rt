@@ -27,7 +27,7 @@ use std::alloc::Global;
 /// Refused by the lowest number that holds: `BadPath`, `PathTooDeep`, `NoSuchParent`, `NotAGroup`, `NotFound` also where a soft link stands
 /// there, `NameTooLong` above 1023 bytes, `BadSpec` where the name is empty or has a zero byte, or the rank is above 32, `TooManyCells`,
 /// `ValueCount`, `ValueRange`, `AttributeTooLarge` where the message's body would pass 65528 bytes. It takes no memory.
-pub fn check_attribute(
+pub fn check_set_attr(
     alloc: Global,
     image: &Image,
     opened: &Opened,
@@ -49,7 +49,7 @@ pub fn check_attribute(
 ///
 /// Refused by the lowest number that holds: `BadPath`, `PathTooDeep`, `NoSuchParent`, `NotAGroup`, `NotFound` also where a soft link stands
 /// there, `NoSuchAttribute`.
-pub fn check_removal(
+pub fn check_remove_attr(
     image: &Image,
     opened: &Opened,
     path: &[u8],

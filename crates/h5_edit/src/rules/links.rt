@@ -19,7 +19,7 @@ use h5_space::Image;
 ///
 /// Refused by the lowest number that holds: `BadPath`, `PathTooDeep`, `IsRoot`, `NoSuchParent`, `NotAGroup`, `AlreadyThere`,
 /// `NameTooLong` above 1023 bytes, `TooManyObjects`.
-pub fn check_group<'a>(
+pub fn check_create_group<'a>(
     image: &Image,
     opened: &Opened,
     path: &'a [u8],

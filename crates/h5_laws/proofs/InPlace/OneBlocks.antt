@@ -1,12 +1,12 @@
 -- An image with a table places its objects in one way: the blocks of a reading are determined too.
 use Rattle.std.proofs.Common.{◌≡◌, ℕ, ◌+◌, ◌*◌, List, [], ◌∷◌, ◌++◌, map, refl, sym, ◌∙◌, ap, ap₂, subst, arith, drop, length, Some, None}
-use Rattle.std.specs.Prelude.{option_and_then, true, false}
+use Rattle.std.specs.Prelude.{option_and_then}
 use Rattle.std.specs.List.{AllByRecursion}
 use Rattle.std.specs.Ordering.{nat_cmp}
 use Rattle.std.specs.FinMap.{FinMap, get, values}
 use Rattle.h5_bytes.specs.Blocks.{block}
 use Rattle.h5_bytes.specs.declared.Block.{Block}
-use Rattle.h5_model.specs.Format.Messages.{Message, continuations, prefix_at, first_size, first_body, count_of}
+use Rattle.h5_model.specs.Format.Messages.{Message, continuations, prefix_at, first_size, first_body}
 use Rattle.h5_model.specs.Format.Addresses.{SymbolTable}
 use Rattle.h5_model.specs.Format.Heap.{heap_blocks}
 use Rattle.h5_model.specs.Format.Nodes.{group_kind, chunk_kind, tree_blocks}
@@ -19,11 +19,9 @@ use Rattle.h5_model.specs.Format.Layout.{Layout, InMessage, InBlock, InChunks, l
 use Rattle.h5_model.specs.Format.Chunks.{Chunks, HasChunks}
 use Rattle.h5_model.specs.Tree.Objects.{Tree, Object, Content, Group, Array, Dataset}
 use Rattle.h5_model.specs.Format.Superblock.{leaf_k, internal_k, chunk_k}
-use Rattle.h5_model.specs.Format.Reads.{HasData, HasGroup, HasDataset, HasContent, HasObject, Placed, IsPlaced, ReadsAs, InDataset}
+use Rattle.h5_model.specs.Format.Reads.{HasData, HasGroup, HasDataset, HasContent, HasObject, Placed, IsPlaced, ReadsAs}
 use Rattle.h5_model.proofs.OneTree.{one_owned, one_children}
-use Rattle.h5_model.proofs.OneReading.{some_same, one_messages, one_chunks, one_object, where_of, first_or}
-use Rattle.h5_laws.proofs.Counts.{none_counted}
-use Rattle.h5_laws.proofs.Objects.{of_dataset_kind}
+use Rattle.h5_model.proofs.OneReading.{no_table, some_same, one_messages, one_chunks, one_object, where_of, first_or}
 
 one_links_blocks : (image : List ℕ) (leaf k root heap : ℕ) (l m : List (List ℕ × Target)) (bs cs : List Block)
     → HasLinks image leaf k root heap l bs → HasLinks image leaf k root heap m cs → bs ≡ cs
@@ -64,10 +62,6 @@ one_dataset_blocks image messages d e bs cs h g =
     let layout : h.layout ≡ g.layout = some_same _ _ _ (sym read ∙ h.laid_out) g.laid_out in
     let data_there : HasData image e.fixed g.layout h.chunks bs = subst (λ l. HasData image e.fixed l h.chunks bs) layout (subst (λ t. HasData image t h.layout h.chunks bs) fixed h.stored) in
     one_data_blocks image e.fixed g.layout h.chunks g.chunks bs cs data_there g.stored
-
--- a dataset has no Symbol Table message
-no_table : (ms : List Message) → AllByRecursion InDataset ms → count_of 17 ms ≡ 0
-no_table ms all = none_counted 17 ms (λ m at is. let never : false ≡ true = of_dataset_kind ms m 17 all at is in absurd (cc))
 
 one_content_blocks : (image : List ℕ) (table : FinMap nat_cmp ℕ) (messages : List Message) (a b : Content) (bs cs : List Block)
     → HasContent image table messages a bs → HasContent image table messages b cs → bs ≡ cs

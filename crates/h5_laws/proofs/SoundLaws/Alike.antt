@@ -1,5 +1,5 @@
 -- A tree with the same links is as sound.
-use Rattle.std.proofs.Common.{◌≡◌, ℕ, ◌+◌, ◌≤◌, List, [], ◌∷◌, refl, sym, ap, ◌∙◌, subst, Option, Some, None, inl, inr, arith}
+use Rattle.std.proofs.Common.{◌≡◌, ℕ, ◌+◌, ◌≤◌, List, [], ◌∷◌, refl, sym, ap, ◌∙◌, subst, Option, Some, None, arith}
 use Rattle.std.specs.Prelude.{is_some, ◌==◌, if◌then◌else◌}
 use Rattle.std.specs.Option.{option_and_then, option_map_or}
 use Rattle.std.specs.FinMap.{get, insert}
@@ -8,7 +8,7 @@ use Rattle.h5_model.specs.Tree.Paths.{object_at}
 use Rattle.h5_model.specs.Tree.Objects.{Tree, Object, Links, Link, ToObject, Soft, links_in, links_of, link_in, links_to, hard_links, follow, with_object}
 use Rattle.h5_laws.specs.Trees.Sound.{IsSoundTree}
 use Rattle.h5_laws.proofs.SoundLaws.Counts.{object_put}
-use Rattle.h5_laws.proofs.SoundLaws.Inserted.{same_number_or_other, number_here, number_other}
+use Rattle.h5_laws.proofs.SoundLaws.Inserted.{put_cases}
 use Rattle.h5_laws.proofs.SoundLaws.Sums.{weight}
 
 -- the same objects, the same links, the same counts
@@ -42,27 +42,19 @@ module _ (tree other : Tree) (alike : IsAlike tree other) where
     few = λ n some. subst (λ (k : ℕ). k ≤ 65535) (sym (alike.counts n)) (sound.few n (sym (alike.objects n) ∙ some));
   }
 
-abbrev links_at : Option Object → Option Links
+abbrev pub links_at : Option Object → Option Links
 links_at = option_and_then (λ (p : Object). links_in p.content)
 
--- an object whose content stays
-alike_put : (tree : Tree) (number : ℕ) (o new : Object) → get tree number ≡ Some o → new.content ≡ o.content → IsAlike tree (insert tree number new)
-alike_put tree number o new stands same = record {
-  objects = λ n. elim (same_number_or_other n number) [
-    | inr other ↦ ap (λ (x : Option Object). is_some x) (number_other tree number new n other)
-    | inl here ↦ ap (λ (k : ℕ). is_some (get (insert tree number new) k)) here ∙ ap (λ (x : Option Object). is_some x) (number_here tree number new)
-        ∙ sym (ap (λ (x : Option Object). is_some x) stands) ∙ ap (λ (k : ℕ). is_some (get tree k)) (sym here)
-  ];
-  links = λ n. elim (same_number_or_other n number) [
-    | inr other ↦ ap links_at (number_other tree number new n other)
-    | inl here ↦ ap (links_of (insert tree number new)) here ∙ ap links_at (number_here tree number new) ∙ ap links_in same ∙ sym (ap links_at stands)
-        ∙ ap (links_of tree) (sym here)
-  ];
+-- an object whose links stay
+pub alike_links : (tree : Tree) (number : ℕ) (o new : Object) → get tree number ≡ Some o → links_in new.content ≡ links_in o.content
+    → ((n : ℕ) → links_to n new.content ≡ links_to n o.content) → IsAlike tree (insert tree number new)
+alike_links tree number o new stands same counts = record {
+  objects = put_cases tree number o new stands (λ x y. is_some x ≡ is_some y) refl (λ x. refl);
+  links = put_cases tree number o new stands (λ x y. links_at x ≡ links_at y) same (λ x. refl);
   counts = λ n.
       let put = object_put n tree number new in
       let before = ap (weight (λ (p : Object). links_to n p.content)) stands in
-      let content = ap (links_to n) same in
-      omega (arith, put, before, content);
+      omega (arith, put, before, counts n);
 }
 
 -- a change of an object that leaves its content
@@ -71,7 +63,7 @@ pub sound_changed : (tree : Tree) (path : List ℕ) (change : Object → Object)
 sound_changed tree path change same sound = at_path (object_at tree path) where
   at_number : (number : ℕ) (found : Option Object) → get tree number ≡ found → IsSoundTree (option_map_or (λ o. insert tree number (change o)) found tree)
   at_number number None is = sound
-  at_number number (Some o) is = sound_alike tree (insert tree number (change o)) (alike_put tree number o (change o) is (same o)) sound
+  at_number number (Some o) is = sound_alike tree (insert tree number (change o)) (alike_links tree number o (change o) is (ap links_in (same o)) (λ n. ap (links_to n) (same o))) sound
 
   at_path : (found : Option ℕ) → IsSoundTree (option_map_or (λ number. with_object tree number change) found tree)
   at_path None = sound

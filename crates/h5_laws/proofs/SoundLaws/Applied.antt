@@ -1,25 +1,28 @@
--- Accepted edits that keep links keep a sound tree sound.
+-- Accepted edits keep a sound tree sound.
 use Rattle.std.proofs.Common.{◌≡◌, ℕ, ◌≤◌, true, false, List, [], ◌∷◌, length, refl, sym, ap, ◌∙◌, subst, Option, Some, None, inl, arith, nat_le}
 use Rattle.std.proofs.lemmas.Bool.Decides.{nat_tests}
 use Rattle.std.specs.Prelude.{IsSome, is_some, ◌==◌}
 use Rattle.std.specs.Option.{option_and_then, option_map_or}
 use Rattle.std.specs.FinMap.{get, insert, remove, empty, get-empty}
-use Rattle.h5_model.specs.Edits.Applied.{applied, linked, linked_to, with_links, with_attributes, new_object, new_dataset, attribute_from}
+use Rattle.h5_model.specs.Edits.Applied.{applied, linked, linked_to, with_links, with_attributes, new_object, new_dataset, attribute_from, written, resized}
 use Rattle.h5_model.specs.Tree.Paths.{names_of, locate, object_at, object_there, links_at, Located, Here, Missing, NoParent, NoGroup, NoPath}
 use Rattle.h5_model.specs.Edits.Refusal.{refusal_of, rules_of, has_zero, is_no_text}
+use Rattle.h5_model.specs.Views.Selection.{axes_of}
 use Rattle.h5_model.specs.Tree.Objects.{Tree, Object, Group, Array, Dataset, Link, ToObject, Soft, links_of, link_in, follow, hard_links}
 use Rattle.h5_model.specs.declared.edits.Edit.TheVariants.{CreateGroup, CreateDataset, HardLink, SoftLink, Unlink, SetAttr, RemoveAttr, Write, Resize}
 use Rattle.h5_model.proofs.PathLaws.{found-locate, found}
 use Rattle.h5_model.proofs.RefusalLaws.{none_holds}
 use Rattle.h5_model.proofs.WithinLaws.{neither}
-use Rattle.h5_laws.specs.Trees.Laws.{AppliedSound}
+use Rattle.h5_laws.specs.Trees.Laws.{SoundApplied}
 use Rattle.h5_laws.specs.Trees.Sound.{IsSoundTree}
 use Rattle.h5_laws.proofs.SoundLaws.Alike.{sound_changed}
 use Rattle.h5_laws.proofs.SoundLaws.Counts.{none_named, no_links}
+use Rattle.h5_laws.proofs.SoundLaws.DatasetChanges.{sound_dataset}
 use Rattle.h5_laws.proofs.SoundLaws.Grown.{IsFit, sound_grown}
 use Rattle.h5_laws.proofs.SoundLaws.Linked.{IsBare, one_more, linked_one_more, grown_linked, grown_new, new_stands, none_some}
 use Rattle.h5_laws.proofs.SoundLaws.LinksThere.{group_stands}
 use Rattle.h5_laws.proofs.SoundLaws.NewPaths.{IsFree, new_is_free}
+use Rattle.h5_laws.proofs.SoundLaws.Unlinked.{sound_unlinked}
 
 -- a link at a free path is a link more of the group there
 pub linked_is : (tree : Tree) (path : List ℕ) (link : Link) (f : IsFree tree path) → linked tree path link ≡ one_more tree f.parent f.name link f.group f.free
@@ -158,22 +161,22 @@ many_rule tree next target path accepted =
     let rules = none_holds (rules_of tree next (HardLink target path)) accepted in
     rules.1.1.1.1.1.1.1.1.1.1.1.1.1.1.1.1.1.1.1.1.1.1.1.1.1.0
 
--- ---- every edit that keeps links
+-- ---- every edit
 
-pub applied_sound : AppliedSound
+pub sound_applied : SoundApplied
 unfolding applied
-applied_sound tree number next (CreateGroup path) sound fresh keeps accepted =
+sound_applied tree number next (CreateGroup path) sound fresh accepted =
     sound_made tree path number (new_object (Group empty)) sound (new_is_free tree next (CreateGroup path) path (inl refl) accepted) fresh bare_group
-applied_sound tree number next (CreateDataset path spec) sound fresh keeps accepted =
+sound_applied tree number next (CreateDataset path spec) sound fresh accepted =
     sound_made tree path number (new_object (Array (new_dataset spec))) sound (new_is_free tree next (CreateDataset path spec) path (inl refl) accepted) fresh (bare_array (new_dataset spec))
-applied_sound tree number next (HardLink target path) sound fresh keeps accepted =
+sound_applied tree number next (HardLink target path) sound fresh accepted =
     sound_linked_to tree target path sound (new_is_free tree next (HardLink target path) path (inl refl) accepted) (group_rule tree next target path accepted)
     (many_rule tree next target path accepted)
-applied_sound tree number next (SoftLink text path) sound fresh keeps accepted =
+sound_applied tree number next (SoftLink text path) sound fresh accepted =
     sound_soft tree path sound (new_is_free tree next (SoftLink text path) path (inl refl) accepted) text (text_rule tree next text path accepted)
-applied_sound tree number next (Unlink path) sound fresh keeps accepted = absurd (let never : false ≡ true = keeps in cc)
-applied_sound tree number next (SetAttr path attr) sound fresh keeps accepted =
+sound_applied tree number next (Unlink path) sound fresh accepted = sound_unlinked tree path sound
+sound_applied tree number next (SetAttr path attr) sound fresh accepted =
     sound_changed tree path (with_attributes (λ m. insert m attr.name (attribute_from attr))) (λ o. refl) sound
-applied_sound tree number next (RemoveAttr path name) sound fresh keeps accepted = sound_changed tree path (with_attributes (λ m. remove m name)) (λ o. refl) sound
-applied_sound tree number next (Write path hyper values) sound fresh keeps accepted = absurd (let never : false ≡ true = keeps in cc)
-applied_sound tree number next (Resize path dims) sound fresh keeps accepted = absurd (let never : false ≡ true = keeps in cc)
+sound_applied tree number next (RemoveAttr path name) sound fresh accepted = sound_changed tree path (with_attributes (λ m. remove m name)) (λ o. refl) sound
+sound_applied tree number next (Write path hyper values) sound fresh accepted = sound_dataset tree path (written (axes_of hyper) values) sound
+sound_applied tree number next (Resize path dims) sound fresh accepted = sound_dataset tree path (resized dims) sound

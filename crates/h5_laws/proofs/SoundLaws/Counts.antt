@@ -4,10 +4,11 @@ use Rattle.std.proofs.lemmas.Bool.Decides.{nat_tests}
 use Rattle.std.specs.Prelude.{◌==◌}
 use Rattle.std.specs.Cmp.{nat_cmp_total}
 use Rattle.std.specs.Cmp.Lexicographic.{nat_list_cmp_total}
-use Rattle.std.specs.FinMap.{get, insert, empty, get-empty, nat_cmp-IsAntisymmetric}
+use Rattle.std.specs.FinMap.{get, insert, remove, empty, get-empty, nat_cmp-IsAntisymmetric}
 use Rattle.h5_model.specs.Tree.Objects.{Tree, Object, Content, Group, Array, Links, Link, ToObject, Soft, link_in, leads_to, links_to, hard_links}
 use Rattle.h5_model.specs.Edits.Applied.{new_object}
-use Rattle.h5_laws.proofs.SoundLaws.Sums.{weight, sum_insert, sum_none, sum_least, sum_two}
+use Rattle.h5_laws.proofs.SoundLaws.Sums.{weight, sum_insert, sum_none, sum_least, sum_two, sum_fewer}
+use Rattle.h5_laws.proofs.SoundLaws.Inserted.{names_differ, removed_was}
 use Rattle.h5_laws.proofs.SoundLaws.LinksThere.{GroupAt, LinkAt, link_at, link_is}
 
 -- 1 for a link to the object, and 0 for any other
@@ -32,6 +33,16 @@ object_put n tree k o = sum_insert nat_cmp_total (led_by n) tree k o
 
 pub no_links : (n : ℕ) → links_to n (Group empty) ≡ 0
 no_links n = sum_none nat_list_cmp_total (adds n) empty (λ name link is. absurd (let never : None ≡ Some link = sym (get-empty _ name) ∙ is in cc))
+
+-- where no object has more links to it than before, there are no more of them
+pub fewer_links : (n : ℕ) (tree fewer : Tree) → ((k : ℕ) (o : Object) → get fewer k ≡ Some o → links_to n o.content ≤ weight (led_by n) (get tree k))
+    → hard_links fewer n ≤ hard_links tree n
+fewer_links n tree fewer low = sum_fewer nat_cmp_total (led_by n) nat_cmp-IsAntisymmetric empty_group (no_links n) tree fewer low
+
+pub fewer_removed : (n : ℕ) (links : Links) (name : List ℕ) → links_to n (Group (remove links name)) ≤ links_to n (Group links)
+fewer_removed n links name =
+    sum_fewer nat_list_cmp_total (adds n) names_differ (Soft []) refl links (remove links name)
+    (λ x l is. let was = ap (weight (adds n)) (removed_was links name x l is) in omega (arith, was))
 
 -- ---- what a count says
 

@@ -1,39 +1,12 @@
 -- A change of a dataset leaves the links of a tree, so it keeps a sound tree sound.
-use Rattle.std.proofs.Common.{◌≡◌, ℕ, List, refl, sym, ap, ◌∙◌, Option, Some, None, inl, inr, arith}
-use Rattle.std.specs.Prelude.{is_some}
-use Rattle.std.specs.Option.{option_and_then, option_map_or}
+use Rattle.std.proofs.Common.{◌≡◌, ℕ, List, refl, Option, Some, None}
+use Rattle.std.specs.Option.{option_map_or}
 use Rattle.std.specs.FinMap.{get, insert}
 use Rattle.h5_model.specs.Edits.Applied.{with_object_at, with_dataset}
 use Rattle.h5_model.specs.Tree.Paths.{object_at}
-use Rattle.h5_model.specs.Tree.Objects.{Tree, Object, Content, Group, Array, Dataset, Links, links_in, links_of, links_to, with_object}
+use Rattle.h5_model.specs.Tree.Objects.{Tree, Object, Content, Group, Array, Dataset, links_in, links_to, with_object}
 use Rattle.h5_laws.specs.Trees.Sound.{IsSoundTree}
-use Rattle.h5_laws.proofs.SoundLaws.Alike.{IsAlike, sound_alike}
-use Rattle.h5_laws.proofs.SoundLaws.Counts.{object_put}
-use Rattle.h5_laws.proofs.SoundLaws.Inserted.{same_number_or_other, number_here, number_other}
-use Rattle.h5_laws.proofs.SoundLaws.Sums.{weight}
-
-abbrev links_at : Option Object → Option Links
-links_at = option_and_then (λ (p : Object). links_in p.content)
-
--- an object whose links stay
-pub alike_links : (tree : Tree) (number : ℕ) (o new : Object) → get tree number ≡ Some o → links_in new.content ≡ links_in o.content
-    → ((n : ℕ) → links_to n new.content ≡ links_to n o.content) → IsAlike tree (insert tree number new)
-alike_links tree number o new stands same counts = record {
-  objects = λ n. elim (same_number_or_other n number) [
-    | inr other ↦ ap (λ (x : Option Object). is_some x) (number_other tree number new n other)
-    | inl here ↦ ap (λ (k : ℕ). is_some (get (insert tree number new) k)) here ∙ ap (λ (x : Option Object). is_some x) (number_here tree number new)
-        ∙ sym (ap (λ (x : Option Object). is_some x) stands) ∙ ap (λ (k : ℕ). is_some (get tree k)) (sym here)
-  ];
-  links = λ n. elim (same_number_or_other n number) [
-    | inr other ↦ ap links_at (number_other tree number new n other)
-    | inl here ↦ ap (links_of (insert tree number new)) here ∙ ap links_at (number_here tree number new) ∙ same ∙ sym (ap links_at stands)
-        ∙ ap (links_of tree) (sym here)
-  ];
-  counts = λ n.
-      let put = object_put n tree number new in
-      let before = ap (weight (λ (p : Object). links_to n p.content)) stands in
-      omega (arith, put, before, counts n);
-}
+use Rattle.h5_laws.proofs.SoundLaws.Alike.{sound_alike, alike_links}
 
 kept_links : (change : Dataset → Dataset) (o : Object) → links_in (with_dataset change o).content ≡ links_in o.content
 kept_links change o = go o.content where

@@ -12,6 +12,7 @@ use Rattle.h5_laws.specs.Trees.Sound.{IsSoundTree}
 use Rattle.h5_laws.proofs.SoundLaws.Counts.{adds, leads_itself, leads_or, unled, none_named}
 use Rattle.h5_laws.proofs.SoundLaws.Depths.{Depth, at_root, deeper, depth_path, one_depth}
 use Rattle.h5_laws.proofs.SoundLaws.LinksThere.{holds_links, group_stands}
+use Rattle.h5_laws.proofs.SoundLaws.Paths.{same_way}
 
 -- the second tree is the first with this link more, and with the object that it names, if that is new
 pub record IsGrown (tree grown : Tree) (parent : ℕ) (name : List ℕ) (link : Link) : Type 0 where
@@ -88,13 +89,7 @@ module _ (tree grown : Tree) (parent : ℕ) (name : List ℕ) (link : Link) (sou
 
   -- what a path led to, it leads to
   pub paths_stay : (path : List (List ℕ)) (from to : Link) → follow tree from path ≡ Some to → follow grown from path ≡ Some to
-  paths_stay [] from to is = is
-  paths_stay (x ∷ path) (Soft text) to is = is
-  paths_stay (x ∷ path) (ToObject n) to is = elim (link_in tree n x) as (λ o. link_in tree n x ≡ o → option_and_then (λ l. follow tree l path) o ≡ Some to
-      → follow grown (ToObject n) (x ∷ path) ≡ Some to) [
-        | None ↦ λ there no. absurd (let never : None ≡ Some to = no in cc)
-        | Some l ↦ λ there rest. ap (option_and_then (λ (y : Link). follow grown y path)) (grows.old n x l there) ∙ paths_stay path l to rest
-      ] refl is
+  paths_stay = same_way tree grown grows.old
 
   reached : (n : ℕ) → IsSome (get grown n) → (path : List (List ℕ)) × (follow grown (ToObject 0) path ≡ Some (ToObject n))
   reached n some = elim (grows.got n some) [

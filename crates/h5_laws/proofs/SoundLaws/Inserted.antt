@@ -1,10 +1,10 @@
 -- What a map looks up after one entry is put.
-use Rattle.std.proofs.Common.{◌≡◌, ℕ, Bool, true, false, cond, List, refl, sym, ap, ◌∙◌, Some, ◌⊎◌, inl, inr}
+use Rattle.std.proofs.Common.{◌≡◌, ℕ, Bool, true, false, cond, List, refl, sym, ap, ◌∙◌, subst, Option, Some, None, ◌⊎◌, inl, inr}
 use Rattle.std.specs.Ordering.{nat_cmp, is_eq, eq_by_cmp}
 use Rattle.std.specs.declared.cmp.Ordering.{Ordering}
 use Rattle.std.specs.Cmp.{IsTotalOrder, Equal-is, tied_itself, nat_cmp_total}
 use Rattle.std.specs.Cmp.Lexicographic.{slice_cmp, nat_list_cmp_total}
-use Rattle.std.specs.FinMap.{FinMap, IsAntisymmetric, nat_cmp-IsAntisymmetric, slice_cmp-IsAntisymmetric, get, insert, get-insert}
+use Rattle.std.specs.FinMap.{FinMap, IsAntisymmetric, nat_cmp-IsAntisymmetric, slice_cmp-IsAntisymmetric, get, insert, remove, get-insert, get-remove}
 
 module _ {K : Type 0} {R : K → K → Ordering} (o : IsTotalOrder R) (same : IsAntisymmetric R) where
   tested : (b : Bool) (q k : K) → eq_by_cmp R q k ≡ b → (q ≡ k) ⊎ (q ≡ k → ⊥)
@@ -50,3 +50,21 @@ name_here m k v = insert_here nat_list_cmp_total names_differ m k v
 
 pub name_other : {X : Type 0} (m : FinMap (slice_cmp nat_cmp) X) (k : List ℕ) (v : X) (q : List ℕ) → (q ≡ k → ⊥) → get (insert m k v) q ≡ get m q
 name_other m k v q other = insert_other nat_list_cmp_total names_differ m k v q other
+
+-- what is so of the two values at this number, and of any value and itself, is so at each number
+pub put_cases : {X : Type 0} (m : FinMap nat_cmp X) (number : ℕ) (old new : X) → get m number ≡ Some old → (P : Option X → Option X → Type 0) → P (Some new) (Some old)
+    → ((x : Option X) → P x x) → (n : ℕ) → P (get (insert m number new) n) (get m n)
+put_cases {X = X} m number old new stands P changed same n = elim (same_number_or_other n number) [
+  | inr other ↦ subst (λ (x : Option X). P x (get m n)) (sym (number_other m number new n other)) (same (get m n))
+  | inl here ↦
+      let there : P (Some new) (get m number) = subst (P (Some new)) (sym stands) changed in
+      let both : P (get (insert m number new) number) (get m number) = subst (λ (x : Option X). P x (get m number)) (sym (number_here m number new)) there in
+      subst (λ (k : ℕ). P (get (insert m number new) k) (get m k)) (sym here) both
+]
+
+-- what a name leads to after another was removed, it led to before
+pub removed_was : {X : Type 0} (m : FinMap (slice_cmp nat_cmp) X) (k q : List ℕ) (v : X) → get (remove m k) q ≡ Some v → get m q ≡ Some v
+removed_was m k q v is = go (eq_by_cmp (slice_cmp nat_cmp) q k) (sym (get-remove nat_list_cmp_total m k q) ∙ is) where
+  go : (b : Bool) → cond b None (get m q) ≡ Some v → get m q ≡ Some v
+  go true none = absurd (let never : None ≡ Some v = none in cc)
+  go false there = there

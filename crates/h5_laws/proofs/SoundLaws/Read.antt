@@ -70,7 +70,8 @@ record IsListed (image : List ℕ) (table : FinMap nat_cmp ℕ) (name : List ℕ
   same : IsSame table (name, link) target
 
 module _ (image : List ℕ) (table : FinMap nat_cmp ℕ) (tree : Tree) (placed : List Placed) (reads : ReadsAs image table tree placed) where
-  placed_at : (n : ℕ) (o : Object) → get tree n ≡ Some o → (x : Placed) × In x placed × (x.number ≡ n) × (x.object ≡ o)
+  -- an object of the tree is placed
+  pub placed_at : (n : ℕ) (o : Object) → get tree n ≡ Some o → (x : Placed) × In x placed × (x.number ≡ n) × (x.object ≡ o)
   placed_at n o stands =
       let there : In (n, o) (map (λ (x : Placed). (x.number, x.object)) placed) = subst (In (n, o)) reads.holds.objects (entry_of_get tree n o stands) in
       let by = from_map (λ (x : Placed). (x.number, x.object)) (n, o) placed there in

@@ -1,18 +1,18 @@
 -- Sums over the values of a map.
-use Rattle.std.proofs.Common.{◌≡◌, ℕ, ◌+◌, ◌≤◌, cond, List, [], ◌∷◌, map, refl, ap, ◌∙◌, Option, Some, None, inl, inr, arith}
+use Rattle.std.proofs.Common.{◌≡◌, ℕ, ◌+◌, ◌≤◌, true, false, cond, List, [], ◌∷◌, map, refl, sym, ap, ◌∙◌, subst, Option, Some, None, inl, inr, arith}
 use Rattle.std.specs.Prelude.{T}
 use Rattle.std.specs.List.{sum_by}
 use Rattle.std.specs.Option.{option_map_or}
 use Rattle.std.specs.Ordering.{is_lt, is_eq}
 use Rattle.std.specs.declared.cmp.Ordering.{Ordering}
 use Rattle.std.specs.declared.cmp.Ordering.TheVariants.{Less, Equal, Greater}
-use Rattle.std.specs.Cmp.{IsTotalOrder}
+use Rattle.std.specs.Cmp.{IsTotalOrder, tied_itself}
 use Rattle.std.specs.FinMap.{FinMap, IsAntisymmetric, get, insert, entries, values, find, put, is_sorted, get-entries, entries_sorted, entries-insert}
 use Rattle.std.specs.FinMap.Entries.{below_all, by_order}
 use Rattle.std.proofs.lemmas.List.Sums.{sum_by-cons}
-use Rattle.h5_model.proofs.ReachLaws.{halves}
+use Rattle.h5_model.proofs.ReachLaws.{halves, below_entry}
 use Rattle.h5_laws.proofs.Lists.{In}
-use Rattle.h5_laws.proofs.Maps.{true_of, get_of_entry}
+use Rattle.h5_laws.proofs.Maps.{true_of, to_entry, get_of_entry}
 use Rattle.h5_laws.proofs.Ascending.{less_of}
 use Rattle.h5_laws.proofs.SoundLaws.Inserted.{insert_other}
 
@@ -26,6 +26,12 @@ module _ {K X : Type 0} {R : K → K → Ordering} (o : IsTotalOrder R) where
   lower x k (e ∷ es) low below =
       let split : T (is_lt (R x e.0)) × T (below_all R x es) = halves _ _ below in
       ap (λ r. cond (is_eq r) (Some e.1) (find R k es)) (o.trans k x e.0 low (less_of _ (true_of _ split.0))) ∙ lower x k es low split.1
+
+  -- the key of an entry is not that of a later one
+  above : (e : K × X) (es : List (K × X)) (k : K) (v : X) → T (below_all R e.0 es) → In (k, v) es → k ≡ e.0 → ⊥
+  above e es k v below at same =
+      let later : is_lt (R e.0 k) ≡ true = below_entry R e.0 k v es below (to_entry es k v at) in
+      let never : false ≡ true = sym (ap is_lt (tied_itself o e.0)) ∙ ap (λ (x : K). is_lt (R e.0 x)) (sym same) ∙ later in absurd (cc)
 
   module _ (f : X → ℕ) where
     abbrev total : List (K × X) → ℕ
@@ -69,3 +75,21 @@ module _ {K X : Type 0} {R : K → K → Ordering} (o : IsTotalOrder R) where
     sum_two same z nothing m a b u v other first second =
         let rest : f v ≤ sum_by f (values (insert m a z)) = sum_least z nothing (insert m a z) b v (insert_other o same m a z b other ∙ second) in
         omega (arith, sum_insert m a z, nothing, ap (weight f) first, rest)
+
+    -- where each value counts for no more than what the other map has there, the sum is no more
+    total_fewer : IsAntisymmetric R → (z : X) → f z ≡ 0 → (es : List (K × X)) → T (is_sorted R es) → (m : FinMap R X)
+        → ((k : K) (v : X) → In (k, v) es → f v ≤ weight f (get m k)) → total es ≤ sum_by f (values m)
+    total_fewer same z nothing [] sorted m low = omega arith
+    total_fewer same z nothing (e ∷ es) sorted m low =
+        let split : T (below_all R e.0 es) × T (is_sorted R es) = halves _ _ sorted in
+        let other : (k : K) (v : X) → In (k, v) es → k ≡ e.0 → ⊥ = λ k v at. above e es k v split.0 at in
+        let later : (k : K) (v : X) → In (k, v) es → f v ≤ weight f (get (insert m e.0 z) k)
+        = λ k v at. subst (λ (x : Option X). f v ≤ weight f x) (sym (insert_other o same m e.0 z k (other k v at))) (low k v (inr at)) in
+        let rest : total es ≤ sum_by f (values (insert m e.0 z)) = total_fewer same z nothing es split.1 (insert m e.0 z) later in
+        let first : f e.1 ≤ weight f (get m e.0) = low e.0 e.1 (inl refl) in
+        omega (arith, total_cons e es, rest, sum_insert m e.0 z, nothing, first)
+
+    pub sum_fewer : IsAntisymmetric R → (z : X) → f z ≡ 0 → (m fewer : FinMap R X) → ((k : K) (v : X) → get fewer k ≡ Some v → f v ≤ weight f (get m k))
+        → sum_by f (values fewer) ≤ sum_by f (values m)
+    sum_fewer same z nothing m fewer low =
+        total_fewer same z nothing (entries fewer) (entries_sorted fewer) m (λ k v at. low k v (get_of_entry o fewer k v at))

@@ -5,11 +5,7 @@ use Rattle.h5_bytes.specs.Bytes.{little_bytes, undefined}
 use Rattle.h5_bytes.specs.Texts.{pad8}
 use Rattle.h5_model.specs.Format.Sizes.{attribute_size, dataspace_length as dataspace_size}
 use Rattle.h5_model.specs.Format.Fixed.{Fixed, bytes_of}
-use Rattle.h5_model.specs.Format.Plain.{padded_text, cells_bytes}
-
--- bytes with zeros behind them, so many in all
-abbrev pub padded : List ℕ → ℕ → List ℕ
-padded bytes n = bytes ++ replicate (n - length bytes) 0
+use Rattle.h5_model.specs.Format.Plain.{padded, padded_text, cells_bytes}
 
 -- a body as a message has it, with zeros up to a multiple of 8 (section IV.A.1.a)
 abbrev pub raised : List ℕ → List ℕ

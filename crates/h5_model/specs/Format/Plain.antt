@@ -1,6 +1,6 @@
 -- The plain layout: the bytes of each structure as an image that is written anew has them (File Format Specification 3.0, sections
 -- II.A, III and IV.A). Its blocks follow each other without gaps.
-use Rattle.std.specs.Prelude.{ℕ, ◌-◌, nat_le, if◌then◌else◌, ℤ, List, [], ◌∷◌, ◌++◌, length}
+use Rattle.std.specs.Prelude.{ℕ, ◌-◌, nat_le, if◌then◌else◌, ℤ, List, [], ◌∷◌, ◌++◌, length, replicate}
 use Rattle.std.specs.List.{flat_map}
 use Rattle.h5_bytes.specs.Bytes.{undefined}
 use Rattle.h5_bytes.specs.Numbers.{short, middle, word, zeros}
@@ -9,6 +9,10 @@ use Rattle.h5_model.specs.Format.Heap.{heap_signature}
 use Rattle.h5_model.specs.Format.Nodes.{Kind, node_signature, node_length}
 use Rattle.h5_model.specs.Format.Fixed.{Fixed, bytes_of}
 use Rattle.h5_model.specs.Format.Sizes.{text_span}
+
+-- bytes with zeros behind them, so many in all
+abbrev pub padded : List ℕ → ℕ → List ℕ
+padded bytes n = bytes ++ replicate (n - length bytes) 0
 
 -- versions 0, sizes of 8 bytes, the K values, base address 0, and the root entry with its tree and heap
 abbrev pub superblock_bytes : ℕ → ℕ → ℕ → ℕ → ℕ → ℕ → List ℕ
@@ -37,12 +41,10 @@ rows_bytes [] children = []
 rows_bytes (key ∷ keys) [] = key
 rows_bytes (key ∷ keys) (child ∷ children) = key ++ (word child ++ rows_bytes keys children)
 
-abbrev pub filled_to : ℕ → List ℕ → List ℕ
-filled_to len bytes = bytes ++ zeros (len - length bytes)
-
 abbrev pub node_bytes_of : Kind → ℕ → ℕ → ℕ → List (List ℕ) → List ℕ → List ℕ
-node_bytes_of kind level left right keys children = filled_to (node_length kind)
+node_bytes_of kind level left right keys children = padded
     (node_signature ++ (kind.type_byte ∷ level ∷ (short (length children) ++ (word left ++ (word right ++ rows_bytes keys children)))))
+    (node_length kind)
 
 abbrev pub heap_header_bytes : ℕ → ℕ → ℕ → List ℕ
 heap_header_bytes size head segment = heap_signature ++ (zeros 4 ++ (word size ++ (word head ++ word segment)))

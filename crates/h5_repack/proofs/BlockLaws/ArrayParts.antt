@@ -10,7 +10,7 @@ use Rattle.h5_model.specs.Format.Sizes.{message_size}
 use Rattle.h5_model.specs.Tree.Objects.{are_sizes}
 use Rattle.h5_model.proofs.PlainValues.{length-cells_bytes}
 use Rattle.h5_msg.proofs.FillLaws.{length-fill_bytes}
-use Rattle.h5_msg.proofs.PaddedLaws.{length-raised}
+use Rattle.h5_model.proofs.PaddedLaws.{length-raised}
 use Rattle.h5_repack.specs.Bodies.Bodies.{space_body, type_message, fill_message, fill_messages, layout_message}
 use Rattle.h5_repack.specs.declared.blocks.array.Array.{Array}
 use Rattle.h5_repack.specs.Blocks.ArrayHeader.{array_list, header_written, messages_count, messages_size}

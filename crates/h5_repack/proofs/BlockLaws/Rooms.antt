@@ -4,10 +4,10 @@ use Rattle.std.proofs.lemmas.List.{length-replicate, length-take, length-drop}
 use borrow.Rule.Slice.PartMut.{put_mid}
 use Rattle.h5_bytes.specs.Numbers.{short, zeros}
 use Rattle.h5_bytes.specs.Texts.{pad8}
-use Rattle.h5_model.specs.Format.Bodies.{padded, raised}
-use Rattle.h5_model.specs.Format.Plain.{message_bytes}
+use Rattle.h5_model.specs.Format.Bodies.{raised}
+use Rattle.h5_model.specs.Format.Plain.{padded, message_bytes}
 use Rattle.h5_bytes.proofs.TailLaws.{tail_written}
-use Rattle.h5_msg.proofs.PaddedLaws.{length-raised}
+use Rattle.h5_model.proofs.PaddedLaws.{length-raised}
 use Rattle.h5_repack.specs.Blocks.Parts.{message_head, message_room}
 
 module _ (kind size len at : ℕ) (out room whole : List ℕ) (made : room ≡ out ++ message_room kind size) (place : at ≡ length out + 8)

@@ -30,7 +30,7 @@ use Rattle.h5_model.proofs.PlainValues.{size-low, size-high, length-cells_bytes,
 use Rattle.h5_msg.proofs.DatatypeLaws.{fixed_back}
 use Rattle.h5_msg.proofs.FillLaws.{fill_back, length-fill_bytes}
 use Rattle.h5_msg.proofs.LayoutLaws.{IsAddress, contiguous_back}
-use Rattle.h5_msg.proofs.PaddedLaws.{length-raised}
+use Rattle.h5_model.proofs.PaddedLaws.{length-raised}
 use Rattle.h5_repack.specs.Bodies.Bodies.{others_of, space_body, type_message, fill_message, layout_message}
 use Rattle.h5_repack.specs.Bodies.Laws.{ArrayReads, counted_header}
 use Rattle.h5_repack.specs.Bodies.Headers.{is_stored, data_of}

@@ -9,7 +9,7 @@ use Rattle.h5_model.specs.Tree.Places.{cells}
 use Rattle.h5_model.specs.Format.Plain.{header_bytes, messages_bytes}
 use Rattle.h5_model.specs.Format.Sizes.{array_messages as messages_size, message_size}
 use Rattle.h5_model.specs.Tree.Objects.{Dataset, Contiguous, are_sizes}
-use Rattle.h5_msg.proofs.PaddedLaws.{length-raised}
+use Rattle.h5_model.proofs.PaddedLaws.{length-raised}
 use Rattle.h5_msg.proofs.FillLaws.{length-fill_bytes}
 use Rattle.h5_repack.specs.Bodies.Bodies.{others_of, space_body, type_message, fill_message, fill_messages, layout_message, array_messages}
 use Rattle.h5_repack.specs.Bodies.Laws.{ArrayLength}

@@ -12,3 +12,8 @@ pub walked-requires-clause-whole : goal.walked-requires-clause-whole
 walked-requires-clause-whole c =
     let front : c.in-Ok.front.items ≡ cut c.args.bytes.items = c.in-Ok.ensures.items ∙ ap (take c.args.end) c.deref.ensures.value ∙ ap (λ n. take n c.args.bytes.items) c.requires.end in
     rw (c.new.ensures, front) (cut_ends c.args.bytes.items c.requires.superblock)
+
+pub returns-in-Err-clause-only : goal.returns-in-Err-clause-only
+returns-in-Err-clause-only c =
+    let front : c.in-Ok.front.items ≡ cut c.args.bytes.items = c.in-Ok.ensures.items ∙ ap (take c.args.end) c.deref.ensures.value ∙ ap (λ n. take n c.args.bytes.items) c.requires.end in
+    λ carried. c.in-Err.ensures.only (rw (c.new.ensures, front) carried)

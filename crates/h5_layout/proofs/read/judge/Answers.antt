@@ -1,9 +1,10 @@
-use Rattle.std.proofs.Common.{rules, ◌≡◌, Some, to_z, of_z, arith}
+use Rattle.std.proofs.Common.{rules, ◌≡◌, ◌≤◌, ◌^◌, Some, to_z, of_z, arith}
 use Rattle.std.proofs.lemmas.Result.{err_from_is_err_and}
 use mir.Syntax.{w128}
 use Rattle.h5_model.specs.Format.Datatype.{fixed_of}
 use Rattle.h5_model.specs.Format.Reached.{extent_among, type_among}
 use Rattle.h5_header.specs.Listed.{messages_in}
+use Rattle.h5_model.specs.Tree.Places.{extent_cells}
 use Rattle.h5_msg.specs.Layouts.{layout_in}
 use Rattle.h5_layout.proofs.RoomLaws.{room_of}
 use Rattle.h5_layout.proofs.BreachLaws.{late_breach}
@@ -21,12 +22,14 @@ returns-in_err-layout-clause-first c =
 
 pub invariant_of-result : goal.invariant_of-result
 invariant_of-result c =
-    let passed : to_z w128 (of_z w128 c.in_ok-fill.fill) ≡ c.in_ok-fill.fill = search rules in (
-      c.in_ok-dims.ensures.sizes,
+    let passed : to_z w128 (of_z w128 c.in_ok-fill.fill) ≡ c.in_ok-fill.fill = search rules in
+    let sizes : c.in_ok-dims.dims ≡ c.in_ok-dims.extent.sizes = c.in_ok-dims.ensures.sizes in
+    let small : extent_cells c.in_ok-dims.dims ≤ 2 ^ 40 = rw sizes c.in_ok-dims.ensures.small in (
+      sizes,
       rw passed c.in_ok-fill.ensures.of_type,
       record {
-        small = c.in_ok-dims.ensures.small;
-        room = room_of c.in_ok-dims.extent.sizes c.in_ok-fixed.fixed.size c.one_body-3.result.now (layout_in c.in_ok-layout.layout) (rw c.in_ok-dims.ensures.sizes at c.in_ok-layout.ensures.told);
+        small = small;
+        room = room_of c.in_ok-dims.dims c.in_ok-fixed.fixed.size c.one_body-3.result.now (layout_in c.in_ok-layout.layout) c.in_ok-layout.ensures.told;
         chunk_small = c.in_ok-layout.ensures.small;
       },
     )

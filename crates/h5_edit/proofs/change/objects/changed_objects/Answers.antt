@@ -13,7 +13,7 @@ use Rattle.h5_repack.specs.declared.objects.object.NewObject.{NewObject}
 use Rattle.h5_edit.specs.Changed.Change.{IsPlainChange}
 use Rattle.h5_edit.specs.Changed.Edited.{IsEditOf, IsEditable, edit_at}
 use Rattle.h5_edit.specs.declared.change.change.Change.{Change}
-use Rattle.h5_edit.specs.declared.change.edit.Edit.{Edit}
+use Rattle.h5_edit.specs.declared.change.edit.ObjectEdit.{ObjectEdit}
 use Rattle.h5_edit.proofs.ChangedLaws.ChangeLaws.{all_written, editable, editable_at, new_plain, written_more}
 use Rattle.h5_edit.proofs.change.objects.changed_objects.Goals as goal
 use Rattle.h5_edit.proofs.change.objects.changed_objects.Goals.{in-Some+in_ok-push-2, in_default}
@@ -23,11 +23,11 @@ item_at : (objects slice : List OpenedObject) (i : ℕ) (o : OpenedObject) → s
 item_at objects slice i o same low is =
     slice_get_read objects (length slice) i o (ap length same) low (is ∙ ap (λ (xs : List OpenedObject). get_or xs i o) same)
 
-edit_for : (change : Change) (n m place : ℕ) (e : Edit) → n ≡ m → IsEditOf change n place e → IsEditOf change m place e
+edit_for : (change : Change) (n m place : ℕ) (e : ObjectEdit) → n ≡ m → IsEditOf change n place e → IsEditOf change m place e
 edit_for change n m place e same is = subst (λ k. IsEditOf change k place e) same is
 
-own_editable : (image : List ℕ) (objects : List OpenedObject) (change : Change) (plain : IsPlainChange (tree_of image objects) (length objects) change) (place : ℕ) (e : Edit)
-    → IsEditOf change (length objects) place e → (i : ℕ) (o : OpenedObject) → slice_get objects i ≡ Some o → (n : ℕ) → n ≡ i → (own : Option Edit) → own ≡ edit_at e place n
+own_editable : (image : List ℕ) (objects : List OpenedObject) (change : Change) (plain : IsPlainChange (tree_of image objects) (length objects) change) (place : ℕ) (e : ObjectEdit)
+    → IsEditOf change (length objects) place e → (i : ℕ) (o : OpenedObject) → slice_get objects i ≡ Some o → (n : ℕ) → n ≡ i → (own : Option ObjectEdit) → own ≡ edit_at e place n
     → IfSome own (IsEditable (object_in image (headers objects) o))
 own_editable image objects change plain place e is i o at n same own own_is =
     subst (λ x. IfSome x (IsEditable (object_in image (headers objects) o))) (sym own_is)

@@ -1,64 +1,45 @@
-use Rattle.std.proofs.Common.{rules, ◌≡◌, ◌<◌, ◌*◌, ℤ, Some, length, to_z, of_z, true, sym, ap, ◌∙◌}
-use Rattle.std.specs.Prelude.{nat_le, slice_get}
+use Rattle.std.proofs.Common.{rules, ◌≡◌, ◌<◌, ℕ, ℤ, List, Option, None, Some, length, to_z, of_z, sym, ap, ◌∙◌, subst}
+use Rattle.std.specs.Prelude.{slice_get}
 use Rattle.std.specs.FinMap.{empty}
 use Rattle.std.specs.Option.{option_map_or}
 use mir.Syntax.{w128}
-use Rattle.h5_bytes.specs.Bytes.{part}
-use Rattle.h5_bytes.specs.declared.Block.{Block}
-use Rattle.h5_model.specs.Tree.Places.{cells, index_of}
-use Rattle.h5_model.specs.Format.Cells.{value_in, cell_of}
-use Rattle.h5_msg.specs.Layouts.{layout_in}
-use Rattle.h5_layout.specs.Described.{Described, array_of, dataset_in}
-use Rattle.h5_layout.proofs.RoomLaws.{place_room, get-cells, message_cell, block_cell}
+use Rattle.h5_model.specs.Tree.Places.{cells}
+use Rattle.h5_model.specs.Format.Cells.{value_in}
+use Rattle.h5_layout.specs.Described.{Described, dataset_in}
+use Rattle.h5_layout.specs.Stored.{data_in, IsArray, IsUnchunked}
+use Rattle.h5_layout.proofs.RoomLaws.{place_room, get-cells, data_cell, data_room}
 use Rattle.h5_layout.proofs.array.ArrayRef.value.Goals as goal
-use Rattle.h5_layout.proofs.array.ArrayRef.value.Goals.{After-self}
 
--- the value, by its fields
-here : (c : After-self) → Described
-here c = array_of c.self.inside.fixed c.self.inside.extent c.self.inside.fill (layout_in c.self.inside.layout)
-
-below : (c : After-self) → c.args.place < cells c.self.inside.extent.sizes
-below c = rw (← c.self.view_is) at c.requires.below
-
--- the cell, by the layout
-found : (c : After-self) → slice_get (dataset_in c.args.image.now.bytes c.args.self.now empty).cells c.args.place
-    ≡ Some (cell_of c.args.image.now.bytes c.self.inside.fixed c.self.inside.fill c.self.inside.extent.sizes (layout_in c.self.inside.layout) empty (index_of c.self.inside.extent.sizes c.args.place))
-unfolding here
-found c =
-    ap (λ (a : Described). slice_get (dataset_in c.args.image.now.bytes a empty).cells c.args.place) (sym c.self.view_is)
-    ∙ get-cells c.args.image.now.bytes (here c) empty c.args.place (below c)
+-- the value at a place in the data, or the fill, is the cell's
+found : (image : List ℕ) (a : Described) (place : ℕ) (held : Option (List ℕ)) → IsUnchunked (length image) a.layout → place < cells a.sizes → data_in image a.layout ≡ held
+    → slice_get (dataset_in image a empty).cells place ≡ Some (option_map_or (λ bytes. value_in a.fixed bytes place) held a.fill)
+found image a place held there below is =
+    get-cells image a empty place below
+    ∙ ap (λ (v : ℤ). Some v)
+    (sym (data_cell image a.fixed a.fill a.sizes a.layout empty place there below) ∙ ap (λ (o : Option (List ℕ)). option_map_or (λ bytes. value_in a.fixed bytes place) o a.fill) is)
 
 pub value_in-requires : goal.value_in-requires
 value_in-requires c =
-    let room : nat_le (cells c.self.inside.extent.sizes * c.self.inside.fixed.size) (length c.in-Compact.bytes.now) ≡ true = rw c.in-Compact.is at c.self.invariant.2.room in
-    place_room c.self.inside.extent.sizes c.self.inside.fixed.size c.args.place (length c.in-Compact.bytes.now) (below (goal.at.value_in-requires c).After-self) room
-
-pub value_in_block-requires : goal.value_in_block-requires
-value_in_block-requires c = record {
-  within = λ block is. rw (← c.self.view_is, c.in-Contiguous.is, is) at c.requires.stored;
-  room = λ block is.
-      let room : nat_le (cells c.self.inside.extent.sizes * c.self.inside.fixed.size) block.len ≡ true = rw (c.in-Contiguous.is, is) at c.self.invariant.2.room in
-      place_room c.self.inside.extent.sizes c.self.inside.fixed.size c.args.place block.len (below (goal.at.value_in_block-requires c).After-self) room;
-}
-
-pub returns-in-Compact : goal.returns-in-Compact
-returns-in-Compact c =
-    let b = (goal.at.returns-in-Compact c).After-self in
-    let exact : to_z w128 (of_z w128 c.value_in.result) ≡ c.value_in.result = search rules in
-    let cell = message_cell c.args.image.now.bytes c.self.inside.fixed c.self.inside.fill c.self.inside.extent.sizes c.in-Compact.bytes.now empty c.args.place (below b) in
-    (rw c.in-Compact.is at (found b)) ∙ ap (λ (v : ℤ). Some v) (sym (exact ∙ c.value_in.ensures ∙ cell))
-
-pub returns-in-Contiguous : goal.returns-in-Contiguous
-returns-in-Contiguous c =
-    let b = (goal.at.returns-in-Contiguous c).After-self in
     let image = c.args.image.now.bytes in
-    let t = c.self.inside.fixed in
-    let fill = c.self.inside.fill in
-    let place = c.args.place in
-    let exact : to_z w128 (of_z w128 c.value_in_block.result) ≡ c.value_in_block.result = search rules in
-    let passed : to_z w128 (of_z w128 fill) ≡ fill = search rules in
-    let told : c.value_in_block.result ≡ option_map_or (λ (x : Block). value_in t (part x.at x.len image) place) c.in-Contiguous.block (to_z w128 (of_z w128 fill))
-    = c.value_in_block.ensures in
-    let cell = ap (option_map_or (λ (x : Block). value_in t (part x.at x.len image) place) c.in-Contiguous.block) passed
-    ∙ block_cell image t fill c.self.inside.extent.sizes c.in-Contiguous.block empty place (below b) in
-    (rw c.in-Contiguous.is at (found b)) ∙ ap (λ (v : ℤ). Some v) (sym (exact ∙ told ∙ cell))
+    let a = c.args.self.now in
+    let is = ap (λ (x : Described). data_in image x.layout) (sym c.self.view_is) ∙ c.in-Some.ensures in
+    let room = data_room image a.sizes (a.fixed).size a.layout c.in-Some.bytes.now c.requires.stored (subst IsArray c.self.view_is c.self.invariant.2).room is in
+    let size = ap (λ (x : Described). (x.fixed).size) c.self.view_is in
+    rw size (place_room a.sizes (a.fixed).size c.args.place (length c.in-Some.bytes.now) c.requires.below room)
+
+pub returns-in-Some : goal.returns-in-Some
+returns-in-Some c =
+    let image = c.args.image.now.bytes in
+    let a = c.args.self.now in
+    let exact : to_z w128 (of_z w128 c.value_in.result) ≡ c.value_in.result = search rules in
+    let is = ap (λ (x : Described). data_in image x.layout) (sym c.self.view_is) ∙ c.in-Some.ensures in
+    let same = ap (λ (x : Described). value_in x.fixed c.in-Some.bytes.now c.args.place) c.self.view_is in
+    found image a c.args.place (Some c.in-Some.bytes.now) c.requires.stored c.requires.below is ∙ ap (λ (v : ℤ). Some v) (sym (exact ∙ c.value_in.ensures ∙ same))
+
+pub returns-in-None : goal.returns-in-None
+returns-in-None c =
+    let image = c.args.image.now.bytes in
+    let a = c.args.self.now in
+    let passed : to_z w128 (of_z w128 c.self.inside.fill) ≡ c.self.inside.fill = search rules in
+    let is = ap (λ (x : Described). data_in image x.layout) (sym c.self.view_is) ∙ c.in-None.ensures in
+    found image a c.args.place None c.requires.stored c.requires.below is ∙ ap (λ (v : ℤ). Some v) (sym (passed ∙ ap (λ (x : Described). x.fill) c.self.view_is))

@@ -1,0 +1,17 @@
+use Rattle.std.proofs.Common.{refl}
+use Rattle.h5_model.specs.declared.edits.Edit.TheVariants.{RemoveAttr}
+use Rattle.h5_edit.proofs.RuleLaws.Exits.{passed_on}
+use Rattle.h5_edit.proofs.Fitting.{remove_attr_fits}
+use Rattle.h5_edit.proofs.Refusals.{by_rule}
+use Rattle.h5_edit.proofs.attributes.remove_attr.Goals as goal
+
+pub returns-in_err-number : goal.returns-in_err-number
+returns-in_err-number c =
+    passed_on _ _ c.from_residual.result _ c.from_residual.ensures.1
+    (by_rule c.requires (RemoveAttr c.args.path.now c.args.name.now) refl _ c.in_err-number.ensures)
+
+pub carry_out-requires-clause-edit : goal.carry_out-requires-clause-edit
+carry_out-requires-clause-edit c = (RemoveAttr c.args.path.now c.args.name.now, remove_attr_fits c.requires c.args.name c.in_ok-number.ensures)
+
+pub returns : goal.returns
+returns c = c.carry_out.ensures (RemoveAttr c.args.path.now c.args.name.now) (remove_attr_fits c.requires c.args.name c.in_ok-number.ensures)
