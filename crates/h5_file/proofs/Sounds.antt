@@ -16,12 +16,16 @@ use Rattle.h5_edit.specs.Renumbered.Headers.{table_with}
 use Rattle.h5_edit.proofs.RenumberedLaws.Renumbered.{table_at, length_at, tree_at}
 use Rattle.h5_edit.proofs.RenumberedLaws.SameHeaders.{same_headers, same_length}
 use Rattle.h5_file.specs.State.{IsSound, created_state}
-use Rattle.h5_edit.proofs.CarriedLaws.{root_carried}
+use Rattle.h5_edit.proofs.CarriedLaws.{opened_carried, root_carried}
 use Rattle.h5_edit.proofs.Changes.{len_tree}
 use Rattle.h5_edit.proofs.EmptyFile.{empty_reading}
 
 pub sound : (image : List ℕ) (objects : List OpenedObject) (numbers : BTreeMap ℕ ℕ) → IsOpened image objects numbers → IsSound (opened_state image objects)
-sound image objects numbers opened = record { reads = opened.reads; numbers = numbered image objects numbers opened }
+sound image objects numbers opened = record {
+  reads = opened.reads;
+  carried = opened_carried image objects numbers opened;
+  numbers = numbered image objects numbers opened;
+}
 
 -- so many numbers are taken as there are objects
 pub counted : (image : List ℕ) (objects : List OpenedObject) → length objects ≡ len (tree_of image objects)
