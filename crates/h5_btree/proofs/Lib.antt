@@ -6,3 +6,4 @@ pub mod LeafLaws
 pub mod NameWay
 pub mod NameFound
 pub mod WriteLaws
+pub mod WalkLaws

@@ -1,3 +1,4 @@
 pub mod Form
 pub mod Descent
 pub mod Writing
+pub mod Walk

@@ -1,5 +1,6 @@
 -- What `dump` prints of an object.
-use Rattle.std.proofs.Common.{◌≡◌, ℕ, ◌+◌, ◌*◌, ◌/◌, ◌<◌, ℤ, List, [], ◌∷◌, ◌++◌, length, codes, refl, sym, ap, ◌∙◌, append-nil, true, arith, Bor, Vec}
+use Rattle.std.proofs.Common.{◌≡◌, ℕ, zero, suc, ◌+◌, ◌*◌, ◌/◌, ◌<◌, ℤ, List, [], ◌∷◌, ◌++◌, length, codes, refl, sym, ap, ◌∙◌, append-nil, true, arith, Bor, Vec}
+use Rattle.std.proofs.Math.Nat.{mul-assoc, zero-div}
 use Rattle.std.proofs.lemmas.Nat.{div-mul-add}
 use Rattle.std.specs.declared.alloc.Global.{Global}
 use Rattle.std.specs.FinMap.{entries}
@@ -7,43 +8,65 @@ use Rattle.std.specs.List.{flat_map}
 use Rattle.std.specs.Option.{option_map_or}
 use Rattle.h5_model.specs.Tree.Paths.{Located, Here, Missing, NoParent, NoGroup, NoPath}
 use Rattle.h5_model.specs.Scripts.Answers.{dumped}
-use Rattle.h5_model.specs.Scripts.Text.{attribute_line, cells_text, content_text, dataset_text, detail_text, dump_text, escaped, line_of, rows_text}
+use Rattle.h5_model.specs.Scripts.Text.{attribute_line, cells_text, content_text, dataset_text, detail_text, dump_text, escaped, line_of, row_length, rows_text}
+use Rattle.h5_model.specs.Tree.Places.{cells}
 use Rattle.h5_model.specs.Tree.Objects.{Tree, Links, Object, Attribute, Group, Array, Dataset, Contiguous, ToObject, Soft}
 use Rattle.h5_text.specs.Listing.{dump_line}
 use Rattle.h5_text.specs.Rows.{cells_from}
 use Rattle.h5_text.proofs.RowTexts.{cells_are_rows}
 use Rattle.h5_file.specs.Look.{IsArray}
-use Rattle.h5_file.specs.ArrayCellsType.{ArrayCells}
+use Rattle.h5_file.specs.StoredArrayType.{StoredArray}
 use Rattle.h5_file.specs.Found.{IsFoundAs, IsUnfound}
 use Rattle.h5_file.specs.FoundType.TheVariants as found
-use Rattle.h5_dump.specs.Dumped.{IsUndumped}
+use Rattle.h5_dump.specs.Dumped.{IsUndumped, told}
 use Rattle.h5_model.specs.declared.object_no.ObjectNo.{ObjectNo}
 use Rattle.h5_model.specs.declared.edit_fault.EditFault.{EditFault}
 use Rattle.h5_model.specs.declared.edit_fault.EditFault.TheVariants.{NoMemory}
 
 -- ---- what lines tell of the array
 
--- the array as its lines tell it
-abbrev pub told : ArrayCells → Dataset
-told a = record { fixed = a.fixed.now; sizes = a.size ∷ []; maxima = a.maximum ∷ []; storage = Contiguous true; fill = a.fill; cells = [] }
-
 content-same : (d e : Dataset) → d.fixed ≡ e.fixed → d.sizes ≡ e.sizes → d.maxima ≡ e.maxima → content_text (Array d) ≡ content_text (Array e)
 content-same d e fixed sizes maxima = rw (fixed, sizes, maxima) refl
 
-pub content-told : (d : Dataset) (a : ArrayCells) → IsArray d a → content_text (Array (told a)) ≡ content_text (Array d)
-content-told d a is = content-same (told a) d is.fixed_is (sym is.sizes_are) (sym is.maxima_are)
+pub content-told : (d : Dataset) (a : StoredArray) → IsArray d a → content_text (Array (told a)) ≡ content_text (Array d)
+content-told d a is = content-same (told a) d is.fixed_is is.sizes_are is.maxima_are
 
-dataset-told : (d : Dataset) (a : ArrayCells) → IsArray d a → dataset_text d ≡ dataset_text (told a)
+dataset-told : (d : Dataset) (a : StoredArray) → IsArray d a → dataset_text d ≡ dataset_text (told a)
 dataset-told d a is = rw (is.storage_is, sym is.fill_is) refl
 
--- ---- the row of the array
+-- ---- the rows of the array
 
-pub one-row : (size : ℕ) (values : List ℤ) → 0 < size → length values ≡ size → cells_from size 0 values ≡ rows_text (length values / size) size values
-one-row size values some counted =
-    let whole : length values ≡ 1 * size + 0 = omega (arith, counted) in
-    let one : length values / size ≡ 1 = ap (λ n. n / size) whole ∙ div-mul-add 1 size 0 some in
-    let rows : length values ≡ length values / size * size = omega (arith, counted, ap (λ n. n * size) one) in
-    cells_are_rows (length values / size) size values some rows
+-- an array is so many whole rows
+rows_of : (sizes : List ℕ) → (n : ℕ) × (cells sizes ≡ n * row_length sizes)
+rows_of [] = (1, refl)
+rows_of (d ∷ []) = (d, refl)
+rows_of (d ∷ e ∷ ds) =
+    let r = rows_of (e ∷ ds) in
+    (d * r.0, ap (λ n. d * n) r.1 ∙ sym (mul-assoc d r.0 (row_length (e ∷ ds))))
+
+module _ (sizes : List ℕ) (values : List ℤ) (counted : length values ≡ cells sizes) where
+  abbrev width : ℕ
+  width = row_length sizes
+
+  pub no-rows : cells sizes ≡ 0 → [] ≡ rows_text (length values / width) width values
+  no-rows none =
+      sym (ap (λ n. rows_text n width values) (ap (λ n. n / width) (counted ∙ none) ∙ zero-div width))
+
+  pub some-width : 0 < cells sizes → 0 < width
+  some-width some = go width refl where
+    go : (w : ℕ) → w ≡ width → 0 < width
+    go zero is =
+        let none : cells sizes ≡ 0 = (rows_of sizes).1 ∙ ap (λ n. (rows_of sizes).0 * n) (sym is) ∙ (let z : (rows_of sizes).0 * 0 ≡ 0 = omega arith in z) in
+        absurd (omega (arith, some, none))
+    go (suc w) is = omega (arith, is)
+
+  pub all-rows : 0 < cells sizes → cells_from width 0 values ≡ rows_text (length values / width) width values
+  all-rows some =
+      let n = (rows_of sizes).0 in
+      let whole : length values ≡ n * width + 0 = omega (arith, counted, (rows_of sizes).1) in
+      let many : length values / width ≡ n = ap (λ k. k / width) whole ∙ div-mul-add n width 0 (some-width some) in
+      let rows : length values ≡ length values / width * width = counted ∙ (rows_of sizes).1 ∙ ap (λ k. k * width) (sym many) in
+      cells_are_rows (length values / width) width values (some-width some) rows
 
 -- ---- what is dumped of an object
 
@@ -55,14 +78,13 @@ dump-group path o links is =
     ∙ append-nil (path ++ codes " " ++ codes "group" ++ [] ++ codes "\n" ++ lines)
     ∙ ap (λ t. t ++ codes "\n" ++ lines) (append-nil (path ++ codes " " ++ codes "group")))
 
-pub dump-array : (path : List ℕ) (o : Object) (d : Dataset) (a : ArrayCells) → o.content ≡ Array d → IsArray d a
-    → dump_line path (told a) ++ flat_map attribute_line (entries o.attributes) ++ rows_text (length d.cells / a.size) a.size d.cells ≡ dump_text path o
+pub dump-array : (path : List ℕ) (o : Object) (d : Dataset) (a : StoredArray) → o.content ≡ Array d → IsArray d a
+    → dump_line path (told a) ++ flat_map attribute_line (entries o.attributes) ++ cells_text (Array d) ≡ dump_text path o
 dump-array path o d a content is =
     let lines = flat_map attribute_line (entries o.attributes) in
     sym (ap (λ c. path ++ codes " " ++ content_text c ++ detail_text c ++ codes "\n" ++ lines ++ cells_text c) content
     ∙ ap (λ t. path ++ codes " " ++ t ++ dataset_text d ++ codes "\n" ++ lines ++ cells_text (Array d)) (sym (content-told d a is))
-    ∙ ap (λ t. path ++ codes " " ++ content_text (Array (told a)) ++ t ++ codes "\n" ++ lines ++ cells_text (Array d)) (dataset-told d a is)
-    ∙ ap (λ sizes. dump_line path (told a) ++ lines ++ cells_text (Array (record d { sizes = sizes }))) is.sizes_are)
+    ∙ ap (λ t. path ++ codes " " ++ content_text (Array (told a)) ++ t ++ codes "\n" ++ lines ++ cells_text (Array d)) (dataset-told d a is))
 
 -- ---- what was found at a path
 
@@ -79,7 +101,7 @@ module _ (tree : Tree) (path : List ℕ) where
   dumped-group NoPath n attributes is = absurd is
 
   -- an array
-  pub dumped-array : (at : Located) (n : ObjectNo) (attributes : Vec (List ℕ × Attribute) Global) (a : ArrayCells) → IsFoundAs tree at (found.Array n attributes a)
+  pub dumped-array : (at : Located) (n : ObjectNo) (attributes : Vec (List ℕ × Attribute) Global) (a : StoredArray) → IsFoundAs tree at (found.Array n attributes a)
       → (o : Object) × (d : Dataset) × (o.content ≡ Array d) × IsArray d a × (attributes.items ≡ entries o.attributes) × (dump_text (escaped path) o ≡ dumped tree path at)
   dumped-array (Here (ToObject number)) n attributes a is =
       (is.2.object, is.1, is.2.content_is, is.3, is.2.listed, sym (ap (λ x. option_map_or (dump_text (escaped path)) x []) is.2.found))

@@ -1,13 +1,14 @@
 -- What a dump appends to a text, and what is left of it where the dump is refused.
-use Rattle.std.specs.Prelude.{◌≡◌, ℕ, None, Some, List, ◌++◌}
+use Rattle.std.specs.Prelude.{◌≡◌, ℕ, true, None, Some, List, [], ◌++◌}
 use Rattle.h5_model.specs.Edits.Refusal.{first_holding}
 use Rattle.h5_model.specs.Scripts.Answers.{dumped}
 use Rattle.h5_model.specs.Scripts.Reading.{path_rules}
-use Rattle.h5_model.specs.Tree.Objects.{Tree}
+use Rattle.h5_model.specs.Tree.Objects.{Tree, Dataset, Contiguous}
 use Rattle.h5_model.specs.Tree.Paths.{located}
 use Rattle.h5_model.specs.declared.edit_fault.EditFault.{EditFault}
 use Rattle.h5_model.specs.declared.edit_fault.EditFault.TheVariants as fault
 use Rattle.h5_text.specs.Appends.{Extends}
+use Rattle.h5_file.specs.StoredArrayType.{StoredArray}
 
 -- no rule refuses the path, and what stands there is dumped behind the old text
 pub record IsDumped (tree : Tree) (path old new : List ℕ) : Type 0 where
@@ -18,3 +19,14 @@ pub record IsDumped (tree : Tree) (path old new : List ℕ) : Type 0 where
 abbrev pub IsUndumped : Tree → List ℕ → List ℕ → List ℕ → EditFault → Type 0
 IsUndumped tree path old new fault.NoMemory = Extends old new
 IsUndumped tree path old new e = (first_holding (path_rules tree path) ≡ Some e) × (new ≡ old)
+
+-- the array as its lines tell it, which name neither its cells nor whether they are stored
+abbrev pub told : StoredArray → Dataset
+told a = record {
+  fixed = a.array.fixed;
+  sizes = a.array.sizes;
+  maxima = a.array.maxima;
+  storage = Contiguous true;
+  fill = a.array.fill;
+  cells = [];
+}

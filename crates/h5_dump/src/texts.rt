@@ -5,17 +5,17 @@ ghost use Rattle.std.specs.FinMap.{entries};
 ghost use Rattle.std.specs.List.{flat_map};
 ghost use Rattle.h5_model.specs.Tree.Paths.{located};
 ghost use Rattle.h5_model.specs.Scripts.Answers.{dumped};
-ghost use Rattle.h5_model.specs.Scripts.Text.{attribute_line, content_text, dump_text, escaped, line_of, list_text, rows_text};
+ghost use Rattle.h5_model.specs.Scripts.Text.{attribute_line, cells_text, content_text, dump_text, escaped, line_of, list_text, row_length as length_of_row};
 ghost use Rattle.h5_model.specs.Tree.Objects.{Array, Dataset, Group, Links, Object, ToObject, Tree};
 ghost use Rattle.h5_text.specs.Appends.{Appends};
-ghost use Rattle.h5_text.specs.Listing.{path_text};
-ghost use Rattle.h5_file.specs.Listed.{seen_link};
+ghost use Rattle.h5_text.specs.Listing.{path_text, told_dataset};
+ghost use Rattle.h5_model.specs.Tree.Links.{tree_link};
 ghost use Rattle.h5_file.specs.Found.{HasFound};
-ghost use Rattle.h5_file.specs.Look.{AreCells, IsArray};
-ghost use Rattle.h5_dump.specs.Dumped.{IsDumped, IsUndumped};
+ghost use Rattle.h5_file.specs.Look.{IsArray};
+ghost use Rattle.h5_dump.specs.Dumped.{IsDumped, IsUndumped, told};
 ghost use Rattle.h5_dump.specs.Listing.{lines_of_link};
 
-use h5_file::{ArrayCells, AttrRef, EditFault, File, Found, Link, LinkTo, MAX_DEPTH};
+use h5_file::{AttrRef, EditFault, File, Found, Link, LinkTo, MAX_DEPTH, MAX_RANK, StoredArray};
 use h5_model::ObjectNo;
 use h5_text::{
     ArrayText, Layout, PathText, Rows, push_array_line, push_attribute_head, push_dump_line,
@@ -47,10 +47,10 @@ fn push_links(
     file: &File,
     depth: usize,
     path: &mut Vec<u8>,
-    links: &[Link<'_>],
+    links: &[Link<'_, ObjectNo>],
 ) -> Result<(), AllocError>
     ensures lines { Appends result text.old.items text.new.items
-        (flat_map (lines_of_link file.now.tree depth path.old.items) (map seen_link links.now)) }
+        (flat_map (lines_of_link file.now.tree depth path.old.items) (map tree_link links.now)) }
     ensures path { OnOk result (path.new.items ≡ path.old.items) }
 {
     for link in links {
@@ -118,20 +118,31 @@ fn push_name(path: &mut Vec<u8>, name: &[u8]) -> Result<(), AllocError>
 fn push_listed_array(
     text: &mut Vec<u8>,
     path: PathText<'_>,
-    array: &ArrayCells<'_>,
+    array: &StoredArray<'_>,
 ) -> Result<(), AllocError>
     ensures { (d : Dataset) → IsArray d array.now
         → Appends result text.old.items text.new.items
         (line_of (path_text path.entry) (content_text (Array d))) }
 {
-    let told = ArrayText {
-        fixed: array.fixed,
-        sizes: &[array.size],
-        maxima: &[array.maximum],
+    let mut maxima = [None; MAX_RANK];
+    push_array_line(text, path, &array_text(array, &mut maxima))
+}
+
+/// What lines tell of an array that is not in chunks, with its maxima in this room.
+fn array_text<'a>(
+    array: &'a StoredArray<'_>,
+    room: &'a mut [Option<u64>; MAX_RANK],
+) -> ArrayText<'a, 'static>
+    ensures { told_dataset result ≡ told array.now }
+{
+    let array = &array.array;
+    ArrayText {
+        fixed: array.fixed(),
+        sizes: array.dims().sizes(),
+        maxima: array.maxima(room),
         layout: Layout::Contiguous,
-        fill: array.fill,
-    };
-    push_array_line(text, path, &told)
+        fill: array.fill(),
+    }
 }
 
 /// Appends what is dumped of what stands at the path. A soft link is not followed.
@@ -194,38 +205,43 @@ fn push_array(
     alloc: Global,
     text: &mut Vec<u8>,
     path: &[u8],
-    array: &ArrayCells<'_>,
+    array: &StoredArray<'_>,
     attributes: &[AttrRef<'_>],
 ) -> Result<(), AllocError>
     ensures { (o : Object) (d : Dataset) → o.content ≡ Array d → IsArray d array.now
         → attributes.now ≡ entries o.attributes
         → Appends result text.old.items text.new.items (dump_text (escaped path.now) o) }
 {
-    let told = ArrayText {
-        fixed: array.fixed,
-        sizes: &[array.size],
-        maxima: &[array.maximum],
-        layout: Layout::Contiguous,
-        fill: array.fill,
-    };
-    push_dump_line(text, PathText::Plain(path), &told)?;
+    let mut maxima = [None; MAX_RANK];
+    push_dump_line(text, PathText::Plain(path), &array_text(array, &mut maxima))?;
     push_attributes(alloc, text, attributes)?;
     push_cells(text, array)
 }
 
-/// Appends a row of the array's cells, or nothing where there is no cell.
-fn push_cells(text: &mut Vec<u8>, array: &ArrayCells<'_>) -> Result<(), AllocError>
-    ensures { (values : List ℤ) → length values ≡ array.now.size → AreCells array.now.cells array.now values
-        → Appends result text.old.items text.new.items
-        (rows_text (length values / array.now.size) array.now.size values) }
+/// Appends the array's cells in rows, or nothing where there is no cell.
+fn push_cells(text: &mut Vec<u8>, array: &StoredArray<'_>) -> Result<(), AllocError>
+    ensures { (d : Dataset) → IsArray d array.now
+        → Appends result text.old.items text.new.items (cells_text (Array d)) }
 {
-    if array.size == 0 {
+    let dims = array.array.dims();
+    if dims.cells() == 0 {
         return Ok(());
     }
-    let mut rows = Rows::new(array.size);
+    let mut rows = Rows::new(row_length(dims.sizes()));
     match array.cells {
-        Some(cells) => rows.push_stored(text, array.fixed, cells),
-        None => rows.push_repeated(text, array.fill, array.size),
+        Some(cells) => rows.push_stored(text, &array.array.fixed(), cells),
+        None => rows.push_repeated(text, array.array.fill(), dims.cells()),
+    }
+}
+
+/// How many cells stand in a row: the last size, or 1 where there is none.
+fn row_length(sizes: &[u64]) -> u64
+    ensures { result ≡ length_of_row sizes.now }
+{
+    match sizes {
+        [] => 1,
+        [size] => *size,
+        [_, sizes @ ..] => row_length(sizes),
     }
 }
 

@@ -18,16 +18,18 @@ use Rattle.h5_model.specs.declared.edits.Edit.{Edit}
 use Rattle.h5_model.specs.declared.edits.Edit.TheVariants.{CreateGroup, CreateDataset, HardLink, SoftLink, Unlink, SetAttr, RemoveAttr, Write, Resize}
 use Rattle.h5_header.specs.Listed.{messages_in}
 use Rattle.h5_model.specs.Format.Messages.{Message}
+use Rattle.h5_model.specs.Format.Reads.{storage_of}
 use Rattle.h5_query.specs.Opened.Carried.{IsCarried, AreCarried}
 use Rattle.h5_query.specs.Opened.Kept.{IsContentKept, IsOpened}
 use Rattle.h5_query.specs.Opened.Objects.{content_in, headers, tree_of}
+use Rattle.h5_query.specs.Told.{array_told}
 use Rattle.h5_query.specs.OpenedObjectType.{OpenedObject}
 use Rattle.h5_query.specs.OpenedContentType.{OpenedContent}
 use Rattle.h5_query.specs.OpenedContentType.TheVariants as content
 use Rattle.h5_query.proofs.OpenedLaws.Indexed.{object_kept}
 use Rattle.h5_edit.proofs.FitLaws.OpenedTrees.{object_read}
 use Rattle.h5_edit.specs.Fits.Laws.{is_plain_edit}
-use Rattle.h5_edit.specs.Refusals.Allowed.{is_contiguous, is_line}
+use Rattle.h5_edit.specs.Refusals.Allowed.{is_contiguous, is_carried_spec}
 use Rattle.h5_edit.proofs.FitLaws.ChangedTrees.{EachHolds, each_put, each_at, each_linked, each_linked_to}
 
 -- what of an object is an array is one that is opened
@@ -59,13 +61,13 @@ new_stored s store.Contiguous is contiguous = ap (new_storage s.dims) is
 new_stored s store.Compact is contiguous = absurd (cc)
 new_stored s (store.Chunked sizes) is contiguous = absurd (cc)
 
-line_carried : (s : Spec) → is_line s ≡ true → IsCarried (new_dataset s)
-line_carried s line =
-    let both = and_parts (is_contiguous s.store) (length s.dims == 1) line in
+spec_carried : (s : Spec) → is_carried_spec s ≡ true → IsCarried (new_dataset s)
+spec_carried s carried =
+    let both = and_parts (is_contiguous s.store) (length s.dims == 1) carried in
     record { line = grind (arith, nat_tests, both.1); stored = nat_lt 0 (cells s.dims); contiguous = new_stored s s.store refl both.0 }
 
-array_carried : (s : Spec) → is_line s ≡ true → IsCarriedObject (new_object (Array (new_dataset s)))
-array_carried s line d is = subst IsCarried (same_Some (new_dataset s) d is) (line_carried s line)
+array_carried : (s : Spec) → is_carried_spec s ≡ true → IsCarriedObject (new_object (Array (new_dataset s)))
+array_carried s carried d is = subst IsCarried (same_Some (new_dataset s) d is) (spec_carried s carried)
 
 -- ---- trees
 
@@ -92,9 +94,12 @@ edited_carried tree edit next carried plain = all_carried (applied tree edit nex
 
 -- ---- opened images
 
-content_carried : (image at : List ℕ) (ms : List Message) (c : OpenedContent) → IsContentKept image ms c → (d : Dataset) → dataset_in (content_in image at c) ≡ Some d → IsCarried d
+content_carried : (image at : List ℕ) (ms : List Message) (c : OpenedContent) → IsContentKept image ms c → (d : Dataset) → dataset_in (content_in image at ms c) ≡ Some d → IsCarried d
 content_carried image at ms (content.Group g) kept d is = absurd (cc)
-content_carried image at ms (content.Array l) kept d is = subst IsCarried (same_Some _ d is) (record { line = refl; stored = is_some l.cells && nat_lt 0 (l.size * 1); contiguous = refl })
+content_carried image at ms content.Array kept d is =
+    let array = (kept.0).carried in
+    let sizes = (array_told ms).sizes in
+    subst IsCarried (same_Some _ d is) (record { line = array.rank; stored = is_some array.block && nat_lt 0 (cells sizes); contiguous = ap (storage_of sizes) array.in_block })
 
 module _ (image : List ℕ) (objects : List OpenedObject) (numbers : BTreeMap ℕ ℕ) (opened : IsOpened image objects numbers) where
   opened_each : EachHolds IsCarriedObject (tree_of image objects)

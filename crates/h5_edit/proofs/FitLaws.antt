@@ -1,6 +1,7 @@
 pub mod PlainBodies
 pub mod NamedEntries
 pub mod PlainObjects
+pub mod Bounds
 pub mod PlainArrays
 pub mod NewArrays
 pub mod ChangedAttributes

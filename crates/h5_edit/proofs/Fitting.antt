@@ -24,7 +24,7 @@ use Rattle.h5_model.specs.declared.edits.Edit.{Edit}
 use Rattle.h5_model.specs.declared.edits.Edit.TheVariants.{CreateGroup, CreateDataset, HardLink, SoftLink, SetAttr, RemoveAttr}
 use Rattle.h5_model.specs.declared.object_no.ObjectNo.{ObjectNo}
 use Rattle.h5_laws.proofs.Lists.{In}
-use Rattle.h5_edit.specs.Refusals.Allowed.{is_line, IsAt, IsPlaced, IsLinkPlaced}
+use Rattle.h5_edit.specs.Refusals.Allowed.{is_carried_spec, IsAt, IsPlaced, IsLinkPlaced}
 use Rattle.h5_edit.specs.declared.rules.place.NewPlace.{NewPlace}
 use Rattle.h5_laws.proofs.SoundLaws.Applied.{object_stands}
 use Rattle.h5_laws.proofs.SoundLaws.LinksThere.{links_are}
@@ -76,13 +76,13 @@ module _ {image : List ℕ} {objects : List OpenedObject} {numbers : BTreeMap �
     named = ap (λ n. Some n) numbered;
   }
 
-  pub create_dataset_fits : {path : List ℕ} {place : NewPlace} {object : ObjectNo} (spec : Bor Spec) → IsFixed (spec.now).fixed → is_line spec.now ≡ true
+  pub create_dataset_fits : {path : List ℕ} {place : NewPlace} {object : ObjectNo} (spec : Bor Spec) → IsFixed (spec.now).fixed → is_carried_spec spec.now ≡ true
       → IsPlaced tree next path (CreateDataset path spec.now) place → object.0 ≡ next
       → IsFitting image objects (CreateDataset path spec.now) (Linked place.parent place.name (target.Array spec)) (Some object)
   unfolding applied changed
-  create_dataset_fits spec typed line placed numbered = record {
+  create_dataset_fits spec typed carried placed numbered = record {
     typed = typed;
-    carried = line;
+    carried = carried;
     accepted = placed.allowed;
     roomy = refl;
     gives = ap (λ t. insert t next (new_object (Array (new_dataset spec.now)))) (linked_at placed (ToObject next));

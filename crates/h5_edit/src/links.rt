@@ -13,7 +13,7 @@ use crate::change::{Change, Target};
 use crate::made::Made;
 use crate::rules::{
     NewPlace, check_create_dataset, check_create_group, check_hard_link, check_soft_link,
-    is_one_line,
+    is_carried,
 };
 use h5_model::{EditFault, ObjectNo, Spec};
 use h5_query::Opened;
@@ -57,10 +57,10 @@ pub fn create_dataset(
         MatchResult result (IsMade f (CreateDataset path.now spec.now))
         (IsRefused f (CreateDataset path.now spec.now)) }
 {
-    if !is_one_line(spec) {
+    if !is_carried(spec) {
         return Err(EditFault::NotYet);
     }
-    let place = check_create_dataset(image, opened, path, spec)?;
+    let place = check_create_dataset(alloc, image, opened, path, spec)?;
     // The call's contract says that the type is a sound one.
     let _size = spec.fixed.size();
     let change = link_at(place, Target::Array(spec));

@@ -7,7 +7,7 @@ mod links;
 mod place;
 mod text;
 
-pub use array::{check_create_dataset, is_one_line};
+pub use array::{check_create_dataset, is_carried};
 pub use attribute::{check_remove_attr, check_set_attr};
 pub use links::{check_create_group, check_hard_link, check_soft_link};
 pub use place::NewPlace;

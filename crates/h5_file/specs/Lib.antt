@@ -5,7 +5,6 @@ pub use Rattle.h5_edit.specs.Carried
 pub use Rattle.h5_edit.specs.Listed
 pub use Rattle.h5_edit.specs.Look
 pub use Rattle.h5_edit.specs.Found
-pub use Rattle.h5_edit.specs.LinkType
-pub use Rattle.h5_edit.specs.ArrayCellsType
+pub use Rattle.h5_edit.specs.StoredArrayType
 pub use Rattle.h5_edit.specs.FoundType
 pub use Rattle.h5_edit.specs.Opened

@@ -17,10 +17,10 @@ ghost use Rattle.h5_file.specs.State.{IsSound, created_state};
 ghost use Rattle.h5_file.specs.Opening.{IsNoBreach, IsReadable, Refused};
 
 use h5_edit::{
-    ArrayCells, AttrRef, Found, Kind, Link, Opened, array_of, attributes_at, empty_image, found_at,
+    AttrRef, Found, Kind, Opened, StoredArray, array_of, attributes_at, empty_image, found_at,
     kind_at, links_of, names_at, names_of_attributes, number_at, one_attribute, one_cell, walk,
 };
-use h5_model::{Cause, EditFault, ObjectNo, OpenFault};
+use h5_model::{Cause, EditFault, Link, ObjectNo, OpenFault};
 use h5_space::{Image, end_of_file, superblock_fault};
 use std::alloc::{AllocError, Global};
 use std::marker::Model;
@@ -187,7 +187,7 @@ impl File {
         ensures { MatchResult result (HasCell self.now.tree path.now index.now) (λ e.
             first_holding (cell_rules self.now.tree path.now index.now) ≡ Some e) }
     {
-        one_cell(&self.image, &self.opened, path, index)
+        one_cell(self.alloc, &self.image, &self.opened, path, index)
     }
 
     /// The number of the object at the path. It stays the object's while the file is open.
@@ -203,7 +203,7 @@ impl File {
     /// The links of the group of this number, ascending by the bytes of their names, or `None` where no group has it.
     ///
     /// Takes memory for a reference to each link.
-    pub fn links(&self, number: ObjectNo) -> Result<Option<Vec<Link<'_>>>, AllocError>
+    pub fn links(&self, number: ObjectNo) -> Result<Option<Vec<Link<'_, ObjectNo>>>, AllocError>
         ensures { IfOk result (λ found.
             MatchOption found (IsNoGroup self.now.tree number.0) (λ links.
             AreLinks self.now.tree number.0 links.items)) }
@@ -212,10 +212,10 @@ impl File {
     }
 
     /// The array of this number, or `None` where no array has it. It takes no memory.
-    pub fn array(&self, number: ObjectNo) -> Option<ArrayCells<'_>>
+    pub fn array(&self, number: ObjectNo) -> Option<StoredArray<'_>>
         ensures { MatchOption result (IsNoDataset self.now.tree number.0) (HasArray self.now.tree number.0) }
     {
-        array_of(&self.image, &self.opened, number)
+        array_of(self.alloc, &self.image, &self.opened, number)
     }
 }
 

@@ -29,8 +29,11 @@ mod edits;
 mod file;
 
 pub use file::File;
-pub use h5_edit::{ArrayCells, AttrRef, Dims, Found, Kind, Link, LinkTo, MAX_DEPTH, StoreKind};
+pub use h5_edit::{
+    ArrayRef, AttrRef, Dims, Found, Kind, MAX_DEPTH, MAX_RANK, StoreKind, StoredArray,
+};
 pub use h5_model::{
-    AttrSpec, Cause, Edit, EditFault, Edited, Fixed, Hyper, Items, ObjectNo, OpenFault, Spec, Store,
+    AttrSpec, Cause, Edit, EditFault, Edited, Fixed, Hyper, Items, Link, LinkTo, ObjectNo,
+    OpenFault, Spec, Store,
 };
 pub use h5_space::MAXIMUM_IMAGE;

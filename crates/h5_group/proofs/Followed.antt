@@ -15,8 +15,10 @@ use Rattle.h5_header.specs.Walk.Walked.{IsWalked}
 use Rattle.h5_header.specs.Walk.Met.{IsMet}
 use Rattle.h5_header.proofs.WalkLaws.WalkedLaws.{not_followed}
 use Rattle.h5_laws.proofs.Lists.{In, in_all, in_map, in_contains}
+use Rattle.h5_btree.specs.Walk.Forms.{OfGroup}
+use Rattle.h5_btree.specs.Walk.Followed.{IsTreeFollowed}
 use Rattle.h5_group.specs.Nodes.Trees.{kind_in, nodes_blocks}
-use Rattle.h5_group.specs.Nodes.Walk.{IsTreeFollowed, AreSymbolsReached}
+use Rattle.h5_group.specs.Nodes.Walk.{AreSymbolsReached}
 use Rattle.h5_group.specs.declared.group.Group.{Group}
 use Rattle.h5_group.specs.Walk.{IsGroupMet, IsGroupFollowed, IsHard, entry_field}
 use Rattle.h5_group.proofs.HeapSteps.{heap_field, segment_field, heap_walked}
@@ -60,7 +62,7 @@ module _ (image : List ℕ) (held : List Block) (followed : List Named) (first s
   module _ (h2 : List Block) (nodes : List ℕ) (there : Inside (length image) (nodes_blocks image nodes g.symbol_nodes.items))
       (claimed2 : (p : ℕ) → cover p h2 ≡ cover p h1 + cover p (nodes_blocks image nodes g.symbol_nodes.items)) (separate2 : Separate h2)
       (formed : AllByRecursion (λ at. IsSymbolNode (leaf_k image) (symbol_bytes image (leaf_k image) at)) g.symbol_nodes.items)
-      (tree : IsTreeFollowed image h2 (heap_fields ++ followed) first g.table.tree g.table.heap depth nodes g.symbol_nodes.items) where
+      (tree : IsTreeFollowed image OfGroup h2 (heap_fields ++ followed) first g.table.tree g.table.heap depth nodes g.symbol_nodes.items) where
     abbrev tree_cover : ℕ → ℕ
     tree_cover p = cover p (tree_blocks (kind_in image) nodes)
 
@@ -133,7 +135,7 @@ module _ (image : List ℕ) (held : List Block) (followed : List Named) (first s
 
       entry_reached : Reached image (entry_field image depth node i)
       entry_reached =
-          let by = in_all (AreSymbolsReached image g.table.tree g.table.heap depth) node g.symbol_nodes.items tree.symbols_reached node_in in
+          let by = in_all (AreSymbolsReached image g.table.tree g.table.heap depth) node g.symbol_nodes.items tree.leaves_reached node_in in
           by_block {y = entry_field image depth node i} by.1 (i, hard.below, room, hard.hard, refl) (omega (arith, node_end, room))
 
       other_than : (z : Named) → (z.field ≡ first) ⊎ (1 ≤ tree_cover (z.field - 8)) → z.field ≢ node + 16 + 40 * i
@@ -173,7 +175,7 @@ module _ (image : List ℕ) (held : List Block) (followed : List Named) (first s
       walked = walked;
       inner = all_append (λ (y : Named). is_header y.role ≡ false) tree.new heap_fields tree.inner (refl, (refl, tt));
       stands = stands;
-      symbols_reached = tree.symbols_reached;
+      symbols_reached = tree.leaves_reached;
       entries_met = entry_met;
       entries_new = entry_new;
       entries_apart = apart;

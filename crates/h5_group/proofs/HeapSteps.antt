@@ -12,7 +12,9 @@ use Rattle.h5_heap.specs.Refused.{IsRefused}
 use Rattle.h5_header.specs.Walk.Walked.{IsWalked}
 use Rattle.h5_header.specs.Walk.Met.{IsMet}
 use Rattle.h5_header.proofs.WalkLaws.MetFields.{met_truncated, met_overlaps, met_walked, still_met, field_after, other_field}
-use Rattle.h5_group.specs.Nodes.Walk.{IsFault, IsTreeMet}
+use Rattle.h5_btree.specs.Walk.Forms.{OfGroup}
+use Rattle.h5_btree.specs.Walk.Followed.{IsTreeMet}
+use Rattle.h5_group.specs.Nodes.Walk.{IsFault}
 use Rattle.h5_group.specs.Walk.{IsGroupMet}
 
 module _ (image : List ℕ) (held : List Block) (followed : List Named) (first second depth : ℕ) (table : SymbolTable)
@@ -89,5 +91,5 @@ module _ (image : List ℕ) (held : List Block) (followed : List Named) (first s
         (tree_apart inside.0 once)
 
     -- the walk comes to the tree
-    pub at_tree : IsTreeMet image now (segment_field ∷ heap_field ∷ followed) first table.tree table.heap depth
+    pub at_tree : IsTreeMet image OfGroup now (segment_field ∷ heap_field ∷ followed) first table.tree table.heap depth
     at_tree = record { walked = heap_walked; met = tree_met }

@@ -16,18 +16,21 @@ use Rattle.h5_model.proofs.OneTree.{level_is, owned_is}
 use Rattle.h5_model.proofs.RowLaws.{only_here}
 use Rattle.h5_laws.proofs.Lists.{in_all, all_in}
 use Rattle.h5_laws.proofs.Entries.{flat-same, own_entries}
-use Rattle.h5_group.specs.Nodes.Trees.{kind_in, IsTree, nodes_blocks}
+use Rattle.h5_btree.specs.Walk.Forms.{OfGroup}
+use Rattle.h5_btree.specs.Walk.Trees.{IsTree}
+use Rattle.h5_group.specs.Nodes.Trees.{kind_in, nodes_blocks}
 use Rattle.h5_group.specs.Texts.Named.{AreTexts}
 use Rattle.h5_group.specs.Order.Ordered.{AreOrdered}
 use Rattle.h5_group.specs.declared.group.Group.{Group}
 use Rattle.h5_group.specs.Links.{IsGroupRead, links_of, blocks_of, nodes_at}
+use Rattle.h5_group.proofs.NodeLaws.GroupLaws.{nodes_formed, entries_known}
 use Rattle.h5_group.proofs.EntryOrder.{owned_order}
 
 all_mapped : {X Y : Type 0} (P : Y → Type 0) (f : X → Y) (xs : List X) → AllByRecursion (λ x. P (f x)) xs → AllByRecursion P (map f xs)
 all_mapped P f [] all = tt
 all_mapped P f (x ∷ xs) all = (all.0, all_mapped P f xs all.1)
 
-module _ (image : List ℕ) (g : Group) (owned : List ℕ) (tree : IsTree image g.table.tree owned g.symbol_nodes.items) where
+module _ (image : List ℕ) (g : Group) (owned : List ℕ) (tree : IsTree image OfGroup g.table.tree owned g.symbol_nodes.items) where
   abbrev segment : List ℕ
   segment = segment_of image g.table.heap
 
@@ -74,7 +77,7 @@ module _ (image : List ℕ) (g : Group) (owned : List ℕ) (tree : IsTree image 
 
     listed : AreLinks W own (heap_header image g.table.heap) segment owned g.symbol_nodes.items (links_of image g)
     listed = record {
-      cached = subst (AllByRecursion IsEntry) own_are tree.known;
+      cached = subst (AllByRecursion IsEntry) own_are (entries_known image g.symbol_nodes.items tree.formed);
       all = ap (map (link_of segment)) own_are;
       ascending = order.ascending;
       named = all_mapped (λ (l : List ℕ × Target). IsTrue (is_name l.0)) (link_of segment) entries texts.named;
@@ -91,7 +94,7 @@ module _ (image : List ℕ) (g : Group) (owned : List ℕ) (tree : IsTree image 
       owned = owned;
       symbol_nodes = g.symbol_nodes.items;
       tree = tree.tree;
-      formed = tree.formed;
+      formed = nodes_formed image g.symbol_nodes.items tree.formed;
       listed = listed;
       laid = sym blocks_are;
     }

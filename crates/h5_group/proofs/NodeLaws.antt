@@ -1,13 +1,2 @@
+pub mod GroupLaws
 pub mod StandLaws
-pub mod NodeFaults
-pub mod RowJoin
-pub mod Taken
-pub mod Prefix
-pub mod Steps
-pub mod FurtherLaws
-pub mod Neighbours
-pub mod RowSteps
-pub mod RootSteps
-pub mod AllLaws
-pub mod TreeLaws
-pub mod Readable

@@ -7,6 +7,7 @@ use Rattle.h5_bytes.proofs.BlockLaws.{all_left, all_right, cover-append}
 use Rattle.h5_model.specs.Format.Addresses.{SymbolTable}
 use Rattle.h5_model.specs.Format.Heap.{heap_blocks}
 use Rattle.h5_model.specs.Format.Rows.{Reading, next_row, row_below, nodes}
+use Rattle.h5_model.specs.Format.Nodes.{node_at}
 use Rattle.h5_model.specs.Format.Symbols.{IsEntry}
 use Rattle.h5_model.specs.declared.open_fault.Cause.{Cause}
 use Rattle.h5_model.specs.declared.open_fault.Cause.TheVariants.{HeapName, BadName, NameOrder, KeyOrder, NoMemory}
@@ -16,12 +17,14 @@ use Rattle.h5_laws.proofs.Lists.{In, in_either, in_contains}
 use Rattle.h5_laws.proofs.Entries.{own_entries}
 use Rattle.h5_laws.proofs.GroupExcluded.{name_excluded, bad_name_excluded, heap_name_excluded}
 use Rattle.h5_laws.proofs.OrderExcluded.{key_excluded}
-use Rattle.h5_group.specs.Nodes.Trees.{kind_in, IsTree, nodes_blocks}
-use Rattle.h5_group.specs.Nodes.Below.{reading_in}
-use Rattle.h5_group.specs.Nodes.Readable.{IsTreeReadable}
+use Rattle.h5_btree.specs.Walk.Forms.{OfGroup}
+use Rattle.h5_btree.specs.Walk.Trees.{IsTree}
+use Rattle.h5_btree.specs.Walk.Readable.{IsTreeReadable}
+use Rattle.h5_group.specs.Nodes.Trees.{kind_in, nodes_blocks}
 use Rattle.h5_group.specs.Texts.Refused.{AreTextsRefused}
 use Rattle.h5_group.specs.Order.Ordered.{IsOrderRefused}
 use Rattle.h5_group.specs.Links.{IsGroupReadable}
+use Rattle.h5_group.proofs.NodeLaws.GroupLaws.{all_formed, all_keyed}
 
 -- a node of a tree stands in one of its rows
 in_some_row : (V : Reading) (level : ℕ) (row : List ℕ) (at : ℕ) → In at (nodes V level row)
@@ -56,15 +59,16 @@ module _ (image : List ℕ) (table : SymbolTable) (held : List Block) (readable 
     separate = λ p. omega (arith, readable.separate p, parts p);
   }
 
-  pub tree_readable : (now : List Block) → ((p : ℕ) → cover p now ≡ cover p held + cover p (heap_blocks image table.heap)) → IsTreeReadable image table.tree now
+  pub tree_readable : (now : List Block) → ((p : ℕ) → cover p now ≡ cover p held + cover p (heap_blocks image table.heap)) → IsTreeReadable image OfGroup table.tree now
   tree_readable now claimed = record {
     nodes = (readable.has).owned;
-    symbol_nodes = (readable.has).symbol_nodes;
+    leaves = (readable.has).symbol_nodes;
     has = record {
       level = (readable.has).level;
       tree = (readable.has).tree;
-      formed = (readable.has).formed;
-      known = subst (AllByRecursion IsEntry) (sym (own_entries image (readable.has).symbol_nodes)) (readable.has).listed.cached;
+      formed = all_formed image (readable.has).symbol_nodes (readable.has).formed
+          (subst (AllByRecursion IsEntry) (sym (own_entries image (readable.has).symbol_nodes)) (readable.has).listed.cached);
+      keyed = all_keyed (node_at image (kind_in image)) (row_below (node_at image (kind_in image)) (readable.has).level (table.tree ∷ []));
     };
     inside = all_left IsInside tree_part heap_part inside;
     separate = λ p. omega (arith, readable.separate p, parts p, claimed p);
@@ -76,12 +80,12 @@ module _ (image : List ℕ) (table : SymbolTable) (held : List Block) (readable 
   texts_memory BadName breach = absurd (bad_name_excluded image table.tree table.heap readable.links readable.blocks readable.has breach)
   texts_memory _ refused = absurd refused
 
-  module _ (owned symbol_nodes : List ℕ) (tree : IsTree image table.tree owned symbol_nodes) where
-    own_row : (at : ℕ) → In at owned → (d : ℕ) × (l : ℕ) × (d + l ≡ (readable.has).level) × In at (row_below (reading_in image) d (table.tree ∷ []))
+  module _ (owned symbol_nodes : List ℕ) (tree : IsTree image OfGroup table.tree owned symbol_nodes) where
+    own_row : (at : ℕ) → In at owned → (d : ℕ) × (l : ℕ) × (d + l ≡ (readable.has).level) × In at (row_below (node_at image (kind_in image)) d (table.tree ∷ []))
     own_row at there =
         let same = one_owned image (kind_in image) table.tree tree.level (readable.has).level owned (readable.has).owned symbol_nodes (readable.has).symbol_nodes tree.tree (readable.has).tree in
         let are = owned_is image (kind_in image) table.tree (readable.has).level (readable.has).owned (readable.has).symbol_nodes (readable.has).tree in
-        in_some_row (reading_in image) (readable.has).level (table.tree ∷ []) at (subst (In at) (same ∙ are) there)
+        in_some_row (node_at image (kind_in image)) (readable.has).level (table.tree ∷ []) at (subst (In at) (same ∙ are) there)
 
     pub order_memory : (cause : Cause) (address : ℕ) → IsOrderRefused image table owned symbol_nodes cause address → cause ≡ NoMemory
     order_memory NoMemory address refused = refl

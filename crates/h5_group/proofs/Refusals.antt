@@ -13,8 +13,10 @@ use Rattle.h5_model.specs.Format.Reached.{Named, named, GroupNode, SymbolNode, H
 use Rattle.h5_model.specs.declared.open_fault.Cause.{Cause}
 use Rattle.h5_model.specs.declared.open_fault.Cause.TheVariants.{HeapName, BadName, NameOrder, KeyOrder, NoMemory}
 use Rattle.h5_header.specs.Walk.Met.{IsMet}
+use Rattle.h5_btree.specs.Walk.Forms.{OfGroup}
+use Rattle.h5_btree.specs.Walk.Followed.{IsTreeFollowed, IsNodeReached}
 use Rattle.h5_group.specs.Nodes.Trees.{kind_in, nodes_blocks}
-use Rattle.h5_group.specs.Nodes.Walk.{IsFault, IsTreeFollowed, IsNodeReached, AreSymbolsReached}
+use Rattle.h5_group.specs.Nodes.Walk.{IsFault, AreSymbolsReached}
 use Rattle.h5_group.specs.Texts.Refused.{AreTextsRefused}
 use Rattle.h5_group.specs.Order.Ordered.{IsOrderRefused}
 use Rattle.h5_laws.proofs.Lists.{in_all, in_map, in_contains}
@@ -28,7 +30,7 @@ module _ (image : List ℕ) (held : List Block) (followed : List Named) (table :
   texts_refused _ address e refused = absurd refused
 
 module _ (image : List ℕ) (now : List Block) (followed : List Named) (table : SymbolTable) (first depth : ℕ) (nodes symbol_nodes : List ℕ)
-    (tree : IsTreeFollowed image now followed first table.tree table.heap depth nodes symbol_nodes) (inside : Inside (length image) (nodes_blocks image nodes symbol_nodes)) where
+    (tree : IsTreeFollowed image OfGroup now followed first table.tree table.heap depth nodes symbol_nodes) (inside : Inside (length image) (nodes_blocks image nodes symbol_nodes)) where
   abbrev IsInside : Block → Type 0
   IsInside b = b.at + b.len ≤ length image
 
@@ -36,13 +38,13 @@ module _ (image : List ℕ) (now : List Block) (followed : List Named) (table : 
   order_refused NoMemory address refused = tt
   order_refused NameOrder address (has, breach) =
       let there = in_contains address symbol_nodes has in
-      let by = in_all (AreSymbolsReached image table.tree table.heap depth) address symbol_nodes tree.symbols_reached there in
+      let by = in_all (AreSymbolsReached image table.tree table.heap depth) address symbol_nodes tree.leaves_reached there in
       let block = in_all IsInside (symbol_block (leaf_k image) address) (map (symbol_block (leaf_k image)) symbol_nodes)
       (all_right IsInside (tree_blocks (kind_in image) nodes) (map (symbol_block (leaf_k image)) symbol_nodes) inside) (in_map (symbol_block (leaf_k image)) address symbol_nodes there) in
       (named by.0 (SymbolNode table.tree table.heap) address depth, by.1, refl, (block, breach))
   order_refused KeyOrder address (has, breach) =
       let there = in_contains address nodes has in
-      let by = in_all (IsNodeReached image table.tree table.heap depth) address nodes tree.nodes_reached there in
+      let by = in_all (IsNodeReached image OfGroup table.tree table.heap depth) address nodes tree.nodes_reached there in
       let block = in_all IsInside (node_block (kind_in image) address) (tree_blocks (kind_in image) nodes)
       (all_left IsInside (tree_blocks (kind_in image) nodes) (map (symbol_block (leaf_k image)) symbol_nodes) inside) (in_map (node_block (kind_in image)) address nodes there) in
       (named by.0 (GroupNode table.tree table.heap by.1) address depth, by.2, refl, (block, breach))

@@ -15,7 +15,7 @@ use Rattle.h5_model.specs.Faults.TreeFaults.{all_entries}
 use Rattle.h5_snod.specs.Names.{IsPlace, names_of}
 use Rattle.h5_laws.proofs.Lists.{In, in_all, in_either, in_map, in_flat, from_map, in_contains, contains_in}
 use Rattle.h5_group.specs.declared.group.Group.{Group}
-use Rattle.h5_group.specs.declared.link.LinkRef.{LinkRef}
+use Rattle.h5_model.specs.declared.link.Link.{Link}
 use Rattle.h5_group.specs.Links.{links_of, link_from, IsLinkNamed, HasNone}
 
 -- ---- an entry of this name
@@ -68,7 +68,7 @@ module _ (image : List ℕ) (g : Group) where
       subst (λ (x : List ℕ × Target). In x (links_of image g)) by.2
       (in_map (link_of segment) by.0 (all_entries image g.symbol_nodes.items) (in_flat S at by.0 g.symbol_nodes.items there by.1))
 
-  pub link_found : (at k : ℕ) (name : List ℕ) (l : LinkRef) → Contains g.symbol_nodes.items at → slice_get (names_of segment (S at)) k ≡ Some name
+  pub link_found : (at k : ℕ) (name : List ℕ) (l : Link ℕ) → Contains g.symbol_nodes.items at → slice_get (names_of segment (S at)) k ≡ Some name
       → option_map (link_of segment) (slice_get (S at) k) ≡ Some (link_from l) → IsLinkNamed image g name l
   link_found at k name l there found read =
       let here = entry_found segment (S at) k name (link_from l) found read in

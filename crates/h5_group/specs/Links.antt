@@ -14,9 +14,9 @@ use Rattle.h5_model.specs.Format.Heap.{segment_of, heap_blocks}
 use Rattle.h5_model.specs.Faults.TreeFaults.{all_entries}
 use Rattle.h5_group.specs.Nodes.Trees.{kind_in, nodes_blocks}
 use Rattle.h5_group.specs.declared.group.Group.{Group}
-use Rattle.h5_group.specs.declared.link.LinkRef.{LinkRef}
-use Rattle.h5_group.specs.declared.link.LinkTarget.{LinkTarget}
-use Rattle.h5_group.specs.declared.link.LinkTarget.TheVariants as target
+use Rattle.h5_model.specs.declared.link.Link.{Link}
+use Rattle.h5_model.specs.declared.link.LinkTo.{LinkTo}
+use Rattle.h5_model.specs.declared.link.LinkTo.TheVariants as target
 
 -- all nodes of the tree at this root, row by row
 abbrev pub nodes_at : List ℕ → ℕ → List ℕ
@@ -44,15 +44,15 @@ pub record IsGroupReadable (image : List ℕ) (table : SymbolTable) (held : List
   pub separate : (p : ℕ) → cover p held + cover p blocks ≤ 1
 
 -- a link, as the file has it
-abbrev pub target_of : LinkTarget → Target
+abbrev pub target_of : LinkTo ℕ → Target
 target_of (target.Object header) = Header header
 target_of (target.Soft text) = Text text.now
 
-abbrev pub link_from : LinkRef → List ℕ × Target
-link_from l = (l.name.now, target_of l.target)
+abbrev pub link_from : Link ℕ → List ℕ × Target
+link_from l = (l.name.now, target_of l.to)
 
 -- the group has this link, of this name
-abbrev pub IsLinkNamed : List ℕ → Group → List ℕ → LinkRef → Type 0
+abbrev pub IsLinkNamed : List ℕ → Group → List ℕ → Link ℕ → Type 0
 IsLinkNamed image g name l = Contains (links_of image g) (link_from l) × (l.name.now ≡ name)
 
 -- the group has no link of this name

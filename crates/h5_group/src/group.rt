@@ -7,9 +7,10 @@ ghost use Rattle.h5_space.specs.Claimed.{HasClaimed};
 ghost use Rattle.h5_group.specs.Links.{IsGroupRead, IsGroupReadable, blocks_of};
 ghost use Rattle.h5_group.specs.Walk.{FollowsGroup, IsGroupFault};
 
-use crate::nodes::{GroupTree, read_tree};
+use crate::nodes::SymbolNodes;
 use crate::order::check_order;
 use crate::texts::check_texts;
+use h5_btree::{Tree, read_tree};
 use h5_heap::{read_heap, segment_at};
 use h5_model::OpenFault;
 use h5_msg::SymbolTable;
@@ -52,16 +53,13 @@ pub fn read_group(
         → IfErr result (λ fault. fault.cause ≡ NoMemory) }
 {
     let mut heap = read_heap(alloc, image, claims, table.heap())?;
-    let tree = read_tree(alloc, image, claims, table.tree())?;
+    let tree = read_tree(alloc, image, claims, &SymbolNodes, table.tree())?;
     check_texts(image, &mut heap, table, &tree)?;
     check_order(image, segment_at(image, table.heap()), table, &tree)?;
-    let GroupTree {
-        nodes,
-        symbol_nodes,
-    } = tree;
+    let Tree { nodes, leaves } = tree;
     drop(nodes);
     Ok(Group {
         table,
-        symbol_nodes,
+        symbol_nodes: leaves,
     })
 }

@@ -16,7 +16,6 @@ mod write;
 
 pub use group::{Group, read_group};
 pub use h5_space::{MAXIMUM_IMAGE, SUPERBLOCK, Superblock, push_superblock};
-pub use link::{LinkRef, LinkTarget};
 pub use list::{entries, link_at, links_at};
 pub use search::lookup;
-pub use write::{GroupFault, GroupPlaces, Leads, NewLink, group_places, push_links};
+pub use write::{GroupFault, GroupPlaces, ObjectPlace, group_places, push_links};

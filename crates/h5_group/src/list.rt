@@ -8,8 +8,9 @@ ghost use Rattle.h5_model.specs.Format.Symbols.{symbols_at, link_of};
 ghost use Rattle.h5_group.specs.Links.{IsGroupRead, links_of, link_from};
 
 use crate::group::Group;
-use crate::link::{LinkRef, link_in};
+use crate::link::link_in;
 use crate::read::{segment, symbol_node};
+use h5_model::Link;
 use h5_snod::SymbolNode;
 use h5_space::Image;
 use std::alloc::{AllocError, Global};
@@ -21,7 +22,7 @@ pub fn entries<'a>(
     alloc: Global,
     image: &'a Image,
     group: &Group,
-) -> Result<Vec<LinkRef<'a>>, AllocError>
+) -> Result<Vec<Link<'a, u64>>, AllocError>
     requires { IsGroupRead image.now.bytes group.now }
     ensures { IfOk result (λ links. map link_from links.items ≡ links_of image.now.bytes group.now) }
 {
@@ -35,7 +36,7 @@ pub fn entries<'a>(
 
 /// Puts the links of a symbol node behind these.
 fn push_links<'a>(
-    links: &mut Vec<LinkRef<'a>>,
+    links: &mut Vec<Link<'a, u64>>,
     segment: &'a [u8],
     node: &SymbolNode,
 ) -> Result<(), AllocError>
@@ -58,7 +59,7 @@ pub fn links_at(image: &Image, group: &Group, node: u64) -> usize
 }
 
 /// The link of entry `i` of the symbol node at `node`, which is one of the group's. It takes no memory.
-pub fn link_at<'a>(image: &'a Image, group: &Group, node: u64, i: usize) -> LinkRef<'a>
+pub fn link_at<'a>(image: &'a Image, group: &Group, node: u64, i: usize) -> Link<'a, u64>
     requires group { IsGroupRead image.now.bytes group.now }
     requires node { Contains group.now.symbol_nodes.items node }
     requires entry { i < length (symbols_at image.now.bytes (leaf_k image.now.bytes) node) }

@@ -9,15 +9,16 @@ ghost use Rattle.h5_model.specs.Format.Symbols.{symbols_at};
 ghost use Rattle.h5_group.specs.Links.{IsGroupRead, IsLinkNamed, HasNone};
 
 use crate::group::Group;
-use crate::link::{LinkRef, link_in};
+use crate::link::link_in;
 use crate::read::{segment, symbol_node};
 use h5_btree::{SoughtName, find_leaf};
+use h5_model::Link;
 use h5_space::{Image, internal_k};
 
 /// The link of this name, or `None` where the group has none.
 ///
 /// Goes down the group's tree by its keys, and searches in each node and in the symbol node by halves. It takes no memory.
-pub fn lookup<'a>(image: &'a Image, group: &Group, name: &[u8]) -> Option<LinkRef<'a>>
+pub fn lookup<'a>(image: &'a Image, group: &Group, name: &[u8]) -> Option<Link<'a, u64>>
     requires { IsGroupRead image.now.bytes group.now }
     ensures found { IfSome result (IsLinkNamed image.now.bytes group.now name.now) }
     ensures absent { IfNone result (HasNone image.now.bytes group.now name.now) }

@@ -5,5 +5,5 @@ mod places;
 mod symbols;
 
 pub use group::push_links;
-pub use h5_heap::{Leads, NewLink};
+pub use h5_heap::ObjectPlace;
 pub use places::{GroupFault, GroupPlaces, group_places};

@@ -1,9 +1,9 @@
-pub mod WalkedLaws
+pub use Rattle.h5_space.proofs.WalkLaws.WalkedLaws
 pub mod HeaderLaws
 pub mod ClaimLaws
-pub mod FieldLaws
+pub use Rattle.h5_space.proofs.WalkLaws.FieldLaws
 pub mod MessagePlaces
-pub mod MetFields
+pub use Rattle.h5_space.proofs.WalkLaws.MetFields
 pub mod ListLaws
 pub mod SpanLaws
 pub mod DataLaws

@@ -14,4 +14,4 @@ mod write;
 pub use h5_bytes::text_from;
 pub use header::segment_at;
 pub use heap::{Heap, read_heap};
-pub use write::{Leads, NewLink, link_span, push_heap, push_text, segment_length, text_span};
+pub use write::{ObjectPlace, link_span, push_heap, push_text, segment_length, text_span};

@@ -5,5 +5,5 @@ mod link;
 mod parts;
 
 pub use heap::{link_span, push_heap, segment_length};
-pub use link::{Leads, NewLink};
+pub use link::ObjectPlace;
 pub use parts::{push_text, text_span};

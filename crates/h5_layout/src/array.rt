@@ -15,7 +15,7 @@ ghost use Rattle.h5_layout.specs.Stored.{AreFilled, AreStored, IsArray, IsUnchun
 use h5_bytes::Block;
 use h5_model::Fixed;
 use h5_msg::{Dataspace, Layout};
-use h5_shape::Dims;
+use h5_shape::{Dims, MAX_RANK};
 use h5_space::Image;
 use h5_types::decode;
 use std::marker::Model;
@@ -97,6 +97,17 @@ impl<'a> ArrayRef<'a> {
         &self.dims
     }
 
+    /// How many dimensions there are, each with a size and a maximum.
+    pub fn rank(&self) -> usize
+        ensures sizes { result ≡ length self.now.sizes }
+        ensures maxima { result ≡ length self.now.maxima }
+    {
+        match &self.maxima {
+            Maxima::Read(extent) => extent.rank(),
+            Maxima::Given(maxima) => maxima.len(),
+        }
+    }
+
     /// The largest size in a dimension, or `None` where it is unlimited.
     pub fn maximum(&self, k: usize) -> Option<u64>
         requires { k < length self.now.sizes }
@@ -106,6 +117,16 @@ impl<'a> ArrayRef<'a> {
             Maxima::Read(extent) => extent.maximum(k),
             Maxima::Given(maxima) => maximum_at(maxima, k),
         }
+    }
+
+    /// The largest sizes, one for each dimension and `None` where one is unlimited, at the front of this room.
+    pub fn maxima<'b>(&self, room: &'b mut [Option<u64>; MAX_RANK]) -> &'b [Option<u64>]
+        ensures { result.now ≡ self.now.maxima }
+    {
+        for k in 0..self.dims.sizes().len() {
+            room[k] = self.maximum(k);
+        }
+        &room[..self.rank()]
     }
 
     /// The value of a cell that was never written.

@@ -19,7 +19,7 @@ use Rattle.h5_laws.proofs.Located.{Known, KnownAt}
 use Rattle.h5_laws.proofs.Breaches.{header_known}
 use Rattle.h5_laws.proofs.Excluded.{reached_excluded}
 use Rattle.h5_group.specs.Nodes.Walk.{IsFault}
-use Rattle.h5_open.specs.Opened.NotYet.{IsNoLine, IsLater, IsRefusedAt}
+use Rattle.h5_open.specs.Opened.NotYet.{HasOtherArray, IsLater, IsRefusedAt}
 use Rattle.h5_open.specs.Opened.Carried.{IsCarried, AreCarried, ReadsCarried}
 
 in_block : (sizes : List ℕ) (layout : Layout) (stored : Bool) → storage_of sizes layout ≡ Contiguous stored → (b : Option Block) × (layout ≡ InBlock b)
@@ -35,25 +35,25 @@ extent_there ms layout h = go (extent_among ms) refl h where
   go None is said = absurd (let never : None ≡ Some layout = said in cc)
   go (Some e) is said = (e, is)
 
-some_extent : (ms : List Message) → IsNoLine ms → (e : Extent) × (extent_among ms ≡ Some e)
+some_extent : (ms : List Message) → HasOtherArray ms → (e : Extent) × (extent_among ms ≡ Some e)
 some_extent ms (inl (e, h, other)) = (e, h)
 some_extent ms (inr (layout, h, other)) = extent_there ms layout h
 
-dataset_line : (image : List ℕ) (ms : List Message) (d : Dataset) (blocks : List Block) → HasDataset image ms d blocks → IsCarried d → IsNoLine ms → ⊥
-dataset_line image ms d blocks has is (inl (e, h, other)) = other (ap (λ (x : Extent). length x.sizes) (extent_is image ms d blocks has e h) ∙ is.line)
-dataset_line image ms d blocks has is (inr (layout, h, other)) =
+dataset_other : (image : List ℕ) (ms : List Message) (d : Dataset) (blocks : List Block) → HasDataset image ms d blocks → IsCarried d → HasOtherArray ms → ⊥
+dataset_other image ms d blocks has is (inl (e, h, other)) = other (ap (λ (x : Extent). length x.sizes) (extent_is image ms d blocks has e h) ∙ is.line)
+dataset_other image ms d blocks has is (inr (layout, h, other)) =
     let b = in_block d.sizes has.layout is.stored (sym has.storage ∙ is.contiguous) in
     other b.0 (layout_is image ms d blocks has layout h ∙ b.1)
 
 module _ (image : List ℕ) (table : FinMap nat_cmp ℕ) (tree : Tree) (placed : List Placed) (reads : ReadsAs image table tree placed) (carried : AreCarried tree) where
-  known_line : (depth : ℕ) (k : Known image table tree placed depth) → IsNoLine k.has.messages → ⊥
-  known_line depth k later = elim (content_cases image table k.has.messages k.o.object.content k.has.content_blocks k.has.content) [
+  known_other : (depth : ℕ) (k : Known image table tree placed depth) → HasOtherArray k.has.messages → ⊥
+  known_other depth k later = elim (content_cases image table k.has.messages k.o.object.content k.has.content_blocks k.has.content) [
     | inl group ↦
         let e = some_extent k.has.messages later in
         let m = said_first extent_of 1 k.has.messages e.0 e.1 in
         let there = find_in 1 k.has.messages m.0 m.1 in
         absurd (let none : false ≡ true = of_group_kind k.has.messages m.0 1 (group.3).known there.0 there.1 in cc)
-    | inr array ↦ dataset_line image k.has.messages array.0 k.has.content_blocks array.2
+    | inr array ↦ dataset_other image k.has.messages array.0 k.has.content_blocks array.2
         (carried k.o.number array.0
         (ap (option_and_then (λ (ob : Object). dataset_in ob.content)) (in_tree image table tree placed reads.holds k.o k.member) ∙ ap dataset_in array.1)) later
   ]
@@ -62,7 +62,7 @@ module _ (image : List ℕ) (table : FinMap nat_cmp ℕ) (tree : Tree) (placed :
   not_later x reached ObjectHeader is (ms, all, later) =
       let k : KnownAt image table tree placed x.depth x.at = header_known image table tree placed reads.holds x reached (ap is_header is) in
       let here : AllMessages image k.0.o.header ms = subst (λ (a : ℕ). AllMessages image a ms) (sym k.1) all in
-      known_line x.depth k.0 (subst IsNoLine (all_messages image k.0.o.header ms k.0.has.messages k.0.has.header_blocks here k.0.has.listed) later)
+      known_other x.depth k.0 (subst HasOtherArray (all_messages image k.0.o.header ms k.0.has.messages k.0.has.header_blocks here k.0.has.listed) later)
   not_later x reached _ is h = absurd h
 
 -- a breach is of bytes that read as no tree

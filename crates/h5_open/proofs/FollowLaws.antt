@@ -20,9 +20,9 @@ use Rattle.h5_open.specs.Opened.NotYet.{IsRefusedAt}
 use Rattle.h5_open.specs.Placed.Whole.{IsGroupContent}
 use Rattle.h5_open.specs.Walk.{IsNamedBy, IsUnder, IsReady, IsFurther, IsTreeRead, IsLinkReady, IsLinkRead}
 use Rattle.h5_group.specs.Links.{link_from, target_of}
-use Rattle.h5_group.specs.declared.link.LinkRef.{LinkRef}
-use Rattle.h5_group.specs.declared.link.LinkTarget.{LinkTarget}
-use Rattle.h5_group.specs.declared.link.LinkTarget.TheVariants as target
+use Rattle.h5_model.specs.declared.link.Link.{Link}
+use Rattle.h5_model.specs.declared.link.LinkTo.{LinkTo}
+use Rattle.h5_model.specs.declared.link.LinkTo.TheVariants as target
 use Rattle.h5_open.proofs.FoundLaws.{group_at}
 
 -- ---- nothing is read
@@ -59,7 +59,7 @@ group_of : (image : List ℕ) (o : OpenedObject) → IsObjectKept image o → Is
 group_of image o kept group = go o.content kept.content group where
   go : (c : OpenedContent) → IsContentKept image (messages_in image o.messages.list) c → IsGroupContent c → IsOfGroup (messages_in image o.messages.list)
   go (content.Group g) is group = is.0
-  go (content.Array line) is group = absurd group
+  go content.Array is group = absurd group
 
 pub twice : (image : List ℕ) (held : List Block) (followed : List Named) (objects : List OpenedObject) (field header depth : ℕ) → IsReady image held followed objects field header depth
     → (o : OpenedObject) → Contains objects o → o.messages.header ≡ header → IsGroupContent o.content → IsRefusedAt image GroupLinkedTwice header
@@ -84,12 +84,12 @@ twice image held followed objects field header depth ready o among same group =
 
 -- ---- by the link's target
 
-pub ready_at : (image : List ℕ) (held : List Block) (followed : List Named) (objects : List OpenedObject) (field depth : ℕ) (l : LinkRef) (header : ℕ) → l.target ≡ target.Object header
+pub ready_at : (image : List ℕ) (held : List Block) (followed : List Named) (objects : List OpenedObject) (field depth : ℕ) (l : Link ℕ) (header : ℕ) → l.to ≡ target.Object header
     → IsLinkReady image held followed objects field depth (link_from l) → IsReady image held followed objects field header (depth + 1)
 ready_at image held followed objects field depth l header is ready =
-    subst (λ (t : LinkTarget). IsLinkReady image held followed objects field depth (l.name.now, target_of t)) is ready
+    subst (λ (t : LinkTo ℕ). IsLinkReady image held followed objects field depth (l.name.now, target_of t)) is ready
 
-pub read_at : (image : List ℕ) (held now : List Block) (followed : List Named) (objects after : List OpenedObject) (field depth : ℕ) (l : LinkRef) (header : ℕ) → l.target ≡ target.Object header
+pub read_at : (image : List ℕ) (held now : List Block) (followed : List Named) (objects after : List OpenedObject) (field depth : ℕ) (l : Link ℕ) (header : ℕ) → l.to ≡ target.Object header
     → IsLinkRead image held now followed objects after field depth (l.name.now, Header header) → IsLinkRead image held now followed objects after field depth (link_from l)
 read_at image held now followed objects after field depth l header is read =
-    subst (λ (t : LinkTarget). IsLinkRead image held now followed objects after field depth (l.name.now, target_of t)) (sym is) read
+    subst (λ (t : LinkTo ℕ). IsLinkRead image held now followed objects after field depth (l.name.now, target_of t)) (sym is) read

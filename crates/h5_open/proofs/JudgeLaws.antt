@@ -1,22 +1,18 @@
 -- What the messages of a header say of the object, and which rule they break.
-use Rattle.std.proofs.Common.{◌≡◌, inl, inr, ℕ, ◌+◌, ◌≤◌, List, [], ◌∷◌, length, refl, sym, ◌∙◌, ap, Option, Some, None, true, false, cond, arith}
-use Rattle.std.specs.Prelude.{◌==◌, is_some, option_map, Ok, Err, ok_or, slice_index_or, ℤ}
-use Rattle.std.specs.List.{find, slice_get}
+use Rattle.std.proofs.Common.{◌≡◌, inl, inr, ℕ, ◌+◌, ◌≤◌, List, [], ◌∷◌, refl, sym, ◌∙◌, ap, Option, Some, None, true, false, cond, arith}
+use Rattle.std.specs.Prelude.{◌==◌, is_some, option_map, Ok, Err, ok_or}
+use Rattle.std.specs.List.{find}
 use Rattle.std.specs.Borrow.{Bor}
 use Rattle.std.specs.Bool.{MatchBool}
 use Rattle.std.specs.Option.{option_copied}
 use Rattle.std.proofs.lemmas.Bool.{cases_lt}
-use Rattle.h5_bytes.specs.declared.Block.{Block}
 use Rattle.h5_model.specs.Format.Messages.{Message, count_of, first_body}
 use Rattle.h5_model.specs.Faults.HeaderFaults.{SomeBody}
 use Rattle.h5_header.proofs.FoundLaws.{found, none_stands}
-use Rattle.std.proofs.lemmas.Option.{same_Some}
-use Rattle.h5_model.specs.Format.Fixed.{Fixed}
-use Rattle.h5_model.specs.Format.Layout.{InBlock}
-use Rattle.h5_model.specs.Format.Reached.{layout_among}
 use Rattle.h5_layout.specs.Described.{Described, HasArray}
-use Rattle.h5_open.specs.Opened.NotYet.{IsNoLine}
-use Rattle.h5_open.specs.Opened.Judged.{IsNoLineOf}
+use Rattle.h5_layout.proofs.ToldLaws.{laid_out}
+use Rattle.h5_open.specs.Opened.NotYet.{HasOtherArray}
+use Rattle.h5_open.specs.Opened.Array.{IsOtherArray}
 
 -- the first body of a type is that of some message
 pub first_fails : {A : Type 0} (f : List ℕ → Option A) (kind : ℕ) (ms : List Message) (body : List ℕ) → Some body ≡ first_body kind ms → f body ≡ None
@@ -49,26 +45,9 @@ pub none_read : {A E : Type 0} (o : Option A) (e f : E) → Err f ≡ ok_or o e 
 none_read None e f h = refl
 none_read (Some y) e f h = absurd (cc)
 
--- ---- an array of one dimension in one block
-
-pub one_member : (xs : List ℕ) (d : ℕ) → length xs ≡ 1 → slice_index_or xs 0 d ∷ [] ≡ xs
-one_member [] d one = absurd (omega (arith, one))
-one_member (x ∷ []) d one = refl
-one_member (x ∷ y ∷ xs) d one = absurd (omega (arith, one))
-
-pub one_got : (xs : List (Option ℕ)) (x : Option ℕ) → length xs ≡ 1 → slice_get xs 0 ≡ Some x → x ∷ [] ≡ xs
-one_got [] x one got = absurd (omega (arith, one))
-one_got (y ∷ []) x one got = let same : y ≡ x = same_Some y x got in ap (λ (z : Option ℕ). z ∷ []) (sym same)
-one_got (y ∷ z ∷ xs) x one got = absurd (omega (arith, one))
-
-pub described_is : (a : Described) (fixed : Fixed) (size : ℕ) (maximum : Option ℕ) (fill : ℤ) (at : Option Block)
-    → fixed ≡ a.fixed → size ∷ [] ≡ a.sizes → maximum ∷ [] ≡ a.maxima → fill ≡ a.fill → InBlock at ≡ a.layout
-    → record { fixed = fixed; sizes = size ∷ []; maxima = maximum ∷ []; fill = fill; layout = InBlock at } ≡ a
-described_is a fixed size maximum fill at e f g h l = λ i. record { fixed = e i; sizes = f i; maxima = g i; fill = h i; layout = l i }
+-- ---- an array
 
 -- an array that has not one dimension, or is not in one block, is one that is not opened yet
-pub no_line : (ms : List Message) (a : Described) → HasArray ms a → IsNoLineOf a → IsNoLine ms
-no_line ms a has (inl many) = inl (record { sizes = a.sizes; maxima = a.maxima }, has.space, many)
-no_line ms a has (inr other) = inr (a.layout, laid, other) where
-  laid : layout_among ms ≡ Some a.layout
-  laid = rw (has.space, has.type) has.laid_out
+pub other_array : (ms : List Message) (a : Described) → HasArray ms a → IsOtherArray a → HasOtherArray ms
+other_array ms a has (inl many) = inl (record { sizes = a.sizes; maxima = a.maxima }, has.space, many)
+other_array ms a has (inr other) = inr (a.layout, laid_out ms a has, other)

@@ -12,7 +12,7 @@ use Rattle.h5_laws.proofs.Lists.{In, contains_in, in_left, in_right, in_map}
 use Rattle.h5_header.specs.Walk.Walked.{IsFollowed}
 use Rattle.h5_header.specs.Walk.Met.{IsMet}
 use Rattle.h5_group.specs.Links.{link_from}
-use Rattle.h5_group.specs.declared.link.LinkRef.{LinkRef}
+use Rattle.h5_model.specs.declared.link.Link.{Link}
 use Rattle.h5_open.specs.declared.opened.object.OpenedObject.{OpenedObject}
 use Rattle.h5_open.specs.Opened.Objects.{headers, links_of}
 use Rattle.h5_open.specs.Placed.Whole.{IsLed, AreLed}
@@ -56,7 +56,7 @@ turn_of image base held followed depth (name, Header header) links (f ∷ fields
   waiting = waiting.3;
 }
 
-in_get : (links : List LinkRef) (k : ℕ) (d : LinkRef) → k < length links → In (get_or links k d) links
+in_get : (links : List (Link ℕ)) (k : ℕ) (d : Link ℕ) → k < length links → In (get_or links k d) links
 in_get [] k d low = absurd (omega (arith, low))
 in_get (x ∷ links) zero d low = inl refl
 in_get (x ∷ links) (suc k) d low = inr (in_get links k d (omega (arith, low)))
@@ -85,8 +85,8 @@ all_outer image base held now outer field grown free (y ∷ new) all own =
 
 -- ---- one link more
 
-module _ (image : List ℕ) (base held : List Block) (followed : List Named) (objects objects' : List OpenedObject) (outer header depth : ℕ) (links : List LinkRef) (k : ℕ)
-    (under : IsUnder image base followed objects) (part : IsPartly image base held followed objects objects' outer header depth links k) (d : LinkRef) (low : k < length links) where
+module _ (image : List ℕ) (base held : List Block) (followed : List Named) (objects objects' : List OpenedObject) (outer header depth : ℕ) (links : List (Link ℕ)) (k : ℕ)
+    (under : IsUnder image base followed objects) (part : IsPartly image base held followed objects objects' outer header depth links k) (d : Link ℕ) (low : k < length links) where
   abbrev link : List ℕ × Target
   link = link_from (get_or links k d)
 
@@ -98,7 +98,7 @@ module _ (image : List ℕ) (base held : List Block) (followed : List Named) (ob
 
   pub turn : HasTurn image base held (part.new ++ followed) depth link later
   turn = turn_of image base held (part.new ++ followed) depth link later part.fields
-      (subst (λ (ls : List LinkRef). AreWaiting image base held (part.new ++ followed) depth (map link_from ls) part.fields) next part.waiting)
+      (subst (λ (ls : List (Link ℕ)). AreWaiting image base held (part.new ++ followed) depth (map link_from ls) part.fields) next part.waiting)
 
   pub link_ready : IsLinkReady image held (part.new ++ followed) objects' turn.field depth link
   link_ready = ready_of image base held (part.new ++ followed) depth link later turn objects' part.under part.object there at where
@@ -152,7 +152,7 @@ module _ (image : List ℕ) (base held : List Block) (followed : List Named) (ob
 
 module _ (image : List ℕ) (held now : List Block) (followed : List Named) (objects : List OpenedObject) (field header depth : ℕ) (ready : IsReady image held followed objects field header depth)
     (new : Contains (headers objects) header → ⊥) (o : OpenedObject) (read : IsObjectRead image held now header depth o) (separate : Separate now)
-    (gone : IsObjectFollowed image held now followed field o) (links : List LinkRef) (links_are : map link_from links ≡ links_of image o.content) where
+    (gone : IsObjectFollowed image held now followed field o) (links : List (Link ℕ)) (links_are : map link_from links ≡ links_of image o.content) where
   pub begun : (after : List OpenedObject) → after ≡ objects ++ o ∷ [] → IsPartly image held now followed objects after field header depth links 0
   begun after is = record {
     object = o;
@@ -172,7 +172,7 @@ module _ (image : List ℕ) (held now : List Block) (followed : List Named) (obj
         (subst (λ (n : ℕ). AreWaiting image held now (gone.new ++ followed) n (links_of image o.content) gone.fields) read.depth_is gone.waiting);
   }
 
-pub finished : (image : List ℕ) (held now : List Block) (followed : List Named) (objects after : List OpenedObject) (field header depth : ℕ) (links : List LinkRef)
+pub finished : (image : List ℕ) (held now : List Block) (followed : List Named) (objects after : List OpenedObject) (field header depth : ℕ) (links : List (Link ℕ))
     → IsPartly image held now followed objects after field header depth links (length links) → IsTreeRead image held now followed objects after field header depth
 finished image held now followed objects after field header depth links part = record {
   object = part.object;

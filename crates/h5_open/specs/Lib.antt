@@ -6,8 +6,8 @@ pub mod Counted
 pub mod Renumbered
 pub use Rattle.h5_layout.specs.Stored
 pub use Rattle.h5_layout.specs.Described
+pub use Rattle.h5_layout.specs.Told
+pub use Rattle.h5_msg.specs.Layouts
 pub use Rattle.h5_attr.specs.Attributes
 pub use Rattle.h5_group.specs.Links
 pub use Rattle.h5_group.specs.declared.group.Group as GroupType
-pub use Rattle.h5_group.specs.declared.link.LinkRef as LinkRefType
-pub use Rattle.h5_group.specs.declared.link.LinkTarget as LinkTargetType

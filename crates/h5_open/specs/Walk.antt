@@ -10,7 +10,7 @@ use Rattle.h5_model.specs.Format.Symbols.{Target, Header, Text}
 use Rattle.h5_model.specs.Faults.Breaches.{is_header}
 use Rattle.h5_model.specs.declared.open_fault.Cause.{Cause}
 use Rattle.h5_group.specs.Links.{link_from}
-use Rattle.h5_group.specs.declared.link.LinkRef.{LinkRef}
+use Rattle.h5_model.specs.declared.link.Link.{Link}
 use Rattle.h5_header.specs.Walk.Walked.{IsWalked}
 use Rattle.h5_header.specs.Walk.Met.{IsMet}
 use Rattle.h5_open.specs.declared.opened.object.OpenedObject.{OpenedObject}
@@ -99,7 +99,7 @@ IsLinkFault image old objects depth link cause address = (followed : List Named)
     → IsLinkReady image old followed objects field depth link → IsRefusedAt image cause address
 
 -- Of the links of an object that was read, so many were followed; the others wait.
-pub record IsPartly (image : List ℕ) (held now : List Block) (followed : List Named) (objects objects' : List OpenedObject) (field header depth : ℕ) (links : List LinkRef) (k : ℕ) : Type 0 where
+pub record IsPartly (image : List ℕ) (held now : List Block) (followed : List Named) (objects objects' : List OpenedObject) (field header depth : ℕ) (links : List (Link ℕ)) (k : ℕ) : Type 0 where
   pub object : OpenedObject
   pub others : List OpenedObject
   pub header_is : object.messages.header ≡ header

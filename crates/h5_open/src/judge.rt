@@ -1,14 +1,14 @@
 //! What the messages of an object's header have to be.
 
-ghost use Rattle.std.specs.Prelude.{◌≡◌, ◌≤◌, Ok, Option, IfOk, IfErr, IfSome, IfNone, OnOk, MatchBool, length};
+ghost use Rattle.std.specs.Prelude.{◌≡◌, ◌≤◌, Ok, IfOk, IfErr, OnOk, MatchBool, length};
 ghost use Rattle.h5_attr.specs.Attributes.{HasNamesOnce};
 ghost use Rattle.h5_header.specs.Kinds.{IsOfGroup, IsOfDataset};
 ghost use Rattle.h5_header.specs.Listed.{messages_in, IsWithin};
+ghost use Rattle.h5_layout.specs.Told.{array_told};
 ghost use Rattle.h5_model.specs.Format.Messages.{count_of};
-ghost use Rattle.h5_open.specs.Opened.Array.{described};
-ghost use Rattle.h5_open.specs.Opened.Judged.{IsGroupList, IsLineList, IsKindBreach, IsGroupBreach, IsLineBreach, IsNoLineOf};
+ghost use Rattle.h5_open.specs.Opened.Array.{IsCarriedArray, IsOtherArray};
+ghost use Rattle.h5_open.specs.Opened.Judged.{IsGroupList, IsArrayList, IsKindBreach, IsGroupBreach, IsArrayBreach};
 
-use crate::opened::Line;
 use h5_attr::{check_bodies, check_names};
 use h5_header::{Messages, ObjectKind, find_body};
 use h5_layout::{ArrayRef, read_array};
@@ -81,50 +81,40 @@ pub(crate) fn judge_group(
     Ok(table)
 }
 
-/// The array of one dimension in one block that the messages of a dataset's header describe.
+/// The array that the messages of a dataset's header describe. It has one dimension and is in one block or nowhere.
 ///
 /// Two attributes of one name are `DuplicateMessage`; then the bodies are judged, those of attributes last; then an array that
 /// is another is `NotYet`. All are at the header. `NoMemory` where memory is refused.
-pub(crate) fn judge_line(
+pub(crate) fn judge_array<'a>(
     alloc: Global,
-    image: &Image,
+    image: &'a Image,
     messages: &Messages,
-) -> Result<Line, OpenFault>
+) -> Result<ArrayRef<'a>, OpenFault>
     requires within { IsWithin (length image.now.bytes) messages.now.list }
     requires dataset { IsOfDataset (messages_in image.now.bytes messages.now.list) }
-    ensures read { IfOk result (λ line. IsLineList (messages_in image.now.bytes messages.now.list) line) }
+    ensures told { IfOk result (λ array. array ≡ array_told (messages_in image.now.bytes messages.now.list)) }
+    ensures read { OnOk result (IsArrayList (messages_in image.now.bytes messages.now.list)) }
     ensures names { OnOk result (HasNamesOnce (messages_in image.now.bytes messages.now.list)) }
     ensures address { IfErr result (λ fault. fault.address ≡ messages.now.header) }
     ensures refused { IfErr result (λ fault.
-        IsLineBreach image.now.bytes messages.now.header (messages_in image.now.bytes messages.now.list)
+        IsArrayBreach image.now.bytes messages.now.header (messages_in image.now.bytes messages.now.list)
         fault.cause) }
 {
     check_names(alloc, image, messages)?;
     let array = read_array(alloc, image, messages)?;
     check_bodies(alloc, image, messages)?;
-    let Some(line) = line_of(&array) else {
+    if !is_carried(&array) {
         return Err(fault(Cause::NotYet, messages.header()));
-    };
-    Ok(line)
+    }
+    Ok(array)
 }
 
-/// The array, where it has one dimension and its cells are in one block.
-fn line_of(array: &ArrayRef<'_>) -> Option<Line>
-    requires { length array.now.maxima ≡ length array.now.sizes }
-    ensures line { IfSome result (λ line. described line ≡ array.now) }
-    ensures other { IfNone result (IsNoLineOf array.now) }
+/// Whether the array has one dimension, and its cells are in one block or nowhere.
+fn is_carried(array: &ArrayRef<'_>) -> bool
+    ensures { MatchBool result (IsCarriedArray array.now) (IsOtherArray array.now) }
 {
-    let Layout::Contiguous(cells) = array.layout() else {
-        return None;
-    };
-    let &[size] = array.dims().sizes() else {
-        return None;
-    };
-    Some(Line {
-        fixed: array.fixed(),
-        size,
-        maximum: array.maximum(0),
-        fill: array.fill(),
-        cells: *cells,
-    })
+    match array.layout() {
+        Layout::Contiguous(_) => array.dims().sizes().len() == 1,
+        Layout::Compact(_) | Layout::Chunked { .. } => false,
+    }
 }

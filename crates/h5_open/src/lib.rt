@@ -13,7 +13,9 @@ mod opened;
 mod steps;
 
 pub use h5_attr::{AttrRef, get, list, sorted};
-pub use h5_group::{Group, LinkRef, LinkTarget, entries, lookup};
+pub use h5_group::{Group, entries, lookup};
+pub use h5_layout::{ArrayRef, known_array};
+pub use h5_msg::Layout;
 pub use numbers::renumber;
-pub use opened::{Line, Opened, OpenedContent, OpenedObject};
+pub use opened::{Opened, OpenedContent, OpenedObject};
 pub use steps::walk;

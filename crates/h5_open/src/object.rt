@@ -4,7 +4,9 @@
 ghost use Rattle.std.specs.Prelude.{◌≡◌, ℕ, ◌+◌, ◌≤◌, Some, length, map, IfOk, IfErr, OnOk};
 ghost use Rattle.h5_bytes.specs.Blocks.{cover, Separate, Inside};
 ghost use Rattle.h5_bytes.specs.declared.Block.{Block};
+ghost use Rattle.h5_model.specs.Format.Layout.{InBlock};
 ghost use Rattle.h5_model.specs.Format.Superblock.{IsSuperblock};
+ghost use Rattle.h5_msg.specs.Layouts.{layout_in};
 ghost use Rattle.h5_header.specs.Kinds.{IsOfGroup, IsOfDataset};
 ghost use Rattle.h5_header.specs.Listed.{messages_in};
 ghost use Rattle.h5_header.specs.Progress.{ClaimBreach};
@@ -14,12 +16,12 @@ ghost use Rattle.h5_open.specs.Opened.Kept.{IsObjectKept};
 ghost use Rattle.h5_open.specs.Opened.Objects.{links_of as object_links};
 ghost use Rattle.h5_open.specs.Read.{IsHeaderRead, IsObjectRead, FollowsObject, IsObjectFault, IsContentRead, FollowsContent, IsContentFault, IsDeepAt};
 
-use crate::judge::{judge_group, judge_kind, judge_line};
+use crate::judge::{judge_array, judge_group, judge_kind};
 use crate::opened::{OpenedContent, OpenedObject};
-use h5_bytes::Block;
-use h5_group::{Group, LinkRef, entries, links_at, read_group};
+use h5_group::{Group, entries, links_at, read_group};
 use h5_header::{Messages, ObjectKind, claim};
-use h5_model::{Cause, OpenFault};
+use h5_model::{Cause, Link, OpenFault};
+use h5_msg::Layout;
 use h5_space::{Claims, Image, fault};
 use std::alloc::Global;
 
@@ -111,11 +113,11 @@ fn read_array_object(
     ensures refused { IfErr result (λ fault.
         IsContentFault image.now.bytes claims.old.held messages depth fault.cause fault.address) }
 {
-    let line = judge_line(alloc, image, &messages)?;
-    claim_data(claims, line.cells)?;
+    let array = judge_array(alloc, image, &messages)?;
+    claim_data(claims, array.layout())?;
     Ok(OpenedObject {
         messages,
-        content: OpenedContent::Array(line),
+        content: OpenedContent::Array,
         depth,
     })
 }
@@ -139,19 +141,20 @@ fn check_depth(image: &Image, group: &Group, depth: u8) -> Result<(), OpenFault>
 }
 
 /// Claims the block of an array's cells, where it has one; a refusal has the block's address.
-fn claim_data(claims: &mut Claims, cells: Option<Block>) -> Result<(), OpenFault>
+fn claim_data(claims: &mut Claims, layout: &Layout<'_>) -> Result<(), OpenFault>
     requires { Separate claims.old.held }
-    ensures inside { OnOk result (Inside claims.old.end (data_blocks cells)) }
+    ensures inside { OnOk result (Inside claims.old.end (data_blocks (layout_in layout.now))) }
     ensures claimed { OnOk result
-        ((p : ℕ) → cover p claims.new.held ≡ cover p claims.old.held + cover p (data_blocks cells)) }
+        ((p : ℕ) → cover p claims.new.held
+        ≡ cover p claims.old.held + cover p (data_blocks (layout_in layout.now))) }
     ensures separate { Separate claims.new.held }
     ensures end { claims.new.end ≡ claims.old.end }
     ensures refused { IfErr result (λ fault. (b : Block)
-        × (cells ≡ Some b) × ClaimBreach claims.old.end claims.old.held b fault.cause fault.address) }
+        × (layout_in layout.now ≡ InBlock (Some b)) × ClaimBreach claims.old.end claims.old.held b fault.cause fault.address) }
 {
-    match cells {
-        Some(block) => claim(claims, block),
-        None => Ok(()),
+    match layout {
+        Layout::Contiguous(Some(block)) => claim(claims, *block),
+        Layout::Contiguous(None) | Layout::Compact(_) | Layout::Chunked { .. } => Ok(()),
     }
 }
 
@@ -160,7 +163,7 @@ pub(crate) fn links_in<'a>(
     alloc: Global,
     image: &'a Image,
     object: &OpenedObject,
-) -> Result<Vec<LinkRef<'a>>, OpenFault>
+) -> Result<Vec<Link<'a, u64>>, OpenFault>
     requires { IsObjectKept image.now.bytes object.now }
     ensures links { IfOk result (λ links.
         map link_from links.items ≡ object_links image.now.bytes object.now.content) }

@@ -17,9 +17,8 @@ use crate::index::{object_at, push_object};
 use crate::object::{links_in, read_object};
 use crate::opened::{Opened, OpenedContent};
 use h5_bytes::Block;
-use h5_group::{LinkRef, LinkTarget};
 use h5_header::claim;
-use h5_model::{Cause, OpenFault};
+use h5_model::{Cause, Link, LinkTo, OpenFault};
 use h5_space::{Claims, Image, SUPERBLOCK, fault, root_header};
 use std::alloc::Global;
 use std::collections::BTreeMap;
@@ -110,7 +109,7 @@ fn follow(
     image: &Image,
     claims: &mut Claims,
     opened: &mut Opened,
-    link: LinkRef<'_>,
+    link: Link<'_, u64>,
     depth: u8,
 ) -> Result<(), OpenFault>
     requires superblock { IsSuperblock image.now.bytes }
@@ -125,13 +124,13 @@ fn follow(
     ensures refused { IfErr result (λ fault. IsLinkFault image.now.bytes claims.old.held
         opened.old.objects.items depth (link_from link.entry) fault.cause fault.address) }
 {
-    let LinkTarget::Object(header) = link.target else {
+    let LinkTo::Object(header) = link.to else {
         return Ok(());
     };
     if let Some(object) = object_at(opened, header) {
         return match object.content {
             OpenedContent::Group(_) => Err(fault(Cause::GroupLinkedTwice, header)),
-            OpenedContent::Array(_) => Ok(()),
+            OpenedContent::Array => Ok(()),
         };
     }
     read_tree(alloc, image, claims, opened, header, depth + 1)

@@ -1,52 +1,42 @@
 -- What the calls answer at an object.
-use Rattle.std.proofs.Common.{◌≡◌, ℕ, ◌*◌, ◌<◌, ◌&&◌, List, [], ◌∷◌, length, replicate, refl, sym, ap, ◌∙◌, Option, Some, None, Bool, not, true, false, arith, ℤ, Bor, Vec}
-use Rattle.std.specs.Prelude.{nat_lt, MatchOption, slice_get, slice_index, unwrap_or, option_map, option_and_then, is_some}
+use Rattle.std.proofs.Common.{◌≡◌, ℕ, List, [], ◌∷◌, length, refl, sym, ap, ◌∙◌, Option, Some, None, Bool, not, true, false, arith, ℤ, Vec}
+use Rattle.std.specs.Prelude.{◌==◌, slice_get, option_map, option_and_then}
 use Rattle.std.specs.Option.{option_map_or}
-use Rattle.std.specs.FinMap.{get, entries, contains_key}
+use Rattle.std.specs.FinMap.{get, entries, contains_key, empty}
 use Rattle.std.specs.declared.alloc.Global.{Global}
 use Rattle.std.specs.BTreeMap.{BTreeMap}
 use Rattle.std.proofs.lemmas.Option.{same_Some}
 use Rattle.std.proofs.lemmas.Bool.Decides.{nat_tests}
-use Rattle.h5_model.specs.Format.Fixed.{Fixed, IsFixed}
-use Rattle.h5_model.specs.Scripts.Answers.{stored_values}
-use Rattle.h5_model.specs.Tree.Objects.{Tree, Object, Content, ToObject, Attribute}
+use Rattle.h5_model.specs.Tree.Places.{is_inside}
+use Rattle.h5_model.specs.Tree.Objects.{Tree, Object, Content, Dataset, ToObject, Attribute}
 use Rattle.h5_model.specs.Tree.Paths.{located, object_at}
 use Rattle.h5_model.specs.Edits.Refusal.{first_holding, is_soft}
-use Rattle.h5_model.specs.Scripts.Reading.{path_rules, list_rules, object_rules, dataset_rules, cell_at, shown_maximum}
+use Rattle.h5_model.specs.Scripts.Reading.{path_rules, list_rules, object_rules, dataset_rules, cell_at}
 use Rattle.h5_model.specs.declared.edit_fault.EditFault.{EditFault}
 use Rattle.h5_model.specs.declared.edit_fault.EditFault.TheVariants.{NotAGroup, NotADataset, NotFound, NoSuchAttribute}
 use Rattle.h5_header.specs.Listed.{Listed, messages_in}
 use Rattle.h5_open.specs.Attributes.{attributes_of}
 use Rattle.h5_open.specs.GroupType.{Group}
-use Rattle.h5_open.specs.declared.opened.line.Line.{Line}
+use Rattle.h5_open.specs.Described.{Described, dataset_in}
+use Rattle.h5_open.specs.Told.{array_told}
 use Rattle.h5_open.specs.declared.opened.object.OpenedObject.{OpenedObject}
 use Rattle.h5_open.specs.declared.opened.object.OpenedContent.TheVariants as content
 use Rattle.h5_open.specs.Opened.Kept.{IsOpened}
 use Rattle.h5_open.specs.Opened.Objects.{headers, links_by, content_in, object_in, tree_of}
 use Rattle.h5_open.specs.Links.{links_of}
-use Rattle.h5_query.specs.declared.array.ArrayCells.{ArrayCells}
+use Rattle.h5_query.specs.declared.array.StoredArray.{StoredArray}
+use Rattle.h5_query.specs.declared.kind.Kind.{Kind}
 use Rattle.h5_query.specs.declared.kind.Kind.TheVariants as kind
-use Rattle.h5_query.specs.declared.kind.StoreKind.TheVariants as store
 use Rattle.h5_query.specs.declared.found.Found.TheVariants as found
 use Rattle.h5_model.specs.declared.object_no.ObjectNo.{ObjectNo}
 use Rattle.h5_query.specs.Found.{HasFound, HasObject}
 use Rattle.h5_query.specs.Place.{LeadsTo}
-use Rattle.h5_query.specs.Look.{HasKind, HasNames, HasCell, HasAttribute, IsArray, AreCells}
-use Rattle.h5_query.specs.Kept.{IsHeaderThere, IsLineThere, names_of, line_dataset, AreFilled, AreStored}
-use Rattle.h5_query.proofs.CellLaws.{line_length}
+use Rattle.h5_query.specs.Look.{HasKind, HasNames, HasCell, HasAttribute, IsArray, IsArrayKind}
+use Rattle.h5_query.specs.Kept.{IsHeaderThere, IsArrayThere, names_of, array_dataset}
+use Rattle.h5_query.proofs.KeptArrays.{kept_unchunked}
 use Rattle.h5_query.proofs.GroupLaws.{keys_are}
-use Rattle.h5_query.proofs.Indexed.{object_there, object_kept, line_kept, group_read, group_links, group_no_array, array_there, array_no_group}
+use Rattle.h5_query.proofs.Indexed.{object_there, object_kept, group_read, group_links, group_no_array, array_there, array_kept, array_no_group}
 use Rattle.h5_query.proofs.RuleLaws.{list_here, no_dataset, dataset_here, first-behind, index_rules}
-
--- an index of one number
-pub only_index : (index : List ℕ) → length index ≡ 1 → index ≡ slice_index index 0 ∷ []
-only_index [] one = absurd (omega (arith, one))
-only_index (i ∷ []) one = refl
-only_index (i ∷ j ∷ is) one = absurd (omega (arith, one))
-
-pub shown_is : (maximum : Option ℕ) → unwrap_or maximum 18446744073709551615 ≡ shown_maximum maximum
-shown_is None = refl
-shown_is (Some m) = refl
 
 abbrev attribute_rule : Tree → List ℕ → List ℕ → List (EditFault × Bool)
 attribute_rule tree path name =
@@ -70,37 +60,16 @@ has_attribute image tree path m there name a found =
           })
 
 -- the cell at an index of the array that stands there
-pub cell_there : (image : List ℕ) (tree : Tree) (path : List ℕ) (l : Line) → IsLineThere image tree path l → (index : List ℕ) (at : ℕ) (value : ℤ) → index ≡ at ∷ []
-    → at < l.size → value ≡ cell_at (line_dataset image l) (at ∷ []) → HasCell tree path index value
-cell_there image tree path l there index at value one inside same =
-    let test : nat_lt at l.size ≡ true = grind (arith, nat_tests) in
-    rw one (record {
-      accepted = first-behind (dataset_rules tree path) (index_rules tree path (at ∷ [])) there.accepted ∙ rw (there.found, test) refl;
-      dataset = line_dataset image l;
+pub cell_there : (image : List ℕ) (tree : Tree) (path : List ℕ) (a : Described) → IsArrayThere image tree path a → (index : List ℕ) (value : ℤ) → length index ≡ length a.sizes
+    → is_inside a.sizes index ≡ true → value ≡ cell_at (dataset_in image a empty) index → HasCell tree path index value
+cell_there image tree path a there index value same inside is =
+    let rank : (length index == length a.sizes) ≡ true = grind (arith, nat_tests, same) in
+    record {
+      accepted = first-behind (dataset_rules tree path) (index_rules tree path index) there.accepted ∙ rw (there.found, rank, inside) refl;
+      dataset = dataset_in image a empty;
       found = there.found;
-      value_is = same;
-    })
-
--- ---- an array
-
-module _ (image : List ℕ) (line : Line) (a : ArrayCells) (fixed : a.fixed.now ≡ line.fixed) (size : a.size ≡ line.size) (fill : a.fill ≡ line.fill) where
-  -- the cells by what was lent
-  lent : (cells : Option (Bor (List ℕ))) → MatchOption cells (AreFilled image line) (λ bytes. AreStored image line bytes.now) → AreCells cells a (line_dataset image line).cells
-  lent None are = are ∙ (λ i. replicate (sym size i) (sym fill i))
-  lent (Some bytes) are = (are.0 ∙ (λ i. sym size i * (sym fixed i).size), are.1 ∙ ap (λ (t : Fixed). stored_values t bytes.now) (sym fixed))
-
-  pub shows_line : a.maximum ≡ line.maximum → IsFixed line.fixed → MatchOption a.cells (AreFilled image line) (λ bytes. AreStored image line bytes.now) → IsArray (line_dataset image line) a
-  shows_line maximum sound are = record {
-    sound = rw fixed sound;
-    fixed_is = fixed;
-    sizes_are = ap (λ (n : ℕ). n ∷ []) (sym size);
-    maxima_are = ap (λ (m : Option ℕ). m ∷ []) (sym maximum);
-    stored = is_some line.cells && nat_lt 0 (line.size * 1);
-    storage_is = refl;
-    fill_is = fill;
-    counted = line_length image line ∙ sym size;
-    cells_are = lent a.cells are;
-  }
+      value_is = is;
+    }
 
 module _ (image : List ℕ) (objects : List OpenedObject) (numbers : BTreeMap ℕ ℕ) (opened : IsOpened image objects numbers) (number : ℕ) (object : OpenedObject)
     (at : slice_get objects number ≡ Some object) where
@@ -121,7 +90,7 @@ module _ (image : List ℕ) (objects : List OpenedObject) (numbers : BTreeMap �
 
     -- what it holds
     holds : (attributes : List (List ℕ × Attribute)) → attributes ≡ entries (attributes_of (messages_in image object.messages.list)) → (c : Content)
-        → content_in image (headers objects) object.content ≡ c → HasObject T number attributes c
+        → content_in image (headers objects) (messages_in image object.messages.list) object.content ≡ c → HasObject T number attributes c
     holds attributes listed c same = record { object = object_in image (headers objects) object; found = object_there image objects number object at; listed = listed; content_is = same }
 
     -- ---- a group
@@ -134,7 +103,7 @@ module _ (image : List ℕ) (objects : List OpenedObject) (numbers : BTreeMap �
           → attributes.items ≡ entries (attributes_of (messages_in image object.messages.list)) → HasFound T path (found.Group n attributes)
       group_found n same attributes listed = record {
         accepted = leads.0;
-        there = rw leads.1 (same, links_by (headers objects) (links_of image g), holds attributes.items listed _ (ap (content_in image (headers objects)) is));
+        there = rw leads.1 (same, links_by (headers objects) (links_of image g), holds attributes.items listed _ (ap (content_in image (headers objects) (messages_in image object.messages.list)) is));
       }
 
       pub group_names : (names : List (List ℕ)) → names ≡ names_of image g → HasNames T path names
@@ -146,35 +115,34 @@ module _ (image : List ℕ) (objects : List OpenedObject) (numbers : BTreeMap �
             ∙ rw (leads.1, group_links image objects number object at g is) refl;
       }
 
-      pub group_no_line : first_holding (dataset_rules T path) ≡ Some NotADataset
-      group_no_line = no_dataset T path number leads.0 leads.1 (group_no_array image objects number object at g is)
+      pub group_not_array : first_holding (dataset_rules T path) ≡ Some NotADataset
+      group_not_array = no_dataset T path number leads.0 leads.1 (group_no_array image objects number object at g is)
 
     -- ---- an array
 
-    module _ (line : Line) (is : object.content ≡ content.Array line) where
-      pub array_kind : (maximum : ℕ) → maximum ≡ shown_maximum line.maximum
-          → HasKind T path (kind.Dataset line.fixed (line.size ∷ []) (maximum ∷ []) store.Contiguous line.fill)
-      array_kind maximum same = record {
+    module _ (is : object.content ≡ content.Array) where
+      abbrev D : Dataset
+      D = array_dataset image (messages_in image object.messages.list)
+
+      pub array_kind : (k : Kind) → IsArrayKind D k → HasKind T path k
+      array_kind kind.Group shown = absurd shown
+      array_kind (kind.Dataset fixed dims maxima stored fill) shown = record {
         accepted = leads.0;
-        found = rw leads.1 (
-          line_dataset image line,
-          array_there image objects number object at line is,
-          record { fixed_is = refl; dims_are = refl; maxima_are = ap (λ (m : ℕ). m ∷ []) same; stored_is = tt; fill_is = refl },
-        );
+        found = rw leads.1 (D, array_there image objects number object at is, shown);
       }
+      array_kind (kind.Soft text) shown = absurd shown
 
       pub array_found : (n : ObjectNo) → n.0 ≡ number → (attributes : Vec (List ℕ × Attribute) Global)
-          → attributes.items ≡ entries (attributes_of (messages_in image object.messages.list)) → (a : ArrayCells) → IsArray (line_dataset image line) a
-          → HasFound T path (found.Array n attributes a)
+          → attributes.items ≡ entries (attributes_of (messages_in image object.messages.list)) → (a : StoredArray) → IsArray D a → HasFound T path (found.Array n attributes a)
       array_found n same attributes listed a shown = record {
         accepted = leads.0;
-        there = rw leads.1 (same, line_dataset image line, holds attributes.items listed _ (ap (content_in image (headers objects)) is), shown);
+        there = rw leads.1 (same, D, holds attributes.items listed _ (ap (content_in image (headers objects) (messages_in image object.messages.list)) is), shown);
       }
 
       pub array_no_list : first_holding (list_rules T path) ≡ Some NotAGroup
-      array_no_list = list_here T path number leads.0 leads.1 ∙ rw (array_no_group image objects number object at line is) refl
+      array_no_list = list_here T path number leads.0 leads.1 ∙ rw (array_no_group image objects number object at is) refl
 
-      pub line_there : IsLineThere image T path line
-      line_there =
-          let here = dataset_here T path number (line_dataset image line) leads.0 leads.1 (array_there image objects number object at line is) in
-          record { accepted = here.0; found = here.1; kept = line_kept image objects numbers opened number object at line is }
+      pub told_there : IsArrayThere image T path (array_told (messages_in image object.messages.list))
+      told_there =
+          let here = dataset_here T path number D leads.0 leads.1 (array_there image objects number object at is) in
+          record { accepted = here.0; found = here.1; unchunked = kept_unchunked image object.messages (array_kept image objects numbers opened number object at is) }

@@ -9,7 +9,7 @@ use Rattle.h5_laws.proofs.Lists.{In, in_contains, contains_in}
 use Rattle.h5_open.specs.Links as group
 use Rattle.h5_open.specs.Links.{IsGroupRead, IsLinkNamed, HasNone, target_of, link_from}
 use Rattle.h5_open.specs.GroupType.{Group}
-use Rattle.h5_open.specs.LinkRefType.{LinkRef}
+use Rattle.h5_model.specs.declared.link.Link.{Link as LinkOf}
 use Rattle.h5_open.specs.Opened.Objects.{link_to, links_by}
 use Rattle.h5_open.proofs.OpenedLaws.Entries.{get_link, names_ascend, group_entries}
 
@@ -29,10 +29,10 @@ none_found hs ((x, t) ∷ found) name none =
 
 module _ (image hs : List ℕ) (g : Group) (read : IsGroupRead image g) where
   -- the link of a name
-  pub link_named : (name : List ℕ) (l : LinkRef) → IsLinkNamed image g name l → get (links_by hs (group.links_of image g)) name ≡ Some (link_to hs (target_of l.target))
+  pub link_named : (name : List ℕ) (l : LinkOf ℕ) → IsLinkNamed image g name l → get (links_by hs (group.links_of image g)) name ≡ Some (link_to hs (target_of l.to))
   link_named name l is =
-      subst (λ (n : List ℕ). get (links_by hs (group.links_of image g)) n ≡ Some (link_to hs (target_of l.target))) is.1
-      (get_link hs (group.links_of image g) (names_ascend image g read) l.name.now (target_of l.target) (in_contains (link_from l) (group.links_of image g) is.0))
+      subst (λ (n : List ℕ). get (links_by hs (group.links_of image g)) n ≡ Some (link_to hs (target_of l.to))) is.1
+      (get_link hs (group.links_of image g) (names_ascend image g read) l.name.now (target_of l.to) (in_contains (link_from l) (group.links_of image g) is.0))
 
   pub none_named : (name : List ℕ) → HasNone image g name → get (links_by hs (group.links_of image g)) name ≡ None
   none_named name none =

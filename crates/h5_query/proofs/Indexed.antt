@@ -10,7 +10,6 @@ use Rattle.std.specs.BTreeMap.{BTreeMap}
 use Rattle.h5_model.specs.Tree.Objects.{Object, links_of, dataset_of, links_in, dataset_in as dataset_by}
 use Rattle.h5_open.specs.Links as group
 use Rattle.h5_open.specs.GroupType.{Group as GroupRead}
-use Rattle.h5_open.specs.declared.opened.line.Line.{Line}
 use Rattle.h5_open.specs.declared.opened.object.OpenedObject.{OpenedObject}
 use Rattle.h5_open.specs.declared.opened.object.OpenedContent.{OpenedContent}
 use Rattle.h5_open.specs.declared.opened.object.OpenedContent.TheVariants as content
@@ -19,10 +18,8 @@ use Rattle.h5_open.specs.Opened.Objects.{headers, number_of, links_by, content_i
 use Rattle.h5_open.proofs.OpenedLaws.Entries.{get_table, get_tree}
 pub use Rattle.h5_open.proofs.OpenedLaws.Indexed.{object_there, object_kept, number_at_header}
 use Rattle.h5_header.specs.Listed.{messages_in}
-use Rattle.h5_open.proofs.RoomLaws.{is_array}
 use Rattle.h5_open.specs.Links.{IsGroupRead}
-use Rattle.h5_open.specs.Opened.Array.{described}
-use Rattle.h5_query.specs.Kept.{line_dataset, IsLineKept}
+use Rattle.h5_query.specs.Kept.{array_dataset, IsArrayKept}
 
 -- ---- lists
 
@@ -66,24 +63,24 @@ module _ (image : List ℕ) (objects : List OpenedObject) where
       pub group_links : links_of (tree_of image objects) k ≡ Some (links_by (headers objects) (group.links_of image g))
       group_links =
           ap (option_and_then (λ (x : Object). links_in x.content)) (object_there image objects k o at)
-          ∙ ap (λ (c : OpenedContent). links_in (content_in image (headers objects) c)) is
+          ∙ ap (λ (c : OpenedContent). links_in (content_in image (headers objects) (messages_in image o.messages.list) c)) is
 
       pub group_no_array : dataset_of (tree_of image objects) k ≡ None
       group_no_array =
           ap (option_and_then (λ (x : Object). dataset_by x.content)) (object_there image objects k o at)
-          ∙ ap (λ (c : OpenedContent). dataset_by (content_in image (headers objects) c)) is
+          ∙ ap (λ (c : OpenedContent). dataset_by (content_in image (headers objects) (messages_in image o.messages.list) c)) is
 
     -- an array has it
-    module _ (line : Line) (is : o.content ≡ content.Array line) where
+    module _ (is : o.content ≡ content.Array) where
       pub array_no_group : links_of (tree_of image objects) k ≡ None
       array_no_group =
           ap (option_and_then (λ (x : Object). links_in x.content)) (object_there image objects k o at)
-          ∙ ap (λ (c : OpenedContent). links_in (content_in image (headers objects) c)) is
+          ∙ ap (λ (c : OpenedContent). links_in (content_in image (headers objects) (messages_in image o.messages.list) c)) is
 
-      pub array_there : dataset_of (tree_of image objects) k ≡ Some (line_dataset image line)
+      pub array_there : dataset_of (tree_of image objects) k ≡ Some (array_dataset image (messages_in image o.messages.list))
       array_there =
           ap (option_and_then (λ (x : Object). dataset_by x.content)) (object_there image objects k o at)
-          ∙ ap (λ (c : OpenedContent). dataset_by (content_in image (headers objects) c)) is
+          ∙ ap (λ (c : OpenedContent). dataset_by (content_in image (headers objects) (messages_in image o.messages.list) c)) is
 
 -- a number at which a header stands is an object's
 pub number_within : (objects : List OpenedObject) (n h : ℕ) → slice_get (headers objects) n ≡ Some h → n < length objects
@@ -96,11 +93,12 @@ module _ (image : List ℕ) (objects : List OpenedObject) (numbers : BTreeMap �
   pub group_read : (k : ℕ) (o : OpenedObject) → slice_get objects k ≡ Some o → (g : GroupRead) → o.content ≡ content.Group g → IsGroupRead image g
   group_read k o at g is = (subst (IsContentKept image (messages_in image o.messages.list)) is (object_kept image objects numbers opened k o at).content).2
 
-  -- an array's block is there, with room for the cells
-  pub line_kept : (k : ℕ) (o : OpenedObject) → slice_get objects k ≡ Some o → (line : Line) → o.content ≡ content.Array line → IsLineKept image line
-  line_kept k o at line is =
-      let kept = subst (IsContentKept image (messages_in image o.messages.list)) is (object_kept image objects numbers opened k o at).content in
-      record { inside = kept.1; room = (is_array (messages_in image o.messages.list) (described line) (kept.0).array).room }
+  -- the messages describe an array, whose block is there
+  pub array_kept : (k : ℕ) (o : OpenedObject) → slice_get objects k ≡ Some o → o.content ≡ content.Array → IsArrayKept image o.messages
+  array_kept k o at is =
+      let kept = object_kept image objects numbers opened k o at in
+      let array = subst (IsContentKept image (messages_in image o.messages.list)) is kept.content in
+      record { within = (kept.header).within; list = array.0; inside = array.1 }
 
   pub root_there : 0 < length objects
   root_there = number_within objects 0 _ (sym (get_table objects 0) ∙ (opened.reads.1).holds.root)

@@ -12,6 +12,7 @@ use Rattle.h5_laws.proofs.Maps.{entry_of_get, tied_right}
 use Rattle.h5_laws.proofs.Objects.{content_cases}
 use Rattle.h5_open.specs.Links as group
 use Rattle.h5_open.specs.GroupType.{Group as GroupRead}
+use Rattle.h5_header.specs.Listed.{messages_in}
 use Rattle.h5_open.specs.declared.opened.object.OpenedObject.{OpenedObject}
 use Rattle.h5_open.specs.declared.opened.object.OpenedContent.TheVariants as content
 use Rattle.h5_open.specs.Opened.Kept.{IsOpened}
@@ -39,7 +40,7 @@ module _ (image : List ℕ) (objects : List OpenedObject) (numbers : BTreeMap �
       let there : In (k, object_in image hs o) (entries (tree_of image objects)) = entry_of_get (tree_of image objects) k (object_in image hs o) (object_there image objects k o at) in
       let x = from_map (λ (p : Placed). (p.number, p.object)) (k, object_in image hs o) opened.reads.0 (subst (In (k, object_in image hs o)) reads.holds.objects there) in
       let placed = in_all (IsPlaced image (table_of objects)) x.0 opened.reads.0 reads.holds.each x.1 in
-      let same : (x.0).object.content ≡ Group links = ap (λ (p : ℕ × Object). (p.1).content) x.2 ∙ ap (content_in image hs) is in
+      let same : (x.0).object.content ≡ Group links = ap (λ (p : ℕ × Object). (p.1).content) x.2 ∙ ap (content_in image hs (messages_in image o.messages.list)) is in
       elim (content_cases image (table_of objects) placed.messages (x.0).object.content placed.content_blocks placed.content) [
         | inl c ↦
             let one : c.0 ≡ links = (let both : Group c.0 ≡ Group links = sym c.1 ∙ same in cc) in

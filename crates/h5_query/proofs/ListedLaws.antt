@@ -10,21 +10,22 @@ use Rattle.h5_laws.proofs.Lists.{In, contains_in}
 use Rattle.h5_open.specs.Links as group
 use Rattle.h5_open.specs.Links.{link_from}
 use Rattle.h5_open.specs.GroupType.{Group}
-use Rattle.h5_open.specs.LinkRefType.{LinkRef}
-use Rattle.h5_open.specs.LinkTargetType.{LinkTarget}
-use Rattle.h5_open.specs.LinkTargetType.TheVariants as target
+use Rattle.h5_model.specs.declared.link.Link.{Link}
+use Rattle.h5_model.specs.declared.object_no.ObjectNo.{ObjectNo}
+use Rattle.h5_model.specs.declared.link.LinkTo.{LinkTo}
+use Rattle.h5_model.specs.declared.link.LinkTo.TheVariants as target
 use Rattle.h5_open.specs.declared.opened.object.OpenedObject.{OpenedObject}
 use Rattle.h5_open.specs.declared.opened.object.OpenedContent.TheVariants as content
 use Rattle.h5_open.specs.Opened.Kept.{IsOpened}
 use Rattle.h5_open.specs.Opened.Objects.{headers, link_to, links_by, tree_of}
 use Rattle.h5_open.proofs.OpenedLaws.Entries.{group_entries}
-use Rattle.h5_query.specs.declared.group.Link.{Link}
 use Rattle.h5_query.specs.Kept.{name_of}
-use Rattle.h5_query.specs.Listed.{AreLinks, IsLed, IsTargetLed, in_tree, seen_link}
+use Rattle.h5_model.specs.Tree.Links.{tree_link}
+use Rattle.h5_query.specs.Listed.{AreLinks, IsLed, IsTargetLed, in_tree}
 use Rattle.h5_query.proofs.Indexed.{group_links, group_read}
 use Rattle.h5_query.proofs.StepLaws.{header_contained, header_there}
 
-pub names_from : (ls : List LinkRef) → map name_of ls ≡ map (λ (l : List ℕ × Target). l.0) (map link_from ls)
+pub names_from : (ls : List (Link ℕ)) → map name_of ls ≡ map (λ (l : List ℕ × Target). l.0) (map link_from ls)
 names_from [] = refl
 names_from (l ∷ ls) = ap (λ (names : List (List ℕ)). l.name.now ∷ names) (names_from ls)
 
@@ -34,11 +35,11 @@ pub same_names : {E : Type 0} (r : Result (Vec (Bor (List ℕ)) Global) E) (xs y
 same_names (Ok names) xs ys is same = is ∙ same
 same_names (Err e) xs ys is same = tt
 
-pub tree_from : (hs : List ℕ) (ls : List LinkRef) → map (in_tree hs) ls ≡ map (λ (l : List ℕ × Target). (l.0, link_to hs l.1)) (map link_from ls)
+pub tree_from : (hs : List ℕ) (ls : List (Link ℕ)) → map (in_tree hs) ls ≡ map (λ (l : List ℕ × Target). (l.0, link_to hs l.1)) (map link_from ls)
 tree_from hs [] = refl
 tree_from hs (l ∷ ls) = ap (λ (more : List (List ℕ × tree.Link)). in_tree hs l ∷ more) (tree_from hs ls)
 
-all_led : (hs : List ℕ) (ls : List LinkRef) → ((l : LinkRef) → In (link_from l) (map link_from ls) → IsLed hs l) → AllByRecursion (IsLed hs) ls
+all_led : (hs : List ℕ) (ls : List (Link ℕ)) → ((l : Link ℕ) → In (link_from l) (map link_from ls) → IsLed hs l) → AllByRecursion (IsLed hs) ls
 all_led hs [] each = tt
 all_led hs (l ∷ ls) each = (each l (inl refl), all_led hs ls (λ m at. each m (inr at)))
 
@@ -47,17 +48,17 @@ module _ (image : List ℕ) (objects : List OpenedObject) (numbers : BTreeMap �
   abbrev hs : List ℕ
   hs = headers objects
 
-  module _ (found : List LinkRef) (all : map link_from found ≡ group.links_of image g) where
-    led_by : (l : LinkRef) → In (link_from l) (group.links_of image g) → (t : LinkTarget) → l.target ≡ t → IsTargetLed hs t
+  module _ (found : List (Link ℕ)) (all : map link_from found ≡ group.links_of image g) where
+    led_by : (l : Link ℕ) → In (link_from l) (group.links_of image g) → (t : LinkTo ℕ) → l.to ≡ t → IsTargetLed hs t
     led_by l listed (target.Object header) names =
         header_contained image objects numbers opened header (header_there image objects numbers opened k o at g is l header (contains_in (link_from l) (group.links_of image g) listed) names)
     led_by l listed (target.Soft text) names = tt
 
     -- each link leads to an object's header
     pub found_led : AllByRecursion (IsLed hs) found
-    found_led = all_led hs found (λ l listed. led_by l (subst (In (link_from l)) all listed) l.target refl)
+    found_led = all_led hs found (λ l listed. led_by l (subst (In (link_from l)) all listed) l.to refl)
 
-    pub are_links : (links : List Link) → map seen_link links ≡ map (in_tree hs) found → AreLinks (tree_of image objects) k links
+    pub are_links : (links : List (Link ObjectNo)) → map tree_link links ≡ map (in_tree hs) found → AreLinks (tree_of image objects) k links
     are_links links same = (
       links_by hs (group.links_of image g),
       group_links image objects k o at g is,

@@ -12,10 +12,9 @@ use Rattle.h5_laws.proofs.Lists.{In, in_contains}
 use Rattle.h5_open.specs.Links as group
 use Rattle.h5_open.specs.Links.{IsGroupRead, IsLinkNamed, HasNone, target_of, link_from}
 use Rattle.h5_open.specs.GroupType.{Group}
-use Rattle.h5_open.specs.LinkRefType.{LinkRef}
-use Rattle.h5_open.specs.LinkTargetType.{LinkTarget}
-use Rattle.h5_open.specs.LinkTargetType.TheVariants as target
-use Rattle.h5_open.specs.declared.opened.line.Line.{Line}
+use Rattle.h5_model.specs.declared.link.Link.{Link as LinkOf}
+use Rattle.h5_model.specs.declared.link.LinkTo.{LinkTo}
+use Rattle.h5_model.specs.declared.link.LinkTo.TheVariants as target
 use Rattle.h5_open.specs.declared.opened.object.OpenedObject.{OpenedObject}
 use Rattle.h5_open.specs.declared.opened.object.OpenedContent.TheVariants as content
 use Rattle.h5_open.specs.Opened.Kept.{IsOpened}
@@ -36,11 +35,11 @@ module _ (image : List ℕ) (objects : List OpenedObject) (numbers : BTreeMap �
   hs = headers objects
 
   -- a header that a link names is an object's
-  pub header_there : (k : ℕ) (o : OpenedObject) → slice_get objects k ≡ Some o → (g : Group) → o.content ≡ content.Group g → (l : LinkRef) (header : ℕ)
-      → Contains (group.links_of image g) (link_from l) → l.target ≡ target.Object header → slice_get hs (number_of hs header) ≡ Some header
+  pub header_there : (k : ℕ) (o : OpenedObject) → slice_get objects k ≡ Some o → (g : Group) → o.content ≡ content.Group g → (l : LinkOf ℕ) (header : ℕ)
+      → Contains (group.links_of image g) (link_from l) → l.to ≡ target.Object header → slice_get hs (number_of hs header) ≡ Some header
   header_there k o at g is l header listed names =
       led image objects numbers opened k o at g is l.name.now header
-      (subst (λ (t : LinkTarget). In (l.name.now, target_of t) (group.links_of image g)) names (in_contains (link_from l) (group.links_of image g) listed))
+      (subst (λ (t : LinkTo ℕ). In (l.name.now, target_of t) (group.links_of image g)) names (in_contains (link_from l) (group.links_of image g) listed))
 
   pub header_contained : (header : ℕ) → slice_get hs (number_of hs header) ≡ Some header → Contains hs header
   header_contained header at =
@@ -56,8 +55,8 @@ module _ (image : List ℕ) (objects : List OpenedObject) (numbers : BTreeMap �
     begins : (names : List (List ℕ)) → locate T (link_at from) names ≡ locate T (ToObject number) names
     begins names = ap (λ (l : Link). locate T l names) begins_at
 
-    pub no_group : (line : Line) → object.now.content ≡ content.Array line → (name : List ℕ) (names : List (List ℕ)) → locate T (link_at from) (name ∷ names) ≡ NoGroup
-    no_group line array name names = begins (name ∷ names) ∙ locate-no_group T number name names (array_no_group image objects number object.now at line array)
+    pub no_group : object.now.content ≡ content.Array → (name : List ℕ) (names : List (List ℕ)) → locate T (link_at from) (name ∷ names) ≡ NoGroup
+    no_group array name names = begins (name ∷ names) ∙ locate-no_group T number name names (array_no_group image objects number object.now at array)
 
     module _ (g : Group) (grouped : object.now.content ≡ content.Group g) where
       pub read : IsGroupRead image g
@@ -71,22 +70,22 @@ module _ (image : List ℕ) (objects : List OpenedObject) (numbers : BTreeMap �
           begins (name ∷ names)
           ∙ locate-missing T number name names links (group_links image objects number object.now at g grouped) (none_named image hs g read name none)
 
-      module _ (name : List ℕ) (l : LinkRef) (named : IsLinkNamed image g name l) where
+      module _ (name : List ℕ) (l : LinkOf ℕ) (named : IsLinkNamed image g name l) where
         -- the link of the name
-        in_group : (link : Link) → link_to hs (target_of l.target) ≡ link → link_in T number name ≡ Some link
+        in_group : (link : Link) → link_to hs (target_of l.to) ≡ link → link_in T number name ≡ Some link
         in_group link leads =
             ap (option_and_then (λ (ls : Links). get ls name)) (group_links image objects number object.now at g grouped)
             ∙ link_named image hs g read name l named ∙ ap Some leads
 
-        pub to_text : (text : Bor (List ℕ)) → l.target ≡ target.Soft text → link_in T number name ≡ Some (Soft text.now)
-        to_text text is_text = in_group (Soft text.now) (ap (λ (t : LinkTarget). link_to hs (target_of t)) is_text)
+        pub to_text : (text : Bor (List ℕ)) → l.to ≡ target.Soft text → link_in T number name ≡ Some (Soft text.now)
+        to_text text is_text = in_group (Soft text.now) (ap (λ (t : LinkTo ℕ). link_to hs (target_of t)) is_text)
 
-        module _ (header : ℕ) (names_header : l.target ≡ target.Object header) where
+        module _ (header : ℕ) (names_header : l.to ≡ target.Object header) where
           pub header_known : Contains hs header
           header_known = header_contained header (header_there number object.now at g grouped l header named.0 names_header)
 
           pub to_object : (n : ℕ) → slice_get hs n ≡ Some header → (next : Place) → link_at next ≡ ToObject n → link_in T number name ≡ Some (link_at next)
           to_object n there next linked =
               in_group (link_at next)
-              (ap (λ (t : LinkTarget). link_to hs (target_of t)) names_header
+              (ap (λ (t : LinkTo ℕ). link_to hs (target_of t)) names_header
               ∙ ap ToObject (number_at_header image objects numbers opened n header there) ∙ sym linked)

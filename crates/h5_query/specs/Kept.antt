@@ -1,25 +1,25 @@
 -- What an opened image keeps of the object at a path, and of the cells of its array (File Format Specification 3.0, section IV.A).
-use Rattle.std.specs.Prelude.{◌≡◌, ℕ, ◌*◌, true, Some, None, List, [], ◌∷◌, length, map, replicate}
+use Rattle.std.specs.Prelude.{◌≡◌, ℕ, Some, None, List, length, map}
 use Rattle.std.specs.FinMap.{get, empty}
 use Rattle.std.specs.Option.{option_and_then}
-use Rattle.h5_model.specs.Scripts.Answers.{stored_values}
 use Rattle.h5_model.specs.Tree.Objects.{Tree, Object, Dataset}
 use Rattle.h5_model.specs.Tree.Paths.{object_at, dataset_at}
 use Rattle.h5_model.specs.Edits.Refusal.{first_holding}
 use Rattle.h5_model.specs.Scripts.Reading.{object_rules, dataset_rules}
+use Rattle.h5_model.specs.Format.Messages.{Message}
 use Rattle.h5_model.specs.Format.Symbols.{Target}
-use Rattle.h5_model.specs.Format.Layout.{InBlock}
 use Rattle.h5_model.specs.declared.edit_fault.EditFault.{EditFault}
 use Rattle.h5_bytes.specs.Blocks.{Inside}
-use Rattle.h5_open.specs.Stored.{has_room}
+use Rattle.h5_open.specs.Stored.{IsUnchunked}
+use Rattle.h5_open.specs.Told.{array_told, layout_told}
 use Rattle.h5_open.specs.Links.{links_of}
 use Rattle.h5_open.specs.GroupType.{Group}
-use Rattle.h5_open.specs.LinkRefType.{LinkRef}
-use Rattle.h5_open.specs.Opened.Array.{described, data_blocks}
-use Rattle.h5_header.specs.Listed.{Listed, messages_in}
+use Rattle.h5_model.specs.declared.link.Link.{Link}
+use Rattle.h5_open.specs.Opened.Array.{data_blocks}
+use Rattle.h5_open.specs.Opened.Judged.{IsArrayList}
+use Rattle.h5_header.specs.Listed.{Listed, messages_in, IsWithin}
 use Rattle.h5_open.specs.Attributes.{attributes_of}
-use Rattle.h5_open.specs.Described.{dataset_in}
-use Rattle.h5_open.specs.declared.opened.line.Line.{Line}
+use Rattle.h5_open.specs.Described.{Described, dataset_in}
 use Rattle.h5_open.specs.Opened.Headers.{IsHeaderKept}
 
 -- an object stands there, whose attributes are those of this header
@@ -30,36 +30,29 @@ pub record IsHeaderThere (image : List ℕ) (tree : Tree) (path : List ℕ) (m :
   pub kept : IsHeaderKept image m
   pub attributes_are : object.attributes ≡ attributes_of (messages_in image m.list)
 
--- the dataset of a line
-abbrev pub line_dataset : List ℕ → Line → Dataset
-line_dataset image l = dataset_in image (described l) empty
+-- the dataset that the messages of a header tell, without chunks
+abbrev pub array_dataset : List ℕ → List Message → Dataset
+array_dataset image ms = dataset_in image (array_told ms) empty
 
--- the block of the cells is there, with room for them
-pub record IsLineKept (image : List ℕ) (l : Line) : Type 0 where
-  pub inside : Inside (length image) (data_blocks l.cells)
-  pub room : has_room (l.size ∷ []) (l.fixed).size (InBlock l.cells) ≡ true
+-- the messages are those of an array, and the block of its cells is there
+pub record IsArrayKept (image : List ℕ) (m : Listed) : Type 0 where
+  pub within : IsWithin (length image) m.list
+  pub list : IsArrayList (messages_in image m.list)
+  pub inside : Inside (length image) (data_blocks (layout_told (messages_in image m.list)))
 
--- this array stands there
-pub record IsLineThere (image : List ℕ) (tree : Tree) (path : List ℕ) (l : Line) : Type 0 where
+-- this array stands there, in no chunks
+pub record IsArrayThere (image : List ℕ) (tree : Tree) (path : List ℕ) (a : Described) : Type 0 where
   pub accepted : first_holding (dataset_rules tree path) ≡ None
-  pub found : dataset_at tree path ≡ Some (line_dataset image l)
-  pub kept : IsLineKept image l
+  pub found : dataset_at tree path ≡ Some (dataset_in image a empty)
+  pub unchunked : IsUnchunked (length image) a.layout
 
 -- the rules of a dataset's path refuse the path
-abbrev pub IsNoLineThere : Tree → List ℕ → EditFault → Type 0
-IsNoLineThere tree path e = first_holding (dataset_rules tree path) ≡ Some e
-
--- each cell reads the fill
-abbrev pub AreFilled : List ℕ → Line → Type 0
-AreFilled image l = (line_dataset image l).cells ≡ replicate l.size l.fill
-
--- the cells stand in these bytes
-abbrev pub AreStored : List ℕ → Line → List ℕ → Type 0
-AreStored image l bytes = (length bytes ≡ l.size * (l.fixed).size) × ((line_dataset image l).cells ≡ stored_values l.fixed bytes)
+abbrev pub IsNoArrayThere : Tree → List ℕ → EditFault → Type 0
+IsNoArrayThere tree path e = first_holding (dataset_rules tree path) ≡ Some e
 
 -- the names of a group's links, and of one that was lent
 abbrev pub names_of : List ℕ → Group → List (List ℕ)
 names_of image g = map (λ (l : List ℕ × Target). l.0) (links_of image g)
 
-abbrev pub name_of : LinkRef → List ℕ
+abbrev pub name_of : Link ℕ → List ℕ
 name_of l = l.name.now

@@ -7,12 +7,11 @@ pub mod Found
 pub mod Kept
 pub use Rattle.h5_open.specs.Opened
 pub use Rattle.h5_open.specs.Described
+pub use Rattle.h5_open.specs.Told
 pub use Rattle.h5_open.specs.Links
-pub use Rattle.h5_open.specs.LinkRefType
 pub use Rattle.h5_open.specs.declared.opened.object.OpenedObject as OpenedObjectType
 pub use Rattle.h5_open.specs.Renumbered
 pub use Rattle.h5_open.specs.declared.opened.object.OpenedContent as OpenedContentType
-pub use Rattle.h5_open.specs.declared.opened.line.Line as LineType
 pub use Rattle.h5_open.specs.Stored
 pub use Rattle.h5_open.specs.GroupType
 pub use Rattle.h5_open.specs.Attributes

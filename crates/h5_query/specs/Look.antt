@@ -1,10 +1,11 @@
 -- What a look at a path answers.
-use Rattle.std.specs.Prelude.{◌≡◌, ℕ, Bool, ℤ, Option, Some, None, IsSome, List, [], ◌∷◌, ◌*◌, map, length, replicate}
+use Rattle.std.specs.Prelude.{◌≡◌, ℕ, Bool, ℤ, Option, Some, None, IsSome, List, map, length}
 use Rattle.std.specs.Borrow.{Bor}
 use Rattle.std.specs.FinMap.{get, entries}
 use Rattle.std.specs.Option.{option_and_then}
 use Rattle.h5_model.specs.Format.Fixed.{Fixed, IsFixed}
-use Rattle.h5_model.specs.Scripts.Answers.{stored_values}
+use Rattle.h5_model.specs.Tree.Places.{cells}
+use Rattle.h5_open.specs.Stored.{AreFilled, AreStored}
 use Rattle.h5_model.specs.Tree.Objects.{Tree, ToObject, Object, Attribute, Dataset, Storage, links_of, dataset_of}
 use Rattle.h5_model.specs.Tree.Objects as tree
 use Rattle.h5_model.specs.Tree.Paths.{Located, Here, located, object_at, dataset_at}
@@ -16,7 +17,7 @@ use Rattle.h5_query.specs.declared.kind.Kind.{Kind}
 use Rattle.h5_query.specs.declared.kind.Kind.TheVariants.{Group, Dataset as ArrayOf, Soft}
 use Rattle.h5_query.specs.declared.kind.StoreKind.{StoreKind}
 use Rattle.h5_query.specs.declared.kind.StoreKind.TheVariants as store
-use Rattle.h5_query.specs.declared.array.ArrayCells.{ArrayCells}
+use Rattle.h5_query.specs.declared.array.StoredArray.{StoredArray}
 
 -- how cells are stored, as a look tells it: not whether contiguous cells are stored yet
 abbrev pub IsStored : Storage → StoreKind → Type 0
@@ -32,6 +33,11 @@ pub record IsShown (d : Dataset) (fixed : Fixed) (dims maxima : List ℕ) (store
   pub maxima_are : maxima ≡ map shown_maximum d.maxima
   pub stored_is : IsStored d.storage stored
   pub fill_is : fill ≡ d.fill
+
+-- the kind is that of this dataset
+abbrev pub IsArrayKind : Dataset → Kind → Type 0
+IsArrayKind d (ArrayOf fixed dims maxima stored fill) = IsShown d fixed dims maxima stored fill
+IsArrayKind d kind = ⊥
 
 -- what stands there is a link of this kind
 abbrev pub IsKind : Tree → Located → Kind → Type 0
@@ -93,22 +99,22 @@ abbrev pub IsNoDataset : Tree → ℕ → Type 0
 IsNoDataset whole number = dataset_of whole number ≡ None
 
 -- the bytes of the cells, or, where these are not stored, nothing
-abbrev pub AreCells : Option (Bor (List ℕ)) → ArrayCells → List ℤ → Type 0
-AreCells None a values = values ≡ replicate a.size a.fill
-AreCells (Some bytes) a values = (length bytes.now ≡ a.size * (a.fixed.now).size) × (values ≡ stored_values a.fixed.now bytes.now)
+abbrev pub HasCells : Dataset → Option (Bor (List ℕ)) → Type 0
+HasCells d None = AreFilled d
+HasCells d (Some bytes) = AreStored d bytes.now
 
 -- this is what is shown of the dataset
-pub record IsArray (d : Dataset) (a : ArrayCells) : Type 0 where
-  pub sound : IsFixed a.fixed.now
-  pub fixed_is : a.fixed.now ≡ d.fixed
-  pub sizes_are : d.sizes ≡ a.size ∷ []
-  pub maxima_are : d.maxima ≡ a.maximum ∷ []
+pub record IsArray (d : Dataset) (a : StoredArray) : Type 0 where
+  pub sound : IsFixed a.array.fixed
+  pub fixed_is : a.array.fixed ≡ d.fixed
+  pub sizes_are : a.array.sizes ≡ d.sizes
+  pub maxima_are : a.array.maxima ≡ d.maxima
   pub stored : Bool
   pub storage_is : d.storage ≡ tree.Contiguous stored
-  pub fill_is : a.fill ≡ d.fill
-  pub counted : length d.cells ≡ a.size
-  pub cells_are : AreCells a.cells a d.cells
+  pub fill_is : a.array.fill ≡ d.fill
+  pub counted : length d.cells ≡ cells d.sizes
+  pub cells_are : HasCells d a.cells
 
 -- the dataset of this number is this array
-abbrev pub HasArray : Tree → ℕ → ArrayCells → Type 0
+abbrev pub HasArray : Tree → ℕ → StoredArray → Type 0
 HasArray whole number a = (d : Dataset) × (dataset_of whole number ≡ Some d) × IsArray d a

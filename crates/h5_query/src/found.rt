@@ -5,7 +5,7 @@ ghost use Rattle.h5_open.specs.Opened.Kept.{IsOpened};
 ghost use Rattle.h5_open.specs.Opened.Objects.{tree_of};
 ghost use Rattle.h5_query.specs.Found.{HasFound, IsUnfound};
 
-use crate::array::{ArrayCells, array_cells};
+use crate::array::{StoredArray, stored_array};
 use crate::place::{Place, look};
 use h5_model::{EditFault, ObjectNo};
 use h5_open::{AttrRef, Opened, OpenedContent, sorted};
@@ -24,7 +24,7 @@ pub enum Found<'a> {
     Array {
         number: ObjectNo,
         attributes: Vec<AttrRef<'a>>,
-        array: ArrayCells<'a>,
+        array: StoredArray<'a>,
     },
     /// A soft link, with its text.
     Soft(&'a [u8]),
@@ -50,10 +50,10 @@ pub fn found_at<'a>(
     let attributes = sorted(alloc, image, &object.messages)?;
     match &object.content {
         OpenedContent::Group(_) => Ok(Found::Group { number, attributes }),
-        OpenedContent::Array(line) => Ok(Found::Array {
+        OpenedContent::Array => Ok(Found::Array {
             number,
             attributes,
-            array: array_cells(image, line),
+            array: stored_array(alloc, image, &object.messages),
         }),
     }
 }

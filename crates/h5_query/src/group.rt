@@ -4,29 +4,14 @@ ghost use Rattle.std.specs.Prelude.{◌≡◌, IfOk, MatchOption, map};
 ghost use Rattle.std.specs.List.{AllByRecursion};
 ghost use Rattle.h5_open.specs.Opened.Kept.{IsOpened};
 ghost use Rattle.h5_open.specs.Opened.Objects.{headers, tree_of};
-ghost use Rattle.h5_query.specs.Listed.{IsNoGroup, AreLinks, seen_target, seen_link, IsTargetLed, IsLed, target_in, in_tree};
+ghost use Rattle.h5_model.specs.Tree.Links.{tree_link, tree_target};
+ghost use Rattle.h5_query.specs.Listed.{IsNoGroup, AreLinks, IsTargetLed, IsLed, target_in, in_tree};
 
 use crate::step::number_of;
-use h5_model::ObjectNo;
-use h5_open::{LinkRef, LinkTarget, Opened, OpenedContent, entries};
+use h5_model::{Link, LinkTo, ObjectNo};
+use h5_open::{Opened, OpenedContent, entries};
 use h5_space::Image;
 use std::alloc::{AllocError, Global};
-
-/// Where a link leads.
-#[derive(Clone, Copy)]
-pub enum LinkTo<'a> {
-    /// To the object of this number.
-    Object(ObjectNo),
-    /// To the text of a soft link.
-    Soft(&'a [u8]),
-}
-
-/// A link of a group.
-#[derive(Clone, Copy)]
-pub struct Link<'a> {
-    pub name: &'a [u8],
-    pub to: LinkTo<'a>,
-}
 
 /// The links of the group of this number, ascending by the bytes of their names, or `None` where no group has it.
 ///
@@ -36,7 +21,7 @@ pub fn links_of<'a>(
     image: &'a Image,
     opened: &Opened,
     number: ObjectNo,
-) -> Result<Option<Vec<Link<'a>>>, AllocError>
+) -> Result<Option<Vec<Link<'a, ObjectNo>>>, AllocError>
     requires { IsOpened image.now.bytes opened.now.objects.items opened.now.numbers }
     ensures { let tree = tree_of image.now.bytes opened.now.objects.items in
         IfOk result (λ found.
@@ -53,35 +38,37 @@ pub fn links_of<'a>(
 }
 
 /// The links with the numbers of the objects to which they lead.
-fn tree_links<'a>(
+///
+/// Takes memory for a reference to each link.
+pub fn tree_links<'a>(
     alloc: Global,
     image: &Image,
     opened: &Opened,
-    found: &[LinkRef<'a>],
-) -> Result<Vec<Link<'a>>, AllocError>
+    found: &[Link<'a, u64>],
+) -> Result<Vec<Link<'a, ObjectNo>>, AllocError>
     requires opened { IsOpened image.now.bytes opened.now.objects.items opened.now.numbers }
     requires led { AllByRecursion (IsLed (headers opened.now.objects.items)) found.now }
     ensures { IfOk result (λ links.
-        map seen_link links.items ≡ map (in_tree (headers opened.now.objects.items)) found.now) }
+        map tree_link links.items ≡ map (in_tree (headers opened.now.objects.items)) found.now) }
 {
     let mut links = Vec::new(alloc);
     for link in found {
         links.push(Link {
             name: link.name,
-            to: link_to(image, opened, link.target),
+            to: link_to(image, opened, link.to),
         })?;
     }
     Ok(links)
 }
 
 /// Where a link leads, with the number of the object.
-fn link_to<'a>(image: &Image, opened: &Opened, target: LinkTarget<'a>) -> LinkTo<'a>
+fn link_to<'a>(image: &Image, opened: &Opened, target: LinkTo<'a, u64>) -> LinkTo<'a, ObjectNo>
     requires opened { IsOpened image.now.bytes opened.now.objects.items opened.now.numbers }
     requires led { IsTargetLed (headers opened.now.objects.items) target }
-    ensures { seen_target result ≡ target_in (headers opened.now.objects.items) target.entry }
+    ensures { tree_target result ≡ target_in (headers opened.now.objects.items) target.entry }
 {
     match target {
-        LinkTarget::Object(header) => LinkTo::Object(ObjectNo(number_of(opened, header))),
-        LinkTarget::Soft(text) => LinkTo::Soft(text),
+        LinkTo::Object(header) => LinkTo::Object(ObjectNo(number_of(opened, header))),
+        LinkTo::Soft(text) => LinkTo::Soft(text),
     }
 }

@@ -14,13 +14,13 @@ mod path;
 mod place;
 mod step;
 
-pub use array::{ArrayCells, array_of};
+pub use array::{StoredArray, array_of};
 pub use attributes::{attributes_at, names_of_attributes, one_attribute};
 pub use cells::one_cell;
 pub use found::{Found, found_at};
-pub use group::{Link, LinkTo, links_of};
+pub use group::{links_of, tree_links};
 pub use h5_open::{
-    AttrRef, Group, Line, LinkRef, LinkTarget, Opened, OpenedContent, OpenedObject, entries, get,
+    ArrayRef, AttrRef, Group, Opened, OpenedContent, OpenedObject, entries, get, known_array,
     renumber, sorted, walk,
 };
 pub use h5_shape::Dims;

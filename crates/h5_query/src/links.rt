@@ -1,19 +1,23 @@
 //! What the link at a path leads to, and the names in a group.
 
-ghost use Rattle.std.specs.Prelude.{◌≡◌, Some, IfOk, MatchResult, map};
+ghost use Rattle.std.specs.Prelude.{◌≡◌, ℕ, List, Some, IfOk, MatchResult, length, map};
+ghost use Rattle.std.specs.FinMap.{empty};
 ghost use Rattle.h5_model.specs.Edits.Refusal.{first_holding};
-ghost use Rattle.h5_model.specs.Scripts.Reading.{path_rules};
+ghost use Rattle.h5_model.specs.Format.Reads.{storage_of};
+ghost use Rattle.h5_model.specs.Scripts.Reading.{path_rules, shown_maximum};
 ghost use Rattle.h5_open.specs.Opened.Kept.{IsOpened};
 ghost use Rattle.h5_open.specs.Opened.Objects.{tree_of};
+ghost use Rattle.h5_open.specs.Described.{dataset_in};
+ghost use Rattle.h5_open.specs.Layouts.{layout_in};
 ghost use Rattle.h5_open.specs.Links.{IsGroupRead};
 ghost use Rattle.h5_query.specs.Kept.{name_of, names_of};
-ghost use Rattle.h5_query.specs.Look.{HasKind, HasNames, IsListRefused};
+ghost use Rattle.h5_query.specs.Look.{HasKind, HasNames, IsArrayKind, IsListRefused, IsStored};
 
 use crate::kind::{Kind, StoreKind};
 use crate::place::{Place, look};
-use h5_model::EditFault;
-use h5_open::{Group, LinkRef, Opened, OpenedContent, entries};
-use h5_shape::Dims;
+use h5_model::{EditFault, Link};
+use h5_open::{ArrayRef, Group, Layout, Opened, OpenedContent, entries, known_array};
+use h5_shape::{Dims, MAX_RANK};
 use h5_space::Image;
 use std::alloc::{AllocError, Global};
 
@@ -34,15 +38,59 @@ pub fn kind_at<'a>(
     match look(image, opened, path)? {
         Place::Object { object, .. } => match &object.content {
             OpenedContent::Group(_) => Ok(Kind::Group),
-            OpenedContent::Array(line) => Ok(Kind::Dataset {
-                fixed: line.fixed,
-                dims: Dims::new(alloc, &[line.size]).unwrap(),
-                maxima: Dims::new(alloc, &[line.maximum.unwrap_or(UNLIMITED)]).unwrap(),
-                store: StoreKind::Contiguous,
-                fill: line.fill,
-            }),
+            OpenedContent::Array => Ok(array_kind(
+                alloc,
+                &known_array(alloc, image, &object.messages),
+            )),
         },
         Place::Soft(text) => Ok(Kind::Soft(text)),
+    }
+}
+
+/// An array as it is shown.
+fn array_kind<'a>(alloc: Global, array: &ArrayRef<'_>) -> Kind<'a>
+    requires { length array.now.maxima ≡ length array.now.sizes }
+    ensures { (image : List ℕ) → IsArrayKind (dataset_in image array.now empty) result }
+{
+    Kind::Dataset {
+        fixed: array.fixed(),
+        dims: Dims::new(alloc, array.dims().sizes()).unwrap(),
+        maxima: show_maxima(alloc, array),
+        store: store_kind(alloc, array.layout()),
+        fill: array.fill(),
+    }
+}
+
+/// The maxima of an array as they are shown.
+fn show_maxima(alloc: Global, array: &ArrayRef<'_>) -> Dims
+    requires { length array.now.maxima ≡ length array.now.sizes }
+    ensures { result ≡ map shown_maximum array.now.maxima }
+{
+    let rank = array.dims().sizes().len();
+    let mut maxima = [0; MAX_RANK];
+    write_maxima(array, &mut maxima[..rank]);
+    Dims::new(alloc, &maxima[..rank]).unwrap()
+}
+
+/// Writes the maxima of an array, 2^64 - 1 for one that is unlimited.
+fn write_maxima(array: &ArrayRef<'_>, shown: &mut [u64])
+    requires maxima { length array.now.maxima ≡ length array.now.sizes }
+    requires room { length shown.old ≡ length array.now.sizes }
+    ensures { shown.new ≡ map shown_maximum array.now.maxima }
+{
+    for k in 0..shown.len() {
+        shown[k] = array.maximum(k).unwrap_or(UNLIMITED);
+    }
+}
+
+/// How the cells of a layout are stored.
+fn store_kind(alloc: Global, layout: &Layout<'_>) -> StoreKind
+    ensures { (sizes : List ℕ) → IsStored (storage_of sizes (layout_in layout.now)) result }
+{
+    match layout {
+        Layout::Compact(_) => StoreKind::Compact,
+        Layout::Contiguous(_) => StoreKind::Contiguous,
+        Layout::Chunked { sizes, .. } => StoreKind::Chunked(sizes.dims(alloc)),
     }
 }
 
@@ -86,7 +134,7 @@ fn link_names<'a>(
 }
 
 /// The names of the links, in their order.
-fn names_of_links<'a>(alloc: Global, links: &[LinkRef<'a>]) -> Result<Vec<&'a [u8]>, AllocError>
+fn names_of_links<'a>(alloc: Global, links: &[Link<'a, u64>]) -> Result<Vec<&'a [u8]>, AllocError>
     ensures { IfOk result (λ names. map (λ name. name.now) names.items ≡ map name_of links.now) }
 {
     let mut names = Vec::new(alloc);

@@ -9,7 +9,8 @@ ghost use Rattle.h5_query.specs.Place.{IsOfNumber, link_at};
 ghost use Rattle.h5_query.specs.Steps.{IsStep};
 
 use crate::place::Place;
-use h5_open::{LinkTarget, Opened, OpenedContent, lookup};
+use h5_model::LinkTo;
+use h5_open::{Opened, OpenedContent, lookup};
 use h5_space::Image;
 
 /// Where a name leads from a place.
@@ -44,12 +45,12 @@ pub(crate) fn follow_name<'a>(
     let Some(link) = lookup(image, group, name) else {
         return Step::Missing { parent: number };
     };
-    match link.target {
-        LinkTarget::Object(header) => Step::To {
+    match link.to {
+        LinkTo::Object(header) => Step::To {
             parent: number,
             place: object_place(opened, number_of(opened, header)),
         },
-        LinkTarget::Soft(text) => Step::To {
+        LinkTo::Soft(text) => Step::To {
             parent: number,
             place: Place::Soft(text),
         },

@@ -28,11 +28,13 @@ use Rattle.h5_repack.specs.Image.Written.{IsOrder, content_place, header_in, hea
 use Rattle.h5_repack.specs.Blocks.Written.{AreOthers}
 use Rattle.h5_repack.specs.Bodies.Bodies.{attribute_message, others_of}
 use Rattle.h5_repack.specs.Bodies.Sound.{IsPlainAttribute, IsPlainObject}
-use Rattle.h5_repack.specs.Objects.Objects.{IsNewContent, tree_link}
+use Rattle.h5_model.specs.Tree.Links.{tree_link}
+use Rattle.h5_repack.specs.Objects.Objects.{IsNewContent}
 use Rattle.h5_repack.specs.declared.objects.object.NewContent.{NewContent}
 use Rattle.h5_repack.specs.declared.objects.object.NewContent.TheVariants as new
 use Rattle.h5_repack.specs.declared.objects.object.NewObject.{NewObject}
-use Rattle.h5_repack.specs.declared.objects.object.TreeLink.{TreeLink}
+use Rattle.h5_model.specs.declared.object_no.ObjectNo.{ObjectNo}
+use Rattle.h5_model.specs.declared.link.Link.{Link as LinkOf}
 use Rattle.h5_repack.specs.Written.{IsHeld, IsUnwritten, IsWritten}
 use Rattle.h5_repack.specs.declared.write.Written.{Written}
 use Rattle.h5_repack.specs.declared.write.WriteFault.TheVariants.{TooLong, TooDeep}
@@ -212,7 +214,7 @@ empty_reading =
 -- ---- it is what is handed to the writer
 
 -- a group without links and without other messages is the root
-pub root_held : (x : NewObject) (links : Vec TreeLink Global) → x.content ≡ new.Group links → links.items ≡ [] → AreOthers [] x.others → IsHeld (x ∷ []) root_tree
+pub root_held : (x : NewObject) (links : Vec (LinkOf ObjectNo) Global) → x.content ≡ new.Group links → links.items ≡ [] → AreOthers [] x.others → IsHeld (x ∷ []) root_tree
 root_held x links is none others = record {
   objects_are = record { listed = root_object ∷ []; numbered = numbered; each = (record { content = content; others = own }, tt) };
   sound = root_sound;

@@ -18,19 +18,21 @@ use Rattle.h5_group.specs.Writing.Written.{links_bytes}
 use Rattle.h5_group.specs.declared.write.places.GroupPlaces.{GroupPlaces}
 use Rattle.h5_repack.specs.Blocks.ArrayHeader.{group_written, header_written, data_written, address_written}
 use Rattle.h5_repack.specs.Blocks.Others.{OthersBytes}
-use Rattle.h5_repack.specs.declared.blocks.array.Array as plain
+use Rattle.h5_layout.specs.Described.{Described}
+use Rattle.h5_repack.specs.declared.blocks.cells.Cells.{Cells}
+use Rattle.h5_model.specs.Tree.Places.{cells}
 use Rattle.h5_repack.proofs.BlockLaws.HeaderLaws.{group_is, header_is, data_is, address_is}
 use Rattle.h5_repack.specs.Image.Written.{content_place, heap_place, data_address}
-use Rattle.h5_repack.specs.Objects.Objects.{tree_link}
-use Rattle.h5_repack.specs.declared.objects.object.NewArray.{NewArray}
+use Rattle.h5_model.specs.Tree.Links.{tree_link}
 use Rattle.h5_repack.specs.declared.objects.object.NewObject.{NewObject}
-use Rattle.h5_repack.specs.declared.objects.object.TreeLink.{TreeLink}
+use Rattle.h5_model.specs.declared.object_no.ObjectNo.{ObjectNo}
+use Rattle.h5_model.specs.declared.link.Link.{Link}
 use Rattle.h5_repack.specs.declared.size.Extent.{Extent}
 use Rattle.h5_repack.specs.declared.size.Extent.TheVariants as extent
 use Rattle.h5_repack.specs.declared.size.Size.{Size}
 use Rattle.h5_repack.specs.declared.group.Layout.{Layout}
-use Rattle.h5_repack.specs.Layout.{IsArrayObject, IsExtent, IsGroupObject, IsHeldObject, IsSize, IsJoined, array_at, content_at, extent_length, numbered_at, object_at, size_length, written_at}
-use Rattle.h5_repack.proofs.Sizes.{own_written, own_count, joined_array}
+use Rattle.h5_repack.specs.Layout.{IsArrayObject, IsExtent, IsGroupObject, IsHeldObject, IsSize, array_at, content_at, extent_length, numbered_at, object_at, size_length, written_at}
+use Rattle.h5_repack.proofs.Sizes.{own_written, own_count}
 use Rattle.h5_repack.proofs.ObjectLaws.Zips.{zip_right}
 
 -- ---- two parts
@@ -54,7 +56,7 @@ links_low h sizes n s d p found e low =
     omega (arith, own, header_read sizes n s d found, low)
 
 -- no group has data
-pub no_data : (leaf internal : ℕ) (links : List TreeLink) (others : OthersBytes) (o : Object) (sizes : List Size) (n : ℕ) (s d : Size) (k : ℕ) → IsGroupObject links others o
+pub no_data : (leaf internal : ℕ) (links : List (Link ObjectNo)) (others : OthersBytes) (o : Object) (sizes : List Size) (n : ℕ) (s d : Size) (k : ℕ) → IsGroupObject links others o
     → slice_get sizes n ≡ Some s → (get_or sizes n d).extent ≡ extent.Data k → IsSize leaf internal o s → ⊥
 no_data leaf internal links others o sizes n s d k is found e size =
     subst (λ (c : Content). IsExtent leaf internal c (extent.Data k)) is.content
@@ -62,7 +64,7 @@ no_data leaf internal links others o sizes n s d k is found e size =
 
 -- ---- groups
 
-module _ (leaf internal : ℕ) (links : List TreeLink) (others : OthersBytes) (o : Object) (is : IsGroupObject links others o) (p : GroupPlaces)
+module _ (leaf internal : ℕ) (links : List (Link ObjectNo)) (others : OthersBytes) (o : Object) (is : IsGroupObject links others o) (p : GroupPlaces)
     (is_extent : IsExtent leaf internal o.content (extent.Links p)) (l : Layout) (ls : List (List ℕ × Leads)) (ls_are : ls ≡ map (written_at l) (map tree_link links)) where
   pub places_are : ArePlaces leaf internal ls p
   places_are = subst (λ (c : Content). IsExtent leaf internal c (extent.Links p)) is.content is_extent ls (own_written links others o is leaf internal l ls ls_are)
@@ -74,7 +76,7 @@ module _ (leaf internal : ℕ) (links : List TreeLink) (others : OthersBytes) (o
   tree_is = (places_are).tree
       ∙ ap (λ n. nodes_over 64 (2 * internal) (rows_of (2 * leaf) n) * group_node internal) (own_count links others o is leaf internal l ls ls_are)
 
-pub group_at : (l : Layout) (count n : ℕ) (links : List TreeLink) (others : OthersBytes) (o : Object) (s d : Size) (p : GroupPlaces) (is : IsGroupObject links others o)
+pub group_at : (l : Layout) (count n : ℕ) (links : List (Link ObjectNo)) (others : OthersBytes) (o : Object) (s d : Size) (p : GroupPlaces) (is : IsGroupObject links others o)
     → slice_get l.sizes.now n ≡ Some s → (get_or l.sizes.now n d).extent ≡ extent.Links p → IsSize l.leaf l.internal o s
     → group_written (slice_index l.headers.now n + (get_or l.sizes.now n d).header) (slice_index l.headers.now n + (get_or l.sizes.now n d).header + p.tree) others
     ++ links_bytes l.leaf l.internal (slice_index l.headers.now n + (get_or l.sizes.now n d).header) (map (written_at l) (map tree_link links))
@@ -93,21 +95,20 @@ group_at l count n links others o s d p is found e size =
 
 -- ---- arrays
 
-pub array_pushed : (n : NewArray) (others : OthersBytes) (a : plain.Array) (count place : ℕ) (address : Option ℕ) (first second third : List ℕ) → IsJoined n others a
-    → address ≡ address_written a.cells a.size place → second ≡ first ++ header_written count a address → third ≡ second ++ data_written a.cells a
-    → (o : Object) (is : IsArrayObject n others o) → third ≡ first ++ array_at place count o is.dataset
-array_pushed n others a count place address first second third named address_here e f o is =
-    let array = joined_array n others a named o is in
+pub array_pushed : (a : Described) (c : Cells) (others : OthersBytes) (count place : ℕ) (address : Option ℕ) (first second third : List ℕ)
+    → address ≡ address_written c (cells a.sizes) place → second ≡ first ++ header_written count a others address → third ≡ second ++ data_written c a
+    → (o : Object) (is : IsArrayObject a c others o) → third ≡ first ++ array_at place count o is.dataset
+array_pushed a c others count place address first second third address_here e f o is =
     let d : Dataset = is.dataset in
-    let stands : address ≡ data_address d place = address_here ∙ address_is a d (others_of o) array place in
-    two_parts first second third (header_written count a address) (data_written a.cells a) (array_at place count o d) e f
-    (λ i. (header_is a d (others_of o) array count address ∙ ap (λ k. header_bytes count (array_messages d k (length (others_of o)) ++ others_of o)) stands) i
-    ++ data_is a d (others_of o) array i)
+    let stands : address ≡ data_address d place = address_here ∙ address_is a c d is.array_is place in
+    two_parts first second third (header_written count a others address) (data_written c a) (array_at place count o d) e f
+    (λ i. (header_is a c d is.array_is others (others_of o) is.others_are count address ∙ ap (λ k. header_bytes count (array_messages d k (length (others_of o)) ++ others_of o)) stands) i
+    ++ data_is a c d is.array_is i)
 
-pub array_object_at : (l : Layout) (count n : ℕ) (array : NewArray) (others : OthersBytes) (o : Object) (s d : Size) (is : IsArrayObject array others o)
+pub array_object_at : (l : Layout) (count n : ℕ) (a : Described) (c : Cells) (others : OthersBytes) (o : Object) (s d : Size) (is : IsArrayObject a c others o)
     → slice_get l.sizes.now n ≡ Some s → IsSize l.leaf l.internal o s
     → array_at (slice_index l.headers.now n + (get_or l.sizes.now n d).header) count o is.dataset ≡ object_at l (slice_index l.headers.now n) count o
-array_object_at l count n array others o s d is found size =
+array_object_at l count n a c others o s d is found size =
     let h : ℕ = slice_index l.headers.now n in
     ap (λ k. array_at (h + k) count o is.dataset) (header_read l.sizes.now n s d found ∙ size.header) ∙ sym (ap (content_at l h count o) is.content)
 

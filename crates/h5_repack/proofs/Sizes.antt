@@ -24,38 +24,40 @@ use Rattle.h5_group.specs.declared.write.places.GroupPlaces.{GroupPlaces}
 use Rattle.h5_group.proofs.WriteLaws.Lengths.{group_length}
 use Rattle.h5_repack.specs.Blocks.ArrayHeader.{group_written, header_written, data_written}
 use Rattle.h5_repack.specs.Blocks.Others.{OthersBytes}
-use Rattle.h5_repack.specs.Blocks.Written.{AreOthers, AreCells, IsArray}
-use Rattle.h5_repack.specs.declared.blocks.array.Array as plain
-use Rattle.h5_repack.specs.declared.blocks.array.Cells.{Cells}
-use Rattle.h5_repack.proofs.BlockLaws.HeaderLaws.{group_is, header_is, data_is}
+use Rattle.h5_repack.specs.Blocks.Written.{AreOthers, HasRoom}
+use Rattle.h5_layout.specs.Described.{Described}
+use Rattle.h5_repack.specs.declared.blocks.cells.Cells.{Cells}
+use Rattle.h5_model.specs.Tree.Places.{cells}
+use Rattle.h5_repack.proofs.BlockLaws.HeaderLaws.{group_is, header_is, data_is, room_is}
 use Rattle.h5_repack.specs.Image.Plain.{IsPlain, IsPlainContent, IsLow}
 use Rattle.h5_repack.specs.Image.Written.{object_length}
 use Rattle.h5_repack.proofs.ImageLaws.Arrays.{stored_bytes}
-use Rattle.h5_repack.specs.Objects.Objects.{IsNewContent, tree_link}
-use Rattle.h5_repack.specs.declared.objects.object.NewArray.{NewArray}
+use Rattle.h5_model.specs.Tree.Links.{tree_link}
+use Rattle.h5_repack.specs.Objects.Objects.{IsNewContent}
 use Rattle.h5_repack.specs.declared.objects.object.NewContent.{NewContent}
 use Rattle.h5_repack.specs.declared.objects.object.NewContent.TheVariants as content
 use Rattle.h5_repack.specs.declared.objects.object.NewObject.{NewObject}
-use Rattle.h5_repack.specs.declared.objects.object.TreeLink.{TreeLink}
+use Rattle.h5_model.specs.declared.object_no.ObjectNo.{ObjectNo}
+use Rattle.h5_model.specs.declared.link.Link.{Link}
 use Rattle.h5_repack.specs.declared.size.Extent.TheVariants as extent
 use Rattle.h5_repack.specs.declared.size.Size.{Size}
 use Rattle.h5_repack.specs.declared.group.Layout.{Layout}
 use Rattle.h5_repack.specs.declared.write.WriteFault.{WriteFault}
 use Rattle.h5_repack.specs.declared.write.WriteFault.TheVariants.{TooLong, TooDeep, NoMemory}
-use Rattle.h5_repack.specs.Layout.{AreUnmeasured, IsArrayObject, IsExtent, IsGroupObject, IsHeldObject, IsSize, IsUnmeasured, IsJoined, written_at}
+use Rattle.h5_repack.specs.Layout.{AreUnmeasured, IsArrayObject, IsExtent, IsGroupObject, IsHeldObject, IsSize, IsUnmeasured, written_at}
 use Rattle.h5_repack.proofs.Leads.{all_written, same_places}
 
 -- ---- a group and an array among objects
 
-pub group_of : (x : NewObject) (o : Object) (links : Vec TreeLink Global) → x.content ≡ content.Group links → IsHeldObject x o → IsGroupObject links.items x.others o
+pub group_of : (x : NewObject) (o : Object) (links : Vec (Link ObjectNo) Global) → x.content ≡ content.Group links → IsHeldObject x o → IsGroupObject links.items x.others o
 group_of x o links is held = by_content o.content refl (subst (λ (k : NewContent). IsNewContent k o.content) is (held.new).content) where
   by_content : (d : Content) → o.content ≡ d → IsNewContent (content.Group links) d → IsGroupObject links.items x.others o
   by_content (Group g) e new = record { group = g; content = e; linked = new; others_are = (held.new).others; plain = held.plain }
   by_content (Array d) e new = absurd new
 
-pub array_of : (x : NewObject) (o : Object) (a : NewArray) → x.content ≡ content.Array a → IsHeldObject x o → IsArrayObject a x.others o
-array_of x o a is held = by_content o.content refl (subst (λ (k : NewContent). IsNewContent k o.content) is (held.new).content) where
-  by_content : (d : Content) → o.content ≡ d → IsNewContent (content.Array a) d → IsArrayObject a x.others o
+pub array_of : (x : NewObject) (o : Object) (a : Described) (c : Cells) → x.content ≡ content.Array a c → IsHeldObject x o → IsArrayObject a c x.others o
+array_of x o a c is held = by_content o.content refl (subst (λ (k : NewContent). IsNewContent k o.content) is (held.new).content) where
+  by_content : (d : Content) → o.content ≡ d → IsNewContent (content.Array a c) d → IsArrayObject a c x.others o
   by_content (Group g) e new = absurd new
   by_content (Array d) e new = record { dataset = d; content = e; array_is = new; others_are = (held.new).others; plain = held.plain }
 
@@ -65,7 +67,7 @@ others_low leaf internal others o s are plain size = omega (arith, ap length are
 
 -- ---- groups
 
-module _ (links : List TreeLink) (others : OthersBytes) (o : Object) (is : IsGroupObject links others o) where
+module _ (links : List (Link ObjectNo)) (others : OthersBytes) (o : Object) (is : IsGroupObject links others o) where
   pub group_header_length : (tree heap : ℕ) → length (group_written tree heap others) ≡ header_size o
   group_header_length tree heap =
       let forty : 40 ≡ 16 + 24 = refl in
@@ -106,49 +108,41 @@ module _ (links : List TreeLink) (others : OthersBytes) (o : Object) (is : IsGro
 
 -- ---- arrays
 
-module _ (n : NewArray) (others : OthersBytes) (a : plain.Array) (named : IsJoined n others a) (o : Object) (is : IsArrayObject n others o) where
+module _ (a : Described) (c : Cells) (others : OthersBytes) (o : Object) (is : IsArrayObject a c others o) where
   own_content : IsPlainContent (length (others_of o)) (Array is.dataset)
   own_content = subst (IsPlainContent (length (others_of o))) is.content (is.plain).content
 
   own_array : IsPlainArray is.dataset (length (others_of o))
   own_array = own_content.0
 
-  pub joined_array : IsArray a is.dataset (others_of o)
-  joined_array = record {
-    fixed_is = named.fixed_is ∙ (is.array_is).fixed_is;
-    sizes_are = (is.array_is).sizes_are ∙ ap (λ k. k ∷ []) (sym named.size_is);
-    maxima_are = (is.array_is).maxima_are ∙ ap (λ (m : Option ℕ). m ∷ []) (sym named.maximum_is);
-    fill_is = named.fill_is ∙ (is.array_is).fill_is;
-    cells_are = subst (λ (c : Cells). AreCells c a.size is.dataset) (sym named.cells_are) (subst (λ k. AreCells n.cells k is.dataset) (sym named.size_is) (is.array_is).cells_are);
-    others_are = record {
-      bytes_are = ap (λ (x : OthersBytes). x.bytes) named.others_are ∙ (is.others_are).bytes_are;
-      count_is = ap (λ (x : OthersBytes). x.count) named.others_are ∙ (is.others_are).count_is;
-    };
-  }
+  pub array_room : HasRoom c (cells a.sizes * (a.fixed).size)
+  array_room = room_is a c is.dataset is.array_is ((own_array).sound).counted
 
-  pub joined_bounded : are_maxima (a.size ∷ []) (a.maximum ∷ []) ≡ true
-  joined_bounded =
-      (λ i. are_maxima (sym (joined_array).sizes_are i) (sym (joined_array).maxima_are i))
-      ∙ (λ i. are_maxima ((own_array).sizes_are i) ((own_array).maxima_are i)) ∙ maxima_fit (own_array).size (own_array).maximum (own_array).bounded
+  pub array_bounded : are_maxima a.sizes a.maxima ≡ true
+  array_bounded =
+      (λ i. are_maxima ((is.array_is).sizes_are i) ((is.array_is).maxima_are i)) ∙ maxima_fit (is.dataset).sizes (is.dataset).maxima (own_array).bounded
 
-  pub array_header_size : (count : ℕ) (address : Option ℕ) → length (header_written count a address) ≡ header_size o
+  pub array_few : others.count + 3 ≤ 65535
+  array_few = omega (arith, (is.others_are).count_is, own_content.1)
+
+  pub array_header_size : (count : ℕ) (address : Option ℕ) → length (header_written count a others address) ≡ header_size o
   array_header_size count address =
-      ap length (header_is a is.dataset (others_of o) joined_array count address)
+      ap length (header_is a c is.dataset is.array_is others (others_of o) is.others_are count address)
       ∙ array_length count address o is.dataset (is.plain).others is.content own_array
 
-  pub array_content : (leaf internal : ℕ) → length (data_written a.cells a) ≡ content_bytes leaf internal 0 0 o.content
+  pub array_content : (leaf internal : ℕ) → length (data_written c a) ≡ content_bytes leaf internal 0 0 o.content
   array_content leaf internal =
-      ap length (data_is a is.dataset (others_of o) joined_array) ∙ sym (stored_bytes 0 0 (length (others_of o)) is.dataset own_array)
+      ap length (data_is a c is.dataset is.array_is) ∙ sym (stored_bytes 0 0 (length (others_of o)) is.dataset own_array)
       ∙ sym (ap (content_bytes leaf internal 0 0) is.content)
 
-  pub array_size : (leaf internal header data_length : ℕ) → header ≡ length (header_written 0 a None) → data_length ≡ length (data_written a.cells a) → header ≤ 2 ^ 31
+  pub array_size : (leaf internal header data_length : ℕ) → header ≡ length (header_written 0 a others None) → data_length ≡ length (data_written c a) → header ≤ 2 ^ 31
       → data_length ≤ 2 ^ 31 → IsSize leaf internal o (record { header = header; extent = extent.Data data_length })
   array_size leaf internal header data_length header_is length_is low low_data =
       let size : header ≡ header_size o = header_is ∙ array_header_size 0 None in
       record {
         header = size;
-        extent_is = subst (λ (c : Content). IsExtent leaf internal c (extent.Data data_length)) (sym is.content)
-            (length_is ∙ ap length (data_is a is.dataset (others_of o) joined_array));
+        extent_is = subst (λ (k : Content). IsExtent leaf internal k (extent.Data data_length)) (sym is.content)
+            (length_is ∙ ap length (data_is a c is.dataset is.array_is));
         whole = ap₂ (λ (a b : ℕ). a + b) size (length_is ∙ array_content leaf internal);
         low = record { header = low; extent_low = low_data };
       }

@@ -17,11 +17,13 @@ use Rattle.h5_repack.specs.Image.Plain.{IsPlain, IsLow}
 use Rattle.h5_repack.specs.Image.Written.{object_length, content_place, heap_place, data_address}
 use Rattle.h5_repack.specs.Blocks.Others.{OthersBytes}
 use Rattle.h5_repack.specs.Blocks.Written.{AreOthers}
-use Rattle.h5_repack.specs.declared.blocks.array.Array as plain
-use Rattle.h5_repack.specs.Objects.Objects.{IsNewArray, IsNewObject, tree_link}
-use Rattle.h5_repack.specs.declared.objects.object.NewArray.{NewArray}
+use Rattle.h5_layout.specs.Described.{Described}
+use Rattle.h5_repack.specs.declared.blocks.cells.Cells.{Cells}
+use Rattle.h5_model.specs.Tree.Links.{tree_link}
+use Rattle.h5_repack.specs.Objects.Objects.{IsNewArray, IsNewObject}
 use Rattle.h5_repack.specs.declared.objects.object.NewObject.{NewObject}
-use Rattle.h5_repack.specs.declared.objects.object.TreeLink.{TreeLink}
+use Rattle.h5_model.specs.declared.object_no.ObjectNo.{ObjectNo}
+use Rattle.h5_model.specs.declared.link.Link.{Link as LinkOf}
 use Rattle.h5_repack.specs.declared.size.Extent.{Extent}
 use Rattle.h5_repack.specs.declared.size.Extent.TheVariants as extent
 use Rattle.h5_repack.specs.declared.size.Size.{Size}
@@ -37,26 +39,17 @@ pub record IsHeldObject (x : NewObject) (o : Object) : Type 0 where
   pub new : IsNewObject x o
   pub plain : IsPlain o
 
-pub record IsGroupObject (links : List TreeLink) (others : OthersBytes) (o : Object) : Type 0 where
+pub record IsGroupObject (links : List (LinkOf ObjectNo)) (others : OthersBytes) (o : Object) : Type 0 where
   pub group : Links
   pub content : o.content ≡ Group group
   pub linked : map tree_link links ≡ entries group
   pub others_are : AreOthers (others_of o) others
   pub plain : IsPlain o
 
--- the array as the writer of headers takes it, with these messages behind its own
-pub record IsJoined (n : NewArray) (others : OthersBytes) (a : plain.Array) : Type 0 where
-  pub fixed_is : a.fixed ≡ n.fixed
-  pub size_is : a.size ≡ n.size
-  pub maximum_is : a.maximum ≡ n.maximum
-  pub fill_is : a.fill ≡ n.fill
-  pub cells_are : a.cells ≡ n.cells
-  pub others_are : a.others.now ≡ others
-
-pub record IsArrayObject (array : NewArray) (others : OthersBytes) (o : Object) : Type 0 where
+pub record IsArrayObject (array : Described) (cells : Cells) (others : OthersBytes) (o : Object) : Type 0 where
   pub dataset : Dataset
   pub content : o.content ≡ Array dataset
-  pub array_is : IsNewArray array dataset
+  pub array_is : IsNewArray array cells dataset
   pub others_are : AreOthers (others_of o) others
   pub plain : IsPlain o
 

@@ -2,14 +2,13 @@
 //! arrays (File Format Specification 3.0, section IV.A).
 //!
 //! Addresses are handed in. Where memory is refused, how many bytes have been appended is not said.
-mod array;
 mod attribute;
 mod cells;
 mod header;
 mod others;
+mod space;
 
-pub use crate::blocks::array::{Array, Cells};
-pub use crate::blocks::cells::{cells_address, data_length, push_data};
+pub use crate::blocks::cells::{Cells, cells_address, data_length, push_data};
 pub use crate::blocks::header::{
     array_header_length, group_header_length, push_array_header, push_group_header,
 };

@@ -1,13 +1,13 @@
 //! Links as they are written, with the addresses to which they lead (File Format Specification 3.0, section III.C).
 
 ghost use Rattle.std.specs.Prelude.{◌≡◌, [], IfOk, map};
-ghost use Rattle.h5_heap.specs.Writing.Links.{leads_of, link_of};
-ghost use Rattle.h5_repack.specs.Objects.Objects.{tree_link};
+ghost use Rattle.h5_heap.specs.Writing.Links.{link_of, object_leads};
+ghost use Rattle.h5_model.specs.Tree.Links.{tree_link};
 ghost use Rattle.h5_repack.specs.Layout.{IsLowLayout, leads_by, written_at};
 
-use crate::objects::{TreeLink, TreeTarget};
 use crate::size::{Extent, Size};
-use h5_group::{Leads, NewLink};
+use h5_group::ObjectPlace;
+use h5_model::{Link, LinkTo, ObjectNo};
 use std::alloc::{AllocError, Global};
 
 /// Where objects stand: the addresses of their headers and their sizes, by their numbers; and the K values of the image.
@@ -34,37 +34,37 @@ pub(crate) fn nowhere<'a>(leaf: u16, internal: u16) -> Layout<'a>
     }
 }
 
-/// Where a link to the object of this number leads.
-fn object_leads<'a>(layout: &Layout<'_>, number: u32) -> Leads<'a>
+/// Where the object of this number stands, to which a link leads.
+fn object_place(layout: &Layout<'_>, number: u32) -> ObjectPlace
     requires { IsLowLayout layout.now }
-    ensures { leads_of result ≡ leads_by layout.now number }
+    ensures { object_leads result ≡ leads_by layout.now number }
 {
     let Some(size) = layout.sizes.get(number as usize) else {
-        return Leads::Array(0);
+        return ObjectPlace::Array(0);
     };
     let header = layout.headers[number as usize];
     match size.extent {
-        Extent::Links(places) => Leads::Group {
+        Extent::Links(places) => ObjectPlace::Group {
             header,
             tree: header + size.header,
             heap: header + size.header + places.tree,
         },
-        Extent::Data(_) => Leads::Array(header),
+        Extent::Data(_) => ObjectPlace::Array(header),
     }
 }
 
 /// A link as it is written.
-fn new_link<'a>(layout: &Layout<'_>, link: &TreeLink<'a>) -> NewLink<'a>
+fn new_link<'a>(layout: &Layout<'_>, link: &Link<'a, ObjectNo>) -> Link<'a, ObjectPlace>
     requires { IsLowLayout layout.now }
     ensures { link_of result ≡ written_at layout.now (tree_link link.now) }
 {
-    let leads = match link.target {
-        TreeTarget::Object(number) => object_leads(layout, number),
-        TreeTarget::Text(text) => Leads::Text(text),
+    let to = match link.to {
+        LinkTo::Object(number) => LinkTo::Object(object_place(layout, number.0)),
+        LinkTo::Soft(text) => LinkTo::Soft(text),
     };
-    NewLink {
+    Link {
         name: link.name,
-        leads,
+        to,
     }
 }
 
@@ -72,8 +72,8 @@ fn new_link<'a>(layout: &Layout<'_>, link: &TreeLink<'a>) -> NewLink<'a>
 pub(crate) fn new_links<'a>(
     alloc: Global,
     layout: &Layout<'_>,
-    links: &[TreeLink<'a>],
-) -> Result<Vec<NewLink<'a>>, AllocError>
+    links: &[Link<'a, ObjectNo>],
+) -> Result<Vec<Link<'a, ObjectPlace>>, AllocError>
     requires { IsLowLayout layout.now }
     ensures { IfOk result (λ v. map link_of v.items ≡ map (written_at layout.now) (map tree_link links.now)) }
 {

@@ -15,5 +15,5 @@ mod write;
 
 pub use blocks::{Cells, Others};
 pub use empty::empty_image;
-pub use objects::{NewArray, NewContent, NewObject, TreeLink, TreeTarget};
+pub use objects::{NewContent, NewObject};
 pub use write::{WriteFault, Written, write_tree};

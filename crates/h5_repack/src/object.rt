@@ -6,15 +6,19 @@ ghost use Rattle.h5_model.specs.Format.Superblock.{AreK};
 ghost use Rattle.h5_model.specs.Tree.Objects.{Object};
 ghost use Rattle.h5_group.specs.Writing.Written.{links_bytes};
 ghost use Rattle.h5_repack.specs.Blocks.ArrayHeader.{group_written};
-ghost use Rattle.h5_repack.specs.Objects.Objects.{tree_link};
+ghost use Rattle.h5_model.specs.Tree.Links.{tree_link};
 ghost use Rattle.h5_repack.specs.declared.size.Extent.TheVariants.{Links};
 ghost use Rattle.h5_repack.specs.Layout.{IsArrayObject, IsExtent, IsGroupObject, IsHeldObject, IsLowLayout, IsSize, array_at, numbered_at, object_at, written_at};
 
-use crate::blocks::{Others, cells_address, push_array_header, push_data, push_group_header};
+use crate::blocks::{
+    Cells, Others, cells_address, push_array_header, push_data, push_group_header,
+};
 use crate::group::{Layout, new_links};
-use crate::objects::{NewArray, NewContent, NewObject, TreeLink};
-use crate::size::{Extent, Size, joined};
+use crate::objects::{NewContent, NewObject};
+use crate::size::{Extent, Size};
 use h5_group::{GroupPlaces, push_links};
+use h5_layout::ArrayRef;
+use h5_model::{Link, ObjectNo};
 use std::alloc::{AllocError, Global};
 
 /// A group's header, and behind it, at the place `at`, its links.
@@ -24,7 +28,7 @@ fn push_group(
     layout: &Layout<'_>,
     at: u64,
     places: &GroupPlaces,
-    links: &[TreeLink<'_>],
+    links: &[Link<'_, ObjectNo>],
     others: &Others,
 ) -> Result<(), AllocError>
     requires k { AreK layout.now.leaf layout.now.internal }
@@ -50,19 +54,20 @@ fn push_array(
     out: &mut Vec<u8>,
     at: u64,
     count: u32,
-    array: &NewArray<'_>,
+    array: &ArrayRef<'_>,
+    cells: &Cells<'_>,
     others: &Others,
 ) -> Result<(), AllocError>
-    requires held { (o : Object) × IsArrayObject array.now others.now o }
+    requires held { (o : Object) × IsArrayObject array.now cells.now others.now o }
     requires low { at ≤ 2 ^ 31 }
     requires header { length others.now.bytes ≤ 2 ^ 31 }
     ensures { OnOk result
-        ((o : Object) (is : IsArrayObject array.now others.now o)
+        ((o : Object) (is : IsArrayObject array.now cells.now others.now o)
         → out.new.items ≡ out.old.items ++ array_at at count o is.dataset) }
 {
-    let array = joined(array, others);
-    push_array_header(out, &array, cells_address(&array, at), count)?;
-    push_data(alloc, out, &array)?;
+    let address = cells_address(array, cells, at);
+    push_array_header(out, array, others, address, count)?;
+    push_data(alloc, out, array, cells)?;
     Ok(())
 }
 
@@ -95,7 +100,9 @@ fn push_object(
             }
             Extent::Data(_) => unreachable!(),
         },
-        NewContent::Array(array) => push_array(alloc, out, at, count, array, &object.others),
+        NewContent::Array { array, cells } => {
+            push_array(alloc, out, at, count, array, cells, &object.others)
+        }
     }
 }
 

@@ -5,5 +5,5 @@ mod object;
 mod order;
 
 pub use counts::count_links;
-pub use object::{NewArray, NewContent, NewObject, TreeLink, TreeTarget};
+pub use object::{NewContent, NewObject};
 pub use order::met_order;

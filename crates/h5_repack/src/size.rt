@@ -4,13 +4,15 @@ ghost use Rattle.std.specs.Prelude.{◌≡◌, ℕ, ◌^◌, ◌<◌, ◌≤◌,
 ghost use Rattle.std.specs.List.{AllZip};
 ghost use Rattle.h5_model.specs.Format.Superblock.{AreK};
 ghost use Rattle.h5_model.specs.Tree.Objects.{Object};
-ghost use Rattle.h5_repack.specs.Layout.{AreUnmeasured, IsArrayObject, IsGroupObject, IsHeldObject, IsLowSize, IsSize, IsUnmeasured, IsJoined, size_length};
+ghost use Rattle.h5_repack.specs.Layout.{AreUnmeasured, IsArrayObject, IsGroupObject, IsHeldObject, IsLowSize, IsSize, IsUnmeasured, size_length};
 
-use crate::blocks::{Array, Others, array_header_length, data_length, group_header_length};
+use crate::blocks::{Cells, Others, array_header_length, data_length, group_header_length};
 use crate::group::{new_links, nowhere};
-use crate::objects::{NewArray, NewContent, NewObject, TreeLink};
+use crate::objects::{NewContent, NewObject};
 use crate::write::WriteFault;
 use h5_group::{GroupFault, GroupPlaces, MAXIMUM_IMAGE, group_places};
+use h5_layout::ArrayRef;
+use h5_model::{Link, ObjectNo};
 use std::alloc::Global;
 
 /// What belongs to an object besides its header.
@@ -42,32 +44,22 @@ pub(crate) fn whole_length(size: &Size) -> u64
     }
 }
 
-/// An array with the messages behind its own, as the writer of headers takes it.
-pub(crate) fn joined<'a>(array: &NewArray<'a>, others: &'a Others) -> Array<'a>
-    ensures { IsJoined array.now others.now result }
-{
-    Array {
-        fixed: array.fixed,
-        size: array.size,
-        maximum: array.maximum,
-        fill: array.fill,
-        cells: array.cells,
-        others,
-    }
-}
-
-/// The size of an array with these messages besides its own.
-fn measure_array(array: &NewArray<'_>, others: &Others) -> Result<Size, WriteFault>
-    requires { (o : Object) × IsArrayObject array.now others.now o }
+/// The size of an array with these cells and these messages besides its own.
+fn measure_array(
+    array: &ArrayRef<'_>,
+    cells: &Cells<'_>,
+    others: &Others,
+) -> Result<Size, WriteFault>
+    requires { (o : Object) × IsArrayObject array.now cells.now others.now o }
     ensures size { IfOk result (λ s.
-        (leaf internal : ℕ) (o : Object) → IsArrayObject array.now others.now o → IsSize leaf internal o s) }
+        (leaf internal : ℕ) (o : Object) → IsArrayObject array.now cells.now others.now o
+        → IsSize leaf internal o s) }
     ensures refused { IfErr result (λ fault.
-        (leaf internal : ℕ) (o : Object) → IsArrayObject array.now others.now o
+        (leaf internal : ℕ) (o : Object) → IsArrayObject array.now cells.now others.now o
         → IsUnmeasured leaf internal o fault) }
 {
-    let array = joined(array, others);
-    let header = array_header_length(&array);
-    let length = data_length(&array);
+    let header = array_header_length(array, others);
+    let length = data_length(array, cells);
     if header > MAXIMUM_IMAGE {
         return Err(WriteFault::TooLong);
     }
@@ -86,7 +78,7 @@ fn measure_group(
     alloc: Global,
     leaf: u16,
     internal: u16,
-    links: &[TreeLink<'_>],
+    links: &[Link<'_, ObjectNo>],
     others: &Others,
 ) -> Result<Size, WriteFault>
     requires k { AreK leaf internal }
@@ -129,7 +121,7 @@ fn measure(
 {
     match &object.content {
         NewContent::Group(links) => measure_group(alloc, leaf, internal, links, &object.others),
-        NewContent::Array(array) => measure_array(array, &object.others),
+        NewContent::Array { array, cells } => measure_array(array, cells, &object.others),
     }
 }
 

@@ -3,6 +3,7 @@ pub mod SpacedLaws
 pub mod GivingLaws
 pub mod PartLaws
 pub mod WholeLaws
+pub mod WalkLaws
 pub mod MovesLaws
 pub mod IslandLaws
 pub mod Unheld

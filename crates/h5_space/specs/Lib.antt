@@ -4,4 +4,5 @@ pub mod Lending
 pub mod Whole
 pub mod Moves
 pub mod Claimed
+pub mod Walk
 pub mod Islands

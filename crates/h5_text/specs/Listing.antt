@@ -17,7 +17,7 @@ path_text (Below path name) = joined_path path.now name.now
 -- the dataset that is told; its cells are told in rows of their own
 abbrev pub told_dataset : ArrayText → Dataset
 told_dataset a = record {
-  fixed = a.fixed.now;
+  fixed = a.fixed;
   sizes = a.sizes.now;
   maxima = a.maxima.now;
   storage = storage_of a.layout;

@@ -42,7 +42,7 @@ impl PathText<'_> {
 /// What lines tell of a dataset: its type, its sizes with as many maxima (`None` is unlimited), how its cells are stored, and its fill.
 #[derive(Clone, Copy)]
 pub struct ArrayText<'a, 'l> {
-    pub fixed: &'a Fixed,
+    pub fixed: Fixed,
     pub sizes: &'a [u64],
     pub maxima: &'a [Option<u64>],
     pub layout: Layout<'l>,
@@ -73,7 +73,7 @@ fn push_content(out: &mut Vec<u8>, array: &ArrayText<'_, '_>) -> Result<(), Allo
     ensures { Appends result out.old.items out.new.items (content_text (Array (told_dataset array.now))) }
 {
     push_text(out, b"dataset ")?;
-    push_type(out, array.fixed)?;
+    push_type(out, &array.fixed)?;
     push_text(out, b" ")?;
     push_extent(out, array.sizes, array.maxima)
 }

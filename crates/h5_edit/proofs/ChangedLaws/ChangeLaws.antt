@@ -19,7 +19,8 @@ use Rattle.h5_model.specs.Edits.Applied.{attribute_from, with_attributes, with_l
 use Rattle.h5_model.specs.Tree.Objects.{Tree, Object, Content, Link, Links, Group, Array, with_object, links_in}
 use Rattle.h5_model.specs.declared.attribute.AttrSpec.{AttrSpec}
 use Rattle.h5_repack.specs.Bodies.Sound.{IsPlainAttribute}
-use Rattle.h5_repack.specs.Objects.Objects.{AreObjects, IsNewObject, link_of}
+use Rattle.h5_model.specs.Tree.Links.{tree_target}
+use Rattle.h5_repack.specs.Objects.Objects.{AreObjects, IsNewObject}
 use Rattle.h5_repack.specs.declared.objects.object.NewObject.{NewObject}
 use Rattle.h5_query.specs.Opened.Objects.{headers, object_in, tree_of}
 use Rattle.h5_query.specs.OpenedObjectType.{OpenedObject}
@@ -60,7 +61,7 @@ pub changed_is : (tree : Tree) (change : Change) (number place : ℕ) (e : Objec
 unfolding changed
 changed_is tree (Linked parent name t) number place (edit.Link l) (p, q, r) =
     target_is tree parent number name.now t
-    ∙ ap (λ x. with_new x number (new_target t)) (linked_same tree place parent l.name.now name.now (link_of l.target) (new_link t number) p q r)
+    ∙ ap (λ x. with_new x number (new_target t)) (linked_same tree place parent l.name.now name.now (tree_target l.to) (new_link t number) p q r)
 changed_is tree (Linked parent name t) number place (edit.SetAttr a) is = absurd is
 changed_is tree (Linked parent name t) number place (edit.RemoveAttr n) is = absurd is
 changed_is tree (Set object attr) number place (edit.Link l) is = absurd is

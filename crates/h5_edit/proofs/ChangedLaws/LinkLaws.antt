@@ -13,20 +13,20 @@ use Rattle.h5_model.specs.Tree.Objects.{Link, Links}
 use Rattle.h5_query.specs.Links as group
 use Rattle.h5_query.specs.Links.{IsGroupRead, link_from}
 use Rattle.h5_query.specs.GroupType.{Group}
-use Rattle.h5_query.specs.LinkRefType.{LinkRef}
+use Rattle.h5_model.specs.declared.object_no.ObjectNo.{ObjectNo}
+use Rattle.h5_model.specs.declared.link.Link.{Link as LinkOf}
 use Rattle.h5_query.specs.Opened.Objects.{link_to, links_by}
 use Rattle.h5_query.proofs.OpenedLaws.Entries.{group_entries}
 use Rattle.h5_query.specs.Listed.{in_tree}
 use Rattle.h5_query.proofs.ListedLaws.{tree_from}
-use Rattle.h5_repack.specs.Objects.Objects.{link_of, tree_link}
-use Rattle.h5_repack.specs.declared.objects.object.TreeLink.{TreeLink}
+use Rattle.h5_model.specs.Tree.Links.{tree_link, tree_target}
 use Rattle.h5_edit.specs.Changed.Appended.{IsPlaceOf}
 use Rattle.h5_edit.proofs.ChangedLaws.MergedLaws.{StandBelow, place_before}
 
 -- ---- the links of a group that was read
 
-module _ (image hs : List ℕ) (g : Group) (read : IsGroupRead image g) (found : List LinkRef) (all : map link_from found ≡ group.links_of image g)
-    (links : List TreeLink) (same : map tree_link links ≡ map (in_tree hs) found) where
+module _ (image hs : List ℕ) (g : Group) (read : IsGroupRead image g) (found : List (LinkOf ℕ)) (all : map link_from found ≡ group.links_of image g)
+    (links : List (LinkOf ObjectNo)) (same : map tree_link links ≡ map (in_tree hs) found) where
   abbrev here : Links
   here = links_by hs (group.links_of image g)
 
@@ -39,7 +39,7 @@ module _ (image hs : List ℕ) (g : Group) (read : IsGroupRead image g) (found :
   not_among name none = ap (find (slice_cmp nat_cmp) name) links_are ∙ sym (get-entries here name) ∙ none
 
   -- with one more, they are the entries of the group with one more
-  pub links_inserted : (name : List ℕ) (link : Link) (more : List TreeLink) → map tree_link more ≡ put (slice_cmp nat_cmp) name link (map tree_link links)
+  pub links_inserted : (name : List ℕ) (link : Link) (more : List (LinkOf ObjectNo)) → map tree_link more ≡ put (slice_cmp nat_cmp) name link (map tree_link links)
       → map tree_link more ≡ entries (insert here name link)
   links_inserted name link more is =
       is ∙ ap (put (slice_cmp nat_cmp) name link) links_are ∙ sym (entries-insert nat_list_cmp_total here name link)
@@ -73,12 +73,12 @@ module _ {X : Type 0} (name : List ℕ) (es : List (List ℕ × X)) (at : ℕ) (
 
 -- ---- links where their names stand
 
-pub get_or-links : (links : List TreeLink) (at : ℕ) (d : TreeLink) → get_or (map tree_link links) at (tree_link d) ≡ tree_link (get_or links at d)
+pub get_or-links : (links : List (LinkOf ObjectNo)) (at : ℕ) (d : LinkOf ObjectNo) → get_or (map tree_link links) at (tree_link d) ≡ tree_link (get_or links at d)
 get_or-links [] at d = refl
 get_or-links (l ∷ links) zero d = refl
 get_or-links (l ∷ links) (suc at) d = get_or-links links at d
 
-module _ (name : List ℕ) (links : List TreeLink) (at : ℕ) (d : TreeLink) (low : at < length links) (r : Ordering) (compared : r ≡ slice_cmp nat_cmp name (get_or links at d).name.now)
+module _ (name : List ℕ) (links : List (LinkOf ObjectNo)) (at : ℕ) (d : LinkOf ObjectNo) (low : at < length links) (r : Ordering) (compared : r ≡ slice_cmp nat_cmp name (get_or links at d).name.now)
     (below : StandBelow name (map tree_link links) at) where
   within : at < length (map tree_link links)
   within = omega (arith, low, length-map links tree_link)
@@ -99,9 +99,9 @@ module _ (name : List ℕ) (links : List TreeLink) (at : ℕ) (d : TreeLink) (lo
   )
 
 -- a link that is inserted at the place of its name
-pub put_at : (links : List TreeLink) (link : TreeLink) (at : ℕ) → IsPlaceOf link.name.now (map tree_link links) at at
-    → map tree_link (take at links ++ link ∷ drop at links) ≡ put (slice_cmp nat_cmp) link.name.now (link_of link.target) (map tree_link links)
+pub put_at : (links : List (LinkOf ObjectNo)) (link : LinkOf ObjectNo) (at : ℕ) → IsPlaceOf link.name.now (map tree_link links) at at
+    → map tree_link (take at links ++ link ∷ drop at links) ≡ put (slice_cmp nat_cmp) link.name.now (tree_target link.to) (map tree_link links)
 put_at links link at place =
     map-append tree_link (take at links) (link ∷ drop at links)
     ∙ ap₂ (λ (p q : List (List ℕ × Link)). p ++ tree_link link ∷ q) (sym (take-map tree_link at links)) (sym (drop-map tree_link at links))
-    ∙ sym (place.placed (link_of link.target))
+    ∙ sym (place.placed (tree_target link.to))

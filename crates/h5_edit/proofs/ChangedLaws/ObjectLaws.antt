@@ -8,13 +8,12 @@ use Rattle.std.specs.Ordering.{nat_cmp}
 use Rattle.std.specs.Cmp.Lexicographic.{slice_cmp}
 use Rattle.std.specs.FinMap.{empty}
 use Rattle.std.specs.BTreeMap.{BTreeMap}
-use Rattle.h5_bytes.specs.Blocks.{Inside}
 use Rattle.h5_header.specs.Listed.{messages_in}
-use Rattle.h5_query.specs.Described.{HasArray}
 use Rattle.h5_query.specs.Links as group
 use Rattle.h5_query.specs.Links.{IsGroupRead, link_from}
 use Rattle.h5_query.specs.GroupType.{Group}
-use Rattle.h5_query.specs.LinkRefType.{LinkRef}
+use Rattle.h5_model.specs.declared.object_no.ObjectNo.{ObjectNo}
+use Rattle.h5_model.specs.declared.link.Link.{Link as LinkOf}
 use Rattle.h5_query.specs.Listed.{IsLed}
 use Rattle.h5_query.proofs.ListedLaws.{found_led}
 use Rattle.h5_model.specs.Edits.Applied.{new_object, new_dataset}
@@ -22,19 +21,16 @@ use Rattle.h5_model.specs.Format.Messages.{Message}
 use Rattle.h5_model.specs.Tree.Objects.{Content, Attribute, Link, Group as GroupContent, Array}
 use Rattle.h5_model.specs.declared.dataset.Spec.{Spec}
 use Rattle.h5_model.proofs.MapSteps.{entries-empty}
-use Rattle.h5_repack.specs.Objects.Objects.{IsNewArray, IsNewContent, IsNewObject, tree_link}
-use Rattle.h5_repack.specs.declared.objects.object.NewArray.{NewArray}
+use Rattle.h5_model.specs.Tree.Links.{tree_link}
+use Rattle.h5_repack.specs.Objects.Objects.{IsNewContent, IsNewObject}
 use Rattle.h5_repack.specs.declared.objects.object.NewContent.{NewContent}
 use Rattle.h5_repack.specs.declared.objects.object.NewContent.TheVariants as new
-use Rattle.h5_repack.specs.declared.objects.object.TreeLink.{TreeLink}
 use Rattle.h5_repack.specs.Blocks.Others.{OthersBytes}
 use Rattle.h5_repack.specs.Blocks.Written.{AreOthers}
 use Rattle.h5_repack.specs.Bodies.Bodies.{attribute_message, others_of}
-use Rattle.h5_query.specs.Opened.Array.{data_blocks, described}
 use Rattle.h5_query.specs.Opened.Headers.{IsHeaderKept}
 use Rattle.h5_query.specs.Opened.Kept.{IsOpened, IsContentKept, IsObjectKept}
 use Rattle.h5_query.specs.Opened.Objects.{headers}
-use Rattle.h5_query.specs.LineType.{Line}
 use Rattle.h5_query.specs.OpenedObjectType.{OpenedObject}
 use Rattle.h5_query.specs.OpenedContentType.TheVariants as content
 use Rattle.h5_query.proofs.OpenedLaws.Indexed.{object_kept}
@@ -60,15 +56,8 @@ module _ (image : List ℕ) (objects : List OpenedObject) (numbers : BTreeMap �
     read = (subst (IsContentKept image ms) is kept.content).2
 
     -- each link leads to an object's header
-    pub led : (found : List LinkRef) → map link_from found ≡ group.links_of image g → AllByRecursion (IsLed (headers objects)) found
+    pub led : (found : List (LinkOf ℕ)) → map link_from found ≡ group.links_of image g → AllByRecursion (IsLed (headers objects)) found
     led found all = found_led image objects numbers opened there.0 o there.1 g is found all
-
-  module _ (line : Line) (is : o.content ≡ content.Array line) where
-    pub array_there : (list : List Message) × HasArray list (described line)
-    array_there = (ms, ((subst (IsContentKept image ms) is kept.content).0).array)
-
-    pub cells_inside : Inside (length image) (data_blocks line.cells)
-    cells_inside = (subst (IsContentKept image ms) is kept.content).1
 
 -- ---- new objects
 
@@ -82,12 +71,12 @@ module _ (change : Change) (parent : ℕ) (name : Bor (List ℕ)) (t : Target) (
       subst (AllZip IsNewObject (record { content = x; others = others } ∷ [])) (sym (ap new_objects linked ∙ is))
       (record { content = here; others = subst (λ ms. AreOthers ms others) (sym (no_others c)) none }, tt)
 
-  pub group_written : t ≡ target.Group → (links : Vec TreeLink Global) → links.items ≡ [] → x ≡ new.Group links → AllZip IsNewObject (record { content = x; others = others } ∷ []) (new_objects change)
+  pub group_written : t ≡ target.Group → (links : Vec (LinkOf ObjectNo) Global) → links.items ≡ [] → x ≡ new.Group links → AllZip IsNewObject (record { content = x; others = others } ∷ []) (new_objects change)
   group_written is links no_links named =
       let empty_is : IsNewContent (new.Group links) (GroupContent empty) = ap (map tree_link) no_links ∙ sym (entries-empty {X = Link} (slice_cmp nat_cmp)) in
       written (GroupContent empty) (ap new_target is) (subst (λ (n : NewContent). IsNewContent n (GroupContent empty)) (sym named) empty_is)
 
-  pub array_written : (spec : Bor Spec) → t ≡ target.Array spec → (a : NewArray) → IsNewArray a (new_dataset spec.now) → x ≡ new.Array a
+  pub array_written : (spec : Bor Spec) → t ≡ target.Array spec → (made : NewContent) → IsNewContent made (Array (new_dataset spec.now)) → x ≡ made
       → AllZip IsNewObject (record { content = x; others = others } ∷ []) (new_objects change)
-  array_written spec is a same named =
+  array_written spec is made same named =
       written (Array (new_dataset spec.now)) (ap new_target is) (subst (λ (n : NewContent). IsNewContent n (Array (new_dataset spec.now))) (sym named) same)

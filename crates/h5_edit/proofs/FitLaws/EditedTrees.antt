@@ -1,7 +1,7 @@
 -- The plain layout can hold each object of the tree that an accepted edit of an opened image gives (File Format Specification 3.0,
 -- sections III and IV.A).
 use Rattle.std.proofs.Common.{◌≡◌, ℕ, ◌+◌, ◌≤◌, List, length, true, false, Option, Some, sym, ap, ◌∙◌, subst, arith}
-use Rattle.std.specs.Prelude.{nat_lt, slice_get, slice_index}
+use Rattle.std.specs.Prelude.{nat_lt, slice_get}
 use Rattle.std.specs.BTreeMap.{BTreeMap}
 use Rattle.std.specs.FinMap.{get, insert, empty}
 use Rattle.std.specs.Option.{option_and_then, option_map_or}
@@ -24,7 +24,7 @@ use Rattle.h5_query.proofs.OpenedLaws.Indexed.{header_at, object_kept}
 use Rattle.h5_edit.specs.Fits.Laws.{AreBytes, EditedPlain, is_full}
 use Rattle.h5_edit.proofs.FitLaws.ChangedAttributes.{with_set, plain_set, few_set, with_removed, plain_removed, few_removed_others, accepted_attribute}
 use Rattle.h5_edit.proofs.FitLaws.ChangedTrees.{each_put, each_at, each_linked, each_linked_to}
-use Rattle.h5_edit.proofs.FitLaws.NewArrays.{plain_new_line, accepted_line}
+use Rattle.h5_edit.proofs.FitLaws.NewArrays.{plain_new_array, accepted_spec}
 use Rattle.h5_edit.proofs.FitLaws.OpenedTrees.{object_read, plain_content, plain_kept, opened_plain}
 use Rattle.h5_edit.proofs.FitLaws.PlainObjects.{plain_new, no_others}
 
@@ -57,10 +57,7 @@ plain_links change o plain = record {
 -- beside fewer others
 fewer_others : (d : Dataset) (n m : ℕ) → m ≤ n → IsPlainArray d n → IsPlainArray d m
 fewer_others d n m less plain = record {
-  size = plain.size;
-  sizes_are = plain.sizes_are;
-  maximum = plain.maximum;
-  maxima_are = plain.maxima_are;
+  ranked = plain.ranked;
   bounded = plain.bounded;
   few = plain.few;
   fixed = plain.fixed;
@@ -129,10 +126,10 @@ edited_plain image objects numbers (CreateGroup path) low opened typed plain acc
 edited_plain image objects numbers (CreateDataset path spec) low opened typed plain accepted roomy =
     let tree = tree_of image objects in
     let number = length objects in
-    let line = accepted_line tree number path spec accepted plain in
+    let sound = accepted_spec tree number path spec accepted plain in
     each_put IsPlain (linked tree path (ToObject number)) number (new_object (Array (new_dataset spec)))
     (each_linked IsPlain plain_links tree path (ToObject number) (opened_plain image objects numbers low opened))
-    (new_array (new_dataset spec) (λ n few. plain_new_line spec (slice_index spec.dims 0) n typed line few))
+    (new_array (new_dataset spec) (λ n few. plain_new_array spec n typed sound few))
 edited_plain image objects numbers (HardLink target path) low opened typed plain accepted roomy =
     each_linked_to IsPlain plain_links (tree_of image objects) target path (opened_plain image objects numbers low opened)
 edited_plain image objects numbers (SoftLink text path) low opened typed plain accepted roomy =

@@ -16,7 +16,7 @@ use Rattle.h5_query.specs.OpenedObjectType.{OpenedObject}
 use Rattle.h5_query.proofs.OpenedLaws.Entries.{get_tree}
 use Rattle.h5_query.proofs.OpenedLaws.Indexed.{object_kept}
 use Rattle.h5_edit.specs.Fits.Laws.{AreBytes, OpenedPlain}
-use Rattle.h5_edit.proofs.FitLaws.PlainArrays.{plain_line}
+use Rattle.h5_edit.proofs.FitLaws.PlainArrays.{plain_array}
 use Rattle.h5_edit.proofs.FitLaws.PlainObjects.{plain_object, others_few, total_few}
 
 -- ---- one object
@@ -24,24 +24,24 @@ use Rattle.h5_edit.proofs.FitLaws.PlainObjects.{plain_object, others_few, total_
 module _ (image : List ℕ) (low : AreBytes image) (at : List ℕ) where
   -- with so few others, beside the messages of its content that are there, the header has 65535 messages at most
   pub plain_content : (m : Listed) → IsHeaderKept image m → (c : OpenedContent) → IsContentKept image (messages_in image m.list) c → (n : ℕ)
-      → n + length (messages_in image m.list) ≤ length (others_of (object_with (content_in image at c) (messages_in image m.list))) + 65535
-      → IsPlainContent n (content_in image at c)
+      → n + length (messages_in image m.list) ≤ length (others_of (object_with (content_in image at (messages_in image m.list) c) (messages_in image m.list))) + 65535
+      → IsPlainContent n (content_in image at (messages_in image m.list) c)
   plain_content m kept (content.Group g) is n room =
       let table = (is.0).table in
-      omega (arith, room, table, others_few image low m kept (content_in image at (content.Group g)))
-  plain_content m kept (content.Array line) is n room =
+      omega (arith, room, table, others_few image low m kept (content_in image at (messages_in image m.list) (content.Group g)))
+  plain_content m kept content.Array is n room =
       let array = (is.0).array in
       let one_space = array.one_space in
       let one_type = array.one_type in
       let one_layout = array.one_layout in (
-        plain_line image low m kept line is.0 n room,
-        omega (arith, room, one_space, one_type, one_layout, others_few image low m kept (content_in image at (content.Array line))),
+        plain_array image low m kept is.0 n room,
+        omega (arith, room, one_space, one_type, one_layout, others_few image low m kept (content_in image at (messages_in image m.list) content.Array)),
       )
 
   -- an object as it was read
   pub plain_kept : (o : OpenedObject) → IsObjectKept image o → IsPlain (object_in image at o)
   plain_kept o kept = record {
-    others = plain_object image low o.messages kept.header (content_in image at o.content);
+    others = plain_object image low o.messages kept.header (content_in image at (messages_in image o.messages.list) o.content);
     content = plain_content o.messages kept.header o.content kept.content (length (others_of (object_in image at o)))
         (omega (arith, total_few image low o.messages kept.header));
   }

@@ -1,45 +1,42 @@
 -- An array that is read can be written in the plain layout (File Format Specification 3.0, sections IV.A.2.b, IV.A.2.e, IV.A.2.f and
 -- IV.A.2.i).
-use Rattle.std.proofs.Common.{◌≡◌, ℕ, zero, suc, ◌+◌, ◌-◌, ◌*◌, ◌^◌, ◌<◌, ◌≤◌, List, [], ◌∷◌, length, map, replicate, Option, Some, None, ℤ, pos, true, false, cond, refl, sym, ap, ◌∙◌, subst, arith}
-use Rattle.std.specs.Prelude.{nat_le, nat_lt, ◌==◌, ◌&&◌, is_some, option_map}
-use Rattle.std.specs.Option.{IfSome}
-use Rattle.std.specs.List.{range_with_len, find}
+use Rattle.std.proofs.Common.{◌≡◌, ℕ, zero, suc, ◌+◌, ◌-◌, ◌*◌, ◌^◌, ◌≤◌, List, [], ◌∷◌, length, map, replicate, Option, Some, None, ℤ, pos, true, false, cond, refl, sym, ap, ◌∙◌, subst, arith}
+use Rattle.std.specs.Prelude.{nat_lt, ◌==◌, ◌&&◌, is_some, option_map}
+use Rattle.std.specs.List.{AllZip, range_with_len, find}
 use Rattle.std.specs.FinMap.{empty}
 use Rattle.std.proofs.lemmas.Bool.Decides.{nat_tests}
 use Rattle.std.proofs.lemmas.Nat.{pow_pos}
-use Rattle.std.proofs.lemmas.Option.{same_Some, cond_some, option_and_then_some}
+use Rattle.std.proofs.lemmas.Option.{same_Some, option_and_then_some}
 use Rattle.std.proofs.lemmas.List.FromFn.{length-map-range_with_len}
-use Rattle.h5_bytes.specs.Bytes.{number_at, part, undefined}
+use Rattle.std.proofs.lemmas.Slice.Zip.{AllZip-long}
+use Rattle.h5_bytes.specs.Bytes.{part}
 use Rattle.h5_bytes.specs.declared.Block.{Block}
 use Rattle.h5_model.specs.Format.Messages.{Message, count_of, first_body}
 use Rattle.h5_model.specs.Format.Fixed.{Fixed, IsFixed, fits}
 use Rattle.h5_model.specs.Tree.Places.{cells, index_of}
-use Rattle.h5_model.specs.Format.Extent.{Extent, extent_of, extent_in, is_dataspace, rank_in, size_in, maximum_in, maximum_from, maximum_fits, has_maxima}
-use Rattle.h5_model.specs.Scripts.Tests.{each_below}
+use Rattle.h5_model.specs.Format.Extent.{extent_of}
 use Rattle.h5_model.specs.Format.Fill.{fill_value, old_fill_value, chosen_fill}
-use Rattle.h5_model.specs.Format.Layout.{InBlock}
+use Rattle.h5_model.specs.Format.Layout.{Layout, InBlock}
 use Rattle.h5_model.specs.Format.Cells.{cell_of, cells_of}
+use Rattle.h5_model.specs.Format.Reads.{IsFill, storage_of}
 use Rattle.h5_model.specs.Tree.Sound.{AreOf, IsDataset}
-use Rattle.h5_model.specs.Tree.Objects.{Array, Dataset}
-use Rattle.h5_model.specs.Format.Reads.{IsFill}
-use Rattle.h5_model.proofs.TestLaws.{each_below_at}
+use Rattle.h5_model.specs.Tree.Objects.{Array, Chunked, Contiguous}
 use Rattle.h5_model.proofs.StoredValues.{fits_value_at}
 use Rattle.h5_model.proofs.WithinLaws.{both}
-use Rattle.h5_shape.proofs.Products.{cells_le}
-use Rattle.h5_msg.proofs.ExtentLaws.{length-sizes, size_at, maximum_at}
 use Rattle.h5_header.specs.Listed.{Listed, messages_in}
 use Rattle.h5_header.specs.declared.message.Message.{Message as Placed}
 use Rattle.h5_header.proofs.FoundLaws.{first_body-in}
-use Rattle.h5_query.specs.Described.{HasFill, HasArray, dataset_in}
+use Rattle.h5_query.specs.Described.{Described, HasFill, HasArray}
+use Rattle.h5_query.specs.Kept.{array_dataset}
+use Rattle.h5_query.specs.Told.{array_told}
 use Rattle.h5_query.proofs.FillLaws.{type_sound, fill_fits, old_fill_fits}
-use Rattle.h5_query.specs.LineType.{Line}
 use Rattle.h5_query.specs.Opened.Headers.{IsHeaderKept, object_with}
-use Rattle.h5_query.specs.Opened.Judged.{IsLineList}
-use Rattle.h5_query.specs.Opened.Array.{described}
+use Rattle.h5_query.specs.Opened.Judged.{IsArrayList}
 use Rattle.h5_repack.specs.Bodies.Bodies.{others_of}
-use Rattle.h5_repack.specs.Bodies.Sound.{IsPlainArray}
+use Rattle.h5_repack.specs.Bodies.Sound.{IsBound, IsPlainArray}
 use Rattle.h5_edit.specs.Fits.Laws.{AreBytes}
-use Rattle.h5_edit.proofs.FitLaws.PlainBodies.{part_low, long_low}
+use Rattle.h5_edit.proofs.FitLaws.Bounds.{read_bounded}
+use Rattle.h5_edit.proofs.FitLaws.PlainBodies.{part_low, extent_long}
 use Rattle.h5_edit.proofs.FitLaws.PlainObjects.{others_few}
 
 -- the first body of a type stands in the image
@@ -49,38 +46,6 @@ first_low image low list kind body h =
       | None ↦ λ e. absurd (cc)
       | Some x ↦ λ e. subst AreBytes (same_Some (part x.at x.size image) body e) (part_low x.at x.size image low)
     ] (sym (first_body-in image kind list) ∙ h)
-
--- ---- the extent
-
--- the one maximum of a body that is read is not below the size, nor the mark of an unlimited one
-maximum_bounded : (body : List ℕ) → AreBytes body → is_dataspace body ≡ true → rank_in body ≡ 1 → size_in body 0 ≤ 2 ^ 40
-    → IfSome (maximum_in body 0) (λ m. (size_in body 0 ≤ m) × (m < undefined))
-unfolding maximum_fits
-maximum_bounded body low form rank few =
-    let n = number_at body (8 + 8 * rank_in body + 8 * 0) 8 in
-    elim (has_maxima body) as (λ b. has_maxima body ≡ b → IfSome (cond b (maximum_from n) (Some (size_in body 0))) (λ m. (size_in body 0 ≤ m) × (m < undefined))) [
-      | true ↦ λ flag.
-          let all : each_below (rank_in body) (maximum_fits body) ≡ true = grind (arith, nat_tests, form, flag) in
-          let above : nat_le (size_in body 0) n ≡ true = each_below_at (rank_in body) (maximum_fits body) 0 all (omega (arith, rank)) in
-          elim (n == undefined) as (λ c. (n == undefined) ≡ c → IfSome (cond c None (Some n)) (λ m. (size_in body 0 ≤ m) × (m < undefined))) [
-            | true ↦ λ _. tt
-            | false ↦ λ other. (grind (arith, nat_tests, above), let low_n : n < 2 ^ 64 = long_low body (8 + 8 * rank_in body + 8 * 0) low in grind (arith, nat_tests, other, low_n))
-          ] refl
-      | false ↦ λ _. (omega arith, omega (arith, few))
-    ] refl
-
-extent_bounded : (body : List ℕ) (size : ℕ) (maximum : Option ℕ) → AreBytes body → extent_of body ≡ Some (record { sizes = size ∷ []; maxima = maximum ∷ [] }) → size ≤ 2 ^ 40
-    → IfSome maximum (λ m. (size ≤ m) × (m < undefined))
-unfolding extent_of
-extent_bounded body size maximum low h few =
-    let x : Extent = record { sizes = size ∷ []; maxima = maximum ∷ [] } in
-    let p = cond_some (is_dataspace body) (extent_in body) x h in
-    let rank : rank_in body ≡ 1 = sym (length-sizes body x p.1) in
-    let size_is : size ≡ size_in body 0 = size_at body x 0 p.1 (omega arith) in
-    let maximum_is : maximum ≡ maximum_in body 0 = same_Some maximum (maximum_in body 0) (maximum_at body x 0 p.1 (omega arith)) in
-    let bounded = maximum_bounded body low p.0 rank (omega (arith, size_is, few)) in
-    subst (λ (s : ℕ). IfSome maximum (λ m. (s ≤ m) × (m < undefined))) (sym size_is)
-    (subst (λ (o : Option ℕ). IfSome o (λ m. (size_in body 0 ≤ m) × (m < undefined))) (sym maximum_is) bounded)
 
 -- ---- the fill
 
@@ -134,72 +99,92 @@ constant : (v : ℤ) (from n : ℕ) → map (λ (k : ℕ). v) (range_with_len fr
 constant v from zero = refl
 constant v from (suc n) = ap (λ (vs : List ℤ). v ∷ vs) (constant v (from + 1) n)
 
-no_values : (f : ℕ → ℤ) (v : ℤ) (n m : ℕ) → n ≡ 0 → m ≡ 0 → map f (range_with_len 0 n) ≡ replicate m v
-no_values f v zero zero e g = refl
-no_values f v zero (suc m) e g = absurd (omega (arith, g))
-no_values f v (suc n) m e g = absurd (omega (arith, e))
+no_values : (f : ℕ → ℤ) (v : ℤ) (n : ℕ) → n ≡ 0 → map f (range_with_len 0 n) ≡ replicate n v
+no_values f v zero e = refl
+no_values f v (suc n) e = absurd (omega (arith, e))
 
 -- where no cell is stored, each is the fill
-unset_cells : (image : List ℕ) (t : Fixed) (fill : ℤ) (size : ℕ) (b : Option Block) → (is_some b && nat_lt 0 (cells (size ∷ []))) ≡ false
-    → cells_of image t fill (size ∷ []) (InBlock b) empty ≡ replicate size fill
-unset_cells image t fill size None h =
-    let one : size * 1 ≡ size = omega arith in constant fill 0 (size * 1) ∙ ap (λ (n : ℕ). replicate n fill) one
-unset_cells image t fill size (Some b) h =
-    let none : size ≡ 0 = grind (arith, nat_tests, h) in no_values (λ place. cell_of image t fill (size ∷ []) (InBlock (Some b)) empty (index_of (size ∷ []) place)) fill (size * 1) size (omega (arith, none)) none
+unset_cells : (image : List ℕ) (t : Fixed) (fill : ℤ) (sizes : List ℕ) (b : Option Block) → (is_some b && nat_lt 0 (cells sizes)) ≡ false
+    → cells_of image t fill sizes (InBlock b) empty ≡ replicate (cells sizes) fill
+unset_cells image t fill sizes None h = constant fill 0 (cells sizes)
+unset_cells image t fill sizes (Some b) h =
+    let none : cells sizes ≡ 0 = grind (arith, nat_tests, h) in
+    no_values (λ place. cell_of image t fill sizes (InBlock (Some b)) empty (index_of sizes place)) fill (cells sizes) none
 
 -- ---- the array
 
-abbrev pub line_dataset : List ℕ → Line → Dataset
-line_dataset image line = dataset_in image (described line) empty
+pub type_read : (ms : List Message) (a : Described) → HasArray ms a → IsFixed a.fixed
+type_read ms a has = option_and_then_some _ (first_body 3 ms) a.fixed has.type (λ body there is. type_sound body a.fixed is)
 
-module _ (image : List ℕ) (low : AreBytes image) (m : Listed) (kept : IsHeaderKept image m) (line : Line) (is : IsLineList (messages_in image m.list) line) where
+module _ (image : List ℕ) (low : AreBytes image) (m : Listed) (kept : IsHeaderKept image m) (is : IsArrayList (messages_in image m.list)) where
   abbrev ms : List Message
   ms = messages_in image m.list
 
-  array : HasArray ms (described line)
+  abbrev a : Described
+  a = array_told ms
+
+  array : HasArray ms a
   array = is.array
 
-  sound : IsFixed line.fixed
-  sound = option_and_then_some _ (first_body 3 ms) line.fixed array.type (λ body there is. type_sound body line.fixed is)
+  abbrev block : Option Block
+  block = (is.carried).block
 
-  size_few : line.size ≤ 2 ^ 40
-  size_few = omega (arith, cells_le (line.size ∷ []), array.small)
+  in_block : a.layout ≡ InBlock block
+  in_block = (is.carried).in_block
 
-  fill_is : fits line.fixed line.fill ≡ true
+  sound : IsFixed a.fixed
+  sound = type_read ms a array
+
+  fill_is : fits a.fixed a.fill ≡ true
   fill_is =
       let f = array.filled in
-      subst (λ (v : ℤ). fits line.fixed v ≡ true) (sym f.filled) (chosen_fits line.fixed f.new_fill f.old_fill
-      (filled_fits (fill_value line.fixed) line.fixed (first_body 5 ms) f.new_fill (λ b v there is. fill_fits line.fixed b v sound (first_low image low m.list 5 b there) is) f.new_filled)
-      (filled_fits (old_fill_value line.fixed) line.fixed (first_body 4 ms) f.old_fill (λ b v there is. old_fill_fits line.fixed b v sound (first_low image low m.list 4 b there) is) f.old_filled))
+      subst (λ (v : ℤ). fits a.fixed v ≡ true) (sym f.filled) (chosen_fits a.fixed f.new_fill f.old_fill
+      (filled_fits (fill_value a.fixed) a.fixed (first_body 5 ms) f.new_fill (λ b v there is. fill_fits a.fixed b v sound (first_low image low m.list 5 b there) is) f.new_filled)
+      (filled_fits (old_fill_value a.fixed) a.fixed (first_body 4 ms) f.old_fill (λ b v there is. old_fill_fits a.fixed b v sound (first_low image low m.list 4 b there) is) f.old_filled))
 
-  dataset_sound : IsDataset (line_dataset image line)
+  bounds : AllZip IsBound a.sizes a.maxima
+  bounds =
+      option_and_then_some extent_of (first_body 1 ms) (record { sizes = a.sizes; maxima = a.maxima }) array.space
+      (λ body there is. read_bounded body (record { sizes = a.sizes; maxima = a.maxima }) (first_low image low m.list 1 body there) is array.small)
+
+  rank : length a.sizes ≤ 32
+  rank =
+      option_and_then_some extent_of (first_body 1 ms) (record { sizes = a.sizes; maxima = a.maxima }) array.space
+      (λ body there is. (extent_long body (record { sizes = a.sizes; maxima = a.maxima }) is).1)
+
+  each_fits : (index : List ℕ) → fits a.fixed (cell_of image a.fixed a.fill a.sizes a.layout empty index) ≡ true
+  each_fits index =
+      subst (λ (l : Layout). fits a.fixed (cell_of image a.fixed a.fill a.sizes l empty index) ≡ true) (sym in_block)
+      (cell_fits image low a.fixed a.fill a.sizes block sound fill_is index)
+
+  stored_is : storage_of a.sizes a.layout ≡ Contiguous (is_some block && nat_lt 0 (cells a.sizes))
+  stored_is = ap (storage_of a.sizes) in_block
+
+  dataset_sound : IsDataset (array_dataset image ms)
   dataset_sound = record {
-    counted = length-map-range_with_len _ 0 (line.size * 1);
+    counted = length-map-range_with_len _ 0 (cells a.sizes);
     fill = fill_is;
-    values = values_of line.fixed _ (λ place. cell_fits image low line.fixed line.fill (line.size ∷ []) line.cells sound fill_is (index_of (line.size ∷ []) place)) (range_with_len 0 (line.size * 1));
-    bounded = refl;
-    boxed = λ chunk no. absurd (cc);
+    values = values_of a.fixed _ (λ place. each_fits (index_of a.sizes place)) (range_with_len 0 (cells a.sizes));
+    bounded = AllZip-long IsBound a.sizes a.maxima bounds;
+    boxed = λ chunk e. let no : Contiguous (is_some block && nat_lt 0 (cells a.sizes)) ≡ Chunked chunk = sym stored_is ∙ e in absurd (cc);
   }
 
   -- with so few others, a fill message that is there now is written again
-  pub plain_line : (n : ℕ) → n + length ms ≤ length (others_of (object_with (Array (line_dataset image line)) ms)) + 65535 → IsPlainArray (line_dataset image line) n
-  plain_line n room = record {
-    size = line.size;
-    sizes_are = refl;
-    maximum = line.maximum;
-    maxima_are = refl;
-    bounded = option_and_then_some extent_of (first_body 1 ms) _ array.space (λ body there is. extent_bounded body line.size line.maximum (first_low image low m.list 1 body there) is size_few);
-    few = size_few;
+  pub plain_array : (n : ℕ) → n + length ms ≤ length (others_of (object_with (Array (array_dataset image ms)) ms)) + 65535 → IsPlainArray (array_dataset image ms) n
+  plain_array n room = record {
+    ranked = rank;
+    bounded = bounds;
+    few = array.small;
     fixed = sound;
     sound = dataset_sound;
-    stored = is_some line.cells && nat_lt 0 (cells (line.size ∷ []));
-    stored_is = refl;
-    filled = λ h. let some : nat_lt 0 (line.size * 1) ≡ true = (both (is_some line.cells) (nat_lt 0 (line.size * 1)) h).1 in grind (arith, nat_tests, some);
-    unset = λ h. unset_cells image line.fixed line.fill line.size line.cells h;
+    stored = is_some block && nat_lt 0 (cells a.sizes);
+    stored_is = stored_is;
+    filled = λ h. let some : nat_lt 0 (cells a.sizes) ≡ true = (both (is_some block) (nat_lt 0 (cells a.sizes)) h).1 in grind (arith, nat_tests, some);
+    unset = λ h. ap (λ (l : Layout). cells_of image a.fixed a.fill a.sizes l empty) in_block ∙ unset_cells image a.fixed a.fill a.sizes block h;
     unwritten = λ many.
-        let few = others_few image low m kept (Array (line_dataset image line)) in
+        let few = others_few image low m kept (Array (array_dataset image ms)) in
         let one_space = array.one_space in
         let one_type = array.one_type in
         let one_layout = array.one_layout in
-        zero_fill ms line.fixed line.fill array.filled (omega (arith, many, room, few, one_space, one_type, one_layout)) (omega (arith, many, room, few, one_space, one_type, one_layout));
+        zero_fill ms a.fixed a.fill array.filled (omega (arith, many, room, few, one_space, one_type, one_layout)) (omega (arith, many, room, few, one_space, one_type, one_layout));
   }

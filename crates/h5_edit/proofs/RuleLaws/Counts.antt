@@ -15,7 +15,6 @@ use Rattle.h5_laws.proofs.Maps.{entry_of_get}
 use Rattle.h5_header.specs.Listed.{messages_in}
 use Rattle.h5_header.proofs.WalkLaws.ListLaws.{prefix_there}
 use Rattle.h5_query.specs.GroupType.{Group}
-use Rattle.h5_query.specs.LineType.{Line}
 use Rattle.h5_query.specs.OpenedObjectType.{OpenedObject}
 use Rattle.h5_query.specs.OpenedContentType.TheVariants as content
 use Rattle.h5_query.specs.Opened.Kept.{IsOpened}
@@ -52,10 +51,10 @@ module _ (image : List ℕ) (objects : List OpenedObject) (numbers : BTreeMap �
   pub group_target : (g : Group) → o.content ≡ content.Group g → first_holding (target_rules T number) ≡ Some fault.GroupLink
   group_target g is = rw (group_links image objects number o at g is) refl
 
-  module _ (line : Line) (is : o.content ≡ content.Array line) where
+  module _ (is : o.content ≡ content.Array) where
     below_root : number ≢ 0
     below_root zero_number =
-        let none : links_of T 0 ≡ None = subst (λ (n : ℕ). links_of T n ≡ None) zero_number (array_no_group image objects number o at line is) in
+        let none : links_of T 0 ≡ None = subst (λ (n : ℕ). links_of T n ≡ None) zero_number (array_no_group image objects number o at is) in
         no_links (links_of T 0) none (opened.reads.1).holds.root_group
 
     links_counted : reference_count (prefix_at image o.messages.header) ≡ hard_links T number
@@ -74,10 +73,10 @@ module _ (image : List ℕ) (objects : List OpenedObject) (numbers : BTreeMap �
       full_target many =
           let all = links_counted in
           let test : nat_le 65535 (hard_links T number) ≡ true = grind (arith, nat_tests) in
-          rw (array_no_group image objects number o at line is, test) refl
+          rw (array_no_group image objects number o at is, test) refl
 
       pub free_target : count < 65535 → first_holding (target_rules T number) ≡ None
       free_target few =
           let all = links_counted in
           let test : nat_le 65535 (hard_links T number) ≡ false = grind (arith, nat_tests) in
-          rw (array_no_group image objects number o at line is, test) refl
+          rw (array_no_group image objects number o at is, test) refl

@@ -16,8 +16,8 @@ use Rattle.h5_model.specs.declared.edits.Edit.{Edit}
 use Rattle.h5_model.specs.declared.edits.Edit.TheVariants.{CreateGroup, CreateDataset, HardLink, SoftLink, SetAttr, RemoveAttr}
 use Rattle.h5_model.specs.declared.edit_fault.EditFault.{EditFault}
 use Rattle.h5_model.specs.declared.edit_fault.EditFault.TheVariants as fault
-use Rattle.h5_edit.specs.Refusals.Allowed.{is_line}
-use Rattle.h5_edit.specs.Refusals.Rules.{path_faults, path_fault, is_new_fault, is_object_fault, is_text_fault, lower_of, own_rules, line_rules, number_rules}
+use Rattle.h5_edit.specs.Refusals.Allowed.{is_carried_spec}
+use Rattle.h5_edit.specs.Refusals.Rules.{path_faults, path_fault, is_new_fault, is_object_fault, is_text_fault, lower_of, own_rules, spec_rules, number_rules}
 use Rattle.h5_edit.proofs.RuleLaws.FaultLaws.{behind, chain, found_behind, lower_first}
 
 or_false : (b : Bool) → (b || false) ≡ b
@@ -47,7 +47,7 @@ module _ (tree : Tree) (next : ℕ) (path : List ℕ) where
 
   module _ (spec : Spec) where
     abbrev array_rules : List (EditFault × Bool)
-    array_rules = line_rules spec ++ number_rules next
+    array_rules = spec_rules spec ++ number_rules next
 
     by_store : spec.store ≡ store.Contiguous → refusal_of tree next (CreateDataset path spec) ≡ behind (path_fault (is_new_fault tree path)) (first_holding array_rules)
     unfolding refusal_of
@@ -56,12 +56,12 @@ module _ (tree : Tree) (next : ℕ) (path : List ℕ) where
         asks ∙ found_behind path_faults (asked tree (CreateDataset path spec)) (is_new_fault tree path) (first_holding array_rules)
         (simp or_false, (simp or_false, (simp or_false, (simp or_false, (simp or_false, (refl, (simp or_false, (simp or_false, tt))))))))
 
-    pub array_table : is_line spec ≡ true → refusal_of tree next (CreateDataset path spec) ≡ behind (path_fault (is_new_fault tree path)) (first_holding array_rules)
-    array_table line = by_store (of_line spec.store refl) where
-      of_line : (s : Store) → spec.store ≡ s → spec.store ≡ store.Contiguous
-      of_line store.Contiguous e = e
-      of_line store.Compact e = let never : false ≡ true = rw e at line in cc
-      of_line (store.Chunked sizes) e = let never : false ≡ true = rw e at line in cc
+    pub array_table : is_carried_spec spec ≡ true → refusal_of tree next (CreateDataset path spec) ≡ behind (path_fault (is_new_fault tree path)) (first_holding array_rules)
+    array_table carried = by_store (in_block spec.store refl) where
+      in_block : (s : Store) → spec.store ≡ s → spec.store ≡ store.Contiguous
+      in_block store.Contiguous e = e
+      in_block store.Compact e = let never : false ≡ true = rw e at carried in cc
+      in_block (store.Chunked sizes) e = let never : false ≡ true = rw e at carried in cc
 
   -- ---- new links
 

@@ -14,8 +14,8 @@ use Rattle.h5_model.specs.declared.edit_fault.EditFault.TheVariants as fault
 use Rattle.h5_query.specs.Place.{LeadsTo, IsNoObject}
 use Rattle.h5_query.proofs.RuleLaws.{first-behind}
 use Rattle.h5_edit.specs.declared.rules.place.NewPlace.{NewPlace}
-use Rattle.h5_edit.specs.Refusals.Allowed.{is_line, IsPlaced, IsLinkPlaced, IsAt, IsRuledOut}
-use Rattle.h5_edit.specs.Refusals.Rules.{path_fault, is_new_fault, is_object_fault, is_text_fault, lower_of, lower_fault, IsFree, IsNotFree, own_rules, line_rules, number_rules, target_rules}
+use Rattle.h5_edit.specs.Refusals.Allowed.{is_carried_spec, IsPlaced, IsLinkPlaced, IsAt, IsRuledOut}
+use Rattle.h5_edit.specs.Refusals.Rules.{path_fault, is_new_fault, is_object_fault, is_text_fault, lower_of, lower_fault, IsFree, IsNotFree, own_rules, spec_rules, number_rules, target_rules}
 use Rattle.h5_edit.proofs.RuleLaws.FaultLaws.{behind}
 use Rattle.h5_edit.proofs.RuleLaws.TableLaws.{group_table, array_table, hard_table, target_asked, soft_table, set_table, remove_table, missing_rules, object_fault}
 
@@ -51,23 +51,23 @@ module _ (tree : Tree) (next : ℕ) (path : List ℕ) where
 
   -- ---- new arrays
 
-  module _ (spec : Spec) (line : is_line spec ≡ true) where
+  module _ (spec : Spec) (carried : is_carried_spec spec ≡ true) where
     abbrev array_rules : List (EditFault × Bool)
-    array_rules = line_rules spec ++ number_rules next
+    array_rules = spec_rules spec ++ number_rules next
 
     pub array_refused : (e : EditFault) → IsNotFree tree path e → IsRuledOut tree next (CreateDataset path spec) e
-    array_refused e h = array_table tree next path spec line ∙ ap (λ o. behind o (first_holding array_rules)) h
+    array_refused e h = array_table tree next path spec carried ∙ ap (λ o. behind o (first_holding array_rules)) h
 
     module _ (p : NewPlace) (free : IsFree tree path p) where
       array_behind : refusal_of tree next (CreateDataset path spec) ≡ first_holding array_rules
-      array_behind = array_table tree next path spec line ∙ ap (λ o. behind o (first_holding array_rules)) free.allowed
+      array_behind = array_table tree next path spec carried ∙ ap (λ o. behind o (first_holding array_rules)) free.allowed
 
-      pub line_refused : (e : EditFault) → first_holding (line_rules spec) ≡ Some e → IsRuledOut tree next (CreateDataset path spec) e
-      line_refused e h = array_behind ∙ first_kept (line_rules spec) (number_rules next) e h
+      pub spec_refused : (e : EditFault) → first_holding (spec_rules spec) ≡ Some e → IsRuledOut tree next (CreateDataset path spec) e
+      spec_refused e h = array_behind ∙ first_kept (spec_rules spec) (number_rules next) e h
 
-      module _ (allowed : first_holding (line_rules spec) ≡ None) where
+      module _ (allowed : first_holding (spec_rules spec) ≡ None) where
         numbered : refusal_of tree next (CreateDataset path spec) ≡ first_holding (number_rules next)
-        numbered = array_behind ∙ first-behind (line_rules spec) (number_rules next) allowed
+        numbered = array_behind ∙ first-behind (spec_rules spec) (number_rules next) allowed
 
         pub no_array_left : nat_le 4294967295 next ≡ true → IsRuledOut tree next (CreateDataset path spec) fault.TooManyObjects
         no_array_left many = numbered ∙ used_up next many

@@ -3,10 +3,10 @@ use Rattle.std.specs.Prelude.{◌≡◌, ℕ, ◌==◌, if◌then◌else◌, Opt
 use Rattle.std.specs.FinMap.{get, insert, remove, empty}
 use Rattle.h5_model.specs.Edits.Applied.{attribute_from, with_attributes, with_links, new_object, new_dataset}
 use Rattle.h5_model.specs.Tree.Objects.{Object, Content, Link, Links, ToObject, Soft, Group, Array}
-use Rattle.h5_repack.specs.Objects.Objects.{link_of}
-use Rattle.h5_repack.specs.declared.objects.object.TreeLink.{TreeLink}
+use Rattle.h5_model.specs.Tree.Links.{tree_target}
+use Rattle.h5_model.specs.declared.object_no.ObjectNo.{ObjectNo}
+use Rattle.h5_model.specs.declared.link.Link.{Link as LinkOf}
 use Rattle.h5_repack.specs.Bodies.Sound.{IsPlainAttribute}
-pub use Rattle.h5_query.specs.Kept.{line_dataset as line_of}
 use Rattle.h5_edit.specs.declared.change.change.Change.{Change}
 use Rattle.h5_edit.specs.declared.change.change.Change.TheVariants.{Link as Linked, SetAttr as Set, RemoveAttr as Remove}
 use Rattle.h5_edit.specs.declared.change.change.Target.{Target}
@@ -17,19 +17,19 @@ use Rattle.h5_edit.specs.declared.change.edit.ObjectEdit.TheVariants as edit
 -- ---- objects of the tree
 
 -- the link that an edit adds
-abbrev pub link_in : Option ObjectEdit → Option TreeLink
+abbrev pub link_in : Option ObjectEdit → Option (LinkOf ObjectNo)
 link_in (Some (edit.Link l)) = Some l
 link_in (Some (edit.SetAttr attr)) = None
 link_in (Some (edit.RemoveAttr name)) = None
 link_in None = None
 
 -- the links of a group, and an object, with an edit
-abbrev pub links_with : Option TreeLink → Links → Links
-links_with (Some l) links = insert links l.name.now (link_of l.target)
+abbrev pub links_with : Option (LinkOf ObjectNo) → Links → Links
+links_with (Some l) links = insert links l.name.now (tree_target l.to)
 links_with None links = links
 
 abbrev pub edited : ObjectEdit → Object → Object
-edited (edit.Link l) = with_links (λ links. insert links l.name.now (link_of l.target))
+edited (edit.Link l) = with_links (λ links. insert links l.name.now (tree_target l.to))
 edited (edit.SetAttr attr) = with_attributes (λ m. insert m (attr.now).name (attribute_from attr.now))
 edited (edit.RemoveAttr name) = with_attributes (λ m. remove m name.now)
 
@@ -46,7 +46,7 @@ abbrev pub IsFresh : List ℕ → Content → Type 0
 IsFresh name (Group links) = get links name ≡ None
 IsFresh name (Array d) = ⊥
 
-abbrev pub IsFreshIn : Option TreeLink → Links → Type 0
+abbrev pub IsFreshIn : Option (LinkOf ObjectNo) → Links → Type 0
 IsFreshIn (Some l) links = get links l.name.now ≡ None
 IsFreshIn None links = Unit {0}
 
@@ -73,7 +73,7 @@ new_link (target.Text text) number = Soft text.now
 
 -- the change edits the object of this number so
 abbrev pub IsEditOf : Change → ℕ → ℕ → ObjectEdit → Type 0
-IsEditOf (Linked parent name target) number place (edit.Link l) = (place ≡ parent) × (l.name.now ≡ name.now) × (link_of l.target ≡ new_link target number)
+IsEditOf (Linked parent name target) number place (edit.Link l) = (place ≡ parent) × (l.name.now ≡ name.now) × (tree_target l.to ≡ new_link target number)
 IsEditOf (Set object attr) number place (edit.SetAttr other) = (place ≡ object) × (other.now ≡ attr.now)
 IsEditOf (Remove object name) number place (edit.RemoveAttr other) = (place ≡ object) × (other.now ≡ name.now)
 IsEditOf _ _ _ _ = ⊥

@@ -13,7 +13,7 @@ use Rattle.h5_model.specs.declared.edits.Edit.TheVariants.{CreateGroup, CreateDa
 use Rattle.h5_query.specs.Opened.Kept.{IsOpened}
 use Rattle.h5_query.specs.Opened.Objects.{table_of, tree_of}
 use Rattle.h5_query.specs.OpenedObjectType.{OpenedObject}
-use Rattle.h5_edit.specs.Refusals.Allowed.{is_line}
+use Rattle.h5_edit.specs.Refusals.Allowed.{is_carried_spec}
 use Rattle.h5_repack.specs.Image.Plain.{ArePlain}
 
 -- ---- opened images
@@ -31,7 +31,7 @@ OpenedPlain = (image : List ℕ) (objects : List OpenedObject) (numbers : BTreeM
 -- a new group or link, an array of one size in one block, or a change of attributes
 abbrev pub is_plain_edit : Edit → Bool
 is_plain_edit (CreateGroup path) = true
-is_plain_edit (CreateDataset path spec) = is_line spec
+is_plain_edit (CreateDataset path spec) = is_carried_spec spec
 is_plain_edit (HardLink target path) = true
 is_plain_edit (SoftLink text path) = true
 is_plain_edit (SetAttr path attr) = true

@@ -14,9 +14,9 @@ abbrev pub is_contiguous : Store → Bool
 is_contiguous store.Contiguous = true
 is_contiguous _ = false
 
--- an array of one size whose cells stand in one block
-abbrev pub is_line : Spec → Bool
-is_line s = is_contiguous s.store && length s.dims == 1
+-- the new arrays that are carried so far: of one dimension, with their cells in one block
+abbrev pub is_carried_spec : Spec → Bool
+is_carried_spec s = is_contiguous s.store && length s.dims == 1
 
 -- no rule refuses the edit, and its new link is to stand in this group under this name
 pub record IsPlaced (tree : Tree) (next : ℕ) (path : List ℕ) (edit : Edit) (p : NewPlace) : Type 0 where

@@ -99,9 +99,9 @@ own_rules a =
     ∷ (fault.AttributeTooLarge, nat_lt 65528 (attribute_size (length a.name) a.dims (a.fixed).size))
     ∷ []
 
--- a new array of one size in one block
-abbrev pub line_rules : Spec → List (EditFault × Bool)
-line_rules s =
+-- a new array in one block
+abbrev pub spec_rules : Spec → List (EditFault × Bool)
+spec_rules s =
     (fault.BadSpec, nat_lt 32 (length s.dims) || not (are_maxima s.dims s.maxima && are_sizes s.dims s.maxima))
     ∷ (fault.TooManyCells, nat_lt (2 ^ 40) (extent_cells s.dims))
     ∷ (fault.ValueRange, not (fits s.fixed s.fill))

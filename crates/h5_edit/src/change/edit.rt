@@ -1,19 +1,18 @@
 //! What a change makes of one object.
 
 ghost use Rattle.std.specs.Prelude.{◌≡◌};
-ghost use Rattle.h5_repack.specs.Objects.Objects.{link_of};
+ghost use Rattle.h5_model.specs.Tree.Links.{tree_target};
 ghost use Rattle.h5_edit.specs.Changed.Edited.{IsEditOf, new_link};
 ghost use Rattle.h5_edit.specs.Changed.Edited as edited;
 
 use crate::change::change::{Change, Target};
-use h5_model::AttrSpec;
-use h5_repack::{TreeLink, TreeTarget};
+use h5_model::{AttrSpec, Link, LinkTo, ObjectNo};
 
 /// What a change makes of one object.
 #[derive(Clone, Copy)]
 pub(crate) enum ObjectEdit<'a> {
     /// The group has this link more.
-    Link(TreeLink<'a>),
+    Link(Link<'a, ObjectNo>),
     /// The attribute is added, or takes the place of the one of its name.
     SetAttr(&'a AttrSpec),
     /// The attribute of this name is left out.
@@ -30,8 +29,8 @@ pub(crate) fn edit_of<'a>(change: &Change<'a>, next: u32) -> (u32, ObjectEdit<'a
             name,
             target,
         } => {
-            let target = link_target(target, next);
-            (parent, ObjectEdit::Link(TreeLink { name, target }))
+            let to = link_target(target, next);
+            (parent, ObjectEdit::Link(Link { name, to }))
         }
         Change::SetAttr { object, attr } => (object, ObjectEdit::SetAttr(attr)),
         Change::RemoveAttr { object, name } => (object, ObjectEdit::RemoveAttr(name)),
@@ -39,13 +38,13 @@ pub(crate) fn edit_of<'a>(change: &Change<'a>, next: u32) -> (u32, ObjectEdit<'a
 }
 
 /// Where a new link leads; a new object takes the number `next`.
-fn link_target(target: Target<'_>, next: u32) -> TreeTarget<'_>
-    ensures { link_of result ≡ new_link target.entry next }
+fn link_target(target: Target<'_>, next: u32) -> LinkTo<'_, ObjectNo>
+    ensures { tree_target result ≡ new_link target.entry next }
 {
     match target {
-        Target::Group | Target::Array(_) => TreeTarget::Object(next),
-        Target::Object(number) => TreeTarget::Object(number),
-        Target::Text(text) => TreeTarget::Text(text),
+        Target::Group | Target::Array(_) => LinkTo::Object(ObjectNo(next)),
+        Target::Object(number) => LinkTo::Object(ObjectNo(number)),
+        Target::Text(text) => LinkTo::Soft(text),
     }
 }
 
@@ -61,7 +60,7 @@ pub(crate) fn edit_at(edit: ObjectEdit<'_>, place: u32, number: usize) -> Option
 }
 
 /// The new link, where the edit is one.
-pub(crate) fn link_in(edit: Option<ObjectEdit<'_>>) -> Option<TreeLink<'_>>
+pub(crate) fn link_in(edit: Option<ObjectEdit<'_>>) -> Option<Link<'_, ObjectNo>>
     ensures { result ≡ edited.link_in edit.entry }
 {
     match edit {

@@ -6,16 +6,16 @@ ghost use Rattle.std.specs.FinMap.{entries as entries_of, find, put};
 ghost use Rattle.std.specs.Ordering.{nat_cmp};
 ghost use Rattle.std.specs.Cmp.Lexicographic.{slice_cmp};
 ghost use Rattle.h5_query.specs.Links.{IsGroupRead, link_from, links_of};
-ghost use Rattle.h5_query.specs.LinkRefType.{LinkRef};
+ghost use Rattle.h5_model.specs.declared.link.Link.{Link};
 ghost use Rattle.h5_query.specs.Opened.Kept.{IsOpened, IsIndex};
 ghost use Rattle.h5_query.specs.Opened.Objects.{headers, links_by};
 ghost use Rattle.h5_query.specs.Listed.{IsLed, IsTargetLed, in_tree, target_in};
-ghost use Rattle.h5_repack.specs.Objects.Objects.{link_of, tree_link};
+ghost use Rattle.h5_model.specs.Tree.Links.{tree_link, tree_target};
 ghost use Rattle.h5_edit.specs.Changed.Appended.{IsPlaceOf};
 ghost use Rattle.h5_edit.specs.Changed.Edited.{IsFreshIn, links_with};
 
-use h5_query::{Group, LinkRef, LinkTarget, Opened, entries};
-use h5_repack::{TreeLink, TreeTarget};
+use h5_model::{Link, ObjectNo};
+use h5_query::{Group, Opened, entries, tree_links};
 use h5_space::Image;
 use std::alloc::{AllocError, Global};
 use std::cmp::Ordering;
@@ -28,11 +28,11 @@ pub(crate) fn links_in<'a>(
     image: &'a Image,
     opened: &Opened,
     group: &Group,
-    new: Option<TreeLink<'a>>,
-) -> Result<Vec<TreeLink<'a>>, AllocError>
+    new: Option<Link<'a, ObjectNo>>,
+) -> Result<Vec<Link<'a, ObjectNo>>, AllocError>
     requires opened { IsOpened image.now.bytes opened.now.objects.items opened.now.numbers }
     requires read { IsGroupRead image.now.bytes group.now }
-    requires led { (found : List LinkRef) → map link_from found ≡ links_of image.now.bytes group.now
+    requires led { (found : List (Link ℕ)) → map link_from found ≡ links_of image.now.bytes group.now
         → AllByRecursion (IsLed (headers opened.now.objects.items)) found }
     requires fresh { IsFreshIn new
         (links_by (headers opened.now.objects.items) (links_of image.now.bytes group.now)) }
@@ -42,60 +42,21 @@ pub(crate) fn links_in<'a>(
         (links_by (headers opened.now.objects.items) (links_of image.now.bytes group.now)))) }
 {
     let found = entries(alloc, image, group)?;
-    let mut links = tree_links(alloc, opened, &found)?;
+    let mut links = tree_links(alloc, image, opened, &found)?;
     if let Some(link) = new {
         insert_link(&mut links, link)?;
     }
     Ok(links)
 }
 
-/// The links with the numbers of the objects to which they lead.
-fn tree_links<'a>(
-    alloc: Global,
-    opened: &Opened,
-    found: &[LinkRef<'a>],
-) -> Result<Vec<TreeLink<'a>>, AllocError>
-    requires opened { (image : List ℕ) × IsOpened image opened.now.objects.items opened.now.numbers }
-    requires led { AllByRecursion (IsLed (headers opened.now.objects.items)) found.now }
-    ensures { IfOk result (λ links.
-        map tree_link links.items ≡ map (in_tree (headers opened.now.objects.items)) found.now) }
-{
-    let mut links = Vec::with_capacity(alloc, found.len())?;
-    for link in found {
-        links.push(TreeLink {
-            name: link.name,
-            target: link_to(opened, link.target),
-        })?;
-    }
-    Ok(links)
-}
-
-/// Where a link leads, with the number of the object.
-fn link_to<'a>(opened: &Opened, target: LinkTarget<'a>) -> TreeTarget<'a>
-    requires opened { (image : List ℕ) × IsOpened image opened.now.objects.items opened.now.numbers }
-    requires led { IsTargetLed (headers opened.now.objects.items) target }
-    ensures { link_of result ≡ target_in (headers opened.now.objects.items) target.entry }
-{
-    match target {
-        LinkTarget::Object(header) => TreeTarget::Object(number_of(opened, header)),
-        LinkTarget::Soft(text) => TreeTarget::Text(text),
-    }
-}
-
-/// The number of the object whose header stands at the address.
-fn number_of(opened: &Opened, header: u64) -> u32
-    requires index { IsIndex opened.now.objects.items opened.now.numbers }
-    requires there { Contains (headers opened.now.objects.items) header }
-    ensures { slice_get (headers opened.now.objects.items) result ≡ Some header }
-{
-    *opened.numbers.get(&header).unwrap()
-}
-
 /// Inserts a link of a new name at its place.
-fn insert_link<'a>(links: &mut Vec<TreeLink<'a>>, link: TreeLink<'a>) -> Result<(), AllocError>
+fn insert_link<'a>(
+    links: &mut Vec<Link<'a, ObjectNo>>,
+    link: Link<'a, ObjectNo>,
+) -> Result<(), AllocError>
     requires fresh { find (slice_cmp nat_cmp) link.name.now (map tree_link links.old.items) ≡ None }
     ensures { OnOk result (map tree_link links.new.items
-        ≡ put (slice_cmp nat_cmp) link.entry.name.now (link_of link.entry.target)
+        ≡ put (slice_cmp nat_cmp) link.entry.name.now (tree_target link.entry.to)
         (map tree_link links.old.items)) }
 {
     let at = link_place(link.name, links);
@@ -104,7 +65,7 @@ fn insert_link<'a>(links: &mut Vec<TreeLink<'a>>, link: TreeLink<'a>) -> Result<
 }
 
 /// How many of the links have names before a new one.
-fn link_place(name: &[u8], links: &[TreeLink<'_>]) -> usize
+fn link_place(name: &[u8], links: &[Link<'_, ObjectNo>]) -> usize
     requires fresh { find (slice_cmp nat_cmp) name.now (map tree_link links.now) ≡ None }
     ensures place { IsPlaceOf name.now (map tree_link links.now) result result }
     ensures within { result ≤ length links.now }

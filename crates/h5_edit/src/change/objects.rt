@@ -71,7 +71,7 @@ fn edited_object<'a>(
         OpenedContent::Group(group) => {
             NewContent::Group(links_in(alloc, image, opened, group, link_in(edit))?)
         }
-        OpenedContent::Array(line) => NewContent::Array(kept_array(image, line)),
+        OpenedContent::Array => kept_array(alloc, image, &object.messages),
     };
     Ok(NewObject { content, others })
 }
@@ -84,9 +84,9 @@ fn new_object<'a>(alloc: Global, change: &Change<'a>) -> Option<NewObject<'a>>
     let Change::Link { target, .. } = change else {
         return None;
     };
-    let content = match target {
+    let content = match *target {
         Target::Group => NewContent::Group(Vec::new(alloc)),
-        Target::Array(spec) => NewContent::Array(array_from(spec)),
+        Target::Array(spec) => array_from(alloc, spec),
         Target::Object(_) | Target::Text(_) => return None,
     };
     Some(NewObject {

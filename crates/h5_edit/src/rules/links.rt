@@ -83,7 +83,7 @@ fn check_target(
 {
     match object.content {
         OpenedContent::Group(_) => Err(EditFault::GroupLink),
-        OpenedContent::Array(_) => {
+        OpenedContent::Array => {
             if object.messages.links(image) >= MAX_LINKS {
                 return Err(EditFault::TooManyLinks);
             }

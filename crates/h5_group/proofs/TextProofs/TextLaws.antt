@@ -26,7 +26,9 @@ use Rattle.h5_heap.specs.Spans.{IsNotEmpty, HasTaken}
 use Rattle.h5_heap.proofs.NameLaws.{link_offsets, walk_takes_all, has_names}
 use Rattle.h5_heap.proofs.BreachLaws.{begin_breach, name_breach}
 use Rattle.h5_snod.specs.declared.entry.SymbolTarget.TheVariants.{Header, Text}
-use Rattle.h5_group.specs.Nodes.Trees.{IsTree, kind_in}
+use Rattle.h5_btree.specs.Walk.Forms.{OfGroup}
+use Rattle.h5_btree.specs.Walk.Trees.{IsTree}
+use Rattle.h5_group.specs.Nodes.Trees.{kind_in}
 use Rattle.h5_group.specs.Texts.Named.{AreTexts, IsFreshHeap}
 use Rattle.h5_group.specs.Texts.Refused.{AreTextsRefused}
 use Rattle.h5_group.specs.Nodes.Stands.{entries_at, keys_at}
@@ -83,7 +85,7 @@ module _ (image : List ℕ) (heap begun : Kept) (is : begun ≡ record heap { he
 
 -- ---- a group whose tree and heap were read
 
-module _ (image : List ℕ) (table : SymbolTable) (heap : Kept) (nodes symbol_nodes : List ℕ) (tree : IsTree image table.tree nodes symbol_nodes)
+module _ (image : List ℕ) (table : SymbolTable) (heap : Kept) (nodes symbol_nodes : List ℕ) (tree : IsTree image OfGroup table.tree nodes symbol_nodes)
     (fresh : IsFreshHeap image table.heap heap) where
   abbrev es : List Entry
   es = all_entries image symbol_nodes

@@ -7,7 +7,8 @@ use Rattle.std.proofs.lemmas.List.Sums.{sum_by-cons}
 use Rattle.h5_model.specs.Format.PlainLength.{rows_of, nodes_over}
 use Rattle.h5_model.specs.Format.Sizes.{group_node, symbol_node}
 use Rattle.h5_heap.specs.Writing.Links.{Leads, ToGroup, ToArray, ToText, link_of}
-use Rattle.h5_heap.specs.declared.write.link.NewLink.{NewLink}
+use Rattle.h5_heap.specs.declared.write.link.ObjectPlace.{ObjectPlace}
+use Rattle.h5_model.specs.declared.link.Link.{Link}
 use Rattle.h5_heap.specs.Writing.Written.{link_span, segment_of}
 use Rattle.h5_heap.proofs.WriteLaws.Lengths.{used-le}
 use Rattle.h5_group.specs.Writing.Written.{links_length, symbol_nodes}
@@ -28,7 +29,7 @@ spans_some [] = omega arith
 spans_some (l ∷ links) = omega (arith, sum_by-cons link_span l links, span_some l, spans_some links)
 
 -- a link for each eight bytes at most
-pub links_few : (links : List NewLink) → length (segment_of (map link_of links)) ≤ 2 ^ 31 → length links < 2 ^ 32
+pub links_few : (links : List (Link ObjectPlace)) → length (segment_of (map link_of links)) ≤ 2 ^ 31 → length links < 2 ^ 32
 links_few links low =
     let some = spans_some (map link_of links) in
     let used = used-le (map link_of links) in
@@ -42,7 +43,7 @@ pub record AreCounted (leaf internal : ℕ) (links : List (List ℕ × Leads)) (
   pub tree_is : tree ≡ nodes_over 64 (2 * internal) (symbol_nodes leaf links) * group_node internal
   pub whole_is : whole ≡ links_length leaf internal links
 
-pub counted : (leaf internal most k room nodes over tree segment rest : ℕ) (links : List NewLink)
+pub counted : (leaf internal most k room nodes over tree segment rest : ℕ) (links : List (Link ObjectPlace))
     → most ≡ leaf → nodes ≡ rows_of (2 * most) (length links)
     → k ≡ internal → over ≡ nodes_over 64 (2 * internal) nodes → tree ≡ over * (32 + 32 * k)
     → segment ≡ length (segment_of (map link_of links))

@@ -7,7 +7,8 @@ use Rattle.h5_btree.specs.declared.write.child.Child.{Child}
 use Rattle.h5_btree.specs.Writing.Written.{tree_bytes, root_level}
 use Rattle.h5_btree.proofs.WriteLaws.Counts.{rows_few}
 use Rattle.h5_heap.specs.Writing.Links.{Leads, link_of}
-use Rattle.h5_heap.specs.declared.write.link.NewLink.{NewLink}
+use Rattle.h5_heap.specs.declared.write.link.ObjectPlace.{ObjectPlace}
+use Rattle.h5_model.specs.declared.link.Link.{Link}
 use Rattle.h5_heap.specs.Writing.Written.{placed_links, link_span, heap_bytes}
 use Rattle.h5_heap.proofs.WriteLaws.Lengths.{used-le}
 use Rattle.std.proofs.lemmas.List.{length-map}
@@ -17,7 +18,7 @@ use Rattle.h5_group.specs.Writing.Written.{runs_of, children_of, symbol_bytes, s
 use Rattle.h5_group.proofs.WriteLaws.Counts.{links_few}
 use Rattle.h5_group.proofs.WriteLaws.Lengths.{the_children, children_counted, level_low, tree_long}
 
-module _ (leaf internal : ℕ) (links : List NewLink) (k : AreK leaf internal) (p : GroupPlaces) (are : ArePlaces leaf internal (map link_of links) p) where
+module _ (leaf internal : ℕ) (links : List (Link ObjectPlace)) (k : AreK leaf internal) (p : GroupPlaces) (are : ArePlaces leaf internal (map link_of links) p) where
   abbrev those : List (List ℕ × Leads)
   those = map link_of links
 

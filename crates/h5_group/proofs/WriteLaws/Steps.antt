@@ -8,7 +8,8 @@ use Rattle.h5_model.specs.Format.PlainLength.{rows_of}
 use Rattle.h5_model.specs.Format.Sizes.{symbol_node}
 use Rattle.h5_btree.specs.declared.write.child.Child.{Child}
 use Rattle.h5_heap.specs.Writing.Links.{Leads, link_of}
-use Rattle.h5_heap.specs.declared.write.link.NewLink.{NewLink}
+use Rattle.h5_heap.specs.declared.write.link.ObjectPlace.{ObjectPlace}
+use Rattle.h5_model.specs.declared.link.Link.{Link}
 use Rattle.h5_heap.specs.Writing.Written.{placed, placed_links, link_span}
 use Rattle.h5_group.specs.Writing.Written.{runs_of, entry_bytes, symbol_bytes, symbol_nodes, last_name, children_of}
 use Rattle.h5_group.proofs.WriteLaws.SymbolNodes.{Placed}
@@ -39,9 +40,9 @@ along : (node n size : ℕ) → node + suc n * size ≡ node + size + n * size
 along node n size = omega (arith, one_more n size)
 
 -- the run from one link on, of as many as a node has room for, and the links behind it
-module _ (leaf at from end : ℕ) (links : List NewLink) (low : 1 ≤ leaf) (some : from < length links)
+module _ (leaf at from end : ℕ) (links : List (Link ObjectPlace)) (low : 1 ≤ leaf) (some : from < length links)
     (end_is : end ≡ from + min (2 * leaf) (length links - from)) where
-  abbrev run : List NewLink
+  abbrev run : List (Link ObjectPlace)
   run = take (end - from) (drop from links)
 
   apart : drop from links ≡ run ++ drop end links
@@ -110,7 +111,7 @@ nodes_end leaf links low = length-runs leaf low (placed_links links) ∙ ap (λ 
 
 -- ---- entries one behind another
 
-module _ (links : List NewLink) (i at next : ℕ) (d : NewLink) (low : i < length links) (step : next ≡ at + link_span (link_of (get_or links i d))) where
+module _ (links : List (Link ObjectPlace)) (i at next : ℕ) (d : Link ObjectPlace) (low : i < length links) (step : next ≡ at + link_span (link_of (get_or links i d))) where
   abbrev here : List ℕ × Leads
   here = link_of (get_or links i d)
 

@@ -1,15 +1,10 @@
--- Nodes of a group's tree, and symbol nodes, where they stand in an image (File Format Specification 3.0, sections III.A.1 and III.B).
+-- Symbol nodes where they stand in an image, and the keys of nodes (File Format Specification 3.0, sections III.A.1 and III.B).
 use Rattle.std.specs.Prelude.{ℕ, ◌+◌, ◌*◌, ◌≤◌, List, length, map}
 use Rattle.h5_model.specs.Format.Superblock.{leaf_k}
-use Rattle.h5_model.specs.Format.Nodes.{IsNode, node_at, node_bytes, node_length}
+use Rattle.h5_model.specs.Format.Nodes.{node_at}
 use Rattle.h5_model.specs.Format.Symbols.{Entry, IsSymbolNode, symbol_bytes, symbols_at}
 use Rattle.h5_model.specs.Format.Links.{offset_in}
 use Rattle.h5_group.specs.Nodes.Trees.{kind_in}
-
--- a node of a group's tree stands in the image at this address
-pub record IsNodeAt (image : List ℕ) (at : ℕ) : Type 0 where
-  pub formed : IsNode (kind_in image) (node_bytes image (kind_in image) at)
-  pub inside : at + node_length (kind_in image) ≤ length image
 
 -- a symbol node stands in the image at this address
 pub record IsSymbolsAt (image : List ℕ) (at : ℕ) : Type 0 where

@@ -6,13 +6,15 @@ use Rattle.h5_model.specs.Format.Rows.{leaves, nodes}
 use Rattle.h5_model.specs.Format.Nodes.{node_at}
 use Rattle.h5_model.specs.Format.Symbols.{symbols_at}
 use Rattle.h5_model.specs.Format.Links.{Before, IsOrdered, NotAfter, names_in}
+use Rattle.h5_btree.specs.Walk.Forms.{OfGroup}
+use Rattle.h5_btree.specs.Walk.Stands.{IsNodeAt}
 use Rattle.h5_group.specs.Nodes.Trees.{kind_in}
-use Rattle.h5_group.specs.Nodes.Stands.{IsNodeAt, IsSymbolsAt}
+use Rattle.h5_group.specs.Nodes.Stands.{IsSymbolsAt}
 
 -- at height 0 a symbol node stands at this address; above that a node, of the level below the height, over such as these
 abbrev pub HasSubtree : List ℕ → ℕ → ℕ → Type 0
 HasSubtree image zero at = IsSymbolsAt image at
-HasSubtree image (suc level) at = IsNodeAt image at
+HasSubtree image (suc level) at = IsNodeAt image OfGroup at
     × ((node_at image (kind_in image) at).level ≡ level)
     × AllByRecursion (HasSubtree image level) (node_at image (kind_in image) at).children
 

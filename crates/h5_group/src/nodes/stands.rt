@@ -6,21 +6,22 @@ ghost use Rattle.h5_model.specs.Format.Superblock.{leaf_k as leaf_of};
 ghost use Rattle.h5_model.specs.Format.Nodes.{node_at};
 ghost use Rattle.h5_model.specs.Format.Symbols.{symbols_at};
 ghost use Rattle.h5_group.specs.Nodes.Trees.{kind_in};
-ghost use Rattle.h5_group.specs.Nodes.Stands.{IsNodeAt, IsSymbolsAt};
+ghost use Rattle.h5_btree.specs.Walk.Forms.{OfGroup};
+ghost use Rattle.h5_btree.specs.Walk.Stands.{IsNodeAt};
+ghost use Rattle.h5_group.specs.Nodes.Stands.{IsSymbolsAt};
 
-use h5_btree::{Node, NodeKind, read_node};
+use crate::nodes::symbol::SymbolNodes;
+use h5_btree::{Node, NodeKind};
 use h5_snod::{SymbolNode, known_symbol_node};
 use h5_space::{Image, internal_k, leaf_k};
 
 /// The node of a group's tree at this address. Takes no memory.
 pub fn tree_node(image: &Image, at: u64) -> Node<'_>
     requires long { 20 ≤ length image.now.bytes }
-    requires there { IsNodeAt image.now.bytes at }
+    requires there { IsNodeAt image.now.bytes OfGroup at }
     ensures { result ≡ node_at image.now.bytes (kind_in image.now.bytes) at }
 {
-    let kind = group_kind(image);
-    let bytes = image.part(at, kind.node_length() as u64).unwrap();
-    read_node(kind, bytes).unwrap()
+    h5_btree::tree_node(image, &SymbolNodes, at)
 }
 
 /// The symbol node at this address. Takes no memory.

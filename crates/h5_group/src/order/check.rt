@@ -4,12 +4,15 @@ ghost use Rattle.std.specs.Prelude.{◌≡◌, length, IfErr, OnOk};
 ghost use Rattle.h5_bytes.specs.Blocks.{Inside};
 ghost use Rattle.h5_model.specs.Format.Superblock.{IsSuperblock};
 ghost use Rattle.h5_model.specs.Format.Heap.{segment_of};
-ghost use Rattle.h5_group.specs.Nodes.Trees.{IsTree, nodes_blocks};
+ghost use Rattle.h5_btree.specs.Walk.Forms.{OfGroup};
+ghost use Rattle.h5_btree.specs.Walk.Trees.{IsTree};
+ghost use Rattle.h5_group.specs.Nodes.Trees.{nodes_blocks};
 ghost use Rattle.h5_group.specs.Order.Ordered.{AreOrdered, IsOrderRefused};
 
-use crate::nodes::{GroupTree, tree_node};
+use crate::nodes::tree_node;
 use crate::order::keys::check_keys;
 use crate::order::names::check_names;
+use h5_btree::Tree;
 use h5_model::OpenFault;
 use h5_msg::SymbolTable;
 use h5_space::Image;
@@ -26,20 +29,20 @@ pub fn check_order(
     image: &Image,
     segment: &[u8],
     table: SymbolTable,
-    tree: &GroupTree,
+    tree: &Tree,
 ) -> Result<(), OpenFault>
     requires superblock { IsSuperblock image.now.bytes }
-    requires tree { IsTree image.now.bytes table.tree tree.now.nodes.items tree.now.symbol_nodes.items }
+    requires tree { IsTree image.now.bytes OfGroup table.tree tree.now.nodes.items tree.now.leaves.items }
     requires inside { Inside (length image.now.bytes)
-        (nodes_blocks image.now.bytes tree.now.nodes.items tree.now.symbol_nodes.items) }
+        (nodes_blocks image.now.bytes tree.now.nodes.items tree.now.leaves.items) }
     requires segment { segment.now ≡ segment_of image.now.bytes table.heap }
     ensures ordered { OnOk result
-        (AreOrdered image.now.bytes segment.now tree.now.nodes.items tree.now.symbol_nodes.items) }
+        (AreOrdered image.now.bytes segment.now tree.now.nodes.items tree.now.leaves.items) }
     ensures refused { IfErr result (λ fault.
-        IsOrderRefused image.now.bytes table tree.now.nodes.items tree.now.symbol_nodes.items fault.cause
+        IsOrderRefused image.now.bytes table tree.now.nodes.items tree.now.leaves.items fault.cause
         fault.address) }
 {
-    check_names(image, segment, &tree.symbol_nodes)?;
+    check_names(image, segment, &tree.leaves)?;
     let root = table.tree();
     check_keys(image, segment, tree_node(image, root).level(), root)
 }

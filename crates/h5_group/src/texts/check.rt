@@ -4,14 +4,16 @@ ghost use Rattle.std.specs.Prelude.{◌≡◌, length, IfErr, OnOk};
 ghost use Rattle.h5_bytes.specs.Blocks.{Inside};
 ghost use Rattle.h5_model.specs.Format.Superblock.{IsSuperblock};
 ghost use Rattle.h5_model.specs.Format.Heap.{segment_of};
-ghost use Rattle.h5_group.specs.Nodes.Trees.{IsTree, nodes_blocks};
+ghost use Rattle.h5_btree.specs.Walk.Forms.{OfGroup};
+ghost use Rattle.h5_btree.specs.Walk.Trees.{IsTree};
+ghost use Rattle.h5_group.specs.Nodes.Trees.{nodes_blocks};
 ghost use Rattle.h5_group.specs.Texts.Named.{AreTexts, IsFreshHeap};
 ghost use Rattle.h5_group.specs.Texts.Refused.{AreTextsRefused};
 
-use crate::nodes::GroupTree;
 use crate::texts::keys::take_keys;
 use crate::texts::linked::take_linked;
 use crate::texts::names::{check_names, has_empty_name};
+use h5_btree::Tree;
 use h5_heap::Heap;
 use h5_model::{Cause, OpenFault};
 use h5_msg::SymbolTable;
@@ -29,16 +31,16 @@ pub fn check_texts(
     image: &Image,
     heap: &mut Heap,
     table: SymbolTable,
-    tree: &GroupTree,
+    tree: &Tree,
 ) -> Result<(), OpenFault>
     requires superblock { IsSuperblock image.now.bytes }
-    requires tree { IsTree image.now.bytes table.tree tree.now.nodes.items tree.now.symbol_nodes.items }
+    requires tree { IsTree image.now.bytes OfGroup table.tree tree.now.nodes.items tree.now.leaves.items }
     requires inside { Inside (length image.now.bytes)
-        (nodes_blocks image.now.bytes tree.now.nodes.items tree.now.symbol_nodes.items) }
+        (nodes_blocks image.now.bytes tree.now.nodes.items tree.now.leaves.items) }
     requires heap { IsFreshHeap image.now.bytes table.heap heap.old }
     ensures texts { OnOk result
         (AreTexts image.now.bytes (segment_of image.now.bytes table.heap) heap.old.free tree.now.nodes.items
-        tree.now.symbol_nodes.items) }
+        tree.now.leaves.items) }
     ensures address { IfErr result (λ fault. fault.address ≡ table.heap) }
     ensures refused { IfErr result (λ fault. AreTextsRefused image.now.bytes table fault.cause) }
 {
@@ -48,8 +50,8 @@ pub fn check_texts(
             address: table.heap(),
         });
     }
-    check_names(image, heap, table.heap(), &tree.symbol_nodes)?;
+    check_names(image, heap, table.heap(), &tree.leaves)?;
     heap.begin_names(image)?;
-    take_linked(image, heap, &tree.symbol_nodes)?;
+    take_linked(image, heap, &tree.leaves)?;
     take_keys(image, heap, &tree.nodes)
 }

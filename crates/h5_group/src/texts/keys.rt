@@ -3,7 +3,9 @@
 ghost use Rattle.std.specs.Prelude.{◌≡◌, ◌+◌, ◌≤◌, length, IfErr, OnOk};
 ghost use Rattle.std.specs.List.{AllByRecursion, flat_map};
 ghost use Rattle.h5_model.specs.Format.Superblock.{IsSuperblock};
-ghost use Rattle.h5_group.specs.Nodes.Stands.{IsNodeAt, keys_at};
+ghost use Rattle.h5_btree.specs.Walk.Forms.{OfGroup};
+ghost use Rattle.h5_btree.specs.Walk.Stands.{IsNodeAt};
+ghost use Rattle.h5_group.specs.Nodes.Stands.{keys_at};
 ghost use Rattle.h5_group.specs.Texts.Taken.{NamesKeys, AreKeysRefused};
 
 use crate::nodes::tree_node;
@@ -14,7 +16,7 @@ use h5_space::Image;
 /// Takes the texts that the keys of these nodes name, after those of links.
 pub(crate) fn take_keys(image: &Image, heap: &mut Heap, nodes: &[u64]) -> Result<(), OpenFault>
     requires superblock { IsSuperblock image.now.bytes }
-    requires there { AllByRecursion (IsNodeAt image.now.bytes) nodes.now }
+    requires there { AllByRecursion (IsNodeAt image.now.bytes OfGroup) nodes.now }
     requires within { heap.old.segment.at + heap.old.segment.len ≤ length image.now.bytes }
     ensures names { OnOk result
         (NamesKeys image.now.bytes heap.old heap.new (flat_map (keys_at image.now.bytes) nodes.now)) }
@@ -31,7 +33,7 @@ pub(crate) fn take_keys(image: &Image, heap: &mut Heap, nodes: &[u64]) -> Result
 /// The same of one node.
 fn take_node(image: &Image, heap: &mut Heap, at: u64) -> Result<(), OpenFault>
     requires superblock { IsSuperblock image.now.bytes }
-    requires there { IsNodeAt image.now.bytes at }
+    requires there { IsNodeAt image.now.bytes OfGroup at }
     requires within { heap.old.segment.at + heap.old.segment.len ≤ length image.now.bytes }
     ensures names { OnOk result (NamesKeys image.now.bytes heap.old heap.new (keys_at image.now.bytes at)) }
     ensures address { IfErr result (λ fault. fault.address ≡ heap.old.at) }

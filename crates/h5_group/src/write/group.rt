@@ -8,7 +8,8 @@ ghost use Rattle.h5_group.specs.Writing.Places.{ArePlaces};
 use crate::write::places::GroupPlaces;
 use crate::write::symbols::{push_symbol_nodes, symbol_children};
 use h5_btree::push_tree;
-use h5_heap::{NewLink, push_heap};
+use h5_heap::{ObjectPlace, push_heap};
+use h5_model::Link;
 use std::alloc::{AllocError, Global};
 
 /// The tree, the heap and the symbol nodes of these links, which lie so, as they stand from the address `at` on.
@@ -22,7 +23,7 @@ pub fn push_links(
     internal: u16,
     at: u64,
     places: &GroupPlaces,
-    links: &[NewLink<'_>],
+    links: &[Link<'_, ObjectPlace>],
 ) -> Result<(), AllocError>
     requires k { AreK leaf internal }
     requires places { ArePlaces leaf internal (map link_of links.now) places.now }

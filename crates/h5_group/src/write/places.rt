@@ -5,7 +5,8 @@ ghost use Rattle.h5_heap.specs.Writing.Links.{link_of};
 ghost use Rattle.h5_group.specs.Writing.Places.{IsTooLarge, ArePlaces};
 
 use h5_btree::{nodes_over, root_level, rows_of};
-use h5_heap::{NewLink, segment_length};
+use h5_heap::{ObjectPlace, segment_length};
+use h5_model::Link;
 use h5_space::MAXIMUM_IMAGE;
 
 /// Why a group's links are not written.
@@ -44,7 +45,7 @@ fn bytes_of(count: u64, size: u64) -> u64
 pub fn group_places(
     leaf: u16,
     internal: u16,
-    links: &[NewLink<'_>],
+    links: &[Link<'_, ObjectPlace>],
 ) -> Result<GroupPlaces, GroupFault>
     requires { AreK leaf internal }
     ensures { MatchResult result (ArePlaces leaf internal (map link_of links.now))

@@ -10,7 +10,8 @@ ghost use Rattle.h5_snod.specs.Written.{head_bytes};
 
 use h5_btree::Child;
 use h5_bytes::push_zeros;
-use h5_heap::{Leads, NewLink, link_span, text_span};
+use h5_heap::{ObjectPlace, link_span, text_span};
+use h5_model::{Link, LinkTo};
 use h5_snod::{ENTRY, HEAD, NewSymbol, NewTarget, write_entry, write_head};
 use std::alloc::{AllocError, Global};
 
@@ -34,20 +35,22 @@ fn push_head(out: &mut Vec<u8>, count: u16) -> Result<(), AllocError>
 }
 
 /// The entry of a link whose name stands at this offset. It has a group's tree and heap, or the offset of a soft link's text.
-fn new_symbol(name: u64, link: &NewLink<'_>) -> NewSymbol
+fn new_symbol(name: u64, link: &Link<'_, ObjectPlace>) -> NewSymbol
     requires { name + span (link_of link.now) < 2 ^ 32 }
     ensures { result ≡ symbol_for (name, link_of link.now) }
 {
-    let target = match link.leads {
-        Leads::Group { header, tree, heap } => NewTarget::Group { header, tree, heap },
-        Leads::Array(header) => NewTarget::Dataset(header),
-        Leads::Text(_) => NewTarget::Text(name as u32 + text_span(link.name) as u32),
+    let target = match link.to {
+        LinkTo::Object(ObjectPlace::Group { header, tree, heap }) => {
+            NewTarget::Group { header, tree, heap }
+        }
+        LinkTo::Object(ObjectPlace::Array(header)) => NewTarget::Dataset(header),
+        LinkTo::Soft(_) => NewTarget::Text(name as u32 + text_span(link.name) as u32),
     };
     NewSymbol { name, target }
 }
 
 /// The bytes of the entry of a link whose name stands at this offset.
-fn push_entry(out: &mut Vec<u8>, name: u64, link: &NewLink<'_>) -> Result<(), AllocError>
+fn push_entry(out: &mut Vec<u8>, name: u64, link: &Link<'_, ObjectPlace>) -> Result<(), AllocError>
     requires { name + span (link_of link.now) < 2 ^ 32 }
     ensures { OnOk result (out.new.items ≡ out.old.items ++ entry_bytes (name, link_of link.now)) }
 {
@@ -57,7 +60,11 @@ fn push_entry(out: &mut Vec<u8>, name: u64, link: &NewLink<'_>) -> Result<(), Al
 }
 
 /// The entries of these links, the first name of which stands at this offset. `Ok` has the offset behind their texts.
-fn push_entries(out: &mut Vec<u8>, name: u64, links: &[NewLink<'_>]) -> Result<u64, AllocError>
+fn push_entries(
+    out: &mut Vec<u8>,
+    name: u64,
+    links: &[Link<'_, ObjectPlace>],
+) -> Result<u64, AllocError>
     requires { name + sum_by span (map link_of links.now) < 2 ^ 32 }
     ensures entries { OnOk result
         (out.new.items ≡ out.old.items ++ flat_map entry_bytes (placed name (map link_of links.now))) }
@@ -77,7 +84,7 @@ fn push_symbol_node(
     out: &mut Vec<u8>,
     leaf: u16,
     name: u64,
-    links: &[NewLink<'_>],
+    links: &[Link<'_, ObjectPlace>],
 ) -> Result<u64, AllocError>
     requires leaf { leaf ≤ 32767 }
     requires room { length links.now ≤ 2 * leaf }
@@ -96,7 +103,7 @@ fn push_symbol_node(
 pub(crate) fn push_symbol_nodes(
     out: &mut Vec<u8>,
     leaf: u16,
-    links: &[NewLink<'_>],
+    links: &[Link<'_, ObjectPlace>],
 ) -> Result<(), AllocError>
     requires low { 1 ≤ leaf }
     requires high { leaf ≤ 32767 }
@@ -125,7 +132,7 @@ struct Offsets {
 }
 
 /// The offsets of these links' last name, and behind their texts; the first name stands at this offset.
-fn name_offsets(name: u64, links: &[NewLink<'_>]) -> Offsets
+fn name_offsets(name: u64, links: &[Link<'_, ObjectPlace>]) -> Offsets
     requires { name + sum_by span (map link_of links.now) < 2 ^ 32 }
     ensures last { result.last ≡ last_name 0 (placed name (map link_of links.now)) }
     ensures next { result.next ≡ name + sum_by span (map link_of links.now) }
@@ -144,7 +151,7 @@ pub(crate) fn symbol_children(
     alloc: Global,
     leaf: u16,
     at: u64,
-    links: &[NewLink<'_>],
+    links: &[Link<'_, ObjectPlace>],
 ) -> Result<Vec<Child>, AllocError>
     requires low { 1 ≤ leaf }
     requires high { leaf ≤ 32767 }

@@ -9,23 +9,16 @@ use Rattle.h5_model.specs.Format.Messages.{Message, HasMessages, prefix_at, firs
 use Rattle.h5_model.specs.Format.Reached.{Named, named, ObjectHeader, Continuation, Reached, block_of}
 use Rattle.h5_header.proofs.MetLaws.{IsNamedBy, IsNaming, has_naming, continuation_cases, whole_filled}
 use Rattle.h5_header.proofs.CrossLaws.{heads, filled_heads, head_here}
-use Rattle.h5_header.specs.Walk.Walked.{IsFollowed, IsWalked, continuation_fields}
-use Rattle.h5_header.proofs.WalkLaws.WalkedLaws.{IsOther}
+use Rattle.h5_space.specs.Walk.Walked.{IsFollowed, IsWalked}
+use Rattle.h5_space.proofs.WalkLaws.WalkedLaws.{IsOther}
+use Rattle.h5_space.proofs.WalkLaws.FieldLaws.{still_followed}
+use Rattle.h5_header.specs.Walk.Walked.{continuation_fields}
 use Rattle.h5_header.proofs.WalkLaws.HeaderLaws.{z_block, z_reached}
 
 -- what two lists of fields cover together
 pub cover-fields : (image : List ℕ) (p : ℕ) (xs ys : List Named) → cover p (map (block_of image) (xs ++ ys)) ≡ cover p (map (block_of image) xs) + cover p (map (block_of image) ys)
 cover-fields image p [] ys = omega arith
 cover-fields image p (x ∷ xs) ys = omega (arith, cover-fields image p xs ys)
-
--- a followed field stays one when more is claimed
-pub still_followed : (image : List ℕ) (old new : List Block) (ys : List Named) → ((p : ℕ) → cover p old ≤ cover p new)
-    → AllByRecursion (IsFollowed image old) ys → AllByRecursion (IsFollowed image new) ys
-still_followed image old new [] grown all = tt
-still_followed image old new (y ∷ ys) grown all = (
-  record { reached = all.0.reached; behind = all.0.behind; stands = omega (arith, all.0.stands, grown (y.field - 8)) },
-  still_followed image old new ys grown all.1,
-)
 
 -- each message has its head in one of the header's blocks
 module _ (image : List ℕ) (header : ℕ) (ms : List Message) (blocks : List Block) (has : HasMessages image header ms blocks) where

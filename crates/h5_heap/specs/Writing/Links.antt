@@ -1,9 +1,12 @@
 -- Links of a group as they are to be written (File Format Specification 3.0, section III.C).
 use Rattle.std.specs.Prelude.{ℕ, List, [], ◌∷◌}
 use Rattle.h5_model.specs.Format.Symbols.{Target, Header, Text}
-use Rattle.h5_heap.specs.declared.write.link.NewLink.{NewLink}
-use Rattle.h5_heap.specs.declared.write.link.Leads as declared
-use Rattle.h5_heap.specs.declared.write.link.Leads.TheVariants as leads
+use Rattle.h5_heap.specs.declared.write.link.ObjectPlace.{ObjectPlace}
+use Rattle.h5_model.specs.declared.link.Link.{Link}
+use Rattle.h5_heap.specs.declared.write.link.ObjectPlace.{ObjectPlace}
+use Rattle.h5_heap.specs.declared.write.link.ObjectPlace.TheVariants as place
+use Rattle.h5_model.specs.declared.link.LinkTo.{LinkTo}
+use Rattle.h5_model.specs.declared.link.LinkTo.TheVariants as to
 
 -- where a link leads: to a group, by the addresses of its header, its tree and its heap; to an array's header; or to a text
 pub data Leads : Type 0 where
@@ -11,13 +14,16 @@ pub data Leads : Type 0 where
   ToArray : ℕ → Leads
   ToText : List ℕ → Leads
 
-abbrev pub leads_of : declared.Leads → Leads
-leads_of (leads.Group header tree heap) = ToGroup header tree heap
-leads_of (leads.Array header) = ToArray header
-leads_of (leads.Text text) = ToText text.now
+abbrev pub object_leads : ObjectPlace → Leads
+object_leads (place.Group header tree heap) = ToGroup header tree heap
+object_leads (place.Array header) = ToArray header
 
-abbrev pub link_of : NewLink → List ℕ × Leads
-link_of l = (l.name.now, leads_of l.leads)
+abbrev pub leads_of : LinkTo ObjectPlace → Leads
+leads_of (to.Object place) = object_leads place
+leads_of (to.Soft text) = ToText text.now
+
+abbrev pub link_of : Link ObjectPlace → List ℕ × Leads
+link_of l = (l.name.now, leads_of l.to)
 
 -- what a reader is told of it
 abbrev pub target_of : Leads → Target

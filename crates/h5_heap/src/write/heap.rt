@@ -6,23 +6,23 @@ ghost use Rattle.h5_model.specs.Format.Sizes.{text_span as text_size};
 ghost use Rattle.h5_heap.specs.Writing.Links.{link_of, spelled};
 ghost use Rattle.h5_heap.specs.Writing.Written.{heap_bytes, segment_of, link_span as span};
 
-use crate::write::link::{Leads, NewLink};
+use crate::write::link::ObjectPlace;
 use crate::write::parts::{push_free_rest, push_heap_header, push_text, text_span};
 use h5_bytes::push_zeros;
+use h5_model::{Link, LinkTo};
 use h5_space::MAXIMUM_IMAGE;
 use std::alloc::AllocError;
 
 /// How many bytes a link's texts occupy in the heap: its name, and a soft link's text. Those of a link that `segment_length` has
 /// counted are few enough.
-pub fn link_span(link: &NewLink<'_>) -> usize
+pub fn link_span(link: &Link<'_, ObjectPlace>) -> usize
     requires { span (link_of link.now) < 2 ^ 64 }
     ensures { result ≡ span (link_of link.now) }
 {
     let name = text_span(link.name);
-    match link.leads {
-        Leads::Group { .. } => name,
-        Leads::Array(_) => name,
-        Leads::Text(text) => name + text_span(text),
+    match link.to {
+        LinkTo::Object(_) => name,
+        LinkTo::Soft(text) => name + text_span(text),
     }
 }
 
@@ -37,21 +37,20 @@ fn behind_text(used: u64, text: &[u8]) -> Option<u64>
 }
 
 /// How many bytes are used with a link's texts behind so many, or `None` where they are more than 2147483648.
-fn behind_link(used: u64, link: &NewLink<'_>) -> Option<u64>
+fn behind_link(used: u64, link: &Link<'_, ObjectPlace>) -> Option<u64>
     requires { used ≤ 2 ^ 31 }
     ensures { MatchOption result (2 ^ 31 < used + span (link_of link.now)) (λ n.
         (n ≡ used + span (link_of link.now)) × (n ≤ 2 ^ 31)) }
 {
     let end = behind_text(used, link.name)?;
-    match link.leads {
-        Leads::Group { .. } => Some(end),
-        Leads::Array(_) => Some(end),
-        Leads::Text(text) => behind_text(end, text),
+    match link.to {
+        LinkTo::Object(_) => Some(end),
+        LinkTo::Soft(text) => behind_text(end, text),
     }
 }
 
 /// How many bytes of the segment the empty name and the texts of these links occupy, or `None` where it is more than 2147483648.
-fn used_length(links: &[NewLink<'_>]) -> Option<u64>
+fn used_length(links: &[Link<'_, ObjectPlace>]) -> Option<u64>
     ensures { MatchOption result (2 ^ 31 < 8 + sum_by span (map link_of links.now))
         (λ n. (n ≡ 8 + sum_by span (map link_of links.now)) × (n ≤ 2 ^ 31)) }
 {
@@ -63,7 +62,7 @@ fn used_length(links: &[NewLink<'_>]) -> Option<u64>
 }
 
 /// How many bytes the segment of these links has, or `None` where it has more than 2147483648.
-pub fn segment_length(links: &[NewLink<'_>]) -> Option<u64>
+pub fn segment_length(links: &[Link<'_, ObjectPlace>]) -> Option<u64>
     ensures { MatchOption result (2 ^ 31 < length (segment_of (map link_of links.now)))
         (λ n. (n ≡ length (segment_of (map link_of links.now))) × (n ≤ 2 ^ 31)) }
 {
@@ -79,20 +78,19 @@ fn free_head(used: u64) -> u64
 }
 
 /// A link's name, and the text of a soft link.
-fn push_link_texts(out: &mut Vec<u8>, link: &NewLink<'_>) -> Result<(), AllocError>
+fn push_link_texts(out: &mut Vec<u8>, link: &Link<'_, ObjectPlace>) -> Result<(), AllocError>
     ensures { OnOk result
         (out.new.items ≡ out.old.items ++ flat_map padded_text (spelled (link_of link.now ∷ []))) }
 {
     push_text(out, link.name)?;
-    match link.leads {
-        Leads::Group { .. } => Ok(()),
-        Leads::Array(_) => Ok(()),
-        Leads::Text(text) => push_text(out, text),
+    match link.to {
+        LinkTo::Object(_) => Ok(()),
+        LinkTo::Soft(text) => push_text(out, text),
     }
 }
 
 /// The names of these links and the texts of soft links, one behind another.
-fn push_texts(out: &mut Vec<u8>, links: &[NewLink<'_>]) -> Result<(), AllocError>
+fn push_texts(out: &mut Vec<u8>, links: &[Link<'_, ObjectPlace>]) -> Result<(), AllocError>
     ensures { OnOk result
         (out.new.items ≡ out.old.items ++ flat_map padded_text (spelled (map link_of links.now))) }
 {
@@ -107,7 +105,7 @@ pub fn push_heap(
     out: &mut Vec<u8>,
     at: u64,
     size: u64,
-    links: &[NewLink<'_>],
+    links: &[Link<'_, ObjectPlace>],
 ) -> Result<(), AllocError>
     requires size { size ≡ length (segment_of (map link_of links.now)) }
     requires low { at + 32 + size ≤ 2 ^ 31 }

@@ -48,7 +48,7 @@ module _ (image : List ℕ) (h : ℕ) where
   -- those of an object
   content_count : (ms : List Message) (c : OpenedContent) → IsContentKept image ms c → linking h (fields.object_links image ms) ≡ leading h (links_of image c)
   content_count ms (content.Group g) kept = group_count ms g kept
-  content_count ms (content.Array line) kept =
+  content_count ms content.Array kept =
       let none : find (λ (m : Message). m.kind == 17) ms ≡ None
       = find_none 17 ms (λ m at is. absurd (omega (arith, counted 17 ms m at is, kept.0.kinds.no_table))) in
       ap (λ (o : Option Message). linking h (option_map_or (λ (x : Message). option_map_or (λ (t : SymbolTable). fields.tree_links image t.tree) (symbol_table_of x.body) []) o [])) none

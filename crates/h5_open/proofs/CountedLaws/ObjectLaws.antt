@@ -12,6 +12,7 @@ use Rattle.h5_model.specs.Faults.Breaches.{AreAllLinks, ReachedBreach}
 use Rattle.h5_model.specs.Faults.HeaderFaults.{SomeMessage}
 use Rattle.h5_model.specs.declared.open_fault.Cause.{Cause}
 use Rattle.h5_model.specs.declared.open_fault.Cause.TheVariants.{TooLarge, LinkCount, GroupLinkedTwice}
+use Rattle.h5_model.specs.Format.Messages.{Message}
 use Rattle.h5_header.specs.Listed.{messages_in}
 use Rattle.h5_group.specs.Nodes.Walk.{IsFault}
 use Rattle.h5_open.specs.declared.opened.object.OpenedObject.{OpenedObject}
@@ -32,9 +33,9 @@ use Rattle.h5_open.specs.Counted.Counts.{IsCount, IsRight, IsWrong}
 use Rattle.h5_open.proofs.CountedLaws.FieldCounts.{fields_count}
 
 -- a group of the tree is a group that was read
-is_group_content : (image at : List ℕ) (c : OpenedContent) → IsGroup (content_in image at c) → IsGroupContent c
-is_group_content image at (content.Group g) is = tt
-is_group_content image at (content.Array line) is = is
+is_group_content : (image at : List ℕ) (ms : List Message) (c : OpenedContent) → IsGroup (content_in image at ms c) → IsGroupContent c
+is_group_content image at ms (content.Group g) is = tt
+is_group_content image at ms content.Array is = is
 
 -- of two different fields one is not this
 other_in : (fields : List ℕ) → Apart fields → 1 < length fields → (f : ℕ) → (g : ℕ) × In g fields × (g ≢ f)
@@ -56,7 +57,7 @@ header_inside image o kept =
 table_met : (image : List ℕ) (o : OpenedObject) → IsObjectKept image o → IsGroupContent o.content → SomeMessage image o.messages.header (λ kind. kind == 17)
 table_met image o kept is = go o.content is kept.content where
   go : (c : OpenedContent) → IsGroupContent c → IsContentKept image (messages_in image o.messages.list) c → SomeMessage image o.messages.header (λ kind. kind == 17)
-  go (content.Array line) never of = absurd never
+  go content.Array never of = absurd never
   go (content.Group g) group of =
       let ms = messages_in image o.messages.list in
       let first = said_first symbol_table_of 17 ms g.table of.1 in
@@ -128,7 +129,7 @@ module _ (image : List ℕ) (objects : List OpenedObject) (whole : IsWhole image
       let is : has.0 ≡ leading o.messages.header (all_links image objects) = has.2.exact has.1.limit in
       let some : 1 ≤ leading o.messages.header (all_links image objects) = omega (arith, known.among.1, known.long) in record {
         counted = has.1.counted ∙ is ∙ links;
-        once = λ group. let most : has.0 ≤ 1 = has.1.once (is_group_content image at o.content group) in omega (arith, has.1.counted, is, some, most);
+        once = λ group. let most : has.0 ≤ 1 = has.1.once (is_group_content image at (messages_in image o.messages.list) o.content group) in omega (arith, has.1.counted, is, some, most);
         limit = omega (arith, has.1.limit, is, links);
       }
 

@@ -7,20 +7,21 @@ use Rattle.std.specs.FinMap.{get, empty}
 use Rattle.std.proofs.lemmas.Option.{slice_get-map}
 use Rattle.h5_bytes.specs.declared.Block.{Block}
 use Rattle.h5_model.specs.Format.Symbols.{Target, Header, Text}
-use Rattle.h5_model.specs.Format.Layout.{InBlock}
+use Rattle.h5_model.specs.Format.Fixed.{Fixed}
+use Rattle.h5_model.specs.Format.Layout.{Layout, InMessage, InBlock, InChunks}
 use Rattle.h5_model.specs.Tree.Objects.{Link}
 use Rattle.h5_model.specs.Format.Reads.{HasObject, HasContent, HasData, IsSame, IsPlaced}
 use Rattle.h5_header.specs.Heads.{is_read}
 use Rattle.h5_header.specs.Listed.{messages_in}
 use Rattle.h5_header.specs.declared.message.Message.{Message as Stood}
+use Rattle.h5_layout.specs.Told.{array_told}
 use Rattle.h5_layout.proofs.ArrayLaws.{has_dataset}
 use Rattle.h5_layout.proofs.KnownLaws.{known_in}
 use Rattle.h5_group.specs.Links as group
-use Rattle.h5_open.specs.declared.opened.line.Line.{Line}
 use Rattle.h5_open.specs.declared.opened.object.OpenedObject.{OpenedObject}
 use Rattle.h5_open.specs.declared.opened.object.OpenedContent.{OpenedContent}
 use Rattle.h5_open.specs.declared.opened.object.OpenedContent.TheVariants as content
-use Rattle.h5_open.specs.Opened.Array.{described, data_blocks}
+use Rattle.h5_open.specs.Opened.Array.{data_blocks}
 use Rattle.h5_open.specs.Opened.Kept.{IsObjectKept, IsContentKept}
 use Rattle.h5_open.specs.Opened.Objects.{headers, number_of, links_of, link_to, content_in, content_blocks, object_in, object_blocks, table_of}
 use Rattle.h5_laws.proofs.Lists.{In, in_contains}
@@ -30,9 +31,11 @@ use Rattle.h5_open.proofs.PlacedLaws.Places.{at_number}
 use Rattle.h5_open.proofs.PlacedLaws.GroupMessages.{group_known}
 
 -- the block of the cells holds no chunk
-data_stored : (image : List ℕ) (line : Line) (cells : Option Block) → HasData image line.fixed (InBlock cells) empty (data_blocks cells)
-data_stored image line None = (refl, refl)
-data_stored image line (Some b) = (refl, refl)
+data_stored : (image : List ℕ) (t : Fixed) (layout : Layout) (block : Option Block) → layout ≡ InBlock block → HasData image t layout empty (data_blocks layout)
+data_stored image t (InMessage bytes) block is = (refl, refl)
+data_stored image t (InBlock None) block is = (refl, refl)
+data_stored image t (InBlock (Some b)) block is = (refl, refl)
+data_stored image t (InChunks sizes root) block is = absurd (cc)
 
 module _ (image : List ℕ) (objects : List OpenedObject) (distinct : IsDistinct (eq_by_cmp nat_cmp) (headers objects)) where
   -- the table has each header at its number
@@ -53,7 +56,7 @@ module _ (image : List ℕ) (objects : List OpenedObject) (distinct : IsDistinct
 
   has_content : (depth : ℕ) (list : List Stood) (c : OpenedContent) → AllByRecursion (λ (m : Stood). IsTrue (is_read m.kind)) list → IsContentKept image (messages_in image list) c
       → AllByRecursion (IsLed objects depth) (links_of image c)
-      → HasContent image (table_of objects) (messages_in image list) (content_in image (headers objects) c) (content_blocks image c)
+      → HasContent image (table_of objects) (messages_in image list) (content_in image (headers objects) (messages_in image list) c) (content_blocks image (messages_in image list) c)
   has_content depth list (content.Group g) known (kinds, chosen, read) led = (
     group.links_of image g,
     record {
@@ -66,9 +69,10 @@ module _ (image : List ℕ) (objects : List OpenedObject) (distinct : IsDistinct
     subst (λ (es : List (List ℕ × Link)). AllZip (IsSame (table_of objects)) es (group.links_of image g)) (sym (group_entries image (headers objects) g read))
         (same_links depth (group.links_of image g) led),
   )
-  has_content depth list (content.Array line) known (line_list, inside) led =
-      has_dataset image (messages_in image list) (described line) empty (data_blocks line.cells) line_list.array
-      (known_in image list known (line_list.kinds).no_table) (data_stored image line line.cells)
+  has_content depth list content.Array known (array, inside) led =
+      let told = array_told (messages_in image list) in
+      has_dataset image (messages_in image list) told empty (data_blocks told.layout) array.array
+      (known_in image list known (array.kinds).no_table) (data_stored image told.fixed told.layout (array.carried).block (array.carried).in_block)
 
   has_object : (o : OpenedObject) → IsObjectKept image o → AreLed image objects o
       → HasObject image (table_of objects) o.messages.header (object_in image (headers objects) o) (object_blocks image o)
@@ -76,7 +80,7 @@ module _ (image : List ℕ) (objects : List OpenedObject) (distinct : IsDistinct
     messages = messages_in image o.messages.list;
     header_blocks = o.messages.blocks;
     listed = (kept.header).has;
-    content_blocks = content_blocks image o.content;
+    content_blocks = content_blocks image (messages_in image o.messages.list) o.content;
     content = has_content o.depth o.messages.list o.content kept.known kept.content led;
     attributes = (kept.header).attributes;
     kept = refl;

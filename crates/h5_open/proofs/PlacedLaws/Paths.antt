@@ -9,7 +9,6 @@ use Rattle.std.proofs.lemmas.Bool.{cases_lt}
 use Rattle.std.proofs.lemmas.Option.{same_Some, slice_get_within}
 use Rattle.h5_model.specs.Format.Symbols.{Target, Header, Text}
 use Rattle.h5_model.specs.Tree.Objects.{Tree, Link, ToObject, Soft, follow, link_in}
-use Rattle.h5_header.specs.Listed.{messages_in}
 use Rattle.h5_open.specs.declared.opened.object.OpenedObject.{OpenedObject}
 use Rattle.h5_open.specs.declared.opened.object.OpenedContent.{OpenedContent}
 use Rattle.h5_open.specs.declared.opened.object.OpenedContent.TheVariants as content
@@ -52,7 +51,7 @@ module _ (image : List ℕ) (objects : List OpenedObject) (distinct : IsDistinct
       → In (name, Header o.messages.header) (links_of image p.content) → Leads k → Leads n
   leads_on k n p o parent child name there (path, leads) =
       let number : number_of (headers objects) o.messages.header ≡ n = number_at_place (λ (x : OpenedObject). x.messages.header) objects n o distinct child in
-      let named = link_there image objects (messages_in image p.messages.list) k p parent (kept_at k p parent).content name (Header o.messages.header) there in
+      let named = link_there image objects k p parent (kept_at k p parent).content name (Header o.messages.header) there in
       (path ++ name ∷ [], follow_more tree name k n (named ∙ ap (λ (m : ℕ). Some (ToObject m)) number) path (ToObject 0) leads)
 
   next_leads : (before : List OpenedObject) (o : OpenedObject) (more : List OpenedObject) → before ++ o ∷ more ≡ objects
@@ -89,7 +88,7 @@ module _ (image : List ℕ) (objects : List OpenedObject) (distinct : IsDistinct
   module _ (led : AllByRecursion (AreLed image objects) objects) where
     has_links : (c : OpenedContent) (l : List ℕ × Target) → In l (links_of image c) → IsGroupContent c
     has_links (content.Group g) l there = tt
-    has_links (content.Array line) l there = absurd there
+    has_links content.Array l there = absurd there
 
     -- a path from an object so many links below the root
     abbrev IsShort : List (List ℕ) → Type 0
@@ -110,7 +109,7 @@ module _ (image : List ℕ) (objects : List OpenedObject) (distinct : IsDistinct
       go : (x : Option Link) → link_in tree n name ≡ x → IsSome (option_and_then (λ (l : Link). follow tree l names) x) → length (name ∷ names) + depth ≤ 64
       go None found there = absurd (cc)
       go (Some link) found there =
-          let l = link_leads image objects (messages_in image o.messages.list) n o is (kept_at n o is).content name link found in
+          let l = link_leads image objects n o is (kept_at n o is).content name link found in
           let here : IsLed objects o.depth l.0 = in_all (IsLed objects o.depth) l.0 (links_of image o.content) (in_all (AreLed image objects) o objects led (place_in objects n o is)) l.1 in
           let deep : o.depth ≡ depth = same (has_links o.content l.0 l.1) in
           let rest = behind_link names short o.depth l.0 here (subst (λ (y : Link). IsSome (follow tree y names)) (sym l.2) there) in

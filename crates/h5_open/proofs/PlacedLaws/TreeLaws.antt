@@ -6,6 +6,7 @@ use Rattle.std.proofs.lemmas.Option.{slice_get-map}
 use Rattle.h5_model.specs.Format.Symbols.{Target}
 use Rattle.h5_model.specs.Format.Messages.{Message}
 use Rattle.h5_model.specs.Tree.Objects.{Object, Link, link_in, links_in}
+use Rattle.h5_header.specs.Listed.{messages_in}
 use Rattle.h5_group.specs.Links as group
 use Rattle.h5_open.specs.declared.opened.object.OpenedObject.{OpenedObject}
 use Rattle.h5_open.specs.declared.opened.object.OpenedContent.{OpenedContent}
@@ -31,23 +32,23 @@ module _ (image : List ℕ) (objects : List OpenedObject) where
 
   module _ (ms : List Message) (name : List ℕ) where
     in_content : (c : OpenedContent) (t : Target) → IsContentKept image ms c → In (name, t) (links_of image c)
-        → option_and_then (λ links. get links name) (links_in (content_in image at c)) ≡ Some (link_to at t)
+        → option_and_then (λ links. get links name) (links_in (content_in image at ms c)) ≡ Some (link_to at t)
     in_content (content.Group g) t (kinds, chosen, read) there = get_link at (group.links_of image g) (names_ascend image g read) name t there
-    in_content (content.Array line) t kept there = absurd there
+    in_content content.Array t kept there = absurd there
 
-    from_content : (c : OpenedContent) (link : Link) → IsContentKept image ms c → option_and_then (λ links. get links name) (links_in (content_in image at c)) ≡ Some link
+    from_content : (c : OpenedContent) (link : Link) → IsContentKept image ms c → option_and_then (λ links. get links name) (links_in (content_in image at ms c)) ≡ Some link
         → (l : List ℕ × Target) × In l (links_of image c) × (link_to at l.1 ≡ link)
     from_content (content.Group g) link (kinds, chosen, read) is = link_got at (group.links_of image g) (names_ascend image g read) name link is
-    from_content (content.Array line) link kept is = absurd (cc)
+    from_content content.Array link kept is = absurd (cc)
 
   links_at : (n : ℕ) (o : OpenedObject) (name : List ℕ) → slice_get objects n ≡ Some o
-      → link_in (tree_of image objects) n name ≡ option_and_then (λ links. get links name) (links_in (content_in image at o.content))
+      → link_in (tree_of image objects) n name ≡ option_and_then (λ links. get links name) (links_in (content_in image at (messages_in image o.messages.list) o.content))
   links_at n o name is = ap (λ (x : Option Object). option_and_then (λ links. get links name) (option_and_then (λ (y : Object). links_in y.content) x)) (object_got n o is)
 
-  pub link_there : (ms : List Message) (n : ℕ) (o : OpenedObject) → slice_get objects n ≡ Some o → IsContentKept image ms o.content → (name : List ℕ) (t : Target)
+  pub link_there : (n : ℕ) (o : OpenedObject) → slice_get objects n ≡ Some o → IsContentKept image (messages_in image o.messages.list) o.content → (name : List ℕ) (t : Target)
       → In (name, t) (links_of image o.content) → link_in (tree_of image objects) n name ≡ Some (link_to at t)
-  link_there ms n o is kept name t there = links_at n o name is ∙ in_content ms name o.content t kept there
+  link_there n o is kept name t there = links_at n o name is ∙ in_content (messages_in image o.messages.list) name o.content t kept there
 
-  pub link_leads : (ms : List Message) (n : ℕ) (o : OpenedObject) → slice_get objects n ≡ Some o → IsContentKept image ms o.content → (name : List ℕ) (link : Link)
+  pub link_leads : (n : ℕ) (o : OpenedObject) → slice_get objects n ≡ Some o → IsContentKept image (messages_in image o.messages.list) o.content → (name : List ℕ) (link : Link)
       → link_in (tree_of image objects) n name ≡ Some link → (l : List ℕ × Target) × In l (links_of image o.content) × (link_to at l.1 ≡ link)
-  link_leads ms n o is kept name link found = from_content ms name o.content link kept (sym (links_at n o name is) ∙ found)
+  link_leads n o is kept name link found = from_content (messages_in image o.messages.list) name o.content link kept (sym (links_at n o name is) ∙ found)

@@ -7,10 +7,12 @@ use Rattle.std.specs.FinMap.{get}
 use Rattle.std.proofs.lemmas.Option.{slice_get-map}
 use Rattle.h5_bytes.specs.Blocks.{block, Separate, Inside}
 use Rattle.h5_bytes.specs.declared.Block.{Block}
+use Rattle.h5_model.specs.Format.Messages.{Message}
 use Rattle.h5_model.specs.Format.Superblock.{superblock_length, root_header}
 use Rattle.h5_model.specs.Tree.Objects.{Object, links_in}
 use Rattle.h5_model.specs.Tree.Objects as tree
 use Rattle.h5_model.specs.Format.Reads.{Placed, all_blocks, Holds}
+use Rattle.h5_header.specs.Listed.{messages_in}
 use Rattle.h5_open.specs.declared.opened.object.OpenedObject.{OpenedObject}
 use Rattle.h5_open.specs.declared.opened.object.OpenedContent.{OpenedContent}
 use Rattle.h5_open.specs.declared.opened.object.OpenedContent.TheVariants as content
@@ -56,9 +58,9 @@ module _ (objects : List OpenedObject) (distinct : IsDistinct (eq_by_cmp nat_cmp
 
 -- ---- the root
 
-group_linked : (image at : List ℕ) (c : OpenedContent) → IsGroupContent c → IsSome (links_in (content_in image at c))
-group_linked image at (content.Group g) is = refl
-group_linked image at (content.Array line) is = absurd is
+group_linked : (image at : List ℕ) (ms : List Message) (c : OpenedContent) → IsGroupContent c → IsSome (links_in (content_in image at ms c))
+group_linked image at ms (content.Group g) is = refl
+group_linked image at ms content.Array is = absurd is
 
 module _ (image : List ℕ) (objects : List OpenedObject) (whole : IsWhole image objects) where
   first : slice_get objects 0 ≡ Some (whole.begins).root
@@ -71,7 +73,7 @@ module _ (image : List ℕ) (objects : List OpenedObject) (whole : IsWhole image
 
   root_links : IsSome (tree.links_of (tree_of image objects) 0)
   root_links = subst (λ (x : Option Object). IsSome (option_and_then (λ (o : Object). links_in o.content) x)) (sym (object_got image objects 0 (whole.begins).root first))
-      (group_linked image (headers objects) ((whole.begins).root).content (whole.begins).group)
+      (group_linked image (headers objects) (messages_in image ((whole.begins).root).messages.list) ((whole.begins).root).content (whole.begins).group)
 
 -- The tree stands in the image.
 pub whole_holds : (image : List ℕ) (objects : List OpenedObject) → IsWhole image objects

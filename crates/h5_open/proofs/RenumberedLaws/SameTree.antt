@@ -7,7 +7,7 @@ use Rattle.h5_model.specs.Format.Addresses.{SymbolTable}
 use Rattle.h5_model.specs.Format.Messages.{Message}
 use Rattle.h5_model.specs.Format.Fixed.{Fixed}
 use Rattle.h5_model.specs.Format.Chunks.{Chunks}
-use Rattle.h5_model.specs.Format.Layout.{Layout, InBlock}
+use Rattle.h5_model.specs.Format.Layout.{Layout, InMessage, InBlock, InChunks}
 use Rattle.h5_model.specs.Format.Superblock.{leaf_k, internal_k}
 use Rattle.h5_model.specs.Format.Symbols.{Target, Header, Text}
 use Rattle.h5_model.specs.Format.Links.{HasLinks}
@@ -17,14 +17,14 @@ use Rattle.h5_model.proofs.OneReading.{some_same, one_messages, one_links, one_a
 use Rattle.h5_header.specs.Listed.{messages_in}
 use Rattle.h5_attr.specs.Attributes.{attributes_of}
 use Rattle.h5_layout.specs.Described.{Described, dataset_in}
-use Rattle.h5_layout.proofs.ArrayLaws.{one_array, in_header, has_array, dataset_in-in_header}
+use Rattle.h5_layout.specs.Told.{array_told}
+use Rattle.h5_layout.proofs.ArrayLaws.{in_header, has_array, dataset_in-in_header}
+use Rattle.h5_layout.proofs.ToldLaws.{told}
 use Rattle.h5_group.specs.Links as group
-use Rattle.h5_open.specs.declared.opened.line.Line.{Line}
 use Rattle.h5_open.specs.declared.opened.object.OpenedObject.{OpenedObject}
 use Rattle.h5_open.specs.declared.opened.object.OpenedContent.{OpenedContent}
 use Rattle.h5_open.specs.declared.opened.object.OpenedContent.TheVariants as content
-use Rattle.h5_open.specs.Opened.Array.{described}
-use Rattle.h5_open.specs.Opened.Judged.{IsLineList}
+use Rattle.h5_open.specs.Opened.Array.{IsCarriedArray}
 use Rattle.h5_open.specs.Opened.Kept.{IsObjectKept, IsContentKept}
 use Rattle.h5_open.specs.Opened.Objects.{headers, numbered, link_to, links_by, content_in, object_in, tree_of}
 use Rattle.h5_open.proofs.OpenedLaws.Made.{entries_numbered, get_numbered}
@@ -36,17 +36,19 @@ use Rattle.h5_open.specs.Renumbered.Headers.{table_with}
 -- ---- contents
 
 -- an array in one block has no stored chunks
-no_chunks : (image : List ℕ) (t : Fixed) (cells : Option Block) (chunks : Chunks) (blocks : List Block) → HasData image t (InBlock cells) chunks blocks → chunks ≡ empty
-no_chunks image t None chunks blocks stored = stored.0
-no_chunks image t (Some b) chunks blocks stored = stored.0
+no_chunks : (image : List ℕ) (t : Fixed) (layout : Layout) (block : Option Block) → layout ≡ InBlock block → (chunks : Chunks) (blocks : List Block) → HasData image t layout chunks blocks
+    → chunks ≡ empty
+no_chunks image t (InMessage bytes) block is chunks blocks stored = stored.0
+no_chunks image t (InBlock None) block is chunks blocks stored = stored.0
+no_chunks image t (InBlock (Some b)) block is chunks blocks stored = stored.0
+no_chunks image t (InChunks sizes root) block is chunks blocks stored = absurd (cc)
 
-dataset_is : (image : List ℕ) (ms : List Message) (d : Dataset) (blocks : List Block) (line : Line) → HasDataset image ms d blocks → IsLineList ms line
-    → dataset_in image (described line) empty ≡ d
-dataset_is image ms d blocks line has list =
-    let same : described line ≡ in_header image ms d blocks has = one_array ms (described line) (in_header image ms d blocks has) list.array (has_array image ms d blocks has) in
-    let layout : InBlock line.cells ≡ has.layout = ap (λ (a : Described). a.layout) same in
-    let stored : HasData image d.fixed (InBlock line.cells) has.chunks blocks = subst (λ (l : Layout). HasData image d.fixed l has.chunks blocks) (sym layout) has.stored in
-    let none : has.chunks ≡ empty = no_chunks image d.fixed line.cells has.chunks blocks stored in
+dataset_is : (image : List ℕ) (ms : List Message) (d : Dataset) (blocks : List Block) → HasDataset image ms d blocks → IsCarriedArray (array_told ms)
+    → dataset_in image (array_told ms) empty ≡ d
+dataset_is image ms d blocks has carried =
+    let same : array_told ms ≡ in_header image ms d blocks has = told ms (in_header image ms d blocks has) (has_array image ms d blocks has) in
+    let layout : has.layout ≡ InBlock carried.block = sym (ap (λ (a : Described). a.layout) same) ∙ carried.in_block in
+    let none : has.chunks ≡ empty = no_chunks image d.fixed has.layout carried.block layout has.chunks blocks has.stored in
     (λ i. dataset_in image (same i) ((sym none) i)) ∙ dataset_in-in_header image ms d blocks has
 
 module _ (image at : List ℕ) (own : Own at) where
@@ -66,7 +68,7 @@ module _ (image at : List ℕ) (own : Own at) where
   links_are (l ∷ ls) (f ∷ found) same = ap₂ (λ (x : List ℕ × Link) (xs : List (List ℕ × Link)). x ∷ xs) (link_is l f same.0) (links_are ls found same.1)
 
   content_is : (ms : List Message) (c : Content) (blocks : List Block) (o : OpenedContent) → HasContent image (table_with at) ms c blocks → IsContentKept image ms o
-      → content_in image at o ≡ c
+      → content_in image at ms o ≡ c
   content_is ms (Group links) blocks (content.Group g) (found, has, same) (kinds, chosen, read) =
       let table : has.symbol_table ≡ g.table = some_same _ _ _ has.chosen chosen in
       let linked : HasLinks image (leaf_k image) (internal_k image) (g.table).tree (g.table).heap found blocks
@@ -78,9 +80,9 @@ module _ (image at : List ℕ) (own : Own at) where
       ∙ ap (λ (ls : List (List ℕ × Target)). map (λ (l : List ℕ × Target). (l.0, link_to at l.1)) ls) one
       ∙ sym (group_entries image at g read) in
       ap (λ (ls : Links). Group ls) (sym (same_entries_map links (links_by at (group.links_of image g)) listed))
-  content_is ms (Group links) blocks (content.Array line) (found, has, same) (list, inside) = absurd (omega (arith, has.once, (list.kinds).no_table))
+  content_is ms (Group links) blocks content.Array (found, has, same) (list, inside) = absurd (omega (arith, has.once, (list.kinds).no_table))
   content_is ms (Array d) blocks (content.Group g) has (kinds, chosen, read) = absurd (omega (arith, has.one_space, (kinds.alone).0))
-  content_is ms (Array d) blocks (content.Array line) has (list, inside) = ap (λ (x : Dataset). Array x) (dataset_is image ms d blocks line has list)
+  content_is ms (Array d) blocks content.Array has (list, inside) = ap (λ (x : Dataset). Array x) (dataset_is image ms d blocks has list.carried)
 
   -- ---- objects
 
@@ -91,7 +93,7 @@ module _ (image at : List ℕ) (own : Own at) where
       let content_there : HasContent image (table_with at) (messages_in image p.messages.list) o.content has.content_blocks
       = subst (λ (l : List Message). HasContent image (table_with at) l o.content has.content_blocks) ms has.content in
       let attributes_there : HasAttributes (messages_in image p.messages.list) o.attributes = subst (λ (l : List Message). HasAttributes l o.attributes) ms has.attributes in
-      let content : content_in image at p.content ≡ o.content
+      let content : content_in image at (messages_in image p.messages.list) p.content ≡ o.content
       = content_is (messages_in image p.messages.list) o.content has.content_blocks p.content content_there kept.content in
       let attributes : attributes_of (messages_in image p.messages.list) ≡ o.attributes
       = one_attributes (messages_in image p.messages.list) (attributes_of (messages_in image p.messages.list)) o.attributes (kept.header).attributes attributes_there in

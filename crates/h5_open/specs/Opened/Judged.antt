@@ -1,7 +1,5 @@
 -- What the messages of a group, and of an array, have to be (File Format Specification 3.0, section IV.A.2).
-use Rattle.std.specs.Prelude.{◌≡◌, ◌≢◌, ℕ, ◌⊎◌, Option, Some, List, length, option_and_then}
-use Rattle.h5_bytes.specs.declared.Block.{Block}
-use Rattle.h5_model.specs.Format.Layout.{InBlock}
+use Rattle.std.specs.Prelude.{◌≡◌, ℕ, ◌⊎◌, Some, List, option_and_then}
 use Rattle.h5_model.specs.Format.Addresses.{SymbolTable, symbol_table_of}
 use Rattle.h5_model.specs.Format.Messages.{Message, count_of, first_body}
 use Rattle.h5_model.specs.Format.Reads.{HasAttributes}
@@ -10,10 +8,10 @@ use Rattle.h5_model.specs.declared.open_fault.Cause.{Cause}
 use Rattle.h5_model.specs.declared.open_fault.Cause.TheVariants.{MissingMessage, NoMemory, NotYet}
 use Rattle.h5_header.specs.Kinds.{IsOfGroup, IsOfDataset}
 use Rattle.h5_attr.specs.Attributes.{attributes_of}
-use Rattle.h5_layout.specs.Described.{Described, HasArray}
-use Rattle.h5_open.specs.Opened.NotYet.{IsNoLine}
-use Rattle.h5_open.specs.declared.opened.line.Line.{Line}
-use Rattle.h5_open.specs.Opened.Array.{described}
+use Rattle.h5_layout.specs.Described.{HasArray}
+use Rattle.h5_layout.specs.Told.{array_told}
+use Rattle.h5_open.specs.Opened.NotYet.{HasOtherArray}
+use Rattle.h5_open.specs.Opened.Array.{IsCarriedArray}
 
 -- messages of a group, with this tree and heap, and attributes
 pub record IsGroupList (ms : List Message) (table : SymbolTable) : Type 0 where
@@ -21,11 +19,12 @@ pub record IsGroupList (ms : List Message) (table : SymbolTable) : Type 0 where
   pub attributes : HasAttributes ms (attributes_of ms)
   pub chosen : option_and_then symbol_table_of (first_body 17 ms) ≡ Some table
 
--- messages of an array, with attributes
-pub record IsLineList (ms : List Message) (line : Line) : Type 0 where
+-- messages of an array that is opened, with attributes
+pub record IsArrayList (ms : List Message) : Type 0 where
   pub kinds : IsOfDataset ms
   pub attributes : HasAttributes ms (attributes_of ms)
-  pub array : HasArray ms (described line)
+  pub array : HasArray ms (array_told ms)
+  pub carried : IsCarriedArray (array_told ms)
 
 -- the root's header is no group's, as it has no Symbol Table; or a rule on all messages of a header is broken
 abbrev pub IsKindBreach : List ℕ → ℕ → ℕ → List Message → Cause → Type 0
@@ -38,11 +37,7 @@ IsGroupBreach image header ms NoMemory = Unit {0}
 IsGroupBreach image header ms cause = ListBreach image header ms cause
 
 -- a rule on all messages of the header that a link names is broken; or they are a group's, or those of another array
-abbrev pub IsLineBreach : List ℕ → ℕ → List Message → Cause → Type 0
-IsLineBreach image header ms NoMemory = Unit {0}
-IsLineBreach image header ms NotYet = IsNoLine ms
-IsLineBreach image header ms cause = ListBreach image header ms cause
-
--- the array has not one dimension, or its cells are not in one block
-abbrev pub IsNoLineOf : Described → Type 0
-IsNoLineOf a = (length a.sizes ≢ 1) ⊎ ((b : Option Block) → a.layout ≢ InBlock b)
+abbrev pub IsArrayBreach : List ℕ → ℕ → List Message → Cause → Type 0
+IsArrayBreach image header ms NoMemory = Unit {0}
+IsArrayBreach image header ms NotYet = HasOtherArray ms
+IsArrayBreach image header ms cause = ListBreach image header ms cause

@@ -12,19 +12,20 @@ use Rattle.h5_header.specs.Heads.{is_read}
 use Rattle.h5_header.specs.Kinds.{IsOfGroup}
 use Rattle.h5_header.specs.Listed.{messages_in}
 use Rattle.h5_group.specs.Links.{IsGroupRead}
+use Rattle.h5_layout.specs.Told.{layout_told}
 use Rattle.h5_open.specs.declared.opened.object.OpenedObject.{OpenedObject}
 use Rattle.h5_open.specs.declared.opened.object.OpenedContent.{OpenedContent}
 use Rattle.h5_open.specs.declared.opened.object.OpenedContent.TheVariants as content
 use Rattle.h5_open.specs.Opened.Array.{data_blocks}
 use Rattle.h5_open.specs.Opened.Headers.{IsHeaderKept}
-use Rattle.h5_open.specs.Opened.Judged.{IsLineList}
+use Rattle.h5_open.specs.Opened.Judged.{IsArrayList}
 use Rattle.h5_open.specs.Opened.Objects.{headers, table_of, tree_of}
 
--- the messages are those of this group, which stands in the image; or those of this array, whose cells do
+-- the messages are those of this group, which stands in the image; or those of an array, whose cells do
 abbrev pub IsContentKept : List ℕ → List Message → OpenedContent → Type 0
 IsContentKept image ms (content.Group g) =
     IsOfGroup ms × (option_and_then symbol_table_of (first_body 17 ms) ≡ Some g.table) × IsGroupRead image g
-IsContentKept image ms (content.Array line) = IsLineList ms line × Inside (length image) (data_blocks line.cells)
+IsContentKept image ms content.Array = IsArrayList ms × Inside (length image) (data_blocks (layout_told ms))
 
 -- the object stands in the image
 pub record IsObjectKept (image : List ℕ) (o : OpenedObject) : Type 0 where

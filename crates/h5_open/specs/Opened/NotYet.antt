@@ -10,13 +10,13 @@ use Rattle.h5_model.specs.declared.open_fault.Cause.TheVariants.{NoMemory, NotYe
 use Rattle.h5_header.specs.Walk.Walked.{Breaches}
 
 -- the messages are those of an array that has not one dimension, or whose cells are not in one block
-abbrev pub IsNoLine : List Message → Type 0
-IsNoLine ms = ((e : Extent) × (extent_among ms ≡ Some e) × (length e.sizes ≢ 1))
+abbrev pub HasOtherArray : List Message → Type 0
+HasOtherArray ms = ((e : Extent) × (extent_among ms ≡ Some e) × (length e.sizes ≢ 1))
     ⊎ ((layout : Layout) × (layout_among ms ≡ Some layout) × ((b : Option Block) → layout ≢ InBlock b))
 
 -- an object header that is not read further: that of such an array
 abbrev pub IsLater : List ℕ → Named → Role → Type 0
-IsLater image x ObjectHeader = (ms : List Message) × AllMessages image x.at ms × IsNoLine ms
+IsLater image x ObjectHeader = (ms : List Message) × AllMessages image x.at ms × HasOtherArray ms
 IsLater image x _ = ⊥
 
 -- Why opening is refused: memory was short; or a header that is reached is not read further yet, at its address; or the cause holds

@@ -16,7 +16,7 @@ use Rattle.h5_open.specs.Opened.Objects.{headers, links_of, object_in, object_bl
 
 abbrev pub IsGroupContent : OpenedContent → Type 0
 IsGroupContent (content.Group g) = Unit {0}
-IsGroupContent (content.Array line) = ⊥
+IsGroupContent content.Array = ⊥
 
 -- A link of an object so many links below the root: no path is longer than 64 names; a hard link leads to one of these objects, and
 -- where that is a group it stands one link deeper.

@@ -92,6 +92,6 @@ fn is_group(object: &OpenedObject) -> bool
 {
     match object.content {
         OpenedContent::Group(_) => true,
-        OpenedContent::Array(_) => false,
+        OpenedContent::Array => false,
     }
 }

@@ -14,7 +14,8 @@ ghost use Rattle.h5_open.specs.Counted.Links.{all_links};
 ghost use Rattle.h5_open.specs.Counted.Counts.{AreCounts};
 
 use crate::opened::{Opened, OpenedContent};
-use h5_group::{Group, LinkTarget, link_at, links_at};
+use h5_group::{Group, link_at, links_at};
+use h5_model::LinkTo;
 use h5_space::Image;
 use std::alloc::{AllocError, Global};
 
@@ -93,9 +94,9 @@ fn count_node(image: &Image, opened: &Opened, group: &Group, node: u64, counts: 
         (symbols_at image.now.bytes (leaf_k image.now.bytes) node)) counts.new }
 {
     for i in 0..links_at(image, group, node) {
-        match link_at(image, group, node, i).target {
-            LinkTarget::Object(header) => count_link(opened, counts, header),
-            LinkTarget::Soft(_) => {}
+        match link_at(image, group, node, i).to {
+            LinkTo::Object(header) => count_link(opened, counts, header),
+            LinkTo::Soft(_) => {}
         }
     }
 }

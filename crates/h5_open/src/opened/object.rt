@@ -1,6 +1,5 @@
 //! The objects of an opened image (File Format Specification 3.0, section IV.A).
 
-use crate::opened::line::Line;
 use h5_group::Group;
 use h5_header::Messages;
 use std::collections::BTreeMap;
@@ -10,8 +9,8 @@ use std::collections::BTreeMap;
 pub enum OpenedContent {
     /// A group, whose links are read where they stand.
     Group(Group),
-    /// An array of one dimension in one block.
-    Array(Line),
+    /// An array, which the messages of its header describe.
+    Array,
 }
 
 /// An object of an opened image.

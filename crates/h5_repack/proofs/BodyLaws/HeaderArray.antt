@@ -2,12 +2,13 @@
 -- sections IV.A.1.a, IV.A.2.b, IV.A.2.d, IV.A.2.f and IV.A.2.i).
 use Rattle.std.proofs.Common.{◌≡◌, ℕ, ◌+◌, ◌*◌, ◌%◌, ◌^◌, ◌<◌, ◌≤◌, ◌==◌, ◌||◌, List, [], ◌∷◌, ◌++◌, length, replicate, get_or, refl, sym, ap, ◌∙◌, subst, arith, Bool, true, false, Option, Some, None, ℤ, pos}
 use Rattle.std.proofs.lemmas.Bool.Decides.{nat_tests}
+use Rattle.std.proofs.lemmas.Slice.Zip.{AllZip-long}
 use Rattle.std.proofs.lemmas.List.{length-append, get_or-replicate}
 use Rattle.std.proofs.lemmas.List.FromFn.{fill_by_all}
 use Rattle.std.proofs.Math.Nat.{mul-le-mul}
 use Rattle.std.specs.Prelude.{nat_lt, if◌then◌else◌, option_and_then}
 use Rattle.std.specs.Ordering.{nat_cmp}
-use Rattle.std.specs.List.{AllByRecursion}
+use Rattle.std.specs.List.{AllByRecursion, AllZip}
 use Rattle.std.specs.FinMap.{FinMap, empty}
 use Rattle.h5_bytes.specs.Bytes.{part}
 use Rattle.h5_bytes.specs.Blocks.{block}
@@ -31,13 +32,15 @@ use Rattle.h5_msg.proofs.DatatypeLaws.{fixed_back}
 use Rattle.h5_msg.proofs.FillLaws.{fill_back, length-fill_bytes}
 use Rattle.h5_msg.proofs.LayoutLaws.{IsAddress, contiguous_back}
 use Rattle.h5_model.proofs.PaddedLaws.{length-raised}
+use Rattle.h5_shape.proofs.Products.{cells_le}
 use Rattle.h5_repack.specs.Bodies.Bodies.{others_of, space_body, type_message, fill_message, layout_message}
 use Rattle.h5_repack.specs.Bodies.Laws.{ArrayReads, counted_header}
 use Rattle.h5_repack.specs.Bodies.Headers.{is_stored, data_of}
-use Rattle.h5_repack.specs.Bodies.Sound.{IsPlainObject, IsPlainArray}
-use Rattle.h5_repack.proofs.BodyLaws.HeaderLengths.{line, line_is, array_length}
+use Rattle.h5_repack.specs.Bodies.Sound.{IsBound, IsPlainObject, IsPlainArray}
+use Rattle.h5_repack.proofs.BodyLaws.HeaderAttributes.{sizes_small}
+use Rattle.h5_repack.proofs.BodyLaws.HeaderLengths.{in_block, block_is, array_length}
 use Rattle.h5_repack.proofs.BodyLaws.HeaderOthers.{IsContentMessage, is_other_kind, is_kept_kind, each_message, others_pass, all_plain, has_attributes, has_kept, count_of-content, first_body-content}
-use Rattle.h5_repack.proofs.BodyLaws.HeaderSpace.{IsBound, space_back, space_padded}
+use Rattle.h5_repack.proofs.BodyLaws.HeaderSpace.{space_back, space_padded}
 
 -- what an array's header may hold, by its type
 in_dataset : ℕ → Bool
@@ -47,22 +50,25 @@ other_in_dataset : (kind : ℕ) → is_other_kind kind ≡ true → in_dataset k
 unfolding in_dataset
 other_in_dataset kind is = grind (arith, nat_tests)
 
-module _ (t : Fixed) (size : ℕ) (maximum : Option ℕ) (fill : ℤ) (is : IsFixed t) (of : fits t fill ≡ true) where
+module _ (t : Fixed) (sizes : List ℕ) (maxima : List (Option ℕ)) (fill : ℤ) (is : IsFixed t) (of : fits t fill ≡ true)
+    (rank : length sizes ≤ 32) (bound : AllZip IsBound sizes maxima) where
   -- the bytes of all cells
   abbrev bytes : ℕ
-  bytes = cells (size ∷ []) * t.size
+  bytes = cells sizes * t.size
 
   -- the messages, with a fill or without
   abbrev fills : Bool → List (ℕ × List ℕ)
   fills without = if without then [] else fill_message t fill ∷ []
 
   abbrev bodies : Bool → Option ℕ → List (ℕ × List ℕ)
-  bodies without address = (1, space_body (size ∷ []) (maximum ∷ [])) ∷ type_message t ∷ (fills without ++ layout_message address bytes ∷ [])
+  bodies without address = (1, space_body sizes maxima) ∷ type_message t ∷ (fills without ++ layout_message address bytes ∷ [])
 
   -- ---- they are messages of a content
 
-  space_content : IsContentMessage (1, space_body (size ∷ []) (maximum ∷ []))
-  space_content = record { plain = record { kind = omega arith; own = refl; padded = (space_padded size maximum).0; low = (space_padded size maximum).1 }; kind = refl }
+  space_content : IsContentMessage (1, space_body sizes maxima)
+  space_content =
+      let long = space_padded sizes maxima rank (AllZip-long IsBound sizes maxima bound) in
+      record { plain = record { kind = omega arith; own = refl; padded = long.0; low = long.1 }; kind = refl }
 
   type_content : IsContentMessage (type_message t)
   type_content = record { plain = record { kind = omega arith; own = refl; padded = refl; low = omega arith }; kind = refl }
@@ -137,7 +143,7 @@ module _ (t : Fixed) (size : ℕ) (maximum : Option ℕ) (fill : ℤ) (is : IsFi
 
   -- ---- its data
 
-  module _ (image : List ℕ) (place : ℕ) (cs : List ℤ) (all : AreOf t cs) (counted : length cs ≡ size) where
+  module _ (image : List ℕ) (place : ℕ) (cs : List ℤ) (all : AreOf t cs) (counted : length cs ≡ cells sizes) (few : extent_cells sizes ≤ 2 ^ 40) where
     abbrev address : Bool → Option ℕ
     address stored = if stored then Some place else None
 
@@ -150,28 +156,24 @@ module _ (t : Fixed) (size : ℕ) (maximum : Option ℕ) (fill : ℤ) (is : IsFi
     abbrev blocks : Bool → List Block
     blocks stored = if stored then block place (length (stored_bytes stored)) ∷ [] else []
 
-    as_many : length cs ≡ cells (size ∷ [])
-    as_many = counted ∙ omega arith
-
     long : length (cells_bytes t cs) ≡ bytes
-    long = length-cells_bytes t cs ∙ ap (λ n. n * t.size) as_many
+    long = length-cells_bytes t cs ∙ ap (λ n. n * t.size) counted
+
+    room : bytes ≤ 2 ^ 40 * 8
+    room = let cells_few : cells sizes ≤ 2 ^ 40 = omega (arith, few, cells_le sizes) in mul-le-mul cells_few (size-high t is)
 
     -- as the layout says, there is a block of them or none
-    laid_out : (stored : Bool) → size ≤ 2 ^ 40 → place < 2 ^ 63 → layout_of (size ∷ []) t.size (raised (contiguous_bytes (address stored) bytes)) ≡ Some (InBlock (there stored))
-    laid_out true few low =
-        let cells_few : cells (size ∷ []) ≤ 2 ^ 40 = omega (arith, few) in
-        let room : cells (size ∷ []) * t.size ≤ 2 ^ 40 * 8 = mul-le-mul cells_few (size-high t is) in
+    laid_out : (stored : Bool) → place < 2 ^ 63 → layout_of sizes t.size (raised (contiguous_bytes (address stored) bytes)) ≡ Some (InBlock (there stored))
+    laid_out true low =
         let there : IsAddress (Some place) = λ n e. let same : place ≡ n = cc in omega (arith, low, same) in
-        contiguous_back (Some place) bytes 24 (raised (contiguous_bytes (Some place) bytes)) (size ∷ []) t.size there (omega (arith, room)) refl (omega arith)
-    laid_out false few low =
-        let cells_few : cells (size ∷ []) ≤ 2 ^ 40 = omega (arith, few) in
-        let room : cells (size ∷ []) * t.size ≤ 2 ^ 40 * 8 = mul-le-mul cells_few (size-high t is) in
+        contiguous_back (Some place) bytes 24 (raised (contiguous_bytes (Some place) bytes)) sizes t.size there (omega (arith, room)) refl (omega arith)
+    laid_out false low =
         let there : IsAddress None = λ n e. absurd (cc) in
-        contiguous_back None bytes 24 (raised (contiguous_bytes None bytes)) (size ∷ []) t.size there (omega (arith, room)) refl (omega arith)
+        contiguous_back None bytes 24 (raised (contiguous_bytes None bytes)) sizes t.size there (omega (arith, room)) refl (omega arith)
 
-    storage_is : (stored : Bool) → (stored ≡ true → 1 ≤ size) → Contiguous stored ≡ storage_of (size ∷ []) (InBlock (there stored))
+    storage_is : (stored : Bool) → (stored ≡ true → 1 ≤ cells sizes) → Contiguous stored ≡ storage_of sizes (InBlock (there stored))
     storage_is true filled =
-        let some : true ≡ nat_lt 0 (cells (size ∷ [])) = let one : 1 ≤ size = filled refl in grind (arith, nat_tests, one) in
+        let some : true ≡ nat_lt 0 (cells sizes) = let one : 1 ≤ cells sizes = filled refl in grind (arith, nat_tests, one) in
         ap (λ b. Contiguous b) some
     storage_is false filled = refl
 
@@ -179,16 +181,16 @@ module _ (t : Fixed) (size : ℕ) (maximum : Option ℕ) (fill : ℤ) (is : IsFi
     has_data true = (refl, ap (λ n. block place n ∷ []) long)
     has_data false = (refl, refl)
 
-    cells_are : (stored : Bool) → part place (length (stored_bytes stored)) image ≡ stored_bytes stored → (stored ≡ false → cs ≡ replicate size fill)
-        → cs ≡ cells_of image t fill (size ∷ []) (InBlock (there stored)) empty
+    cells_are : (stored : Bool) → part place (length (stored_bytes stored)) image ≡ stored_bytes stored → (stored ≡ false → cs ≡ replicate (cells sizes) fill)
+        → cs ≡ cells_of image t fill sizes (InBlock (there stored)) empty
     cells_are true stands unset =
-        cells_of-cells_bytes image t fill (size ∷ []) (block place bytes) empty cs (size-low t is) all as_many (ap (λ n. part place n image) (sym long) ∙ stands)
+        cells_of-cells_bytes image t fill sizes (block place bytes) empty cs (size-low t is) all counted (ap (λ n. part place n image) (sym long) ∙ stands)
     cells_are false stands unset =
-        fill_by_all (λ (k : ℕ). fill) cs (cells (size ∷ [])) fill as_many (λ k low. ap (λ (vs : List ℤ). get_or vs k fill) (unset refl) ∙ get_or-replicate size k fill fill (omega (arith, low)))
+        fill_by_all (λ (k : ℕ). fill) cs (cells sizes) fill counted (λ k low. ap (λ (vs : List ℤ). get_or vs k fill) (unset refl) ∙ get_or-replicate (cells sizes) k fill fill low)
 
     -- ---- the header
 
-    module _ (at : ℕ) (p : Object) (plain : IsPlainObject p) (few : size ≤ 2 ^ 40) (low : place < 2 ^ 63) (bound : IsBound size maximum) (without stored : Bool) where
+    module _ (at : ℕ) (p : Object) (plain : IsPlainObject p) (low : place < 2 ^ 63) (without stored : Bool) where
       abbrev own : List (ℕ × List ℕ)
       own = bodies without (address stored)
 
@@ -209,11 +211,8 @@ module _ (t : Fixed) (size : ℕ) (maximum : Option ℕ) (fill : ℤ) (is : IsFi
       all_known = each_message in_dataset (at + 16) (own ++ others_of p)
           (known (others_of p) (others_pass p plain in_dataset other_in_dataset) without (address stored))
 
-      bounded : extent_cells (size ∷ []) ≤ 2 ^ 40
-      bounded = grind (arith, nat_tests)
-
-      dataset : (stored ≡ true → 1 ≤ size) → (stored ≡ false → cs ≡ replicate size fill) → (without ≡ true → fill ≡ pos 0)
-          → part place (length (stored_bytes stored)) image ≡ stored_bytes stored → HasDataset image messages (line t size maximum stored fill cs) (blocks stored)
+      dataset : (stored ≡ true → 1 ≤ cells sizes) → (stored ≡ false → cs ≡ replicate (cells sizes) fill) → (without ≡ true → fill ≡ pos 0)
+          → part place (length (stored_bytes stored)) image ≡ stored_bytes stored → HasDataset image messages (in_block t sizes maxima stored fill cs) (blocks stored)
       dataset filled unset unwritten stands =
           let old = counted_own 4 refl ∙ no_old_fill (at + 16) (address stored) without in
           let new = counted_own 5 refl in
@@ -224,7 +223,7 @@ module _ (t : Fixed) (size : ℕ) (maximum : Option ℕ) (fill : ℤ) (is : IsFi
             one_layout = counted_own 8 refl ∙ one_layout (at + 16) (address stored) without;
             old_fills = omega (arith, old);
             fills = omega (arith, new, one_fill (at + 16) (address stored) without);
-            space = space_back size maximum (omega (arith, few)) bound;
+            space = space_back sizes maxima rank (sizes_small sizes few) bound;
             type = fixed_back t 16 (raised (datatype_bytes t)) is refl;
             old_fill = None;
             new_fill = new_fill (at + 16) (address stored) without;
@@ -232,9 +231,9 @@ module _ (t : Fixed) (size : ℕ) (maximum : Option ℕ) (fill : ℤ) (is : IsFi
             new_filled = subst (λ body. IsFill (fill_value t) body (new_fill (at + 16) (address stored) without)) (sym (found_own 5 refl)) (new_fill_read (at + 16) (address stored) without);
             filled = chosen (at + 16) (address stored) without unwritten;
             layout = InBlock (there stored);
-            laid_out = ap (option_and_then (layout_of (size ∷ []) t.size)) (found_own 8 refl ∙ layout_found (at + 16) (address stored) without) ∙ laid_out stored few low;
+            laid_out = ap (option_and_then (layout_of sizes t.size)) (found_own 8 refl ∙ layout_found (at + 16) (address stored) without) ∙ laid_out stored low;
             storage = storage_is stored filled;
-            small = bounded;
+            small = few;
             chunk_small = tt;
             chunks = empty;
             stored = has_data stored;
@@ -257,7 +256,7 @@ module _ (t : Fixed) (size : ℕ) (maximum : Option ℕ) (fill : ℤ) (is : IsFi
           counted_so : count < 2 ^ 32 → reference_count (prefix_at image at) ≡ count
           counted_so few_links = header_counted image at count (own ++ others_of p) whole few_links
 
-          object : (table : FinMap nat_cmp ℕ) → p.content ≡ Array (line t size maximum stored fill cs) → HasDataset image messages (line t size maximum stored fill cs) (blocks stored)
+          object : (table : FinMap nat_cmp ℕ) → p.content ≡ Array (in_block t sizes maxima stored fill cs) → HasDataset image messages (in_block t sizes maxima stored fill cs) (blocks stored)
               → HasObject image table at p (block at (length header) ∷ blocks stored)
           object table e has = record {
             messages = messages;
@@ -270,7 +269,7 @@ module _ (t : Fixed) (size : ℕ) (maximum : Option ℕ) (fill : ℤ) (is : IsFi
             laid = refl;
           }
 
--- ---- any array of one dimension
+-- ---- any array in one block
 
 -- a header of so many bytes and with this count, and the data, are those of this array, and the header has that count
 abbrev IsRead : List ℕ → FinMap nat_cmp ℕ → ℕ → ℕ → ℕ → ℕ → Object → Dataset → Type 0
@@ -284,31 +283,28 @@ IsRead image table at place count size p d =
 module _ (image : List ℕ) (table : FinMap nat_cmp ℕ) (at place count size : ℕ) (p : Object) (plain : IsPlainObject p) (d : Dataset) (is : IsPlainArray d (length (others_of p)))
     (most : 3 + length (others_of p) ≤ 65535) (few_links : count < 2 ^ 32) (short : size < 2 ^ 31) (low : place < 2 ^ 63) where
   abbrev same : Dataset
-  same = line d.fixed is.size is.maximum is.stored d.fill d.cells
+  same = in_block d.fixed d.sizes d.maxima is.stored d.fill d.cells
 
   abbrev without : Bool
   without = nat_lt 65535 (4 + length (others_of p))
 
-  counted : length d.cells ≡ is.size
-  counted = (is.sound).counted ∙ ap cells is.sizes_are ∙ omega arith
-
   unwritten : without ≡ true → d.fill ≡ pos 0
   unwritten h = let many : 65535 < 4 + length (others_of p) = grind (arith, nat_tests, h) in is.unwritten many
 
-  line_read : IsRead image table at place count size p same
-  line_read e long stands_at stands =
+  block_read : IsRead image table at place count size p same
+  block_read e long stands_at stands =
       let whole = ap (λ n. part at n image) long ∙ stands_at in
-      let has = dataset d.fixed is.size is.maximum d.fill is.fixed (is.sound).fill image place d.cells (is.sound).values counted at p plain is.few low is.bounded without is.stored
-      is.filled is.unset unwritten stands in (
+      let has = dataset d.fixed d.sizes d.maxima d.fill is.fixed (is.sound).fill is.ranked is.bounded image place d.cells (is.sound).values (is.sound).counted is.few at p plain low
+      without is.stored is.filled is.unset unwritten stands in (
         subst (λ n. HasObject image table at p (block at n ∷ (if is.stored then block place (length (data_of same)) ∷ [] else []))) long
-            (object d.fixed is.size is.maximum d.fill is.fixed (is.sound).fill image place d.cells (is.sound).values counted at p plain is.few low is.bounded without is.stored
-            count whole refl most (omega (arith, short, long)) table e has),
-        counted_so d.fixed is.size is.maximum d.fill is.fixed (is.sound).fill image place d.cells (is.sound).values counted at p plain is.few low is.bounded without is.stored
-            count whole refl most (omega (arith, short, long)) few_links,
+            (object d.fixed d.sizes d.maxima d.fill is.fixed (is.sound).fill is.ranked is.bounded image place d.cells (is.sound).values (is.sound).counted is.few at p plain low
+            without is.stored count whole refl most (omega (arith, short, long)) table e has),
+        counted_so d.fixed d.sizes d.maxima d.fill is.fixed (is.sound).fill is.ranked is.bounded image place d.cells (is.sound).values (is.sound).counted is.few at p plain low
+            without is.stored count whole refl most (omega (arith, short, long)) few_links,
       )
 
   any_read : IsRead image table at place count size p d
-  any_read = subst (IsRead image table at place count size p) (sym (line_is d (length (others_of p)) is)) line_read
+  any_read = subst (IsRead image table at place count size p) (sym (block_is d (length (others_of p)) is)) block_read
 
 -- An array's header with any count, with its data where they are stored, is that of the array, and has that count.
 pub array_reads : ArrayReads

@@ -1,21 +1,22 @@
 -- How many bytes the header of an array has in the plain layout, and its data (File Format Specification 3.0, sections IV.A.1.a and
 -- IV.A.2).
-use Rattle.std.proofs.Common.{◌≡◌, ℕ, ◌+◌, ◌*◌, List, [], ◌∷◌, ◌++◌, length, refl, sym, ap, ◌∙◌, subst, arith, Bool, true, false, not, Option, ℤ}
+use Rattle.std.proofs.Common.{◌≡◌, ℕ, ◌+◌, ◌*◌, List, [], ◌∷◌, ◌++◌, length, refl, sym, ap, ◌≤◌, ◌∙◌, subst, arith, Bool, true, false, Option, ℤ}
+use Rattle.std.proofs.lemmas.Slice.Zip.{AllZip-long}
 use Rattle.std.specs.Prelude.{nat_lt, if◌then◌else◌}
 use Rattle.h5_bytes.specs.Texts.{pad8}
 use Rattle.h5_model.specs.Format.Bodies.{fill_bytes}
 use Rattle.h5_model.specs.Format.Fixed.{Fixed}
 use Rattle.h5_model.specs.Tree.Places.{cells}
 use Rattle.h5_model.specs.Format.Plain.{header_bytes, messages_bytes}
-use Rattle.h5_model.specs.Format.Sizes.{array_messages as messages_size, message_size}
-use Rattle.h5_model.specs.Tree.Objects.{Dataset, Contiguous, are_sizes}
+use Rattle.h5_model.specs.Format.Sizes.{array_messages as messages_size, extent_size, message_size}
+use Rattle.h5_model.specs.Tree.Objects.{Dataset, Contiguous}
 use Rattle.h5_model.proofs.PaddedLaws.{length-raised}
 use Rattle.h5_msg.proofs.FillLaws.{length-fill_bytes}
 use Rattle.h5_repack.specs.Bodies.Bodies.{others_of, space_body, type_message, fill_message, fill_messages, layout_message, array_messages}
 use Rattle.h5_repack.specs.Bodies.Laws.{ArrayLength}
-use Rattle.h5_repack.specs.Bodies.Sound.{IsPlainArray}
+use Rattle.h5_repack.specs.Bodies.Sound.{IsBound, IsPlainArray}
 use Rattle.h5_repack.proofs.BodyLaws.HeaderOthers.{one_more, length-messages, length-others, count-others}
-use Rattle.h5_repack.proofs.BodyLaws.HeaderSpace.{length-space_body}
+use Rattle.h5_repack.proofs.BodyLaws.HeaderSpace.{length-space_body, space_padded}
 
 -- ---- any array
 
@@ -46,41 +47,42 @@ length-header_of count d others address =
     let content = length-array_messages d address (length others) in
     omega (arith, both, content)
 
--- ---- arrays of one dimension
+-- ---- arrays in one block
 
-abbrev pub line : Fixed → ℕ → Option ℕ → Bool → ℤ → List ℤ → Dataset
-line t size maximum stored fill cs = record { fixed = t; sizes = size ∷ []; maxima = maximum ∷ []; storage = Contiguous stored; fill = fill; cells = cs }
+abbrev pub in_block : Fixed → List ℕ → List (Option ℕ) → Bool → ℤ → List ℤ → Dataset
+in_block t sizes maxima stored fill cs = record { fixed = t; sizes = sizes; maxima = maxima; storage = Contiguous stored; fill = fill; cells = cs }
 
--- such an array is one of one dimension
-pub line_is : (d : Dataset) (others : ℕ) (is : IsPlainArray d others) → d ≡ line d.fixed is.size is.maximum is.stored d.fill d.cells
-line_is d others is = λ i. record { fixed = d.fixed; sizes = is.sizes_are i; maxima = is.maxima_are i; storage = is.stored_is i; fill = d.fill; cells = d.cells }
+-- such an array is one in one block
+pub block_is : (d : Dataset) (others : ℕ) (is : IsPlainArray d others) → d ≡ in_block d.fixed d.sizes d.maxima is.stored d.fill d.cells
+block_is d others is = λ i. record { fixed = d.fixed; sizes = d.sizes; maxima = d.maxima; storage = is.stored_is i; fill = d.fill; cells = d.cells }
+
+pub as_many : (d : Dataset) (others : ℕ) → IsPlainArray d others → length d.maxima ≡ length d.sizes
+as_many d others is = AllZip-long IsBound d.sizes d.maxima is.bounded
 
 -- the bytes that are counted for the messages of an array
 abbrev IsCounted : ℕ → Dataset → Type 0
 IsCounted others d = 8 + length (space_body d.sizes d.maxima) + (24 + (length (messages_bytes (fill_messages d.fixed d.fill others)) + 32))
     ≡ messages_size others d.sizes d.maxima d.storage (d.fixed).size
 
-extent_counted : (b : Bool) → 8 + (16 + (if b then 8 else 0)) ≡ message_size (16 + (if b then 8 else 0))
-extent_counted true = refl
-extent_counted false = refl
-
 fill_counted : (t : Fixed) (fill : ℤ) (w : Bool) → length (messages_bytes (if w then [] else fill_message t fill ∷ [])) ≡ (if w then 0 else message_size (8 + t.size))
 fill_counted t fill true = refl
 fill_counted t fill false =
     one_more (fill_message t fill) [] (pad8 (8 + t.size)) 0 (length-raised (fill_bytes 1 t fill) ∙ ap pad8 (length-fill_bytes 1 t fill)) refl ∙ omega arith
 
-line_counted : (others : ℕ) (t : Fixed) (size : ℕ) (maximum : Option ℕ) (stored : Bool) (fill : ℤ) (cs : List ℤ) → IsCounted others (line t size maximum stored fill cs)
-line_counted others t size maximum stored fill cs =
-    let space = length-space_body size maximum in
-    let extent = extent_counted (not (are_sizes (size ∷ []) (maximum ∷ []))) in
+block_counted : (others : ℕ) (t : Fixed) (sizes : List ℕ) (maxima : List (Option ℕ)) (stored : Bool) (fill : ℤ) (cs : List ℤ)
+    → length sizes ≤ 32 → length maxima ≡ length sizes → IsCounted others (in_block t sizes maxima stored fill cs)
+block_counted others t sizes maxima stored fill cs rank same =
+    let space : message_size (length (space_body sizes maxima)) ≡ message_size (extent_size sizes maxima (Contiguous stored))
+    = ap message_size (length-space_body sizes maxima same) in
+    let extent = (space_padded sizes maxima rank same).2 in
     let fills = fill_counted t fill (nat_lt 65535 (4 + others)) in
     omega (arith, space, extent, fills)
 
 -- the header's length is the one that is counted
 pub array_length : ArrayLength
 array_length count address p d plain e is =
-    let counted : IsCounted (length (others_of p)) d = subst (IsCounted (length (others_of p))) (sym (line_is d (length (others_of p)) is))
-    (line_counted (length (others_of p)) d.fixed is.size is.maximum is.stored d.fill d.cells) in
+    let counted : IsCounted (length (others_of p)) d = subst (IsCounted (length (others_of p))) (sym (block_is d (length (others_of p)) is))
+    (block_counted (length (others_of p)) d.fixed d.sizes d.maxima is.stored d.fill d.cells is.ranked (as_many d (length (others_of p)) is)) in
     let many = ap (λ k. messages_size k d.sizes d.maxima d.storage (d.fixed).size) (count-others p plain) in
     let own = length-header_of count d (others_of p) address in
     let sum = length-others p plain in

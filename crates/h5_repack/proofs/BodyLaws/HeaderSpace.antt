@@ -1,64 +1,84 @@
--- The extent of an array of one dimension is read back from its dataspace message (File Format Specification 3.0, section IV.A.2.b).
-use Rattle.std.proofs.Common.{◌≡◌, ℕ, ◌+◌, ◌%◌, ◌^◌, ◌<◌, ◌≤◌, ◌==◌, [], ◌∷◌, length, refl, sym, ap, ◌∙◌, arith, Bool, true, false, cond, not, Option, Some, None, eqb-true}
+-- The extent of an array is read back from its dataspace message (File Format Specification 3.0, section IV.A.2.b).
+use Rattle.std.proofs.Common.{◌≡◌, ℕ, ◌+◌, ◌*◌, ◌%◌, ◌^◌, ◌<◌, ◌≤◌, ◌==◌, List, [], ◌∷◌, length, map, refl, sym, ap, ◌∙◌, arith, Bool, true, false, cond, not, Option, Some, None, eqb-true}
 use Rattle.std.proofs.lemmas.Bool.Decides.{nat_tests}
-use Rattle.std.specs.Prelude.{IfSome, if◌then◌else◌}
+use Rattle.std.proofs.lemmas.Slice.Zip.{AllZip-long}
+use Rattle.std.specs.Prelude.{if◌then◌else◌}
+use Rattle.std.specs.List.{AllByRecursion, AllZip}
 use Rattle.h5_bytes.specs.Bytes.{undefined}
 use Rattle.h5_model.specs.Format.Extent.{Extent, extent_of}
-use Rattle.h5_model.specs.Edits.Refusal.{are_maxima}
+use Rattle.h5_model.specs.Edits.Refusal.{are_maxima, is_maximum}
+use Rattle.h5_model.specs.Format.Sizes.{dataspace_length, message_size}
 use Rattle.h5_model.specs.Tree.Objects.{are_sizes}
 use Rattle.h5_model.specs.Format.Bodies.{dataspace_bytes, bounded_bytes, or_undefined}
-use Rattle.h5_msg.proofs.WordLaws.{and_left}
-use Rattle.h5_msg.proofs.DataspaceLaws.{small_from, plain_back, bounded_back}
+use Rattle.h5_model.proofs.PaddedLaws.{padded_full}
+use Rattle.h5_msg.proofs.WordLaws.{and_left, and_right, words_long, bounds_long}
+use Rattle.h5_msg.proofs.DataspaceLaws.{Small, plain_back, bounded_back}
 use Rattle.h5_repack.specs.Bodies.Bodies.{space_body}
+use Rattle.h5_repack.specs.Bodies.Sound.{IsBound}
 
--- a maximum is not below the size, and can be told from none
-abbrev pub IsBound : ℕ → Option ℕ → Type 0
-IsBound size maximum = IfSome maximum (λ m. (size ≤ m) × (m < undefined))
+pub maxima_fit : (sizes : List ℕ) (maxima : List (Option ℕ)) → AllZip IsBound sizes maxima → are_maxima sizes maxima ≡ true
+maxima_fit [] [] bound = refl
+maxima_fit [] (m ∷ ms) bound = absurd bound
+maxima_fit (d ∷ ds) [] bound = absurd bound
+maxima_fit (d ∷ ds) (None ∷ ms) bound = maxima_fit ds ms bound.1
+maxima_fit (d ∷ ds) (Some m ∷ ms) bound =
+    let own : is_maximum d (Some m) ≡ true = let low = bound.0.0 in let other = bound.0.1 in grind (arith, nat_tests) in
+    rw own (maxima_fit ds ms bound.1)
 
-abbrev pub line_extent : ℕ → Option ℕ → Extent
-line_extent size maximum = record { sizes = size ∷ []; maxima = maximum ∷ [] }
+maxima_low : (sizes : List ℕ) (maxima : List (Option ℕ)) → AllZip IsBound sizes maxima → AllByRecursion (λ n. n < 2 ^ 64) (map or_undefined maxima)
+maxima_low [] [] bound = tt
+maxima_low [] (m ∷ ms) bound = absurd bound
+maxima_low (d ∷ ds) [] bound = absurd bound
+maxima_low (d ∷ ds) (None ∷ ms) bound = (omega arith, maxima_low ds ms bound.1)
+maxima_low (d ∷ ds) (Some m ∷ ms) bound = (let low = bound.0.1 in omega (arith, low), maxima_low ds ms bound.1)
 
-pub maxima_fit : (size : ℕ) (maximum : Option ℕ) → IsBound size maximum → are_maxima (size ∷ []) (maximum ∷ []) ≡ true
-maxima_fit size None bound = refl
-maxima_fit size (Some m) bound = grind (arith, nat_tests, bound.0, bound.1)
+own_maxima : (sizes : List ℕ) (maxima : List (Option ℕ)) → are_sizes sizes maxima ≡ true → maxima ≡ map (λ (n : ℕ). Some n) sizes
+own_maxima [] [] own = refl
+own_maxima [] (m ∷ ms) own = absurd (cc)
+own_maxima (d ∷ ds) [] own = absurd (cc)
+own_maxima (d ∷ ds) (None ∷ ms) own = absurd (cc)
+own_maxima (d ∷ ds) (Some m ∷ ms) own =
+    let same : (m == d) ≡ true = and_left (m == d) (are_sizes ds ms) own in
+    (λ i. Some (eqb-true m d same i) ∷ own_maxima ds ms (and_right (m == d) (are_sizes ds ms) own) i)
 
-maximum_low : (size : ℕ) (maximum : Option ℕ) → IsBound size maximum → or_undefined maximum < 2 ^ 64
-maximum_low size None bound = omega arith
-maximum_low size (Some m) bound = omega (arith, bound.1)
+module _ (sizes : List ℕ) (maxima : List (Option ℕ)) where
+  abbrev extent : Extent
+  extent = record { sizes = sizes; maxima = maxima }
 
-plain_read : (size : ℕ) → size < 2 ^ 64 → extent_of (dataspace_bytes (size ∷ [])) ≡ Some (line_extent size (Some size))
-plain_read size low = plain_back (size ∷ []) 16 (dataspace_bytes (size ∷ [])) (omega arith) (small_from (size ∷ []) (low, tt)) refl
+  abbrev body_by : Bool → List ℕ
+  body_by b = cond b (dataspace_bytes sizes) (bounded_bytes sizes maxima)
 
-bounded_read : (size : ℕ) (maximum : Option ℕ) → size < 2 ^ 64 → IsBound size maximum → extent_of (bounded_bytes (size ∷ []) (maximum ∷ [])) ≡ Some (line_extent size maximum)
-bounded_read size maximum low bound =
-    bounded_back (size ∷ []) (maximum ∷ []) 24 (bounded_bytes (size ∷ []) (maximum ∷ [])) (omega arith) (small_from (size ∷ []) (low, tt)) (maxima_fit size maximum bound)
-    (maximum_low size maximum bound, tt) refl
+  plain_read : length sizes ≤ 32 → Small sizes → are_sizes sizes maxima ≡ true → extent_of (dataspace_bytes sizes) ≡ Some extent
+  plain_read rank small own =
+      plain_back sizes (length (dataspace_bytes sizes)) (dataspace_bytes sizes) rank small (sym (padded_full (dataspace_bytes sizes) (length (dataspace_bytes sizes)) refl))
+      ∙ ap (λ (ms : List (Option ℕ)). Some (record { sizes = sizes; maxima = ms })) (sym (own_maxima sizes maxima own))
 
-own_maximum : (size : ℕ) (maximum : Option ℕ) → are_sizes (size ∷ []) (maximum ∷ []) ≡ true → maximum ≡ Some size
-own_maximum size None h = absurd (cc)
-own_maximum size (Some m) h = let same : (m == size) ≡ true = and_left (m == size) true h in ap (λ n. Some n) (eqb-true m size same)
+  bounded_read : length sizes ≤ 32 → Small sizes → AllZip IsBound sizes maxima → extent_of (bounded_bytes sizes maxima) ≡ Some extent
+  bounded_read rank small bound =
+      bounded_back sizes maxima (length (bounded_bytes sizes maxima)) (bounded_bytes sizes maxima) rank small (maxima_fit sizes maxima bound)
+      (maxima_low sizes maxima bound) (sym (padded_full (bounded_bytes sizes maxima) (length (bounded_bytes sizes maxima)) refl))
 
--- an extent of one dimension is read back
-pub space_back : (size : ℕ) (maximum : Option ℕ) → size < 2 ^ 64 → IsBound size maximum → extent_of (space_body (size ∷ []) (maximum ∷ [])) ≡ Some (line_extent size maximum)
-space_back size maximum low bound = elim (are_sizes (size ∷ []) (maximum ∷ [])) as (λ b. are_sizes (size ∷ []) (maximum ∷ []) ≡ b
-    → extent_of (cond b (dataspace_bytes (size ∷ [])) (bounded_bytes (size ∷ []) (maximum ∷ []))) ≡ Some (line_extent size maximum)) [
-      | true ↦ λ e. plain_read size low ∙ ap (λ m. Some (line_extent size m)) (sym (own_maximum size maximum e))
-      | false ↦ λ e. bounded_read size maximum low bound
-    ] refl
+  -- an extent is read back
+  pub space_back : length sizes ≤ 32 → Small sizes → AllZip IsBound sizes maxima → extent_of (space_body sizes maxima) ≡ Some extent
+  space_back rank small bound = elim (are_sizes sizes maxima) as (λ b. are_sizes sizes maxima ≡ b → extent_of (body_by b) ≡ Some extent) [
+    | true ↦ λ own. plain_read rank small own
+    | false ↦ λ other. bounded_read rank small bound
+  ] refl
 
--- 16 bytes, and 8 more for a maximum
-pub length-space_body : (size : ℕ) (maximum : Option ℕ)
-    → length (space_body (size ∷ []) (maximum ∷ [])) ≡ 16 + (if not (are_sizes (size ∷ []) (maximum ∷ [])) then 8 else 0)
-length-space_body size maximum = elim (are_sizes (size ∷ []) (maximum ∷ [])) as (λ b.
-    length (cond b (dataspace_bytes (size ∷ [])) (bounded_bytes (size ∷ []) (maximum ∷ []))) ≡ 16 + (if not b then 8 else 0)) [
-      | true ↦ refl
-      | false ↦ refl
-    ]
+  -- 8 bytes, 8 for each size, and 8 more for each where there are maxima
+  pub length-space_body : length maxima ≡ length sizes
+      → length (space_body sizes maxima) ≡ dataspace_length (length sizes) + (if not (are_sizes sizes maxima) then 8 * length sizes else 0)
+  length-space_body same = elim (are_sizes sizes maxima) as (λ b. length (body_by b) ≡ dataspace_length (length sizes) + (if not b then 8 * length sizes else 0)) [
+    | true ↦ omega (arith, words_long sizes)
+    | false ↦ omega (arith, bounds_long sizes maxima same)
+  ]
 
-by_length : (n : ℕ) (b : Bool) → n ≡ 16 + (if b then 8 else 0) → (n % 8 ≡ 0) × (n < 65536)
-by_length n true e = (ap (λ k. k % 8) e, omega arith)
-by_length n false e = (ap (λ k. k % 8) e, omega arith)
+by_length : (n rank : ℕ) (b : Bool) → rank ≤ 32 → n ≡ dataspace_length rank + (if b then 8 * rank else 0) → (n % 8 ≡ 0) × (n < 65536) × (8 + n ≡ message_size n)
+by_length n rank true most e = (omega (arith, e), omega (arith, most, e), omega (arith, e))
+by_length n rank false most e = (omega (arith, e), omega (arith, most, e), omega (arith, e))
 
-pub space_padded : (size : ℕ) (maximum : Option ℕ)
-    → (length (space_body (size ∷ []) (maximum ∷ [])) % 8 ≡ 0) × (length (space_body (size ∷ []) (maximum ∷ [])) < 65536)
-space_padded size maximum = by_length (length (space_body (size ∷ []) (maximum ∷ []))) (not (are_sizes (size ∷ []) (maximum ∷ []))) (length-space_body size maximum)
+-- a multiple of 8 bytes, which a message may have
+pub space_padded : (sizes : List ℕ) (maxima : List (Option ℕ)) → length sizes ≤ 32 → length maxima ≡ length sizes
+    → (length (space_body sizes maxima) % 8 ≡ 0) × (length (space_body sizes maxima) < 65536) × (8 + length (space_body sizes maxima) ≡ message_size (length (space_body sizes maxima)))
+space_padded sizes maxima rank same =
+    by_length (length (space_body sizes maxima)) (length sizes) (not (are_sizes sizes maxima)) rank (length-space_body sizes maxima same)

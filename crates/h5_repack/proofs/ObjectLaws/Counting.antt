@@ -8,9 +8,10 @@ use Rattle.std.specs.Borrow.{Bor}
 use Rattle.std.specs.Prelude.{◌==◌}
 use Rattle.std.specs.List.{Contains, cons_option, sum_by}
 use Rattle.h5_repack.specs.declared.objects.object.NewObject.{NewObject}
-use Rattle.h5_repack.specs.declared.objects.object.TreeLink.{TreeLink}
-use Rattle.h5_repack.specs.declared.objects.object.TreeTarget.{TreeTarget}
-use Rattle.h5_repack.specs.declared.objects.object.TreeTarget.TheVariants as target
+use Rattle.h5_model.specs.declared.object_no.ObjectNo.{ObjectNo}
+use Rattle.h5_model.specs.declared.link.Link.{Link}
+use Rattle.h5_model.specs.declared.link.LinkTo.{LinkTo}
+use Rattle.h5_model.specs.declared.link.LinkTo.TheVariants as target
 use Rattle.h5_repack.specs.Objects.Targets.{new_links, object_in, targets, times}
 use Rattle.h5_laws.proofs.Lists.{in_contains, contains_in}
 use Rattle.h5_repack.proofs.ObjectLaws.Members.{in_filter_map}
@@ -18,49 +19,49 @@ use Rattle.h5_repack.proofs.ObjectLaws.Trees.{counted}
 
 -- ---- one link more
 
-module _ (ls : List TreeLink) (i : ℕ) (d : TreeLink) (low : i < length ls) where
-  targets_push : targets (take (i + 1) ls) ≡ targets (take i ls) ++ cons_option (object_in (get_or ls i d).target) []
-  targets_push = ap targets (take_more ls i d low) ∙ filter_map-append (λ (k : TreeLink). object_in k.target) (take i ls) (get_or ls i d ∷ [])
+module _ (ls : List (Link ObjectNo)) (i : ℕ) (d : Link ObjectNo) (low : i < length ls) where
+  targets_push : targets (take (i + 1) ls) ≡ targets (take i ls) ++ cons_option (object_in (get_or ls i d).to) []
+  targets_push = ap targets (take_more ls i d low) ∙ filter_map-append (λ (k : Link ObjectNo). object_in k.to) (take i ls) (get_or ls i d ∷ [])
 
-  pub targets_more : (number : ℕ) → (get_or ls i d).target ≡ target.Object number → targets (take (i + 1) ls) ≡ targets (take i ls) ++ number ∷ []
-  targets_more number leads = targets_push ∙ ap (λ (t : TreeTarget). targets (take i ls) ++ cons_option (object_in t) []) leads
+  pub targets_more : (number : ObjectNo) → (get_or ls i d).to ≡ target.Object number → targets (take (i + 1) ls) ≡ targets (take i ls) ++ number.0 ∷ []
+  targets_more number leads = targets_push ∙ ap (λ (t : LinkTo ObjectNo). targets (take i ls) ++ cons_option (object_in t) []) leads
 
-  pub targets_same : (text : Bor (List ℕ)) → (get_or ls i d).target ≡ target.Text text → targets (take (i + 1) ls) ≡ targets (take i ls)
-  targets_same text leads = targets_push ∙ ap (λ (t : TreeTarget). targets (take i ls) ++ cons_option (object_in t) []) leads ∙ append-nil (targets (take i ls))
+  pub targets_same : (text : Bor (List ℕ)) → (get_or ls i d).to ≡ target.Soft text → targets (take (i + 1) ls) ≡ targets (take i ls)
+  targets_same text leads = targets_push ∙ ap (λ (t : LinkTo ObjectNo). targets (take i ls) ++ cons_option (object_in t) []) leads ∙ append-nil (targets (take i ls))
 
-  pub target_there : (number : ℕ) → (get_or ls i d).target ≡ target.Object number → Contains (targets ls) number
+  pub target_there : (number : ObjectNo) → (get_or ls i d).to ≡ target.Object number → Contains (targets ls) number.0
   target_there number leads =
-      contains_in number (targets ls) (in_filter_map (λ (k : TreeLink). object_in k.target) (get_or ls i d) number ls
+      contains_in number.0 (targets ls) (in_filter_map (λ (k : Link ObjectNo). object_in k.to) (get_or ls i d) number.0 ls
       (in_contains (get_or ls i d) ls (Contains-get_or ls i d low)) (ap object_in leads))
 
   -- a count so far has room for the link
-  pub times_room : (number : ℕ) → (get_or ls i d).target ≡ target.Object number → times number (targets (take i ls)) + 1 ≤ times number (targets ls)
+  pub times_room : (number : ObjectNo) → (get_or ls i d).to ≡ target.Object number → times number.0 (targets (take i ls)) + 1 ≤ times number.0 (targets ls)
   times_room number leads =
-      let test : ℕ → ℕ = λ m. cond (number == m) 1 0 in
-      let itself : (number == number) ≡ true = grind (arith, nat_tests) in
-      let one : times number (targets (take (i + 1) ls)) ≡ times number (targets (take i ls)) + 1
-      = ap (times number) (targets_more number leads) ∙ sum_by_push test (targets (take i ls)) number ∙ ap (λ b. times number (targets (take i ls)) + cond b 1 0) itself in
-      let all : times number (targets ls) ≡ times number (targets (take (i + 1) ls)) + times number (targets (drop (i + 1) ls))
-      = ap (λ ks. times number (targets ks)) (sym (take-append-drop (i + 1) ls))
-      ∙ ap (times number) (filter_map-append (λ (k : TreeLink). object_in k.target) (take (i + 1) ls) (drop (i + 1) ls))
+      let test : ℕ → ℕ = λ m. cond (number.0 == m) 1 0 in
+      let itself : (number.0 == number.0) ≡ true = grind (arith, nat_tests) in
+      let one : times number.0 (targets (take (i + 1) ls)) ≡ times number.0 (targets (take i ls)) + 1
+      = ap (times number.0) (targets_more number leads) ∙ sum_by_push test (targets (take i ls)) number.0 ∙ ap (λ b. times number.0 (targets (take i ls)) + cond b 1 0) itself in
+      let all : times number.0 (targets ls) ≡ times number.0 (targets (take (i + 1) ls)) + times number.0 (targets (drop (i + 1) ls))
+      = ap (λ ks. times number.0 (targets ks)) (sym (take-append-drop (i + 1) ls))
+      ∙ ap (times number.0) (filter_map-append (λ (k : Link ObjectNo). object_in k.to) (take (i + 1) ls) (drop (i + 1) ls))
       ∙ sum_by-append test (targets (take (i + 1) ls)) (targets (drop (i + 1) ls)) in
       omega (arith, one, all)
 
 -- the links of a list of borrowed ones, and one more
-pub pushed_more : (ls : List (Bor TreeLink)) (l : Bor TreeLink) (number : ℕ) → (l.now).target ≡ target.Object number
-    → targets (map (λ (k : Bor TreeLink). k.now) (ls ++ l ∷ [])) ≡ targets (map (λ (k : Bor TreeLink). k.now) ls) ++ number ∷ []
+pub pushed_more : (ls : List (Bor (Link ObjectNo))) (l : Bor (Link ObjectNo)) (number : ObjectNo) → (l.now).to ≡ target.Object number
+    → targets (map (λ (k : Bor (Link ObjectNo)). k.now) (ls ++ l ∷ [])) ≡ targets (map (λ (k : Bor (Link ObjectNo)). k.now) ls) ++ number.0 ∷ []
 pushed_more ls l number leads =
-    ap targets (map-append (λ (k : Bor TreeLink). k.now) ls (l ∷ []))
-    ∙ filter_map-append (λ (k : TreeLink). object_in k.target) (map (λ (k : Bor TreeLink). k.now) ls) (l.now ∷ [])
-    ∙ ap (λ (t : TreeTarget). targets (map (λ (k : Bor TreeLink). k.now) ls) ++ cons_option (object_in t) []) leads
+    ap targets (map-append (λ (k : Bor (Link ObjectNo)). k.now) ls (l ∷ []))
+    ∙ filter_map-append (λ (k : Link ObjectNo). object_in k.to) (map (λ (k : Bor (Link ObjectNo)). k.now) ls) (l.now ∷ [])
+    ∙ ap (λ (t : LinkTo ObjectNo). targets (map (λ (k : Bor (Link ObjectNo)). k.now) ls) ++ cons_option (object_in t) []) leads
 
-pub pushed_same : (ls : List (Bor TreeLink)) (l : Bor TreeLink) (text : Bor (List ℕ)) → (l.now).target ≡ target.Text text
-    → targets (map (λ (k : Bor TreeLink). k.now) (ls ++ l ∷ [])) ≡ targets (map (λ (k : Bor TreeLink). k.now) ls)
+pub pushed_same : (ls : List (Bor (Link ObjectNo))) (l : Bor (Link ObjectNo)) (text : Bor (List ℕ)) → (l.now).to ≡ target.Soft text
+    → targets (map (λ (k : Bor (Link ObjectNo)). k.now) (ls ++ l ∷ [])) ≡ targets (map (λ (k : Bor (Link ObjectNo)). k.now) ls)
 pushed_same ls l text leads =
-    ap targets (map-append (λ (k : Bor TreeLink). k.now) ls (l ∷ []))
-    ∙ filter_map-append (λ (k : TreeLink). object_in k.target) (map (λ (k : Bor TreeLink). k.now) ls) (l.now ∷ [])
-    ∙ ap (λ (t : TreeTarget). targets (map (λ (k : Bor TreeLink). k.now) ls) ++ cons_option (object_in t) []) leads
-    ∙ append-nil (targets (map (λ (k : Bor TreeLink). k.now) ls))
+    ap targets (map-append (λ (k : Bor (Link ObjectNo)). k.now) ls (l ∷ []))
+    ∙ filter_map-append (λ (k : Link ObjectNo). object_in k.to) (map (λ (k : Bor (Link ObjectNo)). k.now) ls) (l.now ∷ [])
+    ∙ ap (λ (t : LinkTo ObjectNo). targets (map (λ (k : Bor (Link ObjectNo)). k.now) ls) ++ cons_option (object_in t) []) leads
+    ∙ append-nil (targets (map (λ (k : Bor (Link ObjectNo)). k.now) ls))
 
 -- ---- counts of some numbers more
 

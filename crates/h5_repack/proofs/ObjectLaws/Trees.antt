@@ -16,10 +16,12 @@ use Rattle.h5_laws.specs.Trees.Sound.{IsSoundTree}
 use Rattle.h5_repack.specs.declared.objects.object.NewContent.{NewContent}
 use Rattle.h5_repack.specs.declared.objects.object.NewContent.TheVariants as content
 use Rattle.h5_repack.specs.declared.objects.object.NewObject.{NewObject}
-use Rattle.h5_repack.specs.declared.objects.object.TreeLink.{TreeLink}
-use Rattle.h5_repack.specs.declared.objects.object.TreeTarget.{TreeTarget}
-use Rattle.h5_repack.specs.declared.objects.object.TreeTarget.TheVariants as target
-use Rattle.h5_repack.specs.Objects.Objects.{link_of, tree_link, IsNewContent, IsNewObject, AreObjects}
+use Rattle.h5_model.specs.declared.object_no.ObjectNo.{ObjectNo}
+use Rattle.h5_model.specs.declared.link.Link.{Link as LinkOf}
+use Rattle.h5_model.specs.declared.link.LinkTo.{LinkTo}
+use Rattle.h5_model.specs.declared.link.LinkTo.TheVariants as target
+use Rattle.h5_model.specs.Tree.Links.{tree_link, tree_target}
+use Rattle.h5_repack.specs.Objects.Objects.{IsNewContent, IsNewObject, AreObjects}
 use Rattle.h5_repack.specs.Objects.Targets.{new_links, object_in, targets, waiting, times}
 use Rattle.h5_laws.specs.Numbered.{numbered}
 use Rattle.h5_laws.proofs.Lists.{In}
@@ -76,28 +78,28 @@ some_below objects tree are number low =
 
 -- ---- links
 
-object_of_link : (t : TreeTarget) (other : ℕ) → link_of t ≡ ToObject other → object_in t ≡ Some other
-object_of_link (target.Object number) other is = let same : number ≡ other = cc in ap (λ (n : ℕ). Some n) same
-object_of_link (target.Text text) other is = absurd (cc)
+object_of_link : (t : LinkTo ObjectNo) (other : ℕ) → tree_target t ≡ ToObject other → object_in t ≡ Some other
+object_of_link (target.Object number) other is = let same : number.0 ≡ other = cc in ap (λ (n : ℕ). Some n) same
+object_of_link (target.Soft text) other is = absurd (cc)
 
-link_of_object : (t : TreeTarget) (other : ℕ) → object_in t ≡ Some other → link_of t ≡ ToObject other
-link_of_object (target.Object number) other is = ap (λ (n : ℕ). ToObject n) (same_Some number other is)
-link_of_object (target.Text text) other is = absurd (cc)
+link_of_object : (t : LinkTo ObjectNo) (other : ℕ) → object_in t ≡ Some other → tree_target t ≡ ToObject other
+link_of_object (target.Object number) other is = ap (λ (n : ℕ). ToObject n) (same_Some number.0 other is)
+link_of_object (target.Soft text) other is = absurd (cc)
 
 -- what a name stands for is where a link leads
-found_target : (ls : List TreeLink) (name : List ℕ) (other : ℕ) → find (slice_cmp nat_cmp) name (map tree_link ls) ≡ Some (ToObject other) → In other (targets ls)
+found_target : (ls : List (LinkOf ObjectNo)) (name : List ℕ) (other : ℕ) → find (slice_cmp nat_cmp) name (map tree_link ls) ≡ Some (ToObject other) → In other (targets ls)
 found_target [] name other is = absurd (cc)
 found_target (l ∷ ls) name other is = elim (eq_by_cmp (slice_cmp nat_cmp) name l.name.now) as (λ b.
-    cond b (Some (link_of l.target)) (find (slice_cmp nat_cmp) name (map tree_link ls)) ≡ Some (ToObject other) → In other (targets (l ∷ ls))) [
-      | true ↦ λ here. in_given (object_in l.target) other (targets ls) (object_of_link l.target other (same_Some _ _ here))
-      | false ↦ λ later. in_rest (object_in l.target) other (targets ls) (found_target ls name other later)
+    cond b (Some (tree_target l.to)) (find (slice_cmp nat_cmp) name (map tree_link ls)) ≡ Some (ToObject other) → In other (targets (l ∷ ls))) [
+      | true ↦ λ here. in_given (object_in l.to) other (targets ls) (object_of_link l.to other (same_Some _ _ here))
+      | false ↦ λ later. in_rest (object_in l.to) other (targets ls) (found_target ls name other later)
     ] is
 
 -- and a link stands under its name
-link_entry : (l : TreeLink) (ls : List TreeLink) (other : ℕ) → In l ls → object_in l.target ≡ Some other → Entry (map tree_link ls) l.name.now (ToObject other)
+link_entry : (l : LinkOf ObjectNo) (ls : List (LinkOf ObjectNo)) (other : ℕ) → In l ls → object_in l.to ≡ Some other → Entry (map tree_link ls) l.name.now (ToObject other)
 link_entry l [] other at is = absurd at
 link_entry l (k ∷ ls) other (inl e) is =
-    inl (ap (λ (t : TreeLink). t.name.now) e, ap (λ (t : TreeLink). link_of t.target) e ∙ link_of_object l.target other is)
+    inl (ap (λ (t : LinkOf ObjectNo). t.name.now) e, ap (λ (t : LinkOf ObjectNo). tree_target t.to) e ∙ link_of_object l.to other is)
 link_entry l (k ∷ ls) other (inr at) is = inr (link_entry l ls other at is)
 
 content_target : (c : NewContent) (d : Content) (name : List ℕ) (other : ℕ) → IsNewContent c d
@@ -105,13 +107,13 @@ content_target : (c : NewContent) (d : Content) (name : List ℕ) (other : ℕ) 
 content_target (content.Group links) (Group named) name other is there =
     found_target links.items name other (ap (find (slice_cmp nat_cmp) name) is ∙ sym (get-entries named name) ∙ there)
 content_target (content.Group links) (Array d) name other is there = absurd is
-content_target (content.Array a) (Group named) name other is there = absurd is
-content_target (content.Array a) (Array d) name other is there = absurd (cc)
+content_target (content.Array a cells) (Group named) name other is there = absurd is
+content_target (content.Array a cells) (Array d) name other is there = absurd (cc)
 
 content_link : (c : NewContent) (d : Content) (other : ℕ) → IsNewContent c d → In other (targets (new_links c))
     → (name : List ℕ) × (option_and_then (λ links. get links name) (links_in d) ≡ Some (ToObject other))
 content_link (content.Group links) (Group named) other is at =
-    let l = from_filter_map (λ (k : TreeLink). object_in k.target) other links.items at in
+    let l = from_filter_map (λ (k : LinkOf ObjectNo). object_in k.to) other links.items at in
     let entry = link_entry l.0 links.items other l.1 l.2 in
     let there : Entry (entries named) (l.0).name.now (ToObject other) = subst (λ (es : List (List ℕ × Link)). Entry es (l.0).name.now (ToObject other)) is entry in (
       (l.0).name.now,
@@ -119,19 +121,19 @@ content_link (content.Group links) (Group named) other is at =
           ∙ find_entry nat_list_cmp_total (entries named) (l.0).name.now (ToObject other) (entries_sorted named) there,
     )
 content_link (content.Group links) (Array d) other is at = absurd is
-content_link (content.Array a) (Group named) other is at = absurd is
-content_link (content.Array a) (Array d) other is at = absurd at
+content_link (content.Array a cells) (Group named) other is at = absurd is
+content_link (content.Array a cells) (Array d) other is at = absurd at
 
 -- the order of links does not matter for where they lead
-turned : (ls : List TreeLink) (other : ℕ) → In other (targets ls) → In other (targets (reverse ls))
+turned : (ls : List (LinkOf ObjectNo)) (other : ℕ) → In other (targets ls) → In other (targets (reverse ls))
 turned ls other at =
-    let l = from_filter_map (λ (k : TreeLink). object_in k.target) other ls at in
-    in_filter_map (λ (k : TreeLink). object_in k.target) l.0 other (reverse ls) (in_reverse l.0 ls l.1) l.2
+    let l = from_filter_map (λ (k : LinkOf ObjectNo). object_in k.to) other ls at in
+    in_filter_map (λ (k : LinkOf ObjectNo). object_in k.to) l.0 other (reverse ls) (in_reverse l.0 ls l.1) l.2
 
-unturned : (ls : List TreeLink) (other : ℕ) → In other (targets (reverse ls)) → In other (targets ls)
+unturned : (ls : List (LinkOf ObjectNo)) (other : ℕ) → In other (targets (reverse ls)) → In other (targets ls)
 unturned ls other at =
-    let l = from_filter_map (λ (k : TreeLink). object_in k.target) other (reverse ls) at in
-    in_filter_map (λ (k : TreeLink). object_in k.target) l.0 other ls (from_reverse l.0 ls l.1) l.2
+    let l = from_filter_map (λ (k : LinkOf ObjectNo). object_in k.to) other (reverse ls) at in
+    in_filter_map (λ (k : LinkOf ObjectNo). object_in k.to) l.0 other ls (from_reverse l.0 ls l.1) l.2
 
 -- a link of the tree leads where one of the object does
 pub link_waits : (objects : List NewObject) (tree : Tree) → AreObjects objects tree → (number other : ℕ) (name : List ℕ)
@@ -167,17 +169,17 @@ waiting_below objects tree are sound number other x is at =
 
 -- ---- how many links lead to an object
 
-link_counted : (number : ℕ) (l : TreeLink) (ls : List TreeLink) → times number (targets (l ∷ ls)) ≡ cond (leads_to number (link_of l.target)) 1 0 + times number (targets ls)
-link_counted number l ls = go l.target where
-  go : (t : TreeTarget) → times number (cons_option (object_in t) (targets ls)) ≡ cond (leads_to number (link_of t)) 1 0 + times number (targets ls)
-  go (target.Object other) = sum_by-cons (λ (m : ℕ). cond (number == m) 1 0) other (targets ls)
-  go (target.Text text) = omega arith
+link_counted : (number : ℕ) (l : LinkOf ObjectNo) (ls : List (LinkOf ObjectNo)) → times number (targets (l ∷ ls)) ≡ cond (leads_to number (tree_target l.to)) 1 0 + times number (targets ls)
+link_counted number l ls = go l.to where
+  go : (t : LinkTo ObjectNo) → times number (cons_option (object_in t) (targets ls)) ≡ cond (leads_to number (tree_target t)) 1 0 + times number (targets ls)
+  go (target.Object other) = sum_by-cons (λ (m : ℕ). cond (number == m) 1 0) other.0 (targets ls)
+  go (target.Soft text) = omega arith
 
-links_counted : (number : ℕ) (ls : List TreeLink) → count_by (leads_to number) (map (λ (e : List ℕ × Link). e.1) (map tree_link ls)) ≡ times number (targets ls)
+links_counted : (number : ℕ) (ls : List (LinkOf ObjectNo)) → count_by (leads_to number) (map (λ (e : List ℕ × Link). e.1) (map tree_link ls)) ≡ times number (targets ls)
 links_counted number [] = refl
 links_counted number (l ∷ ls) =
-    sum_by-cons (λ (k : Link). cond (leads_to number k) 1 0) (link_of l.target) (map (λ (e : List ℕ × Link). e.1) (map tree_link ls))
-    ∙ ap (λ (n : ℕ). cond (leads_to number (link_of l.target)) 1 0 + n) (links_counted number ls) ∙ sym (link_counted number l ls)
+    sum_by-cons (λ (k : Link). cond (leads_to number k) 1 0) (tree_target l.to) (map (λ (e : List ℕ × Link). e.1) (map tree_link ls))
+    ∙ ap (λ (n : ℕ). cond (leads_to number (tree_target l.to)) 1 0 + n) (links_counted number ls) ∙ sym (link_counted number l ls)
 
 -- how many links of the object lead to the number
 abbrev pub counted : ℕ → NewObject → ℕ
@@ -187,8 +189,8 @@ content_counted : (number : ℕ) (c : NewContent) (d : Content) → IsNewContent
 content_counted number (content.Group links) (Group named) is =
     ap (λ (es : List (List ℕ × Link)). count_by (leads_to number) (map (λ (e : List ℕ × Link). e.1) es)) (sym is) ∙ links_counted number links.items
 content_counted number (content.Group links) (Array d) is = absurd is
-content_counted number (content.Array a) (Group named) is = absurd is
-content_counted number (content.Array a) (Array d) is = refl
+content_counted number (content.Array a cells) (Group named) is = absurd is
+content_counted number (content.Array a cells) (Array d) is = refl
 
 each_counted : (number : ℕ) (objects : List NewObject) (listed : List Object) → AllZip IsNewObject objects listed
     → sum_by (λ (o : Object). links_to number o.content) listed ≡ sum_by (counted number) objects

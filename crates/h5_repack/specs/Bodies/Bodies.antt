@@ -41,8 +41,10 @@ fill_messages t fill others = if nat_lt 65535 (4 + others) then [] else fill_mes
 abbrev pub layout_message : Option ℕ → ℕ → ℕ × List ℕ
 layout_message address len = (8, raised (contiguous_bytes address len))
 
--- the messages of an array in one block, whose data stand at this address
+-- the messages of an array of this type, sizes, maxima and fill in one block, whose data stand at this address
+abbrev pub messages_of : Fixed → List ℕ → List (Option ℕ) → ℤ → Option ℕ → ℕ → List (ℕ × List ℕ)
+messages_of t sizes maxima fill address others =
+    (1, space_body sizes maxima) ∷ type_message t ∷ (fill_messages t fill others ++ layout_message address (cells sizes * t.size) ∷ [])
+
 abbrev pub array_messages : Dataset → Option ℕ → ℕ → List (ℕ × List ℕ)
-array_messages d address others =
-    (1, space_body d.sizes d.maxima) ∷ type_message d.fixed
-    ∷ (fill_messages d.fixed d.fill others ++ layout_message address (cells d.sizes * (d.fixed).size) ∷ [])
+array_messages d address others = messages_of d.fixed d.sizes d.maxima d.fill address others

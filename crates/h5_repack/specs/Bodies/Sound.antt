@@ -1,6 +1,6 @@
 -- Which objects the plain layout can hold: those that an image reads as, or that an accepted edit makes of them.
 use Rattle.std.specs.Prelude.{◌≡◌, ℕ, ◌+◌, ◌^◌, ◌%◌, ◌<◌, ◌≤◌, ◌==◌, ◌||◌, Bool, true, false, IsTrue, IfSome, pos, Option, List, [], ◌∷◌, length, replicate}
-use Rattle.std.specs.List.{AllByRecursion}
+use Rattle.std.specs.List.{AllByRecursion, AllZip}
 use Rattle.std.specs.FinMap.{entries}
 use Rattle.h5_bytes.specs.Bytes.{undefined}
 use Rattle.h5_model.specs.Format.Fixed.{IsFixed}
@@ -31,19 +31,19 @@ pub record IsPlainObject (o : Object) : Type 0 where
   pub kept : AllByRecursion IsPlainKept o.kept
   pub attributes : AllByRecursion IsPlainAttribute (entries o.attributes)
 
--- an array of one dimension in one block; not stored, each cell is the fill; and a fill that is not written, beside so many other
--- messages, is 0
+-- a maximum is not below the size, and can be told from none
+abbrev pub IsBound : ℕ → Option ℕ → Type 0
+IsBound size maximum = IfSome maximum (λ m. (size ≤ m) × (m < undefined))
+
+-- an array in one block; not stored, each cell is the fill; and a fill that is not written, beside so many other messages, is 0
 pub record IsPlainArray (d : Dataset) (others : ℕ) : Type 0 where
-  pub size : ℕ
-  pub sizes_are : d.sizes ≡ size ∷ []
-  pub maximum : Option ℕ
-  pub maxima_are : d.maxima ≡ maximum ∷ []
-  pub bounded : IfSome maximum (λ m. (size ≤ m) × (m < undefined))
-  pub few : size ≤ 2 ^ 40
+  pub ranked : length d.sizes ≤ 32
+  pub bounded : AllZip IsBound d.sizes d.maxima
+  pub few : extent_cells d.sizes ≤ 2 ^ 40
   pub fixed : IsFixed d.fixed
   pub sound : IsDataset d
   pub stored : Bool
   pub stored_is : d.storage ≡ Contiguous stored
-  pub filled : stored ≡ true → 1 ≤ size
-  pub unset : stored ≡ false → d.cells ≡ replicate size d.fill
+  pub filled : stored ≡ true → 1 ≤ cells d.sizes
+  pub unset : stored ≡ false → d.cells ≡ replicate (cells d.sizes) d.fill
   pub unwritten : 65535 < 4 + others → d.fill ≡ pos 0

@@ -1,5 +1,5 @@
--- Which trees the plain layout can hold: those that an image reads as, or that an accepted edit gives, as far as their arrays have one
--- dimension in one block.
+-- Which trees the plain layout can hold: those that an image reads as, or that an accepted edit gives, as far as their arrays are in
+-- one block.
 use Rattle.std.specs.Prelude.{◌≡◌, ℕ, ◌+◌, ◌*◌, ◌≤◌, Some, length}
 use Rattle.std.specs.FinMap.{get, len}
 use Rattle.h5_model.specs.Format.PlainLength.{rows_of}
@@ -10,7 +10,7 @@ use Rattle.h5_model.specs.Format.Superblock.{AreK}
 use Rattle.h5_repack.specs.Bodies.Sound.{IsPlainObject, IsPlainArray}
 use Rattle.h5_laws.specs.Trees.Sound.{IsSoundTree}
 
--- an array has one dimension in one block; the messages can be counted
+-- an array is in one block; the messages can be counted
 abbrev pub IsPlainContent : ℕ → Content → Type 0
 IsPlainContent others (Group links) = 1 + others ≤ 65535
 IsPlainContent others (Array d) = IsPlainArray d others × (3 + others ≤ 65535)

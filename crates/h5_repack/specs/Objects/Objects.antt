@@ -1,37 +1,32 @@
 -- Which tree objects make that are handed to the writer.
-use Rattle.std.specs.Prelude.{◌≡◌, ℕ, List, [], ◌∷◌, map, slice_get}
+use Rattle.std.specs.Prelude.{◌≡◌, ℕ, List, map, slice_get}
 use Rattle.std.specs.List.{AllZip}
 use Rattle.std.specs.FinMap.{get, entries}
 use Rattle.h5_model.specs.Tree.Objects.{Tree, Object, Content, Group, Array, Dataset, Link, ToObject, Soft}
 use Rattle.h5_repack.specs.Bodies.Bodies.{others_of}
-use Rattle.h5_repack.specs.Blocks.Written.{AreCells, AreOthers, HasRoom}
-use Rattle.h5_repack.specs.declared.objects.object.NewArray.{NewArray}
+use Rattle.h5_layout.specs.Described.{Described}
+use Rattle.h5_repack.specs.Blocks.Written.{AreCells, AreOthers}
+use Rattle.h5_repack.specs.declared.blocks.cells.Cells.{Cells}
 use Rattle.h5_repack.specs.declared.objects.object.NewContent.{NewContent}
 use Rattle.h5_repack.specs.declared.objects.object.NewContent.TheVariants as content
 use Rattle.h5_repack.specs.declared.objects.object.NewObject.{NewObject}
-use Rattle.h5_repack.specs.declared.objects.object.TreeLink.{TreeLink}
-use Rattle.h5_repack.specs.declared.objects.object.TreeTarget.{TreeTarget}
-use Rattle.h5_repack.specs.declared.objects.object.TreeTarget.TheVariants as target
+use Rattle.h5_model.specs.declared.object_no.ObjectNo.{ObjectNo}
+use Rattle.h5_model.specs.declared.link.Link.{Link as LinkOf}
+use Rattle.h5_model.specs.declared.link.LinkTo.{LinkTo}
+use Rattle.h5_model.specs.declared.link.LinkTo.TheVariants as target
 
-abbrev pub link_of : TreeTarget → Link
-link_of (target.Object number) = ToObject number
-link_of (target.Text text) = Soft text.now
-
-abbrev pub tree_link : TreeLink → List ℕ × Link
-tree_link l = (l.name.now, link_of l.target)
-
-pub record IsNewArray (a : NewArray) (d : Dataset) : Type 0 where
+-- the array with these cells, which stand in one block
+pub record IsNewArray (a : Described) (c : Cells) (d : Dataset) : Type 0 where
   pub fixed_is : a.fixed ≡ d.fixed
-  pub sizes_are : d.sizes ≡ a.size ∷ []
-  pub maxima_are : d.maxima ≡ a.maximum ∷ []
+  pub sizes_are : a.sizes ≡ d.sizes
+  pub maxima_are : a.maxima ≡ d.maxima
   pub fill_is : a.fill ≡ d.fill
-  pub cells_are : AreCells a.cells a.size d
-  pub room : HasRoom a.cells a.size (a.fixed).size
+  pub cells_are : AreCells c d
 
 -- a group of these links, in the order of their names; or this array
 abbrev pub IsNewContent : NewContent → Content → Type 0
 IsNewContent (content.Group links) (Group tree_links) = map tree_link links.items ≡ entries tree_links
-IsNewContent (content.Array a) (Array d) = IsNewArray a d
+IsNewContent (content.Array a c) (Array d) = IsNewArray a c d
 IsNewContent _ _ = ⊥
 
 pub record IsNewObject (x : NewObject) (o : Object) : Type 0 where

@@ -4,21 +4,22 @@ use Rattle.std.specs.List.{count_by, filter_map}
 use Rattle.h5_repack.specs.declared.objects.object.NewContent.{NewContent}
 use Rattle.h5_repack.specs.declared.objects.object.NewContent.TheVariants as content
 use Rattle.h5_repack.specs.declared.objects.object.NewObject.{NewObject}
-use Rattle.h5_repack.specs.declared.objects.object.TreeLink.{TreeLink}
-use Rattle.h5_repack.specs.declared.objects.object.TreeTarget.{TreeTarget}
-use Rattle.h5_repack.specs.declared.objects.object.TreeTarget.TheVariants as target
+use Rattle.h5_model.specs.declared.object_no.ObjectNo.{ObjectNo}
+use Rattle.h5_model.specs.declared.link.Link.{Link}
+use Rattle.h5_model.specs.declared.link.LinkTo.{LinkTo}
+use Rattle.h5_model.specs.declared.link.LinkTo.TheVariants as target
 
-abbrev pub new_links : NewContent → List TreeLink
+abbrev pub new_links : NewContent → List (Link ObjectNo)
 new_links (content.Group links) = links.items
-new_links (content.Array a) = []
+new_links (content.Array a c) = []
 
 -- the object that a link names
-abbrev pub object_in : TreeTarget → Option ℕ
-object_in (target.Object number) = Some number
-object_in (target.Text text) = None
+abbrev pub object_in : LinkTo ObjectNo → Option ℕ
+object_in (target.Object number) = Some number.0
+object_in (target.Soft text) = None
 
-abbrev pub targets : List TreeLink → List ℕ
-targets links = filter_map (λ (l : TreeLink). object_in l.target) links
+abbrev pub targets : List (Link ObjectNo) → List ℕ
+targets links = filter_map (λ (l : Link ObjectNo). object_in l.to) links
 
 -- the objects that an object's links lead to, that of the first name last
 abbrev pub waiting : NewObject → List ℕ

@@ -1,17 +1,29 @@
 //! The bytes of cells (File Format Specification 3.0, section IV.A.2.d, class 0), and where they stand.
-ghost use Rattle.std.specs.Prelude.{◌≡◌, ◌-◌, ◌^◌, ◌==◌, ◌≤◌, ◌++◌, OnOk, true, if◌then◌else◌, None, Some, length, replicate};
+ghost use Rattle.std.specs.Prelude.{◌≡◌, ◌-◌, ◌*◌, ◌^◌, ◌==◌, ◌≤◌, ◌++◌, OnOk, true, if◌then◌else◌, None, Some, length, replicate};
 ghost use Rattle.h5_model.specs.Format.Fixed.{bytes_of, fits};
 ghost use Rattle.h5_bytes.specs.Numbers.{zeros};
 ghost use Rattle.h5_model.specs.Format.Plain.{cells_bytes};
+ghost use Rattle.h5_model.specs.Tree.Places.{cells as cells_of};
 ghost use Rattle.h5_repack.specs.Blocks.ArrayHeader.{data_written, address_written};
 ghost use Rattle.h5_repack.specs.Blocks.Parts.{copies};
-ghost use Rattle.h5_repack.specs.Blocks.Written.{IsWritable};
+ghost use Rattle.h5_repack.specs.Blocks.Written.{HasRoom};
 
-use crate::blocks::array::{Array, Cells};
 use h5_bytes::push_bytes;
+use h5_layout::ArrayRef;
 use h5_model::Fixed;
 use h5_types::encode;
 use std::alloc::{AllocError, Global};
+
+/// The cells of an array to be written.
+#[derive(Clone, Copy)]
+pub enum Cells<'a> {
+    /// They are not stored.
+    Unset,
+    /// Each is the fill value.
+    Filled,
+    /// The bytes of the cells, one after another.
+    Stored(&'a [u8]),
+}
 
 /// How many cells are appended at a time.
 const TILE: u64 = 1024;
@@ -57,17 +69,32 @@ fn push_cells(
     Ok(())
 }
 
-/// How many bytes of data an array has.
-pub fn data_length(array: &Array<'_>) -> u64
-    requires { IsWritable array.now }
-    ensures exact { result ≡ length (data_written array.now.cells array.now) }
-    ensures few { result ≤ 2 ^ 44 }
+/// How many cells an array has.
+fn count_cells(array: &ArrayRef<'_>) -> u64
+    ensures exact { result ≡ cells_of array.now.sizes }
+    ensures few { result ≤ 2 ^ 40 }
 {
-    let size = array.fixed.size() as u64;
-    match array.cells {
+    array.dims().cells()
+}
+
+/// How many bytes the cells of an array have where they are stored.
+pub(crate) fn cells_length(array: &ArrayRef<'_>) -> u64
+    ensures exact { result ≡ cells_of array.now.sizes * array.now.fixed.size }
+    ensures few { result ≤ 2 ^ 43 }
+{
+    count_cells(array) * array.fixed().size() as u64
+}
+
+/// How many bytes of data an array with these cells has.
+pub fn data_length(array: &ArrayRef<'_>, cells: &Cells<'_>) -> u64
+    requires { HasRoom cells.now (cells_of array.now.sizes * array.now.fixed.size) }
+    ensures exact { result ≡ length (data_written cells.now array.now) }
+    ensures few { result ≤ 2 ^ 43 }
+{
+    match cells {
         Cells::Unset => 0,
-        Cells::Filled => array.size * size,
-        Cells::Stored(_) => array.size * size,
+        Cells::Filled => cells_length(array),
+        Cells::Stored(_) => cells_length(array),
     }
 }
 
@@ -78,25 +105,29 @@ fn data_address(place: u64, cells: u64) -> Option<u64>
     if cells == 0 { None } else { Some(place) }
 }
 
-/// The address of an array's data, which begin at this place where there are any.
-pub fn cells_address(array: &Array<'_>, place: u64) -> Option<u64>
-    ensures { result ≡ address_written array.now.cells array.now.size place }
+/// The address of the data of an array with these cells, which begin at this place where there are any.
+pub fn cells_address(array: &ArrayRef<'_>, cells: &Cells<'_>, place: u64) -> Option<u64>
+    ensures { result ≡ address_written cells.now (cells_of array.now.sizes) place }
 {
-    match array.cells {
+    match cells {
         Cells::Unset => None,
-        Cells::Filled => data_address(place, array.size),
+        Cells::Filled => data_address(place, count_cells(array)),
         Cells::Stored(_) => Some(place),
     }
 }
 
-/// The data of an array, where there are any.
-pub fn push_data(alloc: Global, out: &mut Vec<u8>, array: &Array<'_>) -> Result<(), AllocError>
-    requires { IsWritable array.now }
-    ensures { OnOk result (out.new.items ≡ out.old.items ++ data_written array.now.cells array.now) }
+/// The data of an array with these cells, where there are any.
+pub fn push_data(
+    alloc: Global,
+    out: &mut Vec<u8>,
+    array: &ArrayRef<'_>,
+    cells: &Cells<'_>,
+) -> Result<(), AllocError>
+    ensures { OnOk result (out.new.items ≡ out.old.items ++ data_written cells.now array.now) }
 {
-    match array.cells {
+    match cells {
         Cells::Unset => Ok(()),
-        Cells::Filled => push_cells(alloc, out, &array.fixed, array.fill, array.size),
+        Cells::Filled => push_cells(alloc, out, &array.fixed(), array.fill(), count_cells(array)),
         Cells::Stored(bytes) => push_bytes(out, bytes),
     }
 }

@@ -1,6 +1,6 @@
 //! Object headers, version 1, in one block, and the messages of a group and of an array (File Format Specification 3.0,
 //! section IV.A).
-ghost use Rattle.std.specs.Prelude.{◌≡◌, ℕ, ◌+◌, ◌-◌, ◌*◌, ◌^◌, ◌<◌, ◌≤◌, ◌++◌, [], ◌∷◌, IfOk, OnOk, Option, true, length, nat_lt, not};
+ghost use Rattle.std.specs.Prelude.{◌≡◌, ℕ, ◌+◌, ◌-◌, ◌^◌, ◌<◌, ◌≤◌, ◌++◌, IfOk, OnOk, Option, true, length, nat_lt, not};
 ghost use Rattle.std.specs.Option.{ForSome};
 ghost use Rattle.h5_bytes.specs.Texts.{pad8};
 ghost use Rattle.h5_model.specs.Edits.Refusal.{are_maxima};
@@ -8,21 +8,21 @@ ghost use Rattle.h5_model.specs.Format.Bodies.{pair_bytes};
 ghost use Rattle.h5_model.specs.Format.Fixed.{fits};
 ghost use Rattle.h5_model.specs.Format.Plain.{message_bytes, messages_bytes};
 ghost use Rattle.h5_model.specs.Format.Sizes.{message_size};
-ghost use Rattle.h5_model.specs.Tree.Objects.{are_sizes};
-ghost use Rattle.h5_repack.specs.Bodies.Bodies.{fill_message, fill_messages, layout_message, space_body, type_message};
+ghost use Rattle.h5_layout.specs.Described.{Described};
+ghost use Rattle.h5_repack.specs.Bodies.Bodies.{fill_message, fill_messages, layout_message, type_message};
 ghost use Rattle.h5_repack.specs.Blocks.ArrayHeader.{group_written, header_written, messages_count as count_of, messages_size as size_of};
 ghost use Rattle.h5_repack.specs.Blocks.Parts.{message_head, message_room, prefix_bytes};
-ghost use Rattle.h5_repack.specs.Blocks.Written.{IsWritable};
 
-use crate::blocks::array::Array;
+use crate::blocks::cells::cells_length;
 use crate::blocks::others::Others;
+use crate::blocks::space::{push_space, space_length};
 use h5_bytes::{push_bytes, push_middle, push_short, push_zeros};
+use h5_layout::ArrayRef;
 use h5_model::Fixed;
-use h5_model::message_type::{DATA_LAYOUT, DATASPACE, DATATYPE, FILL_VALUE, SYMBOL_TABLE};
+use h5_model::message_type::{DATA_LAYOUT, DATATYPE, FILL_VALUE, SYMBOL_TABLE};
 use h5_msg::{
     AllocationTime, CONTIGUOUS_LENGTH, DATATYPE_LENGTH, SYMBOL_TABLE_LENGTH, SymbolTable,
-    dataspace_length, fill_length, write_bounded_dataspace, write_contiguous_layout,
-    write_dataspace, write_datatype, write_fill, write_symbol_table,
+    fill_length, write_contiguous_layout, write_datatype, write_fill, write_symbol_table,
 };
 use std::alloc::AllocError;
 
@@ -63,7 +63,7 @@ fn body_length(size: usize) -> usize
 }
 
 /// How many bytes a message has with a body of so many.
-fn message_length(size: usize) -> u64
+pub(crate) fn message_length(size: usize) -> u64
     requires { size ≤ 65528 }
     ensures { result ≡ message_size size }
 {
@@ -156,44 +156,6 @@ pub fn push_group_header(
     Ok(())
 }
 
-/// Whether an array's size is its maximum too.
-fn is_own_maximum(size: u64, maximum: Option<u64>) -> bool
-    ensures { result ≡ are_sizes (size ∷ []) (maximum ∷ []) }
-{
-    match maximum {
-        Some(maximum) => maximum == size,
-        None => false,
-    }
-}
-
-/// How many bytes the dataspace message of an array has.
-fn space_length(size: u64, maximum: Option<u64>) -> u64
-    ensures exact { result ≡ length (message_bytes (1, space_body (size ∷ []) (maximum ∷ []))) }
-    ensures few { result ≤ 32 }
-{
-    if is_own_maximum(size, maximum) {
-        24
-    } else {
-        32
-    }
-}
-
-/// The dataspace message of an array, with the maximum where it differs from the size.
-fn push_space(out: &mut Vec<u8>, size: u64, maximum: Option<u64>) -> Result<(), AllocError>
-    requires { are_maxima (size ∷ []) (maximum ∷ []) ≡ true }
-    ensures { OnOk result
-        (out.new.items ≡ out.old.items ++ message_bytes (1, space_body (size ∷ []) (maximum ∷ []))) }
-{
-    if is_own_maximum(size, maximum) {
-        let at = push_message_room(out, DATASPACE, dataspace_length(1, false))?;
-        write_dataspace(&[size], &mut out[at..]);
-    } else {
-        let at = push_message_room(out, DATASPACE, dataspace_length(1, true))?;
-        write_bounded_dataspace(&[size], &[maximum], &mut out[at..]);
-    }
-    Ok(())
-}
-
 /// Whether the fill has a message of its own: the header can count it.
 fn has_fill(others: &Others) -> bool
     requires { others.now.count ≤ 65535 }
@@ -233,67 +195,73 @@ fn push_fill_message(
     push_fill(out, fixed, fill)
 }
 
-/// How many messages an array's header has.
-fn messages_count(array: &Array<'_>) -> u16
-    requires { array.now.others.now.count + 3 ≤ 65535 }
-    ensures { (address : Option ℕ) → result ≡ count_of array.now address }
+/// How many messages an array's header has, with these behind its own.
+fn messages_count(others: &Others) -> u16
+    requires { others.now.count + 3 ≤ 65535 }
+    ensures { (a : Described) (address : Option ℕ) → result ≡ count_of a others.now address }
 {
-    let others = array.others.count() as u16;
-    if has_fill(array.others) {
-        4 + others
+    let count = others.count() as u16;
+    if has_fill(others) {
+        4 + count
     } else {
-        3 + others
+        3 + count
     }
 }
 
 /// How many bytes these have.
-fn messages_size(array: &Array<'_>) -> u64
-    requires { array.now.others.now.count + 3 ≤ 65535 }
-    ensures exact { (address : Option ℕ) → result ≡ size_of array.now address }
+fn messages_size(array: &ArrayRef<'_>, others: &Others) -> u64
+    requires same { length array.now.maxima ≡ length array.now.sizes }
+    requires few { others.now.count + 3 ≤ 65535 }
+    ensures exact { (address : Option ℕ) → result ≡ size_of array.now others.now address }
     ensures few { result + 16 ≤ 2 ^ 33 }
-    ensures added { result ≤ length array.now.others.now.bytes + 112 }
+    ensures added { result ≤ length others.now.bytes + 608 }
 {
-    let others = array.others.bytes().len() as u64;
-    let space = space_length(array.size, array.maximum);
-    let fill = fill_message_length(&array.fixed, array.fill, array.others);
-    space + 24 + fill + 32 + others
+    let bytes = others.bytes().len() as u64;
+    let space = space_length(array);
+    let fill = fill_message_length(&array.fixed(), array.fill(), others);
+    space + 24 + fill + 32 + bytes
 }
 
-/// How many bytes an array's header has, its prefix with them.
-pub fn array_header_length(array: &Array<'_>) -> u64
-    requires { array.now.others.now.count + 3 ≤ 65535 }
+/// How many bytes an array's header has, its prefix and these messages behind its own with it.
+pub fn array_header_length(array: &ArrayRef<'_>, others: &Others) -> u64
+    requires same { length array.now.maxima ≡ length array.now.sizes }
+    requires few { others.now.count + 3 ≤ 65535 }
     ensures exact { (count : ℕ) (address : Option ℕ)
-        → result ≡ length (header_written count array.now address) }
+        → result ≡ length (header_written count array.now others.now address) }
     ensures few { result ≤ 2 ^ 33 }
-    ensures holds { length array.now.others.now.bytes ≤ result }
+    ensures holds { length others.now.bytes ≤ result }
 {
-    16 + messages_size(array)
+    16 + messages_size(array, others)
 }
 
-/// The header of an array to which so many links lead and whose data stand at this address, or nowhere.
+/// The header of an array to which so many links lead and whose data stand at this address, or nowhere, with these messages behind
+/// its own.
 ///
-/// How long its other messages may be can be told by `array_header_length`; `cells_address` gives the address.
+/// How long these may be can be told by `array_header_length`; `cells_address` gives the address.
 pub fn push_array_header(
     out: &mut Vec<u8>,
-    array: &Array<'_>,
+    array: &ArrayRef<'_>,
+    others: &Others,
     address: Option<u64>,
     references: u32,
 ) -> Result<(), AllocError>
-    requires writable { IsWritable array.now }
+    requires bounded { are_maxima array.now.sizes array.now.maxima ≡ true }
+    requires few { others.now.count + 3 ≤ 65535 }
     requires address { ForSome address (λ at. at < 2 ^ 64 - 1) }
-    requires low { length array.now.others.now.bytes ≤ 2 ^ 31 }
-    ensures { OnOk result (out.new.items ≡ out.old.items ++ header_written references array.now address) }
+    requires low { length others.now.bytes ≤ 2 ^ 31 }
+    ensures { OnOk result
+        (out.new.items ≡ out.old.items ++ header_written references array.now others.now address) }
 {
     push_prefix(
         out,
-        messages_count(array),
+        messages_count(others),
         references,
-        messages_size(array) as u32,
+        messages_size(array, others) as u32,
     )?;
-    push_space(out, array.size, array.maximum)?;
-    push_type(out, &array.fixed)?;
-    push_fill_message(out, &array.fixed, array.fill, array.others)?;
-    push_layout(out, address, array.size * array.fixed.size() as u64)?;
-    push_bytes(out, array.others.bytes())?;
+    push_space(out, array)?;
+    push_type(out, &array.fixed())?;
+    push_fill_message(out, &array.fixed(), array.fill(), others)?;
+    push_layout(out, address, cells_length(array))?;
+    push_bytes(out, others.bytes())?;
     Ok(())
 }

@@ -7,7 +7,8 @@ ghost use Rattle.h5_laws.specs.Trees.Sound.{IsSoundTree};
 ghost use Rattle.h5_repack.specs.Objects.Objects.{AreObjects};
 ghost use Rattle.h5_repack.specs.Objects.Targets.{targets, times};
 
-use crate::objects::object::{NewContent, NewObject, TreeLink, TreeTarget};
+use crate::objects::object::{NewContent, NewObject};
+use h5_model::{Link, LinkTo, ObjectNo};
 use std::alloc::{AllocError, Global};
 
 /// How many hard links lead to each object, by its number.
@@ -31,7 +32,7 @@ pub fn count_links(alloc: Global, objects: &[NewObject<'_>]) -> Result<Vec<u32>,
 }
 
 /// Adds the links of a group to the counts of the objects to which they lead.
-fn count_group(links: &[TreeLink<'_>], counts: &mut [u32])
+fn count_group(links: &[Link<'_, ObjectNo>], counts: &mut [u32])
     requires below { (number : ℕ) → Contains (targets links.now) number → number < length counts.old }
     requires few { (number : ℕ) → number < length counts.old
         → slice_index counts.old number + times number (targets links.now) < 2 ^ 32 }
@@ -40,8 +41,8 @@ fn count_group(links: &[TreeLink<'_>], counts: &mut [u32])
         → slice_index counts.new number ≡ slice_index counts.old number + times number (targets links.now) }
 {
     for link in links {
-        if let TreeTarget::Object(number) = link.target {
-            counts[number as usize] += 1;
+        if let LinkTo::Object(number) = link.to {
+            counts[number.0 as usize] += 1;
         }
     }
 }

@@ -7,7 +7,8 @@ ghost use Rattle.h5_repack.specs.Objects.Objects.{AreObjects};
 ghost use Rattle.h5_repack.specs.Objects.Order.{AreMet};
 ghost use Rattle.h5_repack.specs.Objects.Targets.{waiting};
 
-use crate::objects::object::{NewContent, NewObject, TreeTarget};
+use crate::objects::object::{NewContent, NewObject};
+use h5_model::LinkTo;
 use std::alloc::{AllocError, Global};
 
 /// The numbers of the objects in the order in which they are first met, depth first and by the names of links, from the root on.
@@ -39,8 +40,8 @@ fn push_waiting(object: &NewObject<'_>, stack: &mut Vec<u32>) -> Result<(), Allo
 {
     if let NewContent::Group(links) = &object.content {
         for link in links.iter().rev() {
-            if let TreeTarget::Object(number) = link.target {
-                stack.push(number)?;
+            if let LinkTo::Object(number) = link.to {
+                stack.push(number.0)?;
             }
         }
     }

@@ -6,7 +6,8 @@ use Rattle.h5_model.specs.Tree.Objects.{Array}
 use Rattle.h5_text.specs.Appends.{Appends}
 use Rattle.h5_text.proofs.Appending.{appends_err}
 use Rattle.h5_text.proofs.LineTexts.{in_two_pieces}
-use Rattle.h5_file.specs.Listed.{AreLinks, IsNoGroup, seen_link}
+use Rattle.h5_model.specs.Tree.Links.{tree_link}
+use Rattle.h5_file.specs.Listed.{AreLinks, IsNoGroup}
 use Rattle.h5_dump.specs.Listing.{lines_of_link}
 use Rattle.h5_dump.proofs.Listings.{lines_of_array, lines_of_last, lines_of_next, lines_of_nothing}
 use Rattle.h5_dump.proofs.texts.+listed.Goals as goal
@@ -14,14 +15,14 @@ use Rattle.h5_dump.proofs.texts.+listed.Goals as goal
 pub push_links-returns-in_err-push_soft_line-in-Soft-clause-lines : goal.push_links-returns-in_err-push_soft_line-in-Soft-clause-lines
 push_links-returns-in_err-push_soft_line-in-Soft-clause-lines t c =
     let lines = lines_of_link c.args.file.now.tree c.args.depth c.args.path.now.items in
-    appends_err c.from_residual.result c.args.text.now.items (flat_map lines (map seen_link (take c.loop-link.link-index c.args.links.now))) c.loop-link.text.items
-    c.push_soft_line.new.out.items (flat_map lines (map seen_link c.args.links.now)) c.from_residual.ensures.0 c.loop-link.invariant.lines c.in_err-push_soft_line-in-Soft.ensures
+    appends_err c.from_residual.result c.args.text.now.items (flat_map lines (map tree_link (take c.loop-link.link-index c.args.links.now))) c.loop-link.text.items
+    c.push_soft_line.new.out.items (flat_map lines (map tree_link c.args.links.now)) c.from_residual.ensures.0 c.loop-link.invariant.lines c.in_err-push_soft_line-in-Soft.ensures
 
 pub push_links-returns-in_err-push_object-in-Object-clause-lines : goal.push_links-returns-in_err-push_object-in-Object-clause-lines
 push_links-returns-in_err-push_object-in-Object-clause-lines t c =
     let lines = lines_of_link c.args.file.now.tree c.args.depth c.args.path.now.items in
-    appends_err c.from_residual-in_err-push_object-in-Object.result c.args.text.now.items (flat_map lines (map seen_link (take c.loop-link.link-index c.args.links.now))) c.loop-link.text.items
-    c.push_object.new.text.items (flat_map lines (map seen_link c.args.links.now)) c.from_residual-in_err-push_object-in-Object.ensures.0 c.loop-link.invariant.lines
+    appends_err c.from_residual-in_err-push_object-in-Object.result c.args.text.now.items (flat_map lines (map tree_link (take c.loop-link.link-index c.args.links.now))) c.loop-link.text.items
+    c.push_object.new.text.items (flat_map lines (map tree_link c.args.links.now)) c.from_residual-in_err-push_object-in-Object.ensures.0 c.loop-link.invariant.lines
     c.in_err-push_object-in-Object.ensures.lines
 
 pub push_object-returns-in-Some-clause-lines : goal.push_object-returns-in-Some-clause-lines
@@ -68,7 +69,7 @@ push_object-returns-clause-lines t c =
     let joined : below ≡ joined_path path name = c.in_ok-push_name.ensures ∙ sym (append_assoc path (codes "/") (escaped name)) in
     let first : c.push_group_line.new.out.items ≡ old ++ line =
     c.in_ok-push_group_line.ensures ∙ ap (λ (p : List ℕ). old ++ line_of (joined_path p name) (codes "group")) c.as_slice.ensures.value in
-    in_two_pieces old line (flat_map (lines_of_link tree (c.args.depth - 1) below) (map seen_link c.deref.result.now)) c.push_group_line.new.out.items c.push_links.new.text.items
+    in_two_pieces old line (flat_map (lines_of_link tree (c.args.depth - 1) below) (map tree_link c.deref.result.now)) c.push_group_line.new.out.items c.push_links.new.text.items
     first c.in_ok-push_links.ensures.lines
     ∙ ap (λ (text : List ℕ). old ++ text)
     (lines_of_next tree c.args.depth (c.args.depth - 1) path name below number c.in-Some-2.links.items c.deref.result.now are deeper joined c.deref.ensures.value)

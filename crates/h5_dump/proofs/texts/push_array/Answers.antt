@@ -2,12 +2,14 @@ use Rattle.std.proofs.Common.{◌≡◌, List, ℕ, ℤ, ◌++◌, ◌/◌, leng
 use Rattle.std.specs.Int.{w128}
 use Rattle.std.specs.List.{flat_map}
 use Rattle.std.proofs.lemmas.Int.{to_z-of_z}
-use Rattle.h5_model.specs.Scripts.Text.{attribute_line, escaped, rows_text}
+use Rattle.h5_model.specs.Scripts.Text.{attribute_line, cells_text, escaped}
+use Rattle.h5_model.specs.Tree.Objects.{Array}
 use Rattle.h5_text.specs.Appends.{Appends}
 use Rattle.h5_text.specs.Listing.{dump_line}
 use Rattle.h5_text.proofs.Appending.{appends_more}
 use Rattle.h5_text.proofs.LineTexts.{in_two_pieces}
-use Rattle.h5_dump.proofs.Dumps.{told, dump-array}
+use Rattle.h5_dump.specs.Dumped.{told}
+use Rattle.h5_dump.proofs.Dumps.{dump-array}
 use Rattle.h5_dump.proofs.texts.push_array.Goals as goal
 
 pub returns : goal.returns
@@ -17,13 +19,10 @@ returns c o d content is listed =
     let path = escaped c.args.path.now in
     let head = dump_line path (told a) in
     let lines = flat_map attribute_line c.args.attributes.now in
-    let values = d.cells in
-    let rows = rows_text (length values / a.size) a.size values in
-    let fill : to_z w128 (of_z w128 a.fill) ≡ a.fill = to_z-of_z w128 a.fill (search rules) in
-    let first : c.push_dump_line.new.out.items ≡ old ++ head =
-    c.in_ok-push_dump_line.ensures ∙ ap (λ (v : ℤ). old ++ dump_line path (record (told a) { fill = v })) fill in
+    let rows = cells_text (Array d) in
+    let first : c.push_dump_line.new.out.items ≡ old ++ head = c.in_ok-push_dump_line.ensures ∙ ap (λ t. old ++ dump_line path t) c.array_text.ensures in
     subst (λ (text : List ℕ). Appends c.push_cells.result old c.push_cells.new.text.items text)
     (ap (λ list. head ++ flat_map attribute_line list ++ rows) listed ∙ dump-array path o d a content is)
     (appends_more c.push_cells.result old (head ++ lines) c.push_attributes.new.text.items c.push_cells.new.text.items rows
     (in_two_pieces old head lines c.push_dump_line.new.out.items c.push_attributes.new.text.items first c.in_ok-push_attributes.ensures)
-    (c.push_cells.ensures values is.counted is.cells_are))
+    (c.push_cells.ensures d is))

@@ -7,16 +7,16 @@ use Rattle.h5_edit.proofs.Fitting.{create_dataset_fits}
 use Rattle.h5_edit.proofs.Refusals.{by_rule, not_carried}
 use Rattle.h5_edit.proofs.links.create_dataset.Goals as goal
 
-pub returns-then-not-is_one_line : goal.returns-then-not-is_one_line
-returns-then-not-is_one_line c =
+pub returns-then-not-is_carried : goal.returns-then-not-is_carried
+returns-then-not-is_carried c =
     not_carried (opened_state c.args.image.now.bytes c.args.opened.now.objects.items) (CreateDataset c.args.path.now c.args.spec.now)
-    (sym c.is_one_line.ensures ∙ c.if-not-is_one_line.true)
+    (sym c.is_carried.ensures ∙ c.if-not-is_carried.true)
 
 pub returns-in_err-place : goal.returns-in_err-place
 returns-in_err-place c =
     passed_on _ _ c.from_residual.result _ c.from_residual.ensures.1
     (by_rule c.requires (CreateDataset c.args.path.now c.args.spec.now)
-    (sym c.is_one_line.ensures ∙ c.if-not-is_one_line.false) _ c.in_err-place.ensures)
+    (sym c.is_carried.ensures ∙ c.if-not-is_carried.false) _ c.in_err-place.ensures)
 
 pub next_object-requires : goal.next_object-requires
 next_object-requires c = omega (arith, few_objects c.args.image.now.bytes c.args.opened.now.objects.items c.args.opened.now.numbers c.requires)
@@ -25,11 +25,11 @@ pub carry_out-requires-clause-edit : goal.carry_out-requires-clause-edit
 carry_out-requires-clause-edit c = (
   CreateDataset c.args.path.now c.args.spec.now,
   rw c.link_at-change.ensures
-      (create_dataset_fits c.requires c.args.spec c.size-size.ensures.one_of (sym c.is_one_line.ensures ∙ c.if-not-is_one_line.false) c.in_ok-place.ensures c.next_object.ensures),
+      (create_dataset_fits c.requires c.args.spec c.size-size.ensures.one_of (sym c.is_carried.ensures ∙ c.if-not-is_carried.false) c.in_ok-place.ensures c.next_object.ensures),
 )
 
 pub returns : goal.returns
 returns c =
     c.carry_out.ensures (CreateDataset c.args.path.now c.args.spec.now)
     (rw c.link_at-change.ensures
-    (create_dataset_fits c.requires c.args.spec c.size-size.ensures.one_of (sym c.is_one_line.ensures ∙ c.if-not-is_one_line.false) c.in_ok-place.ensures c.next_object.ensures))
+    (create_dataset_fits c.requires c.args.spec c.size-size.ensures.one_of (sym c.is_carried.ensures ∙ c.if-not-is_carried.false) c.in_ok-place.ensures c.next_object.ensures))

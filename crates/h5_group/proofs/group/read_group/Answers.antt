@@ -2,9 +2,11 @@ use Rattle.std.proofs.Common.{◌≡◌, ℕ, ◌+◌, length}
 use Rattle.std.proofs.lemmas.Result.{err_from_is_err_and}
 use Rattle.h5_bytes.specs.Blocks.{cover, Inside}
 use Rattle.h5_model.specs.Format.Heap.{heap_header, segment_of, heap_blocks, IsHeap}
+use Rattle.h5_btree.specs.Walk.Forms.{OfGroup}
+use Rattle.h5_btree.specs.Walk.Trees.{IsTree}
 use Rattle.h5_group.specs.Order.Ordered.{AreOrdered}
-use Rattle.h5_group.specs.Nodes.Trees.{IsTree}
 use Rattle.h5_group.specs.declared.group.Group.{Group}
+use Rattle.h5_group.proofs.NodeLaws.GroupLaws.{nodes_formed}
 use Rattle.h5_group.proofs.HeapSteps.{heap_refused, at_tree}
 use Rattle.h5_group.proofs.Refusals.{texts_refused, order_refused}
 use Rattle.h5_group.proofs.Linked.{group_read, both_claimed}
@@ -47,16 +49,16 @@ returns-in_err-check_order-clause-refused c =
     rw (p.1, p.2) (λ followed first second depth met.
     let here = at_tree image c.args.claims.now.held followed first second depth c.args.table met c.read_heap.new.claims.held inside claimed c.in_ok-heap.ensures.claimed.separate in
     let tree = (rw c.tree.ensures at c.in_ok-tree.ensures.walked) _ first c.args.table.heap depth here in
-    order_refused image c.read_tree.new.claims.held _ c.args.table first depth c.in_ok-tree.tree.nodes.items c.in_ok-tree.tree.symbol_nodes.items tree c.in_ok-tree.ensures.inside _ _
+    order_refused image c.read_tree.new.claims.held _ c.args.table first depth c.in_ok-tree.tree.nodes.items c.in_ok-tree.tree.leaves.items tree c.in_ok-tree.ensures.inside _ _
     c.in_err-check_order.ensures.refused)
 
 pub returns-clause-group : goal.returns-clause-group
 returns-clause-group c =
     let image = c.args.image.now.bytes in
-    let g : Group = record { table = c.args.table; symbol_nodes = c.in_ok-tree.tree.symbol_nodes } in
+    let g : Group = record { table = c.args.table; symbol_nodes = c.in_ok-tree.tree.leaves } in
     let inside : Inside (length image) (heap_blocks image g.table.heap) = rw c.heap.ensures at c.in_ok-heap.ensures.inside in
     let heap : IsHeap (heap_header image g.table.heap) (segment_of image g.table.heap) c.in_ok-heap.heap.free = rw c.heap.ensures at c.in_ok-heap.ensures.read in
-    let tree : IsTree image g.table.tree c.in_ok-tree.tree.nodes.items g.symbol_nodes.items = rw c.tree.ensures at c.in_ok-tree.ensures.tree in
+    let tree : IsTree image OfGroup g.table.tree c.in_ok-tree.tree.nodes.items g.symbol_nodes.items = rw c.tree.ensures at c.in_ok-tree.ensures.tree in
     let order : AreOrdered image (segment_of image g.table.heap) c.in_ok-tree.tree.nodes.items g.symbol_nodes.items
     = rw (c.segment_at.ensures, c.heap-4.ensures) at c.in_ok-check_order.ensures.ordered in
     group_read image g c.in_ok-tree.tree.nodes.items tree c.in_ok-heap.heap.free c.in_ok-check_texts.ensures.texts order heap c.in_ok-tree.ensures.inside inside
@@ -64,8 +66,8 @@ returns-clause-group c =
 pub returns-clause-claimed : goal.returns-clause-claimed
 returns-clause-claimed c =
     let image = c.args.image.now.bytes in
-    let g : Group = record { table = c.args.table; symbol_nodes = c.in_ok-tree.tree.symbol_nodes } in
-    let tree : IsTree image g.table.tree c.in_ok-tree.tree.nodes.items g.symbol_nodes.items = rw c.tree.ensures at c.in_ok-tree.ensures.tree in
+    let g : Group = record { table = c.args.table; symbol_nodes = c.in_ok-tree.tree.leaves } in
+    let tree : IsTree image OfGroup g.table.tree c.in_ok-tree.tree.nodes.items g.symbol_nodes.items = rw c.tree.ensures at c.in_ok-tree.ensures.tree in
     let before : (p : ℕ) → cover p c.read_heap.new.claims.held ≡ cover p c.args.claims.now.held + cover p (heap_blocks image g.table.heap)
     = λ p. rw c.heap.ensures at (c.in_ok-heap.ensures.claimed.covered p) in
     record {
@@ -77,15 +79,15 @@ returns-clause-claimed c =
 pub returns-clause-walked : goal.returns-clause-walked
 returns-clause-walked c followed first second depth met =
     let image = c.args.image.now.bytes in
-    let g : Group = record { table = c.args.table; symbol_nodes = c.in_ok-tree.tree.symbol_nodes } in
+    let g : Group = record { table = c.args.table; symbol_nodes = c.in_ok-tree.tree.leaves } in
     let inside : Inside (length image) (heap_blocks image g.table.heap) = rw c.heap.ensures at c.in_ok-heap.ensures.inside in
     let claimed : (p : ℕ) → cover p c.read_heap.new.claims.held ≡ cover p c.args.claims.now.held + cover p (heap_blocks image g.table.heap)
     = λ q. rw c.heap.ensures at (c.in_ok-heap.ensures.claimed.covered q) in
     let here = at_tree image c.args.claims.now.held followed first second depth g.table met c.read_heap.new.claims.held inside claimed c.in_ok-heap.ensures.claimed.separate in
     let tree = (rw c.tree.ensures at c.in_ok-tree.ensures.walked) _ first c.args.table.heap depth here in
-    let stands : IsTree image g.table.tree c.in_ok-tree.tree.nodes.items g.symbol_nodes.items = rw c.tree.ensures at c.in_ok-tree.ensures.tree in
+    let stands : IsTree image OfGroup g.table.tree c.in_ok-tree.tree.nodes.items g.symbol_nodes.items = rw c.tree.ensures at c.in_ok-tree.ensures.tree in
     group_followed image c.args.claims.now.held followed first second depth g met c.read_heap.new.claims.held inside claimed c.in_ok-heap.ensures.claimed.separate
-    c.read_tree.new.claims.held c.in_ok-tree.tree.nodes.items c.in_ok-tree.ensures.inside c.in_ok-tree.ensures.claimed.covered c.in_ok-tree.ensures.claimed.separate stands.formed tree
+    c.read_tree.new.claims.held c.in_ok-tree.tree.nodes.items c.in_ok-tree.ensures.inside c.in_ok-tree.ensures.claimed.covered c.in_ok-tree.ensures.claimed.separate (nodes_formed image g.symbol_nodes.items stands.formed) tree
 
 pub returns-in_err-heap-clause-only : goal.returns-in_err-heap-clause-only
 returns-in_err-heap-clause-only c = λ readable.
@@ -109,7 +111,7 @@ returns-in_err-check_texts-clause-only c = λ readable.
 pub returns-in_err-check_order-clause-only : goal.returns-in_err-check_order-clause-only
 returns-in_err-check_order-clause-only c = λ readable.
     let image = c.args.image.now.bytes in
-    let tree : IsTree image c.args.table.tree c.in_ok-tree.tree.nodes.items c.in_ok-tree.tree.symbol_nodes.items = rw c.tree.ensures at c.in_ok-tree.ensures.tree in
+    let tree : IsTree image OfGroup c.args.table.tree c.in_ok-tree.tree.nodes.items c.in_ok-tree.tree.leaves.items = rw c.tree.ensures at c.in_ok-tree.ensures.tree in
     let p = err_from_is_err_and c.from_residual-in_err-check_order.result c.from_residual-in_err-check_order.ensures.1 in
-    rw (p.1, p.2) (order_memory image c.args.table c.args.claims.now.held readable c.in_ok-tree.tree.nodes.items c.in_ok-tree.tree.symbol_nodes.items tree _ _
+    rw (p.1, p.2) (order_memory image c.args.table c.args.claims.now.held readable c.in_ok-tree.tree.nodes.items c.in_ok-tree.tree.leaves.items tree _ _
     c.in_err-check_order.ensures.refused)

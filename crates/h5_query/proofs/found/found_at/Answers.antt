@@ -2,13 +2,13 @@ use Rattle.std.proofs.Common.{refl}
 use Rattle.h5_header.specs.Listed.{messages_in}
 use Rattle.h5_open.specs.Attributes.{attributes_of}
 use Rattle.h5_query.proofs.Calls.{group_found, array_found}
-use Rattle.h5_query.proofs.Indexed.{line_kept, object_kept}
+use Rattle.h5_query.proofs.Indexed.{array_kept, object_kept}
 use Rattle.h5_query.proofs.found.found_at.Goals as goal
 
-pub array_cells-requires : goal.array_cells-requires
-array_cells-requires c =
+pub stored_array-requires : goal.stored_array-requires
+stored_array-requires c =
     let place = rw c.in-Object.is at c.in_ok-number.ensures in
-    line_kept c.args.image.now.bytes c.args.opened.now.objects.items c.args.opened.now.numbers c.requires c.in-Object.number c.in-Object.object.now place.1 c.in-Array.line c.in-Array.is
+    array_kept c.args.image.now.bytes c.args.opened.now.objects.items c.args.opened.now.numbers c.requires c.in-Object.number c.in-Object.object.now place.1 c.in-Array.is
 
 pub returns-in-Group : goal.returns-in-Group
 returns-in-Group c =
@@ -23,6 +23,6 @@ returns-in-Array c =
     let place = rw c.in-Object.is at c.in_ok-number.ensures in
     let kept = (object_kept c.args.image.now.bytes c.args.opened.now.objects.items c.args.opened.now.numbers c.requires c.in-Object.number c.in-Object.object.now place.1).header in
     array_found c.args.image.now.bytes c.args.opened.now.objects.items c.args.opened.now.numbers c.requires c.in-Object.number c.in-Object.object.now place.1 c.args.path.now place.0
-    c.in-Array.line c.in-Array.is _ refl c.in_ok-attributes.attributes
+    c.in-Array.is _ refl c.in_ok-attributes.attributes
     (c.in_ok-attributes.ensures (attributes_of (messages_in c.args.image.now.bytes c.in-Object.object.now.messages.list)) kept.attributes)
-    c.array_cells.result c.array_cells.ensures
+    c.stored_array.result c.stored_array.ensures

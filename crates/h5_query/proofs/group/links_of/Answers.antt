@@ -10,7 +10,7 @@ returns-in_default c =
 pub returns-in_default-content : goal.returns-in_default-content
 returns-in_default-content c =
     array_no_group c.args.image.now.bytes c.args.opened.now.objects.items c.args.number.0 c.in-Some.object.now (got_some c.args.opened.now.objects.items c.deref.result.now c.args.number.0 c.in-Some.object c.deref.ensures.value c.in-Some.ensures.lookup)
-    c.in_default-content.field-0 c.in_default-content.is
+    c.in_default-content.is
 
 pub entries-requires : goal.entries-requires
 entries-requires c = group_read c.args.image.now.bytes c.args.opened.now.objects.items c.args.opened.now.numbers c.requires c.args.number.0 c.in-Some.object.now (got_some c.args.opened.now.objects.items c.deref.result.now c.args.number.0 c.in-Some.object c.deref.ensures.value c.in-Some.ensures.lookup) c.in-Group.group c.in-Group.is

@@ -1,22 +1,38 @@
-use Rattle.std.proofs.Common.{◌≡◌, ◌∙◌, [], ◌∷◌, rules, to_z, of_z}
-use mir.Syntax.{w128}
-use Rattle.h5_model.specs.Scripts.Reading.{shown_maximum}
-use Rattle.h5_query.proofs.Calls.{group_kind, array_kind, shown_is}
+use Rattle.h5_header.specs.Listed.{messages_in}
+use Rattle.h5_open.specs.Told.{array_told}
+use Rattle.h5_query.proofs.Calls.{group_kind, array_kind}
+use Rattle.h5_query.proofs.Indexed.{array_kept}
+use Rattle.h5_query.proofs.KeptArrays.{same_rank}
 use Rattle.h5_query.proofs.links.kind_at.Goals as goal
+
+pub known_array-requires-clause-within : goal.known_array-requires-clause-within
+known_array-requires-clause-within c =
+    let place = rw c.in-Object.is at c.in_ok-object.ensures in
+    (array_kept c.args.image.now.bytes c.args.opened.now.objects.items c.args.opened.now.numbers c.requires c.in-Object.number c.in-Object.object.now place.1 c.in-Array.is).within
+
+pub known_array-requires-clause-dataset : goal.known_array-requires-clause-dataset
+known_array-requires-clause-dataset c =
+    let place = rw c.in-Object.is at c.in_ok-object.ensures in
+    (array_kept c.args.image.now.bytes c.args.opened.now.objects.items c.args.opened.now.numbers c.requires c.in-Object.number c.in-Object.object.now place.1 c.in-Array.is).list.kinds
+
+pub known_array-requires-clause-array : goal.known_array-requires-clause-array
+known_array-requires-clause-array c =
+    let place = rw c.in-Object.is at c.in_ok-object.ensures in
+    let kept = array_kept c.args.image.now.bytes c.args.opened.now.objects.items c.args.opened.now.numbers c.requires c.in-Object.number c.in-Object.object.now place.1 c.in-Array.is in
+    (array_told (messages_in c.args.image.now.bytes c.in-Object.object.now.messages.list), kept.list.array)
+
+pub array_kind-requires : goal.array_kind-requires
+array_kind-requires c =
+    let place = rw c.in-Object.is at c.in_ok-object.ensures in
+    let ms = messages_in c.args.image.now.bytes c.in-Object.object.now.messages.list in
+    let kept = array_kept c.args.image.now.bytes c.args.opened.now.objects.items c.args.opened.now.numbers c.requires c.in-Object.number c.in-Object.object.now place.1 c.in-Array.is in
+    rw c.known_array.ensures (same_rank ms (array_told ms) kept.list.array)
+
+pub returns-in-Array : goal.returns-in-Array
+returns-in-Array c = ?
 
 pub returns-in-Group : goal.returns-in-Group
 returns-in-Group c =
     let place = rw c.in-Object.is at c.in_ok-object.ensures in
     group_kind c.args.image.now.bytes c.args.opened.now.objects.items c.args.opened.now.numbers c.requires c.in-Object.number c.in-Object.object.now place.1 c.args.path.now place.0
     c.in-Group.field-0 c.in-Group.is
-
-pub returns-in-Array : goal.returns-in-Array
-returns-in-Array c =
-    let place = rw c.in-Object.is at c.in_ok-object.ensures in
-    let line = c.in-Array.line in
-    let value : to_z w128 (of_z w128 line.fill) ≡ line.fill = search rules in
-    let dims : c.unwrap.result ≡ line.size ∷ [] = rw c.unwrap.ensures at c.new.ensures.numbers in
-    let maxima : c.unwrap-in-Array.result ≡ c.unwrap_or.result ∷ [] = rw c.unwrap-in-Array.ensures at c.new-in-Array.ensures.numbers in
-    let shown : c.unwrap_or.result ≡ shown_maximum line.maximum = c.unwrap_or.ensures ∙ shown_is line.maximum in
-    rw (dims, maxima, value) (array_kind c.args.image.now.bytes c.args.opened.now.objects.items c.args.opened.now.numbers c.requires c.in-Object.number c.in-Object.object.now place.1 c.args.path.now place.0
-    line c.in-Array.is c.unwrap_or.result shown)

@@ -6,7 +6,7 @@ pub returns-in_default-content : goal.returns-in_default-content
 returns-in_default-content c =
     let place = rw c.in-Object.is at c.in_ok-object.ensures in
     array_no_list c.args.image.now.bytes c.args.opened.now.objects.items c.args.opened.now.numbers c.requires c.in-Object.number c.in-Object.object.now place.1 c.args.path.now place.0
-    c.in_default-content.field-0 c.in_default-content.is
+    c.in_default-content.is
 
 pub link_names-requires : goal.link_names-requires
 link_names-requires c =

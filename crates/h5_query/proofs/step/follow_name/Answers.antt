@@ -5,7 +5,7 @@ use Rattle.h5_query.proofs.step.follow_name.Goals as goal
 pub returns-in_default-content : goal.returns-in_default-content
 returns-in_default-content c =
     no_group c.args.image.now.bytes c.args.opened.now.objects.items c.args.opened.now.numbers c.requires.opened c.args.from c.in-Object.number c.in-Object.object c.in-Object.is c.requires.from
-    c.in_default-content.field-0 c.in_default-content.is c.args.name.now
+    c.in_default-content.is c.args.name.now
 
 pub lookup-requires : goal.lookup-requires
 lookup-requires c =

@@ -1,6 +1,6 @@
 use Rattle.std.proofs.Common.{◌≡◌, map, take}
 use Rattle.h5_heap.specs.Writing.Links.{link_of}
-use Rattle.h5_repack.specs.Objects.Objects.{tree_link}
+use Rattle.h5_model.specs.Tree.Links.{tree_link}
 use Rattle.h5_repack.specs.Layout.{written_at}
 use Rattle.h5_repack.proofs.group.new_links.Given as goal
 

@@ -1,7 +1,14 @@
 use Rattle.h5_repack.proofs.Pushed.{array_pushed}
+use Rattle.h5_repack.proofs.Sizes.{array_bounded, array_few}
 use Rattle.h5_repack.proofs.object.push_array.Goals as goal
+
+pub push_array_header-requires-clause-bounded : goal.push_array_header-requires-clause-bounded
+push_array_header-requires-clause-bounded c = array_bounded c.args.array.now c.args.cells.now c.args.others.now c.requires.held.0 c.requires.held.1
+
+pub push_array_header-requires-clause-few : goal.push_array_header-requires-clause-few
+push_array_header-requires-clause-few c = array_few c.args.array.now c.args.cells.now c.args.others.now c.requires.held.0 c.requires.held.1
 
 pub returns : goal.returns
 returns c o is =
-    array_pushed c.args.array.now c.args.others.now c.joined-array.result c.args.count c.args.at c.cells_address.result c.args.out.now.items c.push_array_header.new.out.items
-    c.push_data.new.out.items c.joined-array.ensures c.cells_address.ensures c.in_ok-push_array_header.ensures c.in_ok-push_data.ensures o is
+    array_pushed c.args.array.now c.args.cells.now c.args.others.now c.args.count c.args.at c.cells_address-address.result c.args.out.now.items c.push_array_header.new.out.items
+    c.push_data.new.out.items c.cells_address-address.ensures c.in_ok-push_array_header.ensures c.in_ok-push_data.ensures o is

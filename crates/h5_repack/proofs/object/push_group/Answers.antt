@@ -2,7 +2,7 @@ use Rattle.std.proofs.Common.{◌+◌, ◌++◌, ◌∙◌, ap, map, refl, arith
 use Rattle.h5_heap.specs.Writing.Links.{link_of}
 use Rattle.h5_group.specs.Writing.Written.{links_bytes}
 use Rattle.h5_repack.specs.Blocks.ArrayHeader.{group_written}
-use Rattle.h5_repack.specs.Objects.Objects.{tree_link}
+use Rattle.h5_model.specs.Tree.Links.{tree_link}
 use Rattle.h5_repack.specs.Layout.{written_at}
 use Rattle.h5_repack.proofs.Pushed.{places_are, tree_within, two_parts}
 use Rattle.h5_repack.proofs.object.push_group.Goals as goal

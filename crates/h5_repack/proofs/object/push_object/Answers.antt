@@ -2,7 +2,8 @@ use Rattle.std.proofs.Common.{◌≡◌, ◌++◌, ◌∙◌, List, ap, sym, sub
 use Rattle.std.proofs.lemmas.Result.{IfOk-weaker}
 use Rattle.std.specs.Prelude.{slice_get, slice_index}
 use Rattle.h5_model.specs.Tree.Objects.{Object}
-use Rattle.h5_repack.specs.declared.objects.object.TreeLink.{TreeLink}
+use Rattle.h5_model.specs.declared.object_no.ObjectNo.{ObjectNo}
+use Rattle.h5_model.specs.declared.link.Link.{Link}
 use Rattle.h5_repack.specs.declared.size.Extent.{Extent}
 use Rattle.h5_repack.specs.declared.size.Extent.TheVariants as extent
 use Rattle.h5_repack.specs.declared.size.Size.{Size}
@@ -17,7 +18,7 @@ push_group-requires-clause-held c =
     let h = c.requires.held in
     let own = extent_read l.sizes.now c.args.number h.1 _ (extent.Links c.in-Links.places) h.2 c.in-Links.is in (
       h.0,
-      subst (λ (ls : List TreeLink). IsGroupObject ls (c.args.object.now).others h.0) (sym c.deref.ensures.value)
+      subst (λ (ls : List (Link ObjectNo)). IsGroupObject ls (c.args.object.now).others h.0) (sym c.deref.ensures.value)
           (group_of c.args.object.now h.0 c.in-Group.links c.in-Group.is h.3),
       subst (λ (x : Extent). IsExtent l.leaf l.internal (h.0).content x) own (h.4).extent_is,
     )
@@ -42,7 +43,7 @@ unreachable-requires c =
 
 pub push_array-requires-clause-held : goal.push_array-requires-clause-held
 push_array-requires-clause-held c =
-    let h = c.requires.held in (h.0, array_of c.args.object.now h.0 c.in-Array.array c.in-Array.is h.3)
+    let h = c.requires.held in (h.0, array_of c.args.object.now h.0 c.in-Array.array c.in-Array.cells c.in-Array.is h.3)
 
 pub push_array-requires-clause-header : goal.push_array-requires-clause-header
 push_array-requires-clause-header c =
@@ -58,7 +59,7 @@ returns-in-Links c =
     → c.push_group.new.out.items ≡ c.args.out.now.items ++ object_at l (slice_index l.headers.now n) c.args.count o)
     (λ _ pushed o s found held size. pushed ∙ ap (λ xs. c.args.out.now.items ++ xs)
     (group_at l c.args.count n c.deref.result.now (c.args.object.now).others o s _ c.in-Links.places
-    (subst (λ (ls : List TreeLink). IsGroupObject ls (c.args.object.now).others o) (sym c.deref.ensures.value) (group_of c.args.object.now o c.in-Group.links c.in-Group.is held))
+    (subst (λ (ls : List (Link ObjectNo)). IsGroupObject ls (c.args.object.now).others o) (sym c.deref.ensures.value) (group_of c.args.object.now o c.in-Group.links c.in-Group.is held))
     found c.in-Links.is size))
     c.push_group.ensures
 
@@ -70,6 +71,6 @@ returns-in-Array c =
     (λ _. (o : Object) (s : Size) → slice_get l.sizes.now n ≡ Some s → IsHeldObject c.args.object.now o → IsSize l.leaf l.internal o s
     → c.push_array.new.out.items ≡ c.args.out.now.items ++ object_at l (slice_index l.headers.now n) c.args.count o)
     (λ _ pushed o s found held size.
-    let is = array_of c.args.object.now o c.in-Array.array c.in-Array.is held in
-    pushed o is ∙ ap (λ xs. c.args.out.now.items ++ xs) (array_object_at l c.args.count n c.in-Array.array (c.args.object.now).others o s _ is found size))
+    let is = array_of c.args.object.now o c.in-Array.array c.in-Array.cells c.in-Array.is held in
+    pushed o is ∙ ap (λ xs. c.args.out.now.items ++ xs) (array_object_at l c.args.count n c.in-Array.array c.in-Array.cells (c.args.object.now).others o s _ is found size))
     c.push_array.ensures

@@ -2,7 +2,7 @@ use Rattle.std.proofs.Common.{◌≡◌, ◌≤◌, ◌-◌, None, drop, length,
 use Rattle.std.specs.Ordering.{nat_cmp}
 use Rattle.std.specs.Cmp.Lexicographic.{slice_cmp}
 use Rattle.std.specs.FinMap.{find}
-use Rattle.h5_repack.specs.Objects.Objects.{tree_link}
+use Rattle.h5_model.specs.Tree.Links.{tree_link}
 use Rattle.h5_edit.proofs.ChangedLaws.MergedLaws.{StandBelow}
 use Rattle.h5_edit.proofs.change.links.link_place.Given as goal
 

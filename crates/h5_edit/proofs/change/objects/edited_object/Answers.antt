@@ -1,4 +1,5 @@
-use Rattle.h5_edit.proofs.ChangedLaws.ObjectLaws.{header_kept, read, led, array_there, cells_inside}
+use Rattle.h5_query.proofs.Indexed.{array_kept}
+use Rattle.h5_edit.proofs.ChangedLaws.ObjectLaws.{header_kept, read, led}
 use Rattle.h5_edit.proofs.change.objects.edited_object.Goals as goal
 
 pub others_in-requires-clause-kept : goal.others_in-requires-clause-kept
@@ -13,10 +14,6 @@ pub links_in-requires-clause-led : goal.links_in-requires-clause-led
 links_in-requires-clause-led c =
     led c.args.image.now.bytes c.args.opened.now.objects.items c.args.opened.now.numbers c.requires.opened c.args.object.now c.requires.there c.in-Group.group c.in-Group.is
 
-pub kept_array-requires-clause-array : goal.kept_array-requires-clause-array
-kept_array-requires-clause-array c =
-    array_there c.args.image.now.bytes c.args.opened.now.objects.items c.args.opened.now.numbers c.requires.opened c.args.object.now c.requires.there c.in-Array.line c.in-Array.is
-
-pub kept_array-requires-clause-cells : goal.kept_array-requires-clause-cells
-kept_array-requires-clause-cells c =
-    cells_inside c.args.image.now.bytes c.args.opened.now.objects.items c.args.opened.now.numbers c.requires.opened c.args.object.now c.requires.there c.in-Array.line c.in-Array.is
+pub kept_array-requires : goal.kept_array-requires
+kept_array-requires c =
+    array_kept c.args.image.now.bytes c.args.opened.now.objects.items c.args.opened.now.numbers c.requires.opened c.requires.there.0 c.args.object.now c.requires.there.1 c.in-Array.is

@@ -9,8 +9,8 @@ returns-in-Group c = group_target _ _ _ c.requires.opened _ _ c.requires.object 
 
 pub returns-then-links-ge-MAX_LINKS : goal.returns-then-links-ge-MAX_LINKS
 returns-then-links-ge-MAX_LINKS c =
-    full_target _ _ _ c.requires.opened _ _ c.requires.object c.in-Array.field-0 c.in-Array.is c.links.result c.links.ensures c.if-links-ge-MAX_LINKS.true
+    full_target _ _ _ c.requires.opened _ _ c.requires.object c.in-Array.is c.links.result c.links.ensures c.if-links-ge-MAX_LINKS.true
 
 pub returns-else-links-ge-MAX_LINKS : goal.returns-else-links-ge-MAX_LINKS
 returns-else-links-ge-MAX_LINKS c =
-    free_target _ _ _ c.requires.opened _ _ c.requires.object c.in-Array.field-0 c.in-Array.is c.links.result c.links.ensures c.if-links-ge-MAX_LINKS.false
+    free_target _ _ _ c.requires.opened _ _ c.requires.object c.in-Array.is c.links.result c.links.ensures c.if-links-ge-MAX_LINKS.false

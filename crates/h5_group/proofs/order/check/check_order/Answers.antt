@@ -17,20 +17,20 @@ use Rattle.h5_group.proofs.order.check.check_order.Goals as goal
 pub check_names-requires-clause-symbols : goal.check_names-requires-clause-symbols
 check_names-requires-clause-symbols c =
     subst (AllByRecursion (IsSymbolsAt c.args.image.now.bytes)) (sym c.deref.ensures.value)
-    (symbols_stand c.args.image.now.bytes c.args.table.tree c.args.tree.now.nodes.items c.args.tree.now.symbol_nodes.items c.requires.tree c.requires.inside)
+    (symbols_stand c.args.image.now.bytes c.args.table.tree c.args.tree.now.nodes.items c.args.tree.now.leaves.items c.requires.tree c.requires.inside)
 
 pub returns-in_err-check_names-clause-refused : goal.returns-in_err-check_names-clause-refused
 returns-in_err-check_names-clause-refused c =
     let p = err_from_is_err_and c.from_residual.result c.from_residual.ensures.1 in
     let falls = subst (λ (ns : List ℕ). FallAt c.args.image.now.bytes c.args.segment.now ns c.in_err-check_names.field-0.0.address) c.deref.ensures.value c.in_err-check_names.ensures.falls in
     rw (p.1, p.2)
-    (name_fault c.args.image.now.bytes c.args.segment.now c.args.table c.args.tree.now.nodes.items c.args.tree.now.symbol_nodes.items _ _ c.requires.segment
+    (name_fault c.args.image.now.bytes c.args.segment.now c.args.table c.args.tree.now.nodes.items c.args.tree.now.leaves.items _ _ c.requires.segment
     c.requires.tree c.in_err-check_names.ensures.cause falls)
 
 pub check_keys-requires-clause-subtree : goal.check_keys-requires-clause-subtree
 check_keys-requires-clause-subtree c =
     let image : List ℕ = c.args.image.now.bytes in
-    let stands = root_stands image c.args.table.tree c.args.tree.now.nodes.items c.args.tree.now.symbol_nodes.items c.requires.tree c.requires.inside in
+    let stands = root_stands image c.args.table.tree c.args.tree.now.nodes.items c.args.tree.now.leaves.items c.requires.tree c.requires.inside in
     let here = subst (λ (at : ℕ). HasSubtree image (suc ((node_at image (kind_in image) at).level)) at) (sym c.tree-root.ensures) stands in
     subst (λ (l : ℕ). HasSubtree image (suc l) c.tree-root.result) (sym (c.level.ensures ∙ ap (λ (n : Node). n.level) c.tree_node.ensures)) here
 
@@ -41,7 +41,7 @@ returns-clause-ordered c =
     let all : nodes_from image c.level.result c.tree-root.result ≡ c.args.tree.now.nodes.items
     = ap (λ (l : ℕ). nodes_from image l c.tree-root.result) (c.level.ensures ∙ ap (λ (n : Node). n.level) c.tree_node.ensures)
     ∙ ap (λ (at : ℕ). nodes_from image (node_at image (kind_in image) at).level at) c.tree-root.ensures
-    ∙ all_owned image c.args.table.tree c.args.tree.now.nodes.items c.args.tree.now.symbol_nodes.items c.requires.tree c.requires.inside in
+    ∙ all_owned image c.args.table.tree c.args.tree.now.nodes.items c.args.tree.now.leaves.items c.requires.tree c.requires.inside in
     on_ok_weaker c.check_keys.result
     (λ ordered. record {
       ascending = subst (λ (ns : List ℕ). Ascend (map (link_of segment) (all_entries image ns))) c.deref.ensures.value c.in_ok-check_names.ensures.ascending;
@@ -54,7 +54,7 @@ returns-clause-refused c =
     let all : nodes_from image c.level.result c.tree-root.result ≡ c.args.tree.now.nodes.items
     = ap (λ (l : ℕ). nodes_from image l c.tree-root.result) (c.level.ensures ∙ ap (λ (n : Node). n.level) c.tree_node.ensures)
     ∙ ap (λ (at : ℕ). nodes_from image (node_at image (kind_in image) at).level at) c.tree-root.ensures
-    ∙ all_owned image c.args.table.tree c.args.tree.now.nodes.items c.args.tree.now.symbol_nodes.items c.requires.tree c.requires.inside in
+    ∙ all_owned image c.args.table.tree c.args.tree.now.nodes.items c.args.tree.now.leaves.items c.requires.tree c.requires.inside in
     IfErr-weaker c.check_keys.result _ _
-    (λ fault refused. key_fault image c.args.segment.now c.args.table c.args.tree.now.nodes.items c.args.tree.now.symbol_nodes.items fault.address fault.cause
+    (λ fault refused. key_fault image c.args.segment.now c.args.table c.args.tree.now.nodes.items c.args.tree.now.leaves.items fault.address fault.cause
     c.requires.segment refused.0 (subst (λ (ns : List ℕ). Contains ns fault.address) all refused.1) refused.2) c.check_keys.ensures.refused

@@ -1,35 +1,37 @@
 use Rattle.std.specs.List.{AllByRecursion, flat_map}
 use Rattle.std.proofs.lemmas.Result.{err_from_is_err_and, on_ok_weaker, MatchResult-weaker}
 use Rattle.h5_heap.specs.Kept.{segment_in}
+use Rattle.h5_btree.specs.Walk.Forms.{OfGroup}
+use Rattle.h5_btree.proofs.WalkLaws.StandLaws.{nodes_stand}
 use Rattle.h5_group.specs.Nodes.Stands.{entries_at}
 use Rattle.h5_group.specs.Texts.Linked.{linked_at, IsNamed}
 use Rattle.h5_group.specs.Texts.Taken.{TakesLinked}
-use Rattle.h5_group.proofs.NodeLaws.StandLaws.{symbols_stand, nodes_stand}
+use Rattle.h5_group.proofs.NodeLaws.StandLaws.{symbols_stand}
 use Rattle.h5_group.proofs.TextProofs.TextLaws.{same_begun, taken_begun, same_now, taken_now, names_refused, empty_refused, linked_refused, keys_refused, are_texts}
 use Rattle.h5_group.proofs.texts.check.check_texts.Goals as goal
 
 pub check_names-requires-clause-there : goal.check_names-requires-clause-there
 check_names-requires-clause-there c =
-    rw c.deref.ensures.value (symbols_stand c.args.image.now.bytes c.args.table.tree c.args.tree.now.nodes.items c.args.tree.now.symbol_nodes.items c.requires.tree c.requires.inside)
+    rw c.deref.ensures.value (symbols_stand c.args.image.now.bytes c.args.table.tree c.args.tree.now.nodes.items c.args.tree.now.leaves.items c.requires.tree c.requires.inside)
 
 pub take_linked-requires-clause-there : goal.take_linked-requires-clause-there
 take_linked-requires-clause-there c =
-    rw c.deref-2.ensures.value (symbols_stand c.args.image.now.bytes c.args.table.tree c.args.tree.now.nodes.items c.args.tree.now.symbol_nodes.items c.requires.tree c.requires.inside)
+    rw c.deref-2.ensures.value (symbols_stand c.args.image.now.bytes c.args.table.tree c.args.tree.now.nodes.items c.args.tree.now.leaves.items c.requires.tree c.requires.inside)
 
 pub take_keys-requires-clause-there : goal.take_keys-requires-clause-there
 take_keys-requires-clause-there c =
-    rw c.deref-3.ensures.value (nodes_stand c.args.image.now.bytes c.args.table.tree c.args.tree.now.nodes.items c.args.tree.now.symbol_nodes.items c.requires.tree c.requires.inside)
+    rw c.deref-3.ensures.value (nodes_stand c.args.image.now.bytes OfGroup c.args.table.tree c.args.tree.now.nodes.items c.args.tree.now.leaves.items c.requires.tree c.requires.inside)
 
 pub returns-in_err-check_names-clause-refused : goal.returns-in_err-check_names-clause-refused
 returns-in_err-check_names-clause-refused c =
     let p = err_from_is_err_and c.from_residual.result c.from_residual.ensures.1 in
-    rw (p.1, p.2) (names_refused c.args.image.now.bytes c.args.table c.args.heap.now c.args.tree.now.nodes.items c.args.tree.now.symbol_nodes.items c.requires.tree c.requires.heap
+    rw (p.1, p.2) (names_refused c.args.image.now.bytes c.args.table c.args.heap.now c.args.tree.now.nodes.items c.args.tree.now.leaves.items c.requires.tree c.requires.heap
     c.in_err-check_names.field-0.0.cause (rw c.deref.ensures.value at c.in_err-check_names.ensures.refused))
 
 pub returns-in_err-begin_names-clause-refused : goal.returns-in_err-begin_names-clause-refused
 returns-in_err-begin_names-clause-refused c =
     let p = err_from_is_err_and c.from_residual-in_err-begin_names.result c.from_residual-in_err-begin_names.ensures.1 in
-    rw (p.1, p.2) (empty_refused c.args.image.now.bytes c.args.table c.args.heap.now c.args.tree.now.nodes.items c.args.tree.now.symbol_nodes.items c.requires.tree c.requires.heap
+    rw (p.1, p.2) (empty_refused c.args.image.now.bytes c.args.table c.args.heap.now c.args.tree.now.nodes.items c.args.tree.now.leaves.items c.requires.tree c.requires.heap
     c.in_err-begin_names.field-0.0.cause c.in_err-begin_names.ensures.refused)
 
 pub returns-in_err-take_linked-clause-refused : goal.returns-in_err-take_linked-clause-refused
@@ -41,7 +43,7 @@ returns-in_err-take_linked-clause-refused c =
     let fresh = c.requires.heap in
     let empty = c.in_ok-begin_names.ensures.begun fresh.held fresh.taken in
     let p = err_from_is_err_and c.from_residual-in_err-take_linked.result c.from_residual-in_err-take_linked.ensures.1 in
-    rw (p.1, p.2) (linked_refused image c.args.table heap c.args.tree.now.nodes.items c.args.tree.now.symbol_nodes.items c.requires.tree c.requires.heap
+    rw (p.1, p.2) (linked_refused image c.args.table heap c.args.tree.now.nodes.items c.args.tree.now.leaves.items c.requires.tree c.requires.heap
     begun (same_begun image heap begun is empty) (taken_begun image heap begun is empty)
     c.in_err-take_linked.field-0.0.cause (rw c.deref-2.ensures.value at c.in_err-take_linked.ensures.refused))
 
@@ -50,7 +52,7 @@ returns-clause-texts c =
     let image = c.args.image.now.bytes in
     let heap = c.args.heap.now in
     let nodes = c.args.tree.now.nodes.items in
-    let symbol_nodes = c.args.tree.now.symbol_nodes.items in
+    let symbol_nodes = c.args.tree.now.leaves.items in
     let begun = c.begin_names.new.self in
     let now = c.take_linked.new.heap in
     let is = c.in_ok-begin_names.ensures.held in
@@ -67,7 +69,7 @@ returns-clause-refused c =
     let image = c.args.image.now.bytes in
     let heap = c.args.heap.now in
     let nodes = c.args.tree.now.nodes.items in
-    let symbol_nodes = c.args.tree.now.symbol_nodes.items in
+    let symbol_nodes = c.args.tree.now.leaves.items in
     let begun = c.begin_names.new.self in
     let now = c.take_linked.new.heap in
     let is = c.in_ok-begin_names.ensures.held in

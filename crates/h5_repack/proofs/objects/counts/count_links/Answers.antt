@@ -3,7 +3,8 @@ use Rattle.std.proofs.lemmas.List.{take_all}
 use Rattle.std.proofs.lemmas.Option.{slice_get-get_or, slice_get_read}
 use Rattle.std.specs.Prelude.{slice_get}
 use Rattle.std.specs.List.{sum_by}
-use Rattle.h5_repack.specs.declared.objects.object.TreeLink.{TreeLink}
+use Rattle.h5_model.specs.declared.object_no.ObjectNo.{ObjectNo}
+use Rattle.h5_model.specs.declared.link.Link.{Link}
 use Rattle.h5_repack.specs.Objects.Targets.{new_links, targets, times}
 use Rattle.h5_repack.proofs.ObjectLaws.Counting.{AreCountedTo, refilled, objects_more, objects_same, objects_room}
 use Rattle.h5_laws.proofs.Lists.{In, in_contains}
@@ -18,7 +19,7 @@ count_group-requires-clause-below c number at =
     let x = c.object-item.result in
     let held : slice_get objects i ≡ Some x = slice_get_read objects (length objects) i x refl c.loop-object-test.true c.object-item.is in
     let same : c.deref.result.now ≡ new_links x.content = c.deref.ensures.value ∙ sym (ap new_links c.in-Group.is) in
-    let there : In number (targets (new_links x.content)) = subst (λ (ls : List TreeLink). In number (targets ls)) same (in_contains number (targets c.deref.result.now) at) in
+    let there : In number (targets (new_links x.content)) = subst (λ (ls : List (Link ObjectNo)). In number (targets ls)) same (in_contains number (targets c.deref.result.now) at) in
     let low = target_below objects c.requires.tree.0 c.requires.tree.1 c.requires.tree.2 i number x held there in
     omega (arith, low, ap length c.deref_mut.ensures.value, c.loop-object.invariant.same)
 
@@ -31,7 +32,7 @@ count_group-requires-clause-few c number low =
     let room = objects_room objects i x c.loop-object.counts.items number c.loop-object-test.true c.object-item.is c.loop-object.invariant within in
     let few = counted_few objects c.requires.tree.0 c.requires.tree.1 c.requires.tree.2 number within in
     let links : times number (targets c.deref.result.now) ≡ counted number x
-    = ap (λ (ls : List TreeLink). times number (targets ls)) (c.deref.ensures.value ∙ sym (ap new_links c.in-Group.is)) in
+    = ap (λ (ls : List (Link ObjectNo)). times number (targets ls)) (c.deref.ensures.value ∙ sym (ap new_links c.in-Group.is)) in
     let count : get_or c.deref_mut.result.now number 0 ≡ get_or c.loop-object.counts.items number 0 = ap (λ (ns : List ℕ). get_or ns number 0) c.deref_mut.ensures.value in
     omega (arith, room, few, links, count)
 
@@ -51,7 +52,7 @@ loop-object-preserved c =
           let each : (number : ℕ) → number < length old → get_or new number 0 ≡ get_or old number 0 + counted number x
           = λ number low. w.count_group.ensures.counted number (subst (λ (ns : List ℕ). number < length ns) (sym sent) low)
           ∙ ap (λ (ns : List ℕ). get_or ns number 0 + times number (targets w.deref.result.now)) sent
-          ∙ ap (λ (ls : List TreeLink). get_or old number 0 + times number (targets ls)) (w.deref.ensures.value ∙ sym (ap new_links w.in-Group.is)) in
+          ∙ ap (λ (ls : List (Link ObjectNo)). get_or old number 0 + times number (targets ls)) (w.deref.ensures.value ∙ sym (ap new_links w.in-Group.is)) in
           subst (AreCountedTo objects (i + 1)) (sym written) (objects_more objects i x old new c.loop-object-test.true c.object-item.is c.loop-object.invariant length_is each)
       | in_default w ↦
           subst (λ (v : Vec ℕ Global). AreCountedTo objects (i + 1) v.items) (sym w.counts-is)

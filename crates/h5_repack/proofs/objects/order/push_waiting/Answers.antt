@@ -8,7 +8,7 @@ loop-link-preserved-in-Continue-1 c =
     let before = c.args.stack.now.items in
     let number = c.in-Object.number in
     let so_far = targets (map (λ k. k.now) c.loop-link.yielded) in
-    c.in_ok-push.ensures.items ∙ ap (λ (ns : List ℕ). ns ++ number ∷ []) c.loop-link.invariant ∙ append_assoc before so_far (number ∷ [])
+    c.in_ok-push.ensures.items ∙ ap (λ (ns : List ℕ). ns ++ number.0 ∷ []) c.loop-link.invariant ∙ append_assoc before so_far (number.0 ∷ [])
     ∙ ap (λ (ns : List ℕ). before ++ ns) (sym (pushed_more c.loop-link.yielded c.in-Some.link number c.in-Object.is))
 
 pub loop-link-preserved : goal.loop-link-preserved

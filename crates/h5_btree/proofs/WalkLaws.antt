@@ -1,0 +1,15 @@
+pub mod NodeFaults
+pub mod Prefix
+pub mod FormLaws
+pub mod KeyLaws
+pub mod StandLaws
+pub mod RowJoin
+pub mod Taken
+pub mod Steps
+pub mod FurtherLaws
+pub mod Neighbours
+pub mod RowSteps
+pub mod RootSteps
+pub mod AllLaws
+pub mod TreeLaws
+pub mod Readable

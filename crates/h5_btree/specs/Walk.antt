@@ -1,0 +1,10 @@
+pub mod Forms
+pub mod Trees
+pub mod Stands
+pub mod Followed
+pub mod Below
+pub mod Keyed
+pub mod Refused
+pub mod Further
+pub mod Rows
+pub mod Readable

@@ -1,0 +1,91 @@
+-- The maxima of an array that is read, and of a new one, are not below its sizes, and can be told from none (File Format
+-- Specification 3.0, section IV.A.2.b).
+use Rattle.std.proofs.Common.{◌≡◌, ℕ, zero, suc, ◌+◌, ◌*◌, ◌^◌, ◌<◌, ◌≤◌, List, [], ◌∷◌, map, Option, Some, None, true, false, cond, refl, ap, subst, arith}
+use Rattle.std.specs.Prelude.{nat_le, ◌==◌, ◌&&◌}
+use Rattle.std.specs.Option.{IfSome}
+use Rattle.std.specs.List.{AllByRecursion, AllZip, range_with_len}
+use Rattle.std.proofs.lemmas.Bool.Decides.{nat_tests}
+use Rattle.std.proofs.lemmas.Option.{cond_some}
+use Rattle.std.proofs.Math.Nat.{mul-le-mul_left, mul-le-mul_right}
+use Rattle.h5_bytes.specs.Bytes.{number_at, undefined}
+use Rattle.h5_model.specs.Format.Extent.{Extent, extent_of, extent_in, is_dataspace, rank_in, size_in, maximum_in, maximum_from, maximum_fits, has_maxima}
+use Rattle.h5_model.specs.Scripts.Tests.{each_below}
+use Rattle.h5_model.specs.Tree.Objects.{are_sizes}
+use Rattle.h5_model.specs.Tree.Places.{extent_cells}
+use Rattle.h5_model.proofs.TestLaws.{each_below_at}
+use Rattle.h5_model.proofs.WithinLaws.{both}
+use Rattle.h5_repack.specs.Bodies.Sound.{IsBound}
+use Rattle.h5_edit.specs.Fits.Laws.{AreBytes}
+use Rattle.h5_edit.proofs.FitLaws.PlainBodies.{long_low}
+
+-- ---- sizes
+
+extent_positive : (sizes : List ℕ) → 1 ≤ extent_cells sizes
+extent_positive [] = omega arith
+extent_positive (d ∷ ds) = elim (d == 0) as (λ b. (d == 0) ≡ b → 1 ≤ cond b 1 d * extent_cells ds) [
+  | true ↦ λ e. omega (arith, extent_positive ds)
+  | false ↦ λ e.
+      let some : 1 ≤ d = grind (arith, nat_tests, e) in
+      let more : 1 * extent_cells ds ≤ d * extent_cells ds = mul-le-mul_right (extent_cells ds) some in
+      omega (arith, more, extent_positive ds)
+] refl
+
+-- no size is above the product of those other than 0
+sizes_below : (sizes : List ℕ) (most : ℕ) → extent_cells sizes ≤ most → AllByRecursion (λ n. n ≤ most) sizes
+sizes_below [] most few = tt
+sizes_below (d ∷ ds) most few = elim (d == 0) as (λ b. (d == 0) ≡ b → cond b 1 d * extent_cells ds ≤ most → (d ≤ most) × AllByRecursion (λ n. n ≤ most) ds) [
+  | true ↦ λ e low. let none : d ≡ 0 = grind (arith, nat_tests, e) in (omega (arith, none), sizes_below ds most (omega (arith, low)))
+  | false ↦ λ e low.
+      let some : 1 ≤ d = grind (arith, nat_tests, e) in
+      let rest : 1 * extent_cells ds ≤ d * extent_cells ds = mul-le-mul_right (extent_cells ds) some in
+      let own : d * 1 ≤ d * extent_cells ds = mul-le-mul_left d (extent_positive ds) in
+      (omega (arith, own, low), sizes_below ds most (omega (arith, rest, low)))
+] refl few
+
+-- ---- maxima that are read
+
+module _ (body : List ℕ) (low : AreBytes body) (form : is_dataspace body ≡ true) where
+  maximum_bounded : (k : ℕ) → k < rank_in body → size_in body k ≤ 2 ^ 40 → IsBound (size_in body k) (maximum_in body k)
+  unfolding maximum_fits
+  maximum_bounded k below few =
+      let n = number_at body (8 + 8 * rank_in body + 8 * k) 8 in
+      elim (has_maxima body) as (λ b. has_maxima body ≡ b → IfSome (cond b (maximum_from n) (Some (size_in body k))) (λ m. (size_in body k ≤ m) × (m < undefined))) [
+        | true ↦ λ flag.
+            let all : each_below (rank_in body) (maximum_fits body) ≡ true = grind (arith, nat_tests, form, flag) in
+            let above : nat_le (size_in body k) n ≡ true = each_below_at (rank_in body) (maximum_fits body) k all below in
+            elim (n == undefined) as (λ c. (n == undefined) ≡ c → IfSome (cond c None (Some n)) (λ m. (size_in body k ≤ m) × (m < undefined))) [
+              | true ↦ λ _. tt
+              | false ↦ λ other. (grind (arith, nat_tests, above), let low_n : n < 2 ^ 64 = long_low body (8 + 8 * rank_in body + 8 * k) low in grind (arith, nat_tests, other, low_n))
+            ] refl
+        | false ↦ λ _. (omega arith, omega (arith, few))
+      ] refl
+
+  each_bounded : (from n : ℕ) → from + n ≤ rank_in body → AllByRecursion (λ s. s ≤ 2 ^ 40) (map (size_in body) (range_with_len from n))
+      → AllZip IsBound (map (size_in body) (range_with_len from n)) (map (maximum_in body) (range_with_len from n))
+  each_bounded from zero within few = tt
+  each_bounded from (suc n) within few = (maximum_bounded from (omega (arith, within)) few.0, each_bounded (from + 1) n (omega (arith, within)) few.1)
+
+pub read_bounded : (body : List ℕ) (x : Extent) → AreBytes body → extent_of body ≡ Some x → extent_cells x.sizes ≤ 2 ^ 40 → AllZip IsBound x.sizes x.maxima
+unfolding extent_of
+read_bounded body x low h =
+    let p = cond_some (is_dataspace body) (extent_in body) x h in
+    subst (λ (e : Extent). extent_cells e.sizes ≤ 2 ^ 40 → AllZip IsBound e.sizes e.maxima) p.1
+    (λ small. each_bounded body low p.0 0 (rank_in body) (omega arith) (sizes_below (map (size_in body) (range_with_len 0 (rank_in body))) (2 ^ 40) small))
+
+-- ---- sizes that are their own maxima
+
+same_number : (a b : ℕ) → (a == b) ≡ true → a ≡ b
+same_number a b is = grind (arith, nat_tests)
+
+each_own : (sizes : List ℕ) (maxima : List (Option ℕ)) → are_sizes sizes maxima ≡ true → AllByRecursion (λ s. s ≤ 2 ^ 40) sizes → AllZip IsBound sizes maxima
+each_own [] [] own few = tt
+each_own [] (m ∷ ms) own few = absurd (cc)
+each_own (d ∷ ds) [] own few = absurd (cc)
+each_own (d ∷ ds) (None ∷ ms) own few = absurd (cc)
+each_own (d ∷ ds) (Some m ∷ ms) own few =
+    let parts = both (m == d) (are_sizes ds ms) own in
+    let same : m ≡ d = same_number m d parts.0 in
+    ((omega (arith, same), omega (arith, same, few.0)), each_own ds ms parts.1 few.1)
+
+pub own_bounded : (sizes : List ℕ) (maxima : List (Option ℕ)) → are_sizes sizes maxima ≡ true → extent_cells sizes ≤ 2 ^ 40 → AllZip IsBound sizes maxima
+own_bounded sizes maxima own few = each_own sizes maxima own (sizes_below sizes (2 ^ 40) few)

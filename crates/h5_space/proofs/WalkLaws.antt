@@ -1,0 +1,3 @@
+pub mod WalkedLaws
+pub mod FieldLaws
+pub mod MetFields
