@@ -18,7 +18,7 @@ use Rattle.clap.specs.declared.parser.matches.ValueSource.{ValueSource}
 use Rattle.clap.specs.Facts.{explicit_source}
 use Rattle.std.proofs.lemmas.List.{length-append}
 use Rattle.std.proofs.lemmas.Slice.Eq.{bytes_eq-Decides}
-use Rattle.h5_args.specs.Words.{asked, faults, h5i_app, wanted, WantNew, WantLs, WantDump, WantRun}
+use Rattle.h5_args.specs.Words.{wanted_by_words, faults, h5i_app, wanted, WantNew, WantLs, WantDump, WantRun}
 
 -- ---- the subcommand is not `help`
 
@@ -457,6 +457,6 @@ help_gives : Gives (sub_at 4)
 help_gives = record { alone = refl; order = λ words named e. absurd (true≢false named) }
 
 -- words in which clap's own definition finds no fault ask for an order
-pub faultless_asked : (words : List Text) → faults words ≡ [] → is_some (asked words) ≡ true
+pub faultless_asked : (words : List Text) → faults words ≡ [] → is_some (wanted_by_words words) ≡ true
 faultless_asked words none =
     faultless_gives (built h5i_app) (new_gives, (ls_gives, (dump_gives, (run_gives, (help_gives, tt))))) (argument_words h5i_app words) refl refl none

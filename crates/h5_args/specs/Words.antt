@@ -61,5 +61,5 @@ abbrev pub faults : List Text → Kinds
 faults words = fault_of h5i_app words
 
 -- what clap's own definition of the matches gives for the words
-abbrev pub asked : List Text → Option Wanted
-asked words = wanted (subcommand_of h5i_app words)
+abbrev pub wanted_by_words : List Text → Option Wanted
+wanted_by_words words = wanted (subcommand_of h5i_app words)

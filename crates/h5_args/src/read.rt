@@ -3,9 +3,9 @@
 ghost use Rattle.std.specs.Prelude.{◌≡◌, [], IfOk, IfErr, MatchResult, Some, map, option_map};
 ghost use Rattle.clap.specs.Words.{kind_of, subcommand_rows_of};
 ghost use Rattle.clap.specs.declared.error.kind.ErrorKind.TheVariants.{OutOfMemory};
-ghost use Rattle.h5_args.specs.Words.{Taken, asked, faults, wanted, wanted_by};
+ghost use Rattle.h5_args.specs.Words.{Taken, wanted_by_words, faults, wanted, wanted_by};
 ghost use Rattle.h5_args.specs.Faults.{IsFaultOf, IsOfKind};
-ghost use Rattle.h5_args.specs.Order.{texts_of};
+ghost use Rattle.h5_args.specs.Order.{wanted_by_order};
 ghost use Rattle.h5_args.specs.declared.orders.OrderFault.TheVariants.{NoMemory};
 
 use crate::command::h5i;
@@ -17,7 +17,7 @@ use std::convert::AsStr;
 
 /// The order of this name, where there is such an order and it is given what it needs.
 fn order_of<'a>(name: &str, file: Option<&'a str>, path: Option<&'a str>) -> Option<Order<'a>>
-    ensures { option_map texts_of result
+    ensures { option_map wanted_by_order result
         ≡ wanted_by name.now (option_map (λ t. t.now) file.entry) (option_map (λ t. t.now) path.entry) }
 {
     let file = file?;
@@ -31,7 +31,7 @@ fn order_of<'a>(name: &str, file: Option<&'a str>, path: Option<&'a str>) -> Opt
 }
 
 fn order_in<'a>(matches: &ArgMatches<'a>) -> Option<Order<'a>>
-    ensures { option_map texts_of result ≡ wanted (subcommand_rows_of matches.now) }
+    ensures { option_map wanted_by_order result ≡ wanted (subcommand_rows_of matches.now) }
 {
     let (name, inner) = matches.subcommand()?;
     order_of(name, inner.get_str("FILE"), inner.get_str("PATH"))
@@ -54,7 +54,7 @@ fn fault_of(alloc: Global, error: &Error) -> OrderFault
 
 /// What the words, the program's name first, ask for.
 pub fn order<'a, S: AsStr>(alloc: Global, words: &'a [S]) -> Result<Order<'a>, OrderFault>
-    ensures order { IfOk result (λ o. Some (texts_of o) ≡ asked (map S.text words.entry.now)) }
+    ensures order { IfOk result (λ o. Some (wanted_by_order o) ≡ wanted_by_words (map S.text words.entry.now)) }
     // Words that the command takes are refused for want of memory alone.
     ensures only { Taken (map S.text words.entry.now) → IfErr result (λ e. e ≡ NoMemory) }
     // An order comes only of words without a fault, and others are refused for one that they have.

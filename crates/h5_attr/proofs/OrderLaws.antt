@@ -19,7 +19,7 @@ use Rattle.h5_model.specs.Format.Messages.{Message}
 use Rattle.h5_model.specs.Tree.Objects.{Attribute, Attributes}
 use Rattle.h5_model.specs.Format.Reads.{HasAttributes}
 use Rattle.h5_model.specs.Faults.HeaderFaults.{HasNameTwice}
-use Rattle.h5_attr.specs.Attributes.{attributes_in, names_in, HasNamesOnce}
+use Rattle.h5_attr.specs.Attributes.{attributes_in, attribute_names_in, HasNamesOnce}
 use Rattle.h5_attr.proofs.EntryLaws.{names_once, attributes-is}
 
 abbrev order : List ℕ → List ℕ → Ordering
@@ -133,34 +133,34 @@ sorted-keys (e ∷ es) = ap (λ (b : Bool). b && is_sorted order (alone (map (λ
 -- ---- the keys of the attributes
 
 -- which names the map has
-has_name : (ms : List Message) (attributes : Attributes) → HasAttributes ms attributes → (q : List ℕ) → list_any (same q) (keys attributes) ≡ list_any (same q) (names_in ms)
+has_name : (ms : List Message) (attributes : Attributes) → HasAttributes ms attributes → (q : List ℕ) → list_any (same q) (keys attributes) ≡ list_any (same q) (attribute_names_in ms)
 has_name ms attributes has q =
     sym (contains_key-keys attributes q)
     ∙ ap is_some (ap (λ (m : Attributes). get m q) (attributes-is ms attributes has) ∙ get-from_entries nat_list_cmp_total (attributes_in ms) q)
     ∙ is_some-find order q (attributes_in ms)
 
-pub strictly : (ms : List Message) (names : List (List ℕ)) → IsPermutation (names_in ms) names → IsSorted (slice_cmp nat_cmp) names → IsDistinct (eq_by_cmp (slice_cmp nat_cmp)) (names_in ms)
+pub strictly : (ms : List Message) (names : List (List ℕ)) → IsPermutation (attribute_names_in ms) names → IsSorted (slice_cmp nat_cmp) names → IsDistinct (eq_by_cmp (slice_cmp nat_cmp)) (attribute_names_in ms)
     → IsStrictlySortedBy order names
 strictly ms names moved up once =
-    let apart = IsDistinct-IsPermutation same (eq_by_cmp_equiv nat_list_cmp_total).symm (names_in ms) names moved once in
+    let apart = IsDistinct-IsPermutation same (eq_by_cmp_equiv nat_list_cmp_total).symm (attribute_names_in ms) names moved once in
     sorted_from_all_adjacent nat_list_cmp_total names [] (λ k low. rises (get_or names k []) (get_or names (k + 1) []) (up k [] (omega arith) low)
     (apart_from_distinct same names k (k + 1) [] apart (omega arith) low))
 
 -- names that are moved differ where they did
-pub once_by : (ms : List Message) (names : List (List ℕ)) → IsPermutation (names_in ms) names → IsDistinct (eq_by_cmp (slice_cmp nat_cmp)) names → HasNamesOnce ms
+pub once_by : (ms : List Message) (names : List (List ℕ)) → IsPermutation (attribute_names_in ms) names → IsDistinct (eq_by_cmp (slice_cmp nat_cmp)) names → HasNamesOnce ms
 once_by ms names moved once =
-    IsDistinct-IsPermutation same (eq_by_cmp_equiv nat_list_cmp_total).symm names (names_in ms) (IsPermutation-sym (names_in ms) names moved) once
+    IsDistinct-IsPermutation same (eq_by_cmp_equiv nat_list_cmp_total).symm names (attribute_names_in ms) (IsPermutation-sym (attribute_names_in ms) names moved) once
 
-pub twice_by : (ms : List Message) (names : List (List ℕ)) → IsPermutation (names_in ms) names → (IsDistinct (eq_by_cmp (slice_cmp nat_cmp)) names → ⊥) → HasNameTwice ms
-twice_by ms names moved twice once = twice (IsDistinct-IsPermutation same (eq_by_cmp_equiv nat_list_cmp_total).symm (names_in ms) names moved once)
+pub twice_by : (ms : List Message) (names : List (List ℕ)) → IsPermutation (attribute_names_in ms) names → (IsDistinct (eq_by_cmp (slice_cmp nat_cmp)) names → ⊥) → HasNameTwice ms
+twice_by ms names moved twice once = twice (IsDistinct-IsPermutation same (eq_by_cmp_equiv nat_list_cmp_total).symm (attribute_names_in ms) names moved once)
 
 -- the names of the attributes in order are the keys of the map
 pub keys-are : (ms : List Message) (attributes : Attributes) (names : List (List ℕ)) → HasAttributes ms attributes
-    → IsPermutation (names_in ms) names → IsSorted (slice_cmp nat_cmp) names → names ≡ keys attributes
+    → IsPermutation (attribute_names_in ms) names → IsSorted (slice_cmp nat_cmp) names → names ≡ keys attributes
 keys-are ms attributes names has moved up =
     let up_strictly = strictly ms names moved up (names_once ms attributes has) in
     let alike = λ (q : List ℕ). unit_same (find order q (alone names)) (find order q (alone (keys attributes)))
-    (find-alone q names ∙ sym (list_any-IsPermutation (same q) (names_in ms) names moved) ∙ sym (has_name ms attributes has q) ∙ sym (find-alone q (keys attributes))) in
+    (find-alone q names ∙ sym (list_any-IsPermutation (same q) (attribute_names_in ms) names moved) ∙ sym (has_name ms attributes has q) ∙ sym (find-alone q (keys attributes))) in
     let one : alone names ≡ alone (keys attributes) = same_entries order nat_list_cmp_total (slice_cmp-IsAntisymmetric nat_cmp-IsAntisymmetric) (alone names) (alone (keys attributes))
     (sorted-alone names up_strictly) (subst T (sym (sorted-keys (entries attributes))) (entries_sorted attributes)) alike in
     sym (map-alone names) ∙ ap (map (λ (e : List ℕ × Unit {0}). e.0)) one ∙ map-alone (keys attributes)

@@ -22,12 +22,12 @@ abbrev pub attributes_in : List Message → List (List ℕ × Attribute)
 attributes_in ms = filter_map (λ (m : Message). attribute_of m.body) (filter is_attribute_message ms)
 
 -- their names
-abbrev pub names_in : List Message → List (List ℕ)
-names_in ms = map (λ a. a.0) (attributes_in ms)
+abbrev pub attribute_names_in : List Message → List (List ℕ)
+attribute_names_in ms = map (λ a. a.0) (attributes_in ms)
 
 -- no two of them are the same
 abbrev pub HasNamesOnce : List Message → Type 0
-HasNamesOnce ms = IsDistinct (eq_by_cmp (slice_cmp nat_cmp)) (names_in ms)
+HasNamesOnce ms = IsDistinct (eq_by_cmp (slice_cmp nat_cmp)) (attribute_names_in ms)
 
 -- the first attribute of this name
 abbrev pub attribute_named : List ℕ → List Message → Option (List ℕ × Attribute)

@@ -9,7 +9,7 @@ ghost use Rattle.h5_model.specs.Faults.HeaderFaults.{HasNameTwice};
 ghost use Rattle.h5_model.specs.Format.Reads.{HasAttributes};
 ghost use Rattle.h5_model.specs.Tree.Objects.{Attributes};
 ghost use Rattle.h5_header.specs.Listed.{messages_in, IsWithin};
-ghost use Rattle.h5_attr.specs.Attributes.{names_in as names_of, HasNamesOnce};
+ghost use Rattle.h5_attr.specs.Attributes.{attribute_names_in as names_of, HasNamesOnce};
 
 use crate::message::attribute;
 use h5_header::Messages;

@@ -4,7 +4,7 @@ use Rattle.std.proofs.lemmas.Option.{get_or_from_slice_get, slice_get_within}
 use Rattle.h5_model.specs.Format.Rows.{Node, next_row}
 use Rattle.h5_model.specs.Format.Nodes.{Kind, node_at, reading_of}
 use Rattle.h5_btree.specs.Form.{MayStandAt}
-use Rattle.h5_btree.specs.Descent.{IsChildFor, IsInRow, IsStop, LeadsTo, Stops}
+use Rattle.h5_btree.specs.Descent.{IsChildFor, IsInRow, IsStop, LeadsTo, StopsDescent}
 use Rattle.h5_btree.specs.declared.read.NodeFault.{NodeFault}
 use Rattle.h5_btree.proofs.DescentLaws.{stands_in_row, child_in_row}
 
@@ -13,7 +13,7 @@ module _ (image : List ℕ) (kind : Kind) (at : ℕ) (node : Node) (is : node �
   stands owned level row r = subst (λ (n : Node). MayStandAt level n) (sym is) (stands_in_row image kind owned level row at r)
 
 -- the way ends at this node
-pub stops_here : (image : List ℕ) (kind : Kind) (behind : List ℕ → Bool) (level at : ℕ) (fault : NodeFault) → IsStop image kind level at fault → Stops image kind behind level at fault
+pub stops_here : (image : List ℕ) (kind : Kind) (behind : List ℕ → Bool) (level at : ℕ) (fault : NodeFault) → IsStop image kind level at fault → StopsDescent image kind behind level at fault
 stops_here image kind behind zero at fault stop = stop
 stops_here image kind behind (suc level) at fault stop = inl stop
 
@@ -38,15 +38,15 @@ module _ (image : List ℕ) (kind : Kind) (behind : List ℕ → Bool) (at : ℕ
             (subst (λ (l : ℕ). LeadsTo (node_at image kind) behind l child leaf) below rest),
       )
 
-  pub stops_below : (level : ℕ) (fault : NodeFault) → level ≢ 0 → Stops image kind behind (level - 1) child fault → Stops image kind behind level at fault
+  pub stops_below : (level : ℕ) (fault : NodeFault) → level ≢ 0 → StopsDescent image kind behind (level - 1) child fault → StopsDescent image kind behind level at fault
   stops_below zero fault some rest = absurd (some refl)
   stops_below (suc level) fault some rest =
       let below : suc level - 1 ≡ level = omega arith in
       inr (
         i,
         chosen_there,
-        subst (λ (n : ℕ). Stops image kind behind level n fault) (same_child 0)
-            (subst (λ (l : ℕ). Stops image kind behind l child fault) below rest),
+        subst (λ (n : ℕ). StopsDescent image kind behind level n fault) (same_child 0)
+            (subst (λ (l : ℕ). StopsDescent image kind behind l child fault) below rest),
       )
 
   pub down_row : (owned : List ℕ) (level : ℕ) (row : List ℕ) → level ≢ 0 → IsInRow image kind owned level row at

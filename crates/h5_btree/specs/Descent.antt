@@ -27,17 +27,17 @@ IsStop image kind level at fault =
     IsRefusedAt image kind at fault ⊎ ((fault ≡ NodeForm) × (MayStandAt level (node_at image kind at) → ⊥))
 
 -- why there is no way down from such a node: for what it is itself, or for what stands below the child that is taken
-abbrev pub Stops : List ℕ → Kind → (List ℕ → Bool) → ℕ → ℕ → NodeFault → Type 0
-Stops image kind behind zero at fault = IsStop image kind zero at fault
-Stops image kind behind (suc level) at fault =
+abbrev pub StopsDescent : List ℕ → Kind → (List ℕ → Bool) → ℕ → ℕ → NodeFault → Type 0
+StopsDescent image kind behind zero at fault = IsStop image kind zero at fault
+StopsDescent image kind behind (suc level) at fault =
     IsStop image kind (suc level) at fault ⊎ ((i : ℕ) × IsChildFor behind (node_at image kind at) i
-    × Stops image kind behind level (slice_index (node_at image kind at).children i) fault)
+    × StopsDescent image kind behind level (slice_index (node_at image kind at).children i) fault)
 
 -- the same from a root, which may be without children at level 0
 abbrev pub StopsFromRoot : List ℕ → Kind → (List ℕ → Bool) → ℕ → NodeFault → Type 0
 StopsFromRoot image kind behind root fault =
     IsRefusedAt image kind root fault ⊎ (((fault ≡ NodeForm) × (MayBeRoot (node_at image kind root) → ⊥))
-    ⊎ Stops image kind behind (node_at image kind root).level root fault)
+    ⊎ StopsDescent image kind behind (node_at image kind root).level root fault)
 
 -- a node of one of a tree's rows, all of whose nodes are formed, have children, and lie in the image
 pub record IsInRow (image : List ℕ) (kind : Kind) (owned : List ℕ) (level : ℕ) (row : List ℕ) (at : ℕ) : Type 0 where

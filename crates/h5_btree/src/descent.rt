@@ -4,7 +4,7 @@
 ghost use Rattle.std.specs.Prelude.{◌≡◌, ℕ, ◌↔◌, [], List, None, IfErr, IfOk, IfSome, IsOk, length};
 ghost use Rattle.h5_bytes.specs.Blocks.{Inside};
 ghost use Rattle.h5_model.specs.Format.Nodes.{HasTree, node_at, tree_blocks};
-ghost use Rattle.h5_btree.specs.Descent.{IsInRow, LeadsTo, Stops, StopsFromRoot};
+ghost use Rattle.h5_btree.specs.Descent.{IsInRow, LeadsTo, StopsDescent, StopsFromRoot};
 
 use crate::read::{NodeFault, read_node_at};
 use crate::sought::{Sought, child_for};
@@ -38,7 +38,7 @@ pub fn find_leaf<S: Sought>(image: &[u8], root: u64, sought: &S) -> Result<Optio
 fn descend<S: Sought>(image: &[u8], at: u64, level: u8, sought: &S) -> Result<u64, NodeFault>
     ensures leads { IfOk result
         (LeadsTo (node_at image.now (S.tree_kind sought.now)) (S.behind sought.now) level at) }
-    ensures refused { IfErr result (Stops image.now (S.tree_kind sought.now) (S.behind sought.now) level at) }
+    ensures refused { IfErr result (StopsDescent image.now (S.tree_kind sought.now) (S.behind sought.now) level at) }
     ensures only { (owned row : List ℕ) → IsInRow image.now (S.tree_kind sought.now) owned level row at
         → IsOk result }
 {

@@ -5,7 +5,7 @@ use Rattle.h5_script.specs.Opened.State.{FileState}
 use Rattle.h5_script.specs.Script.{IsDone}
 use Rattle.h5_script.specs.declared.ran.Ran.{Ran}
 use Rattle.h5_args.specs.Words.{Wanted, WantNew, WantLs, WantDump, WantRun}
-use Rattle.h5_cli.specs.Output.{IsListed, IsDumped, IsScriptRun}
+use Rattle.h5_cli.specs.Output.{IsListed, IsDumpPrinted, IsScriptRun}
 use Rattle.h5_cli.specs.declared.status.Status.{Status}
 use Rattle.h5_cli.specs.declared.status.Status.TheVariants.{Done, CommandRefused, WrongWords, ImageRefused, StreamFailed, NoMemory}
 
@@ -13,13 +13,13 @@ use Rattle.h5_cli.specs.declared.status.Status.TheVariants.{Done, CommandRefused
 abbrev pub Answers : Option Wanted → Option (List ℕ) → Option (List ℕ) → Option (List ℕ) → Option (List ℕ) → Type 0
 Answers (Some (WantNew file)) input left old new = new ≡ old
 Answers (Some (WantLs file)) input left old new = IsListed old new
-Answers (Some (WantDump file path)) input left old new = IsDumped path Done old new
+Answers (Some (WantDump file path)) input left old new = IsDumpPrinted path Done old new
 Answers (Some (WantRun file)) input left old new = (r : IsScriptRun input left old new) × ((r.ran).refused ≡ 0)
 Answers None input left old new = ⊥
 
 -- what an order with a refused command has printed: why nothing is dumped, or a script's answers, one of which refuses its line
 abbrev pub Refuses : Option Wanted → Option (List ℕ) → Option (List ℕ) → Option (List ℕ) → Option (List ℕ) → Type 0
-Refuses (Some (WantDump file path)) input left old new = IsDumped path CommandRefused old new
+Refuses (Some (WantDump file path)) input left old new = IsDumpPrinted path CommandRefused old new
 Refuses (Some (WantRun file)) input left old new = (r : IsScriptRun input left old new) × (0 < (r.ran).refused)
 Refuses _ input left old new = ⊥
 

@@ -36,17 +36,17 @@ abbrev pub dump_fault : Tree → Text → Option EditFault
 dump_fault tree word = option_map_or (λ path. first_holding (path_rules tree path)) (unescaped word) (Some BadPath)
 
 -- what is printed of what the word leads to
-abbrev pub dump_text : Tree → Text → List ℕ
-dump_text tree word = option_map_or (λ path. dumped tree path (located tree path)) (unescaped word) []
+abbrev pub dump_output : Tree → Text → List ℕ
+dump_output tree word = option_map_or (λ path. dumped tree path (located tree path)) (unescaped word) []
 
 -- the text and the status: what stands there, or why nothing does
 abbrev pub IsDumpText : Tree → Text → List ℕ → Status → Type 0
-IsDumpText tree word text Done = (dump_fault tree word ≡ None) × (text ≡ dump_text tree word)
+IsDumpText tree word text Done = (dump_fault tree word ≡ None) × (text ≡ dump_output tree word)
 IsDumpText tree word text CommandRefused = (fault : EditFault) × (dump_fault tree word ≡ Some fault) × (text ≡ refused_text fault)
 IsDumpText tree word text _ = ⊥
 
 -- this was printed of a file
-pub record IsDumped (word : Text) (status : Status) (old new : Option (List ℕ)) : Type 0 where
+pub record IsDumpPrinted (word : Text) (status : Status) (old new : Option (List ℕ)) : Type 0 where
   pub file : FileState
   pub sound : IsSound file
   pub text : List ℕ

@@ -1,10 +1,10 @@
 //! The whole run of the program.
 
 ghost use Rattle.std.specs.Prelude.{◌≡◌, ◌≢◌, ◌⊎◌, ◌≤◌, Some, map};
-ghost use Rattle.h5_args.specs.Words.{Taken, asked, faults};
+ghost use Rattle.h5_args.specs.Words.{Taken, wanted_by_words, faults};
 ghost use Rattle.h5_args.specs.Faults.{IsMistaken};
 ghost use Rattle.h5_cli.specs.Ends.{Ends, Refuses};
-ghost use Rattle.h5_args.specs.Order.{texts_of};
+ghost use Rattle.h5_args.specs.Order.{wanted_by_order};
 ghost use Rattle.h5_cli.specs.Status.{status_code, untold};
 ghost use Rattle.h5_cli.specs.declared.status.Status.{Status as StatusValue};
 ghost use Rattle.h5_cli.specs.declared.status.Status.TheVariants.{CommandRefused, WrongWords};
@@ -35,7 +35,7 @@ fn carry_out<R: Files, I: Read, O: Write, E: Write>(
     output: &mut O,
     errors: &mut E,
 ) -> Status
-    ensures { Ends (Some (texts_of order.entry)) (I.remaining input.old) (I.remaining input.new)
+    ensures { Ends (Some (wanted_by_order order.entry)) (I.remaining input.old) (I.remaining input.new)
         (O.contents output.old) (O.contents output.new) result }
 {
     match order {
@@ -57,11 +57,11 @@ fn obey<R: Files, S: AsStr, I: Read, O: Write, E: Write>(
     errors: &mut E,
 ) -> Status
     ensures order { Taken (map S.text words.now)
-        → Ends (asked (map S.text words.now)) (I.remaining input.old) (I.remaining input.new)
+        → Ends (wanted_by_words (map S.text words.now)) (I.remaining input.old) (I.remaining input.new)
         (O.contents output.old) (O.contents output.new) result }
     ensures mistaken { result ≡ WrongWords → IsMistaken (faults (map S.text words.now)) }
     ensures refused { result ≡ CommandRefused
-        → Refuses (asked (map S.text words.now)) (I.remaining input.old) (I.remaining input.new)
+        → Refuses (wanted_by_words (map S.text words.now)) (I.remaining input.old) (I.remaining input.new)
         (O.contents output.old) (O.contents output.new) }
 {
     match order(alloc, words) {
@@ -93,14 +93,14 @@ pub fn program<R: Files, S: AsStr, I: Read, O: Write, E: Write>(
     ensures code { result ≤ 5 }
     // Words that clap takes are an order, and it ends as the status says.
     ensures order { Taken (map S.text words.now) → (status : StatusValue) × (result ≡ status_code status)
-        × Ends (asked (map S.text words.now)) (I.remaining input.old) (I.remaining input.new)
+        × Ends (wanted_by_words (map S.text words.now)) (I.remaining input.old) (I.remaining input.new)
         (O.contents output.old) (O.contents output.new) status }
     // Status 2 is for words alone that clap does not take, for a mistake that they have.
     ensures wrong { Taken (map S.text words.now) → result ≢ 2 }
     ensures mistaken { result ≡ 2 → IsMistaken (faults (map S.text words.now)) }
     // With status 1 there is an order with a refused command, whatever the words.
     ensures refused { result ≡ 1
-        → Refuses (asked (map S.text words.now)) (I.remaining input.old) (I.remaining input.new)
+        → Refuses (wanted_by_words (map S.text words.now)) (I.remaining input.old) (I.remaining input.new)
         (O.contents output.old) (O.contents output.new) }
 {
     obey(rt, alloc, words, input, output, errors).code()

@@ -14,7 +14,7 @@ use Rattle.h5_model.specs.Tree.Objects.{Tree, Links, Object, Attribute, Group, A
 use Rattle.h5_text.specs.Listing.{dump_line}
 use Rattle.h5_text.specs.Rows.{cells_from}
 use Rattle.h5_text.proofs.RowTexts.{cells_are_rows}
-use Rattle.h5_file.specs.Look.{IsArray}
+use Rattle.h5_file.specs.Look.{IsArrayShown}
 use Rattle.h5_file.specs.StoredArrayType.{StoredArray}
 use Rattle.h5_file.specs.Found.{IsFoundAs, IsUnfound}
 use Rattle.h5_file.specs.FoundType.TheVariants as found
@@ -28,10 +28,10 @@ use Rattle.h5_model.specs.declared.edit_fault.EditFault.TheVariants.{NoMemory}
 content-same : (d e : Dataset) → d.fixed ≡ e.fixed → d.sizes ≡ e.sizes → d.maxima ≡ e.maxima → content_text (Array d) ≡ content_text (Array e)
 content-same d e fixed sizes maxima = rw (fixed, sizes, maxima) refl
 
-pub content-told : (d : Dataset) (a : StoredArray) → IsArray d a → content_text (Array (told a)) ≡ content_text (Array d)
+pub content-told : (d : Dataset) (a : StoredArray) → IsArrayShown d a → content_text (Array (told a)) ≡ content_text (Array d)
 content-told d a is = content-same (told a) d is.fixed_is is.sizes_are is.maxima_are
 
-dataset-told : (d : Dataset) (a : StoredArray) → IsArray d a → dataset_text d ≡ dataset_text (told a)
+dataset-told : (d : Dataset) (a : StoredArray) → IsArrayShown d a → dataset_text d ≡ dataset_text (told a)
 dataset-told d a is = rw (is.storage_is, sym is.fill_is) refl
 
 -- ---- the rows of the array
@@ -78,7 +78,7 @@ dump-group path o links is =
     ∙ append-nil (path ++ codes " " ++ codes "group" ++ [] ++ codes "\n" ++ lines)
     ∙ ap (λ t. t ++ codes "\n" ++ lines) (append-nil (path ++ codes " " ++ codes "group")))
 
-pub dump-array : (path : List ℕ) (o : Object) (d : Dataset) (a : StoredArray) → o.content ≡ Array d → IsArray d a
+pub dump-array : (path : List ℕ) (o : Object) (d : Dataset) (a : StoredArray) → o.content ≡ Array d → IsArrayShown d a
     → dump_line path (told a) ++ flat_map attribute_line (entries o.attributes) ++ cells_text (Array d) ≡ dump_text path o
 dump-array path o d a content is =
     let lines = flat_map attribute_line (entries o.attributes) in
@@ -102,7 +102,7 @@ module _ (tree : Tree) (path : List ℕ) where
 
   -- an array
   pub dumped-array : (at : Located) (n : ObjectNo) (attributes : Vec (List ℕ × Attribute) Global) (a : StoredArray) → IsFoundAs tree at (found.Array n attributes a)
-      → (o : Object) × (d : Dataset) × (o.content ≡ Array d) × IsArray d a × (attributes.items ≡ entries o.attributes) × (dump_text (escaped path) o ≡ dumped tree path at)
+      → (o : Object) × (d : Dataset) × (o.content ≡ Array d) × IsArrayShown d a × (attributes.items ≡ entries o.attributes) × (dump_text (escaped path) o ≡ dumped tree path at)
   dumped-array (Here (ToObject number)) n attributes a is =
       (is.2.object, is.1, is.2.content_is, is.3, is.2.listed, sym (ap (λ x. option_map_or (dump_text (escaped path)) x []) is.2.found))
   dumped-array (Here (Soft text)) n attributes a is = absurd is

@@ -6,7 +6,7 @@ use Rattle.std.specs.Option.{option_and_then, option_map_or}
 use Rattle.h5_model.specs.Scripts.Text.{content_text, joined_path, line_of, lines_below, link_line, list_text}
 use Rattle.h5_model.specs.Tree.Objects.{Tree, Link, Links, Object, Content, Group, Array, Dataset, ToObject, dataset_of, dataset_in, links_in, links_of}
 use Rattle.h5_model.specs.Tree.Links.{tree_link}
-use Rattle.h5_file.specs.Listed.{AreLinks}
+use Rattle.h5_file.specs.Listed.{AreGroupLinks}
 use Rattle.h5_model.specs.declared.link.Link.{Link as LinkOf}
 use Rattle.h5_model.specs.declared.object_no.ObjectNo.{ObjectNo}
 use Rattle.h5_dump.specs.Listing.{lines_of_link}
@@ -31,7 +31,7 @@ unfolding lines_below
 lines_of_no_depth tree path number = refl
 
 -- the links as they are listed
-pub lines_of_listed : (tree : Tree) (depth : ℕ) (path : List ℕ) (number : ℕ) (links : List (LinkOf ObjectNo)) → AreLinks tree number links
+pub lines_of_listed : (tree : Tree) (depth : ℕ) (path : List ℕ) (number : ℕ) (links : List (LinkOf ObjectNo)) → AreGroupLinks tree number links
     → flat_map (lines_of_link tree depth path) (map tree_link links) ≡ lines_below tree (suc depth) path number
 lines_of_listed tree depth path number links (all, is, listed) =
     ap (flat_map (lines_of_link tree depth path)) listed ∙ sym (lines_of_group tree depth path number all is)
@@ -104,14 +104,14 @@ lines_of_array tree depth path name number d is =
     sym (ap (λ t. t ++ lines_below tree depth place number) line.0 ∙ ap (λ t. shown ++ t) (lines_of_none tree depth place number line.1) ∙ append-nil shown)
 
 -- a group, and what it holds
-pub lines_of_inner : (tree : Tree) (depth : ℕ) (path name : List ℕ) (number : ℕ) (links : List (LinkOf ObjectNo)) → AreLinks tree number links
+pub lines_of_inner : (tree : Tree) (depth : ℕ) (path name : List ℕ) (number : ℕ) (links : List (LinkOf ObjectNo)) → AreGroupLinks tree number links
     → line_of (joined_path path name) (codes "group") ++ lines_below tree depth (joined_path path name) number ≡ lines_of_link tree depth path (name, ToObject number)
 lines_of_inner tree depth path name number links are =
     let place = joined_path path name in
     ap (λ t. t ++ lines_below tree depth place number) (sym (group_line tree place number are.0 are.1))
 
 -- a group, of whose links nothing is told
-pub lines_of_last : (tree : Tree) (depth : ℕ) (path name : List ℕ) (number : ℕ) (links : List (LinkOf ObjectNo)) → AreLinks tree number links → depth ≡ 0
+pub lines_of_last : (tree : Tree) (depth : ℕ) (path name : List ℕ) (number : ℕ) (links : List (LinkOf ObjectNo)) → AreGroupLinks tree number links → depth ≡ 0
     → line_of (joined_path path name) (codes "group") ≡ lines_of_link tree depth path (name, ToObject number)
 lines_of_last tree depth path name number links are last =
     let place = joined_path path name in
@@ -120,7 +120,7 @@ lines_of_last tree depth path name number links are last =
     ∙ lines_of_inner tree depth path name number links are
 
 -- a group and its links
-pub lines_of_next : (tree : Tree) (depth down : ℕ) (path name below : List ℕ) (number : ℕ) (links : List (LinkOf ObjectNo)) (listed : List (LinkOf ObjectNo)) → AreLinks tree number links → suc down ≡ depth
+pub lines_of_next : (tree : Tree) (depth down : ℕ) (path name below : List ℕ) (number : ℕ) (links : List (LinkOf ObjectNo)) (listed : List (LinkOf ObjectNo)) → AreGroupLinks tree number links → suc down ≡ depth
     → below ≡ joined_path path name → listed ≡ links
     → line_of (joined_path path name) (codes "group") ++ flat_map (lines_of_link tree down below) (map tree_link listed) ≡ lines_of_link tree depth path (name, ToObject number)
 lines_of_next tree depth down path name below number links listed are next joined same =
@@ -136,7 +136,7 @@ lines_of_next tree depth down path name below number links listed are next joine
 pub list_of_none : (tree : Tree) → links_of tree 0 ≡ None → codes "/ group\n" ≡ list_text tree
 list_of_none tree is = sym (ap (λ t. codes "/ group\n" ++ t) (lines_of_none tree 64 [] 0 is))
 
-pub list_of_links : (tree : Tree) (depth : ℕ) (path : List ℕ) (links listed : List (LinkOf ObjectNo)) → AreLinks tree 0 links → suc depth ≡ 64 → path ≡ [] → listed ≡ links
+pub list_of_links : (tree : Tree) (depth : ℕ) (path : List ℕ) (links listed : List (LinkOf ObjectNo)) → AreGroupLinks tree 0 links → suc depth ≡ 64 → path ≡ [] → listed ≡ links
     → codes "/ group\n" ++ flat_map (lines_of_link tree depth path) (map tree_link listed) ≡ list_text tree
 list_of_links tree depth path links listed are deep none same =
     ap (λ p. codes "/ group\n" ++ flat_map (lines_of_link tree depth p) (map tree_link listed)) none

@@ -11,7 +11,7 @@ ghost use Rattle.h5_text.specs.Appends.{Appends};
 ghost use Rattle.h5_text.specs.Listing.{path_text, told_dataset};
 ghost use Rattle.h5_model.specs.Tree.Links.{tree_link};
 ghost use Rattle.h5_file.specs.Found.{HasFound};
-ghost use Rattle.h5_file.specs.Look.{IsArray};
+ghost use Rattle.h5_file.specs.Look.{IsArrayShown};
 ghost use Rattle.h5_dump.specs.Dumped.{IsDumped, IsUndumped, told};
 ghost use Rattle.h5_dump.specs.Listing.{lines_of_link};
 
@@ -120,7 +120,7 @@ fn push_listed_array(
     path: PathText<'_>,
     array: &StoredArray<'_>,
 ) -> Result<(), AllocError>
-    ensures { (d : Dataset) → IsArray d array.now
+    ensures { (d : Dataset) → IsArrayShown d array.now
         → Appends result text.old.items text.new.items
         (line_of (path_text path.entry) (content_text (Array d))) }
 {
@@ -208,7 +208,7 @@ fn push_array(
     array: &StoredArray<'_>,
     attributes: &[AttrRef<'_>],
 ) -> Result<(), AllocError>
-    ensures { (o : Object) (d : Dataset) → o.content ≡ Array d → IsArray d array.now
+    ensures { (o : Object) (d : Dataset) → o.content ≡ Array d → IsArrayShown d array.now
         → attributes.now ≡ entries o.attributes
         → Appends result text.old.items text.new.items (dump_text (escaped path.now) o) }
 {
@@ -220,7 +220,7 @@ fn push_array(
 
 /// Appends the array's cells in rows, or nothing where there is no cell.
 fn push_cells(text: &mut Vec<u8>, array: &StoredArray<'_>) -> Result<(), AllocError>
-    ensures { (d : Dataset) → IsArray d array.now
+    ensures { (d : Dataset) → IsArrayShown d array.now
         → Appends result text.old.items text.new.items (cells_text (Array d)) }
 {
     let dims = array.array.dims();

@@ -34,10 +34,10 @@ use Rattle.h5_repack.specs.Written.{IsWritten, IsUnwritten}
 use Rattle.h5_repack.specs.declared.write.Written.{Written}
 use Rattle.h5_repack.specs.declared.write.WriteFault.{WriteFault}
 use Rattle.h5_repack.specs.declared.write.WriteFault.TheVariants.{TooLong, TooDeep, NoMemory}
-use Rattle.h5_edit.specs.Answers.{answer_to, fault_of}
-use Rattle.h5_edit.specs.Carried.{is_header_full, is_too_long, IsRefused}
+use Rattle.h5_edit.specs.Answers.{answer_to, fault_of_write}
+use Rattle.h5_edit.specs.Carried.{is_message_total_full, is_too_long, IsRefused}
 use Rattle.h5_edit.specs.Fitting.{IsFitting, made_in}
-use Rattle.h5_edit.specs.Made.{IsMade}
+use Rattle.h5_edit.specs.Made.{IsEditMade}
 use Rattle.h5_edit.proofs.CarriedLaws.{carried_after}
 use Rattle.h5_edit.proofs.Changes.{next_free, len_tree, len_changed}
 use Rattle.h5_repack.proofs.ImageLaws.PlainImages.{plain_reads}
@@ -78,7 +78,7 @@ module _ (leaf internal : ℕ) (tree : Tree) (k : AreK leaf internal) (sound : I
 
 -- ---- edits
 
-same_full : (image : List ℕ) (objects : List OpenedObject) (edit : Edit) → is_header_full (opened_state image objects) edit ≡ is_full image objects edit
+same_full : (image : List ℕ) (objects : List OpenedObject) (edit : Edit) → is_message_total_full (opened_state image objects) edit ≡ is_full image objects edit
 same_full image objects (SetAttr path attr) = refl
 same_full image objects _ = refl
 
@@ -119,7 +119,7 @@ module _ {image : List ℕ} {objects : List OpenedObject} {numbers : BTreeMap �
 
     -- ---- not written
 
-    refused : (fault : WriteFault) → IsUnwritten leaf internal after fault → IsRefused f edit (fault_of fault)
+    refused : (fault : WriteFault) → IsUnwritten leaf internal after fault → IsRefused f edit (fault_of_write fault)
     refused TooLong long =
         by_length f edit fitting.carried fitting.accepted fitting.roomy
         (ap (λ (t : Tree). is_too_long f t) fitting.gives ∙ above (2 ^ 31) (plain_length leaf internal (chunk_k image) (λ _. 0) after) long) where
@@ -133,7 +133,7 @@ module _ {image : List ℕ} {objects : List OpenedObject} {numbers : BTreeMap �
 
     -- ---- written
 
-    made : (w : Written) → IsWritten leaf internal after w → IsMade f edit (record { image = w.image; headers = w.headers; object = object })
+    made : (w : Written) → IsWritten leaf internal after w → IsEditMade f edit (record { image = w.image; headers = w.headers; object = object })
     made w is = record {
       accepted = record {
         carried = fitting.carried;
@@ -156,6 +156,6 @@ module _ {image : List ℕ} {objects : List OpenedObject} {numbers : BTreeMap �
     }
 
     pub answered : (r : Result Written WriteFault) → IfOk r (IsWritten leaf internal after) → IfErr r (IsUnwritten leaf internal after)
-        → MatchResult (answer_to r object) (IsMade f edit) (IsRefused f edit)
+        → MatchResult (answer_to r object) (IsEditMade f edit) (IsRefused f edit)
     answered (Ok w) written not_written = made w written
     answered (Err fault) written not_written = refused fault not_written

@@ -24,7 +24,7 @@ use Rattle.h5_model.specs.declared.edits.Edit.{Edit}
 use Rattle.h5_model.specs.declared.edits.Edit.TheVariants.{CreateGroup, CreateDataset, HardLink, SoftLink, SetAttr, RemoveAttr}
 use Rattle.h5_model.specs.declared.object_no.ObjectNo.{ObjectNo}
 use Rattle.h5_laws.proofs.Lists.{In}
-use Rattle.h5_edit.specs.Refusals.Allowed.{is_carried_spec, IsAt, IsPlaced, IsLinkPlaced}
+use Rattle.h5_edit.specs.Refusals.Allowed.{is_carried_spec, IsAt, IsPlaceAllowed, IsLinkPlaced}
 use Rattle.h5_edit.specs.declared.rules.place.NewPlace.{NewPlace}
 use Rattle.h5_laws.proofs.SoundLaws.Applied.{object_stands}
 use Rattle.h5_laws.proofs.SoundLaws.LinksThere.{links_are}
@@ -37,7 +37,7 @@ use Rattle.h5_query.specs.OpenedObjectType.{OpenedObject}
 use Rattle.h5_query.proofs.OpenedLaws.Entries.{get_table}
 use Rattle.h5_query.proofs.OpenedLaws.Indexed.{header_at, object_kept}
 use Rattle.h5_query.proofs.OpenedLaws.Numbers.{numbered}
-use Rattle.h5_edit.specs.Carried.{is_header_full}
+use Rattle.h5_edit.specs.Carried.{is_message_total_full}
 use Rattle.h5_edit.specs.Fitting.{IsFitting}
 
 module _ {image : List ℕ} {objects : List OpenedObject} {numbers : BTreeMap ℕ ℕ} (opened : IsOpened image objects numbers) where
@@ -49,7 +49,7 @@ module _ {image : List ℕ} {objects : List OpenedObject} {numbers : BTreeMap �
 
   -- ---- new links
 
-  module _ {path : List ℕ} {edit : Edit} {place : NewPlace} (placed : IsPlaced tree next path edit place) where
+  module _ {path : List ℕ} {edit : Edit} {place : NewPlace} (placed : IsPlaceAllowed tree next path edit place) where
     linked_at : (link : Link) → linked tree path link ≡ with_link tree place.parent place.name.now link
     linked_at link = ap (λ o. option_map_or (λ (p : ℕ × List ℕ). with_object tree p.0 (with_links (λ links. insert links p.1 link))) o tree) placed.parent
 
@@ -62,7 +62,7 @@ module _ {image : List ℕ} {objects : List OpenedObject} {numbers : BTreeMap �
         let name : f.name ≡ place.name.now = ap (λ (p : ℕ × List ℕ). p.1) same in
         (f.group.links, ap (links_of tree) (sym parent) ∙ links_are tree f.parent f.group, ap (get f.group.links) (sym name) ∙ f.free)
 
-  pub create_group_fits : {path : List ℕ} {place : NewPlace} {object : ObjectNo} → IsPlaced tree next path (CreateGroup path) place → object.0 ≡ next
+  pub create_group_fits : {path : List ℕ} {place : NewPlace} {object : ObjectNo} → IsPlaceAllowed tree next path (CreateGroup path) place → object.0 ≡ next
       → IsFitting image objects (CreateGroup path) (Linked place.parent place.name target.Group) (Some object)
   unfolding applied changed
   create_group_fits placed numbered = record {
@@ -77,7 +77,7 @@ module _ {image : List ℕ} {objects : List OpenedObject} {numbers : BTreeMap �
   }
 
   pub create_dataset_fits : {path : List ℕ} {place : NewPlace} {object : ObjectNo} (spec : Bor Spec) → IsFixed (spec.now).fixed → is_carried_spec spec.now ≡ true
-      → IsPlaced tree next path (CreateDataset path spec.now) place → object.0 ≡ next
+      → IsPlaceAllowed tree next path (CreateDataset path spec.now) place → object.0 ≡ next
       → IsFitting image objects (CreateDataset path spec.now) (Linked place.parent place.name (target.Array spec)) (Some object)
   unfolding applied changed
   create_dataset_fits spec typed carried placed numbered = record {
@@ -105,7 +105,7 @@ module _ {image : List ℕ} {objects : List OpenedObject} {numbers : BTreeMap �
     named = sym placed.0;
   }
 
-  pub soft_link_fits : {path : List ℕ} {place : NewPlace} (text : Bor (List ℕ)) → IsPlaced tree next path (SoftLink text.now path) place
+  pub soft_link_fits : {path : List ℕ} {place : NewPlace} (text : Bor (List ℕ)) → IsPlaceAllowed tree next path (SoftLink text.now path) place
       → IsFitting image objects (SoftLink text.now path) (Linked place.parent place.name (target.Text text)) None
   unfolding applied changed
   soft_link_fits text placed = record {
@@ -129,7 +129,7 @@ module _ {image : List ℕ} {objects : List OpenedObject} {numbers : BTreeMap �
 
   -- whether the header has no place for a message and a Continuation
   full_at : (path : List ℕ) (attr : AttrSpec) (number : ℕ) (o : OpenedObject) → object_at tree path ≡ Some number → o ≡ slice_index_or objects number o
-      → is_header_full (opened_state image objects) (SetAttr path attr) ≡ nat_lt 65535 (length o.messages.list + 2)
+      → is_message_total_full (opened_state image objects) (SetAttr path attr) ≡ nat_lt 65535 (length o.messages.list + 2)
   full_at path attr number o at is =
       let there : slice_get objects number ≡ Some o = slice_get-get_or objects number o (number_low path number at) ∙ ap (λ (x : OpenedObject). Some x) (sym is) in
       let test = λ (header : ℕ). nat_lt 65535 (total_in (prefix_at image header) + 2) in
@@ -140,7 +140,7 @@ module _ {image : List ℕ} {objects : List OpenedObject} {numbers : BTreeMap �
       ∙ ap (λ n. nat_lt 65535 (n + 2)) (total ∙ length-map o.messages.list (message_in image))
 
   pub full_here : (path : List ℕ) (attr : AttrSpec) (number : ℕ) (o : OpenedObject) → object_at tree path ≡ Some number → o ≡ slice_index_or objects number o
-      → 65535 < length o.messages.list + 2 → is_header_full (opened_state image objects) (SetAttr path attr) ≡ true
+      → 65535 < length o.messages.list + 2 → is_message_total_full (opened_state image objects) (SetAttr path attr) ≡ true
   full_here path attr number o at is many = full_at path attr number o at is ∙ grind (arith, nat_tests)
 
   pub set_attr_fits : {path : List ℕ} {number : ℕ} (attr : Bor AttrSpec) (o : OpenedObject) → IsFixed (attr.now).fixed → IsAt tree next path (SetAttr path attr.now) number

@@ -13,7 +13,7 @@ use Rattle.h5_query.specs.Opened.Kept.{IsOpened}
 use Rattle.h5_query.specs.Opened.Objects.{table_of, tree_of}
 use Rattle.h5_query.specs.Opened.State.{FileState, opened_state}
 use Rattle.h5_query.specs.OpenedObjectType.{OpenedObject}
-use Rattle.h5_edit.specs.Carried.{is_carried, is_header_full, is_too_long, tree_after, IsRefused, IsRefusedBy}
+use Rattle.h5_edit.specs.Carried.{is_carried, is_message_total_full, is_too_long, tree_after, IsRefused, IsRefusedBy}
 use Rattle.h5_edit.proofs.Low.{are_low, low_of, of_low}
 use Rattle.h5_edit.proofs.LowRead.{read_low, edited_low}
 
@@ -28,7 +28,7 @@ module _ (f : FileState) (edit : Edit) where
   abbrev AddsLink : Type 0
   AddsLink = (AreLow leaf internal (tree_after f edit) → ⊥) → adds_entry edit ≡ true
 
-  by_given : AddsLink → (e : EditFault) (full long low : Bool) → is_header_full f edit ≡ full → is_too_long f (tree_after f edit) ≡ long
+  by_given : AddsLink → (e : EditFault) (full long low : Bool) → is_message_total_full f edit ≡ full → is_too_long f (tree_after f edit) ≡ long
       → are_low leaf internal (entries (tree_after f edit)) ≡ low → refusal_of f.tree f.next edit ≡ Some e → IsRefusedBy f edit e
   by_given adds e true long low has is lies h = record { given = Some fault.HeaderFull; allowed = has; answer = rw h refl }
   by_given adds e false true low has is lies h = record { given = Some fault.ImageFull; allowed = (has, is); answer = rw h refl }
@@ -50,18 +50,18 @@ module _ (f : FileState) (edit : Edit) where
   module _ (carried : is_carried edit ≡ true) where
     by_adding : AddsLink → (e : EditFault) → refusal_of f.tree f.next edit ≡ Some e → IsRefused f edit e
     by_adding adds e h = as_carried e carried
-        (by_given adds e (is_header_full f edit) (is_too_long f (tree_after f edit)) (are_low leaf internal (entries (tree_after f edit))) refl refl refl h)
+        (by_given adds e (is_message_total_full f edit) (is_too_long f (tree_after f edit)) (are_low leaf internal (entries (tree_after f edit))) refl refl refl h)
 
     pub by_memory : IsRefused f edit fault.NoMemory
     by_memory = as_carried fault.NoMemory carried (record { given = Some fault.NoMemory; allowed = tt; answer = refl })
 
-    pub by_header : refusal_of f.tree f.next edit ≡ None → is_header_full f edit ≡ true → IsRefused f edit fault.HeaderFull
+    pub by_header : refusal_of f.tree f.next edit ≡ None → is_message_total_full f edit ≡ true → IsRefused f edit fault.HeaderFull
     by_header h full = as_carried fault.HeaderFull carried (record { given = Some fault.HeaderFull; allowed = full; answer = rw h refl })
 
-    pub by_length : refusal_of f.tree f.next edit ≡ None → is_header_full f edit ≡ false → is_too_long f (tree_after f edit) ≡ true → IsRefused f edit fault.ImageFull
+    pub by_length : refusal_of f.tree f.next edit ≡ None → is_message_total_full f edit ≡ false → is_too_long f (tree_after f edit) ≡ true → IsRefused f edit fault.ImageFull
     by_length h room long = as_carried fault.ImageFull carried (record { given = Some fault.ImageFull; allowed = (room, long); answer = rw h refl })
 
-    pub by_depth : refusal_of f.tree f.next edit ≡ None → is_header_full f edit ≡ false → (AreLow leaf internal (tree_after f edit) → ⊥) → AddsLink
+    pub by_depth : refusal_of f.tree f.next edit ≡ None → is_message_total_full f edit ≡ false → (AreLow leaf internal (tree_after f edit) → ⊥) → AddsLink
         → IsRefused f edit fault.TreeTooDeep
     by_depth h room deep adds = as_carried fault.TreeTooDeep carried (record { given = Some fault.TreeTooDeep; allowed = (room, deep, adds deep); answer = rw h refl })
 

@@ -8,11 +8,11 @@ use Rattle.h5_repack.specs.declared.write.WriteFault.{WriteFault}
 use Rattle.h5_repack.specs.declared.write.WriteFault.TheVariants.{TooLong, TooDeep, NoMemory}
 use Rattle.h5_edit.specs.declared.made.Made.{Made}
 
-abbrev pub fault_of : WriteFault → EditFault
-fault_of TooLong = fault.ImageFull
-fault_of TooDeep = fault.TreeTooDeep
-fault_of NoMemory = fault.NoMemory
+abbrev pub fault_of_write : WriteFault → EditFault
+fault_of_write TooLong = fault.ImageFull
+fault_of_write TooDeep = fault.TreeTooDeep
+fault_of_write NoMemory = fault.NoMemory
 
 abbrev pub answer_to : Result Written WriteFault → Option ObjectNo → Result Made EditFault
 answer_to (Ok w) object = Ok (record { image = w.image; headers = w.headers; object = object })
-answer_to (Err f) object = Err (fault_of f)
+answer_to (Err f) object = Err (fault_of_write f)

@@ -27,10 +27,10 @@ is_carried edit = is_plain_edit edit
 -- ---- what the image and memory decide, beside the rules of the tree
 
 -- a new attribute needs a message, and a Continuation may come with it; the total of messages has two bytes
-abbrev pub is_header_full : FileState → Edit → Bool
-is_header_full f (SetAttr path attr) =
+abbrev pub is_message_total_full : FileState → Edit → Bool
+is_message_total_full f (SetAttr path attr) =
     option_map_or (λ header. nat_lt 65535 (total_in (prefix_at f.image header) + 2)) (option_and_then (get f.table) (object_at f.tree path)) false
-is_header_full f _ = false
+is_message_total_full f _ = false
 
 -- the image of the tree, written anew, would pass 2^31 bytes
 abbrev pub is_too_long : FileState → Tree → Bool
@@ -44,11 +44,11 @@ tree_after f edit = applied f.tree edit f.next
 -- by its groups' trees: either may be answered where both hold. Memory may be short at any time.
 abbrev pub IsGivenFor : FileState → Edit → Option EditFault → Type 0
 IsGivenFor f edit None =
-    IsFalse (is_header_full f edit) × IsFalse (is_too_long f (tree_after f edit)) × AreLow (leaf_k f.image) (internal_k f.image) (tree_after f edit)
-IsGivenFor f edit (Some fault.HeaderFull) = IsTrue (is_header_full f edit)
+    IsFalse (is_message_total_full f edit) × IsFalse (is_too_long f (tree_after f edit)) × AreLow (leaf_k f.image) (internal_k f.image) (tree_after f edit)
+IsGivenFor f edit (Some fault.HeaderFull) = IsTrue (is_message_total_full f edit)
 IsGivenFor f edit (Some fault.TreeTooDeep) =
-    IsFalse (is_header_full f edit) × (AreLow (leaf_k f.image) (internal_k f.image) (tree_after f edit) → ⊥) × IsTrue (adds_entry edit)
-IsGivenFor f edit (Some fault.ImageFull) = IsFalse (is_header_full f edit) × IsTrue (is_too_long f (tree_after f edit))
+    IsFalse (is_message_total_full f edit) × (AreLow (leaf_k f.image) (internal_k f.image) (tree_after f edit) → ⊥) × IsTrue (adds_entry edit)
+IsGivenFor f edit (Some fault.ImageFull) = IsFalse (is_message_total_full f edit) × IsTrue (is_too_long f (tree_after f edit))
 IsGivenFor f edit (Some fault.NoMemory) = Unit {0}
 IsGivenFor f edit _ = ⊥
 

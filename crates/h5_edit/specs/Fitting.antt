@@ -14,7 +14,7 @@ use Rattle.h5_edit.specs.declared.change.change.Change.{Change}
 use Rattle.h5_edit.specs.declared.change.change.Change.TheVariants.{Link as Linked, SetAttr as Set, RemoveAttr as Remove}
 use Rattle.h5_edit.specs.declared.change.change.Target.{Target}
 use Rattle.h5_edit.specs.declared.change.change.Target.TheVariants as target
-use Rattle.h5_edit.specs.Carried.{is_carried, is_header_full}
+use Rattle.h5_edit.specs.Carried.{is_carried, is_message_total_full}
 
 -- how many objects a change makes
 abbrev pub made_by : Target → ℕ
@@ -34,7 +34,7 @@ pub record IsFitting (image : List ℕ) (objects : List OpenedObject) (edit : Ed
   pub typed : IsTyped edit
   pub carried : is_carried edit ≡ true
   pub accepted : refusal_of (tree_of image objects) (length objects) edit ≡ None
-  pub roomy : is_header_full (opened_state image objects) edit ≡ false
+  pub roomy : is_message_total_full (opened_state image objects) edit ≡ false
   pub gives : applied (tree_of image objects) edit (length objects) ≡ changed (tree_of image objects) change (length objects)
   pub there : IsChange (tree_of image objects) change
   pub counted : length objects + made_in change ≡ (if makes_object edit then length objects + 1 else length objects)

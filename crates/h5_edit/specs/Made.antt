@@ -26,7 +26,7 @@ pub record IsAccepted (f : FileState) (edit : Edit) : Type 0 where
   pub given : IsGivenFor f edit None
 
 -- the image of the tree, whose arrays are all opened
-pub record IsMade (f : FileState) (edit : Edit) (made : Made) : Type 0 where
+pub record IsEditMade (f : FileState) (edit : Edit) (made : Made) : Type 0 where
   pub accepted : IsAccepted f edit
   pub carried : AreCarried (tree_after f edit)
   pub anew : IsAnew f (tree_after f edit) (state_after (state_of f) edit).next made.image.items made.headers.items

@@ -12,7 +12,7 @@ ghost use Rattle.h5_edit.specs.Changed.Change.{IsPlainChange, changed};
 ghost use Rattle.h5_repack.specs.Written.{IsWritten, IsUnwritten};
 ghost use Rattle.h5_edit.specs.Carried.{IsRefused};
 ghost use Rattle.h5_edit.specs.Fitting.{IsFitting};
-ghost use Rattle.h5_edit.specs.Made.{IsMade};
+ghost use Rattle.h5_edit.specs.Made.{IsEditMade};
 
 use crate::change::{Change, changed_objects};
 use crate::made::{Made, answer};
@@ -45,7 +45,7 @@ pub(crate) fn carry_out(
         × IsFitting image.now.bytes opened.now.objects.items edit change.now object }
     ensures { let f = opened_state image.now.bytes opened.now.objects.items in
         (edit : Edit) → IsFitting image.now.bytes opened.now.objects.items edit change.now object
-        → MatchResult result (IsMade f edit) (IsRefused f edit) }
+        → MatchResult result (IsEditMade f edit) (IsRefused f edit) }
 {
     answer(write_changed(alloc, image, opened, change), object)
 }

@@ -5,7 +5,7 @@ ghost use Rattle.h5_model.specs.declared.edits.Edit.TheVariants.{SetAttr, Remove
 ghost use Rattle.h5_query.specs.Opened.Kept.{IsOpened};
 ghost use Rattle.h5_query.specs.Opened.State.{opened_state};
 ghost use Rattle.h5_edit.specs.Carried.{IsRefused};
-ghost use Rattle.h5_edit.specs.Made.{IsMade};
+ghost use Rattle.h5_edit.specs.Made.{IsEditMade};
 
 use crate::anew::carry_out;
 use crate::change::Change;
@@ -34,7 +34,7 @@ pub fn set_attr(
 ) -> Result<Made, EditFault>
     requires { IsOpened image.now.bytes opened.now.objects.items opened.now.numbers }
     ensures { let f = opened_state image.now.bytes opened.now.objects.items in
-        MatchResult result (IsMade f (SetAttr path.now attr.now)) (IsRefused f (SetAttr path.now attr.now)) }
+        MatchResult result (IsEditMade f (SetAttr path.now attr.now)) (IsRefused f (SetAttr path.now attr.now)) }
 {
     let number = check_set_attr(alloc, image, opened, path, attr)?;
     // A Continuation may come with the message.
@@ -63,7 +63,7 @@ pub fn remove_attr(
 ) -> Result<Made, EditFault>
     requires { IsOpened image.now.bytes opened.now.objects.items opened.now.numbers }
     ensures { let f = opened_state image.now.bytes opened.now.objects.items in
-        MatchResult result (IsMade f (RemoveAttr path.now name.now))
+        MatchResult result (IsEditMade f (RemoveAttr path.now name.now))
         (IsRefused f (RemoveAttr path.now name.now)) }
 {
     let number = check_remove_attr(image, opened, path, name)?;

@@ -6,7 +6,7 @@ ghost use Rattle.h5_query.specs.Opened.Kept.{IsOpened};
 ghost use Rattle.h5_query.specs.Opened.State.{opened_state};
 ghost use Rattle.h5_edit.specs.declared.change.change.Change.TheVariants.{Link as Linked};
 ghost use Rattle.h5_edit.specs.Carried.{IsRefused};
-ghost use Rattle.h5_edit.specs.Made.{IsMade};
+ghost use Rattle.h5_edit.specs.Made.{IsEditMade};
 
 use crate::anew::carry_out;
 use crate::change::{Change, Target};
@@ -33,7 +33,7 @@ pub fn create_group(
 ) -> Result<Made, EditFault>
     requires { IsOpened image.now.bytes opened.now.objects.items opened.now.numbers }
     ensures { let f = opened_state image.now.bytes opened.now.objects.items in
-        MatchResult result (IsMade f (CreateGroup path.now)) (IsRefused f (CreateGroup path.now)) }
+        MatchResult result (IsEditMade f (CreateGroup path.now)) (IsRefused f (CreateGroup path.now)) }
 {
     let place = check_create_group(image, opened, path)?;
     let change = link_at(place, Target::Group);
@@ -54,7 +54,7 @@ pub fn create_dataset(
 ) -> Result<Made, EditFault>
     requires { IsOpened image.now.bytes opened.now.objects.items opened.now.numbers }
     ensures { let f = opened_state image.now.bytes opened.now.objects.items in
-        MatchResult result (IsMade f (CreateDataset path.now spec.now))
+        MatchResult result (IsEditMade f (CreateDataset path.now spec.now))
         (IsRefused f (CreateDataset path.now spec.now)) }
 {
     if !is_carried(spec) {
@@ -80,7 +80,7 @@ pub fn hard_link(
 ) -> Result<Made, EditFault>
     requires { IsOpened image.now.bytes opened.now.objects.items opened.now.numbers }
     ensures { let f = opened_state image.now.bytes opened.now.objects.items in
-        MatchResult result (IsMade f (HardLink target.now path.now))
+        MatchResult result (IsEditMade f (HardLink target.now path.now))
         (IsRefused f (HardLink target.now path.now)) }
 {
     let (number, place) = check_hard_link(image, opened, target, path)?;
@@ -101,7 +101,7 @@ pub fn soft_link(
 ) -> Result<Made, EditFault>
     requires { IsOpened image.now.bytes opened.now.objects.items opened.now.numbers }
     ensures { let f = opened_state image.now.bytes opened.now.objects.items in
-        MatchResult result (IsMade f (SoftLink text.now path.now))
+        MatchResult result (IsEditMade f (SoftLink text.now path.now))
         (IsRefused f (SoftLink text.now path.now)) }
 {
     let place = check_soft_link(image, opened, text, path)?;

@@ -17,11 +17,11 @@ use Rattle.h5_edit.specs.Renumbered.Headers.{table_with, IsReadAt}
 use Rattle.h5_edit.proofs.RenumberedLaws.Renumbered.{table_at, length_at, tree_at}
 use Rattle.h5_edit.specs.declared.made.Made.{Made}
 use Rattle.h5_edit.specs.Carried.{IsRefused, tree_after}
-use Rattle.h5_edit.specs.Made.{IsMade}
-use Rattle.h5_file.specs.State.{IsWhole}
+use Rattle.h5_edit.specs.Made.{IsEditMade}
+use Rattle.h5_file.specs.State.{IsWholeFile}
 use Rattle.h5_file.specs.Edited.{IsEdited}
 
-module _ (f : FileState) (edit : Edit) (made : Made) (is : IsMade f edit made) where
+module _ (f : FileState) (edit : Edit) (made : Made) (is : IsEditMade f edit made) where
   abbrev image : List ℕ
   image = made.image.items
 
@@ -61,7 +61,7 @@ module _ (f : FileState) (edit : Edit) (made : Made) (is : IsMade f edit made) w
     next_is : length objects ≡ (state_after (state_of f) edit).next
     next_is = length_at objects made.headers.items at ∙ is.anew.numbered
 
-    whole : IsWhole after
+    whole : IsWholeFile after
     whole = record {
       placed = is.anew.reads.placed;
       reads = subst (λ t. ReadsAs image t (tree_of image objects) is.anew.reads.placed) (sym table_is)

@@ -9,7 +9,7 @@ use Rattle.h5_model.specs.Format.Superblock.{IsSuperblock, end_of_file}
 use Rattle.h5_model.specs.declared.open_fault.Cause.{Cause}
 use Rattle.h5_model.specs.declared.open_fault.Cause.TheVariants.{NoMemory, NotYet}
 use Rattle.h5_edit.specs.Opened.Carried.{ReadsCarried}
-use Rattle.h5_edit.specs.Opened.NotYet.{IsRefusedAt}
+use Rattle.h5_edit.specs.Opened.NotYet.{IsOpenRefusedAt}
 use Rattle.h5_laws.proofs.Excluded.{breach_excludes_reads}
 use Rattle.h5_file.specs.Opening.{RefusedBy, IsReadable, IsNoBreach}
 
@@ -77,7 +77,7 @@ field_refused bytes NoMemory at h = tt
 field_refused bytes NotYet at h = absurd (no_field bytes at h)
 field_refused bytes _ at h = inl h
 
-pub walk_refused : (bytes : List ℕ) (cause : Cause) (at : ℕ) → IsSuperblock bytes → IsRefusedAt (cut bytes) cause at → RefusedBy bytes cause at
+pub walk_refused : (bytes : List ℕ) (cause : Cause) (at : ℕ) → IsSuperblock bytes → IsOpenRefusedAt (cut bytes) cause at → RefusedBy bytes cause at
 walk_refused bytes NoMemory at is h = tt
 walk_refused bytes NotYet at is h = (is, h)
 walk_refused bytes _ at is h = inr h

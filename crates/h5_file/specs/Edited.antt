@@ -7,13 +7,13 @@ use Rattle.h5_model.specs.declared.edits.Edit.{Edit}
 use Rattle.h5_model.specs.declared.edits.Edited.{Edited}
 use Rattle.h5_edit.specs.Opened.State.{FileState, state_of}
 use Rattle.h5_edit.specs.Made.{IsAccepted}
-use Rattle.h5_file.specs.State.{IsWhole}
+use Rattle.h5_file.specs.State.{IsWholeFile}
 
 -- no rule refuses it; the image is that of the tree that it gives, without gaps, and keeps the K values
 pub record IsEdited (before : FileState) (edit : Edit) (after : FileState) (e : Edited) : Type 0 where
   pub accepted : IsAccepted before edit
   pub state : state_of after ≡ state_after (state_of before) edit
-  pub whole : IsWhole after
+  pub whole : IsWholeFile after
   pub leaf : leaf_k after.image ≡ leaf_k before.image
   pub internal : internal_k after.image ≡ internal_k before.image
   pub object : option_map (λ o. o.0) e.object ≡ named_object before.tree edit before.next

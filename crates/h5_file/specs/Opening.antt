@@ -10,13 +10,13 @@ use Rattle.h5_model.specs.declared.open_fault.OpenFault.{OpenFault}
 use Rattle.h5_model.specs.declared.open_fault.Cause.{Cause}
 use Rattle.h5_model.specs.declared.open_fault.Cause.TheVariants.{NoMemory, NotYet}
 use Rattle.h5_edit.specs.Opened.Carried.{ReadsCarried}
-use Rattle.h5_edit.specs.Opened.NotYet.{IsRefusedAt}
+use Rattle.h5_edit.specs.Opened.NotYet.{IsOpenRefusedAt}
 
 -- Memory was short; or the superblock is sound, and a block that is reached is of a form that is not read yet; or the cause holds at
 -- the address.
 abbrev pub RefusedBy : List ℕ → Cause → ℕ → Type 0
 RefusedBy bytes NoMemory at = Unit {0}
-RefusedBy bytes NotYet at = IsSuperblock bytes × IsRefusedAt (cut bytes) NotYet at
+RefusedBy bytes NotYet at = IsSuperblock bytes × IsOpenRefusedAt (cut bytes) NotYet at
 RefusedBy bytes cause at = Breach bytes cause at
 
 abbrev pub Refused : List ℕ → OpenFault → Type 0

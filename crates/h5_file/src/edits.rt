@@ -4,7 +4,7 @@ ghost use Rattle.std.specs.Prelude.{◌≡◌, MatchResult};
 ghost use Rattle.h5_model.specs.declared.edits.Edit.{Edit as TheEdit};
 ghost use Rattle.h5_model.specs.declared.edits.Edit.TheVariants.{CreateGroup, CreateDataset, HardLink, SoftLink, SetAttr, RemoveAttr};
 ghost use Rattle.h5_edit.specs.Carried.{IsRefused};
-ghost use Rattle.h5_edit.specs.Made.{IsMade};
+ghost use Rattle.h5_edit.specs.Made.{IsEditMade};
 ghost use Rattle.h5_file.specs.Edited.{IsEdited};
 
 use crate::file::{File, walk_written};
@@ -116,8 +116,8 @@ impl File {
 
     /// Takes the image that an edit gives in place of the file's own. Its objects keep their numbers.
     fn take(&mut self, made: Made) -> Result<Edited, EditFault>
-        requires { (edit : TheEdit) × IsMade self.old edit made }
-        ensures { (edit : TheEdit) → IsMade self.old edit made
+        requires { (edit : TheEdit) × IsEditMade self.old edit made }
+        ensures { (edit : TheEdit) → IsEditMade self.old edit made
             → MatchResult result (IsEdited self.old edit self.new) (λ e.
             IsRefused self.old edit e × (self.new ≡ self.old)) }
     {

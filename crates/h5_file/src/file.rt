@@ -8,9 +8,9 @@ ghost use Rattle.h5_model.specs.Format.Superblock.{IsSuperblock, end_of_file};
 ghost use Rattle.std.specs.FinMap.{len};
 ghost use Rattle.h5_edit.specs.Opened.Carried.{ReadsCarried};
 ghost use Rattle.h5_edit.specs.Opened.Kept.{IsOpened};
-ghost use Rattle.h5_edit.specs.Opened.NotYet.{IsRefusedAt};
-ghost use Rattle.h5_edit.specs.Listed.{IsNoGroup, AreLinks};
-ghost use Rattle.h5_edit.specs.Look.{HasKind, HasNames, HasCell, HasArray, HasAttribute, HasAttributeNames, HasAttributesOf, IsListRefused, IsNoDataset, IsUnlisted};
+ghost use Rattle.h5_edit.specs.Opened.NotYet.{IsOpenRefusedAt};
+ghost use Rattle.h5_edit.specs.Listed.{IsNoGroup, AreGroupLinks};
+ghost use Rattle.h5_edit.specs.Look.{HasKind, HasLinksNamed, HasCell, HasArrayNumbered, HasAttribute, HasAttributeNames, HasAttributesOf, IsListRefused, IsNoDataset, IsUnlisted};
 ghost use Rattle.h5_edit.specs.Found.{HasFound, IsUnfound};
 ghost use Rattle.h5_edit.specs.Place.{IsNumber, IsNoObject};
 ghost use Rattle.h5_file.specs.State.{IsSound, created_state};
@@ -140,7 +140,7 @@ impl File {
     /// `NoMemory`.
     pub fn list(&self, path: &[u8]) -> Result<Vec<&[u8]>, EditFault>
         ensures { MatchResult result (λ names.
-            HasNames self.now.tree path.now (map (λ name. name.now) names.items))
+            HasLinksNamed self.now.tree path.now (map (λ name. name.now) names.items))
             (IsListRefused self.now.tree path.now) }
     {
         names_at(self.alloc, &self.image, &self.opened, path)
@@ -206,14 +206,14 @@ impl File {
     pub fn links(&self, number: ObjectNo) -> Result<Option<Vec<Link<'_, ObjectNo>>>, AllocError>
         ensures { IfOk result (λ found.
             MatchOption found (IsNoGroup self.now.tree number.0) (λ links.
-            AreLinks self.now.tree number.0 links.items)) }
+            AreGroupLinks self.now.tree number.0 links.items)) }
     {
         links_of(self.alloc, &self.image, &self.opened, number)
     }
 
     /// The array of this number, or `None` where no array has it. It takes no memory.
     pub fn array(&self, number: ObjectNo) -> Option<StoredArray<'_>>
-        ensures { MatchOption result (IsNoDataset self.now.tree number.0) (HasArray self.now.tree number.0) }
+        ensures { MatchOption result (IsNoDataset self.now.tree number.0) (HasArrayNumbered self.now.tree number.0) }
     {
         array_of(self.alloc, &self.image, &self.opened, number)
     }
@@ -242,7 +242,7 @@ fn walked(alloc: Global, image: Image) -> Result<File, (OpenFault, Image)>
     ensures image { IfOk result (λ f. f.image ≡ image.bytes) }
     ensures sound { IfOk result IsSound }
     ensures numbers { IfOk result (λ f. f.next ≡ len f.tree) }
-    ensures refused { IfErr result (λ e. IsRefusedAt image.bytes e.0.cause e.0.address) }
+    ensures refused { IfErr result (λ e. IsOpenRefusedAt image.bytes e.0.cause e.0.address) }
     ensures only { IfErr result (λ e. ReadsCarried image.bytes → e.0.cause ≡ Cause.NoMemory) }
     ensures back { IfErr result (λ e. e.1.bytes ≡ image.bytes) }
 {
@@ -263,7 +263,7 @@ fn open_front(alloc: Global, bytes: Vec<u8>, end: usize) -> Result<File, (OpenFa
     ensures image { IfOk result (λ f. f.image ≡ cut bytes.items) }
     ensures sound { IfOk result IsSound }
     ensures numbers { IfOk result (λ f. f.next ≡ len f.tree) }
-    ensures refused { IfErr result (λ e. IsRefusedAt (cut bytes.items) e.0.cause e.0.address) }
+    ensures refused { IfErr result (λ e. IsOpenRefusedAt (cut bytes.items) e.0.cause e.0.address) }
     ensures only { IfErr result (λ e. ReadsCarried (cut bytes.items) → e.0.cause ≡ Cause.NoMemory) }
     ensures back { IfErr result (λ e. e.1.items ≡ bytes.items) }
 {

@@ -17,7 +17,7 @@ use Rattle.h5_header.proofs.WalkLaws.WalkedLaws.{not_followed}
 use Rattle.h5_laws.proofs.Lists.{In, in_all, in_map, in_contains}
 use Rattle.h5_btree.specs.Walk.Forms.{OfGroup}
 use Rattle.h5_btree.specs.Walk.Followed.{IsTreeFollowed}
-use Rattle.h5_group.specs.Nodes.Trees.{kind_in, nodes_blocks}
+use Rattle.h5_group.specs.Nodes.Trees.{kind_in, group_nodes_blocks}
 use Rattle.h5_group.specs.Nodes.Walk.{AreSymbolsReached}
 use Rattle.h5_group.specs.declared.group.Group.{Group}
 use Rattle.h5_group.specs.Walk.{IsGroupMet, IsGroupFollowed, IsHard, entry_field}
@@ -59,8 +59,8 @@ module _ (image : List ℕ) (held : List Block) (followed : List Named) (first s
   walked1 : IsWalked image h1 (heap_fields ++ followed)
   walked1 = heap_walked image held followed first second depth g.table met h1 inside claimed separate
 
-  module _ (h2 : List Block) (nodes : List ℕ) (there : Inside (length image) (nodes_blocks image nodes g.symbol_nodes.items))
-      (claimed2 : (p : ℕ) → cover p h2 ≡ cover p h1 + cover p (nodes_blocks image nodes g.symbol_nodes.items)) (separate2 : Separate h2)
+  module _ (h2 : List Block) (nodes : List ℕ) (there : Inside (length image) (group_nodes_blocks image nodes g.symbol_nodes.items))
+      (claimed2 : (p : ℕ) → cover p h2 ≡ cover p h1 + cover p (group_nodes_blocks image nodes g.symbol_nodes.items)) (separate2 : Separate h2)
       (formed : AllByRecursion (λ at. IsSymbolNode (leaf_k image) (symbol_bytes image (leaf_k image) at)) g.symbol_nodes.items)
       (tree : IsTreeFollowed image OfGroup h2 (heap_fields ++ followed) first g.table.tree g.table.heap depth nodes g.symbol_nodes.items) where
     abbrev tree_cover : ℕ → ℕ

@@ -8,7 +8,7 @@ use Rattle.h5_model.specs.Format.Heap.{heap_header, heap_blocks, segment_block, 
 use Rattle.h5_model.specs.Format.Reached.{Named, named, HeapHeader, Segment, Reached, by_block, group_root, block_of, length_of}
 use Rattle.h5_model.specs.declared.open_fault.Cause.{Cause}
 use Rattle.h5_model.specs.declared.open_fault.Cause.TheVariants.{Truncated, Overlap, HeapForm, NoMemory}
-use Rattle.h5_heap.specs.Refused.{IsRefused}
+use Rattle.h5_heap.specs.Refused.{IsHeapRefused}
 use Rattle.h5_header.specs.Walk.Walked.{IsWalked}
 use Rattle.h5_header.specs.Walk.Met.{IsMet}
 use Rattle.h5_header.proofs.WalkLaws.MetFields.{met_truncated, met_overlaps, met_walked, still_met, field_after, other_field}
@@ -60,7 +60,7 @@ module _ (image : List ℕ) (held : List Block) (followed : List Named) (first s
         let here : holds p table.heap 32 ≡ 1 = holds_in p table.heap 32 (omega arith) (omega arith) in
         other_field image held followed tree_field met.tree (table.heap + 24) (omega (arith, here, apart p))
 
-  pub heap_refused : (cause : Cause) (address : ℕ) → IsRefused image table.heap held cause address → IsFault image cause address
+  pub heap_refused : (cause : Cause) (address : ℕ) → IsHeapRefused image table.heap held cause address → IsFault image cause address
   heap_refused Truncated address (inl (e, past)) = met_truncated image held followed met.walked heap_field met.heap refl address e past
   heap_refused Truncated address (inr (there, e, past)) =
       (segment_field, by_block {y = segment_field} (met.heap).reached refl (omega (arith, there)), sym e, rw segment_length past)

@@ -18,11 +18,11 @@ use Rattle.h5_laws.proofs.Lists.{in_all, all_in}
 use Rattle.h5_laws.proofs.Entries.{flat-same, own_entries}
 use Rattle.h5_btree.specs.Walk.Forms.{OfGroup}
 use Rattle.h5_btree.specs.Walk.Trees.{IsTree}
-use Rattle.h5_group.specs.Nodes.Trees.{kind_in, nodes_blocks}
+use Rattle.h5_group.specs.Nodes.Trees.{kind_in, group_nodes_blocks}
 use Rattle.h5_group.specs.Texts.Named.{AreTexts}
-use Rattle.h5_group.specs.Order.Ordered.{AreOrdered}
+use Rattle.h5_group.specs.Order.Ordered.{AreNamesOrdered}
 use Rattle.h5_group.specs.declared.group.Group.{Group}
-use Rattle.h5_group.specs.Links.{IsGroupRead, links_of, blocks_of, nodes_at}
+use Rattle.h5_group.specs.Links.{IsGroupRead, links_of_group, blocks_of_group, nodes_at}
 use Rattle.h5_group.proofs.NodeLaws.GroupLaws.{nodes_formed, entries_known}
 use Rattle.h5_group.proofs.EntryOrder.{owned_order}
 
@@ -54,15 +54,15 @@ module _ (image : List ℕ) (g : Group) (owned : List ℕ) (tree : IsTree image 
       owned_is image (kind_in image) g.table.tree tree.level owned g.symbol_nodes.items tree.tree
       ∙ ap (λ (l : ℕ). nodes V l (g.table.tree ∷ [])) (sym (level_is image (kind_in image) g.table.tree tree.level owned g.symbol_nodes.items tree.tree))
 
-  pub blocks_are : nodes_blocks image owned g.symbol_nodes.items ++ heap_blocks image g.table.heap ≡ blocks_of image g
-  blocks_are = ap (λ (ns : List ℕ). nodes_blocks image ns g.symbol_nodes.items ++ heap_blocks image g.table.heap) nodes_are
+  pub blocks_are : group_nodes_blocks image owned g.symbol_nodes.items ++ heap_blocks image g.table.heap ≡ blocks_of_group image g
+  blocks_are = ap (λ (ns : List ℕ). group_nodes_blocks image ns g.symbol_nodes.items ++ heap_blocks image g.table.heap) nodes_are
 
   -- what was claimed for the heap, and then for the tree
   pub both_claimed : (p : ℕ) (held between now : List Block) → cover p between ≡ cover p held + cover p (heap_blocks image g.table.heap)
-      → cover p now ≡ cover p between + cover p (nodes_blocks image owned g.symbol_nodes.items) → cover p now ≡ cover p held + cover p (blocks_of image g)
+      → cover p now ≡ cover p between + cover p (group_nodes_blocks image owned g.symbol_nodes.items) → cover p now ≡ cover p held + cover p (blocks_of_group image g)
   both_claimed p held between now first then =
-      let all : cover p (blocks_of image g) ≡ cover p (nodes_blocks image owned g.symbol_nodes.items) + cover p (heap_blocks image g.table.heap)
-      = ap (cover p) (sym blocks_are) ∙ cover-append p (nodes_blocks image owned g.symbol_nodes.items) (heap_blocks image g.table.heap) in
+      let all : cover p (blocks_of_group image g) ≡ cover p (group_nodes_blocks image owned g.symbol_nodes.items) + cover p (heap_blocks image g.table.heap)
+      = ap (cover p) (sym blocks_are) ∙ cover-append p (group_nodes_blocks image owned g.symbol_nodes.items) (heap_blocks image g.table.heap) in
       omega (arith, first, then, all)
 
   keys_are : key_offsets V owned ≡ key_offsets W owned
@@ -70,12 +70,12 @@ module _ (image : List ℕ) (g : Group) (owned : List ℕ) (tree : IsTree image 
       (all_in (λ at. map offset_in (V at).keys ≡ map offset_in (W at).keys) owned
       (λ at there. ap (λ (n : Node). map offset_in n.keys) (in_all (λ n. V n ≡ W n) at owned (only_here blank V owned) there)))
 
-  module _ (free : List Block) (texts : AreTexts image segment free owned g.symbol_nodes.items) (order : AreOrdered image segment owned g.symbol_nodes.items)
+  module _ (free : List Block) (texts : AreTexts image segment free owned g.symbol_nodes.items) (order : AreNamesOrdered image segment owned g.symbol_nodes.items)
       (heap : IsHeap (heap_header image g.table.heap) segment free) where
     abbrev Spans : List Entry → List ℕ → Type 0
     Spans es keys = HasNames segment free (map (λ (e : Entry). e.name) es) (texts_of es) keys texts.loose
 
-    listed : AreLinks W own (heap_header image g.table.heap) segment owned g.symbol_nodes.items (links_of image g)
+    listed : AreLinks W own (heap_header image g.table.heap) segment owned g.symbol_nodes.items (links_of_group image g)
     listed = record {
       cached = subst (AllByRecursion IsEntry) own_are (entries_known image g.symbol_nodes.items tree.formed);
       all = ap (map (link_of segment)) own_are;
@@ -88,7 +88,7 @@ module _ (image : List ℕ) (g : Group) (owned : List ℕ) (tree : IsTree image 
       spans = subst (λ (ks : List ℕ). Spans (flat_map own g.symbol_nodes.items) ks) keys_are (subst (λ (es : List Entry). Spans es (key_offsets V owned)) own_are texts.spans);
     }
 
-    linked : HasLinks image (leaf_k image) (internal_k image) g.table.tree g.table.heap (links_of image g) (blocks_of image g)
+    linked : HasLinks image (leaf_k image) (internal_k image) g.table.tree g.table.heap (links_of_group image g) (blocks_of_group image g)
     linked = record {
       level = tree.level;
       owned = owned;
@@ -99,11 +99,11 @@ module _ (image : List ℕ) (g : Group) (owned : List ℕ) (tree : IsTree image 
       laid = sym blocks_are;
     }
 
-    pub group_read : Inside (length image) (nodes_blocks image owned g.symbol_nodes.items) → Inside (length image) (heap_blocks image g.table.heap) → IsGroupRead image g
+    pub group_read : Inside (length image) (group_nodes_blocks image owned g.symbol_nodes.items) → Inside (length image) (heap_blocks image g.table.heap) → IsGroupRead image g
     unfolding linked
     group_read trees inside = record {
       linked = linked;
       symbols_are = refl;
       inside = subst (Inside (length image)) blocks_are
-          (all_append (λ (b : Block). b.at + b.len ≤ length image) (nodes_blocks image owned g.symbol_nodes.items) (heap_blocks image g.table.heap) trees inside);
+          (all_append (λ (b : Block). b.at + b.len ≤ length image) (group_nodes_blocks image owned g.symbol_nodes.items) (heap_blocks image g.table.heap) trees inside);
     }

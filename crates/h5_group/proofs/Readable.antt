@@ -12,7 +12,7 @@ use Rattle.h5_model.specs.Format.Symbols.{IsEntry}
 use Rattle.h5_model.specs.declared.open_fault.Cause.{Cause}
 use Rattle.h5_model.specs.declared.open_fault.Cause.TheVariants.{HeapName, BadName, NameOrder, KeyOrder, NoMemory}
 use Rattle.h5_model.proofs.OneTree.{owned_is, one_owned}
-use Rattle.h5_heap.specs.Refused.{IsReadable}
+use Rattle.h5_heap.specs.Refused.{IsHeapReadable}
 use Rattle.h5_laws.proofs.Lists.{In, in_either, in_contains}
 use Rattle.h5_laws.proofs.Entries.{own_entries}
 use Rattle.h5_laws.proofs.GroupExcluded.{name_excluded, bad_name_excluded, heap_name_excluded}
@@ -20,7 +20,7 @@ use Rattle.h5_laws.proofs.OrderExcluded.{key_excluded}
 use Rattle.h5_btree.specs.Walk.Forms.{OfGroup}
 use Rattle.h5_btree.specs.Walk.Trees.{IsTree}
 use Rattle.h5_btree.specs.Walk.Readable.{IsTreeReadable}
-use Rattle.h5_group.specs.Nodes.Trees.{kind_in, nodes_blocks}
+use Rattle.h5_group.specs.Nodes.Trees.{kind_in, group_nodes_blocks}
 use Rattle.h5_group.specs.Texts.Refused.{AreTextsRefused}
 use Rattle.h5_group.specs.Order.Ordered.{IsOrderRefused}
 use Rattle.h5_group.specs.Links.{IsGroupReadable}
@@ -37,7 +37,7 @@ in_some_row V (suc level) row at there = elim (in_either at row (nodes V level (
 
 module _ (image : List ℕ) (table : SymbolTable) (held : List Block) (readable : IsGroupReadable image table held) where
   abbrev tree_part : List Block
-  tree_part = nodes_blocks image (readable.has).owned (readable.has).symbol_nodes
+  tree_part = group_nodes_blocks image (readable.has).owned (readable.has).symbol_nodes
 
   abbrev heap_part : List Block
   heap_part = heap_blocks image table.heap
@@ -51,7 +51,7 @@ module _ (image : List ℕ) (table : SymbolTable) (held : List Block) (readable 
   parts : (p : ℕ) → cover p readable.blocks ≡ cover p tree_part + cover p heap_part
   parts p = ap (cover p) (readable.has).laid ∙ cover-append p tree_part heap_part
 
-  pub heap_readable : IsReadable image table.heap held
+  pub heap_readable : IsHeapReadable image table.heap held
   heap_readable = record {
     free = (readable.has).listed.free;
     has = (readable.has).listed.heap_form;

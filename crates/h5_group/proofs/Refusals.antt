@@ -15,7 +15,7 @@ use Rattle.h5_model.specs.declared.open_fault.Cause.TheVariants.{HeapName, BadNa
 use Rattle.h5_header.specs.Walk.Met.{IsMet}
 use Rattle.h5_btree.specs.Walk.Forms.{OfGroup}
 use Rattle.h5_btree.specs.Walk.Followed.{IsTreeFollowed, IsNodeReached}
-use Rattle.h5_group.specs.Nodes.Trees.{kind_in, nodes_blocks}
+use Rattle.h5_group.specs.Nodes.Trees.{kind_in, group_nodes_blocks}
 use Rattle.h5_group.specs.Nodes.Walk.{IsFault, AreSymbolsReached}
 use Rattle.h5_group.specs.Texts.Refused.{AreTextsRefused}
 use Rattle.h5_group.specs.Order.Ordered.{IsOrderRefused}
@@ -30,7 +30,7 @@ module _ (image : List ℕ) (held : List Block) (followed : List Named) (table :
   texts_refused _ address e refused = absurd refused
 
 module _ (image : List ℕ) (now : List Block) (followed : List Named) (table : SymbolTable) (first depth : ℕ) (nodes symbol_nodes : List ℕ)
-    (tree : IsTreeFollowed image OfGroup now followed first table.tree table.heap depth nodes symbol_nodes) (inside : Inside (length image) (nodes_blocks image nodes symbol_nodes)) where
+    (tree : IsTreeFollowed image OfGroup now followed first table.tree table.heap depth nodes symbol_nodes) (inside : Inside (length image) (group_nodes_blocks image nodes symbol_nodes)) where
   abbrev IsInside : Block → Type 0
   IsInside b = b.at + b.len ≤ length image
 

@@ -12,11 +12,11 @@ use Rattle.h5_model.specs.Format.Heap.{segment_of}
 use Rattle.h5_model.specs.Format.Symbols.{Entry, Target, symbols_at, link_of}
 use Rattle.h5_model.specs.Format.Links.{Before, names_in}
 use Rattle.h5_model.specs.Faults.TreeFaults.{all_entries}
-use Rattle.h5_snod.specs.Names.{IsPlace, names_of}
+use Rattle.h5_snod.specs.Names.{IsPlace, entry_names}
 use Rattle.h5_laws.proofs.Lists.{In, in_all, in_either, in_map, in_flat, from_map, in_contains, contains_in}
 use Rattle.h5_group.specs.declared.group.Group.{Group}
 use Rattle.h5_model.specs.declared.link.Link.{Link}
-use Rattle.h5_group.specs.Links.{links_of, link_from, IsLinkNamed, HasNone}
+use Rattle.h5_group.specs.Links.{links_of_group, lent_link, IsLinkNamed, HasNone}
 
 -- ---- an entry of this name
 
@@ -24,7 +24,7 @@ same_some : {X : Type 0} (x y : X) → Some x ≡ Some y → x ≡ y
 same_some x y is = ap (λ o. unwrap_or o x) is
 
 -- the entry whose name was found is the link's
-entry_found : (segment : List ℕ) (es : List Entry) (k : ℕ) (name : List ℕ) (l : List ℕ × Target) → slice_get (names_of segment es) k ≡ Some name
+entry_found : (segment : List ℕ) (es : List Entry) (k : ℕ) (name : List ℕ) (l : List ℕ × Target) → slice_get (entry_names segment es) k ≡ Some name
     → option_map (link_of segment) (slice_get es k) ≡ Some l → In l (map (link_of segment) es) × (l.0 ≡ name)
 entry_found segment [] k name l found read = let none : None ≡ Some l = read in cc
 entry_found segment (e ∷ es) zero name l found read =
@@ -34,10 +34,10 @@ entry_found segment (e ∷ es) zero name l found read =
 entry_found segment (e ∷ es) (suc k) name l found read =
     let rest = entry_found segment es k name l found read in (inr rest.0, rest.1)
 
-pub entry_there : (segment : List ℕ) (es : List Entry) (k : ℕ) (name : List ℕ) → slice_get (names_of segment es) k ≡ Some name → k < length es
+pub entry_there : (segment : List ℕ) (es : List Entry) (k : ℕ) (name : List ℕ) → slice_get (entry_names segment es) k ≡ Some name → k < length es
 entry_there segment es k name found =
-    let low = slice_get_within (names_of segment es) k name found in
-    let long : length (names_of segment es) ≡ length es = length-map es (λ (e : Entry). text_at segment e.name) in
+    let low = slice_get_within (entry_names segment es) k name found in
+    let long : length (entry_names segment es) ≡ length es = length-map es (λ (e : Entry). text_at segment e.name) in
     omega (arith, low, long)
 
 -- ---- a name that no entry has
@@ -62,31 +62,31 @@ module _ (image : List ℕ) (g : Group) where
   segment = segment_of image g.table.heap
 
   -- the link of an entry of one of the symbol nodes is the group's
-  entry_of_group : (at : ℕ) (l : List ℕ × Target) → In at g.symbol_nodes.items → In l (map (link_of segment) (S at)) → In l (links_of image g)
+  entry_of_group : (at : ℕ) (l : List ℕ × Target) → In at g.symbol_nodes.items → In l (map (link_of segment) (S at)) → In l (links_of_group image g)
   entry_of_group at l there here =
       let by = from_map (link_of segment) l (S at) here in
-      subst (λ (x : List ℕ × Target). In x (links_of image g)) by.2
+      subst (λ (x : List ℕ × Target). In x (links_of_group image g)) by.2
       (in_map (link_of segment) by.0 (all_entries image g.symbol_nodes.items) (in_flat S at by.0 g.symbol_nodes.items there by.1))
 
-  pub link_found : (at k : ℕ) (name : List ℕ) (l : Link ℕ) → Contains g.symbol_nodes.items at → slice_get (names_of segment (S at)) k ≡ Some name
-      → option_map (link_of segment) (slice_get (S at) k) ≡ Some (link_from l) → IsLinkNamed image g name l
+  pub link_found : (at k : ℕ) (name : List ℕ) (l : Link ℕ) → Contains g.symbol_nodes.items at → slice_get (entry_names segment (S at)) k ≡ Some name
+      → option_map (link_of segment) (slice_get (S at) k) ≡ Some (lent_link l) → IsLinkNamed image g name l
   link_found at k name l there found read =
-      let here = entry_found segment (S at) k name (link_from l) found read in
-      (contains_in (link_from l) (links_of image g) (entry_of_group at (link_from l) (in_contains at g.symbol_nodes.items there) here.0), here.1)
+      let here = entry_found segment (S at) k name (lent_link l) found read in
+      (contains_in (lent_link l) (links_of_group image g) (entry_of_group at (lent_link l) (in_contains at g.symbol_nodes.items there) here.0), here.1)
 
   -- a link's name is one of the names
-  pub link_named : (name : List ℕ) (t : Target) → Contains (links_of image g) (name, t) → Contains (names_in S segment g.symbol_nodes.items) name
+  pub link_named : (name : List ℕ) (t : Target) → Contains (links_of_group image g) (name, t) → Contains (names_in S segment g.symbol_nodes.items) name
   link_named name t has =
       let entries : List Entry = all_entries image g.symbol_nodes.items in
-      let by = from_map (link_of segment) (name, t) entries (in_contains (name, t) (links_of image g) has) in
+      let by = from_map (link_of segment) (name, t) entries (in_contains (name, t) (links_of_group image g) has) in
       let same : text_at segment (by.0).name ≡ name = ap (λ (x : List ℕ × Target). x.0) by.2 in
       contains_in name (names_in S segment g.symbol_nodes.items)
       (subst (λ (x : List ℕ). In x (names_in S segment g.symbol_nodes.items)) same
       (in_map (λ (e : Entry). text_at segment e.name) by.0 entries by.1))
 
-  pub none_found : (at k : ℕ) (name : List ℕ) → IsPlace (names_of segment (S at)) name k
+  pub none_found : (at k : ℕ) (name : List ℕ) → IsPlace (entry_names segment (S at)) name k
       → (Contains (names_in S segment g.symbol_nodes.items) name → Contains (names_in S segment (at ∷ [])) name) → HasNone image g name
   none_found at k name place only t has =
       let here = only (link_named name t has) in
-      let one : names_in S segment (at ∷ []) ≡ names_of segment (S at) = ap (names_of segment) (append-nil (S at)) in
-      no_place (names_of segment (S at)) name k place (subst (In name) one (in_contains name (names_in S segment (at ∷ [])) here))
+      let one : names_in S segment (at ∷ []) ≡ entry_names segment (S at) = ap (entry_names segment) (append-nil (S at)) in
+      no_place (entry_names segment (S at)) name k place (subst (In name) one (in_contains name (names_in S segment (at ∷ [])) here))

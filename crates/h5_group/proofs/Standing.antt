@@ -15,7 +15,7 @@ use Rattle.h5_laws.proofs.Lists.{In, in_all, in_map, in_contains}
 use Rattle.h5_laws.proofs.Entries.{own_entries}
 use Rattle.h5_group.specs.Nodes.Trees.{kind_in}
 use Rattle.h5_group.specs.declared.group.Group.{Group}
-use Rattle.h5_group.specs.Links.{IsGroupRead, links_of}
+use Rattle.h5_group.specs.Links.{IsGroupRead, links_of_group}
 
 -- ---- a part of what ascends
 
@@ -64,7 +64,7 @@ module _ (image : List ℕ) (g : Group) (read : IsGroupRead image g) where
   pub entries_are : all_entries image g.symbol_nodes.items ≡ flat_map (symbols_of image (leaf_k image) (read.linked).symbol_nodes) (read.linked).symbol_nodes
   entries_are = ap (all_entries image) (sym read.symbols_are) ∙ own_entries image (read.linked).symbol_nodes
 
-  pub ascending : Ascend (links_of image g)
+  pub ascending : Ascend (links_of_group image g)
   ascending = subst Ascend ((read.linked).listed.all ∙ ap (map (link_of (segment_of image g.table.heap))) (sym entries_are)) (read.linked).listed.ascending
 
   -- one of the symbol nodes

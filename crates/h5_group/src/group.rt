@@ -4,7 +4,7 @@ ghost use Rattle.std.specs.Prelude.{◌≡◌, length, IfOk, IfErr};
 ghost use Rattle.h5_model.specs.Format.Superblock.{IsSuperblock};
 ghost use Rattle.h5_model.specs.declared.open_fault.Cause.TheVariants.{NoMemory};
 ghost use Rattle.h5_space.specs.Claimed.{HasClaimed};
-ghost use Rattle.h5_group.specs.Links.{IsGroupRead, IsGroupReadable, blocks_of};
+ghost use Rattle.h5_group.specs.Links.{IsGroupRead, IsGroupReadable, blocks_of_group};
 ghost use Rattle.h5_group.specs.Walk.{FollowsGroup, IsGroupFault};
 
 use crate::nodes::SymbolNodes;
@@ -44,7 +44,7 @@ pub fn read_group(
     requires superblock { IsSuperblock image.now.bytes }
     ensures group { IfOk result (IsGroupRead image.now.bytes) }
     ensures table { IfOk result (λ g. g.table ≡ table) }
-    ensures claimed { IfOk result (λ g. HasClaimed claims.old claims.new (blocks_of image.now.bytes g)) }
+    ensures claimed { IfOk result (λ g. HasClaimed claims.old claims.new (blocks_of_group image.now.bytes g)) }
     ensures end { claims.new.end ≡ claims.old.end }
     ensures walked { IfOk result (FollowsGroup image.now.bytes claims.old.held claims.new.held table) }
     ensures refused { IfErr result (λ fault.

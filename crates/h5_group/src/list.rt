@@ -5,7 +5,7 @@ ghost use Rattle.std.specs.List.{Contains};
 ghost use Rattle.h5_model.specs.Format.Superblock.{leaf_k};
 ghost use Rattle.h5_model.specs.Format.Heap.{segment_of};
 ghost use Rattle.h5_model.specs.Format.Symbols.{symbols_at, link_of};
-ghost use Rattle.h5_group.specs.Links.{IsGroupRead, links_of, link_from};
+ghost use Rattle.h5_group.specs.Links.{IsGroupRead, links_of_group, lent_link};
 
 use crate::group::Group;
 use crate::link::link_in;
@@ -24,7 +24,7 @@ pub fn entries<'a>(
     group: &Group,
 ) -> Result<Vec<Link<'a, u64>>, AllocError>
     requires { IsGroupRead image.now.bytes group.now }
-    ensures { IfOk result (λ links. map link_from links.items ≡ links_of image.now.bytes group.now) }
+    ensures { IfOk result (λ links. map lent_link links.items ≡ links_of_group image.now.bytes group.now) }
 {
     let segment = segment(image, group);
     let mut links = Vec::new(alloc);
@@ -40,8 +40,8 @@ fn push_links<'a>(
     segment: &'a [u8],
     node: &SymbolNode,
 ) -> Result<(), AllocError>
-    ensures { OnOk result (map link_from links.new.items
-        ≡ map link_from links.old.items ++ map (link_of segment.now) node.now) }
+    ensures { OnOk result (map lent_link links.new.items
+        ≡ map lent_link links.old.items ++ map (link_of segment.now) node.now) }
 {
     for i in 0..node.len() {
         links.push(link_in(segment, node, i))?;
@@ -65,7 +65,7 @@ pub fn link_at<'a>(image: &'a Image, group: &Group, node: u64, i: usize) -> Link
     requires entry { i < length (symbols_at image.now.bytes (leaf_k image.now.bytes) node) }
     ensures { option_map (link_of (segment_of image.now.bytes group.now.table.heap))
         (slice_get (symbols_at image.now.bytes (leaf_k image.now.bytes) node) i)
-        ≡ Some (link_from result) }
+        ≡ Some (lent_link result) }
 {
     link_in(segment(image, group), &symbol_node(image, group, node), i)
 }

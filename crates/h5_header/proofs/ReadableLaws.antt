@@ -16,7 +16,7 @@ use Rattle.h5_model.specs.Faults.HeaderFaults.{is_known, is_new_style}
 use Rattle.h5_model.specs.declared.open_fault.Cause.{Cause}
 use Rattle.h5_model.specs.declared.open_fault.Cause.TheVariants.{Truncated, HeaderVersion, MessageSize, SharedMessage, UnknownMessage, Filtered, ExternalFiles, NewStyleGroup, Overlap, NoMemory}
 use Rattle.h5_header.specs.Heads.{HeadBreach, is_read}
-use Rattle.h5_header.specs.Refused.{header_block, IsReadable}
+use Rattle.h5_header.specs.Refused.{header_block, IsHeaderReadable}
 use Rattle.h5_header.specs.Progress.{FilledTo, IsTaken, PrefixBreach, StopsAtMessage, StopsAtBlock, Stops, without_memory, at_prefix, at_message, at_block}
 use Rattle.h5_header.proofs.SameLaws.{parts_go_on, message_goes_on}
 use Rattle.h5_header.proofs.MetLaws.{long_body, length-part-le, kind, size, fits, body, inside, stop_met}
@@ -79,7 +79,7 @@ module _ (image : List ℕ) (header : ℕ) (b : Block) (to : ℕ) (m : Message) 
   head_sound NewStyleGroup breach = read_old (kind_at image (b.at + to)) read_here breach.1
   head_sound _ breach = breach
 
-module _ (image : List ℕ) (header : ℕ) (held : List Block) (r : IsReadable image header held) where
+module _ (image : List ℕ) (header : ℕ) (held : List Block) (r : IsHeaderReadable image header held) where
   taken_all : AllByRecursion IsTaken r.messages
   taken_all = all_taken r.messages (r.has).continued r.read
 

@@ -36,16 +36,16 @@ Crosses image header held at b = Shares held b.at b.len
 
 -- The cause holds of the header or of one of its blocks, and the address is that block's. A message that names a block stands in none
 -- that was claimed before; a header of which a rule is broken has its prefix in the image.
-abbrev pub IsRefused : List ℕ → ℕ → List Block → Cause → ℕ → Type 0
-IsRefused image header held Truncated address = (b : Block) × IsBlockOf image header b × (address ≡ b.at) × (length image < b.at + b.len)
-IsRefused image header held Overlap address = ((address ≡ header) × Shares held header (16 + first_size (prefix_at image header)))
+abbrev pub IsHeaderRefused : List ℕ → ℕ → List Block → Cause → ℕ → Type 0
+IsHeaderRefused image header held Truncated address = (b : Block) × IsBlockOf image header b × (address ≡ b.at) × (length image < b.at + b.len)
+IsHeaderRefused image header held Overlap address = ((address ≡ header) × Shares held header (16 + first_size (prefix_at image header)))
     ⊎ ((at : ℕ) × (b : Block) × NamesBlock image header at b × (address ≡ b.at) × (cover at held ≡ 0) × Crosses image header held at b)
-IsRefused image header held NoMemory address = Unit {0}
-IsRefused image header held cause address = (address ≡ header) × (header + 16 ≤ length image) × HeaderBreach image header cause
+IsHeaderRefused image header held NoMemory address = Unit {0}
+IsHeaderRefused image header held cause address = (address ≡ header) × (header + 16 ≤ length image) × HeaderBreach image header cause
 
 -- the header has messages of types that are read, in blocks that lie in the image and share no byte with each other or with those
 -- that were claimed before
-pub record IsReadable (image : List ℕ) (header : ℕ) (held : List Block) : Type 0 where
+pub record IsHeaderReadable (image : List ℕ) (header : ℕ) (held : List Block) : Type 0 where
   pub messages : List Message
   pub blocks : List Block
   pub has : HasMessages image header messages blocks

@@ -7,7 +7,7 @@ ghost use Rattle.h5_model.specs.Format.Messages.{HasMessages};
 ghost use Rattle.h5_space.specs.Claimed.{HasClaimed};
 ghost use Rattle.h5_header.specs.Heads.{is_read};
 ghost use Rattle.h5_header.specs.Listed.{messages_in, IsWithin};
-ghost use Rattle.h5_header.specs.Refused.{IsRefused, IsReadable};
+ghost use Rattle.h5_header.specs.Refused.{IsHeaderRefused, IsHeaderReadable};
 
 use crate::header::{Messages, read_header};
 use h5_bytes::u16_at;
@@ -45,8 +45,8 @@ pub fn messages(
     ensures claimed { IfOk result (λ m. HasClaimed claims.old claims.new m.blocks) }
     ensures end { claims.new.end ≡ claims.old.end }
     ensures refused { IfErr result (λ fault.
-        IsRefused image.now.bytes at claims.old.held fault.cause fault.address) }
-    ensures only { IsReadable image.now.bytes at claims.old.held
+        IsHeaderRefused image.now.bytes at claims.old.held fault.cause fault.address) }
+    ensures only { IsHeaderReadable image.now.bytes at claims.old.held
         → IfErr result (λ fault. fault.cause ≡ Cause.NoMemory) }
 {
     let bytes = image.bytes();

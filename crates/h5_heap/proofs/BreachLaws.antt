@@ -8,12 +8,12 @@ use Rattle.h5_model.specs.Format.Heap.{heap_header, segment_block, segment_of, I
 use Rattle.h5_model.specs.Format.Symbols.{Entry, texts_of}
 use Rattle.h5_model.specs.Faults.TreeFaults.{HasSymbolNodes, all_entries, all_key_offsets, HeapNameBreach}
 use Rattle.h5_model.specs.declared.open_fault.Cause.TheVariants.{HeapName}
-use Rattle.h5_heap.specs.Kept.{Kept, segment_in}
+use Rattle.h5_heap.specs.Kept.{HeapState, segment_in}
 use Rattle.h5_heap.specs.Spans.{IsSpan, IsNotEmpty}
 use Rattle.h5_heap.proofs.RefusedLaws.{begin_refused, name_refused}
 
 -- a group's tree has these symbol nodes, and its heap was read
-module _ (image : List ℕ) (root at : ℕ) (symbol_nodes : List ℕ) (has : HasSymbolNodes image root symbol_nodes) (heap : Kept)
+module _ (image : List ℕ) (root at : ℕ) (symbol_nodes : List ℕ) (has : HasSymbolNodes image root symbol_nodes) (heap : HeapState)
     (place : heap.segment ≡ segment_block image at) (read : IsHeap (heap_header image at) (segment_of image at) heap.free) where
   -- the offsets of the links' names and texts
   abbrev offsets : List ℕ

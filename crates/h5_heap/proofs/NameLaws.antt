@@ -9,7 +9,7 @@ use Rattle.h5_bytes.specs.Blocks.{cover, Inside}
 use Rattle.h5_bytes.proofs.CoverLaws.{held_by, cover-sum}
 use Rattle.h5_model.specs.Format.Heap.{span_of, KeyNames, HasNames}
 use Rattle.h5_model.specs.Format.Symbols.{Entry, texts_of}
-use Rattle.h5_heap.specs.Kept.{Kept}
+use Rattle.h5_heap.specs.Kept.{HeapState}
 use Rattle.h5_heap.specs.Spans.{IsSpan, HasTaken}
 use Rattle.h5_heap.proofs.TakenLaws.{cover-all}
 
@@ -51,7 +51,7 @@ walk_takes_all (e ∷ es) = by (e.cache == 2) (walk_takes_all es) where
   by false rest = IsPermutation-cons e.name (link_offsets es) (map (λ (x : Entry). x.name) es ++ texts_of es) rest
 
 -- all texts were taken, and each key names one
-pub has_names : (segment : List ℕ) (heap : Kept) (linked loose names texts keys : List ℕ) → HasTaken segment heap linked loose
+pub has_names : (segment : List ℕ) (heap : HeapState) (linked loose names texts keys : List ℕ) → HasTaken segment heap linked loose
     → IsPermutation linked (names ++ texts) → AllByRecursion (KeyNames linked loose) keys → HasNames segment heap.free names texts keys loose
 has_names segment heap linked loose names texts keys taken same named = record {
   empty = taken.empty;

@@ -13,7 +13,7 @@ use Rattle.h5_bytes.specs.Texts.{text_at, pad8}
 use Rattle.h5_model.specs.Format.Heap.{span_of, KeyNames, HasNames}
 use Rattle.h5_model.specs.declared.open_fault.Cause.TheVariants.{HeapName}
 use Rattle.h5_space.specs.Claimed.{Shares}
-use Rattle.h5_heap.specs.Kept.{Kept}
+use Rattle.h5_heap.specs.Kept.{HeapState}
 use Rattle.h5_heap.specs.Spans.{IsSpan, IsNotEmpty, IsUntaken, IsUnnamed, HasTaken}
 use Rattle.h5_heap.proofs.TakenLaws.{cover-all, contains_head, contains_tail, contains_cases}
 use Rattle.h5_heap.proofs.NameLaws.{each_of, cover-permutation}
@@ -78,7 +78,7 @@ empty_span segment zero room =
     (record { aligned = refl; within = omega arith }, len)
 
 -- the names are sound with these loose texts
-module _ (segment : List ℕ) (heap : Kept) (names texts keys loose : List ℕ) (sound : HasNames segment heap.free names texts keys loose) where
+module _ (segment : List ℕ) (heap : HeapState) (names texts keys loose : List ℕ) (sound : HasNames segment heap.free names texts keys loose) where
   once : (p : ℕ) → holds p 0 8 + (spans_at segment p (names ++ texts) + (spans_at segment p loose + cover p heap.free)) ≤ 1
   once p = omega (arith, sound.apart p, cover-all segment p (names ++ texts ++ loose) heap.free, spans-append segment p (names ++ texts) loose)
 

@@ -12,7 +12,7 @@ use Rattle.h5_bytes.specs.Blocks.{holds, cover}
 use Rattle.h5_bytes.specs.declared.Block.{Block}
 use Rattle.h5_bytes.proofs.BlockLaws.{cover-append, all_append, all_left, all_right}
 use Rattle.h5_model.specs.Format.Heap.{span_of}
-use Rattle.h5_heap.specs.Kept.{Kept}
+use Rattle.h5_heap.specs.Kept.{HeapState}
 use Rattle.h5_heap.specs.Spans.{IsSpan, Takes, HasTaken, HasNamed, all_spans}
 
 -- ---- elements
@@ -97,12 +97,12 @@ pub cover-all : (segment : List ℕ) (p : ℕ) (offsets : List ℕ) (free : List
 cover-all segment p offsets free = ap (λ n. holds p 0 8 + n) (cover-append p (map (span_of segment) offsets) free)
 
 -- one text more is taken, among those of links or behind them
-module _ (segment : List ℕ) (old new : Kept) (offset : ℕ) (span : IsSpan segment offset) (takes : Takes segment old new offset)
+module _ (segment : List ℕ) (old new : HeapState) (offset : ℕ) (span : IsSpan segment offset) (takes : Takes segment old new offset)
     (linked loose : List ℕ) (taken : HasTaken segment old linked loose) where
   one_more : (linked' loose' xs ys : List ℕ) → linked ++ loose ≡ xs ++ ys → linked' ++ loose' ≡ xs ++ offset ∷ ys → HasTaken segment new linked' loose'
   one_more linked' loose' xs ys before after =
-      let free : new.free ≡ old.free = ap (λ (h : Kept). h.free) takes.noted in
-      let known : new.taken ≡ insert_key nat_cmp old.taken offset = ap (λ (h : Kept). h.taken) takes.noted in
+      let free : new.free ≡ old.free = ap (λ (h : HeapState). h.free) takes.noted in
+      let known : new.taken ≡ insert_key nat_cmp old.taken offset = ap (λ (h : HeapState). h.taken) takes.noted in
       let spans : AllByRecursion (IsSpan segment) (xs ++ ys) = subst (AllByRecursion (IsSpan segment)) before taken.spans in
       record {
         empty = taken.empty;
@@ -146,7 +146,7 @@ module _ (segment : List ℕ) (old new : Kept) (offset : ℕ) (span : IsSpan seg
   }
 
 -- the key names what was taken before
-pub named_before : (segment : List ℕ) (heap : Kept) (linked loose : List ℕ) (offset : ℕ) → HasTaken segment heap linked loose
+pub named_before : (segment : List ℕ) (heap : HeapState) (linked loose : List ℕ) (offset : ℕ) → HasTaken segment heap linked loose
     → (offset ≡ 0) ⊎ Contains heap.taken offset → HasNamed segment heap linked loose offset
 named_before segment heap linked loose offset taken known = record {
   loose' = loose;

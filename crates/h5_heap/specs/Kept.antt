@@ -4,7 +4,7 @@ use Rattle.h5_bytes.specs.Bytes.{part}
 use Rattle.h5_bytes.specs.declared.Block.{Block}
 
 -- its address, its segment and free blocks, which bytes of the segment are held, and the offsets of the texts among these
-pub record Kept : Type 0 where
+pub record HeapState : Type 0 where
   pub at : ℕ
   pub segment : Block
   pub free : List Block
@@ -12,5 +12,5 @@ pub record Kept : Type 0 where
   pub taken : List ℕ
 
 -- the bytes of the segment
-abbrev pub segment_in : List ℕ → Kept → List ℕ
+abbrev pub segment_in : List ℕ → HeapState → List ℕ
 segment_in image heap = part heap.segment.at heap.segment.len image

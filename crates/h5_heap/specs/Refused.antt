@@ -28,16 +28,16 @@ IsCrossed image heap held address = ((address ≡ heap) × Shares held heap 32)
     × Shares (block heap 32 ∷ held) (segment_block image heap).at (segment_block image heap).len)
 
 -- The cause holds of the heap at this address, and the second address is that of the header or of the segment.
-abbrev pub IsRefused : List ℕ → ℕ → List Block → Cause → ℕ → Type 0
-IsRefused image heap held Truncated address = IsCut image heap address
-IsRefused image heap held Overlap address = IsCrossed image heap held address
-IsRefused image heap held HeapForm address = (address ≡ heap) × (heap + 32 ≤ length image)
+abbrev pub IsHeapRefused : List ℕ → ℕ → List Block → Cause → ℕ → Type 0
+IsHeapRefused image heap held Truncated address = IsCut image heap address
+IsHeapRefused image heap held Overlap address = IsCrossed image heap held address
+IsHeapRefused image heap held HeapForm address = (address ≡ heap) × (heap + 32 ≤ length image)
     × ((free : List Block) → IsHeap (heap_header image heap) (segment_of image heap) free → ⊥)
-IsRefused image heap held NoMemory address = Unit {0}
-IsRefused image heap held _ address = ⊥
+IsHeapRefused image heap held NoMemory address = Unit {0}
+IsHeapRefused image heap held _ address = ⊥
 
 -- a heap stands there, in blocks that lie in the image and share no byte with each other or with what was claimed
-pub record IsReadable (image : List ℕ) (heap : ℕ) (held : List Block) : Type 0 where
+pub record IsHeapReadable (image : List ℕ) (heap : ℕ) (held : List Block) : Type 0 where
   pub free : List Block
   pub has : IsHeap (heap_header image heap) (segment_of image heap) free
   pub inside : Inside (length image) (heap_blocks image heap)

@@ -11,7 +11,7 @@ use Rattle.h5_model.specs.Format.Heap.{span_of, KeyNames}
 use Rattle.h5_model.specs.declared.open_fault.Cause.{Cause}
 use Rattle.h5_model.specs.declared.open_fault.Cause.TheVariants.{HeapName, NoMemory}
 use Rattle.h5_space.specs.Claimed.{Shares}
-use Rattle.h5_heap.specs.Kept.{Kept}
+use Rattle.h5_heap.specs.Kept.{HeapState}
 
 -- a text begins at this offset, and lies in the segment with its zero and its padding
 pub record IsSpan (segment : List ℕ) (offset : ℕ) : Type 0 where
@@ -19,14 +19,14 @@ pub record IsSpan (segment : List ℕ) (offset : ℕ) : Type 0 where
   pub within : offset + (span_of segment offset).len ≤ length segment
 
 -- the text's span is held, and its offset is noted
-pub record Takes (segment : List ℕ) (old new : Kept) (offset : ℕ) : Type 0 where
+pub record Takes (segment : List ℕ) (old new : HeapState) (offset : ℕ) : Type 0 where
   pub noted : new ≡ record old { held = new.held; taken = insert_key nat_cmp old.taken offset }
   pub covered : (p : ℕ) → cover p new.held ≡ cover p old.held + holds p offset (span_of segment offset).len
   pub separate : Separate new.held
 
 -- the offset is that of the empty name or of a text that was taken, or its text is taken now
-abbrev pub Names : List ℕ → Kept → Kept → ℕ → Type 0
-Names segment old new offset = (((offset ≡ 0) ⊎ Contains old.taken offset) × (new ≡ old))
+abbrev pub TakesOnce : List ℕ → HeapState → HeapState → ℕ → Type 0
+TakesOnce segment old new offset = (((offset ≡ 0) ⊎ Contains old.taken offset) × (new ≡ old))
     ⊎ ((offset ≢ 0) × (Contains old.taken offset → ⊥) × Takes segment old new offset)
 
 -- ---- refusals
@@ -50,7 +50,7 @@ IsUntaken segment held offset NoMemory = Unit {0}
 IsUntaken segment held offset _ = ⊥
 
 -- why a key names nothing
-abbrev pub IsUnnamed : List ℕ → Kept → ℕ → Cause → Type 0
+abbrev pub IsUnnamed : List ℕ → HeapState → ℕ → Cause → Type 0
 IsUnnamed segment heap offset HeapName = IsSpan segment offset
     → (offset ≢ 0) × (Contains heap.taken offset → ⊥) × Shares heap.held offset (span_of segment offset).len
 IsUnnamed segment heap offset NoMemory = Unit {0}
@@ -65,7 +65,7 @@ all_spans segment offsets free = block 0 8 ∷ map (span_of segment) offsets ++ 
 -- These texts were taken since the names were begun: those that links name, and then those that keys alone name.
 -- Law has_names: when these are all texts of a group's links, and each of its keys is named, HasNames holds. Laws
 -- begin_breach to key_breach: a text that is refused on the way is a HeapNameBreach.
-pub record HasTaken (segment : List ℕ) (heap : Kept) (linked loose : List ℕ) : Type 0 where
+pub record HasTaken (segment : List ℕ) (heap : HeapState) (linked loose : List ℕ) : Type 0 where
   pub empty : byte_at segment 0 ≡ 0
   pub spans : AllByRecursion (IsSpan segment) (linked ++ loose)
   pub covered : (p : ℕ) → cover p heap.held ≡ cover p (all_spans segment (linked ++ loose) heap.free)
@@ -73,7 +73,7 @@ pub record HasTaken (segment : List ℕ) (heap : Kept) (linked loose : List ℕ)
   pub separate : Separate heap.held
 
 -- the key names a text: one that was taken, or one that is loose from now on
-pub record HasNamed (segment : List ℕ) (heap : Kept) (linked loose : List ℕ) (offset : ℕ) : Type 0 where
+pub record HasNamed (segment : List ℕ) (heap : HeapState) (linked loose : List ℕ) (offset : ℕ) : Type 0 where
   pub loose' : List ℕ
   pub taken : HasTaken segment heap linked loose'
   pub names : KeyNames linked loose' offset

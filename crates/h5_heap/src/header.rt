@@ -4,7 +4,7 @@ ghost use Rattle.std.specs.Prelude.{◌≡◌, length, IfOk, IfErr, IfSome, IfNo
 ghost use Rattle.h5_bytes.specs.Blocks.{block, Inside};
 ghost use Rattle.h5_model.specs.Format.Heap.{heap_header, free_head, segment_place, segment_size, segment_block, segment_of, heap_blocks};
 ghost use Rattle.h5_space.specs.Claimed.{HasClaimed};
-ghost use Rattle.h5_heap.specs.Refused.{IsHeader, IsRefused};
+ghost use Rattle.h5_heap.specs.Refused.{IsHeader, IsHeapRefused};
 
 use h5_bytes::{Block, begins_with, u64_at};
 use h5_model::{Cause, OpenFault};
@@ -37,7 +37,7 @@ pub(crate) fn claim_heap(image: &Image, claims: &mut Claims, at: u64) -> Result<
     ensures claimed { OnOk result (HasClaimed claims.old claims.new (heap_blocks image.now.bytes at)) }
     ensures end { claims.new.end ≡ claims.old.end }
     ensures refused { IfErr result (λ fault.
-        IsRefused image.now.bytes at claims.old.held fault.cause fault.address) }
+        IsHeapRefused image.now.bytes at claims.old.held fault.cause fault.address) }
 {
     let Some(bytes) = image.part(at, HEADER) else {
         return Err(fault(Cause::Truncated, at));

@@ -4,7 +4,7 @@ ghost use Rattle.std.specs.Prelude.{◌≡◌, ℕ, ◌≤◌, [], length, IfOk,
 ghost use Rattle.h5_bytes.specs.Blocks.{cover, Inside};
 ghost use Rattle.h5_model.specs.Format.Heap.{heap_header, heap_blocks, segment_block, segment_of, IsHeap};
 ghost use Rattle.h5_space.specs.Claimed.{HasClaimed};
-ghost use Rattle.h5_heap.specs.Refused.{IsRefused, IsReadable};
+ghost use Rattle.h5_heap.specs.Refused.{IsHeapRefused, IsHeapReadable};
 
 use crate::free_list::{FreeList, read_free};
 use crate::header::claim_heap;
@@ -31,9 +31,9 @@ pub struct Heap {
 
 impl Model for Heap {
     ghost use Rattle.std.specs.Prelude.{◌≡◌, ◌≤◌};
-    ghost use Rattle.h5_heap.specs.Kept.{Kept};
+    ghost use Rattle.h5_heap.specs.Kept.{HeapState};
 
-    ghost Value = { Kept };
+    ghost Value = { HeapState };
 
     ghost view = { λ s. record { at = s.at; segment = s.segment; free = s.free.items; held = s.spans.held; taken = s.taken.keys } };
 
@@ -66,8 +66,8 @@ pub fn read_heap(
     ensures claimed { OnOk result (HasClaimed claims.old claims.new (heap_blocks image.now.bytes at)) }
     ensures end { claims.new.end ≡ claims.old.end }
     ensures refused { IfErr result (λ fault.
-        IsRefused image.now.bytes at claims.old.held fault.cause fault.address) }
-    ensures only { IsReadable image.now.bytes at claims.old.held
+        IsHeapRefused image.now.bytes at claims.old.held fault.cause fault.address) }
+    ensures only { IsHeapReadable image.now.bytes at claims.old.held
         → IfErr result (λ fault. fault.cause ≡ Cause.NoMemory) }
 {
     let header = claim_heap(image, claims, at)?;

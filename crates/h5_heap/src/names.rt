@@ -6,7 +6,7 @@ ghost use Rattle.h5_bytes.specs.Bytes.{byte_at};
 ghost use Rattle.h5_bytes.specs.Blocks.{holds, cover, Separate};
 ghost use Rattle.h5_bytes.specs.Texts.{text_at};
 ghost use Rattle.h5_heap.specs.Kept.{segment_in};
-ghost use Rattle.h5_heap.specs.Spans.{IsSpan, Takes, Names, IsHeld, IsNotEmpty, IsUntaken, IsUnnamed, HasTaken, HasNamed};
+ghost use Rattle.h5_heap.specs.Spans.{IsSpan, Takes, TakesOnce, IsHeld, IsNotEmpty, IsUntaken, IsUnnamed, HasTaken, HasNamed};
 
 use crate::heap::Heap;
 use crate::text::{span_len, text_in};
@@ -97,7 +97,7 @@ impl Heap {
         requires { self.old.segment.at + self.old.segment.len ≤ length image.now.bytes }
         ensures text { IfOk result (λ x. x.now ≡ text_at (segment_in image.now.bytes self.old) offset) }
         ensures span { OnOk result (IsSpan (segment_in image.now.bytes self.old) offset) }
-        ensures names { OnOk result (Names (segment_in image.now.bytes self.old) self.old self.new offset) }
+        ensures names { OnOk result (TakesOnce (segment_in image.now.bytes self.old) self.old self.new offset) }
         ensures named { OnOk result ((linked loose : List ℕ)
             → HasTaken (segment_in image.now.bytes self.old) self.old linked loose
             → HasNamed (segment_in image.now.bytes self.old) self.new linked loose offset) }

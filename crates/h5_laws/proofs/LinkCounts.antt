@@ -6,7 +6,7 @@ use Rattle.std.specs.FinMap.{FinMap}
 use Rattle.h5_model.specs.Tree.Objects.{Tree, hard_links}
 use Rattle.h5_model.specs.Format.Reads.{Placed, Holds}
 use Rattle.h5_model.specs.Format.Reached.{Named, Reached}
-use Rattle.h5_model.specs.Faults.Breaches.{is_header, AreLinks}
+use Rattle.h5_model.specs.Faults.Breaches.{is_header, AreLinkFields}
 use Rattle.h5_laws.proofs.Lists.{In, contains_in}
 use Rattle.h5_laws.proofs.Objects.{in_table}
 use Rattle.h5_laws.proofs.Breaches.{link_known}
@@ -32,7 +32,7 @@ module _ (image : List ℕ) (table : FinMap nat_cmp ℕ) (tree : Tree) (placed :
   pub object_count : (o : Placed) → In o placed → linking o.header links ≡ counts tree o
   object_count o at = all_count image table tree placed reads o.number o.header (in_table image table tree placed reads o at)
 
-  pub linked_fields : (header : ℕ) (fields : List ℕ) → AreLinks image header fields → (f : ℕ) → In f fields → In (f, header) links
+  pub linked_fields : (header : ℕ) (fields : List ℕ) → AreLinkFields image header fields → (f : ℕ) → In f fields → In (f, header) links
   linked_fields header fields are f at =
       let y = are.each f (contains_in f fields at) in
       subst (λ (h : ℕ). In (f, h) links) y.3 (subst (λ (g : ℕ). In (g, y.0.at) links) y.2 (reached_link y.0 y.1 y.4))

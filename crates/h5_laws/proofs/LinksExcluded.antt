@@ -11,7 +11,7 @@ use Rattle.h5_model.specs.Tree.Objects.{Tree, Object, Content, Group, Array, har
 use Rattle.h5_model.specs.Format.Reads.{Placed, ReadsAs, IsCounted, IsGroup, HasContent, Holds}
 use Rattle.h5_model.specs.Format.Reached.{Named, Reached, kind_at}
 use Rattle.h5_model.specs.Faults.HeaderFaults.{SomeMessage}
-use Rattle.h5_model.specs.Faults.Breaches.{AreLinks, IsLinkedTwice, IsLinkedTooOften}
+use Rattle.h5_model.specs.Faults.Breaches.{AreLinkFields, IsLinkedTwice, IsLinkedTooOften}
 use Rattle.h5_laws.proofs.Lists.{In, in_all}
 use Rattle.h5_laws.proofs.Objects.{in_tree, of_dataset_kind}
 use Rattle.h5_laws.proofs.Steps.{header_inside}
@@ -58,7 +58,7 @@ module _ (image : List ℕ) (table : FinMap nat_cmp ℕ) (tree : Tree) (placed :
   pub often_excluded : (x : Named) → Reached image x → IsLinkedTooOften image x → ⊥
   often_excluded x reached (is, (fields, are, many)) =
       let k = header_known image table tree placed stands x reached is in
-      let here : AreLinks image k.0.o.header fields = subst (λ (h : ℕ). AreLinks image h fields) (sym k.1) are in
+      let here : AreLinkFields image k.0.o.header fields = subst (λ (h : ℕ). AreLinkFields image h fields) (sym k.1) are in
       let bound = fields_bound image table tree placed stands k.0.o k.0.member fields (apart_of_distinct fields here.once)
       (linked_fields image table tree placed stands k.0.o.header fields here) in
       absurd (omega (arith, many, bound, few k.0.o k.0.member))

@@ -12,7 +12,7 @@ use Rattle.h5_model.specs.Format.Layout.{layout_of}
 use Rattle.h5_model.specs.Format.Chunks.{Chunks}
 use Rattle.h5_model.specs.Tree.Objects.{Dataset}
 use Rattle.h5_model.specs.Format.Reads.{IsFill, HasData, HasDataset, InDataset}
-use Rattle.h5_layout.specs.Described.{Described, HasFill, HasArray, dataset_in}
+use Rattle.h5_layout.specs.Described.{Described, HasFill, HasArray, described_dataset}
 
 -- ---- one array at most
 
@@ -44,7 +44,7 @@ one_array ms a b h g =
 -- ---- the dataset
 
 pub has_dataset : (image : List ℕ) (ms : List Message) (a : Described) (chunks : Chunks) (blocks : List Block) → HasArray ms a → AllByRecursion InDataset ms
-    → HasData image a.fixed a.layout chunks blocks → HasDataset image ms (dataset_in image a chunks) blocks
+    → HasData image a.fixed a.layout chunks blocks → HasDataset image ms (described_dataset image a chunks) blocks
 has_dataset image ms a chunks blocks h known stored = record {
   known = known;
   one_space = h.one_space;
@@ -90,7 +90,7 @@ has_array image ms d blocks h = record {
 }
 
 -- the dataset is that of the description, with its stored chunks
-pub dataset_in-in_header : (image : List ℕ) (ms : List Message) (d : Dataset) (blocks : List Block) (h : HasDataset image ms d blocks)
-    → dataset_in image (in_header image ms d blocks h) h.chunks ≡ d
-dataset_in-in_header image ms d blocks h =
+pub described_dataset-in_header : (image : List ℕ) (ms : List Message) (d : Dataset) (blocks : List Block) (h : HasDataset image ms d blocks)
+    → described_dataset image (in_header image ms d blocks h) h.chunks ≡ d
+described_dataset-in_header image ms d blocks h =
     λ i. record { fixed = d.fixed; sizes = d.sizes; maxima = d.maxima; storage = (sym h.storage) i; fill = d.fill; cells = (sym h.cells) i }

@@ -18,7 +18,7 @@ use Rattle.std.specs.Option.{option_map_or}
 use Rattle.h5_shape.proofs.Products.{cells_le}
 use Rattle.h5_model.proofs.PlaceLaws.{place-index}
 use Rattle.h5_model.specs.Format.Messages.{Message}
-use Rattle.h5_layout.specs.Described.{Described, HasArray, dataset_in}
+use Rattle.h5_layout.specs.Described.{Described, HasArray, described_dataset}
 use Rattle.h5_header.proofs.FoundLaws.{among_some}
 use Rattle.h5_layout.proofs.BreachLaws.{small_chunk}
 use Rattle.h5_bytes.proofs.PartLaws.{length-part}
@@ -82,11 +82,11 @@ few sizes dims same small = let most : cells sizes ≤ 2 ^ 40 = omega (arith, ce
 -- ---- the cell at a place
 
 pub get-cells : (image : List ℕ) (a : Described) (chunks : Chunks) (place : ℕ) → place < cells a.sizes
-    → slice_get (dataset_in image a chunks).cells place ≡ Some (cell_of image a.fixed a.fill a.sizes a.layout chunks (index_of a.sizes place))
+    → slice_get (described_dataset image a chunks).cells place ≡ Some (cell_of image a.fixed a.fill a.sizes a.layout chunks (index_of a.sizes place))
 get-cells image a chunks place below =
-    let here : get_or (dataset_in image a chunks).cells place a.fill ≡ cell_of image a.fixed a.fill a.sizes a.layout chunks (index_of a.sizes place)
+    let here : get_or (described_dataset image a chunks).cells place a.fill ≡ cell_of image a.fixed a.fill a.sizes a.layout chunks (index_of a.sizes place)
     = get_or-map-range_with_len (λ k. cell_of image a.fixed a.fill a.sizes a.layout chunks (index_of a.sizes k)) 0 (cells a.sizes) place place a.fill below (omega arith) in
-    slice_get-get_or (dataset_in image a chunks).cells place a.fill
+    slice_get-get_or (described_dataset image a chunks).cells place a.fill
     (omega (arith, length-map-range_with_len (λ k. cell_of image a.fixed a.fill a.sizes a.layout chunks (index_of a.sizes k)) 0 (cells a.sizes)))
     ∙ ap (λ (v : ℤ). Some v) here
 

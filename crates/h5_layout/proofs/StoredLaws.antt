@@ -18,7 +18,7 @@ use Rattle.h5_model.specs.Scripts.Answers.{stored_values}
 use Rattle.h5_model.proofs.PlainValues.{size-low}
 use Rattle.h5_model.proofs.StoredValues.{length-stored, index-stored}
 use Rattle.h5_model.proofs.ValueLaws.{value_at-moved}
-use Rattle.h5_layout.specs.Described.{Described, dataset_in}
+use Rattle.h5_layout.specs.Described.{Described, described_dataset}
 use Rattle.h5_layout.specs.Stored.{AreFilled, AreStored, IsUnchunked, data_in, has_room}
 use Rattle.h5_layout.proofs.RoomLaws.{data_cell, data_room}
 
@@ -66,11 +66,11 @@ module _ (image : List ℕ) (a : Described) (there : IsUnchunked (length image) 
   abbrev cell : ℕ → ℤ
   cell k = cell_of image t a.fill a.sizes a.layout empty (index_of a.sizes k)
 
-  are_cells : (vs : List ℤ) → length vs ≡ cells a.sizes → ((k : ℕ) → k < cells a.sizes → get_or vs k a.fill ≡ cell k) → (dataset_in image a empty).cells ≡ vs
+  are_cells : (vs : List ℤ) → length vs ≡ cells a.sizes → ((k : ℕ) → k < cells a.sizes → get_or vs k a.fill ≡ cell k) → (described_dataset image a empty).cells ≡ vs
   are_cells vs long each = sym (fill_by_all cell vs (cells a.sizes) a.fill long each)
 
   -- where there are no data, each cell reads the fill
-  pub without_data : data_in image a.layout ≡ None → AreFilled (dataset_in image a empty)
+  pub without_data : data_in image a.layout ≡ None → AreFilled (described_dataset image a empty)
   without_data none = (
     are_cells (replicate (cells a.sizes) a.fill) (length-replicate (cells a.sizes) a.fill)
         (λ k low. get_or-replicate (cells a.sizes) k a.fill a.fill low
@@ -79,7 +79,7 @@ module _ (image : List ℕ) (a : Described) (there : IsUnchunked (length image) 
   )
 
   -- no cell is stored where there is none
-  pub without_cells : cells a.sizes ≡ 0 → AreFilled (dataset_in image a empty)
+  pub without_cells : cells a.sizes ≡ 0 → AreFilled (described_dataset image a empty)
   without_cells none = (
     are_cells (replicate (cells a.sizes) a.fill) (length-replicate (cells a.sizes) a.fill) (λ k low. absurd (omega (arith, low, none))),
     no_cell a.sizes none a.layout,
@@ -115,7 +115,7 @@ module _ (image : List ℕ) (a : Described) (there : IsUnchunked (length image) 
         index-stored t bytes k a.fill (size-low t sound) (within k low) ∙ in_data k low
         ∙ ap (λ (o : Option (List ℕ)). option_map_or (λ d. value_in t d k) o a.fill) (sym is) ∙ data_cell image t a.fill a.sizes a.layout empty k there low
 
-    pub with_data : AreStored (dataset_in image a empty) bytes
+    pub with_data : AreStored (described_dataset image a empty) bytes
     with_data =
         let whole : length bytes ≡ cells a.sizes * t.size + 0 = omega (arith, long_bytes) in
         let counted : length bytes / t.size ≡ cells a.sizes = ap (λ (k : ℕ). k / t.size) whole ∙ div-mul-add (cells a.sizes) t.size 0 (omega (arith, size-low t sound)) in

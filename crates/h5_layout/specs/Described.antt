@@ -53,8 +53,8 @@ pub record HasArray (messages : List Message) (a : Described) : Type 0 where
   pub chunk_small : IsChunkSmall a.fixed a.layout
 
 -- the dataset with this description and these stored chunks
-abbrev pub dataset_in : List ℕ → Described → Chunks → Dataset
-dataset_in image a chunks = record {
+abbrev pub described_dataset : List ℕ → Described → Chunks → Dataset
+described_dataset image a chunks = record {
   fixed = a.fixed;
   sizes = a.sizes;
   maxima = a.maxima;

@@ -9,7 +9,7 @@ ghost use Rattle.h5_model.specs.Tree.Places.{cells as cells_of, IsInside};
 ghost use Rattle.h5_model.specs.Format.Cells.{value_in as value_at_place};
 ghost use Rattle.h5_model.specs.Scripts.Reading.{cell_at};
 ghost use Rattle.h5_msg.specs.Layouts.{layout_in};
-ghost use Rattle.h5_layout.specs.Described.{array_of, dataset_in};
+ghost use Rattle.h5_layout.specs.Described.{array_of, described_dataset};
 ghost use Rattle.h5_layout.specs.Stored.{AreFilled, AreStored, IsArray, IsUnchunked, data_in};
 
 use h5_bytes::Block;
@@ -152,7 +152,7 @@ impl<'a> ArrayRef<'a> {
     pub fn cell(&self, image: &Image, index: &[u64]) -> i128
         requires inside { IsInside self.now.sizes index.now }
         requires stored { IsUnchunked (length image.now.bytes) self.now.layout }
-        ensures { result ≡ cell_at (dataset_in image.now.bytes self.now empty) index.now }
+        ensures { result ≡ cell_at (described_dataset image.now.bytes self.now empty) index.now }
     {
         self.value(image, self.dims().place(index))
     }
@@ -164,7 +164,7 @@ impl<'a> ArrayRef<'a> {
     pub fn value(&self, image: &Image, place: u64) -> i128
         requires below { place < cells_of self.now.sizes }
         requires stored { IsUnchunked (length image.now.bytes) self.now.layout }
-        ensures { slice_get (dataset_in image.now.bytes self.now empty).cells place ≡ Some result }
+        ensures { slice_get (described_dataset image.now.bytes self.now empty).cells place ≡ Some result }
     {
         match data_bytes(&self.layout, image) {
             Some(bytes) => value_in(&self.fixed, bytes, place as usize),
@@ -179,8 +179,8 @@ impl<'a> ArrayRef<'a> {
     /// conditions.
     pub fn stored(&self, image: &'a Image) -> Option<&'a [u8]>
         requires { IsUnchunked (length image.now.bytes) self.now.layout }
-        ensures { MatchOption result (AreFilled (dataset_in image.now.bytes self.now empty)) (λ bytes.
-            AreStored (dataset_in image.now.bytes self.now empty) bytes.now) }
+        ensures { MatchOption result (AreFilled (described_dataset image.now.bytes self.now empty)) (λ bytes.
+            AreStored (described_dataset image.now.bytes self.now empty) bytes.now) }
     {
         let cells = self.dims.cells() as usize;
         if cells == 0 {

@@ -21,22 +21,22 @@ use Rattle.h5_header.proofs.WalkLaws.ListLaws.{all_messages, list_refused}
 use Rattle.h5_header.proofs.WalkLaws.DataLaws.{data_length, data_reached, data_inside}
 use Rattle.h5_header.proofs.WalkLaws.MetFields.{met_truncated, met_overlaps}
 use Rattle.h5_header.proofs.WalkLaws.MetHeader.{met_walked, message_met}
-use Rattle.h5_open.specs.Opened.NotYet.{IsRefusedAt}
+use Rattle.h5_open.specs.Opened.NotYet.{IsOpenRefusedAt}
 use Rattle.h5_open.specs.Opened.Judged.{IsArrayBreach, IsArrayList}
 use Rattle.h5_open.proofs.FoundLaws.{counted_found}
 use Rattle.h5_open.proofs.RefusedLaws.{as_refused}
 
 module _ (image : List ℕ) (header : ℕ) (ms : List Message) (blocks : List Block) (has : HasMessages image header ms blocks) (inside : Inside (length image) blocks) where
   module _ (held : List Block) (followed : List Named) (field depth : ℕ) (met : IsHeaderMet image held followed field header depth) where
-    pub list_breach : (cause : Cause) → ListBreach image header ms cause → IsRefusedAt image cause header
+    pub list_breach : (cause : Cause) → ListBreach image header ms cause → IsOpenRefusedAt image cause header
     list_breach cause h = as_refused image cause header (λ some. list_refused image header ms blocks has inside field depth (met.met).reached cause h)
 
-    by_cause : (cause c : Cause) → cause ≡ c → IsArrayBreach image header ms c → IsRefusedAt image c header
+    by_cause : (cause c : Cause) → cause ≡ c → IsArrayBreach image header ms c → IsOpenRefusedAt image c header
     by_cause cause NoMemory e h = tt
     by_cause cause NotYet e h = (named field ObjectHeader header depth, (met.met).reached, refl, (ms, all_messages image header ms blocks has inside, h))
-    by_cause cause _ e h = subst (λ (c : Cause). IsRefusedAt image c header) e (list_breach cause (subst (λ (c : Cause). ListBreach image header ms c) (sym e) h))
+    by_cause cause _ e h = subst (λ (c : Cause). IsOpenRefusedAt image c header) e (list_breach cause (subst (λ (c : Cause). ListBreach image header ms c) (sym e) h))
 
-    pub array_refused : (cause : Cause) → IsArrayBreach image header ms cause → IsRefusedAt image cause header
+    pub array_refused : (cause : Cause) → IsArrayBreach image header ms cause → IsOpenRefusedAt image cause header
     array_refused cause h = by_cause cause cause refl h
 
     -- the block of the cells cannot be claimed
@@ -63,7 +63,7 @@ module _ (image : List ℕ) (header : ℕ) (ms : List Message) (blocks : List Bl
       pub y_length : length_of image y ≡ b.len
       y_length = data_length image header ms blocks has inside first.0 first.1 a.fixed extent b array.space array.type layout depth
 
-      pub data_refused : (cause : Cause) (address : ℕ) → ClaimBreach (length image) now b cause address → IsRefusedAt image cause address
+      pub data_refused : (cause : Cause) (address : ℕ) → ClaimBreach (length image) now b cause address → IsOpenRefusedAt image cause address
       data_refused NoMemory address h = tt
       data_refused Truncated address h = met_truncated image now (with_header field header depth ms followed) (met_walked image held followed field header depth met ms blocks has now claimed) y y_met refl
           address h.0 (rw y_length h.1)
@@ -74,12 +74,12 @@ module _ (image : List ℕ) (header : ℕ) (ms : List Message) (blocks : List Bl
 -- the same, of a fault at the messages' own header
 module _ (image : List ℕ) (m : Listed) (has : HasMessages image m.header (messages_in image m.list) m.blocks) (inside : Inside (length image) m.blocks)
     (held : List Block) (followed : List Named) (field depth : ℕ) (met : IsHeaderMet image held followed field m.header depth) where
-  pub array_fault : (cause : Cause) (address : ℕ) → address ≡ m.header → IsArrayBreach image m.header (messages_in image m.list) cause → IsRefusedAt image cause address
-  array_fault cause address at h = subst (IsRefusedAt image cause) (sym at) (array_refused image m.header (messages_in image m.list) m.blocks has inside held followed field depth met cause h)
+  pub array_fault : (cause : Cause) (address : ℕ) → address ≡ m.header → IsArrayBreach image m.header (messages_in image m.list) cause → IsOpenRefusedAt image cause address
+  array_fault cause address at h = subst (IsOpenRefusedAt image cause) (sym at) (array_refused image m.header (messages_in image m.list) m.blocks has inside held followed field depth met cause h)
 
   pub data_fault : (now : List Block) → ((p : ℕ) → cover p now ≡ cover p held + cover p m.blocks) → Separate now → IsArrayList (messages_in image m.list)
       → (cause : Cause) (address : ℕ) (end : ℕ) → end ≡ length image → ((b : Block) × (layout_told (messages_in image m.list) ≡ InBlock (Some b)) × ClaimBreach end now b cause address)
-      → IsRefusedAt image cause address
+      → IsOpenRefusedAt image cause address
   data_fault now claimed separate list cause address end e (b, stored, h) =
       data_refused image m.header (messages_in image m.list) m.blocks has inside held followed field depth met now claimed separate (array_told (messages_in image m.list)) list.array b stored cause address
       (subst (λ (n : ℕ). ClaimBreach n now b cause address) e h)

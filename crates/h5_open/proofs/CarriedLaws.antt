@@ -19,7 +19,7 @@ use Rattle.h5_laws.proofs.Located.{Known, KnownAt}
 use Rattle.h5_laws.proofs.Breaches.{header_known}
 use Rattle.h5_laws.proofs.Excluded.{reached_excluded}
 use Rattle.h5_group.specs.Nodes.Walk.{IsFault}
-use Rattle.h5_open.specs.Opened.NotYet.{HasOtherArray, IsLater, IsRefusedAt}
+use Rattle.h5_open.specs.Opened.NotYet.{HasOtherArray, IsLater, IsOpenRefusedAt}
 use Rattle.h5_open.specs.Opened.Carried.{IsCarried, AreCarried, ReadsCarried}
 
 in_block : (sizes : List ℕ) (layout : Layout) (stored : Bool) → storage_of sizes layout ≡ Contiguous stored → (b : Option Block) × (layout ≡ InBlock b)
@@ -71,7 +71,7 @@ fault_alone image cause NoMemory address e h r = refl
 fault_alone image cause _ address e h (table, tree, (placed, reads), carried) =
     absurd (reached_excluded image table tree placed reads h.0 h.1 cause (rw e h.3))
 
-memory_alone : (image : List ℕ) (cause c : Cause) (address : ℕ) → cause ≡ c → IsRefusedAt image c address → ReadsCarried image → c ≡ NoMemory
+memory_alone : (image : List ℕ) (cause c : Cause) (address : ℕ) → cause ≡ c → IsOpenRefusedAt image c address → ReadsCarried image → c ≡ NoMemory
 memory_alone image cause NoMemory address e h r = refl
 memory_alone image cause NotYet address e (x, reached, at, later) (table, tree, (placed, reads), carried) =
     absurd (not_later image table tree placed reads carried x reached x.role refl later)
@@ -79,7 +79,7 @@ memory_alone image cause _ address e h (table, tree, (placed, reads), carried) =
     absurd (reached_excluded image table tree placed reads h.0 h.1 cause (rw e h.3))
 
 -- so such an image is refused for want of memory alone, whatever step of opening refuses it
-pub only_memory : (image : List ℕ) (cause : Cause) (address : ℕ) → IsRefusedAt image cause address → ReadsCarried image → cause ≡ NoMemory
+pub only_memory : (image : List ℕ) (cause : Cause) (address : ℕ) → IsOpenRefusedAt image cause address → ReadsCarried image → cause ≡ NoMemory
 only_memory image cause address h r = memory_alone image cause cause address refl h r
 
 pub fault_only_memory : (image : List ℕ) (cause : Cause) (address : ℕ) → IsFault image cause address → ReadsCarried image → cause ≡ NoMemory

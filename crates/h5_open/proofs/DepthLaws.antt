@@ -7,7 +7,7 @@ use Rattle.h5_model.specs.Format.Heap.{segment_of}
 use Rattle.h5_model.specs.Format.Symbols.{Entry, symbols_at, link_of}
 use Rattle.h5_model.specs.Faults.TreeFaults.{all_entries}
 use Rattle.h5_group.specs.declared.group.Group.{Group}
-use Rattle.h5_group.specs.Links.{links_of}
+use Rattle.h5_group.specs.Links.{links_of_group}
 
 none_in : (S : ℕ → List Entry) (nodes : List ℕ) → ((k : ℕ) → k < length nodes → length (S (get_or nodes k 0)) ≡ 0) → length (flat_map S nodes) ≡ 0
 none_in S [] none = refl
@@ -17,5 +17,5 @@ none_in S (node ∷ nodes) none =
     omega (arith, length-append (S node) (flat_map S nodes), here, later)
 
 pub no_links : (image : List ℕ) (g : Group) → ((k : ℕ) → k < length g.symbol_nodes.items → length (symbols_at image (leaf_k image) (get_or g.symbol_nodes.items k 0)) ≡ 0)
-    → length (links_of image g) ≡ 0
+    → length (links_of_group image g) ≡ 0
 no_links image g none = length-map (all_entries image g.symbol_nodes.items) (link_of (segment_of image g.table.heap)) ∙ none_in (symbols_at image (leaf_k image)) g.symbol_nodes.items none

@@ -16,10 +16,10 @@ use Rattle.h5_open.specs.declared.opened.object.OpenedObject.{OpenedObject}
 use Rattle.h5_open.specs.declared.opened.object.OpenedContent.{OpenedContent}
 use Rattle.h5_open.specs.declared.opened.object.OpenedContent.TheVariants as content
 use Rattle.h5_open.specs.Opened.Kept.{IsObjectKept, IsContentKept}
-use Rattle.h5_open.specs.Opened.NotYet.{IsRefusedAt}
+use Rattle.h5_open.specs.Opened.NotYet.{IsOpenRefusedAt}
 use Rattle.h5_open.specs.Placed.Whole.{IsGroupContent}
-use Rattle.h5_open.specs.Walk.{IsNamedBy, IsUnder, IsReady, IsFurther, IsTreeRead, IsLinkReady, IsLinkRead}
-use Rattle.h5_group.specs.Links.{link_from, target_of}
+use Rattle.h5_open.specs.Walk.{IsNamedBy, IsUnder, IsReady, AreFurtherObjects, IsTreeRead, IsLinkReady, IsLinkRead}
+use Rattle.h5_group.specs.Links.{lent_link, lent_target}
 use Rattle.h5_model.specs.declared.link.Link.{Link}
 use Rattle.h5_model.specs.declared.link.LinkTo.{LinkTo}
 use Rattle.h5_model.specs.declared.link.LinkTo.TheVariants as target
@@ -28,7 +28,7 @@ use Rattle.h5_open.proofs.FoundLaws.{group_at}
 -- ---- nothing is read
 
 nothing : (image : List ℕ) (held : List Block) (followed : List Named) (objects : List OpenedObject) (field : ℕ) → IsUnder image held followed objects
-    → IsFurther image held held followed field objects objects []
+    → AreFurtherObjects image held held followed field objects objects []
 nothing image held followed objects field under = record { grown = sym (append-nil objects); new = []; under = under; stands = tt; led = tt }
 
 pub array_read : (image : List ℕ) (held : List Block) (followed : List Named) (objects : List OpenedObject) (field header depth : ℕ) (name : List ℕ) → depth + 1 ≤ 64
@@ -62,7 +62,7 @@ group_of image o kept group = go o.content kept.content group where
   go content.Array is group = absurd group
 
 pub twice : (image : List ℕ) (held : List Block) (followed : List Named) (objects : List OpenedObject) (field header depth : ℕ) → IsReady image held followed objects field header depth
-    → (o : OpenedObject) → Contains objects o → o.messages.header ≡ header → IsGroupContent o.content → IsRefusedAt image GroupLinkedTwice header
+    → (o : OpenedObject) → Contains objects o → o.messages.header ≡ header → IsGroupContent o.content → IsOpenRefusedAt image GroupLinkedTwice header
 twice image held followed objects field header depth ready o among same group =
     let at : In o objects = in_contains o objects among in
     let kept : IsObjectKept image o = in_all (IsObjectKept image) o objects (ready.under).each at in
@@ -85,11 +85,11 @@ twice image held followed objects field header depth ready o among same group =
 -- ---- by the link's target
 
 pub ready_at : (image : List ℕ) (held : List Block) (followed : List Named) (objects : List OpenedObject) (field depth : ℕ) (l : Link ℕ) (header : ℕ) → l.to ≡ target.Object header
-    → IsLinkReady image held followed objects field depth (link_from l) → IsReady image held followed objects field header (depth + 1)
+    → IsLinkReady image held followed objects field depth (lent_link l) → IsReady image held followed objects field header (depth + 1)
 ready_at image held followed objects field depth l header is ready =
-    subst (λ (t : LinkTo ℕ). IsLinkReady image held followed objects field depth (l.name.now, target_of t)) is ready
+    subst (λ (t : LinkTo ℕ). IsLinkReady image held followed objects field depth (l.name.now, lent_target t)) is ready
 
 pub read_at : (image : List ℕ) (held now : List Block) (followed : List Named) (objects after : List OpenedObject) (field depth : ℕ) (l : Link ℕ) (header : ℕ) → l.to ≡ target.Object header
-    → IsLinkRead image held now followed objects after field depth (l.name.now, Header header) → IsLinkRead image held now followed objects after field depth (link_from l)
+    → IsLinkRead image held now followed objects after field depth (l.name.now, Header header) → IsLinkRead image held now followed objects after field depth (lent_link l)
 read_at image held now followed objects after field depth l header is read =
-    subst (λ (t : LinkTo ℕ). IsLinkRead image held now followed objects after field depth (l.name.now, target_of t)) (sym is) read
+    subst (λ (t : LinkTo ℕ). IsLinkRead image held now followed objects after field depth (l.name.now, lent_target t)) (sym is) read

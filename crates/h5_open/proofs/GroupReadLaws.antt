@@ -22,15 +22,15 @@ use Rattle.h5_laws.proofs.Lists.{In, in_all, in_contains, contains_in, in_right}
 use Rattle.h5_header.specs.Walk.Walked.{IsWalked}
 use Rattle.h5_header.specs.Walk.Met.{IsHeaderMet, with_header}
 use Rattle.h5_header.proofs.WalkLaws.ListLaws.{no_root_refused}
-use Rattle.h5_group.specs.Nodes.Trees.{kind_in, nodes_blocks}
+use Rattle.h5_group.specs.Nodes.Trees.{kind_in, group_nodes_blocks}
 use Rattle.h5_group.specs.Nodes.Walk.{AreSymbolsReached}
 use Rattle.h5_group.specs.declared.group.Group.{Group}
-use Rattle.h5_group.specs.Links.{IsGroupRead, links_of, blocks_of, nodes_at}
+use Rattle.h5_group.specs.Links.{IsGroupRead, links_of_group, blocks_of_group, nodes_at}
 use Rattle.h5_group.specs.Walk.{IsGroupMet, IsGroupFollowed}
 use Rattle.h5_open.specs.declared.opened.object.OpenedObject.{OpenedObject}
 use Rattle.h5_open.specs.declared.opened.object.OpenedContent.TheVariants as content
 use Rattle.h5_open.specs.Opened.Judged.{IsGroupList, IsKindBreach, IsGroupBreach}
-use Rattle.h5_open.specs.Opened.NotYet.{IsRefusedAt}
+use Rattle.h5_open.specs.Opened.NotYet.{IsOpenRefusedAt}
 use Rattle.h5_open.specs.Read.{IsHeaderRead, IsHeaderDone, IsObjectRead, IsObjectFollowed, IsOwn, IsDeepAt, AreWaiting}
 use Rattle.h5_open.proofs.HeaderFields.{header_fields, fields_only, fields_stand, only_inner}
 use Rattle.h5_open.proofs.TableLaws.{found_table, table_numbers, tree_met, heap_met, table_walked}
@@ -42,8 +42,8 @@ abbrev pub group_object : Listed → Group → ℕ → OpenedObject
 group_object m g depth = record { messages = m; content = content.Group g; depth = depth }
 
 pub group_object_read : (image : List ℕ) (held now after : List Block) (m : Listed) (table : SymbolTable) (g : Group) (depth : ℕ) → IsHeaderRead image m → IsGroupList (messages_in image m.list) table
-    → HasNamesOnce (messages_in image m.list) → IsGroupRead image g → g.table ≡ table → (1 ≤ length (links_of image g) → depth + 1 ≤ 64)
-    → ((p : ℕ) → cover p now ≡ cover p held + cover p m.blocks) → ((p : ℕ) → cover p after ≡ cover p now + cover p (blocks_of image g))
+    → HasNamesOnce (messages_in image m.list) → IsGroupRead image g → g.table ≡ table → (1 ≤ length (links_of_group image g) → depth + 1 ≤ 64)
+    → ((p : ℕ) → cover p now ≡ cover p held + cover p m.blocks) → ((p : ℕ) → cover p after ≡ cover p now + cover p (blocks_of_group image g))
     → IsObjectRead image held after m.header depth (group_object m g depth)
 group_object_read image held now after m table g depth read list names is same shallow claimed stored = record {
   kept = record {
@@ -55,8 +55,8 @@ group_object_read image held now after m table g depth read list names is same s
   depth_is = refl;
   top = λ e. tt;
   shallow = shallow;
-  inside = all_append (λ (b : Block). b.at + b.len ≤ length image) m.blocks (blocks_of image g) read.inside is.inside;
-  claimed = λ p. omega (arith, claimed p, stored p, cover-append p m.blocks (blocks_of image g));
+  inside = all_append (λ (b : Block). b.at + b.len ≤ length image) m.blocks (blocks_of_group image g) read.inside is.inside;
+  claimed = λ p. omega (arith, claimed p, stored p, cover-append p m.blocks (blocks_of_group image g));
 }
 
 -- the messages are not those of an object that may stand there, or not those of a group
@@ -65,23 +65,23 @@ module _ (image : List ℕ) (m : Listed) (has : HasMessages image m.header (mess
   abbrev all : List Message
   all = messages_in image m.list
 
-  no_root : depth ≡ 0 → count_of 17 all ≡ 0 → IsRefusedAt image MissingMessage m.header
+  no_root : depth ≡ 0 → count_of 17 all ≡ 0 → IsOpenRefusedAt image MissingMessage m.header
   no_root top none = no_root_refused image m.header all m.blocks has inside field (subst (λ (d : ℕ). Reached image (named field ObjectHeader m.header d)) top (met.met).reached) none
 
-  kind_breach : (cause : Cause) → IsKindBreach image m.header depth all cause → IsRefusedAt image cause m.header
-  kind_breach cause (inl (top, is, none)) = subst (λ (c : Cause). IsRefusedAt image c m.header) (sym is) (no_root top none)
+  kind_breach : (cause : Cause) → IsKindBreach image m.header depth all cause → IsOpenRefusedAt image cause m.header
+  kind_breach cause (inl (top, is, none)) = subst (λ (c : Cause). IsOpenRefusedAt image c m.header) (sym is) (no_root top none)
   kind_breach cause (inr breach) = list_breach image m.header all m.blocks has inside held followed field depth met cause breach
 
-  by_cause : (cause c : Cause) → cause ≡ c → IsGroupBreach image m.header all c → IsRefusedAt image c m.header
+  by_cause : (cause c : Cause) → cause ≡ c → IsGroupBreach image m.header all c → IsOpenRefusedAt image c m.header
   by_cause cause NoMemory e h = tt
-  by_cause cause _ e h = subst (λ (c : Cause). IsRefusedAt image c m.header) e
+  by_cause cause _ e h = subst (λ (c : Cause). IsOpenRefusedAt image c m.header) e
       (list_breach image m.header all m.blocks has inside held followed field depth met cause (subst (λ (c : Cause). ListBreach image m.header all c) (sym e) h))
 
-  pub kind_fault : (cause : Cause) (address : ℕ) → address ≡ m.header → IsKindBreach image m.header depth all cause → IsRefusedAt image cause address
-  kind_fault cause address at h = subst (IsRefusedAt image cause) (sym at) (kind_breach cause h)
+  pub kind_fault : (cause : Cause) (address : ℕ) → address ≡ m.header → IsKindBreach image m.header depth all cause → IsOpenRefusedAt image cause address
+  kind_fault cause address at h = subst (IsOpenRefusedAt image cause) (sym at) (kind_breach cause h)
 
-  pub group_fault : (cause : Cause) (address : ℕ) → address ≡ m.header → IsGroupBreach image m.header all cause → IsRefusedAt image cause address
-  group_fault cause address at h = subst (IsRefusedAt image cause) (sym at) (by_cause cause cause refl h)
+  pub group_fault : (cause : Cause) (address : ℕ) → address ≡ m.header → IsGroupBreach image m.header all cause → IsOpenRefusedAt image cause address
+  group_fault cause address at h = subst (IsOpenRefusedAt image cause) (sym at) (by_cause cause cause refl h)
 
 -- a symbol node of the group lies in the image
 symbols_inside : (image : List ℕ) (nodes : List ℕ) → Inside (length image) (map (symbol_block (leaf_k image)) nodes) → (node : ℕ) → In node nodes → node + (8 + 80 * leaf_k image) ≤ length image
@@ -91,7 +91,7 @@ symbols_inside image (x ∷ xs) inside node (inr at) = symbols_inside image xs i
 
 symbol_there : (image : List ℕ) (g : Group) → IsGroupRead image g → (node : ℕ) → In node g.symbol_nodes.items → node + (8 + 80 * leaf_k image) ≤ length image
 symbol_there image g read node at =
-    let nodes = all_left (λ (b : Block). b.at + b.len ≤ length image) (nodes_blocks image (nodes_at image g.table.tree) g.symbol_nodes.items) (heap_blocks image g.table.heap) read.inside in
+    let nodes = all_left (λ (b : Block). b.at + b.len ≤ length image) (group_nodes_blocks image (nodes_at image g.table.tree) g.symbol_nodes.items) (heap_blocks image g.table.heap) read.inside in
     symbols_inside image g.symbol_nodes.items
     (all_right (λ (b : Block). b.at + b.len ≤ length image) (tree_blocks (kind_in image) (nodes_at image g.table.tree)) (map (symbol_block (leaf_k image)) g.symbol_nodes.items) nodes) node at
 
@@ -142,7 +142,7 @@ module _ (image : List ℕ) (held now : List Block) (followed : List Named) (fie
     seam = append_assoc gone.new (header_fields field m.header depth ms) followed
 
     -- its links wait
-    pub group_object_followed : Separate after → ((p : ℕ) → cover p after ≡ cover p now + cover p (blocks_of image g)) → IsObjectFollowed image held after followed field (group_object m g depth)
+    pub group_object_followed : Separate after → ((p : ℕ) → cover p after ≡ cover p now + cover p (blocks_of_group image g)) → IsObjectFollowed image held after followed field (group_object m g depth)
     group_object_followed once stored =
         let waits = links_wait image g held now after (λ p. omega (arith, done.claimed p)) (with_header field m.header depth ms followed) first (first + 8) depth gone once stored in
         record {
@@ -153,11 +153,11 @@ module _ (image : List ℕ) (held now : List Block) (followed : List Named) (fie
           only = all_append (λ (y : Named). is_header y.role ≡ true → y.at ≡ m.header) gone.new (header_fields field m.header depth ms) (only_inner m.header gone.new gone.inner) (fields_only field m.header depth ms);
           first = contains_in own_header (gone.new ++ header_fields field m.header depth ms) (in_right own_header gone.new (header_fields field m.header depth ms) (inl refl));
           fields = waits.0;
-          waiting = subst (λ (ys : List Named). AreWaiting image held after ys depth (links_of image g) waits.0) (sym seam) waits.1;
+          waiting = subst (λ (ys : List Named). AreWaiting image held after ys depth (links_of_group image g) waits.0) (sym seam) waits.1;
         }
 
     -- a link would stand too deep
-    pub deep_refused : IsGroupRead image g → g.table ≡ table → (address : ℕ) → IsDeepAt image g depth address → IsRefusedAt image TooDeep address
+    pub deep_refused : IsGroupRead image g → g.table ≡ table → (address : ℕ) → IsDeepAt image g depth address → IsOpenRefusedAt image TooDeep address
     deep_refused read same address is =
         let at : In address g.symbol_nodes.items = in_contains address g.symbol_nodes.items is.node_of in
         let reached = in_all (AreSymbolsReached image g.table.tree g.table.heap depth) address g.symbol_nodes.items gone.symbols_reached at in

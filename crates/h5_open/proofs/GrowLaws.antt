@@ -11,7 +11,7 @@ use Rattle.h5_model.specs.Format.Symbols.{Target, Header, Text}
 use Rattle.h5_laws.proofs.Lists.{In, contains_in}
 use Rattle.h5_laws.proofs.Pigeonhole.{Apart, apart_of_distinct, distinct_of_apart}
 use Rattle.h5_open.specs.declared.opened.object.OpenedObject.{OpenedObject}
-use Rattle.h5_open.specs.Opened.Objects.{headers, links_of, object_blocks}
+use Rattle.h5_open.specs.Opened.Objects.{headers, content_links, object_blocks}
 use Rattle.h5_open.specs.Placed.Whole.{IsLed, AreLed, HasParent, AreNamed}
 use Rattle.h5_open.proofs.PlaceLaws.{weaken_all}
 
@@ -25,7 +25,7 @@ pub all_led_grow : (objects more : List OpenedObject) (depth : ℕ) (links : Lis
 all_led_grow objects more depth links all = weaken_all (IsLed objects depth) (IsLed (objects ++ more) depth) links (λ link led. led_grows objects more depth link led) all
 
 pub objects_led_grow : (image : List ℕ) (objects more others : List OpenedObject) → AllByRecursion (AreLed image objects) others → AllByRecursion (AreLed image (objects ++ more)) others
-objects_led_grow image objects more others all = weaken_all (AreLed image objects) (AreLed image (objects ++ more)) others (λ o led. all_led_grow objects more o.depth (links_of image o.content) led) all
+objects_led_grow image objects more others all = weaken_all (AreLed image objects) (AreLed image (objects ++ more)) others (λ o led. all_led_grow objects more o.depth (content_links image o.content) led) all
 
 -- ---- one object more
 

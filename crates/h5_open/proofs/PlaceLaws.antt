@@ -14,9 +14,9 @@ use Rattle.h5_model.specs.Format.Heap.{segment_of, heap_blocks}
 use Rattle.h5_model.specs.Format.Reached.{Named, entry_in}
 use Rattle.h5_laws.proofs.Lists.{In, contains_in, from_range}
 use Rattle.h5_laws.proofs.Pigeonhole.{Apart}
-use Rattle.h5_group.specs.Nodes.Trees.{kind_in, nodes_blocks}
+use Rattle.h5_group.specs.Nodes.Trees.{kind_in, group_nodes_blocks}
 use Rattle.h5_group.specs.declared.group.Group.{Group}
-use Rattle.h5_group.specs.Links.{links_of, blocks_of, nodes_at}
+use Rattle.h5_group.specs.Links.{links_of_group, blocks_of_group, nodes_at}
 use Rattle.h5_group.specs.Walk.{IsGroupFollowed, IsHard}
 use Rattle.h5_open.specs.Read.{AreWaiting}
 
@@ -150,15 +150,15 @@ module _ (image : List ℕ) (g : Group) (base held now : List Block) (more : (p 
         wider n k (inr at) = inr at
 
   -- all links of the group wait
-  pub links_wait : Separate now → ((p : ℕ) → cover p now ≡ cover p held + cover p (blocks_of image g))
-      → (fields : List ℕ) × AreWaiting image base now walked depth (links_of image g) fields
+  pub links_wait : Separate now → ((p : ℕ) → cover p now ≡ cover p held + cover p (blocks_of_group image g))
+      → (fields : List ℕ) × AreWaiting image base now walked depth (links_of_group image g) fields
   links_wait separate claimed =
       let once : (p : ℕ) → cover p (map (symbol_block (leaf_k image)) nodes_of) ≤ 1
       = λ p. omega (
         arith,
         separate p,
         claimed p,
-        cover-append p (nodes_blocks image (nodes_at image g.table.tree) nodes_of) (heap_blocks image g.table.heap),
+        cover-append p (group_nodes_blocks image (nodes_at image g.table.tree) nodes_of) (heap_blocks image g.table.heap),
         cover-append p (tree_blocks (kind_in image) (nodes_at image g.table.tree)) (map (symbol_block (leaf_k image)) nodes_of),
       ) in
       let all = nodes_wait nodes_of (λ n at. contains_in n nodes_of at) (nodes_apart (leaf_k image) nodes_of once) in

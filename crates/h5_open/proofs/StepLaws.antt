@@ -11,13 +11,13 @@ use Rattle.h5_model.specs.Format.Reached.{Named, named, ObjectHeader}
 use Rattle.h5_laws.proofs.Lists.{In, contains_in, in_left, in_right, in_map}
 use Rattle.h5_header.specs.Walk.Walked.{IsFollowed}
 use Rattle.h5_header.specs.Walk.Met.{IsMet}
-use Rattle.h5_group.specs.Links.{link_from}
+use Rattle.h5_group.specs.Links.{lent_link}
 use Rattle.h5_model.specs.declared.link.Link.{Link}
 use Rattle.h5_open.specs.declared.opened.object.OpenedObject.{OpenedObject}
-use Rattle.h5_open.specs.Opened.Objects.{headers, links_of}
+use Rattle.h5_open.specs.Opened.Objects.{headers, content_links}
 use Rattle.h5_open.specs.Placed.Whole.{IsLed, AreLed}
 use Rattle.h5_open.specs.Read.{IsObjectRead, IsObjectFollowed, AreWaiting, IsOwn}
-use Rattle.h5_open.specs.Walk.{IsUnder, IsReady, IsFurther, IsTreeRead, IsLinkReady, IsLinkRead, IsPartly}
+use Rattle.h5_open.specs.Walk.{IsUnder, IsReady, AreFurtherObjects, IsTreeRead, IsLinkReady, IsLinkRead, IsPartly}
 use Rattle.h5_open.proofs.GrowLaws.{objects_led_grow, all_led_grow}
 use Rattle.h5_open.proofs.WaitLaws.{still_waiting, all_behind}
 use Rattle.h5_open.proofs.UnderLaws.{object_under, cover_grows}
@@ -64,7 +64,7 @@ in_get (x ∷ links) (suc k) d low = inr (in_get links k d (omega (arith, low)))
 -- the walk has come to it
 ready_of : (image : List ℕ) (base held : List Block) (followed : List Named) (depth : ℕ) (link : List ℕ × Target) (links : List (List ℕ × Target))
     → (turn : HasTurn image base held followed depth link links) → (objects : List OpenedObject) → IsUnder image held followed objects → (o : OpenedObject) → Contains objects o
-    → Contains (links_of image o.content) link → IsLinkReady image held followed objects turn.field depth link
+    → Contains (content_links image o.content) link → IsLinkReady image held followed objects turn.field depth link
 ready_of image base held followed depth (name, Text text) links turn objects under o among at = under
 ready_of image base held followed depth (name, Header header) links turn objects under o among at =
     record { under = under; met = turn.met header refl; parent = inr (o, among, (name, at)) }
@@ -88,17 +88,17 @@ all_outer image base held now outer field grown free (y ∷ new) all own =
 module _ (image : List ℕ) (base held : List Block) (followed : List Named) (objects objects' : List OpenedObject) (outer header depth : ℕ) (links : List (Link ℕ)) (k : ℕ)
     (under : IsUnder image base followed objects) (part : IsPartly image base held followed objects objects' outer header depth links k) (d : Link ℕ) (low : k < length links) where
   abbrev link : List ℕ × Target
-  link = link_from (get_or links k d)
+  link = lent_link (get_or links k d)
 
   abbrev later : List (List ℕ × Target)
-  later = map link_from (drop (k + 1) links)
+  later = map lent_link (drop (k + 1) links)
 
   next : drop k links ≡ get_or links k d ∷ drop (k + 1) links
   next = drop-cons links k d low ∙ ap (λ (n : ℕ). get_or links k d ∷ drop n links) (sym (add-one k))
 
   pub turn : HasTurn image base held (part.new ++ followed) depth link later
   turn = turn_of image base held (part.new ++ followed) depth link later part.fields
-      (subst (λ (ls : List (Link ℕ)). AreWaiting image base held (part.new ++ followed) depth (map link_from ls) part.fields) next part.waiting)
+      (subst (λ (ls : List (Link ℕ)). AreWaiting image base held (part.new ++ followed) depth (map lent_link ls) part.fields) next part.waiting)
 
   pub link_ready : IsLinkReady image held (part.new ++ followed) objects' turn.field depth link
   link_ready = ready_of image base held (part.new ++ followed) depth link later turn objects' part.under part.object there at where
@@ -107,15 +107,15 @@ module _ (image : List ℕ) (base held : List Block) (followed : List Named) (ob
         (contains_in part.object ((objects ++ part.object ∷ []) ++ part.others)
         (in_left part.object (objects ++ part.object ∷ []) part.others (in_right part.object objects (part.object ∷ []) (inl refl))))
 
-    at : Contains (links_of image part.object.content) link
+    at : Contains (content_links image part.object.content) link
     at = subst (λ (ls : List (List ℕ × Target)). Contains ls link) (sym part.links_are)
-        (contains_in link (map link_from links) (in_map link_from (get_or links k d) links (in_get links k d low)))
+        (contains_in link (map lent_link links) (in_map lent_link (get_or links k d) links (in_get links k d low)))
 
   grown : (p : ℕ) → cover p base ≤ cover p held
   grown = cover_grows image base held objects (part.object ∷ part.others) objects' (part.grown ∙ append_assoc objects (part.object ∷ []) part.others) under.covered (part.under).covered
 
   module _ (now : List Block) (after : List OpenedObject) (got : IsLinkRead image held now (part.new ++ followed) objects' after turn.field depth link) where
-    abbrev far : IsFurther image held now (part.new ++ followed) turn.field objects' after got.more
+    abbrev far : AreFurtherObjects image held now (part.new ++ followed) turn.field objects' after got.more
     far = got.further
 
     seam : (far.new ++ part.new) ++ followed ≡ far.new ++ (part.new ++ followed)
@@ -141,8 +141,8 @@ module _ (image : List ℕ) (base held : List Block) (followed : List Named) (ob
       stands = all_append (IsOwn base outer) far.new part.new
           (all_outer image base held now outer turn.field grown turn.free far.new (all_left (IsFollowed image now) far.new (part.new ++ followed) ((far.under).walked).all) far.stands) part.stands;
       led = all_append (AreLed image after) part.others got.more (over (λ (xs : List OpenedObject). AllByRecursion (AreLed image xs) part.others) (objects_led_grow image objects' got.more part.others part.led)) far.led;
-      passed = subst (λ (ls : List (List ℕ × Target)). AllByRecursion (IsLed after depth) ls) (sym (ap (map link_from) (take_more links k d low) ∙ map-append link_from (take k links) (get_or links k d ∷ [])))
-          (all_append (IsLed after depth) (map link_from (take k links)) (link ∷ []) (over (λ (xs : List OpenedObject). AllByRecursion (IsLed xs depth) (map link_from (take k links))) (all_led_grow objects' got.more depth (map link_from (take k links)) part.passed)) (got.led, tt));
+      passed = subst (λ (ls : List (List ℕ × Target)). AllByRecursion (IsLed after depth) ls) (sym (ap (map lent_link) (take_more links k d low) ∙ map-append lent_link (take k links) (get_or links k d ∷ [])))
+          (all_append (IsLed after depth) (map lent_link (take k links)) (link ∷ []) (over (λ (xs : List OpenedObject). AllByRecursion (IsLed xs depth) (map lent_link (take k links))) (all_led_grow objects' got.more depth (map lent_link (take k links)) part.passed)) (got.led, tt));
       fields = turn.rest;
       waiting = subst (λ (ys : List Named). AreWaiting image base now ys depth later turn.rest) (sym seam)
           (still_waiting image base held now more_claimed (part.new ++ followed) far.new turn.field depth far.stands later turn.rest turn.others turn.waiting);
@@ -152,7 +152,7 @@ module _ (image : List ℕ) (base held : List Block) (followed : List Named) (ob
 
 module _ (image : List ℕ) (held now : List Block) (followed : List Named) (objects : List OpenedObject) (field header depth : ℕ) (ready : IsReady image held followed objects field header depth)
     (new : Contains (headers objects) header → ⊥) (o : OpenedObject) (read : IsObjectRead image held now header depth o) (separate : Separate now)
-    (gone : IsObjectFollowed image held now followed field o) (links : List (Link ℕ)) (links_are : map link_from links ≡ links_of image o.content) where
+    (gone : IsObjectFollowed image held now followed field o) (links : List (Link ℕ)) (links_are : map lent_link links ≡ content_links image o.content) where
   pub begun : (after : List OpenedObject) → after ≡ objects ++ o ∷ [] → IsPartly image held now followed objects after field header depth links 0
   begun after is = record {
     object = o;
@@ -169,7 +169,7 @@ module _ (image : List ℕ) (held now : List Block) (followed : List Named) (obj
     passed = tt;
     fields = gone.fields;
     waiting = subst (λ (ls : List (List ℕ × Target)). AreWaiting image held now (gone.new ++ followed) depth ls gone.fields) (sym links_are)
-        (subst (λ (n : ℕ). AreWaiting image held now (gone.new ++ followed) n (links_of image o.content) gone.fields) read.depth_is gone.waiting);
+        (subst (λ (n : ℕ). AreWaiting image held now (gone.new ++ followed) n (content_links image o.content) gone.fields) read.depth_is gone.waiting);
   }
 
 pub finished : (image : List ℕ) (held now : List Block) (followed : List Named) (objects after : List OpenedObject) (field header depth : ℕ) (links : List (Link ℕ))
@@ -186,8 +186,8 @@ finished image held now followed objects after field header depth links part = r
     under = part.under;
     stands = part.stands;
     led = (
-      subst (λ (n : ℕ). AllByRecursion (IsLed after n) (links_of image part.object.content)) (sym part.depth_is)
-          (subst (AllByRecursion (IsLed after depth)) (ap (map link_from) (take-length links) ∙ sym part.links_are) part.passed),
+      subst (λ (n : ℕ). AllByRecursion (IsLed after n) (content_links image part.object.content)) (sym part.depth_is)
+          (subst (AllByRecursion (IsLed after depth)) (ap (map lent_link) (take-length links) ∙ sym part.links_are) part.passed),
       part.led,
     );
   };

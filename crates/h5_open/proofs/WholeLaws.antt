@@ -16,7 +16,7 @@ use Rattle.h5_header.specs.Walk.Walked.{IsWalked}
 use Rattle.h5_open.specs.declared.opened.object.OpenedObject.{OpenedObject}
 use Rattle.h5_open.specs.Opened.Kept.{IsIndex, IsOpened}
 use Rattle.h5_open.specs.Opened.Objects.{table_of, tree_of}
-use Rattle.h5_open.specs.Placed.Whole.{AreLed, IsWhole, placed_of}
+use Rattle.h5_open.specs.Placed.Whole.{AreLed, IsWholeImage, placed_of}
 use Rattle.h5_open.specs.Walk.{IsNumbered, IsUnder, IsReady, IsTreeRead}
 
 empty_distinct : IsDistinct (eq_by_cmp nat_cmp) []
@@ -59,7 +59,7 @@ ready_at image held objects header is walked separate none at =
     subst (λ (xs : List OpenedObject). IsReady image held [] xs 64 header 0) (sym none) (subst (λ (h : ℕ). IsReady image held [] [] 64 h 0) (sym at) (root_ready image held is walked separate))
 
 whole : (image : List ℕ) (held now : List Block) (objects : List OpenedObject) → IsSuperblock image → end_of_file image ≡ length image
-    → IsTreeRead image held now [] [] objects 64 (root_header image) 0 → IsWhole image objects
+    → IsTreeRead image held now [] [] objects 64 (root_header image) 0 → IsWholeImage image objects
 whole image held now objects is ends tree =
     let under : IsUnder image now ((tree.further).new ++ []) objects = (tree.further).under in
     record {
@@ -82,11 +82,11 @@ whole image held now objects is ends tree =
     }
 
 pub whole_at : (image : List ℕ) (held now : List Block) (before objects : List OpenedObject) (header : ℕ) → IsSuperblock image → end_of_file image ≡ length image → before ≡ []
-    → header ≡ root_header image → IsTreeRead image held now [] before objects 64 header 0 → IsWhole image objects
+    → header ≡ root_header image → IsTreeRead image held now [] before objects 64 header 0 → IsWholeImage image objects
 whole_at image held now before objects header is ends none at tree =
     whole image held now objects is ends
     (subst (λ (xs : List OpenedObject). IsTreeRead image held now [] xs objects 64 (root_header image) 0) none (subst (λ (h : ℕ). IsTreeRead image held now [] before objects 64 h 0) at tree))
 
-pub opened : (image : List ℕ) (objects : List OpenedObject) (numbers : BTreeMap ℕ ℕ) → IsWhole image objects → IsIndex objects numbers
+pub opened : (image : List ℕ) (objects : List OpenedObject) (numbers : BTreeMap ℕ ℕ) → IsWholeImage image objects → IsIndex objects numbers
     → ReadsAs image (table_of objects) (tree_of image objects) (placed_of image objects) → IsOpened image objects numbers
 opened image objects numbers is index reads = record { reads = (placed_of image objects, reads); each = is.each; index = index }

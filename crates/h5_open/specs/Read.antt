@@ -16,8 +16,8 @@ use Rattle.h5_header.specs.Walk.Walked.{IsWalked}
 use Rattle.h5_header.specs.Walk.Met.{IsMet, IsHeaderMet}
 use Rattle.h5_open.specs.declared.opened.object.OpenedObject.{OpenedObject}
 use Rattle.h5_open.specs.Opened.Kept.{IsObjectKept}
-use Rattle.h5_open.specs.Opened.NotYet.{IsRefusedAt}
-use Rattle.h5_open.specs.Opened.Objects.{links_of, object_blocks}
+use Rattle.h5_open.specs.Opened.NotYet.{IsOpenRefusedAt}
+use Rattle.h5_open.specs.Opened.Objects.{content_links, object_blocks}
 use Rattle.h5_open.specs.Placed.Whole.{IsGroupContent}
 
 -- The object stands in the image, with its header there, and its blocks are claimed. The root is a group; a group 64 links below it
@@ -27,7 +27,7 @@ pub record IsObjectRead (image : List ℕ) (held now : List Block) (header depth
   pub header_is : o.messages.header ≡ header
   pub depth_is : o.depth ≡ depth
   pub top : depth ≡ 0 → IsGroupContent o.content
-  pub shallow : 1 ≤ length (links_of image o.content) → depth + 1 ≤ 64
+  pub shallow : 1 ≤ length (content_links image o.content) → depth + 1 ≤ 64
   pub inside : Inside (length image) (object_blocks image o)
   pub claimed : (p : ℕ) → cover p now ≡ cover p held + cover p (object_blocks image o)
 
@@ -52,7 +52,7 @@ pub record IsObjectFollowed (image : List ℕ) (held now : List Block) (followed
   pub only : AllByRecursion (λ (y : Named). is_header y.role ≡ true → y.at ≡ o.messages.header) new
   pub first : Contains new (named field ObjectHeader o.messages.header o.depth)
   pub fields : List ℕ
-  pub waiting : AreWaiting image held now (new ++ followed) o.depth (links_of image o.content) fields
+  pub waiting : AreWaiting image held now (new ++ followed) o.depth (content_links image o.content) fields
 
 -- the messages of a header were read
 pub record IsHeaderRead (image : List ℕ) (m : Listed) : Type 0 where
@@ -83,7 +83,7 @@ FollowsObject image old now header depth o = (followed : List Named) (field : �
 -- the object is refused
 abbrev pub IsObjectFault : List ℕ → List Block → ℕ → ℕ → Cause → ℕ → Type 0
 IsObjectFault image old header depth cause address = (followed : List Named) (field : ℕ)
-    → IsHeaderMet image old followed field header depth → IsRefusedAt image cause address
+    → IsHeaderMet image old followed field header depth → IsOpenRefusedAt image cause address
 
 -- ---- the same step, when the messages of the header are read
 
@@ -100,4 +100,4 @@ FollowsContent image old now m depth o = (held : List Block) (followed : List Na
 -- or it is refused
 abbrev pub IsContentFault : List ℕ → List Block → Listed → ℕ → Cause → ℕ → Type 0
 IsContentFault image old m depth cause address = (held : List Block) (followed : List Named) (field : ℕ)
-    → IsHeaderDone image held old followed field depth m → IsRefusedAt image cause address
+    → IsHeaderDone image held old followed field depth m → IsOpenRefusedAt image cause address

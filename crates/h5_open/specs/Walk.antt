@@ -9,14 +9,14 @@ use Rattle.h5_model.specs.Format.Reached.{Named, named, ObjectHeader}
 use Rattle.h5_model.specs.Format.Symbols.{Target, Header, Text}
 use Rattle.h5_model.specs.Faults.Breaches.{is_header}
 use Rattle.h5_model.specs.declared.open_fault.Cause.{Cause}
-use Rattle.h5_group.specs.Links.{link_from}
+use Rattle.h5_group.specs.Links.{lent_link}
 use Rattle.h5_model.specs.declared.link.Link.{Link}
 use Rattle.h5_header.specs.Walk.Walked.{IsWalked}
 use Rattle.h5_header.specs.Walk.Met.{IsMet}
 use Rattle.h5_open.specs.declared.opened.object.OpenedObject.{OpenedObject}
 use Rattle.h5_open.specs.Opened.Kept.{IsObjectKept, IsIndex}
-use Rattle.h5_open.specs.Opened.NotYet.{IsRefusedAt}
-use Rattle.h5_open.specs.Opened.Objects.{headers, links_of, object_blocks}
+use Rattle.h5_open.specs.Opened.NotYet.{IsOpenRefusedAt}
+use Rattle.h5_open.specs.Opened.Objects.{headers, content_links, object_blocks}
 use Rattle.h5_open.specs.Placed.Whole.{IsGroupContent, IsLed, AreLed, HasParent, AreNamed, opened_blocks}
 use Rattle.h5_open.specs.Read.{IsOwn, AreWaiting}
 
@@ -50,7 +50,7 @@ pub record IsReady (image : List ℕ) (held : List Block) (followed : List Named
   pub parent : (objects ≡ []) ⊎ HasParent image objects header
 
 -- More objects were read, all of whose links lead to objects.
-pub record IsFurther (image : List ℕ) (held now : List Block) (followed : List Named) (field : ℕ) (objects objects' more : List OpenedObject) : Type 0 where
+pub record AreFurtherObjects (image : List ℕ) (held now : List Block) (followed : List Named) (field : ℕ) (objects objects' more : List OpenedObject) : Type 0 where
   pub grown : objects' ≡ objects ++ more
   pub new : List Named
   pub under : IsUnder image now (new ++ followed) objects'
@@ -64,7 +64,7 @@ pub record IsTreeRead (image : List ℕ) (held now : List Block) (followed : Lis
   pub header_is : object.messages.header ≡ header
   pub depth_is : object.depth ≡ depth
   pub top : depth ≡ 0 → IsGroupContent object.content
-  pub further : IsFurther image held now followed field objects objects' (object ∷ others)
+  pub further : AreFurtherObjects image held now followed field objects objects' (object ∷ others)
 
 -- the walk has come to a link of an object so many links below the root
 abbrev pub IsLinkReady : List ℕ → List Block → List Named → List OpenedObject → ℕ → ℕ → (List ℕ × Target) → Type 0
@@ -74,7 +74,7 @@ IsLinkReady image held followed objects field depth (name, Text text) = IsUnder 
 -- the link leads to an object, and all objects below it were read
 pub record IsLinkRead (image : List ℕ) (held now : List Block) (followed : List Named) (objects objects' : List OpenedObject) (field depth : ℕ) (link : List ℕ × Target) : Type 0 where
   pub more : List OpenedObject
-  pub further : IsFurther image held now followed field objects objects' more
+  pub further : AreFurtherObjects image held now followed field objects objects' more
   pub led : IsLed objects' depth link
 
 -- ---- steps of the walk
@@ -87,7 +87,7 @@ ReadsFrom image old now objects objects' header depth = (followed : List Named) 
 -- or one of these objects is refused
 abbrev pub IsFaultFrom : List ℕ → List Block → List OpenedObject → ℕ → ℕ → Cause → ℕ → Type 0
 IsFaultFrom image old objects header depth cause address = (followed : List Named) (field : ℕ)
-    → IsReady image old followed objects field header depth → IsRefusedAt image cause address
+    → IsReady image old followed objects field header depth → IsOpenRefusedAt image cause address
 
 -- the same from wherever it has come to this link
 abbrev pub ReadsLink : List ℕ → List Block → List Block → List OpenedObject → List OpenedObject → ℕ → (List ℕ × Target) → Type 0
@@ -96,7 +96,7 @@ ReadsLink image old now objects objects' depth link = (followed : List Named) (f
 
 abbrev pub IsLinkFault : List ℕ → List Block → List OpenedObject → ℕ → (List ℕ × Target) → Cause → ℕ → Type 0
 IsLinkFault image old objects depth link cause address = (followed : List Named) (field : ℕ)
-    → IsLinkReady image old followed objects field depth link → IsRefusedAt image cause address
+    → IsLinkReady image old followed objects field depth link → IsOpenRefusedAt image cause address
 
 -- Of the links of an object that was read, so many were followed; the others wait.
 pub record IsPartly (image : List ℕ) (held now : List Block) (followed : List Named) (objects objects' : List OpenedObject) (field header depth : ℕ) (links : List (Link ℕ)) (k : ℕ) : Type 0 where
@@ -105,12 +105,12 @@ pub record IsPartly (image : List ℕ) (held now : List Block) (followed : List 
   pub header_is : object.messages.header ≡ header
   pub depth_is : object.depth ≡ depth
   pub top : depth ≡ 0 → IsGroupContent object.content
-  pub links_are : links_of image object.content ≡ map link_from links
+  pub links_are : content_links image object.content ≡ map lent_link links
   pub grown : objects' ≡ (objects ++ object ∷ []) ++ others
   pub new : List Named
   pub under : IsUnder image now (new ++ followed) objects'
   pub stands : AllByRecursion (IsOwn held field) new
   pub led : AllByRecursion (AreLed image objects') others
-  pub passed : AllByRecursion (IsLed objects' depth) (map link_from (take k links))
+  pub passed : AllByRecursion (IsLed objects' depth) (map lent_link (take k links))
   pub fields : List ℕ
-  pub waiting : AreWaiting image held now (new ++ followed) depth (map link_from (drop k links)) fields
+  pub waiting : AreWaiting image held now (new ++ followed) depth (map lent_link (drop k links)) fields

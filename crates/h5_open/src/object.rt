@@ -10,10 +10,10 @@ ghost use Rattle.h5_msg.specs.Layouts.{layout_in};
 ghost use Rattle.h5_header.specs.Kinds.{IsOfGroup, IsOfDataset};
 ghost use Rattle.h5_header.specs.Listed.{messages_in};
 ghost use Rattle.h5_header.specs.Progress.{ClaimBreach};
-ghost use Rattle.h5_group.specs.Links.{IsGroupRead, links_of, link_from};
+ghost use Rattle.h5_group.specs.Links.{IsGroupRead, links_of_group, lent_link};
 ghost use Rattle.h5_open.specs.Opened.Array.{data_blocks};
 ghost use Rattle.h5_open.specs.Opened.Kept.{IsObjectKept};
-ghost use Rattle.h5_open.specs.Opened.Objects.{links_of as object_links};
+ghost use Rattle.h5_open.specs.Opened.Objects.{content_links as object_links};
 ghost use Rattle.h5_open.specs.Read.{IsHeaderRead, IsObjectRead, FollowsObject, IsObjectFault, IsContentRead, FollowsContent, IsContentFault, IsDeepAt};
 
 use crate::judge::{judge_array, judge_group, judge_kind};
@@ -125,7 +125,7 @@ fn read_array_object(
 /// Refuses a group at the last level below the root that has a link, at its first symbol node with one.
 fn check_depth(image: &Image, group: &Group, depth: u8) -> Result<(), OpenFault>
     requires { IsGroupRead image.now.bytes group.now }
-    ensures shallow { OnOk result (1 ≤ length (links_of image.now.bytes group.now) → depth + 1 ≤ 64) }
+    ensures shallow { OnOk result (1 ≤ length (links_of_group image.now.bytes group.now) → depth + 1 ≤ 64) }
     ensures cause { IfErr result (λ fault. fault.cause ≡ Cause.TooDeep) }
     ensures refused { IfErr result (λ fault. IsDeepAt image.now.bytes group.now depth fault.address) }
 {
@@ -166,7 +166,7 @@ pub(crate) fn links_in<'a>(
 ) -> Result<Vec<Link<'a, u64>>, OpenFault>
     requires { IsObjectKept image.now.bytes object.now }
     ensures links { IfOk result (λ links.
-        map link_from links.items ≡ object_links image.now.bytes object.now.content) }
+        map lent_link links.items ≡ object_links image.now.bytes object.now.content) }
     ensures refused { IfErr result (λ fault. fault.cause ≡ Cause.NoMemory) }
 {
     let OpenedContent::Group(group) = &object.content else {

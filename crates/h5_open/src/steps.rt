@@ -3,11 +3,11 @@
 ghost use Rattle.std.specs.Prelude.{◌≡◌, ◌+◌, ◌^◌, ◌≤◌, [], length, IfOk, IfErr, OnOk};
 ghost use Rattle.std.specs.List.{Contains};
 ghost use Rattle.h5_model.specs.Format.Superblock.{IsSuperblock, end_of_file};
-ghost use Rattle.h5_group.specs.Links.{link_from};
+ghost use Rattle.h5_group.specs.Links.{lent_link};
 ghost use Rattle.h5_header.specs.Walk.Walked.{IsWalked};
 ghost use Rattle.h5_open.specs.Opened.Carried.{ReadsCarried};
 ghost use Rattle.h5_open.specs.Opened.Kept.{IsOpened};
-ghost use Rattle.h5_open.specs.Opened.NotYet.{IsRefusedAt};
+ghost use Rattle.h5_open.specs.Opened.NotYet.{IsOpenRefusedAt};
 ghost use Rattle.h5_open.specs.Opened.Objects.{headers};
 ghost use Rattle.h5_bytes.specs.Blocks.{Separate};
 ghost use Rattle.h5_open.specs.Walk.{IsNumbered, ReadsFrom, IsFaultFrom, ReadsLink, IsLinkFault};
@@ -39,7 +39,7 @@ pub fn walk(alloc: Global, image: &Image) -> Result<Opened, OpenFault>
     requires superblock { IsSuperblock image.now.bytes }
     requires whole { end_of_file image.now.bytes ≡ length image.now.bytes }
     ensures kept { IfOk result (λ o. IsOpened image.now.bytes o.objects.items o.numbers) }
-    ensures refused { IfErr result (λ fault. IsRefusedAt image.now.bytes fault.cause fault.address) }
+    ensures refused { IfErr result (λ fault. IsOpenRefusedAt image.now.bytes fault.cause fault.address) }
     ensures only { IfErr result (λ fault. ReadsCarried image.now.bytes → fault.cause ≡ Cause.NoMemory) }
 {
     let mut claims = claim_superblock(alloc, image)?;
@@ -120,9 +120,9 @@ fn follow(
     ensures end { claims.new.end ≡ claims.old.end }
     ensures index { OnOk result (IsNumbered opened.new.objects.items opened.new.numbers) }
     ensures read { OnOk result (ReadsLink image.now.bytes claims.old.held claims.new.held
-        opened.old.objects.items opened.new.objects.items depth (link_from link.entry)) }
+        opened.old.objects.items opened.new.objects.items depth (lent_link link.entry)) }
     ensures refused { IfErr result (λ fault. IsLinkFault image.now.bytes claims.old.held
-        opened.old.objects.items depth (link_from link.entry) fault.cause fault.address) }
+        opened.old.objects.items depth (lent_link link.entry) fault.cause fault.address) }
 {
     let LinkTo::Object(header) = link.to else {
         return Ok(());

@@ -17,22 +17,22 @@ use Rattle.h5_model.specs.declared.edit_fault.EditFault.TheVariants.{NotAGroup, 
 use Rattle.h5_header.specs.Listed.{Listed, messages_in}
 use Rattle.h5_open.specs.Attributes.{attributes_of}
 use Rattle.h5_open.specs.GroupType.{Group}
-use Rattle.h5_open.specs.Described.{Described, dataset_in}
+use Rattle.h5_open.specs.Described.{Described, described_dataset}
 use Rattle.h5_open.specs.Told.{array_told}
 use Rattle.h5_open.specs.declared.opened.object.OpenedObject.{OpenedObject}
 use Rattle.h5_open.specs.declared.opened.object.OpenedContent.TheVariants as content
 use Rattle.h5_open.specs.Opened.Kept.{IsOpened}
 use Rattle.h5_open.specs.Opened.Objects.{headers, links_by, content_in, object_in, tree_of}
-use Rattle.h5_open.specs.Links.{links_of}
+use Rattle.h5_open.specs.Links.{links_of_group}
 use Rattle.h5_query.specs.declared.array.StoredArray.{StoredArray}
 use Rattle.h5_query.specs.declared.kind.Kind.{Kind}
 use Rattle.h5_query.specs.declared.kind.Kind.TheVariants as kind
 use Rattle.h5_query.specs.declared.found.Found.TheVariants as found
 use Rattle.h5_model.specs.declared.object_no.ObjectNo.{ObjectNo}
-use Rattle.h5_query.specs.Found.{HasFound, HasObject}
-use Rattle.h5_query.specs.Place.{LeadsTo}
-use Rattle.h5_query.specs.Look.{HasKind, HasNames, HasCell, HasAttribute, IsArray, IsArrayKind}
-use Rattle.h5_query.specs.Kept.{IsHeaderThere, IsArrayThere, names_of, array_dataset}
+use Rattle.h5_query.specs.Found.{HasFound, TreeHasObject}
+use Rattle.h5_query.specs.Place.{PathLeadsTo}
+use Rattle.h5_query.specs.Look.{HasKind, HasLinksNamed, HasCell, HasAttribute, IsArrayShown, IsArrayKind}
+use Rattle.h5_query.specs.Kept.{IsHeaderThere, IsArrayThere, names_of_group, array_dataset}
 use Rattle.h5_query.proofs.KeptArrays.{kept_unchunked}
 use Rattle.h5_query.proofs.GroupLaws.{keys_are}
 use Rattle.h5_query.proofs.Indexed.{object_there, object_kept, group_read, group_links, group_no_array, array_there, array_kept, array_no_group}
@@ -61,12 +61,12 @@ has_attribute image tree path m there name a found =
 
 -- the cell at an index of the array that stands there
 pub cell_there : (image : List ℕ) (tree : Tree) (path : List ℕ) (a : Described) → IsArrayThere image tree path a → (index : List ℕ) (value : ℤ) → length index ≡ length a.sizes
-    → is_inside a.sizes index ≡ true → value ≡ cell_at (dataset_in image a empty) index → HasCell tree path index value
+    → is_inside a.sizes index ≡ true → value ≡ cell_at (described_dataset image a empty) index → HasCell tree path index value
 cell_there image tree path a there index value same inside is =
     let rank : (length index == length a.sizes) ≡ true = grind (arith, nat_tests, same) in
     record {
       accepted = first-behind (dataset_rules tree path) (index_rules tree path index) there.accepted ∙ rw (there.found, rank, inside) refl;
-      dataset = dataset_in image a empty;
+      dataset = described_dataset image a empty;
       found = there.found;
       value_is = is;
     }
@@ -78,7 +78,7 @@ module _ (image : List ℕ) (objects : List OpenedObject) (numbers : BTreeMap �
 
   -- ---- by a path
 
-  module _ (path : List ℕ) (leads : LeadsTo T path (ToObject number)) where
+  module _ (path : List ℕ) (leads : PathLeadsTo T path (ToObject number)) where
     pub header_there : IsHeaderThere image T path object.messages
     header_there = record {
       accepted = first-behind (path_rules T path) ((NotFound, is_soft (located T path)) ∷ []) leads.0 ∙ rw leads.1 refl;
@@ -90,7 +90,7 @@ module _ (image : List ℕ) (objects : List OpenedObject) (numbers : BTreeMap �
 
     -- what it holds
     holds : (attributes : List (List ℕ × Attribute)) → attributes ≡ entries (attributes_of (messages_in image object.messages.list)) → (c : Content)
-        → content_in image (headers objects) (messages_in image object.messages.list) object.content ≡ c → HasObject T number attributes c
+        → content_in image (headers objects) (messages_in image object.messages.list) object.content ≡ c → TreeHasObject T number attributes c
     holds attributes listed c same = record { object = object_in image (headers objects) object; found = object_there image objects number object at; listed = listed; content_is = same }
 
     -- ---- a group
@@ -103,10 +103,10 @@ module _ (image : List ℕ) (objects : List OpenedObject) (numbers : BTreeMap �
           → attributes.items ≡ entries (attributes_of (messages_in image object.messages.list)) → HasFound T path (found.Group n attributes)
       group_found n same attributes listed = record {
         accepted = leads.0;
-        there = rw leads.1 (same, links_by (headers objects) (links_of image g), holds attributes.items listed _ (ap (content_in image (headers objects) (messages_in image object.messages.list)) is));
+        there = rw leads.1 (same, links_by (headers objects) (links_of_group image g), holds attributes.items listed _ (ap (content_in image (headers objects) (messages_in image object.messages.list)) is));
       }
 
-      pub group_names : (names : List (List ℕ)) → names ≡ names_of image g → HasNames T path names
+      pub group_names : (names : List (List ℕ)) → names ≡ names_of_group image g → HasLinksNamed T path names
       group_names names same = record {
         accepted = list_here T path number leads.0 leads.1 ∙ rw (group_links image objects number object at g is) refl;
         listed =
@@ -133,7 +133,7 @@ module _ (image : List ℕ) (objects : List OpenedObject) (numbers : BTreeMap �
       array_kind (kind.Soft text) shown = absurd shown
 
       pub array_found : (n : ObjectNo) → n.0 ≡ number → (attributes : Vec (List ℕ × Attribute) Global)
-          → attributes.items ≡ entries (attributes_of (messages_in image object.messages.list)) → (a : StoredArray) → IsArray D a → HasFound T path (found.Array n attributes a)
+          → attributes.items ≡ entries (attributes_of (messages_in image object.messages.list)) → (a : StoredArray) → IsArrayShown D a → HasFound T path (found.Array n attributes a)
       array_found n same attributes listed a shown = record {
         accepted = leads.0;
         there = rw leads.1 (same, D, holds attributes.items listed _ (ap (content_in image (headers objects) (messages_in image object.messages.list)) is), shown);

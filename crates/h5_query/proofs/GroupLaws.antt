@@ -7,7 +7,7 @@ use Rattle.h5_model.specs.Format.Symbols.{Target}
 use Rattle.h5_model.specs.Tree.Objects.{Link}
 use Rattle.h5_laws.proofs.Lists.{In, in_contains, contains_in}
 use Rattle.h5_open.specs.Links as group
-use Rattle.h5_open.specs.Links.{IsGroupRead, IsLinkNamed, HasNone, target_of, link_from}
+use Rattle.h5_open.specs.Links.{IsGroupRead, IsLinkNamed, HasNone, lent_target, lent_link}
 use Rattle.h5_open.specs.GroupType.{Group}
 use Rattle.h5_model.specs.declared.link.Link.{Link as LinkOf}
 use Rattle.h5_open.specs.Opened.Objects.{link_to, links_by}
@@ -29,20 +29,20 @@ none_found hs ((x, t) ∷ found) name none =
 
 module _ (image hs : List ℕ) (g : Group) (read : IsGroupRead image g) where
   -- the link of a name
-  pub link_named : (name : List ℕ) (l : LinkOf ℕ) → IsLinkNamed image g name l → get (links_by hs (group.links_of image g)) name ≡ Some (link_to hs (target_of l.to))
+  pub link_named : (name : List ℕ) (l : LinkOf ℕ) → IsLinkNamed image g name l → get (links_by hs (group.links_of_group image g)) name ≡ Some (link_to hs (lent_target l.to))
   link_named name l is =
-      subst (λ (n : List ℕ). get (links_by hs (group.links_of image g)) n ≡ Some (link_to hs (target_of l.to))) is.1
-      (get_link hs (group.links_of image g) (names_ascend image g read) l.name.now (target_of l.to) (in_contains (link_from l) (group.links_of image g) is.0))
+      subst (λ (n : List ℕ). get (links_by hs (group.links_of_group image g)) n ≡ Some (link_to hs (lent_target l.to))) is.1
+      (get_link hs (group.links_of_group image g) (names_ascend image g read) l.name.now (lent_target l.to) (in_contains (lent_link l) (group.links_of_group image g) is.0))
 
-  pub none_named : (name : List ℕ) → HasNone image g name → get (links_by hs (group.links_of image g)) name ≡ None
+  pub none_named : (name : List ℕ) → HasNone image g name → get (links_by hs (group.links_of_group image g)) name ≡ None
   none_named name none =
-      get-from_entries nat_list_cmp_total (map (λ (l : List ℕ × Target). (l.0, link_to hs l.1)) (group.links_of image g)) name
-      ∙ none_found hs (group.links_of image g) name (λ t at. none t (contains_in (name, t) (group.links_of image g) at))
+      get-from_entries nat_list_cmp_total (map (λ (l : List ℕ × Target). (l.0, link_to hs l.1)) (group.links_of_group image g)) name
+      ∙ none_found hs (group.links_of_group image g) name (λ t at. none t (contains_in (name, t) (group.links_of_group image g) at))
 
 names_alike : (hs : List ℕ) (found : List (List ℕ × Target)) → map (λ (l : List ℕ × Link). l.0) (map (λ (l : List ℕ × Target). (l.0, link_to hs l.1)) found) ≡ map (λ (l : List ℕ × Target). l.0) found
 names_alike hs [] = refl
 names_alike hs (l ∷ found) = ap (λ (names : List (List ℕ)). l.0 ∷ names) (names_alike hs found)
 
 -- the names of the links, ascending
-pub keys_are : (image hs : List ℕ) (g : Group) → IsGroupRead image g → keys (links_by hs (group.links_of image g)) ≡ map (λ (l : List ℕ × Target). l.0) (group.links_of image g)
-keys_are image hs g read = ap (λ (es : List (List ℕ × Link)). map (λ (l : List ℕ × Link). l.0) es) (group_entries image hs g read) ∙ names_alike hs (group.links_of image g)
+pub keys_are : (image hs : List ℕ) (g : Group) → IsGroupRead image g → keys (links_by hs (group.links_of_group image g)) ≡ map (λ (l : List ℕ × Target). l.0) (group.links_of_group image g)
+keys_are image hs g read = ap (λ (es : List (List ℕ × Link)). map (λ (l : List ℕ × Link). l.0) es) (group_entries image hs g read) ∙ names_alike hs (group.links_of_group image g)

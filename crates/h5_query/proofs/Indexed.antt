@@ -60,7 +60,7 @@ module _ (image : List ℕ) (objects : List OpenedObject) where
   module _ (k : ℕ) (o : OpenedObject) (at : slice_get objects k ≡ Some o) where
     -- a group has it
     module _ (g : GroupRead) (is : o.content ≡ content.Group g) where
-      pub group_links : links_of (tree_of image objects) k ≡ Some (links_by (headers objects) (group.links_of image g))
+      pub group_links : links_of (tree_of image objects) k ≡ Some (links_by (headers objects) (group.links_of_group image g))
       group_links =
           ap (option_and_then (λ (x : Object). links_in x.content)) (object_there image objects k o at)
           ∙ ap (λ (c : OpenedContent). links_in (content_in image (headers objects) (messages_in image o.messages.list) c)) is

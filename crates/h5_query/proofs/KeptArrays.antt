@@ -20,14 +20,14 @@ use Rattle.h5_model.specs.Scripts.Reading.{shown_maximum}
 use Rattle.h5_model.specs.Tree.Objects.{Dataset}
 use Rattle.h5_model.specs.Tree.Places.{cells, index_of}
 use Rattle.h5_header.specs.Listed.{Listed, messages_in}
-use Rattle.h5_open.specs.Described.{Described, HasArray, dataset_in}
+use Rattle.h5_open.specs.Described.{Described, HasArray, described_dataset}
 use Rattle.h5_open.specs.Stored.{IsUnchunked, AreFilled, AreStored}
 use Rattle.h5_open.specs.Told.{array_told, layout_told}
 use Rattle.h5_open.specs.Opened.Array.{data_blocks}
 use Rattle.h5_open.proofs.FillLaws.{type_sound}
 use Rattle.h5_query.specs.declared.array.StoredArray.{StoredArray}
 use Rattle.h5_query.specs.Kept.{IsArrayKept, array_dataset}
-use Rattle.h5_query.specs.Look.{IsArray, HasCells}
+use Rattle.h5_query.specs.Look.{IsArrayShown, HasCells}
 
 -- ---- the layout
 
@@ -87,11 +87,11 @@ sound_type None t is = absurd (cc)
 sound_type (Some body) t is = type_sound body t is
 
 module _ (image : List ℕ) (a : Described) where
-  array_length : length (dataset_in image a empty).cells ≡ cells a.sizes
+  array_length : length (described_dataset image a empty).cells ≡ cells a.sizes
   array_length = length-map-range_with_len (λ k. cell_of image a.fixed a.fill a.sizes a.layout empty (index_of a.sizes k)) 0 (cells a.sizes)
 
-  shows : (ms : List Message) → HasArray ms a → (block : Option Block) → a.layout ≡ InBlock block → (s : StoredArray) → s.array ≡ a → HasCells (dataset_in image a empty) s.cells
-      → IsArray (dataset_in image a empty) s
+  shows : (ms : List Message) → HasArray ms a → (block : Option Block) → a.layout ≡ InBlock block → (s : StoredArray) → s.array ≡ a → HasCells (described_dataset image a empty) s.cells
+      → IsArrayShown (described_dataset image a empty) s
   shows ms has block in_block s same are = record {
     sound = rw same (sound_type (first_body 3 ms) a.fixed has.type);
     fixed_is = ap (λ (x : Described). x.fixed) same;
@@ -109,10 +109,10 @@ has_cells d None are = are
 has_cells d (Some bytes) are = are
 
 pub shows_array : (image : List ℕ) (m : Listed) → IsArrayKept image m → (s : StoredArray) → s.array ≡ array_told (messages_in image m.list)
-    → MatchOption s.cells (AreFilled (dataset_in image s.array empty)) (λ bytes. AreStored (dataset_in image s.array empty) bytes.now)
-    → IsArray (array_dataset image (messages_in image m.list)) s
+    → MatchOption s.cells (AreFilled (described_dataset image s.array empty)) (λ bytes. AreStored (described_dataset image s.array empty) bytes.now)
+    → IsArrayShown (array_dataset image (messages_in image m.list)) s
 shows_array image m kept s same are =
     let ms = messages_in image m.list in
     shows image (array_told ms) ms (kept.list).array ((kept.list).carried).block ((kept.list).carried).in_block s same
     (has_cells (array_dataset image ms) s.cells
-    (subst (λ (a : Described). MatchOption s.cells (AreFilled (dataset_in image a empty)) (λ bytes. AreStored (dataset_in image a empty) bytes.now)) same are))
+    (subst (λ (a : Described). MatchOption s.cells (AreFilled (described_dataset image a empty)) (λ bytes. AreStored (described_dataset image a empty) bytes.now)) same are))

@@ -8,7 +8,7 @@ use Rattle.h5_model.specs.Format.Symbols.{Target}
 use Rattle.h5_model.specs.Tree.Objects as tree
 use Rattle.h5_laws.proofs.Lists.{In, contains_in}
 use Rattle.h5_open.specs.Links as group
-use Rattle.h5_open.specs.Links.{link_from}
+use Rattle.h5_open.specs.Links.{lent_link}
 use Rattle.h5_open.specs.GroupType.{Group}
 use Rattle.h5_model.specs.declared.link.Link.{Link}
 use Rattle.h5_model.specs.declared.object_no.ObjectNo.{ObjectNo}
@@ -21,11 +21,11 @@ use Rattle.h5_open.specs.Opened.Objects.{headers, link_to, links_by, tree_of}
 use Rattle.h5_open.proofs.OpenedLaws.Entries.{group_entries}
 use Rattle.h5_query.specs.Kept.{name_of}
 use Rattle.h5_model.specs.Tree.Links.{tree_link}
-use Rattle.h5_query.specs.Listed.{AreLinks, IsLed, IsTargetLed, in_tree}
+use Rattle.h5_query.specs.Listed.{AreGroupLinks, IsLinkLed, IsTargetLed, in_tree}
 use Rattle.h5_query.proofs.Indexed.{group_links, group_read}
 use Rattle.h5_query.proofs.StepLaws.{header_contained, header_there}
 
-pub names_from : (ls : List (Link ℕ)) → map name_of ls ≡ map (λ (l : List ℕ × Target). l.0) (map link_from ls)
+pub names_from : (ls : List (Link ℕ)) → map name_of ls ≡ map (λ (l : List ℕ × Target). l.0) (map lent_link ls)
 names_from [] = refl
 names_from (l ∷ ls) = ap (λ (names : List (List ℕ)). l.name.now ∷ names) (names_from ls)
 
@@ -35,11 +35,11 @@ pub same_names : {E : Type 0} (r : Result (Vec (Bor (List ℕ)) Global) E) (xs y
 same_names (Ok names) xs ys is same = is ∙ same
 same_names (Err e) xs ys is same = tt
 
-pub tree_from : (hs : List ℕ) (ls : List (Link ℕ)) → map (in_tree hs) ls ≡ map (λ (l : List ℕ × Target). (l.0, link_to hs l.1)) (map link_from ls)
+pub tree_from : (hs : List ℕ) (ls : List (Link ℕ)) → map (in_tree hs) ls ≡ map (λ (l : List ℕ × Target). (l.0, link_to hs l.1)) (map lent_link ls)
 tree_from hs [] = refl
 tree_from hs (l ∷ ls) = ap (λ (more : List (List ℕ × tree.Link)). in_tree hs l ∷ more) (tree_from hs ls)
 
-all_led : (hs : List ℕ) (ls : List (Link ℕ)) → ((l : Link ℕ) → In (link_from l) (map link_from ls) → IsLed hs l) → AllByRecursion (IsLed hs) ls
+all_led : (hs : List ℕ) (ls : List (Link ℕ)) → ((l : Link ℕ) → In (lent_link l) (map lent_link ls) → IsLinkLed hs l) → AllByRecursion (IsLinkLed hs) ls
 all_led hs [] each = tt
 all_led hs (l ∷ ls) each = (each l (inl refl), all_led hs ls (λ m at. each m (inr at)))
 
@@ -48,19 +48,19 @@ module _ (image : List ℕ) (objects : List OpenedObject) (numbers : BTreeMap �
   abbrev hs : List ℕ
   hs = headers objects
 
-  module _ (found : List (Link ℕ)) (all : map link_from found ≡ group.links_of image g) where
-    led_by : (l : Link ℕ) → In (link_from l) (group.links_of image g) → (t : LinkTo ℕ) → l.to ≡ t → IsTargetLed hs t
+  module _ (found : List (Link ℕ)) (all : map lent_link found ≡ group.links_of_group image g) where
+    led_by : (l : Link ℕ) → In (lent_link l) (group.links_of_group image g) → (t : LinkTo ℕ) → l.to ≡ t → IsTargetLed hs t
     led_by l listed (target.Object header) names =
-        header_contained image objects numbers opened header (header_there image objects numbers opened k o at g is l header (contains_in (link_from l) (group.links_of image g) listed) names)
+        header_contained image objects numbers opened header (header_there image objects numbers opened k o at g is l header (contains_in (lent_link l) (group.links_of_group image g) listed) names)
     led_by l listed (target.Soft text) names = tt
 
     -- each link leads to an object's header
-    pub found_led : AllByRecursion (IsLed hs) found
-    found_led = all_led hs found (λ l listed. led_by l (subst (In (link_from l)) all listed) l.to refl)
+    pub found_led : AllByRecursion (IsLinkLed hs) found
+    found_led = all_led hs found (λ l listed. led_by l (subst (In (lent_link l)) all listed) l.to refl)
 
-    pub are_links : (links : List (Link ObjectNo)) → map tree_link links ≡ map (in_tree hs) found → AreLinks (tree_of image objects) k links
+    pub are_links : (links : List (Link ObjectNo)) → map tree_link links ≡ map (in_tree hs) found → AreGroupLinks (tree_of image objects) k links
     are_links links same = (
-      links_by hs (group.links_of image g),
+      links_by hs (group.links_of_group image g),
       group_links image objects k o at g is,
       same ∙ tree_from hs found ∙ ap (map (λ (l : List ℕ × Target). (l.0, link_to hs l.1))) all
           ∙ sym (group_entries image hs g (group_read image objects numbers opened k o at g is)),

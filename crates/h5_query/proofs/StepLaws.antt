@@ -10,7 +10,7 @@ use Rattle.h5_model.specs.Tree.Objects.{Tree, Link, Links, ToObject, Soft, link_
 use Rattle.h5_model.specs.Tree.Paths.{NoGroup, locate, missing_before}
 use Rattle.h5_laws.proofs.Lists.{In, in_contains}
 use Rattle.h5_open.specs.Links as group
-use Rattle.h5_open.specs.Links.{IsGroupRead, IsLinkNamed, HasNone, target_of, link_from}
+use Rattle.h5_open.specs.Links.{IsGroupRead, IsLinkNamed, HasNone, lent_target, lent_link}
 use Rattle.h5_open.specs.GroupType.{Group}
 use Rattle.h5_model.specs.declared.link.Link.{Link as LinkOf}
 use Rattle.h5_model.specs.declared.link.LinkTo.{LinkTo}
@@ -36,10 +36,10 @@ module _ (image : List ℕ) (objects : List OpenedObject) (numbers : BTreeMap �
 
   -- a header that a link names is an object's
   pub header_there : (k : ℕ) (o : OpenedObject) → slice_get objects k ≡ Some o → (g : Group) → o.content ≡ content.Group g → (l : LinkOf ℕ) (header : ℕ)
-      → Contains (group.links_of image g) (link_from l) → l.to ≡ target.Object header → slice_get hs (number_of hs header) ≡ Some header
+      → Contains (group.links_of_group image g) (lent_link l) → l.to ≡ target.Object header → slice_get hs (number_of hs header) ≡ Some header
   header_there k o at g is l header listed names =
       led image objects numbers opened k o at g is l.name.now header
-      (subst (λ (t : LinkTo ℕ). In (l.name.now, target_of t) (group.links_of image g)) names (in_contains (link_from l) (group.links_of image g) listed))
+      (subst (λ (t : LinkTo ℕ). In (l.name.now, lent_target t) (group.links_of_group image g)) names (in_contains (lent_link l) (group.links_of_group image g) listed))
 
   pub header_contained : (header : ℕ) → slice_get hs (number_of hs header) ≡ Some header → Contains hs header
   header_contained header at =
@@ -63,7 +63,7 @@ module _ (image : List ℕ) (objects : List OpenedObject) (numbers : BTreeMap �
       read = group_read image objects numbers opened number object.now at g grouped
 
       abbrev links : Links
-      links = links_by hs (group.links_of image g)
+      links = links_by hs (group.links_of_group image g)
 
       pub no_name : (name : List ℕ) → HasNone image g name → (names : List (List ℕ)) → locate T (link_at from) (name ∷ names) ≡ missing_before names
       no_name name none names =
@@ -72,13 +72,13 @@ module _ (image : List ℕ) (objects : List OpenedObject) (numbers : BTreeMap �
 
       module _ (name : List ℕ) (l : LinkOf ℕ) (named : IsLinkNamed image g name l) where
         -- the link of the name
-        in_group : (link : Link) → link_to hs (target_of l.to) ≡ link → link_in T number name ≡ Some link
+        in_group : (link : Link) → link_to hs (lent_target l.to) ≡ link → link_in T number name ≡ Some link
         in_group link leads =
             ap (option_and_then (λ (ls : Links). get ls name)) (group_links image objects number object.now at g grouped)
             ∙ link_named image hs g read name l named ∙ ap Some leads
 
         pub to_text : (text : Bor (List ℕ)) → l.to ≡ target.Soft text → link_in T number name ≡ Some (Soft text.now)
-        to_text text is_text = in_group (Soft text.now) (ap (λ (t : LinkTo ℕ). link_to hs (target_of t)) is_text)
+        to_text text is_text = in_group (Soft text.now) (ap (λ (t : LinkTo ℕ). link_to hs (lent_target t)) is_text)
 
         module _ (header : ℕ) (names_header : l.to ≡ target.Object header) where
           pub header_known : Contains hs header
@@ -87,5 +87,5 @@ module _ (image : List ℕ) (objects : List OpenedObject) (numbers : BTreeMap �
           pub to_object : (n : ℕ) → slice_get hs n ≡ Some header → (next : Place) → link_at next ≡ ToObject n → link_in T number name ≡ Some (link_at next)
           to_object n there next linked =
               in_group (link_at next)
-              (ap (λ (t : LinkTo ℕ). link_to hs (target_of t)) names_header
+              (ap (λ (t : LinkTo ℕ). link_to hs (lent_target t)) names_header
               ∙ ap ToObject (number_at_header image objects numbers opened n header there) ∙ sym linked)

@@ -10,10 +10,10 @@ use Rattle.h5_model.specs.declared.edit_fault.EditFault.{EditFault}
 use Rattle.h5_model.specs.declared.edit_fault.EditFault.TheVariants as fault
 use Rattle.h5_query.specs.declared.found.Found.{Found}
 use Rattle.h5_query.specs.declared.found.Found.TheVariants as found
-use Rattle.h5_query.specs.Look.{IsArray}
+use Rattle.h5_query.specs.Look.{IsArrayShown}
 
 -- the object of this number has these attributes, by their names, and this content
-pub record HasObject (whole : Tree) (number : ℕ) (attributes : List (List ℕ × Attribute)) (content : Content) : Type 0 where
+pub record TreeHasObject (whole : Tree) (number : ℕ) (attributes : List (List ℕ × Attribute)) (content : Content) : Type 0 where
   pub object : Object
   pub found : get whole number ≡ Some object
   pub listed : attributes ≡ entries object.attributes
@@ -22,9 +22,9 @@ pub record HasObject (whole : Tree) (number : ℕ) (attributes : List (List ℕ 
 -- what the path leads to, with what it holds
 abbrev pub IsFoundAs : Tree → Located → Found → Type 0
 IsFoundAs whole (Here (ToObject n)) (found.Group number attributes) =
-    (number.0 ≡ n) × (links : Links) × HasObject whole n attributes.items (tree.Group links)
+    (number.0 ≡ n) × (links : Links) × TreeHasObject whole n attributes.items (tree.Group links)
 IsFoundAs whole (Here (ToObject n)) (found.Array number attributes array) =
-    (number.0 ≡ n) × (d : Dataset) × HasObject whole n attributes.items (tree.Array d) × IsArray d array
+    (number.0 ≡ n) × (d : Dataset) × TreeHasObject whole n attributes.items (tree.Array d) × IsArrayShown d array
 IsFoundAs whole (Here (tree.Soft text)) (found.Soft shown) = shown.now ≡ text
 IsFoundAs whole _ _ = ⊥
 

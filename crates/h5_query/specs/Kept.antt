@@ -12,14 +12,14 @@ use Rattle.h5_model.specs.declared.edit_fault.EditFault.{EditFault}
 use Rattle.h5_bytes.specs.Blocks.{Inside}
 use Rattle.h5_open.specs.Stored.{IsUnchunked}
 use Rattle.h5_open.specs.Told.{array_told, layout_told}
-use Rattle.h5_open.specs.Links.{links_of}
+use Rattle.h5_open.specs.Links.{links_of_group}
 use Rattle.h5_open.specs.GroupType.{Group}
 use Rattle.h5_model.specs.declared.link.Link.{Link}
 use Rattle.h5_open.specs.Opened.Array.{data_blocks}
 use Rattle.h5_open.specs.Opened.Judged.{IsArrayList}
 use Rattle.h5_header.specs.Listed.{Listed, messages_in, IsWithin}
 use Rattle.h5_open.specs.Attributes.{attributes_of}
-use Rattle.h5_open.specs.Described.{Described, dataset_in}
+use Rattle.h5_open.specs.Described.{Described, described_dataset}
 use Rattle.h5_open.specs.Opened.Headers.{IsHeaderKept}
 
 -- an object stands there, whose attributes are those of this header
@@ -32,7 +32,7 @@ pub record IsHeaderThere (image : List ℕ) (tree : Tree) (path : List ℕ) (m :
 
 -- the dataset that the messages of a header tell, without chunks
 abbrev pub array_dataset : List ℕ → List Message → Dataset
-array_dataset image ms = dataset_in image (array_told ms) empty
+array_dataset image ms = described_dataset image (array_told ms) empty
 
 -- the messages are those of an array, and the block of its cells is there
 pub record IsArrayKept (image : List ℕ) (m : Listed) : Type 0 where
@@ -43,7 +43,7 @@ pub record IsArrayKept (image : List ℕ) (m : Listed) : Type 0 where
 -- this array stands there, in no chunks
 pub record IsArrayThere (image : List ℕ) (tree : Tree) (path : List ℕ) (a : Described) : Type 0 where
   pub accepted : first_holding (dataset_rules tree path) ≡ None
-  pub found : dataset_at tree path ≡ Some (dataset_in image a empty)
+  pub found : dataset_at tree path ≡ Some (described_dataset image a empty)
   pub unchunked : IsUnchunked (length image) a.layout
 
 -- the rules of a dataset's path refuse the path
@@ -51,8 +51,8 @@ abbrev pub IsNoArrayThere : Tree → List ℕ → EditFault → Type 0
 IsNoArrayThere tree path e = first_holding (dataset_rules tree path) ≡ Some e
 
 -- the names of a group's links, and of one that was lent
-abbrev pub names_of : List ℕ → Group → List (List ℕ)
-names_of image g = map (λ (l : List ℕ × Target). l.0) (links_of image g)
+abbrev pub names_of_group : List ℕ → Group → List (List ℕ)
+names_of_group image g = map (λ (l : List ℕ × Target). l.0) (links_of_group image g)
 
 abbrev pub name_of : Link ℕ → List ℕ
 name_of l = l.name.now

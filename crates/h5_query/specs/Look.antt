@@ -53,7 +53,7 @@ pub record HasKind (tree : Tree) (path : List ℕ) (kind : Kind) : Type 0 where
   pub found : IsKind tree (located tree path) kind
 
 -- a group stands there, which has links of these names
-pub record HasNames (tree : Tree) (path : List ℕ) (names : List (List ℕ)) : Type 0 where
+pub record HasLinksNamed (tree : Tree) (path : List ℕ) (names : List (List ℕ)) : Type 0 where
   pub accepted : first_holding (list_rules tree path) ≡ None
   pub listed : names ≡ listed_names tree path
 
@@ -104,7 +104,7 @@ HasCells d None = AreFilled d
 HasCells d (Some bytes) = AreStored d bytes.now
 
 -- this is what is shown of the dataset
-pub record IsArray (d : Dataset) (a : StoredArray) : Type 0 where
+pub record IsArrayShown (d : Dataset) (a : StoredArray) : Type 0 where
   pub sound : IsFixed a.array.fixed
   pub fixed_is : a.array.fixed ≡ d.fixed
   pub sizes_are : a.array.sizes ≡ d.sizes
@@ -116,5 +116,5 @@ pub record IsArray (d : Dataset) (a : StoredArray) : Type 0 where
   pub cells_are : HasCells d a.cells
 
 -- the dataset of this number is this array
-abbrev pub HasArray : Tree → ℕ → StoredArray → Type 0
-HasArray whole number a = (d : Dataset) × (dataset_of whole number ≡ Some d) × IsArray d a
+abbrev pub HasArrayNumbered : Tree → ℕ → StoredArray → Type 0
+HasArrayNumbered whole number a = (d : Dataset) × (dataset_of whole number ≡ Some d) × IsArrayShown d a

@@ -13,8 +13,8 @@ use Rattle.h5_query.specs.declared.place.Spot.{Spot}
 use Rattle.h5_query.specs.declared.place.Spot.TheVariants as spot
 
 -- no rule of a path refuses it, and it leads to this link
-abbrev pub LeadsTo : Tree → List ℕ → Link → Type 0
-LeadsTo tree path link = (first_holding (path_rules tree path) ≡ None) × (located tree path ≡ Here link)
+abbrev pub PathLeadsTo : Tree → List ℕ → Link → Type 0
+PathLeadsTo tree path link = (first_holding (path_rules tree path) ≡ None) × (located tree path ≡ Here link)
 
 -- the link of a place
 abbrev pub link_at : Place → Link
@@ -27,8 +27,8 @@ IsOfNumber objects (place.Object number object) = slice_get objects number ≡ S
 IsOfNumber objects (place.Soft text) = Unit {0}
 
 -- the path leads to this object, or to this text of a soft link
-abbrev pub IsPlace : Tree → List OpenedObject → List ℕ → Place → Type 0
-IsPlace tree objects path at = LeadsTo tree path (link_at at) × IsOfNumber objects at
+abbrev pub IsPathPlace : Tree → List OpenedObject → List ℕ → Place → Type 0
+IsPathPlace tree objects path at = PathLeadsTo tree path (link_at at) × IsOfNumber objects at
 
 abbrev pub IsNowhere : Tree → List ℕ → EditFault → Type 0
 IsNowhere tree path e = first_holding (path_rules tree path) ≡ Some e

@@ -12,11 +12,11 @@ use Rattle.h5_query.specs.declared.step.Step.TheVariants as step
 use Rattle.h5_query.specs.Place.{IsOfNumber, link_at}
 
 -- no group stands behind the link; or it leads to this group, which has no such name, or a link of it to this place
-abbrev pub IsStep : Tree → List OpenedObject → Link → List ℕ → Step → Type 0
-IsStep tree objects link name step.NoGroup = (names : List (List ℕ)) → locate tree link (name ∷ names) ≡ NoGroup
-IsStep tree objects link name (step.Missing parent) =
+abbrev pub IsPathStep : Tree → List OpenedObject → Link → List ℕ → Step → Type 0
+IsPathStep tree objects link name step.NoGroup = (names : List (List ℕ)) → locate tree link (name ∷ names) ≡ NoGroup
+IsPathStep tree objects link name (step.Missing parent) =
     (link ≡ ToObject parent) × ((names : List (List ℕ)) → locate tree link (name ∷ names) ≡ missing_before names)
-IsStep tree objects link name (step.To parent place) =
+IsPathStep tree objects link name (step.To parent place) =
     (link ≡ ToObject parent) × (link_in tree parent name ≡ Some (link_at place)) × IsOfNumber objects place
 
 -- the names lead from the root to the group before the last one, which has a link of that name to this place, or none of it

@@ -5,7 +5,7 @@ ghost use Rattle.h5_header.specs.Listed.{messages_in};
 ghost use Rattle.h5_open.specs.Opened.Kept.{IsOpened};
 ghost use Rattle.h5_open.specs.Opened.Objects.{tree_of};
 ghost use Rattle.h5_query.specs.Kept.{IsArrayKept, array_dataset};
-ghost use Rattle.h5_query.specs.Look.{IsNoDataset, HasArray, IsArray};
+ghost use Rattle.h5_query.specs.Look.{IsNoDataset, HasArrayNumbered, IsArrayShown};
 
 use h5_header::Messages;
 use h5_model::ObjectNo;
@@ -30,7 +30,7 @@ pub fn array_of<'a>(
 ) -> Option<StoredArray<'a>>
     requires { IsOpened image.now.bytes opened.now.objects.items opened.now.numbers }
     ensures { let tree = tree_of image.now.bytes opened.now.objects.items in
-        MatchOption result (IsNoDataset tree number.0) (HasArray tree number.0) }
+        MatchOption result (IsNoDataset tree number.0) (HasArrayNumbered tree number.0) }
 {
     let object = opened.objects.get(number.0 as usize)?;
     match &object.content {
@@ -46,7 +46,7 @@ pub(crate) fn stored_array<'a>(
     messages: &Messages,
 ) -> StoredArray<'a>
     requires { IsArrayKept image.now.bytes messages.now }
-    ensures { IsArray (array_dataset image.now.bytes (messages_in image.now.bytes messages.now.list)) result }
+    ensures { IsArrayShown (array_dataset image.now.bytes (messages_in image.now.bytes messages.now.list)) result }
 {
     let array = known_array(alloc, image, messages);
     let cells = array.stored(image);

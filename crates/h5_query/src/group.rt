@@ -5,7 +5,7 @@ ghost use Rattle.std.specs.List.{AllByRecursion};
 ghost use Rattle.h5_open.specs.Opened.Kept.{IsOpened};
 ghost use Rattle.h5_open.specs.Opened.Objects.{headers, tree_of};
 ghost use Rattle.h5_model.specs.Tree.Links.{tree_link, tree_target};
-ghost use Rattle.h5_query.specs.Listed.{IsNoGroup, AreLinks, IsTargetLed, IsLed, target_in, in_tree};
+ghost use Rattle.h5_query.specs.Listed.{IsNoGroup, AreGroupLinks, IsTargetLed, IsLinkLed, target_in, in_tree};
 
 use crate::step::number_of;
 use h5_model::{Link, LinkTo, ObjectNo};
@@ -25,7 +25,7 @@ pub fn links_of<'a>(
     requires { IsOpened image.now.bytes opened.now.objects.items opened.now.numbers }
     ensures { let tree = tree_of image.now.bytes opened.now.objects.items in
         IfOk result (λ found.
-        MatchOption found (IsNoGroup tree number.0) (λ links. AreLinks tree number.0 links.items)) }
+        MatchOption found (IsNoGroup tree number.0) (λ links. AreGroupLinks tree number.0 links.items)) }
 {
     let Some(object) = opened.objects.get(number.0 as usize) else {
         return Ok(None);
@@ -47,7 +47,7 @@ pub fn tree_links<'a>(
     found: &[Link<'a, u64>],
 ) -> Result<Vec<Link<'a, ObjectNo>>, AllocError>
     requires opened { IsOpened image.now.bytes opened.now.objects.items opened.now.numbers }
-    requires led { AllByRecursion (IsLed (headers opened.now.objects.items)) found.now }
+    requires led { AllByRecursion (IsLinkLed (headers opened.now.objects.items)) found.now }
     ensures { IfOk result (λ links.
         map tree_link links.items ≡ map (in_tree (headers opened.now.objects.items)) found.now) }
 {

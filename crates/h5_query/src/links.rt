@@ -7,11 +7,11 @@ ghost use Rattle.h5_model.specs.Format.Reads.{storage_of};
 ghost use Rattle.h5_model.specs.Scripts.Reading.{path_rules, shown_maximum};
 ghost use Rattle.h5_open.specs.Opened.Kept.{IsOpened};
 ghost use Rattle.h5_open.specs.Opened.Objects.{tree_of};
-ghost use Rattle.h5_open.specs.Described.{dataset_in};
+ghost use Rattle.h5_open.specs.Described.{described_dataset};
 ghost use Rattle.h5_open.specs.Layouts.{layout_in};
 ghost use Rattle.h5_open.specs.Links.{IsGroupRead};
-ghost use Rattle.h5_query.specs.Kept.{name_of, names_of};
-ghost use Rattle.h5_query.specs.Look.{HasKind, HasNames, IsArrayKind, IsListRefused, IsStored};
+ghost use Rattle.h5_query.specs.Kept.{name_of, names_of_group};
+ghost use Rattle.h5_query.specs.Look.{HasKind, HasLinksNamed, IsArrayKind, IsListRefused, IsStored};
 
 use crate::kind::{Kind, StoreKind};
 use crate::place::{Place, look};
@@ -50,7 +50,7 @@ pub fn kind_at<'a>(
 /// An array as it is shown.
 fn array_kind<'a>(alloc: Global, array: &ArrayRef<'_>) -> Kind<'a>
     requires { length array.now.maxima ≡ length array.now.sizes }
-    ensures { (image : List ℕ) → IsArrayKind (dataset_in image array.now empty) result }
+    ensures { (image : List ℕ) → IsArrayKind (described_dataset image array.now empty) result }
 {
     Kind::Dataset {
         fixed: array.fixed(),
@@ -106,7 +106,7 @@ pub fn names_at<'a>(
     requires { IsOpened image.now.bytes opened.now.objects.items opened.now.numbers }
     ensures { let tree = tree_of image.now.bytes opened.now.objects.items in
         MatchResult result (λ names.
-        HasNames tree path.now (map (λ name. name.now) names.items)) (IsListRefused tree path.now) }
+        HasLinksNamed tree path.now (map (λ name. name.now) names.items)) (IsListRefused tree path.now) }
 {
     let Place::Object { object, .. } = look(image, opened, path)? else {
         return Err(EditFault::NotAGroup);
@@ -127,7 +127,7 @@ fn link_names<'a>(
     group: &Group,
 ) -> Result<Vec<&'a [u8]>, AllocError>
     requires { IsGroupRead image.now.bytes group.now }
-    ensures { IfOk result (λ names. map (λ name. name.now) names.items ≡ names_of image.now.bytes group.now) }
+    ensures { IfOk result (λ names. map (λ name. name.now) names.items ≡ names_of_group image.now.bytes group.now) }
 {
     let links = entries(alloc, image, group)?;
     names_of_links(alloc, &links)

@@ -4,7 +4,7 @@ ghost use Rattle.std.specs.Prelude.{◌≡◌, MatchResult};
 ghost use Rattle.h5_open.specs.Opened.Kept.{IsOpened};
 ghost use Rattle.h5_open.specs.Opened.Objects.{tree_of};
 ghost use Rattle.h5_query.specs.Names.{parts};
-ghost use Rattle.h5_query.specs.Place.{IsPlace, IsNowhere, IsNumber, IsNoObject, IsSpotOf, IsNoSpot};
+ghost use Rattle.h5_query.specs.Place.{IsPathPlace, IsNowhere, IsNumber, IsNoObject, IsSpotOf, IsNoSpot};
 ghost use Rattle.h5_query.specs.Steps.{IsReached, IsLost};
 
 use crate::path::{MAX_DEPTH, count_names, cut};
@@ -67,7 +67,7 @@ pub fn look_up<'a, 'p>(
 pub fn look<'a>(image: &'a Image, opened: &'a Opened, path: &[u8]) -> Result<Place<'a>, EditFault>
     requires { IsOpened image.now.bytes opened.now.objects.items opened.now.numbers }
     ensures { let tree = tree_of image.now.bytes opened.now.objects.items in
-        MatchResult result (IsPlace tree opened.now.objects.items path.now) (IsNowhere tree path.now) }
+        MatchResult result (IsPathPlace tree opened.now.objects.items path.now) (IsNowhere tree path.now) }
 {
     match look_up(image, opened, path)? {
         Spot::Root => Ok(object_place(opened, 0)),

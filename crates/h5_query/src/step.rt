@@ -6,7 +6,7 @@ ghost use Rattle.h5_model.specs.Tree.Objects.{ToObject};
 ghost use Rattle.h5_open.specs.Opened.Kept.{IsOpened, IsIndex};
 ghost use Rattle.h5_open.specs.Opened.Objects.{headers, tree_of};
 ghost use Rattle.h5_query.specs.Place.{IsOfNumber, link_at};
-ghost use Rattle.h5_query.specs.Steps.{IsStep};
+ghost use Rattle.h5_query.specs.Steps.{IsPathStep};
 
 use crate::place::Place;
 use h5_model::LinkTo;
@@ -33,7 +33,7 @@ pub(crate) fn follow_name<'a>(
 ) -> Step<'a>
     requires opened { IsOpened image.now.bytes opened.now.objects.items opened.now.numbers }
     requires from { IsOfNumber opened.now.objects.items from }
-    ensures { IsStep (tree_of image.now.bytes opened.now.objects.items) opened.now.objects.items
+    ensures { IsPathStep (tree_of image.now.bytes opened.now.objects.items) opened.now.objects.items
         (link_at from.entry) name.now result }
 {
     let Place::Object { number, object } = from else {

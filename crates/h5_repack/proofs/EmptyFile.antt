@@ -24,7 +24,7 @@ use Rattle.h5_heap.specs.Writing.Written.{heap_bytes}
 use Rattle.h5_group.specs.Writing.Written.{links_bytes}
 use Rattle.h5_repack.specs.Bodies.Laws.{IsPlainReading}
 use Rattle.h5_repack.specs.Image.Plain.{ArePlain, AreLow, IsLow, IsPlain, IsPlainTree}
-use Rattle.h5_repack.specs.Image.Written.{IsOrder, content_place, header_in, heap_place, image_end, plain_image, table_of, written_link, written_links}
+use Rattle.h5_repack.specs.Image.Written.{IsOrder, content_place, header_in, group_heap_place, image_end, plain_image, table_of, written_link, written_links}
 use Rattle.h5_repack.specs.Blocks.Written.{AreOthers}
 use Rattle.h5_repack.specs.Bodies.Bodies.{attribute_message, others_of}
 use Rattle.h5_repack.specs.Bodies.Sound.{IsPlainAttribute, IsPlainObject}
@@ -35,7 +35,7 @@ use Rattle.h5_repack.specs.declared.objects.object.NewContent.TheVariants as new
 use Rattle.h5_repack.specs.declared.objects.object.NewObject.{NewObject}
 use Rattle.h5_model.specs.declared.object_no.ObjectNo.{ObjectNo}
 use Rattle.h5_model.specs.declared.link.Link.{Link as LinkOf}
-use Rattle.h5_repack.specs.Written.{IsHeld, IsUnwritten, IsWritten}
+use Rattle.h5_repack.specs.Written.{IsTreeToWrite, IsUnwritten, IsWritten}
 use Rattle.h5_repack.specs.declared.write.Written.{Written}
 use Rattle.h5_repack.specs.declared.write.WriteFault.TheVariants.{TooLong, TooDeep}
 use Rattle.h5_repack.proofs.ImageLaws.ImageLength.{image_length}
@@ -163,14 +163,14 @@ header_at = ap (λ (x : Option ℕ). option_map_or (λ (h : ℕ). h) x 0) (get-i
 tree_at : content_place root_object 96 ≡ 136
 tree_at = rw no_attributes refl
 
-heap_at : heap_place 4 16 root_object empty 96 ≡ 680
+heap_at : group_heap_place 4 16 root_object empty 96 ≡ 680
 heap_at = rw (no_attributes, len-empty (slice_cmp nat_cmp) Link) refl
 
 tree_behind : content_place root_object (header_in (table_of 4 16 root_order) 0) ≡ 136
 tree_behind = ap (content_place root_object) header_at ∙ tree_at
 
-heap_behind : heap_place 4 16 root_object empty (header_in (table_of 4 16 root_order) 0) ≡ 680
-heap_behind = ap (heap_place 4 16 root_object empty) header_at ∙ heap_at
+heap_behind : group_heap_place 4 16 root_object empty (header_in (table_of 4 16 root_order) 0) ≡ 680
+heap_behind = ap (group_heap_place 4 16 root_object empty) header_at ∙ heap_at
 
 none_written : written_links 4 16 root_tree (table_of 4 16 root_order) empty ≡ []
 none_written = ap (map (written_link 4 16 root_tree (table_of 4 16 root_order))) (entries-empty {X = Link} (slice_cmp nat_cmp))
@@ -214,7 +214,7 @@ empty_reading =
 -- ---- it is what is handed to the writer
 
 -- a group without links and without other messages is the root
-pub root_held : (x : NewObject) (links : Vec (LinkOf ObjectNo) Global) → x.content ≡ new.Group links → links.items ≡ [] → AreOthers [] x.others → IsHeld (x ∷ []) root_tree
+pub root_held : (x : NewObject) (links : Vec (LinkOf ObjectNo) Global) → x.content ≡ new.Group links → links.items ≡ [] → AreOthers [] x.others → IsTreeToWrite (x ∷ []) root_tree
 root_held x links is none others = record {
   objects_are = record { listed = root_object ∷ []; numbered = numbered; each = (record { content = content; others = own }, tt) };
   sound = root_sound;

@@ -16,7 +16,7 @@ use Rattle.h5_repack.specs.declared.size.Size.{Size}
 use Rattle.h5_repack.specs.declared.write.WriteFault.{WriteFault}
 use Rattle.h5_repack.specs.declared.write.WriteFault.TheVariants.{TooLong, TooDeep, NoMemory}
 use Rattle.h5_repack.specs.Layout.{AreUnmeasured, IsSize, IsUnplaced}
-use Rattle.h5_repack.specs.Written.{IsHeld, IsUnwritten}
+use Rattle.h5_repack.specs.Written.{IsTreeToWrite, IsUnwritten}
 use Rattle.h5_repack.proofs.Orders.{as_many, end_is, in_order, in_pairs, is_order, listed, numbers, object, pairs, there_is}
 
 -- an object is no longer than all of them
@@ -27,7 +27,7 @@ member_within leaf internal at (e ∷ es) n o (inl is) =
     omega (arith, own, end_rises leaf internal (at + object_length leaf internal e.1) es)
 member_within leaf internal at (e ∷ es) n o (inr there) = member_within leaf internal (at + object_length leaf internal e.1) es n o there
 
-module _ (leaf internal : ℕ) (objects : List NewObject) (tree : Tree) (held : IsHeld objects tree) (order : List ℕ) (met : AreMet tree (length objects) order) where
+module _ (leaf internal : ℕ) (objects : List NewObject) (tree : Tree) (held : IsTreeToWrite objects tree) (order : List ℕ) (met : AreMet tree (length objects) order) where
   whole_length : image_end leaf internal (pairs objects tree held order met) ≡ plain_length leaf internal 32 (λ number. 0) tree
   whole_length = image_length leaf internal 32 (λ number. 0) tree (pairs objects tree held order met) held.plain (is_order objects tree held order met)
 

@@ -13,7 +13,7 @@ use Rattle.h5_repack.proofs.ImageLaws.Places.{found_first, found_later}
 use Rattle.h5_laws.proofs.Lists.{In}
 use Rattle.h5_laws.proofs.Pigeonhole.{Apart}
 use Rattle.h5_repack.specs.declared.size.Size.{Size}
-use Rattle.h5_repack.specs.Layout.{end_of, headers_of, length_at, size_length}
+use Rattle.h5_repack.specs.Layout.{end_of, headers_of, length_by_number, size_length}
 
 -- ---- an element that is set
 
@@ -91,7 +91,7 @@ module _ (lengths : ℕ → ℕ) where
 
 -- ---- one object more
 
-pub length_read : (sizes : List Size) (n : ℕ) (d : Size) → n < length sizes → size_length (get_or sizes n d) ≡ length_at sizes n
+pub length_read : (sizes : List Size) (n : ℕ) (d : Size) → n < length sizes → size_length (get_or sizes n d) ≡ length_by_number sizes n
 length_read sizes n d low = sym (ap (λ (r : Option Size). option_map_or size_length r 0) (slice_get-get_or sizes n d low))
 
 drop_next : (ns : List ℕ) (i : ℕ) → i < length ns → drop i ns ≡ get_or ns i 0 ∷ drop (i + 1) ns
@@ -102,17 +102,17 @@ all_at P ns i all low = All-get_or P ns i 0 low (All-from_recursion P ns all)
 
 module _ (sizes : List Size) (ns : List ℕ) (i end length_here : ℕ) (d : Size) (low : i < length ns) (within : get_or ns i 0 < length sizes)
     (here : length_here ≡ size_length (get_or sizes (get_or ns i 0) d)) where
-  next_end : end + length_here ≡ end + length_at sizes (get_or ns i 0)
+  next_end : end + length_here ≡ end + length_by_number sizes (get_or ns i 0)
   next_end = ap (λ k. end + k) (here ∙ length_read sizes (get_or ns i 0) d within)
 
-  pub end_step : end_of (length_at sizes) (end + length_here) (drop (i + 1) ns) ≡ end_of (length_at sizes) end (drop i ns)
-  end_step = ap (λ k. end_of (length_at sizes) k (drop (i + 1) ns)) next_end ∙ sym (ap (end_of (length_at sizes) end) (drop_next ns i low))
+  pub end_step : end_of (length_by_number sizes) (end + length_here) (drop (i + 1) ns) ≡ end_of (length_by_number sizes) end (drop i ns)
+  end_step = ap (λ k. end_of (length_by_number sizes) k (drop (i + 1) ns)) next_end ∙ sym (ap (end_of (length_by_number sizes) end) (drop_next ns i low))
 
-  pub headers_step : (hs : List ℕ) → headers_of (length_at sizes) (end + length_here) (drop (i + 1) ns) (set hs (get_or ns i 0) end)
-      ≡ headers_of (length_at sizes) end (drop i ns) hs
+  pub headers_step : (hs : List ℕ) → headers_of (length_by_number sizes) (end + length_here) (drop (i + 1) ns) (set hs (get_or ns i 0) end)
+      ≡ headers_of (length_by_number sizes) end (drop i ns) hs
   headers_step hs =
-      ap (λ k. headers_of (length_at sizes) k (drop (i + 1) ns) (set hs (get_or ns i 0) end)) next_end
-      ∙ sym (ap (λ ms. headers_of (length_at sizes) end ms hs) (drop_next ns i low))
+      ap (λ k. headers_of (length_by_number sizes) k (drop (i + 1) ns) (set hs (get_or ns i 0) end)) next_end
+      ∙ sym (ap (λ ms. headers_of (length_by_number sizes) end ms hs) (drop_next ns i low))
 
-  pub end_over : (most total : ℕ) → most < end + length_here → end_of (length_at sizes) end (drop i ns) ≡ total → most < total
-  end_over most total over total_is = omega (arith, end_rises (length_at sizes) (end + length_here) (drop (i + 1) ns), end_step, over, total_is)
+  pub end_over : (most total : ℕ) → most < end + length_here → end_of (length_by_number sizes) end (drop i ns) ≡ total → most < total
+  end_over most total over total_is = omega (arith, end_rises (length_by_number sizes) (end + length_here) (drop (i + 1) ns), end_step, over, total_is)

@@ -22,7 +22,7 @@ use Rattle.h5_group.specs.Writing.Places.{ArePlaces}
 use Rattle.h5_group.specs.Writing.Written.{links_bytes}
 use Rattle.h5_group.specs.declared.write.places.GroupPlaces.{GroupPlaces}
 use Rattle.h5_repack.specs.Image.Plain.{AreLow, IsLow}
-use Rattle.h5_repack.specs.Image.Written.{content_place, data_address, header_in, heap_place, image_end, leads_to, object_bytes, plain_image, root_heap, superblock_of, table_of, written_link, written_links}
+use Rattle.h5_repack.specs.Image.Written.{content_place, data_address, header_in, group_heap_place, image_end, leads_to_object, object_bytes, plain_image, root_heap, superblock_of, table_of, written_link, written_links}
 use Rattle.h5_repack.specs.Objects.Order.{AreMet}
 use Rattle.h5_repack.specs.declared.objects.object.NewObject.{NewObject}
 use Rattle.h5_laws.proofs.Lists.{In}
@@ -31,8 +31,8 @@ use Rattle.h5_repack.specs.declared.size.Extent.TheVariants as extent
 use Rattle.h5_repack.specs.declared.size.Size.{Size}
 use Rattle.h5_repack.specs.declared.place.Placed.{Placed}
 use Rattle.h5_repack.specs.declared.group.Layout.{Layout}
-use Rattle.h5_repack.specs.Layout.{AreHeaders, IsExtent, IsSize, content_at, front_at, heap_behind, leads_at, leads_behind, leads_by, numbered_at, object_at, written_at}
-use Rattle.h5_repack.specs.Written.{IsHeld}
+use Rattle.h5_repack.specs.Layout.{AreHeaders, IsExtent, IsSize, content_at, front_at, heap_behind, leads_at, leads_behind, leads_by, numbered_at, laid_object, written_at}
+use Rattle.h5_repack.specs.Written.{IsTreeToWrite}
 use Rattle.h5_repack.proofs.Leads.{all_written}
 use Rattle.h5_repack.proofs.Orders.{below, end_is, headers_are, listed, numbered, numbers, object, pairs, size_of, some_objects, there_is}
 use Rattle.h5_repack.proofs.Pushed.{number_at}
@@ -74,7 +74,7 @@ module _ (leaf internal : ℕ) (l : Layout) (o : Object) (s : Size) (size : IsSi
   heap_is : (c : Content) (x : Extent) → o.content ≡ c → s.extent ≡ x → IsExtent leaf internal c x → heap_behind (96 + s.header) s.extent ≡ root_heap leaf internal o
   heap_is (Group g) (extent.Links p) e f is =
       let place : 96 + s.header ≡ content_place o 96 = ap (λ k. 96 + k) size.header in
-      let there : root_heap leaf internal o ≡ heap_place leaf internal o g 96 = rw e refl in
+      let there : root_heap leaf internal o ≡ group_heap_place leaf internal o g 96 = rw e refl in
       ap (heap_behind (96 + s.header)) f ∙ (λ i. place i + own_tree leaf internal g p is l i) ∙ sym there
   heap_is (Group g) (extent.Data n) e f is = absurd is
   heap_is (Array d) (extent.Links p) e f is = absurd is
@@ -82,18 +82,18 @@ module _ (leaf internal : ℕ) (l : Layout) (o : Object) (s : Size) (size : IsSi
       let none : root_heap leaf internal o ≡ 0 = rw e refl in
       ap (heap_behind (96 + s.header)) f ∙ sym none
 
-  leads_same_by : (h : ℕ) (c : Content) (x : Extent) → o.content ≡ c → s.extent ≡ x → IsExtent leaf internal c x → leads_at h s ≡ leads_to leaf internal o h
+  leads_same_by : (h : ℕ) (c : Content) (x : Extent) → o.content ≡ c → s.extent ≡ x → IsExtent leaf internal c x → leads_at h s ≡ leads_to_object leaf internal o h
   leads_same_by h (Group g) (extent.Links p) e f is =
       let place : h + s.header ≡ content_place o h = ap (λ k. h + k) size.header in
-      let there : leads_to leaf internal o h ≡ ToGroup h (content_place o h) (heap_place leaf internal o g h) = rw e refl in
+      let there : leads_to_object leaf internal o h ≡ ToGroup h (content_place o h) (group_heap_place leaf internal o g h) = rw e refl in
       ap (leads_behind h (h + s.header)) f ∙ (λ i. ToGroup h (place i) (place i + own_tree leaf internal g p is l i)) ∙ sym there
   leads_same_by h (Group g) (extent.Data n) e f is = absurd is
   leads_same_by h (Array d) (extent.Links p) e f is = absurd is
   leads_same_by h (Array d) (extent.Data n) e f is =
-      let there : leads_to leaf internal o h ≡ ToArray h = rw e refl in
+      let there : leads_to_object leaf internal o h ≡ ToArray h = rw e refl in
       ap (leads_behind h (h + s.header)) f ∙ sym there
 
-  pub leads_same : (h : ℕ) → leads_at h s ≡ leads_to leaf internal o h
+  pub leads_same : (h : ℕ) → leads_at h s ≡ leads_to_object leaf internal o h
   leads_same h = leads_same_by h o.content s.extent refl refl size.extent_is
 
   pub root_same : heap_behind (96 + s.header) s.extent ≡ root_heap leaf internal o
@@ -106,7 +106,7 @@ low_by leaf internal l links (Array d) x e is = absurd (cc)
 
 -- ---- the image
 
-module _ (leaf internal : ℕ) (objects : List NewObject) (tree : Tree) (held : IsHeld objects tree) (order : List ℕ) (met : AreMet tree (length objects) order)
+module _ (leaf internal : ℕ) (objects : List NewObject) (tree : Tree) (held : IsTreeToWrite objects tree) (order : List ℕ) (met : AreMet tree (length objects) order)
     (sizes : List Size) (sized : AllZip (IsSize leaf internal) (listed objects tree held) sizes) (p : Placed) (are : AreHeaders sizes order p)
     (headers_now : Bor (List ℕ)) (sizes_now : Bor (List Size)) (headers_here : headers_now.now ≡ p.headers.items) (sizes_here : sizes_now.now ≡ sizes) where
   abbrev layout : Layout
@@ -124,20 +124,20 @@ module _ (leaf internal : ℕ) (objects : List NewObject) (tree : Tree) (held : 
       ∙ ap (λ (r : Option ℕ). option_map_or (λ (h : ℕ). h) r 0)
       (ap (λ (hs : List ℕ). slice_get hs n) headers_here ∙ headers_are objects tree held order met leaf internal sizes sized p are n)
 
-  lead_here : (n : ℕ) → leads_by layout n ≡ option_map_or (λ (o : Object). leads_to leaf internal o (header_in table n)) (get tree n) (ToArray 0)
+  lead_here : (n : ℕ) → leads_by layout n ≡ option_map_or (λ (o : Object). leads_to_object leaf internal o (header_in table n)) (get tree n) (ToArray 0)
   lead_here n = elim (slice_get_cases (listed objects tree held) n).1 [
     | inl there ↦
         let s = zip_right (IsSize leaf internal) (listed objects tree held) sizes n there.0 sized there.2 in
         let found : slice_get sizes_now.now n ≡ Some s.0 = ap (λ (ss : List Size). slice_get ss n) sizes_here ∙ s.1 in
         ap (λ (r : Option Size). option_map_or (leads_at (slice_index headers_now.now n)) r (ToArray 0)) found
         ∙ ap (λ h. leads_at h s.0) (header_here n) ∙ leads_same leaf internal layout there.0 s.0 s.2 (header_in table n)
-        ∙ sym (ap (λ (r : Option Object). option_map_or (λ (o : Object). leads_to leaf internal o (header_in table n)) r (ToArray 0)) (numbers objects tree held n ∙ there.2))
+        ∙ sym (ap (λ (r : Option Object). option_map_or (λ (o : Object). leads_to_object leaf internal o (header_in table n)) r (ToArray 0)) (numbers objects tree held n ∙ there.2))
     | inr past ↦
         let none : slice_get sizes_now.now n ≡ None
         = ap (λ (ss : List Size). slice_get ss n) sizes_here
         ∙ slice_get_past sizes n (omega (arith, past.0, AllZip-long (IsSize leaf internal) (listed objects tree held) sizes sized)) in
         ap (λ (r : Option Size). option_map_or (leads_at (slice_index headers_now.now n)) r (ToArray 0)) none
-        ∙ sym (ap (λ (r : Option Object). option_map_or (λ (o : Object). leads_to leaf internal o (header_in table n)) r (ToArray 0)) (numbers objects tree held n ∙ past.1))
+        ∙ sym (ap (λ (r : Option Object). option_map_or (λ (o : Object). leads_to_object leaf internal o (header_in table n)) r (ToArray 0)) (numbers objects tree held n ∙ past.1))
   ]
 
   link_here : (e : List ℕ × Link) → written_at layout e ≡ written_link leaf internal tree table e
@@ -145,15 +145,15 @@ module _ (leaf internal : ℕ) (objects : List NewObject) (tree : Tree) (held : 
   link_here (name, Soft text) = refl
 
   object_here : (n : ℕ) (o : Object) (h count : ℕ) → h ≡ header_in table n → count ≡ hard_links tree n → (c : Content) → o.content ≡ c
-      → object_at layout h count o ≡ object_bytes leaf internal tree table (n, o)
+      → laid_object layout h count o ≡ object_bytes leaf internal tree table (n, o)
   object_here n o h count place links (Group g) e =
       let laid : object_bytes leaf internal tree table (n, o)
-      ≡ header_bytes 1 ((17, pair_bytes (content_place o (header_in table n)) (heap_place leaf internal o g (header_in table n))) ∷ others_of o)
+      ≡ header_bytes 1 ((17, pair_bytes (content_place o (header_in table n)) (group_heap_place leaf internal o g (header_in table n))) ∷ others_of o)
       ++ links_bytes leaf internal (content_place o (header_in table n)) (written_links leaf internal tree table g) = rw e refl in
       let written : map (written_at layout) (entries g) ≡ written_links leaf internal tree table g
       = map_same (written_at layout) (written_link leaf internal tree table) (entries g) link_here in
       ap (content_at layout h count o) e
-      ∙ (λ i. header_bytes 1 ((17, pair_bytes (content_place o (place i)) (heap_place leaf internal o g (place i))) ∷ others_of o)
+      ∙ (λ i. header_bytes 1 ((17, pair_bytes (content_place o (place i)) (group_heap_place leaf internal o g (place i))) ∷ others_of o)
       ++ links_bytes leaf internal (content_place o (place i)) (written i)) ∙ sym laid
   object_here n o h count place links (Array d) e =
       let laid : object_bytes leaf internal tree table (n, o)

@@ -35,20 +35,20 @@ leads_found l n s x found e =
 
 -- ---- texts
 
-leads_object : (name : List ℕ) (n : ℕ) (h tree : ℕ) (x : Extent) → laws.IsWritten (name, ToObject n) (name, leads_behind h tree x)
+leads_object : (name : List ℕ) (n : ℕ) (h tree : ℕ) (x : Extent) → laws.IsLinkWritten (name, ToObject n) (name, leads_behind h tree x)
 leads_object name n h tree (extent.Links p) = refl
 leads_object name n h tree (extent.Data k) = refl
 
-leads_some : (name : List ℕ) (n h : ℕ) (r : Option Size) → laws.IsWritten (name, ToObject n) (name, option_map_or (leads_at h) r (ToArray 0))
+leads_some : (name : List ℕ) (n h : ℕ) (r : Option Size) → laws.IsLinkWritten (name, ToObject n) (name, option_map_or (leads_at h) r (ToArray 0))
 leads_some name n h None = refl
 leads_some name n h (Some s) = leads_object name n h (h + s.header) s.extent
 
-is_written : (l : Layout) (e : List ℕ × Link) → laws.IsWritten e (written_at l e)
+is_written : (l : Layout) (e : List ℕ × Link) → laws.IsLinkWritten e (written_at l e)
 is_written l (name, ToObject n) = leads_some name n (slice_index l.headers.now n) (slice_get l.sizes.now n)
 is_written l (name, Soft text) = (refl, refl)
 
 -- links are written as links of their names and texts
-pub all_written : (l : Layout) (es : List (List ℕ × Link)) → AllZip laws.IsWritten es (map (written_at l) es)
+pub all_written : (l : Layout) (es : List (List ℕ × Link)) → AllZip laws.IsLinkWritten es (map (written_at l) es)
 all_written l [] = tt
 all_written l (e ∷ es) = (is_written l e, all_written l es)
 
@@ -57,7 +57,7 @@ texts_of [] = []
 texts_of ((name, ToObject n) ∷ es) = name ∷ texts_of es
 texts_of ((name, Soft text) ∷ es) = name ∷ text ∷ texts_of es
 
-spelled_is : (es : List (List ℕ × Link)) (ls : List (List ℕ × Leads)) → AllZip laws.IsWritten es ls → spelled ls ≡ texts_of es
+spelled_is : (es : List (List ℕ × Link)) (ls : List (List ℕ × Leads)) → AllZip laws.IsLinkWritten es ls → spelled ls ≡ texts_of es
 unfolding texts_of
 spelled_is [] [] all = refl
 spelled_is [] (l ∷ ls) all = absurd all
@@ -70,11 +70,11 @@ spelled_is ((name, Soft text) ∷ es) ((own, ToArray header) ∷ ls) all = absur
 spelled_is ((name, Soft text) ∷ es) ((own, ToText other) ∷ ls) all = (λ i. sym all.0.0 i ∷ sym all.0.1 i ∷ spelled_is es ls all.1 i)
 
 -- so their parts lie alike wherever they lead
-pub same_places : (leaf internal : ℕ) (es : List (List ℕ × Link)) (xs ys : List (List ℕ × Leads)) (p : GroupPlaces) → AllZip laws.IsWritten es xs → AllZip laws.IsWritten es ys
+pub same_places : (leaf internal : ℕ) (es : List (List ℕ × Link)) (xs ys : List (List ℕ × Leads)) (p : GroupPlaces) → AllZip laws.IsLinkWritten es xs → AllZip laws.IsLinkWritten es ys
     → ArePlaces leaf internal xs p → ArePlaces leaf internal ys p
 same_places leaf internal es xs ys p all_xs all_ys are =
     let texts : spelled xs ≡ spelled ys = spelled_is es xs all_xs ∙ sym (spelled_is es ys all_ys) in
-    let count : length xs ≡ length ys = AllZip-long laws.IsWritten es xs all_xs ∙ sym (AllZip-long laws.IsWritten es ys all_ys) in
+    let count : length xs ≡ length ys = AllZip-long laws.IsLinkWritten es xs all_xs ∙ sym (AllZip-long laws.IsLinkWritten es ys all_ys) in
     record {
       tree = are.tree ∙ ap (λ n. nodes_over 64 (2 * internal) (rows_of (2 * leaf) n) * group_node internal) count;
       segment = are.segment ∙ ap (λ (t : List (List ℕ)). length (segment_bytes t)) texts;

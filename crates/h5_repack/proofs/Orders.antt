@@ -21,8 +21,8 @@ use Rattle.h5_repack.proofs.ObjectLaws.Reached.{met_all}
 use Rattle.h5_repack.specs.declared.size.Size.{Size}
 use Rattle.h5_repack.specs.declared.place.Placed.{Placed}
 use Rattle.h5_repack.specs.declared.group.Layout.{Layout}
-use Rattle.h5_repack.specs.Layout.{AreHeaders, IsHeldObject, IsLowLayout, IsLowSize, IsSize, end_of, length_at, size_length}
-use Rattle.h5_repack.specs.Written.{IsHeld}
+use Rattle.h5_repack.specs.Layout.{AreHeaders, IsHeldObject, IsLowLayout, IsLowSize, IsSize, end_of, length_by_number, size_length}
+use Rattle.h5_repack.specs.Written.{IsTreeToWrite}
 use Rattle.h5_repack.proofs.Headers.{end_same, find_none, headers_found, length-headers, placed_within}
 use Rattle.h5_repack.proofs.ObjectLaws.Zips.{zip_left, zip_right}
 
@@ -55,7 +55,7 @@ zip_held (x ∷ objects) (o ∷ listed) all plain = (record { new = all.0; plain
 abbrev pub no_object : Object
 no_object = record { content = Group empty; attributes = empty; kept = [] }
 
-module _ (objects : List NewObject) (tree : Tree) (held : IsHeld objects tree) where
+module _ (objects : List NewObject) (tree : Tree) (held : IsTreeToWrite objects tree) where
   abbrev pub listed : List Object
   listed = (held.objects_are).listed
 
@@ -120,14 +120,14 @@ module _ (objects : List NewObject) (tree : Tree) (held : IsHeld objects tree) w
       pub low_size : (n : ℕ) (s : Size) → slice_get sizes n ≡ Some s → IsLowSize s
       low_size n s found = let o = zip_left (IsSize leaf internal) listed sizes n s sized found in (o.2).low
 
-      pub length_is : (n : ℕ) (s : Size) → slice_get sizes n ≡ Some s → length_at sizes n ≡ size_length s
+      pub length_is : (n : ℕ) (s : Size) → slice_get sizes n ≡ Some s → length_by_number sizes n ≡ size_length s
       length_is n s found = ap (λ (r : Option Size). option_map_or size_length r 0) found
 
-      pub lengths_are : (n : ℕ) → In n order → object_length leaf internal (object n) ≡ length_at sizes n
+      pub lengths_are : (n : ℕ) → In n order → object_length leaf internal (object n) ≡ length_by_number sizes n
       lengths_are n there = let s = size_of n (below n there) in sym (length_is n s.0 s.1 ∙ (s.2).whole)
 
-      pub end_is : image_end leaf internal pairs ≡ end_of (length_at sizes) 96 order
-      end_is = end_same (length_at sizes) leaf internal object 96 order lengths_are
+      pub end_is : image_end leaf internal pairs ≡ end_of (length_by_number sizes) 96 order
+      end_is = end_same (length_by_number sizes) leaf internal object 96 order lengths_are
 
       abbrev zeros : List ℕ
       zeros = replicate (length sizes) 0
@@ -137,17 +137,17 @@ module _ (objects : List NewObject) (tree : Tree) (held : IsHeld objects tree) w
 
       module _ (p : Placed) (are : AreHeaders sizes order p) where
         pub as_many_headers : length p.headers.items ≡ length sizes
-        as_many_headers = ap length are.headers_are ∙ length-headers (length_at sizes) 96 order zeros ∙ length-replicate {A = ℕ} (length sizes) 0
+        as_many_headers = ap length are.headers_are ∙ length-headers (length_by_number sizes) 96 order zeros ∙ length-replicate {A = ℕ} (length sizes) 0
 
         pub headers_are : (n : ℕ) → slice_get p.headers.items n ≡ get (table_of leaf internal pairs) n
         headers_are n = elim (slice_get_cases listed n).1 [
           | inl there ↦
               let inside : In n order = in_order n (omega (arith, there.1, as_many)) in
               ap (λ (hs : List ℕ). slice_get hs n) are.headers_are
-              ∙ headers_found (length_at sizes) leaf internal object 96 order zeros lengths_are apart below_zeros n inside ∙ sym (table_find leaf internal pairs n)
+              ∙ headers_found (length_by_number sizes) leaf internal object 96 order zeros lengths_are apart below_zeros n inside ∙ sym (table_find leaf internal pairs n)
           | inr past ↦
               slice_get_past p.headers.items n (omega (arith, past.0, as_many, as_many_sizes, as_many_headers))
-              ∙ sym (table_find leaf internal pairs n ∙ find_none (length_at sizes) leaf internal object 96 order n
+              ∙ sym (table_find leaf internal pairs n ∙ find_none (length_by_number sizes) leaf internal object 96 order n
               (λ there. omega (arith, below n there, past.0, as_many)))
         ]
 
@@ -160,7 +160,7 @@ module _ (objects : List NewObject) (tree : Tree) (held : IsHeld objects tree) w
           each_low : (n : ℕ) (s : Size) → slice_get sizes n ≡ Some s → slice_index l.headers.now n + size_length s ≤ 2 ^ 31
           each_low n s found =
               let inside : In n order = in_order n (omega (arith, slice_get_within sizes n s found, as_many_sizes)) in
-              let at = placed_within (length_at sizes) 96 order zeros apart below_zeros n inside in
+              let at = placed_within (length_by_number sizes) 96 order zeros apart below_zeros n inside in
               let place : slice_get l.headers.now n ≡ Some at.0 = ap (λ (hs : List ℕ). slice_get hs n) (headers_is ∙ are.headers_are) ∙ at.1 in
               let here : slice_index l.headers.now n ≡ at.0 = get_or_from_slice_get l.headers.now n at.0 0 place in
               omega (arith, here, at.2, length_is n s found, are.end_is, are.few)

@@ -22,7 +22,7 @@ use Rattle.h5_layout.specs.Described.{Described}
 use Rattle.h5_repack.specs.declared.blocks.cells.Cells.{Cells}
 use Rattle.h5_model.specs.Tree.Places.{cells}
 use Rattle.h5_repack.proofs.BlockLaws.HeaderLaws.{group_is, header_is, data_is, address_is}
-use Rattle.h5_repack.specs.Image.Written.{content_place, heap_place, data_address}
+use Rattle.h5_repack.specs.Image.Written.{content_place, group_heap_place, data_address}
 use Rattle.h5_model.specs.Tree.Links.{tree_link}
 use Rattle.h5_repack.specs.declared.objects.object.NewObject.{NewObject}
 use Rattle.h5_model.specs.declared.object_no.ObjectNo.{ObjectNo}
@@ -31,7 +31,7 @@ use Rattle.h5_repack.specs.declared.size.Extent.{Extent}
 use Rattle.h5_repack.specs.declared.size.Extent.TheVariants as extent
 use Rattle.h5_repack.specs.declared.size.Size.{Size}
 use Rattle.h5_repack.specs.declared.group.Layout.{Layout}
-use Rattle.h5_repack.specs.Layout.{IsArrayObject, IsExtent, IsGroupObject, IsHeldObject, IsSize, array_at, content_at, extent_length, numbered_at, object_at, size_length, written_at}
+use Rattle.h5_repack.specs.Layout.{IsArrayObject, IsExtent, IsGroupObject, IsHeldObject, IsSize, array_at, content_at, extent_length, numbered_at, laid_object, size_length, written_at}
 use Rattle.h5_repack.proofs.Sizes.{own_written, own_count}
 use Rattle.h5_repack.proofs.ObjectLaws.Zips.{zip_right}
 
@@ -80,17 +80,17 @@ pub group_at : (l : Layout) (count n : ℕ) (links : List (Link ObjectNo)) (othe
     → slice_get l.sizes.now n ≡ Some s → (get_or l.sizes.now n d).extent ≡ extent.Links p → IsSize l.leaf l.internal o s
     → group_written (slice_index l.headers.now n + (get_or l.sizes.now n d).header) (slice_index l.headers.now n + (get_or l.sizes.now n d).header + p.tree) others
     ++ links_bytes l.leaf l.internal (slice_index l.headers.now n + (get_or l.sizes.now n d).header) (map (written_at l) (map tree_link links))
-    ≡ object_at l (slice_index l.headers.now n) count o
+    ≡ laid_object l (slice_index l.headers.now n) count o
 group_at l count n links others o s d p is found e size =
     let h : ℕ = slice_index l.headers.now n in
     let own : IsExtent l.leaf l.internal o.content (extent.Links p)
     = subst (λ (x : Extent). IsExtent l.leaf l.internal o.content x) (extent_read l.sizes.now n s d (extent.Links p) found e) size.extent_is in
     let tree = tree_is l.leaf l.internal links others o is p own l (map (written_at l) (map tree_link links)) refl in
     let place : h + (get_or l.sizes.now n d).header ≡ content_place o h = ap (λ k. h + k) (header_read l.sizes.now n s d found ∙ size.header) in
-    let heap : h + (get_or l.sizes.now n d).header + p.tree ≡ heap_place l.leaf l.internal o is.group h = (λ i. place i + tree i) in
+    let heap : h + (get_or l.sizes.now n d).header + p.tree ≡ group_heap_place l.leaf l.internal o is.group h = (λ i. place i + tree i) in
     (λ i. group_written (place i) (heap i) others ++ links_bytes l.leaf l.internal (place i) (map (written_at l) (is.linked i)))
     ∙ ap (λ xs. xs ++ links_bytes l.leaf l.internal (content_place o h) (map (written_at l) (entries is.group)))
-    (group_is (content_place o h) (heap_place l.leaf l.internal o is.group h) (others_of o) others is.others_are)
+    (group_is (content_place o h) (group_heap_place l.leaf l.internal o is.group h) (others_of o) others is.others_are)
     ∙ sym (ap (content_at l h count o) is.content)
 
 -- ---- arrays
@@ -107,7 +107,7 @@ array_pushed a c others count place address first second third address_here e f 
 
 pub array_object_at : (l : Layout) (count n : ℕ) (a : Described) (c : Cells) (others : OthersBytes) (o : Object) (s d : Size) (is : IsArrayObject a c others o)
     → slice_get l.sizes.now n ≡ Some s → IsSize l.leaf l.internal o s
-    → array_at (slice_index l.headers.now n + (get_or l.sizes.now n d).header) count o is.dataset ≡ object_at l (slice_index l.headers.now n) count o
+    → array_at (slice_index l.headers.now n + (get_or l.sizes.now n d).header) count o is.dataset ≡ laid_object l (slice_index l.headers.now n) count o
 array_object_at l count n a c others o s d is found size =
     let h : ℕ = slice_index l.headers.now n in
     ap (λ k. array_at (h + k) count o is.dataset) (header_read l.sizes.now n s d found ∙ size.header) ∙ sym (ap (content_at l h count o) is.content)
@@ -124,8 +124,8 @@ held_at leaf internal n objects listed sizes x held sized is =
     (o.0, s.0, s.1, o.2, s.2, o.1)
 
 pub number_at : (l : Layout) (counts : List ℕ) (listed : List Object) (n : ℕ) (o : Object) → slice_get listed n ≡ Some o
-    → object_at l (slice_index l.headers.now n) (slice_index counts n) o ≡ numbered_at l counts listed n
-number_at l counts listed n o is = sym (ap (λ (r : Option Object). option_map_or (object_at l (slice_index l.headers.now n) (slice_index counts n)) r []) is)
+    → laid_object l (slice_index l.headers.now n) (slice_index counts n) o ≡ numbered_at l counts listed n
+number_at l counts listed n o is = sym (ap (λ (r : Option Object). option_map_or (laid_object l (slice_index l.headers.now n) (slice_index counts n)) r []) is)
 
 pub objects_more : (f : ℕ → List ℕ) (ns : List ℕ) (i : ℕ) (first second third here : List ℕ) → i < length ns → second ≡ first ++ flat_map f (take i ns)
     → third ≡ second ++ here → here ≡ f (get_or ns i 0) → third ≡ first ++ flat_map f (take (i + 1) ns)

@@ -76,14 +76,14 @@ module _ (links : List (Link ObjectNo)) (others : OthersBytes) (o : Object) (is 
 
   -- however the links are written
   module _ (leaf internal : ℕ) (l : Layout) (bare : List (List ℕ × Leads)) (bare_is : bare ≡ map (written_at l) (map tree_link links)) where
-    pub own_written : AllZip laws.IsWritten (entries is.group) bare
-    own_written = subst (AllZip laws.IsWritten (entries is.group)) (sym (bare_is ∙ ap (map (written_at l)) is.linked)) (all_written l (entries is.group))
+    pub own_written : AllZip laws.IsLinkWritten (entries is.group) bare
+    own_written = subst (AllZip laws.IsLinkWritten (entries is.group)) (sym (bare_is ∙ ap (map (written_at l)) is.linked)) (all_written l (entries is.group))
 
     pub own_length : links_length leaf internal bare ≡ content_bytes leaf internal 0 0 o.content
     own_length = group_length leaf internal is.group bare own_written ∙ sym (ap (content_bytes leaf internal 0 0) is.content)
 
     pub own_count : length bare ≡ len is.group
-    own_count = AllZip-long laws.IsWritten (entries is.group) bare own_written ∙ sym (len-entries is.group)
+    own_count = AllZip-long laws.IsLinkWritten (entries is.group) bare own_written ∙ sym (len-entries is.group)
 
     pub group_long : 2 ^ 31 < links_length leaf internal bare → 2 ^ 31 < object_length leaf internal o
     group_long long = omega (arith, long, own_length)

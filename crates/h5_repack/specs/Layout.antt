@@ -14,7 +14,7 @@ use Rattle.h5_group.specs.Writing.Written.{links_bytes}
 use Rattle.h5_group.specs.Writing.Laws as laws
 use Rattle.h5_group.specs.Writing.Places.{ArePlaces}
 use Rattle.h5_repack.specs.Image.Plain.{IsPlain, IsLow}
-use Rattle.h5_repack.specs.Image.Written.{object_length, content_place, heap_place, data_address}
+use Rattle.h5_repack.specs.Image.Written.{object_length, content_place, group_heap_place, data_address}
 use Rattle.h5_repack.specs.Blocks.Others.{OthersBytes}
 use Rattle.h5_repack.specs.Blocks.Written.{AreOthers}
 use Rattle.h5_layout.specs.Described.{Described}
@@ -73,7 +73,7 @@ pub record IsLowSize (s : Size) : Type 0 where
 
 -- a group's links lie so wherever their objects stand
 abbrev pub IsExtent : ℕ → ℕ → Content → Extent → Type 0
-IsExtent leaf internal (Group links) (extent.Links p) = (ls : List (List ℕ × Leads)) → AllZip laws.IsWritten (entries links) ls → ArePlaces leaf internal ls p
+IsExtent leaf internal (Group links) (extent.Links p) = (ls : List (List ℕ × Leads)) → AllZip laws.IsLinkWritten (entries links) ls → ArePlaces leaf internal ls p
 IsExtent leaf internal (Array d) (extent.Data n) = n ≡ length (data_of d)
 IsExtent leaf internal _ _ = ⊥
 
@@ -97,8 +97,8 @@ AreUnmeasured leaf internal listed NoMemory = Unit {0}
 -- ---- places
 
 -- how many bytes the object of a number has
-abbrev pub length_at : List Size → ℕ → ℕ
-length_at sizes number = option_map_or size_length (slice_get sizes number) 0
+abbrev pub length_by_number : List Size → ℕ → ℕ
+length_by_number sizes number = option_map_or size_length (slice_get sizes number) 0
 
 -- the end of the objects of these numbers, the first of which stands at this place
 abbrev pub end_of : (ℕ → ℕ) → ℕ → List ℕ → ℕ
@@ -111,12 +111,12 @@ headers_of lengths at [] headers = headers
 headers_of lengths at (number ∷ order) headers = headers_of lengths (at + lengths number) order (slice_set headers number at)
 
 pub record AreHeaders (sizes : List Size) (order : List ℕ) (p : Placed) : Type 0 where
-  pub end_is : p.end ≡ end_of (length_at sizes) 96 order
-  pub headers_are : p.headers.items ≡ headers_of (length_at sizes) 96 order (replicate (length sizes) 0)
+  pub end_is : p.end ≡ end_of (length_by_number sizes) 96 order
+  pub headers_are : p.headers.items ≡ headers_of (length_by_number sizes) 96 order (replicate (length sizes) 0)
   pub few : p.end ≤ 2 ^ 31
 
 abbrev pub IsUnplaced : List Size → List ℕ → WriteFault → Type 0
-IsUnplaced sizes order TooLong = 2 ^ 31 < end_of (length_at sizes) 96 order
+IsUnplaced sizes order TooLong = 2 ^ 31 < end_of (length_by_number sizes) 96 order
 IsUnplaced sizes order TooDeep = ⊥
 IsUnplaced sizes order NoMemory = Unit {0}
 
@@ -159,16 +159,16 @@ array_at place count o d =
 -- the bytes of an object whose header stands there and to which so many links lead
 abbrev pub content_at : Layout → ℕ → ℕ → Object → Content → List ℕ
 content_at l header count o (Group links) =
-    header_bytes 1 ((17, pair_bytes (content_place o header) (heap_place l.leaf l.internal o links header)) ∷ others_of o)
+    header_bytes 1 ((17, pair_bytes (content_place o header) (group_heap_place l.leaf l.internal o links header)) ∷ others_of o)
     ++ links_bytes l.leaf l.internal (content_place o header) (map (written_at l) (entries links))
 content_at l header count o (Array d) = array_at (content_place o header) count o d
 
-abbrev pub object_at : Layout → ℕ → ℕ → Object → List ℕ
-object_at l header count o = content_at l header count o o.content
+abbrev pub laid_object : Layout → ℕ → ℕ → Object → List ℕ
+laid_object l header count o = content_at l header count o o.content
 
 abbrev pub numbered_at : Layout → List ℕ → List Object → ℕ → List ℕ
 numbered_at l counts listed number =
-    option_map_or (object_at l (slice_index l.headers.now number) (slice_index counts number)) (slice_get listed number) []
+    option_map_or (laid_object l (slice_index l.headers.now number) (slice_index counts number)) (slice_get listed number) []
 
 -- the superblock before objects whose root has this size
 abbrev pub front_at : Layout → Size → ℕ → List ℕ

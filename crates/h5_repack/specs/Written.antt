@@ -13,7 +13,7 @@ use Rattle.h5_repack.specs.declared.write.WriteFault.{WriteFault}
 use Rattle.h5_repack.specs.declared.write.WriteFault.TheVariants.{TooLong, TooDeep, NoMemory}
 
 -- a sound tree of these objects, which the plain layout can hold
-pub record IsHeld (objects : List NewObject) (tree : Tree) : Type 0 where
+pub record IsTreeToWrite (objects : List NewObject) (tree : Tree) : Type 0 where
   pub objects_are : AreObjects objects tree
   pub sound : IsSoundTree tree
   pub plain : ArePlain tree

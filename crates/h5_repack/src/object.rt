@@ -8,7 +8,7 @@ ghost use Rattle.h5_group.specs.Writing.Written.{links_bytes};
 ghost use Rattle.h5_repack.specs.Blocks.ArrayHeader.{group_written};
 ghost use Rattle.h5_model.specs.Tree.Links.{tree_link};
 ghost use Rattle.h5_repack.specs.declared.size.Extent.TheVariants.{Links};
-ghost use Rattle.h5_repack.specs.Layout.{IsArrayObject, IsExtent, IsGroupObject, IsHeldObject, IsLowLayout, IsSize, array_at, numbered_at, object_at, written_at};
+ghost use Rattle.h5_repack.specs.Layout.{IsArrayObject, IsExtent, IsGroupObject, IsHeldObject, IsLowLayout, IsSize, array_at, numbered_at, laid_object, written_at};
 
 use crate::blocks::{
     Cells, Others, cells_address, push_array_header, push_data, push_group_header,
@@ -89,7 +89,7 @@ fn push_object(
         ((o : Object) (s : Size) → slice_get layout.now.sizes.now number ≡ Some s → IsHeldObject object.now o
         → IsSize layout.now.leaf layout.now.internal o s
         → out.new.items ≡ out.old.items
-        ++ object_at layout.now (slice_index layout.now.headers.now number) count o) }
+        ++ laid_object layout.now (slice_index layout.now.headers.now number) count o) }
 {
     let size = layout.sizes[number];
     let at = layout.headers[number] + size.header;

@@ -5,7 +5,7 @@ ghost use Rattle.std.specs.List.{AllByRecursion, AllZip, flat_map};
 ghost use Rattle.h5_model.specs.Tree.Objects.{Object, Tree};
 ghost use Rattle.h5_model.specs.Format.Superblock.{AreK};
 ghost use Rattle.h5_repack.specs.Layout.{IsHeldObject, IsLowLayout, IsLowSize, IsSize, front_at, numbered_at};
-ghost use Rattle.h5_repack.specs.Written.{IsHeld, IsWritten, IsUnwritten};
+ghost use Rattle.h5_repack.specs.Written.{IsTreeToWrite, IsWritten, IsUnwritten};
 
 use crate::group::Layout;
 use crate::object::push_objects;
@@ -101,11 +101,11 @@ pub fn write_tree(
 ) -> Result<Written, WriteFault>
     requires k { AreK leaf internal }
     requires few { length objects.now < 2 ^ 32 }
-    requires tree { (tree : Tree) × IsHeld objects.now tree }
+    requires tree { (tree : Tree) × IsTreeToWrite objects.now tree }
     ensures written { IfOk result (λ w.
-        (tree : Tree) → IsHeld objects.now tree → IsWritten leaf internal tree w) }
+        (tree : Tree) → IsTreeToWrite objects.now tree → IsWritten leaf internal tree w) }
     ensures refused { IfErr result (λ fault.
-        (tree : Tree) → IsHeld objects.now tree → IsUnwritten leaf internal tree fault) }
+        (tree : Tree) → IsTreeToWrite objects.now tree → IsUnwritten leaf internal tree fault) }
 {
     let Ok(order) = met_order(alloc, objects) else {
         return Err(WriteFault::NoMemory);

@@ -7,7 +7,7 @@ use Rattle.std.proofs.lemmas.List.Elements.{All-get_or, filter_map-append}
 use Rattle.std.proofs.lemmas.List.Splits.{slice_split_none, length-slice_split}
 use Rattle.std.proofs.lemmas.List.Sums.{suffix_len_is, suffix_len-le-length}
 use Rattle.h5_model.specs.Scripts.Lines.{Command, line_asks, commands_of, finished}
-use Rattle.h5_script.specs.Pieces.{HasNoEnd, IsWhole, commands_of_line}
+use Rattle.h5_script.specs.Pieces.{HasNoEnd, AreWholeLines, commands_of_line}
 
 -- ---- commands
 
@@ -46,13 +46,13 @@ commands_of-line line endless = ap (filter_map line_asks) (slice_split_none (λ 
 
 -- ---- whole lines
 
-pub whole_none : IsWhole []
+pub whole_none : AreWholeLines []
 whole_none = inl refl
 
-pub whole_line : (line : List ℕ) → IsWhole (line ++ 10 ∷ [])
+pub whole_line : (line : List ℕ) → AreWholeLines (line ++ 10 ∷ [])
 whole_line line = inr (line, refl)
 
-pub whole_append : (a b : List ℕ) → IsWhole a → IsWhole b → IsWhole (a ++ b)
+pub whole_append : (a b : List ℕ) → AreWholeLines a → AreWholeLines b → AreWholeLines (a ++ b)
 whole_append a b first (inl none) = elim first [
   | inl nothing ↦ inl (ap (λ xs. xs ++ b) nothing ∙ none)
   | inr some ↦ inr (some.0, ap (λ xs. a ++ xs) none ∙ append-nil a ∙ some.1)
@@ -60,7 +60,7 @@ whole_append a b first (inl none) = elim first [
 whole_append a b first (inr some) = inr (a ++ some.0, ap (λ xs. a ++ xs) some.1 ∙ sym (append_assoc a some.0 (10 ∷ [])))
 
 -- the commands of whole lines, and of what stands behind them
-pub commands_of-whole : (done rest : List ℕ) → IsWhole done → commands_of (done ++ rest) ≡ commands_of done ++ commands_of rest
+pub commands_of-whole : (done rest : List ℕ) → AreWholeLines done → commands_of (done ++ rest) ≡ commands_of done ++ commands_of rest
 commands_of-whole done rest (inl none) =
     ap (λ xs. commands_of (xs ++ rest)) none ∙ sym (ap (λ commands. commands ++ commands_of rest) (ap commands_of none ∙ commands_of-nil))
 commands_of-whole done rest (inr some) =
@@ -80,7 +80,7 @@ prefix_behind (x ∷ xs) ys none = elim (inner x) as (λ b. cond b (1 + prefix_l
   | false ↦ refl
 ]
 
-whole_ends : (done : List ℕ) → IsWhole done → prefix_len inner (reverse done) ≡ 0
+whole_ends : (done : List ℕ) → AreWholeLines done → prefix_len inner (reverse done) ≡ 0
 whole_ends done (inl none) = ap (λ xs. prefix_len inner (reverse xs)) none
 whole_ends done (inr some) = ap (λ xs. prefix_len inner (reverse xs)) some.1 ∙ ap (prefix_len inner) (reverse-append some.0 (10 ∷ []))
 
@@ -90,7 +90,7 @@ take_behind (x ∷ a) b zero k is = absurd (omega (arith, is))
 take_behind (x ∷ a) b (suc n) k is = ap (λ xs. x ∷ xs) (take_behind a b n k (omega (arith, is)))
 
 -- whole lines are finished, and then those of what stands behind them
-pub finished-whole : (done rest : List ℕ) → IsWhole done → finished (done ++ rest) ≡ done ++ finished rest
+pub finished-whole : (done rest : List ℕ) → AreWholeLines done → finished (done ++ rest) ≡ done ++ finished rest
 finished-whole done rest whole =
     let same : suffix_len inner (done ++ rest) ≡ suffix_len inner rest
     = ap (prefix_len inner) (reverse-append done rest) ∙ prefix_behind (reverse rest) (reverse done) (whole_ends done whole) in
@@ -107,5 +107,5 @@ finished-none rest endless =
     let none : length rest - suffix_len inner rest ≡ 0 = omega (arith, all) in
     ap (λ n. take n rest) none
 
-pub finished_is : (done rest : List ℕ) → IsWhole done → HasNoEnd rest → finished (done ++ rest) ≡ done
+pub finished_is : (done rest : List ℕ) → AreWholeLines done → HasNoEnd rest → finished (done ++ rest) ≡ done
 finished_is done rest whole endless = finished-whole done rest whole ∙ ap (λ xs. done ++ xs) (finished-none rest endless) ∙ append-nil done

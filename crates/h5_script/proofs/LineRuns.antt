@@ -8,7 +8,7 @@ use Rattle.h5_script.specs.Pieces.{commands_of_line}
 use Rattle.h5_script.proofs.RunLaws.{has_begun_one, has_counted_none}
 use Rattle.h5_model.specs.Scripts.Answers.{Given, is_refused, is_accepted}
 use Rattle.h5_script.specs.Answered.{Line, answer_at, outcome_of, IsAnswered, IsRunIn, IsUntold}
-use Rattle.h5_script.specs.Runs.{file_of_run, text_of_run, outcomes_of_run, AreRunIn, IsRun, HasCounted, HasBegun, IsCut, RunsTo}
+use Rattle.h5_script.specs.Runs.{file_of_run, text_of_run, outcomes_of_run, AreRunIn, IsRun, HasCounted, HasBegun, IsRunCut, RunsTo}
 use Rattle.h5_script.specs.Streams.{WritesSome}
 use Rattle.h5_script.specs.declared.ran.Outcome.{Outcome}
 use Rattle.h5_script.specs.declared.ran.Ran.{Ran}
@@ -76,25 +76,25 @@ line_untold s t command known untold = has_begun_one (command ∷ []) s t known 
 })
 
 -- memory was refused
-pub by_memory : {T : Type 0} (result : Result T RunFault) (P : T → Type 0) (B : Type 0) → IsErrAnd result (λ f. f ≡ NoMemory) → B → MatchResult result P (λ f. IsCut f × B)
+pub by_memory : {T : Type 0} (result : Result T RunFault) (P : T → Type 0) (B : Type 0) → IsErrAnd result (λ f. f ≡ NoMemory) → B → MatchResult result P (λ f. IsRunCut f × B)
 by_memory (Ok x) P B refused begun = absurd refused
-by_memory (Err f) P B refused begun = (subst IsCut (sym refused) tt, begun)
+by_memory (Err f) P B refused begun = (subst IsRunCut (sym refused) tt, begun)
 
 -- the fault of a part is that of the whole
-pub by_fault : {T : Type 0} (result : Result T RunFault) (P : T → Type 0) (B : Type 0) (e : RunFault) → IsErrAnd result (λ f. f ≡ e) → IsCut e → B → MatchResult result P (λ f. IsCut f × B)
+pub by_fault : {T : Type 0} (result : Result T RunFault) (P : T → Type 0) (B : Type 0) (e : RunFault) → IsErrAnd result (λ f. f ≡ e) → IsRunCut e → B → MatchResult result P (λ f. IsRunCut f × B)
 by_fault (Ok x) P B e refused is begun = absurd refused
-by_fault (Err f) P B e refused is begun = (subst IsCut (sym refused) is, begun)
+by_fault (Err f) P B e refused is begun = (subst IsRunCut (sym refused) is, begun)
 
 -- an answer was written whole, or the writer failed
 pub line_written : {T : Type 0} (result : Result T RunFault) (s t : FileState) (command : Command) (text shown : List ℕ) (outcome : Outcome) (old new : Known) (a b : Ran)
     → IsAnswered s command t text outcome → shown ≡ text
     → MatchResult result (λ _. Appends old new shown) (λ f. (f ≡ ScriptWrite) × WritesSome old new shown)
     → b.refused ≡ a.refused + cond (is_refused (outcome_of outcome)) 1 0 → b.edits ≡ a.edits + cond (is_accepted (outcome_of outcome)) 1 0
-    → MatchResult result (λ _. HasCounted (command ∷ []) s t old new a b) (λ f. IsCut f × HasBegun (command ∷ []) s t old new)
+    → MatchResult result (λ _. HasCounted (command ∷ []) s t old new a b) (λ f. IsRunCut f × HasBegun (command ∷ []) s t old new)
 line_written (Ok x) s t command text shown outcome old new a b answered same written refused edits =
     line_ran s t command text outcome old new a b answered (subst (λ (told : List ℕ). Appends old new told) same written) refused edits
 line_written (Err f) s t command text shown outcome old new a b answered same written refused edits =
-    (subst IsCut (sym written.0) tt, line_cut s t command text outcome old new answered (subst (λ (told : List ℕ). WritesSome old new told) same written.1))
+    (subst IsRunCut (sym written.0) tt, line_cut s t command text outcome old new answered (subst (λ (told : List ℕ). WritesSome old new told) same written.1))
 
 -- ---- what a line asks for
 

@@ -3,7 +3,7 @@ use Rattle.std.proofs.Common.{◌≡◌, ℕ, Option, List, [], ◌∷◌, ◌++
 use Rattle.std.proofs.lemmas.List.Elements.{All-append}
 use Rattle.h5_file.specs.Opened.State.{FileState}
 use Rattle.h5_model.specs.Scripts.Lines.{Command, commands_of}
-use Rattle.h5_script.specs.Pieces.{HasNoEnd, IsFirstLine, IsWhole, HasRunLines, HasBegunLines, commands_of_line}
+use Rattle.h5_script.specs.Pieces.{HasNoEnd, IsFirstLine, AreWholeLines, HasRunLines, HasBegunLines, commands_of_line}
 use Rattle.h5_script.specs.Runs.{HasCounted, HasBegun}
 use Rattle.h5_script.specs.declared.ran.Ran.{Ran}
 use Rattle.h5_script.proofs.LineLaws.{commands_of-end, commands_of-nil, commands_of-line, commands_of-whole, whole_none, whole_line, whole_append}
@@ -24,7 +24,7 @@ commands_with_end : (line : List ℕ) → HasNoEnd line → commands_of (line ++
 commands_with_end line endless = commands_of-end line [] ∙ ap (λ commands. commands_of line ++ commands) commands_of-nil ∙ append-nil (commands_of line) ∙ commands_of-line line endless
 
 -- whole lines, and one more
-commands_and_line : (done line : List ℕ) → IsWhole done → HasNoEnd line → commands_of done ++ commands_of_line line ≡ commands_of (done ++ (line ++ 10 ∷ []))
+commands_and_line : (done line : List ℕ) → AreWholeLines done → HasNoEnd line → commands_of done ++ commands_of_line line ≡ commands_of (done ++ (line ++ 10 ∷ []))
 commands_and_line done line whole endless = sym (commands_of-whole done (line ++ 10 ∷ []) whole ∙ ap (λ commands. commands_of done ++ commands) (commands_with_end line endless))
 
 module _ (s : FileState) (old : Known) (a : Ran) where

@@ -6,8 +6,8 @@ use Rattle.std.proofs.lemmas.Bool.Decides.{nat_tests}
 use Rattle.std.proofs.lemmas.List.{take-take}
 use Rattle.h5_file.specs.Opened.State.{FileState}
 use Rattle.h5_model.specs.Scripts.Lines.{Command, commands_of, finished, within_limit}
-use Rattle.h5_script.specs.Pieces.{IsWhole, HasRunLines, HasBegunLines, IsUnderway, commands_of_line}
-use Rattle.h5_script.specs.Runs.{HasRun, HasCounted, HasBegun, IsCut}
+use Rattle.h5_script.specs.Pieces.{AreWholeLines, HasRunLines, HasBegunLines, IsUnderway, commands_of_line}
+use Rattle.h5_script.specs.Runs.{HasRun, HasCounted, HasBegun, IsRunCut}
 use Rattle.h5_script.specs.Script.{none_ran, IsDone, IsUnread, IsTooLong, IsCutOff, IsStopped}
 use Rattle.h5_script.specs.Streams.{IsRead}
 use Rattle.h5_script.specs.declared.fault.RunFault.{RunFault}
@@ -25,7 +25,7 @@ abbrev limit : ℕ
 limit = 16777216
 
 -- a run that ends early by a writer or by memory
-pub cut_off : (s t : FileState) (input left old new : Known) (f : RunFault) → IsCut f → IsCutOff s t input left old new → IsStopped s t input left old new f
+pub cut_off : (s t : FileState) (input left old new : Known) (f : RunFault) → IsRunCut f → IsCutOff s t input left old new → IsStopped s t input left old new f
 cut_off s t input left old new ScriptRead is off = absurd is
 cut_off s t input left old new ScriptWrite is off = off
 cut_off s t input left old new ScriptTooLong is off = absurd is
@@ -57,7 +57,7 @@ within_long script front more is counted long =
     ∙ ap (λ xs. finished (take limit xs)) is ∙ ap finished (take_front front more limit (sym counted))
 
 -- whatever follows the lines that were run, the run of the whole has begun
-begun_within : (done rest : List ℕ) (s t : FileState) (old new : Known) → IsWhole done → HasBegun (commands_of done) s t old new → HasBegun (commands_of (done ++ rest)) s t old new
+begun_within : (done rest : List ℕ) (s t : FileState) (old new : Known) → AreWholeLines done → HasBegun (commands_of done) s t old new → HasBegun (commands_of (done ++ rest)) s t old new
 begun_within done rest s t old new whole begun =
     subst (λ (commands : List Command). HasBegun commands s t old new) (sym (commands_of-whole done rest whole)) (has_begun_of (commands_of done) (commands_of rest) s t old new begun)
 
@@ -80,7 +80,7 @@ module _ (s : FileState) (input old : Known) where
       (subst (λ (counts : Ran). IsUnderway s s input input old old [] limit counts) (sym zero) under_start)
 
   -- nothing was read yet
-  pub stopped_at_first : (f : RunFault) → IsCut f → IsStopped s s input input old old f
+  pub stopped_at_first : (f : RunFault) → IsRunCut f → IsStopped s s input input old old f
   stopped_at_first f is = cut_off s s input input old old f is (record {
     script = [];
     read = consumes_none input;

@@ -5,7 +5,7 @@ use Rattle.std.specs.Option.{option_map_or}
 use Rattle.std.specs.Io.KnownBytes.{Consumes}
 use Rattle.h5_file.specs.Opened.State.{FileState}
 use Rattle.h5_model.specs.Scripts.Lines.{Command, line_asks, commands_of}
-use Rattle.h5_script.specs.Runs.{HasCounted, HasBegun, IsCut}
+use Rattle.h5_script.specs.Runs.{HasCounted, HasBegun, IsRunCut}
 use Rattle.h5_script.specs.Script.{none_ran}
 use Rattle.h5_script.specs.declared.ran.Ran.{Ran}
 use Rattle.h5_script.specs.declared.fault.RunFault.{RunFault}
@@ -20,8 +20,8 @@ pub record IsFirstLine (bytes line rest : List ℕ) : Type 0 where
   pub endless : HasNoEnd line
 
 -- the bytes of lines with their ends
-abbrev pub IsWhole : List ℕ → Type 0
-IsWhole bytes = (bytes ≡ []) ⊎ ((first : List ℕ) × (bytes ≡ first ++ 10 ∷ []))
+abbrev pub AreWholeLines : List ℕ → Type 0
+AreWholeLines bytes = (bytes ≡ []) ⊎ ((first : List ℕ) × (bytes ≡ first ++ 10 ∷ []))
 
 -- the commands of one line, whose end is left out
 abbrev pub commands_of_line : List ℕ → List Command
@@ -31,7 +31,7 @@ commands_of_line line = option_map_or (λ command. command ∷ []) (line_asks li
 pub record HasRunLines (bytes held : List ℕ) (before after : FileState) (old new : Option (List ℕ)) (counted counts : Ran) : Type 0 where
   pub done : List ℕ
   pub parts : done ++ held ≡ bytes
-  pub whole : IsWhole done
+  pub whole : AreWholeLines done
   pub endless : HasNoEnd held
   pub run : HasCounted (commands_of done) before after old new counted counts
 
@@ -40,13 +40,13 @@ pub record HasBegunLines (bytes : List ℕ) (before after : FileState) (old new 
   pub done : List ℕ
   pub others : List ℕ
   pub parts : done ++ others ≡ bytes
-  pub whole : IsWhole done
+  pub whole : AreWholeLines done
   pub run : HasBegun (commands_of done) before after old new
 
 -- the lines that stand whole in the bytes were run, or the run ends early
 abbrev pub RunsLinesTo : {T : Type 0} → Result T RunFault → List ℕ → List ℕ → FileState → FileState → Option (List ℕ) → Option (List ℕ) → Ran → Ran → Type 0
 RunsLinesTo result bytes held before after old new counted counts =
-    MatchResult result (λ _. HasRunLines bytes held before after old new counted counts) (λ fault. IsCut fault × HasBegunLines bytes before after old new)
+    MatchResult result (λ _. HasRunLines bytes held before after old new counted counts) (λ fault. IsRunCut fault × HasBegunLines bytes before after old new)
 
 -- a script is being read: its whole lines were run, the rest is held, and so many bytes may come yet
 pub record IsUnderway (before now : FileState) (input left old new : Option (List ℕ)) (held : List ℕ) (room : ℕ) (ran : Ran) : Type 0 where

@@ -53,8 +53,8 @@ pub record HasCounted (asked : List Command) (before after : FileState) (old new
   pub edits : counts.edits ≡ counted.edits + count_by is_accepted (outcomes_of_run before run.lines)
 
 -- none of these commands was run, and nothing was written
-abbrev pub IsUntouched : FileState → FileState → Option (List ℕ) → Option (List ℕ) → Type 0
-IsUntouched before after old new = (after ≡ before) × Keeps old new
+abbrev pub IsRunUntouched : FileState → FileState → Option (List ℕ) → Option (List ℕ) → Type 0
+IsRunUntouched before after old new = (after ≡ before) × Keeps old new
 
 -- the first of these commands was run, and a beginning of its answer was written
 pub record IsPartlyTold (asked : List Command) (before after : FileState) (old new : Option (List ℕ)) : Type 0 where
@@ -74,15 +74,15 @@ pub record HasBegun (asked : List Command) (before after : FileState) (old new :
   pub between : FileState
   pub written : Option (List ℕ)
   pub run : HasRun first before between old written
-  pub last : IsUntouched between after written new ⊎ IsPartlyTold others between after written new
+  pub last : IsRunUntouched between after written new ⊎ IsPartlyTold others between after written new
 
 -- a run ends early because the writer failed or memory was refused
-abbrev pub IsCut : RunFault → Type 0
-IsCut ScriptWrite = Unit {0}
-IsCut NoMemory = Unit {0}
-IsCut _ = ⊥
+abbrev pub IsRunCut : RunFault → Type 0
+IsRunCut ScriptWrite = Unit {0}
+IsRunCut NoMemory = Unit {0}
+IsRunCut _ = ⊥
 
 -- the commands were run and counted, or the run ends early
 abbrev pub RunsTo : {T : Type 0} → Result T RunFault → List Command → FileState → FileState → Option (List ℕ) → Option (List ℕ) → Ran → Ran → Type 0
 RunsTo result asked before after old new counted counts =
-    MatchResult result (λ _. HasCounted asked before after old new counted counts) (λ fault. IsCut fault × HasBegun asked before after old new)
+    MatchResult result (λ _. HasCounted asked before after old new counted counts) (λ fault. IsRunCut fault × HasBegun asked before after old new)

@@ -10,7 +10,7 @@ use Rattle.std.proofs.lemmas.List.Elements.{recursion_from_All, All-from_get_or}
 use Rattle.h5_bytes.specs.Texts.{text_at}
 use Rattle.h5_model.specs.Format.Links.{Ascend, Before}
 use Rattle.h5_model.specs.Format.Symbols.{Entry, entries_of, link_of, symbols_in}
-use Rattle.h5_snod.specs.Names.{IsPlace, name_at, names_of}
+use Rattle.h5_snod.specs.Names.{IsPlace, name_at, entry_names}
 use Rattle.h5_snod.proofs.EntryLaws.{entry_in, length-entries, get_or-entries}
 
 -- ---- two texts
@@ -109,32 +109,32 @@ module _ (segment bytes name : List ℕ) (rising : Ascend (map (link_of segment)
 
 -- ---- what a search finds
 
-length-names : (segment : List ℕ) (es : List Entry) → length (names_of segment es) ≡ length es
+length-names : (segment : List ℕ) (es : List Entry) → length (entry_names segment es) ≡ length es
 length-names segment [] = refl
 length-names segment (e ∷ es) = omega (arith, length-names segment es)
 
-get_or-names : (segment : List ℕ) (es : List Entry) (k : ℕ) (d : Entry) (t : List ℕ) → k < length es → get_or (names_of segment es) k t ≡ name_of segment es k d
+get_or-names : (segment : List ℕ) (es : List Entry) (k : ℕ) (d : Entry) (t : List ℕ) → k < length es → get_or (entry_names segment es) k t ≡ name_of segment es k d
 get_or-names segment [] k d t low = absurd (omega arith)
 get_or-names segment (e ∷ es) zero d t low = refl
 get_or-names segment (e ∷ es) (suc k) d t low = get_or-names segment es k d t (omega arith)
 
 module _ (segment bytes : List ℕ) where
-  listed_name : (k : ℕ) (t : List ℕ) → k < symbols_in bytes → get_or (names_of segment (entries_of bytes)) k t ≡ name_at segment bytes k
+  listed_name : (k : ℕ) (t : List ℕ) → k < symbols_in bytes → get_or (entry_names segment (entries_of bytes)) k t ≡ name_at segment bytes k
   listed_name k t low =
       let d : Entry = entry_in bytes 0 in
       let long = length-entries bytes in
       get_or-names segment (entries_of bytes) k d t (omega arith) ∙ ap (λ (e : Entry). text_at segment e.name) (get_or-entries bytes k d low)
 
-  pub found : (name : List ℕ) (k : ℕ) → k < symbols_in bytes → name_at segment bytes k ≡ name → slice_get (names_of segment (entries_of bytes)) k ≡ Some name
+  pub found : (name : List ℕ) (k : ℕ) → k < symbols_in bytes → name_at segment bytes k ≡ name → slice_get (entry_names segment (entries_of bytes)) k ≡ Some name
   found name k low is =
       let long = length-entries bytes in
       let listed = length-names segment (entries_of bytes) in
-      slice_get-get_or (names_of segment (entries_of bytes)) k [] (omega arith) ∙ ap (λ (t : List ℕ). Some t) (listed_name k [] low ∙ is)
+      slice_get-get_or (entry_names segment (entries_of bytes)) k [] (omega arith) ∙ ap (λ (t : List ℕ). Some t) (listed_name k [] low ∙ is)
 
   pub absent : (name : List ℕ) (from to : ℕ) → IsNarrowed segment bytes name (symbols_in bytes) from to → to ≤ from
-      → IsPlace (names_of segment (entries_of bytes)) name from
+      → IsPlace (entry_names segment (entries_of bytes)) name from
   absent name from to n done =
-      let names : List (List ℕ) = names_of segment (entries_of bytes) in
+      let names : List (List ℕ) = entry_names segment (entries_of bytes) in
       let long = length-entries bytes in
       let listed : length names ≡ length (entries_of bytes) = length-names segment (entries_of bytes) in
       let ordered = n.ordered in

@@ -15,7 +15,7 @@ use Rattle.h5_model.specs.Format.Symbols.{Entry, IsEntry, IsSymbolNode, entry_of
 use Rattle.h5_snod.specs.declared.write.NewSymbol.{NewSymbol}
 use Rattle.h5_snod.specs.declared.write.NewTarget.{NewTarget}
 use Rattle.h5_snod.specs.declared.write.NewTarget.TheVariants.{Dataset, Group, Text}
-use Rattle.h5_snod.specs.Written.{header_to, cache_to, scratch_to, IsSmall, new_bytes, entry_from, node_bytes}
+use Rattle.h5_snod.specs.Written.{header_to, cache_to, scratch_to, IsSmall, new_bytes, entry_from, symbol_node_bytes}
 use Rattle.h5_snod.proofs.EntryLaws.{entry_in, all_known}
 
 pub long_entry : (s : NewSymbol) → length (new_bytes s) ≡ 40
@@ -106,7 +106,7 @@ entry_part (s ∷ ss) rest (suc k) low =
     ap (part (40 * suc k) 40) joined ∙ ap (λ (n : ℕ). part n 40 (new_bytes s ++ (flat_map new_bytes ss ++ rest))) next
     ∙ part-behind (new_bytes s) (flat_map new_bytes ss ++ rest) (40 * k) 40 ∙ entry_part ss rest k (omega arith)
 
-module _ (ss : List NewSymbol) (n : ℕ) (counted : length ss < 2 ^ 16) (bytes : List ℕ) (is : bytes ≡ node_bytes ss n) where
+module _ (ss : List NewSymbol) (n : ℕ) (counted : length ss < 2 ^ 16) (bytes : List ℕ) (is : bytes ≡ symbol_node_bytes ss n) where
   abbrev behind : List ℕ
   behind = flat_map new_bytes ss ++ zeros (n - length (symbol_signature ++ (1 ∷ 0 ∷ (short (length ss) ++ flat_map new_bytes ss))))
 

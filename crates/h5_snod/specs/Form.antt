@@ -8,7 +8,7 @@ abbrev pub cache_at : List ℕ → ℕ → ℕ
 cache_at bytes i = (entry_of (part (8 + 40 * i) 40 bytes)).cache
 
 -- another signature, another version, more entries than there is room for, or an entry of another cache type than the three
-abbrev pub BreaksForm : ℕ → List ℕ → Type 0
-BreaksForm leaf bytes =
+abbrev pub BreaksSymbolNodeForm : ℕ → List ℕ → Type 0
+BreaksSymbolNodeForm leaf bytes =
     (part 0 4 bytes ≢ symbol_signature) ⊎ ((byte_at bytes 4 ≢ 1)
     ⊎ ((2 * leaf < symbols_in bytes) ⊎ ((i : ℕ) × (i < symbols_in bytes) × (2 < cache_at bytes i))))

@@ -7,8 +7,8 @@ use Rattle.h5_model.specs.Format.Symbols.{Entry, entry_of}
 use Rattle.h5_model.specs.Format.Links.{Before}
 
 -- the names of entries, whose bytes stand in a heap's segment
-abbrev pub names_of : List ℕ → List Entry → List (List ℕ)
-names_of segment entries = map (λ (e : Entry). text_at segment e.name) entries
+abbrev pub entry_names : List ℕ → List Entry → List (List ℕ)
+entry_names segment entries = map (λ (e : Entry). text_at segment e.name) entries
 
 -- a name is above those before this place, and below those from it on
 pub record IsPlace (names : List (List ℕ)) (name : List ℕ) (k : ℕ) : Type 0 where

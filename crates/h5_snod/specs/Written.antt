@@ -49,5 +49,5 @@ abbrev pub head_bytes : ℕ → List ℕ
 head_bytes count = symbol_signature ++ (1 ∷ 0 ∷ short count)
 
 -- the same, the entries, and zeros, so many bytes in all
-abbrev pub node_bytes : List NewSymbol → ℕ → List ℕ
-node_bytes symbols n = padded (head_bytes (length symbols) ++ flat_map new_bytes symbols) n
+abbrev pub symbol_node_bytes : List NewSymbol → ℕ → List ℕ
+symbol_node_bytes symbols n = padded (head_bytes (length symbols) ++ flat_map new_bytes symbols) n

@@ -6,7 +6,7 @@ ghost use Rattle.h5_bytes.specs.Texts.{text_at};
 ghost use Rattle.h5_model.specs.Format.Links.{Ascend};
 ghost use Rattle.h5_model.specs.Format.Symbols.{Entry, entries_of, link_of, symbols_in};
 ghost use Rattle.h5_snod.specs.Entries.{symbol_from};
-ghost use Rattle.h5_snod.specs.Names.{IsPlace, names_of};
+ghost use Rattle.h5_snod.specs.Names.{IsPlace, entry_names};
 
 use crate::entry::{SymbolEntry, read_entry};
 use crate::search::{entry_name, find_name};
@@ -82,8 +82,8 @@ impl<'a> SymbolNode<'a> {
     /// ascending order of their bytes.
     pub fn find(&self, segment: &[u8], name: &[u8]) -> Result<usize, usize>
         requires { Ascend (map (link_of segment.now) self.now) }
-        ensures found { IfOk result (λ k. slice_get (names_of segment.now self.now) k ≡ Some name.now) }
-        ensures absent { IfErr result (λ k. IsPlace (names_of segment.now self.now) name.now k) }
+        ensures found { IfOk result (λ k. slice_get (entry_names segment.now self.now) k ≡ Some name.now) }
+        ensures absent { IfErr result (λ k. IsPlace (entry_names segment.now self.now) name.now k) }
     {
         find_name(self.bytes, self.len(), segment, name)
     }

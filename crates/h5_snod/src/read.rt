@@ -3,7 +3,7 @@
 ghost use Rattle.std.specs.Prelude.{◌≡◌, ℕ, ◌+◌, ◌*◌, ◌<◌, ◌≤◌, IfErr, IfOk, OnOk, MatchBool, length};
 ghost use Rattle.std.specs.List.{AllByRecursion};
 ghost use Rattle.h5_model.specs.Format.Symbols.{IsEntry, IsSymbolNode, entries_of, symbols_in};
-ghost use Rattle.h5_snod.specs.Form.{BreaksForm, cache_at};
+ghost use Rattle.h5_snod.specs.Form.{BreaksSymbolNodeForm, cache_at};
 
 use crate::node::{SymbolNode, entry_bytes};
 use h5_bytes::{begins_with, u16_at, u32_at};
@@ -30,7 +30,7 @@ pub fn read_symbol_node(leaf: u16, bytes: &[u8]) -> Result<SymbolNode<'_>, NodeF
     ensures node { IfOk result (λ node. node ≡ entries_of bytes.now) }
     ensures form { OnOk result (IsSymbolNode leaf bytes.now) }
     ensures entries { OnOk result (AllByRecursion IsEntry (entries_of bytes.now)) }
-    ensures refused { IfErr result (λ fault. (fault ≡ NodeFault.NodeForm) × BreaksForm leaf bytes.now) }
+    ensures refused { IfErr result (λ fault. (fault ≡ NodeFault.NodeForm) × BreaksSymbolNodeForm leaf bytes.now) }
 {
     if !begins_with(bytes, &SIGNATURE)
         || bytes[4] != 1

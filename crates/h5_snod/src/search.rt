@@ -3,7 +3,7 @@
 ghost use Rattle.std.specs.Prelude.{◌≡◌, ◌+◌, ◌*◌, ◌<◌, ◌≤◌, IfErr, IfOk, Some, length, map, slice_get};
 ghost use Rattle.h5_model.specs.Format.Links.{Ascend};
 ghost use Rattle.h5_model.specs.Format.Symbols.{entries_of, link_of, symbols_in};
-ghost use Rattle.h5_snod.specs.Names.{IsPlace, name_at, names_of};
+ghost use Rattle.h5_snod.specs.Names.{IsPlace, name_at, entry_names};
 
 use crate::node::entry_bytes;
 use h5_bytes::{text_from, u64_at};
@@ -20,8 +20,8 @@ pub(crate) fn find_name(
     requires entries { 8 + 40 * symbols_in bytes.now ≤ length bytes.now }
     requires ascending { Ascend (map (link_of segment.now) (entries_of bytes.now)) }
     ensures found { IfOk result (λ k.
-        slice_get (names_of segment.now (entries_of bytes.now)) k ≡ Some name.now) }
-    ensures absent { IfErr result (λ k. IsPlace (names_of segment.now (entries_of bytes.now)) name.now k) }
+        slice_get (entry_names segment.now (entries_of bytes.now)) k ≡ Some name.now) }
+    ensures absent { IfErr result (λ k. IsPlace (entry_names segment.now (entries_of bytes.now)) name.now k) }
 {
     let mut from = 0;
     let mut to = count;

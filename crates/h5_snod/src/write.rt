@@ -3,7 +3,7 @@
 ghost use Rattle.std.specs.Prelude.{◌≡◌, ℕ, ◌+◌, ◌*◌, ◌^◌, ◌<◌, ◌≤◌, length, map};
 ghost use Rattle.std.specs.List.{AllByRecursion, flat_map};
 ghost use Rattle.h5_model.specs.Format.Symbols.{IsEntry, IsSymbolNode, entries_of, entry_of};
-ghost use Rattle.h5_snod.specs.Written.{IsSmall, entry_from, head_bytes, new_bytes, node_bytes};
+ghost use Rattle.h5_snod.specs.Written.{IsSmall, entry_from, head_bytes, new_bytes, symbol_node_bytes};
 
 use crate::node::{ENTRY, HEAD};
 use byteorder::{ByteOrder, LittleEndian};
@@ -31,7 +31,7 @@ pub struct NewSymbol {
 pub fn write_symbol_node(symbols: &[NewSymbol], bytes: &mut [u8])
     requires room { 8 + 40 * length symbols.now ≤ length bytes.old }
     requires counted { length symbols.now < 2 ^ 16 }
-    ensures written { bytes.new ≡ node_bytes symbols.now (length bytes.old) }
+    ensures written { bytes.new ≡ symbol_node_bytes symbols.now (length bytes.old) }
     ensures form { (leaf : ℕ) → length symbols.now ≤ 2 * leaf → IsSymbolNode leaf bytes.new }
     ensures known { AllByRecursion IsEntry (entries_of bytes.new) }
     ensures reads { entries_of bytes.new ≡ map entry_from symbols.now }

@@ -6,10 +6,10 @@ use Rattle.h5_text.specs.declared.texts.Layout.{Layout}
 use Rattle.h5_text.specs.declared.texts.Layout.TheVariants.{Compact, Contiguous, Chunked}
 
 -- it is not told whether contiguous cells are stored yet
-abbrev pub storage_of : Layout → tree.Storage
-storage_of Compact = tree.Compact
-storage_of Contiguous = tree.Contiguous true
-storage_of (Chunked sizes) = tree.Chunked sizes.now
+abbrev pub shown_storage : Layout → tree.Storage
+shown_storage Compact = tree.Compact
+shown_storage Contiguous = tree.Contiguous true
+shown_storage (Chunked sizes) = tree.Chunked sizes.now
 
 abbrev pub layout_text : Layout → List ℕ
-layout_text layout = storage_text (storage_of layout)
+layout_text layout = storage_text (shown_storage layout)

@@ -3,7 +3,7 @@ use Rattle.std.specs.Prelude.{List, [], ◌++◌, ℕ, codes}
 use Rattle.h5_model.specs.Format.Fixed.{Fixed}
 use Rattle.h5_model.specs.Scripts.Text.{escaped, joined_path, content_text, dataset_text, type_text, sizes_text}
 use Rattle.h5_model.specs.Tree.Objects.{Dataset, Array}
-use Rattle.h5_text.specs.Layouts.{storage_of}
+use Rattle.h5_text.specs.Layouts.{shown_storage}
 use Rattle.h5_text.specs.declared.listing.ArrayText.{ArrayText}
 use Rattle.h5_text.specs.declared.listing.PathText.{PathText}
 use Rattle.h5_text.specs.declared.listing.PathText.TheVariants.{Plain, Escaped, Below}
@@ -20,7 +20,7 @@ told_dataset a = record {
   fixed = a.fixed;
   sizes = a.sizes.now;
   maxima = a.maxima.now;
-  storage = storage_of a.layout;
+  storage = shown_storage a.layout;
   fill = a.fill;
   cells = [];
 }
@@ -30,5 +30,5 @@ abbrev pub dump_line : List ℕ → Dataset → List ℕ
 dump_line path d = path ++ codes " " ++ content_text (Array d) ++ dataset_text d ++ codes "\n"
 
 -- the line of an attribute as far as its values
-abbrev pub attribute_head : List ℕ → Fixed → List ℕ → List ℕ
-attribute_head name t sizes = codes "@" ++ escaped name ++ codes " " ++ type_text t ++ codes " " ++ sizes_text sizes
+abbrev pub attribute_line_head : List ℕ → Fixed → List ℕ → List ℕ
+attribute_line_head name t sizes = codes "@" ++ escaped name ++ codes " " ++ type_text t ++ codes " " ++ sizes_text sizes

@@ -3,7 +3,7 @@ ghost use Rattle.std.specs.Prelude.{◌++◌, codes};
 ghost use Rattle.h5_model.specs.Scripts.Text.{content_text, dataset_text, escaped, line_of};
 ghost use Rattle.h5_model.specs.Tree.Objects.{Array};
 ghost use Rattle.h5_text.specs.Appends.{Appends};
-ghost use Rattle.h5_text.specs.Listing.{attribute_head, dump_line, path_text, told_dataset};
+ghost use Rattle.h5_text.specs.Listing.{attribute_line_head, dump_line, path_text, told_dataset};
 
 use crate::texts::{
     Layout, push_escaped, push_extent, push_sizes, push_text, push_type, push_value,
@@ -126,7 +126,7 @@ pub fn push_attribute_head(
     fixed: &Fixed,
     sizes: &[u64],
 ) -> Result<(), AllocError>
-    ensures { Appends result out.old.items out.new.items (attribute_head name.now fixed.now sizes.now) }
+    ensures { Appends result out.old.items out.new.items (attribute_line_head name.now fixed.now sizes.now) }
 {
     push_text(out, b"@")?;
     push_escaped(out, name)?;

@@ -16,7 +16,7 @@ use Rattle.h5_space.specs.Walk.Walked.{IsWalked}
 use Rattle.h5_space.specs.Walk.Met.{IsMet}
 use Rattle.h5_space.proofs.WalkLaws.MetFields.{met_walked}
 use Rattle.h5_btree.specs.Walk.Forms.{TreeForm, kind_of, node_role, leaf_role, leaf_length, leaf_block, LeafBreach, child_role}
-use Rattle.h5_btree.specs.Walk.Below.{reading_in, IsInner, IsTaken, nodes_below, leaves_below}
+use Rattle.h5_btree.specs.Walk.Below.{reading_in, IsInner, IsTakenBelow, nodes_below, leaves_below}
 use Rattle.h5_btree.specs.Walk.Further.{child_place, child_field, AreChildrenMet, IsPlaceBelow, IsFurther, WalksTo, IsFaultBelow}
 use Rattle.h5_btree.specs.Walk.Refused.{IsRefusedFor, IsLeafRefused}
 use Rattle.h5_btree.proofs.WalkLaws.FormLaws.{leaf_long, node_inner, leaf_inner, child_apart}
@@ -39,7 +39,7 @@ module _ (image : List ℕ) (form : TreeForm) where
   place_more level at row more place (inr one) = inr (omega (arith, one, cover-below image form (node_block (kind_of image form)) (place - 8) level row more))
 
   -- the next child's place is none of those below the row
-  next_apart : (level at j : ℕ) (row : List ℕ) (old mid : List Block) → IsTaken image form level row old mid → length row ≤ j → 1 ≤ cover (child_place image form at j - 8) old
+  next_apart : (level at j : ℕ) (row : List ℕ) (old mid : List Block) → IsTakenBelow image form level row old mid → length row ≤ j → 1 ≤ cover (child_place image form at j - 8) old
       → IsPlaceBelow image form level at row (child_place image form at j) → ⊥
   next_apart level at j row old mid taken past stands (inl (k, low, e)) = absurd (omega (arith, e, child_apart (kind_of image form).key_length k j (omega (arith, past, low))))
   next_apart level at j row old mid taken past stands (inr one) =
@@ -59,7 +59,7 @@ module _ (image : List ℕ) (form : TreeForm) where
 
   -- the field of the next child is met
   next_met : (level : ℕ) (node : Node) (row : List ℕ) (child : ℕ) (old mid : List Block) (followed : List Named) (root heap depth at : ℕ)
-      → AreChildrenMet image form old followed root heap depth level at node → IsTaken image form level row old mid → (f : IsFurther image mid followed (IsPlaceBelow image form level at row))
+      → AreChildrenMet image form old followed root heap depth level at node → IsTakenBelow image form level row old mid → (f : IsFurther image mid followed (IsPlaceBelow image form level at row))
       → length row < length node.children → slice_get node.children (length row) ≡ Some child
       → IsMet image mid (f.new ++ followed) (named (child_place image form at (length row)) (child_role form root heap level) child depth)
   next_met level node row child old mid followed root heap depth at met taken f low got =
@@ -76,7 +76,7 @@ module _ (image : List ℕ) (form : TreeForm) where
 
   -- ---- one symbol node more
 
-  module _ (at : ℕ) (node : Node) (row : List ℕ) (child : ℕ) (old mid : List Block) (taken : IsTaken image form 0 row old mid) (walks : WalksTo image form old mid 0 at node row)
+  module _ (at : ℕ) (node : Node) (row : List ℕ) (child : ℕ) (old mid : List Block) (taken : IsTakenBelow image form 0 row old mid) (walks : WalksTo image form old mid 0 at node row)
       (low : length row < length node.children) (got : slice_get node.children (length row) ≡ Some child) where
     pub walks_bottom : (now : List Block) → ((p : ℕ) → cover p now ≡ cover p mid + holds p child (leaf_length image form)) → WalksTo image form old now 0 at node (row ++ child ∷ [])
     walks_bottom now claimed = λ followed root heap depth met.
@@ -126,7 +126,7 @@ module _ (image : List ℕ) (form : TreeForm) where
         omega (arith, covers, here)
     some (inr one) = omega (arith, covers, one)
 
-  module _ (level at : ℕ) (node : Node) (row : List ℕ) (child : ℕ) (old mid : List Block) (taken : IsTaken image form (suc level) row old mid) (walks : WalksTo image form old mid (suc level) at node row)
+  module _ (level at : ℕ) (node : Node) (row : List ℕ) (child : ℕ) (old mid : List Block) (taken : IsTakenBelow image form (suc level) row old mid) (walks : WalksTo image form old mid (suc level) at node row)
       (low : length row < length node.children) (got : slice_get node.children (length row) ≡ Some child) where
     pub fault_inner : (cause : Cause) (address : ℕ) → address ≡ child
         → IsRefusedFor ((root : ℕ) → 1 ≤ cover root mid → NodeBreach image (kind_of image form) root level child) (length image) mid (node_block (kind_of image form) child) cause

@@ -18,7 +18,7 @@ use Rattle.h5_laws.proofs.NodeExcluded.{node_excluded, sibling_excluded}
 use Rattle.h5_btree.specs.Walk.Forms.{TreeForm, kind_of, leaf_block, LeafBreach}
 use Rattle.h5_btree.specs.Walk.Trees.{nodes_blocks}
 use Rattle.h5_btree.specs.Walk.Stands.{IsNodeAt}
-use Rattle.h5_btree.specs.Walk.Below.{reading_in, IsInner, IsBottom, IsTaken, AreBelow}
+use Rattle.h5_btree.specs.Walk.Below.{reading_in, IsInner, IsBottom, IsTakenBelow, AreBelow}
 use Rattle.h5_btree.specs.Walk.Keyed.{AreKeyedBelow}
 use Rattle.h5_btree.specs.Walk.Readable.{IsTreeReadable, AreReadableBelow}
 use Rattle.h5_btree.specs.Walk.Refused.{IsRefusedFor, IsLeafRefused}
@@ -69,7 +69,7 @@ module _ (image : List ℕ) (form : TreeForm) where
   -- ---- the next child of a node, where those before it were claimed
 
   module _ (level : ℕ) (node : Node) (row : List ℕ) (child : ℕ) (rest : List ℕ) (split : node.children ≡ (row ++ child ∷ []) ++ rest) (old mid : List Block)
-      (readable : AreReadableBelow image form level node old) (taken : IsTaken image form level row old mid) where
+      (readable : AreReadableBelow image form level node old) (taken : IsTakenBelow image form level row old mid) where
     here : AreBelow image form level (child ∷ [])
     here = below_right level row (child ∷ []) (below_left level (row ++ child ∷ []) rest (subst (AreBelow image form level) split readable.below))
 
@@ -88,7 +88,7 @@ module _ (image : List ℕ) (form : TreeForm) where
 
   pub leaf_memory : (at : ℕ) (node : Node) (i : ℕ) → i < length node.children → (row rest : List ℕ)
       → node.children ≡ (row ++ slice_index_or node.children i 0 ∷ []) ++ rest → (old mid : List Block)
-      → AreReadableBelow image form 0 node old → IsTaken image form 0 row old mid → (cause : Cause) (address : ℕ)
+      → AreReadableBelow image form 0 node old → IsTakenBelow image form 0 row old mid → (cause : Cause) (address : ℕ)
       → IsLeafRefused image form mid at node i cause address → cause ≡ NoMemory
   leaf_memory at node i low row rest split old mid readable taken cause address (inl (is, refused)) =
       let child = slice_index_or node.children i 0 in
@@ -99,7 +99,7 @@ module _ (image : List ℕ) (form : TreeForm) where
   leaf_memory at node i low row rest split old mid readable taken cause address (inr (is, there, other)) = absurd (other (readable.keyed i low))
 
   module _ (level : ℕ) (node : Node) (row : List ℕ) (child : ℕ) (rest : List ℕ) (split : node.children ≡ (row ++ child ∷ []) ++ rest) (old mid : List Block)
-      (readable : AreReadableBelow image form (suc level) node old) (taken : IsTaken image form (suc level) row old mid) where
+      (readable : AreReadableBelow image form (suc level) node old) (taken : IsTakenBelow image form (suc level) row old mid) where
     both : AreBelow image form (suc level) (child ∷ [])
     both = here (suc level) node row child rest split old mid readable taken
 

@@ -14,7 +14,7 @@ use Rattle.h5_space.specs.Walk.Walked.{IsWalked}
 use Rattle.h5_btree.specs.Walk.Forms.{TreeForm, kind_of, node_role}
 use Rattle.h5_btree.specs.Walk.Trees.{nodes_blocks}
 use Rattle.h5_btree.specs.Walk.Followed.{IsFault, IsTreeMet}
-use Rattle.h5_btree.specs.Walk.Below.{reading_in, IsStanding, IsTaken, nodes_below}
+use Rattle.h5_btree.specs.Walk.Below.{reading_in, IsStanding, IsTakenBelow, nodes_below}
 use Rattle.h5_btree.specs.Walk.Further.{child_place, AreChildrenMet, IsPlaceBelow, IsPlaceIn, IsFurther, WalksTo, IsFaultBelow}
 use Rattle.h5_btree.specs.Walk.Refused.{IsRefusedFor}
 use Rattle.h5_btree.proofs.WalkLaws.FormLaws.{node_inner}
@@ -52,7 +52,7 @@ module _ (image : List ℕ) (form : TreeForm) (root : ℕ) (old : List Block) wh
     below_refused cause address below = λ followed field heap depth met.
         below _ root heap depth (below_root followed field heap depth met)
 
-    module _ (now : List Block) (taken : IsTaken image form level children here now) where
+    module _ (now : List Block) (taken : IsTakenBelow image form level children here now) where
       pub tree_claimed : (p : ℕ) → cover p now ≡ cover p old + cover p (nodes_blocks image form (nodes (reading_in image form) level (root ∷ [])) (leaves (reading_in image form) level (root ∷ [])))
       tree_claimed p =
           let all : cover p (nodes_blocks image form (nodes (reading_in image form) level (root ∷ [])) (leaves (reading_in image form) level (root ∷ [])))

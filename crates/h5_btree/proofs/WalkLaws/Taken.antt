@@ -9,7 +9,7 @@ use Rattle.h5_model.specs.Format.Rows.{leaves, nodes, next_row}
 use Rattle.h5_model.specs.Format.Nodes.{node_block, node_length, tree_blocks}
 use Rattle.h5_btree.specs.Walk.Forms.{TreeForm, kind_of, leaf_length, leaf_block}
 use Rattle.h5_btree.specs.Walk.Trees.{nodes_blocks}
-use Rattle.h5_btree.specs.Walk.Below.{reading_in, IsBottom, IsInner, IsTaken, AreBelow, nodes_below, leaves_below}
+use Rattle.h5_btree.specs.Walk.Below.{reading_in, IsBottom, IsInner, IsTakenBelow, AreBelow, nodes_below, leaves_below}
 use Rattle.h5_btree.proofs.WalkLaws.RowJoin.{cover-map, cover-below, leaves_below-append, leaves_below-nil, nodes_below-nil, below-nil, below-append}
 
 -- the blocks of all that stands from a row down
@@ -63,7 +63,7 @@ module _ (image : List ℕ) (form : TreeForm) where
   below_inner level at inner below = ((inner, tt), subst (AreBelow image form level) (sym (next_one at)) below)
 
   -- nothing yet
-  pub taken_none : (level : ℕ) (old : List Block) → Separate old → IsTaken image form level [] old old
+  pub taken_none : (level : ℕ) (old : List Block) → Separate old → IsTakenBelow image form level [] old old
   taken_none level old separate = record {
     below = below-nil image form level;
     claimed = λ p. omega (arith, blocks-nil p level);
@@ -71,8 +71,8 @@ module _ (image : List ℕ) (form : TreeForm) where
   }
 
   -- one symbol node more
-  pub taken_bottom : (row : List ℕ) (at : ℕ) (old mid now : List Block) → IsTaken image form 0 row old mid → IsBottom image form at
-      → ((p : ℕ) → cover p now ≡ cover p mid + holds p at (leaf_length image form)) → Separate now → IsTaken image form 0 (row ++ at ∷ []) old now
+  pub taken_bottom : (row : List ℕ) (at : ℕ) (old mid now : List Block) → IsTakenBelow image form 0 row old mid → IsBottom image form at
+      → ((p : ℕ) → cover p now ≡ cover p mid + holds p at (leaf_length image form)) → Separate now → IsTakenBelow image form 0 (row ++ at ∷ []) old now
   taken_bottom row at old mid now taken bottom claimed separate = record {
     below = below-append image form 0 row (at ∷ []) taken.below (bottom, tt);
     claimed = λ p. omega (arith, taken.claimed p, claimed p, blocks-append p 0 row (at ∷ []), blocks_bottom p at);
@@ -80,9 +80,9 @@ module _ (image : List ℕ) (form : TreeForm) where
   }
 
   -- one node more, and what stands below it
-  pub taken_inner : (level : ℕ) (row : List ℕ) (at : ℕ) (old mid here now : List Block) → IsTaken image form (suc level) row old mid → IsInner image form level at
-      → ((p : ℕ) → cover p here ≡ cover p mid + holds p at (node_length (kind_of image form))) → IsTaken image form level (reading_in image form at).children here now
-      → IsTaken image form (suc level) (row ++ at ∷ []) old now
+  pub taken_inner : (level : ℕ) (row : List ℕ) (at : ℕ) (old mid here now : List Block) → IsTakenBelow image form (suc level) row old mid → IsInner image form level at
+      → ((p : ℕ) → cover p here ≡ cover p mid + holds p at (node_length (kind_of image form))) → IsTakenBelow image form level (reading_in image form at).children here now
+      → IsTakenBelow image form (suc level) (row ++ at ∷ []) old now
   taken_inner level row at old mid here now taken inner claimed under = record {
     below = below-append image form (suc level) row (at ∷ []) taken.below (below_inner level at inner under.below);
     claimed = λ p. omega (arith, taken.claimed p, claimed p, under.claimed p, blocks-append p (suc level) row (at ∷ []), blocks_inner p level at);

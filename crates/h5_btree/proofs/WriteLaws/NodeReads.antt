@@ -8,7 +8,7 @@ use Rattle.h5_bytes.proofs.PartLaws.{part-behind, part-front}
 use Rattle.h5_bytes.proofs.TableLaws.{length-table, get_or-table}
 use Rattle.h5_model.specs.Format.Nodes.{IsNode, group_kind, node_length, node_of, node_signature, key_in, child_in, entries_in}
 use Rattle.h5_bytes.specs.Numbers.{word, short, zeros}
-use Rattle.h5_model.specs.Format.Plain.{rows_bytes, node_bytes_of}
+use Rattle.h5_model.specs.Format.Plain.{keys_and_children, node_bytes_of}
 use Rattle.h5_model.specs.Format.Sizes.{group_node}
 use Rattle.h5_model.proofs.PaddedLaws.{length-padded}
 use Rattle.h5_model.proofs.NumberLaws.{reads_back, number_at-append}
@@ -23,7 +23,7 @@ AreWords xs = AllByRecursion (λ x. x < 2 ^ 64) xs
 -- ---- keys and children
 
 pub length-rows : (keys : List (List ℕ)) (children : List ℕ) → AreKeys keys → length keys ≡ length children + 1
-    → length (rows_bytes keys children) ≡ 8 + 16 * length children
+    → length (keys_and_children keys children) ≡ 8 + 16 * length children
 length-rows [] children are one = absurd (omega arith)
 length-rows (key ∷ keys) [] are one = are.0
 length-rows (key ∷ keys) (child ∷ children) are one =
@@ -32,44 +32,44 @@ length-rows (key ∷ keys) (child ∷ children) are one =
 
 -- the key and the child in front
 split_row : (key : List ℕ) (child : ℕ) (keys : List (List ℕ)) (children rest : List ℕ)
-    → rows_bytes (key ∷ keys) (child ∷ children) ++ rest ≡ (key ++ word child) ++ (rows_bytes keys children ++ rest)
+    → keys_and_children (key ∷ keys) (child ∷ children) ++ rest ≡ (key ++ word child) ++ (keys_and_children keys children ++ rest)
 split_row key child keys children rest = simp append_assoc
 
 key_first : (key rest : List ℕ) → length key ≡ 8 → part 0 8 (key ++ rest) ≡ key
 key_first key rest e = ap (λ n. part 0 n (key ++ rest)) (sym e) ∙ part-front key rest
 
 key_read : (i : ℕ) (keys : List (List ℕ)) (children rest : List ℕ) → AreKeys keys → length keys ≡ length children + 1 → i < length keys
-    → part (i * 16) 8 (rows_bytes keys children ++ rest) ≡ get_or keys i []
+    → part (i * 16) 8 (keys_and_children keys children ++ rest) ≡ get_or keys i []
 key_read i [] children rest are one low = absurd (omega arith)
 key_read zero (key ∷ keys) [] rest are one low = key_first key rest are.0
 key_read zero (key ∷ keys) (child ∷ children) rest are one low =
-    ap (part 0 8) (append_assoc key (word child ++ rows_bytes keys children) rest) ∙ key_first key ((word child ++ rows_bytes keys children) ++ rest) are.0
+    ap (part 0 8) (append_assoc key (word child ++ keys_and_children keys children) rest) ∙ key_first key ((word child ++ keys_and_children keys children) ++ rest) are.0
 key_read (suc i) (key ∷ keys) [] rest are one low = absurd (omega arith)
 key_read (suc i) (key ∷ keys) (child ∷ children) rest are one low =
     let long : length (key ++ word child) ≡ 16 = simp length-append (omega (arith, are.0)) in
     let behind : suc i * 16 ≡ length (key ++ word child) + i * 16 = omega arith in
-    ap (λ n. part n 8 (rows_bytes (key ∷ keys) (child ∷ children) ++ rest)) behind
+    ap (λ n. part n 8 (keys_and_children (key ∷ keys) (child ∷ children) ++ rest)) behind
     ∙ ap (part (length (key ++ word child) + i * 16) 8) (split_row key child keys children rest)
-    ∙ part-behind (key ++ word child) (rows_bytes keys children ++ rest) (i * 16) 8
+    ∙ part-behind (key ++ word child) (keys_and_children keys children ++ rest) (i * 16) 8
     ∙ key_read i keys children rest are.1 (omega arith) (omega arith)
 
 child_read : (i : ℕ) (keys : List (List ℕ)) (children rest : List ℕ) → AreKeys keys → AreWords children → length keys ≡ length children + 1
-    → i < length children → number_at (rows_bytes keys children ++ rest) (i * 16 + 8) 8 ≡ get_or children i 0
+    → i < length children → number_at (keys_and_children keys children ++ rest) (i * 16 + 8) 8 ≡ get_or children i 0
 child_read i [] children rest are small one low = absurd (omega arith)
 child_read i (key ∷ keys) [] rest are small one low = absurd (omega arith)
 child_read zero (key ∷ keys) (child ∷ children) rest are small one low =
     let place : 0 * 16 + 8 ≡ length key + 0 = omega (arith, are.0) in
-    ap (λ n. number_at (rows_bytes (key ∷ keys) (child ∷ children) ++ rest) n 8) place
-    ∙ ap (λ bytes. number_at bytes (length key + 0) 8) (append_assoc key (word child ++ rows_bytes keys children) rest)
-    ∙ number_at-append key ((word child ++ rows_bytes keys children) ++ rest) 0 8
-    ∙ ap (λ bytes. number_at bytes 0 8) (append_assoc (word child) (rows_bytes keys children) rest)
-    ∙ reads_back 8 child (rows_bytes keys children ++ rest) (omega (arith, small.0))
+    ap (λ n. number_at (keys_and_children (key ∷ keys) (child ∷ children) ++ rest) n 8) place
+    ∙ ap (λ bytes. number_at bytes (length key + 0) 8) (append_assoc key (word child ++ keys_and_children keys children) rest)
+    ∙ number_at-append key ((word child ++ keys_and_children keys children) ++ rest) 0 8
+    ∙ ap (λ bytes. number_at bytes 0 8) (append_assoc (word child) (keys_and_children keys children) rest)
+    ∙ reads_back 8 child (keys_and_children keys children ++ rest) (omega (arith, small.0))
 child_read (suc i) (key ∷ keys) (child ∷ children) rest are small one low =
     let long : length (key ++ word child) ≡ 16 = simp length-append (omega (arith, are.0)) in
     let behind : suc i * 16 + 8 ≡ length (key ++ word child) + (i * 16 + 8) = omega arith in
-    ap (λ n. number_at (rows_bytes (key ∷ keys) (child ∷ children) ++ rest) n 8) behind
+    ap (λ n. number_at (keys_and_children (key ∷ keys) (child ∷ children) ++ rest) n 8) behind
     ∙ ap (λ bytes. number_at bytes (length (key ++ word child) + (i * 16 + 8)) 8) (split_row key child keys children rest)
-    ∙ number_at-append (key ++ word child) (rows_bytes keys children ++ rest) (i * 16 + 8) 8
+    ∙ number_at-append (key ++ word child) (keys_and_children keys children ++ rest) (i * 16 + 8) 8
     ∙ child_read i keys children rest are.1 small.1 (omega arith) (omega arith)
 
 -- what is read place by place is the list
@@ -85,7 +85,7 @@ table_is f n xs x e same =
 pub length-node : (k level left right : ℕ) (keys : List (List ℕ)) (children : List ℕ) → length children ≤ 2 * k → length keys ≡ length children + 1
     → AreKeys keys → length (node_bytes_of (group_kind k) level left right keys children) ≡ group_node k
 length-node k level left right keys children room one are =
-    let written : List ℕ = node_signature ++ (0 ∷ level ∷ (short (length children) ++ (word left ++ (word right ++ rows_bytes keys children)))) in
+    let written : List ℕ = node_signature ++ (0 ∷ level ∷ (short (length children) ++ (word left ++ (word right ++ keys_and_children keys children)))) in
     let rows = length-rows keys children are one in
     let low : length written ≤ node_length (group_kind k) = omega arith in
     length-padded written (node_length (group_kind k)) low ∙ omega arith
@@ -99,13 +99,13 @@ module _ (k level left right : ℕ) (keys : List (List ℕ)) (children : List �
   head = node_signature ++ (0 ∷ level ∷ (short (length children) ++ (word left ++ word right)))
 
   abbrev written : List ℕ
-  written = node_signature ++ (0 ∷ level ∷ (short (length children) ++ (word left ++ (word right ++ rows_bytes keys children))))
+  written = node_signature ++ (0 ∷ level ∷ (short (length children) ++ (word left ++ (word right ++ keys_and_children keys children))))
 
   abbrev pad : List ℕ
   pad = zeros (node_length (group_kind k) - length written)
 
   abbrev rest : List ℕ
-  rest = rows_bytes keys children ++ pad
+  rest = keys_and_children keys children ++ pad
 
   pub entries_read : entries_in bytes ≡ length children
   unfolding number_at

@@ -11,7 +11,7 @@ use Rattle.h5_model.specs.Format.Rows.{Node, Reading}
 use Rattle.h5_model.specs.Format.Sizes.{group_node}
 use Rattle.h5_model.specs.Format.Symbols.{Entry}
 use Rattle.h5_btree.specs.Writing.Laws.{AreOrdered, IsChild}
-use Rattle.h5_btree.specs.Writing.Written.{last_below, right_of, raised}
+use Rattle.h5_btree.specs.Writing.Written.{last_below, right_of, as_children}
 use Rattle.h5_btree.specs.declared.write.child.Child.{Child}
 use Rattle.h5_btree.proofs.WriteLaws.Levels.{beneath, beneath-more}
 use Rattle.h5_model.proofs.TextOrder.{not_after_itself, after_trans, not_after_trans}
@@ -78,7 +78,7 @@ module _ (V : Reading) (S : Symbols) (segment : List ℕ) where
 
     -- the nodes of a row as children
     pub raised_ordered : (k left before at : ℕ) (cs : List (List Child)) → AreRead V k level left before at cs
-        → AreOrderedUnder V S segment level before (flat_map (λ (c : List Child). c) cs) → AreOrderedUnder V S segment (suc level) before (raised k at before cs)
+        → AreOrderedUnder V S segment level before (flat_map (λ (c : List Child). c) cs) → AreOrderedUnder V S segment (suc level) before (as_children k at before cs)
     raised_ordered k left before at [] read are = tt
     raised_ordered k left before at (c ∷ cs) read are =
         let all = gathered before c (flat_map (λ (d : List Child). d) cs) are in

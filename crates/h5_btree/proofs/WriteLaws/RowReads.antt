@@ -15,7 +15,7 @@ use Rattle.h5_model.specs.Format.Rows.{Node, Reading, IsRow, next_row, first_or_
 use Rattle.h5_model.specs.Format.Sizes.{group_node}
 use Rattle.h5_model.proofs.NumberLaws.{reads_back}
 use Rattle.h5_btree.specs.Writing.Laws.{IsChild}
-use Rattle.h5_btree.specs.Writing.Written.{last_below, right_of, row_bytes, raised}
+use Rattle.h5_btree.specs.Writing.Written.{last_below, right_of, row_bytes, as_children}
 use Rattle.h5_btree.specs.declared.write.child.Child.{Child}
 use Rattle.h5_btree.proofs.WriteLaws.NodeReads.{AreKeys, AreWords, length-node, entries_read, node_reads, node_formed}
 
@@ -255,7 +255,7 @@ module _ (Q : ℕ → Type 0) where
 
   -- the last names below the nodes of a row are among those below its children
   pub raised_lasts : (k at before : ℕ) (cs : List (List Child)) → Q before → LastsAre (flat_map (λ (c : List Child). c) cs)
-      → LastsAre (raised k at before cs)
+      → LastsAre (as_children k at before cs)
   raised_lasts k at before [] first lasts = tt
   raised_lasts k at before (c ∷ cs) first lasts =
       let here = all_left (λ (x : Child). Q x.last) c (flat_map (λ (c : List Child). c) cs) lasts in
@@ -264,16 +264,16 @@ module _ (Q : ℕ → Type 0) where
 
 -- ---- the nodes of a row as children
 
-pub length-raised : (k at before : ℕ) (cs : List (List Child)) → length (raised k at before cs) ≡ length cs
-length-raised k at before [] = refl
-length-raised k at before (c ∷ cs) = ap suc (length-raised k (at + group_node k) (last_below before c) cs)
+pub length-as_children : (k at before : ℕ) (cs : List (List Child)) → length (as_children k at before cs) ≡ length cs
+length-as_children k at before [] = refl
+length-as_children k at before (c ∷ cs) = ap suc (length-as_children k (at + group_node k) (last_below before c) cs)
 
-pub places-raised : (k at before : ℕ) (cs : List (List Child)) → places_of (raised k at before cs) ≡ addresses k at (length cs)
-places-raised k at before [] = refl
-places-raised k at before (c ∷ cs) = ap (λ rest. at ∷ rest) (places-raised k (at + group_node k) (last_below before c) cs)
+pub places-as_children : (k at before : ℕ) (cs : List (List Child)) → places_of (as_children k at before cs) ≡ addresses k at (length cs)
+places-as_children k at before [] = refl
+places-as_children k at before (c ∷ cs) = ap (λ rest. at ∷ rest) (places-as_children k (at + group_node k) (last_below before c) cs)
 
 pub raised_small : (k at before : ℕ) (cs : List (List Child)) → at + length cs * group_node k < 2 ^ 64 → before < 2 ^ 64
-    → AllByRecursion (IsPiece k) cs → AllByRecursion IsChild (raised k at before cs)
+    → AllByRecursion (IsPiece k) cs → AllByRecursion IsChild (as_children k at before cs)
 raised_small k at before [] room low are = tt
 raised_small k at before (c ∷ cs) room low are =
     let next : at + group_node k + length cs * group_node k < 2 ^ 64 = omega arith in

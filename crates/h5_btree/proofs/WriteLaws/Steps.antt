@@ -10,7 +10,7 @@ use Rattle.h5_model.specs.Format.Plain.{node_bytes_of}
 use Rattle.h5_model.specs.Format.PlainLength.{rows_of, nodes_over}
 use Rattle.h5_model.specs.Format.Sizes.{group_node}
 use Rattle.h5_btree.specs.Writing.Steps.{levels_from, rows_from}
-use Rattle.h5_btree.specs.Writing.Written.{chunks, last_below, level_over, raised, right_of, root_level, row_bytes, rows_bytes, tree_bytes}
+use Rattle.h5_btree.specs.Writing.Written.{chunks, last_below, level_over, as_children, right_of, root_level, row_bytes, rows_bytes, tree_bytes}
 use Rattle.h5_btree.specs.declared.write.child.Child.{Child}
 use Rattle.h5_btree.proofs.WriteLaws.Counts.{level_more, rows_few}
 use Rattle.h5_btree.proofs.WriteLaws.Pieces.{chunks_more, cut_one, length-cut}
@@ -75,9 +75,9 @@ rest_room k place cs some one room =
     (omega arith, omega arith)
 
 pub raised_more : (k place before : ℕ) (cs : List Child) → 1 ≤ k → 1 ≤ length cs
-    → raised k place before (rest_of (2 * k) cs)
-    ≡ record { at = place; last = last_below before (take (2 * k) cs) } ∷ raised k (place + group_node k) (last_below before (take (2 * k) cs)) (rest_of (2 * k) (drop (2 * k) cs))
-raised_more k place before cs some one = ap (raised k place before) (rest_more (2 * k) cs (omega arith) one)
+    → as_children k place before (rest_of (2 * k) cs)
+    ≡ record { at = place; last = last_below before (take (2 * k) cs) } ∷ as_children k (place + group_node k) (last_below before (take (2 * k) cs)) (rest_of (2 * k) (drop (2 * k) cs))
+raised_more k place before cs some one = ap (as_children k place before) (rest_more (2 * k) cs (omega arith) one)
 
 pub row_more : (k level left before place : ℕ) (cs : List Child) → 1 ≤ k → 1 ≤ length cs
     → row_bytes k level left before place (rest_of (2 * k) cs)
@@ -95,12 +95,12 @@ right_some k place cs some one = ap (right_of k place) (rest_more (2 * k) cs (om
 -- a node of the row was listed
 pub raised_step : (k place before size last : ℕ) (row listed rest node others all : List Child) → 1 ≤ k → 1 ≤ length rest → node ≡ take (2 * k) rest
     → others ≡ drop (2 * k) rest → last ≡ last_below before node → size ≡ group_node k → listed ≡ row ++ record { at = place; last = last } ∷ []
-    → row ++ raised k place before (rest_of (2 * k) rest) ≡ all → listed ++ raised k (place + size) last (rest_of (2 * k) others) ≡ all
+    → row ++ as_children k place before (rest_of (2 * k) rest) ≡ all → listed ++ as_children k (place + size) last (rest_of (2 * k) others) ≡ all
 raised_step k place before size last row listed rest node others all some one node_is others_is last_is size_is listed_is so_far =
     let more = raised_more k place before rest some one in
     rw (listed_is, last_is, size_is, node_is, others_is)
     (append_assoc row (record { at = place; last = last_below before (take (2 * k) rest) } ∷ [])
-    (raised k (place + group_node k) (last_below before (take (2 * k) rest)) (rest_of (2 * k) (drop (2 * k) rest)))
+    (as_children k (place + group_node k) (last_below before (take (2 * k) rest)) (rest_of (2 * k) (drop (2 * k) rest)))
     ∙ ap (λ (more : List Child). row ++ more) (sym more) ∙ so_far)
 
 -- a node of the row was written
@@ -160,22 +160,22 @@ module _ (k level at : ℕ) (children : List Child) (low : level ≤ 15) (some :
   abbrev cs : List (List Child)
   cs = chunks (2 * k) children
 
-  pub from_more : rows_from k level at children ≡ rows_from k (level + 1) at (raised k place 0 cs) ++ row_bytes k level undefined 0 place cs
+  pub from_more : rows_from k level at children ≡ rows_from k (level + 1) at (as_children k place 0 cs) ++ row_bytes k level undefined 0 place cs
   unfolding rows_from
   from_more =
       let next : 64 - level ≡ suc (63 - level) = omega arith in
       let above : 63 - level ≡ 64 - (level + 1) = omega arith in
       ap (λ levels. rows_bytes levels k level at children) next ∙ rows_more (63 - level) k level at children many
-      ∙ ap (λ levels. rows_bytes levels k (level + 1) at (raised k place 0 cs) ++ row_bytes k level undefined 0 place cs) above
+      ∙ ap (λ levels. rows_bytes levels k (level + 1) at (as_children k place 0 cs) ++ row_bytes k level undefined 0 place cs) above
 
-  raised_wide : length (raised k place 0 cs) ≡ rows_of (2 * k) (length children)
-  raised_wide = length-raised k place 0 cs ∙ length-chunks k children some many
+  raised_wide : length (as_children k place 0 cs) ≡ rows_of (2 * k) (length children)
+  raised_wide = length-as_children k place 0 cs ∙ length-chunks k children some many
 
-  above_long : length (rows_from k (level + 1) at (raised k place 0 cs)) ≡ nodes_over (63 - level) (2 * k) (rows_of (2 * k) (length children)) * group_node k
+  above_long : length (rows_from k (level + 1) at (as_children k place 0 cs)) ≡ nodes_over (63 - level) (2 * k) (rows_of (2 * k) (length children)) * group_node k
   unfolding rows_from
   above_long =
       let above : 64 - (level + 1) ≡ 63 - level = omega arith in
-      length-rows_bytes (64 - (level + 1)) k (level + 1) at (raised k place 0 cs) some
+      length-rows_bytes (64 - (level + 1)) k (level + 1) at (as_children k place 0 cs) some
       ∙ (λ i. nodes_over (above i) (2 * k) (raised_wide i) * group_node k)
 
   row_long : length (row_bytes k level undefined 0 place cs) ≡ rows_of (2 * k) (length children) * group_node k
@@ -183,19 +183,19 @@ module _ (k level at : ℕ) (children : List Child) (low : level ≤ 15) (some :
 
   all_long : length (rows_from k level at children)
       ≡ nodes_over (63 - level) (2 * k) (rows_of (2 * k) (length children)) * group_node k + rows_of (2 * k) (length children) * group_node k
-  all_long = ap length from_more ∙ length-append (rows_from k (level + 1) at (raised k place 0 cs)) (row_bytes k level undefined 0 place cs)
+  all_long = ap length from_more ∙ length-append (rows_from k (level + 1) at (as_children k place 0 cs)) (row_bytes k level undefined 0 place cs)
       ∙ (λ i. above_long i + row_long i)
 
-  pub above_room : at + length (rows_from k level at children) < 2 ^ 63 → at + length (rows_from k (level + 1) at (raised k place 0 cs)) < 2 ^ 63
+  pub above_room : at + length (rows_from k level at children) < 2 ^ 63 → at + length (rows_from k (level + 1) at (as_children k place 0 cs)) < 2 ^ 63
   above_room room = omega (arith, all_long, above_long)
 
   pub row_room : at + length (rows_from k level at children) < 2 ^ 63 → place + rows_of (2 * k) (length children) * group_node k < 2 ^ 63
   row_room room = omega (arith, all_long)
 
-  pub above_few : length children < 2 ^ 32 → length (raised k place 0 cs) < 2 ^ 32
+  pub above_few : length children < 2 ^ 32 → length (as_children k place 0 cs) < 2 ^ 32
   above_few few = omega (arith, raised_wide, rows_few (2 * k) (length children) (omega arith))
 
-  pub above_low : level + levels_from k level (length children) ≤ 15 → level + 1 + levels_from k (level + 1) (length (raised k place 0 cs)) ≤ 15
+  pub above_low : level + levels_from k level (length children) ≤ 15 → level + 1 + levels_from k (level + 1) (length (as_children k place 0 cs)) ≤ 15
   unfolding levels_from
   above_low deep =
       let more : 1 ≤ 64 - level = omega arith in
@@ -205,7 +205,7 @@ module _ (k level at : ℕ) (children : List Child) (low : level ≤ 15) (some :
       rw raised_wide (omega (arith, step))
 
   -- the row is written behind those above it
-  pub row_behind : (p : ℕ) (row : List Child) (out above : List ℕ) → p ≡ place → row ≡ raised k place 0 cs
+  pub row_behind : (p : ℕ) (row : List Child) (out above : List ℕ) → p ≡ place → row ≡ as_children k place 0 cs
       → above ≡ out ++ rows_from k (level + 1) at row → above ++ row_bytes k level undefined 0 p cs ≡ out ++ rows_from k level at children
   row_behind p row out above place_are row_is above_is =
       let bottom : List ℕ = row_bytes k level undefined 0 place cs in

@@ -11,7 +11,7 @@ use Rattle.h5_model.specs.Format.Rows.{Reading, blank}
 use Rattle.h5_model.specs.Format.Sizes.{group_node}
 use Rattle.h5_model.proofs.RowLaws.{only_here}
 use Rattle.h5_btree.specs.Writing.Laws.{IsChild, TreeReads, TreeLength}
-use Rattle.h5_btree.specs.Writing.Written.{chunks, level_over, raised, root_level, row_bytes, row_place, rows_bytes, tree_bytes}
+use Rattle.h5_btree.specs.Writing.Written.{chunks, level_over, as_children, root_level, row_bytes, row_place, rows_bytes, tree_bytes}
 use Rattle.h5_btree.specs.declared.write.child.Child.{Child}
 use Rattle.h5_btree.proofs.WriteLaws.Counts.{nodes_one, nodes_more, level_one, level_more, rows_some, root_level_is}
 use Rattle.h5_btree.proofs.WriteLaws.Levels.{down_to_zero}
@@ -58,7 +58,7 @@ module _ (image : List ℕ) (V : Reading) (Q : ℕ → Type 0) (first : Q 0) (k 
     cs = chunks (2 * k) children
 
     abbrev upper : List Child
-    upper = raised k place 0 cs
+    upper = as_children k place 0 cs
 
     abbrev above : List ℕ
     above = rows_bytes levels k (level + 1) at upper
@@ -70,7 +70,7 @@ module _ (image : List ℕ) (V : Reading) (Q : ℕ → Type 0) (first : Q 0) (k 
     wide = length-chunks k children some many
 
     upper_wide : length upper ≡ width
-    upper_wide = length-raised k place 0 cs ∙ wide
+    upper_wide = length-as_children k place 0 cs ∙ wide
 
     count : nodes_over (suc levels) (2 * k) (length children) ≡ nodes_over levels (2 * k) width + length cs
     count =

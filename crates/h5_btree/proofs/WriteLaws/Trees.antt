@@ -11,7 +11,7 @@ use Rattle.h5_model.specs.Format.PlainLength.{rows_of, nodes_over}
 use Rattle.h5_model.specs.Format.Rows.{Reading, IsRow, leaves, nodes, next_row}
 use Rattle.h5_model.specs.Format.Sizes.{group_node}
 use Rattle.h5_btree.specs.Writing.Laws.{IsChild}
-use Rattle.h5_btree.specs.Writing.Written.{chunks, raised, row_bytes, row_place, rows_bytes}
+use Rattle.h5_btree.specs.Writing.Written.{chunks, as_children, row_bytes, row_place, rows_bytes}
 use Rattle.h5_btree.specs.declared.write.child.Child.{Child}
 use Rattle.h5_btree.proofs.WriteLaws.Counts.{is_over, is_within, nodes_one, nodes_more}
 use Rattle.h5_btree.proofs.WriteLaws.Levels.{AreDownTo, down_more, leaves-more, nodes-more}
@@ -27,7 +27,7 @@ rows_top levels k level at children few = rw (is_within (length children) (2 * k
 
 pub rows_more : (levels k level at : ℕ) (children : List Child) → 2 * k < length children
     → rows_bytes (suc levels) k level at children
-    ≡ rows_bytes levels k (level + 1) at (raised k (row_place levels k at (length children)) 0 (chunks (2 * k) children))
+    ≡ rows_bytes levels k (level + 1) at (as_children k (row_place levels k at (length children)) 0 (chunks (2 * k) children))
     ++ row_bytes k level undefined 0 (row_place levels k at (length children)) (chunks (2 * k) children)
 rows_more levels k level at children many = rw (is_over (length children) (2 * k) many) refl
 
@@ -56,16 +56,16 @@ length-rows_bytes (suc levels) k level at children some = elim (cases_lt (2 * k)
       let place : ℕ = row_place levels k at (length children) in
       let cs : List (List Child) = chunks (2 * k) children in
       let row = length-row k level undefined 0 place cs (chunks_short k children some many) in
-      let long : length (raised k place 0 cs) ≡ rows_of (2 * k) (length children) = length-raised k place 0 cs ∙ length-chunks k children some many in
-      let above : length (rows_bytes levels k (level + 1) at (raised k place 0 cs)) ≡ nodes_over levels (2 * k) (rows_of (2 * k) (length children)) * group_node k
-      = length-rows_bytes levels k (level + 1) at (raised k place 0 cs) some ∙ ap (λ n. nodes_over levels (2 * k) n * group_node k) long in
+      let long : length (as_children k place 0 cs) ≡ rows_of (2 * k) (length children) = length-as_children k place 0 cs ∙ length-chunks k children some many in
+      let above : length (rows_bytes levels k (level + 1) at (as_children k place 0 cs)) ≡ nodes_over levels (2 * k) (rows_of (2 * k) (length children)) * group_node k
+      = length-rows_bytes levels k (level + 1) at (as_children k place 0 cs) some ∙ ap (λ n. nodes_over levels (2 * k) n * group_node k) long in
       let one : suc levels - 1 ≡ levels = omega arith in
       let count : nodes_over (suc levels) (2 * k) (length children) ≡ rows_of (2 * k) (length children) + nodes_over levels (2 * k) (rows_of (2 * k) (length children))
       = nodes_more (suc levels) (2 * k) (length children) (omega arith) many ∙ ap (λ n. rows_of (2 * k) (length children) + nodes_over n (2 * k) (rows_of (2 * k) (length children))) one in
       let width : length (row_bytes k level undefined 0 place cs) ≡ rows_of (2 * k) (length children) * group_node k
       = row ∙ ap (λ n. n * group_node k) (length-chunks k children some many) in
       ap length (rows_more levels k level at children many)
-      ∙ length-append (rows_bytes levels k (level + 1) at (raised k place 0 cs)) (row_bytes k level undefined 0 place cs)
+      ∙ length-append (rows_bytes levels k (level + 1) at (as_children k place 0 cs)) (row_bytes k level undefined 0 place cs)
       ∙ rw (above, width, count) (omega arith)
 ]
 
@@ -108,14 +108,14 @@ module _ (image : List ℕ) (V : Reading) (Q : ℕ → Type 0) (first : Q 0) (k 
   pub row_more : (level depth at place : ℕ) (cs : List (List Child)) (owned : List ℕ) → 1 ≤ length cs → AllByRecursion (IsPiece k) cs
       → AllByRecursion (λ (c : List Child). 1 ≤ length c) cs → place + length cs * group_node k < 2 ^ 64 → AreWritten image k level undefined 0 place cs
       → ReadsAt image k V (addresses k place (length cs)) → LastsAre Q (flat_map (λ (c : List Child). c) cs)
-      → IsTree image V Q k (level + 1) depth at (raised k place 0 cs) owned
+      → IsTree image V Q k (level + 1) depth at (as_children k place 0 cs) owned
       → IsTree image V Q k level (suc depth) at (flat_map (λ (c : List Child). c) cs) (owned ++ addresses k place (length cs))
   row_more level depth at place cs owned one are full room written reads lasts above =
       let row : List ℕ = addresses k place (length cs) in
       let read = row_reads image k level high V undefined 0 place cs are (omega arith) (omega arith) room written reads in
-      let bottom : row ≡ leaves V depth (at ∷ []) = sym (places-raised k place 0 cs) ∙ above.all in
+      let bottom : row ≡ leaves V depth (at ∷ []) = sym (places-as_children k place 0 cs) ∙ above.all in
       let next : level + 1 ≡ suc level = omega arith in
-      let long : length (raised k place 0 cs) ≡ length cs = length-raised k place 0 cs in
+      let long : length (as_children k place 0 cs) ≡ length cs = length-as_children k place 0 cs in
       record {
         down = down_more V level depth (at ∷ []) above.down (subst (IsRow V level undefined) bottom (row_is V k level undefined 0 place cs read));
         owns = (λ i. above.owns i ++ bottom i) ∙ sym (nodes-more V depth (at ∷ []));
@@ -128,7 +128,7 @@ module _ (image : List ℕ) (V : Reading) (Q : ℕ → Type 0) (first : Q 0) (k 
             (all_append Q (key_offsets V owned) (key_offsets V row) above.keyed
             (row_keys Q V k level undefined 0 place cs read (omega arith) are first lasts));
         ordered = λ S segment h. all_append (λ n. IsOrdered V S segment (V n)) owned row
-            (above.ordered S segment (subst (λ l. AreOrderedUnder V S segment l 0 (raised k place 0 cs)) (sym next)
+            (above.ordered S segment (subst (λ l. AreOrderedUnder V S segment l 0 (as_children k place 0 cs)) (sym next)
             (raised_ordered V S segment level k undefined 0 place cs read h)))
             (row_ordered V S segment level k undefined 0 place cs read (omega arith) are h);
       }

@@ -44,7 +44,7 @@ leaves_below image form zero row = row
 leaves_below image form (suc level) row = leaves (reading_in image form) level row
 
 -- all from a row below nodes of this level down is read and claimed
-pub record IsTaken (image : List ℕ) (form : TreeForm) (level : ℕ) (row : List ℕ) (old now : List Block) : Type 0 where
+pub record IsTakenBelow (image : List ℕ) (form : TreeForm) (level : ℕ) (row : List ℕ) (old now : List Block) : Type 0 where
   pub below : AreBelow image form level row
   pub claimed : (p : ℕ) → cover p now ≡ cover p old + cover p (nodes_blocks image form (nodes_below image form level row) (leaves_below image form level row))
   pub separate : Separate now

@@ -26,7 +26,7 @@ AreOrdered S segment before (c ∷ cs) =
 
 -- The tree stands at this place, in consecutive nodes; its keys name the empty name or the last name of a child; and it is ordered
 -- wherever its children are.
-pub record IsPlainTree (image : List ℕ) (k at : ℕ) (children : List Child) : Type 0 where
+pub record HasPlainNodes (image : List ℕ) (k at : ℕ) (children : List Child) : Type 0 where
   pub owned : List ℕ
   pub tree : HasTree image (group_kind k) at (root_level k (length children)) owned (map (λ (c : Child). c.at) children)
   pub run : Run at (tree_blocks (group_kind k) owned) (at + length (tree_bytes k at children))
@@ -39,7 +39,7 @@ pub record IsPlainTree (image : List ℕ) (k at : ℕ) (children : List Child) :
 abbrev pub TreeReads : Type 0
 TreeReads = (image : List ℕ) (k at : ℕ) (children : List Child) → 1 ≤ k → k ≤ 32767 → AllByRecursion IsChild children
     → root_level k (length children) ≤ 15 → at + length (tree_bytes k at children) < 2 ^ 63
-    → part at (length (tree_bytes k at children)) image ≡ tree_bytes k at children → IsPlainTree image k at children
+    → part at (length (tree_bytes k at children)) image ≡ tree_bytes k at children → HasPlainNodes image k at children
 
 -- it has as many bytes as its nodes
 abbrev pub TreeLength : Type 0

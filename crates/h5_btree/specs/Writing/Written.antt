@@ -10,13 +10,13 @@ use Rattle.h5_model.specs.Format.Sizes.{group_node}
 use Rattle.h5_btree.specs.declared.write.child.Child.{Child}
 
 -- lists of m from the left, the last of which takes the rest; the first number is as many cuts as there may be
-abbrev pub cut : {X : Type 0} → ℕ → ℕ → List X → List (List X)
-cut zero m xs = xs ∷ []
-cut (suc n) m xs = if nat_le (length xs) m then xs ∷ [] else take m xs ∷ cut n m (drop m xs)
+abbrev pub cut_into_lists : {X : Type 0} → ℕ → ℕ → List X → List (List X)
+cut_into_lists zero m xs = xs ∷ []
+cut_into_lists (suc n) m xs = if nat_le (length xs) m then xs ∷ [] else take m xs ∷ cut_into_lists n m (drop m xs)
 
 -- of nothing, one list without anything
 abbrev pub chunks : {X : Type 0} → ℕ → List X → List (List X)
-chunks m xs = cut (length xs) m xs
+chunks m xs = cut_into_lists (length xs) m xs
 
 -- the last name below these children, or the one before them
 abbrev pub last_below : ℕ → List Child → ℕ
@@ -36,9 +36,9 @@ row_bytes k level left before at (c ∷ cs) =
     ++ row_bytes k level at (last_below before c) (at + group_node k) cs
 
 -- these nodes as the children of the next row
-abbrev pub raised : ℕ → ℕ → ℕ → List (List Child) → List Child
-raised k at before [] = []
-raised k at before (c ∷ cs) = record { at = at; last = last_below before c } ∷ raised k (at + group_node k) (last_below before c) cs
+abbrev pub as_children : ℕ → ℕ → ℕ → List (List Child) → List Child
+as_children k at before [] = []
+as_children k at before (c ∷ cs) = record { at = at; last = last_below before c } ∷ as_children k (at + group_node k) (last_below before c) cs
 
 -- where a row over so many children begins: behind the rows over it
 abbrev pub row_place : ℕ → ℕ → ℕ → ℕ → ℕ
@@ -50,7 +50,7 @@ rows_bytes zero k level at children = []
 rows_bytes (suc levels) k level at children =
     if nat_le (length children) (2 * k)
     then row_bytes k level undefined 0 at (children ∷ [])
-    else rows_bytes levels k (level + 1) at (raised k (row_place levels k at (length children)) 0 (chunks (2 * k) children))
+    else rows_bytes levels k (level + 1) at (as_children k (row_place levels k at (length children)) 0 (chunks (2 * k) children))
     ++ row_bytes k level undefined 0 (row_place levels k at (length children)) (chunks (2 * k) children)
 
 -- the whole tree, with its root at this place

@@ -10,7 +10,7 @@ ghost use Rattle.h5_model.specs.declared.open_fault.Cause.TheVariants.{NoMemory}
 ghost use Rattle.h5_space.specs.Claimed.{HasClaimed};
 ghost use Rattle.h5_btree.specs.Walk.Forms.{kind_of};
 ghost use Rattle.h5_btree.specs.Walk.Trees.{nodes_blocks};
-ghost use Rattle.h5_btree.specs.Walk.Below.{reading_in, IsTaken};
+ghost use Rattle.h5_btree.specs.Walk.Below.{reading_in, IsTakenBelow};
 ghost use Rattle.h5_btree.specs.Walk.Keyed.{AreKeyedBelow};
 ghost use Rattle.h5_btree.specs.Walk.Rows.{IsLevel};
 ghost use Rattle.h5_btree.specs.Walk.Further.{WalksTree, WalksTo, IsFaultBelow};
@@ -72,7 +72,7 @@ pub(crate) fn claim_below<L: Leaves>(
     requires separate { Separate claims.old.held }
     requires keys { AllByRecursion (λ (key : List ℕ).
         length key ≡ (kind_of image.now.bytes (L.form over.now)).key_length) node.now.keys }
-    ensures taken { OnOk result (IsTaken image.now.bytes (L.form over.now) level node.now.children
+    ensures taken { OnOk result (IsTakenBelow image.now.bytes (L.form over.now) level node.now.children
         claims.old.held claims.new.held) }
     ensures keyed { OnOk result (AreKeyedBelow image.now.bytes (L.form over.now) level node.now) }
     ensures end { claims.new.end ≡ claims.old.end }

@@ -6,7 +6,7 @@ ghost use Rattle.h5_bytes.specs.Blocks.{Separate};
 ghost use Rattle.h5_model.specs.Format.Superblock.{IsSuperblock};
 ghost use Rattle.h5_model.specs.declared.open_fault.Cause.TheVariants.{NoMemory};
 ghost use Rattle.h5_btree.specs.Walk.Forms.{kind_of};
-ghost use Rattle.h5_btree.specs.Walk.Below.{IsTaken};
+ghost use Rattle.h5_btree.specs.Walk.Below.{IsTakenBelow};
 ghost use Rattle.h5_btree.specs.Walk.Keyed.{AreKeyedBelow};
 ghost use Rattle.h5_btree.specs.Walk.Further.{WalksTo, IsFaultBelow};
 ghost use Rattle.h5_btree.specs.Walk.Readable.{AreReadableBelow};
@@ -29,7 +29,7 @@ pub(crate) fn claim_leaves<L: Leaves>(
     requires separate { Separate claims.old.held }
     requires keys { AllByRecursion (λ (key : List ℕ).
         length key ≡ (kind_of image.now.bytes (L.form over.now)).key_length) node.now.keys }
-    ensures taken { OnOk result (IsTaken image.now.bytes (L.form over.now) 0 node.now.children
+    ensures taken { OnOk result (IsTakenBelow image.now.bytes (L.form over.now) 0 node.now.children
         claims.old.held claims.new.held) }
     ensures keyed { OnOk result (AreKeyedBelow image.now.bytes (L.form over.now) 0 node.now) }
     ensures end { claims.new.end ≡ claims.old.end }

@@ -3,7 +3,7 @@ ghost use Rattle.std.specs.Prelude.{◌≡◌, ◌+◌, ◌*◌, ◌^◌, ◌<�
 ghost use Rattle.h5_bytes.specs.Bytes.{undefined};
 ghost use Rattle.h5_model.specs.Format.PlainLength.{rows_of};
 ghost use Rattle.h5_model.specs.Format.Sizes.{group_node};
-ghost use Rattle.h5_btree.specs.Writing.Written.{chunks, raised, row_bytes};
+ghost use Rattle.h5_btree.specs.Writing.Written.{chunks, as_children, row_bytes};
 
 use crate::write::child::Child;
 use crate::write::node::{last_below, node_size, push_node, split_node};
@@ -20,7 +20,7 @@ pub(crate) fn raise(
     requires low { 1 ≤ internal }
     requires some { 1 ≤ length children.now }
     requires room { at + rows_of (2 * internal) (length children.now) * group_node internal < 2 ^ 63 }
-    ensures { IfOk result (λ row. row.items ≡ raised internal at 0 (chunks (2 * internal) children.now)) }
+    ensures { IfOk result (λ row. row.items ≡ as_children internal at 0 (chunks (2 * internal) children.now)) }
 {
     let most = 2 * usize::from(internal);
     let mut row = Vec::with_capacity(alloc, children.len().div_ceil(most))?;

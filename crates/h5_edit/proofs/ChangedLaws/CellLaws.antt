@@ -15,12 +15,12 @@ use Rattle.h5_model.specs.declared.dataset.Spec.{Spec}
 use Rattle.h5_model.specs.declared.dataset.Store.{Store}
 use Rattle.h5_model.specs.declared.dataset.Store.TheVariants as store
 use Rattle.h5_model.proofs.StoredValues.{stored-cells_bytes}
-use Rattle.h5_query.specs.Described.{Described, array_of, dataset_in}
+use Rattle.h5_query.specs.Described.{Described, array_of, described_dataset}
 use Rattle.h5_query.specs.Kept.{array_dataset}
 use Rattle.h5_query.specs.Opened.Judged.{IsArrayList}
 use Rattle.h5_query.specs.Stored.{AreFilled, AreStored, IsArray}
 use Rattle.h5_query.specs.Told.{array_told}
-use Rattle.h5_repack.specs.Blocks.Written.{AreCells}
+use Rattle.h5_repack.specs.Blocks.Written.{AreCellsToWrite}
 use Rattle.h5_repack.specs.Bodies.Sound.{IsPlainArray}
 use Rattle.h5_repack.specs.Objects.Objects.{IsNewArray}
 use Rattle.h5_repack.specs.declared.blocks.cells.Cells.{Cells}
@@ -57,18 +57,18 @@ module _ (image : List ℕ) (ms : List Message) (is : IsArrayList ms) where
   in_block : d.storage ≡ Contiguous flag
   in_block = ap (storage_of (array_told ms).sizes) ((is.carried).in_block)
 
-  written : (c : Cells) → AreCells c d → IsNewArray (array_told ms) c d
+  written : (c : Cells) → AreCellsToWrite c d → IsNewArray (array_told ms) c d
   written c are = record { fixed_is = refl; sizes_are = refl; maxima_are = refl; fill_is = refl; cells_are = are }
 
   module _ (a : Described) (told : a ≡ array_told ms) where
-    pub unset_array : AreFilled (dataset_in image a empty) → IsNewArray a Unset d
+    pub unset_array : AreFilled (described_dataset image a empty) → IsNewArray a Unset d
     unset_array filled =
-        let own = subst (λ (x : Described). AreFilled (dataset_in image x empty)) told filled in
+        let own = subst (λ (x : Described). AreFilled (described_dataset image x empty)) told filled in
         subst (λ (x : Described). IsNewArray x Unset d) (sym told) (written Unset (unset_by d flag in_block own.1))
 
-    pub stored_array : (bytes : Bor (List ℕ)) → AreBytes bytes.now → AreStored (dataset_in image a empty) bytes.now → IsNewArray a (Stored bytes) d
+    pub stored_array : (bytes : Bor (List ℕ)) → AreBytes bytes.now → AreStored (described_dataset image a empty) bytes.now → IsNewArray a (Stored bytes) d
     stored_array bytes low stored =
-        let own = subst (λ (x : Described). AreStored (dataset_in image x empty) bytes.now) told stored in
+        let own = subst (λ (x : Described). AreStored (described_dataset image x empty) bytes.now) told stored in
         subst (λ (x : Described). IsNewArray x (Stored bytes) d) (sym told) (written (Stored bytes) (
           stored_by d flag in_block own.2,
           bytes_of_stored d.fixed (cells d.sizes) bytes.now (type_read ms (array_told ms) is.array) low own.0 ∙ ap (cells_bytes d.fixed) (sym own.1),

@@ -11,7 +11,7 @@ use Rattle.std.specs.FinMap.{entries, insert, remove, put, is_sorted, from_sorte
 use Rattle.std.specs.FinMap.Entries.{by_order, is_sorted-where_key}
 use Rattle.h5_model.proofs.MapSteps.{remove_by_name, entries_by_name}
 use Rattle.h5_model.specs.Tree.Objects.{Attribute, Attributes}
-use Rattle.h5_edit.specs.Changed.Appended.{IsPlaceOf, Named, without}
+use Rattle.h5_edit.specs.Changed.Appended.{IsPlaceOf, NamedAttributes, without}
 
 abbrev order : List ℕ → List ℕ → Ordering
 order = slice_cmp nat_cmp
@@ -79,7 +79,7 @@ entries-removed m name =
 pub entries-set : (m : Attributes) (name : List ℕ) (a : Attribute) → entries (insert m name a) ≡ put (slice_cmp nat_cmp) name a (entries m)
 entries-set m name a = entries-insert nat_list_cmp_total m name a
 
-pub length-without : (name : List ℕ) (es : Named) → length (without name es) ≤ length es
+pub length-without : (name : List ℕ) (es : NamedAttributes) → length (without name es) ≤ length es
 length-without name es =
     let other : List ℕ × Attribute → Bool = λ e. not (eq_by_cmp (slice_cmp nat_cmp) name e.0) in
     omega (arith, length-filter other es, count_by-le-length other es)

@@ -10,11 +10,11 @@ use Rattle.std.specs.FinMap.{empty}
 use Rattle.std.specs.BTreeMap.{BTreeMap}
 use Rattle.h5_header.specs.Listed.{messages_in}
 use Rattle.h5_query.specs.Links as group
-use Rattle.h5_query.specs.Links.{IsGroupRead, link_from}
+use Rattle.h5_query.specs.Links.{IsGroupRead, lent_link}
 use Rattle.h5_query.specs.GroupType.{Group}
 use Rattle.h5_model.specs.declared.object_no.ObjectNo.{ObjectNo}
 use Rattle.h5_model.specs.declared.link.Link.{Link as LinkOf}
-use Rattle.h5_query.specs.Listed.{IsLed}
+use Rattle.h5_query.specs.Listed.{IsLinkLed}
 use Rattle.h5_query.proofs.ListedLaws.{found_led}
 use Rattle.h5_model.specs.Edits.Applied.{new_object, new_dataset}
 use Rattle.h5_model.specs.Format.Messages.{Message}
@@ -56,7 +56,7 @@ module _ (image : List ℕ) (objects : List OpenedObject) (numbers : BTreeMap �
     read = (subst (IsContentKept image ms) is kept.content).2
 
     -- each link leads to an object's header
-    pub led : (found : List (LinkOf ℕ)) → map link_from found ≡ group.links_of image g → AllByRecursion (IsLed (headers objects)) found
+    pub led : (found : List (LinkOf ℕ)) → map lent_link found ≡ group.links_of_group image g → AllByRecursion (IsLinkLed (headers objects)) found
     led found all = found_led image objects numbers opened there.0 o there.1 g is found all
 
 -- ---- new objects

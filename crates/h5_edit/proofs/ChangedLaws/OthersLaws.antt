@@ -14,13 +14,13 @@ use Rattle.h5_repack.specs.Blocks.Others.{OthersBytes}
 use Rattle.h5_repack.specs.Blocks.Written.{AreOthers}
 use Rattle.h5_edit.specs.declared.change.edit.ObjectEdit.{ObjectEdit}
 use Rattle.h5_edit.specs.declared.change.edit.ObjectEdit.TheVariants as edit
-use Rattle.h5_edit.specs.Changed.Appended.{Appends, HasPlaces, IsPlaceOf, Named, attribute_messages, kept_messages, merged, merged_by}
+use Rattle.h5_edit.specs.Changed.Appended.{Appends, HasPlaces, IsPlaceOf, NamedAttributes, attribute_messages, kept_messages, merged, merged_by}
 use Rattle.h5_edit.specs.Changed.Edited.{edited_by}
 use Rattle.h5_edit.proofs.ChangedLaws.PushedLaws.{appends_both}
 use Rattle.h5_edit.proofs.ChangedLaws.MergedLaws.{entries-set, entries-removed}
 
 -- attributes before the place of a name, the new one, and those behind
-pub appended_with : (a b c d : OthersBytes) (name : List ℕ) (new : Attribute) (es : Named) (before behind : ℕ) → IsPlaceOf name es before behind
+pub appended_with : (a b c d : OthersBytes) (name : List ℕ) (new : Attribute) (es : NamedAttributes) (before behind : ℕ) → IsPlaceOf name es before behind
     → Appends a b (attribute_messages (take before es)) → Appends b c (attribute_message (name, new) ∷ []) → Appends c d (attribute_messages (drop behind es))
     → Appends a d (attribute_messages (put (slice_cmp nat_cmp) name new es))
 appended_with a b c d name new es before behind is first one last =
@@ -30,7 +30,7 @@ appended_with a b c d name new es before behind is first one last =
     ∙ sym (append_assoc (attribute_messages (take before es)) (attribute_message (name, new) ∷ []) (attribute_messages (drop behind es))) in
     subst (Appends a d) (sym all) (appends_both a c d _ _ (appends_both a b c _ _ first one) last)
 
-module _ (o after : OthersBytes) (ms : List Message) (list : Named) (none : AreOthers [] o) (kept : Appends o after (kept_messages ms))
+module _ (o after : OthersBytes) (ms : List Message) (list : NamedAttributes) (none : AreOthers [] o) (kept : Appends o after (kept_messages ms))
     (sorted : list ≡ entries (attributes_of ms)) where
   -- there are places for the attributes, and one more
   pub places_for : 1 + length (others_of (object_with (Group empty) ms)) ≤ 65535 → HasPlaces after (1 + length list)

@@ -12,7 +12,7 @@ use Rattle.h5_model.specs.Tree.Objects.{Attribute}
 use Rattle.h5_model.specs.Format.Reads.{is_kept, kept_of}
 use Rattle.h5_repack.specs.Bodies.Bodies.{attribute_message}
 use Rattle.h5_repack.specs.Bodies.Sound.{IsPlainKept}
-use Rattle.h5_edit.specs.Changed.Appended.{Named, attribute_messages, kept_in, kept_messages, without}
+use Rattle.h5_edit.specs.Changed.Appended.{NamedAttributes, attribute_messages, kept_in, kept_messages, without}
 
 -- ---- kept messages
 
@@ -42,7 +42,7 @@ module _ (image : List ℕ) (list : List Placed) (i : ℕ) (d : Placed) (low : i
 
 -- ---- attributes with another name
 
-module _ (name : List ℕ) (es : Named) (i : ℕ) (e : List ℕ × Attribute) (text : List ℕ) (low : i < length es) (is : e ≡ get_or es i e) (named : text ≡ e.0) where
+module _ (name : List ℕ) (es : NamedAttributes) (i : ℕ) (e : List ℕ × Attribute) (text : List ℕ) (low : i < length es) (is : e ≡ get_or es i e) (named : text ≡ e.0) where
   tested : pointwise nat_eq name text ≡ eq_by_cmp (slice_cmp nat_cmp) name e.0
   tested = ap (pointwise nat_eq name) named ∙ texts_ties name e.0
 

@@ -12,13 +12,13 @@ use Rattle.h5_query.specs.Attributes.{attributes_of}
 use Rattle.h5_query.specs.OpenedObjectType.{OpenedObject}
 use Rattle.h5_query.specs.Opened.Kept.{IsOpened}
 use Rattle.h5_query.specs.Opened.Objects.{headers, object_in, tree_of}
-use Rattle.h5_query.specs.Place.{LeadsTo}
+use Rattle.h5_query.specs.Place.{PathLeadsTo}
 use Rattle.h5_query.proofs.Indexed.{object_there, object_kept}
 use Rattle.h5_edit.specs.Refusals.Allowed.{IsAt, IsRuledOut}
 use Rattle.h5_edit.proofs.RuleLaws.Verdicts.{name_refused, removed_at}
 
 module _ (image : List ℕ) (objects : List OpenedObject) (numbers : BTreeMap ℕ ℕ) (opened : IsOpened image objects numbers) (number : ℕ) (o : OpenedObject)
-    (at : slice_get objects number ≡ Some o) (next : ℕ) (path name : List ℕ) (leads : LeadsTo (tree_of image objects) path (ToObject number)) where
+    (at : slice_get objects number ≡ Some o) (next : ℕ) (path name : List ℕ) (leads : PathLeadsTo (tree_of image objects) path (ToObject number)) where
   abbrev T : Tree
   T = tree_of image objects
 

@@ -11,7 +11,7 @@ use Rattle.h5_model.specs.declared.edit_fault.EditFault.TheVariants as fault
 use Rattle.h5_query.specs.Place.{IsNoSpot, group_rules}
 use Rattle.h5_query.proofs.PathLaws.{last-parent}
 use Rattle.h5_edit.specs.declared.rules.place.NewPlace.{NewPlace}
-use Rattle.h5_edit.specs.Refusals.Rules.{path_fault, is_new_fault, IsFree, IsNotFree}
+use Rattle.h5_edit.specs.Refusals.Rules.{path_fault, is_new_fault, IsFreePlace, IsNotFree}
 
 -- ---- the rules of the two tables
 
@@ -103,7 +103,7 @@ module _ (tree : Tree) (path : List ℕ) where
         pub long_refused : 1023 < length name → IsNotFree tree path fault.NameTooLong
         long_refused over = by_length true (grind (arith, nat_tests))
 
-        pub free_there : (p : NewPlace) → p.parent ≡ parent → p.name.now ≡ name → length name ≤ 1023 → IsFree tree path p
+        pub free_there : (p : NewPlace) → p.parent ≡ parent → p.name.now ≡ name → length name ≤ 1023 → IsFreePlace tree path p
         free_there p number named short = record {
           allowed = by_length false (grind (arith, nat_tests));
           parent = there ∙ (λ i. Some (sym number i, sym named i));

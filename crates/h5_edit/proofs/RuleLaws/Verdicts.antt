@@ -11,11 +11,11 @@ use Rattle.h5_model.specs.declared.dataset.Spec.{Spec}
 use Rattle.h5_model.specs.declared.edits.Edit.TheVariants.{CreateGroup, CreateDataset, HardLink, SoftLink, SetAttr, RemoveAttr}
 use Rattle.h5_model.specs.declared.edit_fault.EditFault.{EditFault}
 use Rattle.h5_model.specs.declared.edit_fault.EditFault.TheVariants as fault
-use Rattle.h5_query.specs.Place.{LeadsTo, IsNoObject}
+use Rattle.h5_query.specs.Place.{PathLeadsTo, IsNoObject}
 use Rattle.h5_query.proofs.RuleLaws.{first-behind}
 use Rattle.h5_edit.specs.declared.rules.place.NewPlace.{NewPlace}
-use Rattle.h5_edit.specs.Refusals.Allowed.{is_carried_spec, IsPlaced, IsLinkPlaced, IsAt, IsRuledOut}
-use Rattle.h5_edit.specs.Refusals.Rules.{path_fault, is_new_fault, is_object_fault, is_text_fault, lower_of, lower_fault, IsFree, IsNotFree, own_rules, spec_rules, number_rules, target_rules}
+use Rattle.h5_edit.specs.Refusals.Allowed.{is_carried_spec, IsPlaceAllowed, IsLinkPlaced, IsAt, IsRuledOut}
+use Rattle.h5_edit.specs.Refusals.Rules.{path_fault, is_new_fault, is_object_fault, is_text_fault, lower_of, lower_fault, IsFreePlace, IsNotFree, own_rules, spec_rules, number_rules, target_rules}
 use Rattle.h5_edit.proofs.RuleLaws.FaultLaws.{behind}
 use Rattle.h5_edit.proofs.RuleLaws.TableLaws.{group_table, array_table, hard_table, target_asked, soft_table, set_table, remove_table, missing_rules, object_fault}
 
@@ -39,14 +39,14 @@ module _ (tree : Tree) (next : ℕ) (path : List ℕ) where
   pub group_refused : (e : EditFault) → IsNotFree tree path e → IsRuledOut tree next (CreateGroup path) e
   group_refused e h = group_table tree next path ∙ ap (λ o. behind o (first_holding (number_rules next))) h
 
-  module _ (p : NewPlace) (free : IsFree tree path p) where
+  module _ (p : NewPlace) (free : IsFreePlace tree path p) where
     group_behind : refusal_of tree next (CreateGroup path) ≡ first_holding (number_rules next)
     group_behind = group_table tree next path ∙ ap (λ o. behind o (first_holding (number_rules next))) free.allowed
 
     pub no_group_left : nat_le 4294967295 next ≡ true → IsRuledOut tree next (CreateGroup path) fault.TooManyObjects
     no_group_left many = group_behind ∙ used_up next many
 
-    pub group_placed : nat_le 4294967295 next ≡ false → IsPlaced tree next path (CreateGroup path) p
+    pub group_placed : nat_le 4294967295 next ≡ false → IsPlaceAllowed tree next path (CreateGroup path) p
     group_placed few = record { allowed = group_behind ∙ left_over next few; parent = free.parent }
 
   -- ---- new arrays
@@ -58,7 +58,7 @@ module _ (tree : Tree) (next : ℕ) (path : List ℕ) where
     pub array_refused : (e : EditFault) → IsNotFree tree path e → IsRuledOut tree next (CreateDataset path spec) e
     array_refused e h = array_table tree next path spec carried ∙ ap (λ o. behind o (first_holding array_rules)) h
 
-    module _ (p : NewPlace) (free : IsFree tree path p) where
+    module _ (p : NewPlace) (free : IsFreePlace tree path p) where
       array_behind : refusal_of tree next (CreateDataset path spec) ≡ first_holding array_rules
       array_behind = array_table tree next path spec carried ∙ ap (λ o. behind o (first_holding array_rules)) free.allowed
 
@@ -72,7 +72,7 @@ module _ (tree : Tree) (next : ℕ) (path : List ℕ) where
         pub no_array_left : nat_le 4294967295 next ≡ true → IsRuledOut tree next (CreateDataset path spec) fault.TooManyObjects
         no_array_left many = numbered ∙ used_up next many
 
-        pub array_placed : nat_le 4294967295 next ≡ false → IsPlaced tree next path (CreateDataset path spec) p
+        pub array_placed : nat_le 4294967295 next ≡ false → IsPlaceAllowed tree next path (CreateDataset path spec) p
         array_placed few = record { allowed = numbered ∙ left_over next few; parent = free.parent }
 
   -- ---- new soft links
@@ -82,7 +82,7 @@ module _ (tree : Tree) (next : ℕ) (path : List ℕ) where
         → refusal_of tree next (SoftLink text path) ≡ behind (lower_of a b) None
     by_faults a b texts paths = soft_table tree next path text ∙ (λ i. behind (lower_of (texts i) (paths i)) None)
 
-    pub text_refused : (p : NewPlace) (e : EditFault) → IsFree tree path p → path_fault (is_text_fault text) ≡ Some e → IsRuledOut tree next (SoftLink text path) e
+    pub text_refused : (p : NewPlace) (e : EditFault) → IsFreePlace tree path p → path_fault (is_text_fault text) ≡ Some e → IsRuledOut tree next (SoftLink text path) e
     text_refused p e free h = by_faults (Some e) None h free.allowed
 
     pub both_refused : (e f : EditFault) → path_fault (is_text_fault text) ≡ Some e → IsNotFree tree path f → IsRuledOut tree next (SoftLink text path) (lower_fault e f)
@@ -92,12 +92,12 @@ module _ (tree : Tree) (next : ℕ) (path : List ℕ) where
       soft_refused : (f : EditFault) → IsNotFree tree path f → IsRuledOut tree next (SoftLink text path) f
       soft_refused f g = by_faults None (Some f) allowed g
 
-      soft_placed : (p : NewPlace) → IsFree tree path p → IsPlaced tree next path (SoftLink text path) p
+      soft_placed : (p : NewPlace) → IsFreePlace tree path p → IsPlaceAllowed tree next path (SoftLink text path) p
       soft_placed p free = record { allowed = by_faults None None allowed free.allowed; parent = free.parent }
 
       -- where the text is allowed, the path decides
-      pub soft_answered : (r : Result NewPlace EditFault) → MatchResult r (IsFree tree path) (IsNotFree tree path)
-          → MatchResult r (IsPlaced tree next path (SoftLink text path)) (IsRuledOut tree next (SoftLink text path))
+      pub soft_answered : (r : Result NewPlace EditFault) → MatchResult r (IsFreePlace tree path) (IsNotFree tree path)
+          → MatchResult r (IsPlaceAllowed tree next path (SoftLink text path)) (IsRuledOut tree next (SoftLink text path))
       soft_answered (Ok p) free = soft_placed p free
       soft_answered (Err e) h = soft_refused e h
 
@@ -106,7 +106,7 @@ module _ (tree : Tree) (next : ℕ) (path : List ℕ) where
   pub object_refused : (e : EditFault) → IsNoObject tree path e → path_fault (is_object_fault tree path) ≡ Some e
   object_refused e h = sym (object_fault tree path) ∙ h
 
-  module _ (number : ℕ) (leads : LeadsTo tree path (ToObject number)) where
+  module _ (number : ℕ) (leads : PathLeadsTo tree path (ToObject number)) where
     pub object_allowed : path_fault (is_object_fault tree path) ≡ None
     object_allowed =
         sym (object_fault tree path)
@@ -122,7 +122,7 @@ module _ (tree : Tree) (next : ℕ) (path : List ℕ) where
     pub set_refused : (e : EditFault) → IsNoObject tree path e → IsRuledOut tree next (SetAttr path attr) e
     set_refused e h = set_table tree next path attr ∙ ap (λ o. behind o (first_holding (own_rules attr))) (object_refused e h)
 
-    module _ (number : ℕ) (leads : LeadsTo tree path (ToObject number)) where
+    module _ (number : ℕ) (leads : PathLeadsTo tree path (ToObject number)) where
       set_behind : refusal_of tree next (SetAttr path attr) ≡ first_holding (own_rules attr)
       set_behind = set_table tree next path attr ∙ ap (λ o. behind o (first_holding (own_rules attr))) (object_allowed number leads)
 
@@ -138,7 +138,7 @@ module _ (tree : Tree) (next : ℕ) (path : List ℕ) where
     pub remove_refused : (e : EditFault) → IsNoObject tree path e → IsRuledOut tree next (RemoveAttr path name) e
     remove_refused e h = remove_table tree next path name ∙ ap (λ o. behind o (first_holding (missing_rules tree next path name))) (object_refused e h)
 
-    module _ (number : ℕ) (leads : LeadsTo tree path (ToObject number)) (o : Object) (there : get tree number ≡ Some o) where
+    module _ (number : ℕ) (leads : PathLeadsTo tree path (ToObject number)) (o : Object) (there : get tree number ≡ Some o) where
       by_entry : (entry : Option Attribute) → get o.attributes name ≡ entry → refusal_of tree next (RemoveAttr path name) ≡ (if is_some entry then None else Some fault.NoSuchAttribute)
       by_entry entry got =
           remove_table tree next path name
@@ -161,17 +161,17 @@ module _ (tree : Tree) (next : ℕ) (target path : List ℕ) where
       → refusal_of tree next (HardLink target path) ≡ behind (lower_of a b) (first_holding (target_asked tree next path target))
   by_paths a b targets paths = hard_table tree next path target ∙ (λ i. behind (lower_of (targets i) (paths i)) (first_holding (target_asked tree next path target)))
 
-  pub target_refused : (p : NewPlace) (e : EditFault) → IsNoObject tree target e → IsFree tree path p → IsRuledOut tree next (HardLink target path) e
+  pub target_refused : (p : NewPlace) (e : EditFault) → IsNoObject tree target e → IsFreePlace tree path p → IsRuledOut tree next (HardLink target path) e
   target_refused p e h free = by_paths (Some e) None (object_refused tree next target e h) free.allowed
 
   pub paths_refused : (e f : EditFault) → IsNoObject tree target e → IsNotFree tree path f → IsRuledOut tree next (HardLink target path) (lower_fault e f)
   paths_refused e f h g = by_paths (Some e) (Some f) (object_refused tree next target e h) g
 
-  module _ (number : ℕ) (leads : LeadsTo tree target (ToObject number)) where
+  module _ (number : ℕ) (leads : PathLeadsTo tree target (ToObject number)) where
     pub hard_refused : (f : EditFault) → IsNotFree tree path f → IsRuledOut tree next (HardLink target path) f
     hard_refused f g = by_paths None (Some f) (object_allowed tree next target number leads) g
 
-    module _ (p : NewPlace) (free : IsFree tree path p) where
+    module _ (p : NewPlace) (free : IsFreePlace tree path p) where
       hard_behind : refusal_of tree next (HardLink target path) ≡ first_holding (target_rules tree number)
       hard_behind = by_paths None None (object_allowed tree next target number leads) free.allowed ∙ rw leads.1 refl
 

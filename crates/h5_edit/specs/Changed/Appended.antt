@@ -33,23 +33,23 @@ abbrev pub kept_messages : List Message → List (ℕ × List ℕ)
 kept_messages ms = map kept_message (kept_in ms)
 
 -- attributes by their names
-abbrev pub Named : Type 0
-Named = List (List ℕ × Attribute)
+abbrev pub NamedAttributes : Type 0
+NamedAttributes = List (List ℕ × Attribute)
 
-abbrev pub attribute_messages : Named → List (ℕ × List ℕ)
+abbrev pub attribute_messages : NamedAttributes → List (ℕ × List ℕ)
 attribute_messages es = map attribute_message es
 
 -- without the attribute of this name
-abbrev pub without : List ℕ → Named → Named
+abbrev pub without : List ℕ → NamedAttributes → NamedAttributes
 without name es = filter (λ (e : List ℕ × Attribute). not (eq_by_cmp (slice_cmp nat_cmp) name e.0)) es
 
 -- ascending attributes with an edit among them
-abbrev pub merged : ObjectEdit → Named → Named
+abbrev pub merged : ObjectEdit → NamedAttributes → NamedAttributes
 merged (edit.Link l) es = es
 merged (edit.SetAttr a) es = put (slice_cmp nat_cmp) (a.now).name (attribute_from a.now) es
 merged (edit.RemoveAttr name) es = without name.now es
 
-abbrev pub merged_by : Option ObjectEdit → Named → Named
+abbrev pub merged_by : Option ObjectEdit → NamedAttributes → NamedAttributes
 merged_by None es = es
 merged_by (Some e) es = merged e es
 

@@ -17,11 +17,11 @@ use Rattle.h5_edit.specs.declared.change.edit.ObjectEdit.TheVariants as edit
 -- ---- objects of the tree
 
 -- the link that an edit adds
-abbrev pub link_in : Option ObjectEdit → Option (LinkOf ObjectNo)
-link_in (Some (edit.Link l)) = Some l
-link_in (Some (edit.SetAttr attr)) = None
-link_in (Some (edit.RemoveAttr name)) = None
-link_in None = None
+abbrev pub added_link : Option ObjectEdit → Option (LinkOf ObjectNo)
+added_link (Some (edit.Link l)) = Some l
+added_link (Some (edit.SetAttr attr)) = None
+added_link (Some (edit.RemoveAttr name)) = None
+added_link None = None
 
 -- the links of a group, and an object, with an edit
 abbrev pub links_with : Option (LinkOf ObjectNo) → Links → Links

@@ -19,7 +19,7 @@ abbrev pub is_carried_spec : Spec → Bool
 is_carried_spec s = is_contiguous s.store && length s.dims == 1
 
 -- no rule refuses the edit, and its new link is to stand in this group under this name
-pub record IsPlaced (tree : Tree) (next : ℕ) (path : List ℕ) (edit : Edit) (p : NewPlace) : Type 0 where
+pub record IsPlaceAllowed (tree : Tree) (next : ℕ) (path : List ℕ) (edit : Edit) (p : NewPlace) : Type 0 where
   pub allowed : refusal_of tree next edit ≡ None
   pub parent : parent_at tree path ≡ Some (p.parent, p.name.now)
 
@@ -30,7 +30,7 @@ pub record IsAt (tree : Tree) (next : ℕ) (path : List ℕ) (edit : Edit) (numb
 
 -- a hard link to the object of this number
 abbrev pub IsLinkPlaced : Tree → ℕ → List ℕ → List ℕ → Edit → (ℕ × NewPlace) → Type 0
-IsLinkPlaced tree next target path edit (number, p) = (object_at tree target ≡ Some number) × IsPlaced tree next path edit p
+IsLinkPlaced tree next target path edit (number, p) = (object_at tree target ≡ Some number) × IsPlaceAllowed tree next path edit p
 
 -- the lowest rule that holds
 abbrev pub IsRuledOut : Tree → ℕ → Edit → EditFault → Type 0

@@ -15,7 +15,7 @@ use Rattle.h5_model.specs.declared.dataset.Spec.{Spec}
 use Rattle.h5_model.specs.declared.edit_fault.EditFault.{EditFault}
 use Rattle.h5_model.specs.declared.edit_fault.EditFault.TheVariants as fault
 use Rattle.h5_query.specs.OpenedObjectType.{OpenedObject}
-use Rattle.h5_query.specs.Place.{LeadsTo}
+use Rattle.h5_query.specs.Place.{PathLeadsTo}
 use Rattle.h5_edit.specs.declared.rules.place.NewPlace.{NewPlace}
 
 -- ---- paths
@@ -68,7 +68,7 @@ lower_of (Some a) None = Some a
 lower_of (Some a) (Some b) = Some (lower_fault a b)
 
 -- no rule refuses the path of a new link, which is to stand here
-pub record IsFree (tree : Tree) (path : List ℕ) (p : NewPlace) : Type 0 where
+pub record IsFreePlace (tree : Tree) (path : List ℕ) (p : NewPlace) : Type 0 where
   pub allowed : path_fault (is_new_fault tree path) ≡ None
   pub parent : parent_at tree path ≡ Some (p.parent, p.name.now)
 
@@ -77,7 +77,7 @@ IsNotFree tree path e = path_fault (is_new_fault tree path) ≡ Some e
 
 -- this object stands at the path
 abbrev pub IsObject : Tree → List OpenedObject → List ℕ → (ℕ × Bor OpenedObject) → Type 0
-IsObject tree objects path (number, object) = LeadsTo tree path (ToObject number) × (slice_get objects number ≡ Some object.now)
+IsObject tree objects path (number, object) = PathLeadsTo tree path (ToObject number) × (slice_get objects number ≡ Some object.now)
 
 -- ---- what an edit alone decides, in the order of the numbers
 

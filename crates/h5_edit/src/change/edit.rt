@@ -61,7 +61,7 @@ pub(crate) fn edit_at(edit: ObjectEdit<'_>, place: u32, number: usize) -> Option
 
 /// The new link, where the edit is one.
 pub(crate) fn link_in(edit: Option<ObjectEdit<'_>>) -> Option<Link<'_, ObjectNo>>
-    ensures { result ≡ edited.link_in edit.entry }
+    ensures { result ≡ edited.added_link edit.entry }
 {
     match edit {
         Some(ObjectEdit::Link(link)) => Some(link),

@@ -5,11 +5,11 @@ ghost use Rattle.std.specs.List.{AllByRecursion, Contains};
 ghost use Rattle.std.specs.FinMap.{entries as entries_of, find, put};
 ghost use Rattle.std.specs.Ordering.{nat_cmp};
 ghost use Rattle.std.specs.Cmp.Lexicographic.{slice_cmp};
-ghost use Rattle.h5_query.specs.Links.{IsGroupRead, link_from, links_of};
+ghost use Rattle.h5_query.specs.Links.{IsGroupRead, lent_link, links_of_group};
 ghost use Rattle.h5_model.specs.declared.link.Link.{Link};
 ghost use Rattle.h5_query.specs.Opened.Kept.{IsOpened, IsIndex};
 ghost use Rattle.h5_query.specs.Opened.Objects.{headers, links_by};
-ghost use Rattle.h5_query.specs.Listed.{IsLed, IsTargetLed, in_tree, target_in};
+ghost use Rattle.h5_query.specs.Listed.{IsLinkLed, IsTargetLed, in_tree, target_in};
 ghost use Rattle.h5_model.specs.Tree.Links.{tree_link, tree_target};
 ghost use Rattle.h5_edit.specs.Changed.Appended.{IsPlaceOf};
 ghost use Rattle.h5_edit.specs.Changed.Edited.{IsFreshIn, links_with};
@@ -32,14 +32,14 @@ pub(crate) fn links_in<'a>(
 ) -> Result<Vec<Link<'a, ObjectNo>>, AllocError>
     requires opened { IsOpened image.now.bytes opened.now.objects.items opened.now.numbers }
     requires read { IsGroupRead image.now.bytes group.now }
-    requires led { (found : List (Link ℕ)) → map link_from found ≡ links_of image.now.bytes group.now
-        → AllByRecursion (IsLed (headers opened.now.objects.items)) found }
+    requires led { (found : List (Link ℕ)) → map lent_link found ≡ links_of_group image.now.bytes group.now
+        → AllByRecursion (IsLinkLed (headers opened.now.objects.items)) found }
     requires fresh { IsFreshIn new
-        (links_by (headers opened.now.objects.items) (links_of image.now.bytes group.now)) }
+        (links_by (headers opened.now.objects.items) (links_of_group image.now.bytes group.now)) }
     ensures { IfOk result (λ links. map tree_link links.items
         ≡ entries_of
         (links_with new.entry
-        (links_by (headers opened.now.objects.items) (links_of image.now.bytes group.now)))) }
+        (links_by (headers opened.now.objects.items) (links_of_group image.now.bytes group.now)))) }
 {
     let found = entries(alloc, image, group)?;
     let mut links = tree_links(alloc, image, opened, &found)?;

@@ -6,7 +6,7 @@ ghost use Rattle.h5_model.specs.Tree.Objects.{are_sizes};
 ghost use Rattle.h5_model.specs.Edits.Refusal.{are_maxima, first_holding};
 ghost use Rattle.h5_query.specs.Opened.Kept.{IsOpened};
 ghost use Rattle.h5_query.specs.Opened.Objects.{tree_of};
-ghost use Rattle.h5_edit.specs.Refusals.Allowed.{is_carried_spec, IsPlaced, IsRuledOut};
+ghost use Rattle.h5_edit.specs.Refusals.Allowed.{is_carried_spec, IsPlaceAllowed, IsRuledOut};
 ghost use Rattle.h5_edit.specs.Refusals.Rules.{spec_rules};
 
 use crate::rules::place::{NewPlace, is_full, new_place};
@@ -41,7 +41,7 @@ pub fn check_create_dataset<'a>(
     requires carried { is_carried_spec spec.now ≡ true }
     ensures { let tree = tree_of image.now.bytes opened.now.objects.items in
         let next = length opened.now.objects.items in
-        MatchResult result (IsPlaced tree next path.now (CreateDataset path.now spec.now))
+        MatchResult result (IsPlaceAllowed tree next path.now (CreateDataset path.now spec.now))
         (IsRuledOut tree next (CreateDataset path.now spec.now)) }
 {
     let place = new_place(image, opened, path)?;

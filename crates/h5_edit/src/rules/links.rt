@@ -5,7 +5,7 @@ ghost use Rattle.h5_model.specs.declared.edits.Edit.TheVariants.{CreateGroup, Ha
 ghost use Rattle.h5_model.specs.Edits.Refusal.{first_holding};
 ghost use Rattle.h5_query.specs.Opened.Kept.{IsOpened};
 ghost use Rattle.h5_query.specs.Opened.Objects.{tree_of};
-ghost use Rattle.h5_edit.specs.Refusals.Allowed.{IsPlaced, IsLinkPlaced, IsRuledOut};
+ghost use Rattle.h5_edit.specs.Refusals.Allowed.{IsPlaceAllowed, IsLinkPlaced, IsRuledOut};
 ghost use Rattle.h5_edit.specs.Refusals.Rules.{is_text_fault, path_fault, target_rules};
 
 use crate::rules::limits::{MAX_LINKS, MAX_NAME};
@@ -27,7 +27,7 @@ pub fn check_create_group<'a>(
     requires { IsOpened image.now.bytes opened.now.objects.items opened.now.numbers }
     ensures { let tree = tree_of image.now.bytes opened.now.objects.items in
         let next = length opened.now.objects.items in
-        MatchResult result (IsPlaced tree next path.now (CreateGroup path.now))
+        MatchResult result (IsPlaceAllowed tree next path.now (CreateGroup path.now))
         (IsRuledOut tree next (CreateGroup path.now)) }
 {
     let place = new_place(image, opened, path)?;
@@ -105,7 +105,7 @@ pub fn check_soft_link<'a>(
     requires { IsOpened image.now.bytes opened.now.objects.items opened.now.numbers }
     ensures { let tree = tree_of image.now.bytes opened.now.objects.items in
         let next = length opened.now.objects.items in
-        MatchResult result (IsPlaced tree next path.now (SoftLink text.now path.now))
+        MatchResult result (IsPlaceAllowed tree next path.now (SoftLink text.now path.now))
         (IsRuledOut tree next (SoftLink text.now path.now)) }
 {
     match (check_text(text), new_place(image, opened, path)) {

@@ -4,7 +4,7 @@ ghost use Rattle.std.specs.Prelude.{◌≡◌, nat_le, MatchResult, length};
 ghost use Rattle.h5_query.specs.Opened.Kept.{IsOpened};
 ghost use Rattle.h5_query.specs.Opened.Objects.{tree_of};
 ghost use Rattle.h5_query.specs.Place.{IsNoObject};
-ghost use Rattle.h5_edit.specs.Refusals.Rules.{IsFree, IsNotFree, IsObject, lower_fault};
+ghost use Rattle.h5_edit.specs.Refusals.Rules.{IsFreePlace, IsNotFree, IsObject, lower_fault};
 
 use crate::rules::limits::{MAX_NAME, MAX_OBJECTS};
 use h5_model::EditFault;
@@ -27,7 +27,7 @@ pub(crate) fn new_place<'a>(
 ) -> Result<NewPlace<'a>, EditFault>
     requires { IsOpened image.now.bytes opened.now.objects.items opened.now.numbers }
     ensures { let tree = tree_of image.now.bytes opened.now.objects.items in
-        MatchResult result (IsFree tree path.now) (IsNotFree tree path.now) }
+        MatchResult result (IsFreePlace tree path.now) (IsNotFree tree path.now) }
 {
     match look_up(image, opened, path)? {
         Spot::Root => Err(EditFault::IsRoot),

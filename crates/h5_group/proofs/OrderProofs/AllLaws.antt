@@ -7,7 +7,7 @@ use Rattle.std.proofs.lemmas.List.Elements.{All-get_or, All-from_recursion}
 use Rattle.std.proofs.lemmas.Option.{get_or_from_slice_get, slice_get-get_or}
 use Rattle.h5_bytes.proofs.BlockLaws.{all_append}
 use Rattle.h5_model.specs.Format.Symbols.{Entry, entry_of}
-use Rattle.h5_group.specs.Order.Rising.{name_of}
+use Rattle.h5_group.specs.Order.Rising.{name_of_entry}
 
 module _ {X : Type 0} (P : X → Type 0) (xs : List X) where
   pub all_at : (k : ℕ) (x : X) → k < length xs → get_or xs k x ≡ x → AllByRecursion P xs → P x
@@ -23,14 +23,14 @@ module _ {X : Type 0} (P : X → Type 0) (xs : List X) where
 
 -- the entry of which a name was read
 pub entry_named : (segment : List ℕ) (es : List Entry) (k : ℕ) (name : List ℕ) → k < length es
-    → option_map (λ (e : Entry). name_of segment e) (slice_get es k) ≡ Some name
-    → (e : Entry) × (get_or es k e ≡ e) × (name_of segment e ≡ name)
+    → option_map (λ (e : Entry). name_of_entry segment e) (slice_get es k) ≡ Some name
+    → (e : Entry) × (get_or es k e ≡ e) × (name_of_entry segment e ≡ name)
 entry_named segment es k name low is =
     let d : Entry = entry_of [] in
     let e : Entry = get_or es k d in
     let read : slice_get es k ≡ Some e = slice_get-get_or es k d low in
-    let named : Some (name_of segment e) ≡ Some name
-    = ap (λ (o : Option Entry). option_map (λ (x : Entry). name_of segment x) o) (sym read) ∙ is in
+    let named : Some (name_of_entry segment e) ≡ Some name
+    = ap (λ (o : Option Entry). option_map (λ (x : Entry). name_of_entry segment x) o) (sym read) ∙ is in
     (e, get_or_from_slice_get es k e e read, cc)
 
 -- an element is the one at its place, whatever stands for one past the end

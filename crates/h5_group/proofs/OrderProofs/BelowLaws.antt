@@ -10,7 +10,7 @@ use Rattle.h5_model.specs.Format.Symbols.{Entry, symbols_at}
 use Rattle.h5_btree.proofs.LeafLaws.{leaves-append, leaves-nil, names-append}
 use Rattle.h5_group.specs.Nodes.Trees.{kind_in}
 use Rattle.h5_group.specs.Order.Below.{names_at, symbol_nodes_under}
-use Rattle.h5_group.specs.Order.Rising.{name_of}
+use Rattle.h5_group.specs.Order.Rising.{name_of_entry}
 
 -- ---- what stands below a node stands below its children, in order
 
@@ -63,19 +63,19 @@ module _ (image segment : List ℕ) (P : List ℕ → Type 0) where
 
   -- ---- one symbol node
 
-  entries_up : (es : List Entry) → AllByRecursion (λ e. P (name_of segment e)) es → AllByRecursion P (map (name_of segment) es)
+  entries_up : (es : List Entry) → AllByRecursion (λ e. P (name_of_entry segment e)) es → AllByRecursion P (map (name_of_entry segment) es)
   entries_up [] all = tt
   entries_up (e ∷ es) all = (all.0, entries_up es all.1)
 
-  entries_down : (es : List Entry) → AllByRecursion P (map (name_of segment) es) → AllByRecursion (λ e. P (name_of segment e)) es
+  entries_down : (es : List Entry) → AllByRecursion P (map (name_of_entry segment) es) → AllByRecursion (λ e. P (name_of_entry segment e)) es
   entries_down [] all = tt
   entries_down (e ∷ es) all = (all.0, entries_down es all.1)
 
   abbrev here : ℕ → List Entry
   here at = symbols_at image (leaf_k image) at
 
-  pub symbols_up : (at : ℕ) → AllByRecursion (λ e. P (name_of segment e)) (here at) → AllNames (symbol_nodes_under image 0 at)
+  pub symbols_up : (at : ℕ) → AllByRecursion (λ e. P (name_of_entry segment e)) (here at) → AllNames (symbol_nodes_under image 0 at)
   symbols_up at all = rw (append-nil (here at)) (entries_up (here at) all)
 
-  pub symbols_down : (at : ℕ) → AllNames (symbol_nodes_under image 0 at) → AllByRecursion (λ e. P (name_of segment e)) (here at)
+  pub symbols_down : (at : ℕ) → AllNames (symbol_nodes_under image 0 at) → AllByRecursion (λ e. P (name_of_entry segment e)) (here at)
   symbols_down at all = entries_down (here at) (rw (append-nil (here at)) at all)

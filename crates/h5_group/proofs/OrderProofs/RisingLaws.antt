@@ -8,19 +8,19 @@ use Rattle.h5_model.specs.Format.Superblock.{leaf_k}
 use Rattle.h5_model.specs.Format.Symbols.{Entry, symbols_at, link_of}
 use Rattle.h5_model.specs.Format.Links.{Ascend, Before}
 use Rattle.h5_model.specs.Faults.TreeFaults.{all_entries}
-use Rattle.h5_group.specs.Order.Rising.{FallAt, FallFrom, IsAbove, RiseFrom, last_name, name_of}
+use Rattle.h5_group.specs.Order.Rising.{FallAt, FallFrom, IsAbove, RiseFrom, last_name, name_of_entry}
 
 module _ (segment : List ℕ) where
   last_append : (last : Option (List ℕ)) (xs ys : List Entry) → last_name segment last (xs ++ ys) ≡ last_name segment (last_name segment last xs) ys
   last_append last [] ys = refl
-  last_append last (x ∷ xs) ys = last_append (Some (name_of segment x)) xs ys
+  last_append last (x ∷ xs) ys = last_append (Some (name_of_entry segment x)) xs ys
 
   rise_append : (last : Option (List ℕ)) (xs ys : List Entry) → RiseFrom segment last xs → RiseFrom segment (last_name segment last xs) ys
       → RiseFrom segment last (xs ++ ys)
   rise_append last [] ys first then = then
-  rise_append last (x ∷ xs) ys first then = (first.0, rise_append (Some (name_of segment x)) xs ys first.1 then)
+  rise_append last (x ∷ xs) ys first then = (first.0, rise_append (Some (name_of_entry segment x)) xs ys first.1 then)
 
-  rise_on : (e : Entry) (es : List Entry) → RiseFrom segment (Some (name_of segment e)) es → Ascend (map (link_of segment) (e ∷ es))
+  rise_on : (e : Entry) (es : List Entry) → RiseFrom segment (Some (name_of_entry segment e)) es → Ascend (map (link_of segment) (e ∷ es))
   rise_on e [] rise = tt
   rise_on e (f ∷ es) rise = (rise.0, rise_on f es rise.1)
 
@@ -31,14 +31,14 @@ module _ (segment : List ℕ) where
 
   -- the last name is that of an entry, or the one before them
   last_among : (last : Option (List ℕ)) (es : List Entry) (name : List ℕ) → last_name segment last es ≡ Some name
-      → (last ≡ Some name) ⊎ ((x : Entry) × Contains es x × (name_of segment x ≡ name))
+      → (last ≡ Some name) ⊎ ((x : Entry) × Contains es x × (name_of_entry segment x ≡ name))
   last_among last [] name is = inl is
-  last_among last (e ∷ es) name is = elim (last_among (Some (name_of segment e)) es name is) [
+  last_among last (e ∷ es) name is = elim (last_among (Some (name_of_entry segment e)) es name is) [
     | inl here ↦ inr (e, (0, omega arith, refl), cc)
     | inr later ↦ inr (later.0, Contains-append_right (e ∷ []) es later.0 later.1, later.2)
   ]
 
-  last_of : (es : List Entry) (name : List ℕ) → last_name segment None es ≡ Some name → (x : Entry) × Contains es x × (name_of segment x ≡ name)
+  last_of : (es : List Entry) (name : List ℕ) → last_name segment None es ≡ Some name → (x : Entry) × Contains es x × (name_of_entry segment x ≡ name)
   last_of es name is = elim (last_among None es name is) [ inl none ↦ cc | inr some ↦ some ]
 
   -- ---- the entries of one symbol node
@@ -47,10 +47,10 @@ module _ (segment : List ℕ) where
     more : take (k + 1) es ≡ take k es ++ e ∷ []
     more = take_more es k e low ∙ ap (λ (x : Entry). take k es ++ x ∷ []) is
 
-    pub last_more : last_name segment last (take (k + 1) es) ≡ Some (name_of segment e)
+    pub last_more : last_name segment last (take (k + 1) es) ≡ Some (name_of_entry segment e)
     last_more = ap (last_name segment last) more ∙ last_append last (take k es) (e ∷ [])
 
-    pub rise_more : RiseFrom segment last (take k es) → IsAbove (last_name segment last (take k es)) (name_of segment e) → RiseFrom segment last (take (k + 1) es)
+    pub rise_more : RiseFrom segment last (take k es) → IsAbove (last_name segment last (take k es)) (name_of_entry segment e) → RiseFrom segment last (take (k + 1) es)
     rise_more rise above = rw more (rise_append last (take k es) (e ∷ []) rise (above, tt))
 
 -- ---- several symbol nodes
@@ -86,5 +86,5 @@ module _ (image segment symbol_nodes : List ℕ) (k at : ℕ) (low : k < length 
         take k symbol_nodes,
         drop (k + 1) symbol_nodes,
         split,
-        (i, x.0, fall.1, fall.3, fall.4, x.1, λ rises. fall.6 (subst (λ (n : List ℕ). Before n (name_of segment fall.1)) x.2 rises)),
+        (i, x.0, fall.1, fall.3, fall.4, x.1, λ rises. fall.6 (subst (λ (n : List ℕ). Before n (name_of_entry segment fall.1)) x.2 rises)),
       )

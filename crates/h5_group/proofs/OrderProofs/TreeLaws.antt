@@ -21,7 +21,7 @@ use Rattle.h5_btree.specs.Walk.Forms.{OfGroup}
 use Rattle.h5_btree.specs.Walk.Trees.{IsTree}
 use Rattle.h5_btree.specs.Walk.Stands.{IsNodeAt}
 use Rattle.h5_btree.proofs.WalkLaws.StandLaws.{nodes_stand}
-use Rattle.h5_group.specs.Nodes.Trees.{kind_in, nodes_blocks}
+use Rattle.h5_group.specs.Nodes.Trees.{kind_in, group_nodes_blocks}
 use Rattle.h5_group.specs.Nodes.Stands.{IsSymbolsAt}
 use Rattle.h5_group.proofs.NodeLaws.StandLaws.{symbols_stand}
 use Rattle.h5_group.specs.Order.Below.{HasSubtree, nodes_from}
@@ -53,7 +53,7 @@ module _ (image : List ℕ) where
 -- ---- the tree of a group
 
 module _ (image : List ℕ) (root : ℕ) (owned symbol_nodes : List ℕ) (t : IsTree image OfGroup root owned symbol_nodes)
-    (inside : Inside (length image) (nodes_blocks image owned symbol_nodes)) where
+    (inside : Inside (length image) (group_nodes_blocks image owned symbol_nodes)) where
   agrees : Agree (reading_of image (kind_in image) owned) (node_at image (kind_in image)) (nodes (reading_of image (kind_in image) owned) t.level (root ∷ []))
   agrees = subst (λ (ns : List ℕ). Agree (reading_of image (kind_in image) owned) (node_at image (kind_in image)) ns) (t.tree).owns
       (only_here blank (node_at image (kind_in image)) owned)

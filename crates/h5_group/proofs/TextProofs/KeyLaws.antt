@@ -11,8 +11,8 @@ use Rattle.h5_model.specs.Format.Heap.{KeyNames}
 use Rattle.h5_model.specs.Format.Links.{offset_in}
 use Rattle.h5_model.specs.declared.open_fault.Cause.{Cause}
 use Rattle.h5_model.specs.declared.open_fault.Cause.TheVariants.{HeapName, NoMemory}
-use Rattle.h5_heap.specs.Kept.{Kept, segment_in}
-use Rattle.h5_heap.specs.Spans.{Names, IsUnnamed, HasTaken, HasNamed}
+use Rattle.h5_heap.specs.Kept.{HeapState, segment_in}
+use Rattle.h5_heap.specs.Spans.{TakesOnce, IsUnnamed, HasTaken, HasNamed}
 use Rattle.h5_heap.proofs.RefusedLaws.{key_refused}
 use Rattle.h5_heap.proofs.TakenLaws.{contains_head}
 use Rattle.h5_group.specs.Texts.Taken.{IsSameHeap, AreKeysNamed, NamesKeys, AreUnnamed, AreKeysRefused}
@@ -36,19 +36,19 @@ module _ (keys : List (List ℕ)) (i offset : ℕ) (low : i < length keys) (is :
 
 -- ---- keys that name a text
 
-same_key : (segment : List ℕ) (old new : Kept) (offset : ℕ) → Names segment old new offset → IsSameHeap old new
+same_key : (segment : List ℕ) (old new : HeapState) (offset : ℕ) → TakesOnce segment old new offset → IsSameHeap old new
 same_key segment old new offset (inl (known, same)) = record {
-  at = ap (λ (h : Kept). h.at) same;
-  segment = ap (λ (h : Kept). h.segment) same;
-  free = ap (λ (h : Kept). h.free) same;
+  at = ap (λ (h : HeapState). h.at) same;
+  segment = ap (λ (h : HeapState). h.segment) same;
+  free = ap (λ (h : HeapState). h.free) same;
 }
 same_key segment old new offset (inr (some, unknown, takes)) = record {
-  at = ap (λ (h : Kept). h.at) takes.noted;
-  segment = ap (λ (h : Kept). h.segment) takes.noted;
-  free = ap (λ (h : Kept). h.free) takes.noted;
+  at = ap (λ (h : HeapState). h.at) takes.noted;
+  segment = ap (λ (h : HeapState). h.segment) takes.noted;
+  free = ap (λ (h : HeapState). h.free) takes.noted;
 }
 
-pub names_one : (image : List ℕ) (old new : Kept) (offset : ℕ) → Names (segment_in image old) old new offset
+pub names_one : (image : List ℕ) (old new : HeapState) (offset : ℕ) → TakesOnce (segment_in image old) old new offset
     → ((linked loose : List ℕ) → HasTaken (segment_in image old) old linked loose → HasNamed (segment_in image old) new linked loose offset)
     → NamesKeys image old new (offset ∷ [])
 names_one image old new offset names named = record {
@@ -77,7 +77,7 @@ all_more : (linked loose loose' keys : List ℕ) → ((x : ℕ) → Contains loo
 all_more linked loose loose' [] more all = tt
 all_more linked loose loose' (k ∷ keys) more all = (more_names linked loose loose' k more all.0, all_more linked loose loose' keys more all.1)
 
-module _ (image : List ℕ) (a b : Kept) (xs : List ℕ) (first : NamesKeys image a b xs) where
+module _ (image : List ℕ) (a b : HeapState) (xs : List ℕ) (first : NamesKeys image a b xs) where
   -- what was taken, as the heap has it now
   module _ (linked loose : List ℕ) (taken : HasTaken (segment_in image a) a linked loose) where
     now : AreKeysNamed (segment_in image a) b linked loose xs
@@ -86,7 +86,7 @@ module _ (image : List ℕ) (a b : Kept) (xs : List ℕ) (first : NamesKeys imag
     taken_now : HasTaken (segment_in image b) b linked now.loose'
     taken_now = subst (λ (s : List ℕ). HasTaken s b linked now.loose') (sym (segment_same image a b first.same)) now.taken
 
-    known_both : (c : Kept) (ys : List ℕ) → AreKeysNamed (segment_in image a) c linked now.loose' ys → AreKeysNamed (segment_in image a) c linked loose (xs ++ ys)
+    known_both : (c : HeapState) (ys : List ℕ) → AreKeysNamed (segment_in image a) c linked now.loose' ys → AreKeysNamed (segment_in image a) c linked loose (xs ++ ys)
     known_both c ys next = record {
       loose' = next.loose';
       taken = next.taken;
@@ -111,7 +111,7 @@ module _ (image : List ℕ) (a b : Kept) (xs : List ℕ) (first : NamesKeys imag
       | inr key ↦ within k (Contains-append_right loose (xs ++ ys) k (Contains-append_right xs ys k key))
     ]
 
-  pub names_both : (c : Kept) (ys : List ℕ) → NamesKeys image b c ys → NamesKeys image a c (xs ++ ys)
+  pub names_both : (c : HeapState) (ys : List ℕ) → NamesKeys image b c ys → NamesKeys image a c (xs ++ ys)
   names_both c ys second = record {
     same = same_both a b c first.same second.same;
     named = λ linked loose taken.
@@ -147,7 +147,7 @@ unnamed_more segment free linked loose xs ys NoMemory refused = tt
 unnamed_more segment free linked loose xs ys _ refused = absurd refused
 
 -- one key is refused
-unnamed_one : (segment : List ℕ) (heap : Kept) (linked loose : List ℕ) (offset : ℕ) → HasTaken segment heap linked loose → (cause : Cause)
+unnamed_one : (segment : List ℕ) (heap : HeapState) (linked loose : List ℕ) (offset : ℕ) → HasTaken segment heap linked loose → (cause : Cause)
     → IsUnnamed segment heap offset cause → AreUnnamed segment heap.free linked (loose ++ offset ∷ []) cause
 unnamed_one segment heap linked loose offset taken HeapName refused = λ names texts all loose' same within room sound.
     key_refused segment heap names texts all loose' sound linked loose taken same
@@ -156,12 +156,12 @@ unnamed_one segment heap linked loose offset taken HeapName refused = λ names t
 unnamed_one segment heap linked loose offset taken NoMemory refused = tt
 unnamed_one segment heap linked loose offset taken _ refused = absurd refused
 
-pub refused_one : (image : List ℕ) (heap : Kept) (offset : ℕ) (cause : Cause) → IsUnnamed (segment_in image heap) heap offset cause
+pub refused_one : (image : List ℕ) (heap : HeapState) (offset : ℕ) (cause : Cause) → IsUnnamed (segment_in image heap) heap offset cause
     → AreKeysRefused image heap (offset ∷ []) cause
 refused_one image heap offset cause refused = λ linked loose taken. unnamed_one (segment_in image heap) heap linked loose offset taken cause refused
 
 -- keys that come before and behind
-pub refused_within : (image : List ℕ) (a b : Kept) (whole before keys behind : List ℕ) (cause : Cause) → whole ≡ before ++ (keys ++ behind)
+pub refused_within : (image : List ℕ) (a b : HeapState) (whole before keys behind : List ℕ) (cause : Cause) → whole ≡ before ++ (keys ++ behind)
     → NamesKeys image a b before → AreKeysRefused image b keys cause → AreKeysRefused image a whole cause
 refused_within image a b whole before keys behind cause is first refused =
     subst (λ (zs : List ℕ). AreKeysRefused image a zs cause) (sym is)
@@ -170,8 +170,8 @@ refused_within image a b whole before keys behind cause is first refused =
 
 -- ---- keys of one node after another
 
-module _ (f : ℕ → List ℕ) (xs : List ℕ) (i : ℕ) (low : i < length xs) (image : List ℕ) (a b : Kept) (first : NamesKeys image a b (flat_map f (take i xs))) where
-  pub names_step : (c : Kept) → NamesKeys image b c (f (get_or xs i 0)) → NamesKeys image a c (flat_map f (take (i + 1) xs))
+module _ (f : ℕ → List ℕ) (xs : List ℕ) (i : ℕ) (low : i < length xs) (image : List ℕ) (a b : HeapState) (first : NamesKeys image a b (flat_map f (take i xs))) where
+  pub names_step : (c : HeapState) → NamesKeys image b c (f (get_or xs i 0)) → NamesKeys image a c (flat_map f (take (i + 1) xs))
   names_step c second = subst (NamesKeys image a c) (sym (flat_step f xs i 0 low)) (names_both image a b (flat_map f (take i xs)) first c (f (get_or xs i 0)) second)
 
   pub refused_step : (cause : Cause) → AreKeysRefused image b (f (get_or xs i 0)) cause → AreKeysRefused image a (flat_map f xs) cause

@@ -21,7 +21,7 @@ use Rattle.h5_model.specs.Faults.TreeFaults.{HasSymbolNodes, HeapNameBreach, all
 use Rattle.h5_model.specs.declared.open_fault.Cause.{Cause}
 use Rattle.h5_model.specs.declared.open_fault.Cause.TheVariants.{HeapName, BadName, NoMemory}
 use Rattle.h5_model.proofs.OneTree.{level_is, owned_is}
-use Rattle.h5_heap.specs.Kept.{Kept, segment_in}
+use Rattle.h5_heap.specs.Kept.{HeapState, segment_in}
 use Rattle.h5_heap.specs.Spans.{IsNotEmpty, HasTaken}
 use Rattle.h5_heap.proofs.NameLaws.{link_offsets, walk_takes_all, has_names}
 use Rattle.h5_heap.proofs.BreachLaws.{begin_breach, name_breach}
@@ -65,18 +65,18 @@ in_linked (x ∷ es) e offset (suc k, low, is) there =
 -- ---- the heap
 
 -- where the empty name was taken, and then these texts, the heap stays where it is
-module _ (image : List ℕ) (heap begun : Kept) (is : begun ≡ record heap { held = begun.held }) (empty : HasTaken (segment_in image heap) begun [] []) where
+module _ (image : List ℕ) (heap begun : HeapState) (is : begun ≡ record heap { held = begun.held }) (empty : HasTaken (segment_in image heap) begun [] []) where
   pub same_begun : IsSameHeap heap begun
   same_begun = record {
-    at = ap (λ (h : Kept). h.at) is;
-    segment = ap (λ (h : Kept). h.segment) is;
-    free = ap (λ (h : Kept). h.free) is;
+    at = ap (λ (h : HeapState). h.at) is;
+    segment = ap (λ (h : HeapState). h.segment) is;
+    free = ap (λ (h : HeapState). h.free) is;
   }
 
   pub taken_begun : HasTaken (segment_in image begun) begun [] []
   taken_begun = subst (λ (s : List ℕ). HasTaken s begun [] []) (sym (segment_same image heap begun same_begun)) empty
 
-  module _ (now : Kept) (offsets : List ℕ) (takes : TakesLinked image begun now offsets) where
+  module _ (now : HeapState) (offsets : List ℕ) (takes : TakesLinked image begun now offsets) where
     pub same_now : IsSameHeap heap now
     same_now = same_both heap begun now same_begun takes.same
 
@@ -85,7 +85,7 @@ module _ (image : List ℕ) (heap begun : Kept) (is : begun ≡ record heap { he
 
 -- ---- a group whose tree and heap were read
 
-module _ (image : List ℕ) (table : SymbolTable) (heap : Kept) (nodes symbol_nodes : List ℕ) (tree : IsTree image OfGroup table.tree nodes symbol_nodes)
+module _ (image : List ℕ) (table : SymbolTable) (heap : HeapState) (nodes symbol_nodes : List ℕ) (tree : IsTree image OfGroup table.tree nodes symbol_nodes)
     (fresh : IsFreshHeap image table.heap heap) where
   abbrev es : List Entry
   es = all_entries image symbol_nodes
@@ -132,7 +132,7 @@ module _ (image : List ℕ) (table : SymbolTable) (heap : Kept) (nodes symbol_no
   empty_refused _ refused = absurd refused
 
   -- the heap as it is now, after some texts were taken
-  module _ (now : Kept) (same : IsSameHeap heap now) where
+  module _ (now : HeapState) (same : IsSameHeap heap now) where
     segment_now : segment_in image now ≡ segment_of image table.heap
     segment_now = segment_same image heap now same ∙ segment_is
 
@@ -177,7 +177,7 @@ module _ (image : List ℕ) (table : SymbolTable) (heap : Kept) (nodes symbol_no
       keys_refused _ refused = absurd (refused linked [] taken)
 
       -- and the keys name texts
-      pub are_texts : (new : Kept) → NamesKeys image now new keys → AllByRecursion (IsNamed (segment_in image heap)) es
+      pub are_texts : (new : HeapState) → NamesKeys image now new keys → AllByRecursion (IsNamed (segment_in image heap)) es
           → AreTexts image (segment_of image table.heap) heap.free nodes symbol_nodes
       are_texts new named good =
           let all : AreKeysNamed (segment_in image now) new linked [] keys = named.named linked [] taken in

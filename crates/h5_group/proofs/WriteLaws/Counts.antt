@@ -6,10 +6,10 @@ use Rattle.std.proofs.lemmas.List.{length-map}
 use Rattle.std.proofs.lemmas.List.Sums.{sum_by-cons}
 use Rattle.h5_model.specs.Format.PlainLength.{rows_of, nodes_over}
 use Rattle.h5_model.specs.Format.Sizes.{group_node, symbol_node}
-use Rattle.h5_heap.specs.Writing.Links.{Leads, ToGroup, ToArray, ToText, link_of}
+use Rattle.h5_heap.specs.Writing.Links.{Leads, ToGroup, ToArray, ToText, name_and_leads}
 use Rattle.h5_heap.specs.declared.write.link.ObjectPlace.{ObjectPlace}
 use Rattle.h5_model.specs.declared.link.Link.{Link}
-use Rattle.h5_heap.specs.Writing.Written.{link_span, segment_of}
+use Rattle.h5_heap.specs.Writing.Written.{texts_span, written_segment}
 use Rattle.h5_heap.proofs.WriteLaws.Lengths.{used-le}
 use Rattle.h5_group.specs.Writing.Written.{links_length, symbol_nodes}
 
@@ -19,21 +19,21 @@ product_low count size few small =
     let most : count * size ≤ 2 ^ 33 * 2 ^ 22 = mul-le-mul count_low small in
     omega arith
 
-span_some : (l : List ℕ × Leads) → 8 ≤ link_span l
+span_some : (l : List ℕ × Leads) → 8 ≤ texts_span l
 span_some (name, ToGroup header tree heap) = omega arith
 span_some (name, ToArray header) = omega arith
 span_some (name, ToText text) = omega arith
 
-spans_some : (links : List (List ℕ × Leads)) → 8 * length links ≤ sum_by link_span links
+spans_some : (links : List (List ℕ × Leads)) → 8 * length links ≤ sum_by texts_span links
 spans_some [] = omega arith
-spans_some (l ∷ links) = omega (arith, sum_by-cons link_span l links, span_some l, spans_some links)
+spans_some (l ∷ links) = omega (arith, sum_by-cons texts_span l links, span_some l, spans_some links)
 
 -- a link for each eight bytes at most
-pub links_few : (links : List (Link ObjectPlace)) → length (segment_of (map link_of links)) ≤ 2 ^ 31 → length links < 2 ^ 32
+pub links_few : (links : List (Link ObjectPlace)) → length (written_segment (map name_and_leads links)) ≤ 2 ^ 31 → length links < 2 ^ 32
 links_few links low =
-    let some = spans_some (map link_of links) in
-    let used = used-le (map link_of links) in
-    omega (arith, length-map links link_of)
+    let some = spans_some (map name_and_leads links) in
+    let used = used-le (map name_and_leads links) in
+    omega (arith, length-map links name_and_leads)
 
 -- ---- where the parts lie
 
@@ -46,12 +46,12 @@ pub record AreCounted (leaf internal : ℕ) (links : List (List ℕ × Leads)) (
 pub counted : (leaf internal most k room nodes over tree segment rest : ℕ) (links : List (Link ObjectPlace))
     → most ≡ leaf → nodes ≡ rows_of (2 * most) (length links)
     → k ≡ internal → over ≡ nodes_over 64 (2 * internal) nodes → tree ≡ over * (32 + 32 * k)
-    → segment ≡ length (segment_of (map link_of links))
+    → segment ≡ length (written_segment (map name_and_leads links))
     → room ≡ leaf → rest ≡ nodes * (8 + 80 * room)
-    → AreCounted leaf internal (map link_of links) nodes tree (tree + 32 + segment + rest)
+    → AreCounted leaf internal (map name_and_leads links) nodes tree (tree + 32 + segment + rest)
 counted leaf internal most k room nodes over tree segment rest links same row k_is over_is tree_told segment_told room_is rest_told =
-    let nodes_are : nodes ≡ symbol_nodes leaf (map link_of links) = row ∙ (λ i. rows_of (2 * same i) (sym (length-map links link_of) i)) in
-    let tree_is : tree ≡ nodes_over 64 (2 * internal) (symbol_nodes leaf (map link_of links)) * group_node internal
+    let nodes_are : nodes ≡ symbol_nodes leaf (map name_and_leads links) = row ∙ (λ i. rows_of (2 * same i) (sym (length-map links name_and_leads) i)) in
+    let tree_is : tree ≡ nodes_over 64 (2 * internal) (symbol_nodes leaf (map name_and_leads links)) * group_node internal
     = tree_told ∙ (λ i. over_is i * (32 + 32 * k_is i)) ∙ ap (λ n. nodes_over 64 (2 * internal) n * group_node internal) nodes_are in
-    let rest_is : rest ≡ symbol_nodes leaf (map link_of links) * symbol_node leaf = rest_told ∙ (λ i. nodes_are i * (8 + 80 * room_is i)) in
+    let rest_is : rest ≡ symbol_nodes leaf (map name_and_leads links) * symbol_node leaf = rest_told ∙ (λ i. nodes_are i * (8 + 80 * room_is i)) in
     record { nodes_are = nodes_are; tree_is = tree_is; whole_is = λ i. tree_is i + 32 + segment_told i + rest_is i }

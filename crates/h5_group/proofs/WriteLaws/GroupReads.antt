@@ -19,16 +19,16 @@ use Rattle.h5_model.specs.Format.Symbols.{Entry, Target, IsEntry, symbols_of, sy
 use Rattle.h5_model.specs.Format.Symbols as symbols
 use Rattle.h5_btree.specs.declared.write.child.Child.{Child}
 use Rattle.h5_btree.specs.Writing.Written.{tree_bytes, root_level}
-use Rattle.h5_btree.specs.Writing.Laws.{IsChild, IsPlainTree}
+use Rattle.h5_btree.specs.Writing.Laws.{IsChild, HasPlainNodes}
 use Rattle.h5_btree.proofs.WriteLaws.Order.{all_map}
 use Rattle.h5_btree.proofs.WriteLaws.RowReads.{part_split}
 use Rattle.h5_btree.proofs.WriteLaws.TreeLaws.{tree_reads}
 use Rattle.h5_heap.specs.Writing.Links.{Leads, ToGroup, ToArray, ToText, target_link}
-use Rattle.h5_heap.specs.Writing.Written.{entry_of, entries_of, placed_links, segment_of, heap_bytes}
+use Rattle.h5_heap.specs.Writing.Written.{written_entry, written_entries, placed_links, written_segment, heap_bytes}
 use Rattle.h5_heap.specs.Writing.Laws.{IsEntryLow, IsPlainHeap}
 use Rattle.h5_heap.proofs.WriteLaws.Lengths.{length-heap_bytes}
 use Rattle.h5_heap.proofs.WriteLaws.HeapReads.{heap_reads, entries_low}
-use Rattle.h5_group.specs.Writing.Written.{last_name, children_of, heap_place, symbols_place, symbol_nodes, links_bytes, links_length}
+use Rattle.h5_group.specs.Writing.Written.{last_name_offset, children_of, heap_place, symbols_place, symbol_nodes, links_bytes, links_length}
 use Rattle.h5_group.specs.Writing.Laws.{ArePlainLinks, IsPlainGroup, LinksRead}
 use Rattle.h5_group.proofs.WriteLaws.SymbolNodes.{Placed}
 use Rattle.h5_group.proofs.WriteLaws.Runs.{IsRun, joined, runs_joined, runs_pieces}
@@ -73,12 +73,12 @@ module _ (at len : ℕ) (xs ys zs : List Block) (run : Run at (xs ++ (ys ++ zs))
 
 -- ---- the last names of runs
 
-name_of : (l : Placed) → (entry_of l).name ≡ l.0
+name_of : (l : Placed) → (written_entry l).name ≡ l.0
 name_of (at, (name, ToGroup header tree heap)) = refl
 name_of (at, (name, ToArray header)) = refl
 name_of (at, (name, ToText text)) = refl
 
-last_holds : (P : ℕ → Type 0) (before : ℕ) (run : List Placed) → 1 ≤ length run → AllByRecursion (λ (l : Placed). P l.0) run → P (last_name before run)
+last_holds : (P : ℕ → Type 0) (before : ℕ) (run : List Placed) → 1 ≤ length run → AllByRecursion (λ (l : Placed). P l.0) run → P (last_name_offset before run)
 last_holds P before [] some all = absurd (omega arith)
 last_holds P before (l ∷ []) some all = all.0
 last_holds P before (l ∷ m ∷ run) some all = last_holds P l.0 (m ∷ run) (omega arith) all.1
@@ -141,7 +141,7 @@ module _ (image : List ℕ) (leaf internal at : ℕ) (links : List (List ℕ × 
   tree_size = nodes_over 64 (2 * internal) (symbol_nodes leaf links) * group_node internal
 
   abbrev segment : List ℕ
-  segment = segment_of links
+  segment = written_segment links
 
   limits : AreBounds at tree_size (length segment) (symbol_nodes leaf links * symbol_node leaf)
   limits = bounds at tree_size (length segment) (symbol_nodes leaf links * symbol_node leaf) low
@@ -152,14 +152,14 @@ module _ (image : List ℕ) (leaf internal at : ℕ) (links : List (List ℕ × 
   in_runs : (P : Placed → Type 0) → AllByRecursion P (placed_links links) → AllByRecursion (AllByRecursion P) runs
   in_runs P all = all_apart P runs (subst (AllByRecursion P) (sym (runs_joined leaf (placed_links links))) all)
 
-  low_entries : AllByRecursion IsEntryLow (entries_of links)
+  low_entries : AllByRecursion IsEntryLow (written_entries links)
   low_entries = entries_low links plain.spelled limits.segment_low
 
-  low_placed : AllByRecursion (λ l. IsEntryLow (entry_of l)) (placed_links links)
-  low_placed = all_unmapped IsEntryLow entry_of (placed_links links) low_entries
+  low_placed : AllByRecursion (λ l. IsEntryLow (written_entry l)) (placed_links links)
+  low_placed = all_unmapped IsEntryLow written_entry (placed_links links) low_entries
 
   low_offsets : AllByRecursion (λ (l : Placed). l.0 < 2 ^ 64) (placed_links links)
-  low_offsets = all_map (λ l. IsEntryLow (entry_of l)) (λ (l : Placed). l.0 < 2 ^ 64) (placed_links links)
+  low_offsets = all_map (λ l. IsEntryLow (written_entry l)) (λ (l : Placed). l.0 < 2 ^ 64) (placed_links links)
       (λ l is. subst (λ n. n < 2 ^ 64) (name_of l) is.0) low_placed
 
   -- behind the symbol nodes all ends
@@ -204,7 +204,7 @@ module _ (image : List ℕ) (leaf internal at : ℕ) (links : List (List ℕ × 
 
     -- ---- the tree and the heap
 
-    plain_tree : IsPlainTree image internal at children
+    plain_tree : HasPlainNodes image internal at children
     plain_tree = tree_reads image internal at children (plain.k).internal_low (plain.k).internal_high each_child (level_low leaf internal at links plain.k plain.low)
         (subst (λ n. at + n < 2 ^ 63) (sym tree_size_is) limits.tree_end) tree_there.0
 
@@ -224,10 +224,10 @@ module _ (image : List ℕ) (leaf internal at : ℕ) (links : List (List ℕ × 
 
     said : Says S leaf nodes_at runs
     said = said_alone leaf image nodes_at runs
-        (all_said leaf (plain.k).leaf_high image nodes_at runs pieces (in_runs (λ l. IsEntryLow (entry_of l)) low_placed) nodes_there)
+        (all_said leaf (plain.k).leaf_high image nodes_at runs pieces (in_runs (λ l. IsEntryLow (written_entry l)) low_placed) nodes_there)
 
-    entries_are : flat_map S nodes ≡ entries_of links
-    entries_are = all_entries leaf S nodes_at runs said ∙ ap (λ ls. map entry_of ls) (runs_joined leaf (placed_links links))
+    entries_are : flat_map S nodes ≡ written_entries links
+    entries_are = all_entries leaf S nodes_at runs said ∙ ap (λ ls. map written_entry ls) (runs_joined leaf (placed_links links))
 
     rises : Rises segment 0 (joined runs)
     rises = subst (Rises segment 0) (sym (runs_joined leaf (placed_links links)))
@@ -236,12 +236,12 @@ module _ (image : List ℕ) (leaf internal at : ℕ) (links : List (List ℕ × 
     -- ---- the keys
 
     abbrev names : List ℕ
-    names = map (λ (e : Entry). e.name) (entries_of links)
+    names = map (λ (e : Entry). e.name) (written_entries links)
 
     placed_names : AllByRecursion (λ (l : Placed). Contains names l.0) (placed_links links)
-    placed_names = all_map (λ l. Contains names (entry_of l).name) (λ (l : Placed). Contains names l.0) (placed_links links) (λ l is. subst (Contains names) (name_of l) is)
-        (all_unmapped (λ (e : Entry). Contains names e.name) entry_of (placed_links links)
-        (all_unmapped (Contains names) (λ (e : Entry). e.name) (entries_of links) (recursion_from_All (Contains names) names (All-contains_itself names))))
+    placed_names = all_map (λ l. Contains names (written_entry l).name) (λ (l : Placed). Contains names l.0) (placed_links links) (λ l is. subst (Contains names) (name_of l) is)
+        (all_unmapped (λ (e : Entry). Contains names e.name) written_entry (placed_links links)
+        (all_unmapped (Contains names) (λ (e : Entry). e.name) (written_entries links) (recursion_from_All (Contains names) names (All-contains_itself names))))
 
     last_names : AllByRecursion (Contains names) (map (λ (c : Child). c.last) children)
     last_names = lasts_hold (Contains names) leaf nodes_at runs pieces (in_runs (λ (l : Placed). Contains names l.0) placed_names)
@@ -259,7 +259,7 @@ module _ (image : List ℕ) (leaf internal at : ℕ) (links : List (List ℕ × 
 
     listed_in : AreLinks V S (heap_header image heap_at) segment plain_tree.owned nodes (map target_link links)
     listed_in = record {
-      cached = subst (AllByRecursion IsEntry) (sym entries_are) (all_map IsEntryLow IsEntry (entries_of links) (λ e is. is.2) low_entries);
+      cached = subst (AllByRecursion IsEntry) (sym entries_are) (all_map IsEntryLow IsEntry (written_entries links) (λ e is. is.2) low_entries);
       all = sym (ap (λ es. map (symbols.link_of segment) es) entries_are ∙ plain_heap.named);
       ascending = plain.ascending;
       named = all_mapped (λ (l : List ℕ × Target). IsTrue (is_name l.0)) target_link links plain.named;

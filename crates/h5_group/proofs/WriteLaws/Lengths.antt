@@ -12,11 +12,11 @@ use Rattle.h5_btree.specs.Writing.Written.{tree_bytes, root_level}
 use Rattle.h5_btree.specs.declared.write.child.Child.{Child}
 use Rattle.h5_btree.proofs.WriteLaws.TreeLaws.{tree_length}
 use Rattle.h5_heap.specs.Writing.Links.{Leads, ToGroup, ToArray, ToText}
-use Rattle.h5_heap.specs.Writing.Written.{placed_links, link_span, segment_of, heap_bytes}
+use Rattle.h5_heap.specs.Writing.Written.{placed_links, texts_span, written_segment, heap_bytes}
 use Rattle.h5_heap.proofs.WriteLaws.Lengths.{segment_length_is, length-heap_bytes}
 use Rattle.h5_model.specs.Format.Superblock.{AreK}
 use Rattle.h5_group.specs.Writing.Written.{runs_of, children_of, symbol_nodes, symbols_place, heap_place, links_bytes, tree_level}
-use Rattle.h5_group.specs.Writing.Laws.{LinksLength, IsWritten, GroupLength}
+use Rattle.h5_group.specs.Writing.Laws.{LinksLength, IsLinkWritten, GroupLength}
 use Rattle.h5_group.proofs.WriteLaws.SymbolNodes.{Placed}
 use Rattle.h5_group.proofs.WriteLaws.Runs.{runs_pieces}
 use Rattle.h5_group.proofs.WriteLaws.Steps.{nodes_end}
@@ -55,12 +55,12 @@ pub links_length_is : LinksLength
 unfolding links_bytes
 links_length_is leaf internal at links plain =
     sum_of (tree_bytes internal at (the_children leaf internal at links)) (heap_bytes (heap_place leaf internal at links) links) (nodes_bytes leaf (the_runs leaf internal at links))
-    (nodes_over 64 (2 * internal) (symbol_nodes leaf links) * group_node internal) (length (segment_of links)) (symbol_nodes leaf links * symbol_node leaf)
+    (nodes_over 64 (2 * internal) (symbol_nodes leaf links) * group_node internal) (length (written_segment links)) (symbol_nodes leaf links * symbol_node leaf)
     (tree_long leaf internal at links plain.k plain.low) (length-heap_bytes (heap_place leaf internal at links) links) (nodes_long leaf internal at links plain.k plain.low)
 
 -- ---- against the tree
 
-same_span : (e : List ℕ × Link) (l : List ℕ × Leads) → IsWritten e l → plain.link_span e ≡ link_span l
+same_span : (e : List ℕ × Link) (l : List ℕ × Leads) → IsLinkWritten e l → plain.link_span e ≡ texts_span l
 same_span (name, ToObject number) (name', ToGroup header tree heap) is = ap (λ n. plain.link_span (n, ToObject number)) is
 same_span (name, ToObject number) (name', ToArray header) is = ap (λ n. plain.link_span (n, ToObject number)) is
 same_span (name, ToObject number) (name', ToText text) is = absurd is
@@ -68,14 +68,14 @@ same_span (name, Soft text) (name', ToGroup header tree heap) is = absurd is
 same_span (name, Soft text) (name', ToArray header) is = absurd is
 same_span (name, Soft text) (name', ToText text') is = λ i. plain.link_span (is.0 i, Soft (is.1 i))
 
-same_spans : (es : List (List ℕ × Link)) (ls : List (List ℕ × Leads)) → AllZip IsWritten es ls → sum_by plain.link_span es ≡ sum_by link_span ls
+same_spans : (es : List (List ℕ × Link)) (ls : List (List ℕ × Leads)) → AllZip IsLinkWritten es ls → sum_by plain.link_span es ≡ sum_by texts_span ls
 same_spans [] [] all = refl
 same_spans [] (l ∷ ls) all = absurd all
 same_spans (e ∷ es) [] all = absurd all
 same_spans (e ∷ es) (l ∷ ls) all = sum_by-cons plain.link_span e es
-    ∙ (λ i. same_span e l all.0 i + same_spans es ls all.1 i) ∙ sym (sum_by-cons link_span l ls)
+    ∙ (λ i. same_span e l all.0 i + same_spans es ls all.1 i) ∙ sym (sum_by-cons texts_span l ls)
 
-same_count : (es : List (List ℕ × Link)) (ls : List (List ℕ × Leads)) → AllZip IsWritten es ls → length es ≡ length ls
+same_count : (es : List (List ℕ × Link)) (ls : List (List ℕ × Leads)) → AllZip IsLinkWritten es ls → length es ≡ length ls
 same_count [] [] all = refl
 same_count [] (l ∷ ls) all = absurd all
 same_count (e ∷ es) [] all = absurd all
@@ -87,7 +87,7 @@ length_by leaf internal count segment =
 
 pub group_length : GroupLength
 group_length leaf internal group links all =
-    let spans : sum_by link_span links ≡ sum_by plain.link_span (entries group) = sym (same_spans (entries group) links all) in
-    let segment : length (segment_of links) ≡ plain.segment_size group
+    let spans : sum_by texts_span links ≡ sum_by plain.link_span (entries group) = sym (same_spans (entries group) links all) in
+    let segment : length (written_segment links) ≡ plain.plain_segment_size group
     = segment_length_is links ∙ ap (λ n. if nat_le (8 + n) 72 then 88 else 8 + n) spans in
     λ i. length_by leaf internal (sym (len-entries group ∙ same_count (entries group) links all) i) (segment i)

@@ -12,8 +12,8 @@ use Rattle.h5_model.specs.Format.Symbols as symbols
 use Rattle.h5_model.proofs.TextOrder.{not_after_itself, before_le, after_trans, not_after_trans}
 use Rattle.h5_btree.specs.Writing.Laws.{AreOrdered}
 use Rattle.h5_heap.specs.Writing.Links.{Leads, ToGroup, ToArray, ToText, target_link}
-use Rattle.h5_heap.specs.Writing.Written.{entry_of, placed, link_span}
-use Rattle.h5_group.specs.Writing.Written.{last_name, children_of}
+use Rattle.h5_heap.specs.Writing.Written.{written_entry, placed, texts_span}
+use Rattle.h5_group.specs.Writing.Written.{last_name_offset, children_of}
 use Rattle.h5_group.proofs.WriteLaws.SymbolNodes.{Placed}
 use Rattle.h5_group.proofs.WriteLaws.Runs.{IsRun, joined}
 use Rattle.h5_group.proofs.WriteLaws.SymbolPlaces.{Says}
@@ -46,21 +46,21 @@ module _ (segment : List ℕ) where
   rises_left before [] more rises = tt
   rises_left before (l ∷ run) more rises = (rises.0, rises_left l.0 run more rises.1)
 
-  rises_right : (before : ℕ) (run more : List Placed) → Rises segment before (run ++ more) → Rises segment (last_name before run) more
+  rises_right : (before : ℕ) (run more : List Placed) → Rises segment before (run ++ more) → Rises segment (last_name_offset before run) more
   rises_right before [] more rises = rises
   rises_right before (l ∷ run) more rises = rises_right l.0 run more rises.1
 
   -- no name is after the last
-  reaches : (before : ℕ) (run : List Placed) → Rises segment before run → NotAfter (name_at before) (name_at (last_name before run))
+  reaches : (before : ℕ) (run : List Placed) → Rises segment before run → NotAfter (name_at before) (name_at (last_name_offset before run))
   reaches before [] rises = own before
   reaches before (l ∷ run) rises =
-      not_after_trans (name_at before) (name_at l.0) (name_at (last_name l.0 run)) (before_le (name_at before) (name_at l.0) rises.0) (reaches l.0 run rises.1)
+      not_after_trans (name_at before) (name_at l.0) (name_at (last_name_offset l.0 run)) (before_le (name_at before) (name_at l.0) rises.0) (reaches l.0 run rises.1)
 
   abbrev IsWithin : ℕ → ℕ → List ℕ → Type 0
   IsWithin before last name = Before (name_at before) name × NotAfter name (name_at last)
 
   within : (start before : ℕ) (run : List Placed) → NotAfter (name_at start) (name_at before) → Rises segment before run
-      → AllByRecursion (IsWithin start (last_name before run)) (map (λ (e : Entry). name_at e.name) (map entry_of run))
+      → AllByRecursion (IsWithin start (last_name_offset before run)) (map (λ (e : Entry). name_at e.name) (map written_entry run))
   within start before [] low rises = tt
   within start before ((at, (name, ToGroup header tree heap)) ∷ run) low rises =
       let above = after_trans (name_at start) (name_at before) (name_at at) low rises.0 in
@@ -72,7 +72,7 @@ module _ (segment : List ℕ) where
       let above = after_trans (name_at start) (name_at before) (name_at at) low rises.0 in
       ((above, reaches at run rises.1), within start at run (before_le (name_at start) (name_at at) above) rises.1)
 
-  same_last : (before : ℕ) (run : List Placed) → 1 ≤ length run → last_name before run ≡ last_name 0 run
+  same_last : (before : ℕ) (run : List Placed) → 1 ≤ length run → last_name_offset before run ≡ last_name_offset 0 run
   same_last before [] some = absurd (omega arith)
   same_last before (l ∷ run) some = refl
 
@@ -83,11 +83,11 @@ module _ (segment : List ℕ) where
   ordered leaf S before at (run ∷ runs) all said rises =
       let last = same_last before run (all.0).0 in
       let here = rises_left before run (joined runs) rises in
-      let entries : S at ++ [] ≡ map entry_of run = append-nil (S at) ∙ said.0 in (
-        subst (λ es. AllByRecursion (IsWithin before (last_name 0 run)) (map (λ (e : Entry). name_at e.name) es)) (sym entries)
-            (subst (λ l. AllByRecursion (IsWithin before l) (map (λ (e : Entry). name_at e.name) (map entry_of run))) last (within before before run (own before) here)),
+      let entries : S at ++ [] ≡ map written_entry run = append-nil (S at) ∙ said.0 in (
+        subst (λ es. AllByRecursion (IsWithin before (last_name_offset 0 run)) (map (λ (e : Entry). name_at e.name) es)) (sym entries)
+            (subst (λ l. AllByRecursion (IsWithin before l) (map (λ (e : Entry). name_at e.name) (map written_entry run))) last (within before before run (own before) here)),
         subst (λ l. NotAfter (name_at before) (name_at l)) last (reaches before run here),
-        ordered leaf S (last_name 0 run) (at + symbol_node leaf) runs all.1 said.1
+        ordered leaf S (last_name_offset 0 run) (at + symbol_node leaf) runs all.1 said.1
             (subst (λ l. Rises segment l (joined runs)) last (rises_right before run (joined runs) rises)),
       )
 
@@ -97,18 +97,18 @@ module _ (segment : List ℕ) where
   abbrev pub AreNamed : List Placed → Type 0
   AreNamed links = AllByRecursion (λ (l : Placed). name_at l.0 ≡ (l.1).0) links
 
-  pub are_named : (at : ℕ) (links : List (List ℕ × Leads)) → map (symbols.link_of segment) (map entry_of (placed at links)) ≡ map target_link links
+  pub are_named : (at : ℕ) (links : List (List ℕ × Leads)) → map (symbols.link_of segment) (map written_entry (placed at links)) ≡ map target_link links
       → AreNamed (placed at links)
   are_named at [] same = tt
   are_named at ((name, ToGroup header tree heap) ∷ links) same =
       let parts = cons_same _ _ _ _ same in
-      (ap (λ (l : List ℕ × symbols.Target). l.0) parts.0, are_named (at + link_span (name, ToGroup header tree heap)) links parts.1)
+      (ap (λ (l : List ℕ × symbols.Target). l.0) parts.0, are_named (at + texts_span (name, ToGroup header tree heap)) links parts.1)
   are_named at ((name, ToArray header) ∷ links) same =
       let parts = cons_same _ _ _ _ same in
-      (ap (λ (l : List ℕ × symbols.Target). l.0) parts.0, are_named (at + link_span (name, ToArray header)) links parts.1)
+      (ap (λ (l : List ℕ × symbols.Target). l.0) parts.0, are_named (at + texts_span (name, ToArray header)) links parts.1)
   are_named at ((name, ToText text) ∷ links) same =
       let parts = cons_same _ _ _ _ same in
-      (ap (λ (l : List ℕ × symbols.Target). l.0) parts.0, are_named (at + link_span (name, ToText text)) links parts.1)
+      (ap (λ (l : List ℕ × symbols.Target). l.0) parts.0, are_named (at + texts_span (name, ToText text)) links parts.1)
 
   rises_from : (before at : ℕ) (links : List (List ℕ × Leads)) → AreNamed (placed at links) → Ascend (map target_link links)
       → ((l : List ℕ × Leads) (more : List (List ℕ × Leads)) → links ≡ l ∷ more → Before (name_at before) l.0) → Rises segment before (placed at links)
@@ -116,7 +116,7 @@ module _ (segment : List ℕ) where
   rises_from before at (l ∷ []) named ascend first = (subst (λ n. Before (name_at before) n) (sym named.0) (first l [] refl), tt)
   rises_from before at (l ∷ m ∷ links) named ascend first = (
     subst (λ n. Before (name_at before) n) (sym named.0) (first l (m ∷ links) refl),
-    rises_from at (at + link_span l) (m ∷ links) named.1 ascend.1
+    rises_from at (at + texts_span l) (m ∷ links) named.1 ascend.1
         (λ k more same. subst (λ (j : List ℕ × Leads). Before (name_at at) j.0) (cons_same m k links more same).0 (subst (λ n. Before n m.0) (sym named.0) ascend.0)),
   )
 

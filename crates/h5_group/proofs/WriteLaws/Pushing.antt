@@ -6,21 +6,21 @@ use Rattle.h5_model.specs.Format.Sizes.{symbol_node}
 use Rattle.h5_btree.specs.declared.write.child.Child.{Child}
 use Rattle.h5_btree.specs.Writing.Written.{tree_bytes, root_level}
 use Rattle.h5_btree.proofs.WriteLaws.Counts.{rows_few}
-use Rattle.h5_heap.specs.Writing.Links.{Leads, link_of}
+use Rattle.h5_heap.specs.Writing.Links.{Leads, name_and_leads}
 use Rattle.h5_heap.specs.declared.write.link.ObjectPlace.{ObjectPlace}
 use Rattle.h5_model.specs.declared.link.Link.{Link}
-use Rattle.h5_heap.specs.Writing.Written.{placed_links, link_span, heap_bytes}
+use Rattle.h5_heap.specs.Writing.Written.{placed_links, texts_span, heap_bytes}
 use Rattle.h5_heap.proofs.WriteLaws.Lengths.{used-le}
 use Rattle.std.proofs.lemmas.List.{length-map}
 use Rattle.h5_group.specs.declared.write.places.GroupPlaces.{GroupPlaces}
 use Rattle.h5_group.specs.Writing.Places.{ArePlaces}
-use Rattle.h5_group.specs.Writing.Written.{runs_of, children_of, symbol_bytes, symbol_nodes, links_bytes}
+use Rattle.h5_group.specs.Writing.Written.{runs_of, children_of, written_symbol_node, symbol_nodes, links_bytes}
 use Rattle.h5_group.proofs.WriteLaws.Counts.{links_few}
 use Rattle.h5_group.proofs.WriteLaws.Lengths.{the_children, children_counted, level_low, tree_long}
 
-module _ (leaf internal : ℕ) (links : List (Link ObjectPlace)) (k : AreK leaf internal) (p : GroupPlaces) (are : ArePlaces leaf internal (map link_of links) p) where
+module _ (leaf internal : ℕ) (links : List (Link ObjectPlace)) (k : AreK leaf internal) (p : GroupPlaces) (are : ArePlaces leaf internal (map name_and_leads links) p) where
   abbrev those : List (List ℕ × Leads)
-  those = map link_of links
+  those = map name_and_leads links
 
   whole_is : p.length ≡ p.tree + 32 + p.segment + symbol_nodes leaf those * symbol_node leaf
   whole_is = are.length_is ∙ (λ i. sym are.tree i + 32 + sym are.segment i + symbol_nodes leaf those * symbol_node leaf)
@@ -28,13 +28,13 @@ module _ (leaf internal : ℕ) (links : List (Link ObjectPlace)) (k : AreK leaf 
   pub parts_within : p.tree + 32 + p.segment ≤ p.length
   parts_within = omega (arith, whole_is)
 
-  pub names_low : 8 + sum_by link_span those < 2 ^ 32
+  pub names_low : 8 + sum_by texts_span those < 2 ^ 32
   names_low = omega (arith, used-le those, are.segment, parts_within, are.few)
 
   nodes_few : symbol_nodes leaf those < 2 ^ 32
   nodes_few =
       let few = links_few links (omega (arith, are.segment, parts_within, are.few)) in
-      omega (arith, rows_few (2 * leaf) (length those) (omega (arith, k.leaf_low)), length-map links link_of)
+      omega (arith, rows_few (2 * leaf) (length those) (omega (arith, k.leaf_low)), length-map links name_and_leads)
 
   module _ (at : ℕ) (children : List Child)
       (pushed : children ≡ children_of leaf (at + p.tree + 32 + p.segment) (runs_of leaf (placed_links those))) where
@@ -55,6 +55,6 @@ module _ (leaf internal : ℕ) (links : List (Link ObjectPlace)) (k : AreK leaf 
 
     -- the parts are the whole
     pub links_are : links_bytes leaf internal at those
-        ≡ tree_bytes internal at children ++ (heap_bytes (at + p.tree) those ++ flat_map (symbol_bytes leaf) (runs_of leaf (placed_links those)))
+        ≡ tree_bytes internal at children ++ (heap_bytes (at + p.tree) those ++ flat_map (written_symbol_node leaf) (runs_of leaf (placed_links those)))
     unfolding links_bytes
-    links_are = λ i. tree_bytes internal at (sym children_are i) ++ (heap_bytes (at + sym are.tree i) those ++ flat_map (symbol_bytes leaf) (runs_of leaf (placed_links those)))
+    links_are = λ i. tree_bytes internal at (sym children_are i) ++ (heap_bytes (at + sym are.tree i) those ++ flat_map (written_symbol_node leaf) (runs_of leaf (placed_links those)))

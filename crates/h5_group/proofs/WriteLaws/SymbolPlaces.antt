@@ -13,9 +13,9 @@ use Rattle.h5_model.specs.Format.Symbols as symbols
 use Rattle.h5_model.proofs.RowLaws.{only_here}
 use Rattle.h5_btree.specs.declared.write.child.Child.{Child}
 use Rattle.h5_btree.proofs.WriteLaws.RowReads.{part_split}
-use Rattle.h5_heap.specs.Writing.Written.{entry_of}
+use Rattle.h5_heap.specs.Writing.Written.{written_entry}
 use Rattle.h5_heap.specs.Writing.Laws.{IsEntryLow}
-use Rattle.h5_group.specs.Writing.Written.{symbol_bytes, children_of}
+use Rattle.h5_group.specs.Writing.Written.{written_symbol_node, children_of}
 use Rattle.h5_group.proofs.WriteLaws.SymbolNodes.{Placed, length-node, node_formed, node_reads}
 use Rattle.h5_group.proofs.WriteLaws.Runs.{IsRun, joined}
 
@@ -24,12 +24,12 @@ use Rattle.h5_group.proofs.WriteLaws.Runs.{IsRun, joined}
 -- each run's symbol node stands at its place
 abbrev pub AreThere : List ℕ → ℕ → ℕ → List (List Placed) → Type 0
 AreThere image leaf at [] = ⊤
-AreThere image leaf at (run ∷ runs) = (part at (symbol_node leaf) image ≡ symbol_bytes leaf run) × AreThere image leaf (at + symbol_node leaf) runs
+AreThere image leaf at (run ∷ runs) = (part at (symbol_node leaf) image ≡ written_symbol_node leaf run) × AreThere image leaf (at + symbol_node leaf) runs
 
 -- what is read at each place are the run's entries
 abbrev pub Says : Symbols → ℕ → ℕ → List (List Placed) → Type 0
 Says S leaf at [] = ⊤
-Says S leaf at (run ∷ runs) = (S at ≡ map entry_of run) × Says S leaf (at + symbol_node leaf) runs
+Says S leaf at (run ∷ runs) = (S at ≡ map written_entry run) × Says S leaf (at + symbol_node leaf) runs
 
 -- the addresses of children
 abbrev pub addresses : List Child → List ℕ
@@ -45,12 +45,12 @@ one_more n size = omega arith
 
 module _ (leaf : ℕ) where
   abbrev pub nodes_bytes : List (List Placed) → List ℕ
-  nodes_bytes runs = flat_map (symbol_bytes leaf) runs
+  nodes_bytes runs = flat_map (written_symbol_node leaf) runs
 
   pub length-nodes : (runs : List (List Placed)) → AllByRecursion (IsRun leaf) runs → length (nodes_bytes runs) ≡ length runs * symbol_node leaf
   length-nodes [] all = omega arith
   length-nodes (run ∷ runs) all =
-      length-append (symbol_bytes leaf run) (nodes_bytes runs)
+      length-append (written_symbol_node leaf run) (nodes_bytes runs)
       ∙ (λ i. length-node leaf run (all.0).1 i + length-nodes runs all.1 i)
       ∙ one_more (length runs) (symbol_node leaf)
 
@@ -58,8 +58,8 @@ module _ (leaf : ℕ) where
       → part at (length (nodes_bytes runs)) image ≡ nodes_bytes runs → AreThere image leaf at runs
   are_there image at [] all there = tt
   are_there image at (run ∷ runs) all there =
-      let long : length (symbol_bytes leaf run) ≡ symbol_node leaf = length-node leaf run (all.0).1 in
-      let split = part_split at (symbol_bytes leaf run) (nodes_bytes runs) image there in (
+      let long : length (written_symbol_node leaf run) ≡ symbol_node leaf = length-node leaf run (all.0).1 in
+      let split = part_split at (written_symbol_node leaf run) (nodes_bytes runs) image there in (
         ap (λ n. part at n image) (sym long) ∙ split.0,
         are_there image (at + symbol_node leaf) runs all.1 (ap (λ n. part (at + n) (length (nodes_bytes runs)) image) (sym long) ∙ split.1),
       )
@@ -90,7 +90,7 @@ module _ (leaf : ℕ) where
         (subst (IsSymbolNode leaf) (sym there.0) (node_formed leaf run (all.0).1 high), all_formed (at + symbol_node leaf) runs all.1 there.1)
 
     pub all_said : (at : ℕ) (runs : List (List Placed)) → AllByRecursion (IsRun leaf) runs
-        → AllByRecursion (AllByRecursion (λ l. IsEntryLow (entry_of l))) runs → AreThere image leaf at runs → Says (symbols_at image leaf) leaf at runs
+        → AllByRecursion (AllByRecursion (λ l. IsEntryLow (written_entry l))) runs → AreThere image leaf at runs → Says (symbols_at image leaf) leaf at runs
     all_said at [] all low there = tt
     all_said at (run ∷ runs) all low there =
         (ap symbols.entries_of there.0 ∙ node_reads leaf run (all.0).1 high low.0, all_said (at + symbol_node leaf) runs all.1 low.1 there.1)
@@ -109,7 +109,7 @@ module _ (leaf : ℕ) where
 
   -- all entries, in order
   pub all_entries : (S : Symbols) (at : ℕ) (runs : List (List Placed)) → Says S leaf at runs
-      → flat_map S (addresses (children_of leaf at runs)) ≡ map entry_of (joined runs)
+      → flat_map S (addresses (children_of leaf at runs)) ≡ map written_entry (joined runs)
   all_entries S at [] said = refl
   all_entries S at (run ∷ runs) said =
-      (λ i. said.0 i ++ all_entries S (at + symbol_node leaf) runs said.1 i) ∙ sym (map-append entry_of run (joined runs))
+      (λ i. said.0 i ++ all_entries S (at + symbol_node leaf) runs said.1 i) ∙ sym (map-append written_entry run (joined runs))

@@ -11,5 +11,5 @@ abbrev pub kind_in : List ℕ → Kind
 kind_in image = group_kind (internal_k image)
 
 -- the blocks of nodes and symbol nodes
-abbrev pub nodes_blocks : List ℕ → List ℕ → List ℕ → List Block
-nodes_blocks image nodes symbol_nodes = tree_blocks (kind_in image) nodes ++ map (symbol_block (leaf_k image)) symbol_nodes
+abbrev pub group_nodes_blocks : List ℕ → List ℕ → List ℕ → List Block
+group_nodes_blocks image nodes symbol_nodes = tree_blocks (kind_in image) nodes ++ map (symbol_block (leaf_k image)) symbol_nodes

@@ -12,7 +12,7 @@ use Rattle.h5_model.specs.declared.open_fault.Cause.TheVariants.{NameOrder, KeyO
 use Rattle.h5_group.specs.Nodes.Trees.{kind_in}
 
 -- The names in these symbol nodes ascend, and stand between the keys of each of these nodes.
-pub record AreOrdered (image segment nodes symbol_nodes : List ℕ) : Type 0 where
+pub record AreNamesOrdered (image segment nodes symbol_nodes : List ℕ) : Type 0 where
   pub ascending : Ascend (map (link_of segment) (all_entries image symbol_nodes))
   pub ordered : AllByRecursion (λ at. IsOrdered (node_at image (kind_in image)) (symbols_at image (leaf_k image)) segment (node_at image (kind_in image) at)) nodes
 

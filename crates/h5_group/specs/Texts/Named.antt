@@ -11,7 +11,7 @@ use Rattle.h5_model.specs.Format.Nodes.{node_at}
 use Rattle.h5_model.specs.Format.Symbols.{Entry, texts_of}
 use Rattle.h5_model.specs.Format.Links.{key_offsets}
 use Rattle.h5_model.specs.Faults.TreeFaults.{all_entries}
-use Rattle.h5_heap.specs.Kept.{Kept}
+use Rattle.h5_heap.specs.Kept.{HeapState}
 use Rattle.h5_group.specs.Nodes.Trees.{kind_in}
 
 -- The entries of these symbol nodes have names that a link may have; and the spans of names, soft link texts, keys of these nodes, and
@@ -23,7 +23,7 @@ pub record AreTexts (image : List ℕ) (segment : List ℕ) (free : List Block) 
       (key_offsets (node_at image (kind_in image)) nodes) loose
 
 -- the heap at this address was read, and no text of it was taken
-pub record IsFreshHeap (image : List ℕ) (at : ℕ) (heap : Kept) : Type 0 where
+pub record IsFreshHeap (image : List ℕ) (at : ℕ) (heap : HeapState) : Type 0 where
   pub at_is : heap.at ≡ at
   pub segment : heap.segment ≡ segment_block image at
   pub read : IsHeap (heap_header image at) (segment_of image at) heap.free

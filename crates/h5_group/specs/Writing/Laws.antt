@@ -40,13 +40,13 @@ LinksLength = (leaf internal at : ℕ) (links : List (List ℕ × Leads)) → Ar
     → length (links_bytes leaf internal at links) ≡ links_length leaf internal links
 
 -- a link of a tree as it is written
-abbrev pub IsWritten : List ℕ × Link → List ℕ × Leads → Type 0
-IsWritten (name, ToObject number) (name', ToGroup header tree heap) = name ≡ name'
-IsWritten (name, ToObject number) (name', ToArray header) = name ≡ name'
-IsWritten (name, Soft text) (name', ToText text') = (name ≡ name') × (text ≡ text')
-IsWritten _ _ = ⊥
+abbrev pub IsLinkWritten : List ℕ × Link → List ℕ × Leads → Type 0
+IsLinkWritten (name, ToObject number) (name', ToGroup header tree heap) = name ≡ name'
+IsLinkWritten (name, ToObject number) (name', ToArray header) = name ≡ name'
+IsLinkWritten (name, Soft text) (name', ToText text') = (name ≡ name') × (text ≡ text')
+IsLinkWritten _ _ = ⊥
 
 -- it is the length of the group's own bytes in the plain layout of a tree
 abbrev pub GroupLength : Type 0
-GroupLength = (leaf internal : ℕ) (group : Links) (links : List (List ℕ × Leads)) → AllZip IsWritten (entries group) links
+GroupLength = (leaf internal : ℕ) (group : Links) (links : List (List ℕ × Leads)) → AllZip IsLinkWritten (entries group) links
     → links_length leaf internal links ≡ group_bytes leaf internal group

@@ -3,7 +3,7 @@ use Rattle.std.specs.Prelude.{◌≡◌, ℕ, ◌*◌, ◌^◌, ◌<◌, ◌≤�
 use Rattle.h5_model.specs.Format.PlainLength.{nodes_over}
 use Rattle.h5_model.specs.Format.Sizes.{group_node}
 use Rattle.h5_heap.specs.Writing.Links.{Leads}
-use Rattle.h5_heap.specs.Writing.Written.{segment_of}
+use Rattle.h5_heap.specs.Writing.Written.{written_segment}
 use Rattle.h5_group.specs.Writing.Written.{links_length, symbol_nodes, tree_level}
 use Rattle.h5_group.specs.declared.write.places.GroupPlaces.{GroupPlaces}
 use Rattle.h5_group.specs.declared.write.places.GroupFault.{GroupFault}
@@ -11,7 +11,7 @@ use Rattle.h5_group.specs.declared.write.places.GroupFault.TheVariants.{TooLong,
 
 pub record ArePlaces (leaf internal : ℕ) (links : List (List ℕ × Leads)) (p : GroupPlaces) : Type 0 where
   pub tree : p.tree ≡ nodes_over 64 (2 * internal) (symbol_nodes leaf links) * group_node internal
-  pub segment : p.segment ≡ length (segment_of links)
+  pub segment : p.segment ≡ length (written_segment links)
   pub length_is : p.length ≡ links_length leaf internal links
   pub few : p.length ≤ 2 ^ 31
   pub low : tree_level leaf internal links ≤ 15

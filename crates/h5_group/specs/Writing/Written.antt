@@ -7,8 +7,8 @@ use Rattle.h5_model.specs.Format.Sizes.{group_node, symbol_node, text_span}
 use Rattle.h5_btree.specs.Writing.Written.{chunks, tree_bytes, root_level}
 use Rattle.h5_btree.specs.declared.write.child.Child.{Child}
 use Rattle.h5_heap.specs.Writing.Links.{Leads, ToGroup, ToArray, ToText}
-use Rattle.h5_heap.specs.Writing.Written.{placed_links, segment_of, heap_bytes}
-use Rattle.h5_snod.specs.Written.{new_bytes, node_bytes}
+use Rattle.h5_heap.specs.Writing.Written.{placed_links, written_segment, heap_bytes}
+use Rattle.h5_snod.specs.Written.{new_bytes, symbol_node_bytes}
 use Rattle.h5_snod.specs.declared.write.NewSymbol.{NewSymbol}
 use Rattle.h5_snod.specs.declared.write.NewTarget.{NewTarget}
 use Rattle.h5_snod.specs.declared.write.NewTarget.TheVariants as target
@@ -32,18 +32,18 @@ abbrev pub runs_of : ℕ → List (ℕ × (List ℕ × Leads)) → List (List (�
 runs_of leaf [] = []
 runs_of leaf (l ∷ links) = chunks (2 * leaf) (l ∷ links)
 
-abbrev pub symbol_bytes : ℕ → List (ℕ × (List ℕ × Leads)) → List ℕ
-symbol_bytes leaf run = node_bytes (map symbol_for run) (symbol_node leaf)
+abbrev pub written_symbol_node : ℕ → List (ℕ × (List ℕ × Leads)) → List ℕ
+written_symbol_node leaf run = symbol_node_bytes (map symbol_for run) (symbol_node leaf)
 
 -- the offset of the last name of a run
-abbrev pub last_name : ℕ → List (ℕ × (List ℕ × Leads)) → ℕ
-last_name before [] = before
-last_name before (l ∷ run) = last_name l.0 run
+abbrev pub last_name_offset : ℕ → List (ℕ × (List ℕ × Leads)) → ℕ
+last_name_offset before [] = before
+last_name_offset before (l ∷ run) = last_name_offset l.0 run
 
 -- the symbol nodes as the children of the tree, the first of them at this place
 abbrev pub children_of : ℕ → ℕ → List (List (ℕ × (List ℕ × Leads))) → List Child
 children_of leaf at [] = []
-children_of leaf at (run ∷ runs) = record { at = at; last = last_name 0 run } ∷ children_of leaf (at + symbol_node leaf) runs
+children_of leaf at (run ∷ runs) = record { at = at; last = last_name_offset 0 run } ∷ children_of leaf (at + symbol_node leaf) runs
 
 -- ---- the whole
 
@@ -56,17 +56,17 @@ abbrev pub heap_place : ℕ → ℕ → ℕ → List (List ℕ × Leads) → ℕ
 heap_place leaf internal at links = at + nodes_over 64 (2 * internal) (symbol_nodes leaf links) * group_node internal
 
 abbrev pub symbols_place : ℕ → ℕ → ℕ → List (List ℕ × Leads) → ℕ
-symbols_place leaf internal at links = heap_place leaf internal at links + 32 + length (segment_of links)
+symbols_place leaf internal at links = heap_place leaf internal at links + 32 + length (written_segment links)
 
 unfoldable pub links_bytes : ℕ → ℕ → ℕ → List (List ℕ × Leads) → List ℕ
 links_bytes leaf internal at links =
     tree_bytes internal at (children_of leaf (symbols_place leaf internal at links) (runs_of leaf (placed_links links)))
-    ++ (heap_bytes (heap_place leaf internal at links) links ++ flat_map (symbol_bytes leaf) (runs_of leaf (placed_links links)))
+    ++ (heap_bytes (heap_place leaf internal at links) links ++ flat_map (written_symbol_node leaf) (runs_of leaf (placed_links links)))
 
 -- how long they are
 abbrev pub links_length : ℕ → ℕ → List (List ℕ × Leads) → ℕ
 links_length leaf internal links =
-    nodes_over 64 (2 * internal) (symbol_nodes leaf links) * group_node internal + 32 + length (segment_of links)
+    nodes_over 64 (2 * internal) (symbol_nodes leaf links) * group_node internal + 32 + length (written_segment links)
     + symbol_nodes leaf links * symbol_node leaf
 
 -- the level of the tree's root, which is at most 15 in an image

@@ -6,8 +6,8 @@ ghost use Rattle.h5_model.specs.Format.Superblock.{IsSuperblock};
 ghost use Rattle.h5_model.specs.Format.Heap.{segment_of};
 ghost use Rattle.h5_btree.specs.Walk.Forms.{OfGroup};
 ghost use Rattle.h5_btree.specs.Walk.Trees.{IsTree};
-ghost use Rattle.h5_group.specs.Nodes.Trees.{nodes_blocks};
-ghost use Rattle.h5_group.specs.Order.Ordered.{AreOrdered, IsOrderRefused};
+ghost use Rattle.h5_group.specs.Nodes.Trees.{group_nodes_blocks};
+ghost use Rattle.h5_group.specs.Order.Ordered.{AreNamesOrdered, IsOrderRefused};
 
 use crate::nodes::tree_node;
 use crate::order::keys::check_keys;
@@ -34,10 +34,10 @@ pub fn check_order(
     requires superblock { IsSuperblock image.now.bytes }
     requires tree { IsTree image.now.bytes OfGroup table.tree tree.now.nodes.items tree.now.leaves.items }
     requires inside { Inside (length image.now.bytes)
-        (nodes_blocks image.now.bytes tree.now.nodes.items tree.now.leaves.items) }
+        (group_nodes_blocks image.now.bytes tree.now.nodes.items tree.now.leaves.items) }
     requires segment { segment.now ≡ segment_of image.now.bytes table.heap }
     ensures ordered { OnOk result
-        (AreOrdered image.now.bytes segment.now tree.now.nodes.items tree.now.leaves.items) }
+        (AreNamesOrdered image.now.bytes segment.now tree.now.nodes.items tree.now.leaves.items) }
     ensures refused { IfErr result (λ fault.
         IsOrderRefused image.now.bytes table tree.now.nodes.items tree.now.leaves.items fault.cause
         fault.address) }

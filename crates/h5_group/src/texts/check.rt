@@ -6,7 +6,7 @@ ghost use Rattle.h5_model.specs.Format.Superblock.{IsSuperblock};
 ghost use Rattle.h5_model.specs.Format.Heap.{segment_of};
 ghost use Rattle.h5_btree.specs.Walk.Forms.{OfGroup};
 ghost use Rattle.h5_btree.specs.Walk.Trees.{IsTree};
-ghost use Rattle.h5_group.specs.Nodes.Trees.{nodes_blocks};
+ghost use Rattle.h5_group.specs.Nodes.Trees.{group_nodes_blocks};
 ghost use Rattle.h5_group.specs.Texts.Named.{AreTexts, IsFreshHeap};
 ghost use Rattle.h5_group.specs.Texts.Refused.{AreTextsRefused};
 
@@ -36,7 +36,7 @@ pub fn check_texts(
     requires superblock { IsSuperblock image.now.bytes }
     requires tree { IsTree image.now.bytes OfGroup table.tree tree.now.nodes.items tree.now.leaves.items }
     requires inside { Inside (length image.now.bytes)
-        (nodes_blocks image.now.bytes tree.now.nodes.items tree.now.leaves.items) }
+        (group_nodes_blocks image.now.bytes tree.now.nodes.items tree.now.leaves.items) }
     requires heap { IsFreshHeap image.now.bytes table.heap heap.old }
     ensures texts { OnOk result
         (AreTexts image.now.bytes (segment_of image.now.bytes table.heap) heap.old.free tree.now.nodes.items

@@ -1,7 +1,7 @@
 //! A group's links, one part behind another.
 ghost use Rattle.std.specs.Prelude.{◌≡◌, ◌+◌, ◌^◌, ◌≤◌, ◌++◌, OnOk, map};
 ghost use Rattle.h5_model.specs.Format.Superblock.{AreK};
-ghost use Rattle.h5_heap.specs.Writing.Links.{link_of};
+ghost use Rattle.h5_heap.specs.Writing.Links.{name_and_leads};
 ghost use Rattle.h5_group.specs.Writing.Written.{links_bytes};
 ghost use Rattle.h5_group.specs.Writing.Places.{ArePlaces};
 
@@ -26,10 +26,10 @@ pub fn push_links(
     links: &[Link<'_, ObjectPlace>],
 ) -> Result<(), AllocError>
     requires k { AreK leaf internal }
-    requires places { ArePlaces leaf internal (map link_of links.now) places.now }
+    requires places { ArePlaces leaf internal (map name_and_leads links.now) places.now }
     requires low { at + places.now.length ≤ 2 ^ 31 }
     ensures { OnOk result
-        (out.new.items ≡ out.old.items ++ links_bytes leaf internal at (map link_of links.now)) }
+        (out.new.items ≡ out.old.items ++ links_bytes leaf internal at (map name_and_leads links.now)) }
 {
     let heap = at + places.tree;
     let symbols = heap + 32 + places.segment;

@@ -1,7 +1,7 @@
 //! Where the parts of a group's links stand.
 ghost use Rattle.std.specs.Prelude.{◌≡◌, ◌*◌, ◌^◌, ◌<◌, ◌≤◌, MatchResult, map};
 ghost use Rattle.h5_model.specs.Format.Superblock.{AreK};
-ghost use Rattle.h5_heap.specs.Writing.Links.{link_of};
+ghost use Rattle.h5_heap.specs.Writing.Links.{name_and_leads};
 ghost use Rattle.h5_group.specs.Writing.Places.{IsTooLarge, ArePlaces};
 
 use h5_btree::{nodes_over, root_level, rows_of};
@@ -48,8 +48,8 @@ pub fn group_places(
     links: &[Link<'_, ObjectPlace>],
 ) -> Result<GroupPlaces, GroupFault>
     requires { AreK leaf internal }
-    ensures { MatchResult result (ArePlaces leaf internal (map link_of links.now))
-        (IsTooLarge leaf internal (map link_of links.now)) }
+    ensures { MatchResult result (ArePlaces leaf internal (map name_and_leads links.now))
+        (IsTooLarge leaf internal (map name_and_leads links.now)) }
 {
     let Some(segment) = segment_length(links) else {
         return Err(GroupFault::TooLong);

@@ -3,9 +3,9 @@ ghost use Rattle.std.specs.Prelude.{◌≡◌, ◌+◌, ◌*◌, ◌^◌, ◌<�
 ghost use Rattle.std.specs.List.{flat_map};
 ghost use Rattle.h5_bytes.specs.Numbers.{zeros};
 ghost use Rattle.h5_model.specs.Format.Sizes.{symbol_node};
-ghost use Rattle.h5_heap.specs.Writing.Links.{link_of};
-ghost use Rattle.h5_heap.specs.Writing.Written.{placed, placed_links, link_span as span};
-ghost use Rattle.h5_group.specs.Writing.Written.{children_of, entry_bytes, last_name, runs_of, symbol_bytes, symbol_for, symbol_nodes};
+ghost use Rattle.h5_heap.specs.Writing.Links.{name_and_leads};
+ghost use Rattle.h5_heap.specs.Writing.Written.{placed, placed_links, texts_span as span};
+ghost use Rattle.h5_group.specs.Writing.Written.{children_of, entry_bytes, last_name_offset, runs_of, written_symbol_node, symbol_for, symbol_nodes};
 ghost use Rattle.h5_snod.specs.Written.{head_bytes};
 
 use h5_btree::Child;
@@ -36,8 +36,8 @@ fn push_head(out: &mut Vec<u8>, count: u16) -> Result<(), AllocError>
 
 /// The entry of a link whose name stands at this offset. It has a group's tree and heap, or the offset of a soft link's text.
 fn new_symbol(name: u64, link: &Link<'_, ObjectPlace>) -> NewSymbol
-    requires { name + span (link_of link.now) < 2 ^ 32 }
-    ensures { result ≡ symbol_for (name, link_of link.now) }
+    requires { name + span (name_and_leads link.now) < 2 ^ 32 }
+    ensures { result ≡ symbol_for (name, name_and_leads link.now) }
 {
     let target = match link.to {
         LinkTo::Object(ObjectPlace::Group { header, tree, heap }) => {
@@ -51,8 +51,8 @@ fn new_symbol(name: u64, link: &Link<'_, ObjectPlace>) -> NewSymbol
 
 /// The bytes of the entry of a link whose name stands at this offset.
 fn push_entry(out: &mut Vec<u8>, name: u64, link: &Link<'_, ObjectPlace>) -> Result<(), AllocError>
-    requires { name + span (link_of link.now) < 2 ^ 32 }
-    ensures { OnOk result (out.new.items ≡ out.old.items ++ entry_bytes (name, link_of link.now)) }
+    requires { name + span (name_and_leads link.now) < 2 ^ 32 }
+    ensures { OnOk result (out.new.items ≡ out.old.items ++ entry_bytes (name, name_and_leads link.now)) }
 {
     let at = push_room(out, ENTRY)?;
     write_entry(new_symbol(name, link), &mut out[at..]);
@@ -65,10 +65,10 @@ fn push_entries(
     name: u64,
     links: &[Link<'_, ObjectPlace>],
 ) -> Result<u64, AllocError>
-    requires { name + sum_by span (map link_of links.now) < 2 ^ 32 }
+    requires { name + sum_by span (map name_and_leads links.now) < 2 ^ 32 }
     ensures entries { OnOk result
-        (out.new.items ≡ out.old.items ++ flat_map entry_bytes (placed name (map link_of links.now))) }
-    ensures next { IfOk result (λ n. n ≡ name + sum_by span (map link_of links.now)) }
+        (out.new.items ≡ out.old.items ++ flat_map entry_bytes (placed name (map name_and_leads links.now))) }
+    ensures next { IfOk result (λ n. n ≡ name + sum_by span (map name_and_leads links.now)) }
 {
     let mut at = name;
     for link in links {
@@ -88,10 +88,10 @@ fn push_symbol_node(
 ) -> Result<u64, AllocError>
     requires leaf { leaf ≤ 32767 }
     requires room { length links.now ≤ 2 * leaf }
-    requires names { name + sum_by span (map link_of links.now) < 2 ^ 32 }
+    requires names { name + sum_by span (map name_and_leads links.now) < 2 ^ 32 }
     ensures node { OnOk result
-        (out.new.items ≡ out.old.items ++ symbol_bytes leaf (placed name (map link_of links.now))) }
-    ensures next { IfOk result (λ n. n ≡ name + sum_by span (map link_of links.now)) }
+        (out.new.items ≡ out.old.items ++ written_symbol_node leaf (placed name (map name_and_leads links.now))) }
+    ensures next { IfOk result (λ n. n ≡ name + sum_by span (map name_and_leads links.now)) }
 {
     push_head(out, links.len() as u16)?;
     let next = push_entries(out, name, links)?;
@@ -107,10 +107,10 @@ pub(crate) fn push_symbol_nodes(
 ) -> Result<(), AllocError>
     requires low { 1 ≤ leaf }
     requires high { leaf ≤ 32767 }
-    requires names { 8 + sum_by span (map link_of links.now) < 2 ^ 32 }
+    requires names { 8 + sum_by span (map name_and_leads links.now) < 2 ^ 32 }
     ensures { OnOk result
         (out.new.items ≡ out.old.items
-        ++ flat_map (symbol_bytes leaf) (runs_of leaf (placed_links (map link_of links.now)))) }
+        ++ flat_map (written_symbol_node leaf) (runs_of leaf (placed_links (map name_and_leads links.now)))) }
 {
     let room = 2 * usize::from(leaf);
     let mut name = 8;
@@ -133,9 +133,9 @@ struct Offsets {
 
 /// The offsets of these links' last name, and behind their texts; the first name stands at this offset.
 fn name_offsets(name: u64, links: &[Link<'_, ObjectPlace>]) -> Offsets
-    requires { name + sum_by span (map link_of links.now) < 2 ^ 32 }
-    ensures last { result.last ≡ last_name 0 (placed name (map link_of links.now)) }
-    ensures next { result.next ≡ name + sum_by span (map link_of links.now) }
+    requires { name + sum_by span (map name_and_leads links.now) < 2 ^ 32 }
+    ensures last { result.last ≡ last_name_offset 0 (placed name (map name_and_leads links.now)) }
+    ensures next { result.next ≡ name + sum_by span (map name_and_leads links.now) }
 {
     let mut last = 0;
     let mut next = name;
@@ -155,10 +155,10 @@ pub(crate) fn symbol_children(
 ) -> Result<Vec<Child>, AllocError>
     requires low { 1 ≤ leaf }
     requires high { leaf ≤ 32767 }
-    requires names { 8 + sum_by span (map link_of links.now) < 2 ^ 32 }
-    requires nodes { at + symbol_nodes leaf (map link_of links.now) * symbol_node leaf ≤ 2 ^ 31 }
+    requires names { 8 + sum_by span (map name_and_leads links.now) < 2 ^ 32 }
+    requires nodes { at + symbol_nodes leaf (map name_and_leads links.now) * symbol_node leaf ≤ 2 ^ 31 }
     ensures { IfOk result (λ v.
-        v.items ≡ children_of leaf at (runs_of leaf (placed_links (map link_of links.now)))) }
+        v.items ≡ children_of leaf at (runs_of leaf (placed_links (map name_and_leads links.now)))) }
 {
     let room = 2 * usize::from(leaf);
     let mut children = Vec::new(alloc);

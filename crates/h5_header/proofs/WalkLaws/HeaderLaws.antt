@@ -11,7 +11,7 @@ use Rattle.h5_model.specs.Faults.Breaches.{is_header, IsOverlap}
 use Rattle.h5_model.specs.declared.open_fault.Cause.{Cause}
 use Rattle.h5_model.specs.declared.open_fault.Cause.TheVariants.{Truncated, Overlap, MissingMessage, LinkCount, GroupLinkedTwice, TooLarge, NoMemory}
 use Rattle.h5_space.specs.Claimed.{Shares}
-use Rattle.h5_header.specs.Refused.{NamesBlock, header_block, IsRefused}
+use Rattle.h5_header.specs.Refused.{NamesBlock, header_block, IsHeaderRefused}
 use Rattle.h5_header.specs.Walk.Walked.{IsWalked, Breaches}
 use Rattle.h5_header.proofs.WalkLaws.WalkedLaws.{IsOther, overlap_of, not_followed, meet_of, some_length, both_of}
 
@@ -95,7 +95,7 @@ module _ (image : List ℕ) (held' : List Block) (followed : List Named) (walked
 
   -- ---- refusals
 
-  pub header_refused : (cause : Cause) (address : ℕ) → IsRefused image header held' cause address → cause ≢ NoMemory → Breaches image cause address
+  pub header_refused : (cause : Cause) (address : ℕ) → IsHeaderRefused image header held' cause address → cause ≢ NoMemory → Breaches image cause address
   header_refused Truncated address (b, inl own, e, past) other =
       (x, reached, sym (e ∙ ap (λ (c : Block). c.at) own), subst (λ (c : Block). length image < c.at + c.len) own past)
   header_refused Truncated address (b, inr (at, names), e, past) other =

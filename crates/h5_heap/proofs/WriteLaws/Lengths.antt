@@ -10,7 +10,7 @@ use Rattle.h5_bytes.specs.Numbers.{word, zeros}
 use Rattle.h5_model.specs.Format.Plain.{padded_text, texts_bytes, segment_with, heap_header_bytes, free_head_of}
 use Rattle.h5_heap.specs.Writing.Parts.{free_rest}
 use Rattle.h5_heap.specs.Writing.Links.{Leads, ToGroup, ToArray, ToText, spelled}
-use Rattle.h5_heap.specs.Writing.Written.{link_span, segment_of, heap_bytes}
+use Rattle.h5_heap.specs.Writing.Written.{texts_span, written_segment, heap_bytes}
 use Rattle.h5_heap.specs.Writing.Laws.{SegmentLength}
 
 -- the texts of links, padded, one behind another
@@ -19,7 +19,7 @@ link_texts links = flat_map padded_text (spelled links)
 
 -- the bytes that they occupy
 abbrev pub links_span : List (List ℕ × Leads) → ℕ
-links_span links = sum_by link_span links
+links_span links = sum_by texts_span links
 
 pub length-padded_text : (text : List ℕ) → length (padded_text text) ≡ text_span text
 length-padded_text text =
@@ -31,16 +31,16 @@ pub length-link_texts : (links : List (List ℕ × Leads)) → length (link_text
 length-link_texts [] = refl
 length-link_texts ((name, ToText text) ∷ links) =
     let more = length-link_texts links in
-    let sum = sum_by-cons link_span (name, ToText text) links in
+    let sum = sum_by-cons texts_span (name, ToText text) links in
     let inner = length-append (padded_text text) (link_texts links) in
     omega (arith, length-append (padded_text name) (padded_text text ++ link_texts links), length-padded_text name, length-padded_text text)
 length-link_texts ((name, ToGroup header tree heap) ∷ links) =
     let more = length-link_texts links in
-    let sum = sum_by-cons link_span (name, ToGroup header tree heap) links in
+    let sum = sum_by-cons texts_span (name, ToGroup header tree heap) links in
     omega (arith, length-append (padded_text name) (link_texts links), length-padded_text name)
 length-link_texts ((name, ToArray header) ∷ links) =
     let more = length-link_texts links in
-    let sum = sum_by-cons link_span (name, ToArray header) links in
+    let sum = sum_by-cons texts_span (name, ToArray header) links in
     omega (arith, length-append (padded_text name) (link_texts links), length-padded_text name)
 
 -- how many bytes of a segment are used
@@ -55,7 +55,7 @@ with_rest used = elim (nat_le (length used) 72) as (λ b. cond b (used ++ (word 
       | false ↦ sym (append-nil used)
     ]
 
-pub segment_is : (links : List (List ℕ × Leads)) → segment_of links ≡ texts_bytes (spelled links) ++ free_rest (8 + links_span links)
+pub segment_is : (links : List (List ℕ × Leads)) → written_segment links ≡ texts_bytes (spelled links) ++ free_rest (8 + links_span links)
 segment_is links = with_rest (texts_bytes (spelled links)) ∙ ap (λ n. texts_bytes (spelled links) ++ free_rest n) (length-used links)
 
 -- a segment has 88 bytes at least
@@ -73,17 +73,17 @@ segment_length_is links =
     ∙ ap (λ n. n + length (free_rest (8 + links_span links))) (length-used links) ∙ length-free_rest (8 + links_span links)
 
 -- the used bytes are among those of the segment
-pub used-le : (links : List (List ℕ × Leads)) → 8 + links_span links ≤ length (segment_of links)
+pub used-le : (links : List (List ℕ × Leads)) → 8 + links_span links ≤ length (written_segment links)
 used-le links =
     let parts = ap length (segment_is links) ∙ length-append (texts_bytes (spelled links)) (free_rest (8 + links_span links)) in
     omega (arith, length-used links)
 
-pub short_length : (links : List (List ℕ × Leads)) (n : ℕ) → n ≡ 8 + links_span links → n ≤ 72 → 88 ≡ length (segment_of links)
+pub short_length : (links : List (List ℕ × Leads)) (n : ℕ) → n ≡ 8 + links_span links → n ≤ 72 → 88 ≡ length (written_segment links)
 short_length links n e low =
     let test : nat_le (8 + links_span links) 72 ≡ true = grind (arith, nat_tests) in
     sym (segment_length_is links ∙ ap (λ b. if b then 88 else 8 + links_span links) test)
 
-pub long_length : (links : List (List ℕ × Leads)) (n : ℕ) → n ≡ 8 + links_span links → 72 < n → n ≡ length (segment_of links)
+pub long_length : (links : List (List ℕ × Leads)) (n : ℕ) → n ≡ 8 + links_span links → 72 < n → n ≡ length (written_segment links)
 long_length links n e high =
     let test : nat_le (8 + links_span links) 72 ≡ false = grind (arith, nat_tests) in
     e ∙ sym (segment_length_is links ∙ ap (λ b. if b then 88 else 8 + links_span links) test)
@@ -93,6 +93,6 @@ pub head_is : (links : List (List ℕ × Leads)) → free_head_of (spelled links
 head_is links = ap (λ n. if nat_le n 72 then n else 1) (length-used links)
 
 -- a heap is its header and its segment
-pub length-heap_bytes : (at : ℕ) (links : List (List ℕ × Leads)) → length (heap_bytes at links) ≡ 32 + length (segment_of links)
+pub length-heap_bytes : (at : ℕ) (links : List (List ℕ × Leads)) → length (heap_bytes at links) ≡ 32 + length (written_segment links)
 unfolding heap_bytes
-length-heap_bytes at links = length-append (heap_header_bytes (length (segment_of links)) (free_head_of (spelled links)) (at + 32)) (segment_of links)
+length-heap_bytes at links = length-append (heap_header_bytes (length (written_segment links)) (free_head_of (spelled links)) (at + 32)) (written_segment links)

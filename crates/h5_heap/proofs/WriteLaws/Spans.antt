@@ -17,7 +17,7 @@ use Rattle.h5_model.specs.Format.Sizes.{text_span}
 use Rattle.h5_model.specs.Format.Symbols as symbols
 use Rattle.h5_heap.specs.Writing.Laws.{IsSpelled}
 use Rattle.h5_heap.specs.Writing.Links.{Leads, ToGroup, ToArray, ToText, spelled}
-use Rattle.h5_heap.specs.Writing.Written.{entry_of, placed, link_span, segment_of}
+use Rattle.h5_heap.specs.Writing.Written.{written_entry, placed, texts_span, written_segment}
 use Rattle.h5_heap.proofs.WriteLaws.Lengths.{links_span, length-used, used-le, segment_is}
 use Rattle.h5_heap.proofs.WriteLaws.Standing.{StandFrom, stand_on, links_stand}
 
@@ -25,10 +25,10 @@ use Rattle.h5_heap.proofs.WriteLaws.Standing.{StandFrom, stand_on, links_stand}
 
 -- the offsets of their names, and those of the soft links' texts
 abbrev pub names_from : ℕ → List (List ℕ × Leads) → List ℕ
-names_from at links = map (λ (e : symbols.Entry). e.name) (map entry_of (placed at links))
+names_from at links = map (λ (e : symbols.Entry). e.name) (map written_entry (placed at links))
 
 abbrev pub texts_from : ℕ → List (List ℕ × Leads) → List ℕ
-texts_from at links = symbols.texts_of (map entry_of (placed at links))
+texts_from at links = symbols.texts_of (map written_entry (placed at links))
 
 -- their spans hold each byte from the first name to the end of the last text once
 cover_from : (links : List (List ℕ × Leads)) (segment : List ℕ) (at p : ℕ) → StandFrom segment at (spelled links)
@@ -40,7 +40,7 @@ cover_from ((name, ToText text) ∷ links) segment at p stand =
     = ap (λ t. holds p (at + text_span name) (pad8 (length t + 1))) stand.1.0 in
     let more = cover_from links segment (at + (text_span name + text_span text)) p (stand_on segment at (text_span name) (text_span text) (spelled links) stand.1.1) in
     let whole : holds p at (links_span ((name, ToText text) ∷ links)) ≡ holds p at (text_span name + text_span text + links_span links)
-    = ap (λ n. holds p at n) (sum_by-cons link_span (name, ToText text) links) in
+    = ap (λ n. holds p at n) (sum_by-cons texts_span (name, ToText text) links) in
     let join = holds_join p at (text_span name + text_span text) (links_span links) in
     let split = holds_join p at (text_span name) (text_span text) in
     omega arith
@@ -48,14 +48,14 @@ cover_from ((name, ToGroup header tree heap) ∷ links) segment at p stand =
     let first : holds p at (pad8 (length (text_at segment at) + 1)) ≡ holds p at (text_span name) = ap (λ t. holds p at (pad8 (length t + 1))) stand.0 in
     let more = cover_from links segment (at + text_span name) p stand.1 in
     let whole : holds p at (links_span ((name, ToGroup header tree heap) ∷ links)) ≡ holds p at (text_span name + links_span links)
-    = ap (λ n. holds p at n) (sum_by-cons link_span (name, ToGroup header tree heap) links) in
+    = ap (λ n. holds p at n) (sum_by-cons texts_span (name, ToGroup header tree heap) links) in
     let join = holds_join p at (text_span name) (links_span links) in
     omega arith
 cover_from ((name, ToArray header) ∷ links) segment at p stand =
     let first : holds p at (pad8 (length (text_at segment at) + 1)) ≡ holds p at (text_span name) = ap (λ t. holds p at (pad8 (length t + 1))) stand.0 in
     let more = cover_from links segment (at + text_span name) p stand.1 in
     let whole : holds p at (links_span ((name, ToArray header) ∷ links)) ≡ holds p at (text_span name + links_span links)
-    = ap (λ n. holds p at n) (sum_by-cons link_span (name, ToArray header) links) in
+    = ap (λ n. holds p at n) (sum_by-cons texts_span (name, ToArray header) links) in
     let join = holds_join p at (text_span name) (links_span links) in
     omega arith
 
@@ -66,17 +66,17 @@ inside_from [] segment at end stand low = (tt, tt)
 inside_from ((name, ToText text) ∷ links) segment at end stand low =
     let first : pad8 (length (text_at segment at) + 1) ≡ text_span name = ap (λ t. pad8 (length t + 1)) stand.0 in
     let second : pad8 (length (text_at segment (at + text_span name)) + 1) ≡ text_span text = ap (λ t. pad8 (length t + 1)) stand.1.0 in
-    let sum = sum_by-cons link_span (name, ToText text) links in
+    let sum = sum_by-cons texts_span (name, ToText text) links in
     let more = inside_from links segment (at + (text_span name + text_span text)) end (stand_on segment at (text_span name) (text_span text) (spelled links) stand.1.1) (omega arith) in
     ((omega arith, more.0), (omega arith, more.1))
 inside_from ((name, ToGroup header tree heap) ∷ links) segment at end stand low =
     let first : pad8 (length (text_at segment at) + 1) ≡ text_span name = ap (λ t. pad8 (length t + 1)) stand.0 in
-    let sum = sum_by-cons link_span (name, ToGroup header tree heap) links in
+    let sum = sum_by-cons texts_span (name, ToGroup header tree heap) links in
     let more = inside_from links segment (at + text_span name) end stand.1 (omega arith) in
     ((omega arith, more.0), more.1)
 inside_from ((name, ToArray header) ∷ links) segment at end stand low =
     let first : pad8 (length (text_at segment at) + 1) ≡ text_span name = ap (λ t. pad8 (length t + 1)) stand.0 in
-    let sum = sum_by-cons link_span (name, ToArray header) links in
+    let sum = sum_by-cons texts_span (name, ToArray header) links in
     let more = inside_from links segment (at + text_span name) end stand.1 (omega arith) in
     ((omega arith, more.0), more.1)
 
@@ -128,17 +128,17 @@ abbrev pub free_blocks : List (List ℕ × Leads) → List Block
 free_blocks links = free_of (length (texts_bytes (spelled links)))
 
 apart_in : (links : List (List ℕ × Leads)) → AllByRecursion IsSpelled links
-    → Separate (block 0 8 ∷ map (span_of (segment_of links)) (names_from 8 links ++ texts_from 8 links ++ []) ++ free_blocks links)
+    → Separate (block 0 8 ∷ map (span_of (written_segment links)) (names_from 8 links ++ texts_from 8 links ++ []) ++ free_blocks links)
 apart_in links is p =
-    let texts = cover_listed (span_of (segment_of links)) p (names_from 8 links) (texts_from 8 links) in
-    let spans = cover_from links (segment_of links) 8 p (links_stand links is) in
-    let behind = cover-append p (map (span_of (segment_of links)) (names_from 8 links ++ texts_from 8 links ++ [])) (free_blocks links) in
+    let texts = cover_listed (span_of (written_segment links)) p (names_from 8 links) (texts_from 8 links) in
+    let spans = cover_from links (written_segment links) 8 p (links_stand links is) in
+    let behind = cover-append p (map (span_of (written_segment links)) (names_from 8 links ++ texts_from 8 links ++ [])) (free_blocks links) in
     let join = holds_join p 0 8 (links_span links) in
     let used : holds p 0 (length (texts_bytes (spelled links))) ≡ holds p 0 (8 + links_span links) = ap (λ n. holds p 0 n) (length-used links) in
     let free = cover_free p (length (texts_bytes (spelled links))) in
     omega arith
 
-first_zero : (links : List (List ℕ × Leads)) → byte_at (segment_of links) 0 ≡ 0
+first_zero : (links : List (List ℕ × Leads)) → byte_at (written_segment links) 0 ≡ 0
 first_zero links = ap (λ bytes. byte_at bytes 0) (segment_is links)
 
 all_names : (names texts keys : List ℕ) → AllByRecursion (λ key. (key ≡ 0) ⊎ Contains names key) keys → AllByRecursion (KeyNames (names ++ texts) []) keys
@@ -153,16 +153,16 @@ all_names names texts (key ∷ keys) all = (
 
 pub spans_of : (links : List (List ℕ × Leads)) → AllByRecursion IsSpelled links → (keys : List ℕ)
     → AllByRecursion (λ key. (key ≡ 0) ⊎ Contains (names_from 8 links) key) keys
-    → HasNames (segment_of links) (free_blocks links) (names_from 8 links) (texts_from 8 links) keys []
+    → HasNames (written_segment links) (free_blocks links) (names_from 8 links) (texts_from 8 links) keys []
 spans_of links is keys named =
     let stand = links_stand links is in
     let aligned = aligned_from links 8 refl in
-    let inside = inside_from links (segment_of links) 8 (length (segment_of links)) stand (used-le links) in
+    let inside = inside_from links (written_segment links) 8 (length (written_segment links)) stand (used-le links) in
     record {
       empty = first_zero links;
       aligned = all_append IsAligned (names_from 8 links ++ texts_from 8 links) []
           (all_append IsAligned (names_from 8 links) (texts_from 8 links) aligned.0 aligned.1) tt;
       apart = apart_in links is;
-      within = inside_listed (span_of (segment_of links)) (length (segment_of links)) (names_from 8 links) (texts_from 8 links) inside.0 inside.1;
+      within = inside_listed (span_of (written_segment links)) (length (written_segment links)) (names_from 8 links) (texts_from 8 links) inside.0 inside.1;
       keyed = all_names (names_from 8 links) (texts_from 8 links) keys named;
     }

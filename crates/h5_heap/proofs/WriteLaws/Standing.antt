@@ -12,7 +12,7 @@ use Rattle.h5_model.proofs.WithinLaws.{neither}
 use Rattle.h5_heap.specs.Writing.Parts.{free_rest}
 use Rattle.h5_heap.specs.Writing.Laws.{IsSpelled}
 use Rattle.h5_heap.specs.Writing.Links.{Leads, ToGroup, ToArray, ToText, spelled, target_link}
-use Rattle.h5_heap.specs.Writing.Written.{entry_of, placed, segment_of}
+use Rattle.h5_heap.specs.Writing.Written.{written_entry, placed, written_segment}
 use Rattle.h5_heap.proofs.WriteLaws.Lengths.{link_texts, links_span, length-padded_text, segment_is}
 
 -- ---- texts
@@ -63,11 +63,11 @@ spelled_free ((name, ToGroup header tree heap) ∷ links) is = (is.0.0, spelled_
 spelled_free ((name, ToArray header) ∷ links) is = (is.0.0, spelled_free links is.1)
 
 -- the texts of links stand behind the empty name
-pub links_stand : (links : List (List ℕ × Leads)) → AllByRecursion IsSpelled links → StandFrom (segment_of links) 8 (spelled links)
+pub links_stand : (links : List (List ℕ × Leads)) → AllByRecursion IsSpelled links → StandFrom (written_segment links) 8 (spelled links)
 links_stand links is =
-    let bytes : segment_of links ≡ zeros 8 ++ (link_texts links ++ free_rest (8 + links_span links))
+    let bytes : written_segment links ≡ zeros 8 ++ (link_texts links ++ free_rest (8 + links_span links))
     = segment_is links ∙ append_assoc (zeros 8) (link_texts links) (free_rest (8 + links_span links)) in
-    texts_stand (spelled links) (segment_of links) (zeros 8) (free_rest (8 + links_span links)) 8 refl bytes (spelled_free links is)
+    texts_stand (spelled links) (written_segment links) (zeros 8) (free_rest (8 + links_span links)) 8 refl bytes (spelled_free links is)
 
 -- behind two texts
 pub stand_on : (segment : List ℕ) (at a b : ℕ) (texts : List (List ℕ)) → StandFrom segment (at + a + b) texts → StandFrom segment (at + (a + b)) texts
@@ -77,7 +77,7 @@ stand_on segment at a b texts stand =
 
 -- each entry names its link
 pub named_from : (links : List (List ℕ × Leads)) (segment : List ℕ) (at : ℕ) → StandFrom segment at (spelled links)
-    → map (symbols.link_of segment) (map entry_of (placed at links)) ≡ map target_link links
+    → map (symbols.link_of segment) (map written_entry (placed at links)) ≡ map target_link links
 named_from [] segment at stand = refl
 named_from ((name, ToText text) ∷ links) segment at stand =
     let first : text_at segment at ≡ name = stand.0 in

@@ -11,7 +11,7 @@ use Rattle.h5_model.specs.Format.Heap as heap
 use Rattle.h5_model.specs.Edits.Refusal.{has_zero}
 use Rattle.h5_model.specs.Format.Symbols as symbols
 use Rattle.h5_heap.specs.Writing.Links.{Leads, ToGroup, ToArray, ToText, target_link}
-use Rattle.h5_heap.specs.Writing.Written.{link_span, entries_of, segment_of, heap_bytes}
+use Rattle.h5_heap.specs.Writing.Written.{texts_span, written_entries, written_segment, heap_bytes}
 
 -- a text without a zero byte is the text of a soft link; addresses lie in an image
 abbrev pub IsLead : Leads → Type 0
@@ -25,14 +25,14 @@ IsSpelled l = (has_zero l.0 ≡ false) × IsLead l.1
 -- The heap stands at this place, with its segment behind its header; its texts are those of the links; and their spans, and those of
 -- keys that name the empty name or a link's, are apart.
 pub record IsPlainHeap (image : List ℕ) (at : ℕ) (links : List (List ℕ × Leads)) : Type 0 where
-  pub segment : heap.segment_of image at ≡ segment_of links
-  pub blocks : heap_blocks image at ≡ block at 32 ∷ block (at + 32) (length (segment_of links)) ∷ []
-  pub named : map (symbols.link_of (segment_of links)) (entries_of links) ≡ map target_link links
-  pub empty : text_at (segment_of links) 0 ≡ []
+  pub segment : heap.segment_of image at ≡ written_segment links
+  pub blocks : heap_blocks image at ≡ block at 32 ∷ block (at + 32) (length (written_segment links)) ∷ []
+  pub named : map (symbols.link_of (written_segment links)) (written_entries links) ≡ map target_link links
+  pub empty : text_at (written_segment links) 0 ≡ []
   pub free : List Block
-  pub heap_form : IsHeap (heap_header image at) (segment_of links) free
-  pub spans : (keys : List ℕ) → AllByRecursion (λ key. (key ≡ 0) ⊎ Contains (map (λ (e : symbols.Entry). e.name) (entries_of links)) key) keys
-      → HasNames (segment_of links) free (map (λ (e : symbols.Entry). e.name) (entries_of links)) (symbols.texts_of (entries_of links)) keys []
+  pub heap_form : IsHeap (heap_header image at) (written_segment links) free
+  pub spans : (keys : List ℕ) → AllByRecursion (λ key. (key ≡ 0) ⊎ Contains (map (λ (e : symbols.Entry). e.name) (written_entries links)) key) keys
+      → HasNames (written_segment links) free (map (λ (e : symbols.Entry). e.name) (written_entries links)) (symbols.texts_of (written_entries links)) keys []
 
 -- where its bytes stand, the heap does
 abbrev pub HeapReads : Type 0
@@ -45,10 +45,10 @@ abbrev pub IsEntryLow : symbols.Entry → Type 0
 IsEntryLow e = (e.name < 2 ^ 64) × (e.header < 2 ^ 64) × (e.cache ≤ 2) × (e.text < 2 ^ 32)
 
 abbrev pub EntriesLow : Type 0
-EntriesLow = (links : List (List ℕ × Leads)) → AllByRecursion IsSpelled links → length (segment_of links) < 2 ^ 32
-    → AllByRecursion IsEntryLow (entries_of links)
+EntriesLow = (links : List (List ℕ × Leads)) → AllByRecursion IsSpelled links → length (written_segment links) < 2 ^ 32
+    → AllByRecursion IsEntryLow (written_entries links)
 
 -- 88 bytes where at most 72 are used
 abbrev pub SegmentLength : Type 0
 SegmentLength = (links : List (List ℕ × Leads))
-    → length (segment_of links) ≡ (if nat_le (8 + sum_by link_span links) 72 then 88 else 8 + sum_by link_span links)
+    → length (written_segment links) ≡ (if nat_le (8 + sum_by texts_span links) 72 then 88 else 8 + sum_by texts_span links)

@@ -22,17 +22,17 @@ abbrev pub leads_of : LinkTo ObjectPlace → Leads
 leads_of (to.Object place) = object_leads place
 leads_of (to.Soft text) = ToText text.now
 
-abbrev pub link_of : Link ObjectPlace → List ℕ × Leads
-link_of l = (l.name.now, leads_of l.to)
+abbrev pub name_and_leads : Link ObjectPlace → List ℕ × Leads
+name_and_leads l = (l.name.now, leads_of l.to)
 
 -- what a reader is told of it
-abbrev pub target_of : Leads → Target
-target_of (ToGroup header tree heap) = Header header
-target_of (ToArray header) = Header header
-target_of (ToText text) = Text text
+abbrev pub target_of_leads : Leads → Target
+target_of_leads (ToGroup header tree heap) = Header header
+target_of_leads (ToArray header) = Header header
+target_of_leads (ToText text) = Text text
 
 abbrev pub target_link : List ℕ × Leads → List ℕ × Target
-target_link l = (l.0, target_of l.1)
+target_link l = (l.0, target_of_leads l.1)
 
 -- the texts that stand in the heap: each name, and behind it the text of a soft link
 abbrev pub spelled : List (List ℕ × Leads) → List (List ℕ)

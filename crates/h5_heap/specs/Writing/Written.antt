@@ -8,32 +8,32 @@ use Rattle.h5_model.specs.Format.Symbols.{Entry}
 use Rattle.h5_heap.specs.Writing.Links.{Leads, ToGroup, ToArray, ToText, spelled}
 
 -- what a link's texts occupy
-abbrev pub link_span : List ℕ × Leads → ℕ
-link_span (name, ToText text) = text_span name + text_span text
-link_span (name, ToGroup header tree heap) = text_span name
-link_span (name, ToArray header) = text_span name
+abbrev pub texts_span : List ℕ × Leads → ℕ
+texts_span (name, ToText text) = text_span name + text_span text
+texts_span (name, ToGroup header tree heap) = text_span name
+texts_span (name, ToArray header) = text_span name
 
 -- each link with the offset of its name, from this one on
 abbrev pub placed : ℕ → List (List ℕ × Leads) → List (ℕ × (List ℕ × Leads))
 placed at [] = []
-placed at (l ∷ links) = (at, l) ∷ placed (at + link_span l) links
+placed at (l ∷ links) = (at, l) ∷ placed (at + texts_span l) links
 
 -- the entry of a link: its cache type is 1 for a group, 0 for an array and 2 for a soft link, whose text stands behind its name
-abbrev pub entry_of : ℕ × (List ℕ × Leads) → Entry
-entry_of (at, (name, ToGroup header tree heap)) = record { name = at; header = header; cache = 1; text = tree }
-entry_of (at, (name, ToArray header)) = record { name = at; header = header; cache = 0; text = 0 }
-entry_of (at, (name, ToText text)) = record { name = at; header = undefined; cache = 2; text = at + text_span name }
+abbrev pub written_entry : ℕ × (List ℕ × Leads) → Entry
+written_entry (at, (name, ToGroup header tree heap)) = record { name = at; header = header; cache = 1; text = tree }
+written_entry (at, (name, ToArray header)) = record { name = at; header = header; cache = 0; text = 0 }
+written_entry (at, (name, ToText text)) = record { name = at; header = undefined; cache = 2; text = at + text_span name }
 
 -- the links of a group with the offsets of their names, and their entries
 abbrev pub placed_links : List (List ℕ × Leads) → List (ℕ × (List ℕ × Leads))
 placed_links links = placed 8 links
 
-abbrev pub entries_of : List (List ℕ × Leads) → List Entry
-entries_of links = map entry_of (placed_links links)
+abbrev pub written_entries : List (List ℕ × Leads) → List Entry
+written_entries links = map written_entry (placed_links links)
 
 -- the segment, and the heap with its segment behind its header, at this place
-abbrev pub segment_of : List (List ℕ × Leads) → List ℕ
-segment_of links = segment_bytes (spelled links)
+abbrev pub written_segment : List (List ℕ × Leads) → List ℕ
+written_segment links = segment_bytes (spelled links)
 
 unfoldable pub heap_bytes : ℕ → List (List ℕ × Leads) → List ℕ
-heap_bytes at links = heap_header_bytes (length (segment_of links)) (free_head_of (spelled links)) (at + 32) ++ segment_of links
+heap_bytes at links = heap_header_bytes (length (written_segment links)) (free_head_of (spelled links)) (at + 32) ++ written_segment links

@@ -3,8 +3,8 @@ ghost use Rattle.std.specs.Prelude.{◌≡◌, ◌+◌, ◌^◌, ◌<◌, ◌≤
 ghost use Rattle.std.specs.List.{flat_map};
 ghost use Rattle.h5_model.specs.Format.Plain.{padded_text};
 ghost use Rattle.h5_model.specs.Format.Sizes.{text_span as text_size};
-ghost use Rattle.h5_heap.specs.Writing.Links.{link_of, spelled};
-ghost use Rattle.h5_heap.specs.Writing.Written.{heap_bytes, segment_of, link_span as span};
+ghost use Rattle.h5_heap.specs.Writing.Links.{name_and_leads, spelled};
+ghost use Rattle.h5_heap.specs.Writing.Written.{heap_bytes, written_segment, texts_span as span};
 
 use crate::write::link::ObjectPlace;
 use crate::write::parts::{push_free_rest, push_heap_header, push_text, text_span};
@@ -16,8 +16,8 @@ use std::alloc::AllocError;
 /// How many bytes a link's texts occupy in the heap: its name, and a soft link's text. Those of a link that `segment_length` has
 /// counted are few enough.
 pub fn link_span(link: &Link<'_, ObjectPlace>) -> usize
-    requires { span (link_of link.now) < 2 ^ 64 }
-    ensures { result ≡ span (link_of link.now) }
+    requires { span (name_and_leads link.now) < 2 ^ 64 }
+    ensures { result ≡ span (name_and_leads link.now) }
 {
     let name = text_span(link.name);
     match link.to {
@@ -39,8 +39,8 @@ fn behind_text(used: u64, text: &[u8]) -> Option<u64>
 /// How many bytes are used with a link's texts behind so many, or `None` where they are more than 2147483648.
 fn behind_link(used: u64, link: &Link<'_, ObjectPlace>) -> Option<u64>
     requires { used ≤ 2 ^ 31 }
-    ensures { MatchOption result (2 ^ 31 < used + span (link_of link.now)) (λ n.
-        (n ≡ used + span (link_of link.now)) × (n ≤ 2 ^ 31)) }
+    ensures { MatchOption result (2 ^ 31 < used + span (name_and_leads link.now)) (λ n.
+        (n ≡ used + span (name_and_leads link.now)) × (n ≤ 2 ^ 31)) }
 {
     let end = behind_text(used, link.name)?;
     match link.to {
@@ -51,8 +51,8 @@ fn behind_link(used: u64, link: &Link<'_, ObjectPlace>) -> Option<u64>
 
 /// How many bytes of the segment the empty name and the texts of these links occupy, or `None` where it is more than 2147483648.
 fn used_length(links: &[Link<'_, ObjectPlace>]) -> Option<u64>
-    ensures { MatchOption result (2 ^ 31 < 8 + sum_by span (map link_of links.now))
-        (λ n. (n ≡ 8 + sum_by span (map link_of links.now)) × (n ≤ 2 ^ 31)) }
+    ensures { MatchOption result (2 ^ 31 < 8 + sum_by span (map name_and_leads links.now))
+        (λ n. (n ≡ 8 + sum_by span (map name_and_leads links.now)) × (n ≤ 2 ^ 31)) }
 {
     let mut used = 8;
     for link in links {
@@ -63,8 +63,8 @@ fn used_length(links: &[Link<'_, ObjectPlace>]) -> Option<u64>
 
 /// How many bytes the segment of these links has, or `None` where it has more than 2147483648.
 pub fn segment_length(links: &[Link<'_, ObjectPlace>]) -> Option<u64>
-    ensures { MatchOption result (2 ^ 31 < length (segment_of (map link_of links.now)))
-        (λ n. (n ≡ length (segment_of (map link_of links.now))) × (n ≤ 2 ^ 31)) }
+    ensures { MatchOption result (2 ^ 31 < length (written_segment (map name_and_leads links.now)))
+        (λ n. (n ≡ length (written_segment (map name_and_leads links.now))) × (n ≤ 2 ^ 31)) }
 {
     let used = used_length(links)?;
     Some(if used <= 72 { 88 } else { used })
@@ -80,7 +80,7 @@ fn free_head(used: u64) -> u64
 /// A link's name, and the text of a soft link.
 fn push_link_texts(out: &mut Vec<u8>, link: &Link<'_, ObjectPlace>) -> Result<(), AllocError>
     ensures { OnOk result
-        (out.new.items ≡ out.old.items ++ flat_map padded_text (spelled (link_of link.now ∷ []))) }
+        (out.new.items ≡ out.old.items ++ flat_map padded_text (spelled (name_and_leads link.now ∷ []))) }
 {
     push_text(out, link.name)?;
     match link.to {
@@ -92,7 +92,7 @@ fn push_link_texts(out: &mut Vec<u8>, link: &Link<'_, ObjectPlace>) -> Result<()
 /// The names of these links and the texts of soft links, one behind another.
 fn push_texts(out: &mut Vec<u8>, links: &[Link<'_, ObjectPlace>]) -> Result<(), AllocError>
     ensures { OnOk result
-        (out.new.items ≡ out.old.items ++ flat_map padded_text (spelled (map link_of links.now))) }
+        (out.new.items ≡ out.old.items ++ flat_map padded_text (spelled (map name_and_leads links.now))) }
 {
     for link in links {
         push_link_texts(out, link)?;
@@ -107,9 +107,9 @@ pub fn push_heap(
     size: u64,
     links: &[Link<'_, ObjectPlace>],
 ) -> Result<(), AllocError>
-    requires size { size ≡ length (segment_of (map link_of links.now)) }
+    requires size { size ≡ length (written_segment (map name_and_leads links.now)) }
     requires low { at + 32 + size ≤ 2 ^ 31 }
-    ensures { OnOk result (out.new.items ≡ out.old.items ++ heap_bytes at (map link_of links.now)) }
+    ensures { OnOk result (out.new.items ≡ out.old.items ++ heap_bytes at (map name_and_leads links.now)) }
 {
     // a free block is there or not, whatever the segment's size: 88 bytes may all be used
     let used = used_length(links).unwrap();

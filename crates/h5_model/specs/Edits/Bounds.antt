@@ -9,7 +9,7 @@ use Rattle.h5_model.specs.Views.Selection.{Slab, axes_of, selection_of}
 use Rattle.h5_model.specs.Tree.Objects.{Tree, Dataset, Storage, Compact, Contiguous, Chunked}
 use Rattle.h5_model.specs.Tree.Paths.{names_of, last_of, dataset_at}
 use Rattle.h5_model.specs.Edits.Applied.{new_storage}
-use Rattle.h5_model.specs.Format.Sizes.{group_node, chunk_node, symbol_node, text_span, attribute_size, array_messages}
+use Rattle.h5_model.specs.Format.Sizes.{group_node, chunk_node, symbol_node, text_span, attribute_size, array_messages_size}
 use Rattle.h5_model.specs.Views.Shown.{is_touched}
 use Rattle.h5_model.specs.declared.attribute.AttrSpec.{AttrSpec}
 use Rattle.h5_model.specs.declared.dataset.Spec.{Spec}
@@ -37,7 +37,7 @@ link_bound r occupied = 17 * group_node r.internal_k + symbol_node r.leaf_k + 2 
 
 -- the header of a new dataset with its prefix, and its data
 abbrev pub new_header : Spec → ℕ
-new_header s = 16 + array_messages 0 s.dims s.maxima (new_storage s.dims s.store) (s.fixed).size
+new_header s = 16 + array_messages_size 0 s.dims s.maxima (new_storage s.dims s.store) (s.fixed).size
 
 abbrev pub contiguous_data : Spec → ℕ
 contiguous_data s = of_store s.store where

@@ -88,13 +88,13 @@ abbrev pub IsNoRoot : List ℕ → Named → Type 0
 IsNoRoot image x = (x.depth ≡ 0) × IsTrue (is_header x.role) × ((ms : List Message) × AllMessages image x.at ms × (count_of 17 ms ≡ 0))
 
 -- fields that name this header, each once
-pub record AreLinks (image : List ℕ) (header : ℕ) (fields : List ℕ) : Type 0 where
+pub record AreLinkFields (image : List ℕ) (header : ℕ) (fields : List ℕ) : Type 0 where
   pub once : IsDistinct (eq_by_cmp nat_cmp) fields
   pub each : (field : ℕ) → Contains fields field → (y : Named) × Reached image y × (y.field ≡ field) × (y.at ≡ header) × IsTrue (is_header y.role)
 
 -- all of them
 pub record AreAllLinks (image : List ℕ) (header : ℕ) (fields : List ℕ) : Type 0 where
-  pub links : AreLinks image header fields
+  pub links : AreLinkFields image header fields
   pub all : (y : Named) → Reached image y → y.at ≡ header → IsTrue (is_header y.role) → Contains fields y.field
 
 -- the count is not the number of fields that name the header; or it has been named too often
@@ -102,7 +102,7 @@ abbrev pub IsMiscounted : List ℕ → Named → Type 0
 IsMiscounted image x = IsTrue (is_header x.role) × ((fields : List ℕ) × AreAllLinks image x.at fields × (reference_count (prefix_at image x.at) ≢ length fields))
 
 abbrev pub IsLinkedTooOften : List ℕ → Named → Type 0
-IsLinkedTooOften image x = IsTrue (is_header x.role) × ((fields : List ℕ) × AreLinks image x.at fields × (65535 < length fields))
+IsLinkedTooOften image x = IsTrue (is_header x.role) × ((fields : List ℕ) × AreLinkFields image x.at fields × (65535 < length fields))
 
 -- a reached block, as far as it is there, breaks a rule of its form or of the links to it
 abbrev pub FormBreach : List ℕ → Named → Cause → Type 0

@@ -36,14 +36,14 @@ header_bytes count ms = 1 ∷ 0 ∷ (short (length ms) ++ (middle count ++ (midd
 -- ---- groups
 
 -- key 0, child 0, key 1, .., the last key
-abbrev pub rows_bytes : List (List ℕ) → List ℕ → List ℕ
-rows_bytes [] children = []
-rows_bytes (key ∷ keys) [] = key
-rows_bytes (key ∷ keys) (child ∷ children) = key ++ (word child ++ rows_bytes keys children)
+abbrev pub keys_and_children : List (List ℕ) → List ℕ → List ℕ
+keys_and_children [] children = []
+keys_and_children (key ∷ keys) [] = key
+keys_and_children (key ∷ keys) (child ∷ children) = key ++ (word child ++ keys_and_children keys children)
 
 abbrev pub node_bytes_of : Kind → ℕ → ℕ → ℕ → List (List ℕ) → List ℕ → List ℕ
 node_bytes_of kind level left right keys children = padded
-    (node_signature ++ (kind.type_byte ∷ level ∷ (short (length children) ++ (word left ++ (word right ++ rows_bytes keys children)))))
+    (node_signature ++ (kind.type_byte ∷ level ∷ (short (length children) ++ (word left ++ (word right ++ keys_and_children keys children)))))
     (node_length kind)
 
 abbrev pub heap_header_bytes : ℕ → ℕ → ℕ → List ℕ

@@ -24,13 +24,13 @@ abbrev pub used_bytes : Links → ℕ
 used_bytes links = 8 + sum_by link_span (entries links)
 
 -- the segment: a free block follows where at most 72 bytes are used
-abbrev pub segment_size : Links → ℕ
-segment_size links = if nat_le (used_bytes links) 72 then 88 else used_bytes links
+abbrev pub plain_segment_size : Links → ℕ
+plain_segment_size links = if nat_le (used_bytes links) 72 then 88 else used_bytes links
 
 -- a group's nodes, heap and symbol nodes
 abbrev pub group_bytes : ℕ → ℕ → Links → ℕ
 group_bytes leaf_k internal_k links =
-    nodes_over 64 (2 * internal_k) (rows_of (2 * leaf_k) (len links)) * group_node internal_k + 32 + segment_size links
+    nodes_over 64 (2 * internal_k) (rows_of (2 * leaf_k) (len links)) * group_node internal_k + 32 + plain_segment_size links
     + rows_of (2 * leaf_k) (len links) * symbol_node leaf_k
 
 -- a dataset's data outside its header, with so many stored chunks

@@ -36,11 +36,11 @@ attribute_size name sizes size = 8 + pad8 (name + 1) + pad8 12 + pad8 (dataspace
 abbrev pub message_size : ℕ → ℕ
 message_size body = 8 + pad8 body
 
-abbrev pub attribute_message : (List ℕ × Attribute) → ℕ
-attribute_message (name, a) = message_size (attribute_size (length name) a.sizes (a.fixed).size)
+abbrev pub attribute_message_size : (List ℕ × Attribute) → ℕ
+attribute_message_size (name, a) = message_size (attribute_size (length name) a.sizes (a.fixed).size)
 
-abbrev pub kept_message : Kept → ℕ
-kept_message k = message_size (length k.body)
+abbrev pub kept_message_size : Kept → ℕ
+kept_message_size k = message_size (length k.body)
 
 -- maxima are written where the store is chunked or one differs from its size
 abbrev pub writes_maxima : List ℕ → List (Option ℕ) → Storage → Bool
@@ -60,18 +60,18 @@ layout_size sizes (Chunked chunk) size = 11 + 4 * (length chunk + 1)
 -- ---- headers
 
 -- Dataspace, datatype, fill and layout. The fill is left out where a header with so many other messages would have more than 65535.
-abbrev pub array_messages : ℕ → List ℕ → List (Option ℕ) → Storage → ℕ → ℕ
-array_messages others sizes maxima storage size =
+abbrev pub array_messages_size : ℕ → List ℕ → List (Option ℕ) → Storage → ℕ → ℕ
+array_messages_size others sizes maxima storage size =
     message_size (extent_size sizes maxima storage) + message_size 12 + (if nat_lt 65535 (4 + others) then 0 else message_size (8 + size))
     + message_size (layout_size sizes storage size)
 
 -- the messages of the content: a Symbol Table, or those of an array
 abbrev pub content_messages : ℕ → Content → ℕ
 content_messages others (Group links) = message_size 16
-content_messages others (Array d) = array_messages others d.sizes d.maxima d.storage (d.fixed).size
+content_messages others (Array d) = array_messages_size others d.sizes d.maxima d.storage (d.fixed).size
 
 -- an object's header, its prefix with it
 abbrev pub header_size : Object → ℕ
 header_size o =
-    16 + content_messages (len o.attributes + length o.kept) o.content + sum_by attribute_message (entries o.attributes)
-    + sum_by kept_message o.kept
+    16 + content_messages (len o.attributes + length o.kept) o.content + sum_by attribute_message_size (entries o.attributes)
+    + sum_by kept_message_size o.kept

@@ -9,11 +9,11 @@ use Rattle.h5_model.specs.declared.open_fault.Cause.TheVariants.{TooLarge, LinkC
 use Rattle.h5_group.specs.Nodes.Walk.{IsFault}
 use Rattle.h5_open.specs.declared.opened.object.OpenedObject.{OpenedObject}
 use Rattle.h5_open.specs.Opened.Objects.{headers, table_of, tree_of}
-use Rattle.h5_open.specs.Placed.Whole.{IsWhole, placed_of}
+use Rattle.h5_open.specs.Placed.Whole.{IsWholeImage, placed_of}
 use Rattle.h5_open.proofs.PlacedLaws.WholeHolds.{whole_holds}
 use Rattle.h5_laws.proofs.Lists.{contains_in, in_contains}
 use Rattle.h5_open.specs.Counted.Links.{leading, all_links}
-use Rattle.h5_open.specs.Counted.Counts.{IsCount, AreCounts, IsRight, IsWrong, IsMiscounted}
+use Rattle.h5_open.specs.Counted.Counts.{IsCount, AreCounts, IsRight, IsWrong, HasMiscount}
 use Rattle.h5_open.proofs.CountedLaws.CountLaws.{stands_at}
 use Rattle.h5_open.proofs.CountedLaws.ObjectLaws.{right_reads, wrong_fault}
 
@@ -33,7 +33,7 @@ wrong_links image o count links is GroupLinkedTwice wrong =
     let same : count ≡ links = is.exact wrong.0 in (omega (arith, wrong.0, same), wrong.1, omega (arith, wrong.2, same))
 wrong_links image o count links is _ wrong = absurd wrong
 
-module _ (image : List ℕ) (objects : List OpenedObject) (whole : IsWhole image objects) (counts : List ℕ)
+module _ (image : List ℕ) (objects : List OpenedObject) (whole : IsWholeImage image objects) (counts : List ℕ)
     (are : AreCounts (headers objects) (all_links image objects) counts) where
   pub all_right : ((number : ℕ) (o : OpenedObject) → slice_get objects number ≡ Some o → IsRight image o (get_or counts number 0))
       → ReadsAs image (table_of objects) (tree_of image objects) (placed_of image objects)
@@ -51,7 +51,7 @@ module _ (image : List ℕ) (objects : List OpenedObject) (whole : IsWhole image
       (count_at objects (all_links image objects) counts are number o here) cause wrong)
 
   pub one_miscounted : (number : ℕ) (o : OpenedObject) → slice_get objects number ≡ Some o → (cause : Cause) (address : ℕ) → address ≡ o.messages.header
-      → IsWrong image o (get_or counts number 0) cause → IsMiscounted image objects cause address
+      → IsWrong image o (get_or counts number 0) cause → HasMiscount image objects cause address
   one_miscounted number o here cause address at wrong = record {
     object = o;
     among = stands_at objects number o here;

@@ -20,7 +20,7 @@ use Rattle.h5_open.specs.declared.opened.object.OpenedObject.{OpenedObject}
 use Rattle.h5_open.specs.declared.opened.object.OpenedContent.{OpenedContent}
 use Rattle.h5_open.specs.declared.opened.object.OpenedContent.TheVariants as content
 use Rattle.h5_open.specs.Opened.Kept.{IsContentKept, IsObjectKept}
-use Rattle.h5_open.specs.Opened.Objects.{links_of}
+use Rattle.h5_open.specs.Opened.Objects.{content_links}
 use Rattle.h5_open.specs.Placed.Whole.{placed_from}
 use Rattle.h5_laws.proofs.Counts.{counted}
 use Rattle.h5_laws.proofs.Datasets.{find_none, said_first}
@@ -37,16 +37,16 @@ leading_aimed h ((name, Text t) ∷ ls) = omega (arith, leading_aimed h ls)
 
 module _ (image : List ℕ) (h : ℕ) where
   -- those of a group
-  group_count : (ms : List Message) (g : Group) → IsContentKept image ms (content.Group g) → linking h (fields.object_links image ms) ≡ leading h (group.links_of image g)
+  group_count : (ms : List Message) (g : Group) → IsContentKept image ms (content.Group g) → linking h (fields.object_links image ms) ≡ leading h (group.links_of_group image g)
   group_count ms g kept =
       let first = said_first symbol_table_of 17 ms g.table kept.1 in
       let nodes = g.symbol_nodes.items in
       let links : fields.object_links image ms ≡ flat_map (node_links image) nodes
-      = table_links image ms first.0 g.table (group.links_of image g) (group.blocks_of image g) first.1 first.2 kept.2.linked ∙ ap (flat_map (node_links image)) kept.2.symbols_are in
-      ap (linking h) links ∙ nodes_count image h nodes ∙ sym (aimed_entries (segment_of image g.table.heap) h (all_entries image nodes)) ∙ sym (leading_aimed h (group.links_of image g))
+      = table_links image ms first.0 g.table (group.links_of_group image g) (group.blocks_of_group image g) first.1 first.2 kept.2.linked ∙ ap (flat_map (node_links image)) kept.2.symbols_are in
+      ap (linking h) links ∙ nodes_count image h nodes ∙ sym (aimed_entries (segment_of image g.table.heap) h (all_entries image nodes)) ∙ sym (leading_aimed h (group.links_of_group image g))
 
   -- those of an object
-  content_count : (ms : List Message) (c : OpenedContent) → IsContentKept image ms c → linking h (fields.object_links image ms) ≡ leading h (links_of image c)
+  content_count : (ms : List Message) (c : OpenedContent) → IsContentKept image ms c → linking h (fields.object_links image ms) ≡ leading h (content_links image c)
   content_count ms (content.Group g) kept = group_count ms g kept
   content_count ms content.Array kept =
       let none : find (λ (m : Message). m.kind == 17) ms ≡ None
@@ -60,10 +60,10 @@ module _ (image : List ℕ) (h : ℕ) where
   objects_count table at n (o ∷ objects) each kept =
       let ms = messages_in image o.messages.list in
       let same : ms ≡ each.0.messages = one_messages image o.messages.header ms each.0.messages o.messages.blocks each.0.header_blocks kept.0.header.has each.0.listed in
-      let a : linking h (fields.object_links image each.0.messages) ≡ leading h (links_of image o.content)
-      = subst (λ (x : List Message). linking h (fields.object_links image x) ≡ leading h (links_of image o.content)) same (content_count ms o.content kept.0.content) in
+      let a : linking h (fields.object_links image each.0.messages) ≡ leading h (content_links image o.content)
+      = subst (λ (x : List Message). linking h (fields.object_links image x) ≡ leading h (content_links image o.content)) same (content_count ms o.content kept.0.content) in
       let b = linking-append h (fields.object_links image each.0.messages) (placed_links image table (placed_from image at (n + 1) objects) each.1) in
-      let c = leading-append h (links_of image o.content) (object_links image objects) in
+      let c = leading-append h (content_links image o.content) (object_links image objects) in
       let d = objects_count table at (n + 1) objects each.1 kept.1 in
       omega (arith, a, b, c, d)
 

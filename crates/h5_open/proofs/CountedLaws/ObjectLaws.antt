@@ -20,7 +20,7 @@ use Rattle.h5_open.specs.declared.opened.object.OpenedContent.{OpenedContent}
 use Rattle.h5_open.specs.declared.opened.object.OpenedContent.TheVariants as content
 use Rattle.h5_open.specs.Opened.Kept.{IsObjectKept, IsContentKept}
 use Rattle.h5_open.specs.Opened.Objects.{headers, table_of, tree_of, content_in, object_in, object_blocks}
-use Rattle.h5_open.specs.Placed.Whole.{IsGroupContent, IsWhole, placed_from, placed_of}
+use Rattle.h5_open.specs.Placed.Whole.{IsGroupContent, IsWholeImage, placed_from, placed_of}
 use Rattle.h5_laws.proofs.Lists.{In, in_all, contains_in}
 use Rattle.h5_laws.proofs.Pigeonhole.{Apart, apart_of_distinct}
 use Rattle.h5_laws.proofs.Datasets.{find_in, said_first}
@@ -67,7 +67,7 @@ table_met image o kept is = go o.content is kept.content where
       let kind : (kind_at image met.at == 17) ≡ true = grind (arith, nat_tests, is_table) in
       (met.at, met.fits.0, kind)
 
-module _ (image : List ℕ) (objects : List OpenedObject) (whole : IsWhole image objects)
+module _ (image : List ℕ) (objects : List OpenedObject) (whole : IsWholeImage image objects)
     (holds : Holds image (table_of objects) (tree_of image objects) (placed_of image objects)) where
   abbrev at : List ℕ
   at = headers objects

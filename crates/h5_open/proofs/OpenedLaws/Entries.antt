@@ -67,9 +67,9 @@ link_got at found rise name link is =
 
 -- ---- groups that were read
 
-pub names_ascend : (image : List ℕ) (g : Group) → IsGroupRead image g → Ascend (group.links_of image g)
+pub names_ascend : (image : List ℕ) (g : Group) → IsGroupRead image g → Ascend (group.links_of_group image g)
 names_ascend image g read = ((read.linked).listed).ascending
 
 pub group_entries : (image at : List ℕ) (g : Group) → IsGroupRead image g
-    → entries (links_by at (group.links_of image g)) ≡ map (λ (l : List ℕ × Target). (l.0, link_to at l.1)) (group.links_of image g)
-group_entries image at g read = link_entries at (group.links_of image g) (names_ascend image g read)
+    → entries (links_by at (group.links_of_group image g)) ≡ map (λ (l : List ℕ × Target). (l.0, link_to at l.1)) (group.links_of_group image g)
+group_entries image at g read = link_entries at (group.links_of_group image g) (names_ascend image g read)

@@ -23,7 +23,7 @@ use Rattle.h5_open.specs.declared.opened.object.OpenedContent.{OpenedContent}
 use Rattle.h5_open.specs.declared.opened.object.OpenedContent.TheVariants as content
 use Rattle.h5_open.specs.Opened.Array.{data_blocks}
 use Rattle.h5_open.specs.Opened.Kept.{IsObjectKept, IsContentKept}
-use Rattle.h5_open.specs.Opened.Objects.{headers, number_of, links_of, link_to, content_in, content_blocks, object_in, object_blocks, table_of}
+use Rattle.h5_open.specs.Opened.Objects.{headers, number_of, content_links, link_to, content_in, content_blocks, object_in, object_blocks, table_of}
 use Rattle.h5_laws.proofs.Lists.{In, in_contains}
 use Rattle.h5_open.specs.Placed.Whole.{IsLed, AreLed, placed_from}
 use Rattle.h5_open.proofs.OpenedLaws.Entries.{get_table, group_entries}
@@ -55,10 +55,10 @@ module _ (image : List ℕ) (objects : List OpenedObject) (distinct : IsDistinct
   same_links depth ((name, Text text) ∷ found) (low, led) = ((refl, refl), same_links depth found led)
 
   has_content : (depth : ℕ) (list : List Stood) (c : OpenedContent) → AllByRecursion (λ (m : Stood). IsTrue (is_read m.kind)) list → IsContentKept image (messages_in image list) c
-      → AllByRecursion (IsLed objects depth) (links_of image c)
+      → AllByRecursion (IsLed objects depth) (content_links image c)
       → HasContent image (table_of objects) (messages_in image list) (content_in image (headers objects) (messages_in image list) c) (content_blocks image (messages_in image list) c)
   has_content depth list (content.Group g) known (kinds, chosen, read) led = (
-    group.links_of image g,
+    group.links_of_group image g,
     record {
       known = group_known image list known kinds.alone;
       once = kinds.table;
@@ -66,8 +66,8 @@ module _ (image : List ℕ) (objects : List OpenedObject) (distinct : IsDistinct
       chosen = chosen;
       linked = read.linked;
     },
-    subst (λ (es : List (List ℕ × Link)). AllZip (IsSame (table_of objects)) es (group.links_of image g)) (sym (group_entries image (headers objects) g read))
-        (same_links depth (group.links_of image g) led),
+    subst (λ (es : List (List ℕ × Link)). AllZip (IsSame (table_of objects)) es (group.links_of_group image g)) (sym (group_entries image (headers objects) g read))
+        (same_links depth (group.links_of_group image g) led),
   )
   has_content depth list content.Array known (array, inside) led =
       let told = array_told (messages_in image list) in

@@ -13,7 +13,7 @@ use Rattle.h5_open.specs.declared.opened.object.OpenedObject.{OpenedObject}
 use Rattle.h5_open.specs.declared.opened.object.OpenedContent.{OpenedContent}
 use Rattle.h5_open.specs.declared.opened.object.OpenedContent.TheVariants as content
 use Rattle.h5_open.specs.Opened.Kept.{IsObjectKept}
-use Rattle.h5_open.specs.Opened.Objects.{headers, number_of, links_of, link_to, tree_of}
+use Rattle.h5_open.specs.Opened.Objects.{headers, number_of, content_links, link_to, tree_of}
 use Rattle.h5_laws.proofs.Lists.{In, in_all, in_contains}
 use Rattle.h5_open.specs.Placed.Whole.{IsGroupContent, IsLed, AreLed, HasParent, AreNamed}
 use Rattle.h5_open.proofs.PlacedLaws.Places.{place_in, place_before, place_next, place_of, at_number, number_at_place}
@@ -48,7 +48,7 @@ module _ (image : List ℕ) (objects : List OpenedObject) (distinct : IsDistinct
 
   -- a link of an object that is reached leads to another
   leads_on : (k n : ℕ) (p o : OpenedObject) → slice_get objects k ≡ Some p → slice_get objects n ≡ Some o → (name : List ℕ)
-      → In (name, Header o.messages.header) (links_of image p.content) → Leads k → Leads n
+      → In (name, Header o.messages.header) (content_links image p.content) → Leads k → Leads n
   leads_on k n p o parent child name there (path, leads) =
       let number : number_of (headers objects) o.messages.header ≡ n = number_at_place (λ (x : OpenedObject). x.messages.header) objects n o distinct child in
       let named = link_there image objects k p parent (kept_at k p parent).content name (Header o.messages.header) there in
@@ -62,7 +62,7 @@ module _ (image : List ℕ) (objects : List OpenedObject) (distinct : IsDistinct
       = ap (λ (os : List OpenedObject). slice_get os parent.0) (sym all) ∙ place_before before (o ∷ more) parent.0 p (place_of before p parent) in
       let at_child : slice_get objects (length before) ≡ Some o
       = ap (λ (os : List OpenedObject). slice_get os (length before)) (sym all) ∙ place_next before o more in
-      leads_on parent.0 (length before) p o at_parent at_child name (in_contains (name, Header o.messages.header) (links_of image p.content) link) (earlier parent.0 parent.1)
+      leads_on parent.0 (length before) p o at_parent at_child name (in_contains (name, Header o.messages.header) (content_links image p.content) link) (earlier parent.0 parent.1)
 
   one_more : (before : List OpenedObject) (o : OpenedObject) → ((n : ℕ) → n < length before → Leads n) → Leads (length before)
       → (n : ℕ) → n < length (before ++ o ∷ []) → Leads n
@@ -86,7 +86,7 @@ module _ (image : List ℕ) (objects : List OpenedObject) (distinct : IsDistinct
   -- ---- and no path is longer than 64 names
 
   module _ (led : AllByRecursion (AreLed image objects) objects) where
-    has_links : (c : OpenedContent) (l : List ℕ × Target) → In l (links_of image c) → IsGroupContent c
+    has_links : (c : OpenedContent) (l : List ℕ × Target) → In l (content_links image c) → IsGroupContent c
     has_links (content.Group g) l there = tt
     has_links content.Array l there = absurd there
 
@@ -110,7 +110,7 @@ module _ (image : List ℕ) (objects : List OpenedObject) (distinct : IsDistinct
       go None found there = absurd (cc)
       go (Some link) found there =
           let l = link_leads image objects n o is (kept_at n o is).content name link found in
-          let here : IsLed objects o.depth l.0 = in_all (IsLed objects o.depth) l.0 (links_of image o.content) (in_all (AreLed image objects) o objects led (place_in objects n o is)) l.1 in
+          let here : IsLed objects o.depth l.0 = in_all (IsLed objects o.depth) l.0 (content_links image o.content) (in_all (AreLed image objects) o objects led (place_in objects n o is)) l.1 in
           let deep : o.depth ≡ depth = same (has_links o.content l.0 l.1) in
           let rest = behind_link names short o.depth l.0 here (subst (λ (y : Link). IsSome (follow tree y names)) (sym l.2) there) in
           omega (arith, rest, deep)

@@ -12,7 +12,7 @@ use Rattle.h5_open.specs.declared.opened.object.OpenedObject.{OpenedObject}
 use Rattle.h5_open.specs.declared.opened.object.OpenedContent.{OpenedContent}
 use Rattle.h5_open.specs.declared.opened.object.OpenedContent.TheVariants as content
 use Rattle.h5_open.specs.Opened.Kept.{IsContentKept}
-use Rattle.h5_open.specs.Opened.Objects.{headers, links_of, link_to, content_in, object_in, tree_of}
+use Rattle.h5_open.specs.Opened.Objects.{headers, content_links, link_to, content_in, object_in, tree_of}
 use Rattle.h5_laws.proofs.Lists.{In}
 use Rattle.h5_open.proofs.OpenedLaws.Entries.{get_tree, get_link, link_got, names_ascend}
 
@@ -31,14 +31,14 @@ module _ (image : List ℕ) (objects : List OpenedObject) where
     go (Some o) is there = (o, is)
 
   module _ (ms : List Message) (name : List ℕ) where
-    in_content : (c : OpenedContent) (t : Target) → IsContentKept image ms c → In (name, t) (links_of image c)
+    in_content : (c : OpenedContent) (t : Target) → IsContentKept image ms c → In (name, t) (content_links image c)
         → option_and_then (λ links. get links name) (links_in (content_in image at ms c)) ≡ Some (link_to at t)
-    in_content (content.Group g) t (kinds, chosen, read) there = get_link at (group.links_of image g) (names_ascend image g read) name t there
+    in_content (content.Group g) t (kinds, chosen, read) there = get_link at (group.links_of_group image g) (names_ascend image g read) name t there
     in_content content.Array t kept there = absurd there
 
     from_content : (c : OpenedContent) (link : Link) → IsContentKept image ms c → option_and_then (λ links. get links name) (links_in (content_in image at ms c)) ≡ Some link
-        → (l : List ℕ × Target) × In l (links_of image c) × (link_to at l.1 ≡ link)
-    from_content (content.Group g) link (kinds, chosen, read) is = link_got at (group.links_of image g) (names_ascend image g read) name link is
+        → (l : List ℕ × Target) × In l (content_links image c) × (link_to at l.1 ≡ link)
+    from_content (content.Group g) link (kinds, chosen, read) is = link_got at (group.links_of_group image g) (names_ascend image g read) name link is
     from_content content.Array link kept is = absurd (cc)
 
   links_at : (n : ℕ) (o : OpenedObject) (name : List ℕ) → slice_get objects n ≡ Some o
@@ -46,9 +46,9 @@ module _ (image : List ℕ) (objects : List OpenedObject) where
   links_at n o name is = ap (λ (x : Option Object). option_and_then (λ links. get links name) (option_and_then (λ (y : Object). links_in y.content) x)) (object_got n o is)
 
   pub link_there : (n : ℕ) (o : OpenedObject) → slice_get objects n ≡ Some o → IsContentKept image (messages_in image o.messages.list) o.content → (name : List ℕ) (t : Target)
-      → In (name, t) (links_of image o.content) → link_in (tree_of image objects) n name ≡ Some (link_to at t)
+      → In (name, t) (content_links image o.content) → link_in (tree_of image objects) n name ≡ Some (link_to at t)
   link_there n o is kept name t there = links_at n o name is ∙ in_content (messages_in image o.messages.list) name o.content t kept there
 
   pub link_leads : (n : ℕ) (o : OpenedObject) → slice_get objects n ≡ Some o → IsContentKept image (messages_in image o.messages.list) o.content → (name : List ℕ) (link : Link)
-      → link_in (tree_of image objects) n name ≡ Some link → (l : List ℕ × Target) × In l (links_of image o.content) × (link_to at l.1 ≡ link)
+      → link_in (tree_of image objects) n name ≡ Some link → (l : List ℕ × Target) × In l (content_links image o.content) × (link_to at l.1 ≡ link)
   link_leads n o is kept name link found = from_content (messages_in image o.messages.list) name o.content link kept (sym (links_at n o name is) ∙ found)

@@ -17,7 +17,7 @@ use Rattle.h5_open.specs.declared.opened.object.OpenedObject.{OpenedObject}
 use Rattle.h5_open.specs.declared.opened.object.OpenedContent.{OpenedContent}
 use Rattle.h5_open.specs.declared.opened.object.OpenedContent.TheVariants as content
 use Rattle.h5_open.specs.Opened.Objects.{headers, numbered, number_of, content_in, object_in, object_blocks, table_of, tree_of}
-use Rattle.h5_open.specs.Placed.Whole.{IsGroupContent, IsWhole, opened_blocks, placed_from, placed_of}
+use Rattle.h5_open.specs.Placed.Whole.{IsGroupContent, IsWholeImage, opened_blocks, placed_from, placed_of}
 use Rattle.h5_open.proofs.OpenedLaws.Entries.{table_entries, tree_entries, get_table}
 use Rattle.h5_open.proofs.PlacedLaws.Places.{number_at_place}
 use Rattle.h5_open.proofs.PlacedLaws.ObjectLaws.{all_placed}
@@ -62,7 +62,7 @@ group_linked : (image at : List ℕ) (ms : List Message) (c : OpenedContent) →
 group_linked image at ms (content.Group g) is = refl
 group_linked image at ms content.Array is = absurd is
 
-module _ (image : List ℕ) (objects : List OpenedObject) (whole : IsWhole image objects) where
+module _ (image : List ℕ) (objects : List OpenedObject) (whole : IsWholeImage image objects) where
   first : slice_get objects 0 ≡ Some (whole.begins).root
   first = ap (λ (os : List OpenedObject). slice_get os 0) (whole.begins).is
 
@@ -76,7 +76,7 @@ module _ (image : List ℕ) (objects : List OpenedObject) (whole : IsWhole image
       (group_linked image (headers objects) (messages_in image ((whole.begins).root).messages.list) ((whole.begins).root).content (whole.begins).group)
 
 -- The tree stands in the image.
-pub whole_holds : (image : List ℕ) (objects : List OpenedObject) → IsWhole image objects
+pub whole_holds : (image : List ℕ) (objects : List OpenedObject) → IsWholeImage image objects
     → Holds image (table_of objects) (tree_of image objects) (placed_of image objects)
 whole_holds image objects whole = record {
   superblock = whole.superblock;

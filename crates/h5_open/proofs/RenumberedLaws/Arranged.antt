@@ -13,7 +13,7 @@ use Rattle.h5_open.specs.Opened.Objects.{headers, table_of, tree_of}
 use Rattle.h5_open.proofs.OpenedLaws.Numbers.{few_objects}
 use Rattle.h5_open.proofs.OpenedLaws.Own.{Own}
 use Rattle.h5_open.specs.Renumbered.Headers.{table_with, IsReadAt}
-use Rattle.h5_open.specs.Renumbered.Exchanged.{IsExchanged, IsGiven}
+use Rattle.h5_open.specs.Renumbered.Exchanged.{IsExchanged, IsGivenNumber}
 use Rattle.h5_open.proofs.RenumberedLaws.SameTree.{same_tree}
 use Rattle.h5_open.proofs.RenumberedLaws.SameHeaders.{same_headers, same_length}
 use Rattle.h5_open.proofs.RenumberedLaws.Exchanges.{turned, in_exchanged, exchanged_headers, all_exchanged}
@@ -78,7 +78,7 @@ module _ (image hs : List ℕ) (objects : List OpenedObject) (numbers : BTreeMap
 
 -- one more gets its number
 module _ (image hs : List ℕ) (before after : List OpenedObject) (numbers numbers' : BTreeMap ℕ ℕ) (i header : ℕ) (arranged : IsArranged image hs before numbers i)
-    (own : Own hs) (at : slice_get hs i ≡ Some header) (given : IsGiven before after header i) (long : length after ≡ length before) (index : IsIndex after numbers') where
+    (own : Own hs) (at : slice_get hs i ≡ Some header) (given : IsGivenNumber before after header i) (long : length after ≡ length before) (index : IsIndex after numbers') where
   at_headers : IsExchanged (headers before) (headers after) i given.0
   at_headers = exchanged_headers before after i given.0 given.2
 

@@ -16,7 +16,7 @@ use Rattle.h5_model.specs.Format.Reads.{IsSame, HasData, HasDataset, HasContent,
 use Rattle.h5_model.proofs.OneReading.{some_same, one_messages, one_links, one_attributes}
 use Rattle.h5_header.specs.Listed.{messages_in}
 use Rattle.h5_attr.specs.Attributes.{attributes_of}
-use Rattle.h5_layout.specs.Described.{Described, dataset_in}
+use Rattle.h5_layout.specs.Described.{Described, described_dataset}
 use Rattle.h5_layout.specs.Told.{array_told}
 use Rattle.h5_layout.proofs.ArrayLaws.{in_header, has_array, dataset_in-in_header}
 use Rattle.h5_layout.proofs.ToldLaws.{told}
@@ -44,12 +44,12 @@ no_chunks image t (InBlock (Some b)) block is chunks blocks stored = stored.0
 no_chunks image t (InChunks sizes root) block is chunks blocks stored = absurd (cc)
 
 dataset_is : (image : List ℕ) (ms : List Message) (d : Dataset) (blocks : List Block) → HasDataset image ms d blocks → IsCarriedArray (array_told ms)
-    → dataset_in image (array_told ms) empty ≡ d
+    → described_dataset image (array_told ms) empty ≡ d
 dataset_is image ms d blocks has carried =
     let same : array_told ms ≡ in_header image ms d blocks has = told ms (in_header image ms d blocks has) (has_array image ms d blocks has) in
     let layout : has.layout ≡ InBlock carried.block = sym (ap (λ (a : Described). a.layout) same) ∙ carried.in_block in
     let none : has.chunks ≡ empty = no_chunks image d.fixed has.layout carried.block layout has.chunks blocks has.stored in
-    (λ i. dataset_in image (same i) ((sym none) i)) ∙ dataset_in-in_header image ms d blocks has
+    (λ i. described_dataset image (same i) ((sym none) i)) ∙ described_dataset-in_header image ms d blocks has
 
 module _ (image at : List ℕ) (own : Own at) where
   -- a link of the tree is the file's link, by the number of the header
@@ -73,13 +73,13 @@ module _ (image at : List ℕ) (own : Own at) where
       let table : has.symbol_table ≡ g.table = some_same _ _ _ has.chosen chosen in
       let linked : HasLinks image (leaf_k image) (internal_k image) (g.table).tree (g.table).heap found blocks
       = subst (λ (s : SymbolTable). HasLinks image (leaf_k image) (internal_k image) s.tree s.heap found blocks) table has.linked in
-      let one : found ≡ group.links_of image g
-      = one_links image (leaf_k image) (internal_k image) (g.table).tree (g.table).heap found (group.links_of image g) blocks (group.blocks_of image g) linked read.linked in
-      let listed : entries links ≡ entries (links_by at (group.links_of image g)) =
+      let one : found ≡ group.links_of_group image g
+      = one_links image (leaf_k image) (internal_k image) (g.table).tree (g.table).heap found (group.links_of_group image g) blocks (group.blocks_of_group image g) linked read.linked in
+      let listed : entries links ≡ entries (links_by at (group.links_of_group image g)) =
       links_are (entries links) found same
       ∙ ap (λ (ls : List (List ℕ × Target)). map (λ (l : List ℕ × Target). (l.0, link_to at l.1)) ls) one
       ∙ sym (group_entries image at g read) in
-      ap (λ (ls : Links). Group ls) (sym (same_entries_map links (links_by at (group.links_of image g)) listed))
+      ap (λ (ls : Links). Group ls) (sym (same_entries_map links (links_by at (group.links_of_group image g)) listed))
   content_is ms (Group links) blocks content.Array (found, has, same) (list, inside) = absurd (omega (arith, has.once, (list.kinds).no_table))
   content_is ms (Array d) blocks (content.Group g) has (kinds, chosen, read) = absurd (omega (arith, has.one_space, (kinds.alone).0))
   content_is ms (Array d) blocks content.Array has (list, inside) = ap (λ (x : Dataset). Array x) (dataset_is image ms d blocks has list.carried)

@@ -32,7 +32,7 @@ IsWrong image o count GroupLinkedTwice = (count ≤ 65535) × IsGroupContent o.c
 IsWrong image o count cause = ⊥
 
 -- so are all links that lead to one of these objects, at its header
-pub record IsMiscounted (image : List ℕ) (objects : List OpenedObject) (cause : Cause) (address : ℕ) : Type 0 where
+pub record HasMiscount (image : List ℕ) (objects : List OpenedObject) (cause : Cause) (address : ℕ) : Type 0 where
   pub object : OpenedObject
   pub among : Contains objects object
   pub header : address ≡ object.messages.header

@@ -4,7 +4,7 @@ use Rattle.std.specs.List.{flat_map}
 use Rattle.h5_model.specs.Format.Superblock.{root_header}
 use Rattle.h5_model.specs.Format.Symbols.{Target, Header, Text}
 use Rattle.h5_open.specs.declared.opened.object.OpenedObject.{OpenedObject}
-use Rattle.h5_open.specs.Opened.Objects.{links_of}
+use Rattle.h5_open.specs.Opened.Objects.{content_links}
 
 -- a hard link to the header
 abbrev pub leads : ℕ → Target → Bool
@@ -22,7 +22,7 @@ root_link image = ([], Header (root_header image))
 
 -- the links of these objects
 abbrev pub object_links : List ℕ → List OpenedObject → List (List ℕ × Target)
-object_links image objects = flat_map (λ (o : OpenedObject). links_of image o.content) objects
+object_links image objects = flat_map (λ (o : OpenedObject). content_links image o.content) objects
 
 -- all links of the image
 abbrev pub all_links : List ℕ → List OpenedObject → List (List ℕ × Target)

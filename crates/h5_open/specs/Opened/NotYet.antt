@@ -21,7 +21,7 @@ IsLater image x _ = ⊥
 
 -- Why opening is refused: memory was short; or a header that is reached is not read further yet, at its address; or the cause holds
 -- at the address.
-abbrev pub IsRefusedAt : List ℕ → Cause → ℕ → Type 0
-IsRefusedAt image NoMemory address = Unit {0}
-IsRefusedAt image NotYet address = (x : Named) × Reached image x × (x.at ≡ address) × IsLater image x x.role
-IsRefusedAt image cause address = Breaches image cause address
+abbrev pub IsOpenRefusedAt : List ℕ → Cause → ℕ → Type 0
+IsOpenRefusedAt image NoMemory address = Unit {0}
+IsOpenRefusedAt image NotYet address = (x : Named) × Reached image x × (x.at ≡ address) × IsLater image x x.role
+IsOpenRefusedAt image cause address = Breaches image cause address

@@ -8,7 +8,7 @@ use Rattle.h5_model.specs.Format.Messages.{Message}
 use Rattle.h5_model.specs.Format.Symbols.{Target, Header, Text}
 use Rattle.h5_model.specs.Tree.Objects.{Tree, Object, Content, Group, Array, Link, Links, ToObject, Soft}
 use Rattle.h5_header.specs.Listed.{messages_in}
-use Rattle.h5_layout.specs.Described.{dataset_in}
+use Rattle.h5_layout.specs.Described.{described_dataset}
 use Rattle.h5_layout.specs.Told.{array_told, layout_told}
 use Rattle.h5_group.specs.Links as group
 use Rattle.h5_open.specs.declared.opened.object.OpenedObject.{OpenedObject}
@@ -31,9 +31,9 @@ number_of (h ∷ hs) header = if h == header then 0 else 1 + number_of hs header
 -- ---- objects
 
 -- the links that the file has, and those of the tree
-abbrev pub links_of : List ℕ → OpenedContent → List (List ℕ × Target)
-links_of image (content.Group g) = group.links_of image g
-links_of image content.Array = []
+abbrev pub content_links : List ℕ → OpenedContent → List (List ℕ × Target)
+content_links image (content.Group g) = group.links_of_group image g
+content_links image content.Array = []
 
 abbrev pub link_to : List ℕ → Target → Link
 link_to at (Header header) = ToObject (number_of at header)
@@ -44,15 +44,15 @@ links_by at found = from_entries (map (λ (l : List ℕ × Target). (l.0, link_t
 
 -- a group with these links, whose headers are among these; or the array that the messages tell
 abbrev pub content_in : List ℕ → List ℕ → List Message → OpenedContent → Content
-content_in image at ms (content.Group g) = Group (links_by at (group.links_of image g))
-content_in image at ms content.Array = Array (dataset_in image (array_told ms) empty)
+content_in image at ms (content.Group g) = Group (links_by at (group.links_of_group image g))
+content_in image at ms content.Array = Array (described_dataset image (array_told ms) empty)
 
 abbrev pub object_in : List ℕ → List ℕ → OpenedObject → Object
 object_in image at o = object_with (content_in image at (messages_in image o.messages.list) o.content) (messages_in image o.messages.list)
 
 -- the blocks of what an object is, and all of its own blocks
 abbrev pub content_blocks : List ℕ → List Message → OpenedContent → List Block
-content_blocks image ms (content.Group g) = group.blocks_of image g
+content_blocks image ms (content.Group g) = group.blocks_of_group image g
 content_blocks image ms content.Array = data_blocks (layout_told ms)
 
 abbrev pub object_blocks : List ℕ → OpenedObject → List Block

@@ -12,7 +12,7 @@ use Rattle.h5_open.specs.declared.opened.object.OpenedObject.{OpenedObject}
 use Rattle.h5_open.specs.declared.opened.object.OpenedContent.{OpenedContent}
 use Rattle.h5_open.specs.declared.opened.object.OpenedContent.TheVariants as content
 use Rattle.h5_open.specs.Opened.Kept.{IsObjectKept}
-use Rattle.h5_open.specs.Opened.Objects.{headers, links_of, object_in, object_blocks}
+use Rattle.h5_open.specs.Opened.Objects.{headers, content_links, object_in, object_blocks}
 
 abbrev pub IsGroupContent : OpenedContent → Type 0
 IsGroupContent (content.Group g) = Unit {0}
@@ -26,11 +26,11 @@ IsLed objects depth (name, Header header) = (depth + 1 ≤ 64) × ((o : OpenedOb
 IsLed objects depth (name, Text text) = depth + 1 ≤ 64
 
 abbrev pub AreLed : List ℕ → List OpenedObject → OpenedObject → Type 0
-AreLed image objects o = AllByRecursion (IsLed objects o.depth) (links_of image o.content)
+AreLed image objects o = AllByRecursion (IsLed objects o.depth) (content_links image o.content)
 
 -- one of the objects before has a link to the header
 abbrev pub HasParent : List ℕ → List OpenedObject → ℕ → Type 0
-HasParent image before header = (p : OpenedObject) × Contains before p × ((name : List ℕ) × Contains (links_of image p.content) (name, Header header))
+HasParent image before header = (p : OpenedObject) × Contains before p × ((name : List ℕ) × Contains (content_links image p.content) (name, Header header))
 
 -- each object but the first is named by one before it
 abbrev pub AreNamed : List ℕ → List OpenedObject → List OpenedObject → Type 0
@@ -50,7 +50,7 @@ pub record BeginsAtRoot (image : List ℕ) (objects : List OpenedObject) : Type 
 abbrev pub opened_blocks : List ℕ → List OpenedObject → List Block
 opened_blocks image objects = block 0 (superblock_length image) ∷ flat_map (object_blocks image) objects
 
-pub record IsWhole (image : List ℕ) (objects : List OpenedObject) : Type 0 where
+pub record IsWholeImage (image : List ℕ) (objects : List OpenedObject) : Type 0 where
   pub superblock : IsSuperblock image
   pub whole : end_of_file image ≡ length image
   pub begins : BeginsAtRoot image objects

@@ -10,5 +10,5 @@ pub record IsExchanged {X : Type 0} (xs ys : List X) (i j : ℕ) : Type 0 where
   pub others : (k : ℕ) → (k ≡ i → ⊥) → (k ≡ j → ⊥) → slice_get ys k ≡ slice_get xs k
 
 -- the object with this header and the one of this number have exchanged their numbers
-abbrev pub IsGiven : List OpenedObject → List OpenedObject → ℕ → ℕ → Type 0
-IsGiven before after header number = (j : ℕ) × (slice_get (headers before) j ≡ Some header) × IsExchanged before after number j
+abbrev pub IsGivenNumber : List OpenedObject → List OpenedObject → ℕ → ℕ → Type 0
+IsGivenNumber before after header number = (j : ℕ) × (slice_get (headers before) j ≡ Some header) × IsExchanged before after number j

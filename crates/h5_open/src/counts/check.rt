@@ -6,9 +6,9 @@ ghost use Rattle.h5_group.specs.Nodes.Walk.{IsFault};
 ghost use Rattle.h5_open.specs.declared.opened.object.OpenedObject.{OpenedObject};
 ghost use Rattle.h5_open.specs.Opened.Kept.{IsIndex};
 ghost use Rattle.h5_open.specs.Opened.Objects.{headers, table_of, tree_of};
-ghost use Rattle.h5_open.specs.Placed.Whole.{IsGroupContent, IsWhole, placed_of};
+ghost use Rattle.h5_open.specs.Placed.Whole.{IsGroupContent, IsWholeImage, placed_of};
 ghost use Rattle.h5_open.specs.Counted.Links.{all_links};
-ghost use Rattle.h5_open.specs.Counted.Counts.{AreCounts, IsRight, IsWrong, IsMiscounted};
+ghost use Rattle.h5_open.specs.Counted.Counts.{AreCounts, IsRight, IsWrong, HasMiscount};
 
 use crate::counts::links::count_links;
 use crate::opened::{Opened, OpenedContent, OpenedObject};
@@ -27,13 +27,13 @@ const MOST: u32 = 65535;
 ///
 /// That the objects make up the image is the caller's condition.
 pub fn check_counts(alloc: Global, image: &Image, opened: &Opened) -> Result<(), OpenFault>
-    requires whole { IsWhole image.now.bytes opened.now.objects.items }
+    requires whole { IsWholeImage image.now.bytes opened.now.objects.items }
     requires index { IsIndex opened.now.objects.items opened.now.numbers }
     ensures reads { OnOk result (ReadsAs image.now.bytes (table_of opened.now.objects.items)
         (tree_of image.now.bytes opened.now.objects.items)
         (placed_of image.now.bytes opened.now.objects.items)) }
     ensures wrong { IfErr result (λ fault. (fault.cause ≡ Cause.NoMemory)
-        ⊎ IsMiscounted image.now.bytes opened.now.objects.items fault.cause fault.address) }
+        ⊎ HasMiscount image.now.bytes opened.now.objects.items fault.cause fault.address) }
     ensures refused { IfErr result (λ fault. IsFault image.now.bytes fault.cause fault.address) }
 {
     let Ok(counts) = count_links(alloc, image, opened) else {
@@ -47,7 +47,7 @@ pub fn check_counts(alloc: Global, image: &Image, opened: &Opened) -> Result<(),
 
 /// Checks the objects, of which each has its count of links.
 fn check_each(image: &Image, opened: &Opened, counts: &[u32]) -> Result<(), OpenFault>
-    requires whole { IsWhole image.now.bytes opened.now.objects.items }
+    requires whole { IsWholeImage image.now.bytes opened.now.objects.items }
     requires length { length counts.now ≡ length opened.now.objects.items }
     requires counts { AreCounts (headers opened.now.objects.items)
         (all_links image.now.bytes opened.now.objects.items) counts.now }
@@ -55,7 +55,7 @@ fn check_each(image: &Image, opened: &Opened, counts: &[u32]) -> Result<(), Open
         ((number : ℕ) (o : OpenedObject) → slice_get opened.now.objects.items number ≡ Some o
         → IsRight image.now.bytes o (slice_index counts.now number)) }
     ensures wrong { IfErr result (λ fault.
-        IsMiscounted image.now.bytes opened.now.objects.items fault.cause fault.address) }
+        HasMiscount image.now.bytes opened.now.objects.items fault.cause fault.address) }
     ensures refused { IfErr result (λ fault. IsFault image.now.bytes fault.cause fault.address) }
 {
     for (number, object) in opened.objects.iter().enumerate() {

@@ -6,7 +6,7 @@ ghost use Rattle.std.specs.Ordering.{nat_cmp, eq_by_cmp};
 ghost use Rattle.h5_model.specs.Format.Superblock.{leaf_k};
 ghost use Rattle.h5_model.specs.Format.Symbols.{Target, Header, symbols_at, link_of};
 ghost use Rattle.h5_model.specs.Format.Heap.{segment_of};
-ghost use Rattle.h5_group.specs.Links.{IsGroupRead, links_of};
+ghost use Rattle.h5_group.specs.Links.{IsGroupRead, links_of_group};
 ghost use Rattle.h5_open.specs.Opened.Kept.{IsIndex, IsObjectKept};
 ghost use Rattle.h5_open.specs.Opened.Objects.{headers};
 ghost use Rattle.h5_open.specs.Placed.Whole.{BeginsAtRoot};
@@ -71,7 +71,7 @@ fn count_group(image: &Image, opened: &Opened, group: &Group, counts: &mut [u32]
     ensures length { length counts.new ≡ length counts.old }
     ensures counted { (before : List (List ℕ × Target))
         → AreCounts (headers opened.now.objects.items) before counts.old
-        → AreCounts (headers opened.now.objects.items) (before ++ links_of image.now.bytes group.now)
+        → AreCounts (headers opened.now.objects.items) (before ++ links_of_group image.now.bytes group.now)
         counts.new }
 {
     for node in &group.symbol_nodes {

@@ -4,7 +4,7 @@ ghost use Rattle.std.specs.Prelude.{◌≡◌, ◌<◌, length};
 ghost use Rattle.std.specs.List.{Contains};
 ghost use Rattle.h5_open.specs.Opened.Kept.{IsOpened, IsIndex};
 ghost use Rattle.h5_open.specs.Opened.Objects.{headers as headers_of};
-ghost use Rattle.h5_open.specs.Renumbered.Exchanged.{IsGiven};
+ghost use Rattle.h5_open.specs.Renumbered.Exchanged.{IsGivenNumber};
 ghost use Rattle.h5_open.specs.Renumbered.Headers.{IsReadAt};
 
 use crate::opened::Opened;
@@ -34,7 +34,7 @@ fn give_number(opened: &mut Opened, header: u64, number: u32)
     requires there { Contains (headers_of opened.old.objects.items) header }
     requires number { number < length opened.old.objects.items }
     ensures index { IsIndex opened.new.objects.items opened.new.numbers }
-    ensures given { IsGiven opened.old.objects.items opened.new.objects.items header number }
+    ensures given { IsGivenNumber opened.old.objects.items opened.new.objects.items header number }
     ensures len { length opened.new.objects.items ≡ length opened.old.objects.items }
 {
     let before = *opened.numbers.get(&header).unwrap();

@@ -14,7 +14,7 @@ use Rattle.h5_repack.specs.declared.blocks.cells.Cells.TheVariants.{Unset, Fille
 use Rattle.h5_repack.specs.Blocks.ArrayHeader.{group_written, array_list, header_written, messages_count, messages_size, data_written, address_written}
 use Rattle.h5_repack.specs.Blocks.Others.{OthersBytes}
 use Rattle.h5_repack.specs.Blocks.Parts.{prefix_bytes}
-use Rattle.h5_repack.specs.Blocks.Written.{AreOthers, AreCells, HasRoom}
+use Rattle.h5_repack.specs.Blocks.Written.{AreOthers, AreCellsToWrite, HasRoom}
 use Rattle.h5_repack.specs.Objects.Objects.{IsNewArray}
 use Rattle.h5_model.proofs.PlainValues.{length-cells_bytes}
 use Rattle.h5_repack.proofs.BlockLaws.Messages.{messages_bytes-append}
@@ -49,7 +49,7 @@ no_cells count none = grind (arith, nat_tests)
 abbrev data_by : Dataset → Storage → List ℕ
 data_by d s = if is_stored s then cells_bytes d.fixed d.cells else []
 
-data_is_by : (c : Cells) (a : Described) (d : Dataset) → AreCells c d → a.fixed ≡ d.fixed → a.sizes ≡ d.sizes → a.fill ≡ d.fill → data_written c a ≡ data_of d
+data_is_by : (c : Cells) (a : Described) (d : Dataset) → AreCellsToWrite c d → a.fixed ≡ d.fixed → a.sizes ≡ d.sizes → a.fill ≡ d.fill → data_written c a ≡ data_of d
 data_is_by Unset a d are fixed sizes fill = ap (data_by d) (sym are)
 data_is_by Filled a d are fixed sizes fill =
     let n : ℕ = cells d.sizes in
@@ -67,13 +67,13 @@ same_address count place = elim (count == 0) as (λ b. (count == 0) ≡ b → (i
   | false ↦ λ some. let yes : nat_lt 0 count ≡ true = grind (arith, nat_tests) in rw yes refl
 ] refl
 
-address_by : (c : Cells) (d : Dataset) (place : ℕ) → AreCells c d → address_written c (cells d.sizes) place ≡ (if is_stored d.storage then Some place else None)
+address_by : (c : Cells) (d : Dataset) (place : ℕ) → AreCellsToWrite c d → address_written c (cells d.sizes) place ≡ (if is_stored d.storage then Some place else None)
 address_by Unset d place are = ap (λ s. if is_stored s then Some place else None) (sym are)
 address_by Filled d place are = same_address (cells d.sizes) place ∙ ap (λ s. if is_stored s then Some place else None) (sym are.0)
 address_by (Stored bytes) d place are = ap (λ s. if is_stored s then Some place else None) (sym are.0)
 
 -- there are as many bytes as the cells have
-room_by : (c : Cells) (d : Dataset) → AreCells c d → length d.cells ≡ cells d.sizes → HasRoom c (cells d.sizes * (d.fixed).size)
+room_by : (c : Cells) (d : Dataset) → AreCellsToWrite c d → length d.cells ≡ cells d.sizes → HasRoom c (cells d.sizes * (d.fixed).size)
 room_by Unset d are counted = tt
 room_by Filled d are counted = tt
 room_by (Stored bytes) d are counted = ap length are.1 ∙ length-cells_bytes d.fixed d.cells ∙ ap (λ n. n * (d.fixed).size) counted

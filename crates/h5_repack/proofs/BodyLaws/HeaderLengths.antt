@@ -8,7 +8,7 @@ use Rattle.h5_model.specs.Format.Bodies.{fill_bytes}
 use Rattle.h5_model.specs.Format.Fixed.{Fixed}
 use Rattle.h5_model.specs.Tree.Places.{cells}
 use Rattle.h5_model.specs.Format.Plain.{header_bytes, messages_bytes}
-use Rattle.h5_model.specs.Format.Sizes.{array_messages as messages_size, extent_size, message_size}
+use Rattle.h5_model.specs.Format.Sizes.{array_messages_size as messages_size, extent_size, message_size}
 use Rattle.h5_model.specs.Tree.Objects.{Dataset, Contiguous}
 use Rattle.h5_model.proofs.PaddedLaws.{length-raised}
 use Rattle.h5_msg.proofs.FillLaws.{length-fill_bytes}

@@ -14,7 +14,7 @@ use Rattle.h5_model.specs.Format.Messages.{Message, count_of, first_body}
 use Rattle.h5_model.specs.Tree.Places.{extent_cells}
 use Rattle.h5_model.specs.Format.Plain.{message_bytes, messages_bytes}
 use Rattle.h5_model.specs.Format.Reads.{HasAttributes, is_kept, kept_of, is_attribute_message}
-use Rattle.h5_model.specs.Format.Sizes.{attribute_message as attribute_length, kept_message as kept_length, attribute_size}
+use Rattle.h5_model.specs.Format.Sizes.{attribute_message_size as attribute_length, kept_message_size as kept_length, attribute_size}
 use Rattle.h5_model.specs.Format.AttributeBody.{attribute_of}
 use Rattle.h5_model.specs.Tree.Objects.{Object, Attribute, Kept}
 use Rattle.h5_model.proofs.PlainMessages.{IsPlain, messages_from}

@@ -6,11 +6,11 @@ use Rattle.std.specs.List.{flat_map}
 use Rattle.h5_model.specs.Format.Plain.{heap_header_bytes, segment_bytes, free_head_of}
 use Rattle.h5_model.specs.Format.PlainLength.{nodes_over, rows_of}
 use Rattle.h5_model.specs.Format.Sizes.{group_node, symbol_node}
-use Rattle.h5_btree.specs.Writing.Written.{cut, chunks, tree_bytes}
+use Rattle.h5_btree.specs.Writing.Written.{cut_into_lists, chunks, tree_bytes}
 use Rattle.h5_btree.specs.declared.write.child.Child.{Child}
 use Rattle.h5_heap.specs.Writing.Links.{Leads, ToGroup, ToArray, ToText, spelled}
-use Rattle.h5_heap.specs.Writing.Written.{link_span, placed, placed_links, segment_of, heap_bytes}
-use Rattle.h5_group.specs.Writing.Written.{runs_of, symbol_bytes, last_name, children_of, heap_place, symbols_place, links_bytes}
+use Rattle.h5_heap.specs.Writing.Written.{texts_span, placed, placed_links, written_segment, heap_bytes}
+use Rattle.h5_group.specs.Writing.Written.{runs_of, written_symbol_node, last_name_offset, children_of, heap_place, symbols_place, links_bytes}
 use Rattle.h5_group.proofs.WriteLaws.SymbolNodes.{length-node_of}
 
 -- a link without its addresses
@@ -34,7 +34,7 @@ heap_bare at links =
 
 -- ---- where its name stands
 
-span_bare : (l : List ℕ × Leads) → link_span (bare l) ≡ link_span l
+span_bare : (l : List ℕ × Leads) → texts_span (bare l) ≡ texts_span l
 span_bare (name, ToGroup header tree heap) = refl
 span_bare (name, ToArray header) = refl
 span_bare (name, ToText text) = refl
@@ -46,7 +46,7 @@ placed_map : (at : ℕ) (links : List (List ℕ × Leads)) → placed at (map ba
 placed_map at [] = refl
 placed_map at (l ∷ links) =
     ap (λ n. (at, bare l) ∷ placed (at + n) (map bare links)) (span_bare l)
-    ∙ ap (λ (rest : List (ℕ × (List ℕ × Leads))). (at, bare l) ∷ rest) (placed_map (at + link_span l) links)
+    ∙ ap (λ (rest : List (ℕ × (List ℕ × Leads))). (at, bare l) ∷ rest) (placed_map (at + texts_span l) links)
 
 -- ---- runs
 
@@ -65,21 +65,21 @@ map_if : {X Y : Type 0} (f : X → Y) (b : Bool) (xs ys : List X) (rest : List (
 map_if f true xs ys rest = refl
 map_if f false xs ys rest = refl
 
-cut_map : {X Y : Type 0} (f : X → Y) (n m : ℕ) (xs : List X) → cut n m (map f xs) ≡ map (map f) (cut n m xs)
+cut_map : {X Y : Type 0} (f : X → Y) (n m : ℕ) (xs : List X) → cut_into_lists n m (map f xs) ≡ map (map f) (cut_into_lists n m xs)
 cut_map f zero m xs = refl
 cut_map {Y = Y} f (suc n) m xs =
-    (λ i. cond (nat_le (length-map xs f i) m) (map f xs ∷ []) (take_map f m xs i ∷ cut n m (drop_map f m xs i)))
+    (λ i. cond (nat_le (length-map xs f i) m) (map f xs ∷ []) (take_map f m xs i ∷ cut_into_lists n m (drop_map f m xs i)))
     ∙ ap (λ (rest : List (List Y)). cond (nat_le (length xs) m) (map f xs ∷ []) (map f (take m xs) ∷ rest)) (cut_map f n m (drop m xs))
-    ∙ map_if f (nat_le (length xs) m) xs (take m xs) (cut n m (drop m xs))
+    ∙ map_if f (nat_le (length xs) m) xs (take m xs) (cut_into_lists n m (drop m xs))
 
 chunks_map : {X Y : Type 0} (f : X → Y) (m : ℕ) (xs : List X) → chunks m (map f xs) ≡ map (map f) (chunks m xs)
-chunks_map f m xs = ap (λ n. cut n m (map f xs)) (length-map xs f) ∙ cut_map f (length xs) m xs
+chunks_map f m xs = ap (λ n. cut_into_lists n m (map f xs)) (length-map xs f) ∙ cut_map f (length xs) m xs
 
 runs_map : (leaf : ℕ) (xs : List (ℕ × (List ℕ × Leads))) → runs_of leaf (map placed_bare xs) ≡ map (map placed_bare) (runs_of leaf xs)
 runs_map leaf [] = refl
 runs_map leaf (x ∷ xs) = chunks_map placed_bare (2 * leaf) (x ∷ xs)
 
-last_bare : (before : ℕ) (run : List (ℕ × (List ℕ × Leads))) → last_name before (map placed_bare run) ≡ last_name before run
+last_bare : (before : ℕ) (run : List (ℕ × (List ℕ × Leads))) → last_name_offset before (map placed_bare run) ≡ last_name_offset before run
 last_bare before [] = refl
 last_bare before (x ∷ run) = last_bare x.0 run
 
@@ -90,16 +90,16 @@ children_bare leaf at (run ∷ runs) =
 
 -- ---- symbol nodes
 
-length-symbol : (leaf : ℕ) (run : List (ℕ × (List ℕ × Leads))) → length (symbol_bytes leaf (map placed_bare run)) ≡ length (symbol_bytes leaf run)
+length-symbol : (leaf : ℕ) (run : List (ℕ × (List ℕ × Leads))) → length (written_symbol_node leaf (map placed_bare run)) ≡ length (written_symbol_node leaf run)
 length-symbol leaf run =
     length-node_of leaf (map placed_bare run) ∙ ap (λ n. 8 + 40 * n + (symbol_node leaf - (8 + 40 * n))) (length-map run placed_bare)
     ∙ sym (length-node_of leaf run)
 
-length-symbols : (leaf : ℕ) (runs : List (List (ℕ × (List ℕ × Leads)))) → length (flat_map (symbol_bytes leaf) (map (map placed_bare) runs)) ≡ length (flat_map (symbol_bytes leaf) runs)
+length-symbols : (leaf : ℕ) (runs : List (List (ℕ × (List ℕ × Leads)))) → length (flat_map (written_symbol_node leaf) (map (map placed_bare) runs)) ≡ length (flat_map (written_symbol_node leaf) runs)
 length-symbols leaf [] = refl
 length-symbols leaf (run ∷ runs) =
-    length-append (symbol_bytes leaf (map placed_bare run)) (flat_map (symbol_bytes leaf) (map (map placed_bare) runs))
-    ∙ ap₂ (λ (a b : ℕ). a + b) (length-symbol leaf run) (length-symbols leaf runs) ∙ sym (length-append (symbol_bytes leaf run) (flat_map (symbol_bytes leaf) runs))
+    length-append (written_symbol_node leaf (map placed_bare run)) (flat_map (written_symbol_node leaf) (map (map placed_bare) runs))
+    ∙ ap₂ (λ (a b : ℕ). a + b) (length-symbol leaf run) (length-symbols leaf runs) ∙ sym (length-append (written_symbol_node leaf run) (flat_map (written_symbol_node leaf) runs))
 
 -- ---- the whole
 
@@ -110,7 +110,7 @@ module _ (leaf internal at : ℕ) (links : List (List ℕ × Leads)) where
   heap_place_bare : heap_place leaf internal at (map bare links) ≡ heap_place leaf internal at links
   heap_place_bare = ap (λ n. at + nodes_over 64 (2 * internal) (rows_of (2 * leaf) n) * group_node internal) (length-map links bare)
 
-  segment_bare : segment_of (map bare links) ≡ segment_of links
+  segment_bare : written_segment (map bare links) ≡ written_segment links
   segment_bare = ap segment_bytes (spelled_bare links)
 
   symbols_place_bare : symbols_place leaf internal at (map bare links) ≡ symbols_place leaf internal at links
@@ -125,8 +125,8 @@ module _ (leaf internal at : ℕ) (links : List (List ℕ × Leads)) where
   heap_there : heap_bytes (heap_place leaf internal at (map bare links)) (map bare links) ≡ heap_bytes (heap_place leaf internal at links) links
   heap_there = ap (λ place. heap_bytes place (map bare links)) heap_place_bare ∙ heap_bare (heap_place leaf internal at links) links
 
-  symbols_bare : length (flat_map (symbol_bytes leaf) (runs_of leaf (placed_links (map bare links)))) ≡ length (flat_map (symbol_bytes leaf) (runs_of leaf (placed_links links)))
-  symbols_bare = ap (λ (runs : List (List (ℕ × (List ℕ × Leads)))). length (flat_map (symbol_bytes leaf) runs)) runs_bare ∙ length-symbols leaf (runs_of leaf (placed_links links))
+  symbols_bare : length (flat_map (written_symbol_node leaf) (runs_of leaf (placed_links (map bare links)))) ≡ length (flat_map (written_symbol_node leaf) (runs_of leaf (placed_links links)))
+  symbols_bare = ap (λ (runs : List (List (ℕ × (List ℕ × Leads)))). length (flat_map (written_symbol_node leaf) runs)) runs_bare ∙ length-symbols leaf (runs_of leaf (placed_links links))
 
   length-three : (a b c : List ℕ) → length (a ++ (b ++ c)) ≡ length a + (length b + length c)
   length-three a b c = length-append a (b ++ c) ∙ ap (λ n. length a + n) (length-append b c)
@@ -135,7 +135,7 @@ module _ (leaf internal at : ℕ) (links : List (List ℕ × Leads)) where
   unfolding links_bytes
   length-bare =
       length-three (tree_bytes internal at (children_of leaf (symbols_place leaf internal at (map bare links)) (runs_of leaf (placed_links (map bare links)))))
-      (heap_bytes (heap_place leaf internal at (map bare links)) (map bare links)) (flat_map (symbol_bytes leaf) (runs_of leaf (placed_links (map bare links))))
+      (heap_bytes (heap_place leaf internal at (map bare links)) (map bare links)) (flat_map (written_symbol_node leaf) (runs_of leaf (placed_links (map bare links))))
       ∙ ap₂ (λ (a b : ℕ). a + b) (ap length tree_bare) (ap₂ (λ (b c : ℕ). b + c) (ap length heap_there) symbols_bare)
       ∙ sym (length-three (tree_bytes internal at (children_of leaf (symbols_place leaf internal at links) (runs_of leaf (placed_links links))))
-      (heap_bytes (heap_place leaf internal at links) links) (flat_map (symbol_bytes leaf) (runs_of leaf (placed_links links))))
+      (heap_bytes (heap_place leaf internal at links) links) (flat_map (written_symbol_node leaf) (runs_of leaf (placed_links links))))

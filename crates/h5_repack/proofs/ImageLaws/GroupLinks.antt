@@ -11,7 +11,7 @@ use Rattle.std.specs.List.{AllByRecursion, AllZip, list_any}
 use Rattle.std.specs.Option.{option_map_or, option_and_then}
 use Rattle.h5_model.specs.Format.Links.{Before, Ascend}
 use Rattle.h5_model.specs.Tree.Paths.{is_name}
-use Rattle.h5_model.specs.Format.PlainLength.{content_bytes, group_bytes, nodes_over, rows_of, segment_size}
+use Rattle.h5_model.specs.Format.PlainLength.{content_bytes, group_bytes, nodes_over, rows_of, plain_segment_size}
 use Rattle.h5_model.specs.Format.Reads.{IsSame}
 use Rattle.h5_model.specs.Edits.Refusal.{has_zero}
 use Rattle.h5_model.specs.Format.Sizes.{group_node, symbol_node, header_size}
@@ -22,12 +22,12 @@ use Rattle.h5_laws.proofs.Lists.{In}
 use Rattle.h5_laws.proofs.Maps.{true_of, value_of, get_of_entry}
 use Rattle.h5_btree.specs.Writing.Written.{root_level}
 use Rattle.h5_heap.specs.Writing.Laws.{IsLead, IsSpelled}
-use Rattle.h5_heap.specs.Writing.Links.{Leads, ToGroup, ToArray, ToText, target_of, target_link}
+use Rattle.h5_heap.specs.Writing.Links.{Leads, ToGroup, ToArray, ToText, target_of_leads, target_link}
 use Rattle.h5_model.specs.Format.Superblock.{AreK}
 use Rattle.h5_laws.specs.Trees.Sound.{IsSoundTree}
-use Rattle.h5_group.specs.Writing.Laws.{ArePlainLinks, IsWritten, LinksLength, GroupLength}
+use Rattle.h5_group.specs.Writing.Laws.{ArePlainLinks, IsLinkWritten, LinksLength, GroupLength}
 use Rattle.h5_group.specs.Writing.Written.{links_bytes}
-use Rattle.h5_repack.specs.Image.Written.{object_length, header_in, leads_to, content_place, heap_place, written_link, written_links}
+use Rattle.h5_repack.specs.Image.Written.{object_length, header_in, leads_to_object, content_place, group_heap_place, written_link, written_links}
 use Rattle.h5_repack.proofs.ImageLaws.BareLinks.{bare, length-bare}
 
 -- ---- lists
@@ -74,10 +74,10 @@ ascend_made f same (a ∷ b ∷ es) h =
 -- ---- where links lead
 
 leads_group : (leaf internal : ℕ) (o : Object) (links : Links) (h : ℕ) → o.content ≡ Group links
-    → leads_to leaf internal o h ≡ ToGroup h (content_place o h) (heap_place leaf internal o links h)
+    → leads_to_object leaf internal o h ≡ ToGroup h (content_place o h) (group_heap_place leaf internal o links h)
 leads_group leaf internal o links h e = rw e refl
 
-leads_array : (leaf internal : ℕ) (o : Object) (h : ℕ) (c : Content) → o.content ≡ c → (links_in c ≡ None) → leads_to leaf internal o h ≡ ToArray h
+leads_array : (leaf internal : ℕ) (o : Object) (h : ℕ) (c : Content) → o.content ≡ c → (links_in c ≡ None) → leads_to_object leaf internal o h ≡ ToArray h
 leads_array leaf internal o h (Group links) e none = absurd (cc)
 leads_array leaf internal o h (Array d) e none = rw e refl
 
@@ -87,19 +87,19 @@ heap_within n s x h hs all is low = omega arith
 
 -- a link to an object that ends low leads there
 lead_to : (leaf internal : ℕ) (o : Object) (h : ℕ) (c : Content) → o.content ≡ c → h + object_length leaf internal o ≤ 2 ^ 31
-    → IsLead (leads_to leaf internal o h) × (target_of (leads_to leaf internal o h) ≡ Header h)
+    → IsLead (leads_to_object leaf internal o h) × (target_of_leads (leads_to_object leaf internal o h) ≡ Header h)
 lead_to leaf internal o h (Group links) e low =
     let leads = leads_group leaf internal o links h e in
-    let heap_low : heap_place leaf internal o links h < 2 ^ 32
-    = heap_within (nodes_over 64 (2 * internal) (rows_of (2 * leaf) (len links)) * group_node internal) (segment_size links)
+    let heap_low : group_heap_place leaf internal o links h < 2 ^ 32
+    = heap_within (nodes_over 64 (2 * internal) (rows_of (2 * leaf) (len links)) * group_node internal) (plain_segment_size links)
     (rows_of (2 * leaf) (len links) * symbol_node leaf) h (header_size o) (content_bytes leaf internal 0 0 o.content)
     (ap (content_bytes leaf internal 0 0) e) low in (
       subst IsLead (sym leads) (omega (arith, low), omega (arith, low), heap_low),
-      ap target_of leads,
+      ap target_of_leads leads,
     )
 lead_to leaf internal o h (Array d) e low =
     let leads = leads_array leaf internal o h (Array d) e refl in
-    (subst IsLead (sym leads) (omega (arith, low)), ap target_of leads)
+    (subst IsLead (sym leads) (omega (arith, low)), ap target_of_leads leads)
 
 -- ---- the links of a tree's group
 
@@ -112,7 +112,7 @@ pub header_is : (table : FinMap nat_cmp ℕ) (n place : ℕ) → get table n ≡
 header_is table n place e = ap (λ (r : Option ℕ). option_map_or (λ h. h) r 0) e
 
 -- a link to an object leads to no text
-no_text : (leaf internal : ℕ) (r : Option Object) (h : ℕ) (text : List ℕ) → option_map_or (λ (x : Object). leads_to leaf internal x h) r (ToArray 0) ≡ ToText text → ⊥
+no_text : (leaf internal : ℕ) (r : Option Object) (h : ℕ) (text : List ℕ) → option_map_or (λ (x : Object). leads_to_object leaf internal x h) r (ToArray 0) ≡ ToText text → ⊥
 no_text leaf internal None h text e = absurd (cc)
 no_text leaf internal (Some o) h text e = by_content o.content refl where
   by_content : (c : Content) → o.content ≡ c → ⊥
@@ -156,16 +156,16 @@ module _ (leaf internal : ℕ) (tree : Tree) (table : FinMap nat_cmp ℕ) (sound
     each_named (name, ToObject n) at = named (name, ToObject n) at
     each_named (name, Soft text) at = named (name, Soft text) at
 
-    each_written : (e : List ℕ × Link) → In e (entries links) → IsWritten e (as_written e)
-    each_written (name, ToObject n) at = by_lead (option_map_or (λ (x : Object). leads_to leaf internal x (header_in table n)) (get tree n) (ToArray 0)) (no_text leaf internal (get tree n) (header_in table n)) where
-      by_lead : (l : Leads) → ((t : List ℕ) → l ≡ ToText t → ⊥) → IsWritten (name, ToObject n) (name, l)
+    each_written : (e : List ℕ × Link) → In e (entries links) → IsLinkWritten e (as_written e)
+    each_written (name, ToObject n) at = by_lead (option_map_or (λ (x : Object). leads_to_object leaf internal x (header_in table n)) (get tree n) (ToArray 0)) (no_text leaf internal (get tree n) (header_in table n)) where
+      by_lead : (l : Leads) → ((t : List ℕ) → l ≡ ToText t → ⊥) → IsLinkWritten (name, ToObject n) (name, l)
       by_lead (ToGroup h t p) never = refl
       by_lead (ToArray h) never = refl
       by_lead (ToText t) never = absurd (never t refl)
     each_written (name, Soft text) at = (refl, refl)
 
-    pub all_written : AllZip IsWritten (entries links) written
-    all_written = zip_made IsWritten as_written (entries links) each_written
+    pub all_written : AllZip IsLinkWritten (entries links) written
+    all_written = zip_made IsLinkWritten as_written (entries links) each_written
 
     -- ---- without addresses
 
@@ -181,16 +181,16 @@ module _ (leaf internal : ℕ) (tree : Tree) (table : FinMap nat_cmp ℕ) (sound
     bare_named e at = ap is_name (bare_name (as_written e)) ∙ each_named e at
 
     bare_spelled : (e : List ℕ × Link) → In e (entries links) → IsSpelled (bare (as_written e))
-    bare_spelled (name, ToObject n) at = by_lead (option_map_or (λ (x : Object). leads_to leaf internal x (header_in table n)) (get tree n) (ToArray 0)) (no_text leaf internal (get tree n) (header_in table n)) where
+    bare_spelled (name, ToObject n) at = by_lead (option_map_or (λ (x : Object). leads_to_object leaf internal x (header_in table n)) (get tree n) (ToArray 0)) (no_text leaf internal (get tree n) (header_in table n)) where
       by_lead : (l : Leads) → ((t : List ℕ) → l ≡ ToText t → ⊥) → IsSpelled (bare (name, l))
       by_lead (ToGroup h t p) never = (no_zero name (named (name, ToObject n) at), (omega arith, omega arith, omega arith))
       by_lead (ToArray h) never = (no_zero name (named (name, ToObject n) at), omega arith)
       by_lead (ToText t) never = absurd (never t refl)
     bare_spelled (name, Soft text) at = (no_zero name (named (name, Soft text) at), no_zero_text name text at)
 
-    bare_written : (e : List ℕ × Link) → IsWritten e (as_written e) → IsWritten e (bare (as_written e))
-    bare_written (name, ToObject n) is_written = by_lead (option_map_or (λ (x : Object). leads_to leaf internal x (header_in table n)) (get tree n) (ToArray 0)) is_written where
-      by_lead : (l : Leads) → IsWritten (name, ToObject n) (name, l) → IsWritten (name, ToObject n) (bare (name, l))
+    bare_written : (e : List ℕ × Link) → IsLinkWritten e (as_written e) → IsLinkWritten e (bare (as_written e))
+    bare_written (name, ToObject n) is_written = by_lead (option_map_or (λ (x : Object). leads_to_object leaf internal x (header_in table n)) (get tree n) (ToArray 0)) is_written where
+      by_lead : (l : Leads) → IsLinkWritten (name, ToObject n) (name, l) → IsLinkWritten (name, ToObject n) (bare (name, l))
       by_lead (ToGroup h t p) e = e
       by_lead (ToArray h) e = e
       by_lead (ToText t) e = absurd e
@@ -216,24 +216,24 @@ module _ (leaf internal : ℕ) (tree : Tree) (table : FinMap nat_cmp ℕ) (sound
         sym (length-bare leaf internal at written)
         ∙ ap (λ (ls : List (List ℕ × Leads)). length (links_bytes leaf internal at ls)) (map-map bare as_written (entries links))
         ∙ links_length_is leaf internal at bare_links (plain_bare_links k low)
-        ∙ group_length leaf internal links bare_links (zip_made IsWritten (λ (e : List ℕ × Link). bare (as_written e)) (entries links) (λ e there. bare_written e (each_written e there)))
+        ∙ group_length leaf internal links bare_links (zip_made IsLinkWritten (λ (e : List ℕ × Link). bare (as_written e)) (entries links) (λ e there. bare_written e (each_written e there)))
 
   -- ---- where they lead
 
   module _ (end : ℕ) (placed : ArePlaced leaf internal tree table end) (fits_in : end ≤ 2 ^ 31) where
     -- where a link to an object leads
     object_lead : (n : ℕ) (o : Object) → get tree n ≡ Some o
-        → IsLead (option_map_or (λ (x : Object). leads_to leaf internal x (header_in table n)) (get tree n) (ToArray 0))
-        × (target_of (option_map_or (λ (x : Object). leads_to leaf internal x (header_in table n)) (get tree n) (ToArray 0)) ≡ Header (header_in table n))
+        → IsLead (option_map_or (λ (x : Object). leads_to_object leaf internal x (header_in table n)) (get tree n) (ToArray 0))
+        × (target_of_leads (option_map_or (λ (x : Object). leads_to_object leaf internal x (header_in table n)) (get tree n) (ToArray 0)) ≡ Header (header_in table n))
         × (get table n ≡ Some (header_in table n))
     object_lead n o is =
         let at = placed n o is in
         let here = header_is table n at.0 at.1 in
-        let lead : IsLead (leads_to leaf internal o (header_in table n)) × (target_of (leads_to leaf internal o (header_in table n)) ≡ Header (header_in table n))
+        let lead : IsLead (leads_to_object leaf internal o (header_in table n)) × (target_of_leads (leads_to_object leaf internal o (header_in table n)) ≡ Header (header_in table n))
         = lead_to leaf internal o (header_in table n) o.content refl (omega (arith, here, at.2)) in
-        let chosen : option_map_or (λ (x : Object). leads_to leaf internal x (header_in table n)) (get tree n) (ToArray 0) ≡ leads_to leaf internal o (header_in table n)
-        = ap (λ (r : Option Object). option_map_or (λ (x : Object). leads_to leaf internal x (header_in table n)) r (ToArray 0)) is in
-        (subst IsLead (sym chosen) lead.0, ap target_of chosen ∙ lead.1, at.1 ∙ ap (λ (h : ℕ). Some h) (sym here))
+        let chosen : option_map_or (λ (x : Object). leads_to_object leaf internal x (header_in table n)) (get tree n) (ToArray 0) ≡ leads_to_object leaf internal o (header_in table n)
+        = ap (λ (r : Option Object). option_map_or (λ (x : Object). leads_to_object leaf internal x (header_in table n)) r (ToArray 0)) is in
+        (subst IsLead (sym chosen) lead.0, ap target_of_leads chosen ∙ lead.1, at.1 ∙ ap (λ (h : ℕ). Some h) (sym here))
 
     module _ (number : ℕ) (o : Object) (links : Links) (is : get tree number ≡ Some o) (group : o.content ≡ Group links) where
       each_spelled : (e : List ℕ × Link) → In e (entries links) → IsSpelled (as_written e)

@@ -26,7 +26,7 @@ use Rattle.h5_group.specs.Writing.Laws.{ArePlainLinks, IsPlainGroup, LinksRead, 
 use Rattle.h5_group.specs.Writing.Written as links
 use Rattle.h5_group.specs.Writing.Written.{links_bytes, links_length}
 use Rattle.h5_repack.specs.Image.Plain.{IsPlain, IsPlainContent, IsPlainTree, IsLow}
-use Rattle.h5_repack.specs.Image.Written.{object_length, header_in, content_place, heap_place, written_links, object_bytes}
+use Rattle.h5_repack.specs.Image.Written.{object_length, header_in, content_place, group_heap_place, written_links, object_bytes}
 use Rattle.h5_repack.proofs.ImageLaws.GroupLinks.{ArePlaced, header_is, length-written, length-links, plain_links, same_links, all_written}
 
 -- ---- two parts, one behind the other
@@ -66,7 +66,7 @@ module _ (links_length_is : LinksLength) (group_length : GroupLength) (leaf inte
   written = written_links leaf internal tree table group
 
   abbrev header_part : List ℕ
-  header_part = group_header (content_place o header) (heap_place leaf internal o group header) (others_of o)
+  header_part = group_header (content_place o header) (group_heap_place leaf internal o group header) (others_of o)
 
   abbrev links_part : List ℕ
   links_part = links_bytes leaf internal (content_place o header) written
@@ -87,7 +87,7 @@ module _ (links_length_is : LinksLength) (group_length : GroupLength) (leaf inte
   links_long = group_length leaf internal group written (all_written leaf internal tree table plain.sound number o group is e)
 
   length-header_part : length header_part ≡ header_size o
-  length-header_part = length-group_header (content_place o header) (heap_place leaf internal o group header) (others_of o)
+  length-header_part = length-group_header (content_place o header) (group_heap_place leaf internal o group header) (others_of o)
       ∙ ap (λ n. n + length (messages_bytes (others_of o))) forty ∙ group_header-size o group own.others e where
         forty : 40 ≡ 16 + 24
         forty = refl
@@ -130,18 +130,18 @@ module _ (links_length_is : LinksLength) (group_length : GroupLength) (leaf inte
       linked = links_read image leaf internal (content_place o header) written are_plain links_low links_there
 
       -- the heap is at the same place
-      same_heap : links.heap_place leaf internal (content_place o header) written ≡ heap_place leaf internal o group header
+      same_heap : links.heap_place leaf internal (content_place o header) written ≡ group_heap_place leaf internal o group header
       same_heap = ap (λ n. content_place o header + nodes_over 64 (2 * internal) (rows_of (2 * leaf) n) * group_node internal)
           (length-written leaf internal tree table plain.sound number o group is e)
 
-      heap_low : heap_place leaf internal o group header < 2 ^ 64
+      heap_low : group_heap_place leaf internal o group header < 2 ^ 64
       heap_low = omega (arith, sym same_heap, links_low)
 
       own_blocks : List Block
       own_blocks = block header (length header_part) ∷ linked.blocks
 
       group_reads : HasObject image table header o (block header (length header_part) ∷ linked.blocks) × (reference_count (prefix_at image header) ≡ 1)
-      group_reads = group_object image table header leaf internal (content_place o header) (heap_place leaf internal o group header) o group (map target_link written)
+      group_reads = group_object image table header leaf internal (content_place o header) (group_heap_place leaf internal o group header) o group (map target_link written)
           linked.blocks own.others e own_content (omega (arith, length-header_part, links_low)) (omega (arith, links_low)) heap_low header_there leaf_is internal_is
           (subst (λ (heap : ℕ). HasLinks image leaf internal (content_place o header) heap (map target_link written) linked.blocks) same_heap linked.linked)
           (same_links leaf internal tree table plain.sound end placed fits_in number o group is e)

@@ -13,10 +13,10 @@ pub record AreOthers (ms : List (ℕ × List ℕ)) (o : OthersBytes) : Type 0 wh
   pub count_is : o.count ≡ length ms
 
 -- the cells are not stored, or each is the fill, or these are their bytes
-abbrev pub AreCells : Cells → Dataset → Type 0
-AreCells Unset d = d.storage ≡ Contiguous false
-AreCells Filled d = (d.storage ≡ Contiguous (nat_lt 0 (cells d.sizes))) × (d.cells ≡ replicate (cells d.sizes) d.fill)
-AreCells (Stored bytes) d = (d.storage ≡ Contiguous true) × (bytes.now ≡ cells_bytes d.fixed d.cells)
+abbrev pub AreCellsToWrite : Cells → Dataset → Type 0
+AreCellsToWrite Unset d = d.storage ≡ Contiguous false
+AreCellsToWrite Filled d = (d.storage ≡ Contiguous (nat_lt 0 (cells d.sizes))) × (d.cells ≡ replicate (cells d.sizes) d.fill)
+AreCellsToWrite (Stored bytes) d = (d.storage ≡ Contiguous true) × (bytes.now ≡ cells_bytes d.fixed d.cells)
 
 -- as many bytes as cells have that are stored
 abbrev pub HasRoom : Cells → ℕ → Type 0

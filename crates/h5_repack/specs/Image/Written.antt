@@ -51,17 +51,17 @@ abbrev pub content_place : Object → ℕ → ℕ
 content_place o header = header + header_size o
 
 -- a group's heap stands behind its tree
-abbrev pub heap_place : ℕ → ℕ → Object → Links → ℕ → ℕ
-heap_place leaf internal o links header =
+abbrev pub group_heap_place : ℕ → ℕ → Object → Links → ℕ → ℕ
+group_heap_place leaf internal o links header =
     content_place o header + nodes_over 64 (2 * internal) (rows_of (2 * leaf) (len links)) * group_node internal
 
 -- ---- bytes
 
 -- where a link to this object, whose header stands there, leads
-abbrev pub leads_to : ℕ → ℕ → Object → ℕ → Leads
-leads_to leaf internal o header = by_content o.content where
+abbrev pub leads_to_object : ℕ → ℕ → Object → ℕ → Leads
+leads_to_object leaf internal o header = by_content o.content where
   by_content : Content → Leads
-  by_content (Group links) = ToGroup header (content_place o header) (heap_place leaf internal o links header)
+  by_content (Group links) = ToGroup header (content_place o header) (group_heap_place leaf internal o links header)
   by_content (Array d) = ToArray header
 
 abbrev pub header_in : FinMap nat_cmp ℕ → ℕ → ℕ
@@ -70,7 +70,7 @@ header_in table number = option_map_or (λ header. header) (get table number) 0
 -- a link of the tree as it is written
 abbrev pub written_link : ℕ → ℕ → Tree → FinMap nat_cmp ℕ → List ℕ × Link → List ℕ × Leads
 written_link leaf internal tree table (name, ToObject number) =
-    (name, option_map_or (λ o. leads_to leaf internal o (header_in table number)) (get tree number) (ToArray 0))
+    (name, option_map_or (λ o. leads_to_object leaf internal o (header_in table number)) (get tree number) (ToArray 0))
 written_link leaf internal tree table (name, Soft text) = (name, ToText text)
 
 abbrev pub written_links : ℕ → ℕ → Tree → FinMap nat_cmp ℕ → Links → List (List ℕ × Leads)
@@ -85,7 +85,7 @@ abbrev pub object_bytes : ℕ → ℕ → Tree → FinMap nat_cmp ℕ → ℕ ×
 object_bytes leaf internal tree table (number, o) = by_content o.content where
   by_content : Content → List ℕ
   by_content (Group links) =
-      header_bytes 1 ((17, pair_bytes (content_place o (header_in table number)) (heap_place leaf internal o links (header_in table number))) ∷ others_of o)
+      header_bytes 1 ((17, pair_bytes (content_place o (header_in table number)) (group_heap_place leaf internal o links (header_in table number))) ∷ others_of o)
       ++ links_bytes leaf internal (content_place o (header_in table number)) (written_links leaf internal tree table links)
   by_content (Array d) =
       header_bytes (hard_links tree number)
@@ -96,7 +96,7 @@ object_bytes leaf internal tree table (number, o) = by_content o.content where
 abbrev pub root_heap : ℕ → ℕ → Object → ℕ
 root_heap leaf internal o = by_content o.content where
   by_content : Content → ℕ
-  by_content (Group links) = heap_place leaf internal o links 96
+  by_content (Group links) = group_heap_place leaf internal o links 96
   by_content (Array d) = 0
 
 abbrev pub superblock_of : ℕ → ℕ → List (ℕ × Object) → List ℕ

@@ -5,7 +5,7 @@ use Rattle.std.specs.FinMap.{get, entries}
 use Rattle.h5_model.specs.Tree.Objects.{Tree, Object, Content, Group, Array, Dataset, Link, ToObject, Soft}
 use Rattle.h5_repack.specs.Bodies.Bodies.{others_of}
 use Rattle.h5_layout.specs.Described.{Described}
-use Rattle.h5_repack.specs.Blocks.Written.{AreCells, AreOthers}
+use Rattle.h5_repack.specs.Blocks.Written.{AreCellsToWrite, AreOthers}
 use Rattle.h5_repack.specs.declared.blocks.cells.Cells.{Cells}
 use Rattle.h5_repack.specs.declared.objects.object.NewContent.{NewContent}
 use Rattle.h5_repack.specs.declared.objects.object.NewContent.TheVariants as content
@@ -21,7 +21,7 @@ pub record IsNewArray (a : Described) (c : Cells) (d : Dataset) : Type 0 where
   pub sizes_are : a.sizes ≡ d.sizes
   pub maxima_are : a.maxima ≡ d.maxima
   pub fill_is : a.fill ≡ d.fill
-  pub cells_are : AreCells c d
+  pub cells_are : AreCellsToWrite c d
 
 -- a group of these links, in the order of their names; or this array
 abbrev pub IsNewContent : NewContent → Content → Type 0

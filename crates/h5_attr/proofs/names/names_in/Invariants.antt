@@ -1,8 +1,8 @@
 use Rattle.std.proofs.Common.{◌≡◌, ◌++◌, drop, map}
 use Rattle.h5_header.specs.Listed.{messages_in}
-use Rattle.h5_attr.specs.Attributes.{names_in}
+use Rattle.h5_attr.specs.Attributes.{attribute_names_in}
 use Rattle.h5_attr.proofs.names.names_in.Given as goal
 
 abbrev pub invariant-loop-message : goal.invariant-loop-message
 invariant-loop-message l =
-    map (λ name. name.now) l.names.items ++ names_in (messages_in l.image.bytes (drop l.message-index l.messages.list)) ≡ names_in (messages_in l.image.bytes l.messages.list)
+    map (λ name. name.now) l.names.items ++ attribute_names_in (messages_in l.image.bytes (drop l.message-index l.messages.list)) ≡ attribute_names_in (messages_in l.image.bytes l.messages.list)

@@ -7,7 +7,7 @@ use Rattle.h5_text.specs.Appends.{Appends}
 use Rattle.h5_text.proofs.Appending.{appends_err}
 use Rattle.h5_text.proofs.LineTexts.{in_two_pieces}
 use Rattle.h5_model.specs.Tree.Links.{tree_link}
-use Rattle.h5_file.specs.Listed.{AreLinks, IsNoGroup}
+use Rattle.h5_file.specs.Listed.{AreGroupLinks, IsNoGroup}
 use Rattle.h5_dump.specs.Listing.{lines_of_link}
 use Rattle.h5_dump.proofs.Listings.{lines_of_array, lines_of_last, lines_of_next, lines_of_nothing}
 use Rattle.h5_dump.proofs.texts.+listed.Goals as goal
@@ -41,7 +41,7 @@ push_object-returns-in_default-2-clause-lines t c =
     let tree = c.args.file.now.tree in
     let number = c.args.number.0 in
     let old = c.args.text.now.items in
-    let none = subst (λ found. MatchOption found (IsNoGroup tree number) (λ links. AreLinks tree number links.items)) c.in_default-2.is c.in_ok-links.ensures in
+    let none = subst (λ found. MatchOption found (IsNoGroup tree number) (λ links. AreGroupLinks tree number links.items)) c.in_default-2.is c.in_ok-links.ensures in
     sym (ap (λ (text : List ℕ). old ++ text) (lines_of_nothing tree c.args.depth c.args.path.now.items c.args.name.now number c.in_default.ensures none) ∙ append-nil old)
 
 pub push_object-returns-then-depth-eq0-clause-lines : goal.push_object-returns-then-depth-eq0-clause-lines
@@ -50,7 +50,7 @@ push_object-returns-then-depth-eq0-clause-lines t c =
     let number = c.args.number.0 in
     let old = c.args.text.now.items in
     let name = c.args.name.now in
-    let are = subst (λ found. MatchOption found (IsNoGroup tree number) (λ links. AreLinks tree number links.items)) c.in-Some-2.is c.in_ok-links.ensures in
+    let are = subst (λ found. MatchOption found (IsNoGroup tree number) (λ links. AreGroupLinks tree number links.items)) c.in-Some-2.is c.in_ok-links.ensures in
     c.in_ok-push_group_line.ensures
     ∙ ap (λ (p : List ℕ). old ++ line_of (joined_path p name) (codes "group")) c.as_slice.ensures.value
     ∙ ap (λ (text : List ℕ). old ++ text) (lines_of_last tree c.args.depth c.args.path.now.items name number c.in-Some-2.links.items are c.if-depth-eq0.true)
@@ -64,7 +64,7 @@ push_object-returns-clause-lines t c =
     let name = c.args.name.now in
     let line = line_of (joined_path path name) (codes "group") in
     let below = c.push_name.new.path.items in
-    let are = subst (λ found. MatchOption found (IsNoGroup tree number) (λ links. AreLinks tree number links.items)) c.in-Some-2.is c.in_ok-links.ensures in
+    let are = subst (λ found. MatchOption found (IsNoGroup tree number) (λ links. AreGroupLinks tree number links.items)) c.in-Some-2.is c.in_ok-links.ensures in
     let deeper : suc (c.args.depth - 1) ≡ c.args.depth = omega (arith, c.if-depth-eq0.false) in
     let joined : below ≡ joined_path path name = c.in_ok-push_name.ensures ∙ sym (append_assoc path (codes "/") (escaped name)) in
     let first : c.push_group_line.new.out.items ≡ old ++ line =

@@ -4,7 +4,7 @@ use Rattle.h5_bytes.specs.Blocks.{cover, Inside}
 use Rattle.h5_model.specs.Format.Heap.{heap_header, segment_of, heap_blocks, IsHeap}
 use Rattle.h5_btree.specs.Walk.Forms.{OfGroup}
 use Rattle.h5_btree.specs.Walk.Trees.{IsTree}
-use Rattle.h5_group.specs.Order.Ordered.{AreOrdered}
+use Rattle.h5_group.specs.Order.Ordered.{AreNamesOrdered}
 use Rattle.h5_group.specs.declared.group.Group.{Group}
 use Rattle.h5_group.proofs.NodeLaws.GroupLaws.{nodes_formed}
 use Rattle.h5_group.proofs.HeapSteps.{heap_refused, at_tree}
@@ -59,7 +59,7 @@ returns-clause-group c =
     let inside : Inside (length image) (heap_blocks image g.table.heap) = rw c.heap.ensures at c.in_ok-heap.ensures.inside in
     let heap : IsHeap (heap_header image g.table.heap) (segment_of image g.table.heap) c.in_ok-heap.heap.free = rw c.heap.ensures at c.in_ok-heap.ensures.read in
     let tree : IsTree image OfGroup g.table.tree c.in_ok-tree.tree.nodes.items g.symbol_nodes.items = rw c.tree.ensures at c.in_ok-tree.ensures.tree in
-    let order : AreOrdered image (segment_of image g.table.heap) c.in_ok-tree.tree.nodes.items g.symbol_nodes.items
+    let order : AreNamesOrdered image (segment_of image g.table.heap) c.in_ok-tree.tree.nodes.items g.symbol_nodes.items
     = rw (c.segment_at.ensures, c.heap-4.ensures) at c.in_ok-check_order.ensures.ordered in
     group_read image g c.in_ok-tree.tree.nodes.items tree c.in_ok-heap.heap.free c.in_ok-check_texts.ensures.texts order heap c.in_ok-tree.ensures.inside inside
 

@@ -4,7 +4,7 @@ use Rattle.h5_open.proofs.FollowLaws.{twice, ready_at, read_at, array_read, tree
 use Rattle.h5_open.proofs.UnderLaws.{header_met}
 use Rattle.h5_open.proofs.StepLaws.{begun, step, link_ready, finished}
 use Rattle.h5_open.specs.Walk.{IsPartly}
-use Rattle.h5_group.specs.Links.{link_from}
+use Rattle.h5_group.specs.Links.{lent_link}
 use Rattle.std.proofs.lemmas.List.{length-map}
 use Rattle.h5_open.specs.Placed.Whole.{IsGroupContent}
 use Rattle.h5_open.proofs.steps.+tree.Goals as goal
@@ -42,13 +42,13 @@ read_tree-loop-link-init t c =
       end = c.in_ok-object.ensures.end ∙ c.requires.end;
       index = c.in_ok-push_object.ensures.index;
       deep = λ some.
-          let same = sym (length-map c.in_ok-links.links.items link_from) ∙ ap length c.in_ok-links.ensures.links in
+          let same = sym (length-map c.in_ok-links.links.items lent_link) ∙ ap length c.in_ok-links.ensures.links in
           c.in_ok-object.ensures.read.shallow (omega (arith, some, same, ap length items));
       read = λ followed field ready.
           begun image c.args.claims.now.held c.read_object.new.claims.held followed c.args.opened.now.objects.items field c.args.header c.args.depth ready c.requires.new
           c.in_ok-object.object c.in_ok-object.ensures.read c.in_ok-object.ensures.separate
           (c.in_ok-object.ensures.followed followed field (header_met image c.args.claims.now.held followed c.args.opened.now.objects.items field c.args.header c.args.depth ready c.requires.new))
-          c.deref-link-items.result.now (ap (map link_from) items ∙ c.in_ok-links.ensures.links)
+          c.deref-link-items.result.now (ap (map lent_link) items ∙ c.in_ok-links.ensures.links)
           c.push_object.new.opened.objects.items c.in_ok-push_object.ensures.pushed;
     }
 

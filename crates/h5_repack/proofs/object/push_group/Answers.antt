@@ -1,5 +1,5 @@
 use Rattle.std.proofs.Common.{◌+◌, ◌++◌, ◌∙◌, ap, map, refl, arith}
-use Rattle.h5_heap.specs.Writing.Links.{link_of}
+use Rattle.h5_heap.specs.Writing.Links.{name_and_leads}
 use Rattle.h5_group.specs.Writing.Written.{links_bytes}
 use Rattle.h5_repack.specs.Blocks.ArrayHeader.{group_written}
 use Rattle.h5_model.specs.Tree.Links.{tree_link}
@@ -18,12 +18,12 @@ pub push_links-requires-clause-places : goal.push_links-requires-clause-places
 push_links-requires-clause-places c =
     let l = c.args.layout.now in
     places_are l.leaf l.internal c.args.links.now c.args.others.now c.requires.held.0 c.requires.held.1 c.args.places.now c.requires.held.2 l
-    (map link_of c.deref.result.now) (ap (map link_of) c.deref.ensures.value ∙ c.in_ok-new.ensures)
+    (map name_and_leads c.deref.result.now) (ap (map name_and_leads) c.deref.ensures.value ∙ c.in_ok-new.ensures)
 
 pub returns : goal.returns
 returns c =
     let l = c.args.layout.now in
     let header = group_written c.args.at (c.args.at + c.args.places.now.tree) c.args.others.now in
     let links = links_bytes l.leaf l.internal c.args.at in
-    two_parts c.args.out.now.items c.push_group_header.new.out.items c.push_links.new.out.items header (links (map link_of c.deref.result.now)) _
-    c.in_ok-push_group_header.ensures c.in_ok-push_links.ensures (ap (λ ls. header ++ links ls) (ap (map link_of) c.deref.ensures.value ∙ c.in_ok-new.ensures))
+    two_parts c.args.out.now.items c.push_group_header.new.out.items c.push_links.new.out.items header (links (map name_and_leads c.deref.result.now)) _
+    c.in_ok-push_group_header.ensures c.in_ok-push_links.ensures (ap (λ ls. header ++ links ls) (ap (map name_and_leads) c.deref.ensures.value ∙ c.in_ok-new.ensures))

@@ -7,7 +7,7 @@ use Rattle.h5_model.specs.declared.link.Link.{Link}
 use Rattle.h5_repack.specs.declared.size.Extent.{Extent}
 use Rattle.h5_repack.specs.declared.size.Extent.TheVariants as extent
 use Rattle.h5_repack.specs.declared.size.Size.{Size}
-use Rattle.h5_repack.specs.Layout.{IsExtent, IsGroupObject, IsHeldObject, IsSize, object_at}
+use Rattle.h5_repack.specs.Layout.{IsExtent, IsGroupObject, IsHeldObject, IsSize, laid_object}
 use Rattle.h5_repack.proofs.Pushed.{extent_read, links_low, no_data, group_at, array_object_at}
 use Rattle.h5_repack.proofs.Sizes.{group_of, array_of, others_low}
 use Rattle.h5_repack.proofs.object.push_object.Goals as goal
@@ -56,7 +56,7 @@ returns-in-Links c =
     let n = c.args.number in
     IfOk-weaker c.push_group.result _
     (λ _. (o : Object) (s : Size) → slice_get l.sizes.now n ≡ Some s → IsHeldObject c.args.object.now o → IsSize l.leaf l.internal o s
-    → c.push_group.new.out.items ≡ c.args.out.now.items ++ object_at l (slice_index l.headers.now n) c.args.count o)
+    → c.push_group.new.out.items ≡ c.args.out.now.items ++ laid_object l (slice_index l.headers.now n) c.args.count o)
     (λ _ pushed o s found held size. pushed ∙ ap (λ xs. c.args.out.now.items ++ xs)
     (group_at l c.args.count n c.deref.result.now (c.args.object.now).others o s _ c.in-Links.places
     (subst (λ (ls : List (Link ObjectNo)). IsGroupObject ls (c.args.object.now).others o) (sym c.deref.ensures.value) (group_of c.args.object.now o c.in-Group.links c.in-Group.is held))
@@ -69,7 +69,7 @@ returns-in-Array c =
     let n = c.args.number in
     IfOk-weaker c.push_array.result _
     (λ _. (o : Object) (s : Size) → slice_get l.sizes.now n ≡ Some s → IsHeldObject c.args.object.now o → IsSize l.leaf l.internal o s
-    → c.push_array.new.out.items ≡ c.args.out.now.items ++ object_at l (slice_index l.headers.now n) c.args.count o)
+    → c.push_array.new.out.items ≡ c.args.out.now.items ++ laid_object l (slice_index l.headers.now n) c.args.count o)
     (λ _ pushed o s found held size.
     let is = array_of c.args.object.now o c.in-Array.array c.in-Array.cells c.in-Array.is held in
     pushed o is ∙ ap (λ xs. c.args.out.now.items ++ xs) (array_object_at l c.args.count n c.in-Array.array c.in-Array.cells (c.args.object.now).others o s _ is found size))

@@ -1,7 +1,7 @@
 use Rattle.std.proofs.Common.{◌≡◌, ◌<◌, refl, length, Some}
 use Rattle.std.proofs.lemmas.Option.{slice_get_read}
 use Rattle.std.specs.Prelude.{slice_get, slice_index}
-use Rattle.h5_repack.specs.Layout.{numbered_at, object_at}
+use Rattle.h5_repack.specs.Layout.{numbered_at, laid_object}
 use Rattle.h5_repack.proofs.Headers.{all_at}
 use Rattle.h5_repack.proofs.Pushed.{held_at, number_at, objects_more}
 use Rattle.h5_repack.proofs.object.push_objects.Goals as goal
@@ -28,5 +28,5 @@ loop-number-preserved c listed held sized =
     let found : slice_get objects n ≡ Some x = slice_get_read objects (length objects) n x refl within c.index-objects-number.is in
     let h = held_at l.leaf l.internal n objects listed l.sizes.now x held sized found in
     objects_more (numbered_at l c.args.counts.now listed) c.args.order.now i c.args.out.now.items c.loop-number.out.items c.push_object.new.out.items
-    (object_at l (slice_index l.headers.now n) (slice_index c.args.counts.now n) h.0) c.loop-number-test.true (c.loop-number.invariant listed held sized)
+    (laid_object l (slice_index l.headers.now n) (slice_index c.args.counts.now n) h.0) c.loop-number-test.true (c.loop-number.invariant listed held sized)
     (c.in_ok-push_object.ensures h.0 h.1 h.2 h.3 h.4) (number_at l c.args.counts.now listed n h.0 h.5)

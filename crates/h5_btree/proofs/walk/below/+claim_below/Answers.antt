@@ -5,7 +5,7 @@ use Rattle.std.specs.List.{AllByRecursion}
 use Rattle.h5_bytes.proofs.BlockLaws.{all_append}
 use Rattle.h5_model.specs.Format.Rows.{Node}
 use Rattle.h5_model.specs.declared.open_fault.Cause.TheVariants.{NoMemory}
-use Rattle.h5_btree.specs.Walk.Below.{reading_in, IsTaken}
+use Rattle.h5_btree.specs.Walk.Below.{reading_in, IsTakenBelow}
 use Rattle.h5_btree.specs.Walk.Keyed.{AreKeyedBelow}
 use Rattle.h5_btree.specs.Walk.Readable.{AreReadableBelow}
 use Rattle.h5_btree.proofs.WalkLaws.Prefix.{prefix_long, prefix_next, prefix_split}
@@ -56,7 +56,7 @@ returns-in_err-child-clause-refused g t c =
     let row = take c.loop-i.i cs in
     let m = c.args.level - 1 in
     let e : c.args.level ≡ suc m = omega (arith, c.if-level-eq0.false) in
-    let taken : IsTaken image form (suc m) row old mid = subst (λ (l : ℕ). IsTaken image form l row old mid) e c.loop-i.invariant.taken in
+    let taken : IsTakenBelow image form (suc m) row old mid = subst (λ (l : ℕ). IsTakenBelow image form l row old mid) e c.loop-i.invariant.taken in
     let walks : WalksTo image form old mid (suc m) at node row = subst (λ (l : ℕ). WalksTo image form old mid l at node row) e c.loop-i.invariant.walks in
     let long : length row ≡ c.loop-i.i = prefix_long cs c.loop-i.i (omega arith) in
     let p = err_from_is_err_and c.from_residual.result c.from_residual.ensures.1 in
@@ -78,7 +78,7 @@ returns-in_err-claim_below-clause-refused g t c =
     let row = take c.loop-i.i cs in
     let m = c.args.level - 1 in
     let e : c.args.level ≡ suc m = omega (arith, c.if-level-eq0.false) in
-    let taken : IsTaken image form (suc m) row old mid = subst (λ (l : ℕ). IsTaken image form l row old mid) e c.loop-i.invariant.taken in
+    let taken : IsTakenBelow image form (suc m) row old mid = subst (λ (l : ℕ). IsTakenBelow image form l row old mid) e c.loop-i.invariant.taken in
     let walks : WalksTo image form old mid (suc m) at node row = subst (λ (l : ℕ). WalksTo image form old mid l at node row) e c.loop-i.invariant.walks in
     let long : length row ≡ c.loop-i.i = prefix_long cs c.loop-i.i (omega arith) in
     let cause = c.in_err-claim_below.field-0.0.cause in
@@ -106,18 +106,18 @@ loop-i-preserved g t c =
     let m = c.args.level - 1 in
     let child = c.child-below.result in
     let e : c.args.level ≡ suc m = omega (arith, c.if-level-eq0.false) in
-    let taken : IsTaken image form (suc m) row old mid = subst (λ (l : ℕ). IsTaken image form l row old mid) e c.loop-i.invariant.taken in
+    let taken : IsTakenBelow image form (suc m) row old mid = subst (λ (l : ℕ). IsTakenBelow image form l row old mid) e c.loop-i.invariant.taken in
     let walks : WalksTo image form old mid (suc m) at node row = subst (λ (l : ℕ). WalksTo image form old mid l at node row) e c.loop-i.invariant.walks in
     let low : c.loop-i.i < length cs = omega arith in
     let long : length row ≡ c.loop-i.i = prefix_long cs c.loop-i.i (omega arith) in
     let next = prefix_next cs c.loop-i.i child low c.child-below.ensures in
-    let under : IsTaken image form m (reading_in image form child).children here now
-    = subst (λ (n : Node). IsTaken image form m n.children here now) c.in_ok-child.ensures.node c.in_ok-claim_below.ensures.taken in
+    let under : IsTakenBelow image form m (reading_in image form child).children here now
+    = subst (λ (n : Node). IsTakenBelow image form m n.children here now) c.in_ok-child.ensures.node c.in_ok-claim_below.ensures.taken in
     let below : WalksTo image form here now m child (reading_in image form child) (reading_in image form child).children
     = subst (λ (n : Node). WalksTo image form here now m child n n.children) c.in_ok-child.ensures.node c.in_ok-claim_below.ensures.walked in
     record {
       end = c.claim_below.ensures.end ∙ c.claim_inner.ensures.end ∙ c.loop-i.invariant.end;
-      taken = rw next (subst (λ (l : ℕ). IsTaken image form l (row ++ child ∷ []) old now) (sym e)
+      taken = rw next (subst (λ (l : ℕ). IsTakenBelow image form l (row ++ child ∷ []) old now) (sym e)
           (taken_inner image form m row child old mid here now taken c.in_ok-child.ensures.inner c.in_ok-child.ensures.claimed under));
       keyed = rw next (all_append (λ at. AreKeyedBelow image form m (reading_in image form at)) row (child ∷ []) c.loop-i.invariant.keyed
           (subst (λ (n : Node). AreKeyedBelow image form m n) c.in_ok-child.ensures.node c.in_ok-claim_below.ensures.keyed, tt));
@@ -147,7 +147,7 @@ returns-in_err-child-clause-only g t c = λ readable.
     let row = take c.loop-i.i cs in
     let m = c.args.level - 1 in
     let e : c.args.level ≡ suc m = omega (arith, c.if-level-eq0.false) in
-    let taken : IsTaken image form (suc m) row old mid = subst (λ (l : ℕ). IsTaken image form l row old mid) e c.loop-i.invariant.taken in
+    let taken : IsTakenBelow image form (suc m) row old mid = subst (λ (l : ℕ). IsTakenBelow image form l row old mid) e c.loop-i.invariant.taken in
     let all : AreReadableBelow image form (suc m) node old = subst (λ (l : ℕ). AreReadableBelow image form l node old) e readable in
     let low : c.loop-i.i < length cs = omega arith in
     let p = err_from_is_err_and c.from_residual.result c.from_residual.ensures.1 in
@@ -167,7 +167,7 @@ returns-in_err-claim_below-clause-only g t c = λ readable.
     let m = c.args.level - 1 in
     let child = c.child-below.result in
     let e : c.args.level ≡ suc m = omega (arith, c.if-level-eq0.false) in
-    let taken : IsTaken image form (suc m) row old mid = subst (λ (l : ℕ). IsTaken image form l row old mid) e c.loop-i.invariant.taken in
+    let taken : IsTakenBelow image form (suc m) row old mid = subst (λ (l : ℕ). IsTakenBelow image form l row old mid) e c.loop-i.invariant.taken in
     let all : AreReadableBelow image form (suc m) node old = subst (λ (l : ℕ). AreReadableBelow image form l node old) e readable in
     let low : c.loop-i.i < length cs = omega arith in
     let cause = c.in_err-claim_below.field-0.0.cause in

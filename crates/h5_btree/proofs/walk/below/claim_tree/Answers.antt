@@ -6,7 +6,7 @@ use Rattle.h5_model.specs.Format.Reached.{Named}
 use Rattle.h5_model.specs.declared.open_fault.Cause.TheVariants.{NoMemory}
 use Rattle.h5_btree.specs.Walk.Trees.{nodes_blocks}
 use Rattle.h5_btree.specs.Walk.Followed.{IsTreeMet}
-use Rattle.h5_btree.specs.Walk.Below.{reading_in, IsStanding, IsTaken}
+use Rattle.h5_btree.specs.Walk.Below.{reading_in, IsStanding, IsTakenBelow}
 use Rattle.h5_btree.specs.Walk.Keyed.{AreKeyedBelow}
 use Rattle.h5_btree.specs.Walk.Readable.{AreReadableBelow}
 use Rattle.h5_btree.specs.Walk.Further.{IsFurther, IsPlaceIn, WalksTo, IsFaultBelow}
@@ -47,9 +47,9 @@ returns-clause-claimed g c =
     let root = reading_in image form c.args.root in
     let is : c.in_ok-node.node ≡ root = c.in_ok-node.ensures.node in
     let high : c.level-level.result ≡ root.level = c.level-level.ensures ∙ ap (λ (n : Node). n.level) is in
-    let taken : IsTaken image form root.level root.children here now
-    = subst (λ (l : ℕ). IsTaken image form l root.children here now) high
-    (subst (λ (n : Node). IsTaken image form c.level-level.result n.children here now) is c.in_ok-claim_below.ensures.taken) in
+    let taken : IsTakenBelow image form root.level root.children here now
+    = subst (λ (l : ℕ). IsTakenBelow image form l root.children here now) high
+    (subst (λ (n : Node). IsTakenBelow image form c.level-level.result n.children here now) is c.in_ok-claim_below.ensures.taken) in
     let stands : IsStanding image form root.level c.args.root = subst (λ (n : Node). IsStanding image form n.level c.args.root) is c.in_ok-node.ensures.stands in
     let low : root.level ≤ 15 = subst (λ (n : Node). n.level ≤ 15) is c.in_ok-node.ensures.low in
     record {
@@ -75,9 +75,9 @@ returns-clause-walked g c =
     let root = reading_in image form c.args.root in
     let is : c.in_ok-node.node ≡ root = c.in_ok-node.ensures.node in
     let high : c.level-level.result ≡ root.level = c.level-level.ensures ∙ ap (λ (n : Node). n.level) is in
-    let taken : IsTaken image form root.level root.children here now
-    = subst (λ (l : ℕ). IsTaken image form l root.children here now) high
-    (subst (λ (n : Node). IsTaken image form c.level-level.result n.children here now) is c.in_ok-claim_below.ensures.taken) in
+    let taken : IsTakenBelow image form root.level root.children here now
+    = subst (λ (l : ℕ). IsTakenBelow image form l root.children here now) high
+    (subst (λ (n : Node). IsTakenBelow image form c.level-level.result n.children here now) is c.in_ok-claim_below.ensures.taken) in
     let walks : WalksTo image form here now root.level c.args.root root root.children
     = subst (λ (l : ℕ). WalksTo image form here now l c.args.root root root.children) high
     (subst (λ (n : Node). WalksTo image form here now c.level-level.result c.args.root n n.children) is c.in_ok-claim_below.ensures.walked) in

@@ -1,5 +1,5 @@
 use Rattle.std.proofs.Common.{◌≡◌, ℕ, List, ◌+◌, ◌*◌, ◌<◌, ◌≤◌, ◌++◌, OnOk, arith, length, ap, sym, subst, ◌∙◌, rules}
-use Rattle.h5_btree.specs.Writing.Written.{chunks, raised}
+use Rattle.h5_btree.specs.Writing.Written.{chunks, as_children}
 use Rattle.h5_btree.proofs.WriteLaws.Steps.{above_few, above_low, above_room, from_top, place_is, row_behind, row_room}
 use Rattle.h5_btree.proofs.write.rows.+push_rows.Goals as goal
 
@@ -24,7 +24,7 @@ push_rows-requires t c =
     let many : 2 * c.args.internal < length c.args.children.now = omega (arith, c.if-count-most.false, c.from-most.ensures) in
     let there = place_is c.args.internal c.args.level c.args.at (length c.args.children.now) c.from-most.result c.from.result c.rows_of.result c.nodes_within-above.result
     c.node_size.result c.from-most.ensures c.from.ensures c.rows_of.ensures.exact c.nodes_within-above.ensures.exact c.node_size.ensures in
-    let row = c.deref.ensures.value ∙ c.in_ok-row.ensures ∙ ap (λ p. raised c.args.internal p 0 (chunks (2 * c.args.internal) c.args.children.now)) there in (
+    let row = c.deref.ensures.value ∙ c.in_ok-row.ensures ∙ ap (λ p. as_children c.args.internal p 0 (chunks (2 * c.args.internal) c.args.children.now)) there in (
       search rules,
       (
         c.requires.low,
@@ -55,7 +55,7 @@ returns t c =
     let many : 2 * c.args.internal < length c.args.children.now = omega (arith, c.if-count-most.false, c.from-most.ensures) in
     let there = place_is c.args.internal c.args.level c.args.at (length c.args.children.now) c.from-most.result c.from.result c.rows_of.result c.nodes_within-above.result
     c.node_size.result c.from-most.ensures c.from.ensures c.rows_of.ensures.exact c.nodes_within-above.ensures.exact c.node_size.ensures in
-    let row = c.deref.ensures.value ∙ c.in_ok-row.ensures ∙ ap (λ p. raised c.args.internal p 0 (chunks (2 * c.args.internal) c.args.children.now)) there in
+    let row = c.deref.ensures.value ∙ c.in_ok-row.ensures ∙ ap (λ p. as_children c.args.internal p 0 (chunks (2 * c.args.internal) c.args.children.now)) there in
     let whole = row_behind c.args.internal c.args.level c.args.at c.args.children.now low c.requires.low many (c.args.at + c.nodes_within-above.result * c.node_size.result)
     c.deref.result.now c.args.out.now.items c.push_rows.new.out.items there row c.in_ok-push_rows.ensures in
     subst (λ (bytes : List ℕ). OnOk c.push_row.result (c.push_row.new.out.items ≡ bytes)) whole c.push_row.ensures

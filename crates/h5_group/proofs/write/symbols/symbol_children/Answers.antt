@@ -1,13 +1,13 @@
 use Rattle.std.proofs.Common.{◌≡◌, ◌+◌, ◌*◌, ◌^◌, ◌≤◌, map, arith, refl, sym, subst}
 use Rattle.h5_model.specs.Format.Sizes.{symbol_node}
-use Rattle.h5_heap.specs.Writing.Links.{link_of}
+use Rattle.h5_heap.specs.Writing.Links.{name_and_leads}
 use Rattle.h5_group.proofs.WriteLaws.Steps.{spans_there, spans_more, children_more, room_more, nodes_end}
 use Rattle.h5_group.proofs.write.symbols.symbol_children.Goals as goal
 
 pub loop-from-init : goal.loop-from-init
 loop-from-init c = record {
   nodes = rw c.new-children.ensures.items refl;
-  room = subst (λ n. c.args.at + n * symbol_node c.args.leaf ≤ 2 ^ 31) (sym (nodes_end c.args.leaf (map link_of c.args.links.now) c.requires.low)) c.requires.nodes;
+  room = subst (λ n. c.args.at + n * symbol_node c.args.leaf ≤ 2 ^ 31) (sym (nodes_end c.args.leaf (map name_and_leads c.args.links.now) c.requires.low)) c.requires.nodes;
   spans = refl;
   within = omega arith;
 }

@@ -1,12 +1,12 @@
 use Rattle.std.proofs.Common.{◌≡◌, ◌+◌, ◌^◌, ◌≤◌, map, drop}
 use Rattle.std.specs.List.{sum_by}
-use Rattle.h5_heap.specs.Writing.Links.{link_of}
-use Rattle.h5_heap.specs.Writing.Written.{link_span}
+use Rattle.h5_heap.specs.Writing.Links.{name_and_leads}
+use Rattle.h5_heap.specs.Writing.Written.{texts_span}
 use Rattle.h5_heap.proofs.write.heap.used_length.Given as goal
 
 -- what is used so far, with the links to come
 abbrev pub invariant-loop-link : goal.invariant-loop-link
 invariant-loop-link l = record {
   low : l.used ≤ 2 ^ 31;
-  whole : l.used + sum_by link_span (map link_of (drop l.link-index l.links)) ≡ 8 + sum_by link_span (map link_of l.links);
+  whole : l.used + sum_by texts_span (map name_and_leads (drop l.link-index l.links)) ≡ 8 + sum_by texts_span (map name_and_leads l.links);
 }

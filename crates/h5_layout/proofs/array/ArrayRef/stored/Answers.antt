@@ -5,7 +5,7 @@ use Rattle.h5_shape.proofs.Products.{cells_le}
 use Rattle.h5_model.proofs.PlainValues.{size-high}
 use Rattle.h5_model.specs.Format.Fixed.{IsFixed}
 use Rattle.h5_model.specs.Tree.Places.{cells}
-use Rattle.h5_layout.specs.Described.{Described, dataset_in}
+use Rattle.h5_layout.specs.Described.{Described, described_dataset}
 use Rattle.h5_layout.specs.Stored.{AreStored, IsArray, data_in}
 use Rattle.h5_layout.proofs.RoomLaws.{few}
 use Rattle.h5_layout.proofs.StoredLaws.{with_data, without_data}
@@ -29,7 +29,7 @@ long c = ap₂ (λ (m n : ℕ). m * n) (counted c) (c.size.ensures.size ∙ ap (
 there : (c : After-size) → data_in c.args.image.now.bytes c.args.self.now.layout ≡ Some c.in-Some.bytes.now
 there c = ap (λ (a : Described). data_in c.args.image.now.bytes a.layout) (sym c.self.view_is) ∙ c.in-Some.ensures
 
-whole : (c : After-size) → AreStored (dataset_in c.args.image.now.bytes c.args.self.now empty) (take (c.cells-cells.result * c.size.result) c.in-Some.bytes.now)
+whole : (c : After-size) → AreStored (described_dataset c.args.image.now.bytes c.args.self.now empty) (take (c.cells-cells.result * c.size.result) c.in-Some.bytes.now)
 whole c =
     with_data c.args.image.now.bytes c.args.self.now c.requires (subst (λ (a : Described). IsFixed a.fixed) c.self.view_is c.size.ensures.one_of) (sound c).room
     (λ none. c.if-cells-eq0.false (counted c ∙ none)) c.in-Some.bytes.now (there c) (c.cells-cells.result * c.size.result) (long c)

@@ -5,14 +5,14 @@ use Rattle.std.specs.Option.{option_map_or}
 use mir.Syntax.{w128}
 use Rattle.h5_model.specs.Tree.Places.{cells}
 use Rattle.h5_model.specs.Format.Cells.{value_in}
-use Rattle.h5_layout.specs.Described.{Described, dataset_in}
+use Rattle.h5_layout.specs.Described.{Described, described_dataset}
 use Rattle.h5_layout.specs.Stored.{data_in, IsArray, IsUnchunked}
 use Rattle.h5_layout.proofs.RoomLaws.{place_room, get-cells, data_cell, data_room}
 use Rattle.h5_layout.proofs.array.ArrayRef.value.Goals as goal
 
 -- the value at a place in the data, or the fill, is the cell's
 found : (image : List ℕ) (a : Described) (place : ℕ) (held : Option (List ℕ)) → IsUnchunked (length image) a.layout → place < cells a.sizes → data_in image a.layout ≡ held
-    → slice_get (dataset_in image a empty).cells place ≡ Some (option_map_or (λ bytes. value_in a.fixed bytes place) held a.fill)
+    → slice_get (described_dataset image a empty).cells place ≡ Some (option_map_or (λ bytes. value_in a.fixed bytes place) held a.fill)
 found image a place held there below is =
     get-cells image a empty place below
     ∙ ap (λ (v : ℤ). Some v)

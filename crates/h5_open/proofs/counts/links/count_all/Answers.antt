@@ -6,7 +6,7 @@ use Rattle.h5_group.specs.Links as group
 use Rattle.h5_header.specs.Listed.{messages_in}
 use Rattle.h5_open.specs.declared.opened.object.OpenedObject.{OpenedObject}
 use Rattle.h5_open.specs.Opened.Kept.{IsObjectKept, IsContentKept}
-use Rattle.h5_open.specs.Opened.Objects.{headers, links_of}
+use Rattle.h5_open.specs.Opened.Objects.{headers, content_links}
 use Rattle.h5_open.specs.Counted.Links.{root_link, object_links}
 use Rattle.h5_open.specs.Counted.Counts.{AreCounts}
 use Rattle.h5_open.proofs.CountedLaws.LoopLaws.{at_index, more_listed}
@@ -43,18 +43,18 @@ loop-object-preserved c =
     let low : i < length objects = rw same at c.loop-object-test.true in
     let is : o ≡ get_or objects i o = rw same at c.object-item.is in
     let so_far = root_link image ∷ object_links image (take i objects) in
-    let more = more_listed (λ (x : OpenedObject). links_of image x.content) objects i o low in
+    let more = more_listed (λ (x : OpenedObject). content_links image x.content) objects i o low in
     elim c.match-object.branch [
       | in-Group w ↦
           let counted = w.count_group.ensures.counted so_far c.loop-object.invariant in
-          let links : group.links_of image w.in-Group.group ≡ links_of image (get_or objects i o).content
-          = ap (links_of image) (sym w.in-Group.is) ∙ ap (λ (x : OpenedObject). links_of image x.content) is in
+          let links : group.links_of_group image w.in-Group.group ≡ content_links image (get_or objects i o).content
+          = ap (content_links image) (sym w.in-Group.is) ∙ ap (λ (x : OpenedObject). content_links image x.content) is in
           subst (λ (ls : List (List ℕ × Target)). AreCounts at (root_link image ∷ ls) c.match-object.counts) more
           (subst (λ (ls : List (List ℕ × Target)). AreCounts at (so_far ++ ls) c.match-object.counts) links
-          (subst (AreCounts at (so_far ++ group.links_of image w.in-Group.group)) (sym w.counts-is) counted))
+          (subst (AreCounts at (so_far ++ group.links_of_group image w.in-Group.group)) (sym w.counts-is) counted))
       | in_default w ↦
-          let none : [] ≡ links_of image (get_or objects i o).content
-          = ap (links_of image) (sym w.in_default.is) ∙ ap (λ (x : OpenedObject). links_of image x.content) is in
+          let none : [] ≡ content_links image (get_or objects i o).content
+          = ap (content_links image) (sym w.in_default.is) ∙ ap (λ (x : OpenedObject). content_links image x.content) is in
           let past : object_links image (take i objects) ≡ object_links image (take (i + 1) objects)
           = sym (append-nil (object_links image (take i objects))) ∙ ap (λ (ls : List (List ℕ × Target)). object_links image (take i objects) ++ ls) none ∙ more in
           subst (λ (ls : List (List ℕ × Target)). AreCounts at (root_link image ∷ ls) c.match-object.counts) past
