@@ -54,7 +54,8 @@ fn fault_of(alloc: Global, error: &Error) -> OrderFault
 
 /// What the words, the program's name first, ask for.
 pub fn order<'a, S: AsStr>(alloc: Global, words: &'a [S]) -> Result<Order<'a>, OrderFault>
-    ensures order { IfOk result (λ o. Some (wanted_by_order o) ≡ wanted_by_words (map S.text words.entry.now)) }
+    ensures order { IfOk result (λ o.
+        Some (wanted_by_order o) ≡ wanted_by_words (map S.text words.entry.now)) }
     // Words that the command takes are refused for want of memory alone.
     ensures only { Taken (map S.text words.entry.now) → IfErr result (λ e. e ≡ NoMemory) }
     // An order comes only of words without a fault, and others are refused for one that they have.

@@ -38,7 +38,8 @@ pub fn find_leaf<S: Sought>(image: &[u8], root: u64, sought: &S) -> Result<Optio
 fn descend<S: Sought>(image: &[u8], at: u64, level: u8, sought: &S) -> Result<u64, NodeFault>
     ensures leads { IfOk result
         (LeadsTo (node_at image.now (S.tree_kind sought.now)) (S.behind sought.now) level at) }
-    ensures refused { IfErr result (StopsDescent image.now (S.tree_kind sought.now) (S.behind sought.now) level at) }
+    ensures refused { IfErr result
+        (StopsDescent image.now (S.tree_kind sought.now) (S.behind sought.now) level at) }
     ensures only { (owned row : List ℕ) → IsInRow image.now (S.tree_kind sought.now) owned level row at
         → IsOk result }
 {

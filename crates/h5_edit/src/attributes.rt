@@ -34,7 +34,8 @@ pub fn set_attr(
 ) -> Result<Made, EditFault>
     requires { IsOpened image.now.bytes opened.now.objects.items opened.now.numbers }
     ensures { let f = opened_state image.now.bytes opened.now.objects.items in
-        MatchResult result (IsEditMade f (SetAttr path.now attr.now)) (IsRefused f (SetAttr path.now attr.now)) }
+        MatchResult result (IsEditMade f (SetAttr path.now attr.now))
+        (IsRefused f (SetAttr path.now attr.now)) }
 {
     let number = check_set_attr(alloc, image, opened, path, attr)?;
     // A Continuation may come with the message.

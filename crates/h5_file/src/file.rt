@@ -213,7 +213,8 @@ impl File {
 
     /// The array of this number, or `None` where no array has it. It takes no memory.
     pub fn array(&self, number: ObjectNo) -> Option<StoredArray<'_>>
-        ensures { MatchOption result (IsNoDataset self.now.tree number.0) (HasArrayNumbered self.now.tree number.0) }
+        ensures { MatchOption result (IsNoDataset self.now.tree number.0)
+            (HasArrayNumbered self.now.tree number.0) }
     {
         array_of(self.alloc, &self.image, &self.opened, number)
     }

@@ -4,3 +4,4 @@ pub mod Nodes
 pub mod Texts
 pub mod Order
 pub mod Writing
+pub use Rattle.h5_heap.specs.Writing as Heap

@@ -44,7 +44,8 @@ pub fn read_group(
     requires superblock { IsSuperblock image.now.bytes }
     ensures group { IfOk result (IsGroupRead image.now.bytes) }
     ensures table { IfOk result (λ g. g.table ≡ table) }
-    ensures claimed { IfOk result (λ g. HasClaimed claims.old claims.new (blocks_of_group image.now.bytes g)) }
+    ensures claimed { IfOk result (λ g.
+        HasClaimed claims.old claims.new (blocks_of_group image.now.bytes g)) }
     ensures end { claims.new.end ≡ claims.old.end }
     ensures walked { IfOk result (FollowsGroup image.now.bytes claims.old.held claims.new.held table) }
     ensures refused { IfErr result (λ fault.

@@ -15,6 +15,7 @@ mod texts;
 mod write;
 
 pub use group::{Group, read_group};
+pub use h5_msg::{SymbolTable, read_symbol_table};
 pub use h5_space::{MAXIMUM_IMAGE, SUPERBLOCK, Superblock, push_superblock};
 pub use list::{entries, link_at, links_at};
 pub use search::lookup;

@@ -97,7 +97,8 @@ impl Heap {
         requires { self.old.segment.at + self.old.segment.len ≤ length image.now.bytes }
         ensures text { IfOk result (λ x. x.now ≡ text_at (segment_in image.now.bytes self.old) offset) }
         ensures span { OnOk result (IsSpan (segment_in image.now.bytes self.old) offset) }
-        ensures names { OnOk result (TakesOnce (segment_in image.now.bytes self.old) self.old self.new offset) }
+        ensures names { OnOk result
+            (TakesOnce (segment_in image.now.bytes self.old) self.old self.new offset) }
         ensures named { OnOk result ((linked loose : List ℕ)
             → HasTaken (segment_in image.now.bytes self.old) self.old linked loose
             → HasNamed (segment_in image.now.bytes self.old) self.new linked loose offset) }

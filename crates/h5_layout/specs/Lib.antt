@@ -3,3 +3,4 @@ pub mod Judged
 pub mod Maxima
 pub mod Stored
 pub mod Told
+pub use Rattle.h5_msg.specs.Layouts

@@ -10,4 +10,6 @@ mod judge;
 mod read;
 
 pub use array::ArrayRef;
+pub use h5_msg::Layout;
+pub use h5_shape::{Dims, MAX_RANK};
 pub use read::{known_array, read_array};

@@ -7,7 +7,7 @@ pub mod Renumbered
 pub use Rattle.h5_layout.specs.Stored
 pub use Rattle.h5_layout.specs.Described
 pub use Rattle.h5_layout.specs.Told
-pub use Rattle.h5_msg.specs.Layouts
+pub use Rattle.h5_layout.specs.Layouts
 pub use Rattle.h5_attr.specs.Attributes
 pub use Rattle.h5_group.specs.Links
 pub use Rattle.h5_group.specs.declared.group.Group as GroupType

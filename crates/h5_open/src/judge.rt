@@ -10,11 +10,11 @@ ghost use Rattle.h5_open.specs.Opened.Array.{IsCarriedArray, IsOtherArray};
 ghost use Rattle.h5_open.specs.Opened.Judged.{IsGroupList, IsArrayList, IsKindBreach, IsGroupBreach, IsArrayBreach};
 
 use h5_attr::{check_bodies, check_names};
+use h5_group::{SymbolTable, read_symbol_table};
 use h5_header::{Messages, ObjectKind, find_body};
-use h5_layout::{ArrayRef, read_array};
+use h5_layout::{ArrayRef, Layout, read_array};
 use h5_model::message_type::SYMBOL_TABLE;
 use h5_model::{Cause, OpenFault};
-use h5_msg::{Layout, SymbolTable, read_symbol_table};
 use h5_space::{Image, fault};
 use std::alloc::Global;
 

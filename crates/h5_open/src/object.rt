@@ -6,7 +6,7 @@ ghost use Rattle.h5_bytes.specs.Blocks.{cover, Separate, Inside};
 ghost use Rattle.h5_bytes.specs.declared.Block.{Block};
 ghost use Rattle.h5_model.specs.Format.Layout.{InBlock};
 ghost use Rattle.h5_model.specs.Format.Superblock.{IsSuperblock};
-ghost use Rattle.h5_msg.specs.Layouts.{layout_in};
+ghost use Rattle.h5_layout.specs.Layouts.{layout_in};
 ghost use Rattle.h5_header.specs.Kinds.{IsOfGroup, IsOfDataset};
 ghost use Rattle.h5_header.specs.Listed.{messages_in};
 ghost use Rattle.h5_header.specs.Progress.{ClaimBreach};
@@ -20,8 +20,8 @@ use crate::judge::{judge_array, judge_group, judge_kind};
 use crate::opened::{OpenedContent, OpenedObject};
 use h5_group::{Group, entries, links_at, read_group};
 use h5_header::{Messages, ObjectKind, claim};
+use h5_layout::Layout;
 use h5_model::{Cause, Link, OpenFault};
-use h5_msg::Layout;
 use h5_space::{Claims, Image, fault};
 use std::alloc::Global;
 
@@ -150,7 +150,8 @@ fn claim_data(claims: &mut Claims, layout: &Layout<'_>) -> Result<(), OpenFault>
     ensures separate { Separate claims.new.held }
     ensures end { claims.new.end ≡ claims.old.end }
     ensures refused { IfErr result (λ fault. (b : Block)
-        × (layout_in layout.now ≡ InBlock (Some b)) × ClaimBreach claims.old.end claims.old.held b fault.cause fault.address) }
+        × (layout_in layout.now ≡ InBlock (Some b))
+        × ClaimBreach claims.old.end claims.old.held b fault.cause fault.address) }
 {
     match layout {
         Layout::Contiguous(Some(block)) => claim(claims, *block),

@@ -46,7 +46,8 @@ pub(crate) fn stored_array<'a>(
     messages: &Messages,
 ) -> StoredArray<'a>
     requires { IsArrayKept image.now.bytes messages.now }
-    ensures { IsArrayShown (array_dataset image.now.bytes (messages_in image.now.bytes messages.now.list)) result }
+    ensures { IsArrayShown
+        (array_dataset image.now.bytes (messages_in image.now.bytes messages.now.list)) result }
 {
     let array = known_array(alloc, image, messages);
     let cells = array.stored(image);

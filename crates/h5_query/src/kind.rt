@@ -1,7 +1,7 @@
 //! What stands at a path.
 
 use h5_model::Fixed;
-use h5_shape::Dims;
+use h5_open::Dims;
 
 /// How a dataset's cells are stored; of chunks their sizes.
 #[derive(Drop)]

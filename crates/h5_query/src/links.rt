@@ -16,8 +16,9 @@ ghost use Rattle.h5_query.specs.Look.{HasKind, HasLinksNamed, IsArrayKind, IsLis
 use crate::kind::{Kind, StoreKind};
 use crate::place::{Place, look};
 use h5_model::{EditFault, Link};
-use h5_open::{ArrayRef, Group, Layout, Opened, OpenedContent, entries, known_array};
-use h5_shape::{Dims, MAX_RANK};
+use h5_open::{
+    ArrayRef, Dims, Group, Layout, MAX_RANK, Opened, OpenedContent, entries, known_array,
+};
 use h5_space::Image;
 use std::alloc::{AllocError, Global};
 
@@ -127,7 +128,8 @@ fn link_names<'a>(
     group: &Group,
 ) -> Result<Vec<&'a [u8]>, AllocError>
     requires { IsGroupRead image.now.bytes group.now }
-    ensures { IfOk result (λ names. map (λ name. name.now) names.items ≡ names_of_group image.now.bytes group.now) }
+    ensures { IfOk result (λ names.
+        map (λ name. name.now) names.items ≡ names_of_group image.now.bytes group.now) }
 {
     let links = entries(alloc, image, group)?;
     names_of_links(alloc, &links)

@@ -20,7 +20,7 @@ use Rattle.h5_laws.specs.Trees.Sound.{IsSoundTree}
 use Rattle.h5_laws.proofs.Lists.{In, in_contains, contains_in}
 use Rattle.h5_laws.proofs.Pigeonhole.{distinct_of_apart}
 use Rattle.h5_btree.specs.Writing.Written.{root_level, tree_bytes}
-use Rattle.h5_heap.specs.Writing.Written.{heap_bytes}
+use Rattle.h5_group.specs.Heap.Written.{heap_bytes}
 use Rattle.h5_group.specs.Writing.Written.{links_bytes}
 use Rattle.h5_repack.specs.Bodies.Laws.{IsPlainReading}
 use Rattle.h5_repack.specs.Image.Plain.{ArePlain, AreLow, IsLow, IsPlain, IsPlainTree}

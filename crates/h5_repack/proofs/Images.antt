@@ -17,7 +17,7 @@ use Rattle.h5_model.specs.Tree.Objects.{Tree, Object, Content, Group, Array, Lin
 use Rattle.h5_btree.specs.Writing.Written.{root_level}
 use Rattle.h5_repack.specs.Bodies.Bodies.{others_of, array_messages}
 use Rattle.h5_repack.specs.Bodies.Headers.{data_of}
-use Rattle.h5_heap.specs.Writing.Links.{Leads, ToGroup, ToArray}
+use Rattle.h5_group.specs.Heap.Links.{Leads, ToGroup, ToArray}
 use Rattle.h5_group.specs.Writing.Places.{ArePlaces}
 use Rattle.h5_group.specs.Writing.Written.{links_bytes}
 use Rattle.h5_group.specs.declared.write.places.GroupPlaces.{GroupPlaces}

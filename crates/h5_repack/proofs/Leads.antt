@@ -9,7 +9,7 @@ use Rattle.h5_model.specs.Format.PlainLength.{nodes_over, rows_of}
 use Rattle.h5_model.specs.Format.Sizes.{group_node, symbol_node}
 use Rattle.h5_model.specs.Tree.Objects.{Link, ToObject, Soft}
 use Rattle.h5_btree.specs.Writing.Written.{root_level}
-use Rattle.h5_heap.specs.Writing.Links.{Leads, ToGroup, ToArray, ToText, spelled}
+use Rattle.h5_group.specs.Heap.Links.{Leads, ToGroup, ToArray, ToText, spelled}
 use Rattle.h5_group.specs.Writing.Laws as laws
 use Rattle.h5_group.specs.Writing.Places.{ArePlaces}
 use Rattle.h5_group.specs.declared.write.places.GroupPlaces.{GroupPlaces}

@@ -12,7 +12,7 @@ use Rattle.h5_model.specs.Format.PlainLength.{nodes_over, rows_of}
 use Rattle.h5_model.specs.Format.Sizes.{group_node}
 use Rattle.h5_model.specs.Tree.Objects.{Object, Content, Dataset}
 use Rattle.h5_repack.specs.Bodies.Bodies.{others_of, array_messages}
-use Rattle.h5_heap.specs.Writing.Links.{Leads}
+use Rattle.h5_group.specs.Heap.Links.{Leads}
 use Rattle.h5_group.specs.Writing.Places.{ArePlaces}
 use Rattle.h5_group.specs.Writing.Written.{links_bytes}
 use Rattle.h5_group.specs.declared.write.places.GroupPlaces.{GroupPlaces}

@@ -16,7 +16,7 @@ use Rattle.h5_repack.proofs.BodyLaws.HeaderGroup.{length-group_header, group_hea
 use Rattle.h5_repack.proofs.BodyLaws.HeaderLengths.{array_length}
 use Rattle.h5_repack.proofs.BodyLaws.HeaderOthers.{length-others}
 use Rattle.h5_repack.proofs.BodyLaws.HeaderSpace.{maxima_fit}
-use Rattle.h5_heap.specs.Writing.Links.{Leads}
+use Rattle.h5_group.specs.Heap.Links.{Leads}
 use Rattle.h5_group.specs.Writing.Laws as laws
 use Rattle.h5_group.specs.Writing.Places.{ArePlaces}
 use Rattle.h5_group.specs.Writing.Written.{links_length, tree_level}

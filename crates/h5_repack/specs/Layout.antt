@@ -9,7 +9,7 @@ use Rattle.h5_model.specs.Format.Sizes.{header_size}
 use Rattle.h5_model.specs.Tree.Objects.{Object, Content, Group, Array, Dataset, Link, Links, ToObject, Soft}
 use Rattle.h5_repack.specs.Bodies.Bodies.{others_of, array_messages}
 use Rattle.h5_repack.specs.Bodies.Headers.{data_of}
-use Rattle.h5_heap.specs.Writing.Links.{Leads, ToGroup, ToArray, ToText}
+use Rattle.h5_group.specs.Heap.Links.{Leads, ToGroup, ToArray, ToText}
 use Rattle.h5_group.specs.Writing.Written.{links_bytes}
 use Rattle.h5_group.specs.Writing.Laws as laws
 use Rattle.h5_group.specs.Writing.Places.{ArePlaces}

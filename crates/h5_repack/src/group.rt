@@ -1,7 +1,7 @@
 //! Links as they are written, with the addresses to which they lead (File Format Specification 3.0, section III.C).
 
 ghost use Rattle.std.specs.Prelude.{◌≡◌, [], IfOk, map};
-ghost use Rattle.h5_heap.specs.Writing.Links.{name_and_leads, object_leads};
+ghost use Rattle.h5_group.specs.Heap.Links.{name_and_leads, object_leads};
 ghost use Rattle.h5_model.specs.Tree.Links.{tree_link};
 ghost use Rattle.h5_repack.specs.Layout.{IsLowLayout, leads_by, written_at};
 
@@ -75,7 +75,8 @@ pub(crate) fn new_links<'a>(
     links: &[Link<'a, ObjectNo>],
 ) -> Result<Vec<Link<'a, ObjectPlace>>, AllocError>
     requires { IsLowLayout layout.now }
-    ensures { IfOk result (λ v. map name_and_leads v.items ≡ map (written_at layout.now) (map tree_link links.now)) }
+    ensures { IfOk result (λ v.
+        map name_and_leads v.items ≡ map (written_at layout.now) (map tree_link links.now)) }
 {
     let mut new = Vec::with_capacity(alloc, links.len())?;
     for link in links {

@@ -30,7 +30,8 @@ pub fn read_symbol_node(leaf: u16, bytes: &[u8]) -> Result<SymbolNode<'_>, NodeF
     ensures node { IfOk result (λ node. node ≡ entries_of bytes.now) }
     ensures form { OnOk result (IsSymbolNode leaf bytes.now) }
     ensures entries { OnOk result (AllByRecursion IsEntry (entries_of bytes.now)) }
-    ensures refused { IfErr result (λ fault. (fault ≡ NodeFault.NodeForm) × BreaksSymbolNodeForm leaf bytes.now) }
+    ensures refused { IfErr result (λ fault.
+        (fault ≡ NodeFault.NodeForm) × BreaksSymbolNodeForm leaf bytes.now) }
 {
     if !begins_with(bytes, &SIGNATURE)
         || bytes[4] != 1

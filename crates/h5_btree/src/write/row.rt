@@ -20,7 +20,8 @@ pub(crate) fn raise(
     requires low { 1 ≤ internal }
     requires some { 1 ≤ length children.now }
     requires room { at + rows_of (2 * internal) (length children.now) * group_node internal < 2 ^ 63 }
-    ensures { IfOk result (λ row. row.items ≡ as_children internal at 0 (chunks (2 * internal) children.now)) }
+    ensures { IfOk result (λ row.
+        row.items ≡ as_children internal at 0 (chunks (2 * internal) children.now)) }
 {
     let most = 2 * usize::from(internal);
     let mut row = Vec::with_capacity(alloc, children.len().div_ceil(most))?;

@@ -10,8 +10,7 @@ ghost use Rattle.h5_repack.specs.Objects.Objects.{IsNewContent};
 
 use h5_header::Messages;
 use h5_model::Spec;
-use h5_msg::Layout;
-use h5_query::{ArrayRef, Dims, known_array};
+use h5_query::{ArrayRef, Dims, Layout, known_array};
 use h5_repack::{Cells, NewContent};
 use h5_space::Image;
 use std::alloc::Global;

@@ -90,7 +90,8 @@ fn push_symbol_node(
     requires room { length links.now ≤ 2 * leaf }
     requires names { name + sum_by span (map name_and_leads links.now) < 2 ^ 32 }
     ensures node { OnOk result
-        (out.new.items ≡ out.old.items ++ written_symbol_node leaf (placed name (map name_and_leads links.now))) }
+        (out.new.items
+        ≡ out.old.items ++ written_symbol_node leaf (placed name (map name_and_leads links.now))) }
     ensures next { IfOk result (λ n. n ≡ name + sum_by span (map name_and_leads links.now)) }
 {
     push_head(out, links.len() as u16)?;

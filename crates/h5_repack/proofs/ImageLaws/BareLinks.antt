@@ -8,8 +8,8 @@ use Rattle.h5_model.specs.Format.PlainLength.{nodes_over, rows_of}
 use Rattle.h5_model.specs.Format.Sizes.{group_node, symbol_node}
 use Rattle.h5_btree.specs.Writing.Written.{cut_into_lists, chunks, tree_bytes}
 use Rattle.h5_btree.specs.declared.write.child.Child.{Child}
-use Rattle.h5_heap.specs.Writing.Links.{Leads, ToGroup, ToArray, ToText, spelled}
-use Rattle.h5_heap.specs.Writing.Written.{texts_span, placed, placed_links, written_segment, heap_bytes}
+use Rattle.h5_group.specs.Heap.Links.{Leads, ToGroup, ToArray, ToText, spelled}
+use Rattle.h5_group.specs.Heap.Written.{texts_span, placed, placed_links, written_segment, heap_bytes}
 use Rattle.h5_group.specs.Writing.Written.{runs_of, written_symbol_node, last_name_offset, children_of, heap_place, symbols_place, links_bytes}
 use Rattle.h5_group.proofs.WriteLaws.SymbolNodes.{length-node_of}
 

@@ -21,8 +21,8 @@ use Rattle.h5_model.proofs.ReachLaws.{halves}
 use Rattle.h5_laws.proofs.Lists.{In}
 use Rattle.h5_laws.proofs.Maps.{true_of, value_of, get_of_entry}
 use Rattle.h5_btree.specs.Writing.Written.{root_level}
-use Rattle.h5_heap.specs.Writing.Laws.{IsLead, IsSpelled}
-use Rattle.h5_heap.specs.Writing.Links.{Leads, ToGroup, ToArray, ToText, target_of_leads, target_link}
+use Rattle.h5_group.specs.Heap.Laws.{IsLead, IsSpelled}
+use Rattle.h5_group.specs.Heap.Links.{Leads, ToGroup, ToArray, ToText, target_of_leads, target_link}
 use Rattle.h5_model.specs.Format.Superblock.{AreK}
 use Rattle.h5_laws.specs.Trees.Sound.{IsSoundTree}
 use Rattle.h5_group.specs.Writing.Laws.{ArePlainLinks, IsLinkWritten, LinksLength, GroupLength}

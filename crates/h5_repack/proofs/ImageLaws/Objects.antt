@@ -18,7 +18,7 @@ use Rattle.h5_model.specs.Format.Reads.{HasObject, IsCounted}
 use Rattle.h5_model.specs.Format.Sizes.{group_node, header_size}
 use Rattle.h5_model.specs.Format.Superblock.{leaf_k, internal_k}
 use Rattle.h5_model.specs.Tree.Objects.{Tree, Object, Group, Links, links_in, links_of}
-use Rattle.h5_heap.specs.Writing.Links.{Leads, target_link}
+use Rattle.h5_group.specs.Heap.Links.{Leads, target_link}
 use Rattle.h5_repack.specs.Bodies.Bodies.{others_of}
 use Rattle.h5_repack.specs.Bodies.Headers.{group_header}
 use Rattle.h5_repack.proofs.BodyLaws.HeaderGroup.{group_object, group_header-size, length-group_header}

@@ -12,7 +12,7 @@ use Rattle.h5_model.specs.Format.Sizes.{group_node, header_size}
 use Rattle.h5_model.specs.Tree.Objects.{Tree, Object, Content, Group, Array, Dataset, Link, Links, ToObject, Soft, hard_links}
 use Rattle.h5_repack.specs.Bodies.Bodies.{others_of, array_messages}
 use Rattle.h5_repack.specs.Bodies.Headers.{is_stored, data_of}
-use Rattle.h5_heap.specs.Writing.Links.{Leads, ToGroup, ToArray, ToText}
+use Rattle.h5_group.specs.Heap.Links.{Leads, ToGroup, ToArray, ToText}
 use Rattle.h5_group.specs.Writing.Written.{links_bytes}
 
 -- these are the objects of a tree, in some order, with the root first

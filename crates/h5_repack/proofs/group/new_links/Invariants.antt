@@ -1,5 +1,5 @@
 use Rattle.std.proofs.Common.{◌≡◌, map, take}
-use Rattle.h5_heap.specs.Writing.Links.{name_and_leads}
+use Rattle.h5_group.specs.Heap.Links.{name_and_leads}
 use Rattle.h5_model.specs.Tree.Links.{tree_link}
 use Rattle.h5_repack.specs.Layout.{written_at}
 use Rattle.h5_repack.proofs.group.new_links.Given as goal

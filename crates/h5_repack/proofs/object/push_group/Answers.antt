@@ -1,5 +1,5 @@
 use Rattle.std.proofs.Common.{◌+◌, ◌++◌, ◌∙◌, ap, map, refl, arith}
-use Rattle.h5_heap.specs.Writing.Links.{name_and_leads}
+use Rattle.h5_group.specs.Heap.Links.{name_and_leads}
 use Rattle.h5_group.specs.Writing.Written.{links_bytes}
 use Rattle.h5_repack.specs.Blocks.ArrayHeader.{group_written}
 use Rattle.h5_model.specs.Tree.Links.{tree_link}

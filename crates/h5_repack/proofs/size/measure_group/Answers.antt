@@ -1,5 +1,5 @@
 use Rattle.std.proofs.Common.{◌∙◌, ap, map, arith}
-use Rattle.h5_heap.specs.Writing.Links.{name_and_leads}
+use Rattle.h5_group.specs.Heap.Links.{name_and_leads}
 use Rattle.h5_repack.proofs.Sizes.{group_header_length, group_long, group_deep, group_size}
 use Rattle.h5_repack.proofs.size.measure_group.Goals as goal
 
