@@ -8,7 +8,7 @@ ghost use Rattle.h5_model.specs.Scripts.Answers.{dumped};
 ghost use Rattle.h5_model.specs.Scripts.Text.{attribute_line, cells_text, content_text, dump_text, escaped, line_of, list_text, row_length as length_of_row};
 ghost use Rattle.h5_model.specs.Tree.Objects.{Array, Dataset, Group, Links, Object, ToObject, Tree};
 ghost use Rattle.h5_text.specs.Appends.{Appends};
-ghost use Rattle.h5_text.specs.Listing.{path_text, told_dataset};
+ghost use Rattle.h5_text.specs.Listing.{dump_line, path_text, told_dataset};
 ghost use Rattle.h5_model.specs.Tree.Links.{tree_link};
 ghost use Rattle.h5_file.specs.Found.{HasFound};
 ghost use Rattle.h5_file.specs.Look.{IsArrayShown};
@@ -212,10 +212,21 @@ fn push_array(
         → attributes.now ≡ entries o.attributes
         → Appends result text.old.items text.new.items (dump_text (escaped path.now) o) }
 {
-    let mut maxima = [None; MAX_RANK];
-    push_dump_line(text, PathText::Plain(path), &array_text(array, &mut maxima))?;
+    push_array_head(text, path, array)?;
     push_attributes(alloc, text, attributes)?;
     push_cells(text, array)
+}
+
+/// Appends the first line of what is dumped of the array.
+fn push_array_head(
+    text: &mut Vec<u8>,
+    path: &[u8],
+    array: &StoredArray<'_>,
+) -> Result<(), AllocError>
+    ensures { Appends result text.old.items text.new.items (dump_line (escaped path.now) (told array.now)) }
+{
+    let mut maxima = [None; MAX_RANK];
+    push_dump_line(text, PathText::Plain(path), &array_text(array, &mut maxima))
 }
 
 /// Appends the array's cells in rows, or nothing where there is no cell.

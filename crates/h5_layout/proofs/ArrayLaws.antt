@@ -90,7 +90,7 @@ has_array image ms d blocks h = record {
 }
 
 -- the dataset is that of the description, with its stored chunks
-pub described_dataset-in_header : (image : List ℕ) (ms : List Message) (d : Dataset) (blocks : List Block) (h : HasDataset image ms d blocks)
+pub dataset_in-in_header : (image : List ℕ) (ms : List Message) (d : Dataset) (blocks : List Block) (h : HasDataset image ms d blocks)
     → described_dataset image (in_header image ms d blocks h) h.chunks ≡ d
-described_dataset-in_header image ms d blocks h =
+dataset_in-in_header image ms d blocks h =
     λ i. record { fixed = d.fixed; sizes = d.sizes; maxima = d.maxima; storage = (sym h.storage) i; fill = d.fill; cells = (sym h.cells) i }

@@ -27,40 +27,40 @@ module _ {X : Type 0} (m : ℕ) where
   cut_more n xs many = rw (is_over (length xs) m many) refl
 
   -- a cut_into_lists takes all, in order
-  pub flat-cut_into_lists : (n : ℕ) (xs : List X) → flat_map (λ (c : List X). c) (cut_into_lists n m xs) ≡ xs
-  flat-cut_into_lists zero xs = append-nil xs
-  flat-cut_into_lists (suc n) xs = elim (cases_lt m (length xs)) [
-    | inl many ↦ ap (flat_map (λ (c : List X). c)) (cut_more n xs many) ∙ ap (λ rest. take m xs ++ rest) (flat-cut_into_lists n (drop m xs)) ∙ take-append-drop m xs
+  pub flat-cut : (n : ℕ) (xs : List X) → flat_map (λ (c : List X). c) (cut_into_lists n m xs) ≡ xs
+  flat-cut zero xs = append-nil xs
+  flat-cut (suc n) xs = elim (cases_lt m (length xs)) [
+    | inl many ↦ ap (flat_map (λ (c : List X). c)) (cut_more n xs many) ∙ ap (λ rest. take m xs ++ rest) (flat-cut n (drop m xs)) ∙ take-append-drop m xs
     | inr few ↦ ap (flat_map (λ (c : List X). c)) (cut_one (suc n) xs few) ∙ append-nil xs
   ]
 
   -- each list of it has at most m
-  pub short-cut_into_lists : (n : ℕ) (xs : List X) → 1 ≤ m → length xs ≤ n → AllByRecursion (λ (c : List X). length c ≤ m) (cut_into_lists n m xs)
-  short-cut_into_lists zero xs some low = (omega arith, tt)
-  short-cut_into_lists (suc n) xs some low = elim (cases_lt m (length xs)) [
+  pub short-cut : (n : ℕ) (xs : List X) → 1 ≤ m → length xs ≤ n → AllByRecursion (λ (c : List X). length c ≤ m) (cut_into_lists n m xs)
+  short-cut zero xs some low = (omega arith, tt)
+  short-cut (suc n) xs some low = elim (cases_lt m (length xs)) [
     | inl many ↦
-        let rest = short-cut_into_lists n (drop m xs) some (omega (arith, length-drop m xs)) in
+        let rest = short-cut n (drop m xs) some (omega (arith, length-drop m xs)) in
         subst (AllByRecursion (λ (c : List X). length c ≤ m)) (sym (cut_more n xs many)) (omega (arith, length-take m xs), rest)
     | inr few ↦ subst (AllByRecursion (λ (c : List X). length c ≤ m)) (sym (cut_one (suc n) xs few)) (few, tt)
   ]
 
   -- and at least one, where there is one
-  pub filled-cut_into_lists : (n : ℕ) (xs : List X) → 1 ≤ m → 1 ≤ length xs → AllByRecursion (λ (c : List X). 1 ≤ length c) (cut_into_lists n m xs)
-  filled-cut_into_lists zero xs some one = (one, tt)
-  filled-cut_into_lists (suc n) xs some one = elim (cases_lt m (length xs)) [
+  pub filled-cut : (n : ℕ) (xs : List X) → 1 ≤ m → 1 ≤ length xs → AllByRecursion (λ (c : List X). 1 ≤ length c) (cut_into_lists n m xs)
+  filled-cut zero xs some one = (one, tt)
+  filled-cut (suc n) xs some one = elim (cases_lt m (length xs)) [
     | inl many ↦
-        let rest = filled-cut_into_lists n (drop m xs) some (omega (arith, length-drop m xs)) in
+        let rest = filled-cut n (drop m xs) some (omega (arith, length-drop m xs)) in
         subst (AllByRecursion (λ (c : List X). 1 ≤ length c)) (sym (cut_more n xs many)) (omega (arith, length-take m xs), rest)
     | inr few ↦ subst (AllByRecursion (λ (c : List X). 1 ≤ length c)) (sym (cut_one (suc n) xs few)) (one, tt)
   ]
 
   -- there are as many as rows
-  pub length-cut_into_lists : (n : ℕ) (xs : List X) → 1 ≤ m → 1 ≤ length xs → length xs ≤ n → length (cut_into_lists n m xs) ≡ rows_of m (length xs)
-  length-cut_into_lists zero xs some one low = absurd (omega arith)
-  length-cut_into_lists (suc n) xs some one low = elim (cases_lt m (length xs)) [
+  pub length-cut : (n : ℕ) (xs : List X) → 1 ≤ m → 1 ≤ length xs → length xs ≤ n → length (cut_into_lists n m xs) ≡ rows_of m (length xs)
+  length-cut zero xs some one low = absurd (omega arith)
+  length-cut (suc n) xs some one low = elim (cases_lt m (length xs)) [
     | inl many ↦
         let left : length (drop m xs) ≡ length xs - m = length-drop m xs in
-        let rest = length-cut_into_lists n (drop m xs) some (omega arith) (omega arith) in
+        let rest = length-cut n (drop m xs) some (omega arith) (omega arith) in
         ap length (cut_more n xs many) ∙ ap suc (rest ∙ ap (rows_of m) left) ∙ omega (arith, rows_next m (length xs) some many)
     | inr few ↦ ap length (cut_one (suc n) xs few) ∙ sym (rows_one m (length xs) one few)
   ]

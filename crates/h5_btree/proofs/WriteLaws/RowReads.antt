@@ -264,13 +264,13 @@ module _ (Q : ℕ → Type 0) where
 
 -- ---- the nodes of a row as children
 
-pub length-as_children : (k at before : ℕ) (cs : List (List Child)) → length (as_children k at before cs) ≡ length cs
-length-as_children k at before [] = refl
-length-as_children k at before (c ∷ cs) = ap suc (length-as_children k (at + group_node k) (last_below before c) cs)
+pub length-raised : (k at before : ℕ) (cs : List (List Child)) → length (as_children k at before cs) ≡ length cs
+length-raised k at before [] = refl
+length-raised k at before (c ∷ cs) = ap suc (length-raised k (at + group_node k) (last_below before c) cs)
 
-pub places-as_children : (k at before : ℕ) (cs : List (List Child)) → places_of (as_children k at before cs) ≡ addresses k at (length cs)
-places-as_children k at before [] = refl
-places-as_children k at before (c ∷ cs) = ap (λ rest. at ∷ rest) (places-as_children k (at + group_node k) (last_below before c) cs)
+pub places-raised : (k at before : ℕ) (cs : List (List Child)) → places_of (as_children k at before cs) ≡ addresses k at (length cs)
+places-raised k at before [] = refl
+places-raised k at before (c ∷ cs) = ap (λ rest. at ∷ rest) (places-raised k (at + group_node k) (last_below before c) cs)
 
 pub raised_small : (k at before : ℕ) (cs : List (List Child)) → at + length cs * group_node k < 2 ^ 64 → before < 2 ^ 64
     → AllByRecursion (IsPiece k) cs → AllByRecursion IsChild (as_children k at before cs)

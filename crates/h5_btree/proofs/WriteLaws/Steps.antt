@@ -169,7 +169,7 @@ module _ (k level at : ℕ) (children : List Child) (low : level ≤ 15) (some :
       ∙ ap (λ levels. rows_bytes levels k (level + 1) at (as_children k place 0 cs) ++ row_bytes k level undefined 0 place cs) above
 
   raised_wide : length (as_children k place 0 cs) ≡ rows_of (2 * k) (length children)
-  raised_wide = length-as_children k place 0 cs ∙ length-chunks k children some many
+  raised_wide = length-raised k place 0 cs ∙ length-chunks k children some many
 
   above_long : length (rows_from k (level + 1) at (as_children k place 0 cs)) ≡ nodes_over (63 - level) (2 * k) (rows_of (2 * k) (length children)) * group_node k
   unfolding rows_from

@@ -70,7 +70,7 @@ module _ (image : List ℕ) (V : Reading) (Q : ℕ → Type 0) (first : Q 0) (k 
     wide = length-chunks k children some many
 
     upper_wide : length upper ≡ width
-    upper_wide = length-as_children k place 0 cs ∙ wide
+    upper_wide = length-raised k place 0 cs ∙ wide
 
     count : nodes_over (suc levels) (2 * k) (length children) ≡ nodes_over levels (2 * k) width + length cs
     count =

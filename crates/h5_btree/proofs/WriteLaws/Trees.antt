@@ -56,7 +56,7 @@ length-rows_bytes (suc levels) k level at children some = elim (cases_lt (2 * k)
       let place : ℕ = row_place levels k at (length children) in
       let cs : List (List Child) = chunks (2 * k) children in
       let row = length-row k level undefined 0 place cs (chunks_short k children some many) in
-      let long : length (as_children k place 0 cs) ≡ rows_of (2 * k) (length children) = length-as_children k place 0 cs ∙ length-chunks k children some many in
+      let long : length (as_children k place 0 cs) ≡ rows_of (2 * k) (length children) = length-raised k place 0 cs ∙ length-chunks k children some many in
       let above : length (rows_bytes levels k (level + 1) at (as_children k place 0 cs)) ≡ nodes_over levels (2 * k) (rows_of (2 * k) (length children)) * group_node k
       = length-rows_bytes levels k (level + 1) at (as_children k place 0 cs) some ∙ ap (λ n. nodes_over levels (2 * k) n * group_node k) long in
       let one : suc levels - 1 ≡ levels = omega arith in
@@ -113,9 +113,9 @@ module _ (image : List ℕ) (V : Reading) (Q : ℕ → Type 0) (first : Q 0) (k 
   row_more level depth at place cs owned one are full room written reads lasts above =
       let row : List ℕ = addresses k place (length cs) in
       let read = row_reads image k level high V undefined 0 place cs are (omega arith) (omega arith) room written reads in
-      let bottom : row ≡ leaves V depth (at ∷ []) = sym (places-as_children k place 0 cs) ∙ above.all in
+      let bottom : row ≡ leaves V depth (at ∷ []) = sym (places-raised k place 0 cs) ∙ above.all in
       let next : level + 1 ≡ suc level = omega arith in
-      let long : length (as_children k place 0 cs) ≡ length cs = length-as_children k place 0 cs in
+      let long : length (as_children k place 0 cs) ≡ length cs = length-raised k place 0 cs in
       record {
         down = down_more V level depth (at ∷ []) above.down (subst (IsRow V level undefined) bottom (row_is V k level undefined 0 place cs read));
         owns = (λ i. above.owns i ++ bottom i) ∙ sym (nodes-more V depth (at ∷ []));

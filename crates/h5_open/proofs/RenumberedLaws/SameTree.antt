@@ -49,7 +49,7 @@ dataset_is image ms d blocks has carried =
     let same : array_told ms ≡ in_header image ms d blocks has = told ms (in_header image ms d blocks has) (has_array image ms d blocks has) in
     let layout : has.layout ≡ InBlock carried.block = sym (ap (λ (a : Described). a.layout) same) ∙ carried.in_block in
     let none : has.chunks ≡ empty = no_chunks image d.fixed has.layout carried.block layout has.chunks blocks has.stored in
-    (λ i. described_dataset image (same i) ((sym none) i)) ∙ described_dataset-in_header image ms d blocks has
+    (λ i. described_dataset image (same i) ((sym none) i)) ∙ dataset_in-in_header image ms d blocks has
 
 module _ (image at : List ℕ) (own : Own at) where
   -- a link of the tree is the file's link, by the number of the header

@@ -20,9 +20,9 @@ returns c o d content is listed =
     let head = dump_line path (told a) in
     let lines = flat_map attribute_line c.args.attributes.now in
     let rows = cells_text (Array d) in
-    let first : c.push_dump_line.new.out.items ≡ old ++ head = c.in_ok-push_dump_line.ensures ∙ ap (λ t. old ++ dump_line path t) c.array_text.ensures in
+    let first : c.push_array_head.new.text.items ≡ old ++ head = c.in_ok-push_array_head.ensures in
     subst (λ (text : List ℕ). Appends c.push_cells.result old c.push_cells.new.text.items text)
     (ap (λ list. head ++ flat_map attribute_line list ++ rows) listed ∙ dump-array path o d a content is)
     (appends_more c.push_cells.result old (head ++ lines) c.push_attributes.new.text.items c.push_cells.new.text.items rows
-    (in_two_pieces old head lines c.push_dump_line.new.out.items c.push_attributes.new.text.items first c.in_ok-push_attributes.ensures)
+    (in_two_pieces old head lines c.push_array_head.new.text.items c.push_attributes.new.text.items first c.in_ok-push_attributes.ensures)
     (c.push_cells.ensures d is))
