@@ -2,7 +2,8 @@
 use Rattle.std.specs.Prelude.{◌≡◌, ℕ, List, map, slice_get}
 use Rattle.std.specs.List.{AllZip}
 use Rattle.std.specs.FinMap.{get, entries}
-use Rattle.h5_model.specs.Tree.Objects.{Tree, Object, Content, Group, Array, Dataset, Link, ToObject, Soft}
+use Rattle.h5_model.specs.Tree.Objects.{Tree, Object, Content, Group, Array, Dataset}
+use Rattle.h5_model.specs.Tree.Links.{tree_link}
 use Rattle.h5_repack.specs.Bodies.Bodies.{others_of}
 use Rattle.h5_layout.specs.Described.{Described}
 use Rattle.h5_repack.specs.Blocks.Written.{AreCellsToWrite, AreOthers}
@@ -10,10 +11,6 @@ use Rattle.h5_repack.specs.declared.blocks.cells.Cells.{Cells}
 use Rattle.h5_repack.specs.declared.objects.object.NewContent.{NewContent}
 use Rattle.h5_repack.specs.declared.objects.object.NewContent.TheVariants as content
 use Rattle.h5_repack.specs.declared.objects.object.NewObject.{NewObject}
-use Rattle.h5_model.specs.declared.object_no.ObjectNo.{ObjectNo}
-use Rattle.h5_model.specs.declared.link.Link.{Link as LinkOf}
-use Rattle.h5_model.specs.declared.link.LinkTo.{LinkTo}
-use Rattle.h5_model.specs.declared.link.LinkTo.TheVariants as target
 
 -- the array with these cells, which stand in one block
 pub record IsNewArray (a : Described) (c : Cells) (d : Dataset) : Type 0 where

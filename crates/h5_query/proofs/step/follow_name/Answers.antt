@@ -22,16 +22,16 @@ returns-in_default-lookup c = (
 pub number_of-requires-clause-there : goal.number_of-requires-clause-there
 number_of-requires-clause-there c =
     header_known c.args.image.now.bytes c.args.opened.now.objects.items c.args.opened.now.numbers c.requires.opened c.args.from c.in-Object.number c.in-Object.object c.in-Object.is c.requires.from
-    c.in-Group.group c.in-Group.is c.args.name.now c.in-Some.link c.in-Some.ensures.found c.in-Object-target.header c.in-Object-target.is
+    c.in-Group.group c.in-Group.is c.args.name.now c.in-Some.link c.in-Some.ensures.found c.in-Object-to.header c.in-Object-to.is
 
 pub object_place-requires : goal.object_place-requires
-object_place-requires c = number_within c.args.opened.now.objects.items c.number_of.result c.in-Object-target.header c.number_of.ensures
+object_place-requires c = number_within c.args.opened.now.objects.items c.number_of.result c.in-Object-to.header c.number_of.ensures
 
-pub returns-in-Object-target : goal.returns-in-Object-target
-returns-in-Object-target c = (
+pub returns-in-Object-to : goal.returns-in-Object-to
+returns-in-Object-to c = (
   begins_at c.args.image.now.bytes c.args.opened.now.objects.items c.args.opened.now.numbers c.requires.opened c.args.from c.in-Object.number c.in-Object.object c.in-Object.is c.requires.from,
   to_object c.args.image.now.bytes c.args.opened.now.objects.items c.args.opened.now.numbers c.requires.opened c.args.from c.in-Object.number c.in-Object.object c.in-Object.is c.requires.from
-      c.in-Group.group c.in-Group.is c.args.name.now c.in-Some.link c.in-Some.ensures.found c.in-Object-target.header c.in-Object-target.is c.number_of.result c.number_of.ensures
+      c.in-Group.group c.in-Group.is c.args.name.now c.in-Some.link c.in-Some.ensures.found c.in-Object-to.header c.in-Object-to.is c.number_of.result c.number_of.ensures
       c.object_place.result c.object_place.ensures.link,
   c.object_place.ensures.at,
 )

@@ -1,4 +1,4 @@
-use Rattle.std.proofs.Common.{◌≡◌, ◌-◌, ◌^◌, ◌≤◌, ap, ◌∙◌, arith, min}
+use Rattle.std.proofs.Common.{◌-◌, ◌^◌, ap, ◌∙◌, arith, min}
 use Rattle.h5_model.specs.Tree.Places.{cells}
 use Rattle.h5_shape.proofs.Products.{cells_le}
 use Rattle.h5_repack.proofs.blocks.cells.count_cells.Goals as goal
