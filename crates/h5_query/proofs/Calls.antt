@@ -1,5 +1,5 @@
 -- What the calls answer at an object.
-use Rattle.std.proofs.Common.{◌≡◌, ℕ, List, [], ◌∷◌, length, refl, sym, ap, ◌∙◌, Option, Some, None, Bool, not, true, false, arith, ℤ, Vec}
+use Rattle.std.proofs.Common.{◌≡◌, ℕ, List, [], ◌∷◌, length, refl, sym, ap, ◌∙◌, Option, Some, None, Bool, not, true, false, arith, ℤ, Vec, subst}
 use Rattle.std.specs.Prelude.{◌==◌, slice_get, option_map, option_and_then}
 use Rattle.std.specs.Option.{option_map_or}
 use Rattle.std.specs.FinMap.{get, entries, contains_key, empty}
@@ -131,6 +131,9 @@ module _ (image : List ℕ) (objects : List OpenedObject) (numbers : BTreeMap �
         found = rw leads.1 (D, array_there image objects number object at is, shown);
       }
       array_kind (kind.Soft text) shown = absurd shown
+
+      pub known_kind : (a : Described) → a ≡ array_told (messages_in image object.messages.list) → (k : Kind) → IsArrayKind (described_dataset image a empty) k → HasKind T path k
+      known_kind a same k shown = array_kind k (subst (λ (b : Described). IsArrayKind (described_dataset image b empty) k) same shown)
 
       pub array_found : (n : ObjectNo) → n.0 ≡ number → (attributes : Vec (List ℕ × Attribute) Global)
           → attributes.items ≡ entries (attributes_of (messages_in image object.messages.list)) → (a : StoredArray) → IsArrayShown D a → HasFound T path (found.Array n attributes a)

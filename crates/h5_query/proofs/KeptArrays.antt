@@ -1,5 +1,5 @@
 -- The array that the messages of a header tell, and what is shown of it.
-use Rattle.std.proofs.Common.{◌≡◌, ℕ, suc, ◌<◌, ◌&&◌, List, [], ◌∷◌, ◌++◌, length, take, map, refl, sym, ap, ◌∙◌, subst, ◌+◌, Option, Some, None, ℤ, true, false, Bor, arith}
+use Rattle.std.proofs.Common.{◌≡◌, ℕ, suc, ◌<◌, ◌&&◌, List, [], ◌∷◌, ◌++◌, length, take, map, refl, sym, ap, ◌∙◌, subst, ◌+◌, Option, Some, None, true, false, Bor, arith}
 use Rattle.std.specs.Prelude.{MatchOption, nat_lt, is_some, slice_get, unwrap_or, option_and_then, if◌then◌else◌}
 use Rattle.std.specs.FinMap.{empty}
 use Rattle.std.proofs.Math.ListN.{set}

@@ -1,12 +1,8 @@
-use Rattle.std.proofs.Common.{subst}
-use Rattle.std.specs.FinMap.{empty}
 use Rattle.h5_header.specs.Listed.{messages_in}
-use Rattle.h5_open.specs.Described.{Described, described_dataset}
 use Rattle.h5_open.specs.Told.{array_told}
-use Rattle.h5_query.proofs.Calls.{group_kind, array_kind}
+use Rattle.h5_query.proofs.Calls.{group_kind, known_kind}
 use Rattle.h5_query.proofs.Indexed.{array_kept}
 use Rattle.h5_query.proofs.KeptArrays.{same_rank}
-use Rattle.h5_query.specs.Look.{IsArrayKind}
 use Rattle.h5_query.proofs.links.kind_at.Goals as goal
 
 pub known_array-requires-clause-within : goal.known_array-requires-clause-within
@@ -35,10 +31,8 @@ array_kind-requires c =
 pub returns-in-Array : goal.returns-in-Array
 returns-in-Array c =
     let place = rw c.in-Object.is at c.in_ok-object.ensures in
-    array_kind c.args.image.now.bytes c.args.opened.now.objects.items c.args.opened.now.numbers c.requires c.in-Object.number c.in-Object.object.now place.1 c.args.path.now place.0
-    c.in-Array.is c.array_kind.result
-    (subst (λ (a : Described). IsArrayKind (described_dataset c.args.image.now.bytes a empty) c.array_kind.result) c.known_array.ensures
-    (c.array_kind.ensures c.args.image.now.bytes))
+    known_kind c.args.image.now.bytes c.args.opened.now.objects.items c.args.opened.now.numbers c.requires c.in-Object.number c.in-Object.object.now place.1 c.args.path.now place.0
+    c.in-Array.is _ c.known_array.ensures _ (c.array_kind-in-Array.ensures c.args.image.now.bytes)
 
 pub returns-in-Group : goal.returns-in-Group
 returns-in-Group c =

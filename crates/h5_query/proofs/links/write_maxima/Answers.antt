@@ -1,4 +1,4 @@
-use Rattle.std.proofs.Common.{arith, ◌<◌, length}
+use Rattle.std.proofs.Common.{arith}
 use Rattle.h5_query.proofs.KeptArrays.{next_shown}
 use Rattle.h5_query.proofs.links.write_maxima.Goals as goal
 
