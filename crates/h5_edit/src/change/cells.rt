@@ -1,12 +1,14 @@
 //! Arrays to be written: those of an opened image, and new ones (File Format Specification 3.0, sections IV.A.2.d and IV.A.2.i).
 
-ghost use Rattle.std.specs.Prelude.{ℕ};
+ghost use Rattle.std.specs.Prelude.{◌≡◌, ℕ};
 ghost use Rattle.h5_header.specs.Listed.{messages_in};
 ghost use Rattle.h5_model.specs.Edits.Applied.{new_dataset};
 ghost use Rattle.h5_model.specs.Tree.Objects.{Array};
 ghost use Rattle.h5_query.specs.Kept.{IsArrayKept, array_dataset};
 ghost use Rattle.h5_repack.specs.Bodies.Sound.{IsPlainArray};
 ghost use Rattle.h5_repack.specs.Objects.Objects.{IsNewContent};
+ghost use Rattle.h5_repack.specs.declared.blocks.cells.Cells.TheVariants.{Stored};
+ghost use Rattle.h5_edit.specs.Fits.Laws.{AreBytes};
 
 use h5_header::Messages;
 use h5_model::Spec;
@@ -23,10 +25,18 @@ pub(crate) fn kept_array<'a>(alloc: Global, image: &'a Image, messages: &Message
 {
     let array = known_array(alloc, image, messages);
     let cells = match array.stored(image) {
-        Some(bytes) => Cells::Stored(bytes),
+        Some(bytes) => stored_cells(bytes),
         None => Cells::Unset,
     };
     NewContent::Array { array, cells }
+}
+
+/// Cells that are stored in these bytes, each of which is below 256 by its type.
+fn stored_cells(bytes: &[u8]) -> Cells<'_>
+    ensures stored { result ≡ Stored bytes.entry }
+    ensures low { AreBytes bytes.now }
+{
+    Cells::Stored(bytes)
 }
 
 /// A new array, each cell the fill.

@@ -14,6 +14,6 @@ pub links_in-requires-clause-led : goal.links_in-requires-clause-led
 links_in-requires-clause-led c =
     led c.args.image.now.bytes c.args.opened.now.objects.items c.args.opened.now.numbers c.requires.opened c.args.object.now c.requires.there c.in-Group.group c.in-Group.is
 
-pub kept_array-requires : goal.kept_array-requires
-kept_array-requires c =
+pub kept_array-content-requires : goal.kept_array-content-requires
+kept_array-content-requires c =
     array_kept c.args.image.now.bytes c.args.opened.now.objects.items c.args.opened.now.numbers c.requires.opened c.requires.there.0 c.args.object.now c.requires.there.1 c.in-Array.is

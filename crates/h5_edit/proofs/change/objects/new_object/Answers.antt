@@ -5,5 +5,5 @@ use Rattle.h5_edit.proofs.change.objects.new_object.Goals.{in-Group, in-Array}
 pub returns : goal.returns
 returns c = elim c.match-target.branch [
   | in-Group w ↦ group_written c.args.change.now c.in-Link.parent c.in-Link.name c.in-Link.target c.in-Link.is c.new-2.result c.new-2.ensures c.match-target.content w.in-Group.is w.new.result w.new.ensures.items w.content-is
-  | in-Array w ↦ array_written c.args.change.now c.in-Link.parent c.in-Link.name c.in-Link.target c.in-Link.is c.new-2.result c.new-2.ensures c.match-target.content w.in-Array.spec w.in-Array.is w.array_from.result w.array_from.ensures w.content-is
+  | in-Array w ↦ array_written c.args.change.now c.in-Link.parent c.in-Link.name c.in-Link.target c.in-Link.is c.new-2.result c.new-2.ensures c.match-target.content w.in-Array.spec w.in-Array.is w.array_from-content.result w.array_from-content.ensures w.content-is
 ]
