@@ -1,30 +1,24 @@
 -- The cells of an array as they are stored are the bytes of its values.
-use Rattle.std.proofs.Common.{◌≡◌, ◌≢◌, ℕ, ◌*◌, List, Bor, length, Bool, true, false, None, refl, sym, ap, ◌∙◌, subst}
+use Rattle.std.proofs.Common.{◌≡◌, ◌≢◌, ℕ, ◌*◌, List, Bor, length, Bool, true, false, refl, sym, ap, ◌∙◌, subst}
 use Rattle.std.specs.Prelude.{◌&&◌, is_some, nat_lt}
 use Rattle.std.specs.FinMap.{empty}
-use Rattle.h5_model.specs.Edits.Applied.{new_dataset, new_storage}
 use Rattle.h5_model.specs.Format.Fixed.{Fixed, IsFixed}
-use Rattle.h5_model.specs.Format.Layout.{InBlock}
 use Rattle.h5_model.specs.Format.Messages.{Message}
 use Rattle.h5_model.specs.Format.Plain.{cells_bytes}
 use Rattle.h5_model.specs.Format.Reads.{storage_of}
 use Rattle.h5_model.specs.Scripts.Answers.{stored_values}
 use Rattle.h5_model.specs.Tree.Objects.{Dataset, Contiguous}
 use Rattle.h5_model.specs.Tree.Places.{cells}
-use Rattle.h5_model.specs.declared.dataset.Spec.{Spec}
-use Rattle.h5_model.specs.declared.dataset.Store.{Store}
-use Rattle.h5_model.specs.declared.dataset.Store.TheVariants as store
 use Rattle.h5_model.proofs.StoredValues.{stored-cells_bytes}
-use Rattle.h5_query.specs.Described.{Described, array_of, described_dataset}
+use Rattle.h5_query.specs.Described.{Described, described_dataset}
 use Rattle.h5_query.specs.Kept.{array_dataset}
 use Rattle.h5_query.specs.Opened.Judged.{IsArrayList}
-use Rattle.h5_query.specs.Stored.{AreFilled, AreStored, IsArray}
+use Rattle.h5_query.specs.Stored.{AreFilled, AreStored}
 use Rattle.h5_query.specs.Told.{array_told}
 use Rattle.h5_repack.specs.Blocks.Written.{AreCellsToWrite}
-use Rattle.h5_repack.specs.Bodies.Sound.{IsPlainArray}
 use Rattle.h5_repack.specs.Objects.Objects.{IsNewArray}
 use Rattle.h5_repack.specs.declared.blocks.cells.Cells.{Cells}
-use Rattle.h5_repack.specs.declared.blocks.cells.Cells.TheVariants.{Filled, Stored, Unset}
+use Rattle.h5_repack.specs.declared.blocks.cells.Cells.TheVariants.{Stored, Unset}
 use Rattle.h5_repack.proofs.BlockLaws.ValueBytes.{values_there}
 use Rattle.h5_edit.specs.Fits.Laws.{AreBytes}
 use Rattle.h5_edit.proofs.FitLaws.PlainArrays.{type_read}
@@ -73,26 +67,3 @@ module _ (image : List ℕ) (ms : List Message) (is : IsArrayList ms) where
           stored_by d flag in_block own.2,
           bytes_of_stored d.fixed (cells d.sizes) bytes.now (type_read ms (array_told ms) is.array) low own.0 ∙ ap (cells_bytes d.fixed) (sym own.1),
         ))
-
--- ---- a new array
-
-filled_by : (sizes : List ℕ) (s : Store) (stored : Bool) → new_storage sizes s ≡ Contiguous stored → new_storage sizes s ≡ Contiguous (nat_lt 0 (cells sizes))
-filled_by sizes store.Contiguous stored is = refl
-filled_by sizes store.Compact stored is = absurd (cc)
-filled_by sizes (store.Chunked chunk) stored is = absurd (cc)
-
-module _ (spec : Spec) (others : ℕ) (plain : IsPlainArray (new_dataset spec) others) where
-  abbrev described : Described
-  described = array_of spec.fixed spec.dims spec.maxima spec.fill (InBlock None)
-
-  pub sound_new : IsArray described
-  sound_new = record { small = plain.few; room = refl; chunk_small = refl }
-
-  pub new_array : (a : Described) → a ≡ described → IsNewArray a Filled (new_dataset spec)
-  new_array a is = record {
-    fixed_is = ap (λ (x : Described). x.fixed) is;
-    sizes_are = ap (λ (x : Described). x.sizes) is;
-    maxima_are = ap (λ (x : Described). x.maxima) is;
-    fill_is = ap (λ (x : Described). x.fill) is;
-    cells_are = (filled_by spec.dims spec.store plain.stored plain.stored_is, refl);
-  }

@@ -1,5 +1,5 @@
 -- What is kept of one object of an opened image.
-use Rattle.std.proofs.Common.{◌≡◌, ℕ, List, [], ◌∷◌, Vec, length, map, sym, ap, ◌∙◌, subst, Some}
+use Rattle.std.proofs.Common.{◌≡◌, ℕ, List, [], ◌∷◌, Vec, map, sym, ap, ◌∙◌, subst, Some}
 use Rattle.std.specs.Prelude.{slice_get}
 use Rattle.std.specs.Borrow.{Bor}
 use Rattle.std.specs.declared.alloc.Global.{Global}
