@@ -1,5 +1,5 @@
 -- What `dump` prints of an object.
-use Rattle.std.proofs.Common.{◌≡◌, ℕ, zero, suc, ◌+◌, ◌*◌, ◌/◌, ◌<◌, ℤ, List, [], ◌∷◌, ◌++◌, length, codes, refl, sym, ap, ◌∙◌, append-nil, true, arith, Bor, Vec}
+use Rattle.std.proofs.Common.{◌≡◌, ℕ, zero, suc, ◌+◌, ◌*◌, ◌/◌, ◌<◌, ℤ, List, [], ◌∷◌, ◌++◌, length, codes, refl, sym, ap, ◌∙◌, append-nil, replicate, subst, Option, Some, None, true, arith, Bor, Vec}
 use Rattle.std.proofs.Math.Nat.{mul-assoc, zero-div}
 use Rattle.std.proofs.lemmas.Nat.{div-mul-add}
 use Rattle.std.specs.declared.alloc.Global.{Global}
@@ -7,14 +7,14 @@ use Rattle.std.specs.FinMap.{entries}
 use Rattle.std.specs.List.{flat_map}
 use Rattle.std.specs.Option.{option_map_or}
 use Rattle.h5_model.specs.Tree.Paths.{Located, Here, Missing, NoParent, NoGroup, NoPath}
-use Rattle.h5_model.specs.Scripts.Answers.{dumped}
+use Rattle.h5_model.specs.Scripts.Answers.{dumped, stored_values}
 use Rattle.h5_model.specs.Scripts.Text.{attribute_line, cells_text, content_text, dataset_text, detail_text, dump_text, escaped, line_of, row_length, rows_text}
 use Rattle.h5_model.specs.Tree.Places.{cells}
 use Rattle.h5_model.specs.Tree.Objects.{Tree, Links, Object, Attribute, Group, Array, Dataset, Contiguous, ToObject, Soft}
 use Rattle.h5_text.specs.Listing.{dump_line}
 use Rattle.h5_text.specs.Rows.{cells_from}
 use Rattle.h5_text.proofs.RowTexts.{cells_are_rows}
-use Rattle.h5_file.specs.Look.{IsArrayShown}
+use Rattle.h5_file.specs.Look.{HasCells, IsArrayShown}
 use Rattle.h5_file.specs.StoredArrayType.{StoredArray}
 use Rattle.h5_file.specs.Found.{IsFoundAs, IsUnfound}
 use Rattle.h5_file.specs.FoundType.TheVariants as found
@@ -67,6 +67,34 @@ module _ (sizes : List ℕ) (values : List ℤ) (counted : length values ≡ cel
       let many : length values / width ≡ n = ap (λ k. k / width) whole ∙ div-mul-add n width 0 (some-width some) in
       let rows : length values ≡ length values / width * width = counted ∙ (rows_of sizes).1 ∙ ap (λ k. k * width) (sym many) in
       cells_are_rows (length values / width) width values (some-width some) rows
+
+-- the cells of the array, as they are stored, or so many fills
+module _ (d : Dataset) (a : StoredArray) (is : IsArrayShown d a) where
+  sized : cells d.sizes ≡ cells a.array.sizes
+  sized = sym (ap cells is.sizes_are)
+
+  pub no-cells : cells a.array.sizes ≡ 0 → [] ≡ cells_text (Array d)
+  no-cells none = no-rows d.sizes d.cells is.counted (sized ∙ none)
+
+  rows-told : (values : List ℤ) → values ≡ d.cells → 0 < cells a.array.sizes → (width column : ℕ) → width ≡ row_length a.array.sizes → column ≡ 0
+      → cells_from width column values ≡ cells_text (Array d)
+  rows-told values same some width column wide first =
+      ap (λ (w : ℕ). cells_from w column values) (wide ∙ ap row_length is.sizes_are)
+      ∙ ap (λ (c : ℕ). cells_from (row_length d.sizes) c values) first
+      ∙ ap (cells_from (row_length d.sizes) 0) same
+      ∙ all-rows d.sizes d.cells is.counted (subst (λ n. 0 < n) (sym sized) some)
+
+  pub stored-rows : (bytes : Bor (List ℕ)) → a.cells ≡ Some bytes → 0 < cells a.array.sizes → (width column : ℕ) → width ≡ row_length a.array.sizes → column ≡ 0
+      → cells_from width column (stored_values a.array.fixed bytes.now) ≡ cells_text (Array d)
+  stored-rows bytes stored some width column wide first =
+      let are = subst (λ (held : Option (Bor (List ℕ))). HasCells d held) stored is.cells_are in
+      rows-told (stored_values a.array.fixed bytes.now) (ap (λ t. stored_values t bytes.now) is.fixed_is ∙ sym are.1) some width column wide first
+
+  pub filled-rows : a.cells ≡ None → 0 < cells a.array.sizes → (width column : ℕ) → width ≡ row_length a.array.sizes → column ≡ 0 → (fill : ℤ) → fill ≡ a.array.fill
+      → cells_from width column (replicate (cells a.array.sizes) fill) ≡ cells_text (Array d)
+  filled-rows unstored some width column wide first fill same =
+      let are = subst (λ (held : Option (Bor (List ℕ))). HasCells d held) unstored is.cells_are in
+      rows-told (replicate (cells a.array.sizes) fill) ((λ i. replicate ((sym sized) i) ((same ∙ is.fill_is) i)) ∙ sym are.0) some width column wide first
 
 -- ---- what is dumped of an object
 
