@@ -1,11 +1,12 @@
 -- What `dump` prints of an object.
 use Rattle.std.proofs.Common.{◌≡◌, ℕ, zero, suc, ◌+◌, ◌*◌, ◌/◌, ◌<◌, ℤ, List, [], ◌∷◌, ◌++◌, length, codes, refl, sym, ap, ◌∙◌, append-nil, replicate, subst, Option, Some, None, true, arith, Bor, Vec}
-use Rattle.std.proofs.Math.Nat.{mul-assoc, zero-div}
+use Rattle.std.proofs.Math.Nat.{mul_assoc, zero-div}
 use Rattle.std.proofs.lemmas.Nat.{div-mul-add}
 use Rattle.std.specs.declared.alloc.Global.{Global}
 use Rattle.std.specs.FinMap.{entries}
 use Rattle.std.specs.List.{flat_map}
 use Rattle.std.specs.Option.{option_map_or}
+use Rattle.h5_model.specs.Format.Fixed.{Fixed}
 use Rattle.h5_model.specs.Tree.Paths.{Located, Here, Missing, NoParent, NoGroup, NoPath}
 use Rattle.h5_model.specs.Scripts.Answers.{dumped, stored_values}
 use Rattle.h5_model.specs.Scripts.Text.{attribute_line, cells_text, content_text, dataset_text, detail_text, dump_text, escaped, line_of, row_length, rows_text}
@@ -39,10 +40,18 @@ dataset-told d a is = rw (is.storage_is, sym is.fill_is) refl
 -- an array is so many whole rows
 rows_of : (sizes : List ℕ) → (n : ℕ) × (cells sizes ≡ n * row_length sizes)
 rows_of [] = (1, refl)
-rows_of (d ∷ []) = (d, refl)
+rows_of (d ∷ []) = (1, omega arith)
 rows_of (d ∷ e ∷ ds) =
     let r = rows_of (e ∷ ds) in
-    (d * r.0, ap (λ n. d * n) r.1 ∙ sym (mul-assoc d r.0 (row_length (e ∷ ds))))
+    (d * r.0, ap (λ n. d * n) r.1 ∙ sym (mul_assoc d r.0 (row_length (e ∷ ds))))
+
+pub some-width : (sizes : List ℕ) → 0 < cells sizes → 0 < row_length sizes
+some-width sizes some = go (row_length sizes) refl where
+  go : (w : ℕ) → w ≡ row_length sizes → 0 < row_length sizes
+  go zero is =
+      let none : cells sizes ≡ 0 = (rows_of sizes).1 ∙ ap (λ n. (rows_of sizes).0 * n) (sym is) ∙ (let z : (rows_of sizes).0 * 0 ≡ 0 = omega arith in z) in
+      absurd (omega (arith, some, none))
+  go (suc w) is = omega (arith, is)
 
 module _ (sizes : List ℕ) (values : List ℤ) (counted : length values ≡ cells sizes) where
   abbrev width : ℕ
@@ -52,21 +61,13 @@ module _ (sizes : List ℕ) (values : List ℤ) (counted : length values ≡ cel
   no-rows none =
       sym (ap (λ n. rows_text n width values) (ap (λ n. n / width) (counted ∙ none) ∙ zero-div width))
 
-  pub some-width : 0 < cells sizes → 0 < width
-  some-width some = go width refl where
-    go : (w : ℕ) → w ≡ width → 0 < width
-    go zero is =
-        let none : cells sizes ≡ 0 = (rows_of sizes).1 ∙ ap (λ n. (rows_of sizes).0 * n) (sym is) ∙ (let z : (rows_of sizes).0 * 0 ≡ 0 = omega arith in z) in
-        absurd (omega (arith, some, none))
-    go (suc w) is = omega (arith, is)
-
   pub all-rows : 0 < cells sizes → cells_from width 0 values ≡ rows_text (length values / width) width values
   all-rows some =
       let n = (rows_of sizes).0 in
       let whole : length values ≡ n * width + 0 = omega (arith, counted, (rows_of sizes).1) in
-      let many : length values / width ≡ n = ap (λ k. k / width) whole ∙ div-mul-add n width 0 (some-width some) in
+      let many : length values / width ≡ n = ap (λ k. k / width) whole ∙ div-mul-add n width 0 (some-width sizes some) in
       let rows : length values ≡ length values / width * width = counted ∙ (rows_of sizes).1 ∙ ap (λ k. k * width) (sym many) in
-      cells_are_rows (length values / width) width values (some-width some) rows
+      cells_are_rows (length values / width) width values (some-width sizes some) rows
 
 -- the cells of the array, as they are stored, or so many fills
 module _ (d : Dataset) (a : StoredArray) (is : IsArrayShown d a) where
@@ -78,23 +79,23 @@ module _ (d : Dataset) (a : StoredArray) (is : IsArrayShown d a) where
 
   rows-told : (values : List ℤ) → values ≡ d.cells → 0 < cells a.array.sizes → (width column : ℕ) → width ≡ row_length a.array.sizes → column ≡ 0
       → cells_from width column values ≡ cells_text (Array d)
-  rows-told values same some width column wide first =
-      ap (λ (w : ℕ). cells_from w column values) (wide ∙ ap row_length is.sizes_are)
+  rows-told values same some w column wide first =
+      ap (λ (k : ℕ). cells_from k column values) (wide ∙ ap row_length is.sizes_are)
       ∙ ap (λ (c : ℕ). cells_from (row_length d.sizes) c values) first
       ∙ ap (cells_from (row_length d.sizes) 0) same
       ∙ all-rows d.sizes d.cells is.counted (subst (λ n. 0 < n) (sym sized) some)
 
   pub stored-rows : (bytes : Bor (List ℕ)) → a.cells ≡ Some bytes → 0 < cells a.array.sizes → (width column : ℕ) → width ≡ row_length a.array.sizes → column ≡ 0
-      → cells_from width column (stored_values a.array.fixed bytes.now) ≡ cells_text (Array d)
-  stored-rows bytes stored some width column wide first =
+      → (t : Fixed) → t ≡ a.array.fixed → cells_from width column (stored_values t bytes.now) ≡ cells_text (Array d)
+  stored-rows bytes stored some w column wide first t same =
       let are = subst (λ (held : Option (Bor (List ℕ))). HasCells d held) stored is.cells_are in
-      rows-told (stored_values a.array.fixed bytes.now) (ap (λ t. stored_values t bytes.now) is.fixed_is ∙ sym are.1) some width column wide first
+      rows-told (stored_values t bytes.now) (ap (λ (f : Fixed). stored_values f bytes.now) (same ∙ is.fixed_is) ∙ sym are.1) some w column wide first
 
   pub filled-rows : a.cells ≡ None → 0 < cells a.array.sizes → (width column : ℕ) → width ≡ row_length a.array.sizes → column ≡ 0 → (fill : ℤ) → fill ≡ a.array.fill
       → cells_from width column (replicate (cells a.array.sizes) fill) ≡ cells_text (Array d)
-  filled-rows unstored some width column wide first fill same =
+  filled-rows unstored some w column wide first fill same =
       let are = subst (λ (held : Option (Bor (List ℕ))). HasCells d held) unstored is.cells_are in
-      rows-told (replicate (cells a.array.sizes) fill) ((λ i. replicate ((sym sized) i) ((same ∙ is.fill_is) i)) ∙ sym are.0) some width column wide first
+      rows-told (replicate (cells a.array.sizes) fill) ((λ i. replicate ((sym sized) i) ((same ∙ is.fill_is) i)) ∙ sym are.0) some w column wide first
 
 -- ---- what is dumped of an object
 

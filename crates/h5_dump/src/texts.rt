@@ -8,6 +8,7 @@ ghost use Rattle.h5_model.specs.Scripts.Answers.{dumped};
 ghost use Rattle.h5_model.specs.Scripts.Text.{attribute_line, cells_text, content_text, dump_text, escaped, line_of, list_text, row_length as length_of_row};
 ghost use Rattle.h5_model.specs.Tree.Objects.{Array, Dataset, Group, Links, Object, ToObject, Tree};
 ghost use Rattle.h5_text.specs.Appends.{Appends};
+ghost use Rattle.h5_text.specs.Layouts.{shown_storage};
 ghost use Rattle.h5_text.specs.Listing.{dump_line, path_text, told_dataset};
 ghost use Rattle.h5_model.specs.Tree.Links.{tree_link};
 ghost use Rattle.h5_file.specs.Found.{HasFound};
@@ -125,22 +126,23 @@ fn push_listed_array(
         (line_of (path_text path.entry) (content_text (Array d))) }
 {
     let mut maxima = [None; MAX_RANK];
-    push_array_line(text, path, &array_text(array, &mut maxima))
+    push_array_line(text, path, &array_text(array, Layout::Contiguous, &mut maxima))
 }
 
-/// What lines tell of an array that is not in chunks, with its maxima in this room.
+/// What lines tell of an array whose cells are stored so, with its maxima in this room.
 fn array_text<'a>(
     array: &'a StoredArray<'_>,
+    layout: Layout<'static>,
     room: &'a mut [Option<u64>; MAX_RANK],
 ) -> ArrayText<'a, 'static>
-    ensures { told_dataset result ≡ told array.now }
+    ensures { told_dataset result ≡ record (told array.now) { storage = shown_storage layout.entry } }
 {
     let array = &array.array;
     ArrayText {
         fixed: array.fixed(),
         sizes: array.dims().sizes(),
         maxima: array.maxima(room),
-        layout: Layout::Contiguous,
+        layout,
         fill: array.fill(),
     }
 }
@@ -226,7 +228,8 @@ fn push_array_head(
     ensures { Appends result text.old.items text.new.items (dump_line (escaped path.now) (told array.now)) }
 {
     let mut maxima = [None; MAX_RANK];
-    push_dump_line(text, PathText::Plain(path), &array_text(array, &mut maxima))
+    let told = array_text(array, Layout::Contiguous, &mut maxima);
+    push_dump_line(text, PathText::Plain(path), &told)
 }
 
 /// Appends the array's cells in rows, or nothing where there is no cell.
@@ -234,14 +237,14 @@ fn push_cells(text: &mut Vec<u8>, array: &StoredArray<'_>) -> Result<(), AllocEr
     ensures { (d : Dataset) → IsArrayShown d array.now
         → Appends result text.old.items text.new.items (cells_text (Array d)) }
 {
-    let dims = array.array.dims();
-    if dims.cells() == 0 {
+    let count = array.array.cells();
+    if count == 0 {
         return Ok(());
     }
-    let mut rows = Rows::new(row_length(dims.sizes()));
+    let mut rows = Rows::new(row_length(array.array.dims().sizes()));
     match array.cells {
         Some(cells) => rows.push_stored(text, &array.array.fixed(), cells),
-        None => rows.push_repeated(text, array.array.fill(), dims.cells()),
+        None => rows.push_repeated(text, array.array.fill(), count),
     }
 }
 

@@ -1,6 +1,6 @@
 //! An array as its header describes it, or as it is to be written.
 
-ghost use Rattle.std.specs.Prelude.{◌≡◌, ◌+◌, ◌*◌, ◌<◌, ◌≤◌, None, Some, true, length, slice_get, MatchOption};
+ghost use Rattle.std.specs.Prelude.{◌≡◌, ◌+◌, ◌*◌, ◌^◌, ◌<◌, ◌≤◌, None, Some, true, length, slice_get, MatchOption};
 ghost use Rattle.std.specs.FinMap.{empty};
 ghost use Rattle.std.specs.Option.{ForSome, option_map};
 ghost use Rattle.h5_bytes.specs.Bytes.{part};
@@ -95,6 +95,14 @@ impl<'a> ArrayRef<'a> {
         ensures sound { IsArray self.now }
     {
         &self.dims
+    }
+
+    /// How many cells there are.
+    pub fn cells(&self) -> u64
+        ensures exact { result ≡ cells_of self.now.sizes }
+        ensures few { result ≤ 2 ^ 40 }
+    {
+        self.dims().cells()
     }
 
     /// How many dimensions there are, each with a size and a maximum.

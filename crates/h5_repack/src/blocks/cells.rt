@@ -69,20 +69,12 @@ fn push_cells(
     Ok(())
 }
 
-/// How many cells an array has.
-fn count_cells(array: &ArrayRef<'_>) -> u64
-    ensures exact { result ≡ cells_of array.now.sizes }
-    ensures few { result ≤ 2 ^ 40 }
-{
-    array.dims().cells()
-}
-
 /// How many bytes the cells of an array have where they are stored.
 pub(crate) fn cells_length(array: &ArrayRef<'_>) -> u64
     ensures exact { result ≡ cells_of array.now.sizes * array.now.fixed.size }
     ensures few { result ≤ 2 ^ 43 }
 {
-    count_cells(array) * array.fixed().size() as u64
+    array.cells() * array.fixed().size() as u64
 }
 
 /// How many bytes of data an array with these cells has.
@@ -111,7 +103,7 @@ pub fn cells_address(array: &ArrayRef<'_>, cells: &Cells<'_>, place: u64) -> Opt
 {
     match cells {
         Cells::Unset => None,
-        Cells::Filled => data_address(place, count_cells(array)),
+        Cells::Filled => data_address(place, array.cells()),
         Cells::Stored(_) => Some(place),
     }
 }
@@ -127,7 +119,7 @@ pub fn push_data(
 {
     match cells {
         Cells::Unset => Ok(()),
-        Cells::Filled => push_cells(alloc, out, &array.fixed(), array.fill(), count_cells(array)),
+        Cells::Filled => push_cells(alloc, out, &array.fixed(), array.fill(), array.cells()),
         Cells::Stored(bytes) => push_bytes(out, bytes),
     }
 }

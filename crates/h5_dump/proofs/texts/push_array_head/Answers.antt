@@ -8,4 +8,4 @@ use Rattle.h5_dump.proofs.texts.push_array_head.Goals as goal
 pub returns : goal.returns
 returns c =
     subst (λ (d : Dataset). Appends c.push_dump_line.result c.args.text.now.items c.push_dump_line.new.out.items (dump_line (escaped c.args.path.now) d))
-    c.array_text.ensures c.push_dump_line.ensures
+    c.array_text-told.ensures c.push_dump_line.ensures

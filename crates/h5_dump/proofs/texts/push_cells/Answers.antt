@@ -1,16 +1,26 @@
-use Rattle.std.proofs.Common.{◌≡◌, ℕ, ℤ, ◌<◌, ◌++◌, [], List, Option, replicate, append-nil, ap, ◌∙◌, sym, subst, rules, arith, Bor, to_z, of_z}
+use Rattle.std.proofs.Common.{◌<◌, ◌∙◌, List, ℕ, ap, sym, subst, rules, arith, to_z, of_z, ◌≡◌}
 use Rattle.std.specs.Int.{w128}
 use Rattle.std.proofs.lemmas.Int.{to_z-of_z}
-use Rattle.h5_model.specs.Scripts.Answers.{stored_values}
+use Rattle.h5_model.specs.Scripts.Text.{row_length}
 use Rattle.h5_model.specs.Tree.Places.{cells}
 use Rattle.h5_text.specs.Appends.{Appends}
-use Rattle.h5_text.specs.Rows.{cells_from}
-use Rattle.h5_file.specs.Look.{HasCells}
-use Rattle.h5_dump.proofs.Dumps.{all-rows, no-rows}
+use Rattle.h5_dump.proofs.Dumps.{filled-rows, no-cells, some-width, stored-rows}
 use Rattle.h5_dump.proofs.texts.push_cells.Goals as goal
 
+pub new-rows-requires : goal.new-rows-requires
+new-rows-requires c =
+    let sizes = c.args.array.now.array.sizes in
+    let some : 0 < cells sizes = omega (arith, c.cells-count.ensures.exact, c.if-count-eq0.false) in
+    subst (λ (w : ℕ). 0 < w) (sym (c.row_length.ensures ∙ ap row_length (c.sizes.ensures.numbers ∙ c.dims.ensures.sizes))) (some-width sizes some)
+
 pub returns-in-Some : goal.returns-in-Some
-returns-in-Some c d is = ?
+returns-in-Some c d is =
+    let sizes = c.args.array.now.array.sizes in
+    let some : 0 < cells sizes = omega (arith, c.cells-count.ensures.exact, c.if-count-eq0.false) in
+    let wide = c.new-rows.ensures.width ∙ c.row_length.ensures ∙ ap row_length (c.sizes.ensures.numbers ∙ c.dims.ensures.sizes) in
+    subst (λ (text : List ℕ). Appends c.push_stored.result c.args.text.now.items c.push_stored.new.out.items text)
+    (stored-rows d c.args.array.now is c.in-Some.cells c.in-Some.is some c.new-rows.result.width c.new-rows.result.column wide c.new-rows.ensures.column c.fixed.result c.fixed.ensures)
+    c.push_stored.ensures.text
 
 pub returns-in-None : goal.returns-in-None
 returns-in-None c d is = ?
