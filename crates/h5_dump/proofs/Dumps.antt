@@ -1,5 +1,5 @@
 -- What `dump` prints of an object.
-use Rattle.std.proofs.Common.{◌≡◌, ℕ, zero, suc, ◌+◌, ◌*◌, ◌/◌, ◌<◌, ℤ, List, [], ◌∷◌, ◌++◌, length, codes, refl, sym, ap, ◌∙◌, append-nil, replicate, subst, Option, Some, None, true, arith, Bor, Vec}
+use Rattle.std.proofs.Common.{◌≡◌, ℕ, zero, suc, ◌+◌, ◌*◌, ◌/◌, ◌<◌, ℤ, List, [], ◌∷◌, ◌++◌, length, codes, refl, sym, ap, ◌∙◌, append-nil, replicate, subst, Option, Some, None, arith, Bor, Vec}
 use Rattle.std.proofs.Math.Nat.{mul_assoc, zero-div}
 use Rattle.std.proofs.lemmas.Nat.{div-mul-add}
 use Rattle.std.specs.declared.alloc.Global.{Global}
@@ -11,7 +11,7 @@ use Rattle.h5_model.specs.Tree.Paths.{Located, Here, Missing, NoParent, NoGroup,
 use Rattle.h5_model.specs.Scripts.Answers.{dumped, stored_values}
 use Rattle.h5_model.specs.Scripts.Text.{attribute_line, cells_text, content_text, dataset_text, detail_text, dump_text, escaped, line_of, row_length, rows_text}
 use Rattle.h5_model.specs.Tree.Places.{cells}
-use Rattle.h5_model.specs.Tree.Objects.{Tree, Links, Object, Attribute, Group, Array, Dataset, Contiguous, ToObject, Soft}
+use Rattle.h5_model.specs.Tree.Objects.{Tree, Links, Object, Attribute, Group, Array, Dataset, ToObject, Soft}
 use Rattle.h5_text.specs.Listing.{dump_line}
 use Rattle.h5_text.specs.Rows.{cells_from}
 use Rattle.h5_text.proofs.RowTexts.{cells_are_rows}
@@ -91,11 +91,11 @@ module _ (d : Dataset) (a : StoredArray) (is : IsArrayShown d a) where
       let are = subst (λ (held : Option (Bor (List ℕ))). HasCells d held) stored is.cells_are in
       rows-told (stored_values t bytes.now) (ap (λ (f : Fixed). stored_values f bytes.now) (same ∙ is.fixed_is) ∙ sym are.1) some w column wide first
 
-  pub filled-rows : a.cells ≡ None → 0 < cells a.array.sizes → (width column : ℕ) → width ≡ row_length a.array.sizes → column ≡ 0 → (fill : ℤ) → fill ≡ a.array.fill
-      → cells_from width column (replicate (cells a.array.sizes) fill) ≡ cells_text (Array d)
-  filled-rows unstored some w column wide first fill same =
+  pub filled-rows : a.cells ≡ None → 0 < cells a.array.sizes → (width column : ℕ) → width ≡ row_length a.array.sizes → column ≡ 0 → (count : ℕ) → count ≡ cells a.array.sizes → (fill : ℤ) → fill ≡ a.array.fill
+      → cells_from width column (replicate count fill) ≡ cells_text (Array d)
+  filled-rows unstored some w column wide first count all fill same =
       let are = subst (λ (held : Option (Bor (List ℕ))). HasCells d held) unstored is.cells_are in
-      rows-told (replicate (cells a.array.sizes) fill) ((λ i. replicate ((sym sized) i) ((same ∙ is.fill_is) i)) ∙ sym are.0) some w column wide first
+      rows-told (replicate count fill) ((λ i. replicate ((all ∙ sym sized) i) ((same ∙ is.fill_is) i)) ∙ sym are.0) some w column wide first
 
 -- ---- what is dumped of an object
 

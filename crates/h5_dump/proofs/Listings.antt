@@ -4,7 +4,7 @@ use Rattle.std.specs.FinMap.{get, entries}
 use Rattle.std.specs.List.{flat_map}
 use Rattle.std.specs.Option.{option_and_then, option_map_or}
 use Rattle.h5_model.specs.Scripts.Text.{content_text, joined_path, line_of, lines_below, link_line, list_text}
-use Rattle.h5_model.specs.Tree.Objects.{Tree, Link, Links, Object, Content, Group, Array, Dataset, ToObject, dataset_of, dataset_in, links_in, links_of}
+use Rattle.h5_model.specs.Tree.Objects.{Tree, Links, Object, Content, Group, Array, Dataset, ToObject, dataset_of, dataset_in, links_in, links_of}
 use Rattle.h5_model.specs.Tree.Links.{tree_link}
 use Rattle.h5_file.specs.Listed.{AreGroupLinks}
 use Rattle.h5_model.specs.declared.link.Link.{Link as LinkOf}

@@ -126,7 +126,11 @@ fn push_listed_array(
         (line_of (path_text path.entry) (content_text (Array d))) }
 {
     let mut maxima = [None; MAX_RANK];
-    push_array_line(text, path, &array_text(array, Layout::Contiguous, &mut maxima))
+    push_array_line(
+        text,
+        path,
+        &array_text(array, Layout::Contiguous, &mut maxima),
+    )
 }
 
 /// What lines tell of an array whose cells are stored so, with its maxima in this room.

@@ -1,7 +1,5 @@
-use Rattle.std.proofs.Common.{◌≡◌, List, ℕ, ℤ, ◌++◌, ◌/◌, length, ap, ◌∙◌, subst, rules, to_z, of_z}
-use Rattle.std.specs.Int.{w128}
+use Rattle.std.proofs.Common.{◌≡◌, List, ℕ, ◌++◌, ap, ◌∙◌, subst}
 use Rattle.std.specs.List.{flat_map}
-use Rattle.std.proofs.lemmas.Int.{to_z-of_z}
 use Rattle.h5_model.specs.Scripts.Text.{attribute_line, cells_text, escaped}
 use Rattle.h5_model.specs.Tree.Objects.{Array}
 use Rattle.h5_text.specs.Appends.{Appends}
