@@ -27,7 +27,7 @@ fn writes_answers(rt: HostRuntime) -> Result<(), Fail> {
 }
 
 /// A line in a list, and that of a dump, of an array of three sizes in chunks.
-fn push_in_chunks(out: &mut Vec<u8>, fixed: &Fixed) -> Result<(), AllocError> {
+fn push_in_chunks(out: &mut Vec<u8>, fixed: Fixed) -> Result<(), AllocError> {
     let array = ArrayText {
         fixed,
         sizes: &[5, 4, 3],
@@ -40,7 +40,7 @@ fn push_in_chunks(out: &mut Vec<u8>, fixed: &Fixed) -> Result<(), AllocError> {
 }
 
 /// The line of a dump of an array of no sizes beside its header.
-fn push_compact(out: &mut Vec<u8>, fixed: &Fixed) -> Result<(), AllocError> {
+fn push_compact(out: &mut Vec<u8>, fixed: Fixed) -> Result<(), AllocError> {
     let array = ArrayText {
         fixed,
         sizes: &[],
@@ -55,8 +55,8 @@ fn push_compact(out: &mut Vec<u8>, fixed: &Fixed) -> Result<(), AllocError> {
 fn writes_lines_of_arrays(rt: HostRuntime) -> Result<(), Fail> {
     let mut out = Vec::new(rt.alloc());
     let fixed = Fixed::new(2, false, true).ok_or(AllocError)?;
-    push_in_chunks(&mut out, &fixed)?;
-    push_compact(&mut out, &fixed)?;
+    push_in_chunks(&mut out, fixed)?;
+    push_compact(&mut out, fixed)?;
     let wanted =
         b"/d dataset u16be {5/inf, 4, 3/9}\n/d dataset u16be {5/inf, 4, 3/9} chunked {2, 3, 1} fill -7\n/s dataset u16be {} compact fill 0\n";
     assert!(rt; out.as_slice() == wanted.as_slice());
