@@ -8,6 +8,7 @@ pub mod Taken
 pub mod Steps
 pub mod FurtherLaws
 pub mod Neighbours
+pub mod Descended
 pub mod RowSteps
 pub mod RootSteps
 pub mod AllLaws

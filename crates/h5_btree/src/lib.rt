@@ -20,5 +20,5 @@ pub use name::SoughtName;
 pub use node::Node;
 pub use read::{NodeFault, read_node, read_node_at};
 pub use sought::{Sought, child_for};
-pub use walk::{Leaves, Tree, read_tree, tree_node};
+pub use walk::{Leaves, Tree, read_tree, tree_leaves, tree_node};
 pub use write::{Child, nodes_over, push_tree, root_level, rows_of};

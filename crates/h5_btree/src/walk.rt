@@ -10,4 +10,5 @@ mod stands;
 
 pub use leaves::Leaves;
 pub use read::{Tree, read_tree};
+pub use rows::tree_leaves;
 pub use stands::tree_node;

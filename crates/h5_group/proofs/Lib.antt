@@ -1,3 +1,4 @@
+pub mod ToldLaws
 pub mod Standing
 pub mod Searched
 pub mod Way

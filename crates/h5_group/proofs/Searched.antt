@@ -7,6 +7,7 @@ use Rattle.std.proofs.lemmas.Cmp.{tied_itself}
 use Rattle.std.proofs.lemmas.List.{take-append-drop, length-map}
 use Rattle.std.proofs.lemmas.Option.{slice_get_within}
 use Rattle.h5_bytes.specs.Texts.{text_at}
+use Rattle.h5_model.specs.Format.Addresses.{SymbolTable}
 use Rattle.h5_model.specs.Format.Superblock.{leaf_k}
 use Rattle.h5_model.specs.Format.Heap.{segment_of}
 use Rattle.h5_model.specs.Format.Symbols.{Entry, Target, symbols_at, link_of}
@@ -14,9 +15,9 @@ use Rattle.h5_model.specs.Format.Links.{Before, names_in}
 use Rattle.h5_model.specs.Faults.TreeFaults.{all_entries}
 use Rattle.h5_snod.specs.Names.{IsPlace, entry_names}
 use Rattle.h5_laws.proofs.Lists.{In, in_all, in_either, in_map, in_flat, from_map, in_contains, contains_in}
-use Rattle.h5_group.specs.declared.group.Group.{Group}
+use Rattle.h5_group.specs.Told.{symbol_nodes_told, links_told}
 use Rattle.h5_model.specs.declared.link.Link.{Link}
-use Rattle.h5_group.specs.Links.{links_of_group, lent_link, IsLinkNamed, HasNone}
+use Rattle.h5_group.specs.Links.{lent_link, IsLinkNamed, HasNone}
 
 -- ---- an entry of this name
 
@@ -54,38 +55,38 @@ no_place names name k place there =
 
 -- ---- the group
 
-module _ (image : List ℕ) (g : Group) where
+module _ (image : List ℕ) (table : SymbolTable) where
   abbrev S : ℕ → List Entry
   S = symbols_at image (leaf_k image)
 
   abbrev segment : List ℕ
-  segment = segment_of image g.table.heap
+  segment = segment_of image table.heap
 
   -- the link of an entry of one of the symbol nodes is the group's
-  entry_of_group : (at : ℕ) (l : List ℕ × Target) → In at g.symbol_nodes.items → In l (map (link_of segment) (S at)) → In l (links_of_group image g)
+  entry_of_group : (at : ℕ) (l : List ℕ × Target) → In at (symbol_nodes_told image table) → In l (map (link_of segment) (S at)) → In l (links_told image table)
   entry_of_group at l there here =
       let by = from_map (link_of segment) l (S at) here in
-      subst (λ (x : List ℕ × Target). In x (links_of_group image g)) by.2
-      (in_map (link_of segment) by.0 (all_entries image g.symbol_nodes.items) (in_flat S at by.0 g.symbol_nodes.items there by.1))
+      subst (λ (x : List ℕ × Target). In x (links_told image table)) by.2
+      (in_map (link_of segment) by.0 (all_entries image (symbol_nodes_told image table)) (in_flat S at by.0 (symbol_nodes_told image table) there by.1))
 
-  pub link_found : (at k : ℕ) (name : List ℕ) (l : Link ℕ) → Contains g.symbol_nodes.items at → slice_get (entry_names segment (S at)) k ≡ Some name
-      → option_map (link_of segment) (slice_get (S at) k) ≡ Some (lent_link l) → IsLinkNamed image g name l
+  pub link_found : (at k : ℕ) (name : List ℕ) (l : Link ℕ) → Contains (symbol_nodes_told image table) at → slice_get (entry_names segment (S at)) k ≡ Some name
+      → option_map (link_of segment) (slice_get (S at) k) ≡ Some (lent_link l) → IsLinkNamed image table name l
   link_found at k name l there found read =
       let here = entry_found segment (S at) k name (lent_link l) found read in
-      (contains_in (lent_link l) (links_of_group image g) (entry_of_group at (lent_link l) (in_contains at g.symbol_nodes.items there) here.0), here.1)
+      (contains_in (lent_link l) (links_told image table) (entry_of_group at (lent_link l) (in_contains at (symbol_nodes_told image table) there) here.0), here.1)
 
   -- a link's name is one of the names
-  pub link_named : (name : List ℕ) (t : Target) → Contains (links_of_group image g) (name, t) → Contains (names_in S segment g.symbol_nodes.items) name
+  pub link_named : (name : List ℕ) (t : Target) → Contains (links_told image table) (name, t) → Contains (names_in S segment (symbol_nodes_told image table)) name
   link_named name t has =
-      let entries : List Entry = all_entries image g.symbol_nodes.items in
-      let by = from_map (link_of segment) (name, t) entries (in_contains (name, t) (links_of_group image g) has) in
+      let entries : List Entry = all_entries image (symbol_nodes_told image table) in
+      let by = from_map (link_of segment) (name, t) entries (in_contains (name, t) (links_told image table) has) in
       let same : text_at segment (by.0).name ≡ name = ap (λ (x : List ℕ × Target). x.0) by.2 in
-      contains_in name (names_in S segment g.symbol_nodes.items)
-      (subst (λ (x : List ℕ). In x (names_in S segment g.symbol_nodes.items)) same
+      contains_in name (names_in S segment (symbol_nodes_told image table))
+      (subst (λ (x : List ℕ). In x (names_in S segment (symbol_nodes_told image table))) same
       (in_map (λ (e : Entry). text_at segment e.name) by.0 entries by.1))
 
   pub none_found : (at k : ℕ) (name : List ℕ) → IsPlace (entry_names segment (S at)) name k
-      → (Contains (names_in S segment g.symbol_nodes.items) name → Contains (names_in S segment (at ∷ [])) name) → HasNone image g name
+      → (Contains (names_in S segment (symbol_nodes_told image table)) name → Contains (names_in S segment (at ∷ [])) name) → HasNone image table name
   none_found at k name place only t has =
       let here = only (link_named name t has) in
       let one : names_in S segment (at ∷ []) ≡ entry_names segment (S at) = ap (entry_names segment) (append-nil (S at)) in

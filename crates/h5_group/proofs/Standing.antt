@@ -5,6 +5,7 @@ use Rattle.std.proofs.lemmas.List.{map-append}
 use Rattle.h5_bytes.specs.Blocks.{Inside}
 use Rattle.h5_bytes.specs.declared.Block.{Block}
 use Rattle.h5_bytes.proofs.BlockLaws.{all_left, all_right}
+use Rattle.h5_model.specs.Format.Addresses.{SymbolTable}
 use Rattle.h5_model.specs.Format.Superblock.{leaf_k}
 use Rattle.h5_model.specs.Format.Heap.{segment_of, heap_blocks}
 use Rattle.h5_model.specs.Format.Nodes.{tree_blocks}
@@ -14,8 +15,9 @@ use Rattle.h5_model.specs.Faults.TreeFaults.{all_entries}
 use Rattle.h5_laws.proofs.Lists.{In, in_all, in_map, in_contains}
 use Rattle.h5_laws.proofs.Entries.{own_entries}
 use Rattle.h5_group.specs.Nodes.Trees.{kind_in}
-use Rattle.h5_group.specs.declared.group.Group.{Group}
-use Rattle.h5_group.specs.Links.{IsGroupRead, links_of_group}
+use Rattle.h5_group.proofs.ToldLaws.{symbol_nodes_are_told}
+use Rattle.h5_group.specs.Told.{symbol_nodes_told, links_told, blocks_told}
+use Rattle.h5_group.specs.Links.{IsGroupRead}
 
 -- ---- a part of what ascends
 
@@ -44,36 +46,39 @@ ascend_at f S at (n ∷ ns) (inr there) rises =
 
 -- ---- a group that was read
 
-module _ (image : List ℕ) (g : Group) (read : IsGroupRead image g) where
-  laid : Inside (length image) ((tree_blocks (kind_in image) (read.linked).owned ++ map (symbol_block (leaf_k image)) (read.linked).symbol_nodes) ++ heap_blocks image g.table.heap)
+module _ (image : List ℕ) (table : SymbolTable) (read : IsGroupRead image table) where
+  pub symbols_are : (read.linked).symbol_nodes ≡ symbol_nodes_told image table
+  symbols_are = symbol_nodes_are_told image table (links_told image table) (blocks_told image table) read.linked
+
+  laid : Inside (length image) ((tree_blocks (kind_in image) (read.linked).owned ++ map (symbol_block (leaf_k image)) (read.linked).symbol_nodes) ++ heap_blocks image table.heap)
   laid = subst (Inside (length image)) (read.linked).laid read.inside
 
   abbrev IsInside : Block → Type 0
   IsInside b = b.at + b.len ≤ length image
 
   trees : Inside (length image) (tree_blocks (kind_in image) (read.linked).owned ++ map (symbol_block (leaf_k image)) (read.linked).symbol_nodes)
-  trees = all_left IsInside (tree_blocks (kind_in image) (read.linked).owned ++ map (symbol_block (leaf_k image)) (read.linked).symbol_nodes) (heap_blocks image g.table.heap) laid
+  trees = all_left IsInside (tree_blocks (kind_in image) (read.linked).owned ++ map (symbol_block (leaf_k image)) (read.linked).symbol_nodes) (heap_blocks image table.heap) laid
 
-  pub heap_there : Inside (length image) (heap_blocks image g.table.heap)
-  heap_there = all_right IsInside (tree_blocks (kind_in image) (read.linked).owned ++ map (symbol_block (leaf_k image)) (read.linked).symbol_nodes) (heap_blocks image g.table.heap) laid
+  pub heap_there : Inside (length image) (heap_blocks image table.heap)
+  heap_there = all_right IsInside (tree_blocks (kind_in image) (read.linked).owned ++ map (symbol_block (leaf_k image)) (read.linked).symbol_nodes) (heap_blocks image table.heap) laid
 
   pub nodes_there : Inside (length image) (tree_blocks (kind_in image) (read.linked).owned)
   nodes_there = all_left IsInside (tree_blocks (kind_in image) (read.linked).owned) (map (symbol_block (leaf_k image)) (read.linked).symbol_nodes) trees
 
   -- the entries of the symbol nodes, as they stand
-  pub entries_are : all_entries image g.symbol_nodes.items ≡ flat_map (symbols_of image (leaf_k image) (read.linked).symbol_nodes) (read.linked).symbol_nodes
-  entries_are = ap (all_entries image) (sym read.symbols_are) ∙ own_entries image (read.linked).symbol_nodes
+  pub entries_are : all_entries image (symbol_nodes_told image table) ≡ flat_map (symbols_of image (leaf_k image) (read.linked).symbol_nodes) (read.linked).symbol_nodes
+  entries_are = ap (all_entries image) (sym symbols_are) ∙ own_entries image (read.linked).symbol_nodes
 
-  pub ascending : Ascend (links_of_group image g)
-  ascending = subst Ascend ((read.linked).listed.all ∙ ap (map (link_of (segment_of image g.table.heap))) (sym entries_are)) (read.linked).listed.ascending
+  pub ascending : Ascend (links_told image table)
+  ascending = subst Ascend ((read.linked).listed.all ∙ ap (map (link_of (segment_of image table.heap))) (sym entries_are)) (read.linked).listed.ascending
 
   -- one of the symbol nodes
-  module _ (at : ℕ) (there : Contains g.symbol_nodes.items at) where
-    pub listed : In at g.symbol_nodes.items
-    listed = in_contains at g.symbol_nodes.items there
+  module _ (at : ℕ) (there : Contains (symbol_nodes_told image table) at) where
+    pub listed : In at (symbol_nodes_told image table)
+    listed = in_contains at (symbol_nodes_told image table) there
 
     own_listed : In at (read.linked).symbol_nodes
-    own_listed = subst (In at) (sym read.symbols_are) listed
+    own_listed = subst (In at) (sym symbols_are) listed
 
     pub node_there : at + (8 + 80 * leaf_k image) ≤ length image
     node_there =
@@ -84,5 +89,5 @@ module _ (image : List ℕ) (g : Group) (read : IsGroupRead image g) where
     pub node_formed : IsSymbolNode (leaf_k image) (symbol_bytes image (leaf_k image) at)
     node_formed = in_all (λ n. IsSymbolNode (leaf_k image) (symbol_bytes image (leaf_k image) n)) at (read.linked).symbol_nodes (read.linked).formed own_listed
 
-    pub node_ascends : Ascend (map (link_of (segment_of image g.table.heap)) (symbols_at image (leaf_k image) at))
-    node_ascends = ascend_at (link_of (segment_of image g.table.heap)) (symbols_at image (leaf_k image)) at g.symbol_nodes.items listed ascending
+    pub node_ascends : Ascend (map (link_of (segment_of image table.heap)) (symbols_at image (leaf_k image) at))
+    node_ascends = ascend_at (link_of (segment_of image table.heap)) (symbols_at image (leaf_k image)) at (symbol_nodes_told image table) listed ascending

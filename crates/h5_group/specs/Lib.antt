@@ -1,6 +1,7 @@
 pub mod Links
 pub mod Walk
 pub mod Nodes
+pub mod Told
 pub mod Texts
 pub mod Order
 pub mod Writing

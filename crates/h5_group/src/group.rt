@@ -1,30 +1,22 @@
 //! The reading of a group (File Format Specification 3.0, sections III.A.1, III.B, III.D and IV.A.2.r).
 
-ghost use Rattle.std.specs.Prelude.{◌≡◌, length, IfOk, IfErr};
+ghost use Rattle.std.specs.Prelude.{◌≡◌, length, IfErr, OnOk};
 ghost use Rattle.h5_model.specs.Format.Superblock.{IsSuperblock};
 ghost use Rattle.h5_model.specs.declared.open_fault.Cause.TheVariants.{NoMemory};
 ghost use Rattle.h5_space.specs.Claimed.{HasClaimed};
-ghost use Rattle.h5_group.specs.Links.{IsGroupRead, IsGroupReadable, blocks_of_group};
+ghost use Rattle.h5_group.specs.Links.{IsGroupRead, IsGroupReadable};
+ghost use Rattle.h5_group.specs.Told.{blocks_told};
 ghost use Rattle.h5_group.specs.Walk.{FollowsGroup, IsGroupFault};
 
 use crate::nodes::SymbolNodes;
 use crate::order::check_order;
 use crate::texts::check_texts;
-use h5_btree::{Tree, read_tree};
+use h5_btree::read_tree;
 use h5_heap::{read_heap, segment_at};
 use h5_model::OpenFault;
 use h5_msg::SymbolTable;
 use h5_space::{Claims, Image};
 use std::alloc::Global;
-
-/// A group that was read.
-#[derive(Drop)]
-pub struct Group {
-    /// The addresses of its tree and of its heap.
-    pub table: SymbolTable,
-    /// The addresses of the symbol nodes of the tree, from left to right.
-    pub symbol_nodes: Vec<u64>,
-}
 
 /// Reads the group of this B-tree and this heap, and claims its blocks.
 ///
@@ -39,15 +31,13 @@ pub fn read_group(
     image: &Image,
     claims: &mut Claims,
     table: SymbolTable,
-) -> Result<Group, OpenFault>
+) -> Result<(), OpenFault>
     requires end { claims.old.end ≡ length image.now.bytes }
     requires superblock { IsSuperblock image.now.bytes }
-    ensures group { IfOk result (IsGroupRead image.now.bytes) }
-    ensures table { IfOk result (λ g. g.table ≡ table) }
-    ensures claimed { IfOk result (λ g.
-        HasClaimed claims.old claims.new (blocks_of_group image.now.bytes g)) }
+    ensures group { OnOk result (IsGroupRead image.now.bytes table) }
+    ensures claimed { OnOk result (HasClaimed claims.old claims.new (blocks_told image.now.bytes table)) }
     ensures end { claims.new.end ≡ claims.old.end }
-    ensures walked { IfOk result (FollowsGroup image.now.bytes claims.old.held claims.new.held table) }
+    ensures walked { OnOk result (FollowsGroup image.now.bytes claims.old.held claims.new.held table) }
     ensures refused { IfErr result (λ fault.
         IsGroupFault image.now.bytes claims.old.held table fault.cause fault.address) }
     ensures only { IsGroupReadable image.now.bytes table claims.old.held
@@ -57,10 +47,5 @@ pub fn read_group(
     let tree = read_tree(alloc, image, claims, &SymbolNodes, table.tree())?;
     check_texts(image, &mut heap, table, &tree)?;
     check_order(image, segment_at(image, table.heap()), table, &tree)?;
-    let Tree { nodes, leaves } = tree;
-    drop(nodes);
-    Ok(Group {
-        table,
-        symbol_nodes: leaves,
-    })
+    Ok(())
 }

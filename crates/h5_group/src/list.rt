@@ -5,31 +5,35 @@ ghost use Rattle.std.specs.List.{Contains};
 ghost use Rattle.h5_model.specs.Format.Superblock.{leaf_k};
 ghost use Rattle.h5_model.specs.Format.Heap.{segment_of};
 ghost use Rattle.h5_model.specs.Format.Symbols.{symbols_at, link_of};
-ghost use Rattle.h5_group.specs.Links.{IsGroupRead, links_of_group, lent_link};
+ghost use Rattle.h5_group.specs.Links.{IsGroupRead, lent_link};
+ghost use Rattle.h5_group.specs.Told.{links_told, symbol_nodes_told};
 
-use crate::group::Group;
 use crate::link::link_in;
+use crate::nodes::SymbolNodes;
 use crate::read::{segment, symbol_node};
+use h5_btree::tree_leaves;
 use h5_model::Link;
+use h5_msg::SymbolTable;
 use h5_snod::SymbolNode;
 use h5_space::Image;
 use std::alloc::{AllocError, Global};
 
 /// The links of the group, ascending by the bytes of their names.
 ///
-/// Takes memory for a reference to each.
+/// Takes memory for a reference to each, and for the addresses of the symbol nodes.
 pub fn entries<'a>(
     alloc: Global,
     image: &'a Image,
-    group: &Group,
+    table: SymbolTable,
 ) -> Result<Vec<Link<'a, u64>>, AllocError>
-    requires { IsGroupRead image.now.bytes group.now }
-    ensures { IfOk result (λ links. map lent_link links.items ≡ links_of_group image.now.bytes group.now) }
+    requires { IsGroupRead image.now.bytes table }
+    ensures { IfOk result (λ links. map lent_link links.items ≡ links_told image.now.bytes table) }
 {
-    let segment = segment(image, group);
+    let segment = segment(image, table);
+    let nodes = symbol_nodes(alloc, image, table)?;
     let mut links = Vec::new(alloc);
-    for node in &group.symbol_nodes {
-        push_links(&mut links, segment, &symbol_node(image, group, *node))?;
+    for node in &nodes {
+        push_links(&mut links, segment, &symbol_node(image, table, *node))?;
     }
     Ok(links)
 }
@@ -49,23 +53,37 @@ fn push_links<'a>(
     Ok(())
 }
 
+/// The symbol nodes of the group, from left to right.
+///
+/// Goes down its tree row by row, and takes memory for a row and the one below it.
+pub fn symbol_nodes(
+    alloc: Global,
+    image: &Image,
+    table: SymbolTable,
+) -> Result<Vec<u64>, AllocError>
+    requires { IsGroupRead image.now.bytes table }
+    ensures { IfOk result (λ nodes. nodes.items ≡ symbol_nodes_told image.now.bytes table) }
+{
+    tree_leaves(alloc, image, &SymbolNodes, table.tree())
+}
+
 /// How many entries the symbol node at `node` has, which is one of the group's. It takes no memory.
-pub fn links_at(image: &Image, group: &Group, node: u64) -> usize
-    requires group { IsGroupRead image.now.bytes group.now }
-    requires node { Contains group.now.symbol_nodes.items node }
+pub fn links_at(image: &Image, table: SymbolTable, node: u64) -> usize
+    requires group { IsGroupRead image.now.bytes table }
+    requires node { Contains (symbol_nodes_told image.now.bytes table) node }
     ensures { result ≡ length (symbols_at image.now.bytes (leaf_k image.now.bytes) node) }
 {
-    symbol_node(image, group, node).len()
+    symbol_node(image, table, node).len()
 }
 
 /// The link of entry `i` of the symbol node at `node`, which is one of the group's. It takes no memory.
-pub fn link_at<'a>(image: &'a Image, group: &Group, node: u64, i: usize) -> Link<'a, u64>
-    requires group { IsGroupRead image.now.bytes group.now }
-    requires node { Contains group.now.symbol_nodes.items node }
+pub fn link_at<'a>(image: &'a Image, table: SymbolTable, node: u64, i: usize) -> Link<'a, u64>
+    requires group { IsGroupRead image.now.bytes table }
+    requires node { Contains (symbol_nodes_told image.now.bytes table) node }
     requires entry { i < length (symbols_at image.now.bytes (leaf_k image.now.bytes) node) }
-    ensures { option_map (link_of (segment_of image.now.bytes group.now.table.heap))
+    ensures { option_map (link_of (segment_of image.now.bytes table.heap))
         (slice_get (symbols_at image.now.bytes (leaf_k image.now.bytes) node) i)
         ≡ Some (lent_link result) }
 {
-    link_in(segment(image, group), &symbol_node(image, group, node), i)
+    link_in(segment(image, table), &symbol_node(image, table, node), i)
 }

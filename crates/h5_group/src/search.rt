@@ -7,27 +7,28 @@ ghost use Rattle.h5_model.specs.Format.Heap.{segment_of};
 ghost use Rattle.h5_model.specs.Format.Links.{names_in};
 ghost use Rattle.h5_model.specs.Format.Symbols.{symbols_at};
 ghost use Rattle.h5_group.specs.Links.{IsGroupRead, IsLinkNamed, HasNone};
+ghost use Rattle.h5_group.specs.Told.{symbol_nodes_told};
 
-use crate::group::Group;
 use crate::link::link_in;
 use crate::read::{segment, symbol_node};
 use h5_btree::{SoughtName, find_leaf};
 use h5_model::Link;
+use h5_msg::SymbolTable;
 use h5_space::{Image, internal_k};
 
 /// The link of this name, or `None` where the group has none.
 ///
 /// Goes down the group's tree by its keys, and searches in each node and in the symbol node by halves. It takes no memory.
-pub fn lookup<'a>(image: &'a Image, group: &Group, name: &[u8]) -> Option<Link<'a, u64>>
-    requires { IsGroupRead image.now.bytes group.now }
-    ensures found { IfSome result (IsLinkNamed image.now.bytes group.now name.now) }
-    ensures absent { IfNone result (HasNone image.now.bytes group.now name.now) }
+pub fn lookup<'a>(image: &'a Image, table: SymbolTable, name: &[u8]) -> Option<Link<'a, u64>>
+    requires { IsGroupRead image.now.bytes table }
+    ensures found { IfSome result (IsLinkNamed image.now.bytes table name.now) }
+    ensures absent { IfNone result (HasNone image.now.bytes table name.now) }
 {
-    let segment = segment(image, group);
-    let Some(at) = node_of(image, group, segment, name) else {
+    let segment = segment(image, table);
+    let Some(at) = node_of(image, table, segment, name) else {
         return None;
     };
-    let node = symbol_node(image, group, at);
+    let node = symbol_node(image, table, at);
     match node.find(segment, name) {
         Ok(i) => Some(link_in(segment, &node, i)),
         Err(_) => None,
@@ -35,16 +36,16 @@ pub fn lookup<'a>(image: &'a Image, group: &Group, name: &[u8]) -> Option<Link<'
 }
 
 /// The symbol node that has the name, if the group has it; `None` where the group has no symbol node.
-fn node_of(image: &Image, group: &Group, segment: &[u8], name: &[u8]) -> Option<u64>
-    requires group { IsGroupRead image.now.bytes group.now }
-    requires segment { segment.now ≡ segment_of image.now.bytes group.now.table.heap }
-    ensures one { IfSome result (Contains group.now.symbol_nodes.items) }
+fn node_of(image: &Image, table: SymbolTable, segment: &[u8], name: &[u8]) -> Option<u64>
+    requires group { IsGroupRead image.now.bytes table }
+    requires segment { segment.now ≡ segment_of image.now.bytes table.heap }
+    ensures one { IfSome result (Contains (symbol_nodes_told image.now.bytes table)) }
     ensures only { IfSome result (λ at.
         Contains (names_in (symbols_at image.now.bytes (leaf_k image.now.bytes)) segment.now
-        group.now.symbol_nodes.items) name.now
+        (symbol_nodes_told image.now.bytes table)) name.now
         → Contains (names_in (symbols_at image.now.bytes (leaf_k image.now.bytes)) segment.now (at ∷ []))
         name.now) }
-    ensures none { IfNone result (group.now.symbol_nodes.items ≡ []) }
+    ensures none { IfNone result (symbol_nodes_told image.now.bytes table ≡ []) }
 {
     let bytes = image.bytes();
     let sought = SoughtName {
@@ -52,5 +53,5 @@ fn node_of(image: &Image, group: &Group, segment: &[u8], name: &[u8]) -> Option<
         segment,
         name,
     };
-    find_leaf(bytes, group.table.tree(), &sought).unwrap()
+    find_leaf(bytes, table.tree(), &sought).unwrap()
 }

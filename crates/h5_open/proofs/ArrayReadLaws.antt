@@ -25,8 +25,8 @@ use Rattle.h5_open.specs.Read.{IsHeaderRead, IsHeaderDone, IsObjectRead, IsObjec
 use Rattle.h5_open.proofs.HeaderFields.{header_fields, fields_only, fields_stand}
 use Rattle.h5_open.proofs.ArrayLaws.{y, first, y_met, y_length, layout}
 
-abbrev pub array_object : Listed → ℕ → OpenedObject
-array_object m depth = record { messages = m; content = content.Array; depth = depth }
+abbrev pub array_object : Listed → OpenedObject
+array_object m = record { messages = m; content = content.Array }
 
 -- the block of the cells that the messages tell
 abbrev pub told_blocks : List ℕ → Listed → List Block
@@ -35,7 +35,7 @@ told_blocks image m = data_blocks (layout_told (messages_in image m.list))
 pub array_object_read : (image : List ℕ) (held now after : List Block) (m : Listed) (depth : ℕ) → IsHeaderRead image m → IsArrayList (messages_in image m.list)
     → HasNamesOnce (messages_in image m.list) → 1 ≤ depth → Inside (length image) (told_blocks image m)
     → ((p : ℕ) → cover p now ≡ cover p held + cover p m.blocks) → ((p : ℕ) → cover p after ≡ cover p now + cover p (told_blocks image m))
-    → IsObjectRead image held after m.header depth (array_object m depth)
+    → IsObjectRead image held after m.header depth (array_object m)
 array_object_read image held now after m depth read list names inner inside claimed stored = record {
   kept = record {
     header = record { has = read.has; inside = read.inside; within = read.within; names = names; attributes = list.attributes };
@@ -43,7 +43,6 @@ array_object_read image held now after m depth read list names inner inside clai
     content = (list, inside);
   };
   header_is = refl;
-  depth_is = refl;
   top = λ e. absurd (omega (arith, e, inner));
   shallow = λ some. absurd (omega (arith, some));
   inside = all_append (λ (b : Block). b.at + b.len ≤ length image) m.blocks (told_blocks image m) read.inside inside;
@@ -68,7 +67,7 @@ module _ (image : List ℕ) (held now : List Block) (followed : List Named) (fie
   has = (done.read).has
 
   -- there is no block of cells
-  none_followed : ((p : ℕ) → cover p after ≡ cover p now) → IsObjectFollowed image held after followed field (array_object m depth)
+  none_followed : ((p : ℕ) → cover p after ≡ cover p now) → IsObjectFollowed image held after followed field depth (array_object m)
   none_followed stored = record {
     new = header_fields field m.header depth ms;
     walked = met_walked image held followed field m.header depth done.met ms m.blocks has after (λ p. omega (arith, stored p, done.claimed p));
@@ -96,7 +95,7 @@ module _ (image : List ℕ) (held now : List Block) (followed : List Named) (fie
     claimed_cells : (p : ℕ) → cover p after ≡ cover p now + holds p cells_field.at (length_of image cells_field)
     claimed_cells p = omega (arith, stored p, ap (holds p b.at) size)
 
-    some_followed : IsObjectFollowed image held after followed field (array_object m depth)
+    some_followed : IsObjectFollowed image held after followed field depth (array_object m)
     some_followed = record {
       new = cells_field ∷ header_fields field m.header depth ms;
       walked = field_walked image now (with_header field m.header depth ms followed) (met_walked image held followed field m.header depth done.met ms m.blocks has now done.claimed) cells_field
@@ -108,9 +107,9 @@ module _ (image : List ℕ) (held now : List Block) (followed : List Named) (fie
       waiting = refl;
     }
 
-  pub array_object_followed : ((p : ℕ) → cover p after ≡ cover p now + cover p (told_blocks image m)) → IsObjectFollowed image held after followed field (array_object m depth)
+  pub array_object_followed : ((p : ℕ) → cover p after ≡ cover p now + cover p (told_blocks image m)) → IsObjectFollowed image held after followed field depth (array_object m)
   array_object_followed stored = go (layout_told ms) refl stored where
-    go : (l : Layout) → layout_told ms ≡ l → ((p : ℕ) → cover p after ≡ cover p now + cover p (data_blocks l)) → IsObjectFollowed image held after followed field (array_object m depth)
+    go : (l : Layout) → layout_told ms ≡ l → ((p : ℕ) → cover p after ≡ cover p now + cover p (data_blocks l)) → IsObjectFollowed image held after followed field depth (array_object m)
     go (InMessage bytes) is claimed = none_followed (λ p. omega (arith, claimed p))
     go (InBlock None) is claimed = none_followed (λ p. omega (arith, claimed p))
     go (InBlock (Some b)) is claimed = some_followed b is claimed

@@ -1,5 +1,5 @@
 -- A link that leads to no object, to one that was read before, or to a new one.
-use Rattle.std.proofs.Common.{◌≡◌, ◌≢◌, ◌==◌, inl, ℕ, ◌+◌, ◌≤◌, List, [], ◌∷◌, ◌++◌, length, refl, sym, ◌∙◌, subst}
+use Rattle.std.proofs.Common.{◌≡◌, ◌≢◌, ◌==◌, inl, ℕ, ◌+◌, ◌-◌, ◌≤◌, List, [], ◌∷◌, ◌++◌, length, refl, sym, ◌∙◌, subst}
 use Rattle.std.specs.List.{Contains}
 use Rattle.std.proofs.lemmas.List.{append-nil}
 use Rattle.h5_bytes.specs.declared.Block.{Block}
@@ -17,6 +17,7 @@ use Rattle.h5_open.specs.declared.opened.object.OpenedContent.{OpenedContent}
 use Rattle.h5_open.specs.declared.opened.object.OpenedContent.TheVariants as content
 use Rattle.h5_open.specs.Opened.Kept.{IsObjectKept, IsContentKept}
 use Rattle.h5_open.specs.Opened.NotYet.{IsOpenRefusedAt}
+use Rattle.h5_open.specs.Opened.Objects.{content_links}
 use Rattle.h5_open.specs.Placed.Whole.{IsGroupContent}
 use Rattle.h5_open.specs.Walk.{IsNamedBy, IsUnder, IsReady, AreFurtherObjects, IsTreeRead, IsLinkReady, IsLinkRead}
 use Rattle.h5_group.specs.Links.{lent_link, lent_target}
@@ -24,6 +25,7 @@ use Rattle.h5_model.specs.declared.link.Link.{Link}
 use Rattle.h5_model.specs.declared.link.LinkTo.{LinkTo}
 use Rattle.h5_model.specs.declared.link.LinkTo.TheVariants as target
 use Rattle.h5_open.proofs.FoundLaws.{group_at}
+use Rattle.h5_open.proofs.GrowLaws.{bare}
 
 -- ---- nothing is read
 
@@ -31,23 +33,26 @@ nothing : (image : List ℕ) (held : List Block) (followed : List Named) (object
     → AreFurtherObjects image held held followed field objects objects []
 nothing image held followed objects field under = record { grown = sym (append-nil objects); new = []; under = under; stands = tt; led = tt }
 
-pub array_read : (image : List ℕ) (held : List Block) (followed : List Named) (objects : List OpenedObject) (field header depth : ℕ) (name : List ℕ) → depth + 1 ≤ 64
+pub array_read : (image : List ℕ) (held : List Block) (followed : List Named) (objects : List OpenedObject) (field header depth : ℕ) (name : List ℕ)
     → IsReady image held followed objects field header (depth + 1) → (o : OpenedObject) → Contains objects o → o.messages.header ≡ header → (IsGroupContent o.content → ⊥)
     → IsLinkRead image held held followed objects objects field depth (name, Header header)
-array_read image held followed objects field header depth name low ready o among same array = record {
+array_read image held followed objects field header depth name ready o among same array = record {
   more = [];
   further = nothing image held followed objects field ready.under;
-  led = (low, (o, among, same, λ group. absurd (array group)));
-}
+  led = (o, among, same, bare image objects (64 - (depth + 1)) o (none o.content array));
+} where
+  none : (c : OpenedContent) → (IsGroupContent c → ⊥) → content_links image c ≡ []
+  none (content.Group t) array = absurd (array tt)
+  none content.Array array = refl
 
 -- ---- a new object is read
 
-pub tree_read : (image : List ℕ) (held now : List Block) (followed : List Named) (objects after : List OpenedObject) (field header depth : ℕ) (name : List ℕ) → depth + 1 ≤ 64
+pub tree_read : (image : List ℕ) (held now : List Block) (followed : List Named) (objects after : List OpenedObject) (field header depth : ℕ) (name : List ℕ)
     → IsTreeRead image held now followed objects after field header (depth + 1) → IsLinkRead image held now followed objects after field depth (name, Header header)
-tree_read image held now followed objects after field header depth name low tree = record {
+tree_read image held now followed objects after field header depth name tree = record {
   more = tree.object ∷ tree.others;
   further = tree.further;
-  led = (low, (tree.object, there, tree.header_is, λ group. tree.depth_is));
+  led = (tree.object, there, tree.header_is, tree.shallow);
 } where
   there : Contains after tree.object
   there = subst (λ (xs : List OpenedObject). Contains xs tree.object) (sym (tree.further).grown)
@@ -58,7 +63,7 @@ tree_read image held now followed objects after field header depth name low tree
 group_of : (image : List ℕ) (o : OpenedObject) → IsObjectKept image o → IsGroupContent o.content → IsOfGroup (messages_in image o.messages.list)
 group_of image o kept group = go o.content kept.content group where
   go : (c : OpenedContent) → IsContentKept image (messages_in image o.messages.list) c → IsGroupContent c → IsOfGroup (messages_in image o.messages.list)
-  go (content.Group g) is group = is.0
+  go (content.Group t) is group = is.0
   go content.Array is group = absurd group
 
 pub twice : (image : List ℕ) (held : List Block) (followed : List Named) (objects : List OpenedObject) (field header depth : ℕ) → IsReady image held followed objects field header depth

@@ -1,5 +1,5 @@
 -- A group that was read in a walk.
-use Rattle.std.proofs.Common.{◌≡◌, ◌⊎◌, inl, inr, ℕ, ◌+◌, ◌-◌, ◌*◌, ◌<◌, ◌≤◌, List, [], ◌∷◌, ◌++◌, map, length, refl, sym, ◌∙◌, ap, subst, Some, append_assoc, arith}
+use Rattle.std.proofs.Common.{◌≡◌, ◌⊎◌, inl, inr, ℕ, ◌+◌, ◌-◌, ◌*◌, ◌<◌, ◌≤◌, List, [], ◌∷◌, ◌++◌, map, length, refl, sym, subst, Some, append_assoc, arith}
 use Rattle.std.specs.Prelude.{◌==◌, true}
 use Rattle.std.specs.List.{AllByRecursion, find}
 use Rattle.h5_bytes.specs.Blocks.{cover, Separate, Inside}
@@ -24,8 +24,8 @@ use Rattle.h5_header.specs.Walk.Met.{IsHeaderMet, with_header}
 use Rattle.h5_header.proofs.WalkLaws.ListLaws.{no_root_refused}
 use Rattle.h5_group.specs.Nodes.Trees.{kind_in, group_nodes_blocks}
 use Rattle.h5_group.specs.Nodes.Walk.{AreSymbolsReached}
-use Rattle.h5_group.specs.declared.group.Group.{Group}
-use Rattle.h5_group.specs.Links.{IsGroupRead, links_of_group, blocks_of_group, nodes_at}
+use Rattle.h5_group.specs.Links.{IsGroupRead}
+use Rattle.h5_group.specs.Told.{nodes_told, symbol_nodes_told, links_told, blocks_told}
 use Rattle.h5_group.specs.Walk.{IsGroupMet, IsGroupFollowed}
 use Rattle.h5_open.specs.declared.opened.object.OpenedObject.{OpenedObject}
 use Rattle.h5_open.specs.declared.opened.object.OpenedContent.TheVariants as content
@@ -38,25 +38,24 @@ use Rattle.h5_open.proofs.ArrayReadLaws.{message_free}
 use Rattle.h5_open.proofs.ArrayLaws.{list_breach}
 use Rattle.h5_open.proofs.PlaceLaws.{links_wait}
 
-abbrev pub group_object : Listed → Group → ℕ → OpenedObject
-group_object m g depth = record { messages = m; content = content.Group g; depth = depth }
+abbrev pub group_object : Listed → SymbolTable → OpenedObject
+group_object m table = record { messages = m; content = content.Group table }
 
-pub group_object_read : (image : List ℕ) (held now after : List Block) (m : Listed) (table : SymbolTable) (g : Group) (depth : ℕ) → IsHeaderRead image m → IsGroupList (messages_in image m.list) table
-    → HasNamesOnce (messages_in image m.list) → IsGroupRead image g → g.table ≡ table → (1 ≤ length (links_of_group image g) → depth + 1 ≤ 64)
-    → ((p : ℕ) → cover p now ≡ cover p held + cover p m.blocks) → ((p : ℕ) → cover p after ≡ cover p now + cover p (blocks_of_group image g))
-    → IsObjectRead image held after m.header depth (group_object m g depth)
-group_object_read image held now after m table g depth read list names is same shallow claimed stored = record {
+pub group_object_read : (image : List ℕ) (held now after : List Block) (m : Listed) (table : SymbolTable) (depth : ℕ) → IsHeaderRead image m → IsGroupList (messages_in image m.list) table
+    → HasNamesOnce (messages_in image m.list) → IsGroupRead image table → (1 ≤ length (links_told image table) → depth + 1 ≤ 64)
+    → ((p : ℕ) → cover p now ≡ cover p held + cover p m.blocks) → ((p : ℕ) → cover p after ≡ cover p now + cover p (blocks_told image table))
+    → IsObjectRead image held after m.header depth (group_object m table)
+group_object_read image held now after m table depth read list names is shallow claimed stored = record {
   kept = record {
     header = record { has = read.has; inside = read.inside; within = read.within; names = names; attributes = list.attributes };
     known = read.known;
-    content = (list.kinds, list.chosen ∙ ap (λ (t : SymbolTable). Some t) (sym same), is);
+    content = (list.kinds, list.chosen, is);
   };
   header_is = refl;
-  depth_is = refl;
   top = λ e. tt;
   shallow = shallow;
-  inside = all_append (λ (b : Block). b.at + b.len ≤ length image) m.blocks (blocks_of_group image g) read.inside is.inside;
-  claimed = λ p. omega (arith, claimed p, stored p, cover-append p m.blocks (blocks_of_group image g));
+  inside = all_append (λ (b : Block). b.at + b.len ≤ length image) m.blocks (blocks_told image table) read.inside is.inside;
+  claimed = λ p. omega (arith, claimed p, stored p, cover-append p m.blocks (blocks_told image table));
 }
 
 -- the messages are not those of an object that may stand there, or not those of a group
@@ -89,11 +88,11 @@ symbols_inside image [] inside node at = absurd at
 symbols_inside image (x ∷ xs) inside node (inl e) = subst (λ (n : ℕ). n + (8 + 80 * leaf_k image) ≤ length image) e inside.0
 symbols_inside image (x ∷ xs) inside node (inr at) = symbols_inside image xs inside.1 node at
 
-symbol_there : (image : List ℕ) (g : Group) → IsGroupRead image g → (node : ℕ) → In node g.symbol_nodes.items → node + (8 + 80 * leaf_k image) ≤ length image
-symbol_there image g read node at =
-    let nodes = all_left (λ (b : Block). b.at + b.len ≤ length image) (group_nodes_blocks image (nodes_at image g.table.tree) g.symbol_nodes.items) (heap_blocks image g.table.heap) read.inside in
-    symbols_inside image g.symbol_nodes.items
-    (all_right (λ (b : Block). b.at + b.len ≤ length image) (tree_blocks (kind_in image) (nodes_at image g.table.tree)) (map (symbol_block (leaf_k image)) g.symbol_nodes.items) nodes) node at
+symbol_there : (image : List ℕ) (table : SymbolTable) → IsGroupRead image table → (node : ℕ) → In node (symbol_nodes_told image table) → node + (8 + 80 * leaf_k image) ≤ length image
+symbol_there image table read node at =
+    let nodes = all_left (λ (b : Block). b.at + b.len ≤ length image) (group_nodes_blocks image (nodes_told image table) (symbol_nodes_told image table)) (heap_blocks image table.heap) read.inside in
+    symbols_inside image (symbol_nodes_told image table)
+    (all_right (λ (b : Block). b.at + b.len ≤ length image) (tree_blocks (kind_in image) (nodes_told image table)) (map (symbol_block (leaf_k image)) (symbol_nodes_told image table)) nodes) node at
 
 -- ---- the group is met
 
@@ -134,7 +133,7 @@ module _ (image : List ℕ) (held now : List Block) (followed : List Named) (fie
   all_own [] stands = tt
   all_own (y ∷ ys) stands = (own_of y stands.0, all_own ys stands.1)
 
-  module _ (g : Group) (after : List Block) (gone : IsGroupFollowed image now after (with_header field m.header depth ms followed) first (first + 8) depth g) where
+  module _ (after : List Block) (gone : IsGroupFollowed image now after (with_header field m.header depth ms followed) first (first + 8) depth table) where
     abbrev own_header : Named
     own_header = named field ObjectHeader m.header depth
 
@@ -142,9 +141,9 @@ module _ (image : List ℕ) (held now : List Block) (followed : List Named) (fie
     seam = append_assoc gone.new (header_fields field m.header depth ms) followed
 
     -- its links wait
-    pub group_object_followed : Separate after → ((p : ℕ) → cover p after ≡ cover p now + cover p (blocks_of_group image g)) → IsObjectFollowed image held after followed field (group_object m g depth)
+    pub group_object_followed : Separate after → ((p : ℕ) → cover p after ≡ cover p now + cover p (blocks_told image table)) → IsObjectFollowed image held after followed field depth (group_object m table)
     group_object_followed once stored =
-        let waits = links_wait image g held now after (λ p. omega (arith, done.claimed p)) (with_header field m.header depth ms followed) first (first + 8) depth gone once stored in
+        let waits = links_wait image table held now after (λ p. omega (arith, done.claimed p)) (with_header field m.header depth ms followed) first (first + 8) depth gone once stored in
         record {
           new = gone.new ++ header_fields field m.header depth ms;
           walked = subst (IsWalked image after) (sym seam) gone.walked;
@@ -153,12 +152,18 @@ module _ (image : List ℕ) (held now : List Block) (followed : List Named) (fie
           only = all_append (λ (y : Named). is_header y.role ≡ true → y.at ≡ m.header) gone.new (header_fields field m.header depth ms) (only_inner m.header gone.new gone.inner) (fields_only field m.header depth ms);
           first = contains_in own_header (gone.new ++ header_fields field m.header depth ms) (in_right own_header gone.new (header_fields field m.header depth ms) (inl refl));
           fields = waits.0;
-          waiting = subst (λ (ys : List Named). AreWaiting image held after ys depth (links_of_group image g) waits.0) (sym seam) waits.1;
+          waiting = subst (λ (ys : List Named). AreWaiting image held after ys depth (links_told image table) waits.0) (sym seam) waits.1;
         }
 
     -- a link would stand too deep
-    pub deep_refused : IsGroupRead image g → g.table ≡ table → (address : ℕ) → IsDeepAt image g depth address → IsOpenRefusedAt image TooDeep address
-    deep_refused read same address is =
-        let at : In address g.symbol_nodes.items = in_contains address g.symbol_nodes.items is.node_of in
-        let reached = in_all (AreSymbolsReached image g.table.tree g.table.heap depth) address g.symbol_nodes.items gone.symbols_reached at in
-        (named reached.0 (SymbolNode g.table.tree g.table.heap) address depth, reached.1, refl, (symbol_there image g read address at, (is.deep, is.some)))
+    deep_refused : IsGroupRead image table → (address : ℕ) → IsDeepAt image table depth address → IsOpenRefusedAt image TooDeep address
+    deep_refused read address is =
+        let at : In address (symbol_nodes_told image table) = in_contains address (symbol_nodes_told image table) is.node_of in
+        let reached = in_all (AreSymbolsReached image table.tree table.heap depth) address (symbol_nodes_told image table) gone.symbols_reached at in
+        (named reached.0 (SymbolNode table.tree table.heap) address depth, reached.1, refl, (symbol_there image table read address at, (is.deep, is.some)))
+
+    -- or memory was short
+    pub depth_fault : IsGroupRead image table → (cause : Cause) (address : ℕ) → (cause ≡ NoMemory) ⊎ ((cause ≡ TooDeep) × IsDeepAt image table depth address)
+        → IsOpenRefusedAt image cause address
+    depth_fault read cause address (inl e) = rw e tt
+    depth_fault read cause address (inr (e, is)) = rw e (deep_refused read address is)

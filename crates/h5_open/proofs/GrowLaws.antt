@@ -1,5 +1,5 @@
 -- What stays of the objects that were read when more are read.
-use Rattle.std.proofs.Common.{◌≡◌, ◌⊎◌, inl, inr, ℕ, ◌+◌, List, [], ◌∷◌, ◌++◌, sym, ◌∙◌, ap, subst, append_assoc}
+use Rattle.std.proofs.Common.{◌≡◌, ◌⊎◌, inl, inr, ℕ, zero, suc, ◌+◌, List, [], ◌∷◌, ◌++◌, sym, ◌∙◌, ap, subst, append_assoc}
 use Rattle.std.specs.List.{AllByRecursion, Contains, IsDistinct, flat_map}
 use Rattle.std.specs.Ordering.{nat_cmp, eq_by_cmp}
 use Rattle.std.proofs.lemmas.Grind.{flat_map-append}
@@ -12,20 +12,36 @@ use Rattle.h5_laws.proofs.Lists.{In, contains_in}
 use Rattle.h5_laws.proofs.Pigeonhole.{Apart, apart_of_distinct, distinct_of_apart}
 use Rattle.h5_open.specs.declared.opened.object.OpenedObject.{OpenedObject}
 use Rattle.h5_open.specs.Opened.Objects.{headers, content_links, object_blocks}
-use Rattle.h5_open.specs.Placed.Whole.{IsLed, AreLed, HasParent, AreNamed}
+use Rattle.h5_open.specs.Placed.Whole.{IsLedTo, HasHeight, IsLed, AreLed, HasParent, AreNamed}
 use Rattle.h5_open.proofs.PlaceLaws.{weaken_all}
 
 -- ---- links that lead to objects
 
-pub led_grows : (objects more : List OpenedObject) (depth : ℕ) (link : List ℕ × Target) → IsLed objects depth link → IsLed (objects ++ more) depth link
-led_grows objects more depth (name, Header header) led = (led.0, (led.1.0, Contains-append_left objects more led.1.0 led.1.1, led.1.2, led.1.3))
-led_grows objects more depth (name, Text text) led = led
+-- an object without links is of any height
+pub bare : (image : List ℕ) (objects : List OpenedObject) (height : ℕ) (o : OpenedObject) → content_links image o.content ≡ [] → HasHeight image objects height o
+bare image objects zero o none = none
+bare image objects (suc height) o none = subst (AllByRecursion (IsLed image objects height)) (sym none) tt
 
-pub all_led_grow : (objects more : List OpenedObject) (depth : ℕ) (links : List (List ℕ × Target)) → AllByRecursion (IsLed objects depth) links → AllByRecursion (IsLed (objects ++ more) depth) links
-all_led_grow objects more depth links all = weaken_all (IsLed objects depth) (IsLed (objects ++ more) depth) links (λ link led. led_grows objects more depth link led) all
+led_on : (objects more : List OpenedObject) (P Q : OpenedObject → Type 0) → ((o : OpenedObject) → P o → Q o) → (link : List ℕ × Target)
+    → IsLedTo objects P link → IsLedTo (objects ++ more) Q link
+led_on objects more P Q on (name, Header header) led = (led.0, Contains-append_left objects more led.0 led.1, led.2, on led.0 led.3)
+led_on objects more P Q on (name, Text text) led = tt
+
+pub height_stays : (image : List ℕ) (objects more : List OpenedObject) (height : ℕ) (o : OpenedObject) → HasHeight image objects height o → HasHeight image (objects ++ more) height o
+height_stays image objects more zero o high = high
+height_stays image objects more (suc height) o high =
+    weaken_all (IsLed image objects height) (IsLed image (objects ++ more) height) (content_links image o.content)
+    (led_on objects more (HasHeight image objects height) (HasHeight image (objects ++ more) height) (height_stays image objects more height)) high
+
+pub all_led_grow : (image : List ℕ) (objects more : List OpenedObject) (height : ℕ) (links : List (List ℕ × Target)) → AllByRecursion (IsLed image objects height) links
+    → AllByRecursion (IsLed image (objects ++ more) height) links
+all_led_grow image objects more height links all =
+    weaken_all (IsLed image objects height) (IsLed image (objects ++ more) height) links
+    (led_on objects more (HasHeight image objects height) (HasHeight image (objects ++ more) height) (height_stays image objects more height)) all
 
 pub objects_led_grow : (image : List ℕ) (objects more others : List OpenedObject) → AllByRecursion (AreLed image objects) others → AllByRecursion (AreLed image (objects ++ more)) others
-objects_led_grow image objects more others all = weaken_all (AreLed image objects) (AreLed image (objects ++ more)) others (λ o led. all_led_grow objects more o.depth (content_links image o.content) led) all
+objects_led_grow image objects more others all =
+    weaken_all (AreLed image objects) (AreLed image (objects ++ more)) others (λ o led. (led.0, height_stays image objects more led.0 o led.1)) all
 
 -- ---- one object more
 

@@ -7,6 +7,7 @@ use Rattle.h5_bytes.specs.Blocks.{holds, cover, Separate}
 use Rattle.h5_bytes.specs.Texts.{text_at}
 use Rattle.h5_bytes.specs.declared.Block.{Block}
 use Rattle.h5_bytes.proofs.BlockLaws.{holds_in, cover-append}
+use Rattle.h5_model.specs.Format.Addresses.{SymbolTable}
 use Rattle.h5_model.specs.Format.Superblock.{leaf_k}
 use Rattle.h5_model.specs.Format.Symbols.{Entry, Header, Text, symbol_block, symbol_bytes, symbols_in, symbols_at, link_of}
 use Rattle.h5_model.specs.Format.Nodes.{tree_blocks}
@@ -15,8 +16,7 @@ use Rattle.h5_model.specs.Format.Reached.{Named, entry_in}
 use Rattle.h5_laws.proofs.Lists.{In, contains_in, from_range}
 use Rattle.h5_laws.proofs.Pigeonhole.{Apart}
 use Rattle.h5_group.specs.Nodes.Trees.{kind_in, group_nodes_blocks}
-use Rattle.h5_group.specs.declared.group.Group.{Group}
-use Rattle.h5_group.specs.Links.{links_of_group, blocks_of_group, nodes_at}
+use Rattle.h5_group.specs.Told.{nodes_told, symbol_nodes_told, links_told, blocks_told}
 use Rattle.h5_group.specs.Walk.{IsGroupFollowed, IsHard}
 use Rattle.h5_open.specs.Read.{AreWaiting}
 
@@ -49,16 +49,16 @@ nodes_apart leaf (x ∷ xs) once = (
   nodes_apart leaf xs (λ p. omega (arith, once p)),
 )
 
-module _ (image : List ℕ) (g : Group) (base held now : List Block) (more : (p : ℕ) → cover p base ≤ cover p held) (followed : List Named) (first second depth : ℕ)
-    (is : IsGroupFollowed image held now followed first second depth g) where
+module _ (image : List ℕ) (t : SymbolTable) (base held now : List Block) (more : (p : ℕ) → cover p base ≤ cover p held) (followed : List Named) (first second depth : ℕ)
+    (is : IsGroupFollowed image held now followed first second depth t) where
   abbrev walked : List Named
   walked = is.new ++ followed
 
   abbrev nodes_of : List ℕ
-  nodes_of = g.symbol_nodes.items
+  nodes_of = symbol_nodes_told image t
 
   abbrev segment : List ℕ
-  segment = segment_of image g.table.heap
+  segment = segment_of image t.heap
 
   abbrev count : ℕ → ℕ
   count node = symbols_in (symbol_bytes image (leaf_k image) node)
@@ -67,7 +67,7 @@ module _ (image : List ℕ) (g : Group) (base held now : List Block) (more : (p 
   record IsPlaced (Among : ℕ → ℕ → Type 0) (field : ℕ) : Type 0 where
     pub node : ℕ
     pub i : ℕ
-    pub hard : IsHard image g node i
+    pub hard : IsHard image t node i
     pub is_field : field ≡ node + 16 + 40 * i
     pub among : Among node i
 
@@ -77,7 +77,7 @@ module _ (image : List ℕ) (g : Group) (base held now : List Block) (more : (p 
     pub waiting : AreWaiting image base now walked depth (map (link_of segment) entries) fields
 
   -- another place has another field
-  differ : (node i : ℕ) → IsHard image g node i → (Among : ℕ → ℕ → Type 0) → (Among node i → ⊥) → (fields : List ℕ) → AllByRecursion (IsPlaced Among) fields
+  differ : (node i : ℕ) → IsHard image t node i → (Among : ℕ → ℕ → Type 0) → (Among node i → ⊥) → (fields : List ℕ) → AllByRecursion (IsPlaced Among) fields
       → AllByRecursion (λ (other : ℕ). other ≢ node + 16 + 40 * i) fields
   differ node i hard Among none [] placed = tt
   differ node i hard Among none (f ∷ fields) placed = (
@@ -117,7 +117,7 @@ module _ (image : List ℕ) (g : Group) (base held now : List Block) (more : (p 
         waiting = subst (λ (b : Bool). Waits i places b before.fields) (sym soft) before.waiting;
       }
       go false hard_is =
-          let hard : IsHard image g node i = record { node_of = stands; below = below; hard = λ e. let same : ((entry_in image node i).cache == 2) ≡ true = grind (arith, nat_tests, e) in absurd (cc) } in
+          let hard : IsHard image t node i = record { node_of = stands; below = below; hard = λ e. let same : ((entry_in image node i).cache == 2) ≡ true = grind (arith, nat_tests, e) in absurd (cc) } in
           record {
             fields = (node + 16 + 40 * i) ∷ before.fields;
             placed = (record { node = node; i = i; hard = hard; is_field = refl; among = inl (refl, inl refl) }, widen (Here places) (Here (i ∷ places)) (later i places) before.fields before.placed);
@@ -150,16 +150,16 @@ module _ (image : List ℕ) (g : Group) (base held now : List Block) (more : (p 
         wider n k (inr at) = inr at
 
   -- all links of the group wait
-  pub links_wait : Separate now → ((p : ℕ) → cover p now ≡ cover p held + cover p (blocks_of_group image g))
-      → (fields : List ℕ) × AreWaiting image base now walked depth (links_of_group image g) fields
+  pub links_wait : Separate now → ((p : ℕ) → cover p now ≡ cover p held + cover p (blocks_told image t))
+      → (fields : List ℕ) × AreWaiting image base now walked depth (links_told image t) fields
   links_wait separate claimed =
       let once : (p : ℕ) → cover p (map (symbol_block (leaf_k image)) nodes_of) ≤ 1
       = λ p. omega (
         arith,
         separate p,
         claimed p,
-        cover-append p (group_nodes_blocks image (nodes_at image g.table.tree) nodes_of) (heap_blocks image g.table.heap),
-        cover-append p (tree_blocks (kind_in image) (nodes_at image g.table.tree)) (map (symbol_block (leaf_k image)) nodes_of),
+        cover-append p (group_nodes_blocks image (nodes_told image t) nodes_of) (heap_blocks image t.heap),
+        cover-append p (tree_blocks (kind_in image) (nodes_told image t)) (map (symbol_block (leaf_k image)) nodes_of),
       ) in
       let all = nodes_wait nodes_of (λ n at. contains_in n nodes_of at) (nodes_apart (leaf_k image) nodes_of once) in
       (all.fields, all.waiting)

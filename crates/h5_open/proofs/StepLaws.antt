@@ -15,10 +15,10 @@ use Rattle.h5_group.specs.Links.{lent_link}
 use Rattle.h5_model.specs.declared.link.Link.{Link}
 use Rattle.h5_open.specs.declared.opened.object.OpenedObject.{OpenedObject}
 use Rattle.h5_open.specs.Opened.Objects.{headers, content_links}
-use Rattle.h5_open.specs.Placed.Whole.{IsLed, AreLed}
+use Rattle.h5_open.specs.Placed.Whole.{HasHeight, IsLed, AreLed}
 use Rattle.h5_open.specs.Read.{IsObjectRead, IsObjectFollowed, AreWaiting, IsOwn}
 use Rattle.h5_open.specs.Walk.{IsUnder, IsReady, AreFurtherObjects, IsTreeRead, IsLinkReady, IsLinkRead, IsPartly}
-use Rattle.h5_open.proofs.GrowLaws.{objects_led_grow, all_led_grow}
+use Rattle.h5_open.proofs.GrowLaws.{bare, objects_led_grow, all_led_grow}
 use Rattle.h5_open.proofs.WaitLaws.{still_waiting, all_behind}
 use Rattle.h5_open.proofs.UnderLaws.{object_under, cover_grows}
 
@@ -132,8 +132,8 @@ module _ (image : List ℕ) (base held : List Block) (followed : List Named) (ob
       object = part.object;
       others = part.others ++ got.more;
       header_is = part.header_is;
-      depth_is = part.depth_is;
       top = part.top;
+      shallow = part.shallow;
       links_are = part.links_are;
       grown = far.grown ∙ ap (λ (xs : List OpenedObject). xs ++ got.more) part.grown ∙ append_assoc (objects ++ part.object ∷ []) part.others got.more;
       new = far.new ++ part.new;
@@ -141,8 +141,8 @@ module _ (image : List ℕ) (base held : List Block) (followed : List Named) (ob
       stands = all_append (IsOwn base outer) far.new part.new
           (all_outer image base held now outer turn.field grown turn.free far.new (all_left (IsFollowed image now) far.new (part.new ++ followed) ((far.under).walked).all) far.stands) part.stands;
       led = all_append (AreLed image after) part.others got.more (over (λ (xs : List OpenedObject). AllByRecursion (AreLed image xs) part.others) (objects_led_grow image objects' got.more part.others part.led)) far.led;
-      passed = subst (λ (ls : List (List ℕ × Target)). AllByRecursion (IsLed after depth) ls) (sym (ap (map lent_link) (take_more links k d low) ∙ map-append lent_link (take k links) (get_or links k d ∷ [])))
-          (all_append (IsLed after depth) (map lent_link (take k links)) (link ∷ []) (over (λ (xs : List OpenedObject). AllByRecursion (IsLed xs depth) (map lent_link (take k links))) (all_led_grow objects' got.more depth (map lent_link (take k links)) part.passed)) (got.led, tt));
+      passed = subst (λ (ls : List (List ℕ × Target)). AllByRecursion (IsLed image after (64 - (depth + 1))) ls) (sym (ap (map lent_link) (take_more links k d low) ∙ map-append lent_link (take k links) (get_or links k d ∷ [])))
+          (all_append (IsLed image after (64 - (depth + 1))) (map lent_link (take k links)) (link ∷ []) (over (λ (xs : List OpenedObject). AllByRecursion (IsLed image xs (64 - (depth + 1))) (map lent_link (take k links))) (all_led_grow image objects' got.more (64 - (depth + 1)) (map lent_link (take k links)) part.passed)) (got.led, tt));
       fields = turn.rest;
       waiting = subst (λ (ys : List Named). AreWaiting image base now ys depth later turn.rest) (sym seam)
           (still_waiting image base held now more_claimed (part.new ++ followed) far.new turn.field depth far.stands later turn.rest turn.others turn.waiting);
@@ -152,14 +152,14 @@ module _ (image : List ℕ) (base held : List Block) (followed : List Named) (ob
 
 module _ (image : List ℕ) (held now : List Block) (followed : List Named) (objects : List OpenedObject) (field header depth : ℕ) (ready : IsReady image held followed objects field header depth)
     (new : Contains (headers objects) header → ⊥) (o : OpenedObject) (read : IsObjectRead image held now header depth o) (separate : Separate now)
-    (gone : IsObjectFollowed image held now followed field o) (links : List (Link ℕ)) (links_are : map lent_link links ≡ content_links image o.content) where
+    (gone : IsObjectFollowed image held now followed field depth o) (links : List (Link ℕ)) (links_are : map lent_link links ≡ content_links image o.content) where
   pub begun : (after : List OpenedObject) → after ≡ objects ++ o ∷ [] → IsPartly image held now followed objects after field header depth links 0
   begun after is = record {
     object = o;
     others = [];
     header_is = read.header_is;
-    depth_is = read.depth_is;
     top = read.top;
+    shallow = read.shallow;
     links_are = sym links_are;
     grown = is ∙ sym (append-nil (objects ++ o ∷ []));
     new = gone.new;
@@ -168,27 +168,36 @@ module _ (image : List ℕ) (held now : List Block) (followed : List Named) (obj
     led = tt;
     passed = tt;
     fields = gone.fields;
-    waiting = subst (λ (ls : List (List ℕ × Target)). AreWaiting image held now (gone.new ++ followed) depth ls gone.fields) (sym links_are)
-        (subst (λ (n : ℕ). AreWaiting image held now (gone.new ++ followed) n (content_links image o.content) gone.fields) read.depth_is gone.waiting);
+    waiting = subst (λ (ls : List (List ℕ × Target)). AreWaiting image held now (gone.new ++ followed) depth ls gone.fields) (sym links_are) gone.waiting;
   }
+
+-- links that lead to objects of a height are those of an object that is one higher; none stand at the last level
+higher : (image : List ℕ) (objects : List OpenedObject) (depth : ℕ) (o : OpenedObject) → (1 ≤ length (content_links image o.content) → depth + 1 ≤ 64)
+    → AllByRecursion (IsLed image objects (64 - (depth + 1))) (content_links image o.content) → HasHeight image objects (64 - depth) o
+higher image objects depth o low led = go (content_links image o.content) refl where
+  go : (links : List (List ℕ × Target)) → content_links image o.content ≡ links → HasHeight image objects (64 - depth) o
+  go [] is = bare image objects (64 - depth) o is
+  go (l ∷ links) is =
+      let some : 1 ≤ length (content_links image o.content) = omega (arith, ap length is) in
+      let one : suc (64 - (depth + 1)) ≡ 64 - depth = omega (arith, low some) in
+      subst (λ (h : ℕ). HasHeight image objects h o) one led
 
 pub finished : (image : List ℕ) (held now : List Block) (followed : List Named) (objects after : List OpenedObject) (field header depth : ℕ) (links : List (Link ℕ))
     → IsPartly image held now followed objects after field header depth links (length links) → IsTreeRead image held now followed objects after field header depth
-finished image held now followed objects after field header depth links part = record {
-  object = part.object;
-  others = part.others;
-  header_is = part.header_is;
-  depth_is = part.depth_is;
-  top = part.top;
-  further = record {
-    grown = part.grown ∙ append_assoc objects (part.object ∷ []) part.others;
-    new = part.new;
-    under = part.under;
-    stands = part.stands;
-    led = (
-      subst (λ (n : ℕ). AllByRecursion (IsLed after n) (content_links image part.object.content)) (sym part.depth_is)
-          (subst (AllByRecursion (IsLed after depth)) (ap (map lent_link) (take-length links) ∙ sym part.links_are) part.passed),
-      part.led,
-    );
-  };
-}
+finished image held now followed objects after field header depth links part =
+    let high : HasHeight image after (64 - depth) part.object = higher image after depth part.object part.shallow
+    (subst (AllByRecursion (IsLed image after (64 - (depth + 1)))) (ap (map lent_link) (take-length links) ∙ sym part.links_are) part.passed) in
+    record {
+      object = part.object;
+      others = part.others;
+      header_is = part.header_is;
+      top = part.top;
+      shallow = high;
+      further = record {
+        grown = part.grown ∙ append_assoc objects (part.object ∷ []) part.others;
+        new = part.new;
+        under = part.under;
+        stands = part.stands;
+        led = ((64 - depth, high), part.led);
+      };
+    }

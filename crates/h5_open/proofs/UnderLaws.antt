@@ -50,7 +50,7 @@ inside_push image objects o within inside =
 
 module _ (image : List ℕ) (held now : List Block) (followed : List Named) (objects : List OpenedObject) (field header depth : ℕ) (ready : IsReady image held followed objects field header depth)
     (new : Contains (headers objects) header → ⊥) (o : OpenedObject) (read : IsObjectRead image held now header depth o) (separate : Separate now)
-    (gone : IsObjectFollowed image held now followed field o) where
+    (gone : IsObjectFollowed image held now followed field depth o) where
   abbrev under : IsUnder image held followed objects
   under = ready.under
 
@@ -78,5 +78,5 @@ module _ (image : List ℕ) (held now : List Block) (followed : List Named) (obj
         (λ y only is. subst (Contains (headers (objects ++ o ∷ []))) (sym (only is)) at_header) gone.only)
         (weaken_all (λ (y : Named). is_header y.role ≡ true → Contains (headers objects) y.at) (λ (y : Named). is_header y.role ≡ true → Contains (headers (objects ++ o ∷ [])) y.at) followed still_known under.known);
     named = all_append (IsNamedBy (gone.new ++ followed)) objects (o ∷ []) (weaken_all (IsNamedBy followed) (IsNamedBy (gone.new ++ followed)) objects still_named under.named)
-        ((named field ObjectHeader o.messages.header o.depth, Contains-append_left gone.new followed (named field ObjectHeader o.messages.header o.depth) gone.first, refl, refl), tt);
+        ((named field ObjectHeader o.messages.header depth, Contains-append_left gone.new followed (named field ObjectHeader o.messages.header depth) gone.first, refl, refl), tt);
   }

@@ -71,11 +71,11 @@ whole image held now objects is ends tree =
         is = (tree.further).grown;
         at_root = tree.header_is;
         group = tree.top refl;
-        top = tree.depth_is;
       };
       each = under.each;
       distinct = under.distinct;
       led = subst (AllByRecursion (AreLed image objects)) (sym (tree.further).grown) (tree.further).led;
+      shallow = tree.shallow;
       parents = under.parents;
       apart = λ p. omega (arith, under.covered p, under.separate p);
       within = ((let long = is.whole in omega (arith, long)), under.within);

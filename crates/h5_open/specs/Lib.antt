@@ -10,4 +10,4 @@ pub use Rattle.h5_layout.specs.Told
 pub use Rattle.h5_layout.specs.Layouts
 pub use Rattle.h5_attr.specs.Attributes
 pub use Rattle.h5_group.specs.Links
-pub use Rattle.h5_group.specs.declared.group.Group as GroupType
+pub use Rattle.h5_group.specs.Told as GroupTold

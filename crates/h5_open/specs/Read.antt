@@ -3,6 +3,7 @@ use Rattle.std.specs.Prelude.{◌≡◌, ◌≢◌, ℕ, ◌+◌, ◌-◌, ◌�
 use Rattle.std.specs.List.{AllByRecursion, Contains}
 use Rattle.h5_bytes.specs.Blocks.{cover, Inside}
 use Rattle.h5_bytes.specs.declared.Block.{Block}
+use Rattle.h5_model.specs.Format.Addresses.{SymbolTable}
 use Rattle.h5_model.specs.Format.Messages.{HasMessages}
 use Rattle.h5_model.specs.Format.Reached.{Named, named, ObjectHeader}
 use Rattle.h5_model.specs.Format.Symbols.{Target, Header, Text, symbol_bytes, symbols_in}
@@ -11,7 +12,7 @@ use Rattle.h5_model.specs.Format.Superblock.{leaf_k}
 use Rattle.h5_model.specs.declared.open_fault.Cause.{Cause}
 use Rattle.h5_header.specs.Heads.{is_read}
 use Rattle.h5_header.specs.Listed.{Listed, messages_in, IsWithin}
-use Rattle.h5_group.specs.declared.group.Group.{Group}
+use Rattle.h5_group.specs.Told.{symbol_nodes_told}
 use Rattle.h5_header.specs.Walk.Walked.{IsWalked}
 use Rattle.h5_header.specs.Walk.Met.{IsMet, IsHeaderMet}
 use Rattle.h5_open.specs.declared.opened.object.OpenedObject.{OpenedObject}
@@ -25,7 +26,6 @@ use Rattle.h5_open.specs.Placed.Whole.{IsGroupContent}
 pub record IsObjectRead (image : List ℕ) (held now : List Block) (header depth : ℕ) (o : OpenedObject) : Type 0 where
   pub kept : IsObjectKept image o
   pub header_is : o.messages.header ≡ header
-  pub depth_is : o.depth ≡ depth
   pub top : depth ≡ 0 → IsGroupContent o.content
   pub shallow : 1 ≤ length (content_links image o.content) → depth + 1 ≤ 64
   pub inside : Inside (length image) (object_blocks image o)
@@ -45,14 +45,14 @@ abbrev pub IsOwn : List Block → ℕ → Named → Type 0
 IsOwn held field y = (y.field ≡ field) ⊎ (cover (y.field - 8) held ≡ 0)
 
 -- More fields were followed, of which one names the object's header, and none another. The links of the object wait.
-pub record IsObjectFollowed (image : List ℕ) (held now : List Block) (followed : List Named) (field : ℕ) (o : OpenedObject) : Type 0 where
+pub record IsObjectFollowed (image : List ℕ) (held now : List Block) (followed : List Named) (field depth : ℕ) (o : OpenedObject) : Type 0 where
   pub new : List Named
   pub walked : IsWalked image now (new ++ followed)
   pub stands : AllByRecursion (IsOwn held field) new
   pub only : AllByRecursion (λ (y : Named). is_header y.role ≡ true → y.at ≡ o.messages.header) new
-  pub first : Contains new (named field ObjectHeader o.messages.header o.depth)
+  pub first : Contains new (named field ObjectHeader o.messages.header depth)
   pub fields : List ℕ
-  pub waiting : AreWaiting image held now (new ++ followed) o.depth (content_links image o.content) fields
+  pub waiting : AreWaiting image held now (new ++ followed) depth (content_links image o.content) fields
 
 -- the messages of a header were read
 pub record IsHeaderRead (image : List ℕ) (m : Listed) : Type 0 where
@@ -62,8 +62,8 @@ pub record IsHeaderRead (image : List ℕ) (m : Listed) : Type 0 where
   pub inside : Inside (length image) m.blocks
 
 -- a symbol node of a group at the last level, with a link
-pub record IsDeepAt (image : List ℕ) (g : Group) (depth node : ℕ) : Type 0 where
-  pub node_of : Contains g.symbol_nodes.items node
+pub record IsDeepAt (image : List ℕ) (table : SymbolTable) (depth node : ℕ) : Type 0 where
+  pub node_of : Contains (symbol_nodes_told image table) node
   pub deep : 64 ≤ depth
   pub some : 1 ≤ symbols_in (symbol_bytes image (leaf_k image) node)
 
@@ -78,7 +78,7 @@ pub record IsHeaderDone (image : List ℕ) (held now : List Block) (followed : L
 -- then it has followed the fields of this object, but for its links
 abbrev pub FollowsObject : List ℕ → List Block → List Block → ℕ → ℕ → OpenedObject → Type 0
 FollowsObject image old now header depth o = (followed : List Named) (field : ℕ)
-    → IsHeaderMet image old followed field header depth → IsObjectFollowed image old now followed field o
+    → IsHeaderMet image old followed field header depth → IsObjectFollowed image old now followed field depth o
 
 -- the object is refused
 abbrev pub IsObjectFault : List ℕ → List Block → ℕ → ℕ → Cause → ℕ → Type 0
@@ -95,7 +95,7 @@ IsContentRead image old now m depth o = (held : List Block)
 -- and its fields are followed
 abbrev pub FollowsContent : List ℕ → List Block → List Block → Listed → ℕ → OpenedObject → Type 0
 FollowsContent image old now m depth o = (held : List Block) (followed : List Named) (field : ℕ)
-    → IsHeaderDone image held old followed field depth m → IsObjectFollowed image held now followed field o
+    → IsHeaderDone image held old followed field depth m → IsObjectFollowed image held now followed field depth o
 
 -- or it is refused
 abbrev pub IsContentFault : List ℕ → List Block → Listed → ℕ → Cause → ℕ → Type 0

@@ -1,5 +1,5 @@
 -- How far the walk of opening has come (File Format Specification 3.0, section IV.A).
-use Rattle.std.specs.Prelude.{◌≡◌, ℕ, ◌+◌, ◌^◌, ◌<◌, ◌⊎◌, true, List, [], ◌∷◌, ◌++◌, length, map, take, drop}
+use Rattle.std.specs.Prelude.{◌≡◌, ℕ, ◌+◌, ◌-◌, ◌^◌, ◌<◌, ◌≤◌, ◌⊎◌, true, List, [], ◌∷◌, ◌++◌, length, map, take, drop}
 use Rattle.std.specs.List.{AllByRecursion, Contains, IsDistinct, flat_map}
 use Rattle.std.specs.Ordering.{nat_cmp, eq_by_cmp}
 use Rattle.std.specs.BTreeMap.{BTreeMap}
@@ -17,7 +17,7 @@ use Rattle.h5_open.specs.declared.opened.object.OpenedObject.{OpenedObject}
 use Rattle.h5_open.specs.Opened.Kept.{IsObjectKept, IsIndex}
 use Rattle.h5_open.specs.Opened.NotYet.{IsOpenRefusedAt}
 use Rattle.h5_open.specs.Opened.Objects.{headers, content_links, object_blocks}
-use Rattle.h5_open.specs.Placed.Whole.{IsGroupContent, IsLed, AreLed, HasParent, AreNamed, opened_blocks}
+use Rattle.h5_open.specs.Placed.Whole.{IsGroupContent, HasHeight, IsLed, AreLed, HasParent, AreNamed, opened_blocks}
 use Rattle.h5_open.specs.Read.{IsOwn, AreWaiting}
 
 -- Each object has its number. No two have one header, and headers lie below 2 GiB, so numbers fit.
@@ -62,8 +62,8 @@ pub record IsTreeRead (image : List ℕ) (held now : List Block) (followed : Lis
   pub object : OpenedObject
   pub others : List OpenedObject
   pub header_is : object.messages.header ≡ header
-  pub depth_is : object.depth ≡ depth
   pub top : depth ≡ 0 → IsGroupContent object.content
+  pub shallow : HasHeight image objects' (64 - depth) object
   pub further : AreFurtherObjects image held now followed field objects objects' (object ∷ others)
 
 -- the walk has come to a link of an object so many links below the root
@@ -75,7 +75,7 @@ IsLinkReady image held followed objects field depth (name, Text text) = IsUnder 
 pub record IsLinkRead (image : List ℕ) (held now : List Block) (followed : List Named) (objects objects' : List OpenedObject) (field depth : ℕ) (link : List ℕ × Target) : Type 0 where
   pub more : List OpenedObject
   pub further : AreFurtherObjects image held now followed field objects objects' more
-  pub led : IsLed objects' depth link
+  pub led : IsLed image objects' (64 - (depth + 1)) link
 
 -- ---- steps of the walk
 
@@ -103,14 +103,14 @@ pub record IsPartly (image : List ℕ) (held now : List Block) (followed : List 
   pub object : OpenedObject
   pub others : List OpenedObject
   pub header_is : object.messages.header ≡ header
-  pub depth_is : object.depth ≡ depth
   pub top : depth ≡ 0 → IsGroupContent object.content
+  pub shallow : 1 ≤ length (content_links image object.content) → depth + 1 ≤ 64
   pub links_are : content_links image object.content ≡ map lent_link links
   pub grown : objects' ≡ (objects ++ object ∷ []) ++ others
   pub new : List Named
   pub under : IsUnder image now (new ++ followed) objects'
   pub stands : AllByRecursion (IsOwn held field) new
   pub led : AllByRecursion (AreLed image objects') others
-  pub passed : AllByRecursion (IsLed objects' depth) (map lent_link (take k links))
+  pub passed : AllByRecursion (IsLed image objects' (64 - (depth + 1))) (map lent_link (take k links))
   pub fields : List ℕ
   pub waiting : AreWaiting image held now (new ++ followed) depth (map lent_link (drop k links)) fields

@@ -13,7 +13,7 @@ mod opened;
 mod steps;
 
 pub use h5_attr::{AttrRef, get, list, sorted};
-pub use h5_group::{Group, entries, lookup};
+pub use h5_group::{SymbolTable, entries, lookup};
 pub use h5_layout::{ArrayRef, Dims, Layout, MAX_RANK, known_array};
 pub use numbers::renumber;
 pub use opened::{Opened, OpenedContent, OpenedObject};

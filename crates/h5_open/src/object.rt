@@ -1,7 +1,7 @@
 //! The reading of one object: its header, and its group or the cells of its array (File Format Specification 3.0, sections III and
 //! IV.A).
 
-ghost use Rattle.std.specs.Prelude.{◌≡◌, ℕ, ◌+◌, ◌≤◌, Some, length, map, IfOk, IfErr, OnOk};
+ghost use Rattle.std.specs.Prelude.{◌≡◌, ◌⊎◌, ℕ, ◌+◌, ◌≤◌, Some, length, map, IfOk, IfErr, OnOk};
 ghost use Rattle.h5_bytes.specs.Blocks.{cover, Separate, Inside};
 ghost use Rattle.h5_bytes.specs.declared.Block.{Block};
 ghost use Rattle.h5_model.specs.Format.Layout.{InBlock};
@@ -10,7 +10,8 @@ ghost use Rattle.h5_layout.specs.Layouts.{layout_in};
 ghost use Rattle.h5_header.specs.Kinds.{IsOfGroup, IsOfDataset};
 ghost use Rattle.h5_header.specs.Listed.{messages_in};
 ghost use Rattle.h5_header.specs.Progress.{ClaimBreach};
-ghost use Rattle.h5_group.specs.Links.{IsGroupRead, links_of_group, lent_link};
+ghost use Rattle.h5_group.specs.Links.{IsGroupRead, lent_link};
+ghost use Rattle.h5_group.specs.Told.{links_told};
 ghost use Rattle.h5_open.specs.Opened.Array.{data_blocks};
 ghost use Rattle.h5_open.specs.Opened.Kept.{IsObjectKept};
 ghost use Rattle.h5_open.specs.Opened.Objects.{content_links as object_links};
@@ -18,7 +19,7 @@ ghost use Rattle.h5_open.specs.Read.{IsHeaderRead, IsObjectRead, FollowsObject, 
 
 use crate::judge::{judge_array, judge_group, judge_kind};
 use crate::opened::{OpenedContent, OpenedObject};
-use h5_group::{Group, entries, links_at, read_group};
+use h5_group::{SymbolTable, entries, links_at, read_group, symbol_nodes};
 use h5_header::{Messages, ObjectKind, claim};
 use h5_layout::Layout;
 use h5_model::{Cause, Link, OpenFault};
@@ -55,7 +56,7 @@ pub(crate) fn read_object(
     let messages = h5_header::messages(alloc, image, claims, header)?;
     match judge_kind(image, &messages, depth)? {
         ObjectKind::Group => read_group_object(alloc, image, claims, messages, depth),
-        ObjectKind::Dataset => read_array_object(alloc, image, claims, messages, depth),
+        ObjectKind::Dataset => read_array_object(alloc, image, claims, messages),
     }
 }
 
@@ -82,58 +83,57 @@ fn read_group_object(
         IsContentFault image.now.bytes claims.old.held messages depth fault.cause fault.address) }
 {
     let table = judge_group(alloc, image, &messages)?;
-    let group = read_group(alloc, image, claims, table)?;
-    check_depth(image, &group, depth)?;
+    read_group(alloc, image, claims, table)?;
+    check_depth(alloc, image, table, depth)?;
     Ok(OpenedObject {
         messages,
-        content: OpenedContent::Group(group),
-        depth,
+        content: OpenedContent::Group(table),
     })
 }
 
-/// Reads the array of a dataset's header whose messages were read.
+/// Reads the array of a dataset's header whose messages were read, which is not the root's.
 fn read_array_object(
     alloc: Global,
     image: &Image,
     claims: &mut Claims,
     messages: Messages,
-    depth: u8,
 ) -> Result<OpenedObject, OpenFault>
     requires end { claims.old.end ≡ length image.now.bytes }
     requires header { IsHeaderRead image.now.bytes messages }
     requires separate { Separate claims.old.held }
     requires kind { IsOfDataset (messages_in image.now.bytes messages.list) }
-    requires inner { 1 ≤ depth }
-    ensures read { IfOk result
-        (IsContentRead image.now.bytes claims.old.held claims.new.held messages depth) }
+    ensures read { IfOk result (λ o. (depth : ℕ) → 1 ≤ depth
+        → IsContentRead image.now.bytes claims.old.held claims.new.held messages depth o) }
     ensures separate { OnOk result (Separate claims.new.held) }
     ensures end { claims.new.end ≡ claims.old.end }
-    ensures followed { IfOk result
-        (FollowsContent image.now.bytes claims.old.held claims.new.held messages depth) }
-    ensures refused { IfErr result (λ fault.
-        IsContentFault image.now.bytes claims.old.held messages depth fault.cause fault.address) }
+    ensures followed { IfOk result (λ o. (depth : ℕ)
+        → FollowsContent image.now.bytes claims.old.held claims.new.held messages depth o) }
+    ensures refused { IfErr result (λ fault. (depth : ℕ)
+        → IsContentFault image.now.bytes claims.old.held messages depth fault.cause fault.address) }
 {
     let array = judge_array(alloc, image, &messages)?;
     claim_data(claims, array.layout())?;
     Ok(OpenedObject {
         messages,
         content: OpenedContent::Array,
-        depth,
     })
 }
 
-/// Refuses a group at the last level below the root that has a link, at its first symbol node with one.
-fn check_depth(image: &Image, group: &Group, depth: u8) -> Result<(), OpenFault>
-    requires { IsGroupRead image.now.bytes group.now }
-    ensures shallow { OnOk result (1 ≤ length (links_of_group image.now.bytes group.now) → depth + 1 ≤ 64) }
-    ensures cause { IfErr result (λ fault. fault.cause ≡ Cause.TooDeep) }
-    ensures refused { IfErr result (λ fault. IsDeepAt image.now.bytes group.now depth fault.address) }
+/// Refuses a group at the last level below the root that has a link, at its first symbol node with one; `NoMemory`, at its tree.
+fn check_depth(alloc: Global, image: &Image, table: SymbolTable, depth: u8) -> Result<(), OpenFault>
+    requires { IsGroupRead image.now.bytes table }
+    ensures shallow { OnOk result (1 ≤ length (links_told image.now.bytes table) → depth + 1 ≤ 64) }
+    ensures refused { IfErr result (λ fault. (fault.cause ≡ Cause.NoMemory)
+        ⊎ ((fault.cause ≡ Cause.TooDeep) × IsDeepAt image.now.bytes table depth fault.address)) }
 {
     if depth < LAST {
         return Ok(());
     }
-    for node in &group.symbol_nodes {
-        if links_at(image, group, *node) > 0 {
+    let Ok(nodes) = symbol_nodes(alloc, image, table) else {
+        return Err(fault(Cause::NoMemory, table.tree()));
+    };
+    for node in &nodes {
+        if links_at(image, table, *node) > 0 {
             return Err(fault(Cause::TooDeep, *node));
         }
     }
@@ -170,10 +170,10 @@ pub(crate) fn links_in<'a>(
         map lent_link links.items ≡ object_links image.now.bytes object.now.content) }
     ensures refused { IfErr result (λ fault. fault.cause ≡ Cause.NoMemory) }
 {
-    let OpenedContent::Group(group) = &object.content else {
+    let OpenedContent::Group(table) = &object.content else {
         return Ok(Vec::new(alloc));
     };
-    match entries(alloc, image, group) {
+    match entries(alloc, image, *table) {
         Ok(links) => Ok(links),
         Err(_) => Err(fault(Cause::NoMemory, object.messages.header())),
     }

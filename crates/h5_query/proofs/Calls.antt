@@ -16,14 +16,14 @@ use Rattle.h5_model.specs.declared.edit_fault.EditFault.{EditFault}
 use Rattle.h5_model.specs.declared.edit_fault.EditFault.TheVariants.{NotAGroup, NotADataset, NotFound, NoSuchAttribute}
 use Rattle.h5_header.specs.Listed.{Listed, messages_in}
 use Rattle.h5_open.specs.Attributes.{attributes_of}
-use Rattle.h5_open.specs.GroupType.{Group}
+use Rattle.h5_model.specs.Format.Addresses.{SymbolTable}
 use Rattle.h5_open.specs.Described.{Described, described_dataset}
 use Rattle.h5_open.specs.Told.{array_told}
 use Rattle.h5_open.specs.declared.opened.object.OpenedObject.{OpenedObject}
 use Rattle.h5_open.specs.declared.opened.object.OpenedContent.TheVariants as content
 use Rattle.h5_open.specs.Opened.Kept.{IsOpened}
 use Rattle.h5_open.specs.Opened.Objects.{headers, links_by, content_in, object_in, tree_of}
-use Rattle.h5_open.specs.Links.{links_of_group}
+use Rattle.h5_open.specs.GroupTold.{links_told}
 use Rattle.h5_query.specs.declared.array.StoredArray.{StoredArray}
 use Rattle.h5_query.specs.declared.kind.Kind.{Kind}
 use Rattle.h5_query.specs.declared.kind.Kind.TheVariants as kind
@@ -95,7 +95,7 @@ module _ (image : List ℕ) (objects : List OpenedObject) (numbers : BTreeMap �
 
     -- ---- a group
 
-    module _ (g : Group) (is : object.content ≡ content.Group g) where
+    module _ (g : SymbolTable) (is : object.content ≡ content.Group g) where
       pub group_kind : HasKind T path kind.Group
       group_kind = record { accepted = leads.0; found = rw (leads.1, group_links image objects number object at g is) refl }
 
@@ -103,7 +103,7 @@ module _ (image : List ℕ) (objects : List OpenedObject) (numbers : BTreeMap �
           → attributes.items ≡ entries (attributes_of (messages_in image object.messages.list)) → HasFound T path (found.Group n attributes)
       group_found n same attributes listed = record {
         accepted = leads.0;
-        there = rw leads.1 (same, links_by (headers objects) (links_of_group image g), holds attributes.items listed _ (ap (content_in image (headers objects) (messages_in image object.messages.list)) is));
+        there = rw leads.1 (same, links_by (headers objects) (links_told image g), holds attributes.items listed _ (ap (content_in image (headers objects) (messages_in image object.messages.list)) is));
       }
 
       pub group_names : (names : List (List ℕ)) → names ≡ names_of_group image g → HasLinksNamed T path names

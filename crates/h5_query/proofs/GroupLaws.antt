@@ -6,9 +6,9 @@ use Rattle.std.specs.FinMap.{get, keys, find, get-from_entries}
 use Rattle.h5_model.specs.Format.Symbols.{Target}
 use Rattle.h5_model.specs.Tree.Objects.{Link}
 use Rattle.h5_laws.proofs.Lists.{In, in_contains, contains_in}
-use Rattle.h5_open.specs.Links as group
+use Rattle.h5_open.specs.GroupTold.{links_told}
 use Rattle.h5_open.specs.Links.{IsGroupRead, IsLinkNamed, HasNone, lent_target, lent_link}
-use Rattle.h5_open.specs.GroupType.{Group}
+use Rattle.h5_model.specs.Format.Addresses.{SymbolTable}
 use Rattle.h5_model.specs.declared.link.Link.{Link as LinkOf}
 use Rattle.h5_open.specs.Opened.Objects.{link_to, links_by}
 use Rattle.h5_open.proofs.OpenedLaws.Entries.{get_link, names_ascend, group_entries}
@@ -27,22 +27,22 @@ none_found hs ((x, t) ∷ found) name none =
     ap (λ b. cond b (Some (link_to hs t)) (find (slice_cmp nat_cmp) name (map (λ (l : List ℕ × Target). (l.0, link_to hs l.1)) found))) other
     ∙ none_found hs found name (λ u at. none u (inr at))
 
-module _ (image hs : List ℕ) (g : Group) (read : IsGroupRead image g) where
+module _ (image hs : List ℕ) (g : SymbolTable) (read : IsGroupRead image g) where
   -- the link of a name
-  pub link_named : (name : List ℕ) (l : LinkOf ℕ) → IsLinkNamed image g name l → get (links_by hs (group.links_of_group image g)) name ≡ Some (link_to hs (lent_target l.to))
+  pub link_named : (name : List ℕ) (l : LinkOf ℕ) → IsLinkNamed image g name l → get (links_by hs (links_told image g)) name ≡ Some (link_to hs (lent_target l.to))
   link_named name l is =
-      subst (λ (n : List ℕ). get (links_by hs (group.links_of_group image g)) n ≡ Some (link_to hs (lent_target l.to))) is.1
-      (get_link hs (group.links_of_group image g) (names_ascend image g read) l.name.now (lent_target l.to) (in_contains (lent_link l) (group.links_of_group image g) is.0))
+      subst (λ (n : List ℕ). get (links_by hs (links_told image g)) n ≡ Some (link_to hs (lent_target l.to))) is.1
+      (get_link hs (links_told image g) (names_ascend image g read) l.name.now (lent_target l.to) (in_contains (lent_link l) (links_told image g) is.0))
 
-  pub none_named : (name : List ℕ) → HasNone image g name → get (links_by hs (group.links_of_group image g)) name ≡ None
+  pub none_named : (name : List ℕ) → HasNone image g name → get (links_by hs (links_told image g)) name ≡ None
   none_named name none =
-      get-from_entries nat_list_cmp_total (map (λ (l : List ℕ × Target). (l.0, link_to hs l.1)) (group.links_of_group image g)) name
-      ∙ none_found hs (group.links_of_group image g) name (λ t at. none t (contains_in (name, t) (group.links_of_group image g) at))
+      get-from_entries nat_list_cmp_total (map (λ (l : List ℕ × Target). (l.0, link_to hs l.1)) (links_told image g)) name
+      ∙ none_found hs (links_told image g) name (λ t at. none t (contains_in (name, t) (links_told image g) at))
 
 names_alike : (hs : List ℕ) (found : List (List ℕ × Target)) → map (λ (l : List ℕ × Link). l.0) (map (λ (l : List ℕ × Target). (l.0, link_to hs l.1)) found) ≡ map (λ (l : List ℕ × Target). l.0) found
 names_alike hs [] = refl
 names_alike hs (l ∷ found) = ap (λ (names : List (List ℕ)). l.0 ∷ names) (names_alike hs found)
 
 -- the names of the links, ascending
-pub keys_are : (image hs : List ℕ) (g : Group) → IsGroupRead image g → keys (links_by hs (group.links_of_group image g)) ≡ map (λ (l : List ℕ × Target). l.0) (group.links_of_group image g)
-keys_are image hs g read = ap (λ (es : List (List ℕ × Link)). map (λ (l : List ℕ × Link). l.0) es) (group_entries image hs g read) ∙ names_alike hs (group.links_of_group image g)
+pub keys_are : (image hs : List ℕ) (g : SymbolTable) → IsGroupRead image g → keys (links_by hs (links_told image g)) ≡ map (λ (l : List ℕ × Target). l.0) (links_told image g)
+keys_are image hs g read = ap (λ (es : List (List ℕ × Link)). map (λ (l : List ℕ × Link). l.0) es) (group_entries image hs g read) ∙ names_alike hs (links_told image g)

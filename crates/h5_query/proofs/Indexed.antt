@@ -8,8 +8,8 @@ use Rattle.std.proofs.lemmas.Option.{same_Some, slice_get_within, slice_get-map,
 use Rattle.std.specs.Slice.{IsItemAt}
 use Rattle.std.specs.BTreeMap.{BTreeMap}
 use Rattle.h5_model.specs.Tree.Objects.{Object, links_of, dataset_of, links_in, dataset_in as dataset_by}
-use Rattle.h5_open.specs.Links as group
-use Rattle.h5_open.specs.GroupType.{Group as GroupRead}
+use Rattle.h5_open.specs.GroupTold.{links_told}
+use Rattle.h5_model.specs.Format.Addresses.{SymbolTable}
 use Rattle.h5_open.specs.declared.opened.object.OpenedObject.{OpenedObject}
 use Rattle.h5_open.specs.declared.opened.object.OpenedContent.{OpenedContent}
 use Rattle.h5_open.specs.declared.opened.object.OpenedContent.TheVariants as content
@@ -59,8 +59,8 @@ module _ (image : List ℕ) (objects : List OpenedObject) where
 
   module _ (k : ℕ) (o : OpenedObject) (at : slice_get objects k ≡ Some o) where
     -- a group has it
-    module _ (g : GroupRead) (is : o.content ≡ content.Group g) where
-      pub group_links : links_of (tree_of image objects) k ≡ Some (links_by (headers objects) (group.links_of_group image g))
+    module _ (g : SymbolTable) (is : o.content ≡ content.Group g) where
+      pub group_links : links_of (tree_of image objects) k ≡ Some (links_by (headers objects) (links_told image g))
       group_links =
           ap (option_and_then (λ (x : Object). links_in x.content)) (object_there image objects k o at)
           ∙ ap (λ (c : OpenedContent). links_in (content_in image (headers objects) (messages_in image o.messages.list) c)) is
@@ -90,7 +90,7 @@ number_within objects n h at = omega (arith, slice_get_within (headers objects) 
 
 module _ (image : List ℕ) (objects : List OpenedObject) (numbers : BTreeMap ℕ ℕ) (opened : IsOpened image objects numbers) where
   -- a group was read where it stands
-  pub group_read : (k : ℕ) (o : OpenedObject) → slice_get objects k ≡ Some o → (g : GroupRead) → o.content ≡ content.Group g → IsGroupRead image g
+  pub group_read : (k : ℕ) (o : OpenedObject) → slice_get objects k ≡ Some o → (g : SymbolTable) → o.content ≡ content.Group g → IsGroupRead image g
   group_read k o at g is = (subst (IsContentKept image (messages_in image o.messages.list)) is (object_kept image objects numbers opened k o at).content).2
 
   -- the messages describe an array, whose block is there

@@ -10,8 +10,8 @@ use Rattle.h5_model.specs.Format.Reads.{Placed, IsPlaced, IsSame}
 use Rattle.h5_laws.proofs.Lists.{In, in_all, in_map, from_map}
 use Rattle.h5_laws.proofs.Maps.{entry_of_get, tied_right}
 use Rattle.h5_laws.proofs.Objects.{content_cases}
-use Rattle.h5_open.specs.Links as group
-use Rattle.h5_open.specs.GroupType.{Group as GroupRead}
+use Rattle.h5_open.specs.GroupTold.{links_told}
+use Rattle.h5_model.specs.Format.Addresses.{SymbolTable}
 use Rattle.h5_header.specs.Listed.{messages_in}
 use Rattle.h5_open.specs.declared.opened.object.OpenedObject.{OpenedObject}
 use Rattle.h5_open.specs.declared.opened.object.OpenedContent.TheVariants as content
@@ -26,12 +26,12 @@ has_header table name number (n, Header h) is = (h, is.1)
 has_header table name number (n, Text t) is = absurd is
 
 module _ (image : List ℕ) (objects : List OpenedObject) (numbers : BTreeMap ℕ ℕ) (opened : IsOpened image objects numbers)
-    (k : ℕ) (o : OpenedObject) (at : slice_get objects k ≡ Some o) (g : GroupRead) (is : o.content ≡ content.Group g) where
+    (k : ℕ) (o : OpenedObject) (at : slice_get objects k ≡ Some o) (g : SymbolTable) (is : o.content ≡ content.Group g) where
   abbrev hs : List ℕ
   hs = headers objects
 
   abbrev links : Links
-  links = links_by hs (group.links_of_group image g)
+  links = links_by hs (links_told image g)
 
   -- each link of the group to an object has a header in the table
   in_table : (name : List ℕ) (number : ℕ) → In (name, ToObject number) (entries links) → (h : ℕ) × (get (table_of objects) number ≡ Some h)
@@ -50,11 +50,11 @@ module _ (image : List ℕ) (objects : List OpenedObject) (numbers : BTreeMap �
       ]
 
   -- the header of a link is the one at its number
-  pub led : (name : List ℕ) (header : ℕ) → In (name, Header header) (group.links_of_group image g) → slice_get hs (number_of hs header) ≡ Some header
+  pub led : (name : List ℕ) (header : ℕ) → In (name, Header header) (links_told image g) → slice_get hs (number_of hs header) ≡ Some header
   led name header there =
       let read = group_read image objects numbers opened k o at g is in
       let listed : In (name, ToObject (number_of hs header)) (entries links) =
-      subst (In (name, ToObject (number_of hs header))) (sym (group_entries image hs g read)) (in_map (λ (l : List ℕ × Target). (l.0, link_to hs l.1)) (name, Header header) (group.links_of_group image g) there) in
+      subst (In (name, ToObject (number_of hs header))) (sym (group_entries image hs g read)) (in_map (λ (l : List ℕ × Target). (l.0, link_to hs l.1)) (name, Header header) (links_told image g) there) in
       let found = in_table name (number_of hs header) listed in
       let here : slice_get hs (number_of hs header) ≡ Some found.0 = sym (get_table objects (number_of hs header)) ∙ found.1 in
       here ∙ ap (λ (n : ℕ). Some n) (number_is hs header found.0 here)

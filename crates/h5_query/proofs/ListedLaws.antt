@@ -7,9 +7,9 @@ use Rattle.std.specs.BTreeMap.{BTreeMap}
 use Rattle.h5_model.specs.Format.Symbols.{Target}
 use Rattle.h5_model.specs.Tree.Objects as tree
 use Rattle.h5_laws.proofs.Lists.{In, contains_in}
-use Rattle.h5_open.specs.Links as group
+use Rattle.h5_open.specs.GroupTold.{links_told}
 use Rattle.h5_open.specs.Links.{lent_link}
-use Rattle.h5_open.specs.GroupType.{Group}
+use Rattle.h5_model.specs.Format.Addresses.{SymbolTable}
 use Rattle.h5_model.specs.declared.link.Link.{Link}
 use Rattle.h5_model.specs.declared.object_no.ObjectNo.{ObjectNo}
 use Rattle.h5_model.specs.declared.link.LinkTo.{LinkTo}
@@ -44,14 +44,14 @@ all_led hs [] each = tt
 all_led hs (l ∷ ls) each = (each l (inl refl), all_led hs ls (λ m at. each m (inr at)))
 
 module _ (image : List ℕ) (objects : List OpenedObject) (numbers : BTreeMap ℕ ℕ) (opened : IsOpened image objects numbers) (k : ℕ) (o : OpenedObject)
-    (at : slice_get objects k ≡ Some o) (g : Group) (is : o.content ≡ content.Group g) where
+    (at : slice_get objects k ≡ Some o) (g : SymbolTable) (is : o.content ≡ content.Group g) where
   abbrev hs : List ℕ
   hs = headers objects
 
-  module _ (found : List (Link ℕ)) (all : map lent_link found ≡ group.links_of_group image g) where
-    led_by : (l : Link ℕ) → In (lent_link l) (group.links_of_group image g) → (t : LinkTo ℕ) → l.to ≡ t → IsTargetLed hs t
+  module _ (found : List (Link ℕ)) (all : map lent_link found ≡ links_told image g) where
+    led_by : (l : Link ℕ) → In (lent_link l) (links_told image g) → (t : LinkTo ℕ) → l.to ≡ t → IsTargetLed hs t
     led_by l listed (target.Object header) names =
-        header_contained image objects numbers opened header (header_there image objects numbers opened k o at g is l header (contains_in (lent_link l) (group.links_of_group image g) listed) names)
+        header_contained image objects numbers opened header (header_there image objects numbers opened k o at g is l header (contains_in (lent_link l) (links_told image g) listed) names)
     led_by l listed (target.Soft text) names = tt
 
     -- each link leads to an object's header
@@ -60,7 +60,7 @@ module _ (image : List ℕ) (objects : List OpenedObject) (numbers : BTreeMap �
 
     pub are_links : (links : List (Link ObjectNo)) → map tree_link links ≡ map (in_tree hs) found → AreGroupLinks (tree_of image objects) k links
     are_links links same = (
-      links_by hs (group.links_of_group image g),
+      links_by hs (links_told image g),
       group_links image objects k o at g is,
       same ∙ tree_from hs found ∙ ap (map (λ (l : List ℕ × Target). (l.0, link_to hs l.1))) all
           ∙ sym (group_entries image hs g (group_read image objects numbers opened k o at g is)),

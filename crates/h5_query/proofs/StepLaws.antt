@@ -9,9 +9,9 @@ use Rattle.std.proofs.lemmas.Option.{slice_get_within, get_or_from_slice_get}
 use Rattle.h5_model.specs.Tree.Objects.{Tree, Link, Links, ToObject, Soft, link_in}
 use Rattle.h5_model.specs.Tree.Paths.{NoGroup, locate, missing_before}
 use Rattle.h5_laws.proofs.Lists.{In, in_contains}
-use Rattle.h5_open.specs.Links as group
+use Rattle.h5_open.specs.GroupTold.{links_told}
 use Rattle.h5_open.specs.Links.{IsGroupRead, IsLinkNamed, HasNone, lent_target, lent_link}
-use Rattle.h5_open.specs.GroupType.{Group}
+use Rattle.h5_model.specs.Format.Addresses.{SymbolTable}
 use Rattle.h5_model.specs.declared.link.Link.{Link as LinkOf}
 use Rattle.h5_model.specs.declared.link.LinkTo.{LinkTo}
 use Rattle.h5_model.specs.declared.link.LinkTo.TheVariants as target
@@ -35,11 +35,11 @@ module _ (image : List ℕ) (objects : List OpenedObject) (numbers : BTreeMap �
   hs = headers objects
 
   -- a header that a link names is an object's
-  pub header_there : (k : ℕ) (o : OpenedObject) → slice_get objects k ≡ Some o → (g : Group) → o.content ≡ content.Group g → (l : LinkOf ℕ) (header : ℕ)
-      → Contains (group.links_of_group image g) (lent_link l) → l.to ≡ target.Object header → slice_get hs (number_of hs header) ≡ Some header
+  pub header_there : (k : ℕ) (o : OpenedObject) → slice_get objects k ≡ Some o → (g : SymbolTable) → o.content ≡ content.Group g → (l : LinkOf ℕ) (header : ℕ)
+      → Contains (links_told image g) (lent_link l) → l.to ≡ target.Object header → slice_get hs (number_of hs header) ≡ Some header
   header_there k o at g is l header listed names =
       led image objects numbers opened k o at g is l.name.now header
-      (subst (λ (t : LinkTo ℕ). In (l.name.now, lent_target t) (group.links_of_group image g)) names (in_contains (lent_link l) (group.links_of_group image g) listed))
+      (subst (λ (t : LinkTo ℕ). In (l.name.now, lent_target t) (links_told image g)) names (in_contains (lent_link l) (links_told image g) listed))
 
   pub header_contained : (header : ℕ) → slice_get hs (number_of hs header) ≡ Some header → Contains hs header
   header_contained header at =
@@ -58,12 +58,12 @@ module _ (image : List ℕ) (objects : List OpenedObject) (numbers : BTreeMap �
     pub no_group : object.now.content ≡ content.Array → (name : List ℕ) (names : List (List ℕ)) → locate T (link_at from) (name ∷ names) ≡ NoGroup
     no_group array name names = begins (name ∷ names) ∙ locate-no_group T number name names (array_no_group image objects number object.now at array)
 
-    module _ (g : Group) (grouped : object.now.content ≡ content.Group g) where
+    module _ (g : SymbolTable) (grouped : object.now.content ≡ content.Group g) where
       pub read : IsGroupRead image g
       read = group_read image objects numbers opened number object.now at g grouped
 
       abbrev links : Links
-      links = links_by hs (group.links_of_group image g)
+      links = links_by hs (links_told image g)
 
       pub no_name : (name : List ℕ) → HasNone image g name → (names : List (List ℕ)) → locate T (link_at from) (name ∷ names) ≡ missing_before names
       no_name name none names =

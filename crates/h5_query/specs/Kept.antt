@@ -12,8 +12,8 @@ use Rattle.h5_model.specs.declared.edit_fault.EditFault.{EditFault}
 use Rattle.h5_bytes.specs.Blocks.{Inside}
 use Rattle.h5_open.specs.Stored.{IsUnchunked}
 use Rattle.h5_open.specs.Told.{array_told, layout_told}
-use Rattle.h5_open.specs.Links.{links_of_group}
-use Rattle.h5_open.specs.GroupType.{Group}
+use Rattle.h5_open.specs.GroupTold.{links_told}
+use Rattle.h5_model.specs.Format.Addresses.{SymbolTable}
 use Rattle.h5_model.specs.declared.link.Link.{Link}
 use Rattle.h5_open.specs.Opened.Array.{data_blocks}
 use Rattle.h5_open.specs.Opened.Judged.{IsArrayList}
@@ -51,8 +51,8 @@ abbrev pub IsNoArrayThere : Tree → List ℕ → EditFault → Type 0
 IsNoArrayThere tree path e = first_holding (dataset_rules tree path) ≡ Some e
 
 -- the names of a group's links, and of one that was lent
-abbrev pub names_of_group : List ℕ → Group → List (List ℕ)
-names_of_group image g = map (λ (l : List ℕ × Target). l.0) (links_of_group image g)
+abbrev pub names_of_group : List ℕ → SymbolTable → List (List ℕ)
+names_of_group image table = map (λ (l : List ℕ × Target). l.0) (links_told image table)
 
 abbrev pub name_of : Link ℕ → List ℕ
 name_of l = l.name.now

@@ -13,5 +13,5 @@ pub use Rattle.h5_open.specs.declared.opened.object.OpenedObject as OpenedObject
 pub use Rattle.h5_open.specs.Renumbered
 pub use Rattle.h5_open.specs.declared.opened.object.OpenedContent as OpenedContentType
 pub use Rattle.h5_open.specs.Stored
-pub use Rattle.h5_open.specs.GroupType
+pub use Rattle.h5_open.specs.GroupTold
 pub use Rattle.h5_open.specs.Attributes

@@ -30,10 +30,10 @@ pub fn links_of<'a>(
     let Some(object) = opened.objects.get(number.0 as usize) else {
         return Ok(None);
     };
-    let OpenedContent::Group(group) = &object.content else {
+    let OpenedContent::Group(table) = &object.content else {
         return Ok(None);
     };
-    let found = entries(alloc, image, group)?;
+    let found = entries(alloc, image, *table)?;
     Ok(Some(tree_links(alloc, image, opened, &found)?))
 }
 

@@ -20,8 +20,8 @@ pub use cells::one_cell;
 pub use found::{Found, found_at};
 pub use group::{links_of, tree_links};
 pub use h5_open::{
-    ArrayRef, AttrRef, Dims, Group, Layout, MAX_RANK, Opened, OpenedContent, OpenedObject, entries,
-    get, known_array, renumber, sorted, walk,
+    ArrayRef, AttrRef, Dims, Layout, MAX_RANK, Opened, OpenedContent, OpenedObject, SymbolTable,
+    entries, get, known_array, renumber, sorted, walk,
 };
 pub use kind::{Kind, StoreKind};
 pub use links::{kind_at, names_at};

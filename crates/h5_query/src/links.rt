@@ -17,7 +17,7 @@ use crate::kind::{Kind, StoreKind};
 use crate::place::{Place, look};
 use h5_model::{EditFault, Link};
 use h5_open::{
-    ArrayRef, Dims, Group, Layout, MAX_RANK, Opened, OpenedContent, entries, known_array,
+    ArrayRef, Dims, Layout, MAX_RANK, Opened, OpenedContent, SymbolTable, entries, known_array,
 };
 use h5_space::Image;
 use std::alloc::{AllocError, Global};
@@ -112,10 +112,10 @@ pub fn names_at<'a>(
     let Place::Object { object, .. } = look(image, opened, path)? else {
         return Err(EditFault::NotAGroup);
     };
-    let OpenedContent::Group(group) = &object.content else {
+    let OpenedContent::Group(table) = &object.content else {
         return Err(EditFault::NotAGroup);
     };
-    match link_names(alloc, image, group) {
+    match link_names(alloc, image, *table) {
         Ok(names) => Ok(names),
         Err(_) => Err(EditFault::NoMemory),
     }
@@ -125,13 +125,13 @@ pub fn names_at<'a>(
 fn link_names<'a>(
     alloc: Global,
     image: &'a Image,
-    group: &Group,
+    table: SymbolTable,
 ) -> Result<Vec<&'a [u8]>, AllocError>
-    requires { IsGroupRead image.now.bytes group.now }
+    requires { IsGroupRead image.now.bytes table }
     ensures { IfOk result (λ names.
-        map (λ name. name.now) names.items ≡ names_of_group image.now.bytes group.now) }
+        map (λ name. name.now) names.items ≡ names_of_group image.now.bytes table) }
 {
-    let links = entries(alloc, image, group)?;
+    let links = entries(alloc, image, table)?;
     names_of_links(alloc, &links)
 }
 

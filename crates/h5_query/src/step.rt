@@ -39,10 +39,10 @@ pub(crate) fn follow_name<'a>(
     let Place::Object { number, object } = from else {
         return Step::NoGroup;
     };
-    let OpenedContent::Group(group) = &object.content else {
+    let OpenedContent::Group(table) = &object.content else {
         return Step::NoGroup;
     };
-    let Some(link) = lookup(image, group, name) else {
+    let Some(link) = lookup(image, *table, name) else {
         return Step::Missing { parent: number };
     };
     match link.to {

@@ -11,7 +11,7 @@ use Rattle.h5_btree.specs.Walk.Stands.{IsNodeAt}
 use Rattle.h5_btree.specs.Walk.Below.{IsBottom}
 
 module _ (image : List ℕ) (form : TreeForm) where
-  each_node : (nodes : List ℕ) → AllByRecursion (λ at. IsNode (kind_of image form) (node_bytes image (kind_of image form) at)) nodes
+  pub each_node : (nodes : List ℕ) → AllByRecursion (λ at. IsNode (kind_of image form) (node_bytes image (kind_of image form) at)) nodes
       → Inside (length image) (tree_blocks (kind_of image form) nodes) → AllByRecursion (IsNodeAt image form) nodes
   each_node [] formed inside = tt
   each_node (at ∷ rest) formed inside = (record { formed = formed.0; inside = inside.0 }, each_node rest formed.1 inside.1)

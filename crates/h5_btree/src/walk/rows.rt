@@ -1,6 +1,6 @@
 //! The rows of a tree (File Format Specification 3.0, section III.A.1).
 
-ghost use Rattle.std.specs.Prelude.{◌≡◌, ◌++◌, ◌∷◌, [], ℕ, ◌⊎◌, List, ◌+◌, ◌<◌, length, drop, IfOk, IfErr, OnOk};
+ghost use Rattle.std.specs.Prelude.{◌≡◌, ◌++◌, ◌∷◌, [], ℕ, ◌⊎◌, List, ◌+◌, ◌<◌, ◌≤◌, length, drop, IfOk, IfErr, OnOk};
 ghost use Rattle.std.specs.List.{AllByRecursion};
 ghost use Rattle.h5_bytes.specs.Bytes.{undefined};
 ghost use Rattle.h5_model.specs.Format.Superblock.{IsSuperblock};
@@ -9,6 +9,7 @@ ghost use Rattle.h5_model.specs.Faults.TreeFaults.{SiblingBreach};
 ghost use Rattle.h5_btree.specs.Walk.Forms.{kind_of};
 ghost use Rattle.h5_btree.specs.Walk.Below.{reading_in, IsStanding};
 ghost use Rattle.h5_btree.specs.Walk.Rows.{AreAllRows, IsLevel, IsMisnamed};
+ghost use Rattle.h5_btree.specs.Walk.Stands.{IsTreeAt, leaves_at};
 
 use crate::node::Node;
 use crate::walk::leaves::Leaves;
@@ -97,6 +98,31 @@ fn right_of(row: &[u64], k: usize) -> u64
     UNDEF
 }
 
+/// The leaves of a tree that was read before, from left to right.
+///
+/// Goes down from its root row by row, and takes memory for a row and the one below it.
+pub fn tree_leaves<L: Leaves>(
+    alloc: Global,
+    image: &Image,
+    over: &L,
+    root: u64,
+) -> Result<Vec<u64>, AllocError>
+    requires long { 20 ≤ length image.now.bytes }
+    requires there { IsTreeAt image.now.bytes (L.form over.now) root }
+    ensures { IfOk result (λ found. found.items ≡ leaves_at image.now.bytes (L.form over.now) root) }
+{
+    let mut row = Vec::new(alloc);
+    row.push(root)?;
+    let mut height = tree_node(image, over, root).level();
+    loop {
+        row = children_of(alloc, image, over, &row)?;
+        if height == 0 {
+            return Ok(row);
+        }
+        height -= 1;
+    }
+}
+
 /// The children of a row, in order: the next row.
 fn children_of<L: Leaves>(
     alloc: Global,
@@ -104,7 +130,7 @@ fn children_of<L: Leaves>(
     over: &L,
     row: &[u64],
 ) -> Result<Vec<u64>, AllocError>
-    requires superblock { IsSuperblock image.now.bytes }
+    requires long { 20 ≤ length image.now.bytes }
     requires stand { (level : ℕ)
         × AllByRecursion (IsStanding image.now.bytes (L.form over.now) level) row.now }
     ensures { IfOk result (λ next.

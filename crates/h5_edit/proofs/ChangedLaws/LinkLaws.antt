@@ -10,9 +10,9 @@ use Rattle.std.specs.FinMap.{get, entries, insert, find, put, get-entries, entri
 use Rattle.std.specs.FinMap.Entries.{by_order}
 use Rattle.h5_model.specs.Format.Symbols.{Target}
 use Rattle.h5_model.specs.Tree.Objects.{Link, Links}
-use Rattle.h5_query.specs.Links as group
+use Rattle.h5_query.specs.GroupTold.{links_told}
 use Rattle.h5_query.specs.Links.{IsGroupRead, lent_link}
-use Rattle.h5_query.specs.GroupType.{Group}
+use Rattle.h5_model.specs.Format.Addresses.{SymbolTable}
 use Rattle.h5_model.specs.declared.object_no.ObjectNo.{ObjectNo}
 use Rattle.h5_model.specs.declared.link.Link.{Link as LinkOf}
 use Rattle.h5_query.specs.Opened.Objects.{link_to, links_by}
@@ -25,10 +25,10 @@ use Rattle.h5_edit.proofs.ChangedLaws.MergedLaws.{StandBelow, place_before}
 
 -- ---- the links of a group that was read
 
-module _ (image hs : List ℕ) (g : Group) (read : IsGroupRead image g) (found : List (LinkOf ℕ)) (all : map lent_link found ≡ group.links_of_group image g)
+module _ (image hs : List ℕ) (g : SymbolTable) (read : IsGroupRead image g) (found : List (LinkOf ℕ)) (all : map lent_link found ≡ links_told image g)
     (links : List (LinkOf ObjectNo)) (same : map tree_link links ≡ map (in_tree hs) found) where
   abbrev here : Links
-  here = links_by hs (group.links_of_group image g)
+  here = links_by hs (links_told image g)
 
   -- they are the entries of the group
   pub links_are : map tree_link links ≡ entries here

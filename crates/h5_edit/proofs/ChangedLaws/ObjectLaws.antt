@@ -9,9 +9,9 @@ use Rattle.std.specs.Cmp.Lexicographic.{slice_cmp}
 use Rattle.std.specs.FinMap.{empty}
 use Rattle.std.specs.BTreeMap.{BTreeMap}
 use Rattle.h5_header.specs.Listed.{messages_in}
-use Rattle.h5_query.specs.Links as group
+use Rattle.h5_query.specs.GroupTold.{links_told}
 use Rattle.h5_query.specs.Links.{IsGroupRead, lent_link}
-use Rattle.h5_query.specs.GroupType.{Group}
+use Rattle.h5_model.specs.Format.Addresses.{SymbolTable}
 use Rattle.h5_model.specs.declared.object_no.ObjectNo.{ObjectNo}
 use Rattle.h5_model.specs.declared.link.Link.{Link as LinkOf}
 use Rattle.h5_query.specs.Listed.{IsLinkLed}
@@ -51,12 +51,12 @@ module _ (image : List ℕ) (objects : List OpenedObject) (numbers : BTreeMap �
   pub header_kept : IsHeaderKept image o.messages
   header_kept = kept.header
 
-  module _ (g : Group) (is : o.content ≡ content.Group g) where
+  module _ (g : SymbolTable) (is : o.content ≡ content.Group g) where
     pub read : IsGroupRead image g
     read = (subst (IsContentKept image ms) is kept.content).2
 
     -- each link leads to an object's header
-    pub led : (found : List (LinkOf ℕ)) → map lent_link found ≡ group.links_of_group image g → AllByRecursion (IsLinkLed (headers objects)) found
+    pub led : (found : List (LinkOf ℕ)) → map lent_link found ≡ links_told image g → AllByRecursion (IsLinkLed (headers objects)) found
     led found all = found_led image objects numbers opened there.0 o there.1 g is found all
 
 -- ---- new objects

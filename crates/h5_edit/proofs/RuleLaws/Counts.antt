@@ -14,7 +14,7 @@ use Rattle.h5_laws.proofs.Lists.{In, in_all, from_map}
 use Rattle.h5_laws.proofs.Maps.{entry_of_get}
 use Rattle.h5_header.specs.Listed.{messages_in}
 use Rattle.h5_header.proofs.WalkLaws.ListLaws.{prefix_there}
-use Rattle.h5_query.specs.GroupType.{Group}
+use Rattle.h5_model.specs.Format.Addresses.{SymbolTable}
 use Rattle.h5_query.specs.OpenedObjectType.{OpenedObject}
 use Rattle.h5_query.specs.OpenedContentType.TheVariants as content
 use Rattle.h5_query.specs.Opened.Kept.{IsOpened}
@@ -48,7 +48,7 @@ module _ (image : List ℕ) (objects : List OpenedObject) (numbers : BTreeMap �
       prefix_there image o.messages.header (messages_in image o.messages.list) o.messages.blocks header.has header.inside
 
   -- a group is no target
-  pub group_target : (g : Group) → o.content ≡ content.Group g → first_holding (target_rules T number) ≡ Some fault.GroupLink
+  pub group_target : (g : SymbolTable) → o.content ≡ content.Group g → first_holding (target_rules T number) ≡ Some fault.GroupLink
   group_target g is = rw (group_links image objects number o at g is) refl
 
   module _ (is : o.content ≡ content.Array) where

@@ -5,7 +5,8 @@ ghost use Rattle.std.specs.List.{AllByRecursion, Contains};
 ghost use Rattle.std.specs.FinMap.{entries as entries_of, find, put};
 ghost use Rattle.std.specs.Ordering.{nat_cmp};
 ghost use Rattle.std.specs.Cmp.Lexicographic.{slice_cmp};
-ghost use Rattle.h5_query.specs.Links.{IsGroupRead, lent_link, links_of_group};
+ghost use Rattle.h5_query.specs.Links.{IsGroupRead, lent_link};
+ghost use Rattle.h5_query.specs.GroupTold.{links_told};
 ghost use Rattle.h5_model.specs.declared.link.Link.{Link};
 ghost use Rattle.h5_query.specs.Opened.Kept.{IsOpened, IsIndex};
 ghost use Rattle.h5_query.specs.Opened.Objects.{headers, links_by};
@@ -15,7 +16,7 @@ ghost use Rattle.h5_edit.specs.Changed.Appended.{IsPlaceOf};
 ghost use Rattle.h5_edit.specs.Changed.Edited.{IsFreshIn, links_with};
 
 use h5_model::{Link, ObjectNo};
-use h5_query::{Group, Opened, entries, tree_links};
+use h5_query::{Opened, SymbolTable, entries, tree_links};
 use h5_space::Image;
 use std::alloc::{AllocError, Global};
 use std::cmp::Ordering;
@@ -27,21 +28,21 @@ pub(crate) fn links_in<'a>(
     alloc: Global,
     image: &'a Image,
     opened: &Opened,
-    group: &Group,
+    table: SymbolTable,
     new: Option<Link<'a, ObjectNo>>,
 ) -> Result<Vec<Link<'a, ObjectNo>>, AllocError>
     requires opened { IsOpened image.now.bytes opened.now.objects.items opened.now.numbers }
-    requires read { IsGroupRead image.now.bytes group.now }
-    requires led { (found : List (Link ℕ)) → map lent_link found ≡ links_of_group image.now.bytes group.now
+    requires read { IsGroupRead image.now.bytes table }
+    requires led { (found : List (Link ℕ)) → map lent_link found ≡ links_told image.now.bytes table
         → AllByRecursion (IsLinkLed (headers opened.now.objects.items)) found }
     requires fresh { IsFreshIn new
-        (links_by (headers opened.now.objects.items) (links_of_group image.now.bytes group.now)) }
+        (links_by (headers opened.now.objects.items) (links_told image.now.bytes table)) }
     ensures { IfOk result (λ links. map tree_link links.items
         ≡ entries_of
         (links_with new.entry
-        (links_by (headers opened.now.objects.items) (links_of_group image.now.bytes group.now)))) }
+        (links_by (headers opened.now.objects.items) (links_told image.now.bytes table)))) }
 {
-    let found = entries(alloc, image, group)?;
+    let found = entries(alloc, image, table)?;
     let mut links = tree_links(alloc, image, opened, &found)?;
     if let Some(link) = new {
         insert_link(&mut links, link)?;

@@ -68,8 +68,8 @@ fn edited_object<'a>(
 {
     let others = others_in(alloc, image, &object.messages, edit)?;
     let content = match &object.content {
-        OpenedContent::Group(group) => {
-            NewContent::Group(links_in(alloc, image, opened, group, link_in(edit))?)
+        OpenedContent::Group(table) => {
+            NewContent::Group(links_in(alloc, image, opened, *table, link_in(edit))?)
         }
         OpenedContent::Array => kept_array(alloc, image, &object.messages),
     };

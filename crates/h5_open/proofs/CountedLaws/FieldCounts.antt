@@ -14,8 +14,8 @@ use Rattle.h5_model.specs.Format.Superblock.{root_header}
 use Rattle.h5_model.specs.Faults.TreeFaults.{all_entries}
 use Rattle.h5_model.proofs.OneReading.{one_messages}
 use Rattle.h5_header.specs.Listed.{messages_in}
-use Rattle.h5_group.specs.declared.group.Group.{Group}
-use Rattle.h5_group.specs.Links as group
+use Rattle.h5_group.specs.Told.{links_told, blocks_told, symbol_nodes_told}
+use Rattle.h5_group.proofs.ToldLaws.{symbol_nodes_are_told}
 use Rattle.h5_open.specs.declared.opened.object.OpenedObject.{OpenedObject}
 use Rattle.h5_open.specs.declared.opened.object.OpenedContent.{OpenedContent}
 use Rattle.h5_open.specs.declared.opened.object.OpenedContent.TheVariants as content
@@ -37,17 +37,17 @@ leading_aimed h ((name, Text t) ∷ ls) = omega (arith, leading_aimed h ls)
 
 module _ (image : List ℕ) (h : ℕ) where
   -- those of a group
-  group_count : (ms : List Message) (g : Group) → IsContentKept image ms (content.Group g) → linking h (fields.object_links image ms) ≡ leading h (group.links_of_group image g)
-  group_count ms g kept =
-      let first = said_first symbol_table_of 17 ms g.table kept.1 in
-      let nodes = g.symbol_nodes.items in
+  group_count : (ms : List Message) (t : SymbolTable) → IsContentKept image ms (content.Group t) → linking h (fields.object_links image ms) ≡ leading h (links_told image t)
+  group_count ms t kept =
+      let first = said_first symbol_table_of 17 ms t kept.1 in
+      let nodes = symbol_nodes_told image t in
       let links : fields.object_links image ms ≡ flat_map (node_links image) nodes
-      = table_links image ms first.0 g.table (group.links_of_group image g) (group.blocks_of_group image g) first.1 first.2 kept.2.linked ∙ ap (flat_map (node_links image)) kept.2.symbols_are in
-      ap (linking h) links ∙ nodes_count image h nodes ∙ sym (aimed_entries (segment_of image g.table.heap) h (all_entries image nodes)) ∙ sym (leading_aimed h (group.links_of_group image g))
+      = table_links image ms first.0 t (links_told image t) (blocks_told image t) first.1 first.2 kept.2.linked ∙ ap (flat_map (node_links image)) (symbol_nodes_are_told image t (links_told image t) (blocks_told image t) kept.2.linked) in
+      ap (linking h) links ∙ nodes_count image h nodes ∙ sym (aimed_entries (segment_of image t.heap) h (all_entries image nodes)) ∙ sym (leading_aimed h (links_told image t))
 
   -- those of an object
   content_count : (ms : List Message) (c : OpenedContent) → IsContentKept image ms c → linking h (fields.object_links image ms) ≡ leading h (content_links image c)
-  content_count ms (content.Group g) kept = group_count ms g kept
+  content_count ms (content.Group t) kept = group_count ms t kept
   content_count ms content.Array kept =
       let none : find (λ (m : Message). m.kind == 17) ms ≡ None
       = find_none 17 ms (λ m at is. absurd (omega (arith, counted 17 ms m at is, kept.0.kinds.no_table))) in

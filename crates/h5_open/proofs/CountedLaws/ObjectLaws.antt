@@ -34,7 +34,7 @@ use Rattle.h5_open.proofs.CountedLaws.FieldCounts.{fields_count}
 
 -- a group of the tree is a group that was read
 is_group_content : (image at : List ℕ) (ms : List Message) (c : OpenedContent) → IsGroup (content_in image at ms c) → IsGroupContent c
-is_group_content image at ms (content.Group g) is = tt
+is_group_content image at ms (content.Group t) is = tt
 is_group_content image at ms content.Array is = is
 
 -- of two different fields one is not this
@@ -58,9 +58,9 @@ table_met : (image : List ℕ) (o : OpenedObject) → IsObjectKept image o → I
 table_met image o kept is = go o.content is kept.content where
   go : (c : OpenedContent) → IsGroupContent c → IsContentKept image (messages_in image o.messages.list) c → SomeMessage image o.messages.header (λ kind. kind == 17)
   go content.Array never of = absurd never
-  go (content.Group g) group of =
+  go (content.Group t) group of =
       let ms = messages_in image o.messages.list in
-      let first = said_first symbol_table_of 17 ms g.table of.1 in
+      let first = said_first symbol_table_of 17 ms t of.1 in
       let m = find_in 17 ms first.0 first.1 in
       let met = message_met image o.messages.header ms o.messages.blocks kept.header.has kept.header.inside first.0 m.0 in
       let is_table : kind_at image met.at ≡ 17 = met.kind ∙ m.1 in

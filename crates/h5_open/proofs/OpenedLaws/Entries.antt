@@ -5,12 +5,12 @@ use Rattle.std.specs.Ordering.{nat_cmp}
 use Rattle.std.specs.Cmp.Lexicographic.{slice_cmp, nat_list_cmp_total}
 use Rattle.std.specs.FinMap.{get, entries, is_sorted, get-entries}
 use Rattle.std.specs.FinMap.Entries.{below_all}
+use Rattle.h5_model.specs.Format.Addresses.{SymbolTable}
 use Rattle.h5_model.specs.Format.Symbols.{Target}
 use Rattle.h5_model.specs.Format.Links.{Before, Ascend}
 use Rattle.h5_model.specs.Tree.Objects.{Link}
-use Rattle.h5_group.specs.Links as group
+use Rattle.h5_group.specs.Told.{links_told}
 use Rattle.h5_group.specs.Links.{IsGroupRead}
-use Rattle.h5_group.specs.declared.group.Group.{Group}
 use Rattle.h5_open.specs.declared.opened.object.OpenedObject.{OpenedObject}
 use Rattle.h5_open.specs.Opened.Objects.{headers, numbered, link_to, links_by, object_in, table_of, tree_of}
 use Rattle.h5_laws.proofs.Lists.{In, in_map, from_map}
@@ -67,9 +67,9 @@ link_got at found rise name link is =
 
 -- ---- groups that were read
 
-pub names_ascend : (image : List ℕ) (g : Group) → IsGroupRead image g → Ascend (group.links_of_group image g)
-names_ascend image g read = ((read.linked).listed).ascending
+pub names_ascend : (image : List ℕ) (t : SymbolTable) → IsGroupRead image t → Ascend (links_told image t)
+names_ascend image t read = ((read.linked).listed).ascending
 
-pub group_entries : (image at : List ℕ) (g : Group) → IsGroupRead image g
-    → entries (links_by at (group.links_of_group image g)) ≡ map (λ (l : List ℕ × Target). (l.0, link_to at l.1)) (group.links_of_group image g)
-group_entries image at g read = link_entries at (group.links_of_group image g) (names_ascend image g read)
+pub group_entries : (image at : List ℕ) (t : SymbolTable) → IsGroupRead image t
+    → entries (links_by at (links_told image t)) ≡ map (λ (l : List ℕ × Target). (l.0, link_to at l.1)) (links_told image t)
+group_entries image at t read = link_entries at (links_told image t) (names_ascend image t read)

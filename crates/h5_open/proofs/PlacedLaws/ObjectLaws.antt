@@ -1,5 +1,5 @@
 -- Each object that was read is the one that a reading of the image places at its header.
-use Rattle.std.proofs.Common.{◌≡◌, ℕ, ◌+◌, List, [], ◌∷◌, refl, sym, ap, ◌∙◌, subst, Option, Some, None}
+use Rattle.std.proofs.Common.{◌≡◌, ℕ, zero, suc, ◌+◌, List, [], ◌∷◌, refl, sym, ap, ◌∙◌, subst, Option, Some, None}
 use Rattle.std.specs.Prelude.{map, option_map, IsTrue}
 use Rattle.std.specs.List.{AllByRecursion, AllZip, IsDistinct}
 use Rattle.std.specs.Ordering.{nat_cmp, eq_by_cmp}
@@ -17,7 +17,7 @@ use Rattle.h5_header.specs.declared.message.Message.{Message as Stood}
 use Rattle.h5_layout.specs.Told.{array_told}
 use Rattle.h5_layout.proofs.ArrayLaws.{has_dataset}
 use Rattle.h5_layout.proofs.KnownLaws.{known_in}
-use Rattle.h5_group.specs.Links as group
+use Rattle.h5_group.specs.Told.{links_told}
 use Rattle.h5_open.specs.declared.opened.object.OpenedObject.{OpenedObject}
 use Rattle.h5_open.specs.declared.opened.object.OpenedContent.{OpenedContent}
 use Rattle.h5_open.specs.declared.opened.object.OpenedContent.TheVariants as content
@@ -25,7 +25,7 @@ use Rattle.h5_open.specs.Opened.Array.{data_blocks}
 use Rattle.h5_open.specs.Opened.Kept.{IsObjectKept, IsContentKept}
 use Rattle.h5_open.specs.Opened.Objects.{headers, number_of, content_links, link_to, content_in, content_blocks, object_in, object_blocks, table_of}
 use Rattle.h5_laws.proofs.Lists.{In, in_contains}
-use Rattle.h5_open.specs.Placed.Whole.{IsLed, AreLed, placed_from}
+use Rattle.h5_open.specs.Placed.Whole.{IsLedTo, HasHeight, AreLed, placed_from}
 use Rattle.h5_open.proofs.OpenedLaws.Entries.{get_table, group_entries}
 use Rattle.h5_open.proofs.PlacedLaws.Places.{at_number}
 use Rattle.h5_open.proofs.PlacedLaws.GroupMessages.{group_known}
@@ -45,31 +45,35 @@ module _ (image : List ℕ) (objects : List OpenedObject) (distinct : IsDistinct
       ∙ slice_get-map (λ (x : OpenedObject). x.messages.header) objects (number_of (headers objects) o.messages.header)
       ∙ ap (option_map (λ (x : OpenedObject). x.messages.header)) (at_number (λ (x : OpenedObject). x.messages.header) objects o distinct there)
 
-  same_links : (depth : ℕ) (found : List (List ℕ × Target)) → AllByRecursion (IsLed objects depth) found
+  same_links : (P : OpenedObject → Type 0) (found : List (List ℕ × Target)) → AllByRecursion (IsLedTo objects P) found
       → AllZip (IsSame (table_of objects)) (map (λ (l : List ℕ × Target). (l.0, link_to (headers objects) l.1)) found) found
-  same_links depth [] led = tt
-  same_links depth ((name, Header header) ∷ found) ((low, (o, there, same, deeper)), led) = (
+  same_links P [] led = tt
+  same_links P ((name, Header header) ∷ found) ((o, there, same, holds), led) = (
     (refl, subst (λ (h : ℕ). get (table_of objects) (number_of (headers objects) h) ≡ Some h) same (header_at o (in_contains o objects there))),
-    same_links depth found led,
+    same_links P found led,
   )
-  same_links depth ((name, Text text) ∷ found) (low, led) = ((refl, refl), same_links depth found led)
+  same_links P ((name, Text text) ∷ found) (text_led, led) = ((refl, refl), same_links P found led)
 
-  has_content : (depth : ℕ) (list : List Stood) (c : OpenedContent) → AllByRecursion (λ (m : Stood). IsTrue (is_read m.kind)) list → IsContentKept image (messages_in image list) c
-      → AllByRecursion (IsLed objects depth) (content_links image c)
+  links_lead : (height : ℕ) (o : OpenedObject) → HasHeight image objects height o
+      → AllZip (IsSame (table_of objects)) (map (λ (l : List ℕ × Target). (l.0, link_to (headers objects) l.1)) (content_links image o.content)) (content_links image o.content)
+  links_lead zero o none = rw none tt
+  links_lead (suc height) o led = same_links (HasHeight image objects height) (content_links image o.content) led
+
+  has_content : (list : List Stood) (c : OpenedContent) → AllByRecursion (λ (m : Stood). IsTrue (is_read m.kind)) list → IsContentKept image (messages_in image list) c
+      → AllZip (IsSame (table_of objects)) (map (λ (l : List ℕ × Target). (l.0, link_to (headers objects) l.1)) (content_links image c)) (content_links image c)
       → HasContent image (table_of objects) (messages_in image list) (content_in image (headers objects) (messages_in image list) c) (content_blocks image (messages_in image list) c)
-  has_content depth list (content.Group g) known (kinds, chosen, read) led = (
-    group.links_of_group image g,
+  has_content list (content.Group t) known (kinds, chosen, read) same = (
+    links_told image t,
     record {
       known = group_known image list known kinds.alone;
       once = kinds.table;
-      symbol_table = g.table;
+      symbol_table = t;
       chosen = chosen;
       linked = read.linked;
     },
-    subst (λ (es : List (List ℕ × Link)). AllZip (IsSame (table_of objects)) es (group.links_of_group image g)) (sym (group_entries image (headers objects) g read))
-        (same_links depth (group.links_of_group image g) led),
+    subst (λ (es : List (List ℕ × Link)). AllZip (IsSame (table_of objects)) es (links_told image t)) (sym (group_entries image (headers objects) t read)) same,
   )
-  has_content depth list content.Array known (array, inside) led =
+  has_content list content.Array known (array, inside) same =
       let told = array_told (messages_in image list) in
       has_dataset image (messages_in image list) told empty (data_blocks told.layout) array.array
       (known_in image list known (array.kinds).no_table) (data_stored image told.fixed told.layout (array.carried).block (array.carried).in_block)
@@ -81,7 +85,7 @@ module _ (image : List ℕ) (objects : List OpenedObject) (distinct : IsDistinct
     header_blocks = o.messages.blocks;
     listed = (kept.header).has;
     content_blocks = content_blocks image (messages_in image o.messages.list) o.content;
-    content = has_content o.depth o.messages.list o.content kept.known kept.content led;
+    content = has_content o.messages.list o.content kept.known kept.content (links_lead led.0 o led.1);
     attributes = (kept.header).attributes;
     kept = refl;
     laid = refl;

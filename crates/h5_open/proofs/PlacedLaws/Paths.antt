@@ -1,5 +1,5 @@
--- Where paths of the tree lead: to each object, and through no more than 64 names.
-use Rattle.std.proofs.Common.{◌≡◌, ℕ, ◌+◌, ◌<◌, ◌≤◌, ◌⊎◌, inl, inr, List, [], ◌∷◌, ◌++◌, length, refl, sym, ap, ◌∙◌, subst, arith, Option, Some, None, IsSome}
+-- Where paths of the tree lead: to each object, and through no more names than the height of the one from which they go.
+use Rattle.std.proofs.Common.{◌≡◌, ℕ, zero, suc, ◌<◌, ◌≤◌, ◌⊎◌, inl, inr, List, [], ◌∷◌, ◌++◌, length, refl, sym, ap, ◌∙◌, subst, arith, Option, Some, None, IsSome}
 use Rattle.std.specs.Prelude.{slice_get, option_and_then}
 use Rattle.std.specs.List.{AllByRecursion, IsDistinct}
 use Rattle.std.specs.Ordering.{nat_cmp, eq_by_cmp}
@@ -10,12 +10,10 @@ use Rattle.std.proofs.lemmas.Option.{same_Some, slice_get_within}
 use Rattle.h5_model.specs.Format.Symbols.{Target, Header, Text}
 use Rattle.h5_model.specs.Tree.Objects.{Tree, Link, ToObject, Soft, follow, link_in}
 use Rattle.h5_open.specs.declared.opened.object.OpenedObject.{OpenedObject}
-use Rattle.h5_open.specs.declared.opened.object.OpenedContent.{OpenedContent}
-use Rattle.h5_open.specs.declared.opened.object.OpenedContent.TheVariants as content
 use Rattle.h5_open.specs.Opened.Kept.{IsObjectKept}
 use Rattle.h5_open.specs.Opened.Objects.{headers, number_of, content_links, link_to, tree_of}
 use Rattle.h5_laws.proofs.Lists.{In, in_all, in_contains}
-use Rattle.h5_open.specs.Placed.Whole.{IsGroupContent, IsLed, AreLed, HasParent, AreNamed}
+use Rattle.h5_open.specs.Placed.Whole.{HasHeight, IsLed, HasParent, AreNamed}
 use Rattle.h5_open.proofs.PlacedLaws.Places.{place_in, place_before, place_next, place_of, at_number, number_at_place}
 use Rattle.h5_open.proofs.PlacedLaws.TreeLaws.{number_within, link_there, link_leads}
 
@@ -83,43 +81,36 @@ module _ (image : List ℕ) (objects : List OpenedObject) (distinct : IsDistinct
       let there = number_within image objects n some in
       all_lead [] objects refl named (λ m below. absurd (omega (arith, below))) n (slice_get_within objects n there.0 there.1)
 
-  -- ---- and no path is longer than 64 names
+  -- ---- and no path is longer than the height
 
-  module _ (led : AllByRecursion (AreLed image objects) objects) where
-    has_links : (c : OpenedContent) (l : List ℕ × Target) → In l (content_links image c) → IsGroupContent c
-    has_links (content.Group g) l there = tt
-    has_links content.Array l there = absurd there
+  abbrev IsShort : List (List ℕ) → Type 0
+  IsShort path = (n : ℕ) (o : OpenedObject) (height : ℕ) → slice_get objects n ≡ Some o → HasHeight image objects height o
+      → IsSome (follow tree (ToObject n) path) → length path ≤ height
 
-    -- a path from an object so many links below the root
-    abbrev IsShort : List (List ℕ) → Type 0
-    IsShort path = (n : ℕ) (o : OpenedObject) (depth : ℕ) → slice_get objects n ≡ Some o → depth ≤ 64 → (IsGroupContent o.content → o.depth ≡ depth)
-        → IsSome (follow tree (ToObject n) path) → length path + depth ≤ 64
+  behind_link : (names : List (List ℕ)) → IsShort names → (height : ℕ) (l : List ℕ × Target) → IsLed image objects height l → IsSome (follow tree (link_to (headers objects) l.1) names)
+      → length names ≤ height
+  behind_link names short height (name, Header header) (o, there, same, high) some =
+      let at_header : slice_get objects (number_of (headers objects) header) ≡ Some o
+      = ap (λ (h : ℕ). slice_get objects (number_of (headers objects) h)) (sym same) ∙ at_number (λ (x : OpenedObject). x.messages.header) objects o distinct (in_contains o objects there) in
+      short (number_of (headers objects) header) o height at_header high some
+  behind_link [] short height (name, Text text) led some = omega arith
+  behind_link (x ∷ names) short height (name, Text text) led some = absurd (cc)
 
-    behind_link : (names : List (List ℕ)) → IsShort names → (depth : ℕ) (l : List ℕ × Target) → IsLed objects depth l → IsSome (follow tree (link_to (headers objects) l.1) names)
-        → length names + (depth + 1) ≤ 64
-    behind_link names short depth (name, Header header) (low, (o, there, same, deeper)) some =
-        let at_header : slice_get objects (number_of (headers objects) header) ≡ Some o
-        = ap (λ (h : ℕ). slice_get objects (number_of (headers objects) h)) (sym same) ∙ at_number (λ (x : OpenedObject). x.messages.header) objects o distinct (in_contains o objects there) in
-        short (number_of (headers objects) header) o (depth + 1) at_header low deeper some
-    behind_link [] short depth (name, Text text) low some = omega (arith, low)
-    behind_link (x ∷ names) short depth (name, Text text) low some = absurd (cc)
+  from_link : (names : List (List ℕ)) → IsShort names → (height : ℕ) (o : OpenedObject) (l : List ℕ × Target) → HasHeight image objects height o → In l (content_links image o.content)
+      → IsSome (follow tree (link_to (headers objects) l.1) names) → suc (length names) ≤ height
+  from_link names short zero o l none there some = absurd (subst (In l) none there)
+  from_link names short (suc height) o l high there some =
+      let rest = behind_link names short height l (in_all (IsLed image objects height) l (content_links image o.content) high there) some in
+      omega (arith, rest)
 
-    from_object : (name : List ℕ) (names : List (List ℕ)) → IsShort names → IsShort (name ∷ names)
-    from_object name names short n o depth is low same some = go (link_in tree n name) refl some where
-      go : (x : Option Link) → link_in tree n name ≡ x → IsSome (option_and_then (λ (l : Link). follow tree l names) x) → length (name ∷ names) + depth ≤ 64
-      go None found there = absurd (cc)
-      go (Some link) found there =
-          let l = link_leads image objects n o is (kept_at n o is).content name link found in
-          let here : IsLed objects o.depth l.0 = in_all (IsLed objects o.depth) l.0 (content_links image o.content) (in_all (AreLed image objects) o objects led (place_in objects n o is)) l.1 in
-          let deep : o.depth ≡ depth = same (has_links o.content l.0 l.1) in
-          let rest = behind_link names short o.depth l.0 here (subst (λ (y : Link). IsSome (follow tree y names)) (sym l.2) there) in
-          omega (arith, rest, deep)
+  from_object : (name : List ℕ) (names : List (List ℕ)) → IsShort names → IsShort (name ∷ names)
+  from_object name names short n o height is high some = go (link_in tree n name) refl some where
+    go : (x : Option Link) → link_in tree n name ≡ x → IsSome (option_and_then (λ (l : Link). follow tree l names) x) → length (name ∷ names) ≤ height
+    go None found there = absurd (cc)
+    go (Some link) found there =
+        let l = link_leads image objects n o is (kept_at n o is).content name link found in
+        from_link names short height o l.0 high l.1 (subst (λ (y : Link). IsSome (follow tree y names)) (sym l.2) there)
 
-    all_short : (path : List (List ℕ)) → IsShort path
-    all_short [] n o depth is low same some = omega (arith, low)
-    all_short (name ∷ names) n o depth is low same some = from_object name names (all_short names) n o depth is low same some
-
-    pub all_shallow : (o : OpenedObject) → slice_get objects 0 ≡ Some o → o.depth ≡ 0 → (path : List (List ℕ)) → IsSome (follow tree (ToObject 0) path) → length path ≤ 64
-    all_shallow o is top path some =
-        let short = all_short path 0 o 0 is (omega arith) (λ u. top) some in
-        omega (arith, short)
+  pub all_short : (path : List (List ℕ)) → IsShort path
+  all_short [] n o height is high some = omega arith
+  all_short (name ∷ names) n o height is high some = from_object name names (all_short names) n o height is high some

@@ -7,7 +7,7 @@ use Rattle.h5_model.specs.Format.Symbols.{Target}
 use Rattle.h5_model.specs.Format.Messages.{Message}
 use Rattle.h5_model.specs.Tree.Objects.{Object, Link, link_in, links_in}
 use Rattle.h5_header.specs.Listed.{messages_in}
-use Rattle.h5_group.specs.Links as group
+use Rattle.h5_group.specs.Told.{links_told}
 use Rattle.h5_open.specs.declared.opened.object.OpenedObject.{OpenedObject}
 use Rattle.h5_open.specs.declared.opened.object.OpenedContent.{OpenedContent}
 use Rattle.h5_open.specs.declared.opened.object.OpenedContent.TheVariants as content
@@ -33,12 +33,12 @@ module _ (image : List ℕ) (objects : List OpenedObject) where
   module _ (ms : List Message) (name : List ℕ) where
     in_content : (c : OpenedContent) (t : Target) → IsContentKept image ms c → In (name, t) (content_links image c)
         → option_and_then (λ links. get links name) (links_in (content_in image at ms c)) ≡ Some (link_to at t)
-    in_content (content.Group g) t (kinds, chosen, read) there = get_link at (group.links_of_group image g) (names_ascend image g read) name t there
+    in_content (content.Group table) t (kinds, chosen, read) there = get_link at (links_told image table) (names_ascend image table read) name t there
     in_content content.Array t kept there = absurd there
 
     from_content : (c : OpenedContent) (link : Link) → IsContentKept image ms c → option_and_then (λ links. get links name) (links_in (content_in image at ms c)) ≡ Some link
         → (l : List ℕ × Target) × In l (content_links image c) × (link_to at l.1 ≡ link)
-    from_content (content.Group g) link (kinds, chosen, read) is = link_got at (group.links_of_group image g) (names_ascend image g read) name link is
+    from_content (content.Group table) link (kinds, chosen, read) is = link_got at (links_told image table) (names_ascend image table read) name link is
     from_content content.Array link kept is = absurd (cc)
 
   links_at : (n : ℕ) (o : OpenedObject) (name : List ℕ) → slice_get objects n ≡ Some o

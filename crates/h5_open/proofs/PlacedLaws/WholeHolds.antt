@@ -22,7 +22,7 @@ use Rattle.h5_open.proofs.OpenedLaws.Entries.{table_entries, tree_entries, get_t
 use Rattle.h5_open.proofs.PlacedLaws.Places.{number_at_place}
 use Rattle.h5_open.proofs.PlacedLaws.ObjectLaws.{all_placed}
 use Rattle.h5_open.proofs.PlacedLaws.TreeLaws.{object_got}
-use Rattle.h5_open.proofs.PlacedLaws.Paths.{all_reached, all_shallow}
+use Rattle.h5_open.proofs.PlacedLaws.Paths.{all_reached, all_short}
 
 -- ---- what is placed
 
@@ -59,7 +59,7 @@ module _ (objects : List OpenedObject) (distinct : IsDistinct (eq_by_cmp nat_cmp
 -- ---- the root
 
 group_linked : (image at : List ℕ) (ms : List Message) (c : OpenedContent) → IsGroupContent c → IsSome (links_in (content_in image at ms c))
-group_linked image at ms (content.Group g) is = refl
+group_linked image at ms (content.Group t) is = refl
 group_linked image at ms content.Array is = absurd is
 
 module _ (image : List ℕ) (objects : List OpenedObject) (whole : IsWholeImage image objects) where
@@ -88,7 +88,7 @@ whole_holds image objects whole = record {
   root = root_there image objects whole;
   root_group = root_links image objects whole;
   reached = all_reached image objects whole.distinct whole.each whole.parents;
-  shallow = all_shallow image objects whole.distinct whole.each whole.led (whole.begins).root (first image objects whole) (whole.begins).top;
+  shallow = λ path some. all_short image objects whole.distinct whole.each path 0 (whole.begins).root 64 (first image objects whole) whole.shallow some;
   apart = subst Separate (all_placed_blocks image objects) whole.apart;
   within = subst (Inside (length image)) (all_placed_blocks image objects) whole.within;
 }

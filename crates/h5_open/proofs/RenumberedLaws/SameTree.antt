@@ -20,7 +20,7 @@ use Rattle.h5_layout.specs.Described.{Described, described_dataset}
 use Rattle.h5_layout.specs.Told.{array_told}
 use Rattle.h5_layout.proofs.ArrayLaws.{in_header, has_array, dataset_in-in_header}
 use Rattle.h5_layout.proofs.ToldLaws.{told}
-use Rattle.h5_group.specs.Links as group
+use Rattle.h5_group.specs.Told.{links_told, blocks_told}
 use Rattle.h5_open.specs.declared.opened.object.OpenedObject.{OpenedObject}
 use Rattle.h5_open.specs.declared.opened.object.OpenedContent.{OpenedContent}
 use Rattle.h5_open.specs.declared.opened.object.OpenedContent.TheVariants as content
@@ -69,19 +69,19 @@ module _ (image at : List ℕ) (own : Own at) where
 
   content_is : (ms : List Message) (c : Content) (blocks : List Block) (o : OpenedContent) → HasContent image (table_with at) ms c blocks → IsContentKept image ms o
       → content_in image at ms o ≡ c
-  content_is ms (Group links) blocks (content.Group g) (found, has, same) (kinds, chosen, read) =
-      let table : has.symbol_table ≡ g.table = some_same _ _ _ has.chosen chosen in
-      let linked : HasLinks image (leaf_k image) (internal_k image) (g.table).tree (g.table).heap found blocks
+  content_is ms (Group links) blocks (content.Group t) (found, has, same) (kinds, chosen, read) =
+      let table : has.symbol_table ≡ t = some_same _ _ _ has.chosen chosen in
+      let linked : HasLinks image (leaf_k image) (internal_k image) t.tree t.heap found blocks
       = subst (λ (s : SymbolTable). HasLinks image (leaf_k image) (internal_k image) s.tree s.heap found blocks) table has.linked in
-      let one : found ≡ group.links_of_group image g
-      = one_links image (leaf_k image) (internal_k image) (g.table).tree (g.table).heap found (group.links_of_group image g) blocks (group.blocks_of_group image g) linked read.linked in
-      let listed : entries links ≡ entries (links_by at (group.links_of_group image g)) =
+      let one : found ≡ links_told image t
+      = one_links image (leaf_k image) (internal_k image) t.tree t.heap found (links_told image t) blocks (blocks_told image t) linked read.linked in
+      let listed : entries links ≡ entries (links_by at (links_told image t)) =
       links_are (entries links) found same
       ∙ ap (λ (ls : List (List ℕ × Target)). map (λ (l : List ℕ × Target). (l.0, link_to at l.1)) ls) one
-      ∙ sym (group_entries image at g read) in
-      ap (λ (ls : Links). Group ls) (sym (same_entries_map links (links_by at (group.links_of_group image g)) listed))
+      ∙ sym (group_entries image at t read) in
+      ap (λ (ls : Links). Group ls) (sym (same_entries_map links (links_by at (links_told image t)) listed))
   content_is ms (Group links) blocks content.Array (found, has, same) (list, inside) = absurd (omega (arith, has.once, (list.kinds).no_table))
-  content_is ms (Array d) blocks (content.Group g) has (kinds, chosen, read) = absurd (omega (arith, has.one_space, (kinds.alone).0))
+  content_is ms (Array d) blocks (content.Group t) has (kinds, chosen, read) = absurd (omega (arith, has.one_space, (kinds.alone).0))
   content_is ms (Array d) blocks content.Array has (list, inside) = ap (λ (x : Dataset). Array x) (dataset_is image ms d blocks has list.carried)
 
   -- ---- objects

@@ -23,8 +23,8 @@ use Rattle.h5_open.specs.Opened.Objects.{headers, table_of, tree_of}
 
 -- the messages are those of this group, which stands in the image; or those of an array, whose cells do
 abbrev pub IsContentKept : List ℕ → List Message → OpenedContent → Type 0
-IsContentKept image ms (content.Group g) =
-    IsOfGroup ms × (option_and_then symbol_table_of (first_body 17 ms) ≡ Some g.table) × IsGroupRead image g
+IsContentKept image ms (content.Group table) =
+    IsOfGroup ms × (option_and_then symbol_table_of (first_body 17 ms) ≡ Some table) × IsGroupRead image table
 IsContentKept image ms content.Array = IsArrayList ms × Inside (length image) (data_blocks (layout_told ms))
 
 -- the object stands in the image

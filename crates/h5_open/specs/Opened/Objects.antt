@@ -10,7 +10,7 @@ use Rattle.h5_model.specs.Tree.Objects.{Tree, Object, Content, Group, Array, Lin
 use Rattle.h5_header.specs.Listed.{messages_in}
 use Rattle.h5_layout.specs.Described.{described_dataset}
 use Rattle.h5_layout.specs.Told.{array_told, layout_told}
-use Rattle.h5_group.specs.Links as group
+use Rattle.h5_group.specs.Told.{links_told, blocks_told}
 use Rattle.h5_open.specs.declared.opened.object.OpenedObject.{OpenedObject}
 use Rattle.h5_open.specs.declared.opened.object.OpenedContent.{OpenedContent}
 use Rattle.h5_open.specs.declared.opened.object.OpenedContent.TheVariants as content
@@ -32,7 +32,7 @@ number_of (h ∷ hs) header = if h == header then 0 else 1 + number_of hs header
 
 -- the links that the file has, and those of the tree
 abbrev pub content_links : List ℕ → OpenedContent → List (List ℕ × Target)
-content_links image (content.Group g) = group.links_of_group image g
+content_links image (content.Group table) = links_told image table
 content_links image content.Array = []
 
 abbrev pub link_to : List ℕ → Target → Link
@@ -44,7 +44,7 @@ links_by at found = from_entries (map (λ (l : List ℕ × Target). (l.0, link_t
 
 -- a group with these links, whose headers are among these; or the array that the messages tell
 abbrev pub content_in : List ℕ → List ℕ → List Message → OpenedContent → Content
-content_in image at ms (content.Group g) = Group (links_by at (group.links_of_group image g))
+content_in image at ms (content.Group table) = Group (links_by at (links_told image table))
 content_in image at ms content.Array = Array (described_dataset image (array_told ms) empty)
 
 abbrev pub object_in : List ℕ → List ℕ → OpenedObject → Object
@@ -52,7 +52,7 @@ object_in image at o = object_with (content_in image at (messages_in image o.mes
 
 -- the blocks of what an object is, and all of its own blocks
 abbrev pub content_blocks : List ℕ → List Message → OpenedContent → List Block
-content_blocks image ms (content.Group g) = group.blocks_of_group image g
+content_blocks image ms (content.Group table) = blocks_told image table
 content_blocks image ms content.Array = data_blocks (layout_told ms)
 
 abbrev pub object_blocks : List ℕ → OpenedObject → List Block

@@ -1,6 +1,6 @@
 -- Objects that were read from an image, and make up all of it, their reference counts aside (File Format Specification 3.0,
 -- sections II.A and IV.A).
-use Rattle.std.specs.Prelude.{◌≡◌, ℕ, ◌+◌, ◌≤◌, ◌⊎◌, List, [], ◌∷◌, ◌++◌, length}
+use Rattle.std.specs.Prelude.{◌≡◌, ℕ, zero, suc, ◌+◌, ◌⊎◌, List, [], ◌∷◌, ◌++◌, length}
 use Rattle.std.specs.List.{AllByRecursion, Contains, IsDistinct, flat_map}
 use Rattle.std.specs.Ordering.{nat_cmp, eq_by_cmp}
 use Rattle.h5_bytes.specs.Blocks.{block, Separate, Inside}
@@ -15,18 +15,25 @@ use Rattle.h5_open.specs.Opened.Kept.{IsObjectKept}
 use Rattle.h5_open.specs.Opened.Objects.{headers, content_links, object_in, object_blocks}
 
 abbrev pub IsGroupContent : OpenedContent → Type 0
-IsGroupContent (content.Group g) = Unit {0}
+IsGroupContent (content.Group table) = Unit {0}
 IsGroupContent content.Array = ⊥
 
--- A link of an object so many links below the root: no path is longer than 64 names; a hard link leads to one of these objects, and
--- where that is a group it stands one link deeper.
-abbrev pub IsLed : List OpenedObject → ℕ → (List ℕ × Target) → Type 0
-IsLed objects depth (name, Header header) = (depth + 1 ≤ 64) × ((o : OpenedObject) × Contains objects o × (o.messages.header ≡ header)
-    × (IsGroupContent o.content → o.depth ≡ depth + 1))
-IsLed objects depth (name, Text text) = depth + 1 ≤ 64
+-- a hard link leads to one of these objects, and this holds of it
+abbrev pub IsLedTo : List OpenedObject → (OpenedObject → Type 0) → (List ℕ × Target) → Type 0
+IsLedTo objects Holds (name, Header header) = (o : OpenedObject) × Contains objects o × (o.messages.header ≡ header) × Holds o
+IsLedTo objects Holds (name, Text text) = Unit {0}
+
+-- The object's links, and those of the objects to which they lead, lead to these objects; no path through them has more names than this.
+abbrev pub HasHeight : List ℕ → List OpenedObject → ℕ → OpenedObject → Type 0
+HasHeight image objects zero o = content_links image o.content ≡ []
+HasHeight image objects (suc height) o = AllByRecursion (IsLedTo objects (HasHeight image objects height)) (content_links image o.content)
+
+-- a link leads to an object of this height
+abbrev pub IsLed : List ℕ → List OpenedObject → ℕ → (List ℕ × Target) → Type 0
+IsLed image objects height link = IsLedTo objects (HasHeight image objects height) link
 
 abbrev pub AreLed : List ℕ → List OpenedObject → OpenedObject → Type 0
-AreLed image objects o = AllByRecursion (IsLed objects o.depth) (content_links image o.content)
+AreLed image objects o = (height : ℕ) × HasHeight image objects height o
 
 -- one of the objects before has a link to the header
 abbrev pub HasParent : List ℕ → List OpenedObject → ℕ → Type 0
@@ -44,12 +51,12 @@ pub record BeginsAtRoot (image : List ℕ) (objects : List OpenedObject) : Type 
   pub is : objects ≡ root ∷ others
   pub at_root : root.messages.header ≡ root_header image
   pub group : IsGroupContent root.content
-  pub top : root.depth ≡ 0
 
 -- the superblock's block, and those of the objects
 abbrev pub opened_blocks : List ℕ → List OpenedObject → List Block
 opened_blocks image objects = block 0 (superblock_length image) ∷ flat_map (object_blocks image) objects
 
+-- each link leads to one of the objects, and no path from the root has more than 64 names
 pub record IsWholeImage (image : List ℕ) (objects : List OpenedObject) : Type 0 where
   pub superblock : IsSuperblock image
   pub whole : end_of_file image ≡ length image
@@ -57,6 +64,7 @@ pub record IsWholeImage (image : List ℕ) (objects : List OpenedObject) : Type 
   pub each : AllByRecursion (IsObjectKept image) objects
   pub distinct : IsDistinct (eq_by_cmp nat_cmp) (headers objects)
   pub led : AllByRecursion (AreLed image objects) objects
+  pub shallow : HasHeight image objects 64 begins.root
   pub parents : AreNamed image [] objects
   pub apart : Separate (opened_blocks image objects)
   pub within : Inside (length image) (opened_blocks image objects)

@@ -22,8 +22,8 @@ const MOST: u32 = 65535;
 /// Checks that the reference count of each object's header is the number of hard links that lead there, and 1 for the root.
 ///
 /// At the first header, by the objects' numbers: `TooLarge` where more than 65535 links lead to it; else `LinkCount` where the count
-/// is another; else `GroupLinkedTwice` where it is a group's and several links lead to it. `NoMemory` where memory is refused: a
-/// number is kept for each object. Each link is looked at once.
+/// is another; else `GroupLinkedTwice` where it is a group's and several links lead to it. `NoMemory` where memory is refused, of
+/// which a number is kept for each object. Each link is looked at once.
 ///
 /// That the objects make up the image is the caller's condition.
 pub fn check_counts(alloc: Global, image: &Image, opened: &Opened) -> Result<(), OpenFault>

@@ -1,12 +1,13 @@
 //! How many links lead to each header.
 
-ghost use Rattle.std.specs.Prelude.{◌≡◌, [], ◌∷◌, ◌++◌, List, ℕ, IfOk, length, map};
+ghost use Rattle.std.specs.Prelude.{◌≡◌, [], ◌∷◌, ◌++◌, List, ℕ, IfOk, OnOk, length, map};
 ghost use Rattle.std.specs.List.{AllByRecursion, Contains, IsDistinct};
 ghost use Rattle.std.specs.Ordering.{nat_cmp, eq_by_cmp};
 ghost use Rattle.h5_model.specs.Format.Superblock.{leaf_k};
 ghost use Rattle.h5_model.specs.Format.Symbols.{Target, Header, symbols_at, link_of};
 ghost use Rattle.h5_model.specs.Format.Heap.{segment_of};
-ghost use Rattle.h5_group.specs.Links.{IsGroupRead, links_of_group};
+ghost use Rattle.h5_group.specs.Links.{IsGroupRead};
+ghost use Rattle.h5_group.specs.Told.{links_told, symbol_nodes_told};
 ghost use Rattle.h5_open.specs.Opened.Kept.{IsIndex, IsObjectKept};
 ghost use Rattle.h5_open.specs.Opened.Objects.{headers};
 ghost use Rattle.h5_open.specs.Placed.Whole.{BeginsAtRoot};
@@ -14,7 +15,7 @@ ghost use Rattle.h5_open.specs.Counted.Links.{all_links};
 ghost use Rattle.h5_open.specs.Counted.Counts.{AreCounts};
 
 use crate::opened::{Opened, OpenedContent};
-use h5_group::{Group, link_at, links_at};
+use h5_group::{SymbolTable, link_at, links_at, symbol_nodes};
 use h5_model::LinkTo;
 use h5_space::Image;
 use std::alloc::{AllocError, Global};
@@ -22,7 +23,7 @@ use std::alloc::{AllocError, Global};
 /// How many links lead to each object, by the objects' numbers, 1 of the superblock's to the root among them. Above 65535 a count
 /// may be any that is above it.
 ///
-/// Takes memory for a number for each object. Each link is looked at once.
+/// Takes memory for a number for each object, and for the addresses of a group's symbol nodes. Each link is looked at once.
 pub(crate) fn count_links(
     alloc: Global,
     image: &Image,
@@ -38,12 +39,17 @@ pub(crate) fn count_links(
         counts.items) }
 {
     let mut counts = vec![in alloc; 0; opened.objects.len()]?;
-    count_all(image, opened, &mut counts);
+    count_all(alloc, image, opened, &mut counts)?;
     Ok(counts)
 }
 
 /// Counts all links.
-fn count_all(image: &Image, opened: &Opened, counts: &mut [u32])
+fn count_all(
+    alloc: Global,
+    image: &Image,
+    opened: &Opened,
+    counts: &mut [u32],
+) -> Result<(), AllocError>
     requires begins { BeginsAtRoot image.now.bytes opened.now.objects.items }
     requires each { AllByRecursion (IsObjectKept image.now.bytes) opened.now.objects.items }
     requires distinct { IsDistinct (eq_by_cmp nat_cmp) (headers opened.now.objects.items) }
@@ -51,38 +57,47 @@ fn count_all(image: &Image, opened: &Opened, counts: &mut [u32])
     requires length { length counts.old ≡ length opened.now.objects.items }
     requires none { AreCounts (headers opened.now.objects.items) [] counts.old }
     ensures length { length counts.new ≡ length counts.old }
-    ensures counts { AreCounts (headers opened.now.objects.items)
-        (all_links image.now.bytes opened.now.objects.items) counts.new }
+    ensures counts { OnOk result (AreCounts (headers opened.now.objects.items)
+        (all_links image.now.bytes opened.now.objects.items) counts.new) }
 {
     count_link(opened, counts, opened.objects[0].messages.header());
     for object in &opened.objects {
-        if let OpenedContent::Group(group) = &object.content {
-            count_group(image, opened, group, counts);
+        if let OpenedContent::Group(table) = &object.content {
+            count_group(alloc, image, opened, *table, counts)?;
         }
     }
+    Ok(())
 }
 
 /// Counts the links of a group.
-fn count_group(image: &Image, opened: &Opened, group: &Group, counts: &mut [u32])
-    requires group { IsGroupRead image.now.bytes group.now }
+fn count_group(
+    alloc: Global,
+    image: &Image,
+    opened: &Opened,
+    table: SymbolTable,
+    counts: &mut [u32],
+) -> Result<(), AllocError>
+    requires group { IsGroupRead image.now.bytes table }
     requires distinct { IsDistinct (eq_by_cmp nat_cmp) (headers opened.now.objects.items) }
     requires index { IsIndex opened.now.objects.items opened.now.numbers }
     requires length { length counts.old ≡ length opened.now.objects.items }
     ensures length { length counts.new ≡ length counts.old }
-    ensures counted { (before : List (List ℕ × Target))
+    ensures counted { OnOk result ((before : List (List ℕ × Target))
         → AreCounts (headers opened.now.objects.items) before counts.old
-        → AreCounts (headers opened.now.objects.items) (before ++ links_of_group image.now.bytes group.now)
-        counts.new }
+        → AreCounts (headers opened.now.objects.items) (before ++ links_told image.now.bytes table)
+        counts.new) }
 {
-    for node in &group.symbol_nodes {
-        count_node(image, opened, group, *node, counts);
+    let nodes = symbol_nodes(alloc, image, table)?;
+    for node in &nodes {
+        count_node(image, opened, table, *node, counts);
     }
+    Ok(())
 }
 
 /// Counts the links in the symbol node at `node`, which is one of the group's.
-fn count_node(image: &Image, opened: &Opened, group: &Group, node: u64, counts: &mut [u32])
-    requires group { IsGroupRead image.now.bytes group.now }
-    requires node { Contains group.now.symbol_nodes.items node }
+fn count_node(image: &Image, opened: &Opened, table: SymbolTable, node: u64, counts: &mut [u32])
+    requires group { IsGroupRead image.now.bytes table }
+    requires node { Contains (symbol_nodes_told image.now.bytes table) node }
     requires distinct { IsDistinct (eq_by_cmp nat_cmp) (headers opened.now.objects.items) }
     requires index { IsIndex opened.now.objects.items opened.now.numbers }
     requires length { length counts.old ≡ length opened.now.objects.items }
@@ -90,11 +105,11 @@ fn count_node(image: &Image, opened: &Opened, group: &Group, node: u64, counts: 
     ensures counted { (before : List (List ℕ × Target))
         → AreCounts (headers opened.now.objects.items) before counts.old
         → AreCounts (headers opened.now.objects.items)
-        (before ++ map (link_of (segment_of image.now.bytes group.now.table.heap))
+        (before ++ map (link_of (segment_of image.now.bytes table.heap))
         (symbols_at image.now.bytes (leaf_k image.now.bytes) node)) counts.new }
 {
-    for i in 0..links_at(image, group, node) {
-        match link_at(image, group, node, i).to {
+    for i in 0..links_at(image, table, node) {
+        match link_at(image, table, node, i).to {
             LinkTo::Object(header) => count_link(opened, counts, header),
             LinkTo::Soft(_) => {}
         }

@@ -1,14 +1,14 @@
 //! The objects of an opened image (File Format Specification 3.0, section IV.A).
 
-use h5_group::Group;
+use h5_group::SymbolTable;
 use h5_header::Messages;
 use std::collections::BTreeMap;
 
 /// What an object is.
 #[derive(Drop)]
 pub enum OpenedContent {
-    /// A group, whose links are read where they stand.
-    Group(Group),
+    /// A group, by the addresses of its tree and of its heap; its links are read where they stand.
+    Group(SymbolTable),
     /// An array, which the messages of its header describe.
     Array,
 }
@@ -19,8 +19,6 @@ pub struct OpenedObject {
     /// The messages of its header.
     pub messages: Messages,
     pub content: OpenedContent,
-    /// How many links lead to it from the root, by the way on which it was first met.
-    pub depth: u8,
 }
 
 /// The objects of an opened image. Object 0 is the root; the others have their numbers in the order in which they were met, depth

@@ -5,11 +5,10 @@ use Rattle.h5_model.specs.Format.Heap.{heap_header, segment_of, heap_blocks, IsH
 use Rattle.h5_btree.specs.Walk.Forms.{OfGroup}
 use Rattle.h5_btree.specs.Walk.Trees.{IsTree}
 use Rattle.h5_group.specs.Order.Ordered.{AreNamesOrdered}
-use Rattle.h5_group.specs.declared.group.Group.{Group}
 use Rattle.h5_group.proofs.NodeLaws.GroupLaws.{nodes_formed}
 use Rattle.h5_group.proofs.HeapSteps.{heap_refused, at_tree}
 use Rattle.h5_group.proofs.Refusals.{texts_refused, order_refused}
-use Rattle.h5_group.proofs.Linked.{group_read, both_claimed}
+use Rattle.h5_group.proofs.Linked.{group_read, both_claimed, leaves_are}
 use Rattle.h5_group.proofs.Followed.{group_followed}
 use Rattle.h5_group.proofs.Readable.{heap_readable, tree_readable, texts_memory, order_memory}
 use Rattle.h5_group.proofs.group.read_group.Goals as goal
@@ -55,23 +54,26 @@ returns-in_err-check_order-clause-refused c =
 pub returns-clause-group : goal.returns-clause-group
 returns-clause-group c =
     let image = c.args.image.now.bytes in
-    let g : Group = record { table = c.args.table; symbol_nodes = c.in_ok-tree.tree.leaves } in
-    let inside : Inside (length image) (heap_blocks image g.table.heap) = rw c.heap.ensures at c.in_ok-heap.ensures.inside in
-    let heap : IsHeap (heap_header image g.table.heap) (segment_of image g.table.heap) c.in_ok-heap.heap.free = rw c.heap.ensures at c.in_ok-heap.ensures.read in
-    let tree : IsTree image OfGroup g.table.tree c.in_ok-tree.tree.nodes.items g.symbol_nodes.items = rw c.tree.ensures at c.in_ok-tree.ensures.tree in
-    let order : AreNamesOrdered image (segment_of image g.table.heap) c.in_ok-tree.tree.nodes.items g.symbol_nodes.items
-    = rw (c.segment_at.ensures, c.heap-4.ensures) at c.in_ok-check_order.ensures.ordered in
-    group_read image g c.in_ok-tree.tree.nodes.items tree c.in_ok-heap.heap.free c.in_ok-check_texts.ensures.texts order heap c.in_ok-tree.ensures.inside inside
+    let table = c.args.table in
+    let nodes = c.in_ok-tree.tree.nodes.items in
+    let leaves = c.in_ok-tree.tree.leaves.items in
+    let inside : Inside (length image) (heap_blocks image table.heap) = rw c.heap.ensures at c.in_ok-heap.ensures.inside in
+    let heap : IsHeap (heap_header image table.heap) (segment_of image table.heap) c.in_ok-heap.heap.free = rw c.heap.ensures at c.in_ok-heap.ensures.read in
+    let tree : IsTree image OfGroup table.tree nodes leaves = rw c.tree.ensures at c.in_ok-tree.ensures.tree in
+    let order : AreNamesOrdered image (segment_of image table.heap) nodes leaves = rw (c.segment_at.ensures, c.heap-4.ensures) at c.in_ok-check_order.ensures.ordered in
+    group_read image table nodes leaves tree c.in_ok-heap.heap.free c.in_ok-check_texts.ensures.texts order heap c.in_ok-tree.ensures.inside inside
 
 pub returns-clause-claimed : goal.returns-clause-claimed
 returns-clause-claimed c =
     let image = c.args.image.now.bytes in
-    let g : Group = record { table = c.args.table; symbol_nodes = c.in_ok-tree.tree.leaves } in
-    let tree : IsTree image OfGroup g.table.tree c.in_ok-tree.tree.nodes.items g.symbol_nodes.items = rw c.tree.ensures at c.in_ok-tree.ensures.tree in
-    let before : (p : ℕ) → cover p c.read_heap.new.claims.held ≡ cover p c.args.claims.now.held + cover p (heap_blocks image g.table.heap)
+    let table = c.args.table in
+    let nodes = c.in_ok-tree.tree.nodes.items in
+    let leaves = c.in_ok-tree.tree.leaves.items in
+    let tree : IsTree image OfGroup table.tree nodes leaves = rw c.tree.ensures at c.in_ok-tree.ensures.tree in
+    let before : (p : ℕ) → cover p c.read_heap.new.claims.held ≡ cover p c.args.claims.now.held + cover p (heap_blocks image table.heap)
     = λ p. rw c.heap.ensures at (c.in_ok-heap.ensures.claimed.covered p) in
     record {
-      covered = λ p. both_claimed image g c.in_ok-tree.tree.nodes.items tree p c.args.claims.now.held c.read_heap.new.claims.held c.read_tree.new.claims.held (before p)
+      covered = λ p. both_claimed image table nodes leaves tree p c.args.claims.now.held c.read_heap.new.claims.held c.read_tree.new.claims.held (before p)
           (c.in_ok-tree.ensures.claimed.covered p);
       separate = c.in_ok-tree.ensures.claimed.separate;
     }
@@ -79,15 +81,20 @@ returns-clause-claimed c =
 pub returns-clause-walked : goal.returns-clause-walked
 returns-clause-walked c followed first second depth met =
     let image = c.args.image.now.bytes in
-    let g : Group = record { table = c.args.table; symbol_nodes = c.in_ok-tree.tree.leaves } in
-    let inside : Inside (length image) (heap_blocks image g.table.heap) = rw c.heap.ensures at c.in_ok-heap.ensures.inside in
-    let claimed : (p : ℕ) → cover p c.read_heap.new.claims.held ≡ cover p c.args.claims.now.held + cover p (heap_blocks image g.table.heap)
+    let table = c.args.table in
+    let nodes = c.in_ok-tree.tree.nodes.items in
+    let leaves = c.in_ok-tree.tree.leaves.items in
+    let held = c.args.claims.now.held in
+    let h1 = c.read_heap.new.claims.held in
+    let h2 = c.read_tree.new.claims.held in
+    let inside : Inside (length image) (heap_blocks image table.heap) = rw c.heap.ensures at c.in_ok-heap.ensures.inside in
+    let claimed : (p : ℕ) → cover p h1 ≡ cover p held + cover p (heap_blocks image table.heap)
     = λ q. rw c.heap.ensures at (c.in_ok-heap.ensures.claimed.covered q) in
-    let here = at_tree image c.args.claims.now.held followed first second depth g.table met c.read_heap.new.claims.held inside claimed c.in_ok-heap.ensures.claimed.separate in
-    let tree = (rw c.tree.ensures at c.in_ok-tree.ensures.walked) _ first c.args.table.heap depth here in
-    let stands : IsTree image OfGroup g.table.tree c.in_ok-tree.tree.nodes.items g.symbol_nodes.items = rw c.tree.ensures at c.in_ok-tree.ensures.tree in
-    group_followed image c.args.claims.now.held followed first second depth g met c.read_heap.new.claims.held inside claimed c.in_ok-heap.ensures.claimed.separate
-    c.read_tree.new.claims.held c.in_ok-tree.tree.nodes.items c.in_ok-tree.ensures.inside c.in_ok-tree.ensures.claimed.covered c.in_ok-tree.ensures.claimed.separate (nodes_formed image g.symbol_nodes.items stands.formed) tree
+    let here = at_tree image held followed first second depth table met h1 inside claimed c.in_ok-heap.ensures.claimed.separate in
+    let stands : IsTree image OfGroup table.tree nodes leaves = rw c.tree.ensures at c.in_ok-tree.ensures.tree in
+    group_followed image held followed first second depth table met h1 inside claimed c.in_ok-heap.ensures.claimed.separate
+    h2 nodes leaves (leaves_are image table nodes leaves stands) c.in_ok-tree.ensures.inside c.in_ok-tree.ensures.claimed.covered c.in_ok-tree.ensures.claimed.separate
+    (nodes_formed image leaves stands.formed) ((rw c.tree.ensures at c.in_ok-tree.ensures.walked) _ first table.heap depth here)
 
 pub returns-in_err-heap-clause-only : goal.returns-in_err-heap-clause-only
 returns-in_err-heap-clause-only c = λ readable.

@@ -7,4 +7,4 @@ use Rattle.h5_group.proofs.list.entries.Given as goal
 
 abbrev pub invariant-loop-node : goal.invariant-loop-node
 invariant-loop-node l = map lent_link l.links.items
-    ≡ map (link_of (segment_of l.image.bytes l.group.table.heap)) (all_entries l.image.bytes (take l.node-index l.group.symbol_nodes.items))
+    ≡ map (link_of (segment_of l.image.bytes l.table.heap)) (all_entries l.image.bytes (take l.node-index l.node-items))

@@ -12,7 +12,7 @@ use Rattle.h5_group.proofs.search.node_of.Goals as goal
 use Rattle.h5_group.proofs.search.node_of.Goals.{After-unwrap}
 
 pub internal_k-requires : goal.internal_k-requires
-internal_k-requires c = omega (arith, ap length c.bytes-bytes.ensures, (heap_there c.args.image.now.bytes c.args.group.now c.requires.group).0)
+internal_k-requires c = omega (arith, ap length c.bytes-bytes.ensures, (heap_there c.args.image.now.bytes c.args.table c.requires.group).0)
 
 pub unwrap-requires : goal.unwrap-requires
 unwrap-requires c =
@@ -20,21 +20,21 @@ unwrap-requires c =
     let tree : HasTree c.bytes-bytes.result.now (group_kind c.internal_k.result) c.tree.result linked.level linked.owned linked.symbol_nodes
     = rw (c.internal_k.ensures, c.bytes-bytes.ensures, c.tree.ensures) linked.tree in
     let inside : Inside (length c.bytes-bytes.result.now) (tree_blocks (group_kind c.internal_k.result) linked.owned)
-    = rw (c.internal_k.ensures, c.bytes-bytes.ensures) (nodes_there c.args.image.now.bytes c.args.group.now c.requires.group) in
+    = rw (c.internal_k.ensures, c.bytes-bytes.ensures) (nodes_there c.args.image.now.bytes c.args.table c.requires.group) in
     c.find_leaf.ensures.only linked.level linked.owned linked.symbol_nodes tree inside
 
 leads : (c : After-unwrap) → IfSome c.unwrap.result (LeadsTo (node_at c.args.image.now.bytes (kind_in c.args.image.now.bytes))
-    (name_behind (segment_of c.args.image.now.bytes c.args.group.now.table.heap) c.args.name.now)
-    (node_at c.args.image.now.bytes (kind_in c.args.image.now.bytes) c.args.group.now.table.tree).level c.args.group.now.table.tree)
+    (name_behind (segment_of c.args.image.now.bytes c.args.table.heap) c.args.name.now)
+    (node_at c.args.image.now.bytes (kind_in c.args.image.now.bytes) c.args.table.tree).level c.args.table.tree)
 leads c = rw (c.internal_k.ensures, c.bytes-bytes.ensures, c.tree.ensures, c.requires.segment) at (rw c.unwrap.ensures at c.find_leaf.ensures.leads)
 
 pub returns-clause-one : goal.returns-clause-one
-returns-clause-one c = one_listed c.args.image.now.bytes c.args.group.now c.requires.group c.args.name.now c.unwrap.result (leads c)
+returns-clause-one c = one_listed c.args.image.now.bytes c.args.table c.requires.group c.args.name.now c.unwrap.result (leads c)
 
 pub returns-clause-only : goal.returns-clause-only
-returns-clause-only c = rw c.requires.segment (one_has c.args.image.now.bytes c.args.group.now c.requires.group c.args.name.now c.unwrap.result (leads c))
+returns-clause-only c = rw c.requires.segment (one_has c.args.image.now.bytes c.args.table c.requires.group c.args.name.now c.unwrap.result (leads c))
 
 pub returns-clause-none : goal.returns-clause-none
 returns-clause-none c =
     let empty = rw (c.internal_k.ensures, c.bytes-bytes.ensures, c.tree.ensures) at (rw c.unwrap.ensures at c.find_leaf.ensures.empty) in
-    none_listed c.args.image.now.bytes c.args.group.now c.requires.group c.unwrap.result empty.0
+    none_listed c.args.image.now.bytes c.args.table c.requires.group c.unwrap.result empty.0

@@ -18,14 +18,14 @@ follow-returns-in-Group-clause-refused t c = rw c.fault.ensures (λ followed fie
 pub follow-returns-in-Array-clause-read : goal.follow-returns-in-Array-clause-read
 follow-returns-in-Array-clause-read t c = λ followed field ready.
     read_at c.args.image.now.bytes c.args.claims.now.held c.args.claims.now.held followed c.args.opened.now.objects.items c.args.opened.now.objects.items field c.args.depth c.args.link c.in-Object.header c.in-Object.is
-    (array_read c.args.image.now.bytes c.args.claims.now.held followed c.args.opened.now.objects.items field c.in-Object.header c.args.depth c.args.link.name.now c.requires.depth
+    (array_read c.args.image.now.bytes c.args.claims.now.held followed c.args.opened.now.objects.items field c.in-Object.header c.args.depth c.args.link.name.now
     (ready_at c.args.image.now.bytes c.args.claims.now.held followed c.args.opened.now.objects.items field c.args.depth c.args.link c.in-Object.header c.in-Object.is ready)
     c.in-Some.object.now c.in-Some.ensures.object c.in-Some.ensures.header (λ group. subst IsGroupContent c.in-Array.is group))
 
 pub follow-returns-clause-read : goal.follow-returns-clause-read
 follow-returns-clause-read t c = on_ok_weaker c.read_tree.result (λ read followed field ready.
     read_at c.args.image.now.bytes c.args.claims.now.held c.read_tree.new.claims.held followed c.args.opened.now.objects.items c.read_tree.new.opened.objects.items field c.args.depth c.args.link c.in-Object.header c.in-Object.is
-    (tree_read c.args.image.now.bytes c.args.claims.now.held c.read_tree.new.claims.held followed c.args.opened.now.objects.items c.read_tree.new.opened.objects.items field c.in-Object.header c.args.depth c.args.link.name.now c.requires.depth
+    (tree_read c.args.image.now.bytes c.args.claims.now.held c.read_tree.new.claims.held followed c.args.opened.now.objects.items c.read_tree.new.opened.objects.items field c.in-Object.header c.args.depth c.args.link.name.now
     (read followed field (ready_at c.args.image.now.bytes c.args.claims.now.held followed c.args.opened.now.objects.items field c.args.depth c.args.link c.in-Object.header c.in-Object.is ready)))) c.read_tree.ensures.read
 
 pub read_tree-returns-in_err-object-clause-refused : goal.read_tree-returns-in_err-object-clause-refused

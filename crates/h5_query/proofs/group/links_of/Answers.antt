@@ -13,14 +13,14 @@ returns-in_default-content c =
     c.in_default-content.is
 
 pub entries-requires : goal.entries-requires
-entries-requires c = group_read c.args.image.now.bytes c.args.opened.now.objects.items c.args.opened.now.numbers c.requires c.args.number.0 c.in-Some.object.now (got_some c.args.opened.now.objects.items c.deref.result.now c.args.number.0 c.in-Some.object c.deref.ensures.value c.in-Some.ensures.lookup) c.in-Group.group c.in-Group.is
+entries-requires c = group_read c.args.image.now.bytes c.args.opened.now.objects.items c.args.opened.now.numbers c.requires c.args.number.0 c.in-Some.object.now (got_some c.args.opened.now.objects.items c.deref.result.now c.args.number.0 c.in-Some.object c.deref.ensures.value c.in-Some.ensures.lookup) c.in-Group.table c.in-Group.is
 
 pub tree_links-requires-clause-led : goal.tree_links-requires-clause-led
 tree_links-requires-clause-led c =
-    rw c.deref-2.ensures.value (found_led c.args.image.now.bytes c.args.opened.now.objects.items c.args.opened.now.numbers c.requires c.args.number.0 c.in-Some.object.now (got_some c.args.opened.now.objects.items c.deref.result.now c.args.number.0 c.in-Some.object c.deref.ensures.value c.in-Some.ensures.lookup) c.in-Group.group c.in-Group.is
+    rw c.deref-2.ensures.value (found_led c.args.image.now.bytes c.args.opened.now.objects.items c.args.opened.now.numbers c.requires c.args.number.0 c.in-Some.object.now (got_some c.args.opened.now.objects.items c.deref.result.now c.args.number.0 c.in-Some.object c.deref.ensures.value c.in-Some.ensures.lookup) c.in-Group.table c.in-Group.is
     c.in_ok-found.found.items c.in_ok-found.ensures)
 
 pub returns : goal.returns
 returns c =
-    are_links c.args.image.now.bytes c.args.opened.now.objects.items c.args.opened.now.numbers c.requires c.args.number.0 c.in-Some.object.now (got_some c.args.opened.now.objects.items c.deref.result.now c.args.number.0 c.in-Some.object c.deref.ensures.value c.in-Some.ensures.lookup) c.in-Group.group c.in-Group.is
+    are_links c.args.image.now.bytes c.args.opened.now.objects.items c.args.opened.now.numbers c.requires c.args.number.0 c.in-Some.object.now (got_some c.args.opened.now.objects.items c.deref.result.now c.args.number.0 c.in-Some.object c.deref.ensures.value c.in-Some.ensures.lookup) c.in-Group.table c.in-Group.is
     c.in_ok-found.found.items c.in_ok-found.ensures c.in_ok-tree_links.field-0.items (rw c.deref-2.ensures.value at c.in_ok-tree_links.ensures)

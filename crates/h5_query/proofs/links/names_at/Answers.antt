@@ -11,10 +11,10 @@ returns-in_default-content c =
 pub link_names-requires : goal.link_names-requires
 link_names-requires c =
     let place = rw c.in-Object.is at c.in_ok-object.ensures in
-    group_read c.args.image.now.bytes c.args.opened.now.objects.items c.args.opened.now.numbers c.requires c.in-Object.number c.in-Object.object.now place.1 c.in-Group.group c.in-Group.is
+    group_read c.args.image.now.bytes c.args.opened.now.objects.items c.args.opened.now.numbers c.requires c.in-Object.number c.in-Object.object.now place.1 c.in-Group.table c.in-Group.is
 
 pub returns-in-Ok : goal.returns-in-Ok
 returns-in-Ok c =
     let place = rw c.in-Object.is at c.in_ok-object.ensures in
     group_names c.args.image.now.bytes c.args.opened.now.objects.items c.args.opened.now.numbers c.requires c.in-Object.number c.in-Object.object.now place.1 c.args.path.now place.0
-    c.in-Group.group c.in-Group.is _ c.in-Ok.ensures
+    c.in-Group.table c.in-Group.is _ c.in-Ok.ensures

@@ -1,7 +1,7 @@
 use Rattle.std.proofs.Common.{◌∙◌, Option, Vec, ap, map, subst, sym}
 use Rattle.std.specs.declared.alloc.Global.{Global}
 use Rattle.std.specs.FinMap.{entries}
-use Rattle.h5_query.specs.Links.{links_of_group}
+use Rattle.h5_query.specs.GroupTold.{links_told}
 use Rattle.h5_model.specs.Tree.Links.{tree_link, tree_target}
 use Rattle.h5_model.specs.declared.object_no.ObjectNo.{ObjectNo}
 use Rattle.h5_model.specs.declared.link.Link.{Link}
@@ -16,29 +16,29 @@ pub insert_link-requires : goal.insert_link-requires
 insert_link-requires c =
     let image = c.args.image.now.bytes in
     let hs = headers c.args.opened.now.objects.items in
-    let g = c.args.group.now in
+    let g = c.args.table in
     record {
       fresh = not_among image hs g c.requires.read c.in_ok-found.found.items c.in_ok-found.ensures c.in_ok-links.links.items
           (c.in_ok-links.ensures ∙ ap (map (in_tree hs)) c.deref.ensures.value)
           c.in-Some.link.name.now
-          (subst (λ (new : Option (Link ObjectNo)). IsFreshIn new (links_by hs (links_of_group image g))) c.in-Some.is c.requires.fresh);
+          (subst (λ (new : Option (Link ObjectNo)). IsFreshIn new (links_by hs (links_told image g))) c.in-Some.is c.requires.fresh);
     }
 
 pub returns : goal.returns
 returns c =
     let image = c.args.image.now.bytes in
     let hs = headers c.args.opened.now.objects.items in
-    let g = c.args.group.now in
+    let g = c.args.table in
     elim c.match-new.branch [
       | in-Some+in_ok-insert_link w ↦
           ap (λ (v : Vec (Link ObjectNo) Global). map tree_link v.items) w.links-is
           ∙ links_inserted image hs g c.requires.read c.in_ok-found.found.items c.in_ok-found.ensures c.in_ok-links.links.items
           (c.in_ok-links.ensures ∙ ap (map (in_tree hs)) c.deref.ensures.value)
           w.in-Some.link.name.now (tree_target w.in-Some.link.to) _ w.in_ok-insert_link.ensures
-          ∙ ap (λ (new : Option (Link ObjectNo)). entries (links_with new (links_by hs (links_of_group image g)))) (sym w.in-Some.is)
+          ∙ ap (λ (new : Option (Link ObjectNo)). entries (links_with new (links_by hs (links_told image g)))) (sym w.in-Some.is)
       | in_default w ↦
           ap (λ (v : Vec (Link ObjectNo) Global). map tree_link v.items) w.links-is
           ∙ links_are image hs g c.requires.read c.in_ok-found.found.items c.in_ok-found.ensures c.in_ok-links.links.items
           (c.in_ok-links.ensures ∙ ap (map (in_tree hs)) c.deref.ensures.value)
-          ∙ ap (λ (new : Option (Link ObjectNo)). entries (links_with new (links_by hs (links_of_group image g)))) (sym w.in_default.is)
+          ∙ ap (λ (new : Option (Link ObjectNo)). entries (links_with new (links_by hs (links_told image g)))) (sym w.in_default.is)
     ]

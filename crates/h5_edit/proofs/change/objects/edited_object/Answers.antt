@@ -8,11 +8,11 @@ others_in-requires-clause-kept c =
 
 pub links_in-requires-clause-read : goal.links_in-requires-clause-read
 links_in-requires-clause-read c =
-    read c.args.image.now.bytes c.args.opened.now.objects.items c.args.opened.now.numbers c.requires.opened c.args.object.now c.requires.there c.in-Group.group c.in-Group.is
+    read c.args.image.now.bytes c.args.opened.now.objects.items c.args.opened.now.numbers c.requires.opened c.args.object.now c.requires.there c.in-Group.table c.in-Group.is
 
 pub links_in-requires-clause-led : goal.links_in-requires-clause-led
 links_in-requires-clause-led c =
-    led c.args.image.now.bytes c.args.opened.now.objects.items c.args.opened.now.numbers c.requires.opened c.args.object.now c.requires.there c.in-Group.group c.in-Group.is
+    led c.args.image.now.bytes c.args.opened.now.objects.items c.args.opened.now.numbers c.requires.opened c.args.object.now c.requires.there c.in-Group.table c.in-Group.is
 
 pub kept_array-content-requires : goal.kept_array-content-requires
 kept_array-content-requires c =

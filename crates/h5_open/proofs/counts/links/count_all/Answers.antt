@@ -2,7 +2,7 @@ use Rattle.std.proofs.Common.{◌≡◌, ℕ, ◌+◌, ◌<◌, List, [], ◌∷
 use Rattle.std.proofs.lemmas.List.{append-nil}
 use Rattle.h5_model.specs.Format.Symbols.{Target, Header}
 use Rattle.h5_model.specs.Format.Superblock.{root_header}
-use Rattle.h5_group.specs.Links as group
+use Rattle.h5_group.specs.Told.{links_told}
 use Rattle.h5_header.specs.Listed.{messages_in}
 use Rattle.h5_open.specs.declared.opened.object.OpenedObject.{OpenedObject}
 use Rattle.h5_open.specs.Opened.Kept.{IsObjectKept, IsContentKept}
@@ -11,7 +11,7 @@ use Rattle.h5_open.specs.Counted.Links.{root_link, object_links}
 use Rattle.h5_open.specs.Counted.Counts.{AreCounts}
 use Rattle.h5_open.proofs.CountedLaws.LoopLaws.{at_index, more_listed}
 use Rattle.h5_open.proofs.counts.links.count_all.Goals as goal
-use Rattle.h5_open.proofs.counts.links.count_all.Goals.{in-Group, in_default}
+use Rattle.h5_open.proofs.counts.links.count_all.Goals.{in-Group+in_ok-count_group, in_default}
 
 pub loop-object-init : goal.loop-object-init
 loop-object-init c =
@@ -45,13 +45,13 @@ loop-object-preserved c =
     let so_far = root_link image ∷ object_links image (take i objects) in
     let more = more_listed (λ (x : OpenedObject). content_links image x.content) objects i o low in
     elim c.match-object.branch [
-      | in-Group w ↦
-          let counted = w.count_group.ensures.counted so_far c.loop-object.invariant in
-          let links : group.links_of_group image w.in-Group.group ≡ content_links image (get_or objects i o).content
+      | in-Group+in_ok-count_group w ↦
+          let counted = w.in_ok-count_group.ensures.counted so_far c.loop-object.invariant in
+          let links : links_told image w.in-Group.table ≡ content_links image (get_or objects i o).content
           = ap (content_links image) (sym w.in-Group.is) ∙ ap (λ (x : OpenedObject). content_links image x.content) is in
           subst (λ (ls : List (List ℕ × Target)). AreCounts at (root_link image ∷ ls) c.match-object.counts) more
           (subst (λ (ls : List (List ℕ × Target)). AreCounts at (so_far ++ ls) c.match-object.counts) links
-          (subst (AreCounts at (so_far ++ group.links_of_group image w.in-Group.group)) (sym w.counts-is) counted))
+          (subst (AreCounts at (so_far ++ links_told image w.in-Group.table)) (sym w.counts-is) counted))
       | in_default w ↦
           let none : [] ≡ content_links image (get_or objects i o).content
           = ap (content_links image) (sym w.in_default.is) ∙ ap (λ (x : OpenedObject). content_links image x.content) is in

@@ -1,4 +1,5 @@
-use Rattle.std.proofs.Common.{ℕ, ◌<◌, List, ◌++◌, subst, map, take, length, get_or}
+use Rattle.std.proofs.Common.{ℕ, ◌<◌, List, ◌++◌, ◌∙◌, subst, map, take, length, arith}
+use Rattle.std.proofs.lemmas.List.{take_all}
 use Rattle.h5_model.specs.Format.Superblock.{leaf_k}
 use Rattle.h5_model.specs.Format.Heap.{segment_of}
 use Rattle.h5_model.specs.Format.Symbols.{Target, symbols_at, link_of}
@@ -11,14 +12,18 @@ use Rattle.h5_open.proofs.counts.links.count_group.Goals as goal
 pub loop-node-preserved : goal.loop-node-preserved
 loop-node-preserved c before are =
     let image = c.args.image.now.bytes in
-    let at = headers c.args.opened.now.objects.items in
-    let nodes = c.args.group.now.symbol_nodes.items in
-    let link = link_of (segment_of image c.args.group.now.table.heap) in
+    let nodes = c.deref-node-items.result.now in
+    let link = link_of (segment_of image c.args.table.heap) in
     let i = c.loop-node.node-index in
-    let same = c.deref-node-items.ensures.value in
     let so_far = before ++ map link (all_entries image (take i nodes)) in
-    let low : i < length nodes = rw same at c.loop-node-test.true in
+    let low : i < length nodes = c.loop-node-test.true in
     let counted = c.count_node.ensures.counted so_far (c.loop-node.invariant before are) in
-    let here : AreCounts at (so_far ++ map link (symbols_at image (leaf_k image) (get_or nodes i 0))) c.count_node.new.counts
-    = subst (λ (ns : List ℕ). AreCounts at (so_far ++ map link (symbols_at image (leaf_k image) (get_or ns i 0))) c.count_node.new.counts) same counted in
-    subst (λ (ls : List (List ℕ × Target)). AreCounts at ls c.count_node.new.counts) (more_mapped_list link (symbols_at image (leaf_k image)) before nodes i 0 low) here
+    subst (λ (ls : List (List ℕ × Target)). AreCounts (headers c.args.opened.now.objects.items) ls c.count_node.new.counts)
+    (more_mapped_list link (symbols_at image (leaf_k image)) before nodes i 0 low) counted
+
+pub returns-clause-counted : goal.returns-clause-counted
+returns-clause-counted c = λ before are.
+    let image = c.args.image.now.bytes in
+    let all = take_all c.loop-node.node-index c.deref-node-items.result.now (omega (arith, c.loop-node-test.false)) ∙ c.deref-node-items.ensures.value ∙ c.in_ok-nodes.ensures in
+    subst (λ (ns : List ℕ). AreCounts (headers c.args.opened.now.objects.items) (before ++ map (link_of (segment_of image c.args.table.heap)) (all_entries image ns)) c.loop-node.counts) all
+    (c.loop-node.invariant before are)

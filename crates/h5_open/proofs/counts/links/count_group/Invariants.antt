@@ -10,4 +10,4 @@ use Rattle.h5_open.proofs.counts.links.count_group.Given as goal
 abbrev pub invariant-loop-node : goal.invariant-loop-node
 invariant-loop-node l = (before : List (List ℕ × Target)) → AreCounts (headers l.opened.objects.items) before l.fn.counts
     → AreCounts (headers l.opened.objects.items)
-    (before ++ map (link_of (segment_of l.image.bytes l.group.table.heap)) (all_entries l.image.bytes (take l.node-index l.group.symbol_nodes.items))) l.counts
+    (before ++ map (link_of (segment_of l.image.bytes l.table.heap)) (all_entries l.image.bytes (take l.node-index l.node-items))) l.counts

@@ -10,4 +10,4 @@ use Rattle.h5_open.proofs.counts.links.count_node.Given as goal
 abbrev pub invariant-loop-i : goal.invariant-loop-i
 invariant-loop-i l = (before : List (List ℕ × Target)) → AreCounts (headers l.opened.objects.items) before l.fn.counts
     → AreCounts (headers l.opened.objects.items)
-    (before ++ map (link_of (segment_of l.image.bytes l.group.table.heap)) (take l.i (symbols_at l.image.bytes (leaf_k l.image.bytes) l.node))) l.counts
+    (before ++ map (link_of (segment_of l.image.bytes l.table.heap)) (take l.i (symbols_at l.image.bytes (leaf_k l.image.bytes) l.node))) l.counts
