@@ -11,6 +11,9 @@ from .source import HIDDEN
 
 PATH = os.path.join("tests", "wrong-bodies.judged")
 PARTS = ("src", "specs", "proofs", "wrong-bodies")
+WORD = re.compile(r"\w+|[^\w\s]")
+# The comma that ends a list with a line for each part.
+LAST_COMMA = re.compile(r",(?=[ ]*\n\s*[)\]}>])")
 LINE = re.compile(r"(\w+) ([0-9a-f]{16,64}) (\d+) refused")
 
 
@@ -24,14 +27,14 @@ class Judged:
 
 
 def words_of(text):
-    """The words of a Rattle source, without its comments and however its lines are broken: what the prover reads."""
+    """The words and signs of a Rattle source, without its comments and however its lines are broken: what the prover reads."""
     words, place = [], 0
     for match in HIDDEN.finditer(text):
-        words += text[place : match.start()].split()
+        words += WORD.findall(LAST_COMMA.sub("", text[place : match.start()]))
         if not match[0].startswith(("//", "/*")):
             words.append(match[0])
         place = match.end()
-    return words + text[place:].split()
+    return words + WORD.findall(LAST_COMMA.sub("", text[place:]))
 
 
 def told_lines(text):

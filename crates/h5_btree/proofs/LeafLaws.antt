@@ -1,12 +1,7 @@
 -- What stands below a row of two parts is what stands below the first, and then below the second.
-use Rattle.std.proofs.Common.{◌≡◌, ℕ, zero, suc, List, [], ◌++◌, map, refl, ap, ◌∙◌}
-use Rattle.std.specs.List.{flat_map}
-use Rattle.std.proofs.lemmas.List.{map-append}
+use Rattle.std.proofs.Common.{◌≡◌, ℕ, zero, suc, List, [], ◌++◌, refl, ap, ◌∙◌}
 use Rattle.std.proofs.lemmas.Grind.{flat_map-append}
-use Rattle.h5_bytes.specs.Texts.{text_at}
 use Rattle.h5_model.specs.Format.Rows.{Reading, next_row, leaves}
-use Rattle.h5_model.specs.Format.Symbols.{Entry}
-use Rattle.h5_model.specs.Format.Links.{Symbols, names_in}
 
 module _ (V : Reading) where
   pub next_row-append : (xs ys : List ℕ) → next_row V (xs ++ ys) ≡ next_row V xs ++ next_row V ys
@@ -20,9 +15,3 @@ module _ (V : Reading) where
   pub leaves-nil : (level : ℕ) → leaves V level [] ≡ []
   leaves-nil zero = refl
   leaves-nil (suc level) = leaves-nil level
-
--- the names in symbol nodes
-pub names-append : (S : Symbols) (segment xs ys : List ℕ) → names_in S segment (xs ++ ys) ≡ names_in S segment xs ++ names_in S segment ys
-names-append S segment xs ys =
-    ap (map (λ (e : Entry). text_at segment e.name)) (flat_map-append S xs ys)
-    ∙ map-append (λ (e : Entry). text_at segment e.name) (flat_map S xs) (flat_map S ys)

@@ -1,9 +1,10 @@
 pub mod NodeLaws
 pub mod DescentLaws
 pub mod WayLaws
-pub mod NameOrder
-pub mod LeafLaws
-pub mod NameWay
+pub mod PlaceFound
 pub mod NameFound
+pub mod LeafLaws
 pub mod WriteLaws
 pub mod WalkLaws
+pub mod OrderLaws
+pub mod RisingLaws

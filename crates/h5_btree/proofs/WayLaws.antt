@@ -1,10 +1,10 @@
 -- One step on the way down a tree.
-use Rattle.std.proofs.Common.{◌≡◌, ◌≢◌, ℕ, zero, suc, ◌-◌, Bool, List, length, get_or, slice_get, Some, inl, inr, refl, sym, ap, subst, ◌∙◌, arith}
+use Rattle.std.proofs.Common.{◌≡◌, ◌≢◌, ℕ, zero, suc, ◌-◌, ◌<◌, Bool, List, length, get_or, slice_get, slice_index, Some, inl, inr, refl, sym, ap, subst, ◌∙◌, arith}
 use Rattle.std.proofs.lemmas.Option.{get_or_from_slice_get, slice_get_within}
-use Rattle.h5_model.specs.Format.Rows.{Node, next_row}
+use Rattle.h5_model.specs.Format.Rows.{Node, Reading, next_row}
 use Rattle.h5_model.specs.Format.Nodes.{Kind, node_at, reading_of}
 use Rattle.h5_btree.specs.Form.{MayStandAt}
-use Rattle.h5_btree.specs.Descent.{IsChildFor, IsInRow, IsStop, LeadsTo, StopsDescent}
+use Rattle.h5_btree.specs.Descent.{EndsAt, IsChildFor, IsInRow, IsStop, StopsDescent}
 use Rattle.h5_btree.specs.declared.read.NodeFault.{NodeFault}
 use Rattle.h5_btree.proofs.DescentLaws.{stands_in_row, child_in_row}
 
@@ -25,17 +25,14 @@ module _ (image : List ℕ) (kind : Kind) (behind : List ℕ → Bool) (at : ℕ
   chosen_there : IsChildFor behind (node_at image kind at) i
   chosen_there = subst (λ (n : Node). IsChildFor behind n i) is chosen
 
-  pub leads_here : LeadsTo (node_at image kind) behind 0 at child
-  leads_here = (i, chosen_there, same_child 0)
-
-  pub leads_on : (level leaf : ℕ) → level ≢ 0 → LeadsTo (node_at image kind) behind (level - 1) child leaf → LeadsTo (node_at image kind) behind level at leaf
-  leads_on zero leaf some rest = absurd (some refl)
-  leads_on (suc level) leaf some rest =
+  pub ends_on : (level : ℕ) (last : Node) (j : ℕ) → level ≢ 0 → EndsAt (node_at image kind) behind (level - 1) child last j → EndsAt (node_at image kind) behind level at last j
+  ends_on zero last j some rest = absurd (some refl)
+  ends_on (suc level) last j some rest =
       let below : suc level - 1 ≡ level = omega arith in (
         i,
         chosen_there,
-        subst (λ (n : ℕ). LeadsTo (node_at image kind) behind level n leaf) (same_child 0)
-            (subst (λ (l : ℕ). LeadsTo (node_at image kind) behind l child leaf) below rest),
+        subst (λ (n : ℕ). EndsAt (node_at image kind) behind level n last j) (same_child 0)
+            (subst (λ (l : ℕ). EndsAt (node_at image kind) behind l child last j) below rest),
       )
 
   pub stops_below : (level : ℕ) (fault : NodeFault) → level ≢ 0 → StopsDescent image kind behind (level - 1) child fault → StopsDescent image kind behind level at fault
@@ -58,3 +55,8 @@ module _ (image : List ℕ) (kind : Kind) (behind : List ℕ → Bool) (at : ℕ
       let count : length node.children ≡ length (node_at image kind at).children = ap (λ (n : Node). length n.children) is in
       subst (λ (l : ℕ). IsInRow image kind owned l (next_row (reading_of image kind owned) row) child) (sym below)
       (child_in_row image kind owned level row at i child r (omega arith) (sym (same_child child)))
+
+-- where the way ends is a child
+pub ends_low : (V : Reading) (behind : List ℕ → Bool) (level at : ℕ) (node : Node) (i : ℕ) → EndsAt V behind level at node i → i < length node.children
+ends_low V behind zero at node i ends = (ends.1).child
+ends_low V behind (suc level) at node i ends = ends_low V behind level (slice_index (V at).children ends.0) node i ends.2

@@ -15,11 +15,15 @@ pub record IsChildFor (behind : List ℕ → Bool) (node : Node) (i : ℕ) : Typ
   pub low : 1 ≤ i → behind (slice_index_or node.keys i []) ≡ true
   pub high : i + 1 < length node.children → behind (slice_index_or node.keys (i + 1) []) ≡ false
 
--- from a node of this level, by these children, to a child at the bottom
+-- from a node of this level, by these children, to child i of a node of level 0
+abbrev pub EndsAt : Reading → (List ℕ → Bool) → ℕ → ℕ → Node → ℕ → Type 0
+EndsAt V behind zero at node i = (node ≡ V at) × IsChildFor behind node i
+EndsAt V behind (suc level) at node i =
+    (j : ℕ) × IsChildFor behind (V at) j × EndsAt V behind level (slice_index (V at).children j) node i
+
+-- to what that child leads
 abbrev pub LeadsTo : Reading → (List ℕ → Bool) → ℕ → ℕ → ℕ → Type 0
-LeadsTo V behind zero at child = (i : ℕ) × IsChildFor behind (V at) i × (child ≡ slice_index (V at).children i)
-LeadsTo V behind (suc level) at child =
-    (i : ℕ) × IsChildFor behind (V at) i × LeadsTo V behind level (slice_index (V at).children i) child
+LeadsTo V behind level at leaf = (node : Node) × (i : ℕ) × EndsAt V behind level at node i × (leaf ≡ slice_index node.children i)
 
 -- why a node of this kind, which is to stand at this level, is not one
 abbrev pub IsStop : List ℕ → Kind → ℕ → ℕ → NodeFault → Type 0

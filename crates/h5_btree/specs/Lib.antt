@@ -2,3 +2,5 @@ pub mod Form
 pub mod Descent
 pub mod Writing
 pub mod Walk
+pub mod Order
+pub mod Rising

@@ -8,7 +8,7 @@ mod read;
 mod rows;
 mod stands;
 
-pub use leaves::Leaves;
+pub use leaves::{Leaves, Trees};
 pub use read::{Tree, read_tree};
 pub use rows::tree_leaves;
 pub use stands::tree_node;

@@ -9,7 +9,7 @@ use Rattle.h5_model.specs.Edits.EditFaults.{refused_text}
 use Rattle.h5_model.specs.Tree.Objects.{Tree}
 use Rattle.h5_model.specs.declared.edit_fault.EditFault.{EditFault}
 use Rattle.h5_script.specs.Opened.State.{FileState}
-use Rattle.h5_script.specs.State.{IsSound}
+use Rattle.h5_script.specs.Opened.Sound.{IsSound}
 use Rattle.h5_cli.specs.Output.{dump_fault, IsDumpText, IsScriptRun}
 use Rattle.h5_cli.specs.Ends.{Ends, IsRunOver}
 use Rattle.h5_cli.specs.Status.{status_code}

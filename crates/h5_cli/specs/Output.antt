@@ -15,7 +15,7 @@ use Rattle.h5_model.specs.Edits.EditFaults.{refused_text}
 use Rattle.h5_model.specs.declared.edit_fault.EditFault.{EditFault}
 use Rattle.h5_model.specs.declared.edit_fault.EditFault.TheVariants.{BadPath}
 use Rattle.h5_script.specs.Opened.State.{FileState}
-use Rattle.h5_script.specs.State.{IsSound}
+use Rattle.h5_script.specs.Opened.Sound.{IsSound}
 use Rattle.h5_script.specs.Script.{IsDone}
 use Rattle.h5_script.specs.declared.ran.Ran.{Ran}
 use Rattle.h5_cli.specs.declared.status.Status.{Status}

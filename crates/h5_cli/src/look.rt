@@ -3,7 +3,7 @@
 ghost use Rattle.std.specs.Prelude.{◌≡◌, ℕ, IfOk, List, MatchResult, Option, Some};
 ghost use Rattle.h5_model.specs.Edits.EditFaults.{refused_text};
 ghost use Rattle.h5_model.specs.Scripts.Text.{list_text};
-ghost use Rattle.h5_script.specs.State.{IsSound};
+ghost use Rattle.h5_script.specs.Opened.Sound.{IsSound};
 ghost use Rattle.h5_args.specs.Words.{WantLs, WantDump};
 ghost use Rattle.h5_cli.specs.Ends.{Ends, IsUnopened};
 ghost use Rattle.h5_cli.specs.Output.{IsDumpText};

@@ -1,7 +1,6 @@
 -- What an edit that is carried gives of a tree of arrays that are opened is one again.
-use Rattle.std.proofs.Common.{◌≡◌, ℕ, ◌==◌, ◌&&◌, List, length, true, false, Option, Some, None, refl, sym, ap, ◌∙◌, subst, arith}
-use Rattle.std.specs.Prelude.{nat_lt, is_some, option_and_then}
-use Rattle.std.specs.BTreeMap.{BTreeMap}
+use Rattle.std.proofs.Common.{◌≡◌, ℕ, ◌==◌, length, true, false, Option, Some, None, refl, sym, ap, ◌∙◌, subst, arith}
+use Rattle.std.specs.Prelude.{nat_lt, option_and_then}
 use Rattle.std.specs.Ordering.{nat_cmp}
 use Rattle.std.specs.FinMap.{get, get-empty, insert, remove, empty}
 use Rattle.std.proofs.lemmas.Bool.Decides.{nat_tests}
@@ -16,19 +15,8 @@ use Rattle.h5_model.specs.declared.dataset.Store.{Store}
 use Rattle.h5_model.specs.declared.dataset.Store.TheVariants as store
 use Rattle.h5_model.specs.declared.edits.Edit.{Edit}
 use Rattle.h5_model.specs.declared.edits.Edit.TheVariants.{CreateGroup, CreateDataset, HardLink, SoftLink, Unlink, SetAttr, RemoveAttr, Write, Resize}
-use Rattle.h5_header.specs.Listed.{messages_in}
-use Rattle.h5_model.specs.Format.Messages.{Message}
-use Rattle.h5_model.specs.Format.Reads.{storage_of}
 use Rattle.h5_query.specs.Opened.Carried.{IsCarried, AreCarried}
-use Rattle.h5_query.specs.Opened.Kept.{IsContentKept, IsOpened}
-use Rattle.h5_query.specs.Opened.Objects.{content_in, headers, tree_of}
-use Rattle.h5_query.specs.Told.{array_told}
-use Rattle.h5_query.specs.OpenedObjectType.{OpenedObject}
-use Rattle.h5_query.specs.OpenedContentType.{OpenedContent}
-use Rattle.h5_query.specs.OpenedContentType.TheVariants as content
-use Rattle.h5_query.proofs.OpenedLaws.Indexed.{object_kept}
-use Rattle.h5_edit.proofs.FitLaws.OpenedTrees.{object_read}
-use Rattle.h5_edit.specs.Fits.Laws.{is_plain_edit}
+use Rattle.h5_edit.specs.Carried.{is_carried}
 use Rattle.h5_edit.specs.Refusals.Allowed.{is_contiguous, is_carried_spec}
 use Rattle.h5_edit.proofs.FitLaws.ChangedTrees.{EachHolds, each_put, each_at, each_linked, each_linked_to}
 
@@ -71,7 +59,7 @@ array_carried s carried d is = subst IsCarried (same_Some (new_dataset s) d is) 
 
 -- ---- trees
 
-edited_each : (tree : Tree) (edit : Edit) (next : ℕ) → EachHolds IsCarriedObject tree → is_plain_edit edit ≡ true → EachHolds IsCarriedObject (applied tree edit next)
+edited_each : (tree : Tree) (edit : Edit) (next : ℕ) → EachHolds IsCarriedObject tree → is_carried edit ≡ true → EachHolds IsCarriedObject (applied tree edit next)
 unfolding applied
 edited_each tree (CreateGroup path) next each plain =
     each_put IsCarriedObject (linked tree path (ToObject next)) next (new_object (Group empty))
@@ -89,31 +77,8 @@ edited_each tree (RemoveAttr path name) next each plain =
 edited_each tree (Write path hyper values) next each plain = absurd (let never : false ≡ true = plain in cc)
 edited_each tree (Resize path dims) next each plain = absurd (let never : false ≡ true = plain in cc)
 
-pub edited_carried : (tree : Tree) (edit : Edit) (next : ℕ) → AreCarried tree → is_plain_edit edit ≡ true → AreCarried (applied tree edit next)
+pub edited_carried : (tree : Tree) (edit : Edit) (next : ℕ) → AreCarried tree → is_carried edit ≡ true → AreCarried (applied tree edit next)
 edited_carried tree edit next carried plain = all_carried (applied tree edit next) (edited_each tree edit next (each_carried tree carried) plain)
-
--- ---- opened images
-
-content_carried : (image at : List ℕ) (ms : List Message) (c : OpenedContent) → IsContentKept image ms c → (d : Dataset) → dataset_in (content_in image at ms c) ≡ Some d → IsCarried d
-content_carried image at ms (content.Group g) kept d is = absurd (cc)
-content_carried image at ms content.Array kept d is =
-    let array = (kept.0).carried in
-    let sizes = (array_told ms).sizes in
-    subst IsCarried (same_Some _ d is) (record { line = array.rank; stored = is_some array.block && nat_lt 0 (cells sizes); contiguous = ap (storage_of sizes) array.in_block })
-
-module _ (image : List ℕ) (objects : List OpenedObject) (numbers : BTreeMap ℕ ℕ) (opened : IsOpened image objects numbers) where
-  opened_each : EachHolds IsCarriedObject (tree_of image objects)
-  opened_each number o there =
-      let r = object_read image objects number o there in
-      let kept = (object_kept image objects numbers opened number r.opened r.stands).content in
-      subst IsCarriedObject r.is (content_carried image (headers objects) (messages_in image r.opened.messages.list) r.opened.content kept)
-
-  pub opened_carried : AreCarried (tree_of image objects)
-  opened_carried = all_carried (tree_of image objects) opened_each
-
-  -- an edit of it leaves arrays that are opened
-  pub carried_after : (edit : Edit) → is_plain_edit edit ≡ true → AreCarried (applied (tree_of image objects) edit (length objects))
-  carried_after edit plain = edited_carried (tree_of image objects) edit (length objects) opened_carried plain
 
 -- ---- the empty file
 

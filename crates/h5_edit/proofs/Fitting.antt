@@ -2,10 +2,9 @@
 use Rattle.std.proofs.Common.{◌≡◌, inl, ℕ, ◌+◌, ◌<◌, ◌≤◌, List, length, refl, sym, ap, ◌∙◌, true, false, Option, Some, None, nat_lt, arith}
 use Rattle.std.proofs.lemmas.Bool.Decides.{nat_tests}
 use Rattle.std.proofs.lemmas.List.{length-map}
-use Rattle.std.proofs.lemmas.Option.{same_Some, slice_get-get_or}
-use Rattle.std.specs.Prelude.{IsSome, slice_get, slice_index_or}
+use Rattle.std.proofs.lemmas.Option.{same_Some}
+use Rattle.std.specs.Prelude.{IsSome, MatchOption}
 use Rattle.std.specs.Borrow.{Bor}
-use Rattle.std.specs.BTreeMap.{BTreeMap}
 use Rattle.std.specs.FinMap.{get, insert, remove, empty}
 use Rattle.std.specs.Option.{option_and_then, option_map_or}
 use Rattle.h5_edit.specs.Changed.Change.{with_link, changed}
@@ -17,7 +16,7 @@ use Rattle.h5_model.specs.Format.Fixed.{IsFixed}
 use Rattle.h5_model.specs.Format.Messages.{prefix_at, total_in}
 use Rattle.h5_model.specs.Tree.Paths.{object_at}
 use Rattle.h5_model.specs.Edits.Refusal.{new_path}
-use Rattle.h5_model.specs.Tree.Objects.{Tree, Links, Link, Group, Array, ToObject, Soft, links_of, with_object}
+use Rattle.h5_model.specs.Tree.Objects.{Tree, Object, Links, Link, Group, Array, ToObject, Soft, links_of, with_object}
 use Rattle.h5_model.specs.declared.attribute.AttrSpec.{AttrSpec}
 use Rattle.h5_model.specs.declared.dataset.Spec.{Spec}
 use Rattle.h5_model.specs.declared.edits.Edit.{Edit}
@@ -30,22 +29,19 @@ use Rattle.h5_laws.proofs.SoundLaws.Applied.{object_stands}
 use Rattle.h5_laws.proofs.SoundLaws.LinksThere.{links_are}
 use Rattle.h5_laws.proofs.SoundLaws.NewPaths.{new_is_free}
 use Rattle.h5_laws.proofs.SoundLaws.Read.{reads_sound}
-use Rattle.h5_query.specs.Opened.Kept.{IsOpened}
-use Rattle.h5_query.specs.Opened.Objects.{table_of, tree_of}
-use Rattle.h5_query.specs.Opened.State.{opened_state}
+use Rattle.h5_query.specs.Opened.Sound.{IsSound, IsObjectOf}
+use Rattle.h5_query.specs.Opened.State.{FileState}
 use Rattle.h5_query.specs.OpenedObjectType.{OpenedObject}
-use Rattle.h5_query.proofs.OpenedLaws.Entries.{get_table}
-use Rattle.h5_query.proofs.OpenedLaws.Indexed.{header_at, object_kept}
-use Rattle.h5_query.proofs.OpenedLaws.Numbers.{numbered}
+use Rattle.h5_query.proofs.OpenedLaws.Indexed.{header_there}
 use Rattle.h5_edit.specs.Carried.{is_message_total_full}
 use Rattle.h5_edit.specs.Fitting.{IsFitting}
 
-module _ {image : List ℕ} {objects : List OpenedObject} {numbers : BTreeMap ℕ ℕ} (opened : IsOpened image objects numbers) where
+module _ (f : FileState) where
   abbrev tree : Tree
-  tree = tree_of image objects
+  tree = f.tree
 
   abbrev next : ℕ
-  next = length objects
+  next = f.next
 
   -- ---- new links
 
@@ -63,7 +59,7 @@ module _ {image : List ℕ} {objects : List OpenedObject} {numbers : BTreeMap �
         (f.group.links, ap (links_of tree) (sym parent) ∙ links_are tree f.parent f.group, ap (get f.group.links) (sym name) ∙ f.free)
 
   pub create_group_fits : {path : List ℕ} {place : NewPlace} {object : ObjectNo} → IsPlaceAllowed tree next path (CreateGroup path) place → object.0 ≡ next
-      → IsFitting image objects (CreateGroup path) (Linked place.parent place.name target.Group) (Some object)
+      → IsFitting f (CreateGroup path) (Linked place.parent place.name target.Group) (Some object)
   unfolding applied changed
   create_group_fits placed numbered = record {
     typed = tt;
@@ -78,7 +74,7 @@ module _ {image : List ℕ} {objects : List OpenedObject} {numbers : BTreeMap �
 
   pub create_dataset_fits : {path : List ℕ} {place : NewPlace} {object : ObjectNo} (spec : Bor Spec) → IsFixed (spec.now).fixed → is_carried_spec spec.now ≡ true
       → IsPlaceAllowed tree next path (CreateDataset path spec.now) place → object.0 ≡ next
-      → IsFitting image objects (CreateDataset path spec.now) (Linked place.parent place.name (target.Array spec)) (Some object)
+      → IsFitting f (CreateDataset path spec.now) (Linked place.parent place.name (target.Array spec)) (Some object)
   unfolding applied changed
   create_dataset_fits spec typed carried placed numbered = record {
     typed = typed;
@@ -92,7 +88,7 @@ module _ {image : List ℕ} {objects : List OpenedObject} {numbers : BTreeMap �
   }
 
   pub hard_link_fits : {path old : List ℕ} {number : ℕ} {place : NewPlace} → IsLinkPlaced tree next old path (HardLink old path) (number, place)
-      → IsFitting image objects (HardLink old path) (Linked place.parent place.name (target.Object number)) (Some (record { 0 = number }))
+      → IsFitting f (HardLink old path) (Linked place.parent place.name (target.Object number)) (Some (record { 0 = number }))
   unfolding applied changed
   hard_link_fits {path = path} {number = number} placed = record {
     typed = tt;
@@ -106,7 +102,7 @@ module _ {image : List ℕ} {objects : List OpenedObject} {numbers : BTreeMap �
   }
 
   pub soft_link_fits : {path : List ℕ} {place : NewPlace} (text : Bor (List ℕ)) → IsPlaceAllowed tree next path (SoftLink text.now path) place
-      → IsFitting image objects (SoftLink text.now path) (Linked place.parent place.name (target.Text text)) None
+      → IsFitting f (SoftLink text.now path) (Linked place.parent place.name (target.Text text)) None
   unfolding applied changed
   soft_link_fits text placed = record {
     typed = tt;
@@ -121,53 +117,60 @@ module _ {image : List ℕ} {objects : List OpenedObject} {numbers : BTreeMap �
 
   -- ---- attributes
 
-  stands : (path : List ℕ) (number : ℕ) → object_at tree path ≡ Some number → IsSome (get tree number)
-  stands path number at = object_stands tree path number (reads_sound image (table_of objects) tree opened.reads) at
+  -- the object at a path is there, and has a header
+  module _ (sound : IsSound f) (path : List ℕ) (number : ℕ) (at : object_at tree path ≡ Some number) where
+    stands : IsSome (get tree number)
+    stands = object_stands tree path number (reads_sound f.image f.table tree (sound.placed, sound.reads)) at
 
-  pub number_low : (path : List ℕ) (number : ℕ) → object_at tree path ≡ Some number → number < next
-  number_low path number at = (numbered image objects numbers opened).given number (stands path number at)
+    header_stands : IsSome (get f.table number)
+    header_stands = go (get tree number) refl stands where
+      go : (found : Option Object) → get tree number ≡ found → IsSome found → IsSome (get f.table number)
+      go None is some = absurd (let never : false ≡ true = some in cc)
+      go (Some o) is some = rw (header_there f sound number o is).1 refl
 
-  -- whether the header has no place for a message and a Continuation
-  full_at : (path : List ℕ) (attr : AttrSpec) (number : ℕ) (o : OpenedObject) → object_at tree path ≡ Some number → o ≡ slice_index_or objects number o
-      → is_message_total_full (opened_state image objects) (SetAttr path attr) ≡ nat_lt 65535 (length o.messages.list + 2)
-  full_at path attr number o at is =
-      let there : slice_get objects number ≡ Some o = slice_get-get_or objects number o (number_low path number at) ∙ ap (λ (x : OpenedObject). Some x) (sym is) in
-      let test = λ (header : ℕ). nat_lt 65535 (total_in (prefix_at image header) + 2) in
-      let header : get (table_of objects) number ≡ Some o.messages.header = get_table objects number ∙ header_at objects number o there in
-      let total = (((object_kept image objects numbers opened number o there).header).has).total in
-      ap (λ (found : Option ℕ). option_map_or test (option_and_then (get (table_of objects)) found) false) at
-      ∙ ap (λ (found : Option ℕ). option_map_or test found false) header
-      ∙ ap (λ n. nat_lt 65535 (n + 2)) (total ∙ length-map o.messages.list (message_in image))
+    -- so it is found
+    pub object_found : (found : Option (Bor OpenedObject)) → MatchOption found (get f.table number ≡ None) (λ o. IsObjectOf f number o.now) → IsSome found
+    object_found None none = let never : false ≡ true = rw none at header_stands in absurd (cc)
+    object_found (Some o) of = refl
 
-  pub full_here : (path : List ℕ) (attr : AttrSpec) (number : ℕ) (o : OpenedObject) → object_at tree path ≡ Some number → o ≡ slice_index_or objects number o
-      → 65535 < length o.messages.list + 2 → is_message_total_full (opened_state image objects) (SetAttr path attr) ≡ true
-  full_here path attr number o at is many = full_at path attr number o at is ∙ grind (arith, nat_tests)
+  -- whether its header has no place for a message and a Continuation
+  module _ (path : List ℕ) (attr : AttrSpec) (number : ℕ) (o : OpenedObject) (at : object_at tree path ≡ Some number) (of : IsObjectOf f number o) where
+    full_at : is_message_total_full f (SetAttr path attr) ≡ nat_lt 65535 (length o.messages.list + 2)
+    full_at =
+        let test = λ (header : ℕ). nat_lt 65535 (total_in (prefix_at f.image header) + 2) in
+        let total = (((of.kept).header).has).total in
+        ap (λ (found : Option ℕ). option_map_or test (option_and_then (get f.table) found) false) at
+        ∙ ap (λ (found : Option ℕ). option_map_or test found false) of.header
+        ∙ ap (λ n. nat_lt 65535 (n + 2)) (total ∙ length-map o.messages.list (message_in f.image))
+
+    pub full_here : 65535 < length o.messages.list + 2 → is_message_total_full f (SetAttr path attr) ≡ true
+    full_here many = full_at ∙ grind (arith, nat_tests)
 
   pub set_attr_fits : {path : List ℕ} {number : ℕ} (attr : Bor AttrSpec) (o : OpenedObject) → IsFixed (attr.now).fixed → IsAt tree next path (SetAttr path attr.now) number
-      → o ≡ slice_index_or objects number o → length o.messages.list + 2 ≤ 65535
-      → IsFitting image objects (SetAttr path attr.now) (Set number attr) (Some (record { 0 = number }))
+      → IsObjectOf f number o → length o.messages.list + 2 ≤ 65535
+      → IsFitting f (SetAttr path attr.now) (Set number attr) (Some (record { 0 = number }))
   unfolding applied changed
-  set_attr_fits {path = path} {number = number} attr o typed at is few = record {
+  set_attr_fits {path = path} {number = number} attr o typed at of few = record {
     typed = typed;
     carried = refl;
     accepted = at.allowed;
-    roomy = full_at path attr.now number o at.object is ∙ grind (arith, nat_tests);
+    roomy = full_at path attr.now number o at.object of ∙ grind (arith, nat_tests);
     gives = ap (λ o. option_map_or (λ n. with_object tree n (with_attributes (λ m. insert m (attr.now).name (attribute_from attr.now)))) o tree) at.object;
-    there = stands path number at.object;
+    there = rw of.there refl;
     counted = omega arith;
     named = sym at.object;
   }
 
-  pub remove_attr_fits : {path : List ℕ} {number : ℕ} (name : Bor (List ℕ)) → IsAt tree next path (RemoveAttr path name.now) number
-      → IsFitting image objects (RemoveAttr path name.now) (Remove number name) (Some (record { 0 = number }))
+  pub remove_attr_fits : IsSound f → {path : List ℕ} {number : ℕ} (name : Bor (List ℕ)) → IsAt tree next path (RemoveAttr path name.now) number
+      → IsFitting f (RemoveAttr path name.now) (Remove number name) (Some (record { 0 = number }))
   unfolding applied changed
-  remove_attr_fits {path = path} {number = number} name at = record {
+  remove_attr_fits sound {path = path} {number = number} name at = record {
     typed = tt;
     carried = refl;
     accepted = at.allowed;
     roomy = refl;
     gives = ap (λ o. option_map_or (λ n. with_object tree n (with_attributes (λ m. remove m name.now))) o tree) at.object;
-    there = stands path number at.object;
+    there = stands sound path number at.object;
     counted = omega arith;
     named = sym at.object;
   }

@@ -1,21 +1,33 @@
 -- How an edit that is carried is refused: by a rule of the tree, by what the image decides, or for want of memory.
-use Rattle.std.proofs.Common.{◌≡◌, ℕ, List, length, refl, sym, ◌∙◌, Bool, true, false, Some, None}
-use Rattle.std.specs.BTreeMap.{BTreeMap}
+use Rattle.std.proofs.Common.{◌≡◌, ℕ, refl, sym, ◌∙◌, Bool, true, false, Some, None}
 use Rattle.std.specs.FinMap.{entries}
 use Rattle.h5_repack.specs.Image.Plain.{AreLow}
 use Rattle.h5_model.specs.Edits.ImageAnswers.{adds_entry}
 use Rattle.h5_model.specs.Edits.Refusal.{refusal_of}
 use Rattle.h5_model.specs.Format.Superblock.{leaf_k, internal_k}
+use Rattle.h5_model.specs.Tree.Objects.{Tree}
 use Rattle.h5_model.specs.declared.edits.Edit.{Edit}
+use Rattle.h5_model.specs.declared.edits.Edit.TheVariants.{Write}
 use Rattle.h5_model.specs.declared.edit_fault.EditFault.{EditFault}
 use Rattle.h5_model.specs.declared.edit_fault.EditFault.TheVariants as fault
-use Rattle.h5_query.specs.Opened.Kept.{IsOpened}
-use Rattle.h5_query.specs.Opened.Objects.{table_of, tree_of}
-use Rattle.h5_query.specs.Opened.State.{FileState, opened_state}
-use Rattle.h5_query.specs.OpenedObjectType.{OpenedObject}
-use Rattle.h5_edit.specs.Carried.{is_carried, is_message_total_full, is_too_long, tree_after, IsRefused, IsRefusedBy}
+use Rattle.h5_query.specs.Opened.Sound.{IsSound}
+use Rattle.h5_query.specs.Opened.State.{FileState}
+use Rattle.h5_edit.specs.Carried.{is_carried, is_anew, is_message_total_full, is_too_long, tree_after, GivenAs, IsRefused, IsRefusedBy}
 use Rattle.h5_edit.proofs.Low.{are_low, low_of, of_low}
 use Rattle.h5_edit.proofs.LowRead.{read_low, edited_low}
+
+-- an edit that is carried is written anew
+pub carried_anew : (tree : Tree) (edit : Edit) → is_carried edit ≡ true → is_anew tree edit ≡ true
+carried_anew tree (Write path hyper values) carried = absurd (let never : false ≡ true = carried in cc)
+carried_anew tree _ carried = refl
+
+memory_given : (f : FileState) (edit : Edit) (anew : Bool) → GivenAs anew f edit (Some fault.NoMemory)
+memory_given f edit true = tt
+memory_given f edit false = tt
+
+-- want of memory is always a refusal
+pub for_memory : (f : FileState) (edit : Edit) → IsRefusedBy f edit fault.NoMemory
+for_memory f edit = record { given = Some fault.NoMemory; allowed = memory_given f edit (is_anew f.tree edit); answer = refl }
 
 module _ (f : FileState) (edit : Edit) where
   abbrev leaf : ℕ
@@ -28,15 +40,15 @@ module _ (f : FileState) (edit : Edit) where
   abbrev AddsLink : Type 0
   AddsLink = (AreLow leaf internal (tree_after f edit) → ⊥) → adds_entry edit ≡ true
 
-  by_given : AddsLink → (e : EditFault) (full long low : Bool) → is_message_total_full f edit ≡ full → is_too_long f (tree_after f edit) ≡ long
+  by_given : is_anew f.tree edit ≡ true → AddsLink → (e : EditFault) (full long low : Bool) → is_message_total_full f edit ≡ full → is_too_long f (tree_after f edit) ≡ long
       → are_low leaf internal (entries (tree_after f edit)) ≡ low → refusal_of f.tree f.next edit ≡ Some e → IsRefusedBy f edit e
-  by_given adds e true long low has is lies h = record { given = Some fault.HeaderFull; allowed = has; answer = rw h refl }
-  by_given adds e false true low has is lies h = record { given = Some fault.ImageFull; allowed = (has, is); answer = rw h refl }
-  by_given adds e false false true has is lies h =
-      record { given = None; allowed = (has, is, low_of leaf internal (tree_after f edit) lies); answer = rw h refl }
-  by_given adds e false false false has is lies h = record {
+  by_given anew adds e true long low has is lies h = record { given = Some fault.HeaderFull; allowed = rw anew has; answer = rw h refl }
+  by_given anew adds e false true low has is lies h = record { given = Some fault.ImageFull; allowed = rw anew (has, is); answer = rw h refl }
+  by_given anew adds e false false true has is lies h =
+      record { given = None; allowed = rw anew (has, is, low_of leaf internal (tree_after f edit) lies); answer = rw h refl }
+  by_given anew adds e false false false has is lies h = record {
     given = Some fault.TreeTooDeep;
-    allowed = (has, deep, adds deep);
+    allowed = rw anew (has, deep, adds deep);
     answer = rw h refl;
   } where
     deep : AreLow leaf internal (tree_after f edit) → ⊥
@@ -48,22 +60,25 @@ module _ (f : FileState) (edit : Edit) where
   -- ---- an edit that is carried
 
   module _ (carried : is_carried edit ≡ true) where
-    by_adding : AddsLink → (e : EditFault) → refusal_of f.tree f.next edit ≡ Some e → IsRefused f edit e
+    anew : is_anew f.tree edit ≡ true
+    anew = carried_anew f.tree edit carried
+
+    pub by_adding : AddsLink → (e : EditFault) → refusal_of f.tree f.next edit ≡ Some e → IsRefused f edit e
     by_adding adds e h = as_carried e carried
-        (by_given adds e (is_message_total_full f edit) (is_too_long f (tree_after f edit)) (are_low leaf internal (entries (tree_after f edit))) refl refl refl h)
+        (by_given anew adds e (is_message_total_full f edit) (is_too_long f (tree_after f edit)) (are_low leaf internal (entries (tree_after f edit))) refl refl refl h)
 
     pub by_memory : IsRefused f edit fault.NoMemory
-    by_memory = as_carried fault.NoMemory carried (record { given = Some fault.NoMemory; allowed = tt; answer = refl })
+    by_memory = as_carried fault.NoMemory carried (for_memory f edit)
 
     pub by_header : refusal_of f.tree f.next edit ≡ None → is_message_total_full f edit ≡ true → IsRefused f edit fault.HeaderFull
-    by_header h full = as_carried fault.HeaderFull carried (record { given = Some fault.HeaderFull; allowed = full; answer = rw h refl })
+    by_header h full = as_carried fault.HeaderFull carried (record { given = Some fault.HeaderFull; allowed = rw anew full; answer = rw h refl })
 
     pub by_length : refusal_of f.tree f.next edit ≡ None → is_message_total_full f edit ≡ false → is_too_long f (tree_after f edit) ≡ true → IsRefused f edit fault.ImageFull
-    by_length h room long = as_carried fault.ImageFull carried (record { given = Some fault.ImageFull; allowed = (room, long); answer = rw h refl })
+    by_length h room long = as_carried fault.ImageFull carried (record { given = Some fault.ImageFull; allowed = rw anew (room, long); answer = rw h refl })
 
     pub by_depth : refusal_of f.tree f.next edit ≡ None → is_message_total_full f edit ≡ false → (AreLow leaf internal (tree_after f edit) → ⊥) → AddsLink
         → IsRefused f edit fault.TreeTooDeep
-    by_depth h room deep adds = as_carried fault.TreeTooDeep carried (record { given = Some fault.TreeTooDeep; allowed = (room, deep, adds deep); answer = rw h refl })
+    by_depth h room deep adds = as_carried fault.TreeTooDeep carried (record { given = Some fault.TreeTooDeep; allowed = rw anew (room, deep, adds deep); answer = rw h refl })
 
   -- ---- one that is not
 
@@ -72,19 +87,15 @@ module _ (f : FileState) (edit : Edit) where
 
 -- ---- an edit of an opened image
 
-module _ {image : List ℕ} {objects : List OpenedObject} {numbers : BTreeMap ℕ ℕ} (opened : IsOpened image objects numbers) (edit : Edit)
-    (carried : is_carried edit ≡ true) where
-  abbrev state : FileState
-  state = opened_state image objects
-
+module _ {f : FileState} (sound : IsSound f) (edit : Edit) (carried : is_carried edit ≡ true) where
   -- the groups that were read are low, and stay so without a new link
-  pub adds_link : (AreLow (leaf_k image) (internal_k image) (tree_after state edit) → ⊥) → adds_entry edit ≡ true
+  pub adds_link : (AreLow (leaf_k f.image) (internal_k f.image) (tree_after f edit) → ⊥) → adds_entry edit ≡ true
   adds_link deep = by_test (adds_entry edit) refl where
     by_test : (b : Bool) → adds_entry edit ≡ b → adds_entry edit ≡ true
     by_test true is = is
     by_test false is =
-        let low = read_low image (table_of objects) (tree_of image objects) opened.reads in
-        absurd (deep (edited_low (leaf_k image) (internal_k image) (tree_of image objects) edit (length objects) carried is low))
+        let low = read_low f.image f.table f.tree (sound.placed, sound.reads) in
+        absurd (deep (edited_low (leaf_k f.image) (internal_k f.image) f.tree edit f.next carried is low))
 
-  pub by_rule : (e : EditFault) → refusal_of (tree_of image objects) (length objects) edit ≡ Some e → IsRefused state edit e
-  by_rule e h = by_adding state edit carried adds_link e h
+  pub by_rule : (e : EditFault) → refusal_of f.tree f.next edit ≡ Some e → IsRefused f edit e
+  by_rule e h = by_adding f edit carried adds_link e h

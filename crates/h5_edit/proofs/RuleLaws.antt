@@ -5,3 +5,4 @@ pub mod NewPaths
 pub mod Counts
 pub mod Verdicts
 pub mod Attributes
+pub mod Writes

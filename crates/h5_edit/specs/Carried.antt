@@ -1,28 +1,49 @@
 -- Which edits are carried so far, and when one is refused.
-use Rattle.std.specs.Prelude.{◌≡◌, ◌^◌, ◌+◌, Bool, true, false, IsTrue, IsFalse, nat_lt, Option, Some, None}
+use Rattle.std.specs.Prelude.{◌≡◌, ◌^◌, ◌+◌, ◌&&◌, Bool, true, false, not, IsTrue, IsFalse, nat_lt, Option, Some, None, length}
 use Rattle.std.specs.FinMap.{get}
 use Rattle.std.specs.Option.{option_map_or, option_and_then}
 use Rattle.h5_model.specs.Edits.Applied.{applied}
 use Rattle.h5_model.specs.Edits.ImageAnswers.{adds_entry, chosen}
 use Rattle.h5_model.specs.Format.Messages.{prefix_at, total_in}
-use Rattle.h5_model.specs.Tree.Paths.{object_at}
+use Rattle.h5_model.specs.Tree.Paths.{object_at, dataset_at}
+use Rattle.h5_model.specs.Views.Selection.{axes_of, selection_of}
 use Rattle.h5_model.specs.Format.PlainLength.{plain_length}
 use Rattle.h5_model.specs.Edits.Refusal.{refusal_of}
 use Rattle.h5_model.specs.Format.Superblock.{leaf_k, internal_k, chunk_k}
-use Rattle.h5_model.specs.Tree.Objects.{Tree}
+use Rattle.h5_model.specs.Tree.Objects.{Tree, Dataset, Storage, Compact, Contiguous, Chunked}
 use Rattle.h5_model.specs.declared.edits.Edit.{Edit}
-use Rattle.h5_model.specs.declared.edits.Edit.TheVariants.{SetAttr}
+use Rattle.h5_model.specs.declared.edits.Edit.TheVariants.{CreateGroup, CreateDataset, HardLink, SoftLink, SetAttr, RemoveAttr, Write}
 use Rattle.h5_model.specs.declared.edit_fault.EditFault.{EditFault}
 use Rattle.h5_model.specs.declared.edit_fault.EditFault.TheVariants as fault
 use Rattle.h5_query.specs.Opened.State.{FileState}
 use Rattle.h5_repack.specs.Image.Plain.{AreLow}
-use Rattle.h5_edit.specs.Fits.Laws.{is_plain_edit}
+use Rattle.h5_edit.specs.Refusals.Allowed.{is_carried_spec}
 
 -- ---- which edits are carried
 
 -- a new group, array of one size in one block, or link, and every change of attributes
 abbrev pub is_carried : Edit → Bool
-is_carried edit = is_plain_edit edit
+is_carried (CreateGroup path) = true
+is_carried (CreateDataset path spec) = is_carried_spec spec
+is_carried (HardLink target path) = true
+is_carried (SoftLink text path) = true
+is_carried (SetAttr path attr) = true
+is_carried (RemoveAttr path name) = true
+is_carried _ = false
+
+-- ---- which edits write the image anew
+
+-- cells may have to be stored before they can be written: contiguous ones that are not; which chunks are, a tree does not tell
+abbrev pub may_lack_cells : Storage → Bool
+may_lack_cells Compact = false
+may_lack_cells (Contiguous stored) = not stored
+may_lack_cells (Chunked sizes) = true
+
+-- each edit but a write of no cell, or of cells that are stored: these are written in place
+abbrev pub is_anew : Tree → Edit → Bool
+is_anew tree (Write path hyper values) =
+    option_map_or (λ (d : Dataset). may_lack_cells d.storage && nat_lt 0 (length (selection_of d.sizes (axes_of hyper)))) (dataset_at tree path) false
+is_anew tree _ = true
 
 -- ---- what the image and memory decide, beside the rules of the tree
 
@@ -40,17 +61,30 @@ is_too_long f tree = nat_lt (2 ^ 31) (plain_length (leaf_k f.image) (internal_k 
 abbrev pub tree_after : FileState → Edit → Tree
 tree_after f edit = applied f.tree edit f.next
 
--- HeaderFull comes first. Then ImageFull goes by the image of the tree that the edit gives, and TreeTooDeep, of an edit that adds a link,
--- by its groups' trees: either may be answered where both hold. Memory may be short at any time.
-abbrev pub IsGivenFor : FileState → Edit → Option EditFault → Type 0
-IsGivenFor f edit None =
+-- Anew, HeaderFull comes first. Then ImageFull goes by the image of the tree that the edit gives, and TreeTooDeep, of an edit that adds
+-- a link, by its groups' trees: either may be answered where both hold. Memory may be short at any time.
+abbrev pub IsGivenAnew : FileState → Edit → Option EditFault → Type 0
+IsGivenAnew f edit None =
     IsFalse (is_message_total_full f edit) × IsFalse (is_too_long f (tree_after f edit)) × AreLow (leaf_k f.image) (internal_k f.image) (tree_after f edit)
-IsGivenFor f edit (Some fault.HeaderFull) = IsTrue (is_message_total_full f edit)
-IsGivenFor f edit (Some fault.TreeTooDeep) =
+IsGivenAnew f edit (Some fault.HeaderFull) = IsTrue (is_message_total_full f edit)
+IsGivenAnew f edit (Some fault.TreeTooDeep) =
     IsFalse (is_message_total_full f edit) × (AreLow (leaf_k f.image) (internal_k f.image) (tree_after f edit) → ⊥) × IsTrue (adds_entry edit)
-IsGivenFor f edit (Some fault.ImageFull) = IsFalse (is_message_total_full f edit) × IsTrue (is_too_long f (tree_after f edit))
-IsGivenFor f edit (Some fault.NoMemory) = Unit {0}
-IsGivenFor f edit _ = ⊥
+IsGivenAnew f edit (Some fault.ImageFull) = IsFalse (is_message_total_full f edit) × IsTrue (is_too_long f (tree_after f edit))
+IsGivenAnew f edit (Some fault.NoMemory) = Unit {0}
+IsGivenAnew f edit _ = ⊥
+
+-- In place, nothing but want of memory: the image keeps its length, and no message and no link is added.
+abbrev pub IsGivenInPlace : Option EditFault → Type 0
+IsGivenInPlace None = Unit {0}
+IsGivenInPlace (Some fault.NoMemory) = Unit {0}
+IsGivenInPlace _ = ⊥
+
+abbrev pub GivenAs : Bool → FileState → Edit → Option EditFault → Type 0
+GivenAs true f edit given = IsGivenAnew f edit given
+GivenAs false f edit given = IsGivenInPlace given
+
+abbrev pub IsGivenFor : FileState → Edit → Option EditFault → Type 0
+IsGivenFor f edit given = GivenAs (is_anew f.tree edit) f edit given
 
 -- ---- refusals
 

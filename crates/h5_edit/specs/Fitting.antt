@@ -1,20 +1,18 @@
 -- Edits that nothing refuses but the writing of the image, and the changes of the tree that they are.
-use Rattle.std.specs.Prelude.{◌≡◌, ℕ, ◌+◌, if◌then◌else◌, true, false, Option, None, List, length}
+use Rattle.std.specs.Prelude.{◌≡◌, ℕ, ◌+◌, true, false, Option, None}
 use Rattle.std.specs.Option.{option_map}
-use Rattle.h5_model.specs.Edits.Applied.{applied, makes_object, named_object}
+use Rattle.h5_model.specs.Edits.Applied.{named_object, state_after}
 use Rattle.h5_model.specs.Edits.Refusal.{refusal_of}
 use Rattle.h5_model.specs.declared.edits.Edit.{Edit}
 use Rattle.h5_model.specs.declared.object_no.ObjectNo.{ObjectNo}
 use Rattle.h5_edit.specs.Fits.Laws.{IsTyped}
-use Rattle.h5_query.specs.Opened.Objects.{tree_of}
-use Rattle.h5_query.specs.Opened.State.{opened_state}
-use Rattle.h5_query.specs.OpenedObjectType.{OpenedObject}
+use Rattle.h5_query.specs.Opened.State.{FileState, state_of}
 use Rattle.h5_edit.specs.Changed.Change.{IsChange, changed}
 use Rattle.h5_edit.specs.declared.change.change.Change.{Change}
 use Rattle.h5_edit.specs.declared.change.change.Change.TheVariants.{Link as Linked, SetAttr as Set, RemoveAttr as Remove}
 use Rattle.h5_edit.specs.declared.change.change.Target.{Target}
 use Rattle.h5_edit.specs.declared.change.change.Target.TheVariants as target
-use Rattle.h5_edit.specs.Carried.{is_carried, is_message_total_full}
+use Rattle.h5_edit.specs.Carried.{is_carried, is_message_total_full, tree_after}
 
 -- how many objects a change makes
 abbrev pub made_by : Target → ℕ
@@ -30,12 +28,12 @@ made_in (Remove object name) = 0
 
 -- no rule of the tree refuses the edit, and no header is full; this change, which can be made, gives its tree, and it makes or names this
 -- object
-pub record IsFitting (image : List ℕ) (objects : List OpenedObject) (edit : Edit) (change : Change) (object : Option ObjectNo) : Type 0 where
+pub record IsFitting (f : FileState) (edit : Edit) (change : Change) (object : Option ObjectNo) : Type 0 where
   pub typed : IsTyped edit
   pub carried : is_carried edit ≡ true
-  pub accepted : refusal_of (tree_of image objects) (length objects) edit ≡ None
-  pub roomy : is_message_total_full (opened_state image objects) edit ≡ false
-  pub gives : applied (tree_of image objects) edit (length objects) ≡ changed (tree_of image objects) change (length objects)
-  pub there : IsChange (tree_of image objects) change
-  pub counted : length objects + made_in change ≡ (if makes_object edit then length objects + 1 else length objects)
-  pub named : option_map (λ o. o.0) object ≡ named_object (tree_of image objects) edit (length objects)
+  pub accepted : refusal_of f.tree f.next edit ≡ None
+  pub roomy : is_message_total_full f edit ≡ false
+  pub gives : tree_after f edit ≡ changed f.tree change f.next
+  pub there : IsChange f.tree change
+  pub counted : f.next + made_in change ≡ (state_after (state_of f) edit).next
+  pub named : option_map (λ o. o.0) object ≡ named_object f.tree edit f.next

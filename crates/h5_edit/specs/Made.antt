@@ -1,6 +1,6 @@
 -- What an accepted edit makes: the image of the tree that it gives, written anew (File Format Specification 3.0, sections II.A, III and
 -- IV.A).
-use Rattle.std.specs.Prelude.{◌≡◌, ℕ, true, None, List, length}
+use Rattle.std.specs.Prelude.{◌≡◌, ℕ, ◌≤◌, Option, None, List, length}
 use Rattle.std.specs.Option.{option_map}
 use Rattle.h5_model.specs.Edits.Applied.{state_after, named_object}
 use Rattle.h5_model.specs.Edits.Refusal.{refusal_of}
@@ -12,16 +12,17 @@ use Rattle.h5_query.specs.Opened.State.{FileState, state_of}
 use Rattle.h5_repack.specs.Bodies.Laws.{IsPlainReading}
 use Rattle.h5_query.specs.Renumbered.Headers.{table_with}
 use Rattle.h5_edit.specs.declared.made.Made.{Made}
-use Rattle.h5_edit.specs.Carried.{is_carried, tree_after, IsGivenFor}
+use Rattle.h5_edit.specs.Carried.{tree_after, IsGivenFor}
 
--- it reads as the tree, without gaps, and keeps the K values; these are the headers of its objects by their numbers
-pub record IsAnew (f : FileState) (tree : Tree) (next : ℕ) (image headers : List ℕ) : Type 0 where
+-- it reads as the tree, without gaps, and keeps the K values; these are the headers of its objects by their numbers, with a place for
+-- each number that was given out
+pub record IsAnew (f : FileState) (tree : Tree) (next : ℕ) (image : List ℕ) (headers : List (Option ℕ)) : Type 0 where
   pub reads : IsPlainReading image (leaf_k f.image) (internal_k f.image) (table_with headers) tree
   pub numbered : length headers ≡ next
+  pub few : next ≤ 4294967295
 
 -- no rule of the tree refuses the edit, nor what is given beside them
 pub record IsAccepted (f : FileState) (edit : Edit) : Type 0 where
-  pub carried : is_carried edit ≡ true
   pub accepted : refusal_of f.tree f.next edit ≡ None
   pub given : IsGivenFor f edit None
 

@@ -2,8 +2,6 @@
 
 ghost use Rattle.std.specs.Prelude.{MatchResult};
 ghost use Rattle.h5_model.specs.declared.edits.Edit.TheVariants.{SetAttr, RemoveAttr};
-ghost use Rattle.h5_query.specs.Opened.Kept.{IsOpened};
-ghost use Rattle.h5_query.specs.Opened.State.{opened_state};
 ghost use Rattle.h5_edit.specs.Carried.{IsRefused};
 ghost use Rattle.h5_edit.specs.Made.{IsEditMade};
 
@@ -13,7 +11,6 @@ use crate::made::Made;
 use crate::rules::{check_remove_attr, check_set_attr};
 use h5_model::{AttrSpec, EditFault, ObjectNo};
 use h5_query::Opened;
-use h5_space::Image;
 use std::alloc::Global;
 
 /// The most messages of a header.
@@ -27,28 +24,25 @@ const MAX_MESSAGES: usize = 65535;
 /// 65535, `ImageFull` where the image would pass 2147483648 bytes, `NoMemory`.
 pub fn set_attr(
     alloc: Global,
-    image: &Image,
     opened: &Opened,
     path: &[u8],
     attr: &AttrSpec,
 ) -> Result<Made, EditFault>
-    requires { IsOpened image.now.bytes opened.now.objects.items opened.now.numbers }
-    ensures { let f = opened_state image.now.bytes opened.now.objects.items in
+    ensures { let f = opened.now in
         MatchResult result (IsEditMade f (SetAttr path.now attr.now))
         (IsRefused f (SetAttr path.now attr.now)) }
 {
-    let number = check_set_attr(alloc, image, opened, path, attr)?;
+    let number = check_set_attr(alloc, opened, path, attr)?;
+    let object = opened.object(number).unwrap();
     // A Continuation may come with the message.
-    if opened.objects[number as usize].messages.list().len() + 2 > MAX_MESSAGES {
+    if object.messages.list().len() + 2 > MAX_MESSAGES {
         return Err(EditFault::HeaderFull);
     }
-    // The call's contract says that the type is a sound one.
-    let _size = attr.fixed.size();
     let change = Change::SetAttr {
         object: number,
         attr,
     };
-    carry_out(alloc, image, opened, &change, Some(ObjectNo(number)))
+    carry_out(alloc, opened, &change, Some(ObjectNo(number)))
 }
 
 /// Removes the attribute of this name from the object at the path.
@@ -57,20 +51,18 @@ pub fn set_attr(
 /// where the image would pass 2147483648 bytes, `NoMemory`.
 pub fn remove_attr(
     alloc: Global,
-    image: &Image,
     opened: &Opened,
     path: &[u8],
     name: &[u8],
 ) -> Result<Made, EditFault>
-    requires { IsOpened image.now.bytes opened.now.objects.items opened.now.numbers }
-    ensures { let f = opened_state image.now.bytes opened.now.objects.items in
+    ensures { let f = opened.now in
         MatchResult result (IsEditMade f (RemoveAttr path.now name.now))
         (IsRefused f (RemoveAttr path.now name.now)) }
 {
-    let number = check_remove_attr(image, opened, path, name)?;
+    let number = check_remove_attr(opened, path, name)?;
     let change = Change::RemoveAttr {
         object: number,
         name,
     };
-    carry_out(alloc, image, opened, &change, Some(ObjectNo(number)))
+    carry_out(alloc, opened, &change, Some(ObjectNo(number)))
 }

@@ -1,12 +1,11 @@
 //! New groups, arrays and links (File Format Specification 3.0, section III.C).
 
-ghost use Rattle.std.specs.Prelude.{◌≡◌, ◌<◌, ◌^◌, MatchResult, length};
+ghost use Rattle.std.specs.Prelude.{◌≡◌, true, IfOk, MatchResult};
 ghost use Rattle.h5_model.specs.declared.edits.Edit.TheVariants.{CreateGroup, CreateDataset, HardLink, SoftLink};
-ghost use Rattle.h5_query.specs.Opened.Kept.{IsOpened};
-ghost use Rattle.h5_query.specs.Opened.State.{opened_state};
 ghost use Rattle.h5_edit.specs.declared.change.change.Change.TheVariants.{Link as Linked};
 ghost use Rattle.h5_edit.specs.Carried.{IsRefused};
 ghost use Rattle.h5_edit.specs.Made.{IsEditMade};
+ghost use Rattle.h5_edit.specs.Refusals.Allowed.{is_carried_spec};
 
 use crate::anew::carry_out;
 use crate::change::{Change, Target};
@@ -17,7 +16,6 @@ use crate::rules::{
 };
 use h5_model::{EditFault, ObjectNo, Spec};
 use h5_query::Opened;
-use h5_space::Image;
 use std::alloc::Global;
 
 /// Makes an empty group at the path.
@@ -25,19 +23,13 @@ use std::alloc::Global;
 /// Refused by the lowest number that holds: `BadPath`, `PathTooDeep`, `IsRoot`, `NoSuchParent`, `NotAGroup`, `AlreadyThere`, `NameTooLong`,
 /// `TooManyObjects`, `TreeTooDeep` where the tree of the group that takes the link would have more than 16 levels, `ImageFull` where the
 /// image would pass 2147483648 bytes, `NoMemory`.
-pub fn create_group(
-    alloc: Global,
-    image: &Image,
-    opened: &Opened,
-    path: &[u8],
-) -> Result<Made, EditFault>
-    requires { IsOpened image.now.bytes opened.now.objects.items opened.now.numbers }
-    ensures { let f = opened_state image.now.bytes opened.now.objects.items in
+pub fn create_group(alloc: Global, opened: &Opened, path: &[u8]) -> Result<Made, EditFault>
+    ensures { let f = opened.now in
         MatchResult result (IsEditMade f (CreateGroup path.now)) (IsRefused f (CreateGroup path.now)) }
 {
-    let place = check_create_group(image, opened, path)?;
+    let place = check_create_group(opened, path)?;
     let change = link_at(place, Target::Group);
-    carry_out(alloc, image, opened, &change, Some(next_object(opened)))
+    carry_out(alloc, opened, &change, Some(ObjectNo(opened.next())))
 }
 
 /// Makes an array at the path, every cell of which is the fill.
@@ -47,24 +39,23 @@ pub fn create_group(
 /// `TooManyObjects`, `TreeTooDeep`, `ImageFull`, `NoMemory`.
 pub fn create_dataset(
     alloc: Global,
-    image: &Image,
     opened: &Opened,
     path: &[u8],
     spec: &Spec,
 ) -> Result<Made, EditFault>
-    requires { IsOpened image.now.bytes opened.now.objects.items opened.now.numbers }
-    ensures { let f = opened_state image.now.bytes opened.now.objects.items in
+    ensures edited { let f = opened.now in
         MatchResult result (IsEditMade f (CreateDataset path.now spec.now))
         (IsRefused f (CreateDataset path.now spec.now)) }
+    ensures carried { IfOk result (λ _. is_carried_spec spec.now ≡ true) }
 {
     if !is_carried(spec) {
         return Err(EditFault::NotYet);
     }
-    let place = check_create_dataset(alloc, image, opened, path, spec)?;
+    let place = check_create_dataset(alloc, opened, path, spec)?;
     // The call's contract says that the type is a sound one.
     let _size = spec.fixed.size();
     let change = link_at(place, Target::Array(spec));
-    carry_out(alloc, image, opened, &change, Some(next_object(opened)))
+    carry_out(alloc, opened, &change, Some(ObjectNo(opened.next())))
 }
 
 /// Makes a second name for the array at `target`.
@@ -73,19 +64,17 @@ pub fn create_dataset(
 /// `NameTooLong`, `GroupLink` where a group stands at `target`, `TooManyLinks`, `TreeTooDeep`, `ImageFull`, `NoMemory`.
 pub fn hard_link(
     alloc: Global,
-    image: &Image,
     opened: &Opened,
     target: &[u8],
     path: &[u8],
 ) -> Result<Made, EditFault>
-    requires { IsOpened image.now.bytes opened.now.objects.items opened.now.numbers }
-    ensures { let f = opened_state image.now.bytes opened.now.objects.items in
+    ensures { let f = opened.now in
         MatchResult result (IsEditMade f (HardLink target.now path.now))
         (IsRefused f (HardLink target.now path.now)) }
 {
-    let (number, place) = check_hard_link(image, opened, target, path)?;
+    let (number, place) = check_hard_link(opened, target, path)?;
     let change = link_at(place, Target::Object(number));
-    carry_out(alloc, image, opened, &change, Some(ObjectNo(number)))
+    carry_out(alloc, opened, &change, Some(ObjectNo(number)))
 }
 
 /// Makes a soft link at the path, with this text, which is not followed.
@@ -94,19 +83,17 @@ pub fn hard_link(
 /// `TreeTooDeep`, `ImageFull`, `NoMemory`.
 pub fn soft_link(
     alloc: Global,
-    image: &Image,
     opened: &Opened,
     text: &[u8],
     path: &[u8],
 ) -> Result<Made, EditFault>
-    requires { IsOpened image.now.bytes opened.now.objects.items opened.now.numbers }
-    ensures { let f = opened_state image.now.bytes opened.now.objects.items in
+    ensures { let f = opened.now in
         MatchResult result (IsEditMade f (SoftLink text.now path.now))
         (IsRefused f (SoftLink text.now path.now)) }
 {
-    let place = check_soft_link(image, opened, text, path)?;
+    let place = check_soft_link(opened, text, path)?;
     let change = link_at(place, Target::Text(text));
-    carry_out(alloc, image, opened, &change, None)
+    carry_out(alloc, opened, &change, None)
 }
 
 /// The change that adds a link at this place.
@@ -118,12 +105,4 @@ fn link_at<'a>(place: NewPlace<'a>, target: Target<'a>) -> Change<'a>
         name: place.name,
         target,
     }
-}
-
-/// The number of the next object.
-fn next_object(opened: &Opened) -> ObjectNo
-    requires { length opened.now.objects.items < 2 ^ 32 }
-    ensures { result.0 ≡ length opened.now.objects.items }
-{
-    ObjectNo(opened.objects.as_slice().len() as u32)
 }

@@ -1,13 +1,17 @@
 //! Why an edit of an opened image is refused by its tree, in the order of the refusals' numbers, and where an edit takes place that is
-//! not refused (links and attributes: File Format Specification 3.0, sections III.C and IV.A.2.m). Nothing here takes memory.
+//! not refused (links, cells and attributes: File Format Specification 3.0, sections III.C, IV.A.2.i and IV.A.2.m). Nothing here takes
+//! memory.
 mod array;
 mod attribute;
 mod limits;
 mod links;
 mod place;
 mod text;
+mod values;
+mod write;
 
 pub use array::{check_create_dataset, is_carried};
 pub use attribute::{check_remove_attr, check_set_attr};
 pub use links::{check_create_group, check_hard_link, check_soft_link};
 pub use place::NewPlace;
+pub(crate) use write::check_write;

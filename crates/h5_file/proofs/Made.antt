@@ -1,22 +1,27 @@
 -- A file with the image that an edit gives is the edited file.
-use Rattle.std.proofs.Common.{◌≡◌, ℕ, List, length, refl, sym, ◌∙◌, subst, Some}
-use Rattle.std.specs.BTreeMap.{BTreeMap}
+use Rattle.std.proofs.Common.{◌≡◌, ℕ, ◌<◌, ◌≤◌, List, [], length, refl, sym, ap, ◌∙◌, subst, arith, Option, Some, None, IsSome, true, false}
+use Rattle.std.proofs.lemmas.Option.{slice_get_within}
+use Rattle.std.specs.FinMap.{get, len}
+use Rattle.h5_bytes.specs.Blocks.{cover, holds}
 use Rattle.h5_model.specs.Edits.Applied.{state_after}
-use Rattle.h5_model.specs.Format.Reads.{Reads, ReadsAs}
-use Rattle.h5_model.specs.Format.Superblock.{IsSuperblock, end_of_file}
+use Rattle.h5_model.specs.Format.Reads.{Reads, ReadsAs, all_blocks}
+use Rattle.h5_model.specs.Format.Superblock.{IsSuperblock, end_of_file, leaf_k, internal_k}
+use Rattle.h5_model.specs.Tree.Objects.{Object}
 use Rattle.h5_model.specs.declared.edits.Edit.{Edit}
 use Rattle.h5_model.specs.declared.edits.Edited.{Edited}
 use Rattle.h5_model.specs.declared.edit_fault.EditFault.TheVariants as fault
-use Rattle.h5_edit.specs.OpenedObjectType.{OpenedObject}
+use Rattle.h5_laws.proofs.Objects.{in_table}
+use Rattle.h5_laws.proofs.SoundLaws.Read.{placed_at}
+use Rattle.h5_space.specs.Whole.{IsWhole}
 use Rattle.h5_edit.specs.Opened.Carried.{ReadsCarried}
-use Rattle.h5_edit.specs.Opened.Kept.{IsOpened}
-use Rattle.h5_edit.specs.Opened.Objects.{headers, table_of, tree_of}
-use Rattle.h5_edit.specs.Opened.State.{FileState, state_of, opened_state}
-use Rattle.h5_edit.proofs.OpenedLaws.Numbers.{numbered}
+use Rattle.h5_edit.specs.Opened.Sound.{IsSound}
+use Rattle.h5_edit.specs.Opened.State.{FileState, state_of}
 use Rattle.h5_edit.specs.Renumbered.Headers.{table_with, IsReadAt}
-use Rattle.h5_edit.proofs.RenumberedLaws.Renumbered.{table_at, length_at, tree_at}
+use Rattle.h5_edit.proofs.Refusals.{for_memory}
+use Rattle.h5_edit.proofs.RenumberedLaws.Renumbered.{next_low}
+use Rattle.h5_edit.proofs.RenumberedLaws.SameHeaders.{given_header}
 use Rattle.h5_edit.specs.declared.made.Made.{Made}
-use Rattle.h5_edit.specs.Carried.{IsRefused, tree_after}
+use Rattle.h5_edit.specs.Carried.{IsRefusedBy, tree_after}
 use Rattle.h5_edit.specs.Made.{IsEditMade}
 use Rattle.h5_file.specs.State.{IsWholeFile}
 use Rattle.h5_file.specs.Edited.{IsEdited}
@@ -25,58 +30,93 @@ module _ (f : FileState) (edit : Edit) (made : Made) (is : IsEditMade f edit mad
   abbrev image : List ℕ
   image = made.image.items
 
-  -- the image of an edit can be walked
+  abbrev hs : List (Option ℕ)
+  hs = made.headers.items
+
+  -- the image of an edit can be opened
   pub made_superblock : IsSuperblock image
   made_superblock = is.anew.reads.reads.holds.superblock
 
   pub made_end : end_of_file image ≡ length image
   made_end = is.anew.reads.reads.holds.whole
 
-  made_reads : Reads image (table_with made.headers.items) (tree_after f edit)
+  pub made_reads : Reads image (table_with hs) (tree_after f edit)
   made_reads = (is.anew.reads.placed, is.anew.reads.reads)
 
-  -- it reads as a tree whose objects have these headers
-  pub made_read : IsReadAt image made.headers.items
-  made_read = (tree_after f edit, made_reads)
-
-  -- and that tree has no array that is not opened
+  -- its tree has no array that is not opened
   pub made_carried : ReadsCarried image
-  made_carried = (table_with made.headers.items, tree_after f edit, made_reads, is.carried)
+  made_carried = (table_with hs, tree_after f edit, made_reads, is.carried)
 
-  -- want of memory is always a refusal of an edit that is carried
-  pub not_taken : IsRefused f edit fault.NoMemory
-  not_taken = rw is.accepted.carried (record { given = Some fault.NoMemory; allowed = tt; answer = refl })
+  -- want of memory is always a refusal
+  pub not_taken : IsRefusedBy f edit fault.NoMemory
+  not_taken = for_memory f edit
 
-  -- what is kept of the image, each object by its number
-  module _ (objects : List OpenedObject) (numbers : BTreeMap ℕ ℕ) (opened : IsOpened image objects numbers) (at : headers objects ≡ made.headers.items) where
+  -- each number of the tree is that of a header
+  number_low : (number : ℕ) (o : Object) → get (tree_after f edit) number ≡ Some o → number < length hs
+  number_low number o there =
+      let x = placed_at image (table_with hs) (tree_after f edit) made_reads.0 made_reads.1 number o there in
+      let at = ap (get (table_with hs)) (sym x.2) ∙ in_table image (table_with hs) (tree_after f edit) made_reads.0 made_reads.1.holds x.0 x.1 in
+      slice_get_within hs number (Some x.0.header) (given_header hs number x.0.header at)
+
+  -- and there is a header or none for each number that was given out
+  pub made_next : length hs ≡ (state_after (state_of f) edit).next
+  made_next = is.anew.numbered
+
+  pub made_few : length hs ≤ 4294967295
+  made_few = omega (arith, is.anew.numbered, is.anew.few)
+
+  -- the image, opened
+  module _ (now : FileState) (sound : IsSound now) (image_is : now.image ≡ image) (free_is : now.free ≡ []) (fresh : now.next ≡ len now.tree) where
+    reads_as : ReadsAs now.image (table_with hs) (tree_after f edit) is.anew.reads.placed
+    reads_as = subst (λ bytes. ReadsAs bytes (table_with hs) (tree_after f edit) is.anew.reads.placed) (sym image_is) is.anew.reads.reads
+
+    pub reads_now : Reads now.image (table_with hs) (tree_after f edit)
+    reads_now = (is.anew.reads.placed, reads_as)
+
+    pub read_at : IsReadAt now.image hs
+    read_at = (tree_after f edit, reads_now)
+
+    -- none of its numbers is beyond those
+    pub next_within : now.next ≤ length hs
+    next_within = next_low now sound fresh hs (tree_after f edit) reads_now
+
+    -- each object by its number
     abbrev after : FileState
-    after = opened_state image objects
+    after = record now { table = table_with hs; next = length hs; tree = tree_after f edit }
 
-    table_is : table_of objects ≡ table_with made.headers.items
-    table_is = table_at objects made.headers.items at
+    blocks_cover : IsWhole (all_blocks now.image is.anew.reads.placed) now.free (length now.image)
+    blocks_cover p =
+        let here : cover p (all_blocks now.image is.anew.reads.placed) ≡ holds p 0 (length now.image)
+        = subst (λ bytes. cover p (all_blocks bytes is.anew.reads.placed) ≡ holds p 0 (length bytes)) (sym image_is) (is.anew.reads.covered p) in
+        let none : cover p now.free ≡ 0 = ap (cover p) free_is in
+        omega (arith, here, none)
 
-    tree_is : tree_of image objects ≡ tree_after f edit
-    tree_is = tree_at objects made.headers.items at image numbers (tree_after f edit) opened made_reads
+    whole_after : IsWholeFile after
+    whole_after = record { placed = is.anew.reads.placed; reads = reads_as; covered = blocks_cover }
 
-    next_is : length objects ≡ (state_after (state_of f) edit).next
-    next_is = length_at objects made.headers.items at ∙ is.anew.numbered
+    given : (number : ℕ) → IsSome (get (tree_after f edit) number) → number < length hs
+    given number some = go (get (tree_after f edit) number) refl some where
+      go : (found : Option Object) → get (tree_after f edit) number ≡ found → IsSome found → number < length hs
+      go None none some = absurd (let never : false ≡ true = some in cc)
+      go (Some o) there some = number_low number o there
 
-    whole : IsWholeFile after
-    whole = record {
+    sound_after : IsSound after
+    sound_after = record {
       placed = is.anew.reads.placed;
-      reads = subst (λ t. ReadsAs image t (tree_of image objects) is.anew.reads.placed) (sym table_is)
-          (subst (λ t. ReadsAs image (table_with made.headers.items) t is.anew.reads.placed) (sym tree_is) is.anew.reads.reads);
-      covered = is.anew.reads.covered;
-      numbers = numbered image objects numbers opened;
+      reads = reads_as;
+      carried = is.carried;
+      numbers = record { rooted = reads_as.holds.root_group; given = given; low = made_few };
+      apart = λ p. omega (arith, blocks_cover p);
     }
 
-    pub edited : (e : Edited) → e ≡ record { object = made.object; refreshed = 0 } → IsEdited f edit after e
-    edited e same = record {
+    pub edited : (e : Edited) → e ≡ record { object = made.object; refreshed = 0 } → (value : FileState) → value ≡ after → IsEdited f edit value e
+    edited e same value taken = rw taken (record {
       accepted = is.accepted;
-      state = λ i. record { tree = tree_is i; next = next_is i };
-      whole = whole;
-      leaf = is.anew.reads.leaf_is;
-      internal = is.anew.reads.internal_is;
+      state = λ i. record { tree = tree_after f edit; next = made_next i };
+      sound = sound_after;
+      whole = λ before. whole_after;
+      leaf = ap leaf_k image_is ∙ is.anew.reads.leaf_is;
+      internal = ap internal_k image_is ∙ is.anew.reads.internal_is;
       object = rw same is.object;
       refreshed = rw same refl;
-    }
+    })

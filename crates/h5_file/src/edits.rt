@@ -1,17 +1,19 @@
 //! Edits of a file, each of which writes the image anew.
 
-ghost use Rattle.std.specs.Prelude.{◌≡◌, MatchResult};
+ghost use Rattle.std.specs.Prelude.{◌≡◌, true, false, None, IfOk, MatchResult};
 ghost use Rattle.h5_model.specs.declared.edits.Edit.{Edit as TheEdit};
-ghost use Rattle.h5_model.specs.declared.edits.Edit.TheVariants.{CreateGroup, CreateDataset, HardLink, SoftLink, SetAttr, RemoveAttr};
-ghost use Rattle.h5_edit.specs.Carried.{IsRefused};
+ghost use Rattle.h5_model.specs.declared.edits.Edit.TheVariants.{CreateGroup, CreateDataset, HardLink, SoftLink, SetAttr, RemoveAttr, Write};
+ghost use Rattle.h5_edit.specs.Carried.{IsRefused, IsRefusedBy, is_anew, is_carried};
 ghost use Rattle.h5_edit.specs.Made.{IsEditMade};
-ghost use Rattle.h5_file.specs.Edited.{IsEdited};
+ghost use Rattle.h5_model.specs.Edits.Refusal.{refusal_of};
+ghost use Rattle.h5_edit.specs.Edited.{IsEdited};
+ghost use Rattle.h5_edit.specs.InRun.{IsInRun};
 
-use crate::file::{File, walk_written};
+use crate::file::{File, open_written};
 use h5_edit::{
-    Made, create_dataset, create_group, hard_link, remove_attr, renumber, set_attr, soft_link,
+    Made, create_dataset, create_group, hard_link, remove_attr, set_attr, soft_link, write_run,
 };
-use h5_model::{AttrSpec, Edit, EditFault, Edited, Spec};
+use h5_model::{AttrSpec, Edit, EditFault, Edited, Hyper, Spec};
 use h5_space::Image;
 
 impl File {
@@ -21,8 +23,9 @@ impl File {
     /// of one size; then as the call of its own is. Where both `TreeTooDeep` and `ImageFull` hold, either is answered. A refusal changes
     /// nothing.
     pub fn edit(&mut self, edit: &Edit) -> Result<Edited, EditFault>
-        ensures { MatchResult result (IsEdited self.old edit.now self.new) (λ e.
+        ensures edited { MatchResult result (IsEdited self.old edit.now self.new) (λ e.
             IsRefused self.old edit.now e × (self.new ≡ self.old)) }
+        ensures carried { IfOk result (λ _. is_carried edit.now ≡ true) }
     {
         match edit {
             Edit::CreateGroup { path } => self.create_group(path.as_slice()),
@@ -44,7 +47,7 @@ impl File {
         ensures { MatchResult result (IsEdited self.old (CreateGroup path.now) self.new)
             (λ e. IsRefused self.old (CreateGroup path.now) e × (self.new ≡ self.old)) }
     {
-        let made = create_group(self.alloc, &self.image, &self.opened, path)?;
+        let made = create_group(self.alloc, &self.opened, path)?;
         self.take(made)
     }
 
@@ -55,10 +58,11 @@ impl File {
     /// maximum is not the size, `TooManyCells`, `ValueRange`, `TooManyObjects`, `TreeTooDeep`, `ImageFull`, `NoMemory`. A refusal changes
     /// nothing.
     pub fn create_dataset(&mut self, path: &[u8], spec: &Spec) -> Result<Edited, EditFault>
-        ensures { MatchResult result (IsEdited self.old (CreateDataset path.now spec.now) self.new)
+        ensures edited { MatchResult result (IsEdited self.old (CreateDataset path.now spec.now) self.new)
             (λ e. IsRefused self.old (CreateDataset path.now spec.now) e × (self.new ≡ self.old)) }
+        ensures carried { IfOk result (λ _. is_carried (CreateDataset path.now spec.now) ≡ true) }
     {
-        let made = create_dataset(self.alloc, &self.image, &self.opened, path, spec)?;
+        let made = create_dataset(self.alloc, &self.opened, path, spec)?;
         self.take(made)
     }
 
@@ -71,7 +75,7 @@ impl File {
         ensures { MatchResult result (IsEdited self.old (HardLink target.now path.now) self.new)
             (λ e. IsRefused self.old (HardLink target.now path.now) e × (self.new ≡ self.old)) }
     {
-        let made = hard_link(self.alloc, &self.image, &self.opened, target, path)?;
+        let made = hard_link(self.alloc, &self.opened, target, path)?;
         self.take(made)
     }
 
@@ -84,7 +88,7 @@ impl File {
         ensures { MatchResult result (IsEdited self.old (SoftLink text.now path.now) self.new)
             (λ e. IsRefused self.old (SoftLink text.now path.now) e × (self.new ≡ self.old)) }
     {
-        let made = soft_link(self.alloc, &self.image, &self.opened, text, path)?;
+        let made = soft_link(self.alloc, &self.opened, text, path)?;
         self.take(made)
     }
 
@@ -98,7 +102,7 @@ impl File {
         ensures { MatchResult result (IsEdited self.old (SetAttr path.now attr.now) self.new)
             (λ e. IsRefused self.old (SetAttr path.now attr.now) e × (self.new ≡ self.old)) }
     {
-        let made = set_attr(self.alloc, &self.image, &self.opened, path, attr)?;
+        let made = set_attr(self.alloc, &self.opened, path, attr)?;
         self.take(made)
     }
 
@@ -110,8 +114,26 @@ impl File {
         ensures { MatchResult result (IsEdited self.old (RemoveAttr path.now name.now) self.new)
             (λ e. IsRefused self.old (RemoveAttr path.now name.now) e × (self.new ≡ self.old)) }
     {
-        let made = remove_attr(self.alloc, &self.image, &self.opened, path, name)?;
+        let made = remove_attr(self.alloc, &self.opened, path, name)?;
         self.take(made)
+    }
+
+    /// Writes values into the selected cells of an array of one dimension whose cells are stored, where they stand one behind another: the
+    /// bytes of these cells change, and no others.
+    ///
+    /// Refused by the lowest number that holds: `BadPath`, `PathTooDeep`, `NoSuchParent`, `NotAGroup`, `NotFound`, `NotADataset` also where
+    /// a soft link stands there, `RankMismatch`, `StrideZero`, `BlocksOverlap`, `OutOfExtent`, `ValueCount`, `ValueRange`. A refusal
+    /// changes nothing.
+    ///
+    /// That cells which are to be written are stored, and that they stand one behind another, are the caller's conditions.
+    pub(crate) fn write_run(&mut self, path: &[u8], hyper: &Hyper, values: &[i128]) -> Result<Edited, EditFault>
+        requires stored { is_anew self.old.tree (Write path.now hyper.now values.now) ≡ false }
+        requires run { refusal_of self.old.tree self.old.next (Write path.now hyper.now values.now) ≡ None
+            → IsInRun self.old.tree path.now hyper.now }
+        ensures { MatchResult result (IsEdited self.old (Write path.now hyper.now values.now) self.new) (λ e.
+            IsRefusedBy self.old (Write path.now hyper.now values.now) e × (self.new ≡ self.old)) }
+    {
+        write_run(self.alloc, &mut self.opened, path, hyper, values)
     }
 
     /// Takes the image that an edit gives in place of the file's own. Its objects keep their numbers.
@@ -119,18 +141,16 @@ impl File {
         requires { (edit : TheEdit) × IsEditMade self.old edit made }
         ensures { (edit : TheEdit) → IsEditMade self.old edit made
             → MatchResult result (IsEdited self.old edit self.new) (λ e.
-            IsRefused self.old edit e × (self.new ≡ self.old)) }
+            IsRefusedBy self.old edit e × (self.new ≡ self.old)) }
     {
         let image = Image::new(self.alloc, made.image);
-        let Ok(mut opened) = walk_written(self.alloc, &image) else {
+        let Ok(mut opened) = open_written(self.alloc, image) else {
             return Err(EditFault::NoMemory);
         };
-        renumber(&image, &mut opened, &made.headers);
-        *self = File {
-            image,
-            opened,
-            alloc: self.alloc,
+        let Ok(()) = opened.renumber(&made.headers) else {
+            return Err(EditFault::NoMemory);
         };
+        self.opened = opened;
         Ok(Edited {
             object: made.object,
             refreshed: 0,

@@ -1,24 +1,24 @@
 //! A file in memory.
 
-ghost use Rattle.std.specs.Prelude.{◌≡◌, IfOk, IfErr, MatchOption, MatchResult, Some, length, map};
+ghost use Rattle.std.specs.Prelude.{◌≡◌, [], IfOk, IfErr, MatchOption, MatchResult, Some, length, map};
 ghost use Rattle.h5_model.specs.Faults.Breaches.{cut};
 ghost use Rattle.h5_model.specs.Edits.Refusal.{first_holding};
 ghost use Rattle.h5_model.specs.Scripts.Reading.{path_rules, attribute_rules, cell_rules};
 ghost use Rattle.h5_model.specs.Format.Superblock.{IsSuperblock, end_of_file};
 ghost use Rattle.std.specs.FinMap.{len};
 ghost use Rattle.h5_edit.specs.Opened.Carried.{ReadsCarried};
-ghost use Rattle.h5_edit.specs.Opened.Kept.{IsOpened};
 ghost use Rattle.h5_edit.specs.Opened.NotYet.{IsOpenRefusedAt};
+ghost use Rattle.h5_edit.specs.Opened.Sound.{IsSound};
 ghost use Rattle.h5_edit.specs.Listed.{IsNoGroup, AreGroupLinks};
 ghost use Rattle.h5_edit.specs.Look.{HasKind, HasLinksNamed, HasCell, HasArrayNumbered, HasAttribute, HasAttributeNames, HasAttributesOf, IsListRefused, IsNoDataset, IsUnlisted};
 ghost use Rattle.h5_edit.specs.Found.{HasFound, IsUnfound};
 ghost use Rattle.h5_edit.specs.Place.{IsNumber, IsNoObject};
-ghost use Rattle.h5_file.specs.State.{IsSound, created_state};
+ghost use Rattle.h5_file.specs.State.{IsWholeFile, created_state};
 ghost use Rattle.h5_file.specs.Opening.{IsNoBreach, IsReadable, Refused};
 
 use h5_edit::{
     AttrRef, Found, Kind, Opened, StoredArray, array_of, attributes_at, empty_image, found_at,
-    kind_at, links_of, names_at, names_of_attributes, number_at, one_attribute, one_cell, walk,
+    kind_at, links_of, names_at, names_of_attributes, number_at, one_attribute, one_cell,
 };
 use h5_model::{Cause, EditFault, Link, ObjectNo, OpenFault};
 use h5_space::{Image, end_of_file, superblock_fault};
@@ -27,26 +27,22 @@ use std::marker::Model;
 
 /// A file: the bytes of its image, and the messages of the objects that stand in it.
 ///
-/// Callers see the bytes, the header address of each object, the next object number, and the tree
-/// of objects and links that the bytes read as.
+/// Callers see the bytes, the free blocks, the header address of each object, the next object
+/// number, and the tree of objects and links that the bytes read as.
 #[derive(Drop)]
 pub struct File {
-    pub(crate) image: Image,
     pub(crate) opened: Opened,
     pub(crate) alloc: Global,
 }
 
 impl Model for File {
-    ghost use Rattle.h5_edit.specs.Opened.Kept.{IsOpened};
-    ghost use Rattle.h5_edit.specs.Opened.State.{FileState, coded_state, opened_state};
+    ghost use Rattle.h5_edit.specs.Opened.State.{FileState, coded_state};
 
     ghost Value = { FileState };
 
     ghost coded = { coded_state };
 
-    ghost view = { λ f. opened_state f.image.bytes f.opened.objects.items };
-
-    ghost invariant = { λ f. IsOpened f.image.bytes f.opened.objects.items f.opened.numbers };
+    ghost view = { λ f. f.opened };
 }
 
 impl File {
@@ -56,14 +52,11 @@ impl File {
     pub fn create(alloc: Global) -> Result<File, AllocError>
         ensures created { IfOk result (λ f. f ≡ created_state) }
         ensures sound { IfOk result IsSound }
+        ensures whole { IfOk result IsWholeFile }
     {
         let image = Image::new(alloc, empty_image(alloc)?);
-        let opened = walk_written(alloc, &image)?;
-        Ok(File {
-            image,
-            opened,
-            alloc,
-        })
+        let opened = open_written(alloc, image)?;
+        Ok(File { opened, alloc })
     }
 
     /// The file that these bytes are, up to their end of file address; bytes past it are dropped.
@@ -77,7 +70,7 @@ impl File {
     /// Each block is looked at once. Where bytes follow the end of file address, those before it are
     /// copied first.
     pub fn open(alloc: Global, bytes: Vec<u8>) -> Result<File, (OpenFault, Vec<u8>)>
-        ensures image { IfOk result (λ f. f.image ≡ cut bytes.items) }
+        ensures image { IfOk result (λ f. (f.image ≡ cut bytes.items) × (f.free ≡ [])) }
         ensures sound { IfOk result IsSound }
         ensures refused { IfErr result (λ e. Refused bytes.items e.0) }
         // Bytes that are a tree are refused for want of memory, or because an array is not opened yet, alone.
@@ -93,8 +86,8 @@ impl File {
         if end < bytes.len() {
             return open_front(alloc, bytes, end);
         }
-        match walked(alloc, Image::new(alloc, bytes)) {
-            Ok(file) => Ok(file),
+        match Opened::open(alloc, Image::new(alloc, bytes)) {
+            Ok(opened) => Ok(File { opened, alloc }),
             Err((fault, image)) => Err((fault, image.into_bytes())),
         }
     }
@@ -104,14 +97,14 @@ impl File {
         ensures bytes { result.now ≡ self.now.image }
         ensures sound { IsSound self.now }
     {
-        self.image.bytes()
+        self.opened.image().bytes()
     }
 
     /// The bytes of the file, with the file given up.
     pub fn into_image(self) -> Vec<u8>
         ensures { result.items ≡ self.image }
     {
-        self.image.into_bytes()
+        self.opened.into_image().into_bytes()
     }
 
     /// What the link at the path leads to.
@@ -122,7 +115,7 @@ impl File {
         ensures { MatchResult result (HasKind self.now.tree path.now) (λ e.
             first_holding (path_rules self.now.tree path.now) ≡ Some e) }
     {
-        kind_at(self.alloc, &self.image, &self.opened, path)
+        kind_at(self.alloc, &self.opened, path)
     }
 
     /// What stands at the path, with all that it holds. A soft link is not followed.
@@ -131,7 +124,7 @@ impl File {
     pub fn find(&self, path: &[u8]) -> Result<Found<'_>, EditFault>
         ensures { MatchResult result (HasFound self.now.tree path.now) (IsUnfound self.now.tree path.now) }
     {
-        found_at(self.alloc, &self.image, &self.opened, path)
+        found_at(self.alloc, &self.opened, path)
     }
 
     /// The names in the group at the path, ascending by their bytes.
@@ -143,7 +136,7 @@ impl File {
             HasLinksNamed self.now.tree path.now (map (λ name. name.now) names.items))
             (IsListRefused self.now.tree path.now) }
     {
-        names_at(self.alloc, &self.image, &self.opened, path)
+        names_at(self.alloc, &self.opened, path)
     }
 
     /// The names of the attributes of the object at the path, ascending by their bytes.
@@ -154,7 +147,7 @@ impl File {
             HasAttributeNames self.now.tree path.now (map (λ name. name.now) names.items))
             (IsUnlisted self.now.tree path.now) }
     {
-        names_of_attributes(self.alloc, &self.image, &self.opened, path)
+        names_of_attributes(self.alloc, &self.opened, path)
     }
 
     /// The attributes of the object at the path, ascending by the bytes of their names.
@@ -164,7 +157,7 @@ impl File {
         ensures { MatchResult result (λ list.
             HasAttributesOf self.now.tree path.now list.items) (IsUnlisted self.now.tree path.now) }
     {
-        attributes_at(self.alloc, &self.image, &self.opened, path)
+        attributes_at(self.alloc, &self.opened, path)
     }
 
     /// The attribute of this name of the object at the path.
@@ -175,7 +168,7 @@ impl File {
         ensures { MatchResult result (HasAttribute self.now.tree path.now name.now) (λ e.
             first_holding (attribute_rules self.now.tree path.now name.now) ≡ Some e) }
     {
-        one_attribute(&self.image, &self.opened, path, name)
+        one_attribute(&self.opened, path, name)
     }
 
     /// The value of the cell at an index of the array at the path.
@@ -187,7 +180,7 @@ impl File {
         ensures { MatchResult result (HasCell self.now.tree path.now index.now) (λ e.
             first_holding (cell_rules self.now.tree path.now index.now) ≡ Some e) }
     {
-        one_cell(self.alloc, &self.image, &self.opened, path, index)
+        one_cell(self.alloc, &self.opened, path, index)
     }
 
     /// The number of the object at the path. It stays the object's while the file is open.
@@ -197,7 +190,7 @@ impl File {
         ensures { MatchResult result (λ number.
             IsNumber self.now.tree path.now number.0) (IsNoObject self.now.tree path.now) }
     {
-        number_at(&self.image, &self.opened, path)
+        number_at(&self.opened, path)
     }
 
     /// The links of the group of this number, ascending by the bytes of their names, or `None` where no group has it.
@@ -208,7 +201,7 @@ impl File {
             MatchOption found (IsNoGroup self.now.tree number.0) (λ links.
             AreGroupLinks self.now.tree number.0 links.items)) }
     {
-        links_of(self.alloc, &self.image, &self.opened, number)
+        links_of(self.alloc, &self.opened, number)
     }
 
     /// The array of this number, or `None` where no array has it. It takes no memory.
@@ -216,44 +209,26 @@ impl File {
         ensures { MatchOption result (IsNoDataset self.now.tree number.0)
             (HasArrayNumbered self.now.tree number.0) }
     {
-        array_of(self.alloc, &self.image, &self.opened, number)
+        array_of(self.alloc, &self.opened, number)
     }
 }
 
-/// The objects of an image that reads as a tree of arrays that are opened. Fails where memory is refused.
-pub(crate) fn walk_written(alloc: Global, image: &Image) -> Result<Opened, AllocError>
-    requires superblock { IsSuperblock image.now.bytes }
-    requires whole { end_of_file image.now.bytes ≡ length image.now.bytes }
-    requires carried { ReadsCarried image.now.bytes }
-    ensures kept { IfOk result (λ o. IsOpened image.now.bytes o.objects.items o.numbers) }
+/// Opens an image without free blocks that reads as a tree of arrays that are opened. Fails where memory is refused.
+pub(crate) fn open_written(alloc: Global, image: Image) -> Result<Opened, AllocError>
+    requires superblock { IsSuperblock image.bytes }
+    requires whole { end_of_file image.bytes ≡ length image.bytes }
+    requires free { image.free ≡ [] }
+    requires carried { ReadsCarried image.bytes }
+    ensures image { IfOk result (λ o. (o.image ≡ image.bytes) × (o.free ≡ [])) }
+    ensures sound { IfOk result IsSound }
+    ensures numbers { IfOk result (λ o. o.next ≡ len o.tree) }
 {
-    match walk(alloc, image) {
+    match Opened::open(alloc, image) {
         Ok(opened) => Ok(opened),
-        Err(fault) => match fault.cause {
+        Err((fault, _image)) => match fault.cause {
             Cause::NoMemory => Err(AllocError),
             _ => unreachable!(),
         },
-    }
-}
-
-/// The file of an image that begins with a superblock and ends where that says; a refusal gives the image back.
-fn walked(alloc: Global, image: Image) -> Result<File, (OpenFault, Image)>
-    requires superblock { IsSuperblock image.bytes }
-    requires whole { end_of_file image.bytes ≡ length image.bytes }
-    ensures image { IfOk result (λ f. f.image ≡ image.bytes) }
-    ensures sound { IfOk result IsSound }
-    ensures numbers { IfOk result (λ f. f.next ≡ len f.tree) }
-    ensures refused { IfErr result (λ e. IsOpenRefusedAt image.bytes e.0.cause e.0.address) }
-    ensures only { IfErr result (λ e. ReadsCarried image.bytes → e.0.cause ≡ Cause.NoMemory) }
-    ensures back { IfErr result (λ e. e.1.bytes ≡ image.bytes) }
-{
-    match walk(alloc, &image) {
-        Ok(opened) => Ok(File {
-            image,
-            opened,
-            alloc,
-        }),
-        Err(fault) => Err((fault, image)),
     }
 }
 
@@ -261,7 +236,7 @@ fn walked(alloc: Global, image: Image) -> Result<File, (OpenFault, Image)>
 fn open_front(alloc: Global, bytes: Vec<u8>, end: usize) -> Result<File, (OpenFault, Vec<u8>)>
     requires superblock { IsSuperblock bytes.items }
     requires end { end ≡ end_of_file bytes.items }
-    ensures image { IfOk result (λ f. f.image ≡ cut bytes.items) }
+    ensures image { IfOk result (λ f. (f.image ≡ cut bytes.items) × (f.free ≡ [])) }
     ensures sound { IfOk result IsSound }
     ensures numbers { IfOk result (λ f. f.next ≡ len f.tree) }
     ensures refused { IfErr result (λ e. IsOpenRefusedAt (cut bytes.items) e.0.cause e.0.address) }
@@ -271,8 +246,8 @@ fn open_front(alloc: Global, bytes: Vec<u8>, end: usize) -> Result<File, (OpenFa
     let Ok(front) = Vec::from_slice(alloc, &bytes[..end]) else {
         return Err((OpenFault::from(AllocError), bytes));
     };
-    match walked(alloc, Image::new(alloc, front)) {
-        Ok(file) => Ok(file),
+    match Opened::open(alloc, Image::new(alloc, front)) {
+        Ok(opened) => Ok(File { opened, alloc }),
         Err((fault, _front)) => Err((fault, bytes)),
     }
 }

@@ -8,7 +8,6 @@ pub mod Refusals
 pub mod Linked
 pub mod Readable
 pub mod Followed
-pub mod EntryOrder
 pub mod NodeLaws
 pub mod TextProofs
 pub mod OrderProofs

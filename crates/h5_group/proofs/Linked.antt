@@ -25,9 +25,9 @@ use Rattle.h5_group.specs.Texts.Named.{AreTexts}
 use Rattle.h5_group.specs.Order.Ordered.{AreNamesOrdered}
 use Rattle.h5_group.specs.Links.{IsGroupRead}
 use Rattle.h5_group.specs.Told.{nodes_told, symbol_nodes_told, links_told, blocks_told}
+use Rattle.h5_laws.proofs.NameLadders.{own_order}
 use Rattle.h5_group.proofs.ToldLaws.{links_are_told}
 use Rattle.h5_group.proofs.NodeLaws.GroupLaws.{nodes_formed, entries_known}
-use Rattle.h5_group.proofs.EntryOrder.{owned_order}
 
 all_mapped : {X Y : Type 0} (P : Y → Type 0) (f : X → Y) (xs : List X) → AllByRecursion (λ x. P (f x)) xs → AllByRecursion P (map f xs)
 all_mapped P f [] all = tt
@@ -94,7 +94,7 @@ module _ (image : List ℕ) (table : SymbolTable) (owned symbol_nodes : List ℕ
       all = ap (map (link_of segment)) own_are;
       ascending = order.ascending;
       named = all_mapped (λ (l : List ℕ × Target). IsTrue (is_name l.0)) (link_of segment) entries texts.named;
-      ordered = owned_order image segment table.tree tree.level owned symbol_nodes tree.tree order.ordered;
+      ordered = own_order image segment (leaf_k image) (kind_in image) table.tree tree.level owned symbol_nodes tree.tree order.ordered;
       free = free;
       loose = texts.loose;
       heap_form = heap;

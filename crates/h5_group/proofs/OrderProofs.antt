@@ -1,6 +1,4 @@
-pub mod AllLaws
-pub mod RisingLaws
-pub mod BelowLaws
-pub mod OrderLaws
-pub mod DepthLaws
-pub mod TreeLaws
+pub mod EntryNames
+pub mod NodeNames
+pub mod AscendLaws
+pub mod OrderFaults

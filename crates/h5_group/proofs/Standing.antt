@@ -1,6 +1,6 @@
 -- What is known of a group that was read: its blocks are there, its symbol nodes are formed, and its names ascend.
 use Rattle.std.proofs.Common.{◌≡◌, ℕ, ◌+◌, ◌*◌, ◌≤◌, inl, inr, List, [], ◌∷◌, ◌++◌, map, length, sym, ap, subst, ◌∙◌}
-use Rattle.std.specs.List.{Contains, flat_map}
+use Rattle.std.specs.List.{AllByRecursion, Contains, flat_map}
 use Rattle.std.proofs.lemmas.List.{map-append}
 use Rattle.h5_bytes.specs.Blocks.{Inside}
 use Rattle.h5_bytes.specs.declared.Block.{Block}
@@ -8,12 +8,13 @@ use Rattle.h5_bytes.proofs.BlockLaws.{all_left, all_right}
 use Rattle.h5_model.specs.Format.Addresses.{SymbolTable}
 use Rattle.h5_model.specs.Format.Superblock.{leaf_k}
 use Rattle.h5_model.specs.Format.Heap.{segment_of, heap_blocks}
-use Rattle.h5_model.specs.Format.Nodes.{tree_blocks}
+use Rattle.h5_model.specs.Format.Nodes.{node_at, tree_blocks}
 use Rattle.h5_model.specs.Format.Symbols.{Entry, Target, IsSymbolNode, symbol_block, symbol_bytes, symbols_at, symbols_of, link_of}
-use Rattle.h5_model.specs.Format.Links.{Ascend}
+use Rattle.h5_model.specs.Format.Links.{Ascend, IsOrdered}
 use Rattle.h5_model.specs.Faults.TreeFaults.{all_entries}
 use Rattle.h5_laws.proofs.Lists.{In, in_all, in_map, in_contains}
 use Rattle.h5_laws.proofs.Entries.{own_entries}
+use Rattle.h5_laws.proofs.NameLadders.{order_there}
 use Rattle.h5_group.specs.Nodes.Trees.{kind_in}
 use Rattle.h5_group.proofs.ToldLaws.{symbol_nodes_are_told}
 use Rattle.h5_group.specs.Told.{symbol_nodes_told, links_told, blocks_told}
@@ -71,6 +72,12 @@ module _ (image : List ℕ) (table : SymbolTable) (read : IsGroupRead image tabl
 
   pub ascending : Ascend (links_told image table)
   ascending = subst Ascend ((read.linked).listed.all ∙ ap (map (link_of (segment_of image table.heap))) (sym entries_are)) (read.linked).listed.ascending
+
+  -- each of the tree's nodes is ordered, as it stands
+  pub nodes_ordered : AllByRecursion (λ at. IsOrdered (node_at image (kind_in image)) (symbols_at image (leaf_k image)) (segment_of image table.heap) (node_at image (kind_in image) at))
+      (read.linked).owned
+  nodes_ordered = order_there image (segment_of image table.heap) (leaf_k image) (kind_in image) table.tree (read.linked).level (read.linked).owned (read.linked).symbol_nodes
+      (read.linked).tree (read.linked).listed.ordered
 
   -- one of the symbol nodes
   module _ (at : ℕ) (there : Contains (symbol_nodes_told image table) at) where

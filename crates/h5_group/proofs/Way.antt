@@ -1,47 +1,29 @@
 -- The way down the tree of a group ends at one of its symbol nodes.
-use Rattle.std.proofs.Common.{◌≡◌, ℕ, zero, suc, Bool, List, [], ◌∷◌, ◌++◌, map, refl, sym, ap, subst, ◌∙◌}
-use Rattle.std.specs.Prelude.{Option, Some, None, IfSome, IfNone, slice_index}
+use Rattle.std.proofs.Common.{◌≡◌, ℕ, zero, suc, List, [], ◌∷◌, refl, sym, subst, ◌∙◌}
+use Rattle.std.specs.Prelude.{Option, Some, None, IfSome, IfNone}
 use Rattle.std.specs.List.{Contains}
-use Rattle.h5_bytes.specs.Texts.{text_at}
 use Rattle.h5_model.specs.Format.Addresses.{SymbolTable}
-use Rattle.h5_model.specs.Format.Superblock.{leaf_k, internal_k}
+use Rattle.h5_model.specs.Format.Superblock.{leaf_k}
 use Rattle.h5_model.specs.Format.Heap.{segment_of}
-use Rattle.h5_model.specs.Format.Rows.{Reading, next_row, leaves}
+use Rattle.h5_model.specs.Format.Rows.{Reading, leaves}
 use Rattle.h5_model.specs.Format.Nodes.{node_at}
-use Rattle.h5_model.specs.Format.Symbols.{Entry, symbols_at, symbols_of}
+use Rattle.h5_model.specs.Format.Symbols.{Entry, symbols_at}
 use Rattle.h5_model.specs.Format.Links.{names_in}
 use Rattle.h5_model.proofs.OneTree.{level_is, children_are}
-use Rattle.h5_model.proofs.RowLaws.{only_here}
-use Rattle.h5_btree.specs.Descent.{LeadsTo}
-use Rattle.h5_btree.proofs.NameOrder.{name_behind}
-use Rattle.h5_btree.proofs.NameFound.{name_found}
-use Rattle.h5_laws.proofs.Lists.{In, in_all, in_left, contains_in}
-use Rattle.h5_laws.proofs.Subtrees.{index_in, leaves_within, one_within}
+use Rattle.h5_btree.specs.Descent.{EndsAt, LeadsTo}
+use Rattle.h5_btree.proofs.LeafLaws.{leaves-nil}
+use Rattle.h5_btree.proofs.NameFound.{name_behind, name_found}
+use Rattle.h5_btree.proofs.PlaceFound.{way_ends}
+use Rattle.h5_laws.proofs.Lists.{In, contains_in}
 use Rattle.h5_group.specs.Nodes.Trees.{kind_in}
 use Rattle.h5_group.specs.Told.{symbol_nodes_told}
 use Rattle.h5_group.specs.Links.{IsGroupRead}
-use Rattle.h5_group.proofs.Standing.{symbols_are, entries_are, nodes_there}
+use Rattle.h5_group.proofs.Standing.{symbols_are, nodes_ordered}
 
 module _ (V : Reading) where
-  -- the way ends at the bottom below where it begins
-  way_ends : (behind : List ℕ → Bool) (level at leaf : ℕ) → LeadsTo V behind level at leaf → In leaf (leaves V level (at ∷ []))
-  way_ends behind zero at leaf way =
-      let children : List ℕ = (V at).children in
-      in_left leaf children [] (subst (λ (n : ℕ). In n children) (sym way.2) (index_in children way.0 0 (way.1).child))
-  way_ends behind (suc level) at leaf way =
-      let children : List ℕ = (V at).children in
-      let child : ℕ = slice_index children way.0 in
-      let row : List ℕ = next_row V (at ∷ []) in
-      let there : In child row = in_left child children [] (index_in children way.0 0 (way.1).child) in
-      leaves_within V level (child ∷ []) row (one_within V child row there) leaf (way_ends behind level child leaf way.2)
-
-  none_below : (level : ℕ) → leaves V level [] ≡ []
-  none_below zero = refl
-  none_below (suc level) = none_below level
-
   none_at : (level at : ℕ) → (V at).children ≡ [] → leaves V level (at ∷ []) ≡ []
   none_at zero at none = rw none refl
-  none_at (suc level) at none = rw none (none_below level)
+  none_at (suc level) at none = rw none (leaves-nil V level)
 
 module _ (image : List ℕ) (table : SymbolTable) (read : IsGroupRead image table) where
   abbrev root : ℕ
@@ -61,9 +43,6 @@ module _ (image : List ℕ) (table : SymbolTable) (read : IsGroupRead image tabl
   no_nodes none = bottom ∙ none_at V (read.linked).level root none
 
   module _ (name : List ℕ) (leaf : ℕ) (way : LeadsTo V (name_behind (segment_of image table.heap) name) (V root).level root leaf) where
-    abbrev own : ℕ → List Entry
-    own = symbols_of image (leaf_k image) (read.linked).symbol_nodes
-
     abbrev S : ℕ → List Entry
     S = symbols_at image (leaf_k image)
 
@@ -71,26 +50,19 @@ module _ (image : List ℕ) (table : SymbolTable) (read : IsGroupRead image tabl
     segment = segment_of image table.heap
 
     leaf_in : In leaf (symbol_nodes_told image table)
-    leaf_in = subst (In leaf) (sym bottom) (way_ends V (name_behind segment name) (read.linked).level root leaf
-        (subst (λ (l : ℕ). LeadsTo V (name_behind segment name) l root leaf) level way))
+    leaf_in =
+        let ends = subst (λ (l : ℕ). EndsAt V (name_behind segment name) l root way.0 way.1) level way.2 in
+        subst (In leaf) (sym bottom)
+        (subst (λ (n : ℕ). In n (leaves V (read.linked).level (root ∷ []))) (sym way.3) (way_ends V (name_behind segment name) (read.linked).level root way.0 way.1 ends))
 
     pub leaf_listed : Contains (symbol_nodes_told image table) leaf
     leaf_listed = contains_in leaf (symbol_nodes_told image table) leaf_in
 
-    -- names by the group's own symbol nodes, and as they stand
-    own_names : names_in S segment (symbol_nodes_told image table) ≡ names_in own segment (read.linked).symbol_nodes
-    own_names = ap (map (λ (e : Entry). text_at segment e.name)) (entries_are image table read)
-
-    own_leaf : names_in own segment (leaf ∷ []) ≡ names_in S segment (leaf ∷ [])
-    own_leaf =
-        let same : S leaf ≡ own leaf = in_all (λ n. S n ≡ own n) leaf (read.linked).symbol_nodes (only_here [] S (read.linked).symbol_nodes) (subst (In leaf) (sym (symbols_are image table read)) leaf_in) in
-        ap (λ (es : List Entry). map (λ (e : Entry). text_at segment e.name) (es ++ [])) (sym same)
-
+    -- the symbol node to which the way leads has the name, if any has it
     pub leaf_has : Contains (names_in S segment (symbol_nodes_told image table)) name → Contains (names_in S segment (leaf ∷ [])) name
     leaf_has has =
-        subst (λ (names : List (List ℕ)). Contains names name) own_leaf
-        (name_found image (internal_k image) root (read.linked).level (read.linked).owned (read.linked).symbol_nodes own segment name leaf (read.linked).tree
-        (nodes_there image table read) (read.linked).listed.ordered way (subst (λ (names : List (List ℕ)). Contains names name) own_names has))
+        name_found image (kind_in image) root (read.linked).level (read.linked).owned (read.linked).symbol_nodes S segment name leaf (read.linked).tree
+        (nodes_ordered image table read) way (subst (λ (xs : List ℕ). Contains (names_in S segment xs) name) (sym (symbols_are image table read)) has)
 
   -- the same of what a search answers
   module _ (name : List ℕ) where

@@ -1,3 +1,2 @@
-pub mod Below
-pub mod Rising
+pub mod Between
 pub mod Ordered

@@ -2,5 +2,6 @@
 mod stands;
 mod symbol;
 
+pub(crate) use stands::group_kind;
 pub use stands::{symbol_node, tree_node};
 pub use symbol::SymbolNodes;

@@ -1,19 +1,18 @@
 -- The keys and chunks of a dataset that is read keep their rules.
-use Rattle.std.proofs.Common.{◌≡◌, inl, inr, ℕ, zero, suc, ◌+◌, ◌<◌, List, [], ◌∷◌, ◌++◌, map, length, take, drop, refl, sym, ap, ◌∙◌, subst, arith, append_assoc, true}
-use Rattle.std.specs.Prelude.{slice_index_or, T}
+use Rattle.std.proofs.Common.{◌≡◌, inl, inr, ℕ, suc, ◌+◌, ◌<◌, List, [], ◌∷◌, ◌++◌, map, length, take, drop, refl, sym, ap, ◌∙◌, subst, arith, append_assoc, true}
+use Rattle.std.specs.Prelude.{T}
 use Rattle.std.specs.Ordering.{nat_cmp, is_lt}
 use Rattle.std.specs.declared.cmp.Ordering.{Ordering}
 use Rattle.std.specs.Cmp.Lexicographic.{slice_cmp}
 use Rattle.std.specs.FinMap.{entries, values, entries_sorted, is_sorted}
 use Rattle.std.specs.FinMap.Entries.{below_all}
-use Rattle.std.specs.List.{AllByRecursion, range_with_len}
+use Rattle.std.specs.List.{range_with_len}
 use Rattle.std.proofs.lemmas.List.Concat.{flat_map-append}
 use Rattle.std.proofs.lemmas.List.FromFn.{take-map-range_with_len, length-map-range_with_len}
-use Rattle.h5_bytes.specs.Bytes.{undefined}
 use Rattle.h5_bytes.specs.declared.Block.{Block}
-use Rattle.h5_model.specs.Format.Rows.{Node, Reading, row_below}
+use Rattle.h5_model.specs.Format.Rows.{Node, row_below}
 use Rattle.h5_model.specs.Format.Nodes.{Kind, node_at, node_of, node_bytes, reading_of, entries_in, key_in, child_in}
-use Rattle.h5_model.specs.Format.Chunks.{Chunks, HasChunks, HasChunkKeys, IsChunkKey, IsChunkOrdered, IsChunkBetween, chunks_in, chunks_at, chunks_below}
+use Rattle.h5_model.specs.Format.Chunks.{Chunks, HasChunks, HasChunkKeys, IsChunkKey, IsChunkOrdered, chunks_in, chunks_at}
 use Rattle.h5_model.specs.Format.Superblock.{chunk_k}
 use Rattle.h5_model.specs.Format.Reached.{Shape, shape_kind, level_at}
 use Rattle.h5_model.specs.Faults.TreeFaults.{ChunkOrderBreach, ChunkKeyBreach, ChunksDescend}
@@ -22,11 +21,11 @@ use Rattle.h5_model.proofs.ReachLaws.{Entry, halves, below_entry}
 use Rattle.h5_model.proofs.OneTree.{level_is, owned_is}
 use Rattle.h5_laws.proofs.Lists.{In, in_all, all_in, in_table, in_contains}
 use Rattle.h5_laws.proofs.Maps.{to_entry}
-use Rattle.h5_laws.proofs.Rows.{row_is, rows_below, row_level, in_nodes}
-use Rattle.h5_laws.proofs.Trees.{tree_rows, row_owned}
+use Rattle.h5_laws.proofs.Trees.{row_owned}
 use Rattle.h5_laws.proofs.Entries.{flat-same}
 use Rattle.h5_laws.proofs.Ascending.{around}
-use Rattle.h5_laws.proofs.Subtrees.{index_in, below_agree, read_same, all_agree}
+use Rattle.h5_laws.proofs.ChunkLadders.{chunk_order_there}
+use Rattle.h5_laws.proofs.Subtrees.{read_same, all_agree}
 
 -- ---- sorted entries
 
@@ -54,17 +53,7 @@ keys_taken image kind at i low =
     let taken : take n (map f (range_with_len 0 (n + 1))) ≡ map f (range_with_len 0 n) = take-map-range_with_len f 0 (n + 1) n (omega arith) in
     subst (λ (m : ℕ). In (f i) (take m (map f (range_with_len 0 (n + 1))))) (sym len) (subst (In (f i)) (sym taken) (in_table f n i low))
 
--- ---- chunks below a child
-
-module _ (V : Reading) (rank : ℕ) where
-  -- what stands below child i of a node of level l
-  abbrev pub chunks_of : ℕ → Node → ℕ → List (List ℕ × ℕ)
-  chunks_of zero node i = take 1 (drop i (chunks_in rank node))
-  chunks_of (suc l) node i = chunks_at V rank (row_below V l (slice_index_or node.children i 0 ∷ []))
-
-  pub chunks_are : (node : Node) (l i : ℕ) → node.level ≡ l → chunks_below V rank node i ≡ chunks_of l node i
-  chunks_are node zero i e = ap (λ (n : ℕ). chunks_below V rank (record node { level = n }) i) e
-  chunks_are node (suc l) i e = ap (λ (n : ℕ). chunks_below V rank (record node { level = n }) i) e
+-- ---- a tree of chunks
 
 module _ (image : List ℕ) (shape : Shape) (root : ℕ) (chunks : Chunks) (blocks : List Block)
     (has : HasChunks image (chunk_k image) shape.sizes shape.bytes root chunks blocks) where
@@ -120,12 +109,6 @@ module _ (image : List ℕ) (shape : Shape) (root : ℕ) (chunks : Chunks) (bloc
     is_owned : In at has.owned
     is_owned = row_owned image (shape_kind image shape) root has.level has.owned (values chunks) has.tree d l at e there
 
-    level_there : (V at).level ≡ l
-    level_there =
-        row_level V l undefined at (row_below V d (root ∷ []))
-        (row_is V l (row_below V d (root ∷ []))
-        (rows_below V d l has.level (root ∷ []) e (tree_rows image (shape_kind image shape) root has.level has.owned (values chunks) has.tree))) there
-
     same_node : W at ≡ V at
     same_node = read_same image (shape_kind image shape) root has.level has.owned (values chunks) has.tree at is_owned
 
@@ -139,23 +122,8 @@ module _ (image : List ℕ) (shape : Shape) (root : ℕ) (chunks : Chunks) (bloc
         wrong (in_all (IsChunkKey shape.sizes shape.bytes) (key_in (shape_kind image shape) (node_bytes image (shape_kind image shape) at) i)
         (take (length (V at).children) (V at).keys) here (keys_taken image (shape_kind image shape) at i low))
 
-    below_chunks : (m i : ℕ) → l ≡ m → i < length (V at).children → chunks_of W rank m (V at) i ≡ chunks_of V rank m (V at) i
-    below_chunks zero i same low = refl
-    below_chunks (suc m) i same low =
-        let c = slice_index_or (V at).children i 0 in
-        let child : In c (V at).children = index_in (V at).children i 0 low in
-        let sub = below_agree image (shape_kind image shape) root has.level has.owned (values chunks) has.tree d m at c (omega (arith, e, same)) there child in
-        let rows : row_below W m (c ∷ []) ≡ row_below V m (c ∷ []) = row_below-same V W m (c ∷ []) sub in
-        let agree : Agree V W (row_below V m (c ∷ []))
-        = all_in (λ n. W n ≡ V n) (row_below V m (c ∷ []))
-        (λ n at_n. in_all (λ k. W k ≡ V k) n _ sub (in_nodes V m 0 m n (c ∷ []) (omega arith) at_n)) in
-        ap (chunks_at W rank) rows ∙ chunks_row (row_below V m (c ∷ [])) agree
-
     pub chunk_order_excluded : ChunkOrderBreach image shape root l at → ⊥
     chunk_order_excluded (inr (bottom, descend)) = descend_excluded at descend
     chunk_order_excluded (inl wrong) =
-        let ordered : IsChunkOrdered W rank (W at) = in_all (λ n. IsChunkOrdered W rank (W n)) at has.owned has.listed.ordered is_owned in
-        let here : IsChunkOrdered W rank (V at) = subst (IsChunkOrdered W rank) same_node ordered in
-        wrong (λ i low.
-        subst (AllByRecursion (IsChunkBetween rank (V at) i))
-        (chunks_are W rank (V at) l i level_there ∙ below_chunks l i refl low ∙ sym (chunks_are V rank (V at) l i level_there)) (here i low))
+        wrong (in_all (λ n. IsChunkOrdered V rank (V n)) at has.owned
+        (chunk_order_there image (shape_kind image shape) root has.level has.owned (values chunks) has.tree rank has.listed.ordered) is_owned)

@@ -40,3 +40,8 @@ pub mod Excluded
 pub mod SoundLaws
 pub mod TwoTables
 pub mod InPlace
+pub mod Ladders
+pub mod LadderTrees
+pub mod LadderRows
+pub mod NameLadders
+pub mod ChunkLadders

@@ -7,7 +7,7 @@ use Rattle.h5_bytes.specs.Bytes.{undefined}
 use Rattle.h5_bytes.specs.Tables.{table}
 use Rattle.h5_model.specs.Format.Rows.{Reading, IsRow, AreRows, next_row, row_below, nodes}
 use Rattle.h5_model.specs.Format.Nodes.{Kind, node_at, node_of, node_bytes, entries_in, key_place, child_in}
-use Rattle.h5_laws.proofs.Lists.{In, in_left, in_right, in_flat, in_map, in_table}
+use Rattle.h5_laws.proofs.Lists.{In, in_left, in_right, in_either, in_flat, in_map, in_table}
 
 pub row_is : (V : Reading) (level : ℕ) (row : List ℕ) → AreRows V level row → IsRow V level undefined row
 row_is V zero row are = are
@@ -28,6 +28,14 @@ pub in_nodes : (V : Reading) (d l level n : ℕ) (row : List ℕ) → d + l ≡ 
 in_nodes V zero l level n row e at = row_in_nodes V level n row at
 in_nodes V (suc d) l zero n row e at = absurd (omega (arith, e))
 in_nodes V (suc d) l (suc level) n row e at = in_right n row (nodes V level (next_row V row)) (in_nodes V d l level n (next_row V row) (omega (arith, e)) at)
+
+-- each of the nodes stands in one of the rows
+pub row_of : (V : Reading) (level n : ℕ) (row : List ℕ) → In n (nodes V level row) → (d : ℕ) × (l : ℕ) × (d + l ≡ level) × In n (row_below V d row)
+row_of V zero n row at = (0, 0, refl, at)
+row_of V (suc level) n row at = elim (in_either n row (nodes V level (next_row V row)) at) [
+  | inl here ↦ (0, suc level, omega arith, here)
+  | inr below ↦ let p = row_of V level n (next_row V row) below in (suc p.0, p.1, omega (arith, p.2), p.3)
+]
 
 pub row_level : (V : Reading) (level left n : ℕ) (row : List ℕ) → IsRow V level left row → In n row → (V n).level ≡ level
 row_level V level left n [] is at = absurd at

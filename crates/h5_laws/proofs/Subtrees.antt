@@ -4,8 +4,7 @@ use Rattle.std.specs.Prelude.{slice_index_or}
 use Rattle.h5_model.specs.Format.Rows.{Node, Reading, blank, next_row, row_below, leaves, nodes}
 use Rattle.h5_model.specs.Format.Nodes.{Kind, HasTree, node_at, reading_of}
 use Rattle.h5_model.specs.Format.Links.{symbol_nodes_below}
-use Rattle.h5_model.proofs.RowLaws.{Agree, only_here, leaves-same}
-use Rattle.h5_model.proofs.OneTree.{owned_is, children_are}
+use Rattle.h5_model.proofs.RowLaws.{Agree, only_here}
 use Rattle.h5_laws.proofs.Lists.{In, in_all, all_in, in_left, in_right, in_either, in_flat, from_flat}
 use Rattle.h5_laws.proofs.Rows.{row_after}
 
@@ -68,18 +67,6 @@ module _ (V : Reading) where
   below_is node zero i e = ap (λ (n : ℕ). symbol_nodes_below V (record node { level = n }) i) e
   below_is node (suc l) i e = ap (λ (n : ℕ). symbol_nodes_below V (record node { level = n }) i) e
 
-  -- it stands at the bottom of the tree
-  pub below_within : (d l level at c : ℕ) (row : List ℕ) → d + l ≡ level → In at (row_below V d row) → In c (V at).children
-      → Within (below_child l c) (leaves V level row)
-  below_within d zero level at c row e there child x (inl same) =
-      let bottom : d ≡ level = omega (arith, e) in
-      subst (λ (n : ℕ). In x (next_row V (row_below V n row))) bottom
-      (subst (λ (y : ℕ). In y (next_row V (row_below V d row))) same (in_flat (λ n. (V n).children) at c (row_below V d row) there child))
-  below_within d zero level at c row e there child x (inr none) = absurd none
-  below_within d (suc l) level at c row e there child x below =
-      let inner = leaves_within l (c ∷ []) (row_below V (suc d) row) (one_within c (row_below V (suc d) row) (child_below d at c row there child)) x below in
-      subst (λ (r : List ℕ). In x (next_row V r)) (row_join (suc d) l level row (omega (arith, e))) inner
-
 module _ (image : List ℕ) (kind : Kind) (root level : ℕ) (owned children : List ℕ) (has : HasTree image kind root level owned children) where
   -- at its own nodes the tree is read as they stand
   pub read_same : (at : ℕ) → In at owned → reading_of image kind owned at ≡ node_at image kind at
@@ -87,25 +74,3 @@ module _ (image : List ℕ) (kind : Kind) (root level : ℕ) (owned children : L
 
   pub all_agree : (xs : List ℕ) → Within xs owned → Agree (node_at image kind) (reading_of image kind owned) xs
   all_agree xs sub = all_in (λ n. reading_of image kind owned n ≡ node_at image kind n) xs (λ n at. read_same n (sub n at))
-
-  -- so are the nodes below a child
-  pub below_agree : (d l at c : ℕ) → d + suc l ≡ level → In at (row_below (node_at image kind) d (root ∷ [])) → In c (node_at image kind at).children
-      → Agree (node_at image kind) (reading_of image kind owned) (nodes (node_at image kind) l (c ∷ []))
-  below_agree d l at c e there child =
-      let V = node_at image kind in
-      let row = row_below V (suc d) (root ∷ []) in
-      all_agree (nodes V l (c ∷ [])) (λ x inner.
-      subst (In x) (sym (owned_is image kind root level owned children has))
-      (nodes_below V (suc d) l level (root ∷ []) (omega (arith, e)) x
-      (nodes_within V l (c ∷ []) row (one_within V c row (child_below V d at c (root ∷ []) there child)) x inner)))
-
-  pub below_same : (d l at c : ℕ) → d + l ≡ level → In at (row_below (node_at image kind) d (root ∷ [])) → In c (node_at image kind at).children
-      → below_child (reading_of image kind owned) l c ≡ below_child (node_at image kind) l c
-  below_same d zero at c e there child = refl
-  below_same d (suc l) at c e there child = leaves-same (node_at image kind) (reading_of image kind owned) l (c ∷ []) (below_agree d l at c e there child)
-
-  -- what stands below a child is among the tree's children
-  pub below_children : (d l at c : ℕ) → d + l ≡ level → In at (row_below (node_at image kind) d (root ∷ [])) → In c (node_at image kind at).children
-      → Within (below_child (node_at image kind) l c) children
-  below_children d l at c e there child x below =
-      subst (In x) (sym (children_are image kind root level owned children has)) (below_within (node_at image kind) d l level at c (root ∷ []) e there child x below)

@@ -2,3 +2,6 @@ pub mod Numbered
 pub mod Trees
 pub mod InPlace
 pub mod Readings
+pub mod Ladders
+pub mod NameLadders
+pub mod ChunkLadders

@@ -5,3 +5,4 @@ pub mod KnownLaws
 pub mod FillLaws
 pub mod ToldLaws
 pub mod StoredLaws
+pub mod WriteLaws

@@ -14,10 +14,9 @@ ghost use Rattle.h5_layout.specs.Stored.{AreFilled, AreStored, IsArray, IsUnchun
 
 use h5_bytes::Block;
 use h5_model::Fixed;
-use h5_msg::{Dataspace, Layout};
+use h5_msg::{Dataspace, Layout, value_at};
 use h5_shape::{Dims, MAX_RANK};
 use h5_space::Image;
-use h5_types::decode;
 use std::marker::Model;
 
 /// The largest sizes of an array, `None` where one is unlimited.
@@ -239,6 +238,5 @@ fn value_in(fixed: &Fixed, bytes: &[u8], place: usize) -> i128
     requires { place * fixed.now.size + fixed.now.size ≤ length bytes.now }
     ensures { result ≡ value_at_place fixed.now bytes.now place }
 {
-    let size = fixed.size();
-    decode(fixed, &bytes[place * size..place * size + size])
+    value_at(fixed, bytes, place * fixed.size())
 }

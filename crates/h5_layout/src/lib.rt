@@ -8,8 +8,10 @@ mod array;
 mod bodies;
 mod judge;
 mod read;
+mod write;
 
 pub use array::ArrayRef;
 pub use h5_msg::Layout;
 pub use h5_shape::{Dims, MAX_RANK};
 pub use read::{known_array, read_array};
+pub use write::write_cells;

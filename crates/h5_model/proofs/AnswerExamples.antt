@@ -1,5 +1,5 @@
 -- Answers that the tree leaves open, how lines count, and the objects that edits touch and name, by computation.
-use Rattle.std.proofs.Common.{◌≡◌, ℕ, [], ◌∷◌, refl, false, Some, None, pos, codes}
+use Rattle.std.proofs.Common.{◌≡◌, ℕ, [], ◌∷◌, refl, Some, None, pos, codes}
 use Rattle.std.specs.Fmt.{digits}
 use Rattle.h5_model.specs.Tree.Objects.{Tree, ToObject, Soft, Compact, within_names}
 use Rattle.h5_model.specs.Tree.Paths.{names_of}
@@ -8,7 +8,7 @@ use Rattle.h5_model.specs.Edits.Refusal.{refusal_of}
 use Rattle.h5_model.specs.Edits.Touched.{touched_by}
 use Rattle.h5_model.specs.Scripts.Sessions.{Session}
 use Rattle.h5_model.specs.Scripts.Lines.{Change, OpenView, Show, ListAll, Repack, Unread}
-use Rattle.h5_model.specs.Scripts.Answers.{Refused, Accepted, Told, answer_of, outcomes_of, is_given}
+use Rattle.h5_model.specs.Scripts.Answers.{Refused, Accepted, Told, answer_of, outcomes_of}
 use Rattle.h5_model.specs.declared.edits.Edit.TheVariants.{CreateGroup, HardLink, SoftLink, Unlink, Write}
 use Rattle.h5_model.specs.declared.hyperslab.Hyper.{Hyper}
 use Rattle.h5_model.specs.declared.edit_fault.EditFault.TheVariants as fault
@@ -63,16 +63,6 @@ list_without_memory = refl
 repack_of_a_full_image : (answer_of (nested 0) Repack (Some fault.ImageFull)).text ≡ codes "refused 30 ImageFull\n"
 unfolding digits
 repack_of_a_full_image = refl
-
--- a rule of the tree is never given
-rule_given : is_given (Change (CreateGroup (codes "/a"))) (Some fault.BadPath) ≡ false
-rule_given = refl
-
-link_given : is_given Repack (Some fault.TooManyLinks) ≡ false
-link_given = refl
-
-header_given : is_given (Change (CreateGroup (codes "/a"))) (Some fault.HeaderFull) ≡ false
-header_given = refl
 
 -- ---- how lines count
 

@@ -50,7 +50,7 @@ empty_room : Room
 empty_room = record { leaf_k = 4; internal_k = 16; chunk_k = 32; heap = 88; is_stored = λ at. false; has_maxima = false }
 
 empty_facts : Facts
-empty_facts = record { length = 800; total = 1; level = 0; room = empty_room }
+empty_facts = record { length = 800; total = 1; room = empty_room; splits_top = λ _. false }
 
 one_spec : ℕ → Spec
 one_spec size = record { fixed = u8; dims = size ∷ []; maxima = Some size ∷ []; store = store.Contiguous; fill = pos 0 }

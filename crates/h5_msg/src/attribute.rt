@@ -14,7 +14,7 @@ ghost use Rattle.h5_model.specs.Format.Bodies.{attribute_bytes, attribute_front,
 use crate::dataspace::{Dataspace, dataspace_length, read_dataspace, write_dataspace};
 use crate::datatype::{DATATYPE_LENGTH, read_datatype, write_datatype};
 use crate::fault::FormFault;
-use crate::values::{value_at, write_value};
+use crate::values::{value_at, write_values};
 use byteorder::{ByteOrder, LittleEndian};
 use h5_bytes::{before_zero, u16_at};
 use h5_model::Fixed;
@@ -320,16 +320,4 @@ fn write_extent(sizes: &[u64], bytes: &mut [u8])
     ensures { bytes.new ≡ dataspace_bytes sizes.now }
 {
     write_dataspace(sizes, bytes);
-}
-
-/// Writes values one after another.
-fn write_values(fixed: &Fixed, values: &[i128], bytes: &mut [u8])
-    requires room { length bytes.old ≡ length values.now * fixed.now.size }
-    requires of_type { list_all (fits fixed.now) values.now ≡ true }
-    ensures { bytes.new ≡ cells_bytes fixed.now values.now }
-{
-    let size = fixed.size();
-    for k in 0..values.len() {
-        write_value(fixed, values[k], &mut bytes[k * size..k * size + size]);
-    }
 }

@@ -35,3 +35,4 @@ pub use layout::{
     CONTIGUOUS_LENGTH, ChunkSizes, Layout, chunked_length, compact_length, read_layout,
     write_chunked_layout, write_compact_layout, write_contiguous_layout,
 };
+pub use values::{value_at, write_values};

@@ -1,7 +1,9 @@
 //! Values in a body.
 
-ghost use Rattle.std.specs.Prelude.{◌≡◌, ◌+◌, ◌≤◌, length, true};
+ghost use Rattle.std.specs.Prelude.{◌≡◌, ◌+◌, ◌*◌, ◌≤◌, length, true};
+ghost use Rattle.std.specs.List.{list_all};
 ghost use Rattle.h5_model.specs.Format.Fixed.{bytes_of, fits, value_at as value_of_bytes};
+ghost use Rattle.h5_model.specs.Format.Plain.{cells_bytes};
 
 use h5_model::Fixed;
 use h5_types::{decode, encode};
@@ -22,4 +24,16 @@ pub fn write_value(fixed: &Fixed, value: i128, bytes: &mut [u8])
     ensures { bytes.new ≡ bytes_of fixed.now value }
 {
     let _of_type = encode(fixed, value, bytes);
+}
+
+/// Writes the bytes of values of the type, one after another.
+pub fn write_values(fixed: &Fixed, values: &[i128], bytes: &mut [u8])
+    requires room { length bytes.old ≡ length values.now * fixed.now.size }
+    requires of_type { list_all (fits fixed.now) values.now ≡ true }
+    ensures { bytes.new ≡ cells_bytes fixed.now values.now }
+{
+    let size = fixed.size();
+    for k in 0..values.len() {
+        write_value(fixed, values[k], &mut bytes[k * size..k * size + size]);
+    }
 }

@@ -1,73 +1,131 @@
--- The table of numbers when one object more is read.
-use Rattle.std.proofs.Common.{◌≡◌, ◌⊎◌, inl, inr, ℕ, zero, suc, ◌^◌, ◌<◌, ◌≤◌, List, [], ◌∷◌, ◌++◌, length, refl, sym, ◌∙◌, ap, subst, Option, Some, None, Bool, true, false, cond, eqb, arith}
-use Rattle.std.specs.Prelude.{MatchOption, slice_get, ◌||◌}
+-- The slots and the numbers when one object more is read.
+use Rattle.std.proofs.Common.{◌≡◌, ◌⊎◌, inl, inr, ℕ, zero, suc, ◌^◌, ◌<◌, ◌≤◌, List, [], ◌∷◌, ◌++◌, length, refl, sym, ◌∙◌, ap, subst, Option, Some, None, Bool, true, false, cond, eqb, get_or, arith}
+use Rattle.std.specs.Prelude.{MatchOption, option_map, slice_get, ◌||◌}
 use Rattle.std.specs.List.{AllByRecursion, Contains, IsDistinct, list_any}
+use Rattle.std.specs.Option.{option_flatten}
 use Rattle.std.specs.Ordering.{nat_cmp, eq_by_cmp}
 use Rattle.std.specs.Cmp.{unsigned_tied}
-use Rattle.std.specs.BTreeMap.{BTreeMap, get, is_at}
+use Rattle.std.specs.BTreeMap.{BTreeMap, is_at, get as lookup}
+use Rattle.std.specs.FinMap.{get}
 use Rattle.std.proofs.lemmas.Bool.Decides.{nat_tests}
-use Rattle.std.proofs.lemmas.List.{length-map}
+use Rattle.std.proofs.lemmas.List.{length-map, map-append}
 use Rattle.std.proofs.lemmas.Map.Steps.{length-le_from_distinct_below}
+use Rattle.std.proofs.lemmas.Option.{same_Some, slice_get-map, slice_get_read, slice_get_within}
 use Rattle.h5_bytes.proofs.BlockLaws.{all_append}
-use Rattle.std.proofs.lemmas.List.Elements.{Contains-append_cases}
-use Rattle.h5_laws.proofs.Lists.{In, in_contains}
+use Rattle.h5_laws.proofs.Lists.{in_contains, stands_at}
 use Rattle.h5_open.specs.declared.opened.object.OpenedObject.{OpenedObject}
 use Rattle.h5_open.specs.Opened.Kept.{IsIndex}
-use Rattle.h5_open.specs.Opened.Objects.{headers}
+use Rattle.h5_open.specs.Opened.Objects.{IsDense, header_of, headers, objects_of, slots_of, table_of}
 use Rattle.h5_open.specs.Walk.{IsNumbered}
 use Rattle.h5_open.proofs.GrowLaws.{headers-append, distinct_push}
+use Rattle.h5_open.proofs.OpenedLaws.Entries.{get_table, get_table_dense, slot_of}
+use Rattle.h5_open.proofs.PlacedLaws.Places.{place_before, place_next}
+use Rattle.h5_open.proofs.RenumberedLaws.ExchangedIndex.{found_at, same_of, other_of}
 
-slice_get_left : (xs ys : List ℕ) (k x : ℕ) → slice_get xs k ≡ Some x → slice_get (xs ++ ys) k ≡ Some x
-slice_get_left [] ys k x is = absurd (cc)
-slice_get_left (y ∷ xs) ys zero x is = is
-slice_get_left (y ∷ xs) ys (suc k) x is = slice_get_left xs ys k x is
+-- ---- slots of which none is empty
 
-slice_get_seam : (xs : List ℕ) (x : ℕ) → slice_get (xs ++ x ∷ []) (length xs) ≡ Some x
-slice_get_seam [] x = refl
-slice_get_seam (y ∷ xs) x = slice_get_seam xs x
+-- their table has the headers in their order
+pub dense_table : (slots : List (Option OpenedObject)) → IsDense slots → (n : ℕ) → get (table_of slots) n ≡ slice_get (headers (objects_of slots)) n
+dense_table slots dense n = ap (λ (s : List (Option OpenedObject)). get (table_of s) n) dense ∙ get_table_dense (objects_of slots) n
 
-same_of : (h q : ℕ) → is_at (nat_cmp h) q ≡ true → h ≡ q
-same_of h q is = let tested : eqb h q ≡ true = sym (unsigned_tied h q) ∙ is in grind (arith, nat_tests, tested)
+-- and so do the numbers say
+pub dense_index : (slots : List (Option OpenedObject)) (numbers : BTreeMap ℕ ℕ) → IsNumbered slots numbers → (header : ℕ)
+    → MatchOption (lookup nat_cmp numbers header) (Contains (headers (objects_of slots)) header → ⊥) (λ n. slice_get (headers (objects_of slots)) n ≡ Some header)
+dense_index slots numbers is header = go (lookup nat_cmp numbers header) (is.index header) where
+  go : (found : Option ℕ) → MatchOption found ((n : ℕ) → get (table_of slots) n ≡ Some header → ⊥) (λ n. get (table_of slots) n ≡ Some header)
+      → MatchOption found (Contains (headers (objects_of slots)) header → ⊥) (λ n. slice_get (headers (objects_of slots)) n ≡ Some header)
+  go None none = λ there.
+      let k = stands_at header (headers (objects_of slots)) (in_contains header (headers (objects_of slots)) there) in
+      none k.0 (dense_table slots is.all k.0 ∙ k.1)
+  go (Some n) at = sym (dense_table slots is.all n) ∙ at
 
-other_of : (h q : ℕ) → is_at (nat_cmp h) q ≡ false → h ≡ q → ⊥
-other_of h q is e = let tested : eqb h q ≡ false = sym (unsigned_tied h q) ∙ is in let same : eqb h q ≡ true = grind (arith, nat_tests, e) in absurd (cc)
+-- what a number of theirs has
+pub slot_here : (slots : List (Option OpenedObject)) (numbers : BTreeMap ℕ ℕ) → IsIndex (table_of slots) numbers → (header number : ℕ) → lookup nat_cmp numbers header ≡ Some number
+    → (o : OpenedObject) × (slice_get slots number ≡ Some (Some o)) × (header_of o ≡ header)
+slot_here slots numbers index header number got = slot_of slots number header (found_at (table_of slots) numbers index header number got)
 
-module _ (objects : List OpenedObject) (numbers : BTreeMap ℕ ℕ) (index : IsIndex objects numbers) (o : OpenedObject) (number : ℕ) (is_number : number ≡ length objects)
-    (numbers' : BTreeMap ℕ ℕ) (key : ℕ) (is_key : key ≡ o.messages.header) (updates : (q : ℕ) → get nat_cmp numbers' q ≡ cond (is_at (nat_cmp key) q) (Some number) (get nat_cmp numbers q)) where
-  abbrev now : List ℕ
-  now = headers objects ++ o.messages.header ∷ []
+pub slot_low : (slots : List (Option OpenedObject)) (numbers : BTreeMap ℕ ℕ) → IsIndex (table_of slots) numbers → (header number : ℕ) → lookup nat_cmp numbers header ≡ Some number
+    → number < length slots
+slot_low slots numbers index header number got =
+    let slot = slot_here slots numbers index header number got in slice_get_within slots number (Some slot.0) slot.1
+
+pub dense_length : (slots : List (Option OpenedObject)) → IsDense slots → length slots ≡ length (objects_of slots)
+dense_length slots dense = ap length dense ∙ length-map (objects_of slots) (λ o. Some o)
+
+-- an object has its slot
+pub dense_slot : (slots : List (Option OpenedObject)) → IsDense slots → (n : ℕ) (o : OpenedObject) → slice_get (objects_of slots) n ≡ Some o → slice_get slots n ≡ Some (Some o)
+dense_slot slots dense n o at =
+    ap (λ (s : List (Option OpenedObject)). slice_get s n) dense ∙ slice_get-map (λ (x : OpenedObject). Some x) (objects_of slots) n
+    ∙ ap (option_map (λ (x : OpenedObject). Some x)) at
+
+-- and what a slot has is an object
+dense_object : (slots : List (Option OpenedObject)) → IsDense slots → (n : ℕ) (slot : Option OpenedObject) → slice_get slots n ≡ Some slot
+    → (o : OpenedObject) × (slot ≡ Some o) × (slice_get (objects_of slots) n ≡ Some o)
+dense_object slots dense n slot at =
+    go (slice_get (objects_of slots) n) refl
+    (sym (ap (λ (s : List (Option OpenedObject)). slice_get s n) dense ∙ slice_get-map (λ (x : OpenedObject). Some x) (objects_of slots) n) ∙ at) where
+      go : (found : Option OpenedObject) → slice_get (objects_of slots) n ≡ found → option_map (λ (x : OpenedObject). Some x) found ≡ Some slot
+          → (o : OpenedObject) × (slot ≡ Some o) × (slice_get (objects_of slots) n ≡ Some o)
+      go None none is = absurd (cc)
+      go (Some o) there is = (o, sym (same_Some (Some o) slot is), there)
+
+-- the slot that is looked at has an object
+pub slot_at : (slots items : List (Option OpenedObject)) → IsDense slots → items ≡ slots → (i : ℕ) (slot : Option OpenedObject) → i < length items → slot ≡ get_or items i slot
+    → (o : OpenedObject) × (slot ≡ Some o) × (slice_get (objects_of slots) i ≡ Some o)
+slot_at slots items dense same i slot low is =
+    dense_object slots dense i slot (ap (λ (s : List (Option OpenedObject)). slice_get s i) (sym same) ∙ slice_get_read items (length items) i slot refl low is)
+
+-- ---- one object more
+
+pub objects_push : (slots : List (Option OpenedObject)) (o : OpenedObject) → objects_of (slots ++ Some o ∷ []) ≡ objects_of slots ++ o ∷ []
+objects_push [] o = refl
+objects_push (None ∷ slots) o = objects_push slots o
+objects_push (Some x ∷ slots) o = ap (λ (os : List OpenedObject). x ∷ os) (objects_push slots o)
+
+pub dense_push : (slots : List (Option OpenedObject)) (o : OpenedObject) → IsDense slots → IsDense (slots ++ Some o ∷ [])
+dense_push slots o dense =
+    ap (λ (s : List (Option OpenedObject)). s ++ Some o ∷ []) dense ∙ sym (map-append (λ (x : OpenedObject). Some x) (objects_of slots) (o ∷ []))
+    ∙ ap slots_of (sym (objects_push slots o))
+
+-- what stands in the list stood there before, or is the last
+last_or : {X : Type 0} (xs : List X) (y : X) (k : ℕ) (z : X) → slice_get (xs ++ y ∷ []) k ≡ Some z → (slice_get xs k ≡ Some z) ⊎ (y ≡ z)
+last_or [] y zero z at = inr (same_Some y z at)
+last_or [] y (suc k) z at = absurd (cc)
+last_or (x ∷ xs) y zero z at = inl at
+last_or (x ∷ xs) y (suc k) z at = last_or xs y k z at
+
+module _ (slots : List (Option OpenedObject)) (numbers : BTreeMap ℕ ℕ) (index : IsIndex (table_of slots) numbers) (o : OpenedObject) where
+  abbrev after : List (Option OpenedObject)
+  after = slots ++ Some o ∷ []
+
+  at_slot : (k : ℕ) (x : OpenedObject) (h : ℕ) → slice_get after k ≡ Some (Some x) → header_of x ≡ h → get (table_of after) k ≡ Some h
+  at_slot k x h at is =
+      get_table after k ∙ ap (λ (s : Option (Option OpenedObject)). option_map header_of (option_flatten s)) at ∙ ap (λ (g : ℕ). Some g) is
+
+  was_there : (k h : ℕ) → get (table_of after) k ≡ Some h → (get (table_of slots) k ≡ Some h) ⊎ (header_of o ≡ h)
+  was_there k h at =
+      let slot = slot_of after k h at in
+      elim (last_or slots (Some o) k (Some slot.0) slot.1) [
+        | inl before ↦
+            inl (get_table slots k ∙ ap (λ (s : Option (Option OpenedObject)). option_map header_of (option_flatten s)) before ∙ ap (λ (g : ℕ). Some g) slot.2)
+        | inr last ↦ inr (ap header_of (same_Some o slot.0 last) ∙ slot.2)
+      ]
 
   abbrev IsAt : ℕ → Option ℕ → Type 0
-  IsAt q found = MatchOption found (Contains now q → ⊥) (λ k. slice_get now k ≡ Some q)
+  IsAt q found = MatchOption found ((n : ℕ) → get (table_of after) n ≡ Some q → ⊥) (λ n. get (table_of after) n ≡ Some q)
 
-  at_new : (q : ℕ) → o.messages.header ≡ q → slice_get now number ≡ Some q
-  at_new q same =
-      let place : number ≡ length (headers objects) = is_number ∙ sym (length-map objects (λ (x : OpenedObject). x.messages.header)) in
-      ap (slice_get now) place ∙ slice_get_seam (headers objects) o.messages.header ∙ ap (λ (h : ℕ). Some h) same
+  at_old : (q : ℕ) → (header_of o ≡ q → ⊥) → (found : Option ℕ)
+      → MatchOption found ((n : ℕ) → get (table_of slots) n ≡ Some q → ⊥) (λ n. get (table_of slots) n ≡ Some q) → IsAt q found
+  at_old q other None none = λ n there. elim (was_there n q there) [ inl before ↦ none n before | inr last ↦ other last ]
+  at_old q other (Some k) is = let slot = slot_of slots k q is in at_slot k slot.0 q (place_before slots (Some o ∷ []) k (Some slot.0) slot.1) slot.2
 
-  none_there : (q : ℕ) → (o.messages.header ≡ q → ⊥) → (Contains (headers objects) q → ⊥) → Contains now q → ⊥
-  none_there q other none at = either (Contains-append_cases (headers objects) (o.messages.header ∷ []) q at) where
-    either : Contains (headers objects) q ⊎ Contains (o.messages.header ∷ []) q → ⊥
-    either (inl before) = none before
-    either (inr last) = only (in_contains q (o.messages.header ∷ []) last) where
-      only : In q (o.messages.header ∷ []) → ⊥
-      only (inl e) = other e
-      only (inr rest) = absurd rest
+  each : (q : ℕ) (b : Bool) → is_at (nat_cmp (header_of o)) q ≡ b → IsAt q (cond b (Some (length slots)) (lookup nat_cmp numbers q))
+  each q true same = at_slot (length slots) o q (place_next slots (Some o) []) (same_of (header_of o) q same)
+  each q false other = at_old q (other_of (header_of o) q other) (lookup nat_cmp numbers q) (index q)
 
-  at_old : (q : ℕ) → (o.messages.header ≡ q → ⊥) → (found : Option ℕ) → MatchOption found (Contains (headers objects) q → ⊥) (λ k. slice_get (headers objects) k ≡ Some q) → IsAt q found
-  at_old q other None none = none_there q other none
-  at_old q other (Some k) is = slice_get_left (headers objects) (o.messages.header ∷ []) k q is
-
-  each : (q : ℕ) (b : Bool) → is_at (nat_cmp o.messages.header) q ≡ b → IsAt q (cond b (Some number) (get nat_cmp numbers q))
-  each q true same = at_new q (same_of o.messages.header q same)
-  each q false other = at_old q (other_of o.messages.header q other) (get nat_cmp numbers q) (index q)
-
-  index_push : (after : List OpenedObject) → after ≡ objects ++ o ∷ [] → IsIndex after numbers'
-  index_push after is q =
-      let hs : headers after ≡ now = ap headers is ∙ headers-append objects (o ∷ []) in
-      subst (λ (xs : List ℕ). MatchOption (get nat_cmp numbers' q) (Contains xs q → ⊥) (λ k. slice_get xs k ≡ Some q)) (sym hs)
-      (subst (IsAt q) (sym (subst (λ (h : ℕ). get nat_cmp numbers' q ≡ cond (is_at (nat_cmp h) q) (Some number) (get nat_cmp numbers q)) is_key (updates q)))
-      (each q (is_at (nat_cmp o.messages.header) q) refl))
+  index_push : (numbers' : BTreeMap ℕ ℕ) → ((q : ℕ) → lookup nat_cmp numbers' q ≡ cond (is_at (nat_cmp (header_of o)) q) (Some (length slots)) (lookup nat_cmp numbers q))
+      → IsIndex (table_of after) numbers'
+  index_push numbers' updates q = subst (IsAt q) (sym (updates q)) (each q (is_at (nat_cmp (header_of o)) q) refl)
 
 -- ---- numbers fit
 
@@ -82,18 +140,23 @@ below_all (h ∷ hs) low q is = first_below h hs low.0 q (below_all hs low.1 q) 
 tested_distinct : (hs : List ℕ) → IsDistinct (eq_by_cmp nat_cmp) hs → IsDistinct eqb hs
 tested_distinct hs is = subst (λ (e : ℕ → ℕ → Bool). IsDistinct e hs) (λ i x y. unsigned_tied x y i) is
 
-pub few_objects : (objects : List OpenedObject) (numbers : BTreeMap ℕ ℕ) → IsNumbered objects numbers → length objects ≤ 2 ^ 31
-few_objects objects numbers is =
-    let few = length-le_from_distinct_below (headers objects) (2 ^ 31) (tested_distinct (headers objects) is.distinct) (below_all (headers objects) is.low) in
-    let same : length (headers objects) ≡ length objects = length-map objects (λ (o : OpenedObject). o.messages.header) in
-    omega (arith, few, same)
+pub few_objects : (slots : List (Option OpenedObject)) (numbers : BTreeMap ℕ ℕ) → IsNumbered slots numbers → length slots ≤ 2 ^ 31
+few_objects slots numbers is =
+    let hs = headers (objects_of slots) in
+    let few = length-le_from_distinct_below hs (2 ^ 31) (tested_distinct hs is.distinct) (below_all hs is.low) in
+    omega (arith, few, length-map (objects_of slots) header_of, dense_length slots is.all)
 
-pub numbered_push : (objects : List OpenedObject) (numbers : BTreeMap ℕ ℕ) → IsNumbered objects numbers → (o : OpenedObject) → o.messages.header < 2 ^ 31 → (Contains (headers objects) o.messages.header → ⊥)
-    → (number : ℕ) → number ≡ length objects → (numbers' : BTreeMap ℕ ℕ) (key : ℕ) → key ≡ o.messages.header
-    → ((q : ℕ) → get nat_cmp numbers' q ≡ cond (is_at (nat_cmp key) q) (Some number) (get nat_cmp numbers q)) → (after : List OpenedObject) → after ≡ objects ++ o ∷ [] → IsNumbered after numbers'
-numbered_push objects numbers is o low new number is_number numbers' key is_key updates after grown = record {
-  index = index_push objects numbers is.index o number is_number numbers' key is_key updates after grown;
-  distinct = subst (λ (xs : List OpenedObject). IsDistinct (eq_by_cmp nat_cmp) (headers xs)) (sym grown) (distinct_push objects o is.distinct new);
-  low = subst (AllByRecursion (λ h. h < 2 ^ 31)) (sym (ap headers grown ∙ headers-append objects (o ∷ [])))
-      (all_append (λ h. h < 2 ^ 31) (headers objects) (o.messages.header ∷ []) is.low (low, tt));
-}
+pub numbered_push : (slots : List (Option OpenedObject)) (numbers : BTreeMap ℕ ℕ) → IsNumbered slots numbers → (o : OpenedObject) → header_of o < 2 ^ 31
+    → (Contains (headers (objects_of slots)) (header_of o) → ⊥) → (number : ℕ) → number ≡ length slots → (numbers' : BTreeMap ℕ ℕ) (key : ℕ) → key ≡ header_of o
+    → ((q : ℕ) → lookup nat_cmp numbers' q ≡ cond (is_at (nat_cmp key) q) (Some number) (lookup nat_cmp numbers q)) → (slots' : List (Option OpenedObject))
+    → slots' ≡ slots ++ Some o ∷ [] → IsNumbered slots' numbers'
+numbered_push slots numbers is o low new number is_number numbers' key is_key updates slots' grown =
+    let more = λ (P : List ℕ → Type 0) (holds : P (headers (objects_of slots ++ o ∷ []))).
+    subst (λ (os : List OpenedObject). P (headers os)) (sym (objects_push slots o)) holds in
+    subst (λ (s : List (Option OpenedObject)). IsNumbered s numbers') (sym grown) (record {
+      all = dense_push slots o is.all;
+      index = index_push slots numbers is.index o numbers' (λ q. updates q ∙ (λ i. cond (is_at (nat_cmp (is_key i)) q) (Some (is_number i)) (lookup nat_cmp numbers q)));
+      distinct = more (IsDistinct (eq_by_cmp nat_cmp)) (distinct_push (objects_of slots) o is.distinct new);
+      low = more (AllByRecursion (λ h. h < 2 ^ 31)) (subst (AllByRecursion (λ h. h < 2 ^ 31)) (sym (headers-append (objects_of slots) (o ∷ [])))
+          (all_append (λ h. h < 2 ^ 31) (headers (objects_of slots)) (header_of o ∷ []) is.low (low, tt)));
+    })

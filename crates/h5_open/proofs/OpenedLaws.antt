@@ -1,6 +1,9 @@
 pub mod Made
 pub mod Entries
-pub mod Own
-pub mod SharedHeaders
+pub mod HeaderNumbers
+pub mod ReadHeaders
 pub mod Numbers
 pub mod Indexed
+pub mod ReadBlocks
+pub mod Sounds
+pub mod LinkedHeaders

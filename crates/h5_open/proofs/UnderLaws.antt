@@ -12,8 +12,8 @@ use Rattle.h5_laws.proofs.Lists.{contains_in, in_right}
 use Rattle.h5_header.specs.Walk.Met.{IsHeaderMet}
 use Rattle.h5_open.specs.declared.opened.object.OpenedObject.{OpenedObject}
 use Rattle.h5_open.specs.Opened.Kept.{IsObjectKept}
-use Rattle.h5_open.specs.Opened.Objects.{headers, object_blocks}
-use Rattle.h5_open.specs.Placed.Whole.{HasParent, opened_blocks}
+use Rattle.h5_open.specs.Opened.Objects.{headers, object_blocks, opened_blocks}
+use Rattle.h5_open.specs.Placed.Whole.{HasParent}
 use Rattle.h5_open.specs.Read.{IsObjectRead, IsObjectFollowed}
 use Rattle.h5_open.specs.Walk.{IsNamedBy, IsUnder, IsReady}
 use Rattle.h5_open.proofs.PlaceLaws.{weaken_all}

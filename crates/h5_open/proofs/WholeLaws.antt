@@ -1,34 +1,45 @@
 -- The whole walk: it begins at the superblock, and ends when all objects are read.
-use Rattle.std.proofs.Common.{◌≡◌, inl, ℕ, List, [], ◌++◌, length, refl, sym, subst, arith}
-use Rattle.std.specs.Prelude.{Some, MatchOption, slice_get}
-use Rattle.std.specs.List.{AllByRecursion, Contains, IsDistinct}
+use Rattle.std.proofs.Common.{◌≡◌, inl, inr, ℕ, List, [], ◌++◌, length, refl, sym, ◌∙◌, subst, arith}
+use Rattle.std.proofs.lemmas.Bool.{cases_lt}
+use Rattle.std.specs.Prelude.{Option, Some, None, MatchOption}
+use Rattle.std.specs.List.{AllByRecursion, IsDistinct}
+use Rattle.std.specs.FinMap.{get}
 use Rattle.std.specs.Map.{lookup}
 use Rattle.std.specs.Ordering.{nat_cmp, eq_by_cmp}
 use Rattle.std.specs.BTreeMap.{BTreeMap, is_at}
 use Rattle.h5_bytes.specs.Blocks.{holds, Separate}
 use Rattle.h5_bytes.specs.declared.Block.{Block}
-use Rattle.h5_bytes.proofs.BlockLaws.{holds_in}
+use Rattle.h5_bytes.proofs.BlockLaws.{holds_in, cover_past}
 use Rattle.h5_model.specs.Format.Superblock.{IsSuperblock, end_of_file, root_header}
 use Rattle.h5_model.specs.Format.Reached.{by_superblock}
 use Rattle.h5_model.specs.Format.Reads.{ReadsAs}
-use Rattle.h5_laws.proofs.Lists.{in_contains}
+use Rattle.h5_space.specs.Space.{Space}
+use Rattle.h5_space.specs.Whole.{IsApart}
 use Rattle.h5_header.specs.Walk.Walked.{IsWalked}
 use Rattle.h5_open.specs.declared.opened.object.OpenedObject.{OpenedObject}
 use Rattle.h5_open.specs.Opened.Kept.{IsIndex, IsOpened}
-use Rattle.h5_open.specs.Opened.Objects.{table_of, tree_of}
+use Rattle.h5_open.specs.Opened.Objects.{objects_of, opened_blocks, table_of, tree_of}
 use Rattle.h5_open.specs.Placed.Whole.{AreLed, IsWholeImage, placed_of}
 use Rattle.h5_open.specs.Walk.{IsNumbered, IsUnder, IsReady, IsTreeRead}
+use Rattle.h5_open.proofs.IndexLaws.{few_objects}
+use Rattle.h5_open.proofs.OpenedLaws.Entries.{get_table}
 
 empty_distinct : IsDistinct (eq_by_cmp nat_cmp) []
 unfolding IsDistinct
 empty_distinct = tt
 
 -- no object has a number yet
-empty_index : (numbers : BTreeMap ℕ ℕ) → numbers.entries ≡ [] → IsIndex [] numbers
-empty_index numbers none q = subst (λ (es : List (ℕ × ℕ)). MatchOption (lookup (is_at (nat_cmp q)) es) (Contains [] q → ⊥) (λ k. slice_get [] k ≡ Some q)) (sym none) (in_contains q [])
+no_header : (n q : ℕ) → get (table_of []) n ≡ Some q → ⊥
+no_header n q at = absurd (let never : None ≡ Some q = sym (get_table [] n) ∙ at in cc)
 
-pub none_numbered : (objects : List OpenedObject) (numbers : BTreeMap ℕ ℕ) → objects ≡ [] → numbers.entries ≡ [] → IsNumbered objects numbers
-none_numbered objects numbers none empty = subst (λ (xs : List OpenedObject). IsNumbered xs numbers) (sym none) (record { index = empty_index numbers empty; distinct = empty_distinct; low = tt })
+empty_index : (numbers : BTreeMap ℕ ℕ) → numbers.entries ≡ [] → IsIndex (table_of []) numbers
+empty_index numbers none q =
+    subst (λ (es : List (ℕ × ℕ)). MatchOption (lookup (is_at (nat_cmp q)) es) ((n : ℕ) → get (table_of []) n ≡ Some q → ⊥) (λ n. get (table_of []) n ≡ Some q))
+    (sym none) (λ n. no_header n q)
+
+pub none_numbered : (slots : List (Option OpenedObject)) (numbers : BTreeMap ℕ ℕ) → slots ≡ [] → numbers.entries ≡ [] → IsNumbered slots numbers
+none_numbered slots numbers none empty =
+    subst (λ (s : List (Option OpenedObject)). IsNumbered s numbers) (sym none) (record { all = refl; index = empty_index numbers empty; distinct = empty_distinct; low = tt })
 
 -- the root's header is met first
 pub root_ready : (image : List ℕ) (held : List Block) → IsSuperblock image → IsWalked image held [] → Separate held → IsReady image held [] [] 64 (root_header image) 0
@@ -87,6 +98,20 @@ whole_at image held now before objects header is ends none at tree =
     whole image held now objects is ends
     (subst (λ (xs : List OpenedObject). IsTreeRead image held now [] xs objects 64 (root_header image) 0) none (subst (λ (h : ℕ). IsTreeRead image held now [] before objects 64 h 0) at tree))
 
-pub opened : (image : List ℕ) (objects : List OpenedObject) (numbers : BTreeMap ℕ ℕ) → IsWholeImage image objects → IsIndex objects numbers
-    → ReadsAs image (table_of objects) (tree_of image objects) (placed_of image objects) → IsOpened image objects numbers
-opened image objects numbers is index reads = record { reads = (placed_of image objects, reads); each = is.each; index = index }
+-- the blocks of the objects lie in the image, and share no byte
+whole_apart : (image : List ℕ) (objects : List OpenedObject) → IsWholeImage image objects → IsApart (opened_blocks image objects) [] (length image)
+whole_apart image objects is p = elim (cases_lt p (length image)) [
+  | inl low ↦ omega (arith, is.apart p, holds_in p 0 (length image) (omega arith) (omega (arith, low)))
+  | inr past ↦ omega (arith, cover_past p (length image) (opened_blocks image objects) is.within (omega (arith, past)))
+]
+
+pub opened : (image : Space) (slots : List (Option OpenedObject)) (numbers : BTreeMap ℕ ℕ) → image.free ≡ [] → IsWholeImage image.bytes (objects_of slots) → IsNumbered slots numbers
+    → ReadsAs image.bytes (table_of slots) (tree_of image.bytes slots) (placed_of image.bytes (objects_of slots)) → IsOpened image slots numbers
+opened image slots numbers none is numbered reads = record {
+  reads = (placed_of image.bytes (objects_of slots), reads);
+  each = is.each;
+  index = numbered.index;
+  low = omega (arith, few_objects slots numbers numbered);
+  apart = subst (λ (free : List Block). IsApart (opened_blocks image.bytes (objects_of slots)) free (length image.bytes)) (sym none)
+      (whole_apart image.bytes (objects_of slots) is);
+}

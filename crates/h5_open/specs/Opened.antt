@@ -5,4 +5,5 @@ pub mod Judged
 pub mod Kept
 pub mod NotYet
 pub mod Objects
+pub mod Sound
 pub mod State

@@ -1,5 +1,5 @@
 -- How far the walk of opening has come (File Format Specification 3.0, section IV.A).
-use Rattle.std.specs.Prelude.{◌≡◌, ℕ, ◌+◌, ◌-◌, ◌^◌, ◌<◌, ◌≤◌, ◌⊎◌, true, List, [], ◌∷◌, ◌++◌, length, map, take, drop}
+use Rattle.std.specs.Prelude.{◌≡◌, ℕ, ◌+◌, ◌-◌, ◌^◌, ◌<◌, ◌≤◌, ◌⊎◌, true, Option, List, [], ◌∷◌, ◌++◌, length, map, take, drop}
 use Rattle.std.specs.List.{AllByRecursion, Contains, IsDistinct, flat_map}
 use Rattle.std.specs.Ordering.{nat_cmp, eq_by_cmp}
 use Rattle.std.specs.BTreeMap.{BTreeMap}
@@ -16,15 +16,16 @@ use Rattle.h5_header.specs.Walk.Met.{IsMet}
 use Rattle.h5_open.specs.declared.opened.object.OpenedObject.{OpenedObject}
 use Rattle.h5_open.specs.Opened.Kept.{IsObjectKept, IsIndex}
 use Rattle.h5_open.specs.Opened.NotYet.{IsOpenRefusedAt}
-use Rattle.h5_open.specs.Opened.Objects.{headers, content_links, object_blocks}
-use Rattle.h5_open.specs.Placed.Whole.{IsGroupContent, HasHeight, IsLed, AreLed, HasParent, AreNamed, opened_blocks}
+use Rattle.h5_open.specs.Opened.Objects.{IsDense, headers, objects_of, content_links, object_blocks, opened_blocks, table_of}
+use Rattle.h5_open.specs.Placed.Whole.{IsGroupContent, HasHeight, IsLed, AreLed, HasParent, AreNamed}
 use Rattle.h5_open.specs.Read.{IsOwn, AreWaiting}
 
--- Each object has its number. No two have one header, and headers lie below 2 GiB, so numbers fit.
-pub record IsNumbered (objects : List OpenedObject) (numbers : BTreeMap ℕ ℕ) : Type 0 where
-  pub index : IsIndex objects numbers
-  pub distinct : IsDistinct (eq_by_cmp nat_cmp) (headers objects)
-  pub low : AllByRecursion (λ h. h < 2 ^ 31) (headers objects)
+-- Each number has an object, whose header has the number. No two have one header, and headers lie below 2 GiB, so numbers fit.
+pub record IsNumbered (slots : List (Option OpenedObject)) (numbers : BTreeMap ℕ ℕ) : Type 0 where
+  pub all : IsDense slots
+  pub index : IsIndex (table_of slots) numbers
+  pub distinct : IsDistinct (eq_by_cmp nat_cmp) (headers (objects_of slots))
+  pub low : AllByRecursion (λ h. h < 2 ^ 31) (headers (objects_of slots))
 
 -- a field that was followed names the header of this object
 abbrev pub IsNamedBy : List Named → OpenedObject → Type 0

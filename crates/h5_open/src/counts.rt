@@ -2,4 +2,4 @@
 mod check;
 mod links;
 
-pub use check::check_counts;
+pub(crate) use check::check_counts;

@@ -1,43 +1,52 @@
-//! The objects that were read, and the table of their numbers.
+//! What is kept of an opened image: its objects, and the table of their numbers (File Format Specification 3.0, section IV.A).
 
 ghost use Rattle.std.specs.Prelude.{◌≡◌, ◌^◌, ◌<◌, [], ◌∷◌, ◌++◌, IfSome, IfNone, IfErr, OnOk};
 ghost use Rattle.std.specs.List.{Contains};
-ghost use Rattle.h5_open.specs.Opened.Kept.{IsIndex};
-ghost use Rattle.h5_open.specs.Opened.Objects.{headers};
+ghost use Rattle.h5_open.specs.Opened.Objects.{headers, objects_of};
 ghost use Rattle.h5_open.specs.Walk.{IsNumbered};
 
-use crate::opened::{Opened, OpenedObject};
+use crate::opened::OpenedObject;
 use h5_model::{Cause, OpenFault};
 use h5_space::fault;
+use std::collections::BTreeMap;
+
+/// The objects that were read, by their numbers, and the number at each header.
+#[derive(Drop)]
+pub(crate) struct Index {
+    /// A slot for each number that was given out. The slot of an object that is no more stays empty.
+    pub(crate) objects: Vec<Option<OpenedObject>>,
+    pub(crate) numbers: BTreeMap<u64, u32>,
+}
 
 /// The object whose header is at this address, where it was read.
-pub(crate) fn object_at(opened: &Opened, header: u64) -> Option<&OpenedObject>
-    requires { IsIndex opened.now.objects.items opened.now.numbers }
-    ensures object { IfSome result (λ o. Contains opened.now.objects.items o.now) }
+pub(crate) fn object_at(index: &Index, header: u64) -> Option<&OpenedObject>
+    requires { IsNumbered index.now.objects.items index.now.numbers }
+    ensures object { IfSome result (λ o. Contains (objects_of index.now.objects.items) o.now) }
     ensures header { IfSome result (λ o. o.now.messages.header ≡ header) }
-    ensures none { IfNone result (Contains (headers opened.now.objects.items) header → ⊥) }
+    ensures none { IfNone result (Contains (headers (objects_of index.now.objects.items)) header → ⊥) }
 {
-    let number = *opened.numbers.get(&header)?;
-    Some(&opened.objects[number as usize])
+    let number = *index.numbers.get(&header)?;
+    index.objects[number as usize].as_ref()
 }
 
 /// Gives the object the next number. Refused is want of memory alone.
 ///
 /// That the header is another than those before, and lies below 2 GiB, are the caller's conditions.
-pub(crate) fn push_object(opened: &mut Opened, object: OpenedObject) -> Result<(), OpenFault>
-    requires index { IsNumbered opened.old.objects.items opened.old.numbers }
+pub(crate) fn push_object(index: &mut Index, object: OpenedObject) -> Result<(), OpenFault>
+    requires index { IsNumbered index.old.objects.items index.old.numbers }
     requires low { object.messages.header < 2 ^ 31 }
-    requires new { Contains (headers opened.old.objects.items) object.messages.header → ⊥ }
-    ensures pushed { OnOk result (opened.new.objects.items ≡ opened.old.objects.items ++ object ∷ []) }
-    ensures index { OnOk result (IsNumbered opened.new.objects.items opened.new.numbers) }
+    requires new { Contains (headers (objects_of index.old.objects.items)) object.messages.header → ⊥ }
+    ensures pushed { OnOk result
+        (objects_of index.new.objects.items ≡ objects_of index.old.objects.items ++ object ∷ []) }
+    ensures index { OnOk result (IsNumbered index.new.objects.items index.new.numbers) }
     ensures refused { IfErr result (λ fault. fault.cause ≡ Cause.NoMemory) }
 {
     let header = object.messages.header();
-    let number = opened.objects.len() as u32;
-    let Ok(_) = opened.numbers.insert(header, number) else {
+    let number = index.objects.len() as u32;
+    let Ok(_) = index.numbers.insert(header, number) else {
         return Err(fault(Cause::NoMemory, header));
     };
-    let Ok(()) = opened.objects.push(object) else {
+    let Ok(()) = index.objects.push(Some(object)) else {
         return Err(fault(Cause::NoMemory, header));
     };
     Ok(())

@@ -2,4 +2,4 @@
 //! Specification 3.0, section IV.A.1).
 mod order;
 
-pub use order::renumber;
+pub(crate) use order::renumber;

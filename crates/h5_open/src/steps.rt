@@ -8,14 +8,14 @@ ghost use Rattle.h5_header.specs.Walk.Walked.{IsWalked};
 ghost use Rattle.h5_open.specs.Opened.Carried.{ReadsCarried};
 ghost use Rattle.h5_open.specs.Opened.Kept.{IsOpened};
 ghost use Rattle.h5_open.specs.Opened.NotYet.{IsOpenRefusedAt};
-ghost use Rattle.h5_open.specs.Opened.Objects.{headers};
+ghost use Rattle.h5_open.specs.Opened.Objects.{IsDense, headers, objects_of};
 ghost use Rattle.h5_bytes.specs.Blocks.{Separate};
 ghost use Rattle.h5_open.specs.Walk.{IsNumbered, ReadsFrom, IsFaultFrom, ReadsLink, IsLinkFault};
 
 use crate::counts::check_counts;
-use crate::index::{object_at, push_object};
+use crate::index::{Index, object_at, push_object};
 use crate::object::{links_in, read_object};
-use crate::opened::{Opened, OpenedContent};
+use crate::opened::OpenedContent;
 use h5_bytes::Block;
 use h5_header::claim;
 use h5_model::{Cause, Link, LinkTo, OpenFault};
@@ -23,34 +23,27 @@ use h5_space::{Claims, Image, SUPERBLOCK, fault, root_header};
 use std::alloc::Global;
 use std::collections::BTreeMap;
 
-/// Opens an image: reads the root, and all objects to which links lead from there.
+/// Walks an image: reads the root, and all objects to which links lead from there; `Opened::open` says what is refused.
 ///
-/// The image reads as the tree that is told by what is kept of its objects. Refused is, at the address of the block that breaks a
-/// rule, the first breach that is met, depth first and by the names of links: of an object's header, then of its group's heap, tree,
-/// symbol nodes and names, or of its array's cells; `TooDeep` at a symbol node with a link 65 links below the root;
-/// `GroupLinkedTwice` at the header of a group to which a second link leads; and when all objects are read, of the headers'
-/// reference counts, by the objects' numbers. `NotYet` answers, at its header, an array that has not one dimension or is not in one
-/// block. `NoMemory` where memory is refused, and that alone of an image that reads as a tree of arrays that are opened.
-///
-/// That the image begins with a superblock, and ends where that says, are the caller's conditions. Each block is looked at
-/// once; memory is taken for the messages and symbol nodes that stand in claimed blocks, and for a reference to each link of the
-/// groups on the way from the root.
-pub fn walk(alloc: Global, image: &Image) -> Result<Opened, OpenFault>
+/// That the image begins with a superblock, ends where that says, and has no free block, are the caller's conditions.
+pub(crate) fn walk(alloc: Global, image: &Image) -> Result<Index, OpenFault>
     requires superblock { IsSuperblock image.now.bytes }
     requires whole { end_of_file image.now.bytes ≡ length image.now.bytes }
-    ensures kept { IfOk result (λ o. IsOpened image.now.bytes o.objects.items o.numbers) }
+    requires free { image.now.free ≡ [] }
+    ensures kept { IfOk result (λ o. IsOpened image.now o.objects.items o.numbers) }
+    ensures all { IfOk result (λ o. IsDense o.objects.items) }
     ensures refused { IfErr result (λ fault. IsOpenRefusedAt image.now.bytes fault.cause fault.address) }
     ensures only { IfErr result (λ fault. ReadsCarried image.now.bytes → fault.cause ≡ Cause.NoMemory) }
 {
     let mut claims = claim_superblock(alloc, image)?;
-    let mut opened = Opened {
+    let mut index = Index {
         objects: Vec::new(alloc),
         numbers: BTreeMap::new(alloc),
     };
     let header = root_header(image.bytes());
-    read_tree(alloc, image, &mut claims, &mut opened, header, 0)?;
-    check_counts(alloc, image, &opened)?;
-    Ok(opened)
+    read_tree(alloc, image, &mut claims, &mut index, header, 0)?;
+    check_counts(alloc, image, &index)?;
+    Ok(index)
 }
 
 /// Claims the superblock.
@@ -76,28 +69,28 @@ fn read_tree(
     alloc: Global,
     image: &Image,
     claims: &mut Claims,
-    opened: &mut Opened,
+    index: &mut Index,
     header: u64,
     depth: u8,
 ) -> Result<(), OpenFault>
     requires superblock { IsSuperblock image.now.bytes }
     requires small { length image.now.bytes ≤ 2 ^ 31 }
     requires end { claims.old.end ≡ length image.now.bytes }
-    requires index { IsNumbered opened.old.objects.items opened.old.numbers }
-    requires new { Contains (headers opened.old.objects.items) header → ⊥ }
+    requires index { IsNumbered index.old.objects.items index.old.numbers }
+    requires new { Contains (headers (objects_of index.old.objects.items)) header → ⊥ }
     requires depth { depth ≤ 64 }
     ensures end { claims.new.end ≡ claims.old.end }
-    ensures index { OnOk result (IsNumbered opened.new.objects.items opened.new.numbers) }
+    ensures index { OnOk result (IsNumbered index.new.objects.items index.new.numbers) }
     ensures read { OnOk result (ReadsFrom image.now.bytes claims.old.held claims.new.held
-        opened.old.objects.items opened.new.objects.items header depth) }
+        (objects_of index.old.objects.items) (objects_of index.new.objects.items) header depth) }
     ensures refused { IfErr result (λ fault. IsFaultFrom image.now.bytes claims.old.held
-        opened.old.objects.items header depth fault.cause fault.address) }
+        (objects_of index.old.objects.items) header depth fault.cause fault.address) }
 {
     let object = read_object(alloc, image, claims, header, depth)?;
     let links = links_in(alloc, image, &object)?;
-    push_object(opened, object)?;
+    push_object(index, object)?;
     for link in &links {
-        follow(alloc, image, claims, opened, *link, depth)?;
+        follow(alloc, image, claims, index, *link, depth)?;
     }
     Ok(())
 }
@@ -108,30 +101,31 @@ fn follow(
     alloc: Global,
     image: &Image,
     claims: &mut Claims,
-    opened: &mut Opened,
+    index: &mut Index,
     link: Link<'_, u64>,
     depth: u8,
 ) -> Result<(), OpenFault>
     requires superblock { IsSuperblock image.now.bytes }
     requires small { length image.now.bytes ≤ 2 ^ 31 }
     requires end { claims.old.end ≡ length image.now.bytes }
-    requires index { IsNumbered opened.old.objects.items opened.old.numbers }
+    requires index { IsNumbered index.old.objects.items index.old.numbers }
     requires depth { depth + 1 ≤ 64 }
     ensures end { claims.new.end ≡ claims.old.end }
-    ensures index { OnOk result (IsNumbered opened.new.objects.items opened.new.numbers) }
+    ensures index { OnOk result (IsNumbered index.new.objects.items index.new.numbers) }
     ensures read { OnOk result (ReadsLink image.now.bytes claims.old.held claims.new.held
-        opened.old.objects.items opened.new.objects.items depth (lent_link link.entry)) }
+        (objects_of index.old.objects.items) (objects_of index.new.objects.items) depth
+        (lent_link link.entry)) }
     ensures refused { IfErr result (λ fault. IsLinkFault image.now.bytes claims.old.held
-        opened.old.objects.items depth (lent_link link.entry) fault.cause fault.address) }
+        (objects_of index.old.objects.items) depth (lent_link link.entry) fault.cause fault.address) }
 {
     let LinkTo::Object(header) = link.to else {
         return Ok(());
     };
-    if let Some(object) = object_at(opened, header) {
+    if let Some(object) = object_at(index, header) {
         return match object.content {
             OpenedContent::Group(_) => Err(fault(Cause::GroupLinkedTwice, header)),
             OpenedContent::Array => Ok(()),
         };
     }
-    read_tree(alloc, image, claims, opened, header, depth + 1)
+    read_tree(alloc, image, claims, index, header, depth + 1)
 }

@@ -1,10 +1,9 @@
 -- What the calls answer at an object.
 use Rattle.std.proofs.Common.{◌≡◌, ℕ, List, [], ◌∷◌, length, refl, sym, ap, ◌∙◌, Option, Some, None, Bool, not, true, false, arith, ℤ, Vec, subst}
-use Rattle.std.specs.Prelude.{◌==◌, slice_get, option_map, option_and_then}
+use Rattle.std.specs.Prelude.{◌==◌, option_map, option_and_then}
 use Rattle.std.specs.Option.{option_map_or}
 use Rattle.std.specs.FinMap.{get, entries, contains_key, empty}
 use Rattle.std.specs.declared.alloc.Global.{Global}
-use Rattle.std.specs.BTreeMap.{BTreeMap}
 use Rattle.std.proofs.lemmas.Option.{same_Some}
 use Rattle.std.proofs.lemmas.Bool.Decides.{nat_tests}
 use Rattle.h5_model.specs.Tree.Places.{is_inside}
@@ -21,8 +20,9 @@ use Rattle.h5_open.specs.Described.{Described, described_dataset}
 use Rattle.h5_open.specs.Told.{array_told}
 use Rattle.h5_open.specs.declared.opened.object.OpenedObject.{OpenedObject}
 use Rattle.h5_open.specs.declared.opened.object.OpenedContent.TheVariants as content
-use Rattle.h5_open.specs.Opened.Kept.{IsOpened}
-use Rattle.h5_open.specs.Opened.Objects.{headers, links_by, content_in, object_in, tree_of}
+use Rattle.h5_open.specs.Opened.Sound.{IsObjectOf}
+use Rattle.h5_open.specs.Opened.State.{FileState}
+use Rattle.h5_open.specs.Opened.Objects.{links_by, content_in, object_in}
 use Rattle.h5_open.specs.GroupTold.{links_told}
 use Rattle.h5_query.specs.declared.array.StoredArray.{StoredArray}
 use Rattle.h5_query.specs.declared.kind.Kind.{Kind}
@@ -35,7 +35,7 @@ use Rattle.h5_query.specs.Look.{HasKind, HasLinksNamed, HasCell, HasAttribute, I
 use Rattle.h5_query.specs.Kept.{IsHeaderThere, IsArrayThere, names_of_group, array_dataset}
 use Rattle.h5_query.proofs.KeptArrays.{kept_unchunked}
 use Rattle.h5_query.proofs.GroupLaws.{keys_are}
-use Rattle.h5_query.proofs.Indexed.{object_there, object_kept, group_read, group_links, group_no_array, array_there, array_kept, array_no_group}
+use Rattle.h5_query.proofs.Indexed.{group_read, group_links, group_no_array, array_there, array_kept, array_no_group}
 use Rattle.h5_query.proofs.RuleLaws.{list_here, no_dataset, dataset_here, first-behind, index_rules}
 
 abbrev attribute_rule : Tree → List ℕ → List ℕ → List (EditFault × Bool)
@@ -71,81 +71,80 @@ cell_there image tree path a there index value same inside is =
       value_is = is;
     }
 
-module _ (image : List ℕ) (objects : List OpenedObject) (numbers : BTreeMap ℕ ℕ) (opened : IsOpened image objects numbers) (number : ℕ) (object : OpenedObject)
-    (at : slice_get objects number ≡ Some object) where
+module _ (f : FileState) (number : ℕ) (object : OpenedObject) (of : IsObjectOf f number object) where
   abbrev T : Tree
-  T = tree_of image objects
+  T = f.tree
 
   -- ---- by a path
 
   module _ (path : List ℕ) (leads : PathLeadsTo T path (ToObject number)) where
-    pub header_there : IsHeaderThere image T path object.messages
+    pub header_there : IsHeaderThere f.image T path object.messages
     header_there = record {
       accepted = first-behind (path_rules T path) ((NotFound, is_soft (located T path)) ∷ []) leads.0 ∙ rw leads.1 refl;
-      object = object_in image (headers objects) object;
-      found = rw leads.1 (object_there image objects number object at);
-      kept = (object_kept image objects numbers opened number object at).header;
+      object = object_in f.image f.table object;
+      found = rw leads.1 of.there;
+      kept = of.kept.header;
       attributes_are = refl;
     }
 
     -- what it holds
-    holds : (attributes : List (List ℕ × Attribute)) → attributes ≡ entries (attributes_of (messages_in image object.messages.list)) → (c : Content)
-        → content_in image (headers objects) (messages_in image object.messages.list) object.content ≡ c → TreeHasObject T number attributes c
-    holds attributes listed c same = record { object = object_in image (headers objects) object; found = object_there image objects number object at; listed = listed; content_is = same }
+    holds : (attributes : List (List ℕ × Attribute)) → attributes ≡ entries (attributes_of (messages_in f.image object.messages.list)) → (c : Content)
+        → content_in f.image f.table (messages_in f.image object.messages.list) object.content ≡ c → TreeHasObject T number attributes c
+    holds attributes listed c same = record { object = object_in f.image f.table object; found = of.there; listed = listed; content_is = same }
 
     -- ---- a group
 
     module _ (g : SymbolTable) (is : object.content ≡ content.Group g) where
       pub group_kind : HasKind T path kind.Group
-      group_kind = record { accepted = leads.0; found = rw (leads.1, group_links image objects number object at g is) refl }
+      group_kind = record { accepted = leads.0; found = rw (leads.1, group_links f number object of g is) refl }
 
       pub group_found : (n : ObjectNo) → n.0 ≡ number → (attributes : Vec (List ℕ × Attribute) Global)
-          → attributes.items ≡ entries (attributes_of (messages_in image object.messages.list)) → HasFound T path (found.Group n attributes)
+          → attributes.items ≡ entries (attributes_of (messages_in f.image object.messages.list)) → HasFound T path (found.Group n attributes)
       group_found n same attributes listed = record {
         accepted = leads.0;
-        there = rw leads.1 (same, links_by (headers objects) (links_told image g), holds attributes.items listed _ (ap (content_in image (headers objects) (messages_in image object.messages.list)) is));
+        there = rw leads.1 (same, links_by f.table (links_told f.image g), holds attributes.items listed _ (ap (content_in f.image f.table (messages_in f.image object.messages.list)) is));
       }
 
-      pub group_names : (names : List (List ℕ)) → names ≡ names_of_group image g → HasLinksNamed T path names
+      pub group_names : (names : List (List ℕ)) → names ≡ names_of_group f.image g → HasLinksNamed T path names
       group_names names same = record {
-        accepted = list_here T path number leads.0 leads.1 ∙ rw (group_links image objects number object at g is) refl;
+        accepted = list_here T path number leads.0 leads.1 ∙ rw (group_links f number object of g is) refl;
         listed =
             same
-            ∙ sym (keys_are image (headers objects) g (group_read image objects numbers opened number object at g is))
-            ∙ rw (leads.1, group_links image objects number object at g is) refl;
+            ∙ sym (keys_are f.image f.table g (group_read f number object of g is))
+            ∙ rw (leads.1, group_links f number object of g is) refl;
       }
 
       pub group_not_array : first_holding (dataset_rules T path) ≡ Some NotADataset
-      group_not_array = no_dataset T path number leads.0 leads.1 (group_no_array image objects number object at g is)
+      group_not_array = no_dataset T path number leads.0 leads.1 (group_no_array f number object of g is)
 
     -- ---- an array
 
     module _ (is : object.content ≡ content.Array) where
       abbrev D : Dataset
-      D = array_dataset image (messages_in image object.messages.list)
+      D = array_dataset f.image (messages_in f.image object.messages.list)
 
       pub array_kind : (k : Kind) → IsArrayKind D k → HasKind T path k
       array_kind kind.Group shown = absurd shown
       array_kind (kind.Dataset fixed dims maxima stored fill) shown = record {
         accepted = leads.0;
-        found = rw leads.1 (D, array_there image objects number object at is, shown);
+        found = rw leads.1 (D, array_there f number object of is, shown);
       }
       array_kind (kind.Soft text) shown = absurd shown
 
-      pub known_kind : (a : Described) → a ≡ array_told (messages_in image object.messages.list) → (k : Kind) → IsArrayKind (described_dataset image a empty) k → HasKind T path k
-      known_kind a same k shown = array_kind k (subst (λ (b : Described). IsArrayKind (described_dataset image b empty) k) same shown)
+      pub known_kind : (a : Described) → a ≡ array_told (messages_in f.image object.messages.list) → (k : Kind) → IsArrayKind (described_dataset f.image a empty) k → HasKind T path k
+      known_kind a same k shown = array_kind k (subst (λ (b : Described). IsArrayKind (described_dataset f.image b empty) k) same shown)
 
       pub array_found : (n : ObjectNo) → n.0 ≡ number → (attributes : Vec (List ℕ × Attribute) Global)
-          → attributes.items ≡ entries (attributes_of (messages_in image object.messages.list)) → (a : StoredArray) → IsArrayShown D a → HasFound T path (found.Array n attributes a)
+          → attributes.items ≡ entries (attributes_of (messages_in f.image object.messages.list)) → (a : StoredArray) → IsArrayShown D a → HasFound T path (found.Array n attributes a)
       array_found n same attributes listed a shown = record {
         accepted = leads.0;
-        there = rw leads.1 (same, D, holds attributes.items listed _ (ap (content_in image (headers objects) (messages_in image object.messages.list)) is), shown);
+        there = rw leads.1 (same, D, holds attributes.items listed _ (ap (content_in f.image f.table (messages_in f.image object.messages.list)) is), shown);
       }
 
       pub array_no_list : first_holding (list_rules T path) ≡ Some NotAGroup
-      array_no_list = list_here T path number leads.0 leads.1 ∙ rw (array_no_group image objects number object at is) refl
+      array_no_list = list_here T path number leads.0 leads.1 ∙ rw (array_no_group f number object of is) refl
 
-      pub told_there : IsArrayThere image T path (array_told (messages_in image object.messages.list))
+      pub told_there : IsArrayThere f.image T path (array_told (messages_in f.image object.messages.list))
       told_there =
-          let here = dataset_here T path number D leads.0 leads.1 (array_there image objects number object at is) in
-          record { accepted = here.0; found = here.1; unchunked = kept_unchunked image object.messages (array_kept image objects numbers opened number object at is) }
+          let here = dataset_here T path number D leads.0 leads.1 (array_there f number object of is) in
+          record { accepted = here.0; found = here.1; unchunked = kept_unchunked f.image object.messages (array_kept f number object of is) }

@@ -9,7 +9,7 @@ use Rattle.h5_model.specs.Tree.Objects.{Tree, Link, ToObject, link_in}
 use Rattle.h5_model.specs.Tree.Paths.{Located, Here, Missing, NoParent, NoGroup, NoPath, names_of, locate, missing_before, parent_from}
 use Rattle.h5_model.specs.declared.edit_fault.EditFault.{EditFault}
 use Rattle.h5_model.specs.declared.edit_fault.EditFault.TheVariants.{NoSuchParent, NotAGroup}
-use Rattle.h5_open.specs.declared.opened.object.OpenedObject.{OpenedObject}
+use Rattle.h5_open.specs.Opened.State.{FileState}
 use Rattle.h5_query.specs.declared.place.Spot.{Spot}
 use Rattle.h5_query.specs.declared.place.Spot.TheVariants.{Root, Taken, Free}
 use Rattle.h5_query.specs.Names.{parts}
@@ -63,40 +63,40 @@ missing_inside rest = let more = some_part (parts rest) _ (length-slice_split is
 
 -- ---- the whole path
 
-module _ (tree : Tree) (objects : List OpenedObject) (path x : List ℕ) (xs : List (List ℕ)) (named : names_of path ≡ Some (x ∷ xs)) (low : length (x ∷ xs) ≤ 64) where
+module _ (f : FileState) (path x : List ℕ) (xs : List (List ℕ)) (named : names_of path ≡ Some (x ∷ xs)) (low : length (x ∷ xs) ≤ 64) where
   shallow : nat_lt 64 (length (x ∷ xs)) ≡ false
   shallow = grind (arith, nat_tests)
 
-  located_at : (at : Located) → locate tree (ToObject 0) (x ∷ xs) ≡ at → option_map_or (λ names. locate tree (ToObject 0) names) (names_of path) NoPath ≡ at
-  located_at at there = ap (λ o. option_map_or (λ names. locate tree (ToObject 0) names) o NoPath) named ∙ there
+  located_at : (at : Located) → locate f.tree (ToObject 0) (x ∷ xs) ≡ at → option_map_or (λ names. locate f.tree (ToObject 0) names) (names_of path) NoPath ≡ at
+  located_at at there = ap (λ o. option_map_or (λ names. locate f.tree (ToObject 0) names) o NoPath) named ∙ there
 
-  parent_of : (p : Option (ℕ × List ℕ)) → parent_from tree (ToObject 0) (x ∷ xs) ≡ p → option_and_then (parent_from tree (ToObject 0)) (names_of path) ≡ p
-  parent_of p there = ap (option_and_then (parent_from tree (ToObject 0))) named ∙ there
+  parent_of : (p : Option (ℕ × List ℕ)) → parent_from f.tree (ToObject 0) (x ∷ xs) ≡ p → option_and_then (parent_from f.tree (ToObject 0)) (names_of path) ≡ p
+  parent_of p there = ap (option_and_then (parent_from f.tree (ToObject 0))) named ∙ there
 
-  lost_before : (e : EditFault) → IsLost tree (x ∷ xs) e → IsNoSpot tree path e
-  lost_before NoSuchParent lost = at_group tree path (x ∷ xs) NoParent named shallow (located_at NoParent lost)
-  lost_before NotAGroup lost = at_group tree path (x ∷ xs) NoGroup named shallow (located_at NoGroup lost)
+  lost_before : (e : EditFault) → IsLost f.tree (x ∷ xs) e → IsNoSpot f.tree path e
+  lost_before NoSuchParent lost = at_group f.tree path (x ∷ xs) NoParent named shallow (located_at NoParent lost)
+  lost_before NotAGroup lost = at_group f.tree path (x ∷ xs) NoGroup named shallow (located_at NoGroup lost)
   lost_before _ lost = absurd lost
 
-  spot_there : (at : Spot) → IsReached tree objects (x ∷ xs) at → IsSpotOf tree objects path at
+  spot_there : (at : Spot) → IsReached f (x ∷ xs) at → IsSpotOf f path at
   spot_there Root reached = absurd reached
   spot_there (Taken parent name place) reached =
       let there = located_at (Here (link_at place)) reached.1 in
-      (at_group tree path (x ∷ xs) (Here (link_at place)) named shallow there, (parent_of (Some (parent, name.now)) reached.0, there, reached.2))
+      (at_group f.tree path (x ∷ xs) (Here (link_at place)) named shallow there, (parent_of (Some (parent, name.now)) reached.0, there, reached.2))
   spot_there (Free parent name) reached =
       let there = located_at Missing reached.1 in
-      (at_group tree path (x ∷ xs) Missing named shallow there, (parent_of (Some (parent, name.now)) reached.0, there))
+      (at_group f.tree path (x ∷ xs) Missing named shallow there, (parent_of (Some (parent, name.now)) reached.0, there))
 
-  by_names : (r : Result Spot EditFault) → MatchResult r (IsReached tree objects (x ∷ xs)) (IsLost tree (x ∷ xs)) → MatchResult r (IsSpotOf tree objects path) (IsNoSpot tree path)
+  by_names : (r : Result Spot EditFault) → MatchResult r (IsReached f (x ∷ xs)) (IsLost f.tree (x ∷ xs)) → MatchResult r (IsSpotOf f path) (IsNoSpot f.tree path)
   by_names (Ok at) reached = spot_there at reached
   by_names (Err e) lost = lost_before e lost
 
 -- what the names between the slashes lead to
-pub followed : (tree : Tree) (objects : List OpenedObject) (path : List ℕ) (names : List (List ℕ)) → names_of path ≡ Some names → 0 < length names → length names ≤ 64
+pub followed : (f : FileState) (path : List ℕ) (names : List (List ℕ)) → names_of path ≡ Some names → 0 < length names → length names ≤ 64
     → (r : Result Spot EditFault)
-    → MatchResult r (IsReached tree objects (parts (take (length path - 1) (drop 1 path)))) (IsLost tree (parts (take (length path - 1) (drop 1 path))))
-    → MatchResult r (IsSpotOf tree objects path) (IsNoSpot tree path)
-followed tree objects path [] named some low r is = absurd (omega (arith, some))
-followed tree objects path (x ∷ xs) named some low r is =
+    → MatchResult r (IsReached f (parts (take (length path - 1) (drop 1 path)))) (IsLost f.tree (parts (take (length path - 1) (drop 1 path))))
+    → MatchResult r (IsSpotOf f path) (IsNoSpot f.tree path)
+followed f path [] named some low r is = absurd (omega (arith, some))
+followed f path (x ∷ xs) named some low r is =
     let same : parts (take (length path - 1) (drop 1 path)) ≡ x ∷ xs = ap parts (take_rest path 1) ∙ names-split path x xs named in
-    by_names tree objects path x xs named low r (rw same at is)
+    by_names f path x xs named low r (rw same at is)

@@ -1,7 +1,7 @@
 -- The links of a group, as they are listed.
 use Rattle.std.specs.Prelude.{◌≡◌, ℕ, Some, None, List, map}
-use Rattle.std.specs.List.{Contains}
-use Rattle.std.specs.FinMap.{entries}
+use Rattle.std.specs.Ordering.{nat_cmp}
+use Rattle.std.specs.FinMap.{FinMap, entries}
 use Rattle.h5_model.specs.Tree.Objects.{Tree, Links, ToObject, Soft, links_of}
 use Rattle.h5_model.specs.Tree.Objects as tree
 use Rattle.h5_open.specs.Links.{lent_target}
@@ -9,6 +9,7 @@ use Rattle.h5_model.specs.declared.link.Link.{Link}
 use Rattle.h5_model.specs.declared.link.LinkTo.{LinkTo}
 use Rattle.h5_model.specs.declared.link.LinkTo.TheVariants as target
 use Rattle.h5_open.specs.Opened.Objects.{link_to}
+use Rattle.h5_open.specs.Opened.Sound.{IsHeaderIn}
 use Rattle.h5_model.specs.declared.object_no.ObjectNo.{ObjectNo}
 use Rattle.h5_model.specs.Tree.Links.{tree_link}
 
@@ -23,16 +24,16 @@ AreGroupLinks whole number links = (all : Links) × (links_of whole number ≡ S
 -- ---- the links of the file
 
 -- the header of the link is an object's
-abbrev pub IsTargetLed : List ℕ → LinkTo ℕ → Type 0
-IsTargetLed headers (target.Object header) = Contains headers header
-IsTargetLed headers (target.Soft text) = Unit {0}
+abbrev pub IsTargetLed : FinMap nat_cmp ℕ → LinkTo ℕ → Type 0
+IsTargetLed table (target.Object header) = IsHeaderIn table header
+IsTargetLed table (target.Soft text) = Unit {0}
 
-abbrev pub IsLinkLed : List ℕ → Link ℕ → Type 0
-IsLinkLed headers l = IsTargetLed headers l.to
+abbrev pub IsLinkLed : FinMap nat_cmp ℕ → Link ℕ → Type 0
+IsLinkLed table l = IsTargetLed table l.to
 
--- a link of the tree, with the number that the header has among these
-abbrev pub target_in : List ℕ → LinkTo ℕ → tree.Link
-target_in headers t = link_to headers (lent_target t)
+-- a link of the tree, with the number of the object whose header stands there
+abbrev pub target_in : FinMap nat_cmp ℕ → LinkTo ℕ → tree.Link
+target_in table t = link_to table (lent_target t)
 
-abbrev pub in_tree : List ℕ → Link ℕ → List ℕ × tree.Link
-in_tree headers l = (l.name.now, target_in headers l.to)
+abbrev pub in_tree : FinMap nat_cmp ℕ → Link ℕ → List ℕ × tree.Link
+in_tree table l = (l.name.now, target_in table l.to)

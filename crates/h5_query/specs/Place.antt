@@ -1,12 +1,13 @@
 -- What a path leads to in an opened image.
-use Rattle.std.specs.Prelude.{◌≡◌, ℕ, Bool, is_none, List, [], ◌∷◌, Some, None, slice_get}
+use Rattle.std.specs.Prelude.{◌≡◌, ℕ, Bool, is_none, List, [], ◌∷◌, Some, None}
 use Rattle.h5_model.specs.Tree.Objects.{Tree, Link, ToObject, Soft}
 use Rattle.h5_model.specs.Tree.Paths.{Here, Missing, names_of, located, object_at, parent_at}
 use Rattle.h5_model.specs.Edits.Refusal.{first_holding, is_deep, has_no_parent, has_no_group}
 use Rattle.h5_model.specs.Scripts.Reading.{path_rules, object_rules}
 use Rattle.h5_model.specs.declared.edit_fault.EditFault.{EditFault}
 use Rattle.h5_model.specs.declared.edit_fault.EditFault.TheVariants as fault
-use Rattle.h5_open.specs.declared.opened.object.OpenedObject.{OpenedObject}
+use Rattle.h5_open.specs.Opened.Sound.{IsObjectOf}
+use Rattle.h5_open.specs.Opened.State.{FileState}
 use Rattle.h5_query.specs.declared.place.Place.{Place}
 use Rattle.h5_query.specs.declared.place.Place.TheVariants as place
 use Rattle.h5_query.specs.declared.place.Spot.{Spot}
@@ -22,13 +23,13 @@ link_at (place.Object number object) = ToObject number
 link_at (place.Soft text) = Soft text.now
 
 -- the object of a place is the one of its number
-abbrev pub IsOfNumber : List OpenedObject → Place → Type 0
-IsOfNumber objects (place.Object number object) = slice_get objects number ≡ Some object.now
-IsOfNumber objects (place.Soft text) = Unit {0}
+abbrev pub IsOfNumber : FileState → Place → Type 0
+IsOfNumber f (place.Object number object) = IsObjectOf f number object.now
+IsOfNumber f (place.Soft text) = Unit {0}
 
 -- the path leads to this object, or to this text of a soft link
-abbrev pub IsPathPlace : Tree → List OpenedObject → List ℕ → Place → Type 0
-IsPathPlace tree objects path at = PathLeadsTo tree path (link_at at) × IsOfNumber objects at
+abbrev pub IsPathPlace : FileState → List ℕ → Place → Type 0
+IsPathPlace f path at = PathLeadsTo f.tree path (link_at at) × IsOfNumber f at
 
 abbrev pub IsNowhere : Tree → List ℕ → EditFault → Type 0
 IsNowhere tree path e = first_holding (path_rules tree path) ≡ Some e
@@ -53,15 +54,15 @@ group_rules tree path =
     ∷ []
 
 -- the path has no name; or the group before its last name has a link of it, which leads to this place; or it has none
-abbrev pub IsSpotAt : Tree → List OpenedObject → List ℕ → Spot → Type 0
-IsSpotAt tree objects path spot.Root = names_of path ≡ Some []
-IsSpotAt tree objects path (spot.Taken parent name place) =
-    (parent_at tree path ≡ Some (parent, name.now)) × (located tree path ≡ Here (link_at place)) × IsOfNumber objects place
-IsSpotAt tree objects path (spot.Free parent name) = (parent_at tree path ≡ Some (parent, name.now)) × (located tree path ≡ Missing)
+abbrev pub IsSpotAt : FileState → List ℕ → Spot → Type 0
+IsSpotAt f path spot.Root = names_of path ≡ Some []
+IsSpotAt f path (spot.Taken parent name place) =
+    (parent_at f.tree path ≡ Some (parent, name.now)) × (located f.tree path ≡ Here (link_at place)) × IsOfNumber f place
+IsSpotAt f path (spot.Free parent name) = (parent_at f.tree path ≡ Some (parent, name.now)) × (located f.tree path ≡ Missing)
 
 -- no rule of these refuses the path, and this is its spot
-abbrev pub IsSpotOf : Tree → List OpenedObject → List ℕ → Spot → Type 0
-IsSpotOf tree objects path at = (first_holding (group_rules tree path) ≡ None) × IsSpotAt tree objects path at
+abbrev pub IsSpotOf : FileState → List ℕ → Spot → Type 0
+IsSpotOf f path at = (first_holding (group_rules f.tree path) ≡ None) × IsSpotAt f path at
 
 abbrev pub IsNoSpot : Tree → List ℕ → EditFault → Type 0
 IsNoSpot tree path e = first_holding (group_rules tree path) ≡ Some e

@@ -2,8 +2,6 @@
 
 ghost use Rattle.std.specs.Prelude.{MatchOption};
 ghost use Rattle.h5_header.specs.Listed.{messages_in};
-ghost use Rattle.h5_open.specs.Opened.Kept.{IsOpened};
-ghost use Rattle.h5_open.specs.Opened.Objects.{tree_of};
 ghost use Rattle.h5_query.specs.Kept.{IsArrayKept, array_dataset};
 ghost use Rattle.h5_query.specs.Look.{IsNoDataset, HasArrayNumbered, IsArrayShown};
 
@@ -22,19 +20,13 @@ pub struct StoredArray<'a> {
 }
 
 /// The array of this number, or `None` where no array has it. It takes no memory.
-pub fn array_of<'a>(
-    alloc: Global,
-    image: &'a Image,
-    opened: &Opened,
-    number: ObjectNo,
-) -> Option<StoredArray<'a>>
-    requires { IsOpened image.now.bytes opened.now.objects.items opened.now.numbers }
-    ensures { let tree = tree_of image.now.bytes opened.now.objects.items in
+pub fn array_of<'a>(alloc: Global, opened: &'a Opened, number: ObjectNo) -> Option<StoredArray<'a>>
+    ensures { let tree = opened.now.tree in
         MatchOption result (IsNoDataset tree number.0) (HasArrayNumbered tree number.0) }
 {
-    let object = opened.objects.get(number.0 as usize)?;
+    let object = opened.object(number.0)?;
     match &object.content {
-        OpenedContent::Array => Some(stored_array(alloc, image, &object.messages)),
+        OpenedContent::Array => Some(stored_array(alloc, opened.image(), &object.messages)),
         OpenedContent::Group(_) => None,
     }
 }

@@ -3,8 +3,6 @@
 ghost use Rattle.std.specs.Prelude.{◌≡◌, Some, MatchResult, map};
 ghost use Rattle.h5_model.specs.Edits.Refusal.{first_holding};
 ghost use Rattle.h5_model.specs.Scripts.Reading.{attribute_rules};
-ghost use Rattle.h5_open.specs.Opened.Kept.{IsOpened};
-ghost use Rattle.h5_open.specs.Opened.Objects.{tree_of};
 ghost use Rattle.h5_query.specs.Kept.{IsHeaderThere};
 ghost use Rattle.h5_query.specs.Look.{HasAttribute, HasAttributeNames, HasAttributesOf, IsUnlisted};
 ghost use Rattle.h5_query.specs.Place.{IsNoObject};
@@ -13,7 +11,6 @@ use crate::place::{Place, look};
 use h5_header::Messages;
 use h5_model::EditFault;
 use h5_open::{AttrRef, Opened, get, list, sorted};
-use h5_space::Image;
 use std::alloc::Global;
 
 /// The names of the attributes of the object at the path, ascending by their bytes.
@@ -21,16 +18,14 @@ use std::alloc::Global;
 /// Refused as [`crate::look`] is, and as `NoMemory`.
 pub fn names_of_attributes<'a>(
     alloc: Global,
-    image: &'a Image,
-    opened: &Opened,
+    opened: &'a Opened,
     path: &[u8],
 ) -> Result<Vec<&'a [u8]>, EditFault>
-    requires { IsOpened image.now.bytes opened.now.objects.items opened.now.numbers }
-    ensures { let tree = tree_of image.now.bytes opened.now.objects.items in
+    ensures { let tree = opened.now.tree in
         MatchResult result (λ names.
         HasAttributeNames tree path.now (map (λ name. name.now) names.items)) (IsUnlisted tree path.now) }
 {
-    match list(alloc, image, messages_at(image, opened, path)?) {
+    match list(alloc, opened.image(), messages_at(opened, path)?) {
         Ok(names) => Ok(names),
         Err(_) => Err(EditFault::NoMemory),
     }
@@ -41,15 +36,13 @@ pub fn names_of_attributes<'a>(
 /// Refused as [`crate::look`] is, and as `NoMemory`.
 pub fn attributes_at<'a>(
     alloc: Global,
-    image: &'a Image,
-    opened: &Opened,
+    opened: &'a Opened,
     path: &[u8],
 ) -> Result<Vec<AttrRef<'a>>, EditFault>
-    requires { IsOpened image.now.bytes opened.now.objects.items opened.now.numbers }
-    ensures { let tree = tree_of image.now.bytes opened.now.objects.items in
+    ensures { let tree = opened.now.tree in
         MatchResult result (λ list. HasAttributesOf tree path.now list.items) (IsUnlisted tree path.now) }
 {
-    match sorted(alloc, image, messages_at(image, opened, path)?) {
+    match sorted(alloc, opened.image(), messages_at(opened, path)?) {
         Ok(attributes) => Ok(attributes),
         Err(_) => Err(EditFault::NoMemory),
     }
@@ -59,34 +52,27 @@ pub fn attributes_at<'a>(
 ///
 /// Refused as [`crate::look`] is, and as `NoSuchAttribute` where the object has none of this name. It takes no memory.
 pub fn one_attribute<'a>(
-    image: &'a Image,
-    opened: &Opened,
+    opened: &'a Opened,
     path: &[u8],
     name: &[u8],
 ) -> Result<AttrRef<'a>, EditFault>
-    requires { IsOpened image.now.bytes opened.now.objects.items opened.now.numbers }
-    ensures { let tree = tree_of image.now.bytes opened.now.objects.items in
+    ensures { let tree = opened.now.tree in
         MatchResult result (HasAttribute tree path.now name.now) (λ e.
         first_holding (attribute_rules tree path.now name.now) ≡ Some e) }
 {
-    match get(image, messages_at(image, opened, path)?, name) {
+    match get(opened.image(), messages_at(opened, path)?, name) {
         Some(attribute) => Ok(attribute),
         None => Err(EditFault::NoSuchAttribute),
     }
 }
 
 /// The messages of the object at the path.
-fn messages_at<'a>(
-    image: &'a Image,
-    opened: &'a Opened,
-    path: &[u8],
-) -> Result<&'a Messages, EditFault>
-    requires { IsOpened image.now.bytes opened.now.objects.items opened.now.numbers }
-    ensures { let tree = tree_of image.now.bytes opened.now.objects.items in
+fn messages_at<'a>(opened: &'a Opened, path: &[u8]) -> Result<&'a Messages, EditFault>
+    ensures { let tree = opened.now.tree in
         MatchResult result (λ messages.
-        IsHeaderThere image.now.bytes tree path.now messages.now) (IsNoObject tree path.now) }
+        IsHeaderThere opened.now.image tree path.now messages.now) (IsNoObject tree path.now) }
 {
-    match look(image, opened, path)? {
+    match look(opened, path)? {
         Place::Object { object, .. } => Ok(&object.messages),
         Place::Soft(_) => Err(EditFault::NotFound),
     }

@@ -3,15 +3,12 @@
 ghost use Rattle.std.specs.Prelude.{◌≡◌, Some, MatchResult};
 ghost use Rattle.h5_model.specs.Edits.Refusal.{first_holding};
 ghost use Rattle.h5_model.specs.Scripts.Reading.{cell_rules};
-ghost use Rattle.h5_open.specs.Opened.Kept.{IsOpened};
-ghost use Rattle.h5_open.specs.Opened.Objects.{tree_of};
 ghost use Rattle.h5_query.specs.Kept.{IsArrayThere, IsNoArrayThere};
 ghost use Rattle.h5_query.specs.Look.{HasCell};
 
 use crate::place::{Place, look};
 use h5_model::EditFault;
 use h5_open::{ArrayRef, Opened, OpenedContent, known_array};
-use h5_space::Image;
 use std::alloc::Global;
 
 /// The value of the cell at an index of the array at the path.
@@ -20,40 +17,32 @@ use std::alloc::Global;
 /// for each size, and as `OutOfExtent` where one of them is not below its size. It takes no memory.
 pub fn one_cell(
     alloc: Global,
-    image: &Image,
     opened: &Opened,
     path: &[u8],
     index: &[u64],
 ) -> Result<i128, EditFault>
-    requires { IsOpened image.now.bytes opened.now.objects.items opened.now.numbers }
-    ensures { let tree = tree_of image.now.bytes opened.now.objects.items in
+    ensures { let tree = opened.now.tree in
         MatchResult result (HasCell tree path.now index.now) (λ e.
         first_holding (cell_rules tree path.now index.now) ≡ Some e) }
 {
-    let array = array_at(alloc, image, opened, path)?;
+    let array = array_at(alloc, opened, path)?;
     if index.len() != array.dims().sizes().len() {
         return Err(EditFault::RankMismatch);
     }
     if !array.dims().is_inside(index) {
         return Err(EditFault::OutOfExtent);
     }
-    Ok(array.cell(image, index))
+    Ok(array.cell(opened.image(), index))
 }
 
 /// The array at the path. Refused as `NotADataset` where no array stands there.
-fn array_at<'a>(
-    alloc: Global,
-    image: &'a Image,
-    opened: &Opened,
-    path: &[u8],
-) -> Result<ArrayRef<'a>, EditFault>
-    requires { IsOpened image.now.bytes opened.now.objects.items opened.now.numbers }
-    ensures { let tree = tree_of image.now.bytes opened.now.objects.items in
-        MatchResult result (IsArrayThere image.now.bytes tree path.now) (IsNoArrayThere tree path.now) }
+fn array_at<'a>(alloc: Global, opened: &'a Opened, path: &[u8]) -> Result<ArrayRef<'a>, EditFault>
+    ensures { let tree = opened.now.tree in
+        MatchResult result (IsArrayThere opened.now.image tree path.now) (IsNoArrayThere tree path.now) }
 {
-    match look(image, opened, path)? {
+    match look(opened, path)? {
         Place::Object { object, .. } => match &object.content {
-            OpenedContent::Array => Ok(known_array(alloc, image, &object.messages)),
+            OpenedContent::Array => Ok(known_array(alloc, opened.image(), &object.messages)),
             OpenedContent::Group(_) => Err(EditFault::NotADataset),
         },
         Place::Soft(_) => Err(EditFault::NotADataset),

@@ -1,15 +1,12 @@
 //! What stands at a path, with what it holds (File Format Specification 3.0, sections IV.A.2.i and IV.A.2.m).
 
 ghost use Rattle.std.specs.Prelude.{MatchResult};
-ghost use Rattle.h5_open.specs.Opened.Kept.{IsOpened};
-ghost use Rattle.h5_open.specs.Opened.Objects.{tree_of};
 ghost use Rattle.h5_query.specs.Found.{HasFound, IsUnfound};
 
 use crate::array::{StoredArray, stored_array};
 use crate::place::{Place, look};
 use h5_model::{EditFault, ObjectNo};
 use h5_open::{AttrRef, Opened, OpenedContent, sorted};
-use h5_space::Image;
 use std::alloc::Global;
 
 /// What stands at a path, with what it holds. Attributes ascend by the bytes of their names.
@@ -33,27 +30,21 @@ pub enum Found<'a> {
 /// What stands at the path. A soft link is not followed.
 ///
 /// Refused as [`crate::look`] is, and as `NoMemory`. Takes memory for a reference to each attribute.
-pub fn found_at<'a>(
-    alloc: Global,
-    image: &'a Image,
-    opened: &'a Opened,
-    path: &[u8],
-) -> Result<Found<'a>, EditFault>
-    requires { IsOpened image.now.bytes opened.now.objects.items opened.now.numbers }
-    ensures { let tree = tree_of image.now.bytes opened.now.objects.items in
+pub fn found_at<'a>(alloc: Global, opened: &'a Opened, path: &[u8]) -> Result<Found<'a>, EditFault>
+    ensures { let tree = opened.now.tree in
         MatchResult result (HasFound tree path.now) (IsUnfound tree path.now) }
 {
-    let (number, object) = match look(image, opened, path)? {
+    let (number, object) = match look(opened, path)? {
         Place::Object { number, object } => (ObjectNo(number), object),
         Place::Soft(text) => return Ok(Found::Soft(text)),
     };
-    let attributes = sorted(alloc, image, &object.messages)?;
+    let attributes = sorted(alloc, opened.image(), &object.messages)?;
     match &object.content {
         OpenedContent::Group(_) => Ok(Found::Group { number, attributes }),
         OpenedContent::Array => Ok(Found::Array {
             number,
             attributes,
-            array: stored_array(alloc, image, &object.messages),
+            array: stored_array(alloc, opened.image(), &object.messages),
         }),
     }
 }

@@ -2,15 +2,12 @@
 
 ghost use Rattle.std.specs.Prelude.{◌≡◌, IfOk, MatchOption, map};
 ghost use Rattle.std.specs.List.{AllByRecursion};
-ghost use Rattle.h5_open.specs.Opened.Kept.{IsOpened};
-ghost use Rattle.h5_open.specs.Opened.Objects.{headers, tree_of};
 ghost use Rattle.h5_model.specs.Tree.Links.{tree_link, tree_target};
 ghost use Rattle.h5_query.specs.Listed.{IsNoGroup, AreGroupLinks, IsTargetLed, IsLinkLed, target_in, in_tree};
 
 use crate::step::number_of;
 use h5_model::{Link, LinkTo, ObjectNo};
 use h5_open::{Opened, OpenedContent, entries};
-use h5_space::Image;
 use std::alloc::{AllocError, Global};
 
 /// The links of the group of this number, ascending by the bytes of their names, or `None` where no group has it.
@@ -18,23 +15,21 @@ use std::alloc::{AllocError, Global};
 /// Takes memory for a reference to each link.
 pub fn links_of<'a>(
     alloc: Global,
-    image: &'a Image,
-    opened: &Opened,
+    opened: &'a Opened,
     number: ObjectNo,
 ) -> Result<Option<Vec<Link<'a, ObjectNo>>>, AllocError>
-    requires { IsOpened image.now.bytes opened.now.objects.items opened.now.numbers }
-    ensures { let tree = tree_of image.now.bytes opened.now.objects.items in
-        IfOk result (λ found.
-        MatchOption found (IsNoGroup tree number.0) (λ links. AreGroupLinks tree number.0 links.items)) }
+    ensures { IfOk result (λ found.
+        MatchOption found (IsNoGroup opened.now.tree number.0) (λ links.
+        AreGroupLinks opened.now.tree number.0 links.items)) }
 {
-    let Some(object) = opened.objects.get(number.0 as usize) else {
+    let Some(object) = opened.object(number.0) else {
         return Ok(None);
     };
     let OpenedContent::Group(table) = &object.content else {
         return Ok(None);
     };
-    let found = entries(alloc, image, *table)?;
-    Ok(Some(tree_links(alloc, image, opened, &found)?))
+    let found = entries(alloc, opened.image(), *table)?;
+    Ok(Some(tree_links(alloc, opened, &found)?))
 }
 
 /// The links with the numbers of the objects to which they lead.
@@ -42,30 +37,27 @@ pub fn links_of<'a>(
 /// Takes memory for a reference to each link.
 pub fn tree_links<'a>(
     alloc: Global,
-    image: &Image,
     opened: &Opened,
     found: &[Link<'a, u64>],
 ) -> Result<Vec<Link<'a, ObjectNo>>, AllocError>
-    requires opened { IsOpened image.now.bytes opened.now.objects.items opened.now.numbers }
-    requires led { AllByRecursion (IsLinkLed (headers opened.now.objects.items)) found.now }
+    requires { AllByRecursion (IsLinkLed opened.now.table) found.now }
     ensures { IfOk result (λ links.
-        map tree_link links.items ≡ map (in_tree (headers opened.now.objects.items)) found.now) }
+        map tree_link links.items ≡ map (in_tree opened.now.table) found.now) }
 {
     let mut links = Vec::new(alloc);
     for link in found {
         links.push(Link {
             name: link.name,
-            to: link_to(image, opened, link.to),
+            to: link_to(opened, link.to),
         })?;
     }
     Ok(links)
 }
 
 /// Where a link leads, with the number of the object.
-fn link_to<'a>(image: &Image, opened: &Opened, target: LinkTo<'a, u64>) -> LinkTo<'a, ObjectNo>
-    requires opened { IsOpened image.now.bytes opened.now.objects.items opened.now.numbers }
-    requires led { IsTargetLed (headers opened.now.objects.items) target }
-    ensures { tree_target result ≡ target_in (headers opened.now.objects.items) target.entry }
+fn link_to<'a>(opened: &Opened, target: LinkTo<'a, u64>) -> LinkTo<'a, ObjectNo>
+    requires { IsTargetLed opened.now.table target }
+    ensures { tree_target result ≡ target_in opened.now.table target.entry }
 {
     match target {
         LinkTo::Object(header) => LinkTo::Object(ObjectNo(number_of(opened, header))),

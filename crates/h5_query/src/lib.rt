@@ -21,7 +21,7 @@ pub use found::{Found, found_at};
 pub use group::{links_of, tree_links};
 pub use h5_open::{
     ArrayRef, AttrRef, Dims, Layout, MAX_RANK, Opened, OpenedContent, OpenedObject, SymbolTable,
-    entries, get, known_array, renumber, sorted, walk,
+    entries, get, known_array, sorted,
 };
 pub use kind::{Kind, StoreKind};
 pub use links::{kind_at, names_at};

@@ -5,8 +5,6 @@ ghost use Rattle.std.specs.FinMap.{empty};
 ghost use Rattle.h5_model.specs.Edits.Refusal.{first_holding};
 ghost use Rattle.h5_model.specs.Format.Reads.{storage_of};
 ghost use Rattle.h5_model.specs.Scripts.Reading.{path_rules, shown_maximum};
-ghost use Rattle.h5_open.specs.Opened.Kept.{IsOpened};
-ghost use Rattle.h5_open.specs.Opened.Objects.{tree_of};
 ghost use Rattle.h5_open.specs.Described.{described_dataset};
 ghost use Rattle.h5_open.specs.Layouts.{layout_in};
 ghost use Rattle.h5_open.specs.Links.{IsGroupRead};
@@ -26,22 +24,16 @@ use std::alloc::{AllocError, Global};
 const UNLIMITED: u64 = u64::MAX;
 
 /// What the link at the path leads to. Refused as [`crate::look`] is. It takes no memory.
-pub fn kind_at<'a>(
-    alloc: Global,
-    image: &'a Image,
-    opened: &'a Opened,
-    path: &[u8],
-) -> Result<Kind<'a>, EditFault>
-    requires { IsOpened image.now.bytes opened.now.objects.items opened.now.numbers }
-    ensures { let tree = tree_of image.now.bytes opened.now.objects.items in
+pub fn kind_at<'a>(alloc: Global, opened: &'a Opened, path: &[u8]) -> Result<Kind<'a>, EditFault>
+    ensures { let tree = opened.now.tree in
         MatchResult result (HasKind tree path.now) (λ e. first_holding (path_rules tree path.now) ≡ Some e) }
 {
-    match look(image, opened, path)? {
+    match look(opened, path)? {
         Place::Object { object, .. } => match &object.content {
             OpenedContent::Group(_) => Ok(Kind::Group),
             OpenedContent::Array => Ok(array_kind(
                 alloc,
-                &known_array(alloc, image, &object.messages),
+                &known_array(alloc, opened.image(), &object.messages),
             )),
         },
         Place::Soft(text) => Ok(Kind::Soft(text)),
@@ -100,22 +92,20 @@ fn store_kind(alloc: Global, layout: &Layout<'_>) -> StoreKind
 /// Refused as [`crate::look`] is, also as `NotAGroup` where no group stands there, and as `NoMemory`.
 pub fn names_at<'a>(
     alloc: Global,
-    image: &'a Image,
-    opened: &Opened,
+    opened: &'a Opened,
     path: &[u8],
 ) -> Result<Vec<&'a [u8]>, EditFault>
-    requires { IsOpened image.now.bytes opened.now.objects.items opened.now.numbers }
-    ensures { let tree = tree_of image.now.bytes opened.now.objects.items in
+    ensures { let tree = opened.now.tree in
         MatchResult result (λ names.
         HasLinksNamed tree path.now (map (λ name. name.now) names.items)) (IsListRefused tree path.now) }
 {
-    let Place::Object { object, .. } = look(image, opened, path)? else {
+    let Place::Object { object, .. } = look(opened, path)? else {
         return Err(EditFault::NotAGroup);
     };
     let OpenedContent::Group(table) = &object.content else {
         return Err(EditFault::NotAGroup);
     };
-    match link_names(alloc, image, *table) {
+    match link_names(alloc, opened.image(), *table) {
         Ok(names) => Ok(names),
         Err(_) => Err(EditFault::NoMemory),
     }

@@ -1,17 +1,14 @@
 //! Looks at a path: groups are gone through name by name (File Format Specification 3.0, sections III.B and IV.A.2.r).
 
 ghost use Rattle.std.specs.Prelude.{◌≡◌, MatchResult};
-ghost use Rattle.h5_open.specs.Opened.Kept.{IsOpened};
-ghost use Rattle.h5_open.specs.Opened.Objects.{tree_of};
 ghost use Rattle.h5_query.specs.Names.{parts};
 ghost use Rattle.h5_query.specs.Place.{IsPathPlace, IsNowhere, IsNumber, IsNoObject, IsSpotOf, IsNoSpot};
 ghost use Rattle.h5_query.specs.Steps.{IsReached, IsLost};
 
 use crate::path::{MAX_DEPTH, count_names, cut};
-use crate::step::{Step, follow_name, object_place};
+use crate::step::{Step, follow_name, root_place};
 use h5_model::{EditFault, ObjectNo};
 use h5_open::{Opened, OpenedObject};
-use h5_space::Image;
 
 /// What stands at a path of an opened image.
 #[derive(Clone, Copy)]
@@ -45,32 +42,26 @@ pub enum Spot<'a, 'p> {
 
 /// Looks a path up whose last name may be missing, or says by the lowest number why no group stands before that name: `BadPath`,
 /// `PathTooDeep`, `NoSuchParent` or `NotAGroup`. A soft link is not followed. It takes no memory.
-pub fn look_up<'a, 'p>(
-    image: &'a Image,
-    opened: &'a Opened,
-    path: &'p [u8],
-) -> Result<Spot<'a, 'p>, EditFault>
-    requires { IsOpened image.now.bytes opened.now.objects.items opened.now.numbers }
-    ensures { let tree = tree_of image.now.bytes opened.now.objects.items in
-        MatchResult result (IsSpotOf tree opened.now.objects.items path.now) (IsNoSpot tree path.now) }
+pub fn look_up<'a, 'p>(opened: &'a Opened, path: &'p [u8]) -> Result<Spot<'a, 'p>, EditFault>
+    ensures { let tree = opened.now.tree in
+        MatchResult result (IsSpotOf opened.now path.now) (IsNoSpot tree path.now) }
 {
     match count_names(path) {
         None => Err(EditFault::BadPath),
         Some(0) => Ok(Spot::Root),
         Some(count) if count > MAX_DEPTH => Err(EditFault::PathTooDeep),
-        Some(_) => follow(image, opened, &path[1..]),
+        Some(_) => follow(opened, &path[1..]),
     }
 }
 
 /// Looks a path up, or says by the lowest number why nothing stands there: `BadPath`, `PathTooDeep`, `NoSuchParent`, `NotAGroup` or
 /// `NotFound`. A soft link is not followed. It takes no memory.
-pub fn look<'a>(image: &'a Image, opened: &'a Opened, path: &[u8]) -> Result<Place<'a>, EditFault>
-    requires { IsOpened image.now.bytes opened.now.objects.items opened.now.numbers }
-    ensures { let tree = tree_of image.now.bytes opened.now.objects.items in
-        MatchResult result (IsPathPlace tree opened.now.objects.items path.now) (IsNowhere tree path.now) }
+pub fn look<'a>(opened: &'a Opened, path: &[u8]) -> Result<Place<'a>, EditFault>
+    ensures { let tree = opened.now.tree in
+        MatchResult result (IsPathPlace opened.now path.now) (IsNowhere tree path.now) }
 {
-    match look_up(image, opened, path)? {
-        Spot::Root => Ok(object_place(opened, 0)),
+    match look_up(opened, path)? {
+        Spot::Root => Ok(root_place(opened)),
         Spot::Taken { place, .. } => Ok(place),
         Spot::Free { .. } => Err(EditFault::NotFound),
     }
@@ -79,33 +70,27 @@ pub fn look<'a>(image: &'a Image, opened: &'a Opened, path: &[u8]) -> Result<Pla
 /// The number of the object at the path.
 ///
 /// Refused as [`look`] is, also as `NotFound` where a soft link stands there. It takes no memory.
-pub fn number_at(image: &Image, opened: &Opened, path: &[u8]) -> Result<ObjectNo, EditFault>
-    requires { IsOpened image.now.bytes opened.now.objects.items opened.now.numbers }
-    ensures { let tree = tree_of image.now.bytes opened.now.objects.items in
+pub fn number_at(opened: &Opened, path: &[u8]) -> Result<ObjectNo, EditFault>
+    ensures { let tree = opened.now.tree in
         MatchResult result (λ number. IsNumber tree path.now number.0) (IsNoObject tree path.now) }
 {
-    match look(image, opened, path)? {
+    match look(opened, path)? {
         Place::Object { number, .. } => Ok(ObjectNo(number)),
         Place::Soft(_) => Err(EditFault::NotFound),
     }
 }
 
 /// Follows the names of a text, which stand between its slashes, from the root.
-fn follow<'a, 'p>(
-    image: &'a Image,
-    opened: &'a Opened,
-    text: &'p [u8],
-) -> Result<Spot<'a, 'p>, EditFault>
-    requires { IsOpened image.now.bytes opened.now.objects.items opened.now.numbers }
-    ensures { let tree = tree_of image.now.bytes opened.now.objects.items in
-        MatchResult result (IsReached tree opened.now.objects.items (parts text.now))
+fn follow<'a, 'p>(opened: &'a Opened, text: &'p [u8]) -> Result<Spot<'a, 'p>, EditFault>
+    ensures { let tree = opened.now.tree in
+        MatchResult result (IsReached opened.now (parts text.now))
         (IsLost tree (parts text.now)) }
 {
-    let mut place = object_place(opened, 0);
+    let mut place = root_place(opened);
     let mut names = text;
     loop {
         let (name, others) = cut(names);
-        match (follow_name(image, opened, place, name), others) {
+        match (follow_name(opened, place, name), others) {
             (Step::NoGroup, _) => return Err(EditFault::NotAGroup),
             (Step::Missing { .. }, Some(_)) => return Err(EditFault::NoSuchParent),
             (Step::Missing { parent }, None) => return Ok(Spot::Free { parent, name }),

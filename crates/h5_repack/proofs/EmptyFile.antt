@@ -3,7 +3,7 @@ use Rattle.std.proofs.Common.{◌≡◌, ℕ, Vec, zero, suc, ◌+◌, ◌≤◌
 use Rattle.std.proofs.lemmas.Option.{same_Some}
 use Rattle.std.proofs.Math.Dec.{eqb-suc-zero}
 use Rattle.std.specs.Prelude.{◌==◌, if◌then◌else◌, map, slice_get}
-use Rattle.std.specs.Option.{option_map_or}
+use Rattle.std.specs.Option.{option_flatten, option_map_or}
 use Rattle.std.specs.Ordering.{nat_cmp}
 use Rattle.std.specs.Cmp.{nat_cmp_total, unsigned_tied}
 use Rattle.std.specs.Cmp.Lexicographic.{slice_cmp}
@@ -214,13 +214,13 @@ empty_reading =
 -- ---- it is what is handed to the writer
 
 -- a group without links and without other messages is the root
-pub root_held : (x : NewObject) (links : Vec (LinkOf ObjectNo) Global) → x.content ≡ new.Group links → links.items ≡ [] → AreOthers [] x.others → IsTreeToWrite (x ∷ []) root_tree
+pub root_held : (x : NewObject) (links : Vec (LinkOf ObjectNo) Global) → x.content ≡ new.Group links → links.items ≡ [] → AreOthers [] x.others → IsTreeToWrite (Some x ∷ []) root_tree
 root_held x links is none others = record {
-  objects_are = record { listed = root_object ∷ []; numbered = numbered; each = (record { content = content; others = own }, tt) };
+  objects_are = record { listed = Some root_object ∷ []; numbered = numbered; each = (record { content = content; others = own }, tt) };
   sound = root_sound;
   plain = root_plain;
 } where
-  numbered : (n : ℕ) → get root_tree n ≡ slice_get (root_object ∷ []) n
+  numbered : (n : ℕ) → get root_tree n ≡ option_flatten (slice_get (Some root_object ∷ []) n)
   numbered zero = get-root_tree
   numbered (suc n) = get-root_tree_other n
 

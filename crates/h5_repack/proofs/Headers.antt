@@ -4,7 +4,7 @@ use Rattle.std.proofs.lemmas.List.Elements.{All-get_or, All-from_recursion}
 use Rattle.std.proofs.lemmas.Option.{slice_get-get_or}
 use Rattle.std.specs.Prelude.{slice_get}
 use Rattle.std.specs.List.{AllByRecursion}
-use Rattle.std.specs.Option.{option_map_or}
+use Rattle.std.specs.Option.{option_flatten, option_map_or}
 use Rattle.std.specs.Ordering.{nat_cmp}
 use Rattle.std.specs.FinMap.{find}
 use Rattle.h5_model.specs.Tree.Objects.{Object}
@@ -17,12 +17,12 @@ use Rattle.h5_repack.specs.Layout.{end_of, headers_of, length_by_number, size_le
 
 -- ---- an element that is set
 
-set_here : (hs : List ℕ) (n v : ℕ) → n < length hs → slice_get (set hs n v) n ≡ Some v
+set_here : {X : Type 0} (hs : List X) (n : ℕ) (v : X) → n < length hs → slice_get (set hs n v) n ≡ Some v
 set_here [] n v low = absurd (omega (arith, low))
 set_here (h ∷ hs) zero v low = refl
 set_here (h ∷ hs) (suc n) v low = set_here hs n v (omega (arith, low))
 
-set_other : (hs : List ℕ) (m n v : ℕ) → (m ≡ n → ⊥) → slice_get (set hs n v) m ≡ slice_get hs m
+set_other : {X : Type 0} (hs : List X) (m n : ℕ) (v : X) → (m ≡ n → ⊥) → slice_get (set hs n v) m ≡ slice_get hs m
 set_other [] m n v other = refl
 set_other (h ∷ hs) zero zero v other = absurd (other refl)
 set_other (h ∷ hs) (suc m) zero v other = refl
@@ -34,28 +34,28 @@ module _ (lengths : ℕ → ℕ) where
   end_rises at [] = omega arith
   end_rises at (n ∷ ns) = omega (arith, end_rises (at + lengths n) ns)
 
-  pub length-headers : (at : ℕ) (ns hs : List ℕ) → length (headers_of lengths at ns hs) ≡ length hs
+  pub length-headers : (at : ℕ) (ns : List ℕ) (hs : List (Option ℕ)) → length (headers_of lengths at ns hs) ≡ length hs
   length-headers at [] hs = refl
-  length-headers at (n ∷ ns) hs = length-headers (at + lengths n) ns (set hs n at) ∙ length-set hs n at
+  length-headers at (n ∷ ns) hs = length-headers (at + lengths n) ns (set hs n (Some at)) ∙ length-set hs n (Some at)
 
   -- what is not placed is kept
-  headers_kept : (at : ℕ) (ns hs : List ℕ) (m : ℕ) → (In m ns → ⊥) → slice_get (headers_of lengths at ns hs) m ≡ slice_get hs m
+  pub headers_kept : (at : ℕ) (ns : List ℕ) (hs : List (Option ℕ)) (m : ℕ) → (In m ns → ⊥) → slice_get (headers_of lengths at ns hs) m ≡ slice_get hs m
   headers_kept at [] hs m other = refl
   headers_kept at (n ∷ ns) hs m other =
-      headers_kept (at + lengths n) ns (set hs n at) m (λ there. other (inr there)) ∙ set_other hs m n at (λ e. other (inl (sym e)))
+      headers_kept (at + lengths n) ns (set hs n (Some at)) m (λ there. other (inr there)) ∙ set_other hs m n (Some at) (λ e. other (inl (sym e)))
 
   -- each ends within the end
-  pub placed_within : (at : ℕ) (ns hs : List ℕ) → Apart ns → ((n : ℕ) → In n ns → n < length hs) → (m : ℕ) → In m ns
-      → (place : ℕ) × (slice_get (headers_of lengths at ns hs) m ≡ Some place) × (place + lengths m ≤ end_of lengths at ns)
+  pub placed_within : (at : ℕ) (ns : List ℕ) (hs : List (Option ℕ)) → Apart ns → ((n : ℕ) → In n ns → n < length hs) → (m : ℕ) → In m ns
+      → (place : ℕ) × (slice_get (headers_of lengths at ns hs) m ≡ Some (Some place)) × (place + lengths m ≤ end_of lengths at ns)
   placed_within at [] hs apart below m there = absurd there
   placed_within at (n ∷ ns) hs apart below m (inl e) = (
     at,
-    subst (λ (k : ℕ). slice_get (headers_of lengths (at + lengths n) ns (set hs n at)) k ≡ Some at) e
-        (headers_kept (at + lengths n) ns (set hs n at) n apart.0 ∙ set_here hs n at (below n (inl refl))),
+    subst (λ (k : ℕ). slice_get (headers_of lengths (at + lengths n) ns (set hs n (Some at))) k ≡ Some (Some at)) e
+        (headers_kept (at + lengths n) ns (set hs n (Some at)) n apart.0 ∙ set_here hs n (Some at) (below n (inl refl))),
     subst (λ (k : ℕ). at + lengths k ≤ end_of lengths (at + lengths n) ns) e (end_rises (at + lengths n) ns),
   )
   placed_within at (n ∷ ns) hs apart below m (inr there) =
-      placed_within (at + lengths n) ns (set hs n at) apart.1 (λ k there. subst (λ (z : ℕ). k < z) (sym (length-set hs n at)) (below k (inr there))) m there
+      placed_within (at + lengths n) ns (set hs n (Some at)) apart.1 (λ k there. subst (λ (z : ℕ). k < z) (sym (length-set hs n (Some at))) (below k (inr there))) m there
 
   module _ (leaf internal : ℕ) (object : ℕ → Object) where
     abbrev pub AreLengths : List ℕ → Type 0
@@ -75,16 +75,16 @@ module _ (lengths : ℕ → ℕ) where
         found_later m n at (headers_from leaf internal (at + object_length leaf internal (object n)) (pairs ns)) (λ e. other (inl (sym e)))
         ∙ find_none (at + object_length leaf internal (object n)) ns m (λ there. other (inr there))
 
-    pub headers_found : (at : ℕ) (ns hs : List ℕ) → AreLengths ns → Apart ns → ((n : ℕ) → In n ns → n < length hs) → (m : ℕ) → In m ns
-        → slice_get (headers_of lengths at ns hs) m ≡ find nat_cmp m (headers_from leaf internal at (pairs ns))
+    pub headers_found : (at : ℕ) (ns : List ℕ) (hs : List (Option ℕ)) → AreLengths ns → Apart ns → ((n : ℕ) → In n ns → n < length hs) → (m : ℕ) → In m ns
+        → option_flatten (slice_get (headers_of lengths at ns hs) m) ≡ find nat_cmp m (headers_from leaf internal at (pairs ns))
     headers_found at [] hs same apart below m there = absurd there
     headers_found at (n ∷ ns) hs same apart below m (inl e) =
-        subst (λ (k : ℕ). slice_get (headers_of lengths at (n ∷ ns) hs) k ≡ find nat_cmp k (headers_from leaf internal at (pairs (n ∷ ns)))) e
-        (headers_kept (at + lengths n) ns (set hs n at) n apart.0 ∙ set_here hs n at (below n (inl refl))
+        subst (λ (k : ℕ). option_flatten (slice_get (headers_of lengths at (n ∷ ns) hs) k) ≡ find nat_cmp k (headers_from leaf internal at (pairs (n ∷ ns)))) e
+        (ap option_flatten (headers_kept (at + lengths n) ns (set hs n (Some at)) n apart.0 ∙ set_here hs n (Some at) (below n (inl refl)))
         ∙ sym (found_first n at (headers_from leaf internal (at + object_length leaf internal (object n)) (pairs ns))))
     headers_found at (n ∷ ns) hs same apart below m (inr there) =
-        headers_found (at + lengths n) ns (set hs n at) (λ k there. same k (inr there)) apart.1
-        (λ k there. subst (λ (z : ℕ). k < z) (sym (length-set hs n at)) (below k (inr there))) m there
+        headers_found (at + lengths n) ns (set hs n (Some at)) (λ k there. same k (inr there)) apart.1
+        (λ k there. subst (λ (z : ℕ). k < z) (sym (length-set hs n (Some at))) (below k (inr there))) m there
         ∙ ap (λ k. find nat_cmp m (headers_from leaf internal (at + k) (pairs ns))) (sym (same n (inl refl)))
         ∙ sym (found_later m n at (headers_from leaf internal (at + object_length leaf internal (object n)) (pairs ns))
         (λ e. apart.0 (subst (λ (k : ℕ). In k ns) e there)))
@@ -108,10 +108,10 @@ module _ (sizes : List Size) (ns : List ℕ) (i end length_here : ℕ) (d : Size
   pub end_step : end_of (length_by_number sizes) (end + length_here) (drop (i + 1) ns) ≡ end_of (length_by_number sizes) end (drop i ns)
   end_step = ap (λ k. end_of (length_by_number sizes) k (drop (i + 1) ns)) next_end ∙ sym (ap (end_of (length_by_number sizes) end) (drop_next ns i low))
 
-  pub headers_step : (hs : List ℕ) → headers_of (length_by_number sizes) (end + length_here) (drop (i + 1) ns) (set hs (get_or ns i 0) end)
+  pub headers_step : (hs : List (Option ℕ)) → headers_of (length_by_number sizes) (end + length_here) (drop (i + 1) ns) (set hs (get_or ns i 0) (Some end))
       ≡ headers_of (length_by_number sizes) end (drop i ns) hs
   headers_step hs =
-      ap (λ k. headers_of (length_by_number sizes) k (drop (i + 1) ns) (set hs (get_or ns i 0) end)) next_end
+      ap (λ k. headers_of (length_by_number sizes) k (drop (i + 1) ns) (set hs (get_or ns i 0) (Some end))) next_end
       ∙ sym (ap (λ ms. headers_of (length_by_number sizes) end ms hs) (drop_next ns i low))
 
   pub end_over : (most total : ℕ) → most < end + length_here → end_of (length_by_number sizes) end (drop i ns) ≡ total → most < total

@@ -1,14 +1,13 @@
 -- What is appended of all objects is the plain image of their tree.
-use Rattle.std.proofs.Common.{◌≡◌, ℕ, zero, suc, ◌+◌, ◌*◌, ◌<◌, ◌≤◌, inl, inr, List, [], ◌∷◌, ◌++◌, map, refl, sym, ap, ◌∙◌, subst, arith, length, Option, Some, None}
-use Rattle.std.proofs.lemmas.Slice.Zip.{AllZip-long}
+use Rattle.std.proofs.Common.{◌≡◌, ℕ, ◌+◌, ◌*◌, ◌<◌, ◌≤◌, inl, inr, List, [], ◌∷◌, ◌++◌, map, refl, sym, ap, ◌∙◌, subst, length, Option, Some, None}
 use Rattle.std.proofs.lemmas.List.{length-map}
-use Rattle.std.proofs.lemmas.Option.{slice_get_past, slice_get_cases, get_or_from_slice_get, same_Some}
+use Rattle.std.proofs.lemmas.Option.{get_or_from_slice_get, same_Some}
 use Rattle.std.specs.Borrow.{Bor}
 use Rattle.std.specs.Ordering.{nat_cmp}
-use Rattle.std.specs.Prelude.{slice_get, slice_index}
+use Rattle.std.specs.Prelude.{slice_get, slice_index, unwrap_or}
 use Rattle.std.specs.FinMap.{FinMap, get, entries, len, len-entries}
 use Rattle.std.specs.List.{AllZip, flat_map}
-use Rattle.std.specs.Option.{option_map_or, option_and_then}
+use Rattle.std.specs.Option.{option_map_or, option_and_then, option_flatten}
 use Rattle.h5_model.specs.Format.Bodies.{pair_bytes}
 use Rattle.h5_model.specs.Format.Plain.{header_bytes, superblock_bytes}
 use Rattle.h5_model.specs.Format.PlainLength.{nodes_over, rows_of}
@@ -31,12 +30,11 @@ use Rattle.h5_repack.specs.declared.size.Extent.TheVariants as extent
 use Rattle.h5_repack.specs.declared.size.Size.{Size}
 use Rattle.h5_repack.specs.declared.place.Placed.{Placed}
 use Rattle.h5_repack.specs.declared.group.Layout.{Layout}
-use Rattle.h5_repack.specs.Layout.{AreHeaders, IsExtent, IsSize, content_at, front_at, heap_behind, leads_at, leads_behind, leads_by, numbered_at, laid_object, written_at}
+use Rattle.h5_repack.specs.Layout.{AreHeaders, IsExtent, IsSize, IsSlotSize, content_at, front_at, header_by, heap_behind, leads_at, leads_behind, leads_by, no_size, numbered_at, laid_object, written_at}
 use Rattle.h5_repack.specs.Written.{IsTreeToWrite}
 use Rattle.h5_repack.proofs.Leads.{all_written}
-use Rattle.h5_repack.proofs.Orders.{below, end_is, headers_are, listed, numbered, numbers, object, pairs, size_of, some_objects, there_is}
+use Rattle.h5_repack.proofs.Orders.{below, empty_size, end_is, headers_are, listed, met_or_none, no_header, numbered, numbers, object, pairs, root_in, size_of, there, there_is}
 use Rattle.h5_repack.proofs.Pushed.{number_at}
-use Rattle.h5_repack.proofs.ObjectLaws.Zips.{zip_right}
 
 -- ---- lists
 
@@ -48,11 +46,6 @@ flat_same : (f : ℕ → List ℕ) (bytes : ℕ × Object → List ℕ) (g : ℕ
     → flat_map f ns ≡ flat_map bytes (map (numbered g) ns)
 flat_same f bytes g [] same = refl
 flat_same f bytes g (n ∷ ns) same = (λ i. same n (inl refl) i ++ flat_same f bytes g ns (λ m there. same m (inr there)) i)
-
-index_read : (xs : List ℕ) (n : ℕ) → slice_index xs n ≡ option_map_or (λ (h : ℕ). h) (slice_get xs n) 0
-index_read [] n = refl
-index_read (x ∷ xs) zero = refl
-index_read (x ∷ xs) (suc n) = index_read xs n
 
 -- ---- a group's places, from its size
 
@@ -106,9 +99,9 @@ low_by leaf internal l links (Array d) x e is = absurd (cc)
 
 -- ---- the image
 
-module _ (leaf internal : ℕ) (objects : List NewObject) (tree : Tree) (held : IsTreeToWrite objects tree) (order : List ℕ) (met : AreMet tree (length objects) order)
-    (sizes : List Size) (sized : AllZip (IsSize leaf internal) (listed objects tree held) sizes) (p : Placed) (are : AreHeaders sizes order p)
-    (headers_now : Bor (List ℕ)) (sizes_now : Bor (List Size)) (headers_here : headers_now.now ≡ p.headers.items) (sizes_here : sizes_now.now ≡ sizes) where
+module _ (leaf internal : ℕ) (objects : List (Option NewObject)) (tree : Tree) (held : IsTreeToWrite objects tree) (order : List ℕ) (met : AreMet tree order)
+    (sizes : List Size) (sized : AllZip (IsSlotSize leaf internal) (listed objects tree held) sizes) (p : Placed) (are : AreHeaders sizes order p)
+    (headers_now : Bor (List (Option ℕ))) (sizes_now : Bor (List Size)) (headers_here : headers_now.now ≡ p.headers.items) (sizes_here : sizes_now.now ≡ sizes) where
   abbrev layout : Layout
   layout = record { leaf = leaf; internal = internal; headers = headers_now; sizes = sizes_now }
 
@@ -118,26 +111,40 @@ module _ (leaf internal : ℕ) (objects : List NewObject) (tree : Tree) (held : 
   abbrev table : FinMap nat_cmp ℕ
   table = table_of leaf internal order_of
 
-  header_here : (n : ℕ) → slice_index headers_now.now n ≡ header_in table n
-  header_here n =
-      index_read headers_now.now n
-      ∙ ap (λ (r : Option ℕ). option_map_or (λ (h : ℕ). h) r 0)
-      (ap (λ (hs : List ℕ). slice_get hs n) headers_here ∙ headers_are objects tree held order met leaf internal sizes sized p are n)
+  read_or : (r : Option ℕ) → unwrap_or r 0 ≡ option_map_or (λ (h : ℕ). h) r 0
+  read_or None = refl
+  read_or (Some h) = refl
 
-  lead_here : (n : ℕ) → leads_by layout n ≡ option_map_or (λ (o : Object). leads_to_object leaf internal o (header_in table n)) (get tree n) (ToArray 0)
-  lead_here n = elim (slice_get_cases (listed objects tree held) n).1 [
-    | inl there ↦
-        let s = zip_right (IsSize leaf internal) (listed objects tree held) sizes n there.0 sized there.2 in
+  header_here : (n : ℕ) → header_by layout n ≡ header_in table n
+  header_here n =
+      ap (λ (hs : List (Option ℕ)). unwrap_or (option_flatten (slice_get hs n)) 0) headers_here
+      ∙ ap (λ (r : Option ℕ). unwrap_or r 0) (headers_are objects tree held order met leaf internal sizes sized p are n) ∙ read_or (get table n)
+
+  -- a link of the tree leads where the layout says
+  abbrev leads_there : ℕ → Option Object → Leads
+  leads_there n found = option_map_or (λ (o : Object). leads_to_object leaf internal o (header_in table n)) found (ToArray 0)
+
+  no_lead : (n : ℕ) → get tree n ≡ None → (In n order → ⊥) → (found : Option Size) → slice_get sizes_now.now n ≡ found → leads_by layout n ≡ ToArray 0
+  no_lead n none other None at = ap (λ (r : Option Size). option_map_or (leads_at (header_by layout n)) r (ToArray 0)) at
+  no_lead n none other (Some s) at =
+      let size : s ≡ no_size = empty_size objects tree held order met leaf internal sizes sized n s none (sym (ap (λ (ss : List Size). slice_get ss n) sizes_here) ∙ at) in
+      let nowhere : header_by layout n ≡ 0
+      = ap (λ (hs : List (Option ℕ)). unwrap_or (option_flatten (slice_get hs n)) 0) headers_here
+      ∙ ap (λ (r : Option ℕ). unwrap_or r 0) (no_header objects tree held order met leaf internal sizes sized p are n other) in
+      ap (λ (r : Option Size). option_map_or (leads_at (header_by layout n)) r (ToArray 0)) at ∙ ap (leads_at (header_by layout n)) size
+      ∙ ap (λ h. leads_at h no_size) nowhere
+
+  lead_here : (n : ℕ) → leads_by layout n ≡ leads_there n (get tree n)
+  lead_here n = elim (met_or_none objects tree held order met n) [
+    | inl inside ↦
+        let some = there objects tree held order met n inside in
+        let o : Object = object objects tree held n in
+        let s = size_of objects tree held order met leaf internal sizes sized n some in
         let found : slice_get sizes_now.now n ≡ Some s.0 = ap (λ (ss : List Size). slice_get ss n) sizes_here ∙ s.1 in
-        ap (λ (r : Option Size). option_map_or (leads_at (slice_index headers_now.now n)) r (ToArray 0)) found
-        ∙ ap (λ h. leads_at h s.0) (header_here n) ∙ leads_same leaf internal layout there.0 s.0 s.2 (header_in table n)
-        ∙ sym (ap (λ (r : Option Object). option_map_or (λ (o : Object). leads_to_object leaf internal o (header_in table n)) r (ToArray 0)) (numbers objects tree held n ∙ there.2))
-    | inr past ↦
-        let none : slice_get sizes_now.now n ≡ None
-        = ap (λ (ss : List Size). slice_get ss n) sizes_here
-        ∙ slice_get_past sizes n (omega (arith, past.0, AllZip-long (IsSize leaf internal) (listed objects tree held) sizes sized)) in
-        ap (λ (r : Option Size). option_map_or (leads_at (slice_index headers_now.now n)) r (ToArray 0)) none
-        ∙ sym (ap (λ (r : Option Object). option_map_or (λ (o : Object). leads_to_object leaf internal o (header_in table n)) r (ToArray 0)) (numbers objects tree held n ∙ past.1))
+        ap (λ (r : Option Size). option_map_or (leads_at (header_by layout n)) r (ToArray 0)) found
+        ∙ ap (λ h. leads_at h s.0) (header_here n) ∙ leads_same leaf internal layout o s.0 s.2 (header_in table n)
+        ∙ sym (ap (leads_there n) (numbers objects tree held n ∙ ap option_flatten (there_is objects tree held n some)))
+    | inr none ↦ no_lead n none.0 none.1 (slice_get sizes_now.now n) refl ∙ sym (ap (leads_there n) none.0)
   ]
 
   link_here : (e : List ℕ × Link) → written_at layout e ≡ written_link leaf internal tree table e
@@ -164,12 +171,12 @@ module _ (leaf internal : ℕ) (objects : List NewObject) (tree : Tree) (held : 
 
   module _ (counts : List ℕ) (counted : (n : ℕ) → n < length objects → slice_get counts n ≡ Some (hard_links tree n)) where
     each_here : (n : ℕ) → In n order → numbered_at layout counts (listed objects tree held) n ≡ object_bytes leaf internal tree table (n, object objects tree held n)
-    each_here n there =
-        let low = below objects tree held order met n there in
+    each_here n inside =
+        let low = below objects tree held order met n inside in
         let o : Object = object objects tree held n in
         let count : slice_index counts n ≡ hard_links tree n = get_or_from_slice_get counts n (hard_links tree n) 0 (counted n low) in
-        sym (number_at layout counts (listed objects tree held) n o (there_is objects tree held order met n low))
-        ∙ object_here n o (slice_index headers_now.now n) (slice_index counts n) (header_here n) count o.content refl
+        sym (number_at layout counts (listed objects tree held) n o (there_is objects tree held n (there objects tree held order met n inside)))
+        ∙ object_here n o (header_by layout n) (slice_index counts n) (header_here n) count o.content refl
 
     -- the superblock and all objects
     pub image_here : (image : List ℕ) (end : ℕ) → end ≡ p.end
@@ -177,7 +184,7 @@ module _ (leaf internal : ℕ) (objects : List NewObject) (tree : Tree) (held : 
         → image ≡ plain_image leaf internal tree order_of
     unfolding plain_image
     image_here image end end_here pushed =
-        let root = size_of objects tree held order met leaf internal sizes sized 0 (some_objects objects tree held order met) in
+        let root = size_of objects tree held order met leaf internal sizes sized 0 (there objects tree held order met 0 (root_in objects tree held order met)) in
         let first : order_of ≡ (0, object objects tree held 0) ∷ map (numbered (object objects tree held)) met.others = ap (map (numbered (object objects tree held))) met.first in
         let o : Object = object objects tree held 0 in
         let place : 96 + (root.0).header ≡ content_place o 96 = ap (λ k. 96 + k) (root.2).header in
@@ -191,13 +198,14 @@ module _ (leaf internal : ℕ) (objects : List NewObject) (tree : Tree) (held : 
         ∙ (λ i. front i ++ flat_same (numbered_at layout counts (listed objects tree held)) (object_bytes leaf internal tree table) (object objects tree held) order each_here i)
 
   pub are_low : AreLow leaf internal tree
-  are_low n links is = elim (slice_get_cases (listed objects tree held) n).1 [
-    | inl there ↦
-        let s = zip_right (IsSize leaf internal) (listed objects tree held) sizes n there.0 sized there.2 in
-        let own : links_in (there.0).content ≡ Some links
-        = sym (ap (λ (r : Option Object). option_and_then (λ (o : Object). links_in o.content) r) (numbers objects tree held n ∙ there.2)) ∙ is in
-        low_by leaf internal layout links (there.0).content (s.0).extent own (s.2).extent_is
-    | inr past ↦
-        let none : None ≡ Some links
-        = sym (ap (λ (r : Option Object). option_and_then (λ (o : Object). links_in o.content) r) (numbers objects tree held n ∙ past.1)) ∙ is in absurd (cc)
+  are_low n links is = elim (met_or_none objects tree held order met n) [
+    | inl inside ↦
+        let some = there objects tree held order met n inside in
+        let s = size_of objects tree held order met leaf internal sizes sized n some in
+        let o : Object = object objects tree held n in
+        let found : get tree n ≡ Some o = numbers objects tree held n ∙ ap option_flatten (there_is objects tree held n some) in
+        let own : links_in o.content ≡ Some links = sym (ap (λ (r : Option Object). option_and_then (λ (x : Object). links_in x.content) r) found) ∙ is in
+        low_by leaf internal layout links o.content (s.0).extent own (s.2).extent_is
+    | inr none ↦
+        let never : None ≡ Some links = sym (ap (λ (r : Option Object). option_and_then (λ (x : Object). links_in x.content) r) none.0) ∙ is in absurd (cc)
   ]

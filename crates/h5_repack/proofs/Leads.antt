@@ -1,7 +1,7 @@
 -- Where links lead in a layout, and that their texts don't depend on it.
 use Rattle.std.proofs.Common.{◌≡◌, ℕ, ◌+◌, ◌*◌, ◌^◌, ◌≤◌, List, [], ◌∷◌, map, refl, sym, ap, ◌∙◌, subst, arith, length, Option, Some, None}
 use Rattle.std.proofs.lemmas.Slice.Zip.{AllZip-long}
-use Rattle.std.specs.Prelude.{slice_get, slice_index}
+use Rattle.std.specs.Prelude.{slice_get}
 use Rattle.std.specs.List.{AllZip}
 use Rattle.std.specs.Option.{option_map_or}
 use Rattle.h5_model.specs.Format.Plain.{segment_bytes}
@@ -17,7 +17,7 @@ use Rattle.h5_repack.specs.declared.size.Extent.{Extent}
 use Rattle.h5_repack.specs.declared.size.Extent.TheVariants as extent
 use Rattle.h5_repack.specs.declared.size.Size.{Size}
 use Rattle.h5_repack.specs.declared.group.Layout.{Layout}
-use Rattle.h5_repack.specs.Layout.{IsLowExtent, IsLowSize, extent_length, leads_at, leads_behind, leads_by, size_length, written_at}
+use Rattle.h5_repack.specs.Layout.{IsLowExtent, IsLowSize, extent_length, header_by, leads_at, leads_behind, leads_by, size_length, written_at}
 
 -- ---- addresses
 
@@ -28,10 +28,10 @@ heap_low h s p e low within =
     omega (arith, own.0, length_is, within)
 
 pub leads_found : (l : Layout) (n : ℕ) (s : Size) (x : Extent) → slice_get l.sizes.now n ≡ Some s → s.extent ≡ x
-    → leads_behind (slice_index l.headers.now n) (slice_index l.headers.now n + s.header) x ≡ leads_by l n
+    → leads_behind (header_by l n) (header_by l n + s.header) x ≡ leads_by l n
 leads_found l n s x found e =
-    ap (leads_behind (slice_index l.headers.now n) (slice_index l.headers.now n + s.header)) (sym e)
-    ∙ sym (ap (λ (r : Option Size). option_map_or (leads_at (slice_index l.headers.now n)) r (ToArray 0)) found)
+    ap (leads_behind (header_by l n) (header_by l n + s.header)) (sym e)
+    ∙ sym (ap (λ (r : Option Size). option_map_or (leads_at (header_by l n)) r (ToArray 0)) found)
 
 -- ---- texts
 
@@ -44,7 +44,7 @@ leads_some name n h None = refl
 leads_some name n h (Some s) = leads_object name n h (h + s.header) s.extent
 
 is_written : (l : Layout) (e : List ℕ × Link) → laws.IsLinkWritten e (written_at l e)
-is_written l (name, ToObject n) = leads_some name n (slice_index l.headers.now n) (slice_get l.sizes.now n)
+is_written l (name, ToObject n) = leads_some name n (header_by l n) (slice_get l.sizes.now n)
 is_written l (name, Soft text) = (refl, refl)
 
 -- links are written as links of their names and texts

@@ -6,7 +6,7 @@ use Rattle.std.proofs.lemmas.Option.{get_or_from_slice_get}
 use Rattle.std.specs.Prelude.{slice_get, slice_index}
 use Rattle.std.specs.FinMap.{entries, len}
 use Rattle.std.specs.List.{AllZip, flat_map}
-use Rattle.std.specs.Option.{option_map_or}
+use Rattle.std.specs.Option.{option_flatten, option_map_or}
 use Rattle.h5_model.specs.Format.Plain.{header_bytes}
 use Rattle.h5_model.specs.Format.PlainLength.{nodes_over, rows_of}
 use Rattle.h5_model.specs.Format.Sizes.{group_node}
@@ -31,9 +31,10 @@ use Rattle.h5_repack.specs.declared.size.Extent.{Extent}
 use Rattle.h5_repack.specs.declared.size.Extent.TheVariants as extent
 use Rattle.h5_repack.specs.declared.size.Size.{Size}
 use Rattle.h5_repack.specs.declared.group.Layout.{Layout}
-use Rattle.h5_repack.specs.Layout.{IsArrayObject, IsExtent, IsGroupObject, IsHeldObject, IsSize, array_at, content_at, extent_length, numbered_at, laid_object, size_length, written_at}
+use Rattle.h5_repack.specs.Layout.{IsArrayObject, IsExtent, IsGroupObject, IsHeldObject, IsSize, IsSlotSize, array_at, content_at, extent_length, header_by, numbered_at, laid_object, size_length, written_at}
 use Rattle.h5_repack.proofs.Sizes.{own_written, own_count}
-use Rattle.h5_repack.proofs.ObjectLaws.Zips.{zip_right}
+use Rattle.h5_repack.specs.Objects.Objects.{SlotsHold}
+use Rattle.h5_repack.proofs.ObjectLaws.Zips.{slots_right, zip_right}
 
 -- ---- two parts
 
@@ -78,11 +79,11 @@ module _ (leaf internal : ℕ) (links : List (Link ObjectNo)) (others : OthersBy
 
 pub group_at : (l : Layout) (count n : ℕ) (links : List (Link ObjectNo)) (others : OthersBytes) (o : Object) (s d : Size) (p : GroupPlaces) (is : IsGroupObject links others o)
     → slice_get l.sizes.now n ≡ Some s → (get_or l.sizes.now n d).extent ≡ extent.Links p → IsSize l.leaf l.internal o s
-    → group_written (slice_index l.headers.now n + (get_or l.sizes.now n d).header) (slice_index l.headers.now n + (get_or l.sizes.now n d).header + p.tree) others
-    ++ links_bytes l.leaf l.internal (slice_index l.headers.now n + (get_or l.sizes.now n d).header) (map (written_at l) (map tree_link links))
-    ≡ laid_object l (slice_index l.headers.now n) count o
+    → group_written (header_by l n + (get_or l.sizes.now n d).header) (header_by l n + (get_or l.sizes.now n d).header + p.tree) others
+    ++ links_bytes l.leaf l.internal (header_by l n + (get_or l.sizes.now n d).header) (map (written_at l) (map tree_link links))
+    ≡ laid_object l (header_by l n) count o
 group_at l count n links others o s d p is found e size =
-    let h : ℕ = slice_index l.headers.now n in
+    let h : ℕ = header_by l n in
     let own : IsExtent l.leaf l.internal o.content (extent.Links p)
     = subst (λ (x : Extent). IsExtent l.leaf l.internal o.content x) (extent_read l.sizes.now n s d (extent.Links p) found e) size.extent_is in
     let tree = tree_is l.leaf l.internal links others o is p own l (map (written_at l) (map tree_link links)) refl in
@@ -107,25 +108,26 @@ array_pushed a c others count place address first second third address_here e f 
 
 pub array_object_at : (l : Layout) (count n : ℕ) (a : Described) (c : Cells) (others : OthersBytes) (o : Object) (s d : Size) (is : IsArrayObject a c others o)
     → slice_get l.sizes.now n ≡ Some s → IsSize l.leaf l.internal o s
-    → array_at (slice_index l.headers.now n + (get_or l.sizes.now n d).header) count o is.dataset ≡ laid_object l (slice_index l.headers.now n) count o
+    → array_at (header_by l n + (get_or l.sizes.now n d).header) count o is.dataset ≡ laid_object l (header_by l n) count o
 array_object_at l count n a c others o s d is found size =
-    let h : ℕ = slice_index l.headers.now n in
+    let h : ℕ = header_by l n in
     ap (λ k. array_at (h + k) count o is.dataset) (header_read l.sizes.now n s d found ∙ size.header) ∙ sym (ap (content_at l h count o) is.content)
 
 -- ---- all objects
 
 -- an object's tree and size, by its number
-pub held_at : (leaf internal n : ℕ) (objects : List NewObject) (listed : List Object) (sizes : List Size) (x : NewObject) → AllZip IsHeldObject objects listed
-    → AllZip (IsSize leaf internal) listed sizes → slice_get objects n ≡ Some x
-    → (o : Object) × (s : Size) × (slice_get sizes n ≡ Some s) × IsHeldObject x o × IsSize leaf internal o s × (slice_get listed n ≡ Some o)
+pub held_at : (leaf internal n : ℕ) (objects : List (Option NewObject)) (listed : List (Option Object)) (sizes : List Size) (x : NewObject)
+    → AllZip (SlotsHold IsHeldObject) objects listed → AllZip (IsSlotSize leaf internal) listed sizes → slice_get objects n ≡ Some (Some x)
+    → (o : Object) × (s : Size) × (slice_get sizes n ≡ Some s) × IsHeldObject x o × IsSize leaf internal o s × (slice_get listed n ≡ Some (Some o))
 held_at leaf internal n objects listed sizes x held sized is =
-    let o = zip_right IsHeldObject objects listed n x held is in
-    let s = zip_right (IsSize leaf internal) listed sizes n o.0 sized o.1 in
+    let o = slots_right IsHeldObject objects listed n x held is in
+    let s = zip_right (IsSlotSize leaf internal) listed sizes n (Some o.0) sized o.1 in
     (o.0, s.0, s.1, o.2, s.2, o.1)
 
-pub number_at : (l : Layout) (counts : List ℕ) (listed : List Object) (n : ℕ) (o : Object) → slice_get listed n ≡ Some o
-    → laid_object l (slice_index l.headers.now n) (slice_index counts n) o ≡ numbered_at l counts listed n
-number_at l counts listed n o is = sym (ap (λ (r : Option Object). option_map_or (laid_object l (slice_index l.headers.now n) (slice_index counts n)) r []) is)
+pub number_at : (l : Layout) (counts : List ℕ) (listed : List (Option Object)) (n : ℕ) (o : Object) → slice_get listed n ≡ Some (Some o)
+    → laid_object l (header_by l n) (slice_index counts n) o ≡ numbered_at l counts listed n
+number_at l counts listed n o is =
+    sym (ap (λ (r : Option (Option Object)). option_map_or (laid_object l (header_by l n) (slice_index counts n)) (option_flatten r) []) is)
 
 pub objects_more : (f : ℕ → List ℕ) (ns : List ℕ) (i : ℕ) (first second third here : List ℕ) → i < length ns → second ≡ first ++ flat_map f (take i ns)
     → third ≡ second ++ here → here ≡ f (get_or ns i 0) → third ≡ first ++ flat_map f (take (i + 1) ns)

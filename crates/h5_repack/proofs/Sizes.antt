@@ -150,7 +150,7 @@ module _ (a : Described) (c : Cells) (others : OthersBytes) (o : Object) (is : I
 -- ---- all objects
 
 -- a fault at one of the objects
-pub unmeasured_at : (leaf internal : ℕ) (listed : List Object) (number : ℕ) (o : Object) (fault : WriteFault) → slice_get listed number ≡ Some o
+pub unmeasured_at : (leaf internal : ℕ) (listed : List (Option Object)) (number : ℕ) (o : Object) (fault : WriteFault) → slice_get listed number ≡ Some (Some o)
     → IsUnmeasured leaf internal o fault → AreUnmeasured leaf internal listed fault
 unmeasured_at leaf internal listed number o TooLong is un = (number, o, is, un)
 unmeasured_at leaf internal listed number o TooDeep is un = (number, o, is, un)

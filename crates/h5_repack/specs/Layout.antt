@@ -1,8 +1,8 @@
 -- How many bytes objects have, where they stand one behind another, and their bytes, as the writer counts and appends them.
-use Rattle.std.specs.Prelude.{◌≡◌, ℕ, ◌+◌, ◌^◌, ◌≤◌, ◌<◌, Some, List, [], ◌∷◌, ◌++◌, map, length, slice_get, slice_index, slice_set, replicate}
+use Rattle.std.specs.Prelude.{◌≡◌, ℕ, ◌+◌, ◌^◌, ◌≤◌, ◌<◌, Option, Some, None, List, [], ◌∷◌, ◌++◌, map, length, slice_get, slice_index, slice_set, replicate, unwrap_or}
 use Rattle.std.specs.FinMap.{entries}
 use Rattle.std.specs.List.{AllZip}
-use Rattle.std.specs.Option.{option_map_or}
+use Rattle.std.specs.Option.{option_flatten, option_map_or}
 use Rattle.h5_model.specs.Format.Bodies.{pair_bytes}
 use Rattle.h5_model.specs.Format.Plain.{header_bytes, superblock_bytes}
 use Rattle.h5_model.specs.Format.Sizes.{header_size}
@@ -83,15 +83,23 @@ pub record IsSize (leaf internal : ℕ) (o : Object) (s : Size) : Type 0 where
   pub whole : size_length s ≡ object_length leaf internal o
   pub low : IsLowSize s
 
+-- an empty slot has no bytes
+abbrev pub no_size : Size
+no_size = record { header = 0; extent = extent.Data 0 }
+
+abbrev pub IsSlotSize : ℕ → ℕ → Option Object → Size → Type 0
+IsSlotSize leaf internal (Some o) s = IsSize leaf internal o s
+IsSlotSize leaf internal None s = s ≡ no_size
+
 -- why an object's size is none that an image can have
 abbrev pub IsUnmeasured : ℕ → ℕ → Object → WriteFault → Type 0
 IsUnmeasured leaf internal o TooLong = 2 ^ 31 < object_length leaf internal o
 IsUnmeasured leaf internal o TooDeep = (links : Links) × (o.content ≡ Group links) × (IsLow leaf internal links → ⊥)
 IsUnmeasured leaf internal o NoMemory = Unit {0}
 
-abbrev pub AreUnmeasured : ℕ → ℕ → List Object → WriteFault → Type 0
-AreUnmeasured leaf internal listed TooLong = (number : ℕ) × (o : Object) × (slice_get listed number ≡ Some o) × IsUnmeasured leaf internal o TooLong
-AreUnmeasured leaf internal listed TooDeep = (number : ℕ) × (o : Object) × (slice_get listed number ≡ Some o) × IsUnmeasured leaf internal o TooDeep
+abbrev pub AreUnmeasured : ℕ → ℕ → List (Option Object) → WriteFault → Type 0
+AreUnmeasured leaf internal listed TooLong = (number : ℕ) × (o : Object) × (slice_get listed number ≡ Some (Some o)) × IsUnmeasured leaf internal o TooLong
+AreUnmeasured leaf internal listed TooDeep = (number : ℕ) × (o : Object) × (slice_get listed number ≡ Some (Some o)) × IsUnmeasured leaf internal o TooDeep
 AreUnmeasured leaf internal listed NoMemory = Unit {0}
 
 -- ---- places
@@ -106,13 +114,13 @@ end_of lengths at [] = at
 end_of lengths at (number ∷ order) = end_of lengths (at + lengths number) order
 
 -- the headers by number, with those of these objects
-abbrev pub headers_of : (ℕ → ℕ) → ℕ → List ℕ → List ℕ → List ℕ
+abbrev pub headers_of : (ℕ → ℕ) → ℕ → List ℕ → List (Option ℕ) → List (Option ℕ)
 headers_of lengths at [] headers = headers
-headers_of lengths at (number ∷ order) headers = headers_of lengths (at + lengths number) order (slice_set headers number at)
+headers_of lengths at (number ∷ order) headers = headers_of lengths (at + lengths number) order (slice_set headers number (Some at))
 
 pub record AreHeaders (sizes : List Size) (order : List ℕ) (p : Placed) : Type 0 where
   pub end_is : p.end ≡ end_of (length_by_number sizes) 96 order
-  pub headers_are : p.headers.items ≡ headers_of (length_by_number sizes) 96 order (replicate (length sizes) 0)
+  pub headers_are : p.headers.items ≡ headers_of (length_by_number sizes) 96 order (replicate (length sizes) None)
   pub few : p.end ≤ 2 ^ 31
 
 abbrev pub IsUnplaced : List Size → List ℕ → WriteFault → Type 0
@@ -122,10 +130,14 @@ IsUnplaced sizes order NoMemory = Unit {0}
 
 -- ---- a layout: the headers and sizes of objects by their numbers
 
+-- where the header of an object stands; 0 where no object has the number
+abbrev pub header_by : Layout → ℕ → ℕ
+header_by l number = unwrap_or (option_flatten (slice_get l.headers.now number)) 0
+
 -- each object ends within an image
 pub record IsLowLayout (l : Layout) : Type 0 where
   pub same : length l.headers.now ≡ length l.sizes.now
-  pub each : (number : ℕ) (s : Size) → slice_get l.sizes.now number ≡ Some s → slice_index l.headers.now number + size_length s ≤ 2 ^ 31
+  pub each : (number : ℕ) (s : Size) → slice_get l.sizes.now number ≡ Some s → header_by l number + size_length s ≤ 2 ^ 31
   pub low : (number : ℕ) (s : Size) → slice_get l.sizes.now number ≡ Some s → IsLowSize s
 
 -- where the heap of a group stands whose tree stands there; nowhere for an array
@@ -143,7 +155,7 @@ leads_at header s = leads_behind header (header + s.header) s.extent
 
 -- where a link to the object of this number leads
 abbrev pub leads_by : Layout → ℕ → Leads
-leads_by l number = option_map_or (leads_at (slice_index l.headers.now number)) (slice_get l.sizes.now number) (ToArray 0)
+leads_by l number = option_map_or (leads_at (header_by l number)) (slice_get l.sizes.now number) (ToArray 0)
 
 abbrev pub written_at : Layout → List ℕ × Link → List ℕ × Leads
 written_at l (name, ToObject number) = (name, leads_by l number)
@@ -166,9 +178,9 @@ content_at l header count o (Array d) = array_at (content_place o header) count 
 abbrev pub laid_object : Layout → ℕ → ℕ → Object → List ℕ
 laid_object l header count o = content_at l header count o o.content
 
-abbrev pub numbered_at : Layout → List ℕ → List Object → ℕ → List ℕ
+abbrev pub numbered_at : Layout → List ℕ → List (Option Object) → ℕ → List ℕ
 numbered_at l counts listed number =
-    option_map_or (laid_object l (slice_index l.headers.now number) (slice_index counts number)) (slice_get listed number) []
+    option_map_or (laid_object l (header_by l number) (slice_index counts number)) (option_flatten (slice_get listed number)) []
 
 -- the superblock before objects whose root has this size
 abbrev pub front_at : Layout → Size → ℕ → List ℕ

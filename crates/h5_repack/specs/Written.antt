@@ -1,6 +1,7 @@
 -- What the writer makes of a tree's objects: its plain image, with the headers by the objects' numbers.
-use Rattle.std.specs.Prelude.{◌≡◌, ℕ, ◌^◌, ◌<◌, ◌≤◌, Some, List, slice_get}
+use Rattle.std.specs.Prelude.{◌≡◌, ℕ, ◌^◌, ◌<◌, ◌≤◌, Option, Some, List, slice_get}
 use Rattle.std.specs.FinMap.{get}
+use Rattle.std.specs.Option.{option_flatten}
 use Rattle.h5_model.specs.Format.PlainLength.{plain_length}
 use Rattle.h5_model.specs.Tree.Objects.{Tree, Object, Links, links_of}
 use Rattle.h5_laws.specs.Trees.Sound.{IsSoundTree}
@@ -13,7 +14,7 @@ use Rattle.h5_repack.specs.declared.write.WriteFault.{WriteFault}
 use Rattle.h5_repack.specs.declared.write.WriteFault.TheVariants.{TooLong, TooDeep, NoMemory}
 
 -- a sound tree of these objects, which the plain layout can hold
-pub record IsTreeToWrite (objects : List NewObject) (tree : Tree) : Type 0 where
+pub record IsTreeToWrite (objects : List (Option NewObject)) (tree : Tree) : Type 0 where
   pub objects_are : AreObjects objects tree
   pub sound : IsSoundTree tree
   pub plain : ArePlain tree
@@ -24,7 +25,7 @@ pub record IsWritten (leaf internal : ℕ) (tree : Tree) (w : Written) : Type 0 
   pub ordered : IsOrder tree order
   pub image_is : w.image.items ≡ plain_image leaf internal tree order
   pub few : image_end leaf internal order ≤ 2 ^ 31
-  pub headers_are : (number : ℕ) → slice_get w.headers.items number ≡ get (table_of leaf internal order) number
+  pub headers_are : (number : ℕ) → option_flatten (slice_get w.headers.items number) ≡ get (table_of leaf internal order) number
 
 -- the image would be too long; or a group's tree too deep; or memory was refused
 abbrev pub IsUnwritten : ℕ → ℕ → Tree → WriteFault → Type 0

@@ -1,21 +1,22 @@
 //! Links as they are written, with the addresses to which they lead (File Format Specification 3.0, section III.C).
 
-ghost use Rattle.std.specs.Prelude.{◌≡◌, [], IfOk, map};
+ghost use Rattle.std.specs.Prelude.{◌≡◌, ◌<◌, [], IfOk, length, map};
 ghost use Rattle.h5_group.specs.Heap.Links.{name_and_leads, object_leads};
 ghost use Rattle.h5_model.specs.Tree.Links.{tree_link};
-ghost use Rattle.h5_repack.specs.Layout.{IsLowLayout, leads_by, written_at};
+ghost use Rattle.h5_repack.specs.Layout.{IsLowLayout, header_by, leads_by, written_at};
 
 use crate::size::{Extent, Size};
 use h5_group::ObjectPlace;
 use h5_model::{Link, LinkTo, ObjectNo};
 use std::alloc::{AllocError, Global};
 
-/// Where objects stand: the addresses of their headers and their sizes, by their numbers; and the K values of the image.
+/// Where objects stand: the addresses of their headers and their sizes, by their numbers; and the K values of the image. A number
+/// without an object has no header, and no bytes.
 #[derive(Clone, Copy)]
 pub(crate) struct Layout<'a> {
     pub leaf: u16,
     pub internal: u16,
-    pub headers: &'a [u64],
+    pub headers: &'a [Option<u64>],
     pub sizes: &'a [Size],
 }
 
@@ -34,6 +35,14 @@ pub(crate) fn nowhere<'a>(leaf: u16, internal: u16) -> Layout<'a>
     }
 }
 
+/// Where the header of the object of this number stands; 0 where no object has it.
+pub(crate) fn header_place(layout: &Layout<'_>, number: usize) -> u64
+    requires { number < length layout.now.headers.now }
+    ensures { result ≡ header_by layout.now number }
+{
+    layout.headers[number].unwrap_or(0)
+}
+
 /// Where the object of this number stands, to which a link leads.
 fn object_place(layout: &Layout<'_>, number: u32) -> ObjectPlace
     requires { IsLowLayout layout.now }
@@ -42,7 +51,7 @@ fn object_place(layout: &Layout<'_>, number: u32) -> ObjectPlace
     let Some(size) = layout.sizes.get(number as usize) else {
         return ObjectPlace::Array(0);
     };
-    let header = layout.headers[number as usize];
+    let header = header_place(layout, number as usize);
     match size.extent {
         Extent::Links(places) => ObjectPlace::Group {
             header,

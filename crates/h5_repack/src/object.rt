@@ -1,6 +1,6 @@
 //! Objects as they are appended: a header, and behind it what belongs to it (File Format Specification 3.0, sections III and IV.A).
 
-ghost use Rattle.std.specs.Prelude.{◌≡◌, ◌+◌, ◌^◌, ◌<◌, ◌≤◌, ◌++◌, List, OnOk, Some, length, map, slice_get, slice_index};
+ghost use Rattle.std.specs.Prelude.{◌≡◌, ◌+◌, ◌^◌, ◌<◌, ◌≤◌, ◌++◌, List, Option, OnOk, Some, length, map, slice_get};
 ghost use Rattle.std.specs.List.{AllByRecursion, AllZip, flat_map};
 ghost use Rattle.h5_model.specs.Format.Superblock.{AreK};
 ghost use Rattle.h5_model.specs.Tree.Objects.{Object};
@@ -8,12 +8,13 @@ ghost use Rattle.h5_group.specs.Writing.Written.{links_bytes};
 ghost use Rattle.h5_repack.specs.Blocks.ArrayHeader.{group_written};
 ghost use Rattle.h5_model.specs.Tree.Links.{tree_link};
 ghost use Rattle.h5_repack.specs.declared.size.Extent.TheVariants.{Links};
-ghost use Rattle.h5_repack.specs.Layout.{IsArrayObject, IsExtent, IsGroupObject, IsHeldObject, IsLowLayout, IsSize, array_at, numbered_at, laid_object, written_at};
+ghost use Rattle.h5_repack.specs.Layout.{IsArrayObject, IsExtent, IsGroupObject, IsHeldObject, IsLowLayout, IsSize, IsSlotSize, array_at, header_by, numbered_at, laid_object, written_at};
+ghost use Rattle.h5_repack.specs.Objects.Objects.{IsFilled, SlotsHold};
 
 use crate::blocks::{
     Cells, Others, cells_address, push_array_header, push_data, push_group_header,
 };
-use crate::group::{Layout, new_links};
+use crate::group::{Layout, header_place, new_links};
 use crate::objects::{NewContent, NewObject};
 use crate::size::{Extent, Size};
 use h5_group::{GroupPlaces, push_links};
@@ -89,10 +90,10 @@ fn push_object(
         ((o : Object) (s : Size) → slice_get layout.now.sizes.now number ≡ Some s → IsHeldObject object.now o
         → IsSize layout.now.leaf layout.now.internal o s
         → out.new.items ≡ out.old.items
-        ++ laid_object layout.now (slice_index layout.now.headers.now number) count o) }
+        ++ laid_object layout.now (header_by layout.now number) count o) }
 {
     let size = layout.sizes[number];
-    let at = layout.headers[number] + size.header;
+    let at = header_place(layout, number) + size.header;
     match &object.content {
         NewContent::Group(links) => match size.extent {
             Extent::Links(places) => {
@@ -113,21 +114,23 @@ pub(crate) fn push_objects(
     layout: &Layout<'_>,
     order: &[u32],
     counts: &[u32],
-    objects: &[NewObject<'_>],
+    objects: &[Option<NewObject<'_>>],
 ) -> Result<(), AllocError>
     requires k { AreK layout.now.leaf layout.now.internal }
     requires layout { IsLowLayout layout.now }
-    requires below { AllByRecursion (λ number. number < length objects.now) order.now }
+    requires filled { AllByRecursion (IsFilled objects.now) order.now }
     requires counted { length counts.now ≡ length objects.now }
-    requires held { (listed : List Object) × AllZip IsHeldObject objects.now listed
-        × AllZip (IsSize layout.now.leaf layout.now.internal) listed layout.now.sizes.now }
-    ensures { OnOk result ((listed : List Object) → AllZip IsHeldObject objects.now listed
-        → AllZip (IsSize layout.now.leaf layout.now.internal) listed layout.now.sizes.now
+    requires held { (listed : List (Option Object)) × AllZip (SlotsHold IsHeldObject) objects.now listed
+        × AllZip (IsSlotSize layout.now.leaf layout.now.internal) listed layout.now.sizes.now }
+    ensures { OnOk result ((listed : List (Option Object))
+        → AllZip (SlotsHold IsHeldObject) objects.now listed
+        → AllZip (IsSlotSize layout.now.leaf layout.now.internal) listed layout.now.sizes.now
         → out.new.items ≡ out.old.items ++ flat_map (numbered_at layout.now counts.now listed) order.now) }
 {
     for number in order {
         let number = *number as usize;
-        push_object(alloc, out, layout, number, counts[number], &objects[number])?;
+        let object = objects[number].as_ref().unwrap();
+        push_object(alloc, out, layout, number, counts[number], object)?;
     }
     Ok(())
 }

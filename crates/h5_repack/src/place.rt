@@ -9,10 +9,11 @@ use crate::write::WriteFault;
 use h5_group::{MAXIMUM_IMAGE, SUPERBLOCK};
 use std::alloc::Global;
 
-/// Where objects stand one behind another: the addresses of their headers by their numbers, and the end of the last.
+/// Where objects stand one behind another: the addresses of their headers by their numbers, `None` for a number without an object, and
+/// the end of the last.
 #[derive(Drop)]
 pub(crate) struct Placed {
-    pub headers: Vec<u64>,
+    pub headers: Vec<Option<u64>>,
     pub end: u64,
 }
 
@@ -23,13 +24,13 @@ pub(crate) fn place_all(alloc: Global, order: &[u32], sizes: &[Size]) -> Result<
     ensures placed { IfOk result (AreHeaders sizes.now order.now) }
     ensures refused { IfErr result (IsUnplaced sizes.now order.now) }
 {
-    let Ok(mut headers) = vec![in alloc; 0; sizes.len()] else {
+    let Ok(mut headers) = vec![in alloc; None; sizes.len()] else {
         return Err(WriteFault::NoMemory);
     };
     let mut end = SUPERBLOCK;
     for number in order {
         let number = *number as usize;
-        headers[number] = end;
+        headers[number] = Some(end);
         end += whole_length(&sizes[number]);
         if end > MAXIMUM_IMAGE {
             return Err(WriteFault::TooLong);

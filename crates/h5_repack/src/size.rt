@@ -1,10 +1,11 @@
 //! How many bytes objects have: their headers, and what belongs to them (File Format Specification 3.0, sections III and IV.A).
 
-ghost use Rattle.std.specs.Prelude.{◌≡◌, ℕ, ◌^◌, ◌<◌, ◌≤◌, List, IfOk, IfErr};
+ghost use Rattle.std.specs.Prelude.{◌≡◌, ℕ, ◌^◌, ◌<◌, ◌≤◌, List, Option, Some, IfOk, IfErr};
 ghost use Rattle.std.specs.List.{AllZip};
 ghost use Rattle.h5_model.specs.Format.Superblock.{AreK};
 ghost use Rattle.h5_model.specs.Tree.Objects.{Object};
-ghost use Rattle.h5_repack.specs.Layout.{AreUnmeasured, IsArrayObject, IsGroupObject, IsHeldObject, IsLowSize, IsSize, IsUnmeasured, size_length};
+ghost use Rattle.h5_repack.specs.Layout.{AreUnmeasured, IsArrayObject, IsGroupObject, IsHeldObject, IsLowSize, IsSize, IsSlotSize, IsUnmeasured, size_length};
+ghost use Rattle.h5_repack.specs.Objects.Objects.{SlotsHold};
 
 use crate::blocks::{Cells, Others, array_header_length, data_length, group_header_length};
 use crate::group::{new_links, nowhere};
@@ -125,25 +126,48 @@ fn measure(
     }
 }
 
-/// The sizes of all these objects.
+/// The size of the object in a slot. An empty slot has no bytes.
+fn measure_slot(
+    alloc: Global,
+    leaf: u16,
+    internal: u16,
+    slot: &Option<NewObject<'_>>,
+) -> Result<Size, WriteFault>
+    requires k { AreK leaf internal }
+    requires held { (place : Option Object) × SlotsHold IsHeldObject slot.now place }
+    ensures size { IfOk result (λ s.
+        (place : Option Object) → SlotsHold IsHeldObject slot.now place → IsSlotSize leaf internal place s) }
+    ensures refused { IfErr result (λ fault. (place : Option Object) → SlotsHold IsHeldObject slot.now place
+        → (o : Object) × (place ≡ Some o) × IsUnmeasured leaf internal o fault) }
+{
+    match slot {
+        Some(object) => measure(alloc, leaf, internal, object),
+        None => Ok(Size {
+            header: 0,
+            extent: Extent::Data(0),
+        }),
+    }
+}
+
+/// The sizes of all these objects. An empty slot has no bytes.
 pub(crate) fn measure_all(
     alloc: Global,
     leaf: u16,
     internal: u16,
-    objects: &[NewObject<'_>],
+    objects: &[Option<NewObject<'_>>],
 ) -> Result<Vec<Size>, WriteFault>
     requires k { AreK leaf internal }
-    requires held { (listed : List Object) × AllZip IsHeldObject objects.now listed }
+    requires held { (listed : List (Option Object)) × AllZip (SlotsHold IsHeldObject) objects.now listed }
     ensures sizes { IfOk result (λ sizes.
-        (listed : List Object) → AllZip IsHeldObject objects.now listed
-        → AllZip (IsSize leaf internal) listed sizes.items) }
+        (listed : List (Option Object)) → AllZip (SlotsHold IsHeldObject) objects.now listed
+        → AllZip (IsSlotSize leaf internal) listed sizes.items) }
     ensures refused { IfErr result (λ fault.
-        (listed : List Object) → AllZip IsHeldObject objects.now listed
+        (listed : List (Option Object)) → AllZip (SlotsHold IsHeldObject) objects.now listed
         → AreUnmeasured leaf internal listed fault) }
 {
     let mut sizes = Vec::new(alloc);
     for object in objects {
-        let size = measure(alloc, leaf, internal, object)?;
+        let size = measure_slot(alloc, leaf, internal, object)?;
         let Ok(()) = sizes.push(size) else {
             return Err(WriteFault::NoMemory);
         };

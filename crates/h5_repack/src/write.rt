@@ -1,10 +1,11 @@
 //! The image of a tree.
 
-ghost use Rattle.std.specs.Prelude.{◌≡◌, ◌+◌, ◌<◌, ◌≤◌, ◌^◌, ◌++◌, List, IfOk, IfErr, Some, OnOk, length, slice_get};
+ghost use Rattle.std.specs.Prelude.{◌≡◌, ◌+◌, ◌<◌, ◌≤◌, ◌^◌, ◌++◌, List, Option, IfOk, IfErr, Some, OnOk, length, slice_get};
 ghost use Rattle.std.specs.List.{AllByRecursion, AllZip, flat_map};
 ghost use Rattle.h5_model.specs.Tree.Objects.{Object, Tree};
 ghost use Rattle.h5_model.specs.Format.Superblock.{AreK};
-ghost use Rattle.h5_repack.specs.Layout.{IsHeldObject, IsLowLayout, IsLowSize, IsSize, front_at, numbered_at};
+ghost use Rattle.h5_repack.specs.Layout.{IsHeldObject, IsLowLayout, IsLowSize, IsSlotSize, front_at, numbered_at};
+ghost use Rattle.h5_repack.specs.Objects.Objects.{IsFilled, SlotsHold};
 ghost use Rattle.h5_repack.specs.Written.{IsTreeToWrite, IsWritten, IsUnwritten};
 
 use crate::group::Layout;
@@ -26,11 +27,11 @@ pub enum WriteFault {
     NoMemory,
 }
 
-/// An image, and where the header of each object stands in it, by the objects' numbers.
+/// An image, and where the header of each object stands in it, by the objects' numbers: `None` for a number without an object.
 #[derive(Drop)]
 pub struct Written {
     pub image: Vec<u8>,
-    pub headers: Vec<u64>,
+    pub headers: Vec<Option<u64>>,
 }
 
 /// The superblock of an image whose root has this size and which ends there.
@@ -66,19 +67,19 @@ fn image_of(
     end: u64,
     order: &[u32],
     counts: &[u32],
-    objects: &[NewObject<'_>],
+    objects: &[Option<NewObject<'_>>],
 ) -> Result<Vec<u8>, AllocError>
     requires k { AreK layout.now.leaf layout.now.internal }
     requires layout { IsLowLayout layout.now }
     requires some { 0 < length layout.now.sizes.now }
     requires end { end ≤ 2 ^ 31 }
-    requires below { AllByRecursion (λ number. number < length objects.now) order.now }
+    requires filled { AllByRecursion (IsFilled objects.now) order.now }
     requires counted { length counts.now ≡ length objects.now }
-    requires held { (listed : List Object) × AllZip IsHeldObject objects.now listed
-        × AllZip (IsSize layout.now.leaf layout.now.internal) listed layout.now.sizes.now }
+    requires held { (listed : List (Option Object)) × AllZip (SlotsHold IsHeldObject) objects.now listed
+        × AllZip (IsSlotSize layout.now.leaf layout.now.internal) listed layout.now.sizes.now }
     ensures { IfOk result (λ image.
-        (listed : List Object) (root : Size) → AllZip IsHeldObject objects.now listed
-        → AllZip (IsSize layout.now.leaf layout.now.internal) listed layout.now.sizes.now
+        (listed : List (Option Object)) (root : Size) → AllZip (SlotsHold IsHeldObject) objects.now listed
+        → AllZip (IsSlotSize layout.now.leaf layout.now.internal) listed layout.now.sizes.now
         → slice_get layout.now.sizes.now 0 ≡ Some root
         → image.items ≡ front_at layout.now root end
         ++ flat_map (numbered_at layout.now counts.now listed) order.now) }
@@ -89,21 +90,23 @@ fn image_of(
     Ok(image)
 }
 
-/// The plain image of the tree of these objects, with these K values of symbol nodes and of nodes.
+/// The plain image of the tree of these objects, each in the slot of its number, with these K values of symbol nodes and of nodes. An
+/// empty slot leaves nothing in the image: its number has no object.
 ///
-/// Takes memory for a few numbers of each object and for the links of one group beside the image. Where there is more than one fault,
+/// Takes memory for a few numbers of each slot and for the links of one group beside the image. Where there is more than one fault,
 /// any of them may be the answer.
 pub fn write_tree(
     alloc: Global,
     leaf: u16,
     internal: u16,
-    objects: &[NewObject<'_>],
+    objects: &[Option<NewObject<'_>>],
 ) -> Result<Written, WriteFault>
     requires k { AreK leaf internal }
     requires few { length objects.now < 2 ^ 32 }
     requires tree { (tree : Tree) × IsTreeToWrite objects.now tree }
     ensures written { IfOk result (λ w.
         (tree : Tree) → IsTreeToWrite objects.now tree → IsWritten leaf internal tree w) }
+    ensures numbered { IfOk result (λ w. length w.headers.items ≡ length objects.now) }
     ensures refused { IfErr result (λ fault.
         (tree : Tree) → IsTreeToWrite objects.now tree → IsUnwritten leaf internal tree fault) }
 {

@@ -111,20 +111,20 @@ refreshes_none old new (Write path hyper values) asked = absurd (cc)
 refreshes_none old new (Resize path dims) asked = absurd (cc)
 
 -- an accepted edit
-pub edit_accepted : (before after : FileState) (edit : Edit) (e : Edited) → taken (Change edit) ≡ Change edit → IsEdited before edit after e
+pub edit_accepted : (before after : FileState) (edit : Edit) (e : Edited) → taken (Change edit) ≡ Change edit → is_carried edit ≡ true → IsEdited before edit after e
     → IsAnswered before (Change edit) after (codes "ok " ++ (decimal e.refreshed ++ codes "\n")) Accepted
 unfolding line_answer IsGivenAt
-edit_accepted before after edit e asked is = record {
+edit_accepted before after edit e asked carried is = record {
   given = None;
   run = record {
-    allowed = rw (asked, is.accepted.carried) is.accepted.given;
-    state_is = is.state ∙ rw (asked, is.accepted.carried, is.accepted.accepted) refl;
-    left = rw (asked, is.accepted.carried, is.accepted.accepted) (e, is);
+    allowed = rw (asked, carried) is.accepted.given;
+    state_is = is.state ∙ rw (asked, carried, is.accepted.accepted) refl;
+    left = rw (asked, carried, is.accepted.accepted) (e, is);
   };
-  text_is = ap (λ n. codes "ok " ++ (decimal n ++ codes "\n")) is.refreshed ∙ rw (asked, is.accepted.carried, is.accepted.accepted)
+  text_is = ap (λ n. codes "ok " ++ (decimal n ++ codes "\n")) is.refreshed ∙ rw (asked, carried, is.accepted.accepted)
       (sym (append_assoc (codes "ok ") (decimal 0) (codes "\n"))
       ∙ ap (λ n. (codes "ok " ++ decimal n) ++ codes "\n") (sym (refreshes_none before.tree (state_after (state_of before) edit).tree edit asked)));
-  outcome_is = rw (asked, is.accepted.carried, is.accepted.accepted) refl;
+  outcome_is = rw (asked, carried, is.accepted.accepted) refl;
 }
 
 -- a refused one

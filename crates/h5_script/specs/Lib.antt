@@ -4,6 +4,5 @@ pub mod Runs
 pub mod Pieces
 pub mod Script
 pub mod Streams
-pub use Rattle.h5_file.specs.State
 pub use Rattle.h5_file.specs.Opened
 pub use Rattle.h5_dump.specs.Dumped

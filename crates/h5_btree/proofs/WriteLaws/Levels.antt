@@ -1,7 +1,6 @@
 -- The rows of a tree from the root down to some level, and one row more below them.
-use Rattle.std.proofs.Common.{◌≡◌, ℕ, zero, suc, ◌+◌, List, [], ◌∷◌, ◌++◌, refl, sym, ap, ◌∙◌, subst, arith, append_assoc, append-nil}
+use Rattle.std.proofs.Common.{◌≡◌, ℕ, zero, suc, ◌+◌, List, ◌++◌, refl, sym, ap, ◌∙◌, subst, arith, append_assoc}
 use Rattle.h5_bytes.specs.Bytes.{undefined}
-use Rattle.std.specs.List.{flat_map}
 use Rattle.h5_model.specs.Format.Rows.{Reading, IsRow, AreRows, next_row, row_below, leaves, nodes}
 
 -- the rows from this row down to the level `low`, so many levels below it
@@ -38,34 +37,3 @@ module _ (V : Reading) where
   nodes-more zero row = refl
   nodes-more (suc depth) row =
       ap (λ ns. row ++ ns) (nodes-more depth (next_row V row)) ∙ sym (append_assoc row (nodes V depth (next_row V row)) (leaves V depth (next_row V row)))
-
-  -- ---- what stands below some nodes of a row
-
-  pub next_row-append : (xs ys : List ℕ) → next_row V (xs ++ ys) ≡ next_row V xs ++ next_row V ys
-  next_row-append [] ys = refl
-  next_row-append (x ∷ xs) ys =
-      ap (λ row. (V x).children ++ row) (next_row-append xs ys) ∙ sym (append_assoc (V x).children (next_row V xs) (next_row V ys))
-
-  pub leaves-append : (depth : ℕ) (xs ys : List ℕ) → leaves V depth (xs ++ ys) ≡ leaves V depth xs ++ leaves V depth ys
-  leaves-append zero xs ys = next_row-append xs ys
-  leaves-append (suc depth) xs ys = ap (leaves V depth) (next_row-append xs ys) ∙ leaves-append depth (next_row V xs) (next_row V ys)
-
-  pub leaves-nil : (depth : ℕ) → leaves V depth [] ≡ []
-  leaves-nil zero = refl
-  leaves-nil (suc depth) = leaves-nil depth
-
-  -- the children at the bottom below a child of a node of this level
-  abbrev pub beneath : ℕ → ℕ → List ℕ
-  beneath zero child = child ∷ []
-  beneath (suc level) child = leaves V level (child ∷ [])
-
-  -- below a node are those below its children
-  pub beneath-more : (level n : ℕ) → beneath (suc level) n ≡ flat_map (beneath level) (V n).children
-  beneath-more zero n = append-nil (V n).children ∙ alone (V n).children where
-    alone : (xs : List ℕ) → xs ≡ flat_map (beneath zero) xs
-    alone [] = refl
-    alone (x ∷ xs) = ap (λ rest. x ∷ rest) (alone xs)
-  beneath-more (suc level) n = ap (leaves V level) (append-nil (V n).children) ∙ each (V n).children where
-    each : (xs : List ℕ) → leaves V level xs ≡ flat_map (beneath (suc level)) xs
-    each [] = leaves-nil level
-    each (x ∷ xs) = leaves-append level (x ∷ []) xs ∙ ap (λ rest. leaves V level (x ∷ []) ++ rest) (each xs)

@@ -1,157 +1,90 @@
--- Where the names below the children of a row are in order, each of its nodes is, and so are its nodes as children of the row above.
-use Rattle.std.proofs.Common.{◌≡◌, ℕ, zero, suc, ◌+◌, ◌^◌, ◌<◌, ◌≤◌, List, [], ◌∷◌, ◌++◌, length, map, get_or, refl, sym, ap, ◌∙◌, subst, arith}
-use Rattle.std.specs.Prelude.{⊤}
+-- Where the names below the children of a row form a ladder, each of its nodes is ordered, and its nodes form one as children of the row
+-- above.
+use Rattle.std.proofs.Common.{◌≡◌, ℕ, zero, suc, ◌+◌, ◌^◌, ◌<◌, List, [], ◌∷◌, ◌++◌, length, map, sym, ap, ◌∙◌, subst, arith}
 use Rattle.std.specs.List.{AllByRecursion, flat_map}
-use Rattle.std.proofs.lemmas.Grind.{flat_map-append}
-use Rattle.std.proofs.lemmas.List.{length-map, map-append}
+use Rattle.std.proofs.lemmas.List.{length-map}
+use Rattle.std.proofs.lemmas.Simd.{map-map}
+use Rattle.h5_bytes.specs.Numbers.{word}
 use Rattle.h5_bytes.specs.Texts.{text_at}
-use Rattle.h5_bytes.proofs.BlockLaws.{all_append}
-use Rattle.h5_model.specs.Format.Links.{Before, NotAfter, IsBetween, IsOrdered, Symbols, key_name, names_in, offset_in, symbol_nodes_below}
+use Rattle.h5_model.specs.Format.Links.{IsOrdered, Symbols, names_in}
 use Rattle.h5_model.specs.Format.Rows.{Node, Reading}
 use Rattle.h5_model.specs.Format.Sizes.{group_node}
-use Rattle.h5_model.specs.Format.Symbols.{Entry}
+use Rattle.h5_laws.specs.Ladders.{IsLadder, LieBetween, all_of, items_under, lists_below}
+use Rattle.h5_laws.specs.NameLadders.{key_text, name_lists, name_sides}
+use Rattle.h5_laws.proofs.LadderRows.{IsGathered, IsRowLadder, gathered}
+use Rattle.h5_laws.proofs.LadderTrees.{all-map, all_lists}
+use Rattle.h5_laws.proofs.NameLadders.{ladder_texts, name_order, names_ladder}
 use Rattle.h5_btree.specs.Writing.Laws.{AreOrdered, IsChild}
 use Rattle.h5_btree.specs.Writing.Written.{last_below, right_of, as_children}
 use Rattle.h5_btree.specs.declared.write.child.Child.{Child}
-use Rattle.h5_btree.proofs.WriteLaws.Levels.{beneath, beneath-more}
-use Rattle.h5_model.proofs.TextOrder.{not_after_itself, after_trans, not_after_trans}
-use Rattle.h5_btree.proofs.WriteLaws.RowReads.{AreRead, IsPiece, addresses, keys_of, node_over, offset_is, places_of, last_small}
-
-pub all_map : {X : Type 0} (P Q : X → Type 0) (xs : List X) → ((x : X) → P x → Q x) → AllByRecursion P xs → AllByRecursion Q xs
-all_map P Q [] f all = tt
-all_map P Q (x ∷ xs) f all = (f x all.0, all_map P Q xs f all.1)
-
--- this name is above the one at the first offset, and not above the one at the second
-abbrev IsIn : List ℕ → ℕ → ℕ → List ℕ → Type 0
-IsIn segment before last name = Before (text_at segment before) name × NotAfter name (text_at segment last)
-
--- the names below each child of nodes of this level are above the last name before it, and not above its own last name
-abbrev pub AreOrderedUnder : Reading → Symbols → List ℕ → ℕ → ℕ → List Child → Type 0
-AreOrderedUnder V S segment level before [] = ⊤
-AreOrderedUnder V S segment level before (c ∷ cs) =
-    AllByRecursion (IsIn segment before c.last) (names_in S segment (beneath V level c.at))
-    × NotAfter (text_at segment before) (text_at segment c.last) × AreOrderedUnder V S segment level c.last cs
+use Rattle.h5_btree.proofs.WriteLaws.RowReads.{AreRead, IsPiece, addresses, node_over, offset_is, last_small}
 
 module _ (V : Reading) (S : Symbols) (segment : List ℕ) where
-  pub ordered_at_bottom : (before : ℕ) (cs : List Child) → AreOrdered S segment before cs → AreOrderedUnder V S segment 0 before cs
-  ordered_at_bottom before [] are = tt
-  ordered_at_bottom before (c ∷ cs) are = (are.0, are.1, ordered_at_bottom c.last cs are.2)
+  -- the names below a child of a node of this level
+  abbrev pub names_beneath : ℕ → Child → List (List ℕ)
+  names_beneath zero c = names_in S segment (c.at ∷ [])
+  names_beneath (suc level) c = items_under V (name_lists S segment) level c.at
 
-  names-append : (xs ys : List ℕ) → names_in S segment (xs ++ ys) ≡ names_in S segment xs ++ names_in S segment ys
-  names-append xs ys =
-      ap (map (λ (e : Entry). text_at segment e.name)) (flat_map-append S xs ys)
-      ∙ map-append (λ (e : Entry). text_at segment e.name) (flat_map S xs) (flat_map S ys)
+  -- those below the children of a row form a ladder, with the name before them and the last name below each
+  abbrev pub AreOrderedUnder : ℕ → ℕ → List Child → Type 0
+  AreOrderedUnder level before cs = IsRowLadder (name_sides (text_at segment)) (λ (c : Child). c.last) (names_beneath level) before cs
 
-  -- what is ordered before the first name of a list is ordered before a lesser one, and up to a greater last one
-  lower : (a b last : ℕ) (names : List (List ℕ)) → NotAfter (text_at segment a) (text_at segment b) → AllByRecursion (IsIn segment b last) names
-      → AllByRecursion (IsIn segment a last) names
-  lower a b last names up all = all_map (IsIn segment b last) (IsIn segment a last) names
-      (λ name is. (after_trans (text_at segment a) (text_at segment b) name up is.0, is.1)) all
+  pub ordered_at_bottom : (before : ℕ) (cs : List Child) → AreOrdered S segment before cs → AreOrderedUnder 0 before cs
+  ordered_at_bottom before cs are = are
 
-  higher : (before a b : ℕ) (names : List (List ℕ)) → NotAfter (text_at segment a) (text_at segment b) → AllByRecursion (IsIn segment before a) names
-      → AllByRecursion (IsIn segment before b) names
-  higher before a b names up all = all_map (IsIn segment before a) (IsIn segment before b) names
-      (λ name is. (is.0, not_after_trans name (text_at segment a) (text_at segment b) is.1 up)) all
+  -- the lists of a node over them
+  lists_are : (level left right before : ℕ) (c : List Child) → map (names_beneath level) c ≡ lists_below V (name_lists S segment) level (node_over level left right before c)
+  lists_are zero left right before c = sym (map-map (λ at. names_in S segment (at ∷ [])) (λ (x : Child). x.at) c)
+  lists_are (suc level) left right before c = sym (map-map (items_under V (name_lists S segment) level) (λ (x : Child). x.at) c)
+
+  -- each key stands for the text at its offset
+  texts_same : (c : List Child) → AllByRecursion IsChild c → AllByRecursion (λ n. key_text segment (word n) ≡ text_at segment n) (map (λ (x : Child). x.last) c)
+  texts_same [] small = tt
+  texts_same (x ∷ c) small = (ap (text_at segment) (offset_is x.last (small.0).last), texts_same c small.1)
+
+  -- a node over such children is ordered
+  node_ordered : (level left right before : ℕ) (c : List Child) → before < 2 ^ 64 → AllByRecursion IsChild c → AreOrderedUnder level before c
+      → IsOrdered V S segment (node_over level left right before c)
+  node_ordered level left right before c low small are =
+      let node : Node = node_over level left right before c in
+      let lists : List (List (List ℕ)) = lists_below V (name_lists S segment) level node in
+      let long : length node.keys ≡ length node.children + 1
+      = omega (arith, length-map c (λ (x : Child). word x.last), length-map c (λ (x : Child). x.at)) in
+      let keys : map word (before ∷ map (λ (x : Child). x.last) c) ≡ node.keys
+      = ap (λ (ks : List (List ℕ)). word before ∷ ks) (map-map word (λ (x : Child). x.last) c) in
+      let by_words = ladder_texts (text_at segment) (key_text segment) word (before ∷ map (λ (x : Child). x.last) c) (map (names_beneath level) c)
+      (ap (text_at segment) (offset_is before low), texts_same c small) are in
+      (names_ladder V S segment node long).1
+      (subst (λ (ks : List (List ℕ)). IsLadder (name_sides (key_text segment)) ks lists) keys
+      (subst (IsLadder (name_sides (key_text segment)) (map word (before ∷ map (λ (x : Child). x.last) c))) (lists_are level left right before c) by_words))
 
   module _ (level : ℕ) where
-    -- the names below some children lie between the last name before them and their own last name; those behind them are ordered
-    pub gathered : (before : ℕ) (c more : List Child) → AreOrderedUnder V S segment level before (c ++ more)
-        → AllByRecursion (IsIn segment before (last_below before c)) (names_in S segment (flat_map (beneath V level) (places_of c)))
-        × NotAfter (text_at segment before) (text_at segment (last_below before c))
-        × AreOrderedUnder V S segment level (last_below before c) more
-    gathered before [] more are = (tt, not_after_itself (text_at segment before), are)
-    gathered before (x ∷ c) more are =
-        let rest = gathered x.last c more are.2 in
-        let first = higher before x.last (last_below x.last c) (names_in S segment (beneath V level x.at)) rest.1 are.0 in
-        let second = lower before x.last (last_below x.last c) (names_in S segment (flat_map (beneath V level) (places_of c))) are.1 rest.0 in (
-          subst (AllByRecursion (IsIn segment before (last_below x.last c))) (sym (names-append (beneath V level x.at) (flat_map (beneath V level) (places_of c))))
-              (all_append (IsIn segment before (last_below x.last c)) (names_in S segment (beneath V level x.at))
-              (names_in S segment (flat_map (beneath V level) (places_of c))) first second),
-          not_after_trans (text_at segment before) (text_at segment x.last) (text_at segment (last_below x.last c)) are.1 rest.1,
-          rest.2,
-        )
-
-    -- the first of them are ordered
-    front_ordered : (before : ℕ) (c more : List Child) → AreOrderedUnder V S segment level before (c ++ more) → AreOrderedUnder V S segment level before c
-    front_ordered before [] more are = tt
-    front_ordered before (x ∷ c) more are = (are.0, are.1, front_ordered x.last c more are.2)
+    -- some children of a row, and those behind them
+    abbrev parts : (before : ℕ) (c more : List Child) → AreOrderedUnder level before (c ++ more)
+        → IsGathered (name_sides (text_at segment)) (name_order (text_at segment)) (λ (x : Child). x.last) (names_beneath level) before c more
+    parts before c more are = gathered (name_sides (text_at segment)) (name_order (text_at segment)) (λ (x : Child). x.last) (names_beneath level) before c more are
 
     -- the nodes of a row as children
     pub raised_ordered : (k left before at : ℕ) (cs : List (List Child)) → AreRead V k level left before at cs
-        → AreOrderedUnder V S segment level before (flat_map (λ (c : List Child). c) cs) → AreOrderedUnder V S segment (suc level) before (as_children k at before cs)
+        → AreOrderedUnder level before (flat_map (λ (c : List Child). c) cs) → AreOrderedUnder (suc level) before (as_children k at before cs)
     raised_ordered k left before at [] read are = tt
     raised_ordered k left before at (c ∷ cs) read are =
-        let all = gathered before c (flat_map (λ (d : List Child). d) cs) are in
-        let below : beneath V (suc level) at ≡ flat_map (beneath V level) (places_of c)
-        = beneath-more V level at ∙ ap (λ (n : Node). flat_map (beneath V level) n.children) read.0 in (
-          subst (λ ns. AllByRecursion (IsIn segment before (last_below before c)) (names_in S segment ns)) (sym below) all.0,
-          all.1,
-          raised_ordered k at (last_below before c) (at + group_node k) cs read.1 all.2,
+        let all = parts before c (flat_map (λ (d : List Child). d) cs) are in
+        let below : flat_map (names_beneath level) c ≡ items_under V (name_lists S segment) level at
+        = sym (all-map (names_beneath level) c) ∙ ap (λ (lists : List (List (List ℕ))). all_of lists) (lists_are level left (right_of k at cs) before c)
+        ∙ ap (λ (n : Node). all_of (lists_below V (name_lists S segment) level n)) (sym read.0) ∙ all_lists V (name_lists S segment) level at in (
+          subst (LieBetween (name_sides (text_at segment)) before (last_below before c)) below all.lie,
+          all.rise,
+          raised_ordered k at (last_below before c) (at + group_node k) cs read.1 all.behind,
         )
 
-    -- ---- the nodes of a row
-
-    -- the offsets in a node's keys
-    abbrev offsets : ℕ → List Child → List ℕ
-    offsets before c = before ∷ map (λ (x : Child). x.last) c
-
-    offset_read : (before : ℕ) (c : List Child) (i : ℕ) → before < 2 ^ 64 → AllByRecursion IsChild c → i ≤ length c
-        → offset_in (get_or (keys_of before c) i []) ≡ get_or (offsets before c) i 0
-    offset_read before c zero low small under = offset_is before low
-    offset_read before [] (suc i) low small under = absurd (omega arith)
-    offset_read before (x ∷ c) (suc i) low small under = offset_read x.last c i (small.0).last small.1 (omega arith)
-
-    below_is : (l left right before i : ℕ) (c : List Child) → symbol_nodes_below V (node_over l left right before c) i ≡ beneath V l (get_or (places_of c) i 0)
-    below_is zero left right before i c = refl
-    below_is (suc l) left right before i c = refl
-
-    child_ordered : (before : ℕ) (c : List Child) (i : ℕ) → AreOrderedUnder V S segment level before c → i < length c
-        → AllByRecursion (IsIn segment (get_or (offsets before c) i 0) (get_or (offsets before c) (i + 1) 0)) (names_in S segment (beneath V level (get_or (places_of c) i 0)))
-        × NotAfter (text_at segment (get_or (offsets before c) i 0)) (text_at segment (get_or (offsets before c) (i + 1) 0))
-    child_ordered before [] i are under = absurd (omega arith)
-    child_ordered before (x ∷ c) zero are under = (are.0, are.1)
-    child_ordered before (x ∷ c) (suc i) are under =
-        let up : suc i + 1 ≡ suc (i + 1) = omega arith in
-        rw up (child_ordered x.last c i are.2 (omega arith))
-
-    node_ordered : (left right before : ℕ) (c : List Child) → before < 2 ^ 64 → AllByRecursion IsChild c → AreOrderedUnder V S segment level before c
-        → IsOrdered V S segment (node_over level left right before c)
-    node_ordered left right before c low small are = record { between = between; rising = rising } where
-      -- the names for the keys around child i
-      first_key : (i : ℕ) → i < length c → key_name segment (node_over level left right before c) i ≡ text_at segment (get_or (offsets before c) i 0)
-      first_key i under = ap (text_at segment) (offset_read before c i low small (omega arith))
-
-      second_key : (i : ℕ) → i < length c → key_name segment (node_over level left right before c) (i + 1) ≡ text_at segment (get_or (offsets before c) (i + 1) 0)
-      second_key i under = ap (text_at segment) (offset_read before c (i + 1) low small (omega arith))
-
-      long : length (places_of c) ≡ length c
-      long = length-map c (λ (x : Child). x.at)
-
-      between : (i : ℕ) → i < length (places_of c) → AllByRecursion (IsBetween segment (node_over level left right before c) i)
-          (names_in S segment (symbol_nodes_below V (node_over level left right before c) i))
-      between i under =
-          let under_all : i < length c = omega (arith, long) in
-          subst (λ ns. AllByRecursion (IsBetween segment (node_over level left right before c) i) (names_in S segment ns)) (sym (below_is level left right before i c))
-          (all_map (IsIn segment (get_or (offsets before c) i 0) (get_or (offsets before c) (i + 1) 0)) (IsBetween segment (node_over level left right before c) i)
-          (names_in S segment (beneath V level (get_or (places_of c) i 0)))
-          (λ name is. (subst (λ t. Before t name) (sym (first_key i under_all)) is.0, subst (λ t. NotAfter name t) (sym (second_key i under_all)) is.1))
-          (child_ordered before c i are under_all).0)
-
-      rising : (i : ℕ) → i < length (places_of c)
-          → NotAfter (key_name segment (node_over level left right before c) i) (key_name segment (node_over level left right before c) (i + 1))
-      rising i under =
-          let under_all : i < length c = omega (arith, long) in
-          subst (λ t. NotAfter t (key_name segment (node_over level left right before c) (i + 1))) (sym (first_key i under_all))
-          (subst (λ t. NotAfter (text_at segment (get_or (offsets before c) i 0)) t) (sym (second_key i under_all)) (child_ordered before c i are under_all).1)
-
     pub row_ordered : (k left before at : ℕ) (cs : List (List Child)) → AreRead V k level left before at cs → before < 2 ^ 64 → AllByRecursion (IsPiece k) cs
-        → AreOrderedUnder V S segment level before (flat_map (λ (c : List Child). c) cs)
+        → AreOrderedUnder level before (flat_map (λ (c : List Child). c) cs)
         → AllByRecursion (λ n. IsOrdered V S segment (V n)) (addresses k at (length cs))
     row_ordered k left before at [] read low are ordered = tt
     row_ordered k left before at (c ∷ cs) read low are ordered =
-        let more : List Child = flat_map (λ (d : List Child). d) cs in
-        let all = gathered before c more ordered in
-        let here = node_ordered left (right_of k at cs) before c low (are.0).small (front_ordered before c more ordered) in (
+        let all = parts before c (flat_map (λ (d : List Child). d) cs) ordered in
+        let here = node_ordered level left (right_of k at cs) before c low (are.0).small all.here in (
           subst (IsOrdered V S segment) (sym read.0) here,
-          row_ordered k at (last_below before c) (at + group_node k) cs read.1 (last_small before c low (are.0).small) are.1 all.2,
+          row_ordered k at (last_below before c) (at + group_node k) cs read.1 (last_small before c low (are.0).small) are.1 all.behind,
         )

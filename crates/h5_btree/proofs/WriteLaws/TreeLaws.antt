@@ -3,7 +3,7 @@ use Rattle.std.proofs.Common.{◌≡◌, ℕ, zero, suc, ◌+◌, ◌-◌, ◌*�
 use Rattle.std.specs.List.{AllByRecursion, Contains, flat_map}
 use Rattle.std.proofs.lemmas.Bool.{cases_lt}
 use Rattle.h5_bytes.specs.Bytes.{part, undefined}
-use Rattle.h5_bytes.proofs.BlockLaws.{all_left, all_right}
+use Rattle.h5_bytes.proofs.BlockLaws.{all_left, all_right, all_so}
 use Rattle.h5_model.specs.Format.Nodes.{HasTree, group_kind, node_at, reading_of, tree_blocks}
 use Rattle.h5_bytes.specs.Blocks.{Run}
 use Rattle.h5_model.specs.Format.PlainLength.{rows_of, nodes_over}
@@ -15,7 +15,7 @@ use Rattle.h5_btree.specs.Writing.Written.{chunks, level_over, as_children, root
 use Rattle.h5_btree.specs.declared.write.child.Child.{Child}
 use Rattle.h5_btree.proofs.WriteLaws.Counts.{nodes_one, nodes_more, level_one, level_more, rows_some, root_level_is}
 use Rattle.h5_btree.proofs.WriteLaws.Levels.{down_to_zero}
-use Rattle.h5_btree.proofs.WriteLaws.Order.{all_map, ordered_at_bottom}
+use Rattle.h5_btree.proofs.WriteLaws.Order.{ordered_at_bottom}
 use Rattle.h5_btree.proofs.WriteLaws.RowReads.{IsPiece, LastsAre, ReadsAt, addresses, addresses-append, addresses_run, length-raised, length-row, part_split, pieces, raised_lasts, raised_small, row_written}
 use Rattle.h5_btree.proofs.WriteLaws.Trees.{IsTree, one_node, row_more, rows_top, rows_more, chunks_short, chunks_filled, length-chunks, flat-chunks, length-rows_bytes}
 
@@ -180,7 +180,7 @@ contained : (cs : List Child) → AllByRecursion (λ (c : Child). Contains (map 
 contained [] = tt
 contained (c ∷ cs) = (
   (0, omega arith, refl),
-  all_map (λ (x : Child). Contains (map (λ (y : Child). y.last) cs) x.last) (λ (x : Child). Contains (map (λ (y : Child). y.last) (c ∷ cs)) x.last) cs
+  all_so (λ (x : Child). Contains (map (λ (y : Child). y.last) cs) x.last) (λ (x : Child). Contains (map (λ (y : Child). y.last) (c ∷ cs)) x.last) cs
       (λ x is. (suc is.0, omega (arith, is.1), is.2)) (contained cs),
 )
 
@@ -194,9 +194,9 @@ tree_reads image k at children some high small low room there =
     let bytes : tree_bytes k at children ≡ rows_bytes 64 k 0 at children = tree_bytes_is k at children in
     let long : length (tree_bytes k at children) ≡ count * group_node k = tree_length k at children some low in
     let reads : ReadsAt image k V owned
-    = all_map (λ a. node_at image (group_kind k) a ≡ V a) (λ a. V a ≡ node_at image (group_kind k) a) owned (λ a e. sym e) (only_here blank (node_at image (group_kind k)) owned) in
+    = all_so (λ a. node_at image (group_kind k) a ≡ V a) (λ a. V a ≡ node_at image (group_kind k) a) owned (λ a e. sym e) (only_here blank (node_at image (group_kind k)) owned) in
     let lasts : LastsAre Q children
-    = all_map (λ (c : Child). Contains (map (λ (x : Child). x.last) children) c.last) (λ (c : Child). Q c.last) children (λ c is. inr is) (contained children) in
+    = all_so (λ (c : Child). Contains (map (λ (x : Child). x.last) children) c.last) (λ (c : Child). Q c.last) children (λ c is. inr is) (contained children) in
     let tree : IsTree image V Q k 0 (level_over 64 (2 * k) (length children)) at children owned
     = grown image V Q (inl refl) k some high 64 0 at children small (omega arith) (omega arith) (subst (λ bs. at + length bs < 2 ^ 63) bytes room)
     (subst (λ bs. part at (length bs) image ≡ bs) bytes there) reads lasts in

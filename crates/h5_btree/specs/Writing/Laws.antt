@@ -1,14 +1,16 @@
 -- What is shown of trees in the plain layout: they read as their children, with the keys between them (File Format Specification 3.0,
 -- section III.A.1).
-use Rattle.std.specs.Prelude.{◌≡◌, ℕ, ◌+◌, ◌*◌, ◌^◌, ◌<◌, ◌≤◌, ◌⊎◌, ⊤, List, [], ◌∷◌, map, length}
+use Rattle.std.specs.Prelude.{◌≡◌, ℕ, ◌+◌, ◌*◌, ◌^◌, ◌<◌, ◌≤◌, ◌⊎◌, List, [], ◌∷◌, map, length}
 use Rattle.std.specs.List.{AllByRecursion, Contains}
 use Rattle.h5_bytes.specs.Bytes.{part}
 use Rattle.h5_bytes.specs.Texts.{text_at}
 use Rattle.h5_bytes.specs.Blocks.{Run}
-use Rattle.h5_model.specs.Format.Links.{Before, NotAfter, Symbols, IsOrdered, names_in, key_offsets}
+use Rattle.h5_model.specs.Format.Links.{Symbols, IsOrdered, names_in, key_offsets}
 use Rattle.h5_model.specs.Format.Nodes.{HasTree, group_kind, reading_of, tree_blocks}
 use Rattle.h5_model.specs.Format.PlainLength.{nodes_over}
 use Rattle.h5_model.specs.Format.Sizes.{group_node}
+use Rattle.h5_laws.specs.Ladders.{IsLadder}
+use Rattle.h5_laws.specs.NameLadders.{name_sides}
 use Rattle.h5_btree.specs.declared.write.child.Child.{Child}
 use Rattle.h5_btree.specs.Writing.Written.{tree_bytes, root_level}
 
@@ -17,12 +19,11 @@ pub record IsChild (c : Child) : Type 0 where
   pub at : c.at < 2 ^ 64
   pub last : c.last < 2 ^ 64
 
--- the names below each child are above the last name before it, and not above its own last name
+-- The names below the children form a ladder, with the name before them and the last name below each: those below a child are above the
+-- last name before it, and not above its own last name.
 abbrev pub AreOrdered : Symbols → List ℕ → ℕ → List Child → Type 0
-AreOrdered S segment before [] = ⊤
-AreOrdered S segment before (c ∷ cs) =
-    AllByRecursion (λ name. Before (text_at segment before) name × NotAfter name (text_at segment c.last)) (names_in S segment (c.at ∷ []))
-    × NotAfter (text_at segment before) (text_at segment c.last) × AreOrdered S segment c.last cs
+AreOrdered S segment before children = IsLadder (name_sides (text_at segment)) (before ∷ map (λ (c : Child). c.last) children)
+    (map (λ (c : Child). names_in S segment (c.at ∷ [])) children)
 
 -- The tree stands at this place, in consecutive nodes; its keys name the empty name or the last name of a child; and it is ordered
 -- wherever its children are.

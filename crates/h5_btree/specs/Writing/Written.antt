@@ -7,6 +7,7 @@ use Rattle.h5_bytes.specs.Numbers.{word}
 use Rattle.h5_model.specs.Format.Plain.{node_bytes_of}
 use Rattle.h5_model.specs.Format.PlainLength.{rows_of, nodes_over}
 use Rattle.h5_model.specs.Format.Sizes.{group_node}
+use Rattle.h5_laws.specs.Ladders.{last_key}
 use Rattle.h5_btree.specs.declared.write.child.Child.{Child}
 
 -- lists of m from the left, the last of which takes the rest; the first number is as many cuts as there may be
@@ -20,8 +21,7 @@ chunks m xs = cut_into_lists (length xs) m xs
 
 -- the last name below these children, or the one before them
 abbrev pub last_below : ℕ → List Child → ℕ
-last_below before [] = before
-last_below before (c ∷ cs) = last_below c.last cs
+last_below before cs = last_key (λ (c : Child). c.last) before cs
 
 -- the address of a node to the right
 abbrev pub right_of : ℕ → ℕ → List (List Child) → ℕ

@@ -13,8 +13,8 @@ use crate::node::Node;
 use h5_model::OpenFault;
 use h5_space::{Claims, Image};
 
-/// What the trees of one form are over: symbol nodes, or chunks.
-pub trait Leaves {
+/// The trees of one form: of groups, or of chunks of some shape.
+pub trait Trees {
     /// The form of the trees.
     ghost form: { Self → TreeForm };
 
@@ -22,7 +22,10 @@ pub trait Leaves {
     fn kind(&self, image: &Image) -> NodeKind
         requires { 20 ≤ length image.now.bytes }
         ensures { result ≡ kind_of image.now.bytes (form self.now) };
+}
 
+/// What the trees of one form are over: symbol nodes, or chunks.
+pub trait Leaves: Trees {
     /// Claims what child `i` of a node of level 0 leads to. The node stands at this address.
     ///
     /// `ChunkKey` at the node where key `i` is none that the leaf may have; else, at the leaf, `Truncated` and
@@ -38,18 +41,19 @@ pub trait Leaves {
         requires end { claims.old.end ≡ length image.now.bytes }
         requires superblock { IsSuperblock image.now.bytes }
         requires keys { AllByRecursion (λ (key : List ℕ).
-            length key ≡ (kind_of image.now.bytes (form self.now)).key_length) node.now.keys }
+            length key ≡ (kind_of image.now.bytes (Self.form self.now)).key_length) node.now.keys }
         requires place { i < length node.now.children }
         requires more { i < length node.now.keys }
-        ensures bottom { OnOk result
-            (IsBottom image.now.bytes (form self.now) (slice_index_or node.now.children i 0)) }
-        ensures keyed { OnOk result (IsKeyedAt (form self.now) node.now i) }
+        ensures bottom { OnOk result (IsBottom image.now.bytes (Self.form self.now)
+            (slice_index_or node.now.children i 0)) }
+        ensures keyed { OnOk result (IsKeyedAt (Self.form self.now) node.now i) }
         ensures claimed { OnOk result
             ((p : ℕ)
             → cover p claims.new.held ≡ cover p claims.old.held
-            + holds p (slice_index_or node.now.children i 0) (leaf_length image.now.bytes (form self.now))) }
+            + holds p (slice_index_or node.now.children i 0)
+            (leaf_length image.now.bytes (Self.form self.now))) }
         ensures separate { OnOk result (Separate claims.new.held) }
         ensures end { claims.new.end ≡ claims.old.end }
-        ensures refused { IfErr result (λ fault. IsLeafRefused image.now.bytes (form self.now) claims.old.held
-            at node.now i fault.cause fault.address) };
+        ensures refused { IfErr result (λ fault. IsLeafRefused image.now.bytes (Self.form self.now)
+            claims.old.held at node.now i fault.cause fault.address) };
 }

@@ -13,7 +13,7 @@ ghost use Rattle.h5_btree.specs.Walk.Refused.{IsRefusedFor};
 
 use crate::node::Node;
 use crate::read::read_node;
-use crate::walk::leaves::Leaves;
+use crate::walk::leaves::Trees;
 use h5_bytes::Block;
 use h5_model::{Cause, OpenFault};
 use h5_space::{Claims, Image, claim, fault};
@@ -21,33 +21,33 @@ use h5_space::{Claims, Image, claim, fault};
 /// Claims the root of a tree.
 ///
 /// `NodeForm` where it is none, or cannot be a root.
-pub(crate) fn claim_root<'a, L: Leaves>(
+pub(crate) fn claim_root<'a, T: Trees>(
     image: &'a Image,
     claims: &mut Claims,
-    over: &L,
+    over: &T,
     at: u64,
 ) -> Result<Node<'a>, OpenFault>
     requires end { claims.old.end ≡ length image.now.bytes }
     requires superblock { IsSuperblock image.now.bytes }
-    ensures node { IfOk result (λ node. node ≡ reading_in image.now.bytes (L.form over.now) at) }
+    ensures node { IfOk result (λ node. node ≡ reading_in image.now.bytes (T.form over.now) at) }
     ensures keys { IfOk result (λ node. AllByRecursion (λ (key : List ℕ).
-        length key ≡ (kind_of image.now.bytes (L.form over.now)).key_length) node.keys) }
+        length key ≡ (kind_of image.now.bytes (T.form over.now)).key_length) node.keys) }
     ensures low { IfOk result (λ node. node.level ≤ 15) }
-    ensures stands { IfOk result (λ node. IsStanding image.now.bytes (L.form over.now) node.level at) }
+    ensures stands { IfOk result (λ node. IsStanding image.now.bytes (T.form over.now) node.level at) }
     ensures filled { IfOk result (λ node. 1 ≤ node.level → 1 ≤ entries_in
-        (node_bytes image.now.bytes (kind_of image.now.bytes (L.form over.now)) at)) }
+        (node_bytes image.now.bytes (kind_of image.now.bytes (T.form over.now)) at)) }
     ensures claimed { OnOk result
         ((p : ℕ)
         → cover p claims.new.held ≡ cover p claims.old.held
-        + holds p at (node_length (kind_of image.now.bytes (L.form over.now)))) }
+        + holds p at (node_length (kind_of image.now.bytes (T.form over.now)))) }
     ensures separate { OnOk result (Separate claims.new.held) }
     ensures end { claims.new.end ≡ claims.old.end }
     ensures address { IfErr result (λ fault. fault.address ≡ at) }
     ensures refused { IfErr result (λ fault. IsRefusedFor
-        (NodeBreach image.now.bytes (kind_of image.now.bytes (L.form over.now)) at
-        (reading_in image.now.bytes (L.form over.now) at).level at)
+        (NodeBreach image.now.bytes (kind_of image.now.bytes (T.form over.now)) at
+        (reading_in image.now.bytes (T.form over.now) at).level at)
         (length image.now.bytes) claims.old.held
-        (node_block (kind_of image.now.bytes (L.form over.now)) at) fault.cause) }
+        (node_block (kind_of image.now.bytes (T.form over.now)) at) fault.cause) }
 {
     let node = claim_node(image, claims, over, at)?;
     if node.check_root().is_err() {
@@ -59,31 +59,31 @@ pub(crate) fn claim_root<'a, L: Leaves>(
 /// Claims a node below the root, which is to be of this level.
 ///
 /// `NodeForm` where it is none, has another level, or has no child.
-pub(crate) fn claim_inner<'a, L: Leaves>(
+pub(crate) fn claim_inner<'a, T: Trees>(
     image: &'a Image,
     claims: &mut Claims,
-    over: &L,
+    over: &T,
     at: u64,
     level: u8,
 ) -> Result<Node<'a>, OpenFault>
     requires end { claims.old.end ≡ length image.now.bytes }
     requires superblock { IsSuperblock image.now.bytes }
-    ensures node { IfOk result (λ node. node ≡ reading_in image.now.bytes (L.form over.now) at) }
+    ensures node { IfOk result (λ node. node ≡ reading_in image.now.bytes (T.form over.now) at) }
     ensures keys { IfOk result (λ node. AllByRecursion (λ (key : List ℕ).
-        length key ≡ (kind_of image.now.bytes (L.form over.now)).key_length) node.keys) }
-    ensures inner { OnOk result (IsInner image.now.bytes (L.form over.now) level at) }
+        length key ≡ (kind_of image.now.bytes (T.form over.now)).key_length) node.keys) }
+    ensures inner { OnOk result (IsInner image.now.bytes (T.form over.now) level at) }
     ensures claimed { OnOk result
         ((p : ℕ)
         → cover p claims.new.held ≡ cover p claims.old.held
-        + holds p at (node_length (kind_of image.now.bytes (L.form over.now)))) }
+        + holds p at (node_length (kind_of image.now.bytes (T.form over.now)))) }
     ensures separate { OnOk result (Separate claims.new.held) }
     ensures end { claims.new.end ≡ claims.old.end }
     ensures address { IfErr result (λ fault. fault.address ≡ at) }
     ensures refused { IfErr result (λ fault. IsRefusedFor
         ((root : ℕ) → 1 ≤ cover root claims.old.held
-        → NodeBreach image.now.bytes (kind_of image.now.bytes (L.form over.now)) root level at)
+        → NodeBreach image.now.bytes (kind_of image.now.bytes (T.form over.now)) root level at)
         (length image.now.bytes) claims.old.held
-        (node_block (kind_of image.now.bytes (L.form over.now)) at) fault.cause) }
+        (node_block (kind_of image.now.bytes (T.form over.now)) at) fault.cause) }
 {
     let node = claim_node(image, claims, over, at)?;
     if node.check_level(level).is_err() {
@@ -94,33 +94,33 @@ pub(crate) fn claim_inner<'a, L: Leaves>(
 
 /// Claims a node, of any level.
 #[tactic(auto, using(crate::proofs::WalkLaws::NodeFaults::unclaimed_for))]
-fn claim_node<'a, L: Leaves>(
+fn claim_node<'a, T: Trees>(
     image: &'a Image,
     claims: &mut Claims,
-    over: &L,
+    over: &T,
     at: u64,
 ) -> Result<Node<'a>, OpenFault>
     requires end { claims.old.end ≡ length image.now.bytes }
     requires superblock { IsSuperblock image.now.bytes }
-    ensures node { IfOk result (λ node. node ≡ reading_in image.now.bytes (L.form over.now) at) }
+    ensures node { IfOk result (λ node. node ≡ reading_in image.now.bytes (T.form over.now) at) }
     ensures keys { IfOk result (λ node. AllByRecursion (λ (key : List ℕ).
-        length key ≡ (kind_of image.now.bytes (L.form over.now)).key_length) node.keys) }
-    ensures form { OnOk result (IsNode (kind_of image.now.bytes (L.form over.now))
-        (node_bytes image.now.bytes (kind_of image.now.bytes (L.form over.now)) at)) }
+        length key ≡ (kind_of image.now.bytes (T.form over.now)).key_length) node.keys) }
+    ensures form { OnOk result (IsNode (kind_of image.now.bytes (T.form over.now))
+        (node_bytes image.now.bytes (kind_of image.now.bytes (T.form over.now)) at)) }
     ensures inside { OnOk result
-        (at + node_length (kind_of image.now.bytes (L.form over.now)) ≤ length image.now.bytes) }
+        (at + node_length (kind_of image.now.bytes (T.form over.now)) ≤ length image.now.bytes) }
     ensures claimed { OnOk result
         ((p : ℕ)
         → cover p claims.new.held ≡ cover p claims.old.held
-        + holds p at (node_length (kind_of image.now.bytes (L.form over.now)))) }
+        + holds p at (node_length (kind_of image.now.bytes (T.form over.now)))) }
     ensures separate { OnOk result (Separate claims.new.held) }
     ensures end { claims.new.end ≡ claims.old.end }
     ensures address { IfErr result (λ fault. fault.address ≡ at) }
     ensures refused { IfErr result (λ fault. IsRefusedFor
-        (BreaksForm (kind_of image.now.bytes (L.form over.now))
-        (node_bytes image.now.bytes (kind_of image.now.bytes (L.form over.now)) at))
+        (BreaksForm (kind_of image.now.bytes (T.form over.now))
+        (node_bytes image.now.bytes (kind_of image.now.bytes (T.form over.now)) at))
         (length image.now.bytes) claims.old.held
-        (node_block (kind_of image.now.bytes (L.form over.now)) at) fault.cause) }
+        (node_block (kind_of image.now.bytes (T.form over.now)) at) fault.cause) }
 {
     let kind = over.kind(image);
     let len = kind.node_length() as u64;

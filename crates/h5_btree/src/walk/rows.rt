@@ -12,7 +12,7 @@ ghost use Rattle.h5_btree.specs.Walk.Rows.{AreAllRows, IsLevel, IsMisnamed};
 ghost use Rattle.h5_btree.specs.Walk.Stands.{IsTreeAt, leaves_at};
 
 use crate::node::Node;
-use crate::walk::leaves::Leaves;
+use crate::walk::leaves::Trees;
 use crate::walk::read::Tree;
 use crate::walk::stands::tree_node;
 use h5_bytes::UNDEF;
@@ -23,20 +23,20 @@ use std::alloc::{AllocError, Global};
 /// Lists the rows of a tree that was claimed, from its root, of this level, down to the leaves.
 ///
 /// `Sibling` at the first node that does not name its neighbours; `NoMemory`, at the root.
-pub(crate) fn read_rows<L: Leaves>(
+pub(crate) fn read_rows<T: Trees>(
     alloc: Global,
     image: &Image,
-    over: &L,
+    over: &T,
     root: u64,
     level: u8,
 ) -> Result<Tree, OpenFault>
     requires superblock { IsSuperblock image.now.bytes }
-    requires read { IsLevel image.now.bytes (L.form over.now) level (root ∷ []) }
+    requires read { IsLevel image.now.bytes (T.form over.now) level (root ∷ []) }
     ensures rows { IfOk result (λ t.
-        AreAllRows image.now.bytes (L.form over.now) root level t.nodes.items t.leaves.items) }
+        AreAllRows image.now.bytes (T.form over.now) root level t.nodes.items t.leaves.items) }
     ensures refused { IfErr result (λ fault. (fault.cause ≡ Cause.NoMemory)
         ⊎ ((fault.cause ≡ Cause.Sibling)
-        × SiblingBreach image.now.bytes (kind_of image.now.bytes (L.form over.now)) root fault.address)) }
+        × SiblingBreach image.now.bytes (kind_of image.now.bytes (T.form over.now)) root fault.address)) }
 {
     let mut nodes = Vec::new(alloc);
     let mut row = Vec::new(alloc);
@@ -64,15 +64,15 @@ pub(crate) fn read_rows<L: Leaves>(
 }
 
 /// `Sibling` at the first node of a row that does not name its neighbours.
-fn check_siblings<L: Leaves>(image: &Image, over: &L, row: &[u64]) -> Result<(), OpenFault>
+fn check_siblings<T: Trees>(image: &Image, over: &T, row: &[u64]) -> Result<(), OpenFault>
     requires superblock { IsSuperblock image.now.bytes }
     requires stand { (level : ℕ)
-        × AllByRecursion (IsStanding image.now.bytes (L.form over.now) level) row.now }
+        × AllByRecursion (IsStanding image.now.bytes (T.form over.now) level) row.now }
     ensures named { OnOk result ((level : ℕ)
-        → AllByRecursion (IsStanding image.now.bytes (L.form over.now) level) row.now
-        → IsRow (reading_in image.now.bytes (L.form over.now)) level undefined row.now) }
+        → AllByRecursion (IsStanding image.now.bytes (T.form over.now) level) row.now
+        → IsRow (reading_in image.now.bytes (T.form over.now)) level undefined row.now) }
     ensures refused { IfErr result (λ fault. (fault.cause ≡ Cause.Sibling)
-        × IsMisnamed (reading_in image.now.bytes (L.form over.now)) row.now fault.address) }
+        × IsMisnamed (reading_in image.now.bytes (T.form over.now)) row.now fault.address) }
 {
     let mut left = UNDEF;
     for (k, &at) in row.iter().enumerate() {
@@ -101,15 +101,15 @@ fn right_of(row: &[u64], k: usize) -> u64
 /// The leaves of a tree that was read before, from left to right.
 ///
 /// Goes down from its root row by row, and takes memory for a row and the one below it.
-pub fn tree_leaves<L: Leaves>(
+pub fn tree_leaves<T: Trees>(
     alloc: Global,
     image: &Image,
-    over: &L,
+    over: &T,
     root: u64,
 ) -> Result<Vec<u64>, AllocError>
     requires long { 20 ≤ length image.now.bytes }
-    requires there { IsTreeAt image.now.bytes (L.form over.now) root }
-    ensures { IfOk result (λ found. found.items ≡ leaves_at image.now.bytes (L.form over.now) root) }
+    requires there { IsTreeAt image.now.bytes (T.form over.now) root }
+    ensures { IfOk result (λ found. found.items ≡ leaves_at image.now.bytes (T.form over.now) root) }
 {
     let mut row = Vec::new(alloc);
     row.push(root)?;
@@ -124,17 +124,17 @@ pub fn tree_leaves<L: Leaves>(
 }
 
 /// The children of a row, in order: the next row.
-fn children_of<L: Leaves>(
+fn children_of<T: Trees>(
     alloc: Global,
     image: &Image,
-    over: &L,
+    over: &T,
     row: &[u64],
 ) -> Result<Vec<u64>, AllocError>
     requires long { 20 ≤ length image.now.bytes }
     requires stand { (level : ℕ)
-        × AllByRecursion (IsStanding image.now.bytes (L.form over.now) level) row.now }
+        × AllByRecursion (IsStanding image.now.bytes (T.form over.now) level) row.now }
     ensures { IfOk result (λ next.
-        next.items ≡ next_row (reading_in image.now.bytes (L.form over.now)) row.now) }
+        next.items ≡ next_row (reading_in image.now.bytes (T.form over.now)) row.now) }
 {
     let mut next = Vec::new(alloc);
     for &at in row {

@@ -8,14 +8,14 @@ ghost use Rattle.h5_btree.specs.Walk.Stands.{IsNodeAt};
 
 use crate::node::Node;
 use crate::read::read_node;
-use crate::walk::leaves::Leaves;
+use crate::walk::leaves::Trees;
 use h5_space::Image;
 
-/// The node of a tree over these leaves at this address. Takes no memory.
-pub fn tree_node<'a, L: Leaves>(image: &'a Image, over: &L, at: u64) -> Node<'a>
+/// The node of a tree of this form at this address. Takes no memory.
+pub fn tree_node<'a, T: Trees>(image: &'a Image, over: &T, at: u64) -> Node<'a>
     requires long { 20 ≤ length image.now.bytes }
-    requires there { IsNodeAt image.now.bytes (L.form over.now) at }
-    ensures { result ≡ node_at image.now.bytes (kind_of image.now.bytes (L.form over.now)) at }
+    requires there { IsNodeAt image.now.bytes (T.form over.now) at }
+    ensures { result ≡ node_at image.now.bytes (kind_of image.now.bytes (T.form over.now)) at }
 {
     let kind = over.kind(image);
     let bytes = image.part(at, kind.node_length() as u64).unwrap();

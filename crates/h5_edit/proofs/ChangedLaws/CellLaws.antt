@@ -2,15 +2,17 @@
 use Rattle.std.proofs.Common.{◌≡◌, ◌≢◌, ℕ, ◌*◌, List, Bor, length, Bool, true, false, refl, sym, ap, ◌∙◌, subst}
 use Rattle.std.specs.Prelude.{◌&&◌, is_some, nat_lt}
 use Rattle.std.specs.FinMap.{empty}
+use Rattle.std.proofs.lemmas.Option.{option_and_then_some}
 use Rattle.h5_model.specs.Format.Fixed.{Fixed, IsFixed}
-use Rattle.h5_model.specs.Format.Messages.{Message}
+use Rattle.h5_model.specs.Format.Messages.{Message, first_body}
 use Rattle.h5_model.specs.Format.Plain.{cells_bytes}
 use Rattle.h5_model.specs.Format.Reads.{storage_of}
 use Rattle.h5_model.specs.Scripts.Answers.{stored_values}
 use Rattle.h5_model.specs.Tree.Objects.{Dataset, Contiguous}
 use Rattle.h5_model.specs.Tree.Places.{cells}
 use Rattle.h5_model.proofs.StoredValues.{stored-cells_bytes}
-use Rattle.h5_query.specs.Described.{Described, described_dataset}
+use Rattle.h5_query.specs.Described.{Described, HasArray, described_dataset}
+use Rattle.h5_query.proofs.FillLaws.{type_sound}
 use Rattle.h5_query.specs.Kept.{array_dataset}
 use Rattle.h5_query.specs.Opened.Judged.{IsArrayList}
 use Rattle.h5_query.specs.Stored.{AreFilled, AreStored}
@@ -21,7 +23,9 @@ use Rattle.h5_repack.specs.declared.blocks.cells.Cells.{Cells}
 use Rattle.h5_repack.specs.declared.blocks.cells.Cells.TheVariants.{Stored, Unset}
 use Rattle.h5_repack.proofs.BlockLaws.ValueBytes.{values_there}
 use Rattle.h5_edit.specs.Fits.Laws.{AreBytes}
-use Rattle.h5_edit.proofs.FitLaws.PlainArrays.{type_read}
+
+type_read : (ms : List Message) (a : Described) → HasArray ms a → IsFixed a.fixed
+type_read ms a has = option_and_then_some _ (first_body 3 ms) a.fixed has.type (λ body there is. type_sound body a.fixed is)
 
 -- bytes of so many cells are those of the values that they store
 pub bytes_of_stored : (t : Fixed) (count : ℕ) (bytes : List ℕ) → IsFixed t → AreBytes bytes → length bytes ≡ count * t.size → bytes ≡ cells_bytes t (stored_values t bytes)

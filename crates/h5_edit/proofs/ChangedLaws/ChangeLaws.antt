@@ -1,10 +1,9 @@
 -- What a change makes of the objects of a tree, one by one.
-use Rattle.std.proofs.lemmas.List.{append-nil, length-map, take_all}
-use Rattle.std.proofs.Math.Seq.{take-suc}
-use Rattle.std.proofs.Common.{◌≡◌, ℕ, suc, ◌+◌, ◌≤◌, map, take, length-append, List, [], ◌∷◌, ◌++◌, length, Bool, true, false, cond, Option, Some, None, refl, sym, ap, ◌∙◌, subst, arith}
+use Rattle.std.proofs.lemmas.List.{append-nil, length-map}
+use Rattle.std.proofs.Common.{◌≡◌, ℕ, ◌+◌, ◌<◌, ◌≤◌, inl, inr, length-append, List, [], ◌∷◌, ◌++◌, length, Bool, true, false, cond, Option, Some, None, refl, sym, ap, ◌∙◌, subst, arith}
 use Rattle.std.specs.Borrow.{Bor}
-use Rattle.std.specs.Prelude.{◌==◌, slice_get, if◌then◌else◌, option_map, option_to_list}
-use Rattle.std.specs.Option.{IfSome, option_and_then}
+use Rattle.std.specs.Prelude.{◌==◌, IsSome, slice_get, if◌then◌else◌, option_map, option_to_list}
+use Rattle.std.specs.Option.{IfSome, option_and_then, option_flatten}
 use Rattle.std.specs.List.{AllByRecursion, AllZip}
 use Rattle.std.specs.Ordering.{nat_cmp}
 use Rattle.std.specs.Cmp.{nat_cmp_total, unsigned_tied}
@@ -12,19 +11,18 @@ use Rattle.std.specs.Cmp.Lexicographic.{slice_cmp, nat_list_cmp_total}
 use Rattle.std.specs.declared.cmp.Ordering.TheVariants.{Less, Equal, Greater}
 use Rattle.std.specs.FinMap.{get, insert, remove, empty, entries, put, get-insert, entries-insert, nat_cmp-IsAntisymmetric, slice_cmp-IsAntisymmetric}
 use Rattle.std.specs.FinMap.Entries.{by_order}
+use Rattle.std.proofs.lemmas.Bool.{cases_lt}
 use Rattle.std.proofs.lemmas.Bool.Decides.{nat_tests}
-use Rattle.std.proofs.lemmas.Option.{same_Some, slice_get-map, slice_get_within, get_or_from_slice_get}
+use Rattle.std.proofs.lemmas.Option.{same_Some, slice_get_past}
+use Rattle.std.proofs.lemmas.Slice.Zip.{AllZip-long}
 use Rattle.h5_repack.specs.Image.Plain.{IsPlain, ArePlain}
 use Rattle.h5_model.specs.Edits.Applied.{attribute_from, with_attributes, with_links, new_object, new_dataset}
 use Rattle.h5_model.specs.Tree.Objects.{Tree, Object, Content, Link, Links, Group, Array, with_object, links_in}
 use Rattle.h5_model.specs.declared.attribute.AttrSpec.{AttrSpec}
 use Rattle.h5_repack.specs.Bodies.Sound.{IsPlainAttribute}
 use Rattle.h5_model.specs.Tree.Links.{tree_target}
-use Rattle.h5_repack.specs.Objects.Objects.{AreObjects, IsNewObject}
+use Rattle.h5_repack.specs.Objects.Objects.{AreObjects, IsNewObject, SlotsHold}
 use Rattle.h5_repack.specs.declared.objects.object.NewObject.{NewObject}
-use Rattle.h5_query.specs.Opened.Objects.{headers, object_in, tree_of}
-use Rattle.h5_query.specs.OpenedObjectType.{OpenedObject}
-use Rattle.h5_query.proofs.OpenedLaws.Entries.{get_tree}
 use Rattle.h5_edit.specs.Changed.Change.{IsPlainChange, changed, with_link, with_target}
 use Rattle.h5_edit.specs.Changed.Edited.{IsEditOf, IsEditable, IsFresh, edit_at, edited, edited_by, new_link, new_objects, new_target}
 use Rattle.h5_edit.specs.declared.change.change.Change.{Change}
@@ -33,7 +31,8 @@ use Rattle.h5_edit.specs.declared.change.change.Target.{Target}
 use Rattle.h5_edit.specs.declared.change.change.Target.TheVariants as target
 use Rattle.h5_edit.specs.declared.change.edit.ObjectEdit.{ObjectEdit}
 use Rattle.h5_edit.specs.declared.change.edit.ObjectEdit.TheVariants as edit
-use Rattle.h5_edit.proofs.ChangedLaws.NumberedLaws.{at_place, at_places, get_changed, length-at_places, numbered_more, numbered_with, slice_get-at_places, with_new, zip_append}
+use Rattle.h5_edit.specs.Fitting.{made_by, made_in}
+use Rattle.h5_edit.proofs.ChangedLaws.NumberedLaws.{at_place, at_places, at_places-append, filled_slots, found_one_more, get_changed, length-at_places, numbered_more, numbered_with, with_new, zip_append, zip_filled}
 
 -- ---- the changed tree
 
@@ -73,26 +72,30 @@ changed_is tree (Remove object name) number place (edit.RemoveAttr n) (p, q) = r
 
 -- ---- its numbers
 
-more_numbered : (tree : Tree) (os : List Object) (numbered : (k : ℕ) → get tree k ≡ slice_get os k) (number : ℕ) (t : Target) → number ≡ length os
-    → (k : ℕ) → get (with_new tree number (new_target t)) k ≡ slice_get (os ++ new_target t) k
-more_numbered tree os numbered number target.Group is k = numbered_more tree os numbered number (new_object (Group empty)) is k
-more_numbered tree os numbered number (target.Array spec) is k = numbered_more tree os numbered number (new_object (Array (new_dataset spec.now))) is k
-more_numbered tree os numbered number (target.Object other) is k = numbered k ∙ sym (ap (λ (xs : List Object). slice_get xs k) (append-nil os))
-more_numbered tree os numbered number (target.Text text) is k = numbered k ∙ sym (ap (λ (xs : List Object). slice_get xs k) (append-nil os))
+-- the slots have the objects of a tree by their numbers
+abbrev AreNumbered : Tree → List (Option Object) → Type 0
+AreNumbered tree slots = (k : ℕ) → get tree k ≡ option_flatten (slice_get slots k)
 
-new_numbered : (change : Change) (tree : Tree) (os : List Object) (numbered : (k : ℕ) → get tree k ≡ slice_get os k) (number : ℕ) → number ≡ length os
-    → (k : ℕ) → get (with_new tree number (new_objects change)) k ≡ slice_get (os ++ new_objects change) k
-new_numbered (Linked parent name t) tree os numbered number is k = more_numbered tree os numbered number t is k
-new_numbered (Set object attr) tree os numbered number is k = numbered k ∙ sym (ap (λ (xs : List Object). slice_get xs k) (append-nil os))
-new_numbered (Remove object name) tree os numbered number is k = numbered k ∙ sym (ap (λ (xs : List Object). slice_get xs k) (append-nil os))
+more_numbered : (tree : Tree) (slots : List (Option Object)) → AreNumbered tree slots → (number : ℕ) (t : Target) → number ≡ length slots
+    → AreNumbered (with_new tree number (new_target t)) (slots ++ filled_slots (new_target t))
+more_numbered tree slots numbered number target.Group is k = numbered_more tree slots numbered number (new_object (Group empty)) is k
+more_numbered tree slots numbered number (target.Array spec) is k = numbered_more tree slots numbered number (new_object (Array (new_dataset spec.now))) is k
+more_numbered tree slots numbered number (target.Object other) is k = numbered k ∙ sym (ap (λ (xs : List (Option Object)). option_flatten (slice_get xs k)) (append-nil slots))
+more_numbered tree slots numbered number (target.Text text) is k = numbered k ∙ sym (ap (λ (xs : List (Option Object)). option_flatten (slice_get xs k)) (append-nil slots))
+
+new_numbered : (change : Change) (tree : Tree) (slots : List (Option Object)) → AreNumbered tree slots → (number : ℕ) → number ≡ length slots
+    → AreNumbered (with_new tree number (new_objects change)) (slots ++ filled_slots (new_objects change))
+new_numbered (Linked parent name t) tree slots numbered number is k = more_numbered tree slots numbered number t is k
+new_numbered (Set object attr) tree slots numbered number is k = numbered k ∙ sym (ap (λ (xs : List (Option Object)). option_flatten (slice_get xs k)) (append-nil slots))
+new_numbered (Remove object name) tree slots numbered number is k = numbered k ∙ sym (ap (λ (xs : List (Option Object)). option_flatten (slice_get xs k)) (append-nil slots))
 
 module _ (tree : Tree) (change : Change) (number place : ℕ) (e : ObjectEdit) (is : IsEditOf change number place e) where
-  pub numbered_changed : (os : List Object) → ((k : ℕ) → get tree k ≡ slice_get os k) → number ≡ length os
-      → (k : ℕ) → get (changed tree change number) k ≡ slice_get (at_places 0 place (edited e) os ++ new_objects change) k
-  numbered_changed os numbered counted k =
+  pub numbered_changed : (slots : List (Option Object)) → AreNumbered tree slots → number ≡ length slots
+      → AreNumbered (changed tree change number) (at_places 0 place (edited e) slots ++ filled_slots (new_objects change))
+  numbered_changed slots numbered counted k =
       ap (λ x. get x k) (changed_is tree change number place e is)
-      ∙ new_numbered change (with_object tree place (edited e)) (at_places 0 place (edited e) os) (numbered_with tree os numbered place (edited e)) number
-      (counted ∙ sym (length-at_places 0 place (edited e) os)) k
+      ∙ new_numbered change (with_object tree place (edited e)) (at_places 0 place (edited e) slots) (numbered_with tree slots numbered place (edited e)) number
+      (counted ∙ sym (length-at_places 0 place (edited e) slots)) k
 
 -- ---- what can be written
 
@@ -171,59 +174,87 @@ editable_at e place number o can = by_test (number == place) refl where
 
 -- ---- the list of them
 
-module _ (image : List ℕ) (objects : List OpenedObject) (place : ℕ) (change : Object → Object) where
-  -- the objects of the tree with the one of this number changed
-  abbrev pub edited_objects : List Object
-  edited_objects = at_places 0 place change (map (object_in image (headers objects)) objects)
+-- the first so many slots of a tree, with the object of this number changed, were written
+pub record AreWritten (tree : Tree) (place : ℕ) (change : Object → Object) (written : List (Option NewObject)) (n : ℕ) : Type 0 where
+  pub listed : List (Option Object)
+  pub counted : length listed ≡ n
+  pub numbered : (k : ℕ) → k < n → get tree k ≡ option_flatten (slice_get listed k)
+  pub each : AllZip (SlotsHold IsNewObject) written (at_places 0 place change listed)
 
-  pub edited_there : (k : ℕ) (o : OpenedObject) → slice_get objects k ≡ Some o → slice_get edited_objects k ≡ Some (at_place k place change (object_in image (headers objects) o))
-  edited_there k o at =
-      slice_get-at_places 0 place change (map (object_in image (headers objects)) objects) k
-      ∙ ap (λ n. option_map (at_place n place change) (slice_get (map (object_in image (headers objects)) objects) k)) (omega arith)
-      ∙ ap (option_map (at_place k place change)) (slice_get-map (object_in image (headers objects)) objects k ∙ ap (option_map (object_in image (headers objects))) at)
+pub none_written : (tree : Tree) (place : ℕ) (change : Object → Object) → AreWritten tree place change [] 0
+none_written tree place change = record { listed = []; counted = refl; numbered = λ k low. absurd (omega (arith, low)); each = tt }
 
-  pub length-edited : length edited_objects ≡ length objects
-  length-edited = length-at_places 0 place change (map (object_in image (headers objects)) objects) ∙ length-map objects (object_in image (headers objects))
+-- what the edit of one number makes of its slot
+slot_at : (e : ObjectEdit) (place n : ℕ) (found : Option Object) (own : Option ObjectEdit) → own ≡ edit_at e place n
+    → option_map (edited_by own) found ≡ option_map (at_place n place (edited e)) found
+slot_at e place n None own is = refl
+slot_at e place n (Some o) own is = ap (λ (f : Option ObjectEdit). Some (edited_by f o)) is ∙ ap (λ (x : Object). Some x) (edited_at e place n o)
 
-  -- of the first so many objects each was written
-  pub record AreWritten (written : List NewObject) (n : ℕ) : Type 0 where
-    pub counted : length written ≡ n
-    pub each : AllZip IsNewObject written (take n edited_objects)
+pub written_more : (tree : Tree) (place : ℕ) (e : ObjectEdit) (written more : List (Option NewObject)) (n : ℕ) (own : Option ObjectEdit) (slot : Option NewObject)
+    → AreWritten tree place (edited e) written n → own ≡ edit_at e place n → SlotsHold IsNewObject slot (option_map (edited_by own) (get tree n))
+    → more ≡ written ++ slot ∷ [] → AreWritten tree place (edited e) more (n + 1)
+written_more tree place e written more n own slot so is here longer =
+    let os : List (Option Object) = so.listed in
+    let found : Option Object = get tree n in
+    let same : option_map (edited_by own) found ≡ option_map (at_place (0 + length os) place (edited e)) found
+    = slot_at e place n found own is ∙ ap (λ m. option_map (at_place m place (edited e)) found) (sym so.counted ∙ omega arith) in
+    let zipped : AllZip (SlotsHold IsNewObject) (written ++ slot ∷ []) (at_places 0 place (edited e) os ++ option_map (at_place (0 + length os) place (edited e)) found ∷ [])
+    = zip_append (SlotsHold IsNewObject) written (slot ∷ []) (at_places 0 place (edited e) os) (option_map (at_place (0 + length os) place (edited e)) found ∷ []) so.each
+    (subst (SlotsHold IsNewObject slot) same here, tt) in
+    subst (λ list. AreWritten tree place (edited e) list (n + 1)) (sym longer) (record {
+      listed = os ++ found ∷ [];
+      counted = length-append os (found ∷ []) ∙ ap (λ m. m + 1) so.counted;
+      numbered = one_more;
+      each = subst (AllZip (SlotsHold IsNewObject) (written ++ slot ∷ [])) (sym (at_places-append 0 place (edited e) os found)) zipped;
+    }) where
+      one_more : (k : ℕ) → k < n + 1 → get tree k ≡ option_flatten (slice_get (so.listed ++ get tree n ∷ []) k)
+      one_more k low = by_test (k == length so.listed) refl ∙ sym (found_one_more so.listed (get tree n) k) where
+        by_test : (b : Bool) → (k == length so.listed) ≡ b → get tree k ≡ cond b (get tree n) (option_flatten (slice_get so.listed k))
+        by_test true last =
+            let long = so.counted in
+            let here : k ≡ n = grind (arith, nat_tests, last, long) in
+            ap (get tree) here
+        by_test false other = let long = so.counted in so.numbered k (grind (arith, nat_tests, other, low, long))
 
-zip_next : {A B : Type 0} (R : A → B → Type 0) (xs : List A) (ys : List B) (i : ℕ) (x : A) (y : B) → slice_get ys i ≡ Some y → AllZip R xs (take i ys) → R x y
-    → AllZip R (xs ++ x ∷ []) (take (i + 1) ys)
-zip_next R xs ys i x y at each here =
-    let next : i + 1 ≡ suc i = omega arith in
-    let same : take (i + 1) ys ≡ take i ys ++ y ∷ [] = ap (λ n. take n ys) next ∙ take-suc ys i y (slice_get_within ys i y at)
-    ∙ ap (λ d. take i ys ++ d ∷ []) (get_or_from_slice_get ys i y y at) in
-    subst (AllZip R (xs ++ x ∷ [])) (sym same) (zip_append R xs (x ∷ []) (take i ys) (y ∷ []) each (here, tt))
+made_counted : (t : Target) → length (new_target t) ≡ made_by t
+made_counted target.Group = refl
+made_counted (target.Array spec) = refl
+made_counted (target.Object other) = refl
+made_counted (target.Text text) = refl
 
-pub written_more : (image : List ℕ) (objects : List OpenedObject) (place : ℕ) (e : ObjectEdit) (written more : List NewObject) (i : ℕ) (o : OpenedObject) (own : Option ObjectEdit) (x : NewObject)
-    → AreWritten image objects place (edited e) written i → slice_get objects i ≡ Some o → own ≡ edit_at e place (length written)
-    → IsNewObject x (edited_by own (object_in image (headers objects) o)) → more ≡ written ++ x ∷ [] → AreWritten image objects place (edited e) more (i + 1)
-written_more image objects place e written more i o own x so at is here longer =
-    let object : Object = object_in image (headers objects) o in
-    let same : edited_by own object ≡ at_place i place (edited e) object
-    = ap (λ f. edited_by f object) (is ∙ ap (edit_at e place) so.counted) ∙ edited_at e place i object in
-    subst (λ list. AreWritten image objects place (edited e) list (i + 1)) (sym longer) (record {
-      counted = length-append written (x ∷ []) ∙ ap (λ n. n + 1) so.counted;
-      each = zip_next IsNewObject written (edited_objects image objects place (edited e)) i x (at_place i place (edited e) object) (edited_there image objects place (edited e) i o at) so.each
-          (subst (IsNewObject x) same here);
-    })
+new_counted : (change : Change) → length (new_objects change) ≡ made_in change
+new_counted (Linked parent name t) = made_counted t
+new_counted (Set object attr) = refl
+new_counted (Remove object name) = refl
 
--- all objects with the new ones behind them are those of the changed tree
-pub all_written : (image : List ℕ) (objects : List OpenedObject) (change : Change) (place : ℕ) (e : ObjectEdit) → IsEditOf change (length objects) place e
-    → (written all : List NewObject) (n : ℕ) (more : Option NewObject) → AreWritten image objects place (edited e) written n → length objects ≤ n
-    → AllZip IsNewObject (option_to_list more) (new_objects change) → all ≡ written ++ option_to_list more
-    → AreObjects all (changed (tree_of image objects) change (length objects))
-all_written image objects change place e is written all n more so high new longer =
-    let whole : take n (edited_objects image objects place (edited e)) ≡ edited_objects image objects place (edited e)
-    = take_all n (edited_objects image objects place (edited e)) (omega (arith, high, length-edited image objects place (edited e))) in
-    record {
-      listed = edited_objects image objects place (edited e) ++ new_objects change;
-      numbered = numbered_changed (tree_of image objects) change (length objects) place e is (map (object_in image (headers objects)) objects) (get_tree image objects)
-          (sym (length-map objects (object_in image (headers objects))));
-      each = subst (λ list. AllZip IsNewObject list (edited_objects image objects place (edited e) ++ new_objects change)) (sym longer)
-          (zip_append IsNewObject written (option_to_list more) (edited_objects image objects place (edited e)) (new_objects change)
-          (subst (AllZip IsNewObject written) whole so.each) new);
-    }
+module _ (tree : Tree) (change : Change) (next place : ℕ) (e : ObjectEdit) (is : IsEditOf change next place e) (written all : List (Option NewObject)) (more : Option NewObject)
+    (so : AreWritten tree place (edited e) written next) (new : AllZip IsNewObject (option_to_list more) (new_objects change))
+    (longer : all ≡ written ++ filled_slots (option_to_list more)) where
+  -- they are so many
+  pub all_counted : length all ≡ next + made_in change
+  all_counted =
+      let first = AllZip-long (SlotsHold IsNewObject) written (at_places 0 place (edited e) so.listed) so.each in
+      let rest = AllZip-long IsNewObject (option_to_list more) (new_objects change) new in
+      let filled = length-map (option_to_list more) (λ (x : NewObject). Some x) in
+      let long = length-at_places 0 place (edited e) so.listed in
+      let both = ap length longer ∙ length-append written (filled_slots (option_to_list more)) in
+      omega (arith, first, rest, filled, long, both, so.counted, new_counted change)
+
+  -- all slots with the new objects behind them are those of the changed tree
+  pub all_written : ((k : ℕ) → IsSome (get tree k) → k < next) → AreObjects all (changed tree change next)
+  all_written given = record {
+    listed = at_places 0 place (edited e) so.listed ++ filled_slots (new_objects change);
+    numbered = numbered_changed tree change next place e is so.listed numbered (sym so.counted);
+    each = subst (λ list. AllZip (SlotsHold IsNewObject) list (at_places 0 place (edited e) so.listed ++ filled_slots (new_objects change))) (sym longer)
+        (zip_append (SlotsHold IsNewObject) written (filled_slots (option_to_list more)) (at_places 0 place (edited e) so.listed) (filled_slots (new_objects change)) so.each
+        (zip_filled IsNewObject (option_to_list more) (new_objects change) new));
+  } where
+    none_past : (k : ℕ) → next ≤ k → (found : Option Object) → get tree k ≡ found → found ≡ None
+    none_past k past None is = refl
+    none_past k past (Some o) is = absurd (omega (arith, past, given k (rw is refl)))
+
+    numbered : (k : ℕ) → get tree k ≡ option_flatten (slice_get so.listed k)
+    numbered k = elim (cases_lt k next) [
+      | inl low ↦ so.numbered k low
+      | inr past ↦ none_past k past (get tree k) refl ∙ sym (ap option_flatten (slice_get_past so.listed k (omega (arith, past, so.counted))))
+    ]

@@ -6,7 +6,7 @@ use Rattle.std.specs.Ordering.{nat_cmp, eq_by_cmp, is_eq}
 use Rattle.std.specs.Cmp.Lexicographic.{slice_cmp, nat_list_cmp_total}
 use Rattle.std.specs.declared.cmp.Ordering.TheVariants.{Less, Equal, Greater}
 use Rattle.std.specs.declared.cmp.Ordering.{Ordering}
-use Rattle.std.specs.FinMap.{get, entries, insert, find, put, get-entries, entries-insert}
+use Rattle.std.specs.FinMap.{FinMap, get, entries, insert, find, put, get-entries, entries-insert}
 use Rattle.std.specs.FinMap.Entries.{by_order}
 use Rattle.h5_model.specs.Format.Symbols.{Target}
 use Rattle.h5_model.specs.Tree.Objects.{Link, Links}
@@ -25,14 +25,14 @@ use Rattle.h5_edit.proofs.ChangedLaws.MergedLaws.{StandBelow, place_before}
 
 -- ---- the links of a group that was read
 
-module _ (image hs : List ℕ) (g : SymbolTable) (read : IsGroupRead image g) (found : List (LinkOf ℕ)) (all : map lent_link found ≡ links_told image g)
-    (links : List (LinkOf ObjectNo)) (same : map tree_link links ≡ map (in_tree hs) found) where
+module _ (image : List ℕ) (table : FinMap nat_cmp ℕ) (g : SymbolTable) (read : IsGroupRead image g) (found : List (LinkOf ℕ)) (all : map lent_link found ≡ links_told image g)
+    (links : List (LinkOf ObjectNo)) (same : map tree_link links ≡ map (in_tree table) found) where
   abbrev here : Links
-  here = links_by hs (links_told image g)
+  here = links_by table (links_told image g)
 
   -- they are the entries of the group
   pub links_are : map tree_link links ≡ entries here
-  links_are = same ∙ tree_from hs found ∙ ap (map (λ (l : List ℕ × Target). (l.0, link_to hs l.1))) all ∙ sym (group_entries image hs g read)
+  links_are = same ∙ tree_from table found ∙ ap (map (λ (l : List ℕ × Target). (l.0, link_to table l.1))) all ∙ sym (group_entries image table g read)
 
   -- a new name is not among them
   pub not_among : (name : List ℕ) → get here name ≡ None → find (slice_cmp nat_cmp) name (map tree_link links) ≡ None

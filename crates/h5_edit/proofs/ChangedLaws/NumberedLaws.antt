@@ -1,34 +1,44 @@
--- The objects of a changed tree by their numbers.
-use Rattle.std.proofs.Common.{◌≡◌, ℕ, zero, suc, ◌+◌, List, [], ◌∷◌, ◌++◌, length, Bool, true, false, cond, Option, Some, None, refl, sym, ap, ◌∙◌, arith}
+-- The objects of a changed tree in the slots of their numbers.
+use Rattle.std.proofs.Common.{◌≡◌, ℕ, zero, suc, ◌+◌, List, [], ◌∷◌, ◌++◌, length, map, Bool, true, false, cond, Option, Some, None, refl, sym, ap, ◌∙◌, arith}
 use Rattle.std.specs.Prelude.{◌==◌, slice_get, option_map}
-use Rattle.std.specs.Option.{option_map_or}
+use Rattle.std.specs.Option.{option_flatten, option_map_or}
 use Rattle.std.specs.List.{AllZip}
 use Rattle.std.specs.Cmp.{nat_cmp_total, unsigned_tied}
 use Rattle.std.specs.FinMap.{get, insert, get-insert}
 use Rattle.std.proofs.lemmas.Bool.Decides.{nat_tests}
 use Rattle.h5_model.specs.Tree.Objects.{Tree, Object, with_object}
+use Rattle.h5_repack.specs.Objects.Objects.{SlotsHold}
 
 -- ---- lists
 
--- an object, and objects from number n on, with the one of a number changed
+-- an object, and slots from number n on, with the object of a number changed
 abbrev pub at_place : ℕ → ℕ → (Object → Object) → Object → Object
 at_place n place change o = cond (n == place) (change o) o
 
-abbrev pub at_places : ℕ → ℕ → (Object → Object) → List Object → List Object
+abbrev pub at_places : ℕ → ℕ → (Object → Object) → List (Option Object) → List (Option Object)
 at_places n place change [] = []
-at_places n place change (o ∷ os) = at_place n place change o ∷ at_places (n + 1) place change os
+at_places n place change (slot ∷ slots) = option_map (at_place n place change) slot ∷ at_places (n + 1) place change slots
 
-pub length-at_places : (n place : ℕ) (change : Object → Object) (os : List Object) → length (at_places n place change os) ≡ length os
+pub length-at_places : (n place : ℕ) (change : Object → Object) (slots : List (Option Object)) → length (at_places n place change slots) ≡ length slots
 length-at_places n place change [] = refl
-length-at_places n place change (o ∷ os) = ap suc (length-at_places (n + 1) place change os)
+length-at_places n place change (slot ∷ slots) = ap suc (length-at_places (n + 1) place change slots)
 
-pub slice_get-at_places : (n place : ℕ) (change : Object → Object) (os : List Object) (k : ℕ)
-    → slice_get (at_places n place change os) k ≡ option_map (at_place (n + k) place change) (slice_get os k)
-slice_get-at_places n place change [] k = refl
-slice_get-at_places n place change (o ∷ os) zero = let same : n ≡ n + 0 = omega arith in ap (λ m. Some (at_place m place change o)) same
-slice_get-at_places n place change (o ∷ os) (suc k) =
+pub at_places-append : (n place : ℕ) (change : Object → Object) (slots : List (Option Object)) (slot : Option Object)
+    → at_places n place change (slots ++ slot ∷ []) ≡ at_places n place change slots ++ option_map (at_place (n + length slots) place change) slot ∷ []
+at_places-append n place change [] slot = let same : n ≡ n + 0 = omega arith in ap (λ m. option_map (at_place m place change) slot ∷ []) same
+at_places-append n place change (x ∷ slots) slot =
+    let same : n + 1 + length slots ≡ n + suc (length slots) = omega arith in
+    ap (λ more. option_map (at_place n place change) x ∷ more)
+    (at_places-append (n + 1) place change slots slot ∙ ap (λ m. at_places (n + 1) place change slots ++ option_map (at_place m place change) slot ∷ []) same)
+
+-- what stands in a slot, with the object of a number changed
+found_at_places : (n place : ℕ) (change : Object → Object) (slots : List (Option Object)) (k : ℕ)
+    → option_flatten (slice_get (at_places n place change slots) k) ≡ option_map (at_place (n + k) place change) (option_flatten (slice_get slots k))
+found_at_places n place change [] k = refl
+found_at_places n place change (slot ∷ slots) zero = let same : n ≡ n + 0 = omega arith in ap (λ m. option_map (at_place m place change) slot) same
+found_at_places n place change (slot ∷ slots) (suc k) =
     let same : n + 1 + k ≡ n + suc k = omega arith in
-    slice_get-at_places (n + 1) place change os k ∙ ap (λ m. option_map (at_place m place change) (slice_get os k)) same
+    found_at_places (n + 1) place change slots k ∙ ap (λ m. option_map (at_place m place change) (option_flatten (slice_get slots k))) same
 
 next_same : (a b : ℕ) → (a == b) ≡ (suc a == suc b)
 next_same a b = by_test (a == b) refl where
@@ -41,6 +51,14 @@ slice_get-one_more [] x zero = refl
 slice_get-one_more {X = X} [] x (suc k) = let past : (suc k == 0) ≡ false = grind (arith, nat_tests) in ap (λ (b : Bool). cond b (Some x) None) (sym past)
 slice_get-one_more (y ∷ xs) x zero = let first : (0 == suc (length xs)) ≡ false = grind (arith, nat_tests) in ap (λ (b : Bool). cond b (Some x) (Some y)) (sym first)
 slice_get-one_more (y ∷ xs) x (suc k) = slice_get-one_more xs x k ∙ ap (λ (b : Bool). cond b (Some x) (slice_get xs k)) (next_same k (length xs))
+
+-- so what stands in a slot, with one slot more
+pub found_one_more : {X : Type 0} (slots : List (Option X)) (slot : Option X) (k : ℕ)
+    → option_flatten (slice_get (slots ++ slot ∷ []) k) ≡ cond (k == length slots) slot (option_flatten (slice_get slots k))
+found_one_more slots slot k = ap option_flatten (slice_get-one_more slots slot k) ∙ by_test (k == length slots) where
+  by_test : (b : Bool) → option_flatten (cond b (Some slot) (slice_get slots k)) ≡ cond b slot (option_flatten (slice_get slots k))
+  by_test true = refl
+  by_test false = refl
 
 pub zip_append : {A B : Type 0} (R : A → B → Type 0) (xs us : List A) (ys vs : List B) → AllZip R xs ys → AllZip R us vs → AllZip R (xs ++ us) (ys ++ vs)
 zip_append R [] us [] vs each more = more
@@ -62,46 +80,59 @@ get_changed tree place change o is =
     ∙ get-insert nat_cmp_total tree place (change o) place
     ∙ ap (λ b. cond b (Some (change o)) (get tree place)) (unsigned_tied place place ∙ same)
 
-module _ (tree : Tree) (os : List Object) (numbered : (k : ℕ) → get tree k ≡ slice_get os k) (place : ℕ) (change : Object → Object) where
+module _ (tree : Tree) (slots : List (Option Object)) (numbered : (k : ℕ) → get tree k ≡ option_flatten (slice_get slots k)) (place : ℕ) (change : Object → Object) where
   kept : (found : Option Object) → found ≡ option_map (λ (x : Object). x) found
   kept None = refl
   kept (Some x) = refl
 
-  there : (k : ℕ) (o : Object) → get tree place ≡ Some o → get (insert tree place (change o)) k ≡ option_map (at_place k place change) (slice_get os k)
+  there : (k : ℕ) (o : Object) → get tree place ≡ Some o → get (insert tree place (change o)) k ≡ option_map (at_place k place change) (get tree k)
   there k o is = get-insert nat_cmp_total tree place (change o) k
       ∙ ap (λ b. cond b (Some (change o)) (get tree k)) (unsigned_tied k place)
       ∙ by_test (k == place) refl where
-        by_test : (b : Bool) → (k == place) ≡ b → cond b (Some (change o)) (get tree k) ≡ option_map (λ x. cond b (change x) x) (slice_get os k)
+        by_test : (b : Bool) → (k == place) ≡ b → cond b (Some (change o)) (get tree k) ≡ option_map (λ x. cond b (change x) x) (get tree k)
         by_test true same =
             let here : k ≡ place = grind (arith, nat_tests) in
-            let found : Some o ≡ slice_get os k = sym is ∙ ap (get tree) (sym here) ∙ numbered k in
+            let found : Some o ≡ get tree k = sym is ∙ ap (get tree) (sym here) in
             ap (option_map change) found
-        by_test false other = numbered k ∙ kept (slice_get os k)
+        by_test false other = kept (get tree k)
 
-  not_there : (k : ℕ) → get tree place ≡ None → get tree k ≡ option_map (at_place k place change) (slice_get os k)
-  not_there k is = numbered k ∙ by_test (k == place) refl where
-    by_test : (b : Bool) → (k == place) ≡ b → slice_get os k ≡ option_map (λ x. cond b (change x) x) (slice_get os k)
+  not_there : (k : ℕ) → get tree place ≡ None → get tree k ≡ option_map (at_place k place change) (get tree k)
+  not_there k is = by_test (k == place) refl where
+    by_test : (b : Bool) → (k == place) ≡ b → get tree k ≡ option_map (λ x. cond b (change x) x) (get tree k)
     by_test true same =
         let here : k ≡ place = grind (arith, nat_tests) in
-        let none : slice_get os k ≡ None = sym (numbered k) ∙ ap (get tree) here ∙ is in
+        let none : get tree k ≡ None = ap (get tree) here ∙ is in
         none ∙ ap (option_map change) (sym none)
-    by_test false other = kept (slice_get os k)
+    by_test false other = kept (get tree k)
 
-  get-with_object : (k : ℕ) → get (with_object tree place change) k ≡ option_map (at_place k place change) (slice_get os k)
+  get-with_object : (k : ℕ) → get (with_object tree place change) k ≡ option_map (at_place k place change) (get tree k)
   get-with_object k = by_found (get tree place) refl where
     by_found : (found : Option Object) → get tree place ≡ found
-        → get (option_map_or (λ o. insert tree place (change o)) found tree) k ≡ option_map (at_place k place change) (slice_get os k)
+        → get (option_map_or (λ o. insert tree place (change o)) found tree) k ≡ option_map (at_place k place change) (get tree k)
     by_found None is = not_there k is
     by_found (Some o) is = there k o is
 
-  pub numbered_with : (k : ℕ) → get (with_object tree place change) k ≡ slice_get (at_places 0 place change os) k
-  numbered_with k = get-with_object k ∙ sym (slice_get-at_places 0 place change os k ∙ ap (λ m. option_map (at_place m place change) (slice_get os k)) (omega arith))
+  pub numbered_with : (k : ℕ) → get (with_object tree place change) k ≡ option_flatten (slice_get (at_places 0 place change slots) k)
+  numbered_with k =
+      get-with_object k ∙ ap (option_map (at_place k place change)) (numbered k)
+      ∙ sym (found_at_places 0 place change slots k ∙ ap (λ m. option_map (at_place m place change) (option_flatten (slice_get slots k))) (omega arith))
 
 -- one more object behind the others
-pub numbered_more : (tree : Tree) (os : List Object) (numbered : (k : ℕ) → get tree k ≡ slice_get os k) (number : ℕ) (o : Object) → number ≡ length os
-    → (k : ℕ) → get (insert tree number o) k ≡ slice_get (os ++ o ∷ []) k
-numbered_more tree os numbered number o is k =
+pub numbered_more : (tree : Tree) (slots : List (Option Object)) (numbered : (k : ℕ) → get tree k ≡ option_flatten (slice_get slots k)) (number : ℕ) (o : Object) → number ≡ length slots
+    → (k : ℕ) → get (insert tree number o) k ≡ option_flatten (slice_get (slots ++ Some o ∷ []) k)
+numbered_more tree slots numbered number o is k =
     get-insert nat_cmp_total tree number o k
     ∙ ap (λ b. cond b (Some o) (get tree k)) (unsigned_tied k number ∙ ap (λ n. k == n) is)
-    ∙ ap (cond (k == length os) (Some o)) (numbered k)
-    ∙ sym (slice_get-one_more os o k)
+    ∙ ap (cond (k == length slots) (Some o)) (numbered k)
+    ∙ sym (found_one_more slots (Some o) k)
+
+-- ---- slots that are filled
+
+abbrev pub filled_slots : {X : Type 0} → List X → List (Option X)
+filled_slots xs = map (λ x. Some x) xs
+
+pub zip_filled : {A B : Type 0} (R : A → B → Type 0) (xs : List A) (ys : List B) → AllZip R xs ys → AllZip (SlotsHold R) (filled_slots xs) (filled_slots ys)
+zip_filled R [] [] each = tt
+zip_filled R [] (y ∷ ys) each = absurd each
+zip_filled R (x ∷ xs) [] each = absurd each
+zip_filled R (x ∷ xs) (y ∷ ys) each = (each.0, zip_filled R xs ys each.1)

@@ -1,23 +1,14 @@
--- What is kept of one object of an opened image.
-use Rattle.std.proofs.Common.{◌≡◌, ℕ, List, [], ◌∷◌, Vec, map, sym, ap, ◌∙◌, subst, Some}
-use Rattle.std.specs.Prelude.{slice_get}
+-- The object that a change adds.
+use Rattle.std.proofs.Common.{◌≡◌, ℕ, List, [], ◌∷◌, Vec, map, sym, ap, ◌∙◌, subst}
 use Rattle.std.specs.Borrow.{Bor}
 use Rattle.std.specs.declared.alloc.Global.{Global}
-use Rattle.std.specs.List.{AllByRecursion, AllZip}
+use Rattle.std.specs.List.{AllZip}
 use Rattle.std.specs.Ordering.{nat_cmp}
 use Rattle.std.specs.Cmp.Lexicographic.{slice_cmp}
 use Rattle.std.specs.FinMap.{empty}
-use Rattle.std.specs.BTreeMap.{BTreeMap}
-use Rattle.h5_header.specs.Listed.{messages_in}
-use Rattle.h5_query.specs.GroupTold.{links_told}
-use Rattle.h5_query.specs.Links.{IsGroupRead, lent_link}
-use Rattle.h5_model.specs.Format.Addresses.{SymbolTable}
 use Rattle.h5_model.specs.declared.object_no.ObjectNo.{ObjectNo}
 use Rattle.h5_model.specs.declared.link.Link.{Link as LinkOf}
-use Rattle.h5_query.specs.Listed.{IsLinkLed}
-use Rattle.h5_query.proofs.ListedLaws.{found_led}
 use Rattle.h5_model.specs.Edits.Applied.{new_object, new_dataset}
-use Rattle.h5_model.specs.Format.Messages.{Message}
 use Rattle.h5_model.specs.Tree.Objects.{Content, Attribute, Link, Group as GroupContent, Array}
 use Rattle.h5_model.specs.declared.dataset.Spec.{Spec}
 use Rattle.h5_model.proofs.MapSteps.{entries-empty}
@@ -28,38 +19,11 @@ use Rattle.h5_repack.specs.declared.objects.object.NewContent.TheVariants as new
 use Rattle.h5_repack.specs.Blocks.Others.{OthersBytes}
 use Rattle.h5_repack.specs.Blocks.Written.{AreOthers}
 use Rattle.h5_repack.specs.Bodies.Bodies.{attribute_message, others_of}
-use Rattle.h5_query.specs.Opened.Headers.{IsHeaderKept}
-use Rattle.h5_query.specs.Opened.Kept.{IsOpened, IsContentKept, IsObjectKept}
-use Rattle.h5_query.specs.Opened.Objects.{headers}
-use Rattle.h5_query.specs.OpenedObjectType.{OpenedObject}
-use Rattle.h5_query.specs.OpenedContentType.TheVariants as content
-use Rattle.h5_query.proofs.OpenedLaws.Indexed.{object_kept}
 use Rattle.h5_edit.specs.Changed.Edited.{new_objects, new_target}
 use Rattle.h5_edit.specs.declared.change.change.Change.{Change}
 use Rattle.h5_edit.specs.declared.change.change.Change.TheVariants.{Link as Linked}
 use Rattle.h5_edit.specs.declared.change.change.Target.{Target}
 use Rattle.h5_edit.specs.declared.change.change.Target.TheVariants as target
-
-module _ (image : List ℕ) (objects : List OpenedObject) (numbers : BTreeMap ℕ ℕ) (opened : IsOpened image objects numbers)
-    (o : OpenedObject) (there : (k : ℕ) × (slice_get objects k ≡ Some o)) where
-  abbrev ms : List Message
-  ms = messages_in image o.messages.list
-
-  kept : IsObjectKept image o
-  kept = object_kept image objects numbers opened there.0 o there.1
-
-  pub header_kept : IsHeaderKept image o.messages
-  header_kept = kept.header
-
-  module _ (g : SymbolTable) (is : o.content ≡ content.Group g) where
-    pub read : IsGroupRead image g
-    read = (subst (IsContentKept image ms) is kept.content).2
-
-    -- each link leads to an object's header
-    pub led : (found : List (LinkOf ℕ)) → map lent_link found ≡ links_told image g → AllByRecursion (IsLinkLed (headers objects)) found
-    led found all = found_led image objects numbers opened there.0 o there.1 g is found all
-
--- ---- new objects
 
 no_others : (c : Content) → others_of (new_object c) ≡ []
 no_others c = ap (map attribute_message) (entries-empty {X = Attribute} (slice_cmp nat_cmp))

@@ -1,31 +1,27 @@
 -- The plain layout can hold each object of the tree that an accepted edit of an opened image gives (File Format Specification 3.0,
 -- sections III and IV.A).
-use Rattle.std.proofs.Common.{◌≡◌, ℕ, ◌+◌, ◌≤◌, List, length, true, false, Option, Some, sym, ap, ◌∙◌, subst, arith}
-use Rattle.std.specs.Prelude.{nat_lt, slice_get}
-use Rattle.std.specs.BTreeMap.{BTreeMap}
+use Rattle.std.proofs.Common.{◌≡◌, ℕ, ◌+◌, ◌≤◌, List, length, true, false, Option, Some, sym, ap, ◌∙◌, arith}
+use Rattle.std.specs.Prelude.{nat_lt}
 use Rattle.std.specs.FinMap.{get, insert, empty}
 use Rattle.std.specs.Option.{option_and_then, option_map_or}
 use Rattle.std.proofs.lemmas.Bool.Decides.{nat_tests}
 use Rattle.h5_model.specs.Edits.Applied.{applied, linked, with_attributes, with_links, with_object_at, new_object, new_dataset, attribute_from}
 use Rattle.h5_model.specs.Format.Messages.{prefix_at, total_in}
 use Rattle.h5_model.specs.Tree.Paths.{object_at}
-use Rattle.h5_model.specs.Tree.Objects.{Tree, Object, Content, Group, Array, Dataset, Links, ToObject, Soft}
+use Rattle.h5_model.specs.Tree.Objects.{Object, Content, Group, Array, Dataset, Links, ToObject, Soft}
 use Rattle.h5_model.specs.declared.attribute.AttrSpec.{AttrSpec}
 use Rattle.h5_model.specs.declared.edits.Edit.TheVariants.{CreateGroup, CreateDataset, HardLink, SoftLink, Unlink, SetAttr, RemoveAttr, Write, Resize}
-use Rattle.h5_header.specs.Listed.{messages_in}
 use Rattle.h5_repack.specs.Image.Plain.{IsPlain, IsPlainContent, ArePlain}
 use Rattle.h5_repack.specs.Bodies.Bodies.{others_of}
 use Rattle.h5_repack.specs.Bodies.Sound.{IsPlainArray, IsPlainAttribute}
-use Rattle.h5_query.specs.Opened.Kept.{IsOpened}
-use Rattle.h5_query.specs.Opened.Objects.{headers, object_in, table_of, tree_of}
-use Rattle.h5_query.specs.OpenedObjectType.{OpenedObject}
-use Rattle.h5_query.proofs.OpenedLaws.Entries.{get_table}
-use Rattle.h5_query.proofs.OpenedLaws.Indexed.{header_at, object_kept}
-use Rattle.h5_edit.specs.Fits.Laws.{AreBytes, EditedPlain, is_full}
+use Rattle.h5_query.specs.Opened.Sound.{IsSound}
+use Rattle.h5_query.specs.Opened.State.{FileState}
+use Rattle.h5_edit.specs.Carried.{is_message_total_full}
+use Rattle.h5_edit.specs.Fits.Laws.{AreBytes, EditedPlain}
 use Rattle.h5_edit.proofs.FitLaws.ChangedAttributes.{with_set, plain_set, few_set, with_removed, plain_removed, few_removed_others, accepted_attribute}
 use Rattle.h5_edit.proofs.FitLaws.ChangedTrees.{each_put, each_at, each_linked, each_linked_to}
 use Rattle.h5_edit.proofs.FitLaws.NewArrays.{plain_new_array, accepted_spec}
-use Rattle.h5_edit.proofs.FitLaws.OpenedTrees.{object_read, plain_content, plain_kept, opened_plain}
+use Rattle.h5_edit.proofs.FitLaws.OpenedTrees.{IsRead, object_read, carried_content, plain_content, plain_read, opened_plain}
 use Rattle.h5_edit.proofs.FitLaws.PlainObjects.{plain_new, no_others}
 
 -- ---- a new object
@@ -81,64 +77,53 @@ plain_without o name plain = record {
 
 -- ---- an attribute more
 
-module _ (image : List ℕ) (objects : List OpenedObject) (numbers : BTreeMap ℕ ℕ) (low : AreBytes image) (opened : IsOpened image objects numbers) where
-  abbrev tree : Tree
-  tree = tree_of image objects
+module _ (f : FileState) (low : AreBytes f.image) (sound : IsSound f) where
+  module _ (path : List ℕ) (a : AttrSpec) (is : IsPlainAttribute (a.name, attribute_from a)) (roomy : is_message_total_full f (SetAttr path a) ≡ false) where
+    module _ (number : ℕ) (o : Object) (at : object_at f.tree path ≡ Some number) (there : get f.tree number ≡ Some o) where
+      abbrev r : IsRead f sound number o there
+      r = object_read f sound number o there
 
-  module _ (path : List ℕ) (a : AttrSpec) (is : IsPlainAttribute (a.name, attribute_from a)) (roomy : is_full image objects (SetAttr path a) ≡ false) where
-    -- the header has room for one more, and for a Continuation
-    room_at : (number : ℕ) (o : OpenedObject) → object_at tree path ≡ Some number → slice_get objects number ≡ Some o → length (messages_in image o.messages.list) + 2 ≤ 65535
-    room_at number o at stands =
-        let header : get (table_of objects) number ≡ Some o.messages.header = get_table objects number ∙ header_at objects number o stands in
-        let test = λ (found : Option ℕ). option_map_or (λ header. nat_lt 65535 (total_in (prefix_at image header) + 2)) found false in
-        let room : nat_lt 65535 (total_in (prefix_at image o.messages.header) + 2) ≡ false
-        = sym (ap (λ (found : Option ℕ). test (option_and_then (get (table_of objects)) found)) at ∙ ap test header) ∙ roomy in
-        let total = (((object_kept image objects numbers opened number o stands).header).has).total in
-        let few : total_in (prefix_at image o.messages.header) + 2 ≤ 65535 = grind (arith, nat_tests, room) in
-        omega (arith, total, few)
+      -- the header has room for one more, and for a Continuation
+      room_at : length r.has.messages + 2 ≤ 65535
+      room_at =
+          let test = λ (found : Option ℕ). option_map_or (λ header. nat_lt 65535 (total_in (prefix_at f.image header) + 2)) found false in
+          let room : nat_lt 65535 (total_in (prefix_at f.image r.header) + 2) ≡ false
+          = sym (ap (λ (found : Option ℕ). test (option_and_then (get f.table) found)) at ∙ ap test r.listed) ∙ roomy in
+          let total = ((r.has).listed).total in
+          let few : total_in (prefix_at f.image r.header) + 2 ≤ 65535 = grind (arith, nat_tests, room) in
+          omega (arith, total, few)
 
-    plain_with : (number : ℕ) (o : OpenedObject) → object_at tree path ≡ Some number → slice_get objects number ≡ Some o
-        → IsPlain (with_set (object_in image (headers objects) o) a.name (attribute_from a))
-    plain_with number o at stands =
-        let kept = object_kept image objects numbers opened number o stands in
-        let before = object_in image (headers objects) o in
-        let more = few_set before a.name (attribute_from a) in
-        record {
-          others = plain_set before a.name (attribute_from a) (plain_kept image low (headers objects) o kept).others is;
-          content = plain_content image low (headers objects) o.messages kept.header o.content kept.content (length (others_of (with_set before a.name (attribute_from a))))
-              (omega (arith, more, room_at number o at stands));
-        }
+      plain_with : IsPlain (with_set o a.name (attribute_from a))
+      plain_with =
+          let carried = carried_content f sound number o there in
+          let more = few_set o a.name (attribute_from a) in
+          record {
+            others = plain_set o a.name (attribute_from a) (plain_read f.image low f.table r.header o r.blocks r.has carried).others is;
+            content = plain_content f.image low f.table r.header o r.blocks r.has carried (length (others_of (with_set o a.name (attribute_from a)))) (omega (arith, more, room_at));
+          }
 
-    plain_attribute_set : ArePlain (with_object_at tree path (with_attributes (λ m. insert m a.name (attribute_from a))))
-    plain_attribute_set = each_at IsPlain tree path (λ o. with_set o a.name (attribute_from a)) (opened_plain image objects numbers low opened) (λ number o at there.
-        let r = object_read image objects number o there in
-        subst (λ (x : Object). IsPlain (with_set x a.name (attribute_from a))) r.is (plain_with number r.opened at r.stands))
+    plain_attribute_set : ArePlain (with_object_at f.tree path (with_attributes (λ m. insert m a.name (attribute_from a))))
+    plain_attribute_set = each_at IsPlain f.tree path (λ o. with_set o a.name (attribute_from a)) (opened_plain f low sound) plain_with
 
 -- ---- every edit that the plain layout can hold
 
 pub edited_plain : EditedPlain
 unfolding applied
-edited_plain image objects numbers (CreateGroup path) low opened typed plain accepted roomy =
-    let tree = tree_of image objects in
-    let number = length objects in
-    each_put IsPlain (linked tree path (ToObject number)) number (new_object (Group empty))
-    (each_linked IsPlain plain_links tree path (ToObject number) (opened_plain image objects numbers low opened)) new_group
-edited_plain image objects numbers (CreateDataset path spec) low opened typed plain accepted roomy =
-    let tree = tree_of image objects in
-    let number = length objects in
-    let sound = accepted_spec tree number path spec accepted plain in
-    each_put IsPlain (linked tree path (ToObject number)) number (new_object (Array (new_dataset spec)))
-    (each_linked IsPlain plain_links tree path (ToObject number) (opened_plain image objects numbers low opened))
-    (new_array (new_dataset spec) (λ n few. plain_new_array spec n typed sound few))
-edited_plain image objects numbers (HardLink target path) low opened typed plain accepted roomy =
-    each_linked_to IsPlain plain_links (tree_of image objects) target path (opened_plain image objects numbers low opened)
-edited_plain image objects numbers (SoftLink text path) low opened typed plain accepted roomy =
-    each_linked IsPlain plain_links (tree_of image objects) path (Soft text) (opened_plain image objects numbers low opened)
-edited_plain image objects numbers (Unlink path) low opened typed plain accepted roomy = absurd (let never : false ≡ true = plain in cc)
-edited_plain image objects numbers (SetAttr path attr) low opened typed plain accepted roomy =
-    plain_attribute_set image objects numbers low opened path attr (accepted_attribute (tree_of image objects) (length objects) path attr typed accepted) roomy
-edited_plain image objects numbers (RemoveAttr path name) low opened typed plain accepted roomy =
-    let each = opened_plain image objects numbers low opened in
-    each_at IsPlain (tree_of image objects) path (λ o. with_removed o name) each (λ number o at there. plain_without o name (each number o there))
-edited_plain image objects numbers (Write path hyper values) low opened typed plain accepted roomy = absurd (let never : false ≡ true = plain in cc)
-edited_plain image objects numbers (Resize path dims) low opened typed plain accepted roomy = absurd (let never : false ≡ true = plain in cc)
+edited_plain f (CreateGroup path) low sound typed carried accepted roomy =
+    each_put IsPlain (linked f.tree path (ToObject f.next)) f.next (new_object (Group empty))
+    (each_linked IsPlain plain_links f.tree path (ToObject f.next) (opened_plain f low sound)) new_group
+edited_plain f (CreateDataset path spec) low sound typed carried accepted roomy =
+    let formed = accepted_spec f.tree f.next path spec accepted carried in
+    each_put IsPlain (linked f.tree path (ToObject f.next)) f.next (new_object (Array (new_dataset spec)))
+    (each_linked IsPlain plain_links f.tree path (ToObject f.next) (opened_plain f low sound))
+    (new_array (new_dataset spec) (λ n few. plain_new_array spec n typed formed few))
+edited_plain f (HardLink target path) low sound typed carried accepted roomy = each_linked_to IsPlain plain_links f.tree target path (opened_plain f low sound)
+edited_plain f (SoftLink text path) low sound typed carried accepted roomy = each_linked IsPlain plain_links f.tree path (Soft text) (opened_plain f low sound)
+edited_plain f (Unlink path) low sound typed carried accepted roomy = absurd (let never : false ≡ true = carried in cc)
+edited_plain f (SetAttr path attr) low sound typed carried accepted roomy =
+    plain_attribute_set f low sound path attr (accepted_attribute f.tree f.next path attr typed accepted) roomy
+edited_plain f (RemoveAttr path name) low sound typed carried accepted roomy =
+    let each = opened_plain f low sound in
+    each_at IsPlain f.tree path (λ o. with_removed o name) each (λ number o at there. plain_without o name (each number o there))
+edited_plain f (Write path hyper values) low sound typed carried accepted roomy = absurd (let never : false ≡ true = carried in cc)
+edited_plain f (Resize path dims) low sound typed carried accepted roomy = absurd (let never : false ≡ true = carried in cc)

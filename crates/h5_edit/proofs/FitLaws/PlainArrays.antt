@@ -1,8 +1,8 @@
--- An array that is read can be written in the plain layout (File Format Specification 3.0, sections IV.A.2.b, IV.A.2.e, IV.A.2.f and
+-- An array that was read can be written in the plain layout (File Format Specification 3.0, sections IV.A.2.b, IV.A.2.e, IV.A.2.f and
 -- IV.A.2.i).
-use Rattle.std.proofs.Common.{◌≡◌, ℕ, zero, suc, ◌+◌, ◌-◌, ◌*◌, ◌^◌, ◌≤◌, List, [], ◌∷◌, length, map, replicate, Option, Some, None, ℤ, pos, true, false, cond, refl, sym, ap, ◌∙◌, subst, arith}
+use Rattle.std.proofs.Common.{◌≡◌, ℕ, zero, suc, ◌+◌, ◌-◌, ◌*◌, ◌^◌, ◌≤◌, List, [], ◌∷◌, length, map, replicate, Bool, Option, Some, None, ℤ, pos, true, false, cond, refl, sym, ap, ◌∙◌, subst, arith}
 use Rattle.std.specs.Prelude.{nat_lt, ◌==◌, ◌&&◌, is_some, option_map}
-use Rattle.std.specs.List.{AllZip, range_with_len, find}
+use Rattle.std.specs.List.{AllByRecursion, AllZip, range_with_len, find}
 use Rattle.std.specs.FinMap.{empty}
 use Rattle.std.proofs.lemmas.Bool.Decides.{nat_tests}
 use Rattle.std.proofs.lemmas.Nat.{pow_pos}
@@ -16,36 +16,29 @@ use Rattle.h5_model.specs.Format.Fixed.{Fixed, IsFixed, fits}
 use Rattle.h5_model.specs.Tree.Places.{cells, index_of}
 use Rattle.h5_model.specs.Format.Extent.{extent_of}
 use Rattle.h5_model.specs.Format.Fill.{fill_value, old_fill_value, chosen_fill}
-use Rattle.h5_model.specs.Format.Layout.{Layout, InBlock}
+use Rattle.h5_model.specs.Format.Chunks.{Chunks}
+use Rattle.h5_model.specs.Format.Layout.{Layout, InMessage, InBlock, InChunks}
 use Rattle.h5_model.specs.Format.Cells.{cell_of, cells_of}
-use Rattle.h5_model.specs.Format.Reads.{IsFill, storage_of}
+use Rattle.h5_model.specs.Format.Reads.{HasData, HasDataset, IsFill, storage_of}
 use Rattle.h5_model.specs.Tree.Sound.{AreOf, IsDataset}
-use Rattle.h5_model.specs.Tree.Objects.{Array, Chunked, Contiguous}
+use Rattle.h5_model.specs.Tree.Objects.{Dataset, Chunked, Contiguous}
 use Rattle.h5_model.proofs.StoredValues.{fits_value_at}
 use Rattle.h5_model.proofs.WithinLaws.{both}
-use Rattle.h5_header.specs.Listed.{Listed, messages_in}
-use Rattle.h5_header.specs.declared.message.Message.{Message as Placed}
-use Rattle.h5_header.proofs.FoundLaws.{first_body-in}
-use Rattle.h5_query.specs.Described.{Described, HasFill, HasArray}
-use Rattle.h5_query.specs.Kept.{array_dataset}
-use Rattle.h5_query.specs.Told.{array_told}
 use Rattle.h5_query.proofs.FillLaws.{type_sound, fill_fits, old_fill_fits}
-use Rattle.h5_query.specs.Opened.Headers.{IsHeaderKept, object_with}
-use Rattle.h5_query.specs.Opened.Judged.{IsArrayList}
-use Rattle.h5_repack.specs.Bodies.Bodies.{others_of}
+use Rattle.h5_query.specs.Opened.Carried.{IsCarried}
 use Rattle.h5_repack.specs.Bodies.Sound.{IsBound, IsPlainArray}
 use Rattle.h5_edit.specs.Fits.Laws.{AreBytes}
 use Rattle.h5_edit.proofs.FitLaws.Bounds.{read_bounded}
-use Rattle.h5_edit.proofs.FitLaws.PlainBodies.{part_low, extent_long}
-use Rattle.h5_edit.proofs.FitLaws.PlainObjects.{others_few}
+use Rattle.h5_edit.proofs.FitLaws.PlainBodies.{IsPlainBody, part_low, extent_long}
+use Rattle.h5_edit.proofs.FitLaws.PlainObjects.{content_count}
 
--- the first body of a type stands in the image
-first_low : (image : List ℕ) (low : AreBytes image) (list : List Placed) (kind : ℕ) (body : List ℕ) → first_body kind (messages_in image list) ≡ Some body → AreBytes body
-first_low image low list kind body h =
-    elim (find (λ (x : Placed). x.kind == kind) list) as (λ o. option_map (λ (x : Placed). part x.at x.size image) o ≡ Some body → AreBytes body) [
-      | None ↦ λ e. absurd (cc)
-      | Some x ↦ λ e. subst AreBytes (same_Some (part x.at x.size image) body e) (part_low x.at x.size image low)
-    ] (sym (first_body-in image kind list) ∙ h)
+-- the bytes of the first body of a type
+first_low : (ms : List Message) → AllByRecursion IsPlainBody ms → (kind : ℕ) (body : List ℕ) → first_body kind ms ≡ Some body → AreBytes body
+first_low [] all kind body h = let never : None ≡ Some body = h in absurd (cc)
+first_low (m ∷ ms) all kind body h = elim (m.kind == kind) as (λ b. option_map (λ (x : Message). x.body) (cond b (Some m) (find (λ (x : Message). x.kind == kind) ms)) ≡ Some body → AreBytes body) [
+  | true ↦ λ e. subst AreBytes (same_Some m.body body e) (all.0).low
+  | false ↦ λ e. first_low ms all.1 kind body e
+] h
 
 -- ---- the fill
 
@@ -77,13 +70,6 @@ none_first kind (m ∷ ms) none = elim (m.kind == kind) as (λ b. cond b 1 0 + c
 no_fill : (value : List ℕ → Option ℤ) (kind : ℕ) (ms : List Message) (fill : Option ℤ) → count_of kind ms ≡ 0 → IsFill value (first_body kind ms) fill → fill ≡ None
 no_fill value kind ms fill none is = subst (λ (o : Option (List ℕ)). IsFill value o fill) (none_first kind ms none) is
 
--- without a fill message the fill is 0
-zero_fill : (ms : List Message) (t : Fixed) (fill : ℤ) → HasFill ms t fill → count_of 4 ms ≡ 0 → count_of 5 ms ≡ 0 → fill ≡ pos 0
-zero_fill ms t fill h none_old none_new =
-    let old : h.old_fill ≡ None = no_fill (old_fill_value t) 4 ms h.old_fill none_old h.old_filled in
-    let new : h.new_fill ≡ None = no_fill (fill_value t) 5 ms h.new_fill none_new h.new_filled in
-    h.filled ∙ λ i. chosen_fill (new i) (old i)
-
 -- ---- the cells
 
 values_of : (t : Fixed) (f : ℕ → ℤ) → ((k : ℕ) → fits t (f k) ≡ true) → (ks : List ℕ) → AreOf t (map f ks)
@@ -111,80 +97,86 @@ unset_cells image t fill sizes (Some b) h =
     let none : cells sizes ≡ 0 = grind (arith, nat_tests, h) in
     no_values (λ place. cell_of image t fill sizes (InBlock (Some b)) empty (index_of sizes place)) fill (cells sizes) none
 
+-- ---- the layout
+
+in_one_block : (sizes : List ℕ) (layout : Layout) (stored : Bool) → storage_of sizes layout ≡ Contiguous stored → (b : Option Block) × (layout ≡ InBlock b)
+in_one_block sizes (InMessage bytes) stored e = absurd (cc)
+in_one_block sizes (InBlock b) stored e = (b, refl)
+in_one_block sizes (InChunks chunk_sizes root) stored e = absurd (cc)
+
+no_chunks : (image : List ℕ) (t : Fixed) (b : Option Block) (chunks : Chunks) (blocks : List Block) → HasData image t (InBlock b) chunks blocks → chunks ≡ empty
+no_chunks image t None chunks blocks has = has.0
+no_chunks image t (Some b) chunks blocks has = has.0
+
 -- ---- the array
 
-pub type_read : (ms : List Message) (a : Described) → HasArray ms a → IsFixed a.fixed
-type_read ms a has = option_and_then_some _ (first_body 3 ms) a.fixed has.type (λ body there is. type_sound body a.fixed is)
-
-module _ (image : List ℕ) (low : AreBytes image) (m : Listed) (kept : IsHeaderKept image m) (is : IsArrayList (messages_in image m.list)) where
-  abbrev ms : List Message
-  ms = messages_in image m.list
-
-  abbrev a : Described
-  a = array_told ms
-
-  array : HasArray ms a
-  array = is.array
+module _ (image : List ℕ) (low : AreBytes image) (ms : List Message) (bodies : AllByRecursion IsPlainBody ms) (d : Dataset) (blocks : List Block)
+    (has : HasDataset image ms d blocks) (carried : IsCarried d) where
+  in_block : (b : Option Block) × (has.layout ≡ InBlock b)
+  in_block = in_one_block d.sizes has.layout carried.stored (sym has.storage ∙ carried.contiguous)
 
   abbrev block : Option Block
-  block = (is.carried).block
+  block = in_block.0
 
-  in_block : a.layout ≡ InBlock block
-  in_block = (is.carried).in_block
+  sound : IsFixed d.fixed
+  sound = option_and_then_some _ (first_body 3 ms) d.fixed has.type (λ body there is. type_sound body d.fixed is)
 
-  sound : IsFixed a.fixed
-  sound = type_read ms a array
-
-  fill_is : fits a.fixed a.fill ≡ true
+  fill_is : fits d.fixed d.fill ≡ true
   fill_is =
-      let f = array.filled in
-      subst (λ (v : ℤ). fits a.fixed v ≡ true) (sym f.filled) (chosen_fits a.fixed f.new_fill f.old_fill
-      (filled_fits (fill_value a.fixed) a.fixed (first_body 5 ms) f.new_fill (λ b v there is. fill_fits a.fixed b v sound (first_low image low m.list 5 b there) is) f.new_filled)
-      (filled_fits (old_fill_value a.fixed) a.fixed (first_body 4 ms) f.old_fill (λ b v there is. old_fill_fits a.fixed b v sound (first_low image low m.list 4 b there) is) f.old_filled))
+      subst (λ (v : ℤ). fits d.fixed v ≡ true) (sym has.filled) (chosen_fits d.fixed has.new_fill has.old_fill
+      (filled_fits (fill_value d.fixed) d.fixed (first_body 5 ms) has.new_fill (λ b v there is. fill_fits d.fixed b v sound (first_low ms bodies 5 b there) is) has.new_filled)
+      (filled_fits (old_fill_value d.fixed) d.fixed (first_body 4 ms) has.old_fill (λ b v there is. old_fill_fits d.fixed b v sound (first_low ms bodies 4 b there) is) has.old_filled))
 
-  bounds : AllZip IsBound a.sizes a.maxima
+  -- without a fill message the fill is 0
+  zero_fill : count_of 4 ms ≡ 0 → count_of 5 ms ≡ 0 → d.fill ≡ pos 0
+  zero_fill none_old none_new =
+      let old : has.old_fill ≡ None = no_fill (old_fill_value d.fixed) 4 ms has.old_fill none_old has.old_filled in
+      let new : has.new_fill ≡ None = no_fill (fill_value d.fixed) 5 ms has.new_fill none_new has.new_filled in
+      has.filled ∙ λ i. chosen_fill (new i) (old i)
+
+  bounds : AllZip IsBound d.sizes d.maxima
   bounds =
-      option_and_then_some extent_of (first_body 1 ms) (record { sizes = a.sizes; maxima = a.maxima }) array.space
-      (λ body there is. read_bounded body (record { sizes = a.sizes; maxima = a.maxima }) (first_low image low m.list 1 body there) is array.small)
+      option_and_then_some extent_of (first_body 1 ms) (record { sizes = d.sizes; maxima = d.maxima }) has.space
+      (λ body there is. read_bounded body (record { sizes = d.sizes; maxima = d.maxima }) (first_low ms bodies 1 body there) is has.small)
 
-  rank : length a.sizes ≤ 32
+  rank : length d.sizes ≤ 32
   rank =
-      option_and_then_some extent_of (first_body 1 ms) (record { sizes = a.sizes; maxima = a.maxima }) array.space
-      (λ body there is. (extent_long body (record { sizes = a.sizes; maxima = a.maxima }) is).1)
+      option_and_then_some extent_of (first_body 1 ms) (record { sizes = d.sizes; maxima = d.maxima }) has.space
+      (λ body there is. (extent_long body (record { sizes = d.sizes; maxima = d.maxima }) is).1)
 
-  each_fits : (index : List ℕ) → fits a.fixed (cell_of image a.fixed a.fill a.sizes a.layout empty index) ≡ true
-  each_fits index =
-      subst (λ (l : Layout). fits a.fixed (cell_of image a.fixed a.fill a.sizes l empty index) ≡ true) (sym in_block)
-      (cell_fits image low a.fixed a.fill a.sizes block sound fill_is index)
+  cells_are : d.cells ≡ cells_of image d.fixed d.fill d.sizes (InBlock block) empty
+  cells_are =
+      let here : HasData image d.fixed (InBlock block) has.chunks blocks = subst (λ (l : Layout). HasData image d.fixed l has.chunks blocks) in_block.1 has.stored in
+      has.cells ∙ (λ i. cells_of image d.fixed d.fill d.sizes (in_block.1 i) (no_chunks image d.fixed block has.chunks blocks here i))
 
-  stored_is : storage_of a.sizes a.layout ≡ Contiguous (is_some block && nat_lt 0 (cells a.sizes))
-  stored_is = ap (storage_of a.sizes) in_block
+  stored_is : d.storage ≡ Contiguous (is_some block && nat_lt 0 (cells d.sizes))
+  stored_is = has.storage ∙ ap (storage_of d.sizes) in_block.1
 
-  dataset_sound : IsDataset (array_dataset image ms)
+  dataset_sound : IsDataset d
   dataset_sound = record {
-    counted = length-map-range_with_len _ 0 (cells a.sizes);
+    counted = ap length cells_are ∙ length-map-range_with_len _ 0 (cells d.sizes);
     fill = fill_is;
-    values = values_of a.fixed _ (λ place. each_fits (index_of a.sizes place)) (range_with_len 0 (cells a.sizes));
-    bounded = AllZip-long IsBound a.sizes a.maxima bounds;
-    boxed = λ chunk e. let no : Contiguous (is_some block && nat_lt 0 (cells a.sizes)) ≡ Chunked chunk = sym stored_is ∙ e in absurd (cc);
+    values = subst (AreOf d.fixed) (sym cells_are)
+        (values_of d.fixed _ (λ place. cell_fits image low d.fixed d.fill d.sizes block sound fill_is (index_of d.sizes place)) (range_with_len 0 (cells d.sizes)));
+    bounded = AllZip-long IsBound d.sizes d.maxima bounds;
+    boxed = λ chunk e. let no : Contiguous (is_some block && nat_lt 0 (cells d.sizes)) ≡ Chunked chunk = sym stored_is ∙ e in absurd (cc);
   }
 
   -- with so few others, a fill message that is there now is written again
-  pub plain_array : (n : ℕ) → n + length ms ≤ length (others_of (object_with (Array (array_dataset image ms)) ms)) + 65535 → IsPlainArray (array_dataset image ms) n
+  pub plain_array : (n : ℕ) → n + content_count ms ≤ 65535 → IsPlainArray d n
   plain_array n room = record {
     ranked = rank;
     bounded = bounds;
-    few = array.small;
+    few = has.small;
     fixed = sound;
     sound = dataset_sound;
-    stored = is_some block && nat_lt 0 (cells a.sizes);
+    stored = is_some block && nat_lt 0 (cells d.sizes);
     stored_is = stored_is;
-    filled = λ h. let some : nat_lt 0 (cells a.sizes) ≡ true = (both (is_some block) (nat_lt 0 (cells a.sizes)) h).1 in grind (arith, nat_tests, some);
-    unset = λ h. ap (λ (l : Layout). cells_of image a.fixed a.fill a.sizes l empty) in_block ∙ unset_cells image a.fixed a.fill a.sizes block h;
+    filled = λ h. let some : nat_lt 0 (cells d.sizes) ≡ true = (both (is_some block) (nat_lt 0 (cells d.sizes)) h).1 in grind (arith, nat_tests, some);
+    unset = λ h. cells_are ∙ unset_cells image d.fixed d.fill d.sizes block h;
     unwritten = λ many.
-        let few = others_few image low m kept (Array (array_dataset image ms)) in
-        let one_space = array.one_space in
-        let one_type = array.one_type in
-        let one_layout = array.one_layout in
-        zero_fill ms a.fixed a.fill array.filled (omega (arith, many, room, few, one_space, one_type, one_layout)) (omega (arith, many, room, few, one_space, one_type, one_layout));
+        let one_space = has.one_space in
+        let one_type = has.one_type in
+        let one_layout = has.one_layout in
+        zero_fill (omega (arith, many, room, one_space, one_type, one_layout)) (omega (arith, many, room, one_space, one_type, one_layout));
   }

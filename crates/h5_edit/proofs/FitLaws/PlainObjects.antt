@@ -4,18 +4,17 @@ use Rattle.std.specs.Prelude.{◌==◌, ◌||◌}
 use Rattle.std.specs.List.{AllByRecursion, AllZip, filter}
 use Rattle.std.specs.Ordering.{nat_cmp}
 use Rattle.std.specs.Cmp.Lexicographic.{slice_cmp}
-use Rattle.std.specs.FinMap.{entries}
+use Rattle.std.specs.FinMap.{FinMap, entries}
 use Rattle.std.proofs.Math.ListN.{length-map}
 use Rattle.std.proofs.lemmas.Bool.Decides.{nat_tests}
+use Rattle.h5_bytes.specs.declared.Block.{Block}
 use Rattle.h5_model.specs.Format.Messages.{Message, count_of}
 use Rattle.h5_model.specs.Tree.Places.{extent_cells}
 use Rattle.h5_model.specs.Format.AttributeBody.{attribute_of}
 use Rattle.h5_model.specs.Tree.Objects.{Object, Content, Attribute, Attributes}
-use Rattle.h5_model.specs.Format.Reads.{is_kept, kept_of, is_attribute_message}
+use Rattle.h5_model.specs.Format.Reads.{HasObject, is_kept, kept_of, is_attribute_message}
 use Rattle.h5_model.specs.Edits.Applied.{new_object}
 use Rattle.h5_model.proofs.MapSteps.{entries-empty}
-use Rattle.h5_header.specs.Listed.{Listed, messages_in}
-use Rattle.h5_query.specs.Opened.Headers.{IsHeaderKept, object_with}
 use Rattle.h5_repack.specs.Bodies.Bodies.{others_of, kept_message, attribute_message}
 use Rattle.h5_repack.specs.Bodies.Sound.{IsPlainKept, IsPlainAttribute, IsPlainObject}
 use Rattle.h5_edit.specs.Fits.Laws.{AreBytes}
@@ -70,39 +69,42 @@ each_once : (ms : List Message) → length (filter is_kept ms) + length (filter 
 each_once [] = omega arith
 each_once (m ∷ ms) = omega (arith, one_type m.kind, length_filter is_kept m ms, length_filter is_attribute_message m ms, each_once ms)
 
-module _ (image : List ℕ) (low : AreBytes image) (m : Listed) (kept : IsHeaderKept image m) where
+-- ---- an object that was read
+
+module _ (image : List ℕ) (low : AreBytes image) (table : FinMap nat_cmp ℕ) (header : ℕ) (o : Object) (blocks : List Block) (has : HasObject image table header o blocks) where
   abbrev ms : List Message
-  ms = messages_in image m.list
+  ms = has.messages
 
-  bodies : AllByRecursion IsPlainBody ms
-  bodies = plain_bodies image low m.header ms m.blocks kept.has
+  pub read_bodies : AllByRecursion IsPlainBody ms
+  read_bodies = plain_bodies image low header ms has.header_blocks has.listed
 
-  -- the object of a header that is kept can be written
-  pub plain_object : (content : Content) → IsPlainObject (object_with content ms)
-  plain_object content =
-      let has = kept.attributes in
+  -- its attributes and kept messages can be written
+  pub plain_object : IsPlainObject o
+  plain_object =
+      let names = has.attributes in
       record {
-        kept = plain_kept ms bodies;
-        attributes = subst (λ (a : Attributes). AllByRecursion IsPlainAttribute (entries a)) (sym has.all)
-            (all_entries IsPlainAttribute has.listed (plain_listed (filter is_attribute_message ms) has.listed (all_filter IsPlainBody is_attribute_message ms bodies) has.each has.small));
+        kept = subst (AllByRecursion IsPlainKept) (sym has.kept) (plain_kept ms read_bodies);
+        attributes = subst (λ (a : Attributes). AllByRecursion IsPlainAttribute (entries a)) (sym names.all)
+            (all_entries IsPlainAttribute names.listed (plain_listed (filter is_attribute_message ms) names.listed (all_filter IsPlainBody is_attribute_message ms read_bodies) names.each names.small));
       }
 
-  -- its other messages, and those of a content, are all messages or less
-  pub others_few : (content : Content) → length (others_of (object_with content ms)) + content_count ms ≤ length ms
-  others_few content =
-      let has = kept.attributes in
+  -- these, and those of its content, are all messages or less
+  pub others_few : length (others_of o) + content_count ms ≤ length ms
+  others_few =
+      let names = has.attributes in
       omega (
         arith,
-        length-others (object_with content ms),
+        length-others o,
+        ap length has.kept,
         length-map (filter is_kept ms) kept_of,
-        ap (λ (a : Attributes). length (entries a)) has.all,
-        few_entries has.listed,
-        length-listed (filter is_attribute_message ms) has.listed has.each,
+        ap (λ (a : Attributes). length (entries a)) names.all,
+        few_entries names.listed,
+        length-listed (filter is_attribute_message ms) names.listed names.each,
         each_once ms,
       )
 
   pub total_few : length ms ≤ 65535
-  total_few = few_messages image low m.header ms m.blocks kept.has
+  total_few = few_messages image low header ms has.header_blocks has.listed
 
 -- ---- a new object
 

@@ -1,10 +1,8 @@
 -- The hard links that lead to an array are those that its header counts.
 use Rattle.std.proofs.Common.{◌≡◌, ◌≢◌, ℕ, ◌+◌, ◌≤◌, ◌<◌, List, length, refl, sym, ap, ◌∙◌, subst, true, false, Option, Some, None, IsSome, arith}
-use Rattle.std.specs.Prelude.{◌==◌, nat_le, slice_get, option_map, if◌then◌else◌}
-use Rattle.std.specs.BTreeMap.{BTreeMap}
-use Rattle.std.specs.FinMap.{get, entries}
+use Rattle.std.specs.Prelude.{◌==◌, nat_le, if◌then◌else◌}
+use Rattle.std.specs.FinMap.{entries}
 use Rattle.std.proofs.lemmas.Bool.Decides.{nat_tests}
-use Rattle.std.proofs.lemmas.Option.{slice_get-map}
 use Rattle.h5_model.specs.Format.Messages.{prefix_at, reference_count}
 use Rattle.h5_model.specs.Format.Reads.{Placed, IsCounted}
 use Rattle.h5_model.specs.Edits.Refusal.{first_holding}
@@ -17,10 +15,9 @@ use Rattle.h5_header.proofs.WalkLaws.ListLaws.{prefix_there}
 use Rattle.h5_model.specs.Format.Addresses.{SymbolTable}
 use Rattle.h5_query.specs.OpenedObjectType.{OpenedObject}
 use Rattle.h5_query.specs.OpenedContentType.TheVariants as content
-use Rattle.h5_query.specs.Opened.Kept.{IsOpened}
-use Rattle.h5_query.specs.Opened.Objects.{table_of, tree_of}
-use Rattle.h5_query.proofs.OpenedLaws.Entries.{get_table}
-use Rattle.h5_query.proofs.Indexed.{object_kept, array_no_group, group_links}
+use Rattle.h5_query.specs.Opened.Sound.{IsSound, IsObjectOf}
+use Rattle.h5_query.specs.Opened.State.{FileState}
+use Rattle.h5_query.proofs.Indexed.{array_no_group, group_links}
 use Rattle.h5_edit.specs.Refusals.Rules.{target_rules}
 
 -- links are counted at each object but the root
@@ -36,47 +33,44 @@ no_links : (o : Option Links) → o ≡ None → IsSome o → ⊥
 no_links None is some = absurd (cc)
 no_links (Some links) is some = absurd (cc)
 
-module _ (image : List ℕ) (objects : List OpenedObject) (numbers : BTreeMap ℕ ℕ) (opened : IsOpened image objects numbers) (number : ℕ) (o : OpenedObject)
-    (at : slice_get objects number ≡ Some o) where
+module _ (f : FileState) (number : ℕ) (o : OpenedObject) (of : IsObjectOf f number o) where
   abbrev T : Tree
-  T = tree_of image objects
+  T = f.tree
 
   -- its prefix stands in the image
-  pub prefix_inside : o.messages.header + 16 ≤ length image
+  pub prefix_inside : o.messages.header + 16 ≤ length f.image
   prefix_inside =
-      let header = (object_kept image objects numbers opened number o at).header in
-      prefix_there image o.messages.header (messages_in image o.messages.list) o.messages.blocks header.has header.inside
+      let header = (of.kept).header in
+      prefix_there f.image o.messages.header (messages_in f.image o.messages.list) o.messages.blocks header.has header.inside
 
   -- a group is no target
   pub group_target : (g : SymbolTable) → o.content ≡ content.Group g → first_holding (target_rules T number) ≡ Some fault.GroupLink
-  group_target g is = rw (group_links image objects number o at g is) refl
+  group_target g is = rw (group_links f number o of g is) refl
 
-  module _ (is : o.content ≡ content.Array) where
+  module _ (sound : IsSound f) (is : o.content ≡ content.Array) where
     below_root : number ≢ 0
     below_root zero_number =
-        let none : links_of T 0 ≡ None = subst (λ (n : ℕ). links_of T n ≡ None) zero_number (array_no_group image objects number o at is) in
-        no_links (links_of T 0) none (opened.reads.1).holds.root_group
+        let none : links_of T 0 ≡ None = subst (λ (n : ℕ). links_of T n ≡ None) zero_number (array_no_group f number o of is) in
+        no_links (links_of T 0) none sound.reads.holds.root_group
 
-    links_counted : reference_count (prefix_at image o.messages.header) ≡ hard_links T number
+    links_counted : reference_count (prefix_at f.image o.messages.header) ≡ hard_links T number
     links_counted =
-        let reads = opened.reads.1 in
-        let got : get (table_of objects) number ≡ Some o.messages.header
-        = get_table objects number ∙ slice_get-map (λ (x : OpenedObject). x.messages.header) objects number ∙ ap (option_map (λ (x : OpenedObject). x.messages.header)) at in
-        let entry : In (number, o.messages.header) (entries (table_of objects)) = entry_of_get (table_of objects) number o.messages.header got in
-        let placed = from_map (λ (x : Placed). (x.number, x.header)) (number, o.messages.header) opened.reads.0
+        let reads = sound.reads in
+        let entry : In (number, o.messages.header) (entries f.table) = entry_of_get f.table number o.messages.header of.header in
+        let placed = from_map (λ (x : Placed). (x.number, x.header)) (number, o.messages.header) sound.placed
         (subst (λ (es : List (ℕ × ℕ)). In (number, o.messages.header) es) reads.holds.numbered entry) in
-        counted_at image T o.messages.header number placed.0 (ap (λ (p : ℕ × ℕ). p.0) placed.2) (ap (λ (p : ℕ × ℕ). p.1) placed.2)
-        (in_all (IsCounted image T) placed.0 opened.reads.0 reads.counted placed.1) below_root
+        counted_at f.image T o.messages.header number placed.0 (ap (λ (p : ℕ × ℕ). p.0) placed.2) (ap (λ (p : ℕ × ℕ). p.1) placed.2)
+        (in_all (IsCounted f.image T) placed.0 sound.placed reads.counted placed.1) below_root
 
-    module _ (count : ℕ) (counts : count ≡ reference_count (prefix_at image o.messages.header)) where
+    module _ (count : ℕ) (counts : count ≡ reference_count (prefix_at f.image o.messages.header)) where
       pub full_target : 65535 ≤ count → first_holding (target_rules T number) ≡ Some fault.TooManyLinks
       full_target many =
           let all = links_counted in
           let test : nat_le 65535 (hard_links T number) ≡ true = grind (arith, nat_tests) in
-          rw (array_no_group image objects number o at is, test) refl
+          rw (array_no_group f number o of is, test) refl
 
       pub free_target : count < 65535 → first_holding (target_rules T number) ≡ None
       free_target few =
           let all = links_counted in
           let test : nat_le 65535 (hard_links T number) ≡ false = grind (arith, nat_tests) in
-          rw (array_no_group image objects number o at is, test) refl
+          rw (array_no_group f number o of is, test) refl

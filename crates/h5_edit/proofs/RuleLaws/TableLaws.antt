@@ -20,7 +20,7 @@ use Rattle.h5_edit.specs.Refusals.Allowed.{is_carried_spec}
 use Rattle.h5_edit.specs.Refusals.Rules.{path_faults, path_fault, is_new_fault, is_object_fault, is_text_fault, lower_of, own_rules, spec_rules, number_rules}
 use Rattle.h5_edit.proofs.RuleLaws.FaultLaws.{behind, chain, found_behind, lower_first}
 
-or_false : (b : Bool) → (b || false) ≡ b
+pub or_false : (b : Bool) → (b || false) ≡ b
 or_false true = refl
 or_false false = refl
 

@@ -1,13 +1,16 @@
 -- Edits of an opened image that no rule of its tree refuses, and where they take place.
-use Rattle.std.specs.Prelude.{◌≡◌, ℕ, ◌==◌, ◌&&◌, Bool, true, false, Some, None, List, length}
+use Rattle.std.specs.Prelude.{◌≡◌, ℕ, ℤ, ◌==◌, ◌&&◌, Bool, true, false, Some, None, List, length}
 use Rattle.h5_model.specs.Tree.Paths.{object_at, parent_at}
 use Rattle.h5_model.specs.Edits.Refusal.{refusal_of}
 use Rattle.h5_model.specs.Tree.Objects.{Tree}
+use Rattle.h5_model.specs.Views.Selection.{Slab, axes_of}
 use Rattle.h5_model.specs.declared.dataset.Spec.{Spec}
 use Rattle.h5_model.specs.declared.dataset.Store.{Store}
 use Rattle.h5_model.specs.declared.dataset.Store.TheVariants as store
 use Rattle.h5_model.specs.declared.edits.Edit.{Edit}
+use Rattle.h5_model.specs.declared.edits.Edit.TheVariants.{Write}
 use Rattle.h5_model.specs.declared.edit_fault.EditFault.{EditFault}
+use Rattle.h5_model.specs.declared.hyperslab.Hyper.{Hyper}
 use Rattle.h5_edit.specs.declared.rules.place.NewPlace.{NewPlace}
 
 abbrev pub is_contiguous : Store → Bool
@@ -27,6 +30,10 @@ pub record IsPlaceAllowed (tree : Tree) (next : ℕ) (path : List ℕ) (edit : E
 pub record IsAt (tree : Tree) (next : ℕ) (path : List ℕ) (edit : Edit) (number : ℕ) : Type 0 where
   pub allowed : refusal_of tree next edit ≡ None
   pub object : object_at tree path ≡ Some number
+
+-- no rule refuses the write; the array at its path has this number, and its lists are this selection
+abbrev pub IsWriteAt : Tree → ℕ → List ℕ → Hyper → List ℤ → (ℕ × Slab) → Type 0
+IsWriteAt tree next path hyper values (number, slab) = IsAt tree next path (Write path hyper values) number × (slab ≡ axes_of hyper)
 
 -- a hard link to the object of this number
 abbrev pub IsLinkPlaced : Tree → ℕ → List ℕ → List ℕ → Edit → (ℕ × NewPlace) → Type 0

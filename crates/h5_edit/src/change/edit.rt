@@ -49,14 +49,10 @@ fn link_target(target: Target<'_>, next: u32) -> LinkTo<'_, ObjectNo>
 }
 
 /// The edit, where the object of this number is the one that it is made of.
-pub(crate) fn edit_at(edit: ObjectEdit<'_>, place: u32, number: usize) -> Option<ObjectEdit<'_>>
+pub(crate) fn edit_at(edit: ObjectEdit<'_>, place: u32, number: u32) -> Option<ObjectEdit<'_>>
     ensures { result ≡ edited.edit_at edit.entry place number }
 {
-    if number == place as usize {
-        Some(edit)
-    } else {
-        None
-    }
+    if number == place { Some(edit) } else { None }
 }
 
 /// The new link, where the edit is one.

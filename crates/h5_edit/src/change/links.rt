@@ -8,8 +8,7 @@ ghost use Rattle.std.specs.Cmp.Lexicographic.{slice_cmp};
 ghost use Rattle.h5_query.specs.Links.{IsGroupRead, lent_link};
 ghost use Rattle.h5_query.specs.GroupTold.{links_told};
 ghost use Rattle.h5_model.specs.declared.link.Link.{Link};
-ghost use Rattle.h5_query.specs.Opened.Kept.{IsOpened, IsIndex};
-ghost use Rattle.h5_query.specs.Opened.Objects.{headers, links_by};
+ghost use Rattle.h5_query.specs.Opened.Objects.{links_by};
 ghost use Rattle.h5_query.specs.Listed.{IsLinkLed, IsTargetLed, in_tree, target_in};
 ghost use Rattle.h5_model.specs.Tree.Links.{tree_link, tree_target};
 ghost use Rattle.h5_edit.specs.Changed.Appended.{IsPlaceOf};
@@ -17,7 +16,6 @@ ghost use Rattle.h5_edit.specs.Changed.Edited.{IsFreshIn, links_with};
 
 use h5_model::{Link, ObjectNo};
 use h5_query::{Opened, SymbolTable, entries, tree_links};
-use h5_space::Image;
 use std::alloc::{AllocError, Global};
 use std::cmp::Ordering;
 
@@ -26,24 +24,20 @@ use std::cmp::Ordering;
 /// Takes memory for a reference to each link.
 pub(crate) fn links_in<'a>(
     alloc: Global,
-    image: &'a Image,
-    opened: &Opened,
+    opened: &'a Opened,
     table: SymbolTable,
     new: Option<Link<'a, ObjectNo>>,
 ) -> Result<Vec<Link<'a, ObjectNo>>, AllocError>
-    requires opened { IsOpened image.now.bytes opened.now.objects.items opened.now.numbers }
-    requires read { IsGroupRead image.now.bytes table }
-    requires led { (found : List (Link ℕ)) → map lent_link found ≡ links_told image.now.bytes table
-        → AllByRecursion (IsLinkLed (headers opened.now.objects.items)) found }
-    requires fresh { IsFreshIn new
-        (links_by (headers opened.now.objects.items) (links_told image.now.bytes table)) }
+    requires read { IsGroupRead opened.now.image table }
+    requires led { (found : List (Link ℕ)) → map lent_link found ≡ links_told opened.now.image table
+        → AllByRecursion (IsLinkLed opened.now.table) found }
+    requires fresh { IsFreshIn new (links_by opened.now.table (links_told opened.now.image table)) }
     ensures { IfOk result (λ links. map tree_link links.items
         ≡ entries_of
-        (links_with new.entry
-        (links_by (headers opened.now.objects.items) (links_told image.now.bytes table)))) }
+        (links_with new.entry (links_by opened.now.table (links_told opened.now.image table)))) }
 {
-    let found = entries(alloc, image, table)?;
-    let mut links = tree_links(alloc, image, opened, &found)?;
+    let found = entries(alloc, opened.image(), table)?;
+    let mut links = tree_links(alloc, opened, &found)?;
     if let Some(link) = new {
         insert_link(&mut links, link)?;
     }

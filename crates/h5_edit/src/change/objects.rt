@@ -1,13 +1,16 @@
 //! The objects of an opened image with a change.
 
-ghost use Rattle.std.specs.Prelude.{◌≡◌, ℕ, Some, IfOk, IfSome, length, slice_get, option_to_list};
+ghost use Rattle.std.specs.Prelude.{◌≡◌, ℕ, ◌+◌, IfOk, IfSome, Some, length, option_map, option_to_list};
+ghost use Rattle.std.specs.FinMap.{get};
 ghost use Rattle.std.specs.List.{AllByRecursion, AllZip};
+ghost use Rattle.h5_model.specs.Tree.Objects.{Object};
 ghost use Rattle.h5_repack.specs.Image.Plain.{IsPlain};
-ghost use Rattle.h5_query.specs.Opened.Kept.{IsOpened};
-ghost use Rattle.h5_query.specs.Opened.Objects.{headers, object_in, tree_of};
-ghost use Rattle.h5_repack.specs.Objects.Objects.{AreObjects, IsNewObject};
+ghost use Rattle.h5_query.specs.Opened.Objects.{object_in};
+ghost use Rattle.h5_query.specs.Opened.Sound.{IsObjectOf};
+ghost use Rattle.h5_repack.specs.Objects.Objects.{AreObjects, IsNewObject, SlotsHold};
 ghost use Rattle.h5_edit.specs.Changed.Change.{IsPlainChange, changed};
 ghost use Rattle.h5_edit.specs.Changed.Edited.{IsEditable, edited_by, new_objects};
+ghost use Rattle.h5_edit.specs.Fitting.{made_in};
 
 use crate::change::attributes::others_in;
 use crate::change::cells::{array_from, kept_array};
@@ -16,60 +19,73 @@ use crate::change::edit::{ObjectEdit, edit_at, edit_of, link_in};
 use crate::change::links::links_in;
 use h5_query::{Opened, OpenedContent, OpenedObject};
 use h5_repack::{NewContent, NewObject, Others};
-use h5_space::Image;
 use std::alloc::{AllocError, Global};
 
-/// The objects of the tree that the change gives, by their numbers; a new one stands behind the others.
+/// The objects of the tree that the change gives, each in the slot of its number; a number that has no object leaves its slot empty,
+/// and a new object stands behind the others.
 ///
 /// Names, texts and cells are lent from the image and the change. Takes memory for a reference to each link, and for the messages of
 /// attributes and kept messages.
 pub fn changed_objects<'a>(
     alloc: Global,
-    image: &'a Image,
     opened: &'a Opened,
     change: &Change<'a>,
-) -> Result<Vec<NewObject<'a>>, AllocError>
-    requires opened { IsOpened image.now.bytes opened.now.objects.items opened.now.numbers }
-    requires change { IsPlainChange (tree_of image.now.bytes opened.now.objects.items)
-        (length opened.now.objects.items) change.now }
-    ensures { let tree = tree_of image.now.bytes opened.now.objects.items in
-        IfOk result (λ objects.
-        AreObjects objects.items (changed tree change.now (length opened.now.objects.items))) }
+) -> Result<Vec<Option<NewObject<'a>>>, AllocError>
+    requires { IsPlainChange opened.now.tree opened.now.next change.now }
+    ensures objects { IfOk result (λ objects.
+        AreObjects objects.items (changed opened.now.tree change.now opened.now.next)) }
+    ensures counted { IfOk result (λ objects.
+        length objects.items ≡ opened.now.next + made_in change.now) }
 {
-    let next = opened.objects.len() as u32;
+    let next = opened.next();
     let (place, edit) = edit_of(change, next);
     let mut objects = Vec::new(alloc);
-    for object in &opened.objects {
-        let own = edit_at(edit, place, objects.len());
-        objects.push(edited_object(alloc, image, opened, object, own)?)?;
+    for number in 0..next {
+        let own = edit_at(edit, place, number);
+        objects.push(edited_slot(alloc, opened, number, own)?)?;
     }
     if let Some(object) = new_object(alloc, change) {
-        objects.push(object)?;
+        objects.push(Some(object))?;
     }
     Ok(objects)
+}
+
+/// The object of a number, with an edit; `None` where no object has the number.
+fn edited_slot<'a>(
+    alloc: Global,
+    opened: &'a Opened,
+    number: u32,
+    edit: Option<ObjectEdit<'a>>,
+) -> Result<Option<NewObject<'a>>, AllocError>
+    requires plain { (o : Object) → get opened.now.tree number ≡ Some o → IsPlain o }
+    requires edit { (o : Object) → get opened.now.tree number ≡ Some o → IfSome edit (IsEditable o) }
+    ensures { IfOk result (λ slot.
+        SlotsHold IsNewObject slot (option_map (edited_by edit.entry) (get opened.now.tree number))) }
+{
+    match opened.object(number) {
+        Some(object) => Ok(Some(edited_object(alloc, opened, object, edit)?)),
+        None => Ok(None),
+    }
 }
 
 /// An object of the image, with an edit.
 fn edited_object<'a>(
     alloc: Global,
-    image: &'a Image,
-    opened: &Opened,
+    opened: &'a Opened,
     object: &OpenedObject,
     edit: Option<ObjectEdit<'a>>,
 ) -> Result<NewObject<'a>, AllocError>
-    requires opened { IsOpened image.now.bytes opened.now.objects.items opened.now.numbers }
-    requires there { (number : ℕ) × (slice_get opened.now.objects.items number ≡ Some object.now) }
-    requires plain { IsPlain (object_in image.now.bytes (headers opened.now.objects.items) object.now) }
-    requires edit { IfSome edit
-        (IsEditable (object_in image.now.bytes (headers opened.now.objects.items) object.now)) }
+    requires object { (number : ℕ) × IsObjectOf opened.now number object.now }
+    requires plain { IsPlain (object_in opened.now.image opened.now.table object.now) }
+    requires edit { IfSome edit (IsEditable (object_in opened.now.image opened.now.table object.now)) }
     ensures { IfOk result (λ x.
-        IsNewObject x
-        (edited_by edit.entry (object_in image.now.bytes (headers opened.now.objects.items) object.now))) }
+        IsNewObject x (edited_by edit.entry (object_in opened.now.image opened.now.table object.now))) }
 {
+    let image = opened.image();
     let others = others_in(alloc, image, &object.messages, edit)?;
     let content = match &object.content {
         OpenedContent::Group(table) => {
-            NewContent::Group(links_in(alloc, image, opened, *table, link_in(edit))?)
+            NewContent::Group(links_in(alloc, opened, *table, link_in(edit))?)
         }
         OpenedContent::Array => kept_array(alloc, image, &object.messages),
     };

@@ -1,11 +1,9 @@
 //! New arrays in one block (File Format Specification 3.0, section IV.A.2.i).
 
-ghost use Rattle.std.specs.Prelude.{◌≡◌, ◌&&◌, Some, None, true, MatchResult, length};
+ghost use Rattle.std.specs.Prelude.{◌≡◌, ◌&&◌, Some, None, true, MatchResult};
 ghost use Rattle.h5_model.specs.declared.edits.Edit.TheVariants.{CreateDataset};
 ghost use Rattle.h5_model.specs.Tree.Objects.{are_sizes};
 ghost use Rattle.h5_model.specs.Edits.Refusal.{are_maxima, first_holding};
-ghost use Rattle.h5_query.specs.Opened.Kept.{IsOpened};
-ghost use Rattle.h5_query.specs.Opened.Objects.{tree_of};
 ghost use Rattle.h5_edit.specs.Refusals.Allowed.{is_carried_spec, IsPlaceAllowed, IsRuledOut};
 ghost use Rattle.h5_edit.specs.Refusals.Rules.{spec_rules};
 
@@ -13,7 +11,6 @@ use crate::rules::place::{NewPlace, is_full, new_place};
 use h5_bytes::UNDEF;
 use h5_model::{EditFault, Spec, Store};
 use h5_query::{Dims, Opened};
-use h5_space::Image;
 use h5_types::fits;
 use std::alloc::Global;
 
@@ -31,19 +28,17 @@ pub fn is_carried(spec: &Spec) -> bool
 /// `ValueRange`, `TooManyObjects`.
 pub fn check_create_dataset<'a>(
     alloc: Global,
-    image: &Image,
     opened: &Opened,
     path: &'a [u8],
     spec: &Spec,
 ) -> Result<NewPlace<'a>, EditFault>
-    requires opened { IsOpened image.now.bytes opened.now.objects.items opened.now.numbers }
-    requires carried { is_carried_spec spec.now ≡ true }
-    ensures { let tree = tree_of image.now.bytes opened.now.objects.items in
-        let next = length opened.now.objects.items in
+    requires { is_carried_spec spec.now ≡ true }
+    ensures { let tree = opened.now.tree in
+        let next = opened.now.next in
         MatchResult result (IsPlaceAllowed tree next path.now (CreateDataset path.now spec.now))
         (IsRuledOut tree next (CreateDataset path.now spec.now)) }
 {
-    let place = new_place(image, opened, path)?;
+    let place = new_place(opened, path)?;
     check_spec(alloc, spec)?;
     if is_full(opened) {
         return Err(EditFault::TooManyObjects);

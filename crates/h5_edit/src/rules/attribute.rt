@@ -1,24 +1,21 @@
 //! Attributes to be set and removed (File Format Specification 3.0, section IV.A.2.m).
 
-ghost use Rattle.std.specs.Prelude.{◌≡◌, ◌≤◌, ◌^◌, Some, None, MatchResult, length};
-ghost use Rattle.std.specs.List.{list_all};
+ghost use Rattle.std.specs.Prelude.{◌≡◌, ◌≤◌, ◌^◌, Some, None, IfOk, MatchResult};
 ghost use Rattle.h5_model.specs.declared.edits.Edit.TheVariants.{SetAttr, RemoveAttr};
-ghost use Rattle.h5_model.specs.Format.Fixed.{fits as is_of_type};
+ghost use Rattle.h5_model.specs.Format.Fixed.{IsFixed};
 ghost use Rattle.h5_model.specs.Tree.Places.{cells};
 ghost use Rattle.h5_model.specs.Edits.Refusal.{first_holding};
 ghost use Rattle.h5_model.specs.Format.Sizes.{attribute_size};
-ghost use Rattle.h5_query.specs.Opened.Kept.{IsOpened};
-ghost use Rattle.h5_query.specs.Opened.Objects.{tree_of};
+ghost use Rattle.h5_query.specs.Opened.Sound.{IsSound};
 ghost use Rattle.h5_edit.specs.Refusals.Allowed.{IsAt, IsRuledOut};
 ghost use Rattle.h5_edit.specs.Refusals.Rules.{own_rules};
 
 use crate::rules::limits::{MAX_BODY, MAX_NAME};
-use crate::rules::place::object_at;
+use crate::rules::place::{ObjectAt, object_at};
 use crate::rules::text::is_no_text;
-use h5_model::{AttrSpec, EditFault, Fixed};
+use crate::rules::values::are_of_type;
+use h5_model::{AttrSpec, EditFault};
 use h5_query::{Dims, Opened, get};
-use h5_space::Image;
-use h5_types::fits;
 use std::alloc::Global;
 
 /// The number of the object whose attribute is to be set.
@@ -28,39 +25,38 @@ use std::alloc::Global;
 /// `ValueCount`, `ValueRange`, `AttributeTooLarge` where the message's body would pass 65528 bytes. It takes no memory.
 pub fn check_set_attr(
     alloc: Global,
-    image: &Image,
     opened: &Opened,
     path: &[u8],
     attr: &AttrSpec,
 ) -> Result<u32, EditFault>
-    requires { IsOpened image.now.bytes opened.now.objects.items opened.now.numbers }
-    ensures { let tree = tree_of image.now.bytes opened.now.objects.items in
-        let next = length opened.now.objects.items in
+    ensures at { let tree = opened.now.tree in
+        let next = opened.now.next in
         MatchResult result (IsAt tree next path.now (SetAttr path.now attr.now))
         (IsRuledOut tree next (SetAttr path.now attr.now)) }
+    ensures typed { IfOk result (λ _. IsFixed (attr.now).fixed) }
+    ensures sound { IsSound opened.now }
 {
-    let (number, _) = object_at(image, opened, path)?;
+    let object = object_at(opened, path)?;
     check_own(alloc, attr)?;
-    Ok(number)
+    Ok(object.number)
 }
 
 /// The number of the object whose attribute of this name is to be removed.
 ///
 /// Refused by the lowest number that holds: `BadPath`, `PathTooDeep`, `NoSuchParent`, `NotAGroup`, `NotFound` also where a soft link stands
 /// there, `NoSuchAttribute`.
-pub fn check_remove_attr(
-    image: &Image,
-    opened: &Opened,
-    path: &[u8],
-    name: &[u8],
-) -> Result<u32, EditFault>
-    requires { IsOpened image.now.bytes opened.now.objects.items opened.now.numbers }
-    ensures { let tree = tree_of image.now.bytes opened.now.objects.items in
-        let next = length opened.now.objects.items in
+pub fn check_remove_attr(opened: &Opened, path: &[u8], name: &[u8]) -> Result<u32, EditFault>
+    ensures at { let tree = opened.now.tree in
+        let next = opened.now.next in
         MatchResult result (IsAt tree next path.now (RemoveAttr path.now name.now))
         (IsRuledOut tree next (RemoveAttr path.now name.now)) }
+    ensures sound { IsSound opened.now }
 {
-    let (number, object) = object_at(image, opened, path)?;
+    let ObjectAt {
+        number,
+        object,
+        image,
+    } = object_at(opened, path)?;
     match get(image, &object.messages, name) {
         Some(_) => Ok(number),
         None => Err(EditFault::NoSuchAttribute),
@@ -69,8 +65,9 @@ pub fn check_remove_attr(
 
 /// Why the attribute is refused wherever it is to stand, by the lowest number that holds.
 fn check_own(alloc: Global, attr: &AttrSpec) -> Result<(), EditFault>
-    ensures { let rules = own_rules attr.now in MatchResult result (λ _. first_holding rules ≡ None) (λ e.
-        first_holding rules ≡ Some e) }
+    ensures rules { let rules = own_rules attr.now in
+        MatchResult result (λ _. first_holding rules ≡ None) (λ e. first_holding rules ≡ Some e) }
+    ensures typed { IfOk result (λ _. IsFixed (attr.now).fixed) }
 {
     let name = attr.name.as_slice();
     let values = attr.values.as_slice();
@@ -96,13 +93,6 @@ fn check_own(alloc: Global, attr: &AttrSpec) -> Result<(), EditFault>
         return Err(EditFault::AttributeTooLarge);
     }
     Ok(())
-}
-
-/// Whether each value is one of the type's.
-fn are_of_type(fixed: &Fixed, values: &[i128]) -> bool
-    ensures { result ≡ list_all (is_of_type fixed.now) values.now }
-{
-    values.iter().all(|value| fits(fixed, *value))
 }
 
 /// How many bytes the body of an attribute's message has, with a name of so many bytes and values of so many.

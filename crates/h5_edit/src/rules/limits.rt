@@ -10,4 +10,4 @@ pub(crate) const MAX_BODY: u64 = 65528;
 pub(crate) const MAX_LINKS: u32 = 65535;
 
 /// The most objects: the number of each has four bytes, and the last of these is not given out.
-pub(crate) const MAX_OBJECTS: usize = 4294967295;
+pub(crate) const MAX_OBJECTS: u32 = 4294967295;

@@ -1,36 +1,29 @@
 //! New groups and links (File Format Specification 3.0, section III.C).
 
-ghost use Rattle.std.specs.Prelude.{◌≡◌, Some, None, MatchResult, length, slice_get};
+ghost use Rattle.std.specs.Prelude.{◌≡◌, Some, None, MatchResult};
 ghost use Rattle.h5_model.specs.declared.edits.Edit.TheVariants.{CreateGroup, HardLink, SoftLink};
 ghost use Rattle.h5_model.specs.Edits.Refusal.{first_holding};
-ghost use Rattle.h5_query.specs.Opened.Kept.{IsOpened};
-ghost use Rattle.h5_query.specs.Opened.Objects.{tree_of};
+ghost use Rattle.h5_query.specs.Opened.Sound.{IsObjectOf};
 ghost use Rattle.h5_edit.specs.Refusals.Allowed.{IsPlaceAllowed, IsLinkPlaced, IsRuledOut};
 ghost use Rattle.h5_edit.specs.Refusals.Rules.{is_text_fault, path_fault, target_rules};
 
 use crate::rules::limits::{MAX_LINKS, MAX_NAME};
-use crate::rules::place::{NewPlace, is_full, lower, new_place, object_at};
+use crate::rules::place::{NewPlace, ObjectAt, is_full, lower, new_place, object_at};
 use crate::rules::text::is_no_text;
 use h5_model::EditFault;
 use h5_query::{Opened, OpenedContent, OpenedObject};
-use h5_space::Image;
 
 /// Where a new group at the path is to stand.
 ///
 /// Refused by the lowest number that holds: `BadPath`, `PathTooDeep`, `IsRoot`, `NoSuchParent`, `NotAGroup`, `AlreadyThere`,
 /// `NameTooLong` above 1023 bytes, `TooManyObjects`.
-pub fn check_create_group<'a>(
-    image: &Image,
-    opened: &Opened,
-    path: &'a [u8],
-) -> Result<NewPlace<'a>, EditFault>
-    requires { IsOpened image.now.bytes opened.now.objects.items opened.now.numbers }
-    ensures { let tree = tree_of image.now.bytes opened.now.objects.items in
-        let next = length opened.now.objects.items in
+pub fn check_create_group<'a>(opened: &Opened, path: &'a [u8]) -> Result<NewPlace<'a>, EditFault>
+    ensures { let tree = opened.now.tree in
+        let next = opened.now.next in
         MatchResult result (IsPlaceAllowed tree next path.now (CreateGroup path.now))
         (IsRuledOut tree next (CreateGroup path.now)) }
 {
-    let place = new_place(image, opened, path)?;
+    let place = new_place(opened, path)?;
     if is_full(opened) {
         return Err(EditFault::TooManyObjects);
     }
@@ -43,23 +36,18 @@ pub fn check_create_group<'a>(
 /// where nothing or a soft link stands at `target`, `AlreadyThere`, `NameTooLong` above 1023 bytes, `GroupLink`, `TooManyLinks` where
 /// 65535 hard links lead to the target.
 pub fn check_hard_link<'a>(
-    image: &Image,
     opened: &Opened,
     target: &[u8],
     path: &'a [u8],
 ) -> Result<(u32, NewPlace<'a>), EditFault>
-    requires { IsOpened image.now.bytes opened.now.objects.items opened.now.numbers }
-    ensures { let tree = tree_of image.now.bytes opened.now.objects.items in
-        let next = length opened.now.objects.items in
+    ensures { let tree = opened.now.tree in
+        let next = opened.now.next in
         MatchResult result (IsLinkPlaced tree next target.now path.now (HardLink target.now path.now))
         (IsRuledOut tree next (HardLink target.now path.now)) }
 {
-    match (
-        object_at(image, opened, target),
-        new_place(image, opened, path),
-    ) {
-        (Ok((number, object)), Ok(place)) => {
-            check_target(image, opened, number, object)?;
+    match (object_at(opened, target), new_place(opened, path)) {
+        (Ok(ObjectAt { number, object, .. }), Ok(place)) => {
+            check_target(opened, number, object)?;
             Ok((number, place))
         }
         (Ok(_), Err(fault)) => Err(fault),
@@ -70,21 +58,15 @@ pub fn check_hard_link<'a>(
 
 /// Whether one more hard link may lead to the object of this number: `GroupLink` to a group, `TooManyLinks` where as many lead there as
 /// can.
-fn check_target(
-    image: &Image,
-    opened: &Opened,
-    number: u32,
-    object: &OpenedObject,
-) -> Result<(), EditFault>
-    requires opened { IsOpened image.now.bytes opened.now.objects.items opened.now.numbers }
-    requires object { slice_get opened.now.objects.items number ≡ Some object.now }
-    ensures { let rules = target_rules (tree_of image.now.bytes opened.now.objects.items) number in
+fn check_target(opened: &Opened, number: u32, object: &OpenedObject) -> Result<(), EditFault>
+    requires { IsObjectOf opened.now number object.now }
+    ensures { let rules = target_rules opened.now.tree number in
         MatchResult result (λ _. first_holding rules ≡ None) (λ e. first_holding rules ≡ Some e) }
 {
     match object.content {
         OpenedContent::Group(_) => Err(EditFault::GroupLink),
         OpenedContent::Array => {
-            if object.messages.links(image) >= MAX_LINKS {
+            if object.messages.links(opened.image()) >= MAX_LINKS {
                 return Err(EditFault::TooManyLinks);
             }
             Ok(())
@@ -97,18 +79,16 @@ fn check_target(
 /// Refused by the lowest number that holds: `BadPath` also where the text is empty or has a zero byte, `PathTooDeep`, `IsRoot`,
 /// `NoSuchParent`, `NotAGroup`, `AlreadyThere`, `NameTooLong` where the name or the text has more than 1023 bytes.
 pub fn check_soft_link<'a>(
-    image: &Image,
     opened: &Opened,
     text: &[u8],
     path: &'a [u8],
 ) -> Result<NewPlace<'a>, EditFault>
-    requires { IsOpened image.now.bytes opened.now.objects.items opened.now.numbers }
-    ensures { let tree = tree_of image.now.bytes opened.now.objects.items in
-        let next = length opened.now.objects.items in
+    ensures { let tree = opened.now.tree in
+        let next = opened.now.next in
         MatchResult result (IsPlaceAllowed tree next path.now (SoftLink text.now path.now))
         (IsRuledOut tree next (SoftLink text.now path.now)) }
 {
-    match (check_text(text), new_place(image, opened, path)) {
+    match (check_text(text), new_place(opened, path)) {
         (Ok(()), placed) => placed,
         (Err(fault), Ok(_)) => Err(fault),
         (Err(of_text), Err(of_path)) => Err(lower(of_text, of_path)),

@@ -1,8 +1,7 @@
 //! Where a new link is to stand, and the object at a path.
 
-ghost use Rattle.std.specs.Prelude.{◌≡◌, nat_le, MatchResult, length};
-ghost use Rattle.h5_query.specs.Opened.Kept.{IsOpened};
-ghost use Rattle.h5_query.specs.Opened.Objects.{tree_of};
+ghost use Rattle.std.specs.Prelude.{◌≡◌, nat_le, MatchResult};
+ghost use Rattle.h5_query.specs.Opened.Sound.{IsSound};
 ghost use Rattle.h5_query.specs.Place.{IsNoObject};
 ghost use Rattle.h5_edit.specs.Refusals.Rules.{IsFreePlace, IsNotFree, IsObject, lower_fault};
 
@@ -18,18 +17,21 @@ pub struct NewPlace<'a> {
     pub name: &'a [u8],
 }
 
+/// An object that stands at a path: its number, what is kept of it, and the image in which it stands.
+#[derive(Clone, Copy)]
+pub(crate) struct ObjectAt<'a> {
+    pub(crate) number: u32,
+    pub(crate) object: &'a OpenedObject,
+    pub(crate) image: &'a Image,
+}
+
 /// Where a new link at the path is to stand, or the lowest number of why none can: `BadPath`, `PathTooDeep`, `IsRoot`, `NoSuchParent`,
 /// `NotAGroup`, `AlreadyThere`, or `NameTooLong` above 1023 bytes.
-pub(crate) fn new_place<'a>(
-    image: &Image,
-    opened: &Opened,
-    path: &'a [u8],
-) -> Result<NewPlace<'a>, EditFault>
-    requires { IsOpened image.now.bytes opened.now.objects.items opened.now.numbers }
-    ensures { let tree = tree_of image.now.bytes opened.now.objects.items in
+pub(crate) fn new_place<'a>(opened: &Opened, path: &'a [u8]) -> Result<NewPlace<'a>, EditFault>
+    ensures { let tree = opened.now.tree in
         MatchResult result (IsFreePlace tree path.now) (IsNotFree tree path.now) }
 {
-    match look_up(image, opened, path)? {
+    match look_up(opened, path)? {
         Spot::Root => Err(EditFault::IsRoot),
         Spot::Taken { .. } => Err(EditFault::AlreadyThere),
         Spot::Free { name, .. } if name.len() > MAX_NAME => Err(EditFault::NameTooLong),
@@ -37,28 +39,29 @@ pub(crate) fn new_place<'a>(
     }
 }
 
-/// The object at the path with its number, or the lowest number of why none stands there: `BadPath`, `PathTooDeep`, `NoSuchParent`,
+/// The object at the path, or the lowest number of why none stands there: `BadPath`, `PathTooDeep`, `NoSuchParent`,
 /// `NotAGroup`, or `NotFound` also where a soft link does.
-pub(crate) fn object_at<'a>(
-    image: &'a Image,
-    opened: &'a Opened,
-    path: &[u8],
-) -> Result<(u32, &'a OpenedObject), EditFault>
-    requires { IsOpened image.now.bytes opened.now.objects.items opened.now.numbers }
-    ensures { let tree = tree_of image.now.bytes opened.now.objects.items in
-        MatchResult result (IsObject tree opened.now.objects.items path.now) (IsNoObject tree path.now) }
+pub(crate) fn object_at<'a>(opened: &'a Opened, path: &[u8]) -> Result<ObjectAt<'a>, EditFault>
+    ensures found { let f = opened.now in
+        MatchResult result (IsObject f path.now) (IsNoObject f.tree path.now) }
+    ensures sound { IsSound opened.now }
 {
-    match look(image, opened, path)? {
-        Place::Object { number, object } => Ok((number, object)),
+    let image = opened.image();
+    match look(opened, path)? {
+        Place::Object { number, object } => Ok(ObjectAt {
+            number,
+            object,
+            image,
+        }),
         Place::Soft(_) => Err(EditFault::NotFound),
     }
 }
 
 /// Whether all numbers of objects are given out.
 pub(crate) fn is_full(opened: &Opened) -> bool
-    ensures { result ≡ nat_le 4294967295 (length opened.now.objects.items) }
+    ensures { result ≡ nat_le 4294967295 opened.now.next }
 {
-    opened.objects.as_slice().len() >= MAX_OBJECTS
+    opened.next() == MAX_OBJECTS
 }
 
 /// The fault with the lower number.

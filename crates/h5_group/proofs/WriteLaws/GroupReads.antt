@@ -7,7 +7,7 @@ use Rattle.std.proofs.lemmas.List.Elements.{All-from_recursion, All-contains, Al
 use Rattle.h5_bytes.specs.Bytes.{part}
 use Rattle.h5_bytes.specs.Blocks.{holds, cover, Run, Inside}
 use Rattle.h5_bytes.specs.declared.Block.{Block}
-use Rattle.h5_bytes.proofs.BlockLaws.{cover-append, cover-run, run_rises, all_append, all_left, all_right}
+use Rattle.h5_bytes.proofs.BlockLaws.{all_append, all_left, all_right, all_so, cover-append, cover-run, run_rises}
 use Rattle.h5_model.specs.Format.Heap.{HasNames, heap_header, heap_blocks}
 use Rattle.h5_model.specs.Format.Links.{Symbols, AreLinks, key_offsets}
 use Rattle.h5_model.specs.Format.Nodes.{group_kind, reading_of, tree_blocks}
@@ -20,7 +20,6 @@ use Rattle.h5_model.specs.Format.Symbols as symbols
 use Rattle.h5_btree.specs.declared.write.child.Child.{Child}
 use Rattle.h5_btree.specs.Writing.Written.{tree_bytes, root_level}
 use Rattle.h5_btree.specs.Writing.Laws.{IsChild, HasPlainNodes}
-use Rattle.h5_btree.proofs.WriteLaws.Order.{all_map}
 use Rattle.h5_btree.proofs.WriteLaws.RowReads.{part_split}
 use Rattle.h5_btree.proofs.WriteLaws.TreeLaws.{tree_reads}
 use Rattle.h5_heap.specs.Writing.Links.{Leads, ToGroup, ToArray, ToText, target_link}
@@ -159,7 +158,7 @@ module _ (image : List ℕ) (leaf internal at : ℕ) (links : List (List ℕ × 
   low_placed = all_unmapped IsEntryLow written_entry (placed_links links) low_entries
 
   low_offsets : AllByRecursion (λ (l : Placed). l.0 < 2 ^ 64) (placed_links links)
-  low_offsets = all_map (λ l. IsEntryLow (written_entry l)) (λ (l : Placed). l.0 < 2 ^ 64) (placed_links links)
+  low_offsets = all_so (λ l. IsEntryLow (written_entry l)) (λ (l : Placed). l.0 < 2 ^ 64) (placed_links links)
       (λ l is. subst (λ n. n < 2 ^ 64) (name_of l) is.0) low_placed
 
   -- behind the symbol nodes all ends
@@ -239,7 +238,7 @@ module _ (image : List ℕ) (leaf internal at : ℕ) (links : List (List ℕ × 
     names = map (λ (e : Entry). e.name) (written_entries links)
 
     placed_names : AllByRecursion (λ (l : Placed). Contains names l.0) (placed_links links)
-    placed_names = all_map (λ l. Contains names (written_entry l).name) (λ (l : Placed). Contains names l.0) (placed_links links) (λ l is. subst (Contains names) (name_of l) is)
+    placed_names = all_so (λ l. Contains names (written_entry l).name) (λ (l : Placed). Contains names l.0) (placed_links links) (λ l is. subst (Contains names) (name_of l) is)
         (all_unmapped (λ (e : Entry). Contains names e.name) written_entry (placed_links links)
         (all_unmapped (Contains names) (λ (e : Entry). e.name) (written_entries links) (recursion_from_All (Contains names) names (All-contains_itself names))))
 
@@ -252,14 +251,14 @@ module _ (image : List ℕ) (leaf internal at : ℕ) (links : List (List ℕ × 
         (All-from_recursion (Contains names) (map (λ (c : Child). c.last) children) last_names) at_last)
 
     keys_named : AllByRecursion (λ key. (key ≡ 0) ⊎ Contains names key) (key_offsets V plain_tree.owned)
-    keys_named = all_map (λ key. (key ≡ 0) ⊎ Contains (map (λ (c : Child). c.last) children) key) (λ key. (key ≡ 0) ⊎ Contains names key)
+    keys_named = all_so (λ key. (key ≡ 0) ⊎ Contains (map (λ (c : Child). c.last) children) key) (λ key. (key ≡ 0) ⊎ Contains names key)
         (key_offsets V plain_tree.owned) key_named plain_tree.keyed
 
     -- ---- the links
 
     listed_in : AreLinks V S (heap_header image heap_at) segment plain_tree.owned nodes (map target_link links)
     listed_in = record {
-      cached = subst (AllByRecursion IsEntry) (sym entries_are) (all_map IsEntryLow IsEntry (written_entries links) (λ e is. is.2) low_entries);
+      cached = subst (AllByRecursion IsEntry) (sym entries_are) (all_so IsEntryLow IsEntry (written_entries links) (λ e is. is.2) low_entries);
       all = sym (ap (λ es. map (symbols.link_of segment) es) entries_are ∙ plain_heap.named);
       ascending = plain.ascending;
       named = all_mapped (λ (l : List ℕ × Target). IsTrue (is_name l.0)) target_link links plain.named;

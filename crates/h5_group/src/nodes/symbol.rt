@@ -9,7 +9,7 @@ ghost use Rattle.h5_btree.specs.Walk.Below.{IsBottom};
 ghost use Rattle.h5_btree.specs.Walk.Refused.{IsRefusedFor};
 
 use crate::nodes::stands::group_kind;
-use h5_btree::{Leaves, Node, NodeKind};
+use h5_btree::{Leaves, Node, NodeKind, Trees};
 use h5_bytes::Block;
 use h5_model::{Cause, OpenFault};
 use h5_snod::read_symbol_node;
@@ -18,13 +18,15 @@ use h5_space::{Claims, Image, claim, fault, leaf_k};
 /// What the tree of a group is over.
 pub struct SymbolNodes;
 
-impl Leaves for SymbolNodes {
+impl Trees for SymbolNodes {
     ghost form = { λ s. OfGroup };
 
     fn kind(&self, image: &Image) -> NodeKind {
         group_kind(image)
     }
+}
 
+impl Leaves for SymbolNodes {
     fn claim_leaf(
         &self,
         image: &Image,

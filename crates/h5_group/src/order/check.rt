@@ -10,9 +10,9 @@ ghost use Rattle.h5_group.specs.Nodes.Trees.{group_nodes_blocks};
 ghost use Rattle.h5_group.specs.Order.Ordered.{AreNamesOrdered, IsOrderRefused};
 
 use crate::nodes::tree_node;
-use crate::order::keys::check_keys;
+use crate::order::keys::Names;
 use crate::order::names::check_names;
-use h5_btree::Tree;
+use h5_btree::{Tree, check_keys};
 use h5_model::OpenFault;
 use h5_msg::SymbolTable;
 use h5_space::Image;
@@ -44,5 +44,6 @@ pub fn check_order(
 {
     check_names(image, segment, &tree.leaves)?;
     let root = table.tree();
-    check_keys(image, segment, tree_node(image, root).level(), root)
+    let level = tree_node(image, root).level();
+    check_keys(image, &Names { segment }, level, root)
 }

@@ -1,98 +1,110 @@
-//! The order of the keys of a group's tree, and of the names between them (File Format Specification 3.0, section III.A.1).
+//! The order of a group's names between the keys of its tree (File Format Specification 3.0, section III.A.1).
 
-ghost use Rattle.std.specs.Prelude.{◌≡◌, ◌↔◌, suc, IsTrue, IfErr, OnOk};
-ghost use Rattle.std.specs.List.{AllByRecursion, Contains};
+ghost use Rattle.std.specs.Prelude.{◌≡◌, ◌↔◌, ℕ, IsTrue, List, [], ◌∷◌, length};
+ghost use Rattle.std.specs.List.{AllByRecursion};
 ghost use Rattle.h5_model.specs.Format.Superblock.{IsSuperblock, leaf_k};
-ghost use Rattle.h5_model.specs.Format.Nodes.{node_at};
 ghost use Rattle.h5_model.specs.Format.Symbols.{symbols_at};
-ghost use Rattle.h5_model.specs.Format.Links.{IsOrdered, NotAfter};
-ghost use Rattle.h5_group.specs.Nodes.Trees.{kind_in};
-ghost use Rattle.h5_group.specs.Order.Below.{HasSubtree, IsNodeOrdered, LiesBetween, names_at, nodes_from, symbol_nodes_under};
+ghost use Rattle.h5_model.specs.Format.Links.{NotAfter, offset_in};
+ghost use Rattle.h5_laws.specs.Ladders.{IsOrderedBy, LieBetween, all_of};
+ghost use Rattle.h5_laws.specs.NameLadders.{key_text, name_lists, name_sides};
+ghost use Rattle.h5_btree.specs.Walk.Below.{IsBottom, reading_in};
+ghost use Rattle.h5_btree.specs.Walk.Forms.{OfGroup};
+ghost use Rattle.h5_group.specs.Order.Between.{LiesBetween, names_at};
 
-use crate::nodes::{symbol_node, tree_node};
+use crate::nodes::{group_kind, symbol_node};
 use crate::order::text::{is_before, is_not_after};
-use h5_btree::Node;
-use h5_model::{Cause, OpenFault};
+use h5_btree::{Node, NodeKind, Ordered, Trees};
+use h5_bytes::{text_from, u64_at};
 use h5_space::Image;
 
-/// The names of the two keys around a child.
+/// The names of a group: its keys and its entries are offsets of texts in this segment of its heap.
+#[derive(Clone, Copy)]
+pub(crate) struct Names<'a> {
+    pub(crate) segment: &'a [u8],
+}
+
+/// The names for which the two keys around a child stand.
 #[derive(Drop)]
 struct Bounds<'a> {
     low: &'a [u8],
     high: &'a [u8],
 }
 
-/// Checks the keys of the node of this level at this address and of the nodes below it, and the names between them; `KeyOrder` at
-/// the first of these nodes, depth first, that is not in order.
-pub(crate) fn check_keys(image: &Image, segment: &[u8], level: u8, at: u64) -> Result<(), OpenFault>
-    requires superblock { IsSuperblock image.now.bytes }
-    requires subtree { HasSubtree image.now.bytes (suc level) at }
-    ensures ordered { OnOk result
-        (AllByRecursion (IsNodeOrdered image.now.bytes segment.now) (nodes_from image.now.bytes level at)) }
-    ensures refused { IfErr result (λ fault.
-        (fault.cause ≡ Cause.KeyOrder) × Contains (nodes_from image.now.bytes level at) fault.address
-        × (IsNodeOrdered image.now.bytes segment.now fault.address → ⊥)) }
-{
-    let node = tree_node(image, at);
-    if !is_ordered(image, segment, &node) {
-        return Err(OpenFault {
-            cause: Cause::KeyOrder,
-            address: at,
-        });
+impl Trees for Names<'_> {
+    ghost form = { λ s. OfGroup };
+
+    fn kind(&self, image: &Image) -> NodeKind {
+        group_kind(image)
     }
-    if level == 0 {
-        return Ok(());
-    }
-    for i in 0..node.len() {
-        check_keys(image, segment, level - 1, node.child(i))?;
-    }
-    Ok(())
 }
 
-/// Whether the keys of a node do not fall, and the names below each child lie between those around it.
-fn is_ordered(image: &Image, segment: &[u8], node: &Node) -> bool
+impl Ordered for Names<'_> {
+    ghost Item = { List ℕ };
+
+    ghost sides = { λ s. name_sides (key_text s.segment.now) };
+
+    ghost bottom = { λ s image. name_lists (symbols_at image (leaf_k image)) s.segment.now };
+
+    fn is_ordered(&self, image: &Image, node: &Node<'_>) -> bool {
+        are_ordered(image, self.segment, node)
+    }
+
+    fn lie_between(&self, image: &Image, node: &Node<'_>, low: &[u8], high: &[u8]) -> bool {
+        let bounds = Bounds {
+            low: text_from(self.segment, u64_at(low, 0)),
+            high: text_from(self.segment, u64_at(high, 0)),
+        };
+        are_between(image, self.segment, node, &bounds)
+    }
+
+    fn may_follow(&self, _image: &Image, key: &[u8], next: &[u8]) -> bool {
+        let name = text_from(self.segment, u64_at(key, 0));
+        is_not_after(name, text_from(self.segment, u64_at(next, 0)))
+    }
+}
+
+/// Whether the keys of a node of level 0 do not fall, and the names of each symbol node lie between those around it.
+fn are_ordered(image: &Image, segment: &[u8], node: &Node) -> bool
     requires superblock { IsSuperblock image.now.bytes }
-    requires children { AllByRecursion (HasSubtree image.now.bytes node.now.level) node.now.children }
-    ensures { IsTrue result ↔ IsOrdered (node_at image.now.bytes (kind_in image.now.bytes))
-        (symbols_at image.now.bytes (leaf_k image.now.bytes)) segment.now node.now }
+    requires level { node.now.level ≡ 0 }
+    requires leaves { AllByRecursion (IsBottom image.now.bytes OfGroup) node.now.children }
+    ensures { IsTrue result ↔ IsOrderedBy (name_sides (key_text segment.now))
+        (reading_in image.now.bytes OfGroup)
+        (name_lists (symbols_at image.now.bytes (leaf_k image.now.bytes)) segment.now) node.now }
 {
     for i in 0..node.len() {
         let bounds = Bounds {
             low: node.key_name(i, segment),
             high: node.key_name(i + 1, segment),
         };
-        if !is_child_ordered(image, segment, &bounds, node.level(), node.child(i)) {
+        if !is_child_ordered(image, segment, &bounds, node.child(i)) {
             return false;
         }
     }
     true
 }
 
-/// Whether the bounds do not fall, and the names below what stands at this address and height lie between them.
-fn is_child_ordered(image: &Image, segment: &[u8], bounds: &Bounds, height: u8, at: u64) -> bool
+/// Whether the bounds do not fall, and the names of the symbol node at this address lie between them.
+fn is_child_ordered(image: &Image, segment: &[u8], bounds: &Bounds, at: u64) -> bool
     requires superblock { IsSuperblock image.now.bytes }
-    requires subtree { HasSubtree image.now.bytes height at }
+    requires symbols { IsBottom image.now.bytes OfGroup at }
     ensures { IsTrue result ↔
         (NotAfter bounds.now.low.now bounds.now.high.now
         × AllByRecursion (LiesBetween bounds.now.low.now bounds.now.high.now)
-        (names_at image.now.bytes segment.now (symbol_nodes_under image.now.bytes height at))) }
+        (names_at image.now.bytes segment.now (at ∷ []))) }
 {
-    is_not_after(bounds.low, bounds.high) && are_between(image, segment, bounds, height, at)
+    is_not_after(bounds.low, bounds.high) && holds_between(image, segment, bounds, at)
 }
 
-/// Whether the names below what stands at this address and height lie between the bounds. A symbol node is at height 0.
-fn are_between(image: &Image, segment: &[u8], bounds: &Bounds, height: u8, at: u64) -> bool
+/// Whether the names of all symbol nodes below a node of level 0 lie between the bounds.
+fn are_between(image: &Image, segment: &[u8], node: &Node, bounds: &Bounds) -> bool
     requires superblock { IsSuperblock image.now.bytes }
-    requires subtree { HasSubtree image.now.bytes height at }
+    requires leaves { AllByRecursion (IsBottom image.now.bytes OfGroup) node.now.children }
     ensures { IsTrue result ↔ AllByRecursion (LiesBetween bounds.now.low.now bounds.now.high.now)
-        (names_at image.now.bytes segment.now (symbol_nodes_under image.now.bytes height at)) }
+        (all_of (name_lists (symbols_at image.now.bytes (leaf_k image.now.bytes)) segment.now node.now)) }
 {
-    if height == 0 {
-        return holds_between(image, segment, bounds, at);
-    }
-    let node = tree_node(image, at);
     for i in 0..node.len() {
-        if !are_between(image, segment, bounds, height - 1, node.child(i)) {
+        if !holds_between(image, segment, bounds, node.child(i)) {
             return false;
         }
     }
@@ -102,9 +114,9 @@ fn are_between(image: &Image, segment: &[u8], bounds: &Bounds, height: u8, at: u
 /// Whether the names of a symbol node lie between the bounds.
 fn holds_between(image: &Image, segment: &[u8], bounds: &Bounds, at: u64) -> bool
     requires superblock { IsSuperblock image.now.bytes }
-    requires symbols { HasSubtree image.now.bytes 0 at }
+    requires symbols { IsBottom image.now.bytes OfGroup at }
     ensures { IsTrue result ↔ AllByRecursion (LiesBetween bounds.now.low.now bounds.now.high.now)
-        (names_at image.now.bytes segment.now (symbol_nodes_under image.now.bytes 0 at)) }
+        (names_at image.now.bytes segment.now (at ∷ [])) }
 {
     let node = symbol_node(image, at);
     for k in 0..node.len() {

@@ -4,10 +4,11 @@ ghost use Rattle.std.specs.Prelude.{◌≡◌, ◌↔◌, IsTrue, List, map, opt
 ghost use Rattle.std.specs.List.{AllByRecursion};
 ghost use Rattle.h5_model.specs.Format.Superblock.{IsSuperblock, leaf_k};
 ghost use Rattle.h5_model.specs.Format.Symbols.{symbols_at, link_of};
-ghost use Rattle.h5_model.specs.Format.Links.{Ascend};
+ghost use Rattle.h5_model.specs.Format.Links.{Ascend, Before};
 ghost use Rattle.h5_model.specs.Faults.TreeFaults.{all_entries};
 ghost use Rattle.h5_group.specs.Nodes.Stands.{IsSymbolsAt};
-ghost use Rattle.h5_group.specs.Order.Rising.{FallAt, FallFrom, IsAbove, RiseFrom, last_name};
+ghost use Rattle.h5_btree.specs.Rising.{FallAt, FallFrom, IsAbove, RiseFrom, last_value};
+ghost use Rattle.h5_group.specs.Order.Between.{name_of_entry};
 
 use crate::nodes::symbol_node;
 use crate::order::text::is_before;
@@ -27,7 +28,8 @@ pub(crate) fn check_names(
         (Ascend (map (link_of segment.now) (all_entries image.now.bytes symbol_nodes.now))) }
     ensures cause { IfErr result (λ fault. fault.cause ≡ Cause.NameOrder) }
     ensures falls { IfErr result (λ fault.
-        FallAt image.now.bytes segment.now symbol_nodes.now fault.address) }
+        FallAt (name_of_entry segment.now) Before
+        (symbols_at image.now.bytes (leaf_k image.now.bytes)) symbol_nodes.now fault.address) }
 {
     let mut last = None;
     for at in symbol_nodes {
@@ -45,14 +47,14 @@ fn check_node<'a>(
 ) -> Result<Option<&'a [u8]>, OpenFault>
     requires superblock { IsSuperblock image.now.bytes }
     requires symbols { IsSymbolsAt image.now.bytes at }
-    ensures rise { OnOk result (RiseFrom segment.now (option_map (λ x. x.now) before.entry)
-        (symbols_at image.now.bytes (leaf_k image.now.bytes) at)) }
+    ensures rise { OnOk result (RiseFrom (name_of_entry segment.now) Before
+        (option_map (λ x. x.now) before.entry) (symbols_at image.now.bytes (leaf_k image.now.bytes) at)) }
     ensures last { IfOk result (λ last.
-        option_map (λ x. x.now) last ≡ last_name segment.now (option_map (λ x. x.now) before.entry)
-        (symbols_at image.now.bytes (leaf_k image.now.bytes) at)) }
+        option_map (λ x. x.now) last ≡ last_value (name_of_entry segment.now)
+        (option_map (λ x. x.now) before.entry) (symbols_at image.now.bytes (leaf_k image.now.bytes) at)) }
     ensures refused { IfErr result (λ fault. fault ≡ record { cause = Cause.NameOrder; address = at }) }
-    ensures falls { IfErr result (λ fault. FallFrom segment.now (option_map (λ x. x.now) before.entry)
-        (symbols_at image.now.bytes (leaf_k image.now.bytes) at)) }
+    ensures falls { IfErr result (λ fault. FallFrom (name_of_entry segment.now) Before
+        (option_map (λ x. x.now) before.entry) (symbols_at image.now.bytes (leaf_k image.now.bytes) at)) }
 {
     let node = symbol_node(image, at);
     let mut last = before;
@@ -71,7 +73,7 @@ fn check_node<'a>(
 
 /// Whether a name is above the last one, where there is one.
 fn is_above(last: Option<&[u8]>, name: &[u8]) -> bool
-    ensures { IsTrue result ↔ IsAbove (option_map (λ x. x.now) last.entry) name.now }
+    ensures { IsTrue result ↔ IsAbove Before (option_map (λ x. x.now) last.entry) name.now }
 {
     match last {
         Some(last) => is_before(last, name),

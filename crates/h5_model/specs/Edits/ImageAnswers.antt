@@ -1,5 +1,5 @@
 -- When an edit is refused for the image: what the image says decides, beside the tree.
-use Rattle.std.specs.Prelude.{◌≡◌, ℕ, ◌+◌, ◌^◌, ◌&&◌, Bool, true, false, not, Option, Some, None, IsTrue, IsFalse, nat_lt, is_none, if◌then◌else◌, List, [], ◌∷◌, length}
+use Rattle.std.specs.Prelude.{ℕ, ◌+◌, ◌<◌, ◌^◌, ◌&&◌, Bool, true, false, not, Option, Some, None, IsTrue, IsFalse, nat_lt, is_none, if◌then◌else◌, List, [], ◌∷◌, length}
 use Rattle.std.specs.Option.{option_map_or}
 use Rattle.h5_model.specs.Tree.Objects.{Tree, Dataset, Storage, Chunked}
 use Rattle.h5_model.specs.Tree.Paths.{dataset_at}
@@ -11,12 +11,7 @@ use Rattle.h5_model.specs.declared.edits.Edit.TheVariants.{CreateGroup, CreateDa
 use Rattle.h5_model.specs.declared.edit_fault.EditFault.{EditFault}
 use Rattle.h5_model.specs.declared.edit_fault.EditFault.TheVariants as fault
 
--- the edits that add a message to a header, and those that add a link or a chunk
-abbrev pub adds_message : Edit → Bool
-adds_message (SetAttr path attr) = true
-adds_message (Resize path dims) = true
-adds_message _ = false
-
+-- the edits that add a link or a chunk
 abbrev pub adds_entry : Edit → Bool
 adds_entry (CreateGroup path) = true
 adds_entry (CreateDataset path spec) = true
@@ -25,20 +20,19 @@ adds_entry (SoftLink text path) = true
 adds_entry (Write path hyper values) = true
 adds_entry _ = false
 
--- Want of memory may stand in place of any other refusal; what else is given comes behind the rules of the tree. (NotYet would stand
--- before all of them, while some edit is not carried.)
+-- Want of memory may stand in place of any other refusal; what else is given comes behind the rules of the tree.
 abbrev pub chosen : Option EditFault → Option EditFault → Option EditFault
 chosen refusal (Some fault.NoMemory) = Some fault.NoMemory
 chosen (Some f) given = Some f
 chosen None given = given
 
--- what an image says of an edit: its length, how many messages the named object's header has, the level of the tree that takes
--- a link or a chunk, and what the bounds need
+-- What an image says of an edit: its length, how many messages the named object's header has, and what the bounds need. Of the tree
+-- that takes the edit's links or chunks, whether its root is at level 15 and has to split for the next one, when so many are added.
 pub record Facts : Type 0 where
   pub length : ℕ
   pub total : ℕ
-  pub level : ℕ
   pub room : Room
+  pub splits_top : ℕ → Bool
 
 -- a message must be added: by every SetAttr, and by a Resize whose dataspace message has no maxima
 abbrev pub must_add : Room → Edit → Bool
@@ -50,22 +44,25 @@ must_add r _ = false
 abbrev pub is_header_full : Facts → Edit → Bool
 is_header_full f edit = must_add f.room edit && nat_lt 65535 (f.total + 2)
 
--- The image has at most 2^31 bytes. Until an edit works in place the image is written anew: read `nat_lt (2 ^ 31) (plain_length ..)`
--- of the tree after the edit, for every edit and for good for a repack; and no header is full and no tree too deep.
+-- the image has at most 2^31 bytes
 abbrev pub is_image_full : Facts → Tree → Edit → Bool
 is_image_full f tree edit = nat_lt (2 ^ 31) (f.length + bound_of f.room tree edit)
 
--- a write meets a chunk that is not stored
-abbrev pub adds_chunk : Room → Edit → Dataset → Bool
-adds_chunk r edit d = of_storage d.storage where
-  of_storage : Storage → Bool
-  of_storage (Chunked chunk) = nat_lt 0 (length (new_boxes r edit d.sizes chunk))
-  of_storage _ = false
+-- how many chunks a write meets that are not stored
+abbrev pub new_chunks : Room → Edit → Dataset → ℕ
+new_chunks r edit d = of_storage d.storage where
+  of_storage : Storage → ℕ
+  of_storage (Chunked chunk) = length (new_boxes r edit d.sizes chunk)
+  of_storage _ = 0
 
--- a link finds its group's tree at level 15; of several chunks a later one may, so a Write has only to add one
+-- how many links or chunks an edit adds to a tree
+abbrev pub new_entries : Room → Tree → Edit → ℕ
+new_entries r tree (Write path hyper values) = option_map_or (new_chunks r (Write path hyper values)) (dataset_at tree path) 0
+new_entries r tree edit = if adds_entry edit then 1 else 0
+
+-- one of them, in its turn, finds the root at level 15 and has to split it
 abbrev pub AtTop : Facts → Tree → Edit → Type 0
-AtTop f tree (Write path hyper values) = IsTrue (option_map_or (adds_chunk f.room (Write path hyper values)) (dataset_at tree path) false)
-AtTop f tree edit = IsTrue (adds_entry edit) × (f.level ≡ 15)
+AtTop f tree edit = (added : ℕ) × (added < new_entries f.room tree edit) × IsTrue (f.splits_top added)
 
 -- What the image decides of an edit that no rule of the tree refuses, memory aside: HeaderFull exactly where it holds; then ImageFull
 -- exactly where it holds, or TreeTooDeep, in its place or alone.

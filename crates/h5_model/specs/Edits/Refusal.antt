@@ -1,5 +1,4 @@
--- When an edit is refused: the lowest rule that holds. Beside these rules stand the image's and memory's (ImageAnswers), and NotYet:
--- until every edit is carried, an edit that isn't is answered NotYet, before any rule is looked at.
+-- When an edit is refused: the lowest rule that holds. Beside these rules stand the image's and memory's (ImageAnswers).
 use Rattle.std.specs.Prelude.{ℕ, ◌*◌, ◌^◌, ◌==◌, ◌&&◌, ◌||◌, Bool, true, false, not, nat_lt, nat_le, if◌then◌else◌, Option, Some, None, List, [], ◌∷◌, length, is_some, is_none}
 use Rattle.std.specs.FinMap.{get, contains_key, len}
 use Rattle.std.specs.List.{list_any, list_all}

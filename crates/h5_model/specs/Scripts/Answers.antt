@@ -15,7 +15,7 @@ use Rattle.h5_model.specs.Edits.Refusal.{refusal_of, first_holding}
 use Rattle.h5_model.specs.Scripts.Reading.{path_rules, selection_rules}
 use Rattle.h5_model.specs.Views.Shown.{View, Shown, shows, is_lent, refreshed_of}
 use Rattle.h5_model.specs.Scripts.Sessions.{Session}
-use Rattle.h5_model.specs.Edits.ImageAnswers.{adds_message, adds_entry, chosen}
+use Rattle.h5_model.specs.Edits.ImageAnswers.{chosen}
 use Rattle.h5_model.specs.Scripts.Text.{line_of, escaped, list_text, dump_text, values_text}
 use Rattle.h5_model.specs.Scripts.Lines.{Command, Change, OpenView, Show, Close, ListAll, Dump, Repack, Unread}
 use Rattle.h5_model.specs.declared.hyperslab.Hyper.{Hyper}
@@ -42,24 +42,6 @@ pub record Answer : Type 0 where
 
 abbrev pub answered : Outcome → List ℕ → Session → Answer
 answered outcome text s = record { text = text; session = s; outcome = outcome }
-
--- The refusals that a line may be given; of `view`, NoMemory is its own fault 5. Until all edits work in place, Unlink and RemoveAttr
--- may be given ImageFull too.
-abbrev pub may_be : Command → EditFault → Bool
-may_be (Change edit) fault.HeaderFull = adds_message edit
-may_be (Change edit) fault.TreeTooDeep = adds_entry edit
-may_be (Change edit) fault.ImageFull = adds_message edit || adds_entry edit
-may_be (Change edit) fault.NoMemory = true
-may_be (OpenView path hyper) fault.NoMemory = true
-may_be ListAll fault.NoMemory = true
-may_be (Dump path) fault.NoMemory = true
-may_be Repack fault.ImageFull = true
-may_be Repack fault.NoMemory = true
-may_be _ _ = false
-
-abbrev pub is_given : Command → Given → Bool
-is_given command None = true
-is_given command (Some f) = may_be command f
 
 -- an edit's answer: its refusal, else how many chunks were refreshed
 abbrev pub edit_decided : Session → Edit → Option EditFault → Answer

@@ -52,8 +52,7 @@ is_in_line Compact = true
 is_in_line (Contiguous stored) = stored
 is_in_line (Chunked sizes) = false
 
--- The selected cells, each of them inside, stand in one piece of the image. Until views are patched in place no view is lent: read
--- `false` here.
+-- the selected cells, each of them inside, stand in one piece of the image
 abbrev pub is_lent : Dataset → Slab → Bool
 is_lent d slab = is_in_line d.storage && (is_within d.sizes slab && is_one_run d.sizes slab)
 
@@ -99,8 +98,7 @@ refreshing_path (Write path hyper values) = path ∷ []
 refreshing_path (Resize path dims) = path ∷ []
 refreshing_path _ = []
 
--- How many chunks an edit refreshes in the views; 0 for other edits than writes and resizes. Until views are patched in place all
--- are gathered anew and nothing is counted: read 0 here.
+-- how many chunks an edit refreshes in the views; 0 for other edits than writes and resizes
 abbrev pub refreshed_of : Tree → Tree → Views → Edit → ℕ
 refreshed_of old new views edit =
     sum_by (λ path. option_map_or (λ number. refreshed_by old new views number edit) (object_at old path) 0) (refreshing_path edit)

@@ -8,7 +8,7 @@ use Rattle.h5_model.specs.declared.open_fault.Cause.{Cause}
 use Rattle.h5_model.specs.declared.open_fault.Cause.TheVariants.{TooLarge, LinkCount, GroupLinkedTwice}
 use Rattle.h5_group.specs.Nodes.Walk.{IsFault}
 use Rattle.h5_open.specs.declared.opened.object.OpenedObject.{OpenedObject}
-use Rattle.h5_open.specs.Opened.Objects.{headers, table_of, tree_of}
+use Rattle.h5_open.specs.Opened.Objects.{headers, table_of, tree_of, slots_of}
 use Rattle.h5_open.specs.Placed.Whole.{IsWholeImage, placed_of}
 use Rattle.h5_open.proofs.PlacedLaws.WholeHolds.{whole_holds}
 use Rattle.h5_laws.proofs.Lists.{contains_in, in_contains}
@@ -36,7 +36,7 @@ wrong_links image o count links is _ wrong = absurd wrong
 module _ (image : List ℕ) (objects : List OpenedObject) (whole : IsWholeImage image objects) (counts : List ℕ)
     (are : AreCounts (headers objects) (all_links image objects) counts) where
   pub all_right : ((number : ℕ) (o : OpenedObject) → slice_get objects number ≡ Some o → IsRight image o (get_or counts number 0))
-      → ReadsAs image (table_of objects) (tree_of image objects) (placed_of image objects)
+      → ReadsAs image (table_of (slots_of objects)) (tree_of image (slots_of objects)) (placed_of image objects)
   all_right right =
       right_reads image objects whole (whole_holds image objects whole) (λ o member.
       let place = contains_in o objects member in

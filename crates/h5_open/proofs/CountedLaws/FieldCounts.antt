@@ -54,20 +54,20 @@ module _ (image : List ℕ) (h : ℕ) where
       ap (λ (o : Option Message). linking h (option_map_or (λ (x : Message). option_map_or (λ (t : SymbolTable). fields.tree_links image t.tree) (symbol_table_of x.body) []) o [])) none
 
   -- those of several objects
-  objects_count : (table : FinMap nat_cmp ℕ) (at : List ℕ) (n : ℕ) (objects : List OpenedObject) (each : AllByRecursion (IsPlaced image table) (placed_from image at n objects))
-      → AllByRecursion (IsObjectKept image) objects → linking h (placed_links image table (placed_from image at n objects) each) ≡ leading h (object_links image objects)
-  objects_count table at n [] each kept = refl
-  objects_count table at n (o ∷ objects) each kept =
+  objects_count : (table : FinMap nat_cmp ℕ) (n : ℕ) (objects : List OpenedObject) (each : AllByRecursion (IsPlaced image table) (placed_from image table n objects))
+      → AllByRecursion (IsObjectKept image) objects → linking h (placed_links image table (placed_from image table n objects) each) ≡ leading h (object_links image objects)
+  objects_count table n [] each kept = refl
+  objects_count table n (o ∷ objects) each kept =
       let ms = messages_in image o.messages.list in
       let same : ms ≡ each.0.messages = one_messages image o.messages.header ms each.0.messages o.messages.blocks each.0.header_blocks kept.0.header.has each.0.listed in
       let a : linking h (fields.object_links image each.0.messages) ≡ leading h (content_links image o.content)
       = subst (λ (x : List Message). linking h (fields.object_links image x) ≡ leading h (content_links image o.content)) same (content_count ms o.content kept.0.content) in
-      let b = linking-append h (fields.object_links image each.0.messages) (placed_links image table (placed_from image at (n + 1) objects) each.1) in
+      let b = linking-append h (fields.object_links image each.0.messages) (placed_links image table (placed_from image table (n + 1) objects) each.1) in
       let c = leading-append h (content_links image o.content) (object_links image objects) in
-      let d = objects_count table at (n + 1) objects each.1 kept.1 in
+      let d = objects_count table (n + 1) objects each.1 kept.1 in
       omega (arith, a, b, c, d)
 
   -- all of them
-  pub fields_count : (table : FinMap nat_cmp ℕ) (at : List ℕ) (objects : List OpenedObject) (each : AllByRecursion (IsPlaced image table) (placed_from image at 0 objects))
-      → AllByRecursion (IsObjectKept image) objects → linking h (fields.all_links image table (placed_from image at 0 objects) each) ≡ leading h (all_links image objects)
-  fields_count table at objects each kept = ap (λ (n : ℕ). (if root_header image == h then 1 else 0) + n) (objects_count table at 0 objects each kept)
+  pub fields_count : (table : FinMap nat_cmp ℕ) (objects : List OpenedObject) (each : AllByRecursion (IsPlaced image table) (placed_from image table 0 objects))
+      → AllByRecursion (IsObjectKept image) objects → linking h (fields.all_links image table (placed_from image table 0 objects) each) ≡ leading h (all_links image objects)
+  fields_count table objects each kept = ap (λ (n : ℕ). (if root_header image == h then 1 else 0) + n) (objects_count table 0 objects each kept)

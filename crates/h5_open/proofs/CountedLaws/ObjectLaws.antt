@@ -3,6 +3,8 @@ use Rattle.std.proofs.Common.{◌≡◌, ◌≢◌, ℕ, ◌+◌, ◌<◌, ◌�
 use Rattle.std.proofs.lemmas.Bool.Decides.{nat_tests}
 use Rattle.std.specs.Prelude.{◌==◌, if◌then◌else◌}
 use Rattle.std.specs.List.{AllByRecursion, Contains}
+use Rattle.std.specs.Ordering.{nat_cmp}
+use Rattle.std.specs.FinMap.{FinMap}
 use Rattle.h5_bytes.specs.Blocks.{Inside}
 use Rattle.h5_model.specs.Format.Addresses.{symbol_table_of}
 use Rattle.h5_model.specs.Format.Reached.{Named, named, ObjectHeader, Reached, kind_at}
@@ -19,7 +21,7 @@ use Rattle.h5_open.specs.declared.opened.object.OpenedObject.{OpenedObject}
 use Rattle.h5_open.specs.declared.opened.object.OpenedContent.{OpenedContent}
 use Rattle.h5_open.specs.declared.opened.object.OpenedContent.TheVariants as content
 use Rattle.h5_open.specs.Opened.Kept.{IsObjectKept, IsContentKept}
-use Rattle.h5_open.specs.Opened.Objects.{headers, table_of, tree_of, content_in, object_in, object_blocks}
+use Rattle.h5_open.specs.Opened.Objects.{table_of, tree_of, content_in, object_in, object_blocks, slots_of}
 use Rattle.h5_open.specs.Placed.Whole.{IsGroupContent, IsWholeImage, placed_from, placed_of}
 use Rattle.h5_laws.proofs.Lists.{In, in_all, contains_in}
 use Rattle.h5_laws.proofs.Pigeonhole.{Apart, apart_of_distinct}
@@ -33,9 +35,9 @@ use Rattle.h5_open.specs.Counted.Counts.{IsCount, IsRight, IsWrong}
 use Rattle.h5_open.proofs.CountedLaws.FieldCounts.{fields_count}
 
 -- a group of the tree is a group that was read
-is_group_content : (image at : List ℕ) (ms : List Message) (c : OpenedContent) → IsGroup (content_in image at ms c) → IsGroupContent c
-is_group_content image at ms (content.Group t) is = tt
-is_group_content image at ms content.Array is = is
+is_group_content : (image : List ℕ) (table : FinMap nat_cmp ℕ) (ms : List Message) (c : OpenedContent) → IsGroup (content_in image table ms c) → IsGroupContent c
+is_group_content image table ms (content.Group t) is = tt
+is_group_content image table ms content.Array is = is
 
 -- of two different fields one is not this
 other_in : (fields : List ℕ) → Apart fields → 1 < length fields → (f : ℕ) → (g : ℕ) × In g fields × (g ≢ f)
@@ -68,14 +70,14 @@ table_met image o kept is = go o.content is kept.content where
       (met.at, met.fits.0, kind)
 
 module _ (image : List ℕ) (objects : List OpenedObject) (whole : IsWholeImage image objects)
-    (holds : Holds image (table_of objects) (tree_of image objects) (placed_of image objects)) where
-  abbrev at : List ℕ
-  at = headers objects
+    (holds : Holds image (table_of (slots_of objects)) (tree_of image (slots_of objects)) (placed_of image objects)) where
+  abbrev table : FinMap nat_cmp ℕ
+  table = table_of (slots_of objects)
 
   abbrev place : ℕ → OpenedObject → Placed
-  place n o = record { number = n; header = o.messages.header; object = object_in image at o; blocks = object_blocks image o }
+  place n o = record { number = n; header = o.messages.header; object = object_in image table o; blocks = object_blocks image o }
 
-  placed_in : (n : ℕ) (some : List OpenedObject) (o : OpenedObject) → In o some → (x : Placed) × In x (placed_from image at n some) × (x.header ≡ o.messages.header)
+  placed_in : (n : ℕ) (some : List OpenedObject) (o : OpenedObject) → In o some → (x : Placed) × In x (placed_from image table n some) × (x.header ≡ o.messages.header)
   placed_in n [] o member = absurd member
   placed_in n (p ∷ some) o (inl same) =
       (place n p, inl refl, ap (λ (q : OpenedObject). q.messages.header) same)
@@ -83,10 +85,10 @@ module _ (image : List ℕ) (objects : List OpenedObject) (whole : IsWholeImage 
 
   -- as many links lead to an object as the tree has
   links_are : (x : Placed) → In x (placed_of image objects)
-      → leading x.header (all_links image objects) ≡ hard_links (tree_of image objects) x.number + (if x.number == 0 then 1 else 0)
+      → leading x.header (all_links image objects) ≡ hard_links (tree_of image (slots_of objects)) x.number + (if x.number == 0 then 1 else 0)
   links_are x member =
-      sym (fields_count image x.header (table_of objects) at objects holds.each whole.each)
-      ∙ object_count image (table_of objects) (tree_of image objects) (placed_of image objects) holds x member
+      sym (fields_count image x.header (table_of (slots_of objects)) objects holds.each whole.each)
+      ∙ object_count image (table_of (slots_of objects)) (tree_of image (slots_of objects)) (placed_of image objects) holds x member
 
   -- the fields that name the header of an object, with one of them
   pub record IsNamed (header : ℕ) : Type 0 where
@@ -100,8 +102,8 @@ module _ (image : List ℕ) (objects : List OpenedObject) (whole : IsWholeImage 
 
   placed_named : (x : Placed) → In x (placed_of image objects) → IsNamed x.header
   placed_named x member =
-      let all = linked_by image (table_of objects) (tree_of image objects) (placed_of image objects) holds x member in
-      let reached = all_reached image (table_of objects) (tree_of image objects) (placed_of image objects) holds x member in record {
+      let all = linked_by image (table_of (slots_of objects)) (tree_of image (slots_of objects)) (placed_of image objects) holds x member in
+      let reached = all_reached image (table_of (slots_of objects)) (tree_of image (slots_of objects)) (placed_of image objects) holds x member in record {
         fields = all.0;
         all = all.1;
         long = all.2 ∙ sym (links_are x member);
@@ -122,25 +124,25 @@ module _ (image : List ℕ) (objects : List OpenedObject) (whole : IsWholeImage 
   abbrev HasRight : OpenedObject → Type 0
   HasRight o = (count : ℕ) × IsRight image o count × IsCount count (leading o.messages.header (all_links image objects))
 
-  one_counted : (n : ℕ) (o : OpenedObject) → In (place n o) (placed_of image objects) → HasRight o → IsCounted image (tree_of image objects) (place n o)
+  one_counted : (n : ℕ) (o : OpenedObject) → In (place n o) (placed_of image objects) → HasRight o → IsCounted image (tree_of image (slots_of objects)) (place n o)
   one_counted n o member has =
       let known = placed_named (place n o) member in
       let links = links_are (place n o) member in
       let is : has.0 ≡ leading o.messages.header (all_links image objects) = has.2.exact has.1.limit in
       let some : 1 ≤ leading o.messages.header (all_links image objects) = omega (arith, known.among.1, known.long) in record {
         counted = has.1.counted ∙ is ∙ links;
-        once = λ group. let most : has.0 ≤ 1 = has.1.once (is_group_content image at (messages_in image o.messages.list) o.content group) in omega (arith, has.1.counted, is, some, most);
+        once = λ group. let most : has.0 ≤ 1 = has.1.once (is_group_content image table (messages_in image o.messages.list) o.content group) in omega (arith, has.1.counted, is, some, most);
         limit = omega (arith, has.1.limit, is, links);
       }
 
-  each_counted : (n : ℕ) (some : List OpenedObject) → ((x : Placed) → In x (placed_from image at n some) → In x (placed_of image objects))
-      → ((o : OpenedObject) → In o some → HasRight o) → AllByRecursion (IsCounted image (tree_of image objects)) (placed_from image at n some)
+  each_counted : (n : ℕ) (some : List OpenedObject) → ((x : Placed) → In x (placed_from image table n some) → In x (placed_of image objects))
+      → ((o : OpenedObject) → In o some → HasRight o) → AllByRecursion (IsCounted image (tree_of image (slots_of objects))) (placed_from image table n some)
   each_counted n [] sub right = tt
   each_counted n (o ∷ some) sub right =
       (one_counted n o (sub (place n o) (inl refl)) (right o (inl refl)), each_counted (n + 1) some (λ x member. sub x (inr member)) (λ p member. right p (inr member)))
 
   -- where each is right, the image reads as this tree
-  pub right_reads : ((o : OpenedObject) → In o objects → HasRight o) → ReadsAs image (table_of objects) (tree_of image objects) (placed_of image objects)
+  pub right_reads : ((o : OpenedObject) → In o objects → HasRight o) → ReadsAs image (table_of (slots_of objects)) (tree_of image (slots_of objects)) (placed_of image objects)
   right_reads right =
       record { holds = holds; counted = each_counted 0 objects (λ x member. member) right }
 

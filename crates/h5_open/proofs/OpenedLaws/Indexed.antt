@@ -1,50 +1,35 @@
--- The objects of an opened image by their numbers, and numbers by headers.
-use Rattle.std.proofs.Common.{◌≡◌, ℕ, zero, suc, ◌+◌, List, [], ◌∷◌, refl, sym, ap, ◌∙◌, Some, true, false, Bool, arith}
-use Rattle.std.specs.Prelude.{◌==◌, slice_get, if◌then◌else◌, option_map}
-use Rattle.std.proofs.lemmas.Bool.Decides.{nat_tests}
-use Rattle.std.proofs.lemmas.Option.{same_Some, slice_get-map}
+-- The value of an opened image: its objects by their numbers, and numbers by headers.
+use Rattle.std.proofs.Common.{◌≡◌, ℕ, refl, sym, ap, ◌∙◌, Option, Some, None, arith}
 use Rattle.std.specs.FinMap.{get}
-use Rattle.std.specs.BTreeMap.{BTreeMap}
-use Rattle.h5_open.specs.declared.opened.object.OpenedObject.{OpenedObject}
-use Rattle.h5_open.specs.Opened.Kept.{IsOpened, IsObjectKept}
-use Rattle.h5_open.specs.Opened.Objects.{headers, number_of, object_in, tree_of}
-use Rattle.h5_open.proofs.OpenedLaws.Entries.{get_tree}
-use Rattle.h5_laws.proofs.Lists.{in_all, in_at}
-use Rattle.h5_open.proofs.OpenedLaws.Own.{Own, own_headers}
+use Rattle.h5_model.specs.Tree.Objects.{Object}
+use Rattle.h5_laws.proofs.Objects.{in_table}
+use Rattle.h5_laws.proofs.SoundLaws.Read.{placed_at}
+use Rattle.h5_open.specs.Opened.Objects.{number_in}
+use Rattle.h5_open.specs.Opened.Sound.{IsSound}
+use Rattle.h5_open.specs.Opened.State.{FileState}
+use Rattle.h5_open.proofs.OpenedLaws.HeaderNumbers.{number_is}
 
--- ---- lists
+module _ (f : FileState) (sound : IsSound f) where
+  -- the number of an object's header is the object's
+  pub number_at_header : (n h : ℕ) → get f.table n ≡ Some h → number_in f.table h ≡ n
+  number_at_header = number_is f.table sound.reads.holds.own
 
--- the number of what stands in a list is the first place at which it stands
-number_here : (x : ℕ) (xs : List ℕ) (h : ℕ) (b : Bool) → (x == h) ≡ b → ((b ≡ false) → slice_get xs (number_of xs h) ≡ Some h) → slice_get (x ∷ xs) (if b then 0 else 1 + number_of xs h) ≡ Some h
-number_here x xs h true is rest = let same : x ≡ h = grind (arith, nat_tests) in ap (λ (n : ℕ). Some n) same
-number_here x xs h false is rest = let next : 1 + number_of xs h ≡ suc (number_of xs h) = omega arith in ap (slice_get (x ∷ xs)) next ∙ rest refl
+  -- each object of the tree has a header
+  pub header_there : (n : ℕ) (o : Object) → get f.tree n ≡ Some o → (h : ℕ) × (get f.table n ≡ Some h)
+  header_there n o at =
+      let x = placed_at f.image f.table f.tree sound.placed sound.reads n o at in
+      (x.0.header, ap (get f.table) (sym x.2) ∙ in_table f.image f.table f.tree sound.placed sound.reads.holds x.0 x.1)
 
-first_number : (hs : List ℕ) (k h : ℕ) → slice_get hs k ≡ Some h → slice_get hs (number_of hs h) ≡ Some h
-first_number [] k h at = absurd (cc)
-first_number (x ∷ xs) zero h at =
-    let same : (x == h) ≡ true = (let e : x ≡ h = same_Some x h at in grind (arith, nat_tests)) in
-    number_here x xs h (x == h) refl (λ other. absurd (let never : true ≡ false = sym same ∙ other in cc))
-first_number (x ∷ xs) (suc k) h at = number_here x xs h (x == h) refl (λ _. first_number xs k h at)
+  -- so where there is none there is no object
+  pub none_there : (n : ℕ) → get f.table n ≡ None → get f.tree n ≡ None
+  none_there n none = go (get f.tree n) refl where
+    go : (found : Option Object) → get f.tree n ≡ found → found ≡ None
+    go None is = refl
+    go (Some o) is = absurd (let never : None ≡ Some (header_there n o is).0 = sym none ∙ (header_there n o is).1 in cc)
 
--- where each stands once, it is the one at which it stands
-pub number_at : (hs : List ℕ) → Own hs → (k h : ℕ) → slice_get hs k ≡ Some h → number_of hs h ≡ k
-number_at hs own k h at = own (number_of hs h) k h (first_number hs k h at) at
-
--- ---- objects
-
-pub header_at : (objects : List OpenedObject) (k : ℕ) (o : OpenedObject) → slice_get objects k ≡ Some o → slice_get (headers objects) k ≡ Some o.messages.header
-header_at objects k o at = slice_get-map (λ (x : OpenedObject). x.messages.header) objects k ∙ ap (option_map (λ (x : OpenedObject). x.messages.header)) at
-
--- the tree has it under its number
-pub object_there : (image : List ℕ) (objects : List OpenedObject) (k : ℕ) (o : OpenedObject) → slice_get objects k ≡ Some o
-    → get (tree_of image objects) k ≡ Some (object_in image (headers objects) o)
-object_there image objects k o at =
-    get_tree image objects k ∙ slice_get-map (object_in image (headers objects)) objects k ∙ ap (option_map (object_in image (headers objects))) at
-
-module _ (image : List ℕ) (objects : List OpenedObject) (numbers : BTreeMap ℕ ℕ) (opened : IsOpened image objects numbers) where
-  pub object_kept : (k : ℕ) (o : OpenedObject) → slice_get objects k ≡ Some o → IsObjectKept image o
-  object_kept k o at = in_all (IsObjectKept image) o objects opened.each (in_at objects k o at)
-
-  -- the number of a header is the one at which it stands
-  pub number_at_header : (k h : ℕ) → slice_get (headers objects) k ≡ Some h → number_of (headers objects) h ≡ k
-  number_at_header = number_at (headers objects) (own_headers image objects (tree_of image objects) opened.reads)
+  -- the next number is no object's
+  pub next_free : get f.tree f.next ≡ None
+  next_free = go (get f.tree f.next) refl where
+    go : (found : Option Object) → get f.tree f.next ≡ found → found ≡ None
+    go None is = refl
+    go (Some o) is = absurd (omega (arith, sound.numbers.given f.next (rw is refl)))

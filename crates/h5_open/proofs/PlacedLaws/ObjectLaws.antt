@@ -1,10 +1,9 @@
 -- Each object that was read is the one that a reading of the image places at its header.
-use Rattle.std.proofs.Common.{◌≡◌, ℕ, zero, suc, ◌+◌, List, [], ◌∷◌, refl, sym, ap, ◌∙◌, subst, Option, Some, None}
-use Rattle.std.specs.Prelude.{map, option_map, IsTrue}
+use Rattle.std.proofs.Common.{◌≡◌, ℕ, zero, suc, ◌+◌, List, [], ◌∷◌, refl, sym, ◌∙◌, subst, Option, Some, None}
+use Rattle.std.specs.Prelude.{map, IsTrue}
 use Rattle.std.specs.List.{AllByRecursion, AllZip, IsDistinct}
 use Rattle.std.specs.Ordering.{nat_cmp, eq_by_cmp}
 use Rattle.std.specs.FinMap.{get, empty}
-use Rattle.std.proofs.lemmas.Option.{slice_get-map}
 use Rattle.h5_bytes.specs.declared.Block.{Block}
 use Rattle.h5_model.specs.Format.Symbols.{Target, Header, Text}
 use Rattle.h5_model.specs.Format.Fixed.{Fixed}
@@ -23,10 +22,10 @@ use Rattle.h5_open.specs.declared.opened.object.OpenedContent.{OpenedContent}
 use Rattle.h5_open.specs.declared.opened.object.OpenedContent.TheVariants as content
 use Rattle.h5_open.specs.Opened.Array.{data_blocks}
 use Rattle.h5_open.specs.Opened.Kept.{IsObjectKept, IsContentKept}
-use Rattle.h5_open.specs.Opened.Objects.{headers, number_of, content_links, link_to, content_in, content_blocks, object_in, object_blocks, table_of}
+use Rattle.h5_open.specs.Opened.Objects.{headers, number_in, content_links, link_to, content_in, content_blocks, object_in, object_blocks, table_of, slots_of}
 use Rattle.h5_laws.proofs.Lists.{In, in_contains}
 use Rattle.h5_open.specs.Placed.Whole.{IsLedTo, HasHeight, AreLed, placed_from}
-use Rattle.h5_open.proofs.OpenedLaws.Entries.{get_table, group_entries}
+use Rattle.h5_open.proofs.OpenedLaws.Entries.{get_table_dense, header_at_dense, group_entries}
 use Rattle.h5_open.proofs.PlacedLaws.Places.{at_number}
 use Rattle.h5_open.proofs.PlacedLaws.GroupMessages.{group_known}
 
@@ -39,29 +38,28 @@ data_stored image t (InChunks sizes root) block is = absurd (cc)
 
 module _ (image : List ℕ) (objects : List OpenedObject) (distinct : IsDistinct (eq_by_cmp nat_cmp) (headers objects)) where
   -- the table has each header at its number
-  pub header_at : (o : OpenedObject) → In o objects → get (table_of objects) (number_of (headers objects) o.messages.header) ≡ Some o.messages.header
-  header_at o there =
-      get_table objects (number_of (headers objects) o.messages.header)
-      ∙ slice_get-map (λ (x : OpenedObject). x.messages.header) objects (number_of (headers objects) o.messages.header)
-      ∙ ap (option_map (λ (x : OpenedObject). x.messages.header)) (at_number (λ (x : OpenedObject). x.messages.header) objects o distinct there)
+  header_there : (o : OpenedObject) → In o objects → get (table_of (slots_of objects)) (number_in (table_of (slots_of objects)) o.messages.header) ≡ Some o.messages.header
+  header_there o there =
+      let number = number_in (table_of (slots_of objects)) o.messages.header in
+      get_table_dense objects number ∙ header_at_dense objects number o (at_number objects distinct o there)
 
   same_links : (P : OpenedObject → Type 0) (found : List (List ℕ × Target)) → AllByRecursion (IsLedTo objects P) found
-      → AllZip (IsSame (table_of objects)) (map (λ (l : List ℕ × Target). (l.0, link_to (headers objects) l.1)) found) found
+      → AllZip (IsSame (table_of (slots_of objects))) (map (λ (l : List ℕ × Target). (l.0, link_to (table_of (slots_of objects)) l.1)) found) found
   same_links P [] led = tt
   same_links P ((name, Header header) ∷ found) ((o, there, same, holds), led) = (
-    (refl, subst (λ (h : ℕ). get (table_of objects) (number_of (headers objects) h) ≡ Some h) same (header_at o (in_contains o objects there))),
+    (refl, subst (λ (h : ℕ). get (table_of (slots_of objects)) (number_in (table_of (slots_of objects)) h) ≡ Some h) same (header_there o (in_contains o objects there))),
     same_links P found led,
   )
   same_links P ((name, Text text) ∷ found) (text_led, led) = ((refl, refl), same_links P found led)
 
   links_lead : (height : ℕ) (o : OpenedObject) → HasHeight image objects height o
-      → AllZip (IsSame (table_of objects)) (map (λ (l : List ℕ × Target). (l.0, link_to (headers objects) l.1)) (content_links image o.content)) (content_links image o.content)
+      → AllZip (IsSame (table_of (slots_of objects))) (map (λ (l : List ℕ × Target). (l.0, link_to (table_of (slots_of objects)) l.1)) (content_links image o.content)) (content_links image o.content)
   links_lead zero o none = rw none tt
   links_lead (suc height) o led = same_links (HasHeight image objects height) (content_links image o.content) led
 
   has_content : (list : List Stood) (c : OpenedContent) → AllByRecursion (λ (m : Stood). IsTrue (is_read m.kind)) list → IsContentKept image (messages_in image list) c
-      → AllZip (IsSame (table_of objects)) (map (λ (l : List ℕ × Target). (l.0, link_to (headers objects) l.1)) (content_links image c)) (content_links image c)
-      → HasContent image (table_of objects) (messages_in image list) (content_in image (headers objects) (messages_in image list) c) (content_blocks image (messages_in image list) c)
+      → AllZip (IsSame (table_of (slots_of objects))) (map (λ (l : List ℕ × Target). (l.0, link_to (table_of (slots_of objects)) l.1)) (content_links image c)) (content_links image c)
+      → HasContent image (table_of (slots_of objects)) (messages_in image list) (content_in image (table_of (slots_of objects)) (messages_in image list) c) (content_blocks image (messages_in image list) c)
   has_content list (content.Group t) known (kinds, chosen, read) same = (
     links_told image t,
     record {
@@ -71,7 +69,7 @@ module _ (image : List ℕ) (objects : List OpenedObject) (distinct : IsDistinct
       chosen = chosen;
       linked = read.linked;
     },
-    subst (λ (es : List (List ℕ × Link)). AllZip (IsSame (table_of objects)) es (links_told image t)) (sym (group_entries image (headers objects) t read)) same,
+    subst (λ (es : List (List ℕ × Link)). AllZip (IsSame (table_of (slots_of objects))) es (links_told image t)) (sym (group_entries image (table_of (slots_of objects)) t read)) same,
   )
   has_content list content.Array known (array, inside) same =
       let told = array_told (messages_in image list) in
@@ -79,7 +77,7 @@ module _ (image : List ℕ) (objects : List OpenedObject) (distinct : IsDistinct
       (known_in image list known (array.kinds).no_table) (data_stored image told.fixed told.layout (array.carried).block (array.carried).in_block)
 
   has_object : (o : OpenedObject) → IsObjectKept image o → AreLed image objects o
-      → HasObject image (table_of objects) o.messages.header (object_in image (headers objects) o) (object_blocks image o)
+      → HasObject image (table_of (slots_of objects)) o.messages.header (object_in image (table_of (slots_of objects)) o) (object_blocks image o)
   has_object o kept led = record {
     messages = messages_in image o.messages.list;
     header_blocks = o.messages.blocks;
@@ -92,6 +90,6 @@ module _ (image : List ℕ) (objects : List OpenedObject) (distinct : IsDistinct
   }
 
   pub all_placed : (n : ℕ) (os : List OpenedObject) → AllByRecursion (IsObjectKept image) os → AllByRecursion (AreLed image objects) os
-      → AllByRecursion (IsPlaced image (table_of objects)) (placed_from image (headers objects) n os)
+      → AllByRecursion (IsPlaced image (table_of (slots_of objects))) (placed_from image (table_of (slots_of objects)) n os)
   all_placed n [] kept led = tt
   all_placed n (o ∷ os) kept led = (has_object o kept.0 led.0, all_placed (n + 1) os kept.1 led.1)

@@ -11,7 +11,7 @@ use Rattle.h5_model.specs.Format.Symbols.{Target, Header, Text}
 use Rattle.h5_model.specs.Tree.Objects.{Tree, Link, ToObject, Soft, follow, link_in}
 use Rattle.h5_open.specs.declared.opened.object.OpenedObject.{OpenedObject}
 use Rattle.h5_open.specs.Opened.Kept.{IsObjectKept}
-use Rattle.h5_open.specs.Opened.Objects.{headers, number_of, content_links, link_to, tree_of}
+use Rattle.h5_open.specs.Opened.Objects.{headers, number_in, content_links, link_to, table_of, tree_of, slots_of}
 use Rattle.h5_laws.proofs.Lists.{In, in_all, in_contains}
 use Rattle.h5_open.specs.Placed.Whole.{HasHeight, IsLed, HasParent, AreNamed}
 use Rattle.h5_open.proofs.PlacedLaws.Places.{place_in, place_before, place_next, place_of, at_number, number_at_place}
@@ -34,7 +34,7 @@ follow_more tree name k m named (x ∷ path) (ToObject n) is =
 
 module _ (image : List ℕ) (objects : List OpenedObject) (distinct : IsDistinct (eq_by_cmp nat_cmp) (headers objects)) (each : AllByRecursion (IsObjectKept image) objects) where
   abbrev tree : Tree
-  tree = tree_of image objects
+  tree = tree_of image (slots_of objects)
 
   kept_at : (n : ℕ) (o : OpenedObject) → slice_get objects n ≡ Some o → IsObjectKept image o
   kept_at n o is = in_all (IsObjectKept image) o objects each (place_in objects n o is)
@@ -48,7 +48,7 @@ module _ (image : List ℕ) (objects : List OpenedObject) (distinct : IsDistinct
   leads_on : (k n : ℕ) (p o : OpenedObject) → slice_get objects k ≡ Some p → slice_get objects n ≡ Some o → (name : List ℕ)
       → In (name, Header o.messages.header) (content_links image p.content) → Leads k → Leads n
   leads_on k n p o parent child name there (path, leads) =
-      let number : number_of (headers objects) o.messages.header ≡ n = number_at_place (λ (x : OpenedObject). x.messages.header) objects n o distinct child in
+      let number : number_in (table_of (slots_of objects)) o.messages.header ≡ n = number_at_place objects distinct n o child in
       let named = link_there image objects k p parent (kept_at k p parent).content name (Header o.messages.header) there in
       (path ++ name ∷ [], follow_more tree name k n (named ∙ ap (λ (m : ℕ). Some (ToObject m)) number) path (ToObject 0) leads)
 
@@ -87,17 +87,17 @@ module _ (image : List ℕ) (objects : List OpenedObject) (distinct : IsDistinct
   IsShort path = (n : ℕ) (o : OpenedObject) (height : ℕ) → slice_get objects n ≡ Some o → HasHeight image objects height o
       → IsSome (follow tree (ToObject n) path) → length path ≤ height
 
-  behind_link : (names : List (List ℕ)) → IsShort names → (height : ℕ) (l : List ℕ × Target) → IsLed image objects height l → IsSome (follow tree (link_to (headers objects) l.1) names)
+  behind_link : (names : List (List ℕ)) → IsShort names → (height : ℕ) (l : List ℕ × Target) → IsLed image objects height l → IsSome (follow tree (link_to (table_of (slots_of objects)) l.1) names)
       → length names ≤ height
   behind_link names short height (name, Header header) (o, there, same, high) some =
-      let at_header : slice_get objects (number_of (headers objects) header) ≡ Some o
-      = ap (λ (h : ℕ). slice_get objects (number_of (headers objects) h)) (sym same) ∙ at_number (λ (x : OpenedObject). x.messages.header) objects o distinct (in_contains o objects there) in
-      short (number_of (headers objects) header) o height at_header high some
+      let at_header : slice_get objects (number_in (table_of (slots_of objects)) header) ≡ Some o
+      = ap (λ (h : ℕ). slice_get objects (number_in (table_of (slots_of objects)) h)) (sym same) ∙ at_number objects distinct o (in_contains o objects there) in
+      short (number_in (table_of (slots_of objects)) header) o height at_header high some
   behind_link [] short height (name, Text text) led some = omega arith
   behind_link (x ∷ names) short height (name, Text text) led some = absurd (cc)
 
   from_link : (names : List (List ℕ)) → IsShort names → (height : ℕ) (o : OpenedObject) (l : List ℕ × Target) → HasHeight image objects height o → In l (content_links image o.content)
-      → IsSome (follow tree (link_to (headers objects) l.1) names) → suc (length names) ≤ height
+      → IsSome (follow tree (link_to (table_of (slots_of objects)) l.1) names) → suc (length names) ≤ height
   from_link names short zero o l none there some = absurd (subst (In l) none there)
   from_link names short (suc height) o l high there some =
       let rest = behind_link names short height l (in_all (IsLed image objects height) l (content_links image o.content) high there) some in

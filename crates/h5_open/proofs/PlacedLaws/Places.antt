@@ -1,13 +1,16 @@
 -- What stands at a place of a list, and the numbers of headers that stand once.
-use Rattle.std.proofs.Common.{◌≡◌, ℕ, zero, suc, ◌+◌, List, [], ◌∷◌, ◌++◌, map, length, refl, sym, ap, ◌∙◌, arith, true, false, cond, Some, inl, inr}
-use Rattle.std.specs.Prelude.{slice_get, ◌==◌}
+use Rattle.std.proofs.Common.{◌≡◌, inl, inr, ℕ, zero, suc, List, [], ◌∷◌, ◌++◌, length, refl, sym, ap, ◌∙◌, Some}
+use Rattle.std.specs.Prelude.{slice_get}
 use Rattle.std.specs.List.{IsDistinct, Contains}
 use Rattle.std.specs.Ordering.{nat_cmp, eq_by_cmp}
-use Rattle.std.specs.Cmp.{unsigned_tied}
-use Rattle.std.proofs.lemmas.Bool.Decides.{nat_tests}
+use Rattle.std.specs.FinMap.{get}
 use Rattle.std.proofs.lemmas.Option.{same_Some, slice_get_read}
-use Rattle.h5_open.specs.Opened.Objects.{number_of}
-use Rattle.h5_laws.proofs.Lists.{In, in_all, in_map}
+use Rattle.h5_laws.proofs.Lists.{In, in_at, stands_at}
+use Rattle.h5_laws.proofs.Pigeonhole.{Apart, apart_of_distinct}
+use Rattle.h5_open.specs.declared.opened.object.OpenedObject.{OpenedObject}
+use Rattle.h5_open.specs.Opened.Objects.{headers, number_in, table_of, slots_of}
+use Rattle.h5_open.proofs.OpenedLaws.Entries.{get_table_dense, header_at_dense}
+use Rattle.h5_open.proofs.OpenedLaws.HeaderNumbers.{number_is}
 
 -- ---- places
 
@@ -30,31 +33,25 @@ place_of xs x (k, low, is) = slice_get_read xs (length xs) k x refl low (sym is)
 
 -- ---- numbers
 
-module _ {X : Type 0} (f : X → ℕ) where
-  next_number : (y : X) (ys : List X) (x : X) → IsDistinct (eq_by_cmp nat_cmp) (map f (y ∷ ys)) → In x ys → number_of (map f (y ∷ ys)) (f x) ≡ suc (number_of (map f ys) (f x))
-  unfolding IsDistinct
-  next_number y ys x distinct there =
-      let apart : eq_by_cmp nat_cmp (f y) (f x) ≡ false = in_all (λ z. eq_by_cmp nat_cmp (f y) z ≡ false) (f x) (map f ys) distinct.0 (in_map f x ys there) in
-      let other : (f y == f x) ≡ false = sym (unsigned_tied (f y) (f x)) ∙ apart in
-      let more : 1 + number_of (map f ys) (f x) ≡ suc (number_of (map f ys) (f x)) = omega arith in
-      ap (λ b. cond b 0 (1 + number_of (map f ys) (f x))) other ∙ more
+-- a number that stands once stands at one place
+one_place : (hs : List ℕ) → Apart hs → (a b h : ℕ) → slice_get hs a ≡ Some h → slice_get hs b ≡ Some h → a ≡ b
+one_place [] apart a b h p q = absurd (cc)
+one_place (x ∷ xs) apart zero zero h p q = refl
+one_place (x ∷ xs) apart zero (suc b) h p q = absurd (apart.0 (in_at xs b x (q ∙ sym p)))
+one_place (x ∷ xs) apart (suc a) zero h p q = absurd (apart.0 (in_at xs a x (p ∙ sym q)))
+one_place (x ∷ xs) apart (suc a) (suc b) h p q = ap suc (one_place xs apart.1 a b h p q)
 
-  first_number : (y : X) (ys : List X) (x : X) → y ≡ x → number_of (map f (y ∷ ys)) (f x) ≡ 0
-  first_number y ys x same =
-      let equal : f y ≡ f x = ap f same in
-      let here : (f y == f x) ≡ true = grind (arith, nat_tests) in
-      ap (λ b. cond b 0 (1 + number_of (map f ys) (f x))) here
+module _ (objects : List OpenedObject) (distinct : IsDistinct (eq_by_cmp nat_cmp) (headers objects)) where
+  pub own_header : (a b header : ℕ) → get (table_of (slots_of objects)) a ≡ Some header → get (table_of (slots_of objects)) b ≡ Some header → a ≡ b
+  own_header a b header p q =
+      one_place (headers objects) (apart_of_distinct (headers objects) distinct) a b header (sym (get_table_dense objects a) ∙ p) (sym (get_table_dense objects b) ∙ q)
 
-  -- what stands at its number
-  pub at_number : (xs : List X) (x : X) → IsDistinct (eq_by_cmp nat_cmp) (map f xs) → In x xs → slice_get xs (number_of (map f xs) (f x)) ≡ Some x
-  unfolding IsDistinct
-  at_number [] x distinct there = absurd there
-  at_number (y ∷ ys) x distinct (inl same) = ap (slice_get (y ∷ ys)) (first_number y ys x same) ∙ ap (λ z. Some z) same
-  at_number (y ∷ ys) x distinct (inr there) = ap (slice_get (y ∷ ys)) (next_number y ys x distinct there) ∙ at_number ys x distinct.1 there
+  -- the number of an object's header is where the object stands
+  pub number_at_place : (k : ℕ) (o : OpenedObject) → slice_get objects k ≡ Some o → number_in (table_of (slots_of objects)) o.messages.header ≡ k
+  number_at_place k o at = number_is (table_of (slots_of objects)) own_header k o.messages.header (get_table_dense objects k ∙ header_at_dense objects k o at)
 
-  -- and its number is where it stands
-  pub number_at_place : (xs : List X) (k : ℕ) (x : X) → IsDistinct (eq_by_cmp nat_cmp) (map f xs) → slice_get xs k ≡ Some x → number_of (map f xs) (f x) ≡ k
-  unfolding IsDistinct
-  number_at_place [] k x distinct h = absurd (cc)
-  number_at_place (y ∷ ys) zero x distinct h = first_number y ys x (same_Some y x h)
-  number_at_place (y ∷ ys) (suc k) x distinct h = next_number y ys x distinct (place_in ys k x h) ∙ ap suc (number_at_place ys k x distinct.1 h)
+  -- and what stands there is the object
+  pub at_number : (o : OpenedObject) → In o objects → slice_get objects (number_in (table_of (slots_of objects)) o.messages.header) ≡ Some o
+  at_number o there =
+      let k = stands_at o objects there in
+      ap (slice_get objects) (number_at_place k.0 o k.1) ∙ k.1

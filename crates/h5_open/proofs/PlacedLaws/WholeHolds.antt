@@ -1,10 +1,9 @@
 -- Objects that were read from an image, and make up all of it, are a tree that stands in it.
-use Rattle.std.proofs.Common.{◌≡◌, ℕ, ◌+◌, List, [], ◌∷◌, ◌++◌, length, refl, sym, ap, ◌∙◌, subst, Option, Some, None, IsSome}
-use Rattle.std.specs.Prelude.{map, slice_get, option_map, option_and_then}
-use Rattle.std.specs.List.{IsDistinct, flat_map}
-use Rattle.std.specs.Ordering.{nat_cmp, eq_by_cmp}
-use Rattle.std.specs.FinMap.{get}
-use Rattle.std.proofs.lemmas.Option.{slice_get-map}
+use Rattle.std.proofs.Common.{◌≡◌, ℕ, ◌+◌, List, [], ◌∷◌, ◌++◌, length, refl, sym, ap, ◌∙◌, subst, Option, Some, IsSome}
+use Rattle.std.specs.Prelude.{map, slice_get, option_and_then}
+use Rattle.std.specs.List.{flat_map}
+use Rattle.std.specs.Ordering.{nat_cmp}
+use Rattle.std.specs.FinMap.{FinMap, get}
 use Rattle.h5_bytes.specs.Blocks.{block, Separate, Inside}
 use Rattle.h5_bytes.specs.declared.Block.{Block}
 use Rattle.h5_model.specs.Format.Messages.{Message}
@@ -16,73 +15,57 @@ use Rattle.h5_header.specs.Listed.{messages_in}
 use Rattle.h5_open.specs.declared.opened.object.OpenedObject.{OpenedObject}
 use Rattle.h5_open.specs.declared.opened.object.OpenedContent.{OpenedContent}
 use Rattle.h5_open.specs.declared.opened.object.OpenedContent.TheVariants as content
-use Rattle.h5_open.specs.Opened.Objects.{headers, numbered, number_of, content_in, object_in, object_blocks, table_of, tree_of}
-use Rattle.h5_open.specs.Placed.Whole.{IsGroupContent, IsWholeImage, opened_blocks, placed_from, placed_of}
-use Rattle.h5_open.proofs.OpenedLaws.Entries.{table_entries, tree_entries, get_table}
-use Rattle.h5_open.proofs.PlacedLaws.Places.{number_at_place}
+use Rattle.h5_open.specs.Opened.Objects.{headers, numbered, content_in, object_in, object_blocks, opened_blocks, table_of, tree_of, slots_of}
+use Rattle.h5_open.specs.Placed.Whole.{IsGroupContent, IsWholeImage, placed_from, placed_of}
+use Rattle.h5_open.proofs.OpenedLaws.Entries.{table_entries_dense, tree_entries_dense, get_table_dense, header_at_dense}
+use Rattle.h5_open.proofs.PlacedLaws.Places.{own_header}
 use Rattle.h5_open.proofs.PlacedLaws.ObjectLaws.{all_placed}
 use Rattle.h5_open.proofs.PlacedLaws.TreeLaws.{object_got}
 use Rattle.h5_open.proofs.PlacedLaws.Paths.{all_reached, all_short}
 
 -- ---- what is placed
 
-module _ (image at : List ℕ) where
-  placed_headers : (n : ℕ) (os : List OpenedObject) → numbered n (headers os) ≡ map (λ (x : Placed). (x.number, x.header)) (placed_from image at n os)
+module _ (image : List ℕ) (table : FinMap nat_cmp ℕ) where
+  placed_headers : (n : ℕ) (os : List OpenedObject) → numbered n (headers os) ≡ map (λ (x : Placed). (x.number, x.header)) (placed_from image table n os)
   placed_headers n [] = refl
   placed_headers n (o ∷ os) = ap (λ (es : List (ℕ × ℕ)). (n, o.messages.header) ∷ es) (placed_headers (n + 1) os)
 
-  placed_objects : (n : ℕ) (os : List OpenedObject) → numbered n (map (object_in image at) os) ≡ map (λ (x : Placed). (x.number, x.object)) (placed_from image at n os)
+  placed_objects : (n : ℕ) (os : List OpenedObject) → numbered n (map (object_in image table) os) ≡ map (λ (x : Placed). (x.number, x.object)) (placed_from image table n os)
   placed_objects n [] = refl
-  placed_objects n (o ∷ os) = ap (λ (es : List (ℕ × Object)). (n, object_in image at o) ∷ es) (placed_objects (n + 1) os)
+  placed_objects n (o ∷ os) = ap (λ (es : List (ℕ × Object)). (n, object_in image table o) ∷ es) (placed_objects (n + 1) os)
 
-  placed_blocks : (n : ℕ) (os : List OpenedObject) → flat_map (object_blocks image) os ≡ flat_map (λ (x : Placed). x.blocks) (placed_from image at n os)
+  placed_blocks : (n : ℕ) (os : List OpenedObject) → flat_map (object_blocks image) os ≡ flat_map (λ (x : Placed). x.blocks) (placed_from image table n os)
   placed_blocks n [] = refl
   placed_blocks n (o ∷ os) = ap (λ (bs : List Block). object_blocks image o ++ bs) (placed_blocks (n + 1) os)
 
 pub all_placed_blocks : (image : List ℕ) (objects : List OpenedObject) → opened_blocks image objects ≡ all_blocks image (placed_of image objects)
-all_placed_blocks image objects = ap (λ (bs : List Block). block 0 (superblock_length image) ∷ bs) (placed_blocks image (headers objects) 0 objects)
-
--- ---- numbers
-
-module _ (objects : List OpenedObject) (distinct : IsDistinct (eq_by_cmp nat_cmp) (headers objects)) where
-  number_got : (n header : ℕ) → get (table_of objects) n ≡ Some header → number_of (headers objects) header ≡ n
-  number_got n header is = go (slice_get objects n) refl (sym (slice_get-map (λ (o : OpenedObject). o.messages.header) objects n) ∙ sym (get_table objects n) ∙ is) where
-    go : (x : Option OpenedObject) → slice_get objects n ≡ x → option_map (λ (o : OpenedObject). o.messages.header) x ≡ Some header → number_of (headers objects) header ≡ n
-    go None there at = absurd (cc)
-    go (Some o) there at =
-        let same : o.messages.header ≡ header = cc in
-        subst (λ (h : ℕ). number_of (headers objects) h ≡ n) same (number_at_place (λ (x : OpenedObject). x.messages.header) objects n o distinct there)
-
-  pub own_header : (a b header : ℕ) → get (table_of objects) a ≡ Some header → get (table_of objects) b ≡ Some header → a ≡ b
-  own_header a b header l r = sym (number_got a header l) ∙ number_got b header r
+all_placed_blocks image objects = ap (λ (bs : List Block). block 0 (superblock_length image) ∷ bs) (placed_blocks image (table_of (slots_of objects)) 0 objects)
 
 -- ---- the root
 
-group_linked : (image at : List ℕ) (ms : List Message) (c : OpenedContent) → IsGroupContent c → IsSome (links_in (content_in image at ms c))
-group_linked image at ms (content.Group t) is = refl
-group_linked image at ms content.Array is = absurd is
+group_linked : (image : List ℕ) (table : FinMap nat_cmp ℕ) (ms : List Message) (c : OpenedContent) → IsGroupContent c → IsSome (links_in (content_in image table ms c))
+group_linked image table ms (content.Group t) is = refl
+group_linked image table ms content.Array is = absurd is
 
 module _ (image : List ℕ) (objects : List OpenedObject) (whole : IsWholeImage image objects) where
   first : slice_get objects 0 ≡ Some (whole.begins).root
   first = ap (λ (os : List OpenedObject). slice_get os 0) (whole.begins).is
 
-  root_there : get (table_of objects) 0 ≡ Some (root_header image)
-  root_there =
-      get_table objects 0 ∙ slice_get-map (λ (o : OpenedObject). o.messages.header) objects 0 ∙ ap (option_map (λ (o : OpenedObject). o.messages.header)) first
-      ∙ ap (λ (h : ℕ). Some h) (whole.begins).at_root
+  root_there : get (table_of (slots_of objects)) 0 ≡ Some (root_header image)
+  root_there = get_table_dense objects 0 ∙ header_at_dense objects 0 (whole.begins).root first ∙ ap (λ (h : ℕ). Some h) (whole.begins).at_root
 
-  root_links : IsSome (tree.links_of (tree_of image objects) 0)
+  root_links : IsSome (tree.links_of (tree_of image (slots_of objects)) 0)
   root_links = subst (λ (x : Option Object). IsSome (option_and_then (λ (o : Object). links_in o.content) x)) (sym (object_got image objects 0 (whole.begins).root first))
-      (group_linked image (headers objects) (messages_in image ((whole.begins).root).messages.list) ((whole.begins).root).content (whole.begins).group)
+      (group_linked image (table_of (slots_of objects)) (messages_in image ((whole.begins).root).messages.list) ((whole.begins).root).content (whole.begins).group)
 
 -- The tree stands in the image.
 pub whole_holds : (image : List ℕ) (objects : List OpenedObject) → IsWholeImage image objects
-    → Holds image (table_of objects) (tree_of image objects) (placed_of image objects)
+    → Holds image (table_of (slots_of objects)) (tree_of image (slots_of objects)) (placed_of image objects)
 whole_holds image objects whole = record {
   superblock = whole.superblock;
   whole = whole.whole;
-  numbered = table_entries objects ∙ placed_headers image (headers objects) 0 objects;
-  objects = tree_entries image objects ∙ placed_objects image (headers objects) 0 objects;
+  numbered = table_entries_dense objects ∙ placed_headers image (table_of (slots_of objects)) 0 objects;
+  objects = tree_entries_dense objects image ∙ placed_objects image (table_of (slots_of objects)) 0 objects;
   each = all_placed image objects whole.distinct 0 objects whole.each whole.led;
   own = own_header objects whole.distinct;
   root = root_there image objects whole;

@@ -1,32 +1,29 @@
--- The headers of all readings of one image are the same.
-use Rattle.std.proofs.Common.{◌≡◌, ℕ, ◌≤◌, List, length, sym, ◌∙◌, arith}
+-- The headers that are given for numbers, of which some have none.
+use Rattle.std.proofs.Common.{◌≡◌, ℕ, List, refl, sym, ap, ◌∙◌, Option, Some, None}
+use Rattle.std.specs.Prelude.{slice_get}
+use Rattle.std.specs.Option.{option_flatten}
+use Rattle.std.specs.FinMap.{get}
+use Rattle.std.proofs.lemmas.Option.{same_Some}
 use Rattle.h5_model.specs.Tree.Objects.{Tree}
 use Rattle.h5_model.specs.Format.Reads.{Reads}
-use Rattle.h5_laws.proofs.Lists.{In, stands_at, in_at}
-use Rattle.h5_laws.proofs.Pigeonhole.{no_longer}
-use Rattle.h5_open.proofs.OpenedLaws.Made.{get_numbered}
-use Rattle.h5_open.proofs.OpenedLaws.Numbers.{apart_of_own}
-use Rattle.h5_open.proofs.OpenedLaws.Own.{Own}
-use Rattle.h5_open.proofs.OpenedLaws.SharedHeaders.{shared}
+use Rattle.h5_open.proofs.OpenedLaws.Made.{get_standing}
 use Rattle.h5_open.specs.Renumbered.Headers.{table_with}
 
--- the headers of a reading stand once
-pub own_of : (image hs : List ℕ) (tree : Tree) → Reads image (table_with hs) tree → Own hs
-own_of image hs tree reads a b h p q = reads.1.holds.own a b h (get_numbered hs a ∙ p) (get_numbered hs b ∙ q)
+-- the table has what is given for a number, and no more
+pub header_given : (hs : List (Option ℕ)) (n h : ℕ) → slice_get hs n ≡ Some (Some h) → get (table_with hs) n ≡ Some h
+header_given hs n h at = get_standing hs n ∙ ap option_flatten at
 
-module _ (image hs gs : List ℕ) (tree tree' : Tree) (reads : Reads image (table_with hs) tree) (reads' : Reads image (table_with gs) tree') where
-  -- a header of one reading is one of the other
-  pub same_headers : (h : ℕ) → In h hs → In h gs
-  same_headers h at =
-      let k = stands_at h hs at in
-      let there = shared image (table_with hs) (table_with gs) tree tree' reads.0 reads'.0 (reads.1).holds
-      (reads'.1).holds k.0 h (get_numbered hs k.0 ∙ k.1) in
-      in_at gs there.0 h (sym (get_numbered gs there.0) ∙ there.1)
+pub given_header : (hs : List (Option ℕ)) (n h : ℕ) → get (table_with hs) n ≡ Some h → slice_get hs n ≡ Some (Some h)
+given_header hs n h at = go (slice_get hs n) refl (sym (get_standing hs n) ∙ at) where
+  go : (slot : Option (Option ℕ)) → slice_get hs n ≡ slot → option_flatten slot ≡ Some h → slice_get hs n ≡ Some (Some h)
+  go None is there = absurd (cc)
+  go (Some None) is there = absurd (cc)
+  go (Some (Some g)) is there = is ∙ ap (λ (x : ℕ). Some (Some x)) (same_Some g h there)
 
-  no_more_headers : length hs ≤ length gs
-  no_more_headers = no_longer hs gs (apart_of_own hs (own_of image hs tree reads)) same_headers
+-- each header stands once
+abbrev pub Own : List (Option ℕ) → Type 0
+Own hs = (a b h : ℕ) → slice_get hs a ≡ Some (Some h) → slice_get hs b ≡ Some (Some h) → a ≡ b
 
--- and there are as many
-pub same_length : (image hs gs : List ℕ) (tree tree' : Tree) → Reads image (table_with hs) tree → Reads image (table_with gs) tree' → length hs ≡ length gs
-same_length image hs gs tree tree' reads reads' =
-    omega (arith, no_more_headers image hs gs tree tree' reads reads', no_more_headers image gs hs tree' tree reads' reads)
+-- the headers of a reading do
+pub own_of : (image : List ℕ) (hs : List (Option ℕ)) (tree : Tree) → Reads image (table_with hs) tree → Own hs
+own_of image hs tree reads a b h p q = reads.1.holds.own a b h (header_given hs a h p) (header_given hs b h q)

@@ -1,7 +1,9 @@
 -- Objects whose headers stand where a table says are those of the tree as which the image reads with that table.
 use Rattle.std.proofs.Common.{◌≡◌, ℕ, ◌+◌, List, [], ◌∷◌, map, refl, sym, ap, ap₂, ◌∙◌, subst, arith, Option, Some, None, drop}
+use Rattle.std.specs.Prelude.{option_map}
 use Rattle.std.specs.List.{AllByRecursion, AllZip, filter}
-use Rattle.std.specs.FinMap.{entries, empty, same_entries_map}
+use Rattle.std.specs.Ordering.{nat_cmp}
+use Rattle.std.specs.FinMap.{FinMap, get, entries, empty, same_entries_map}
 use Rattle.h5_bytes.specs.declared.Block.{Block}
 use Rattle.h5_model.specs.Format.Addresses.{SymbolTable}
 use Rattle.h5_model.specs.Format.Messages.{Message}
@@ -13,7 +15,7 @@ use Rattle.h5_model.specs.Format.Symbols.{Target, Header, Text}
 use Rattle.h5_model.specs.Format.Links.{HasLinks}
 use Rattle.h5_model.specs.Tree.Objects.{Tree, Object, Content, Group, Array, Dataset, Link, Links, ToObject, Soft}
 use Rattle.h5_model.specs.Format.Reads.{IsSame, HasData, HasDataset, HasContent, HasAttributes, HasObject, Placed, IsPlaced, Reads, is_kept, kept_of}
-use Rattle.h5_model.proofs.OneReading.{some_same, one_messages, one_links, one_attributes}
+use Rattle.h5_model.proofs.OneReading.{some_same, one_messages, one_links, one_attributes, where_of, first_or}
 use Rattle.h5_header.specs.Listed.{messages_in}
 use Rattle.h5_attr.specs.Attributes.{attributes_of}
 use Rattle.h5_layout.specs.Described.{Described, described_dataset}
@@ -26,12 +28,9 @@ use Rattle.h5_open.specs.declared.opened.object.OpenedContent.{OpenedContent}
 use Rattle.h5_open.specs.declared.opened.object.OpenedContent.TheVariants as content
 use Rattle.h5_open.specs.Opened.Array.{IsCarriedArray}
 use Rattle.h5_open.specs.Opened.Kept.{IsObjectKept, IsContentKept}
-use Rattle.h5_open.specs.Opened.Objects.{headers, numbered, link_to, links_by, content_in, object_in, tree_of}
-use Rattle.h5_open.proofs.OpenedLaws.Made.{entries_numbered, get_numbered}
-use Rattle.h5_open.proofs.OpenedLaws.Entries.{tree_entries, group_entries}
-use Rattle.h5_open.proofs.OpenedLaws.Indexed.{number_at}
-use Rattle.h5_open.proofs.OpenedLaws.Own.{Own}
-use Rattle.h5_open.specs.Renumbered.Headers.{table_with}
+use Rattle.h5_open.specs.Opened.Objects.{header_of, objects_of, standing, link_to, links_by, content_in, object_in, table_of, tree_of}
+use Rattle.h5_open.proofs.OpenedLaws.Entries.{table_entries, tree_entries, group_entries}
+use Rattle.h5_open.proofs.OpenedLaws.HeaderNumbers.{number_is}
 
 -- ---- contents
 
@@ -51,49 +50,49 @@ dataset_is image ms d blocks has carried =
     let none : has.chunks ≡ empty = no_chunks image d.fixed has.layout carried.block layout has.chunks blocks has.stored in
     (λ i. described_dataset image (same i) ((sym none) i)) ∙ dataset_in-in_header image ms d blocks has
 
-module _ (image at : List ℕ) (own : Own at) where
+module _ (image : List ℕ) (table : FinMap nat_cmp ℕ) (own : (a b h : ℕ) → get table a ≡ Some h → get table b ≡ Some h → a ≡ b) where
   -- a link of the tree is the file's link, by the number of the header
-  link_is : (l : List ℕ × Link) (f : List ℕ × Target) → IsSame (table_with at) l f → l ≡ (f.0, link_to at f.1)
+  link_is : (l : List ℕ × Link) (f : List ℕ × Target) → IsSame table l f → l ≡ (f.0, link_to table f.1)
   link_is (name, ToObject number) (name', Header header) is =
-      ap₂ (λ (x : List ℕ) (n : ℕ). (x, ToObject n)) is.0 (sym (number_at at own number header (sym (get_numbered at number) ∙ is.1)))
+      ap₂ (λ (x : List ℕ) (n : ℕ). (x, ToObject n)) is.0 (sym (number_is table own number header is.1))
   link_is (name, ToObject number) (name', Text text) is = absurd is
   link_is (name, Soft text) (name', Header header) is = absurd is
   link_is (name, Soft text) (name', Text text') is = ap₂ (λ (x y : List ℕ). (x, Soft y)) is.0 is.1
 
-  links_are : (ls : List (List ℕ × Link)) (found : List (List ℕ × Target)) → AllZip (IsSame (table_with at)) ls found
-      → ls ≡ map (λ (l : List ℕ × Target). (l.0, link_to at l.1)) found
+  links_are : (ls : List (List ℕ × Link)) (found : List (List ℕ × Target)) → AllZip (IsSame table) ls found
+      → ls ≡ map (λ (l : List ℕ × Target). (l.0, link_to table l.1)) found
   links_are [] [] same = refl
   links_are [] (f ∷ found) same = absurd same
   links_are (l ∷ ls) [] same = absurd same
   links_are (l ∷ ls) (f ∷ found) same = ap₂ (λ (x : List ℕ × Link) (xs : List (List ℕ × Link)). x ∷ xs) (link_is l f same.0) (links_are ls found same.1)
 
-  content_is : (ms : List Message) (c : Content) (blocks : List Block) (o : OpenedContent) → HasContent image (table_with at) ms c blocks → IsContentKept image ms o
-      → content_in image at ms o ≡ c
+  content_is : (ms : List Message) (c : Content) (blocks : List Block) (o : OpenedContent) → HasContent image table ms c blocks → IsContentKept image ms o
+      → content_in image table ms o ≡ c
   content_is ms (Group links) blocks (content.Group t) (found, has, same) (kinds, chosen, read) =
-      let table : has.symbol_table ≡ t = some_same _ _ _ has.chosen chosen in
+      let chosen_is : has.symbol_table ≡ t = some_same _ _ _ has.chosen chosen in
       let linked : HasLinks image (leaf_k image) (internal_k image) t.tree t.heap found blocks
-      = subst (λ (s : SymbolTable). HasLinks image (leaf_k image) (internal_k image) s.tree s.heap found blocks) table has.linked in
+      = subst (λ (s : SymbolTable). HasLinks image (leaf_k image) (internal_k image) s.tree s.heap found blocks) chosen_is has.linked in
       let one : found ≡ links_told image t
       = one_links image (leaf_k image) (internal_k image) t.tree t.heap found (links_told image t) blocks (blocks_told image t) linked read.linked in
-      let listed : entries links ≡ entries (links_by at (links_told image t)) =
+      let listed : entries links ≡ entries (links_by table (links_told image t)) =
       links_are (entries links) found same
-      ∙ ap (λ (ls : List (List ℕ × Target)). map (λ (l : List ℕ × Target). (l.0, link_to at l.1)) ls) one
-      ∙ sym (group_entries image at t read) in
-      ap (λ (ls : Links). Group ls) (sym (same_entries_map links (links_by at (links_told image t)) listed))
+      ∙ ap (λ (ls : List (List ℕ × Target)). map (λ (l : List ℕ × Target). (l.0, link_to table l.1)) ls) one
+      ∙ sym (group_entries image table t read) in
+      ap (λ (ls : Links). Group ls) (sym (same_entries_map links (links_by table (links_told image t)) listed))
   content_is ms (Group links) blocks content.Array (found, has, same) (list, inside) = absurd (omega (arith, has.once, (list.kinds).no_table))
   content_is ms (Array d) blocks (content.Group t) has (kinds, chosen, read) = absurd (omega (arith, has.one_space, (kinds.alone).0))
   content_is ms (Array d) blocks content.Array has (list, inside) = ap (λ (x : Dataset). Array x) (dataset_is image ms d blocks has list.carried)
 
   -- ---- objects
 
-  object_is : (p : OpenedObject) (o : Object) (blocks : List Block) → IsObjectKept image p → HasObject image (table_with at) p.messages.header o blocks → object_in image at p ≡ o
+  object_is : (p : OpenedObject) (o : Object) (blocks : List Block) → IsObjectKept image p → HasObject image table p.messages.header o blocks → object_in image table p ≡ o
   object_is p o blocks kept has =
       let ms : has.messages ≡ messages_in image p.messages.list
       = one_messages image p.messages.header has.messages (messages_in image p.messages.list) has.header_blocks p.messages.blocks has.listed (kept.header).has in
-      let content_there : HasContent image (table_with at) (messages_in image p.messages.list) o.content has.content_blocks
-      = subst (λ (l : List Message). HasContent image (table_with at) l o.content has.content_blocks) ms has.content in
+      let content_there : HasContent image table (messages_in image p.messages.list) o.content has.content_blocks
+      = subst (λ (l : List Message). HasContent image table l o.content has.content_blocks) ms has.content in
       let attributes_there : HasAttributes (messages_in image p.messages.list) o.attributes = subst (λ (l : List Message). HasAttributes l o.attributes) ms has.attributes in
-      let content : content_in image at (messages_in image p.messages.list) p.content ≡ o.content
+      let content : content_in image table (messages_in image p.messages.list) p.content ≡ o.content
       = content_is (messages_in image p.messages.list) o.content has.content_blocks p.content content_there kept.content in
       let attributes : attributes_of (messages_in image p.messages.list) ≡ o.attributes
       = one_attributes (messages_in image p.messages.list) (attributes_of (messages_in image p.messages.list)) o.attributes (kept.header).attributes attributes_there in
@@ -101,36 +100,31 @@ module _ (image at : List ℕ) (own : Own at) where
       = sym (has.kept ∙ ap (λ (l : List Message). map kept_of (filter is_kept l)) ms) in
       λ i. record { content = content i; attributes = attributes i; kept = kept_there i }
 
-abbrev where_of : Placed → ℕ × ℕ
-where_of x = (x.number, x.header)
-
 abbrev what_of : Placed → ℕ × Object
 what_of x = (x.number, x.object)
 
-abbrev first_or : List (ℕ × ℕ) → ℕ × ℕ
-first_or [] = (0, 0)
-first_or (x ∷ xs) = x
-
-objects_are : (image at : List ℕ) → Own at → (n : ℕ) (ps : List OpenedObject) (placed : List Placed) → numbered n (headers ps) ≡ map where_of placed
-    → AllByRecursion (IsObjectKept image) ps → AllByRecursion (IsPlaced image (table_with at)) placed → numbered n (map (object_in image at) ps) ≡ map what_of placed
-objects_are image at own n [] [] keys kept each = refl
-objects_are image at own n [] (x ∷ placed) keys kept each = cc
-objects_are image at own n (p ∷ ps) [] keys kept each = cc
-objects_are image at own n (p ∷ ps) (x ∷ placed) keys kept each =
+objects_are : (image : List ℕ) (table : FinMap nat_cmp ℕ) → ((a b h : ℕ) → get table a ≡ Some h → get table b ≡ Some h → a ≡ b) → (n : ℕ) (slots : List (Option OpenedObject))
+    (placed : List Placed) → standing n (map (option_map header_of) slots) ≡ map where_of placed → AllByRecursion (IsObjectKept image) (objects_of slots)
+    → AllByRecursion (IsPlaced image table) placed → standing n (map (option_map (object_in image table)) slots) ≡ map what_of placed
+objects_are image table own n [] [] keys kept each = refl
+objects_are image table own n [] (x ∷ placed) keys kept each = cc
+objects_are image table own n (None ∷ slots) placed keys kept each = objects_are image table own (n + 1) slots placed keys kept each
+objects_are image table own n (Some p ∷ slots) [] keys kept each = cc
+objects_are image table own n (Some p ∷ slots) (x ∷ placed) keys kept each =
     let number : n ≡ x.number = ap (λ (ks : List (ℕ × ℕ)). (first_or ks).0) keys in
     let header : p.messages.header ≡ x.header = ap (λ (ks : List (ℕ × ℕ)). (first_or ks).1) keys in
-    let rest : numbered (n + 1) (headers ps) ≡ map where_of placed = ap (λ (ks : List (ℕ × ℕ)). drop 1 ks) keys in
-    let here : HasObject image (table_with at) p.messages.header x.object x.blocks
-    = subst (λ (h : ℕ). HasObject image (table_with at) h x.object x.blocks) (sym header) each.0 in
-    let object : object_in image at p ≡ x.object = object_is image at own p x.object x.blocks kept.0 here in
-    ap₂ (λ (o : ℕ × Object) (os : List (ℕ × Object)). o ∷ os) (ap₂ (λ (k : ℕ) (o : Object). (k, o)) number object) (objects_are image at own (n + 1) ps placed rest kept.1 each.1)
+    let rest : standing (n + 1) (map (option_map header_of) slots) ≡ map where_of placed = ap (λ (ks : List (ℕ × ℕ)). drop 1 ks) keys in
+    let here : HasObject image table p.messages.header x.object x.blocks
+    = subst (λ (h : ℕ). HasObject image table h x.object x.blocks) (sym header) each.0 in
+    let object : object_in image table p ≡ x.object = object_is image table own p x.object x.blocks kept.0 here in
+    ap₂ (λ (o : ℕ × Object) (os : List (ℕ × Object)). o ∷ os) (ap₂ (λ (k : ℕ) (o : Object). (k, o)) number object)
+    (objects_are image table own (n + 1) slots placed rest kept.1 each.1)
 
 -- where the image reads as a tree whose objects have these headers, it reads as the tree that the objects tell
-pub same_tree : (image : List ℕ) (ps : List OpenedObject) (tree : Tree) → AllByRecursion (IsObjectKept image) ps → Reads image (table_with (headers ps)) tree
-    → tree_of image ps ≡ tree
-same_tree image ps tree kept reads =
-    let own : Own (headers ps) = λ a b h p q. reads.1.holds.own a b h (get_numbered (headers ps) a ∙ p) (get_numbered (headers ps) b ∙ q) in
-    same_entries_map (tree_of image ps) tree
-    (tree_entries image ps
-    ∙ objects_are image (headers ps) own 0 ps reads.0 (sym (entries_numbered (headers ps)) ∙ reads.1.holds.numbered) kept reads.1.holds.each
+pub same_tree : (image : List ℕ) (slots : List (Option OpenedObject)) (tree : Tree) → AllByRecursion (IsObjectKept image) (objects_of slots) → Reads image (table_of slots) tree
+    → tree_of image slots ≡ tree
+same_tree image slots tree kept reads =
+    same_entries_map (tree_of image slots) tree
+    (tree_entries image slots
+    ∙ objects_are image (table_of slots) reads.1.holds.own 0 slots reads.0 (sym (table_entries slots) ∙ reads.1.holds.numbered) kept reads.1.holds.each
     ∙ sym reads.1.holds.objects)

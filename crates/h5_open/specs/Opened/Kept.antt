@@ -1,13 +1,16 @@
 -- What is known of an opened image: what is kept of its objects tells all that it holds (File Format Specification 3.0, section
 -- IV.A).
-use Rattle.std.specs.Prelude.{◌≡◌, ℕ, IsTrue, Some, List, length, MatchOption, slice_get, option_and_then}
-use Rattle.std.specs.List.{AllByRecursion, Contains}
+use Rattle.std.specs.Prelude.{◌≡◌, ℕ, ◌≤◌, IsTrue, Option, Some, List, length, MatchOption, option_and_then}
+use Rattle.std.specs.List.{AllByRecursion}
 use Rattle.std.specs.Ordering.{nat_cmp}
-use Rattle.std.specs.BTreeMap.{BTreeMap, get}
+use Rattle.std.specs.BTreeMap.{BTreeMap, get as lookup}
+use Rattle.std.specs.FinMap.{FinMap, get}
 use Rattle.h5_bytes.specs.Blocks.{Inside}
 use Rattle.h5_model.specs.Format.Addresses.{symbol_table_of}
 use Rattle.h5_model.specs.Format.Messages.{Message, first_body}
 use Rattle.h5_model.specs.Format.Reads.{Reads}
+use Rattle.h5_space.specs.Space.{Space}
+use Rattle.h5_space.specs.Whole.{IsApart}
 use Rattle.h5_header.specs.Heads.{is_read}
 use Rattle.h5_header.specs.Kinds.{IsOfGroup}
 use Rattle.h5_header.specs.Listed.{messages_in}
@@ -19,7 +22,7 @@ use Rattle.h5_open.specs.declared.opened.object.OpenedContent.TheVariants as con
 use Rattle.h5_open.specs.Opened.Array.{data_blocks}
 use Rattle.h5_open.specs.Opened.Headers.{IsHeaderKept}
 use Rattle.h5_open.specs.Opened.Judged.{IsArrayList}
-use Rattle.h5_open.specs.Opened.Objects.{headers, table_of, tree_of}
+use Rattle.h5_open.specs.Opened.Objects.{objects_of, opened_blocks, table_of, tree_of}
 
 -- the messages are those of this group, which stands in the image; or those of an array, whose cells do
 abbrev pub IsContentKept : List ℕ → List Message → OpenedContent → Type 0
@@ -33,13 +36,15 @@ pub record IsObjectKept (image : List ℕ) (o : OpenedObject) : Type 0 where
   pub known : AllByRecursion (λ x. IsTrue (is_read x.kind)) o.messages.list
   pub content : IsContentKept image (messages_in image o.messages.list) o.content
 
--- each header has the number of the object that stands there
-abbrev pub IsIndex : List OpenedObject → BTreeMap ℕ ℕ → Type 0
-IsIndex objects numbers = (header : ℕ) → MatchOption (get nat_cmp numbers header)
-    (Contains (headers objects) header → ⊥) (λ number. slice_get (headers objects) number ≡ Some header)
+-- each header of the table has the number under which it stands there
+abbrev pub IsIndex : FinMap nat_cmp ℕ → BTreeMap ℕ ℕ → Type 0
+IsIndex table numbers = (header : ℕ) → MatchOption (lookup nat_cmp numbers header)
+    ((number : ℕ) → get table number ≡ Some header → ⊥) (λ number. get table number ≡ Some header)
 
--- The image reads as the tree that is told by what is kept of its objects.
-pub record IsOpened (image : List ℕ) (objects : List OpenedObject) (numbers : BTreeMap ℕ ℕ) : Type 0 where
-  pub reads : Reads image (table_of objects) (tree_of image objects)
-  pub each : AllByRecursion (IsObjectKept image) objects
-  pub index : IsIndex objects numbers
+-- The image reads as the tree that is told by what is kept of its objects, and no free block shares a byte with one of theirs.
+pub record IsOpened (image : Space) (slots : List (Option OpenedObject)) (numbers : BTreeMap ℕ ℕ) : Type 0 where
+  pub reads : Reads image.bytes (table_of slots) (tree_of image.bytes slots)
+  pub each : AllByRecursion (IsObjectKept image.bytes) (objects_of slots)
+  pub index : IsIndex (table_of slots) numbers
+  pub low : length slots ≤ 4294967295
+  pub apart : IsApart (opened_blocks image.bytes (objects_of slots)) image.free (length image.bytes)

@@ -1,10 +1,13 @@
 -- The tree that an opened image holds, by what is kept of its objects (File Format Specification 3.0, section IV.A).
-use Rattle.std.specs.Prelude.{ℕ, ◌+◌, ◌==◌, if◌then◌else◌, List, [], ◌∷◌, ◌++◌, map}
+use Rattle.std.specs.Prelude.{◌≡◌, ℕ, ◌+◌, ◌==◌, if◌then◌else◌, Option, Some, None, option_map, List, [], ◌∷◌, ◌++◌, map}
 use Rattle.std.specs.Ordering.{nat_cmp}
-use Rattle.std.specs.FinMap.{FinMap, empty, from_entries}
+use Rattle.std.specs.FinMap.{FinMap, empty, entries, from_entries}
+use Rattle.std.specs.List.{filter_map, flat_map}
+use Rattle.h5_bytes.specs.Blocks.{block}
 use Rattle.h5_bytes.specs.declared.Block.{Block}
 pub use Rattle.h5_laws.specs.Numbered.{numbered}
 use Rattle.h5_model.specs.Format.Messages.{Message}
+use Rattle.h5_model.specs.Format.Superblock.{superblock_length}
 use Rattle.h5_model.specs.Format.Symbols.{Target, Header, Text}
 use Rattle.h5_model.specs.Tree.Objects.{Tree, Object, Content, Group, Array, Link, Links, ToObject, Soft}
 use Rattle.h5_header.specs.Listed.{messages_in}
@@ -17,16 +20,46 @@ use Rattle.h5_open.specs.declared.opened.object.OpenedContent.TheVariants as con
 use Rattle.h5_open.specs.Opened.Array.{data_blocks}
 use Rattle.h5_open.specs.Opened.Headers.{object_with}
 
--- ---- headers and numbers
+-- ---- numbers
+
+-- There is a slot for each number that was given out, with the object that has it. A slot whose object is no more stays empty.
+abbrev pub objects_of : List (Option OpenedObject) → List OpenedObject
+objects_of slots = filter_map (λ o. o) slots
+
+-- what the slots have, by their numbers, from n on
+abbrev pub standing : {X : Type 0} → ℕ → List (Option X) → List (ℕ × X)
+standing n [] = []
+standing n (None ∷ slots) = standing (n + 1) slots
+standing n (Some x ∷ slots) = (n, x) ∷ standing (n + 1) slots
+
+-- a slot for each of these objects, in their order
+abbrev pub slots_of : List OpenedObject → List (Option OpenedObject)
+slots_of objects = map (λ o. Some o) objects
+
+-- no slot is empty
+abbrev pub IsDense : List (Option OpenedObject) → Type 0
+IsDense slots = slots ≡ slots_of (objects_of slots)
+
+-- ---- headers
+
+abbrev pub header_of : OpenedObject → ℕ
+header_of o = o.messages.header
 
 -- where the headers stand
 abbrev pub headers : List OpenedObject → List ℕ
-headers objects = map (λ (o : OpenedObject). o.messages.header) objects
+headers objects = map header_of objects
 
--- the number of the object at a header: how many objects come before it
-abbrev pub number_of : List ℕ → ℕ → ℕ
-number_of [] header = 0
-number_of (h ∷ hs) header = if h == header then 0 else 1 + number_of hs header
+-- each object's header by its number
+abbrev pub table_of : List (Option OpenedObject) → FinMap nat_cmp ℕ
+table_of slots = from_entries (standing 0 (map (option_map header_of) slots))
+
+-- the number of the object whose header stands at this address: the first in the table that has it
+abbrev pub number_by : List (ℕ × ℕ) → ℕ → ℕ
+number_by [] header = 0
+number_by ((n, h) ∷ others) header = if h == header then n else number_by others header
+
+abbrev pub number_in : FinMap nat_cmp ℕ → ℕ → ℕ
+number_in table header = number_by (entries table) header
 
 -- ---- objects
 
@@ -35,20 +68,21 @@ abbrev pub content_links : List ℕ → OpenedContent → List (List ℕ × Targ
 content_links image (content.Group table) = links_told image table
 content_links image content.Array = []
 
-abbrev pub link_to : List ℕ → Target → Link
-link_to at (Header header) = ToObject (number_of at header)
-link_to at (Text text) = Soft text
+abbrev pub link_to : FinMap nat_cmp ℕ → Target → Link
+link_to table (Header header) = ToObject (number_in table header)
+link_to table (Text text) = Soft text
 
-abbrev pub links_by : List ℕ → List (List ℕ × Target) → Links
-links_by at found = from_entries (map (λ (l : List ℕ × Target). (l.0, link_to at l.1)) found)
+abbrev pub links_by : FinMap nat_cmp ℕ → List (List ℕ × Target) → Links
+links_by table found = from_entries (map (λ (l : List ℕ × Target). (l.0, link_to table l.1)) found)
 
--- a group with these links, whose headers are among these; or the array that the messages tell
-abbrev pub content_in : List ℕ → List ℕ → List Message → OpenedContent → Content
-content_in image at ms (content.Group table) = Group (links_by at (links_told image table))
-content_in image at ms content.Array = Array (described_dataset image (array_told ms) empty)
+-- a group with these links, whose headers the table has; or the array that the messages tell
+abbrev pub content_in : List ℕ → FinMap nat_cmp ℕ → List Message → OpenedContent → Content
+content_in image table ms (content.Group group) = Group (links_by table (links_told image group))
+content_in image table ms content.Array = Array (described_dataset image (array_told ms) empty)
 
-abbrev pub object_in : List ℕ → List ℕ → OpenedObject → Object
-object_in image at o = object_with (content_in image at (messages_in image o.messages.list) o.content) (messages_in image o.messages.list)
+abbrev pub object_in : List ℕ → FinMap nat_cmp ℕ → OpenedObject → Object
+object_in image table o =
+    object_with (content_in image table (messages_in image o.messages.list) o.content) (messages_in image o.messages.list)
 
 -- the blocks of what an object is, and all of its own blocks
 abbrev pub content_blocks : List ℕ → List Message → OpenedContent → List Block
@@ -60,9 +94,10 @@ object_blocks image o = o.messages.blocks ++ content_blocks image (messages_in i
 
 -- ---- the image
 
--- each object's header, and the objects, by their numbers
-abbrev pub table_of : List OpenedObject → FinMap nat_cmp ℕ
-table_of objects = from_entries (numbered 0 (headers objects))
+-- the superblock's block, and those of the objects
+abbrev pub opened_blocks : List ℕ → List OpenedObject → List Block
+opened_blocks image objects = block 0 (superblock_length image) ∷ flat_map (object_blocks image) objects
 
-abbrev pub tree_of : List ℕ → List OpenedObject → Tree
-tree_of image objects = from_entries (numbered 0 (map (object_in image (headers objects)) objects))
+-- the objects by their numbers
+abbrev pub tree_of : List ℕ → List (Option OpenedObject) → Tree
+tree_of image slots = from_entries (standing 0 (map (option_map (object_in image (table_of slots))) slots))

@@ -1,18 +1,18 @@
 -- Objects that were read from an image, and make up all of it, their reference counts aside (File Format Specification 3.0,
 -- sections II.A and IV.A).
 use Rattle.std.specs.Prelude.{◌≡◌, ℕ, zero, suc, ◌+◌, ◌⊎◌, List, [], ◌∷◌, ◌++◌, length}
-use Rattle.std.specs.List.{AllByRecursion, Contains, IsDistinct, flat_map}
+use Rattle.std.specs.List.{AllByRecursion, Contains, IsDistinct}
 use Rattle.std.specs.Ordering.{nat_cmp, eq_by_cmp}
-use Rattle.h5_bytes.specs.Blocks.{block, Separate, Inside}
-use Rattle.h5_bytes.specs.declared.Block.{Block}
-use Rattle.h5_model.specs.Format.Superblock.{IsSuperblock, superblock_length, end_of_file, root_header}
+use Rattle.std.specs.FinMap.{FinMap}
+use Rattle.h5_bytes.specs.Blocks.{Separate, Inside}
+use Rattle.h5_model.specs.Format.Superblock.{IsSuperblock, end_of_file, root_header}
 use Rattle.h5_model.specs.Format.Symbols.{Target, Header, Text}
 use Rattle.h5_model.specs.Format.Reads.{Placed}
 use Rattle.h5_open.specs.declared.opened.object.OpenedObject.{OpenedObject}
 use Rattle.h5_open.specs.declared.opened.object.OpenedContent.{OpenedContent}
 use Rattle.h5_open.specs.declared.opened.object.OpenedContent.TheVariants as content
 use Rattle.h5_open.specs.Opened.Kept.{IsObjectKept}
-use Rattle.h5_open.specs.Opened.Objects.{headers, content_links, object_in, object_blocks}
+use Rattle.h5_open.specs.Opened.Objects.{slots_of, headers, table_of, content_links, object_in, object_blocks, opened_blocks}
 
 abbrev pub IsGroupContent : OpenedContent → Type 0
 IsGroupContent (content.Group table) = Unit {0}
@@ -52,10 +52,6 @@ pub record BeginsAtRoot (image : List ℕ) (objects : List OpenedObject) : Type 
   pub at_root : root.messages.header ≡ root_header image
   pub group : IsGroupContent root.content
 
--- the superblock's block, and those of the objects
-abbrev pub opened_blocks : List ℕ → List OpenedObject → List Block
-opened_blocks image objects = block 0 (superblock_length image) ∷ flat_map (object_blocks image) objects
-
 -- each link leads to one of the objects, and no path from the root has more than 64 names
 pub record IsWholeImage (image : List ℕ) (objects : List OpenedObject) : Type 0 where
   pub superblock : IsSuperblock image
@@ -69,11 +65,12 @@ pub record IsWholeImage (image : List ℕ) (objects : List OpenedObject) : Type 
   pub apart : Separate (opened_blocks image objects)
   pub within : Inside (length image) (opened_blocks image objects)
 
--- the objects with their numbers, from n on, as a reading of the image places them
-abbrev pub placed_from : List ℕ → List ℕ → ℕ → List OpenedObject → List Placed
-placed_from image at n [] = []
-placed_from image at n (o ∷ objects) =
-    record { number = n; header = o.messages.header; object = object_in image at o; blocks = object_blocks image o } ∷ placed_from image at (n + 1) objects
+-- the objects with their numbers, from n on, as a reading of the image with a table of headers places them
+abbrev pub placed_from : List ℕ → FinMap nat_cmp ℕ → ℕ → List OpenedObject → List Placed
+placed_from image table n [] = []
+placed_from image table n (o ∷ objects) =
+    record { number = n; header = o.messages.header; object = object_in image table o; blocks = object_blocks image o }
+    ∷ placed_from image table (n + 1) objects
 
 abbrev pub placed_of : List ℕ → List OpenedObject → List Placed
-placed_of image objects = placed_from image (headers objects) 0 objects
+placed_of image objects = placed_from image (table_of (slots_of objects)) 0 objects

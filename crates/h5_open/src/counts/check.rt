@@ -4,14 +4,15 @@ ghost use Rattle.std.specs.Prelude.{◌≡◌, ◌+◌, ◌≤◌, ◌⊎◌, �
 ghost use Rattle.h5_model.specs.Format.Reads.{ReadsAs};
 ghost use Rattle.h5_group.specs.Nodes.Walk.{IsFault};
 ghost use Rattle.h5_open.specs.declared.opened.object.OpenedObject.{OpenedObject};
-ghost use Rattle.h5_open.specs.Opened.Kept.{IsIndex};
-ghost use Rattle.h5_open.specs.Opened.Objects.{headers, table_of, tree_of};
+ghost use Rattle.h5_open.specs.Opened.Objects.{IsDense, headers, objects_of, table_of, tree_of};
 ghost use Rattle.h5_open.specs.Placed.Whole.{IsGroupContent, IsWholeImage, placed_of};
+ghost use Rattle.h5_open.specs.Walk.{IsNumbered};
 ghost use Rattle.h5_open.specs.Counted.Links.{all_links};
 ghost use Rattle.h5_open.specs.Counted.Counts.{AreCounts, IsRight, IsWrong, HasMiscount};
 
 use crate::counts::links::count_links;
-use crate::opened::{Opened, OpenedContent, OpenedObject};
+use crate::index::Index;
+use crate::opened::{OpenedContent, OpenedObject};
 use h5_model::{Cause, OpenFault};
 use h5_space::Image;
 use std::alloc::Global;
@@ -26,40 +27,43 @@ const MOST: u32 = 65535;
 /// which a number is kept for each object. Each link is looked at once.
 ///
 /// That the objects make up the image is the caller's condition.
-pub fn check_counts(alloc: Global, image: &Image, opened: &Opened) -> Result<(), OpenFault>
-    requires whole { IsWholeImage image.now.bytes opened.now.objects.items }
-    requires index { IsIndex opened.now.objects.items opened.now.numbers }
-    ensures reads { OnOk result (ReadsAs image.now.bytes (table_of opened.now.objects.items)
-        (tree_of image.now.bytes opened.now.objects.items)
-        (placed_of image.now.bytes opened.now.objects.items)) }
+pub(crate) fn check_counts(alloc: Global, image: &Image, index: &Index) -> Result<(), OpenFault>
+    requires whole { IsWholeImage image.now.bytes (objects_of index.now.objects.items) }
+    requires index { IsNumbered index.now.objects.items index.now.numbers }
+    ensures reads { OnOk result (ReadsAs image.now.bytes (table_of index.now.objects.items)
+        (tree_of image.now.bytes index.now.objects.items)
+        (placed_of image.now.bytes (objects_of index.now.objects.items))) }
     ensures wrong { IfErr result (λ fault. (fault.cause ≡ Cause.NoMemory)
-        ⊎ HasMiscount image.now.bytes opened.now.objects.items fault.cause fault.address) }
+        ⊎ HasMiscount image.now.bytes (objects_of index.now.objects.items) fault.cause fault.address) }
     ensures refused { IfErr result (λ fault. IsFault image.now.bytes fault.cause fault.address) }
 {
-    let Ok(counts) = count_links(alloc, image, opened) else {
+    let Ok(counts) = count_links(alloc, image, index) else {
         return Err(OpenFault {
             cause: Cause::NoMemory,
             address: 0,
         });
     };
-    check_each(image, opened, &counts)
+    check_each(image, index, &counts)
 }
 
 /// Checks the objects, of which each has its count of links.
-fn check_each(image: &Image, opened: &Opened, counts: &[u32]) -> Result<(), OpenFault>
-    requires whole { IsWholeImage image.now.bytes opened.now.objects.items }
-    requires length { length counts.now ≡ length opened.now.objects.items }
-    requires counts { AreCounts (headers opened.now.objects.items)
-        (all_links image.now.bytes opened.now.objects.items) counts.now }
+fn check_each(image: &Image, index: &Index, counts: &[u32]) -> Result<(), OpenFault>
+    requires whole { IsWholeImage image.now.bytes (objects_of index.now.objects.items) }
+    requires all { IsDense index.now.objects.items }
+    requires length { length counts.now ≡ length index.now.objects.items }
+    requires counts { AreCounts (headers (objects_of index.now.objects.items))
+        (all_links image.now.bytes (objects_of index.now.objects.items)) counts.now }
     ensures right { OnOk result
-        ((number : ℕ) (o : OpenedObject) → slice_get opened.now.objects.items number ≡ Some o
+        ((number : ℕ) (o : OpenedObject) → slice_get (objects_of index.now.objects.items) number ≡ Some o
         → IsRight image.now.bytes o (slice_index counts.now number)) }
     ensures wrong { IfErr result (λ fault.
-        HasMiscount image.now.bytes opened.now.objects.items fault.cause fault.address) }
+        HasMiscount image.now.bytes (objects_of index.now.objects.items) fault.cause fault.address) }
     ensures refused { IfErr result (λ fault. IsFault image.now.bytes fault.cause fault.address) }
 {
-    for (number, object) in opened.objects.iter().enumerate() {
-        check_object(image, object, counts[number])?;
+    for (number, slot) in index.objects.iter().enumerate() {
+        if let Some(object) = slot {
+            check_object(image, object, counts[number])?;
+        }
     }
     Ok(())
 }

@@ -2,7 +2,6 @@
 
 use h5_group::SymbolTable;
 use h5_header::Messages;
-use std::collections::BTreeMap;
 
 /// What an object is.
 #[derive(Drop)]
@@ -19,13 +18,4 @@ pub struct OpenedObject {
     /// The messages of its header.
     pub messages: Messages,
     pub content: OpenedContent,
-}
-
-/// The objects of an opened image. Object 0 is the root; the others have their numbers in the order in which they were met, depth
-/// first and by the names of links.
-#[derive(Drop)]
-pub struct Opened {
-    pub objects: Vec<OpenedObject>,
-    /// The number of the object at each header address.
-    pub numbers: BTreeMap<u64, u32>,
 }

@@ -1,5 +1,5 @@
 -- Counts of links, as one link after another is counted.
-use Rattle.std.proofs.Common.{◌≡◌, ◌≢◌, ℕ, ◌+◌, ◌<◌, ◌≤◌, List, [], ◌∷◌, ◌++◌, Bool, true, false, cond, refl, sym, ap, ◌∙◌, subst, arith, length, length-set, get_or, set, take, drop, map, get_or-set_same, get_or-set_other}
+use Rattle.std.proofs.Common.{◌≡◌, ◌≢◌, ℕ, ◌+◌, ◌<◌, ◌≤◌, List, [], ◌∷◌, ◌++◌, Bool, true, false, cond, refl, sym, ap, ◌∙◌, subst, arith, length, length-set, get_or, set, take, drop, map, Option, get_or-set_same, get_or-set_other}
 use Rattle.std.proofs.lemmas.Bool.Decides.{nat_tests}
 use Rattle.std.proofs.lemmas.List.{take_all, take-append-le, take_more, append-nil, map-append, take-append-drop}
 use Rattle.std.proofs.lemmas.List.Elements.{filter_map-append, Contains-get_or}
@@ -12,7 +12,7 @@ use Rattle.h5_model.specs.declared.object_no.ObjectNo.{ObjectNo}
 use Rattle.h5_model.specs.declared.link.Link.{Link}
 use Rattle.h5_model.specs.declared.link.LinkTo.{LinkTo}
 use Rattle.h5_model.specs.declared.link.LinkTo.TheVariants as target
-use Rattle.h5_repack.specs.Objects.Targets.{new_links, object_in, targets, times}
+use Rattle.h5_repack.specs.Objects.Targets.{object_in, targets, times}
 use Rattle.h5_laws.proofs.Lists.{in_contains, contains_in}
 use Rattle.h5_repack.proofs.ObjectLaws.Members.{in_filter_map}
 use Rattle.h5_repack.proofs.ObjectLaws.Trees.{counted}
@@ -94,7 +94,7 @@ counted_one old new others other are there = record {
 
 -- ---- counts of the links of objects
 
-pub record AreCountedTo (objects : List NewObject) (i : ℕ) (counts : List ℕ) : Type 0 where
+pub record AreCountedTo (objects : List (Option NewObject)) (i : ℕ) (counts : List ℕ) : Type 0 where
   pub same : length counts ≡ length objects
   pub each : (number : ℕ) → number < length objects → get_or counts number 0 ≡ sum_by (counted number) (take i objects)
 
@@ -106,7 +106,7 @@ refilled n old new same is =
     take-append-le n new (drop (length new) old) all ∙ take_all n new none
 
 -- the links of one object more
-pub objects_more : (objects : List NewObject) (i : ℕ) (x : NewObject) (old new : List ℕ) → i < length objects → x ≡ get_or objects i x → AreCountedTo objects i old
+pub objects_more : (objects : List (Option NewObject)) (i : ℕ) (x : Option NewObject) (old new : List ℕ) → i < length objects → x ≡ get_or objects i x → AreCountedTo objects i old
     → length new ≡ length old → ((number : ℕ) → number < length old → get_or new number 0 ≡ get_or old number 0 + counted number x) → AreCountedTo objects (i + 1) new
 objects_more objects i x old new low is are same each = record {
   same = same ∙ are.same;
@@ -116,13 +116,8 @@ objects_more objects i x old new low is are same each = record {
       omega (arith, more, each number (omega (arith, within, are.same)), are.each number within);
 }
 
-pub objects_same : (objects : List NewObject) (i : ℕ) (x : NewObject) (counts : List ℕ) → i < length objects → x ≡ get_or objects i x → AreCountedTo objects i counts
-    → new_links x.content ≡ [] → AreCountedTo objects (i + 1) counts
-objects_same objects i x counts low is are none =
-    objects_more objects i x counts counts low is are refl (λ number within. let no : counted number x ≡ 0 = ap (λ ls. times number (targets ls)) none in omega (arith, no))
-
 -- a count so far has room for the links of the object
-pub objects_room : (objects : List NewObject) (i : ℕ) (x : NewObject) (counts : List ℕ) (number : ℕ) → i < length objects → x ≡ get_or objects i x → AreCountedTo objects i counts
+pub objects_room : (objects : List (Option NewObject)) (i : ℕ) (x : Option NewObject) (counts : List ℕ) (number : ℕ) → i < length objects → x ≡ get_or objects i x → AreCountedTo objects i counts
     → number < length objects → get_or counts number 0 + counted number x ≤ sum_by (counted number) objects
 objects_room objects i x counts number low is are within =
     let room : sum_by (counted number) (take i objects) + counted number x ≤ sum_by (counted number) objects

@@ -14,21 +14,21 @@ same_object : (a b : ℕ) → Some (ToObject a) ≡ Some (ToObject b) → a ≡ 
 same_object a b e = cc
 
 -- with an object, each to which a path leads from it
-along : (tree : Tree) (count : ℕ) (order : List ℕ) → AreMet tree count order → (path : List (List ℕ)) (from number : ℕ)
+along : (tree : Tree) (order : List ℕ) → AreMet tree order → (path : List (List ℕ)) (from number : ℕ)
     → Contains order from → follow tree (ToObject from) path ≡ Some (ToObject number) → Contains order number
-along tree count order met [] from number has is = subst (Contains order) (same_object from number is) has
-along tree count order met (name ∷ path) from number has is = elim (link_in tree from name) as (λ found. link_in tree from name ≡ found
+along tree order met [] from number has is = subst (Contains order) (same_object from number is) has
+along tree order met (name ∷ path) from number has is = elim (link_in tree from name) as (λ found. link_in tree from name ≡ found
     → option_and_then (λ link. follow tree link path) found ≡ Some (ToObject number) → Contains order number) [
       | None ↦ λ _ no. absurd (cc)
       | Some link ↦ elim link as (λ k. link_in tree from name ≡ Some k → follow tree k path ≡ Some (ToObject number) → Contains order number) [
-        | ToObject other ↦ λ linked rest. along tree count order met path other number (met.closed from other name has linked) rest
+        | ToObject other ↦ λ linked rest. along tree order met path other number (met.closed from other name has linked) rest
         | Soft text ↦ λ _ rest. absurd (soft_leads tree text path number rest)
       ]
     ] refl is
 
 -- each object of the tree is in the order
-pub met_all : (tree : Tree) (count : ℕ) (order : List ℕ) → IsSoundTree tree → AreMet tree count order → (number : ℕ) → IsSome (get tree number)
+pub met_all : (tree : Tree) (order : List ℕ) → IsSoundTree tree → AreMet tree order → (number : ℕ) → IsSome (get tree number)
     → Contains order number
-met_all tree count order sound met number some =
+met_all tree order sound met number some =
     let path = sound.reached number some in
-    along tree count order met path.0 0 number (subst (λ (ns : List ℕ). Contains ns 0) (sym met.first) (contains_in 0 (0 ∷ met.others) (inl refl))) path.1
+    along tree order met path.0 0 number (subst (λ (ns : List ℕ). Contains ns 0) (sym met.first) (contains_in 0 (0 ∷ met.others) (inl refl))) path.1

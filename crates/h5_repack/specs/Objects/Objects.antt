@@ -1,7 +1,8 @@
--- Which tree objects make that are handed to the writer.
-use Rattle.std.specs.Prelude.{◌≡◌, ℕ, List, map, slice_get}
+-- Which tree objects make that are handed to the writer, each in the slot of its number; the slot of a number without an object is empty.
+use Rattle.std.specs.Prelude.{◌≡◌, ℕ, Option, Some, None, IsSome, List, map, slice_get}
 use Rattle.std.specs.List.{AllZip}
 use Rattle.std.specs.FinMap.{get, entries}
+use Rattle.std.specs.Option.{option_flatten}
 use Rattle.h5_model.specs.Tree.Objects.{Tree, Object, Content, Group, Array, Dataset}
 use Rattle.h5_model.specs.Tree.Links.{tree_link}
 use Rattle.h5_repack.specs.Bodies.Bodies.{others_of}
@@ -30,8 +31,20 @@ pub record IsNewObject (x : NewObject) (o : Object) : Type 0 where
   pub content : IsNewContent x.content o.content
   pub others : AreOthers (others_of o) x.others
 
+-- ---- slots
+
+-- the slot of this number is not empty
+abbrev pub IsFilled : {X : Type 0} → List (Option X) → ℕ → Type 0
+IsFilled slots number = IsSome (option_flatten (slice_get slots number))
+
+-- both are empty, or this holds of what they have
+abbrev pub SlotsHold : {X Y : Type 0} → (X → Y → Type 0) → Option X → Option Y → Type 0
+SlotsHold Holds None None = Unit {0}
+SlotsHold Holds (Some x) (Some y) = Holds x y
+SlotsHold Holds _ _ = ⊥
+
 -- the objects of the tree by their numbers
-pub record AreObjects (objects : List NewObject) (tree : Tree) : Type 0 where
-  pub listed : List Object
-  pub numbered : (number : ℕ) → get tree number ≡ slice_get listed number
-  pub each : AllZip IsNewObject objects listed
+pub record AreObjects (objects : List (Option NewObject)) (tree : Tree) : Type 0 where
+  pub listed : List (Option Object)
+  pub numbered : (number : ℕ) → get tree number ≡ option_flatten (slice_get listed number)
+  pub each : AllZip (SlotsHold IsNewObject) objects listed

@@ -13,6 +13,11 @@ abbrev pub new_links : NewContent → List (Link ObjectNo)
 new_links (content.Group links) = links.items
 new_links (content.Array a c) = []
 
+-- those of a slot
+abbrev pub slot_links : Option NewObject → List (Link ObjectNo)
+slot_links (Some x) = new_links x.content
+slot_links None = []
+
 -- the object that a link names
 abbrev pub object_in : LinkTo ObjectNo → Option ℕ
 object_in (target.Object number) = Some number.0
@@ -21,9 +26,9 @@ object_in (target.Soft text) = None
 abbrev pub targets : List (Link ObjectNo) → List ℕ
 targets links = filter_map (λ (l : Link ObjectNo). object_in l.to) links
 
--- the objects that an object's links lead to, that of the first name last
-abbrev pub waiting : NewObject → List ℕ
-waiting x = targets (reverse (new_links x.content))
+-- the objects that a slot's links lead to, that of the first name last
+abbrev pub waiting : Option NewObject → List ℕ
+waiting slot = targets (reverse (slot_links slot))
 
 -- how many of these numbers are the number
 abbrev pub times : ℕ → List ℕ → ℕ

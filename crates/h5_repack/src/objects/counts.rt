@@ -7,14 +7,14 @@ ghost use Rattle.h5_laws.specs.Trees.Sound.{IsSoundTree};
 ghost use Rattle.h5_repack.specs.Objects.Objects.{AreObjects};
 ghost use Rattle.h5_repack.specs.Objects.Targets.{targets, times};
 
-use crate::objects::object::{NewContent, NewObject};
+use crate::objects::object::{NewObject, links_of};
 use h5_model::{Link, LinkTo, ObjectNo};
 use std::alloc::{AllocError, Global};
 
 /// How many hard links lead to each object, by its number.
 ///
-/// Takes memory for a number of each object. Each link is looked at once.
-pub fn count_links(alloc: Global, objects: &[NewObject<'_>]) -> Result<Vec<u32>, AllocError>
+/// Takes memory for a number of each slot. Each link is looked at once.
+pub fn count_links(alloc: Global, objects: &[Option<NewObject<'_>>]) -> Result<Vec<u32>, AllocError>
     requires few { length objects.now < 2 ^ 32 }
     requires tree { (tree : Tree) × AreObjects objects.now tree × IsSoundTree tree }
     ensures length { IfOk result (λ counts. length counts.items ≡ length objects.now) }
@@ -24,9 +24,7 @@ pub fn count_links(alloc: Global, objects: &[NewObject<'_>]) -> Result<Vec<u32>,
 {
     let mut counts = vec![in alloc; 0; objects.len()]?;
     for object in objects {
-        if let NewContent::Group(links) = &object.content {
-            count_group(links, &mut counts);
-        }
+        count_group(links_of(object), &mut counts);
     }
     Ok(counts)
 }
@@ -34,7 +32,7 @@ pub fn count_links(alloc: Global, objects: &[NewObject<'_>]) -> Result<Vec<u32>,
 /// Adds the links of a group to the counts of the objects to which they lead.
 fn count_group(links: &[Link<'_, ObjectNo>], counts: &mut [u32])
     requires below { (number : ℕ) → Contains (targets links.now) number → number < length counts.old }
-    requires few { (number : ℕ) → number < length counts.old
+    requires few { (number : ℕ) → Contains (targets links.now) number
         → slice_index counts.old number + times number (targets links.now) < 2 ^ 32 }
     ensures length { length counts.new ≡ length counts.old }
     ensures counted { (number : ℕ) → number < length counts.old

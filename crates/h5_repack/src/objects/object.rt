@@ -1,5 +1,8 @@
 //! Objects to be written.
 
+ghost use Rattle.std.specs.Prelude.{◌≡◌};
+ghost use Rattle.h5_repack.specs.Objects.Targets.{slot_links};
+
 use crate::blocks::{Cells, Others};
 use h5_layout::ArrayRef;
 use h5_model::{Link, ObjectNo};
@@ -16,10 +19,23 @@ pub enum NewContent<'a> {
     },
 }
 
-/// An object to be written. Its number is its place among the objects; object 0 is the root.
+/// An object to be written. Its number is its place among the slots; object 0 is the root.
 #[derive(Drop)]
 pub struct NewObject<'a> {
     pub content: NewContent<'a>,
     /// The messages behind those of the content.
     pub others: Others,
+}
+
+/// The links of a group. An array has none, nor has an empty slot.
+pub(crate) fn links_of<'a, 'b>(slot: &'b Option<NewObject<'a>>) -> &'b [Link<'a, ObjectNo>]
+    ensures { result.now ≡ slot_links slot.now }
+{
+    let Some(object) = slot else {
+        return &[];
+    };
+    match &object.content {
+        NewContent::Group(links) => links,
+        NewContent::Array { .. } => &[],
+    }
 }

@@ -7,19 +7,18 @@ ghost use Rattle.h5_repack.specs.Objects.Objects.{AreObjects};
 ghost use Rattle.h5_repack.specs.Objects.Order.{AreMet};
 ghost use Rattle.h5_repack.specs.Objects.Targets.{waiting};
 
-use crate::objects::object::{NewContent, NewObject};
+use crate::objects::object::{NewObject, links_of};
 use h5_model::LinkTo;
 use std::alloc::{AllocError, Global};
 
 /// The numbers of the objects in the order in which they are first met, depth first and by the names of links, from the root on.
 ///
-/// Takes memory for a mark and a number of each object, and for the links that wait.
-pub fn met_order(alloc: Global, objects: &[NewObject<'_>]) -> Result<Vec<u32>, AllocError>
+/// Takes memory for a mark of each slot and a number of each object, and for the links that wait.
+pub fn met_order(alloc: Global, objects: &[Option<NewObject<'_>>]) -> Result<Vec<u32>, AllocError>
     requires few { length objects.now < 2 ^ 32 }
     requires tree { (tree : Tree) × AreObjects objects.now tree × IsSoundTree tree }
     ensures { IfOk result (λ order.
-        (tree : Tree) → AreObjects objects.now tree → IsSoundTree tree
-        → AreMet tree (length objects.now) order.items) }
+        (tree : Tree) → AreObjects objects.now tree → IsSoundTree tree → AreMet tree order.items) }
 {
     let mut order = Vec::new(alloc);
     let mut is_met = vec![in alloc; false; objects.len()]?;
@@ -35,14 +34,12 @@ pub fn met_order(alloc: Global, objects: &[NewObject<'_>]) -> Result<Vec<u32>, A
 }
 
 /// Lets the objects wait to which an object's links lead, so that the first name's is the next that is taken.
-fn push_waiting(object: &NewObject<'_>, stack: &mut Vec<u32>) -> Result<(), AllocError>
+fn push_waiting(object: &Option<NewObject<'_>>, stack: &mut Vec<u32>) -> Result<(), AllocError>
     ensures { IfOk result (λ _. stack.new.items ≡ stack.old.items ++ waiting object.now) }
 {
-    if let NewContent::Group(links) = &object.content {
-        for link in links.iter().rev() {
-            if let LinkTo::Object(number) = link.to {
-                stack.push(number.0)?;
-            }
+    for link in links_of(object).iter().rev() {
+        if let LinkTo::Object(number) = link.to {
+            stack.push(number.0)?;
         }
     }
     Ok(())

@@ -2,10 +2,10 @@ use Rattle.std.proofs.Common.{◌≡◌, ◌-◌, inl, inr, true, false, sym, su
 use Rattle.std.proofs.lemmas.Result.{IfOk-weaker, MatchResult-weaker, err_from_is_err_and}
 use Rattle.h5_model.specs.Format.Rows.{Node}
 use Rattle.h5_model.specs.Format.Nodes.{node_at}
+use Rattle.h5_btree.specs.Descent.{EndsAt}
 use Rattle.h5_btree.specs.Form.{MayStandAt}
-use Rattle.h5_btree.specs.Descent.{LeadsTo}
 use Rattle.h5_btree.proofs.DescentLaws.{reads_in_row}
-use Rattle.h5_btree.proofs.WayLaws.{stands, leads_here, leads_on, down_row, stops_here, stops_below}
+use Rattle.h5_btree.proofs.WayLaws.{stands, ends_on, down_row, stops_here, stops_below}
 use Rattle.h5_btree.proofs.descent.+descend.Goals as goal
 
 pub returns-in_err-node-clause-only : goal.returns-in_err-node-clause-only
@@ -20,32 +20,33 @@ returns-in_err-check_level-clause-only g t c = λ owned row r.
     let fine : false ≡ true = c.in_err-check_level.ensures.form.1 may in
     absurd (cc)
 
-pub child_for-requires-clause-keys : goal.child_for-requires-clause-keys
-child_for-requires-clause-keys g t c = rw c.kind.ensures at c.in_ok-node.ensures.keys
+pub child_for-index-requires-clause-keys : goal.child_for-index-requires-clause-keys
+child_for-index-requires-clause-keys g t c = rw c.kind.ensures at c.in_ok-node.ensures.keys
 
-pub returns-then-level-eq0-clause-leads : goal.returns-then-level-eq0-clause-leads
-returns-then-level-eq0-clause-leads g t c =
+pub returns-then-level-eq0-clause-ends : goal.returns-then-level-eq0-clause-ends
+returns-then-level-eq0-clause-ends g t c =
     let is = rw c.kind.ensures at c.in_ok-node.ensures.node in
-    rw c.if-level-eq0.true
-    (leads_here c.args.image.now (g.S.Sought.tree_kind c.args.sought.now) (g.S.Sought.behind c.args.sought.now) c.args.at c.in_ok-node.node
-    c.child_for.result c.child-child.result is c.child_for.ensures c.child-child.ensures)
+    rw c.if-level-eq0.true (is, c.child_for-index.ensures)
 
-pub returns-clause-leads : goal.returns-clause-leads
-returns-clause-leads g t c =
+pub returns-then-level-eq0-clause-keys : goal.returns-then-level-eq0-clause-keys
+returns-then-level-eq0-clause-keys g t c = rw c.kind.ensures at c.in_ok-node.ensures.keys
+
+pub returns-clause-ends : goal.returns-clause-ends
+returns-clause-ends g t c =
     let is = rw c.kind.ensures at c.in_ok-node.ensures.node in
     let kind = g.S.Sought.tree_kind c.args.sought.now in
     let behind = g.S.Sought.behind c.args.sought.now in
-    IfOk-weaker c.descend.result (LeadsTo (node_at c.args.image.now kind) behind (c.args.level - 1) c.child-child.result)
-    (LeadsTo (node_at c.args.image.now kind) behind c.args.level c.args.at)
-    (λ leaf rest. leads_on c.args.image.now kind behind c.args.at c.in_ok-node.node c.child_for.result c.child-child.result is c.child_for.ensures c.child-child.ensures
-    c.args.level leaf c.if-level-eq0.false rest) c.descend.ensures.leads
+    IfOk-weaker c.descend.result (λ p. EndsAt (node_at c.args.image.now kind) behind (c.args.level - 1) c.child-child.result p.node p.child)
+    (λ p. EndsAt (node_at c.args.image.now kind) behind c.args.level c.args.at p.node p.child)
+    (λ p rest. ends_on c.args.image.now kind behind c.args.at c.in_ok-node.node c.child_for-index.result c.child-child.result is c.child_for-index.ensures c.child-child.ensures
+    c.args.level p.node p.child c.if-level-eq0.false rest) c.descend.ensures.ends
 
 pub returns-clause-only : goal.returns-clause-only
 returns-clause-only g t c = λ owned row r.
     let is = rw c.kind.ensures at c.in_ok-node.ensures.node in
     c.descend.ensures.only owned _
-    (down_row c.args.image.now (g.S.Sought.tree_kind c.args.sought.now) (g.S.Sought.behind c.args.sought.now) c.args.at c.in_ok-node.node c.child_for.result c.child-child.result
-    is c.child_for.ensures c.child-child.ensures owned c.args.level row c.if-level-eq0.false r)
+    (down_row c.args.image.now (g.S.Sought.tree_kind c.args.sought.now) (g.S.Sought.behind c.args.sought.now) c.args.at c.in_ok-node.node c.child_for-index.result c.child-child.result
+    is c.child_for-index.ensures c.child-child.ensures owned c.args.level row c.if-level-eq0.false r)
 
 pub returns-in_err-node-clause-refused : goal.returns-in_err-node-clause-refused
 returns-in_err-node-clause-refused g t c =
@@ -73,5 +74,5 @@ returns-clause-refused g t c =
     let kind = g.S.Sought.tree_kind c.args.sought.now in
     let behind = g.S.Sought.behind c.args.sought.now in
     MatchResult-weaker c.descend.result c.descend.ensures.refused (λ _ h. h)
-    (λ fault rest. stops_below c.args.image.now kind behind c.args.at c.in_ok-node.node c.child_for.result c.child-child.result is c.child_for.ensures c.child-child.ensures
+    (λ fault rest. stops_below c.args.image.now kind behind c.args.at c.in_ok-node.node c.child_for-index.result c.child-child.result is c.child_for-index.ensures c.child-child.ensures
     c.args.level fault c.if-level-eq0.false rest)

@@ -1,55 +1,23 @@
-use Rattle.std.proofs.Common.{◌≡◌, ◌≤◌, ◌∙◌, ℕ, inl, inr, [], ◌∷◌, true, false, length, arith, ap, sym, subst}
-use Rattle.std.specs.Prelude.{◌==◌}
-use Rattle.std.proofs.lemmas.Bool.Decides.{nat_tests}
-use Rattle.std.proofs.lemmas.Result.{err_from_is_err_and}
-use Rattle.h5_model.specs.Format.Rows.{Node}
+use Rattle.std.proofs.Common.{◌≡◌, true, false, sym}
+use Rattle.std.proofs.lemmas.Option.{get_or_from_slice_get}
 use Rattle.h5_model.specs.Format.Nodes.{node_at}
-use Rattle.h5_btree.specs.Form.{MayBeRoot}
-use Rattle.h5_btree.specs.Descent.{IsInRow}
-use Rattle.h5_btree.proofs.DescentLaws.{root_may, root_in_row}
+use Rattle.h5_btree.proofs.WayLaws.{ends_low}
 use Rattle.h5_btree.proofs.descent.find_leaf.Goals as goal
 
-pub returns-in_err-check_root-clause-only : goal.returns-in_err-check_root-clause-only
-returns-in_err-check_root-clause-only g c = λ level owned children tree inside.
-    let is = rw c.kind.ensures at c.in_ok-node.ensures.node in
-    let may = root_may c.args.image.now (g.S.Sought.tree_kind c.args.sought.now) c.args.root level owned children tree inside in
-    let fine : false ≡ true = c.in_err-check_root.ensures.form.1 (subst (λ (n : Node). MayBeRoot n) (sym is) may) in
+pub returns-in_err-place-clause-only : goal.returns-in_err-place-clause-only
+returns-in_err-place-clause-only g c = λ level owned children tree inside.
+    let fine : false ≡ true = c.in_err-place.ensures.only level owned children tree inside in
     absurd (cc)
 
-pub returns-in_err-leaf-clause-only : goal.returns-in_err-leaf-clause-only
-returns-in_err-leaf-clause-only g c = λ level owned children tree inside.
-    let kind = g.S.Sought.tree_kind c.args.sought.now in
-    let is = rw c.kind.ensures at c.in_ok-node.ensures.node in
-    let test : (length c.in_ok-node.node.children == 0) ≡ false = sym c.is_empty.ensures ∙ c.if-is_empty.false in
-    let count : length c.in_ok-node.node.children ≡ length (node_at c.args.image.now kind c.args.root).children = ap (λ (n : Node). length n.children) is in
-    let some : 1 ≤ length (node_at c.args.image.now kind c.args.root).children = grind (arith, nat_tests) in
-    let high : c.level.result ≡ (node_at c.args.image.now kind c.args.root).level = c.level.ensures ∙ ap (λ (n : Node). n.level) is in
-    let first = root_in_row c.args.image.now kind c.args.root level owned children tree inside some in
-    let fine : false ≡ true = c.in_err-leaf.ensures.only owned (c.args.root ∷ [])
-    (subst (λ (l : ℕ). IsInRow c.args.image.now kind owned l (c.args.root ∷ []) c.args.root) (sym high) first) in
-    absurd (cc)
+pub child-requires : goal.child-requires
+child-requires g c =
+    let V = node_at c.args.image.now (g.S.Sought.tree_kind c.args.sought.now) in
+    ends_low V (g.S.Sought.behind c.args.sought.now) (V c.args.root).level c.args.root c.in-Some.place.node c.in-Some.place.child (rw c.in-Some.is at c.in_ok-place.ensures.ends)
 
-pub returns-in_err-node-clause-refused : goal.returns-in_err-node-clause-refused
-returns-in_err-node-clause-refused g c =
-    let p = err_from_is_err_and c.from_residual.result c.from_residual.ensures.1 in
-    let refused = rw c.kind.ensures at c.in_err-node.ensures.refused in
-    rw (p.1, p.2) (inl refused)
-
-pub returns-in_err-check_root-clause-refused : goal.returns-in_err-check_root-clause-refused
-returns-in_err-check_root-clause-refused g c =
-    let p = err_from_is_err_and c.from_residual-in_err-check_root.result c.from_residual-in_err-check_root.ensures.1 in
-    let is = rw c.kind.ensures at c.in_ok-node.ensures.node in
-    rw (p.1, p.2)
-    (inr (inl (
-      c.in_err-check_root.ensures.fault,
-      λ may.
-          let fine : false ≡ true = c.in_err-check_root.ensures.form.1 (subst (λ (n : Node). MayBeRoot n) (sym is) may) in absurd (cc),
-    )))
-
-pub returns-in_err-leaf-clause-refused : goal.returns-in_err-leaf-clause-refused
-returns-in_err-leaf-clause-refused g c =
-    let p = err_from_is_err_and c.from_residual-in_err-leaf.result c.from_residual-in_err-leaf.ensures.1 in
-    let kind = g.S.Sought.tree_kind c.args.sought.now in
-    let is = rw c.kind.ensures at c.in_ok-node.ensures.node in
-    let high : c.level.result ≡ (node_at c.args.image.now kind c.args.root).level = c.level.ensures ∙ ap (λ (n : Node). n.level) is in
-    rw (p.1, p.2) (inr (inr (rw high at c.in_err-leaf.ensures.refused)))
+pub returns-in-Some-clause-leads : goal.returns-in-Some-clause-leads
+returns-in-Some-clause-leads g c = (
+  c.in-Some.place.node,
+  c.in-Some.place.child,
+  rw c.in-Some.is at c.in_ok-place.ensures.ends,
+  sym (get_or_from_slice_get c.in-Some.place.node.children c.in-Some.place.child c.child.result 0 c.child.ensures),
+)

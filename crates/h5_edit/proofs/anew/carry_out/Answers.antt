@@ -1,13 +1,33 @@
-use Rattle.h5_edit.proofs.Answered.{sound_change, plain_change, answered}
+use Rattle.std.proofs.Common.{ap, arith, length, ◌∙◌}
+use Rattle.h5_model.specs.Format.Superblock.{leaf_k, internal_k}
+use Rattle.h5_edit.specs.Changed.Change.{changed}
+use Rattle.h5_edit.proofs.Answered.{plain_change, tree_to_write, answered}
+use Rattle.h5_edit.proofs.Changes.{few_changed}
+use Rattle.h5_edit.proofs.Refusals.{by_memory}
 use Rattle.h5_edit.proofs.anew.carry_out.Goals as goal
 
-pub write_changed-requires-clause-change : goal.write_changed-requires-clause-change
-write_changed-requires-clause-change c = plain_change c.requires.opened c.requires.edit.1
+pub changed_objects-requires : goal.changed_objects-requires
+changed_objects-requires c = plain_change c.image.ensures.sound c.requires.1 (rw c.image.ensures.bytes at c.k_of-k.ensures.bytes)
 
-pub write_changed-requires-clause-sound : goal.write_changed-requires-clause-sound
-write_changed-requires-clause-sound c = sound_change c.requires.opened c.requires.edit.1
+pub returns-in_default : goal.returns-in_default
+returns-in_default c edit fitting = by_memory c.args.opened.now edit fitting.carried
+
+pub write_tree-requires-clause-few : goal.write_tree-requires-clause-few
+write_tree-requires-clause-few c =
+    let few = few_changed c.args.opened.now c.image.ensures.sound c.requires.0 c.args.change.now c.args.object c.requires.1 in
+    omega (arith, few, ap length c.deref.ensures.value, c.in-Ok.ensures.counted)
+
+pub write_tree-requires-clause-tree : goal.write_tree-requires-clause-tree
+write_tree-requires-clause-tree c = (
+  changed c.args.opened.now.tree c.args.change.now c.args.opened.now.next,
+  rw c.deref.ensures.value
+      (tree_to_write c.image.ensures.sound c.requires.1 (rw c.image.ensures.bytes at c.k_of-k.ensures.bytes) c.in-Ok.objects.items c.in-Ok.ensures.objects),
+)
 
 pub returns : goal.returns
 returns c edit fitting =
     rw c.answer.ensures
-    (answered c.requires.opened fitting c.write_changed.ensures.bytes c.write_changed.result c.write_changed.ensures.written c.write_changed.ensures.refused)
+    (answered c.image.ensures.sound fitting (rw c.image.ensures.bytes at c.k_of-k.ensures.bytes) c.in-Ok.objects.items c.in-Ok.ensures.objects
+    c.k_of-k.result.leaf c.k_of-k.result.internal (c.k_of-k.ensures.leaf ∙ ap leaf_k c.image.ensures.bytes) (c.k_of-k.ensures.internal ∙ ap internal_k c.image.ensures.bytes)
+    c.in-Ok.ensures.counted c.write_tree.result (rw c.deref.ensures.value at c.write_tree.ensures.written)
+    (rw c.deref.ensures.value at c.write_tree.ensures.numbered) (rw c.deref.ensures.value at c.write_tree.ensures.refused))

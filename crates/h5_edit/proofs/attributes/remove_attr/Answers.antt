@@ -8,10 +8,10 @@ use Rattle.h5_edit.proofs.attributes.remove_attr.Goals as goal
 pub returns-in_err-number : goal.returns-in_err-number
 returns-in_err-number c =
     passed_on _ _ c.from_residual.result _ c.from_residual.ensures.1
-    (by_rule c.requires (RemoveAttr c.args.path.now c.args.name.now) refl _ c.in_err-number.ensures)
+    (by_rule c.in_err-number.ensures.sound (RemoveAttr c.args.path.now c.args.name.now) refl _ c.in_err-number.ensures.at)
 
-pub carry_out-requires-clause-edit : goal.carry_out-requires-clause-edit
-carry_out-requires-clause-edit c = (RemoveAttr c.args.path.now c.args.name.now, remove_attr_fits c.requires c.args.name c.in_ok-number.ensures)
+pub carry_out-requires : goal.carry_out-requires
+carry_out-requires c = (RemoveAttr c.args.path.now c.args.name.now, remove_attr_fits c.args.opened.now c.in_ok-number.ensures.sound c.args.name c.in_ok-number.ensures.at)
 
 pub returns : goal.returns
-returns c = c.carry_out.ensures (RemoveAttr c.args.path.now c.args.name.now) (remove_attr_fits c.requires c.args.name c.in_ok-number.ensures)
+returns c = c.carry_out.ensures (RemoveAttr c.args.path.now c.args.name.now) (remove_attr_fits c.args.opened.now c.in_ok-number.ensures.sound c.args.name c.in_ok-number.ensures.at)

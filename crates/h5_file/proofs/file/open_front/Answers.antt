@@ -3,13 +3,13 @@ use Rattle.h5_model.specs.Faults.Breaches.{cut}
 use Rattle.h5_file.proofs.Opens.{cut_superblock, cut_ends}
 use Rattle.h5_file.proofs.file.open_front.Goals as goal
 
-pub walked-requires-clause-superblock : goal.walked-requires-clause-superblock
-walked-requires-clause-superblock c =
+pub open-requires-clause-superblock : goal.open-requires-clause-superblock
+open-requires-clause-superblock c =
     let front : c.in-Ok.front.items ≡ cut c.args.bytes.items = c.in-Ok.ensures.items ∙ ap (take c.args.end) c.deref.ensures.value ∙ ap (λ n. take n c.args.bytes.items) c.requires.end in
     rw (c.new.ensures, front) (cut_superblock c.args.bytes.items c.requires.superblock)
 
-pub walked-requires-clause-whole : goal.walked-requires-clause-whole
-walked-requires-clause-whole c =
+pub open-requires-clause-whole : goal.open-requires-clause-whole
+open-requires-clause-whole c =
     let front : c.in-Ok.front.items ≡ cut c.args.bytes.items = c.in-Ok.ensures.items ∙ ap (take c.args.end) c.deref.ensures.value ∙ ap (λ n. take n c.args.bytes.items) c.requires.end in
     rw (c.new.ensures, front) (cut_ends c.args.bytes.items c.requires.superblock)
 

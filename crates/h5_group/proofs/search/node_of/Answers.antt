@@ -4,7 +4,7 @@ use Rattle.h5_bytes.specs.Blocks.{Inside}
 use Rattle.h5_model.specs.Format.Heap.{segment_of}
 use Rattle.h5_model.specs.Format.Nodes.{group_kind, node_at, tree_blocks, HasTree}
 use Rattle.h5_btree.specs.Descent.{LeadsTo}
-use Rattle.h5_btree.proofs.NameOrder.{name_behind}
+use Rattle.h5_btree.proofs.NameFound.{name_behind}
 use Rattle.h5_group.specs.Nodes.Trees.{kind_in}
 use Rattle.h5_group.proofs.Standing.{heap_there, nodes_there}
 use Rattle.h5_group.proofs.Way.{one_listed, one_has, none_listed}

@@ -1,5 +1,6 @@
 use Rattle.std.proofs.Common.{◌≡◌, ℕ, ◌+◌, ◌-◌, ◌*◌, ◌≤◌, List, length}
 use Rattle.h5_model.specs.Format.Reached.{Named}
+use Rattle.h5_open.specs.Opened.Objects.{objects_of}
 use Rattle.h5_open.specs.Walk.{IsNumbered, IsReady, IsPartly}
 use Rattle.h5_open.proofs.steps.+tree.Given as goal
 
@@ -12,8 +13,8 @@ decreases-read_tree l = 2 * (65 - l.depth) + 1
 abbrev pub invariant-read_tree-loop-link : goal.invariant-read_tree-loop-link
 invariant-read_tree-loop-link l = record {
   end : l.claims.end ≡ length l.image.bytes;
-  index : IsNumbered l.opened.objects.items l.opened.numbers;
+  index : IsNumbered l.index.objects.items l.index.numbers;
   deep : 1 ≤ length l.link-items → l.depth + 1 ≤ 64;
-  read : (followed : List Named) (field : ℕ) → IsReady l.image.bytes l.fn.claims.held followed l.fn.opened.objects.items field l.header l.depth
-      → IsPartly l.image.bytes l.fn.claims.held l.claims.held followed l.fn.opened.objects.items l.opened.objects.items field l.header l.depth l.link-items l.link-index;
+  read : (followed : List Named) (field : ℕ) → IsReady l.image.bytes l.fn.claims.held followed (objects_of l.fn.index.objects.items) field l.header l.depth
+      → IsPartly l.image.bytes l.fn.claims.held l.claims.held followed (objects_of l.fn.index.objects.items) (objects_of l.index.objects.items) field l.header l.depth l.link-items l.link-index;
 }

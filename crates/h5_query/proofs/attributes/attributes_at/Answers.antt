@@ -8,10 +8,10 @@ use Rattle.h5_query.proofs.attributes.attributes_at.Goals as goal
 pub returns-in-Ok : goal.returns-in-Ok
 returns-in-Ok c =
     let there = c.in_ok-messages_at.ensures in
-    let ms = messages_in c.args.image.now.bytes c.in_ok-messages_at.field-0.now.list in
+    let ms = messages_in c.args.opened.now.image c.in_ok-messages_at.field-0.now.list in
     record {
       accepted = there.accepted;
       object = there.object;
       found = there.found;
-      listed = c.in-Ok.ensures (attributes_of ms) there.kept.attributes ∙ ap (λ (m : Attributes). entries m) (sym there.attributes_are);
+      listed = (rw c.image.ensures.bytes at c.in-Ok.ensures) (attributes_of ms) there.kept.attributes ∙ ap (λ (m : Attributes). entries m) (sym there.attributes_are);
     }

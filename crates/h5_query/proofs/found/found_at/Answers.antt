@@ -2,27 +2,27 @@ use Rattle.std.proofs.Common.{refl}
 use Rattle.h5_header.specs.Listed.{messages_in}
 use Rattle.h5_open.specs.Attributes.{attributes_of}
 use Rattle.h5_query.proofs.Calls.{group_found, array_found}
-use Rattle.h5_query.proofs.Indexed.{array_kept, object_kept}
+use Rattle.h5_query.proofs.Indexed.{array_kept}
 use Rattle.h5_query.proofs.found.found_at.Goals as goal
 
 pub stored_array-requires : goal.stored_array-requires
 stored_array-requires c =
     let place = rw c.in-Object.is at c.in_ok-number.ensures in
-    array_kept c.args.image.now.bytes c.args.opened.now.objects.items c.args.opened.now.numbers c.requires c.in-Object.number c.in-Object.object.now place.1 c.in-Array.is
+    rw c.image-in-Array.ensures.bytes (array_kept c.args.opened.now c.in-Object.number c.in-Object.object.now place.1 c.in-Array.is)
 
 pub returns-in-Group : goal.returns-in-Group
 returns-in-Group c =
     let place = rw c.in-Object.is at c.in_ok-number.ensures in
-    let kept = (object_kept c.args.image.now.bytes c.args.opened.now.objects.items c.args.opened.now.numbers c.requires c.in-Object.number c.in-Object.object.now place.1).header in
-    group_found c.args.image.now.bytes c.args.opened.now.objects.items c.args.opened.now.numbers c.requires c.in-Object.number c.in-Object.object.now place.1 c.args.path.now place.0
+    let kept = place.1.kept.header in
+    group_found c.args.opened.now c.in-Object.number c.in-Object.object.now place.1 c.args.path.now place.0
     c.in-Group.field-0 c.in-Group.is _ refl c.in_ok-attributes.attributes
-    (c.in_ok-attributes.ensures (attributes_of (messages_in c.args.image.now.bytes c.in-Object.object.now.messages.list)) kept.attributes)
+    ((rw c.image.ensures.bytes at c.in_ok-attributes.ensures) (attributes_of (messages_in c.args.opened.now.image c.in-Object.object.now.messages.list)) kept.attributes)
 
 pub returns-in-Array : goal.returns-in-Array
 returns-in-Array c =
     let place = rw c.in-Object.is at c.in_ok-number.ensures in
-    let kept = (object_kept c.args.image.now.bytes c.args.opened.now.objects.items c.args.opened.now.numbers c.requires c.in-Object.number c.in-Object.object.now place.1).header in
-    array_found c.args.image.now.bytes c.args.opened.now.objects.items c.args.opened.now.numbers c.requires c.in-Object.number c.in-Object.object.now place.1 c.args.path.now place.0
+    let kept = place.1.kept.header in
+    array_found c.args.opened.now c.in-Object.number c.in-Object.object.now place.1 c.args.path.now place.0
     c.in-Array.is _ refl c.in_ok-attributes.attributes
-    (c.in_ok-attributes.ensures (attributes_of (messages_in c.args.image.now.bytes c.in-Object.object.now.messages.list)) kept.attributes)
-    c.stored_array.result c.stored_array.ensures
+    ((rw c.image.ensures.bytes at c.in_ok-attributes.ensures) (attributes_of (messages_in c.args.opened.now.image c.in-Object.object.now.messages.list)) kept.attributes)
+    c.stored_array.result (rw c.image-in-Array.ensures.bytes at c.stored_array.ensures)

@@ -1,5 +1,4 @@
 use Rattle.std.proofs.Common.{arith}
-use Rattle.h5_open.specs.Opened.Objects.{tree_of}
 use Rattle.h5_query.proofs.PathLaws.{counted, path-long}
 use Rattle.h5_query.proofs.Looks.{followed}
 use Rattle.h5_query.proofs.place.look_up.Goals as goal
@@ -13,6 +12,6 @@ slice_bounds-follow-start c = let names = counted c.args.path.now c.in-Some-2.fi
 pub returns-in-Some-2 : goal.returns-in-Some-2
 returns-in-Some-2 c =
     let names = counted c.args.path.now c.in-Some-2.field-0 c.in-Some-2.ensures in
-    followed (tree_of c.args.image.now.bytes c.args.opened.now.objects.items) c.args.opened.now.objects.items c.args.path.now names.0 names.1
+    followed c.args.opened.now c.args.path.now names.0 names.1
     (omega (arith, names.2, c.in-Some.count-test.1, c.in-Some-2.field-0-is)) (omega (arith, names.2, c.if-count-gt-MAX_DEPTH.false, c.in-Some-2.field-0-is))
     c.follow.result c.follow.ensures

@@ -1,13 +1,13 @@
 use Rattle.std.proofs.Common.{◌≡◌, ◌++◌, ◌∙◌, List, ap, sym, subst, Some}
 use Rattle.std.proofs.lemmas.Result.{IfOk-weaker}
-use Rattle.std.specs.Prelude.{slice_get, slice_index}
+use Rattle.std.specs.Prelude.{slice_get}
 use Rattle.h5_model.specs.Tree.Objects.{Object}
 use Rattle.h5_model.specs.declared.object_no.ObjectNo.{ObjectNo}
 use Rattle.h5_model.specs.declared.link.Link.{Link}
 use Rattle.h5_repack.specs.declared.size.Extent.{Extent}
 use Rattle.h5_repack.specs.declared.size.Extent.TheVariants as extent
 use Rattle.h5_repack.specs.declared.size.Size.{Size}
-use Rattle.h5_repack.specs.Layout.{IsExtent, IsGroupObject, IsHeldObject, IsSize, laid_object}
+use Rattle.h5_repack.specs.Layout.{IsExtent, IsGroupObject, IsHeldObject, IsSize, header_by, laid_object}
 use Rattle.h5_repack.proofs.Pushed.{extent_read, links_low, no_data, group_at, array_object_at}
 use Rattle.h5_repack.proofs.Sizes.{group_of, array_of, others_low}
 use Rattle.h5_repack.proofs.object.push_object.Goals as goal
@@ -27,7 +27,8 @@ pub push_group-requires-clause-low : goal.push_group-requires-clause-low
 push_group-requires-clause-low c =
     let l = c.args.layout.now in
     let h = c.requires.held in
-    links_low (slice_index l.headers.now c.args.number) l.sizes.now c.args.number h.1 _ c.in-Links.places h.2 c.in-Links.is (c.requires.layout.each c.args.number h.1 h.2)
+    rw c.header_place.ensures
+    (links_low (header_by l c.args.number) l.sizes.now c.args.number h.1 _ c.in-Links.places h.2 c.in-Links.is (c.requires.layout.each c.args.number h.1 h.2))
 
 pub push_group-requires-clause-header : goal.push_group-requires-clause-header
 push_group-requires-clause-header c =
@@ -56,8 +57,8 @@ returns-in-Links c =
     let n = c.args.number in
     IfOk-weaker c.push_group.result _
     (λ _. (o : Object) (s : Size) → slice_get l.sizes.now n ≡ Some s → IsHeldObject c.args.object.now o → IsSize l.leaf l.internal o s
-    → c.push_group.new.out.items ≡ c.args.out.now.items ++ laid_object l (slice_index l.headers.now n) c.args.count o)
-    (λ _ pushed o s found held size. pushed ∙ ap (λ xs. c.args.out.now.items ++ xs)
+    → c.push_group.new.out.items ≡ c.args.out.now.items ++ laid_object l (header_by l n) c.args.count o)
+    (λ _ pushed o s found held size. (rw c.header_place.ensures at pushed) ∙ ap (λ xs. c.args.out.now.items ++ xs)
     (group_at l c.args.count n c.deref.result.now (c.args.object.now).others o s _ c.in-Links.places
     (subst (λ (ls : List (Link ObjectNo)). IsGroupObject ls (c.args.object.now).others o) (sym c.deref.ensures.value) (group_of c.args.object.now o c.in-Group.links c.in-Group.is held))
     found c.in-Links.is size))
@@ -69,8 +70,8 @@ returns-in-Array c =
     let n = c.args.number in
     IfOk-weaker c.push_array.result _
     (λ _. (o : Object) (s : Size) → slice_get l.sizes.now n ≡ Some s → IsHeldObject c.args.object.now o → IsSize l.leaf l.internal o s
-    → c.push_array.new.out.items ≡ c.args.out.now.items ++ laid_object l (slice_index l.headers.now n) c.args.count o)
+    → c.push_array.new.out.items ≡ c.args.out.now.items ++ laid_object l (header_by l n) c.args.count o)
     (λ _ pushed o s found held size.
     let is = array_of c.args.object.now o c.in-Array.array c.in-Array.cells c.in-Array.is held in
-    pushed o is ∙ ap (λ xs. c.args.out.now.items ++ xs) (array_object_at l c.args.count n c.in-Array.array c.in-Array.cells (c.args.object.now).others o s _ is found size))
+    (rw c.header_place.ensures at (pushed o is)) ∙ ap (λ xs. c.args.out.now.items ++ xs) (array_object_at l c.args.count n c.in-Array.array c.in-Array.cells (c.args.object.now).others o s _ is found size))
     c.push_array.ensures

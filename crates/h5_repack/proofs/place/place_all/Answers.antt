@@ -1,4 +1,4 @@
-use Rattle.std.proofs.Common.{◌<◌, ◌∙◌, length, length-set}
+use Rattle.std.proofs.Common.{◌<◌, ◌∙◌, Some, length, length-set}
 use Rattle.std.specs.Prelude.{slice_index}
 use Rattle.h5_repack.proofs.Headers.{all_at, end_step, headers_step, end_over}
 use Rattle.h5_repack.proofs.place.place_all.Goals as goal
@@ -20,5 +20,5 @@ loop-number-preserved c =
       headers_are = headers_step c.args.sizes.now c.args.order.now i c.loop-number.end c.whole_length-end.result _ c.loop-number-test.true within c.whole_length-end.ensures.exact
           c.loop-number.headers.items ∙ c.loop-number.invariant.headers_are;
       low = c.if-end-gt-MAXIMUM_IMAGE.false;
-      same = length-set c.loop-number.headers.items (slice_index c.args.order.now i) c.loop-number.end ∙ c.loop-number.invariant.same;
+      same = length-set c.loop-number.headers.items (slice_index c.args.order.now i) (Some c.loop-number.end) ∙ c.loop-number.invariant.same;
     }

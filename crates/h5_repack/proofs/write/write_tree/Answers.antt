@@ -5,10 +5,12 @@ use Rattle.std.specs.List.{AllByRecursion, AllZip, flat_map}
 use Rattle.h5_model.specs.Tree.Objects.{hard_links}
 use Rattle.h5_repack.specs.declared.group.Layout.{Layout}
 use Rattle.h5_repack.specs.declared.size.Size.{Size}
-use Rattle.h5_repack.specs.Layout.{AreHeaders, IsSize, IsUnplaced, front_at, numbered_at}
+use Rattle.h5_repack.specs.Layout.{AreHeaders, IsSlotSize, IsUnplaced, front_at, numbered_at}
 use Rattle.h5_repack.proofs.Faults.{unwritten_measured, unwritten_placed}
 use Rattle.h5_repack.proofs.Images.{are_low, image_here}
-use Rattle.h5_repack.proofs.Orders.{all_held, as_many_sizes, headers_are, is_order, listed, low_layout, low_size, pairs, some_objects, end_is}
+use Rattle.h5_laws.proofs.Lists.{all_in}
+use Rattle.h5_repack.specs.Objects.Objects.{IsFilled}
+use Rattle.h5_repack.proofs.Orders.{all_held, as_many_headers, as_many_sizes, below, filled, headers_are, is_order, listed, low_layout, low_size, pairs, some_objects, end_is}
 use Rattle.h5_repack.proofs.write.write_tree.Goals as goal
 
 pub measure_all-requires-clause-held : goal.measure_all-requires-clause-held
@@ -33,7 +35,8 @@ place_all-requires-clause-below c =
     let count : length objects ≡ length c.deref-2.result.now
     = as_many_sizes objects tree held c.in-Ok.order.items met c.args.leaf c.args.internal c.in_ok-sizes.sizes.items sized ∙ ap length (sym c.deref-2.ensures.value) in
     subst (λ (ns : List ℕ). AllByRecursion (λ number. number < length c.deref-2.result.now) ns) (sym c.deref.ensures.value)
-    (subst (λ k. AllByRecursion (λ number. number < k) c.in-Ok.order.items) count met.below)
+    (all_in (λ number. number < length c.deref-2.result.now) c.in-Ok.order.items (λ n at.
+    subst (λ k. n < k) count (below objects tree held c.in-Ok.order.items met n at)))
 
 pub place_all-requires-clause-low : goal.place_all-requires-clause-low
 place_all-requires-clause-low c number s found =
@@ -42,8 +45,8 @@ place_all-requires-clause-low c number s found =
     let held = c.requires.tree.1 in
     let met = c.in-Ok.ensures tree held.objects_are held.sound in
     let sized = c.in_ok-sizes.ensures.sizes (listed objects tree held) (all_held objects tree held) in
-    let same : AllZip (IsSize c.args.leaf c.args.internal) (listed objects tree held) c.deref-2.result.now
-    = subst (λ (ss : List Size). AllZip (IsSize c.args.leaf c.args.internal) (listed objects tree held) ss) (sym c.deref-2.ensures.value) sized in
+    let same : AllZip (IsSlotSize c.args.leaf c.args.internal) (listed objects tree held) c.deref-2.result.now
+    = subst (λ (ss : List Size). AllZip (IsSlotSize c.args.leaf c.args.internal) (listed objects tree held) ss) (sym c.deref-2.ensures.value) sized in
     low_size objects tree held c.in-Ok.order.items met c.args.leaf c.args.internal c.deref-2.result.now same number s found
 
 pub returns-in_err-placed-clause-refused : goal.returns-in_err-placed-clause-refused
@@ -89,6 +92,13 @@ image_of-requires-clause-some c =
       ap length c.deref-4.ensures.value,
     )
 
+pub image_of-requires-clause-filled : goal.image_of-requires-clause-filled
+image_of-requires-clause-filled c =
+    let objects = c.args.objects.now in
+    let held = c.requires.tree.1 in
+    subst (λ (ns : List ℕ). AllByRecursion (IsFilled objects) ns) (sym c.deref-5.ensures.value)
+    (filled objects c.requires.tree.0 held c.in-Ok.order.items (c.in-Ok.ensures c.requires.tree.0 held.objects_are held.sound))
+
 pub image_of-requires-clause-held : goal.image_of-requires-clause-held
 image_of-requires-clause-held c =
     let objects = c.args.objects.now in
@@ -97,7 +107,7 @@ image_of-requires-clause-held c =
     let sized = c.in_ok-sizes.ensures.sizes (listed objects tree held) (all_held objects tree held) in (
       listed objects tree held,
       all_held objects tree held,
-      subst (λ (ss : List Size). AllZip (IsSize c.args.leaf c.args.internal) (listed objects tree held) ss) (sym c.deref-4.ensures.value) sized,
+      subst (λ (ss : List Size). AllZip (IsSlotSize c.args.leaf c.args.internal) (listed objects tree held) ss) (sym c.deref-4.ensures.value) sized,
     )
 
 pub returns-clause-written : goal.returns-clause-written
@@ -111,8 +121,8 @@ returns-clause-written c tree held =
     let met = c.in-Ok.ensures tree held.objects_are held.sound in
     let objects_of = listed objects tree held in
     let sized = c.in_ok-sizes.ensures.sizes objects_of (all_held objects tree held) in
-    let here : AllZip (IsSize leaf internal) objects_of c.deref-4.result.now
-    = subst (λ (ss : List Size). AllZip (IsSize leaf internal) objects_of ss) (sym c.deref-4.ensures.value) sized in
+    let here : AllZip (IsSlotSize leaf internal) objects_of c.deref-4.result.now
+    = subst (λ (ss : List Size). AllZip (IsSlotSize leaf internal) objects_of ss) (sym c.deref-4.ensures.value) sized in
     let are : AreHeaders sizes order placed
     = subst (λ (ns : List ℕ). AreHeaders sizes ns placed) c.deref.ensures.value
     (subst (λ (ss : List Size). AreHeaders ss c.deref.result.now placed) c.deref-2.ensures.value c.in_ok-placed.ensures.placed) in
@@ -133,3 +143,18 @@ returns-clause-written c tree held =
       few = omega (arith, end_is objects tree held order met leaf internal sizes sized, are.end_is, are.few);
       headers_are = headers_are objects tree held order met leaf internal sizes sized placed are;
     }
+
+pub returns-clause-numbered : goal.returns-clause-numbered
+returns-clause-numbered c =
+    let objects = c.args.objects.now in
+    let order = c.in-Ok.order.items in
+    let sizes = c.in_ok-sizes.sizes.items in
+    let tree = c.requires.tree.0 in
+    let held = c.requires.tree.1 in
+    let met = c.in-Ok.ensures tree held.objects_are held.sound in
+    let sized = c.in_ok-sizes.ensures.sizes (listed objects tree held) (all_held objects tree held) in
+    let are : AreHeaders sizes order c.in_ok-placed.placed
+    = subst (λ (ns : List ℕ). AreHeaders sizes ns c.in_ok-placed.placed) c.deref.ensures.value
+    (subst (λ (ss : List Size). AreHeaders ss c.deref.result.now c.in_ok-placed.placed) c.deref-2.ensures.value c.in_ok-placed.ensures.placed) in
+    as_many_headers objects tree held order met c.args.leaf c.args.internal sizes sized c.in_ok-placed.placed are
+    ∙ sym (as_many_sizes objects tree held order met c.args.leaf c.args.internal sizes sized)

@@ -27,7 +27,7 @@ returns-then-level-eq0-clause-keyed g t c = rw c.if-level-eq0.true c.claim_leave
 pub returns-clause-keyed : goal.returns-clause-keyed
 returns-clause-keyed g t c =
     let image = c.args.image.now.bytes in
-    let form = g.L.Leaves.form c.args.over.now in
+    let form = g.L.Trees.form c.args.over.now in
     let cs = c.args.node.now.children in
     let m = c.args.level - 1 in
     let e : c.args.level ≡ suc m = omega (arith, c.if-level-eq0.false) in
@@ -40,14 +40,14 @@ pub loop-i-init : goal.loop-i-init
 loop-i-init g t c = record {
   end = c.requires.end;
   keyed = tt;
-  taken = taken_none c.args.image.now.bytes (g.L.Leaves.form c.args.over.now) c.args.level c.args.claims.now.held c.requires.separate;
-  walks = walks_none c.args.image.now.bytes (g.L.Leaves.form c.args.over.now) c.args.level c.args.at c.args.node.now c.args.claims.now.held;
+  taken = taken_none c.args.image.now.bytes (g.L.Trees.form c.args.over.now) c.args.level c.args.claims.now.held c.requires.separate;
+  walks = walks_none c.args.image.now.bytes (g.L.Trees.form c.args.over.now) c.args.level c.args.at c.args.node.now c.args.claims.now.held;
 }
 
 pub returns-in_err-child-clause-refused : goal.returns-in_err-child-clause-refused
 returns-in_err-child-clause-refused g t c =
     let image = c.args.image.now.bytes in
-    let form = g.L.Leaves.form c.args.over.now in
+    let form = g.L.Trees.form c.args.over.now in
     let old = c.args.claims.now.held in
     let mid = c.loop-i.claims.held in
     let node = c.args.node.now in
@@ -68,7 +68,7 @@ returns-in_err-child-clause-refused g t c =
 pub returns-in_err-claim_below-clause-refused : goal.returns-in_err-claim_below-clause-refused
 returns-in_err-claim_below-clause-refused g t c =
     let image = c.args.image.now.bytes in
-    let form = g.L.Leaves.form c.args.over.now in
+    let form = g.L.Trees.form c.args.over.now in
     let old = c.args.claims.now.held in
     let mid = c.loop-i.claims.held in
     let here = c.claim_inner.new.claims.held in
@@ -94,7 +94,7 @@ returns-in_err-claim_below-clause-refused g t c =
 pub loop-i-preserved : goal.loop-i-preserved
 loop-i-preserved g t c =
     let image = c.args.image.now.bytes in
-    let form = g.L.Leaves.form c.args.over.now in
+    let form = g.L.Trees.form c.args.over.now in
     let old = c.args.claims.now.held in
     let mid = c.loop-i.claims.held in
     let here = c.claim_inner.new.claims.held in
@@ -131,7 +131,7 @@ pub returns-clause-walked : goal.returns-clause-walked
 returns-clause-walked g t c =
     let cs = c.args.node.now.children in
     let whole : take c.loop-i.i cs ≡ cs = take_all c.loop-i.i cs (omega arith) in
-    subst (λ (row : List ℕ). WalksTo c.args.image.now.bytes (g.L.Leaves.form c.args.over.now) c.args.claims.now.held c.loop-i.claims.held c.args.level c.args.at c.args.node.now row) whole c.loop-i.invariant.walks
+    subst (λ (row : List ℕ). WalksTo c.args.image.now.bytes (g.L.Trees.form c.args.over.now) c.args.claims.now.held c.loop-i.claims.held c.args.level c.args.at c.args.node.now row) whole c.loop-i.invariant.walks
 
 pub returns-then-level-eq0-clause-only : goal.returns-then-level-eq0-clause-only
 returns-then-level-eq0-clause-only g t c = rw c.if-level-eq0.true c.claim_leaves.ensures.only
@@ -139,7 +139,7 @@ returns-then-level-eq0-clause-only g t c = rw c.if-level-eq0.true c.claim_leaves
 pub returns-in_err-child-clause-only : goal.returns-in_err-child-clause-only
 returns-in_err-child-clause-only g t c = λ readable.
     let image = c.args.image.now.bytes in
-    let form = g.L.Leaves.form c.args.over.now in
+    let form = g.L.Trees.form c.args.over.now in
     let old = c.args.claims.now.held in
     let mid = c.loop-i.claims.held in
     let node = c.args.node.now in
@@ -157,7 +157,7 @@ returns-in_err-child-clause-only g t c = λ readable.
 pub returns-in_err-claim_below-clause-only : goal.returns-in_err-claim_below-clause-only
 returns-in_err-claim_below-clause-only g t c = λ readable.
     let image = c.args.image.now.bytes in
-    let form = g.L.Leaves.form c.args.over.now in
+    let form = g.L.Trees.form c.args.over.now in
     let old = c.args.claims.now.held in
     let mid = c.loop-i.claims.held in
     let here = c.claim_inner.new.claims.held in

@@ -11,7 +11,7 @@ decreases-claim_below g l = l.level
 abbrev pub invariant-loop-i : goal.invariant-loop-i
 invariant-loop-i g l = record {
   end : l.claims.end ≡ length l.image.bytes;
-  taken : IsTakenBelow l.image.bytes (g.L.Leaves.form l.over) l.level (take l.i l.node.children) l.initial.claims.held l.claims.held;
-  keyed : AllByRecursion (λ at. AreKeyedBelow l.image.bytes (g.L.Leaves.form l.over) (l.level - 1) (reading_in l.image.bytes (g.L.Leaves.form l.over) at)) (take l.i l.node.children);
-  walks : WalksTo l.image.bytes (g.L.Leaves.form l.over) l.initial.claims.held l.claims.held l.level l.at l.node (take l.i l.node.children);
+  taken : IsTakenBelow l.image.bytes (g.L.Trees.form l.over) l.level (take l.i l.node.children) l.initial.claims.held l.claims.held;
+  keyed : AllByRecursion (λ at. AreKeyedBelow l.image.bytes (g.L.Trees.form l.over) (l.level - 1) (reading_in l.image.bytes (g.L.Trees.form l.over) at)) (take l.i l.node.children);
+  walks : WalksTo l.image.bytes (g.L.Trees.form l.over) l.initial.claims.held l.claims.held l.level l.at l.node (take l.i l.node.children);
 }

@@ -17,12 +17,12 @@ use Rattle.h5_btree.proofs.walk.below.claim_tree.Goals as goal
 pub returns-in_err-node-clause-refused : goal.returns-in_err-node-clause-refused
 returns-in_err-node-clause-refused g c =
     let p = err_from_is_err_and c.from_residual.result c.from_residual.ensures.1 in
-    rw (p.1, p.2) (root_refused c.args.image.now.bytes (g.L.Leaves.form c.args.over.now) c.args.root c.args.claims.now.held _ _ c.in_err-node.ensures.address c.in_err-node.ensures.refused)
+    rw (p.1, p.2) (root_refused c.args.image.now.bytes (g.L.Trees.form c.args.over.now) c.args.root c.args.claims.now.held _ _ c.in_err-node.ensures.address c.in_err-node.ensures.refused)
 
 pub returns-in_err-claim_below-clause-refused : goal.returns-in_err-claim_below-clause-refused
 returns-in_err-claim_below-clause-refused g c =
     let image = c.args.image.now.bytes in
-    let form = g.L.Leaves.form c.args.over.now in
+    let form = g.L.Trees.form c.args.over.now in
     let here = c.claim_root.new.claims.held in
     let root = reading_in image form c.args.root in
     let is : c.in_ok-node.node ≡ root = c.in_ok-node.ensures.node in
@@ -40,7 +40,7 @@ returns-in_err-claim_below-clause-refused g c =
 pub returns-clause-claimed : goal.returns-clause-claimed
 returns-clause-claimed g c =
     let image = c.args.image.now.bytes in
-    let form = g.L.Leaves.form c.args.over.now in
+    let form = g.L.Trees.form c.args.over.now in
     let old = c.args.claims.now.held in
     let here = c.claim_root.new.claims.held in
     let now = c.claim_below.new.claims.held in
@@ -61,14 +61,14 @@ returns-clause-claimed g c =
 pub returns-clause-keyed : goal.returns-clause-keyed
 returns-clause-keyed g c =
     let image = c.args.image.now.bytes in
-    let form = g.L.Leaves.form c.args.over.now in
+    let form = g.L.Trees.form c.args.over.now in
     let is : c.in_ok-node.node ≡ reading_in image form c.args.root = c.in_ok-node.ensures.node in
     subst (λ (n : Node). AreKeyedBelow image form c.level-level.result n) is c.in_ok-claim_below.ensures.keyed
 
 pub returns-clause-walked : goal.returns-clause-walked
 returns-clause-walked g c =
     let image = c.args.image.now.bytes in
-    let form = g.L.Leaves.form c.args.over.now in
+    let form = g.L.Trees.form c.args.over.now in
     let old = c.args.claims.now.held in
     let here = c.claim_root.new.claims.held in
     let now = c.claim_below.new.claims.held in
@@ -90,12 +90,12 @@ returns-clause-walked g c =
 pub returns-in_err-node-clause-only : goal.returns-in_err-node-clause-only
 returns-in_err-node-clause-only g c = λ readable.
     let p = err_from_is_err_and c.from_residual.result c.from_residual.ensures.1 in
-    rw (p.1, p.2) (root_memory c.args.image.now.bytes (g.L.Leaves.form c.args.over.now) c.args.root c.args.claims.now.held readable _ c.in_err-node.ensures.refused)
+    rw (p.1, p.2) (root_memory c.args.image.now.bytes (g.L.Trees.form c.args.over.now) c.args.root c.args.claims.now.held readable _ c.in_err-node.ensures.refused)
 
 pub returns-in_err-claim_below-clause-only : goal.returns-in_err-claim_below-clause-only
 returns-in_err-claim_below-clause-only g c = λ readable.
     let image = c.args.image.now.bytes in
-    let form = g.L.Leaves.form c.args.over.now in
+    let form = g.L.Trees.form c.args.over.now in
     let here = c.claim_root.new.claims.held in
     let root = reading_in image form c.args.root in
     let is : c.in_ok-node.node ≡ root = c.in_ok-node.ensures.node in

@@ -15,7 +15,7 @@ use Rattle.h5_btree.proofs.walk.leaf.claim_leaves.Goals as goal
 pub returns-in_err-claim_leaf-clause-refused : goal.returns-in_err-claim_leaf-clause-refused
 returns-in_err-claim_leaf-clause-refused g c =
     let image = c.args.image.now.bytes in
-    let form = g.L.Leaves.form c.args.over.now in
+    let form = g.L.Trees.form c.args.over.now in
     let cs = c.args.node.now.children in
     let k = c.loop-i.i in
     let low : k < length cs = omega arith in
@@ -30,7 +30,7 @@ returns-in_err-claim_leaf-clause-refused g c =
 pub loop-i-preserved : goal.loop-i-preserved
 loop-i-preserved g c =
     let image = c.args.image.now.bytes in
-    let form = g.L.Leaves.form c.args.over.now in
+    let form = g.L.Trees.form c.args.over.now in
     let cs = c.args.node.now.children in
     let k = c.loop-i.i in
     let low : k < length cs = omega arith in
@@ -52,12 +52,12 @@ pub returns-clause-walked : goal.returns-clause-walked
 returns-clause-walked g c =
     let cs = c.args.node.now.children in
     let whole : take c.loop-i.i cs ≡ cs = take_all c.loop-i.i cs (omega arith) in
-    subst (λ (row : List ℕ). WalksTo c.args.image.now.bytes (g.L.Leaves.form c.args.over.now) c.args.claims.now.held c.loop-i.claims.held 0 c.args.at c.args.node.now row) whole c.loop-i.invariant.walks
+    subst (λ (row : List ℕ). WalksTo c.args.image.now.bytes (g.L.Trees.form c.args.over.now) c.args.claims.now.held c.loop-i.claims.held 0 c.args.at c.args.node.now row) whole c.loop-i.invariant.walks
 
 pub returns-in_err-claim_leaf-clause-only : goal.returns-in_err-claim_leaf-clause-only
 returns-in_err-claim_leaf-clause-only g c = λ readable.
     let image = c.args.image.now.bytes in
-    let form = g.L.Leaves.form c.args.over.now in
+    let form = g.L.Trees.form c.args.over.now in
     let cs = c.args.node.now.children in
     let k = c.loop-i.i in
     let low : k < length cs = omega arith in

@@ -14,7 +14,7 @@ use Rattle.h5_btree.proofs.walk.node.claim_inner.Goals as goal
 pub returns-then-is_err-clause-refused : goal.returns-then-is_err-clause-refused
 returns-then-is_err-clause-refused g c =
     let image = c.args.image.now.bytes in
-    let form = g.L.Leaves.form c.args.over.now in
+    let form = g.T.Trees.form c.args.over.now in
     let at = c.args.at in
     let here : holds at at (node_length (kind_of image form)) ≡ 1 = holds_in at at (node_length (kind_of image form)) (omega arith) (omega arith) in
     let none : cover at c.args.claims.now.held ≡ 0 = omega (arith, here, c.in_ok-node.ensures.claimed at, c.in_ok-node.ensures.separate at) in
@@ -31,7 +31,7 @@ returns-then-is_err-clause-refused g c =
 pub returns-clause-inner : goal.returns-clause-inner
 returns-clause-inner g c =
     let image = c.args.image.now.bytes in
-    let form = g.L.Leaves.form c.args.over.now in
+    let form = g.T.Trees.form c.args.over.now in
     let at = c.args.at in
     let fine : is_ok c.check_level.result ≡ true = c.is_err.ensures.negation ∙ ap not c.if-is_err.false in
     let may : MayStandAt c.args.level c.in_ok-node.node = c.check_level.ensures.form.0 fine in

@@ -12,7 +12,7 @@ use Rattle.h5_btree.proofs.walk.node.claim_root.Goals as goal
 pub returns-then-is_err-clause-refused : goal.returns-then-is_err-clause-refused
 returns-then-is_err-clause-refused g c =
     let image = c.args.image.now.bytes in
-    let form = g.L.Leaves.form c.args.over.now in
+    let form = g.T.Trees.form c.args.over.now in
     let at = c.args.at in
     let never : MayBeRoot (reading_in image form at) → ⊥ = λ may.
     let fine : IsOk c.check_root.result = c.check_root.ensures.form.1 (subst MayBeRoot (sym c.in_ok-node.ensures.node) may) in
@@ -23,7 +23,7 @@ returns-then-is_err-clause-refused g c =
 pub returns-clause-filled : goal.returns-clause-filled
 returns-clause-filled g c = λ high.
     let image = c.args.image.now.bytes in
-    let form = g.L.Leaves.form c.args.over.now in
+    let form = g.T.Trees.form c.args.over.now in
     let at = c.args.at in
     let fine : is_ok c.check_root.result ≡ true = c.is_err.ensures.negation ∙ ap not c.if-is_err.false in
     let may : MayBeRoot c.in_ok-node.node = c.check_root.ensures.form.0 fine in

@@ -7,7 +7,7 @@ use Rattle.h5_btree.proofs.walk.rows.check_siblings.Goals.{then-left-via-then-le
 
 pub returns-then-left-clause-refused : goal.returns-then-left-clause-refused
 returns-then-left-clause-refused g c =
-    let V = reading_in c.args.image.now.bytes (g.L.Leaves.form c.args.over.now) in
+    let V = reading_in c.args.image.now.bytes (g.T.Trees.form c.args.over.now) in
     let row = c.args.row.now in
     let k = c.loop-k.k in
     let low : k < length row = omega arith in
@@ -22,7 +22,7 @@ returns-then-left-clause-refused g c =
 
 pub loop-k-preserved : goal.loop-k-preserved
 loop-k-preserved g c =
-    let V = reading_in c.args.image.now.bytes (g.L.Leaves.form c.args.over.now) in
+    let V = reading_in c.args.image.now.bytes (g.T.Trees.form c.args.over.now) in
     let row = c.args.row.now in
     let k = c.loop-k.k in
     let low : k < length row = omega arith in
@@ -32,5 +32,5 @@ loop-k-preserved g c =
     record {
       before = sym (last_taken row k 0 low);
       rows = λ level stand is. c.loop-k.invariant.rows level stand
-          (row_step V level c.loop-k.left row k 0 low (each_of (IsStanding c.args.image.now.bytes (g.L.Leaves.form c.args.over.now) level) row k 0 stand low).high left right is);
+          (row_step V level c.loop-k.left row k 0 low (each_of (IsStanding c.args.image.now.bytes (g.T.Trees.form c.args.over.now) level) row k 0 stand low).high left right is);
     }

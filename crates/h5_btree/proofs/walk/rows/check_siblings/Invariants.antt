@@ -9,6 +9,6 @@ use Rattle.h5_btree.proofs.walk.rows.check_siblings.Given as goal
 abbrev pub invariant-loop-k : goal.invariant-loop-k
 invariant-loop-k g l = record {
   before : l.left ≡ last_or_undefined (take l.k l.row);
-  rows : (level : ℕ) → AllByRecursion (IsStanding l.image.bytes (g.L.Leaves.form l.over) level) l.row → IsRow (reading_in l.image.bytes (g.L.Leaves.form l.over)) level l.left (drop l.k l.row)
-      → IsRow (reading_in l.image.bytes (g.L.Leaves.form l.over)) level undefined l.row;
+  rows : (level : ℕ) → AllByRecursion (IsStanding l.image.bytes (g.T.Trees.form l.over) level) l.row → IsRow (reading_in l.image.bytes (g.T.Trees.form l.over)) level l.left (drop l.k l.row)
+      → IsRow (reading_in l.image.bytes (g.T.Trees.form l.over)) level undefined l.row;
 }

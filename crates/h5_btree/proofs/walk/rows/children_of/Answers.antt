@@ -7,7 +7,7 @@ use Rattle.h5_btree.proofs.walk.rows.children_of.Goals as goal
 
 pub loop-at-preserved : goal.loop-at-preserved
 loop-at-preserved g c =
-    let V = reading_in c.args.image.now.bytes (g.L.Leaves.form c.args.over.now) in
+    let V = reading_in c.args.image.now.bytes (g.T.Trees.form c.args.over.now) in
     let row = c.args.row.now in
     let k = c.loop-at.at-index in
     let low : k < length row = omega arith in
@@ -18,4 +18,4 @@ loop-at-preserved g c =
 pub returns : goal.returns
 returns g c =
     let row = c.args.row.now in
-    c.loop-at.invariant ∙ ap (next_row (reading_in c.args.image.now.bytes (g.L.Leaves.form c.args.over.now))) (take_all c.loop-at.at-index row (omega arith))
+    c.loop-at.invariant ∙ ap (next_row (reading_in c.args.image.now.bytes (g.T.Trees.form c.args.over.now))) (take_all c.loop-at.at-index row (omega arith))

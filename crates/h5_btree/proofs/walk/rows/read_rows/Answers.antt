@@ -11,7 +11,7 @@ use Rattle.h5_btree.proofs.walk.rows.read_rows.Goals as goal
 pub returns-in_err-check_siblings-clause-refused : goal.returns-in_err-check_siblings-clause-refused
 returns-in_err-check_siblings-clause-refused g c =
     let image = c.args.image.now.bytes in
-    let form = g.L.Leaves.form c.args.over.now in
+    let form = g.T.Trees.form c.args.over.now in
     let refused = c.in_err-check_siblings.ensures.refused in
     let wrong : IsMisnamed (reading_in image form) c.loop-row.row.items c.in_err-check_siblings.field-0.0.address
     = subst (λ (row : List ℕ). IsMisnamed (reading_in image form) row c.in_err-check_siblings.field-0.0.address) c.deref.ensures.value refused.1 in
@@ -24,7 +24,7 @@ returns-in_err-check_siblings-clause-refused g c =
 pub loop-row-preserved : goal.loop-row-preserved
 loop-row-preserved g c =
     let image = c.args.image.now.bytes in
-    let form = g.L.Leaves.form c.args.over.now in
+    let form = g.T.Trees.form c.args.over.now in
     let row = c.loop-row.row.items in
     let m = c.loop-row.height - 1 in
     let e : c.loop-row.height ≡ suc m = omega (arith, c.if-height-eq0.false) in

@@ -8,12 +8,12 @@ use Rattle.h5_btree.proofs.WalkLaws.Descended.{IsComeTo, root_there, root_come, 
 use Rattle.h5_btree.proofs.walk.rows.tree_leaves.Goals as goal
 
 pub tree_node-requires-clause-there : goal.tree_node-requires-clause-there
-tree_node-requires-clause-there g c = root_there c.args.image.now.bytes (g.L.Leaves.form c.args.over.now) c.args.root c.requires.there
+tree_node-requires-clause-there g c = root_there c.args.image.now.bytes (g.T.Trees.form c.args.over.now) c.args.root c.requires.there
 
 pub loop-row-init : goal.loop-row-init
 loop-row-init g c =
     let image = c.args.image.now.bytes in
-    let form = g.L.Leaves.form c.args.over.now in
+    let form = g.T.Trees.form c.args.over.now in
     let root = c.args.root in
     let high : c.level-height.result ≡ level_at image (kind_of image form) root = c.level-height.ensures ∙ ap (λ (n : Node). n.level) c.tree_node.ensures in
     let one : c.push.new.self.items ≡ root ∷ [] = search rules in
@@ -22,14 +22,14 @@ loop-row-init g c =
 pub children_of-requires-clause-stand : goal.children_of-requires-clause-stand
 children_of-requires-clause-stand g c =
     let image = c.args.image.now.bytes in
-    let form = g.L.Leaves.form c.args.over.now in
+    let form = g.T.Trees.form c.args.over.now in
     let height = c.loop-row.height in
     (height, subst (AllByRecursion (IsStanding image form height)) (sym c.deref.ensures.value) (row_there image form c.args.root height c.loop-row.row.items c.loop-row.invariant))
 
 pub loop-row-preserved : goal.loop-row-preserved
 loop-row-preserved g c =
     let image = c.args.image.now.bytes in
-    let form = g.L.Leaves.form c.args.over.now in
+    let form = g.T.Trees.form c.args.over.now in
     let row = c.loop-row.row.items in
     let m = c.loop-row.height - 1 in
     let e : c.loop-row.height ≡ suc m = omega (arith, c.if-height-eq0.false) in

@@ -5,17 +5,17 @@ use Rattle.h5_edit.proofs.rules.array.check_create_dataset.Goals as goal
 
 pub returns-in_err-place : goal.returns-in_err-place
 returns-in_err-place c =
-    passed_on _ _ c.from_residual.result _ c.from_residual.ensures.1 (array_refused _ _ c.args.path.now c.args.spec.now c.requires.carried _ c.in_err-place.ensures)
+    passed_on _ _ c.from_residual.result _ c.from_residual.ensures.1 (array_refused _ _ c.args.path.now c.args.spec.now c.requires _ c.in_err-place.ensures)
 
 pub returns-in_err-check_spec : goal.returns-in_err-check_spec
 returns-in_err-check_spec c =
     passed_on _ _ c.from_residual-in_err-check_spec.result _ c.from_residual-in_err-check_spec.ensures.1
-    (spec_refused _ _ c.args.path.now c.args.spec.now c.requires.carried c.in_ok-place.place c.in_ok-place.ensures _ c.in_err-check_spec.ensures)
+    (spec_refused _ _ c.args.path.now c.args.spec.now c.requires c.in_ok-place.place c.in_ok-place.ensures _ c.in_err-check_spec.ensures)
 
 pub returns-then-is_full : goal.returns-then-is_full
 returns-then-is_full c =
-    no_array_left _ _ c.args.path.now c.args.spec.now c.requires.carried c.in_ok-place.place c.in_ok-place.ensures c.in_ok-check_spec.ensures (sym c.is_full.ensures ∙ c.if-is_full.true)
+    no_array_left _ _ c.args.path.now c.args.spec.now c.requires c.in_ok-place.place c.in_ok-place.ensures c.in_ok-check_spec.ensures (sym c.is_full.ensures ∙ c.if-is_full.true)
 
 pub returns : goal.returns
 returns c =
-    array_placed _ _ c.args.path.now c.args.spec.now c.requires.carried c.in_ok-place.place c.in_ok-place.ensures c.in_ok-check_spec.ensures (sym c.is_full.ensures ∙ c.if-is_full.false)
+    array_placed _ _ c.args.path.now c.args.spec.now c.requires c.in_ok-place.place c.in_ok-place.ensures c.in_ok-check_spec.ensures (sym c.is_full.ensures ∙ c.if-is_full.false)

@@ -1,10 +1,9 @@
 use Rattle.std.proofs.Common.{◌≡◌, ◌<◌, ◌≤◌, List, ℕ, length, refl, sym, subst, arith, false, true}
 use Rattle.std.specs.List.{AllByRecursion}
 use Rattle.h5_model.specs.Format.Symbols.{Entry}
-use Rattle.h5_group.specs.Order.Below.{LiesBetween}
-use Rattle.h5_group.specs.Order.Rising.{name_of_entry}
-use Rattle.h5_group.proofs.OrderProofs.AllLaws.{all_at, all_more, all_done, entry_named}
-use Rattle.h5_group.proofs.OrderProofs.BelowLaws.{symbols_up, symbols_down}
+use Rattle.h5_group.specs.Order.Between.{LiesBetween, name_of_entry}
+use Rattle.h5_btree.proofs.OrderLaws.Elements.{all_at, all_more, all_done}
+use Rattle.h5_group.proofs.OrderProofs.EntryNames.{entry_named, symbols_up, symbols_down}
 use Rattle.h5_group.proofs.order.keys.holds_between.Goals as goal
 
 pub returns-then-not-lies_between : goal.returns-then-not-lies_between

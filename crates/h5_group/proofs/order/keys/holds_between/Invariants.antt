@@ -1,8 +1,7 @@
 use Rattle.std.proofs.Common.{take}
 use Rattle.std.specs.List.{AllByRecursion}
 use Rattle.h5_model.specs.Format.Symbols.{Entry}
-use Rattle.h5_group.specs.Order.Below.{LiesBetween}
-use Rattle.h5_group.specs.Order.Rising.{name_of_entry}
+use Rattle.h5_group.specs.Order.Between.{LiesBetween, name_of_entry}
 use Rattle.h5_group.proofs.order.keys.holds_between.Given as goal
 
 abbrev pub invariant-loop-k : goal.invariant-loop-k

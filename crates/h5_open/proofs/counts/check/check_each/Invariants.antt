@@ -1,9 +1,10 @@
 use Rattle.std.proofs.Common.{◌≡◌, ◌<◌, ℕ, Some, get_or}
 use Rattle.std.specs.Prelude.{slice_get}
 use Rattle.h5_open.specs.declared.opened.object.OpenedObject.{OpenedObject}
+use Rattle.h5_open.specs.Opened.Objects.{objects_of}
 use Rattle.h5_open.specs.Counted.Counts.{IsRight}
 use Rattle.h5_open.proofs.counts.check.check_each.Given as goal
 
 -- the objects so far are right
 abbrev pub invariant-loop-number : goal.invariant-loop-number
-invariant-loop-number l = (k : ℕ) (o : OpenedObject) → k < l.number → slice_get l.opened.objects.items k ≡ Some o → IsRight l.image.bytes o (get_or l.counts k 0)
+invariant-loop-number l = (k : ℕ) (o : OpenedObject) → k < l.number → slice_get (objects_of l.index.objects.items) k ≡ Some o → IsRight l.image.bytes o (get_or l.counts k 0)

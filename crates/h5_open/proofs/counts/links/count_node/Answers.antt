@@ -5,7 +5,7 @@ use Rattle.h5_model.specs.Format.Heap.{segment_of}
 use Rattle.h5_model.specs.Format.Symbols.{Target, Header, Text, symbols_at, link_of}
 use Rattle.h5_group.specs.Links.{lent_target}
 use Rattle.h5_model.specs.declared.link.LinkTo.{LinkTo}
-use Rattle.h5_open.specs.Opened.Objects.{headers}
+use Rattle.h5_open.specs.Opened.Objects.{headers, objects_of}
 use Rattle.h5_open.specs.Counted.Counts.{AreCounts}
 use Rattle.h5_open.proofs.CountedLaws.CountLaws.{counted_text}
 use Rattle.h5_open.proofs.CountedLaws.LoopLaws.{more_mapped}
@@ -15,7 +15,7 @@ use Rattle.h5_open.proofs.counts.links.count_node.Goals.{in-Object, in-Soft}
 pub loop-i-preserved : goal.loop-i-preserved
 loop-i-preserved c before are =
     let image = c.args.image.now.bytes in
-    let at = headers c.args.opened.now.objects.items in
+    let at = headers (objects_of c.args.index.now.objects.items) in
     let symbols = symbols_at image (leaf_k image) c.args.node in
     let link = link_of (segment_of image c.args.table.heap) in
     let i = c.loop-i.i in

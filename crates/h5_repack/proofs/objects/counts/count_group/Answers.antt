@@ -15,7 +15,7 @@ overflow_add-counts c =
     let number = c.in-Object.number in
     let there = target_there links c.loop-link.link-index _ c.loop-link-test.true number c.in-Object.is in
     let low = c.requires.below number.0 there in
-    omega (arith, c.requires.few number.0 low, c.loop-link.invariant.each number.0 low, times_room links c.loop-link.link-index _ c.loop-link-test.true number c.in-Object.is)
+    omega (arith, c.requires.few number.0 there, c.loop-link.invariant.each number.0 low, times_room links c.loop-link.link-index _ c.loop-link-test.true number c.in-Object.is)
 
 pub bounds-counts-number-in-Object : goal.bounds-counts-number-in-Object
 bounds-counts-number-in-Object c =

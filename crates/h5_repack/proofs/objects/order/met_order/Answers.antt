@@ -1,11 +1,21 @@
-use Rattle.std.proofs.Common.{◌≡◌, ℕ, ◌+◌, ◌<◌, List, [], ◌∷◌, ◌++◌, true, false, length, length-append, get_or, set, refl, sym, ap, ◌∙◌, subst, arith, Some}
+use Rattle.std.proofs.Common.{rules, ◌≡◌, ℕ, ◌+◌, ◌<◌, List, [], ◌∷◌, ◌++◌, true, false, length, length-append, get_or, replicate, set, refl, sym, ap, ◌∙◌, subst, arith, Some}
 use Rattle.std.proofs.lemmas.List.{nil_from_length}
 use Rattle.std.proofs.lemmas.Option.{slice_get_read}
 use Rattle.std.specs.Prelude.{slice_get}
 use Rattle.h5_repack.specs.Objects.Targets.{waiting}
-use Rattle.h5_repack.proofs.ObjectLaws.Trees.{waiting_below}
-use Rattle.h5_repack.proofs.ObjectLaws.Walks.{IsWalk, walk_left, walk_met, walk_done, left_over, left_met, last_below, mark_read}
+use Rattle.h5_repack.proofs.ObjectLaws.Trees.{waiting_filled}
+use Rattle.h5_repack.proofs.ObjectLaws.Walks.{IsWalk, walk_begun, walk_left, walk_met, walk_done, left_over, left_met, last_below, mark_read}
 use Rattle.h5_repack.proofs.objects.order.met_order.Goals as goal
+
+pub loop-number-init : goal.loop-number-init
+loop-number-init c =
+    let objects = c.args.objects.now in
+    let marks = c.in_ok-is_met.is_met.items in
+    let none : marks ≡ replicate (length objects) false = search rules in
+    let order : c.new-order.result.items ≡ [] = search rules in
+    let stack : c.in_ok-stack.stack.items ≡ 0 ∷ [] = search rules in
+    subst (λ (ns : List ℕ). IsWalk objects ns c.in_ok-stack.stack.items marks) (sym order)
+    (subst (λ (ns : List ℕ). IsWalk objects [] ns marks) (sym stack) (walk_begun objects c.requires.tree.0 c.requires.tree.1 c.requires.tree.2 marks none))
 
 pub index-requires : goal.index-requires
 index-requires c =
@@ -53,7 +63,7 @@ loop-number-preserved-in-Continue-branch-4 c =
     let unmarked : get_or marks number false ≡ false = mark_read marks number c.index.result.now false within c.index.ensures c.if-not-index.true in
     let walk : IsWalk objects order (rest ++ number ∷ []) marks = subst (λ (ns : List ℕ). IsWalk objects order ns marks) c.in-Some.ensures.items c.loop-number.invariant in
     let met = walk_met objects order rest marks number x walk unmarked held
-    (λ other at. waiting_below objects c.requires.tree.0 c.requires.tree.1 c.requires.tree.2 number other x held at) in
+    (λ other at. waiting_filled objects c.requires.tree.0 c.requires.tree.1 c.requires.tree.2 number other x held at) in
     subst (λ (ns : List ℕ). IsWalk objects ns c.push_waiting.new.stack.items (set marks number true)) (sym c.in_ok-push.ensures.items)
     (subst (λ (ns : List ℕ). IsWalk objects (order ++ number ∷ []) ns (set marks number true)) (sym c.in_ok-push_waiting.ensures) met)
 

@@ -14,4 +14,4 @@ loop-link-preserved-in-Continue-1 c =
 pub loop-link-preserved : goal.loop-link-preserved
 loop-link-preserved c =
     c.loop-link.invariant
-    ∙ ap (λ (ns : List ℕ). c.args.stack.now.items ++ ns) (sym (pushed_same c.loop-link.yielded c.in-Some.link c.in_default-to.field-0 c.in_default-to.is))
+    ∙ ap (λ (ns : List ℕ). c.args.stack.now.items ++ ns) (sym (pushed_same c.loop-link.yielded c.in-Some.link c.in_default.field-0 c.in_default.is))

@@ -1,0 +1,5 @@
+pub mod Elements
+pub mod DepthLaws
+pub mod BetweenLaws
+pub mod NodeOrder
+pub mod RootLaws

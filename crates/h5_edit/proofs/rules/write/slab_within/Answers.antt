@@ -1,0 +1,14 @@
+use Rattle.std.proofs.Common.{ap, sym, ◌∙◌, length, arith}
+use Rattle.h5_edit.proofs.RuleLaws.Writes.{slab_long, selection_few}
+use Rattle.h5_edit.proofs.rules.write.slab_within.Goals as goal
+
+pub within-requires : goal.within-requires
+within-requires c =
+    let same = sym (ap length c.as_slice.ensures) ∙ c.if-as_slice-sizes.false ∙ ap length c.sizes.ensures.numbers in
+    record { rank = slab_long c.args.dims.now c.args.hyper.now same c.sizes.ensures.rank c.in-Ok.slab (sym c.in-Ok.is ∙ c.new.ensures) }
+
+pub returns-clause-few : goal.returns-clause-few
+returns-clause-few c =
+    let few = selection_few c.args.dims.now c.in-Ok.slab in
+    let all = c.within.ensures.cells c.if-not-within.false in
+    omega (arith, few, all)

@@ -1,0 +1,40 @@
+use Rattle.std.proofs.Common.{◌≡◌, ◌<◌, List, ℕ, length, refl, arith, false, true, below_more}
+use Rattle.std.proofs.lemmas.Option.{get_or_from_slice_get}
+use Rattle.h5_model.specs.Format.Rows.{Node}
+use Rattle.h5_btree.specs.Walk.Below.{IsBottom, reading_in}
+use Rattle.h5_btree.specs.Walk.Forms.{OfGroup}
+use Rattle.h5_btree.proofs.OrderLaws.Elements.{all_at}
+use Rattle.h5_group.proofs.OrderProofs.NodeNames.{IsChildNamed, child_named, named_child}
+use Rattle.h5_group.proofs.order.keys.are_ordered.Goals as goal
+
+pub is_child_ordered-requires-clause-symbols : goal.is_child_ordered-requires-clause-symbols
+is_child_ordered-requires-clause-symbols c =
+    let node : Node = c.args.node.now in
+    let low : c.loop-i.i < length node.children = omega arith in
+    let read = get_or_from_slice_get node.children c.loop-i.i c.child.result c.child.result c.child.ensures in
+    all_at (IsBottom c.args.image.now.bytes OfGroup) node.children c.loop-i.i c.child.result low read c.requires.leaves
+
+pub loop-i-preserved : goal.loop-i-preserved
+loop-i-preserved c =
+    let image : List ℕ = c.args.image.now.bytes in
+    let segment : List ℕ = c.args.segment.now in
+    let node : Node = c.args.node.now in
+    let low : c.loop-i.i < length node.children = omega arith in
+    let read = get_or_from_slice_get node.children c.loop-i.i c.child.result 0 c.child.ensures in
+    below_more (IsChildNamed image segment (reading_in image OfGroup) node c.requires.level) c.loop-i.i c.loop-i.invariant
+    (child_named image segment (reading_in image OfGroup) node c.requires.level c.loop-i.i c.child.result
+    c.key_name.result.now c.key_name-in-loop-i.result.now low read c.key_name.ensures c.key_name-in-loop-i.ensures (c.if-not-is_child_ordered.ensures.0 refl))
+
+pub returns-then-not-is_child_ordered : goal.returns-then-not-is_child_ordered
+returns-then-not-is_child_ordered c =
+    let image : List ℕ = c.args.image.now.bytes in
+    let segment : List ℕ = c.args.segment.now in
+    let node : Node = c.args.node.now in
+    let low : c.loop-i.i < length node.children = omega arith in
+    let read = get_or_from_slice_get node.children c.loop-i.i c.child.result 0 c.child.ensures in (
+      λ (yes : false ≡ true). absurd (cc),
+      λ ordered. c.if-not-is_child_ordered.ensures.1
+          (named_child image segment (reading_in image OfGroup) node c.requires.level c.loop-i.i c.child.result
+          c.key_name.result.now c.key_name-in-loop-i.result.now low read c.key_name.ensures c.key_name-in-loop-i.ensures
+          (ordered.rising c.loop-i.i low, ordered.between c.loop-i.i low)),
+    )
