@@ -1,7 +1,6 @@
 pub mod Carried
 pub mod Made
 pub mod Edited
-pub mod InRun
 pub mod Answers
 pub mod Fitting
 pub mod Refusals

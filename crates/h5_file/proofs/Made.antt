@@ -14,7 +14,7 @@ use Rattle.h5_laws.proofs.Objects.{in_table}
 use Rattle.h5_laws.proofs.SoundLaws.Read.{placed_at}
 use Rattle.h5_space.specs.Whole.{IsWhole}
 use Rattle.h5_edit.specs.Opened.Carried.{ReadsCarried}
-use Rattle.h5_edit.specs.Opened.Sound.{IsSound}
+use Rattle.h5_edit.specs.Opened.Sound.{IsSound, IsWholeFile}
 use Rattle.h5_edit.specs.Opened.State.{FileState, state_of}
 use Rattle.h5_edit.specs.Renumbered.Headers.{table_with, IsReadAt}
 use Rattle.h5_edit.proofs.Refusals.{for_memory}
@@ -23,8 +23,7 @@ use Rattle.h5_edit.proofs.RenumberedLaws.SameHeaders.{given_header}
 use Rattle.h5_edit.specs.declared.made.Made.{Made}
 use Rattle.h5_edit.specs.Carried.{IsRefusedBy, tree_after}
 use Rattle.h5_edit.specs.Made.{IsEditMade}
-use Rattle.h5_file.specs.State.{IsWholeFile}
-use Rattle.h5_file.specs.Edited.{IsEdited}
+use Rattle.h5_edit.specs.Edited.{IsEdited}
 
 module _ (f : FileState) (edit : Edit) (made : Made) (is : IsEditMade f edit made) where
   abbrev image : List ℕ

@@ -10,12 +10,12 @@ use Rattle.h5_model.specs.Format.Superblock.{IsSuperblock, end_of_file}
 use Rattle.h5_model.proofs.OneReading.{one_reading}
 use Rattle.h5_laws.proofs.Objects.{object_at, in_tree}
 use Rattle.h5_edit.specs.Opened.Carried.{ReadsCarried}
-use Rattle.h5_edit.specs.Opened.Sound.{IsSound}
+use Rattle.h5_edit.specs.Opened.Sound.{IsSound, IsWholeFile}
 use Rattle.h5_edit.specs.Opened.State.{FileState}
 use Rattle.h5_edit.specs.Renumbered.Headers.{table_with}
 use Rattle.h5_edit.proofs.OpenedLaws.Made.{entries_standing, get_standing}
 use Rattle.h5_edit.proofs.RenumberedLaws.Renumbered.{next_at}
-use Rattle.h5_file.specs.State.{IsWholeFile, created_state}
+use Rattle.h5_file.specs.State.{created_state}
 use Rattle.h5_edit.proofs.CarriedLaws.{root_carried}
 use Rattle.h5_edit.proofs.EmptyFile.{empty_reading}
 use Rattle.h5_edit.proofs.Numbered.{standing_map}

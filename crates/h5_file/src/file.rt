@@ -8,12 +8,12 @@ ghost use Rattle.h5_model.specs.Format.Superblock.{IsSuperblock, end_of_file};
 ghost use Rattle.std.specs.FinMap.{len};
 ghost use Rattle.h5_edit.specs.Opened.Carried.{ReadsCarried};
 ghost use Rattle.h5_edit.specs.Opened.NotYet.{IsOpenRefusedAt};
-ghost use Rattle.h5_edit.specs.Opened.Sound.{IsSound};
+ghost use Rattle.h5_edit.specs.Opened.Sound.{IsSound, IsWholeFile};
 ghost use Rattle.h5_edit.specs.Listed.{IsNoGroup, AreGroupLinks};
 ghost use Rattle.h5_edit.specs.Look.{HasKind, HasLinksNamed, HasCell, HasArrayNumbered, HasAttribute, HasAttributeNames, HasAttributesOf, IsListRefused, IsNoDataset, IsUnlisted};
 ghost use Rattle.h5_edit.specs.Found.{HasFound, IsUnfound};
 ghost use Rattle.h5_edit.specs.Place.{IsNumber, IsNoObject};
-ghost use Rattle.h5_file.specs.State.{IsWholeFile, created_state};
+ghost use Rattle.h5_file.specs.State.{created_state};
 ghost use Rattle.h5_file.specs.Opening.{IsNoBreach, IsReadable, Refused};
 
 use h5_edit::{
