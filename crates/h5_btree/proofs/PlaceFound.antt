@@ -8,8 +8,8 @@ use Rattle.h5_bytes.proofs.BlockLaws.{all_left, all_right}
 use Rattle.h5_model.specs.Format.Rows.{Node, Reading, next_row, nodes, leaves, IsRow, AreRows}
 use Rattle.h5_model.specs.Format.Nodes.{Kind, HasTree, node_at}
 use Rattle.h5_model.proofs.OneTree.{level_is, owned_is}
-use Rattle.h5_laws.specs.Ladders.{Sides, Bottom, IsOrderedBy, LieBetween, all_of, items_under, lists_below}
-use Rattle.h5_laws.proofs.Ladders.{IsOrderly, one_place}
+use Rattle.h5_laws.specs.Ladders.{Sides, Bottom, IsOrderedBy, LieBetween, all_of, items_under, lists_below, IsOrderly}
+use Rattle.h5_laws.proofs.Ladders.{one_place}
 use Rattle.h5_laws.proofs.LadderTrees.{all_lists}
 use Rattle.h5_laws.proofs.Lists.{In, in_all, in_either, in_left}
 use Rattle.h5_laws.proofs.Subtrees.{index_in, leaves_within, one_within}

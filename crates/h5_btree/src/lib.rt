@@ -23,4 +23,4 @@ pub use order::{Ordered, check_keys};
 pub use read::{NodeFault, read_node, read_node_at};
 pub use sought::{Sought, child_for};
 pub use walk::{Leaves, Tree, Trees, read_tree, tree_leaves, tree_node};
-pub use write::{Child, nodes_over, push_tree, root_level, rows_of};
+pub use write::{Child, TreeKey, nodes_over, push_tree, root_level, rows_of};

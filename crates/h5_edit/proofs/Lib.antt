@@ -7,6 +7,8 @@ pub mod Refusals
 pub mod Fitting
 pub mod Answered
 pub mod RuleLaws
+pub mod Runs
+pub mod WrittenTrees
 pub mod FitLaws
 pub mod ChangedLaws
 pub use Rattle.h5_query.proofs.OpenedLaws

@@ -12,7 +12,7 @@ use Rattle.h5_model.specs.declared.edit_fault.EditFault.{EditFault}
 use Rattle.h5_model.specs.declared.edit_fault.EditFault.TheVariants as fault
 use Rattle.h5_query.specs.Opened.Sound.{IsSound}
 use Rattle.h5_query.specs.Opened.State.{FileState}
-use Rattle.h5_edit.specs.Carried.{is_carried, is_anew, is_message_total_full, is_too_long, tree_after, GivenAs, IsRefused, IsRefusedBy}
+use Rattle.h5_edit.specs.Carried.{is_carried, is_anew, is_message_total_full, is_too_long, tree_after, GivenAs, IsGivenFor, IsRefused, IsRefusedBy}
 use Rattle.h5_edit.proofs.Low.{are_low, low_of, of_low}
 use Rattle.h5_edit.proofs.LowRead.{read_low, edited_low}
 
@@ -84,6 +84,11 @@ module _ (f : FileState) (edit : Edit) where
 
   pub not_carried : is_carried edit ≡ false → IsRefused f edit fault.NotYet
   not_carried other = rw other refl
+
+-- ---- in place
+
+pub given_in_place : (f : FileState) (edit : Edit) → is_anew f.tree edit ≡ false → IsGivenFor f edit None
+given_in_place f edit in_place = rw in_place tt
 
 -- ---- an edit of an opened image
 

@@ -1,6 +1,7 @@
 pub mod Carried
 pub mod Made
 pub mod Edited
+pub mod InRun
 pub mod Answers
 pub mod Fitting
 pub mod Refusals

@@ -10,6 +10,7 @@ mod change;
 mod links;
 mod made;
 mod rules;
+mod write;
 
 pub use attributes::{remove_attr, set_attr};
 pub use h5_query::{
@@ -20,3 +21,4 @@ pub use h5_query::{
 pub use h5_repack::empty_image;
 pub use links::{create_dataset, create_group, hard_link, soft_link};
 pub use made::Made;
+pub use write::write_run;

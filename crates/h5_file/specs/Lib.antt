@@ -1,6 +1,7 @@
 pub mod State
 pub mod Opening
 pub use Rattle.h5_edit.specs.Edited
+pub use Rattle.h5_edit.specs.InRun
 pub use Rattle.h5_edit.specs.Carried
 pub use Rattle.h5_edit.specs.Listed
 pub use Rattle.h5_edit.specs.Look

@@ -1,15 +1,19 @@
 //! Edits of a file, each of which writes the image anew.
 
-ghost use Rattle.std.specs.Prelude.{◌≡◌, true, IfOk, MatchResult};
+ghost use Rattle.std.specs.Prelude.{◌≡◌, true, false, None, IfOk, MatchResult};
 ghost use Rattle.h5_model.specs.declared.edits.Edit.{Edit as TheEdit};
-ghost use Rattle.h5_model.specs.declared.edits.Edit.TheVariants.{CreateGroup, CreateDataset, HardLink, SoftLink, SetAttr, RemoveAttr};
-ghost use Rattle.h5_edit.specs.Carried.{IsRefused, IsRefusedBy, is_carried};
+ghost use Rattle.h5_model.specs.declared.edits.Edit.TheVariants.{CreateGroup, CreateDataset, HardLink, SoftLink, SetAttr, RemoveAttr, Write};
+ghost use Rattle.h5_edit.specs.Carried.{IsRefused, IsRefusedBy, is_anew, is_carried};
 ghost use Rattle.h5_edit.specs.Made.{IsEditMade};
+ghost use Rattle.h5_model.specs.Edits.Refusal.{refusal_of};
 ghost use Rattle.h5_edit.specs.Edited.{IsEdited};
+ghost use Rattle.h5_edit.specs.InRun.{IsInRun};
 
 use crate::file::{File, open_written};
-use h5_edit::{Made, create_dataset, create_group, hard_link, remove_attr, set_attr, soft_link};
-use h5_model::{AttrSpec, Edit, EditFault, Edited, Spec};
+use h5_edit::{
+    Made, create_dataset, create_group, hard_link, remove_attr, set_attr, soft_link, write_run,
+};
+use h5_model::{AttrSpec, Edit, EditFault, Edited, Hyper, Spec};
 use h5_space::Image;
 
 impl File {
@@ -112,6 +116,29 @@ impl File {
     {
         let made = remove_attr(self.alloc, &self.opened, path, name)?;
         self.take(made)
+    }
+
+    /// Writes values into the selected cells of an array of one dimension whose cells are stored, where they stand one behind another: the
+    /// bytes of these cells change, and no others.
+    ///
+    /// Refused by the lowest number that holds: `BadPath`, `PathTooDeep`, `NoSuchParent`, `NotAGroup`, `NotFound`, `NotADataset` also where
+    /// a soft link stands there, `RankMismatch`, `StrideZero`, `BlocksOverlap`, `OutOfExtent`, `ValueCount`, `ValueRange`. A refusal
+    /// changes nothing.
+    ///
+    /// That cells which are to be written are stored, and that they stand one behind another, are the caller's conditions.
+    pub(crate) fn write_run(
+        &mut self,
+        path: &[u8],
+        hyper: &Hyper,
+        values: &[i128],
+    ) -> Result<Edited, EditFault>
+        requires stored { is_anew self.old.tree (Write path.now hyper.now values.now) ≡ false }
+        requires run { refusal_of self.old.tree self.old.next (Write path.now hyper.now values.now) ≡ None
+            → IsInRun self.old.tree path.now hyper.now }
+        ensures { MatchResult result (IsEdited self.old (Write path.now hyper.now values.now) self.new) (λ e.
+            IsRefusedBy self.old (Write path.now hyper.now values.now) e × (self.new ≡ self.old)) }
+    {
+        write_run(self.alloc, &mut self.opened, path, hyper, values)
     }
 
     /// Takes the image that an edit gives in place of the file's own. Its objects keep their numbers.

@@ -1,6 +1,7 @@
 pub mod SymbolNodes
 pub mod Runs
 pub mod SymbolPlaces
+pub mod NameTrees
 pub mod Order
 pub mod Steps
 pub mod Lengths

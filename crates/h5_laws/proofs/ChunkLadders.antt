@@ -13,10 +13,10 @@ use Rattle.h5_model.specs.Format.Nodes.{Kind, HasTree, node_at, reading_of}
 use Rattle.h5_model.specs.Format.Chunks.{IsChunkBetween, IsChunkOrdered, all_offsets_in, chunks_at, chunks_below, chunks_in, offsets_in}
 use Rattle.h5_model.specs.Format.Links.{Before, NotAfter}
 use Rattle.h5_model.proofs.TextOrder.{not_after_itself, not_after_trans, before_back, before_le}
-use Rattle.h5_laws.specs.Ladders.{IsLadder, IsOrderedBy, all_of, items_under, lists_below}
+use Rattle.h5_laws.specs.Ladders.{IsLadder, IsOrderedBy, all_of, items_under, lists_below, IsOrderly}
 use Rattle.h5_laws.specs.ChunkLadders.{chunk_sides, chunk_lists, rising_chunk_sides}
 use Rattle.h5_laws.proofs.Ascending.{less_of}
-use Rattle.h5_laws.proofs.Ladders.{IsOrderly, risen}
+use Rattle.h5_laws.proofs.Ladders.{risen}
 use Rattle.h5_laws.proofs.LadderTrees.{items_below, ordered_ladder, ladder_ordered, ordered_there}
 use Rattle.h5_laws.proofs.Lists.{all_in, in_all}
 

@@ -3,8 +3,8 @@ use Rattle.std.proofs.Common.{List, [], ◌∷◌, ◌++◌}
 use Rattle.std.specs.Prelude.{map}
 use Rattle.std.specs.List.{flat_map}
 use Rattle.h5_bytes.proofs.BlockLaws.{all_append}
-use Rattle.h5_laws.specs.Ladders.{IsLadder, LieBetween, Sides, last_key}
-use Rattle.h5_laws.proofs.Ladders.{IsOrderly, wider}
+use Rattle.h5_laws.specs.Ladders.{IsLadder, LieBetween, Sides, last_key, IsOrderly}
+use Rattle.h5_laws.proofs.Ladders.{wider}
 
 -- these children, with the key before them and the one behind each
 abbrev pub IsRowLadder : {C K X : Type 0} → Sides K X → (C → K) → (C → List X) → K → List C → Type 0

@@ -3,7 +3,7 @@ use Rattle.std.proofs.Common.{◌≡◌, ℕ, zero, suc, ◌+◌, ◌-◌, ◌<�
 use Rattle.std.specs.List.{AllByRecursion}
 use Rattle.std.proofs.lemmas.Bool.{cases_order}
 use Rattle.h5_bytes.proofs.BlockLaws.{all_append, all_so}
-use Rattle.h5_laws.specs.Ladders.{Sides, LieBetween, IsLadder, AreBetween, all_of}
+use Rattle.h5_laws.specs.Ladders.{Sides, LieBetween, IsLadder, IsOrderly, AreBetween, all_of}
 
 module _ {K X : Type 0} (sides : Sides K X) where
   -- ---- by places
@@ -121,15 +121,6 @@ module _ {K X : Type 0} (sides : Sides K X) where
         let a = around_child xs is in halves_ladder front l (k ∷ h ∷ back) lists (ys ∷ zs ∷ lists') long a.left (first, low, (second, high, a.right))
 
 -- ---- where keys are in order
-
--- each key may be followed by itself, and by what may follow one that may follow it; what a key admits on its right, lesser ones admit, and
--- what it admits on its left, greater ones do; none admits the same on both sides
-pub record IsOrderly {K X : Type 0} (sides : Sides K X) : Type 0 where
-  pub itself : (k : K) → sides.Rise k k
-  pub rises : (k l m : K) → sides.Rise k l → sides.Rise l m → sides.Rise k m
-  pub right : (k l : K) (x : X) → sides.Rise k l → sides.Right l x → sides.Right k x
-  pub left : (x : X) (k l : K) → sides.Left x k → sides.Rise k l → sides.Left x l
-  pub apart : (k : K) (x : X) → sides.Right k x → sides.Left x k → ⊥
 
 module _ {K X : Type 0} (sides : Sides K X) (orderly : IsOrderly sides) where
   pub wider : (k l h m : K) (xs : List X) → sides.Rise k l → sides.Rise h m → LieBetween sides l h xs → LieBetween sides k m xs

@@ -12,9 +12,8 @@ use Rattle.h5_model.specs.Format.Links.{Before, NotAfter, Symbols, IsBetween, Is
 use Rattle.h5_model.proofs.OneTree.{children_are}
 use Rattle.h5_model.proofs.RowLaws.{only_here}
 use Rattle.h5_model.proofs.TextOrder.{not_after_itself, not_after_trans, after_trans, before_back}
-use Rattle.h5_laws.specs.Ladders.{IsLadder, IsOrderedBy, all_of, items_under, lists_below}
+use Rattle.h5_laws.specs.Ladders.{IsLadder, IsOrderedBy, all_of, items_under, lists_below, IsOrderly}
 use Rattle.h5_laws.specs.NameLadders.{name_sides, name_lists, key_text}
-use Rattle.h5_laws.proofs.Ladders.{IsOrderly}
 use Rattle.h5_laws.proofs.LadderTrees.{all-map, items_below, ordered_ladder, ladder_ordered, own_ordered, ordered_there}
 use Rattle.h5_laws.proofs.Lists.{In, all_in, in_all, in_flat}
 use Rattle.h5_laws.proofs.Subtrees.{Within, below_child, below_is}

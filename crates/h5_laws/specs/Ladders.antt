@@ -23,6 +23,15 @@ IsLadder sides (k ∷ []) (xs ∷ lists) = ⊥
 IsLadder sides (k ∷ l ∷ keys) [] = ⊥
 IsLadder sides (k ∷ l ∷ keys) (xs ∷ lists) = LieBetween sides k l xs × sides.Rise k l × IsLadder sides (l ∷ keys) lists
 
+-- each key may be followed by itself, and by what may follow one that may follow it; what a key admits on its right, lesser ones admit, and
+-- what it admits on its left, greater ones do; none admits the same on both sides
+pub record IsOrderly {K X : Type 0} (sides : Sides K X) : Type 0 where
+  pub itself : (k : K) → sides.Rise k k
+  pub rises : (k l m : K) → sides.Rise k l → sides.Rise l m → sides.Rise k m
+  pub right : (k l : K) (x : X) → sides.Rise k l → sides.Right l x → sides.Right k x
+  pub left : (x : X) (k l : K) → sides.Left x k → sides.Rise k l → sides.Left x l
+  pub apart : (k : K) (x : X) → sides.Right k x → sides.Left x k → ⊥
+
 -- the same by places: what stands at place i is between keys i and i + 1
 pub record AreBetween {K X : Type 0} (sides : Sides K X) (key : ℕ → K) (list : ℕ → List X) (count : ℕ) : Type 0 where
   pub between : (i : ℕ) → i < count → LieBetween sides (key i) (key (i + 1)) (list i)

@@ -19,8 +19,11 @@ pub mod DepthLaws
 pub mod OpenedLaws
 pub mod KeptFrames
 pub mod InPlaceLaws
+pub mod ChangedObject
+pub mod CellsInPlace
 pub mod PlacedLaws
 pub mod CountedLaws
 pub mod RenumberedLaws
+pub mod CellsOpened
 pub use Rattle.h5_layout.proofs.RoomLaws
 pub use Rattle.h5_layout.proofs.FillLaws

@@ -6,4 +6,5 @@ pub mod Numbers
 pub mod Indexed
 pub mod ReadBlocks
 pub mod Sounds
+pub mod LentSlots
 pub mod LinkedHeaders

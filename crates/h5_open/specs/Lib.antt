@@ -5,6 +5,7 @@ pub mod Placed
 pub mod Counted
 pub mod Renumbered
 pub mod InPlace
+pub mod Written
 pub use Rattle.h5_layout.specs.Stored
 pub use Rattle.h5_layout.specs.Described
 pub use Rattle.h5_layout.specs.Told

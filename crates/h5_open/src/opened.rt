@@ -1,6 +1,7 @@
 //! An opened image as one value: its bytes, and the tree that they read as (File Format Specification 3.0, sections II.A, III and
 //! IV.A).
 mod object;
+mod write;
 
 ghost use Rattle.std.specs.Prelude.{◌≡◌, ◌≤◌, [], IfOk, IfErr, MatchOption, OnErr, OnOk, Some, None, length};
 ghost use Rattle.std.specs.FinMap.{get, len};

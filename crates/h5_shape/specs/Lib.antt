@@ -1,1 +1,4 @@
 pub mod Slab
+pub mod Loops
+pub mod Runs
+pub mod Left

@@ -2,7 +2,10 @@
 #![tactic(auto)]
 
 mod dims;
+mod loops;
+mod runs;
 mod slab;
 
 pub use dims::{Dims, MAX_CELLS, MAX_RANK};
+pub use runs::{CellRun, CellRuns};
 pub use slab::{Slab, SlabFault};

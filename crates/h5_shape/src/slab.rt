@@ -1,9 +1,13 @@
 //! Hyperslab selections (HDF5 dataspace reference, H5Sselect_hyperslab).
-ghost use Rattle.std.specs.Prelude.{◌≡◌, ◌-◌, ◌^◌, ◌↔◌, IsTrue, length, min};
+ghost use Rattle.std.specs.Prelude.{◌≡◌, ◌-◌, ◌^◌, ◌≤◌, ◌↔◌, IsTrue, length, min};
 ghost use Rattle.std.specs.List.{list_any};
-ghost use Rattle.h5_model.specs.Views.Selection.{Within, axes_from, fits_along, fits_all, has_no_stride, is_within as is_within_sizes, overlaps, selected_cells, selection_of, selects_none};
+ghost use Rattle.h5_model.specs.Views.Selection.{Within, axes_from, fits_along, fits_all, has_no_stride, is_one_run, is_within as is_within_sizes, overlaps, selected_cells, selection_of, selects_none};
+ghost use Rattle.h5_model.specs.Tree.Places.{cells as cells_of};
+ghost use Rattle.h5_shape.specs.Runs.{AreMaximal, places_in, cell_runs};
 
 use crate::dims::{Dims, MAX_RANK};
+use crate::loops::LoopNest;
+use crate::runs::CellRuns;
 use h5_model::{Axis, Hyper};
 use std::marker::Model;
 use thiserror::Error;
@@ -91,6 +95,34 @@ impl Slab {
         ensures { result ≡ min (selected_cells self.now) (2 ^ 64 - 1) }
     {
         cells(self.axes())
+    }
+
+    /// The selected cells as maximal runs of consecutive places, in row-major order. It takes no memory.
+    pub fn runs(&self, dims: &Dims) -> CellRuns
+        requires rank { length dims.now ≡ length self.now }
+        requires within { Within dims.now self.now }
+        requires small { cells_of dims.now ≤ 2 ^ 40 }
+        ensures value { result ≡ cell_runs (selection_of dims.now self.now) }
+        ensures places { places_in result ≡ selection_of dims.now self.now }
+        ensures maximal { AreMaximal result }
+    {
+        let mut nest = LoopNest::one_cell();
+        let has_more = !is_empty(self.axes());
+        if has_more {
+            nest.select(dims.sizes(), self.axes());
+        }
+        CellRuns::new(nest, has_more)
+    }
+
+    /// Whether there is a selected cell, and the selected cells stand at consecutive row-major places.
+    pub fn one_run(&self, dims: &Dims) -> bool
+        requires rank { length dims.now ≡ length self.now }
+        requires within { Within dims.now self.now }
+        requires small { cells_of dims.now ≤ 2 ^ 40 }
+        ensures { result ≡ is_one_run dims.now self.now }
+    {
+        let mut runs = self.runs(dims);
+        runs.next().is_some() && runs.next().is_none()
     }
 }
 

@@ -91,3 +91,38 @@ fn bounds_and_counts_a_selection(rt: HostRuntime) -> Result<(), Fail> {
     assert!(rt; !is_within(&slab, &dims));
     Ok(())
 }
+
+/// The last two rows of three.
+fn last_rows(alloc: Global) -> Result<Hyper, AllocError> {
+    Ok(Hyper {
+        start: two(alloc, [1, 0])?,
+        stride: two(alloc, [1, 1])?,
+        count: two(alloc, [2, 1])?,
+        block: two(alloc, [1, 6])?,
+    })
+}
+
+/// Whether the selection in the sizes has these runs, as places and lengths, and is one run where there is one.
+fn has_runs(slab: &Slab, dims: &Dims, wanted: &[(u64, u64)]) -> bool {
+    if slab.axes().len() != dims.sizes().len() || !slab.within(dims) || !dims.is_small() {
+        return false;
+    }
+    let mut runs = slab.runs(dims);
+    for (place, length) in wanted {
+        match runs.next() {
+            Some(run) if run.place == *place && run.length == *length => {}
+            _ => return false,
+        }
+    }
+    runs.next().is_none() && slab.one_run(dims) == (wanted.len() == 1)
+}
+
+#[test]
+fn goes_over_runs(rt: HostRuntime) -> Result<(), Fail> {
+    let dims = Dims::new(rt.alloc(), &[3, 6]).ok_or(AllocError)?;
+    let slab = Slab::new(&rows(rt.alloc())?)?;
+    assert!(rt; has_runs(&slab, &dims, &[(1, 2), (4, 2), (13, 2), (16, 2)]));
+    let slab = Slab::new(&last_rows(rt.alloc())?)?;
+    assert!(rt; has_runs(&slab, &dims, &[(6, 12)]));
+    Ok(())
+}

@@ -1,28 +1,35 @@
--- Nodes of a group as they are appended: a head, rows, and zeros.
-use Rattle.std.proofs.Common.{◌≡◌, ℕ, ◌+◌, ◌-◌, ◌*◌, ◌≤◌, ◌<◌, List, [], ◌∷◌, ◌++◌, length, map, drop, slice_index, refl, ap, arith}
-use Rattle.std.proofs.lemmas.List.{drop_more}
-use Rattle.h5_model.specs.Format.Nodes.{group_kind}
+-- Nodes as they are appended: a head, the first key, the children with the keys behind them, and zeros.
+use Rattle.std.proofs.Common.{◌≡◌, ℕ, ◌+◌, ◌-◌, ◌*◌, ◌≤◌, List, [], ◌∷◌, ◌++◌, length, sym, ap, ◌∙◌, arith, append-nil, append_assoc}
+use Rattle.std.specs.List.{flat_map}
+use Rattle.std.proofs.lemmas.List.{length-map}
 use Rattle.h5_bytes.specs.Numbers.{word, zeros}
-use Rattle.h5_model.specs.Format.Plain.{node_bytes_of}
-use Rattle.h5_btree.specs.Writing.Parts.{node_head, group_rows}
+use Rattle.h5_model.specs.Format.Nodes.{Kind, node_length}
+use Rattle.h5_model.specs.Format.Plain.{keys_and_children, node_bytes_of}
+use Rattle.h5_btree.specs.declared.write.child.Child.{Child}
+use Rattle.h5_btree.specs.Writing.Parts.{child_bytes, node_head}
+use Rattle.h5_btree.specs.Writing.Written.{FitsKind, AllFit, keys_of, places_of}
+use Rattle.h5_btree.proofs.WriteLaws.NodeReads.{are_keys, length-rows, one_more, spread}
 
--- the rows from one place on
-pub rows_step : (keys children : List ℕ) (i : ℕ) → i < length children → length keys ≡ length children + 1
-    → group_rows (drop i keys) (drop i children) ≡ word (slice_index keys i) ++ (word (slice_index children i) ++ group_rows (drop (i + 1) keys) (drop (i + 1) children))
-rows_step keys children i low one =
-    let k : drop i keys ≡ slice_index keys i ∷ drop (i + 1) keys = drop_more keys i 0 (omega arith) in
-    let c : drop i children ≡ slice_index children i ∷ drop (i + 1) children = drop_more children i 0 low in
-    rw (k, c) refl
+module _ {K : Type 0} (kind : Kind) (bytes : K → List ℕ) where
+  pub pairs_are : (before : K) (c : List (Child K)) → keys_and_children (keys_of bytes before c) (places_of c) ≡ bytes before ++ flat_map (child_bytes bytes) c
+  pairs_are before [] = sym (append-nil (bytes before))
+  pairs_are before (x ∷ c) =
+      ap (λ (bs : List ℕ). bytes before ++ (word x.at ++ bs)) (pairs_are x.key c)
+      ∙ ap (λ (bs : List ℕ). bytes before ++ bs) (sym (append_assoc (word x.at) (bytes x.key) (flat_map (child_bytes bytes) c)))
 
-length-rows : (keys children : List ℕ) → length keys ≡ length children + 1 → length (group_rows keys children) ≡ 8 + 16 * length children
-length-rows [] children one = absurd (omega arith)
-length-rows (k ∷ ks) [] one = refl
-length-rows (k ∷ ks) (c ∷ cs) one = omega (arith, length-rows ks cs (omega arith))
-
--- a node of a group's tree
-pub node_parts : (k level left right : ℕ) (keys children : List ℕ) → length keys ≡ length children + 1 → length children ≤ 2 * k
-    → node_bytes_of (group_kind k) level left right (map word keys) children
-    ≡ node_head level (length children) left right ++ (group_rows keys children ++ zeros ((2 * k - length children) * 16))
-node_parts k level left right keys children one room =
-    let rest : 24 + 8 + 2 * k * 16 - length (node_head level (length children) left right ++ group_rows keys children) ≡ (2 * k - length children) * 16 = omega (arith, length-rows keys children one) in
-    ap (λ n. node_head level (length children) left right ++ (group_rows keys children ++ zeros n)) rest
+  pub node_parts : (level left right : ℕ) (before : K) (c : List (Child K)) → length c ≤ 2 * kind.k → FitsKind kind bytes before → AllFit kind bytes c
+      → node_bytes_of kind level left right (keys_of bytes before c) (places_of c)
+      ≡ node_head kind level (length c) left right
+      ++ (bytes before ++ (flat_map (child_bytes bytes) c ++ zeros ((2 * kind.k - length c) * (kind.key_length + 8))))
+  node_parts level left right before c room first fit =
+      let many : length (places_of c) ≡ length c = length-map c (λ (x : Child K). x.at) in
+      let pairs : List ℕ = keys_and_children (keys_of bytes before c) (places_of c) in
+      let long : length pairs ≡ kind.key_length + (kind.key_length + 8) * length (places_of c)
+      = length-rows kind (keys_of bytes before c) (places_of c) (are_keys kind bytes before c first fit) (one_more bytes before c) in
+      let parts = spread (2 * kind.k) (length c) (kind.key_length + 8) room in
+      let rest : node_length kind - length (node_head kind level (length (places_of c)) left right ++ pairs) ≡ (2 * kind.k - length c) * (kind.key_length + 8)
+      = omega (arith, long, parts, ap (λ n. (kind.key_length + 8) * n) many) in
+      (λ i. node_head kind level (many i) left right ++ (pairs ++ zeros (rest i)))
+      ∙ ap (λ (bs : List ℕ). node_head kind level (length c) left right ++ (bs ++ zeros ((2 * kind.k - length c) * (kind.key_length + 8)))) (pairs_are before c)
+      ∙ ap (λ (bs : List ℕ). node_head kind level (length c) left right ++ bs)
+      (append_assoc (bytes before) (flat_map (child_bytes bytes) c) (zeros ((2 * kind.k - length c) * (kind.key_length + 8))))

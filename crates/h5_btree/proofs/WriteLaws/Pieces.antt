@@ -4,6 +4,7 @@ use Rattle.std.specs.List.{AllByRecursion, flat_map}
 use Rattle.std.proofs.Math.Nat.{div-eq_of_lt-le, add-div_left}
 use Rattle.std.proofs.lemmas.Bool.{cases_lt}
 use Rattle.std.proofs.lemmas.List.{append-nil, length-take, length-drop, take-append-drop}
+use Rattle.h5_bytes.proofs.BlockLaws.{all_left, all_right}
 use Rattle.h5_model.specs.Format.PlainLength.{rows_of}
 use Rattle.h5_btree.specs.Writing.Written.{cut_into_lists, chunks}
 use Rattle.h5_btree.proofs.WriteLaws.Counts.{is_over, is_within}
@@ -16,6 +17,11 @@ rows_next m n some more =
     let split : n + m - 1 ≡ m + (n - m + m - 1) = omega arith in
     let next : (m + (n - m + m - 1)) / m ≡ (n - m + m - 1) / m + 1 = add-div_left (n - m + m - 1) some in
     rw split (omega arith)
+
+-- what holds of all holds in each list
+pub all_apart : {X : Type 0} (P : X → Type 0) (cs : List (List X)) → AllByRecursion P (flat_map (λ (c : List X). c) cs) → AllByRecursion (AllByRecursion P) cs
+all_apart P [] all = tt
+all_apart {X = X} P (c ∷ cs) all = (all_left P c (flat_map (λ (d : List X). d) cs) all, all_apart P cs (all_right P c (flat_map (λ (d : List X). d) cs) all))
 
 module _ {X : Type 0} (m : ℕ) where
   -- one step of a cut_into_lists

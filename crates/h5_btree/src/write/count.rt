@@ -3,6 +3,8 @@ ghost use Rattle.std.specs.Prelude.{◌≡◌, ◌+◌, ◌*◌, ◌^◌, ◌<�
 ghost use Rattle.h5_model.specs.Format.PlainLength.{rows_of as rows, nodes_over as nodes};
 ghost use Rattle.h5_btree.specs.Writing.Written.{level_over, root_level as level};
 
+use crate::kind::NodeKind;
+
 /// How many lists of at most `most` take so many.
 pub fn rows_of(most: u64, count: u64) -> u64
     requires some { 1 ≤ most }
@@ -33,14 +35,14 @@ pub(crate) fn nodes_within(levels: u32, most: u64, children: u64) -> u64
     row + nodes_within(levels - 1, most, row)
 }
 
-/// How many nodes with room for 2 `internal` children stand over so many children; one where there is none.
-pub fn nodes_over(internal: u16, children: u64) -> u64
-    requires some { 1 ≤ internal }
+/// How many nodes of this kind stand over so many children; one where there is none.
+pub fn nodes_over(kind: &NodeKind, children: u64) -> u64
+    requires some { 1 ≤ kind.now.k }
     requires few { children < 2 ^ 32 }
-    ensures exact { result ≡ nodes 64 (2 * internal) children }
+    ensures exact { result ≡ nodes 64 (2 * kind.now.k) children }
     ensures few { result < 2 ^ 33 }
 {
-    nodes_within(64, 2 * u64::from(internal), children)
+    nodes_within(64, kind.capacity() as u64, children)
 }
 
 /// The level of the root over so many children, of nodes with room for `most`, in at most so many levels.
@@ -58,12 +60,12 @@ fn level_within(levels: u32, most: u64, children: u64) -> u32
     1 + level_within(levels - 1, most, rows_of(most, children))
 }
 
-/// The level of the root over so many children.
+/// The level of the root over so many children, of nodes of this kind.
 #[tactic(auto, using(crate::proofs::WriteLaws::Counts::root_level_is))]
-pub fn root_level(internal: u16, children: u64) -> u32
-    requires some { 1 ≤ internal }
+pub fn root_level(kind: &NodeKind, children: u64) -> u32
+    requires some { 1 ≤ kind.now.k }
     requires few { children < 2 ^ 32 }
-    ensures { result ≡ level internal children }
+    ensures { result ≡ level kind.now.k children }
 {
-    level_within(64, 2 * u64::from(internal), children)
+    level_within(64, kind.capacity() as u64, children)
 }

@@ -4,6 +4,7 @@ use Rattle.std.specs.List.{sum_by}
 use Rattle.std.proofs.Math.Nat.{mul-le-mul}
 use Rattle.std.proofs.lemmas.List.{length-map}
 use Rattle.std.proofs.lemmas.List.Sums.{sum_by-cons}
+use Rattle.h5_model.specs.Format.Nodes.{Kind, group_kind, node_length}
 use Rattle.h5_model.specs.Format.PlainLength.{rows_of, nodes_over}
 use Rattle.h5_model.specs.Format.Sizes.{group_node, symbol_node}
 use Rattle.h5_heap.specs.Writing.Links.{Leads, ToGroup, ToArray, ToText, name_and_leads}
@@ -43,15 +44,16 @@ pub record AreCounted (leaf internal : ℕ) (links : List (List ℕ × Leads)) (
   pub tree_is : tree ≡ nodes_over 64 (2 * internal) (symbol_nodes leaf links) * group_node internal
   pub whole_is : whole ≡ links_length leaf internal links
 
-pub counted : (leaf internal most k room nodes over tree segment rest : ℕ) (links : List (Link ObjectPlace))
+pub counted : (leaf internal most room nodes over size tree segment rest : ℕ) (kind : Kind) (links : List (Link ObjectPlace))
     → most ≡ leaf → nodes ≡ rows_of (2 * most) (length links)
-    → k ≡ internal → over ≡ nodes_over 64 (2 * internal) nodes → tree ≡ over * (32 + 32 * k)
+    → kind ≡ group_kind internal → over ≡ nodes_over 64 (2 * kind.k) nodes → size ≡ node_length kind → tree ≡ over * size
     → segment ≡ length (written_segment (map name_and_leads links))
     → room ≡ leaf → rest ≡ nodes * (8 + 80 * room)
     → AreCounted leaf internal (map name_and_leads links) nodes tree (tree + 32 + segment + rest)
-counted leaf internal most k room nodes over tree segment rest links same row k_is over_is tree_told segment_told room_is rest_told =
+counted leaf internal most room nodes over size tree segment rest kind links same row kind_is over_is size_is tree_told segment_told room_is rest_told =
     let nodes_are : nodes ≡ symbol_nodes leaf (map name_and_leads links) = row ∙ (λ i. rows_of (2 * same i) (sym (length-map links name_and_leads) i)) in
+    let size_told : size ≡ group_node internal = size_is ∙ ap node_length kind_is ∙ omega arith in
     let tree_is : tree ≡ nodes_over 64 (2 * internal) (symbol_nodes leaf (map name_and_leads links)) * group_node internal
-    = tree_told ∙ (λ i. over_is i * (32 + 32 * k_is i)) ∙ ap (λ n. nodes_over 64 (2 * internal) n * group_node internal) nodes_are in
+    = tree_told ∙ (λ i. over_is i * size_told i) ∙ (λ i. nodes_over 64 (2 * (kind_is i).k) (nodes_are i) * group_node internal) in
     let rest_is : rest ≡ symbol_nodes leaf (map name_and_leads links) * symbol_node leaf = rest_told ∙ (λ i. nodes_are i * (8 + 80 * room_is i)) in
     record { nodes_are = nodes_are; tree_is = tree_is; whole_is = λ i. tree_is i + 32 + segment_told i + rest_is i }

@@ -3,8 +3,9 @@
 use Rattle.std.proofs.Common.{◌≡◌, ℕ, suc, ◌+◌, ◌-◌, ◌*◌, ◌^◌, ◌<◌, ◌≤◌, ◌⊎◌, inl, inr, List, [], ◌∷◌, ◌++◌, length, refl, sym, ap, ◌∙◌, subst, arith}
 use Rattle.std.specs.Prelude.{map, IsTrue}
 use Rattle.std.specs.List.{AllByRecursion, flat_map, Contains}
-use Rattle.std.proofs.lemmas.List.Elements.{All-from_recursion, All-contains, All-contains_itself, recursion_from_All}
+use Rattle.std.proofs.lemmas.List.Elements.{All-contains_itself, recursion_from_All}
 use Rattle.h5_bytes.specs.Bytes.{part}
+use Rattle.h5_bytes.specs.Numbers.{word}
 use Rattle.h5_bytes.specs.Blocks.{holds, cover, Run, Inside}
 use Rattle.h5_bytes.specs.declared.Block.{Block}
 use Rattle.h5_bytes.proofs.BlockLaws.{all_append, all_left, all_right, all_so, cover-append, cover-run, run_rises}
@@ -19,7 +20,8 @@ use Rattle.h5_model.specs.Format.Symbols.{Entry, Target, IsEntry, symbols_of, sy
 use Rattle.h5_model.specs.Format.Symbols as symbols
 use Rattle.h5_btree.specs.declared.write.child.Child.{Child}
 use Rattle.h5_btree.specs.Writing.Written.{tree_bytes, root_level}
-use Rattle.h5_btree.specs.Writing.Laws.{IsChild, HasPlainNodes}
+use Rattle.h5_btree.specs.Writing.Laws.{HasPlainNodes}
+use Rattle.h5_btree.proofs.WriteLaws.Pieces.{all_apart}
 use Rattle.h5_btree.proofs.WriteLaws.RowReads.{part_split}
 use Rattle.h5_btree.proofs.WriteLaws.TreeLaws.{tree_reads}
 use Rattle.h5_heap.specs.Writing.Links.{Leads, ToGroup, ToArray, ToText, target_link}
@@ -31,19 +33,10 @@ use Rattle.h5_group.specs.Writing.Written.{last_name_offset, children_of, heap_p
 use Rattle.h5_group.specs.Writing.Laws.{ArePlainLinks, IsPlainGroup, LinksRead}
 use Rattle.h5_group.proofs.WriteLaws.SymbolNodes.{Placed}
 use Rattle.h5_group.proofs.WriteLaws.Runs.{IsRun, joined, runs_joined, runs_pieces}
-use Rattle.h5_group.proofs.WriteLaws.SymbolPlaces.{AreThere, Says, addresses, nodes_bytes, one_more, all_apart, are_there, nodes_run, all_formed, all_said, said_alone, all_entries}
+use Rattle.h5_group.proofs.WriteLaws.SymbolPlaces.{AreThere, Says, addresses, nodes_bytes, one_more, are_there, nodes_run, all_formed, all_said, said_alone, all_entries}
+use Rattle.h5_group.proofs.WriteLaws.NameTrees.{all_mapped, all_unmapped, lasts_fit, lasts_of, names_ordered, offsets_named}
 use Rattle.h5_group.proofs.WriteLaws.Order.{Rises, ordered, are_named, rises_all}
 use Rattle.h5_group.proofs.WriteLaws.Lengths.{the_runs, the_children, runs_counted, level_low, tree_long, links_length_is}
-
--- ---- lists
-
-all_mapped : {X Y : Type 0} (P : Y → Type 0) (f : X → Y) (xs : List X) → AllByRecursion (λ x. P (f x)) xs → AllByRecursion P (map f xs)
-all_mapped P f [] all = tt
-all_mapped P f (x ∷ xs) all = (all.0, all_mapped P f xs all.1)
-
-all_unmapped : {X Y : Type 0} (P : Y → Type 0) (f : X → Y) (xs : List X) → AllByRecursion P (map f xs) → AllByRecursion (λ x. P (f x)) xs
-all_unmapped P f [] all = tt
-all_unmapped P f (x ∷ xs) all = (all.0, all_unmapped P f xs all.1)
 
 -- ---- blocks
 
@@ -83,21 +76,18 @@ last_holds P before (l ∷ []) some all = all.0
 last_holds P before (l ∷ m ∷ run) some all = last_holds P l.0 (m ∷ run) (omega arith) all.1
 
 lasts_hold : (P : ℕ → Type 0) (leaf at : ℕ) (runs : List (List Placed)) → AllByRecursion (IsRun leaf) runs
-    → AllByRecursion (AllByRecursion (λ (l : Placed). P l.0)) runs → AllByRecursion P (map (λ (c : Child). c.last) (children_of leaf at runs))
+    → AllByRecursion (AllByRecursion (λ (l : Placed). P l.0)) runs → AllByRecursion P (map (λ (c : Child ℕ). c.key) (children_of leaf at runs))
 lasts_hold P leaf at [] pieces all = tt
 lasts_hold P leaf at (run ∷ runs) pieces all =
     (last_holds P 0 run (pieces.0).0 all.0, lasts_hold P leaf (at + symbol_node leaf) runs pieces.1 all.1)
 
 -- nodes before an end have addresses of eight bytes
-children_low : (leaf at : ℕ) (runs : List (List Placed)) → AllByRecursion (IsRun leaf) runs
-    → AllByRecursion (AllByRecursion (λ (l : Placed). l.0 < 2 ^ 64)) runs → at + length runs * symbol_node leaf < 2 ^ 64
-    → AllByRecursion IsChild (children_of leaf at runs)
-children_low leaf at [] pieces all low = tt
-children_low leaf at (run ∷ runs) pieces all low =
-    let split : at + symbol_node leaf + length runs * symbol_node leaf ≡ at + suc (length runs) * symbol_node leaf = omega (arith, one_more (length runs) (symbol_node leaf)) in (
-      record { at = omega (arith, low); last = last_holds (λ n. n < 2 ^ 64) 0 run (pieces.0).0 all.0 },
-      children_low leaf (at + symbol_node leaf) runs pieces.1 all.1 (subst (λ n. n < 2 ^ 64) (sym split) low),
-    )
+children_low : (leaf at : ℕ) (runs : List (List Placed)) → at + length runs * symbol_node leaf < 2 ^ 64
+    → AllByRecursion (λ n. n < 2 ^ 64) (addresses (children_of leaf at runs))
+children_low leaf at [] low = tt
+children_low leaf at (run ∷ runs) low =
+    let split : at + symbol_node leaf + length runs * symbol_node leaf ≡ at + suc (length runs) * symbol_node leaf = omega (arith, one_more (length runs) (symbol_node leaf)) in
+    (omega (arith, low), children_low leaf (at + symbol_node leaf) runs (subst (λ n. n < 2 ^ 64) (sym split) low))
 
 -- ---- what lies where
 
@@ -124,11 +114,11 @@ module _ (image : List ℕ) (leaf internal at : ℕ) (links : List (List ℕ × 
   abbrev runs : List (List Placed)
   runs = the_runs leaf internal at links
 
-  abbrev children : List Child
+  abbrev children : List (Child ℕ)
   children = the_children leaf internal at links
 
   abbrev tree : List ℕ
-  tree = tree_bytes internal at children
+  tree = tree_bytes (group_kind internal) word 0 at children
 
   abbrev heap_at : ℕ
   heap_at = heap_place leaf internal at links
@@ -166,9 +156,11 @@ module _ (image : List ℕ) (leaf internal at : ℕ) (links : List (List ℕ × 
   nodes_end = ap (λ n. nodes_at + n * symbol_node leaf) (runs_counted leaf internal at links plain.k plain.low)
       ∙ whole_shift at tree_size (length segment) (symbol_nodes leaf links * symbol_node leaf)
 
-  each_child : AllByRecursion IsChild children
-  each_child = children_low leaf nodes_at runs pieces (in_runs (λ (l : Placed). l.0 < 2 ^ 64) low_offsets)
-      (subst (λ n. n < 2 ^ 64) (sym nodes_end) (far (at + links_length leaf internal links) low))
+  low_places : AllByRecursion (λ n. n < 2 ^ 64) (addresses children)
+  low_places = children_low leaf nodes_at runs (subst (λ n. n < 2 ^ 64) (sym nodes_end) (far (at + links_length leaf internal links) low))
+
+  low_lasts : AllByRecursion (λ n. n < 2 ^ 64) (lasts_of children)
+  low_lasts = lasts_hold (λ n. n < 2 ^ 64) leaf nodes_at runs pieces (in_runs (λ (l : Placed). l.0 < 2 ^ 64) low_offsets)
 
   tree_size_is : length tree ≡ tree_size
   tree_size_is = tree_long leaf internal at links plain.k plain.low
@@ -203,9 +195,9 @@ module _ (image : List ℕ) (leaf internal at : ℕ) (links : List (List ℕ × 
 
     -- ---- the tree and the heap
 
-    plain_tree : HasPlainNodes image internal at children
-    plain_tree = tree_reads image internal at children (plain.k).internal_low (plain.k).internal_high each_child (level_low leaf internal at links plain.k plain.low)
-        (subst (λ n. at + n < 2 ^ 63) (sym tree_size_is) limits.tree_end) tree_there.0
+    plain_tree : HasPlainNodes image (group_kind internal) word 0 at children
+    plain_tree = tree_reads ℕ image (group_kind internal) word 0 at children (plain.k).internal_low (plain.k).internal_high refl (lasts_fit internal children) low_places
+        (level_low leaf internal at links plain.k plain.low) (subst (λ n. at + n < 2 ^ 63) (sym tree_size_is) limits.tree_end) tree_there.0
 
     plain_heap : IsPlainHeap image heap_at links
     plain_heap = heap_reads image heap_at links plain.spelled (subst (λ n. heap_at + n < 2 ^ 32) (sym heap_size_is) limits.heap_end) heap_there.0
@@ -242,17 +234,12 @@ module _ (image : List ℕ) (leaf internal at : ℕ) (links : List (List ℕ × 
         (all_unmapped (λ (e : Entry). Contains names e.name) written_entry (placed_links links)
         (all_unmapped (Contains names) (λ (e : Entry). e.name) (written_entries links) (recursion_from_All (Contains names) names (All-contains_itself names))))
 
-    last_names : AllByRecursion (Contains names) (map (λ (c : Child). c.last) children)
+    last_names : AllByRecursion (Contains names) (lasts_of children)
     last_names = lasts_hold (Contains names) leaf nodes_at runs pieces (in_runs (λ (l : Placed). Contains names l.0) placed_names)
 
-    key_named : (key : ℕ) → (key ≡ 0) ⊎ Contains (map (λ (c : Child). c.last) children) key → (key ≡ 0) ⊎ Contains names key
-    key_named key (inl none) = inl none
-    key_named key (inr at_last) = inr (All-contains (Contains names) (map (λ (c : Child). c.last) children) key
-        (All-from_recursion (Contains names) (map (λ (c : Child). c.last) children) last_names) at_last)
-
     keys_named : AllByRecursion (λ key. (key ≡ 0) ⊎ Contains names key) (key_offsets V plain_tree.owned)
-    keys_named = all_so (λ key. (key ≡ 0) ⊎ Contains (map (λ (c : Child). c.last) children) key) (λ key. (key ≡ 0) ⊎ Contains names key)
-        (key_offsets V plain_tree.owned) key_named plain_tree.keyed
+    keys_named = offsets_named image internal at children low_lasts plain_tree (λ key. (key ≡ 0) ⊎ Contains names key) (inl refl)
+        (all_so (Contains names) (λ key. (key ≡ 0) ⊎ Contains names key) (lasts_of children) (λ key is. inr is) last_names)
 
     -- ---- the links
 
@@ -262,7 +249,7 @@ module _ (image : List ℕ) (leaf internal at : ℕ) (links : List (List ℕ × 
       all = sym (ap (λ es. map (symbols.link_of segment) es) entries_are ∙ plain_heap.named);
       ascending = plain.ascending;
       named = all_mapped (λ (l : List ℕ × Target). IsTrue (is_name l.0)) target_link links plain.named;
-      ordered = plain_tree.ordered S segment (ordered segment leaf S 0 nodes_at runs pieces said rises);
+      ordered = names_ordered image internal at children low_lasts plain_tree S segment (ordered segment leaf S 0 nodes_at runs pieces said rises);
       free = plain_heap.free;
       loose = [];
       heap_form = plain_heap.heap_form;

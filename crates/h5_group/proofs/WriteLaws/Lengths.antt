@@ -4,6 +4,8 @@ use Rattle.std.specs.Prelude.{sum_by, nat_le, if◌then◌else◌}
 use Rattle.std.specs.List.{AllZip}
 use Rattle.std.specs.FinMap.{entries, len-entries}
 use Rattle.std.proofs.lemmas.List.Sums.{sum_by-cons}
+use Rattle.h5_bytes.specs.Numbers.{word}
+use Rattle.h5_model.specs.Format.Nodes.{group_kind, node_length}
 use Rattle.h5_model.specs.Format.PlainLength.{rows_of, nodes_over}
 use Rattle.h5_model.specs.Format.PlainLength as plain
 use Rattle.h5_model.specs.Format.Sizes.{group_node, symbol_node}
@@ -17,6 +19,7 @@ use Rattle.h5_heap.proofs.WriteLaws.Lengths.{segment_length_is, length-heap_byte
 use Rattle.h5_model.specs.Format.Superblock.{AreK}
 use Rattle.h5_group.specs.Writing.Written.{runs_of, children_of, symbol_nodes, symbols_place, heap_place, links_bytes, tree_level}
 use Rattle.h5_group.specs.Writing.Laws.{LinksLength, IsLinkWritten, GroupLength}
+use Rattle.h5_group.proofs.WriteLaws.NameTrees.{lasts_fit}
 use Rattle.h5_group.proofs.WriteLaws.SymbolNodes.{Placed}
 use Rattle.h5_group.proofs.WriteLaws.Runs.{runs_pieces}
 use Rattle.h5_group.proofs.WriteLaws.Steps.{nodes_end}
@@ -30,7 +33,7 @@ module _ (leaf internal at : ℕ) (links : List (List ℕ × Leads)) where
   abbrev pub the_runs : List (List Placed)
   the_runs = runs_of leaf (placed_links links)
 
-  abbrev pub the_children : List Child
+  abbrev pub the_children : List (Child ℕ)
   the_children = children_of leaf (symbols_place leaf internal at links) the_runs
 
   module _ (k : AreK leaf internal) (low : tree_level leaf internal links ≤ 15) where
@@ -47,14 +50,16 @@ module _ (leaf internal at : ℕ) (links : List (List ℕ × Leads)) where
     pub nodes_long : length (nodes_bytes leaf the_runs) ≡ symbol_nodes leaf links * symbol_node leaf
     nodes_long = length-nodes leaf the_runs (runs_pieces leaf k.leaf_low (placed_links links)) ∙ ap (λ n. n * symbol_node leaf) runs_counted
 
-    pub tree_long : length (tree_bytes internal at the_children) ≡ nodes_over 64 (2 * internal) (symbol_nodes leaf links) * group_node internal
-    tree_long = tree_length internal at the_children k.internal_low level_low
-        ∙ ap (λ n. nodes_over 64 (2 * internal) n * group_node internal) children_counted
+    pub tree_long : length (tree_bytes (group_kind internal) word 0 at the_children) ≡ nodes_over 64 (2 * internal) (symbol_nodes leaf links) * group_node internal
+    tree_long =
+        let size : node_length (group_kind internal) ≡ group_node internal = omega arith in
+        tree_length ℕ (group_kind internal) word 0 at the_children k.internal_low refl (lasts_fit internal the_children)
+        ∙ (λ i. nodes_over 64 (2 * internal) (children_counted i) * size i)
 
 pub links_length_is : LinksLength
 unfolding links_bytes
 links_length_is leaf internal at links plain =
-    sum_of (tree_bytes internal at (the_children leaf internal at links)) (heap_bytes (heap_place leaf internal at links) links) (nodes_bytes leaf (the_runs leaf internal at links))
+    sum_of (tree_bytes (group_kind internal) word 0 at (the_children leaf internal at links)) (heap_bytes (heap_place leaf internal at links) links) (nodes_bytes leaf (the_runs leaf internal at links))
     (nodes_over 64 (2 * internal) (symbol_nodes leaf links) * group_node internal) (length (written_segment links)) (symbol_nodes leaf links * symbol_node leaf)
     (tree_long leaf internal at links plain.k plain.low) (length-heap_bytes (heap_place leaf internal at links) links) (nodes_long leaf internal at links plain.k plain.low)
 

@@ -10,10 +10,10 @@ use Rattle.h5_model.specs.Format.Sizes.{symbol_node}
 use Rattle.h5_model.specs.Format.Symbols.{Entry}
 use Rattle.h5_model.specs.Format.Symbols as symbols
 use Rattle.h5_model.proofs.TextOrder.{not_after_itself, before_le, after_trans, not_after_trans}
-use Rattle.h5_btree.specs.Writing.Laws.{AreOrdered}
 use Rattle.h5_heap.specs.Writing.Links.{Leads, ToGroup, ToArray, ToText, target_link}
 use Rattle.h5_heap.specs.Writing.Written.{written_entry, placed, texts_span}
 use Rattle.h5_group.specs.Writing.Written.{last_name_offset, children_of}
+use Rattle.h5_group.proofs.WriteLaws.NameTrees.{AreOrdered}
 use Rattle.h5_group.proofs.WriteLaws.SymbolNodes.{Placed}
 use Rattle.h5_group.proofs.WriteLaws.Runs.{IsRun, joined}
 use Rattle.h5_group.proofs.WriteLaws.SymbolPlaces.{Says}

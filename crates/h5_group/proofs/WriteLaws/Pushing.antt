@@ -1,6 +1,8 @@
 -- The parts of a group's links as they are appended.
 use Rattle.std.proofs.Common.{◌≡◌, ℕ, ◌+◌, ◌*◌, ◌^◌, ◌<◌, ◌≤◌, List, ◌++◌, length, map, sym, ap, ◌∙◌, subst, arith}
 use Rattle.std.specs.List.{flat_map, sum_by}
+use Rattle.h5_bytes.specs.Numbers.{word}
+use Rattle.h5_model.specs.Format.Nodes.{group_kind}
 use Rattle.h5_model.specs.Format.Superblock.{AreK}
 use Rattle.h5_model.specs.Format.Sizes.{symbol_node}
 use Rattle.h5_btree.specs.declared.write.child.Child.{Child}
@@ -36,7 +38,7 @@ module _ (leaf internal : ℕ) (links : List (Link ObjectPlace)) (k : AreK leaf 
       let few = links_few links (omega (arith, are.segment, parts_within, are.few)) in
       omega (arith, rows_few (2 * leaf) (length those) (omega (arith, k.leaf_low)), length-map links name_and_leads)
 
-  module _ (at : ℕ) (children : List Child)
+  module _ (at : ℕ) (children : List (Child ℕ))
       (pushed : children ≡ children_of leaf (at + p.tree + 32 + p.segment) (runs_of leaf (placed_links those))) where
     pub children_are : children ≡ the_children leaf internal at those
     children_are = pushed ∙ (λ i. children_of leaf (at + are.tree i + 32 + are.segment i) (runs_of leaf (placed_links those)))
@@ -45,16 +47,16 @@ module _ (leaf internal : ℕ) (links : List (Link ObjectPlace)) (k : AreK leaf 
     children_few = subst (λ n. n < 2 ^ 32) (sym (ap length children_are ∙ children_counted leaf internal at those k are.low)) nodes_few
 
     pub children_level : root_level internal (length children) ≤ 15
-    children_level = subst (λ (cs : List Child). root_level internal (length cs) ≤ 15) (sym children_are) (level_low leaf internal at those k are.low)
+    children_level = subst (λ (cs : List (Child ℕ)). root_level internal (length cs) ≤ 15) (sym children_are) (level_low leaf internal at those k are.low)
 
-    tree_is : length (tree_bytes internal at children) ≡ p.tree
-    tree_is = ap (λ cs. length (tree_bytes internal at cs)) children_are ∙ tree_long leaf internal at those k are.low ∙ sym are.tree
+    tree_is : length (tree_bytes (group_kind internal) word 0 at children) ≡ p.tree
+    tree_is = ap (λ cs. length (tree_bytes (group_kind internal) word 0 at cs)) children_are ∙ tree_long leaf internal at those k are.low ∙ sym are.tree
 
-    pub tree_low : at + p.length ≤ 2 ^ 31 → at + length (tree_bytes internal at children) < 2 ^ 63
+    pub tree_low : at + p.length ≤ 2 ^ 31 → at + length (tree_bytes (group_kind internal) word 0 at children) < 2 ^ 63
     tree_low low = omega (arith, tree_is, parts_within)
 
     -- the parts are the whole
     pub links_are : links_bytes leaf internal at those
-        ≡ tree_bytes internal at children ++ (heap_bytes (at + p.tree) those ++ flat_map (written_symbol_node leaf) (runs_of leaf (placed_links those)))
+        ≡ tree_bytes (group_kind internal) word 0 at children ++ (heap_bytes (at + p.tree) those ++ flat_map (written_symbol_node leaf) (runs_of leaf (placed_links those)))
     unfolding links_bytes
-    links_are = λ i. tree_bytes internal at (sym children_are i) ++ (heap_bytes (at + sym are.tree i) those ++ flat_map (written_symbol_node leaf) (runs_of leaf (placed_links those)))
+    links_are = λ i. tree_bytes (group_kind internal) word 0 at (sym children_are i) ++ (heap_bytes (at + sym are.tree i) those ++ flat_map (written_symbol_node leaf) (runs_of leaf (placed_links those)))

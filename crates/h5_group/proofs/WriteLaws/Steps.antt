@@ -87,14 +87,14 @@ module _ (leaf at from end : ℕ) (links : List (Link ObjectPlace)) (low : 1 ≤
       ∙ ap (λ rs. out ++ flat_map (written_symbol_node leaf) rs) (sym run_there) ∙ whole
 
   -- one more child is pushed
-  pub children_more : (name node beyond last : ℕ) (children new all : List Child) → name ≡ at + spans (map name_and_leads run)
+  pub children_more : (name node beyond last : ℕ) (children new all : List (Child ℕ)) → name ≡ at + spans (map name_and_leads run)
       → beyond ≡ node + symbol_node leaf → last ≡ last_name_offset 0 (placed at (map name_and_leads run))
-      → new ≡ children ++ record { at = node; last = last } ∷ [] → children ++ children_of leaf node to_come ≡ all
+      → new ≡ children ++ record { at = node; key = last } ∷ [] → children ++ children_of leaf node to_come ≡ all
       → new ++ children_of leaf beyond (runs_of leaf (placed name behind)) ≡ all
   children_more name node beyond last children new all next end_of last_is pushed whole =
       (λ i. pushed i ++ children_of leaf (end_of i) (runs_of leaf (placed (next i) behind)))
-      ∙ append_assoc children (record { at = node; last = last } ∷ []) (children_of leaf (node + symbol_node leaf) (runs_of leaf (placed (at + spans (map name_and_leads run)) behind)))
-      ∙ (λ i. children ++ record { at = node; last = last_is i } ∷ children_of leaf (node + symbol_node leaf) (runs_of leaf (placed (at + spans (map name_and_leads run)) behind)))
+      ∙ append_assoc children (record { at = node; key = last } ∷ []) (children_of leaf (node + symbol_node leaf) (runs_of leaf (placed (at + spans (map name_and_leads run)) behind)))
+      ∙ (λ i. children ++ record { at = node; key = last_is i } ∷ children_of leaf (node + symbol_node leaf) (runs_of leaf (placed (at + spans (map name_and_leads run)) behind)))
       ∙ ap (λ rs. children ++ children_of leaf node rs) (sym run_there) ∙ whole
 
   -- the nodes behind it end where they did

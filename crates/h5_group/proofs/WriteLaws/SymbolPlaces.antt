@@ -5,13 +5,13 @@ use Rattle.std.specs.List.{AllByRecursion, flat_map}
 use Rattle.std.proofs.lemmas.List.{map-append}
 use Rattle.h5_bytes.specs.Bytes.{part}
 use Rattle.h5_bytes.specs.Blocks.{Run}
-use Rattle.h5_bytes.proofs.BlockLaws.{all_left, all_right}
 use Rattle.h5_model.specs.Format.Links.{Symbols}
 use Rattle.h5_model.specs.Format.Sizes.{symbol_node}
 use Rattle.h5_model.specs.Format.Symbols.{IsSymbolNode, symbols_at, symbols_of, symbol_block}
 use Rattle.h5_model.specs.Format.Symbols as symbols
 use Rattle.h5_model.proofs.RowLaws.{only_here}
 use Rattle.h5_btree.specs.declared.write.child.Child.{Child}
+use Rattle.h5_btree.specs.Writing.Written.{places_of}
 use Rattle.h5_btree.proofs.WriteLaws.RowReads.{part_split}
 use Rattle.h5_heap.specs.Writing.Written.{written_entry}
 use Rattle.h5_heap.specs.Writing.Laws.{IsEntryLow}
@@ -32,13 +32,8 @@ Says S leaf at [] = ⊤
 Says S leaf at (run ∷ runs) = (S at ≡ map written_entry run) × Says S leaf (at + symbol_node leaf) runs
 
 -- the addresses of children
-abbrev pub addresses : List Child → List ℕ
-addresses children = map (λ (c : Child). c.at) children
-
--- what holds of all placed links holds in each run
-pub all_apart : (P : Placed → Type 0) (runs : List (List Placed)) → AllByRecursion P (joined runs) → AllByRecursion (AllByRecursion P) runs
-all_apart P [] all = tt
-all_apart P (run ∷ runs) all = (all_left P run (joined runs) all, all_apart P runs (all_right P run (joined runs) all))
+abbrev pub addresses : List (Child ℕ) → List ℕ
+addresses children = places_of children
 
 pub one_more : (n size : ℕ) → size + n * size ≡ suc n * size
 one_more n size = omega arith

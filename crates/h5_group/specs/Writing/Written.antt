@@ -2,6 +2,8 @@
 -- Specification 3.0, sections III.A.1, III.B and III.D).
 use Rattle.std.specs.Prelude.{ℕ, ◌+◌, ◌*◌, List, [], ◌∷◌, ◌++◌, length, map}
 use Rattle.std.specs.List.{flat_map}
+use Rattle.h5_bytes.specs.Numbers.{word}
+use Rattle.h5_model.specs.Format.Nodes.{group_kind}
 use Rattle.h5_model.specs.Format.PlainLength.{rows_of, nodes_over}
 use Rattle.h5_model.specs.Format.Sizes.{group_node, symbol_node, text_span}
 use Rattle.h5_btree.specs.Writing.Written.{chunks, tree_bytes, root_level}
@@ -40,10 +42,10 @@ abbrev pub last_name_offset : ℕ → List (ℕ × (List ℕ × Leads)) → ℕ
 last_name_offset before [] = before
 last_name_offset before (l ∷ run) = last_name_offset l.0 run
 
--- the symbol nodes as the children of the tree, the first of them at this place
-abbrev pub children_of : ℕ → ℕ → List (List (ℕ × (List ℕ × Leads))) → List Child
+-- the symbol nodes as the children of the tree, the first of them at this place; behind each is the key of its last name
+abbrev pub children_of : ℕ → ℕ → List (List (ℕ × (List ℕ × Leads))) → List (Child ℕ)
 children_of leaf at [] = []
-children_of leaf at (run ∷ runs) = record { at = at; last = last_name_offset 0 run } ∷ children_of leaf (at + symbol_node leaf) runs
+children_of leaf at (run ∷ runs) = record { at = at; key = last_name_offset 0 run } ∷ children_of leaf (at + symbol_node leaf) runs
 
 -- ---- the whole
 
@@ -60,7 +62,7 @@ symbols_place leaf internal at links = heap_place leaf internal at links + 32 + 
 
 unfoldable pub links_bytes : ℕ → ℕ → ℕ → List (List ℕ × Leads) → List ℕ
 links_bytes leaf internal at links =
-    tree_bytes internal at (children_of leaf (symbols_place leaf internal at links) (runs_of leaf (placed_links links)))
+    tree_bytes (group_kind internal) word 0 at (children_of leaf (symbols_place leaf internal at links) (runs_of leaf (placed_links links)))
     ++ (heap_bytes (heap_place leaf internal at links) links ++ flat_map (written_symbol_node leaf) (runs_of leaf (placed_links links)))
 
 -- how long they are

@@ -7,7 +7,7 @@ ghost use Rattle.h5_group.specs.Writing.Places.{ArePlaces};
 
 use crate::write::places::GroupPlaces;
 use crate::write::symbols::{push_symbol_nodes, symbol_children};
-use h5_btree::push_tree;
+use h5_btree::{NodeKind, push_tree};
 use h5_heap::{ObjectPlace, push_heap};
 use h5_model::Link;
 use std::alloc::{AllocError, Global};
@@ -34,7 +34,7 @@ pub fn push_links(
     let heap = at + places.tree;
     let symbols = heap + 32 + places.segment;
     let children = symbol_children(alloc, leaf, symbols, links)?;
-    push_tree(alloc, out, internal, at, &children)?;
+    push_tree(alloc, out, &NodeKind::group(internal), 0, at, &children)?;
     push_heap(out, heap, places.segment, links)?;
     push_symbol_nodes(out, leaf, links)?;
     Ok(())

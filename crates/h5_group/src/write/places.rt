@@ -4,7 +4,7 @@ ghost use Rattle.h5_model.specs.Format.Superblock.{AreK};
 ghost use Rattle.h5_heap.specs.Writing.Links.{name_and_leads};
 ghost use Rattle.h5_group.specs.Writing.Places.{IsTooLarge, ArePlaces};
 
-use h5_btree::{nodes_over, root_level, rows_of};
+use h5_btree::{NodeKind, nodes_over, root_level, rows_of};
 use h5_heap::{ObjectPlace, segment_length};
 use h5_model::Link;
 use h5_space::MAXIMUM_IMAGE;
@@ -54,13 +54,14 @@ pub fn group_places(
     let Some(segment) = segment_length(links) else {
         return Err(GroupFault::TooLong);
     };
+    let kind = NodeKind::group(internal);
     let nodes = rows_of(2 * u64::from(leaf), links.len() as u64);
-    let tree = bytes_of(nodes_over(internal, nodes), 32 + 32 * u64::from(internal));
+    let tree = bytes_of(nodes_over(&kind, nodes), kind.node_length() as u64);
     let length = tree + 32 + segment + bytes_of(nodes, 8 + 80 * u64::from(leaf));
     if length > MAXIMUM_IMAGE {
         return Err(GroupFault::TooLong);
     }
-    if root_level(internal, nodes) > 15 {
+    if root_level(&kind, nodes) > 15 {
         return Err(GroupFault::TooDeep);
     }
     Ok(GroupPlaces {

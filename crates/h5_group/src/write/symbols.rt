@@ -153,7 +153,7 @@ pub(crate) fn symbol_children(
     leaf: u16,
     at: u64,
     links: &[Link<'_, ObjectPlace>],
-) -> Result<Vec<Child>, AllocError>
+) -> Result<Vec<Child<u64>>, AllocError>
     requires low { 1 ≤ leaf }
     requires high { leaf ≤ 32767 }
     requires names { 8 + sum_by span (map name_and_leads links.now) < 2 ^ 32 }
@@ -169,7 +169,10 @@ pub(crate) fn symbol_children(
     while from < links.len() {
         let end = from + room.min(links.len() - from);
         let Offsets { last, next } = name_offsets(name, &links[from..end]);
-        children.push(Child { at: node, last })?;
+        children.push(Child {
+            at: node,
+            key: last,
+        })?;
         node += 8 + 80 * u64::from(leaf);
         name = next;
         from = end;

@@ -3,6 +3,8 @@ use Rattle.std.proofs.Common.{◌≡◌, ℕ, zero, suc, ◌+◌, ◌-◌, ◌*�
 use Rattle.std.proofs.lemmas.List.{length-map}
 use Rattle.std.specs.Prelude.{nat_le}
 use Rattle.std.specs.List.{flat_map}
+use Rattle.h5_bytes.specs.Numbers.{word}
+use Rattle.h5_model.specs.Format.Nodes.{group_kind}
 use Rattle.h5_model.specs.Format.Plain.{heap_header_bytes, segment_bytes, free_head_of}
 use Rattle.h5_model.specs.Format.PlainLength.{nodes_over, rows_of}
 use Rattle.h5_model.specs.Format.Sizes.{group_node, symbol_node}
@@ -86,7 +88,7 @@ last_bare before (x ∷ run) = last_bare x.0 run
 children_bare : (leaf at : ℕ) (runs : List (List (ℕ × (List ℕ × Leads)))) → children_of leaf at (map (map placed_bare) runs) ≡ children_of leaf at runs
 children_bare leaf at [] = refl
 children_bare leaf at (run ∷ runs) =
-    ap₂ (λ (last : ℕ) (rest : List Child). record { at = at; last = last } ∷ rest) (last_bare 0 run) (children_bare leaf (at + symbol_node leaf) runs)
+    ap₂ (λ (last : ℕ) (rest : List (Child ℕ)). record { at = at; key = last } ∷ rest) (last_bare 0 run) (children_bare leaf (at + symbol_node leaf) runs)
 
 -- ---- symbol nodes
 
@@ -116,9 +118,9 @@ module _ (leaf internal at : ℕ) (links : List (List ℕ × Leads)) where
   symbols_place_bare : symbols_place leaf internal at (map bare links) ≡ symbols_place leaf internal at links
   symbols_place_bare = ap₂ (λ (heap n : ℕ). heap + 32 + n) heap_place_bare (ap length segment_bare)
 
-  tree_bare : tree_bytes internal at (children_of leaf (symbols_place leaf internal at (map bare links)) (runs_of leaf (placed_links (map bare links))))
-      ≡ tree_bytes internal at (children_of leaf (symbols_place leaf internal at links) (runs_of leaf (placed_links links)))
-  tree_bare = ap (tree_bytes internal at)
+  tree_bare : tree_bytes (group_kind internal) word 0 at (children_of leaf (symbols_place leaf internal at (map bare links)) (runs_of leaf (placed_links (map bare links))))
+      ≡ tree_bytes (group_kind internal) word 0 at (children_of leaf (symbols_place leaf internal at links) (runs_of leaf (placed_links links)))
+  tree_bare = ap (tree_bytes (group_kind internal) word 0 at)
       (ap₂ (λ (place : ℕ) (runs : List (List (ℕ × (List ℕ × Leads)))). children_of leaf place runs) symbols_place_bare runs_bare
       ∙ children_bare leaf (symbols_place leaf internal at links) (runs_of leaf (placed_links links)))
 
@@ -134,8 +136,8 @@ module _ (leaf internal at : ℕ) (links : List (List ℕ × Leads)) where
   pub length-bare : length (links_bytes leaf internal at (map bare links)) ≡ length (links_bytes leaf internal at links)
   unfolding links_bytes
   length-bare =
-      length-three (tree_bytes internal at (children_of leaf (symbols_place leaf internal at (map bare links)) (runs_of leaf (placed_links (map bare links)))))
+      length-three (tree_bytes (group_kind internal) word 0 at (children_of leaf (symbols_place leaf internal at (map bare links)) (runs_of leaf (placed_links (map bare links)))))
       (heap_bytes (heap_place leaf internal at (map bare links)) (map bare links)) (flat_map (written_symbol_node leaf) (runs_of leaf (placed_links (map bare links))))
       ∙ ap₂ (λ (a b : ℕ). a + b) (ap length tree_bare) (ap₂ (λ (b c : ℕ). b + c) (ap length heap_there) symbols_bare)
-      ∙ sym (length-three (tree_bytes internal at (children_of leaf (symbols_place leaf internal at links) (runs_of leaf (placed_links links))))
+      ∙ sym (length-three (tree_bytes (group_kind internal) word 0 at (children_of leaf (symbols_place leaf internal at links) (runs_of leaf (placed_links links))))
       (heap_bytes (heap_place leaf internal at links) links) (flat_map (written_symbol_node leaf) (runs_of leaf (placed_links links))))

@@ -1,4 +1,5 @@
-use Rattle.std.proofs.Common.{◌∙◌, append_assoc}
+use Rattle.std.proofs.Common.{◌∙◌, append_assoc, refl}
+use Rattle.h5_group.proofs.WriteLaws.NameTrees.{lasts_fit}
 use Rattle.h5_group.proofs.WriteLaws.Pushing.{names_low, children_few, children_level, tree_low, links_are}
 use Rattle.h5_group.proofs.write.group.push_links.Goals as goal
 
@@ -10,12 +11,20 @@ push_tree-requires-clause-few c = children_few c.args.leaf c.args.internal c.arg
     c.args.at c.deref.result.now (c.deref.ensures.value ∙ c.in_ok-children.ensures)
 
 pub push_tree-requires-clause-level : goal.push_tree-requires-clause-level
-push_tree-requires-clause-level c = children_level c.args.leaf c.args.internal c.args.links.now c.requires.k c.args.places.now c.requires.places
-    c.args.at c.deref.result.now (c.deref.ensures.value ∙ c.in_ok-children.ensures)
+push_tree-requires-clause-level c =
+    rw c.group.ensures (children_level c.args.leaf c.args.internal c.args.links.now c.requires.k c.args.places.now c.requires.places
+    c.args.at c.deref.result.now (c.deref.ensures.value ∙ c.in_ok-children.ensures))
 
 pub push_tree-requires-clause-room : goal.push_tree-requires-clause-room
-push_tree-requires-clause-room c = tree_low c.args.leaf c.args.internal c.args.links.now c.requires.k c.args.places.now c.requires.places
-    c.args.at c.deref.result.now (c.deref.ensures.value ∙ c.in_ok-children.ensures) c.requires.low
+push_tree-requires-clause-room c =
+    rw c.group.ensures (tree_low c.args.leaf c.args.internal c.args.links.now c.requires.k c.args.places.now c.requires.places
+    c.args.at c.deref.result.now (c.deref.ensures.value ∙ c.in_ok-children.ensures) c.requires.low)
+
+pub push_tree-requires-clause-first : goal.push_tree-requires-clause-first
+push_tree-requires-clause-first c = rw c.group.ensures refl
+
+pub push_tree-requires-clause-keys : goal.push_tree-requires-clause-keys
+push_tree-requires-clause-keys c = rw c.group.ensures (lasts_fit c.args.internal c.deref.result.now)
 
 pub push_symbol_nodes-requires-clause-names : goal.push_symbol_nodes-requires-clause-names
 push_symbol_nodes-requires-clause-names c = names_low c.args.leaf c.args.internal c.args.links.now c.requires.k c.args.places.now c.requires.places
@@ -28,4 +37,5 @@ returns c =
       c.in_ok-push_symbol_nodes.ensures,
       c.in_ok-push_heap.ensures,
       c.in_ok-push_tree.ensures,
+      c.group.ensures,
     ) (simp append_assoc)

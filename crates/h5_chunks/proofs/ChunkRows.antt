@@ -1,0 +1,31 @@
+-- The chunks of the nodes of a row, and their addresses.
+use Rattle.std.proofs.Common.{◌≡◌, ℕ, ◌≤◌, List, [], ◌∷◌, ◌++◌, length, map, refl, ap, ap₂, ◌∙◌, arith}
+use Rattle.std.specs.List.{zip}
+use Rattle.std.proofs.lemmas.List.{length-map, map-append}
+use Rattle.h5_model.specs.Format.Rows.{next_row}
+use Rattle.h5_model.specs.Format.Nodes.{node_at}
+use Rattle.h5_model.specs.Format.Chunks.{chunks_at, chunks_in, offsets_in}
+use Rattle.h5_model.specs.Format.Reached.{Shape, shape_kind}
+use Rattle.h5_chunks.proofs.NodeKeys.{one_more_key}
+
+zip_values : {X Y : Type 0} (xs : List X) (ys : List Y) → length ys ≤ length xs → map (λ (z : X × Y). z.1) (zip xs ys) ≡ ys
+zip_values [] [] few = refl
+zip_values [] (y ∷ ys) few = absurd (omega (arith, few))
+zip_values (x ∷ xs) [] few = refl
+zip_values {Y = Y} (x ∷ xs) (y ∷ ys) few = ap (λ (zs : List Y). y ∷ zs) (zip_values xs ys (omega (arith, few)))
+
+module _ (image : List ℕ) (shape : Shape) where
+  node_addresses : (at : ℕ) → map (λ (c : List ℕ × ℕ). c.1) (chunks_in (length shape.sizes) (node_at image (shape_kind image shape) at))
+      ≡ (node_at image (shape_kind image shape) at).children
+  node_addresses at =
+      let node = node_at image (shape_kind image shape) at in
+      zip_values (map (offsets_in (length shape.sizes)) node.keys) node.children
+      (omega (arith, length-map node.keys (offsets_in (length shape.sizes)), one_more_key image shape at node refl))
+
+  pub row_addresses : (row : List ℕ) → map (λ (c : List ℕ × ℕ). c.1) (chunks_at (node_at image (shape_kind image shape)) (length shape.sizes) row)
+      ≡ next_row (node_at image (shape_kind image shape)) row
+  row_addresses [] = refl
+  row_addresses (at ∷ row) =
+      map-append (λ (c : List ℕ × ℕ). c.1) (chunks_in (length shape.sizes) (node_at image (shape_kind image shape) at))
+      (chunks_at (node_at image (shape_kind image shape)) (length shape.sizes) row)
+      ∙ ap₂ (λ (xs ys : List ℕ). xs ++ ys) (node_addresses at) (row_addresses row)

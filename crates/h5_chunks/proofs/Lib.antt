@@ -1,0 +1,14 @@
+pub mod OffsetLaws
+pub mod KeyOrder
+pub mod ChunkNodes
+pub mod NodeKeys
+pub mod BottomRow
+pub mod Ascending
+pub mod ReachedRows
+pub mod OrderFaults
+pub mod ChunkRows
+pub mod Stored
+pub mod Readable
+pub mod KeysRise
+pub mod ChunkFound
+pub mod ToldLaws

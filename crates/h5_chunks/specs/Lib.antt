@@ -1,0 +1,6 @@
+pub mod Shapes
+pub mod Between
+pub mod Told
+pub mod Order
+pub mod Read
+pub mod Way

@@ -1,0 +1,16 @@
+//! Chunks of datasets: the tree from their offsets to their addresses, read and claimed, and the way to the chunk at some
+//! offsets (File Format Specification 3.0, section III.A.1, node type 1).
+//!
+//! Offsets and chunk sizes are in elements, addresses and lengths in bytes. Nodes are read where they stand.
+#![tactic(auto)]
+
+mod key;
+mod offsets;
+mod order;
+mod read;
+mod search;
+mod shape;
+
+pub use read::read_chunks;
+pub use search::chunk_at;
+pub use shape::ChunkShape;

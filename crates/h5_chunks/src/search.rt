@@ -1,0 +1,96 @@
+//! The way down to a chunk (File Format Specification 3.0, section III.A.1).
+
+ghost use Rattle.std.specs.Prelude.{◌≡◌, ◌+◌, ◌*◌, ◌≤◌, ℕ, None, List, length, IfNone, IfSome};
+ghost use Rattle.std.specs.FinMap.{get};
+ghost use Rattle.std.specs.List.{AllByRecursion};
+ghost use Rattle.h5_model.specs.Format.Nodes.{chunk_kind};
+ghost use Rattle.h5_chunks.specs.Read.{AreChunksRead};
+ghost use Rattle.h5_chunks.specs.Told.{chunks_told};
+ghost use Rattle.h5_chunks.specs.Way.{EndsForChunk, chunk_behind};
+
+use crate::offsets::key_order;
+use crate::shape::{CHUNK_K, ChunkShape};
+use h5_btree::{ChildPlace, NodeKind, Sought, find_place};
+use h5_space::Image;
+use std::marker::Model;
+
+/// The address of the chunk at these offsets, in elements, or `None` where it is not stored.
+///
+/// Goes down the tree by its keys, and searches in each node by halves. It takes no memory. That the chunks were read, and
+/// that there is an offset for each of the shape's sizes, are the caller's conditions.
+pub fn chunk_at(image: &Image, shape: &ChunkShape<'_>, root: u64, offsets: &[u64]) -> Option<u64>
+    requires chunks { AreChunksRead image.now.bytes shape.now root }
+    requires rank { length offsets.now ≡ length shape.now.sizes }
+    ensures { result ≡ get (chunks_told image.now.bytes shape.now root) offsets.now }
+{
+    let Some(place) = place_of(image, shape, root, offsets) else {
+        return None;
+    };
+    if key_order(place.node.key(place.child), offsets).is_ne() {
+        return None;
+    }
+    Some(place.node.child(place.child))
+}
+
+/// Where the way to the chunk at these offsets ends: it stands there, if it is stored; `None` where no chunk is stored.
+fn place_of<'a>(
+    image: &'a Image,
+    shape: &ChunkShape<'_>,
+    root: u64,
+    offsets: &[u64],
+) -> Option<ChildPlace<'a>>
+    requires chunks { AreChunksRead image.now.bytes shape.now root }
+    requires rank { length offsets.now ≡ length shape.now.sizes }
+    ensures ends { IfSome result (λ p.
+        EndsForChunk image.now.bytes shape.now root offsets.now p.node p.child) }
+    ensures keys { IfSome result (λ p. AllByRecursion (λ (key : List ℕ).
+        length key ≡ 8 + 8 * (length offsets.now + 1)) p.node.keys) }
+    ensures few { length offsets.now ≤ 32 }
+    ensures none { IfNone result (get (chunks_told image.now.bytes shape.now root) offsets.now ≡ None) }
+{
+    let sought = SoughtChunk::new(shape, offsets);
+    find_place(image.bytes(), root, &sought).unwrap()
+}
+
+/// A chunk that is sought by its offsets. It stands behind a key that is not above it.
+#[derive(Drop)]
+struct SoughtChunk<'a> {
+    offsets: &'a [u64],
+}
+
+impl<'a> Model for SoughtChunk<'a> {
+    ghost use Rattle.std.specs.Prelude.{ℕ, ◌≤◌, List, length};
+
+    ghost Value = { List ℕ };
+
+    ghost view = { λ a. a.offsets.now };
+
+    ghost invariant = { λ a. length a.offsets.now ≤ 32 };
+}
+
+impl<'a> SoughtChunk<'a> {
+    /// The chunk of this shape at these offsets.
+    fn new(shape: &ChunkShape<'_>, offsets: &'a [u64]) -> Self
+        requires { length offsets.now ≡ length shape.now.sizes }
+        ensures offsets { result ≡ offsets.now }
+        ensures few { length offsets.now ≤ 32 }
+    {
+        // A shape has at most 32 sizes.
+        let _sizes = shape.sizes;
+        SoughtChunk { offsets }
+    }
+}
+
+impl Sought for SoughtChunk<'_> {
+    ghost tree_kind = { λ s. chunk_kind 32 (length s) };
+
+    ghost behind = { λ s key. chunk_behind s key };
+
+    fn kind(&self) -> NodeKind {
+        NodeKind::chunks(CHUNK_K, self.offsets.len())
+    }
+
+    fn is_behind(&self, key: &[u8]) -> bool {
+        key_order(key, self.offsets).is_le()
+    }
+}

@@ -1,0 +1,74 @@
+//! What the chunks of a dataset have in common, and their trees (File Format Specification 3.0, sections III.A.1 and
+//! IV.A.2.i).
+
+ghost use Rattle.std.specs.Prelude.{◌≡◌};
+ghost use Rattle.h5_btree.specs.Walk.Forms.{OfChunks};
+ghost use Rattle.h5_chunks.specs.Shapes.{AreChunkSizes};
+
+use crate::key::is_chunk_key;
+use h5_btree::{Leaves, Node, NodeKind, Trees};
+use h5_bytes::Block;
+use h5_model::{Cause, OpenFault};
+use h5_space::{Claims, Image, claim, fault};
+use std::marker::Model;
+
+/// K of the nodes of trees of chunks.
+pub(crate) const CHUNK_K: u16 = 32;
+
+/// The sizes of a dataset's chunks in elements, and how many bytes one chunk has.
+#[derive(Drop)]
+pub struct ChunkShape<'a> {
+    pub(crate) sizes: &'a [u64],
+    pub(crate) bytes: u64,
+}
+
+impl<'a> Model for ChunkShape<'a> {
+    ghost use Rattle.h5_model.specs.Format.Reached.{Shape};
+    ghost use Rattle.h5_chunks.specs.Shapes.{AreChunkSizes};
+
+    ghost Value = { Shape };
+
+    ghost view = { λ a. record { sizes = a.sizes.now; bytes = a.bytes } };
+
+    ghost invariant = { λ a. AreChunkSizes a.sizes.now };
+}
+
+impl<'a> ChunkShape<'a> {
+    /// The shape of chunks of these sizes, in elements, and of so many bytes. That there are at most 32 sizes, none of
+    /// which is 0, is the caller's condition.
+    pub fn new(sizes: &'a [u64], bytes: u64) -> Self
+        requires { AreChunkSizes sizes.now }
+        ensures sizes { result.sizes ≡ sizes.now }
+        ensures bytes { result.bytes ≡ bytes }
+    {
+        ChunkShape { sizes, bytes }
+    }
+}
+
+impl Trees for ChunkShape<'_> {
+    ghost form = { λ s. OfChunks s };
+
+    fn kind(&self, _image: &Image) -> NodeKind {
+        NodeKind::chunks(CHUNK_K, self.sizes.len())
+    }
+}
+
+impl Leaves for ChunkShape<'_> {
+    fn claim_leaf(
+        &self,
+        _image: &Image,
+        claims: &mut Claims,
+        at: u64,
+        node: &Node<'_>,
+        i: usize,
+    ) -> Result<(), OpenFault> {
+        if !is_chunk_key(self.sizes, self.bytes, node.key(i)) {
+            return Err(fault(Cause::ChunkKey, at));
+        }
+        let block = Block {
+            at: node.child(i),
+            len: self.bytes,
+        };
+        claim(claims, block)
+    }
+}

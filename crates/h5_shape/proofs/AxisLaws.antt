@@ -1,0 +1,96 @@
+-- A selection with one more dimension, by loops over its blocks and over the cells of a block.
+use Rattle.std.proofs.Common.{◌≡◌, ℕ, suc, ◌+◌, ◌-◌, ◌*◌, ◌^◌, ◌<◌, ◌≤◌, List, [], ◌∷◌, length, take, drop, get_or, sym, ap, ◌∙◌, arith, true, false}
+use Rattle.std.proofs.lemmas.Bool.Decides.{nat_tests}
+use Rattle.std.proofs.lemmas.List.{append-nil}
+use Rattle.std.proofs.Math.Seq.{take-length}
+use Rattle.std.proofs.Math.Nat.{mul-le-mul_right}
+use Rattle.std.specs.List.{flat_map}
+use Rattle.h5_model.specs.Tree.Places.{cells}
+use Rattle.h5_model.specs.declared.Axis.{Axis}
+use Rattle.h5_model.specs.Views.Selection.{Slab, fits_along, fits_all, has_no_cell, selects_none}
+use Rattle.h5_model.proofs.WithinLaws.{both, neither}
+use Rattle.h5_shape.specs.Loops.{spaced, selected_from, first_place}
+use Rattle.h5_shape.proofs.LoopLaws.{same_flat, flat_flat}
+
+pub tail_is : {X : Type 0} (x : X) (xs : List X) → take (length (x ∷ xs) - 1) xs ≡ xs
+tail_is x xs = let less : length (x ∷ xs) - 1 ≡ length xs = omega arith in rw less (take-length xs)
+
+pub select_step : (sizes : List ℕ) (slab : Slab) (d0 : ℕ) (a0 : Axis) → 1 ≤ length sizes → 1 ≤ length slab → (f g h : ℕ → List ℕ) (c : ℕ)
+    → c ≡ cells (take (length sizes - 1) (drop 1 sizes))
+    → ((p : ℕ) → f p ≡ selected_from (take (length sizes - 1) (drop 1 sizes)) (take (length slab - 1) (drop 1 slab)) p)
+    → ((p : ℕ) → g p ≡ flat_map f (spaced (get_or slab 0 a0).block c p))
+    → ((p : ℕ) → h p ≡ flat_map g (spaced (get_or slab 0 a0).count ((get_or slab 0 a0).stride * c) p))
+    → (p : ℕ) → h p ≡ selected_from sizes slab p
+select_step [] slab d0 a0 long wide f g h c below first second third p = absurd (omega arith)
+select_step (d ∷ ds) [] d0 a0 long wide f g h c below first second third p = absurd (omega arith)
+select_step (d ∷ ds) (a ∷ rest) d0 a0 long wide f g h c below first second third p =
+    let under : c ≡ cells ds = rw (tail_is d ds) at below in
+    let inner : (q : ℕ) → f q ≡ selected_from ds rest q = rw (tail_is d ds, tail_is a rest) at first in
+    let outer = spaced a.count (a.stride * c) p in
+    third p ∙ same_flat g (λ q. flat_map f (spaced a.block c q)) second outer
+    ∙ sym (flat_flat f (spaced a.block c) outer)
+    ∙ same_flat f (selected_from ds rest) inner (flat_map (spaced a.block c) outer)
+    ∙ ap (λ (n : ℕ). flat_map (selected_from ds rest) (flat_map (spaced a.block n) (spaced a.count (a.stride * n) p))) under
+
+-- an axis of one block
+pub one_block : (g : ℕ → List ℕ) (count step : ℕ) → count ≡ 1 → (p : ℕ) → g p ≡ flat_map g (spaced count step p)
+one_block g count step one p = rw one (sym (append-nil (g p)))
+
+steps_room : (m stride d c : ℕ) → 1 ≤ m → m * stride ≤ d → suc m * (stride * c) ≤ 2 * (d * c)
+steps_room m stride d c some low =
+    let one : 1 * stride ≤ m * stride = mul-le-mul_right stride some in
+    let first : stride * c ≤ d * c = mul-le-mul_right c (omega arith) in
+    let rest : (m * stride) * c ≤ d * c = mul-le-mul_right c low in
+    omega arith
+
+axis_room : (a : Axis) (d c : ℕ) → fits_along d a ≡ true → 1 < a.count → a.count * (a.stride * c) ≤ 2 * (d * c)
+axis_room a d c fits more =
+    let room : a.start + (a.count - 1) * a.stride + a.block ≤ d = grind (arith, nat_tests) in
+    let whole : suc (a.count - 1) ≡ a.count = omega arith in
+    rw whole at (steps_room (a.count - 1) a.stride d c (omega arith) (omega arith))
+
+pub step_room : (sizes : List ℕ) (slab : Slab) (a0 : Axis) → 1 ≤ length sizes → 1 ≤ length slab → fits_all sizes slab ≡ true
+    → 1 < (get_or slab 0 a0).count → cells sizes ≤ 2 ^ 40 → (c : ℕ) → c ≡ cells (take (length sizes - 1) (drop 1 sizes))
+    → (get_or slab 0 a0).count * ((get_or slab 0 a0).stride * c) < 2 ^ 64
+step_room [] slab a0 long wide fits more small c below = absurd (omega arith)
+step_room (d ∷ ds) [] a0 long wide fits more small c below = absurd (omega arith)
+step_room (d ∷ ds) (a ∷ rest) a0 long wide fits more small c below =
+    let under : c ≡ cells ds = rw (tail_is d ds) at below in
+    let split : (fits_along d a ≡ true) × (fits_all ds rest ≡ true) = both (fits_along d a) (fits_all ds rest) fits in
+    let room : a.count * (a.stride * cells ds) ≤ 2 * (d * cells ds) = axis_room a d (cells ds) split.0 more in
+    rw under (omega arith)
+
+-- the first place is below the number of cells
+pub origin_below : (sizes : List ℕ) (slab : Slab) → length sizes ≡ length slab → fits_all sizes slab ≡ true → selects_none slab ≡ false → first_place sizes slab < cells sizes
+origin_below [] slab same fits some = omega arith
+origin_below (d ∷ ds) [] same fits some = absurd (omega arith)
+origin_below (d ∷ ds) (a ∷ rest) same fits some =
+    let split : (fits_along d a ≡ true) × (fits_all ds rest ≡ true) = both (fits_along d a) (fits_all ds rest) fits in
+    let parts : (has_no_cell a ≡ false) × (selects_none rest ≡ false) = neither (has_no_cell a) (selects_none rest) some in
+    let low : a.start + 1 ≤ d = first_low a d split.0 parts.0 in
+    let under : first_place ds rest < cells ds = origin_below ds rest (omega arith) split.1 parts.1 in
+    let rows : (a.start + 1) * cells ds ≤ d * cells ds = mul-le-mul_right (cells ds) low in
+    omega arith where
+      first_low : (a : Axis) (d : ℕ) → fits_along d a ≡ true → has_no_cell a ≡ false → a.start + 1 ≤ d
+      first_low a d fits cell =
+          let room : a.start + (a.count - 1) * a.stride + a.block ≤ d = grind (arith, nat_tests) in
+          let block : 0 < a.block = grind (arith, nat_tests) in
+          omega arith
+
+pub origin_room : (sizes : List ℕ) (slab : Slab) (a0 : Axis) → 1 ≤ length sizes → 1 ≤ length slab → length sizes ≡ length slab → fits_all sizes slab ≡ true
+    → selects_none slab ≡ false → (c o : ℕ) → c ≡ cells (take (length sizes - 1) (drop 1 sizes))
+    → o ≡ first_place (take (length sizes - 1) (drop 1 sizes)) (take (length slab - 1) (drop 1 slab))
+    → o + (get_or slab 0 a0).start * c < cells sizes
+origin_room [] slab a0 long wide same fits some c o below start = absurd (omega arith)
+origin_room (d ∷ ds) [] a0 long wide same fits some c o below start = absurd (omega arith)
+origin_room (d ∷ ds) (a ∷ rest) a0 long wide same fits some c o below start =
+    let under : c ≡ cells ds = rw (tail_is d ds) at below in
+    let from : o ≡ first_place ds rest = rw (tail_is d ds, tail_is a rest) at start in
+    let whole : a.start * cells ds + first_place ds rest < d * cells ds = origin_below (d ∷ ds) (a ∷ rest) same fits some in
+    rw (under, from) (omega arith)
+
+pub some_count : (slab : Slab) (a0 : Axis) → 1 ≤ length slab → selects_none slab ≡ false → 0 < (get_or slab 0 a0).count
+some_count [] a0 wide some = absurd (omega arith)
+some_count (a ∷ rest) a0 wide some =
+    let parts : (has_no_cell a ≡ false) × (selects_none rest ≡ false) = neither (has_no_cell a) (selects_none rest) some in
+    grind (arith, nat_tests, parts.0)

@@ -1,0 +1,136 @@
+-- Spaced places, and loops over them.
+use Rattle.std.proofs.Common.{◌≡◌, ℕ, zero, suc, ◌+◌, ◌-◌, ◌*◌, ◌<◌, ◌≤◌, List, [], ◌∷◌, ◌++◌, drop, set, get_or, length, subst, map, refl, sym, ap, ◌∙◌, arith}
+use Rattle.std.proofs.lemmas.Grind.{flat_map-append}
+use Rattle.std.proofs.lemmas.List.{append-nil, drop_more, drop-set}
+use Rattle.std.specs.List.{flat_map}
+use Rattle.h5_shape.specs.declared.loops.Loop.{Loop}
+use Rattle.h5_shape.specs.declared.loops.LoopNest.{LoopNest}
+use Rattle.h5_shape.specs.Loops.{spaced, loop_places, nest_places, ahead, AreAtStart, ArePlacesBelow, nest_cells}
+
+-- ---- lists
+
+pub same_flat : {X Y : Type 0} (f g : X → List Y) → ((x : X) → f x ≡ g x) → (xs : List X) → flat_map f xs ≡ flat_map g xs
+same_flat f g same [] = refl
+same_flat f g same (x ∷ xs) = rw (same x, same_flat f g same xs) refl
+
+pub flat_flat : {X Y Z : Type 0} (g : Y → List Z) (f : X → List Y) (xs : List X) → flat_map g (flat_map f xs) ≡ flat_map (λ x. flat_map g (f x)) xs
+flat_flat g f [] = refl
+flat_flat {X} {Y} {Z} g f (x ∷ xs) = flat_map-append g (f x) (flat_map f xs) ∙ ap (λ (zs : List Z). flat_map g (f x) ++ zs) (flat_flat g f xs)
+
+pub flat_one : {X : Type 0} (xs : List X) → flat_map (λ x. x ∷ []) xs ≡ xs
+flat_one [] = refl
+flat_one {X} (x ∷ xs) = ap (λ (ys : List X). x ∷ ys) (flat_one xs)
+
+-- ---- spaced places
+
+pub spaced-append : (m n step p : ℕ) → spaced m step p ++ spaced n step (p + m * step) ≡ spaced (m + n) step p
+spaced-append zero n step p =
+    let at : p + zero * step ≡ p = omega arith in
+    let sum : zero + n ≡ n = omega arith in
+    rw (at, sum) refl
+spaced-append (suc m) n step p =
+    let at : p + suc m * step ≡ (p + step) + m * step = omega arith in
+    let sum : suc m + n ≡ suc (m + n) = omega arith in
+    rw (at, sum) (ap (λ (xs : List ℕ). p ∷ xs) (spaced-append m n step (p + step)))
+
+-- runs that follow one another without a gap are one
+pub spaced_join : (n s p : ℕ) → flat_map (spaced s 1) (spaced n s p) ≡ spaced (n * s) 1 p
+spaced_join zero s p = let none : zero * s ≡ 0 = omega arith in rw none refl
+spaced_join (suc n) s p =
+    let all : suc n * s ≡ s + n * s = omega arith in
+    let unit : s * 1 ≡ s = omega arith in
+    rw (all, spaced_join n s (p + s)) (rw unit at (spaced-append s (n * s) 1 p))
+
+-- ---- loops
+
+pub nest_places-push : (ls : List Loop) (l : Loop) (p : ℕ) → nest_places (ls ++ l ∷ []) p ≡ flat_map (nest_places ls) (loop_places l p)
+nest_places-push [] l p = append-nil (loop_places l p) ∙ sym (flat_one (loop_places l p))
+nest_places-push (k ∷ ls) l p = ap (flat_map (loop_places k)) (nest_places-push ls l p) ∙ flat_flat (loop_places k) (nest_places ls) (loop_places l p)
+
+pub start-push : (ls : List Loop) (l : Loop) → AreAtStart ls → l.left ≡ l.more → l.place ≡ 0 → AreAtStart (ls ++ l ∷ [])
+start-push [] l all whole first = (whole, first, tt)
+start-push (k ∷ ls) l all whole first = (all.0, all.1, start-push ls l all.2 whole first)
+
+-- where each loop stands at its first place, what follows is all the rest
+pub start-ahead : (ls : List Loop) → AreAtStart ls → 0 ∷ ahead ls ≡ nest_places ls 0
+start-ahead [] h = refl
+start-ahead (l ∷ ls) h = rw (h.0, h.1) (ap (flat_map (loop_places l)) (start-ahead ls h.2))
+
+-- ---- a nest of loops
+
+pub single : (nest : LoopNest) (step p : ℕ) → nest_cells nest p ≡ flat_map (nest_cells nest) (spaced 1 step p)
+single nest step p = sym (append-nil (nest_cells nest p))
+
+pub merged : (loops : List Loop) (length origin count step : ℕ) → step ≡ length → (p : ℕ)
+    → flat_map (spaced (count * step) 1) (nest_places [] p) ≡ flat_map (λ q. flat_map (spaced length 1) (nest_places [] q)) (spaced count step p)
+merged loops length origin count step same p =
+    rw (← same) (append-nil (spaced (count * step) 1 p) ∙ sym (spaced_join count step p)
+    ∙ same_flat (spaced step 1) (λ q. spaced step 1 q ++ []) (λ q. sym (append-nil (spaced step 1 q))) (spaced count step p))
+
+pub pushed : (ls : List Loop) (l : Loop) (length p : ℕ)
+    → flat_map (spaced length 1) (nest_places (ls ++ l ∷ []) p) ≡ flat_map (λ q. flat_map (spaced length 1) (nest_places ls q)) (spaced (suc l.more) l.step p)
+pushed ls l length p = ap (flat_map (spaced length 1)) (nest_places-push ls l p) ∙ flat_flat (spaced length 1) (nest_places ls) (loop_places l p)
+
+-- ---- bounds
+
+pub below-left : (n : ℕ) (xs ys : List ℕ) → ArePlacesBelow n (xs ++ ys) → ArePlacesBelow n xs
+below-left n [] ys h = tt
+below-left n (x ∷ xs) ys h = (h.0, below-left n xs ys h.1)
+
+pub below-right : (n : ℕ) (xs ys : List ℕ) → ArePlacesBelow n (xs ++ ys) → ArePlacesBelow n ys
+below-right n [] ys h = h
+below-right n (x ∷ xs) ys h = below-right n xs ys h.1
+
+-- the places that a loop starts from are among its own
+pub below-starts : (n : ℕ) (l : Loop) (xs : List ℕ) → ArePlacesBelow n (flat_map (loop_places l) xs) → ArePlacesBelow n xs
+below-starts n l [] h = tt
+below-starts n l (x ∷ xs) h = (h.0, below-starts n l xs (below-right n (loop_places l x) (flat_map (loop_places l) xs) h))
+
+-- the same of runs of cells
+pub below_runs : (n o len : ℕ) → 0 < len → (xs : List ℕ) → ArePlacesBelow n (flat_map (λ p. spaced len 1 (o + p)) xs) → ArePlacesBelow n (map (λ p. o + p) xs)
+below_runs n o zero some xs h = absurd (omega arith)
+below_runs n o (suc len) some [] h = tt
+below_runs n o (suc len) some (x ∷ xs) h =
+    (h.0, below_runs n o (suc len) some xs (below-right n (spaced (suc len) 1 (o + x)) (flat_map (λ p. spaced (suc len) 1 (o + p)) xs) h))
+
+pub below_shift : (n m o : ℕ) → n ≤ m → (xs : List ℕ) → ArePlacesBelow n (map (λ p. o + p) xs) → ArePlacesBelow m xs
+below_shift n m o more [] h = tt
+below_shift n m o more (x ∷ xs) h = (omega (arith, h.0), below_shift n m o more xs h.1)
+
+pub last_below : (n len p : ℕ) → 0 < len → ArePlacesBelow n (spaced len 1 p) → p + len ≤ n
+last_below n zero p some h = absurd (omega arith)
+last_below n (suc zero) p some h = omega (arith, h.0)
+last_below n (suc (suc len)) p some h = let rest : (p + 1) + suc len ≤ n = last_below n (suc len) (p + 1) (omega arith) h.1 in omega arith
+
+-- ---- steps
+
+spaced-step : (n step p : ℕ) → 0 < n → spaced n step p ≡ p ∷ spaced (n - 1) step (p + step)
+spaced-step zero step p some = absurd (omega arith)
+spaced-step (suc n) step p some = let less : suc n - 1 ≡ n = omega arith in rw less refl
+
+-- the loop after a step of its own
+abbrev pub stepped : Loop → Loop
+stepped l = record { step = l.step; more = l.more; left = l.left - 1; place = l.place + l.step }
+
+pub ahead_step : (loops : List Loop) (k : ℕ) (d : Loop) → k < length loops → 0 < (get_or loops k d).left
+    → ahead (drop k loops) ≡ ((get_or loops k d).place + (get_or loops k d).step) ∷ ahead (drop k (set loops k (stepped (get_or loops k d))))
+ahead_step loops k d low some =
+    let l = get_or loops k d in
+    let rest = flat_map (loop_places l) (ahead (drop (k + 1) loops)) in
+    ap ahead (drop_more loops k d low)
+    ∙ ap (λ (xs : List ℕ). xs ++ rest) (spaced-step l.left l.step (l.place + l.step) some)
+    ∙ ap (λ (xs : List Loop). (l.place + l.step) ∷ ahead xs) (sym (drop-set loops k (stepped l) low))
+
+pub step_below : (bound : ℕ) (loops : List Loop) (k : ℕ) (d : Loop) → k < length loops → 0 < (get_or loops k d).left
+    → ArePlacesBelow bound (ahead (drop k loops)) → (get_or loops k d).place + (get_or loops k d).step < bound
+step_below bound loops k d low some h =
+    let moved : ArePlacesBelow bound (((get_or loops k d).place + (get_or loops k d).step) ∷ ahead (drop k (set loops k (stepped (get_or loops k d))))) =
+    subst (ArePlacesBelow bound) (ahead_step loops k d low some) h in
+    moved.0
+
+pub rest_below : (bound : ℕ) (loops : List Loop) (k : ℕ) (d : Loop) → k < length loops
+    → ArePlacesBelow bound (ahead (drop k loops)) → ArePlacesBelow bound (ahead (drop (k + 1) loops))
+rest_below bound loops k d low h =
+    let l = get_or loops k d in
+    let whole : ArePlacesBelow bound (ahead (l ∷ drop (k + 1) loops)) = subst (λ (xs : List Loop). ArePlacesBelow bound (ahead xs)) (drop_more loops k d low) h in
+    below-starts bound l (ahead (drop (k + 1) loops)) (below-right bound (spaced l.left l.step (l.place + l.step)) (flat_map (loop_places l) (ahead (drop (k + 1) loops))) whole)

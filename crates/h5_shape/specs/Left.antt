@@ -1,0 +1,19 @@
+-- What the runs of a selection have left (HDF5 dataspace reference, H5Sselect_hyperslab).
+use Rattle.std.specs.Prelude.{ℕ, ◌+◌, ◌^◌, ◌<◌, ◌≤◌, Bool, if◌then◌else◌, List, [], ◌∷◌}
+use Rattle.std.specs.List.{flat_map}
+use Rattle.h5_shape.specs.Loops.{spaced, nest_ahead, ArePlacesBelow}
+use Rattle.h5_shape.specs.declared.loops.LoopNest.{LoopNest}
+
+-- the cells at these places of a nest
+abbrev pub cells_at : LoopNest → List ℕ → List ℕ
+cells_at nest places = flat_map (λ place. spaced nest.length 1 (nest.origin + place)) places
+
+-- the cells from this place on, or none
+abbrev pub left_of : LoopNest → ℕ → Bool → List ℕ
+left_of nest place more = if more then cells_at nest (place ∷ nest_ahead nest) else []
+
+-- room for the next run
+pub record IsRoomy (nest : LoopNest) (place : ℕ) (more : Bool) : Type 0 where
+  pub depth : nest.depth ≤ 64
+  pub long : 0 < nest.length
+  pub small : ArePlacesBelow (2 ^ 41) (left_of nest place more)
