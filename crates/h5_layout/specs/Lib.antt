@@ -1,3 +1,4 @@
+pub mod Data
 pub mod Described
 pub mod Judged
 pub mod Maxima

@@ -81,9 +81,11 @@ impl<'a> ChunkSizes<'a> {
         u32_at(self.body, CHUNK_SIZES + 4 * k)
     }
 
-    /// The chunk sizes. It takes no memory.
+    /// The chunk sizes, none of which is 0. It takes no memory.
     pub fn dims(&self, alloc: Global) -> Dims
-        ensures { result ≡ self.now }
+        ensures sizes { result ≡ self.now }
+        ensures few { length self.now ≤ 32 }
+        ensures some { list_any (λ n. n == 0) self.now ≡ false }
     {
         let mut sizes = [0; MAX_RANK];
         read_sizes(self.body, self.rank, &mut sizes[..self.rank]);
