@@ -2,7 +2,7 @@
 use Rattle.std.proofs.Common.{◌≡◌, ◌⊎◌, inl, inr, ℕ, ◌+◌, ◌-◌, ◌<◌, ◌≤◌, List, [], ◌∷◌, ◌++◌, map, length, refl, sym, ap, subst, append_assoc, Some, None, arith}
 use Rattle.std.specs.Prelude.{◌==◌, true}
 use Rattle.std.specs.List.{AllByRecursion, find}
-use Rattle.h5_bytes.specs.Blocks.{block, holds, cover, Separate, Inside}
+use Rattle.h5_bytes.specs.Blocks.{block, holds, cover, Separate}
 use Rattle.h5_bytes.specs.declared.Block.{Block}
 use Rattle.h5_bytes.proofs.BlockLaws.{all_append, cover-append, holds_in}
 use Rattle.h5_model.specs.Faults.Breaches.{is_header}

@@ -13,7 +13,7 @@ use Rattle.std.proofs.Math.Nat.{mul-le-mul_right}
 use Rattle.h5_bytes.specs.Bytes.{byte_at, part, with_part}
 use Rattle.h5_bytes.specs.Blocks.{holds, cover, Inside, Keeps}
 use Rattle.h5_bytes.specs.declared.Block.{Block}
-use Rattle.h5_bytes.proofs.BlockLaws.{all_append, all_so, cover-append, holds_in}
+use Rattle.h5_bytes.proofs.BlockLaws.{all_append, cover-append, holds_in}
 use Rattle.h5_bytes.proofs.PartLaws.{with_part_is, length-with_part}
 use Rattle.h5_model.specs.Edits.Applied.{with_cells, with_dataset}
 use Rattle.h5_model.specs.Format.Fixed.{Fixed, fits}

@@ -1,5 +1,5 @@
 -- The tree of chunks that a chunked layout names.
-use Rattle.std.proofs.Common.{◌≡◌, ℕ, ◌+◌, ◌*◌, ◌<◌, ◌≤◌, inr, List, length, refl, sym, ap, subst, arith, Option, Some, None, Bool, true, false}
+use Rattle.std.proofs.Common.{◌≡◌, ℕ, ◌+◌, ◌*◌, ◌<◌, ◌≤◌, inr, List, length, refl, sym, subst, arith, Option, Some, None, Bool, true, false}
 use Rattle.std.specs.Prelude.{◌==◌, ◌&&◌, nat_le, not, if◌then◌else◌, option_and_then, slice_range}
 use Rattle.std.specs.List.{find, list_any}
 use Rattle.std.proofs.lemmas.Option.{same_Some}
@@ -66,7 +66,7 @@ module _ (image : List ℕ) (header : ℕ) (ms : List Message) (blocks : List Bl
   long : 15 ≤ length m.body
   long =
       let all : option_and_then (λ (x : Extent). option_and_then (λ (y : Fixed). option_and_then (layout_of x.sizes y.size) (first_body 8 ms)) (type_among ms)) (extent_among ms)
-          ≡ Some (InChunks sizes (Some root)) = layout in
+      ≡ Some (InChunks sizes (Some root)) = layout in
       chunks_long e.sizes t.size m.body sizes (Some root) (rw (extent, type, first) at all)
 
   placed : IsPlacedMessage image header m

@@ -1,17 +1,17 @@
 -- The data of an array: they are those that the image tells, and stay where the bytes of their blocks do.
-use Rattle.std.proofs.Common.{◌≡◌, ℕ, ◌+◌, ◌≤◌, List, [], ◌∷◌, length, refl, arith, Some, None}
+use Rattle.std.proofs.Common.{◌≡◌, ◌∙◌, ℕ, ◌+◌, ◌≤◌, ℤ, List, length, refl, ap, arith, Some, None}
 use Rattle.h5_bytes.specs.Blocks.{Inside, Keeps}
 use Rattle.h5_bytes.specs.declared.Block.{Block}
+use Rattle.h5_bytes.proofs.BlockLaws.{all_so}
+use Rattle.h5_model.specs.Format.Cells.{cells_of}
 use Rattle.h5_model.specs.Format.Chunks.{Chunks}
 use Rattle.h5_model.specs.Format.Fixed.{Fixed}
 use Rattle.h5_model.specs.Format.Layout.{Layout, InMessage, InBlock, InChunks}
 use Rattle.h5_model.specs.Format.Reads.{HasData}
+use Rattle.h5_model.proofs.Frames.{cells-same}
 use Rattle.h5_chunks.proofs.ToldLaws.{chunks_are_told, blocks_are_told, chunks_told-same, chunk_blocks_told-same, chunks_read-same}
-use Rattle.h5_layout.specs.Data.{AreDataRead, chunk_shape, data_blocks, stored_chunks}
-
-inside_still : (end end' : ℕ) → end ≤ end' → (blocks : List Block) → Inside end blocks → Inside end' blocks
-inside_still end end' grown [] inside = tt
-inside_still end end' grown (b ∷ bs) inside = (omega (arith, inside.0, grown), inside_still end end' grown bs inside.1)
+use Rattle.h5_layout.specs.Data.{AreDataRead, chunk_shape, data_blocks, dataset_told, stored_chunks}
+use Rattle.h5_layout.specs.Described.{Described, described_dataset}
 
 module _ (image : List ℕ) (t : Fixed) where
   pub data_inside : (layout : Layout) → AreDataRead image t layout → Inside (length image) (data_blocks image t layout)
@@ -64,4 +64,14 @@ module _ (old new : List ℕ) (grown : length old ≤ length new) (t : Fixed) wh
   data_read-same (InBlock (Some b)) read kept = omega (arith, read, grown)
   data_read-same (InChunks sizes None) read kept = tt
   data_read-same (InChunks sizes (Some root)) read kept =
-      chunks_read-same old new (chunk_shape t sizes) root read kept (inside_still (length old) (length new) grown (data_blocks old t (InChunks sizes (Some root))) read.inside)
+      chunks_read-same old new (chunk_shape t sizes) root read kept
+      (all_so (λ (b : Block). b.at + b.len ≤ length old) (λ (b : Block). b.at + b.len ≤ length new) (data_blocks old t (InChunks sizes (Some root))) (λ b low. omega (arith, low, grown)) read.inside)
+
+-- so each cell stays
+pub dataset_told-same : (old new : List ℕ) → length old ≤ length new → (a : Described) → AreDataRead old a.fixed a.layout → Keeps old new (data_blocks old a.fixed a.layout)
+    → dataset_told new a ≡ dataset_told old a
+dataset_told-same old new grown a read kept =
+    let before = stored_chunks old a.fixed a.layout in
+    let cells_are : cells_of new a.fixed a.fill a.sizes a.layout before ≡ cells_of old a.fixed a.fill a.sizes a.layout before
+    = cells-same old new a.fixed a.fill a.sizes a.layout before (data_blocks old a.fixed a.layout) kept (data_there old a.fixed a.layout read) in
+    ap (described_dataset new a) (stored_chunks-same old new grown a.fixed a.layout read kept) ∙ ap (λ (cs : List ℤ). record (described_dataset old a before) { cells = cs }) cells_are

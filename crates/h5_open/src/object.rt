@@ -20,9 +20,9 @@ ghost use Rattle.h5_open.specs.Read.{IsHeaderRead, IsObjectRead, FollowsObject, 
 
 use crate::judge::{judge_array, judge_group, judge_kind};
 use crate::opened::{OpenedContent, OpenedObject};
+use h5_chunks::{ChunkShape, read_chunks};
 use h5_group::{SymbolTable, entries, links_at, read_group, symbol_nodes};
 use h5_header::{Messages, ObjectKind, claim};
-use h5_chunks::{ChunkShape, read_chunks};
 use h5_layout::{ArrayRef, Dims, Layout};
 use h5_model::{Cause, Fixed, Link, OpenFault};
 use h5_space::{Claims, Image, fault};
@@ -164,12 +164,16 @@ fn claim_data(
         array.now.layout fault.cause fault.address) }
 {
     match array.layout() {
+        Layout::Compact(_) | Layout::Contiguous(None) => Ok(()),
         Layout::Contiguous(Some(block)) => claim(claims, *block),
+        Layout::Chunked { tree: None, .. } => Ok(()),
         Layout::Chunked {
             sizes,
             tree: Some(root),
-        } => claim_chunks(alloc, image, claims, array.fixed(), &sizes.dims(alloc), *root),
-        Layout::Compact(_) | Layout::Contiguous(None) | Layout::Chunked { tree: None, .. } => Ok(()),
+        } => {
+            let chunk = sizes.dims(alloc);
+            claim_chunks(alloc, image, claims, array.fixed(), &chunk, *root)
+        }
     }
 }
 

@@ -55,8 +55,8 @@ impl Opened {
     /// and that alone of an image that reads as a tree. A refusal gives the image back.
     ///
     /// That the image begins with a superblock, ends where that says, and has no free block, are the caller's conditions. Each block is
-    /// looked at once; memory is taken for the messages and symbol nodes that stand in claimed blocks, and for a reference to each link
-    /// of the groups on the way from the root.
+    /// looked at once; memory is taken for the messages that stand in claimed blocks, for the nodes and leaves of the tree that is read,
+    /// and for a reference to each link of the groups on the way from the root.
     pub fn open(alloc: Global, image: Image) -> Result<Opened, (OpenFault, Image)>
         requires superblock { IsSuperblock image.bytes }
         requires whole { end_of_file image.bytes ≡ length image.bytes }

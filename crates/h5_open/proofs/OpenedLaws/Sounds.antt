@@ -1,27 +1,20 @@
 -- What is kept of an opened image tells a sound value.
-use Rattle.std.proofs.Common.{◌≡◌, inl, inr, ℕ, ◌&&◌, List, [], ◌∷◌, length, refl, sym, ap, ◌∙◌, subst, Option, Some, None}
-use Rattle.std.specs.Prelude.{MatchOption, nat_lt, is_some, option_and_then, option_map, slice_get}
+use Rattle.std.proofs.Common.{◌≡◌, inl, inr, ℕ, List, [], ◌∷◌, length, ap, ◌∙◌, subst, Option, Some, None}
+use Rattle.std.specs.Prelude.{MatchOption, option_map, slice_get}
 use Rattle.std.specs.Option.{option_flatten}
 use Rattle.std.specs.Ordering.{nat_cmp}
 use Rattle.std.specs.BTreeMap.{BTreeMap, get as lookup}
-use Rattle.std.specs.FinMap.{FinMap, get}
+use Rattle.std.specs.FinMap.{get}
 use Rattle.std.proofs.lemmas.Option.{same_Some}
 use Rattle.h5_bytes.specs.declared.Block.{Block}
-use Rattle.h5_model.specs.Format.Messages.{Message}
-use Rattle.h5_model.specs.Format.Reads.{storage_of}
 use Rattle.h5_model.specs.Format.Superblock.{root_header}
-use Rattle.h5_model.specs.Tree.Objects.{Dataset, Object, dataset_in}
-use Rattle.h5_model.specs.Tree.Places.{cells}
-use Rattle.h5_header.specs.Listed.{messages_in}
-use Rattle.h5_layout.specs.Told.{array_told}
+use Rattle.h5_model.specs.Tree.Objects.{Object}
 use Rattle.h5_space.specs.Space.{Space}
 use Rattle.h5_space.specs.Whole.{IsApart}
 use Rattle.h5_laws.proofs.Lists.{In, in_all, in_at}
 use Rattle.h5_open.specs.declared.opened.object.OpenedObject.{OpenedObject}
-use Rattle.h5_open.specs.declared.opened.object.OpenedContent.{OpenedContent}
-use Rattle.h5_open.specs.declared.opened.object.OpenedContent.TheVariants as content
-use Rattle.h5_open.specs.Opened.Kept.{IsOpened, IsObjectKept, IsContentKept}
-use Rattle.h5_open.specs.Opened.Objects.{header_of, objects_of, content_in, object_in, table_of, tree_of}
+use Rattle.h5_open.specs.Opened.Kept.{IsOpened, IsObjectKept}
+use Rattle.h5_open.specs.Opened.Objects.{header_of, objects_of, object_in, table_of, tree_of}
 use Rattle.h5_open.specs.Opened.Sound.{IsSound, IsObjectOf, IsHeaderIn}
 use Rattle.h5_open.specs.Opened.State.{opened_state}
 use Rattle.h5_open.proofs.OpenedLaws.Entries.{get_table, get_tree, slot_of}

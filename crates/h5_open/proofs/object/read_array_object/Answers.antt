@@ -1,8 +1,4 @@
-use Rattle.std.proofs.Common.{◌≡◌, ap}
 use Rattle.std.proofs.lemmas.Result.{err_from_is_err_and}
-use Rattle.h5_header.specs.Listed.{messages_in}
-use Rattle.h5_layout.specs.Described.{Described}
-use Rattle.h5_layout.specs.Told.{layout_told}
 use Rattle.h5_open.proofs.ArrayLaws.{bodies_fault, data_fault}
 use Rattle.h5_open.proofs.ArrayReadLaws.{array_object_read, array_object_followed}
 use Rattle.h5_open.proofs.object.read_array_object.Goals as goal
