@@ -13,7 +13,6 @@ use Rattle.h5_model.specs.Format.Heap.{heap_blocks}
 use Rattle.h5_model.specs.Format.Nodes.{tree_blocks}
 use Rattle.h5_model.specs.Format.Reached.{Named, named, ObjectHeader, SymbolNode, Reached}
 use Rattle.h5_model.specs.Faults.Breaches.{is_header}
-use Rattle.h5_model.specs.Faults.HeaderFaults.{ListBreach}
 use Rattle.h5_model.specs.declared.open_fault.Cause.{Cause}
 use Rattle.h5_model.specs.declared.open_fault.Cause.TheVariants.{NoMemory, MissingMessage, TooDeep}
 use Rattle.h5_attr.specs.Attributes.{HasNamesOnce}
@@ -29,8 +28,8 @@ use Rattle.h5_group.specs.Told.{nodes_told, symbol_nodes_told, links_told, block
 use Rattle.h5_group.specs.Walk.{IsGroupMet, IsGroupFollowed}
 use Rattle.h5_open.specs.declared.opened.object.OpenedObject.{OpenedObject}
 use Rattle.h5_open.specs.declared.opened.object.OpenedContent.TheVariants as content
-use Rattle.h5_open.specs.Opened.Judged.{IsGroupList, IsKindBreach, IsGroupBreach}
-use Rattle.h5_open.specs.Opened.NotYet.{IsOpenRefusedAt}
+use Rattle.h5_open.specs.Opened.Judged.{IsGroupList, IsKindBreach}
+use Rattle.h5_open.specs.Opened.Refused.{IsOpenRefusedAt}
 use Rattle.h5_open.specs.Read.{IsHeaderRead, IsHeaderDone, IsObjectRead, IsObjectFollowed, IsOwn, IsDeepAt, AreWaiting}
 use Rattle.h5_open.proofs.HeaderFields.{header_fields, fields_only, fields_stand, only_inner}
 use Rattle.h5_open.proofs.TableLaws.{found_table, table_numbers, tree_met, heap_met, table_walked}
@@ -71,16 +70,8 @@ module _ (image : List ℕ) (m : Listed) (has : HasMessages image m.header (mess
   kind_breach cause (inl (top, is, none)) = subst (λ (c : Cause). IsOpenRefusedAt image c m.header) (sym is) (no_root top none)
   kind_breach cause (inr breach) = list_breach image m.header all m.blocks has inside held followed field depth met cause breach
 
-  by_cause : (cause c : Cause) → cause ≡ c → IsGroupBreach image m.header all c → IsOpenRefusedAt image c m.header
-  by_cause cause NoMemory e h = tt
-  by_cause cause _ e h = subst (λ (c : Cause). IsOpenRefusedAt image c m.header) e
-      (list_breach image m.header all m.blocks has inside held followed field depth met cause (subst (λ (c : Cause). ListBreach image m.header all c) (sym e) h))
-
   pub kind_fault : (cause : Cause) (address : ℕ) → address ≡ m.header → IsKindBreach image m.header depth all cause → IsOpenRefusedAt image cause address
   kind_fault cause address at h = subst (IsOpenRefusedAt image cause) (sym at) (kind_breach cause h)
-
-  pub group_fault : (cause : Cause) (address : ℕ) → address ≡ m.header → IsGroupBreach image m.header all cause → IsOpenRefusedAt image cause address
-  group_fault cause address at h = subst (IsOpenRefusedAt image cause) (sym at) (by_cause cause cause refl h)
 
 -- a symbol node of the group lies in the image
 symbols_inside : (image : List ℕ) (nodes : List ℕ) → Inside (length image) (map (symbol_block (leaf_k image)) nodes) → (node : ℕ) → In node nodes → node + (8 + 80 * leaf_k image) ≤ length image
