@@ -8,7 +8,6 @@ use Rattle.h5_model.specs.Edits.Refusal.{first_holding}
 use Rattle.h5_model.specs.Scripts.Reading.{object_rules, dataset_rules}
 use Rattle.h5_model.specs.Format.Messages.{Message}
 use Rattle.h5_model.specs.Format.Symbols.{Target}
-use Rattle.h5_model.specs.declared.edit_fault.EditFault.{EditFault}
 use Rattle.h5_bytes.specs.Blocks.{Inside}
 use Rattle.h5_open.specs.Stored.{IsUnchunked}
 use Rattle.h5_open.specs.Told.{array_told, layout_told}
@@ -21,6 +20,7 @@ use Rattle.h5_header.specs.Listed.{Listed, messages_in, IsWithin}
 use Rattle.h5_open.specs.Attributes.{attributes_of}
 use Rattle.h5_open.specs.Described.{Described, described_dataset}
 use Rattle.h5_open.specs.Opened.Headers.{IsHeaderKept}
+use Rattle.h5_open.specs.Opened.State.{FileState}
 
 -- an object stands there, whose attributes are those of this header
 pub record IsHeaderThere (image : List ℕ) (tree : Tree) (path : List ℕ) (m : Listed) : Type 0 where
@@ -46,9 +46,9 @@ pub record IsArrayThere (image : List ℕ) (tree : Tree) (path : List ℕ) (a : 
   pub found : dataset_at tree path ≡ Some (described_dataset image a empty)
   pub unchunked : IsUnchunked (length image) a.layout
 
--- the rules of a dataset's path refuse the path
-abbrev pub IsNoArrayThere : Tree → List ℕ → EditFault → Type 0
-IsNoArrayThere tree path e = first_holding (dataset_rules tree path) ≡ Some e
+-- and has this number
+abbrev pub IsArrayAt : FileState → List ℕ → (ℕ × Described) → Type 0
+IsArrayAt f path (number, a) = IsArrayThere f.image f.tree path a × (object_at f.tree path ≡ Some number)
 
 -- the names of a group's links, and of one that was lent
 abbrev pub names_of_group : List ℕ → SymbolTable → List (List ℕ)

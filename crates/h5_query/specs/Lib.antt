@@ -5,6 +5,7 @@ pub mod Look
 pub mod Listed
 pub mod Found
 pub mod Kept
+pub mod Selected
 pub use Rattle.h5_open.specs.Opened
 pub use Rattle.h5_open.specs.Described
 pub use Rattle.h5_open.specs.Told

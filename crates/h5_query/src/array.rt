@@ -1,12 +1,16 @@
-//! Arrays of an opened image, by their numbers (File Format Specification 3.0, section IV.A.2.i).
+//! Arrays of an opened image, by their paths and by their numbers (File Format Specification 3.0, section IV.A.2.i).
 
-ghost use Rattle.std.specs.Prelude.{MatchOption};
+ghost use Rattle.std.specs.Prelude.{◌≡◌, Some, MatchOption, MatchResult};
 ghost use Rattle.h5_header.specs.Listed.{messages_in};
-ghost use Rattle.h5_query.specs.Kept.{IsArrayKept, array_dataset};
+ghost use Rattle.h5_model.specs.Edits.Refusal.{first_holding};
+ghost use Rattle.h5_model.specs.Scripts.Reading.{dataset_rules};
+ghost use Rattle.h5_query.specs.Opened.Sound.{IsSound};
+ghost use Rattle.h5_query.specs.Kept.{IsArrayAt, IsArrayKept, array_dataset};
 ghost use Rattle.h5_query.specs.Look.{IsNoDataset, HasArrayNumbered, IsArrayShown};
 
+use crate::place::{Place, look};
 use h5_header::Messages;
-use h5_model::ObjectNo;
+use h5_model::{EditFault, ObjectNo};
 use h5_open::{ArrayRef, Opened, OpenedContent, known_array};
 use h5_space::Image;
 use std::alloc::Global;
@@ -17,6 +21,29 @@ pub struct StoredArray<'a> {
     pub array: ArrayRef<'a>,
     /// The cells one behind the other, each in as many bytes as the type has; `None` where each reads the fill.
     pub cells: Option<&'a [u8]>,
+}
+
+/// The array at the path, with its number.
+///
+/// Refused as [`crate::look`] is, and as `NotADataset` where no array stands there. It takes no memory.
+pub fn array_at<'a>(
+    alloc: Global,
+    opened: &'a Opened,
+    path: &[u8],
+) -> Result<(u32, ArrayRef<'a>), EditFault>
+    ensures there { let f = opened.now in
+        MatchResult result (IsArrayAt f path.now) (λ e.
+        first_holding (dataset_rules f.tree path.now) ≡ Some e) }
+    ensures sound { IsSound opened.now }
+{
+    let image = opened.image();
+    match look(opened, path)? {
+        Place::Object { number, object } => match &object.content {
+            OpenedContent::Array => Ok((number, known_array(alloc, image, &object.messages))),
+            OpenedContent::Group(_) => Err(EditFault::NotADataset),
+        },
+        Place::Soft(_) => Err(EditFault::NotADataset),
+    }
 }
 
 /// The array of this number, or `None` where no array has it. It takes no memory.

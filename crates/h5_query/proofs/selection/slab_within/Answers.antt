@@ -1,6 +1,6 @@
 use Rattle.std.proofs.Common.{ap, sym, ◌∙◌, length, arith}
-use Rattle.h5_edit.proofs.RuleLaws.Writes.{slab_long, selection_few}
-use Rattle.h5_edit.proofs.rules.write.slab_within.Goals as goal
+use Rattle.h5_query.proofs.SelectionLaws.{slab_long, selection_few}
+use Rattle.h5_query.proofs.selection.slab_within.Goals as goal
 
 pub within-requires : goal.within-requires
 within-requires c =

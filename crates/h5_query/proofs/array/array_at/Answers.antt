@@ -1,7 +1,7 @@
 use Rattle.h5_header.specs.Listed.{messages_in}
+use Rattle.h5_open.specs.Told.{array_told}
 use Rattle.h5_query.proofs.Indexed.{array_kept}
-use Rattle.h5_query.specs.Told.{array_told}
-use Rattle.h5_edit.proofs.rules.write.array_at.Goals as goal
+use Rattle.h5_query.proofs.array.array_at.Goals as goal
 
 pub known_array-requires-clause-within : goal.known_array-requires-clause-within
 known_array-requires-clause-within c =
