@@ -1,3 +1,4 @@
+pub mod Writable
 pub mod Carried
 pub mod Made
 pub mod Edited

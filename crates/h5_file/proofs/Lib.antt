@@ -1,3 +1,4 @@
+pub mod Carried
 pub mod Sounds
 pub mod Opens
 pub mod Made

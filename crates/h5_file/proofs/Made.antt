@@ -13,11 +13,12 @@ use Rattle.h5_model.specs.declared.edit_fault.EditFault.TheVariants as fault
 use Rattle.h5_laws.proofs.Objects.{in_table}
 use Rattle.h5_laws.proofs.SoundLaws.Read.{placed_at}
 use Rattle.h5_space.specs.Whole.{IsWhole}
-use Rattle.h5_edit.specs.Opened.Carried.{ReadsCarried}
+use Rattle.h5_edit.specs.Opened.Carried.{AreCarried, ReadsCarried}
 use Rattle.h5_edit.specs.Opened.Sound.{IsSound, IsWholeFile}
 use Rattle.h5_edit.specs.Opened.State.{FileState, state_of}
 use Rattle.h5_edit.specs.Renumbered.Headers.{table_with, IsReadAt}
 use Rattle.h5_edit.proofs.Refusals.{for_memory}
+use Rattle.h5_file.proofs.Carried.{edited_carried}
 use Rattle.h5_edit.proofs.RenumberedLaws.Renumbered.{next_low}
 use Rattle.h5_edit.proofs.RenumberedLaws.SameHeaders.{given_header}
 use Rattle.h5_edit.specs.declared.made.Made.{Made}
@@ -25,7 +26,7 @@ use Rattle.h5_edit.specs.Carried.{IsRefusedBy, tree_after}
 use Rattle.h5_edit.specs.Made.{IsEditMade}
 use Rattle.h5_edit.specs.Edited.{IsEdited}
 
-module _ (f : FileState) (edit : Edit) (made : Made) (is : IsEditMade f edit made) where
+module _ (f : FileState) (before : IsSound f) (edit : Edit) (made : Made) (is : IsEditMade f edit made) where
   abbrev image : List ℕ
   image = made.image.items
 
@@ -42,9 +43,12 @@ module _ (f : FileState) (edit : Edit) (made : Made) (is : IsEditMade f edit mad
   pub made_reads : Reads image (table_with hs) (tree_after f edit)
   made_reads = (is.anew.reads.placed, is.anew.reads.reads)
 
+  carried_after : AreCarried (tree_after f edit)
+  carried_after = edited_carried f.tree edit f.next is.carried before.carried
+
   -- its tree has no array that is not opened
   pub made_carried : ReadsCarried image
-  made_carried = (table_with hs, tree_after f edit, made_reads, is.carried)
+  made_carried = (table_with hs, tree_after f edit, made_reads, carried_after)
 
   -- want of memory is always a refusal
   pub not_taken : IsRefusedBy f edit fault.NoMemory
@@ -103,7 +107,7 @@ module _ (f : FileState) (edit : Edit) (made : Made) (is : IsEditMade f edit mad
     sound_after = record {
       placed = is.anew.reads.placed;
       reads = reads_as;
-      carried = is.carried;
+      carried = carried_after;
       numbers = record { rooted = reads_as.holds.root_group; given = given; low = made_few };
       apart = λ p. omega (arith, blocks_cover p);
     }
@@ -113,7 +117,7 @@ module _ (f : FileState) (edit : Edit) (made : Made) (is : IsEditMade f edit mad
       accepted = is.accepted;
       state = λ i. record { tree = tree_after f edit; next = made_next i };
       sound = sound_after;
-      whole = λ before. whole_after;
+      whole = λ whole. whole_after;
       leaf = ap leaf_k image_is ∙ is.anew.reads.leaf_is;
       internal = ap internal_k image_is ∙ is.anew.reads.internal_is;
       object = rw same is.object;

@@ -16,7 +16,7 @@ use Rattle.h5_edit.specs.Renumbered.Headers.{table_with}
 use Rattle.h5_edit.proofs.OpenedLaws.Made.{entries_standing, get_standing}
 use Rattle.h5_edit.proofs.RenumberedLaws.Renumbered.{next_at}
 use Rattle.h5_file.specs.State.{created_state}
-use Rattle.h5_edit.proofs.CarriedLaws.{root_carried}
+use Rattle.h5_file.proofs.Carried.{root_carried}
 use Rattle.h5_edit.proofs.EmptyFile.{empty_reading}
 use Rattle.h5_edit.proofs.Numbered.{standing_map}
 

@@ -13,7 +13,7 @@ use Rattle.h5_edit.proofs.change.cells.kept_array.Goals.{in-Some, in-None}
 pub stored-requires : goal.stored-requires
 stored-requires c =
     subst (λ (a : Described). IsUnchunked (length c.args.image.now.bytes) a.layout) (sym c.known_array-array.ensures)
-    (kept_unchunked c.args.image.now.bytes c.args.messages.now c.requires)
+    (kept_unchunked c.args.image.now.bytes c.args.messages.now c.requires.kept)
 
 pub returns : goal.returns
 returns c =
@@ -23,8 +23,8 @@ returns c =
     elim c.match-stored.branch [
       | in-Some w ↦
           subst (λ (k : Cells). IsNewArray a k (array_dataset image ms)) (sym (w.cells-is ∙ w.stored_cells-cells.ensures.stored))
-          (stored_array image ms c.requires.list a c.known_array-array.ensures w.in-Some.bytes w.stored_cells-cells.ensures.low w.in-Some.ensures)
+          (stored_array image ms c.requires.kept.list c.requires.block a c.known_array-array.ensures w.in-Some.bytes w.stored_cells-cells.ensures.low w.in-Some.ensures)
       | in-None w ↦
           subst (λ (k : Cells). IsNewArray a k (array_dataset image ms)) (sym w.cells-is)
-          (unset_array image ms c.requires.list a c.known_array-array.ensures w.in-None.ensures)
+          (unset_array image ms c.requires.kept.list c.requires.block a c.known_array-array.ensures w.in-None.ensures)
     ]
