@@ -27,9 +27,9 @@ use Rattle.h5_model.specs.declared.edits.Edit.TheVariants.{CreateGroup, CreateDa
 use Rattle.h5_model.specs.declared.edits.Edited.{Edited}
 use Rattle.h5_model.specs.declared.edit_fault.EditFault.{EditFault}
 use Rattle.h5_model.specs.declared.edit_fault.EditFault.TheVariants as fault
-use Rattle.h5_file.specs.Opened.State.{FileState, state_of}
-use Rattle.h5_file.specs.Carried.{IsRefusedBy, RefusedAs, IsRefused, is_carried}
-use Rattle.h5_file.specs.Edited.{IsEdited}
+use Rattle.h5_dump.specs.Opened.State.{FileState, state_of}
+use Rattle.h5_dump.specs.Carried.{IsRefusedBy, RefusedAs, IsRefused, is_carried}
+use Rattle.h5_dump.specs.Edited.{IsEdited}
 use Rattle.h5_script.specs.Answered.{IsAnswered, IsUntold}
 use Rattle.h5_script.specs.Taken.{taken, line_answer, IsGivenAt}
 use Rattle.h5_script.specs.declared.ran.Outcome.{Outcome}

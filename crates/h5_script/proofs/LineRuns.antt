@@ -1,7 +1,7 @@
 -- The run of one line.
 use Rattle.std.proofs.Common.{◌≡◌, ℕ, ◌+◌, Option, Some, None, List, [], ◌∷◌, cond, refl, sym, ap, ◌∙◌, subst, append-nil, arith}
 use Rattle.std.specs.Io.KnownBytes.{Appends}
-use Rattle.h5_file.specs.Opened.State.{FileState}
+use Rattle.h5_dump.specs.Opened.State.{FileState}
 use Rattle.std.specs.Option.{option_map_or}
 use Rattle.h5_model.specs.Scripts.Lines.{Command, line_asks}
 use Rattle.h5_script.specs.Pieces.{commands_of_line}
@@ -9,7 +9,7 @@ use Rattle.h5_script.proofs.RunLaws.{has_begun_one, has_counted_none}
 use Rattle.h5_model.specs.Scripts.Answers.{Given, is_refused, is_accepted}
 use Rattle.h5_script.specs.Answered.{Line, answer_at, outcome_of, IsAnswered, IsRunIn, IsUntold}
 use Rattle.h5_script.specs.Runs.{file_of_run, text_of_run, outcomes_of_run, AreRunIn, IsRun, HasCounted, HasBegun, IsRunCut, RunsTo}
-use Rattle.h5_script.specs.Streams.{WritesSome}
+use Rattle.h5_text.specs.Printed.{WritesSome}
 use Rattle.h5_script.specs.declared.ran.Outcome.{Outcome}
 use Rattle.h5_script.specs.declared.ran.Ran.{Ran}
 use Rattle.std.specs.Prelude.{Result, Ok, Err, MatchResult, IsErrAnd}

@@ -1,8 +1,7 @@
 //! Scripts that come byte by byte, reads and writes that fail, and the ends of memory and of a line.
 
 use crate::streams::{Holding, Narrow, Slow};
-use h5_file::File;
-use h5_script::{Ran, RunFault, run_script};
+use h5_script::{File, Ran, RunFault, run_script};
 use std::io::Cursor;
 use std::test::Fail;
 
