@@ -1,7 +1,6 @@
 -- What `dump` prints of an object.
 use Rattle.std.proofs.Common.{◌≡◌, ℕ, zero, suc, ◌+◌, ◌-◌, ◌*◌, ◌/◌, ◌<◌, ◌≤◌, ℤ, List, [], ◌∷◌, ◌++◌, length, codes, refl, sym, ap, ◌∙◌, append-nil, replicate, subst, Option, Some, None, arith, Bor, Vec}
-use Rattle.std.specs.Prelude.{Result, Ok, Err, IsErr, MatchResult}
-use Rattle.std.proofs.lemmas.Bool.{false≢true}
+use Rattle.std.specs.Prelude.{Result, Ok, Err, MatchResult}
 use Rattle.std.specs.Io.KnownBytes.{Appends}
 use Rattle.h5_text.specs.Printed.{IsPrinted, WritesSome}
 use Rattle.h5_text.specs.declared.streams.PrintFault.{PrintFault}
@@ -125,12 +124,6 @@ pub cells-written : {T : Type 0} (r : Result T PrintFault) (P : PrintFault → T
     → MatchResult r (λ _. Appends old new (held ++ text)) (λ _. WritesSome old new (held ++ text))
 cells-written (Ok x) P old mid new held now shown text same so_far is = printed_last old mid new held now text so_far (subst (λ t. Appends mid new t) same is)
 cells-written (Err e) P old mid new held now shown text same so_far is = cut_last old mid new held now text so_far (subst (λ t. WritesSome mid new t) same is.1)
-
--- a part of the cells was printed
-pub cells-begun : {T : Type 0} (r : Result T PrintFault) (old new : Option (List ℕ)) (text : List ℕ) → IsErr r → WritesSome old new text
-    → MatchResult r (λ _. Appends old new text) (λ _. WritesSome old new text)
-cells-begun (Ok x) old new text err some = absurd (false≢true err)
-cells-begun (Err e) old new text err some = some
 
 -- ---- what is dumped of an object
 

@@ -9,7 +9,7 @@ use Rattle.h5_script.specs.Answered.{Line, answer_at, IsRunIn, IsTold}
 use Rattle.h5_text.specs.Printed.{WritesSome}
 use Rattle.h5_text.specs.declared.streams.PrintFault.{PrintFault}
 use Rattle.h5_text.specs.declared.streams.PrintFault.TheVariants as print
-use Rattle.h5_script.specs.declared.ran.Outcome.{Outcome}
+use Rattle.h5_script.specs.declared.ran.Outcome as told
 use Rattle.h5_script.specs.declared.ran.Ran.{Ran}
 use Rattle.h5_script.specs.declared.fault.RunFault.{RunFault}
 use Rattle.h5_script.specs.declared.fault.RunFault.TheVariants.{ScriptWrite, NoMemory}
@@ -91,7 +91,7 @@ RunsTo result asked before after old new counted counts =
     MatchResult result (λ _. HasCounted asked before after old new counted counts) (λ fault. IsRunCut fault × HasBegun asked before after old new)
 
 -- the command was run and its answer was written, or the run ends early
-abbrev pub Tells : Result Outcome RunFault → FileState → Command → FileState → Option (List ℕ) → Option (List ℕ) → Type 0
+abbrev pub Tells : Result told.Outcome RunFault → FileState → Command → FileState → Option (List ℕ) → Option (List ℕ) → Type 0
 Tells result before command after old new =
     MatchResult result (IsTold before command after old new) (λ fault. IsRunCut fault × HasBegun (command ∷ []) before after old new)
 
