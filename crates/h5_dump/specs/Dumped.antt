@@ -6,7 +6,6 @@ use Rattle.h5_model.specs.Scripts.Answers.{dumped}
 use Rattle.h5_model.specs.Scripts.Reading.{path_rules}
 use Rattle.h5_model.specs.Tree.Objects.{Tree, Dataset, Contiguous}
 use Rattle.h5_model.specs.Tree.Paths.{located}
-use Rattle.h5_model.specs.declared.edit_fault.EditFault.{EditFault}
 use Rattle.h5_model.specs.declared.edit_fault.EditFault.TheVariants as fault
 use Rattle.h5_text.specs.Printed.{WritesSome}
 use Rattle.h5_file.specs.StoredArrayType.{StoredArray}

@@ -28,7 +28,8 @@ pub(crate) fn write_cells<W: Write>(
     output: &mut W,
 ) -> Result<(), PrintFault>
     ensures { (d : Dataset) → IsArrayShown d array.now → MatchResult result
-        (λ _. Appends (W.contents output.old) (W.contents output.new) (text.old.items ++ cells_text (Array d)))
+        (λ _. Appends (W.contents output.old) (W.contents output.new)
+        (text.old.items ++ cells_text (Array d)))
         (λ _. WritesSome (W.contents output.old) (W.contents output.new)
         (text.old.items ++ cells_text (Array d))) }
 {

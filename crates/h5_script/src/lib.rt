@@ -14,8 +14,6 @@ mod run;
 mod streams;
 
 pub use fault::RunFault;
-pub use h5_dump::{
-    Cause, DumpFault, File, MAXIMUM_IMAGE, OpenFault, push_list, write_dump,
-};
+pub use h5_dump::{Cause, DumpFault, File, MAXIMUM_IMAGE, OpenFault, push_list, write_dump};
 pub use ran::Ran;
 pub use run::run_script;

@@ -1,5 +1,5 @@
 -- Cells that are printed one part behind the other.
-use Rattle.std.proofs.Common.{◌≡◌, ℕ, ◌+◌, ◌%◌, ◌<◌, ℤ, Option, List, [], ◌++◌, length, sym, ap, ◌∙◌, subst, append_assoc, append-nil, length-append, arith}
+use Rattle.std.proofs.Common.{◌≡◌, ℕ, ◌+◌, ◌%◌, ◌<◌, ℤ, List, [], ◌++◌, length, sym, ap, ◌∙◌, subst, append_assoc, append-nil, length-append, arith}
 use Rattle.std.proofs.Math.Nat.{mod-add-mod}
 use Rattle.h5_text.specs.Printed.{IsPrinted, WritesSome}
 use Rattle.h5_text.specs.Rows.{cells_from}

@@ -1,5 +1,5 @@
 -- The values of stored bytes that come in parts of whole cells.
-use Rattle.std.proofs.Common.{◌≡◌, ℕ, suc, ◌+◌, ◌-◌, ◌*◌, ◌/◌, ◌%◌, ◌<◌, ◌≤◌, ℤ, pos, List, [], ◌++◌, inl, inr, length, take, drop, get_or, map, min, sym, ap, ◌∙◌, length-append, length-take, length-drop, take-append-drop, take_all, append-nil, arith}
+use Rattle.std.proofs.Common.{◌≡◌, ℕ, suc, ◌+◌, ◌-◌, ◌*◌, ◌/◌, ◌%◌, ◌<◌, ◌≤◌, ℤ, pos, List, [], ◌++◌, inl, inr, length, take, drop, get_or, map, min, sym, ap, ◌∙◌, length-append, length-take, take-append-drop, take_all, append-nil, arith}
 use Rattle.std.proofs.Math.Nat.{mod-lt, div-add-mod', zero-div}
 use Rattle.std.proofs.lemmas.Nat.{div-mul-add, mul-le}
 use Rattle.std.proofs.lemmas.Bool.{cases_lt}

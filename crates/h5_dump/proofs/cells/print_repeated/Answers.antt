@@ -1,6 +1,6 @@
 use Rattle.std.proofs.Common.{◌≡◌, ◌+◌, ◌-◌, ◌%◌, ◌≤◌, ℤ, List, [], ◌++◌, length, replicate, to_z, of_z, refl, sym, ap, ◌∙◌, subst, append_assoc, arith, rules}
 use Rattle.std.proofs.lemmas.Int.{to_z-of_z}
-use Rattle.std.proofs.lemmas.List.{length-replicate, replicate-append-replicate}
+use Rattle.std.proofs.lemmas.List.{length-replicate}
 use Rattle.std.specs.Int.{w128}
 use Rattle.h5_text.specs.Printed.{IsPrinted}
 use Rattle.h5_text.specs.Rows.{cells_from}
