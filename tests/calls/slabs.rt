@@ -7,7 +7,7 @@
 use h5_command::{Command, read_line};
 use h5_file::{EditFault, File, Hyper, Piece};
 use std::alloc::{AllocError, Global};
-use std::io;
+use std::io::{self, BufReader};
 
 /// The file of the digits' bytes.
 fn opened(alloc: Global, digits: &str) -> Option<File> {
@@ -42,7 +42,7 @@ fn answer(alloc: Global, file: &File, line: &str) -> Result<String, AllocError> 
 fn main(rt: HostRuntime) -> io::Result<()> {
     let alloc = rt.alloc();
     let mut file = None;
-    for line in rt.lines(alloc) {
+    for line in BufReader::new(alloc, rt.reader())?.lines(alloc) {
         let line = line?;
         if let Some(digits) = line.strip_prefix("image ") {
             file = opened(alloc, digits);
