@@ -7,7 +7,7 @@
 use h5_command::{Command, read_line};
 use h5_file::{EditFault, File, Hyper, Piece};
 use std::alloc::{AllocError, Global};
-use std::io::{self, BufReader};
+use std::io::{self, BufRead, BufReader};
 
 /// The file of the digits' bytes.
 fn opened(alloc: Global, digits: &str) -> Option<File> {
