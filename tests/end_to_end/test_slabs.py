@@ -12,7 +12,7 @@ from .tried import Tried
 # pylint: disable=wrong-import-order
 from h5oracle.model import Hyper, selected, view_refusal  # noqa: E402
 
-PROGRAM = os.path.join(TOP, "tests", "calls", "slabs.rt")
+PROGRAM = os.path.join(TOP, "tests", "calls", "slabs.rt.txt")
 LIBRARIES = "h5_file h5_command hex"
 FAR = (1 << 64) - 1
 MOST_CELLS = 4096

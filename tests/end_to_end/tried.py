@@ -31,5 +31,6 @@ class Tried(unittest.TestCase):
         crate = os.path.join(self.top, "crates", "tried")
         with open(os.path.join(crate, "src", "main.rt"), "w", encoding="utf-8") as file:
             file.write(text)
-        done = subprocess.run([RATTLE, "try", "--steps", "1"], cwd=crate, input=given, stdout=subprocess.PIPE, stderr=subprocess.PIPE, check=False)
+        # The interpreter, which would run it too, is slow.
+        done = subprocess.run([RATTLE, "try", "--steps", "1", "--seconds", "600"], cwd=crate, input=given, stdout=subprocess.PIPE, stderr=subprocess.PIPE, check=False)
         return done.returncode, done.stdout, done.stderr.decode("utf-8", "replace")
