@@ -1,7 +1,8 @@
 //! Edits of an opened image: why one is refused, in the order of the refusals' numbers, and the image that an accepted one gives, written
 //! anew (File Format Specification 3.0, sections III.C and IV.A).
 //!
-//! Each call writes the whole image, however small the edit is, and answers `NotYet` where an array of it cannot be written so far. Where both `TreeTooDeep` and `ImageFull` hold, either is answered.
+//! Each call writes the whole image, however small the edit is, but `write_run`, and answers `NotYet` where an array of the image cannot be
+//! written so far. Where both `TreeTooDeep` and `ImageFull` hold, either is answered.
 #![tactic(auto)]
 
 mod anew;

@@ -39,9 +39,9 @@ pub fn create_group(alloc: Global, opened: &Opened, path: &[u8]) -> Result<Made,
 
 /// Makes an array at the path, every cell of which is the fill.
 ///
-/// Refused as `NotYet`, before any other check, also unless the new array is contiguous and of one size. Else by the lowest number that holds:
-/// `BadPath`, `PathTooDeep`, `IsRoot`, `NoSuchParent`, `NotAGroup`, `AlreadyThere`, `NameTooLong`, `BadSpec`, `TooManyCells`, `ValueRange`,
-/// `TooManyObjects`, `TreeTooDeep`, `ImageFull`, `NoMemory`.
+/// Refused as `NotYet`, before any other check, also unless the new array is contiguous and of one size. Else by the lowest number that
+/// holds: `BadPath`, `PathTooDeep`, `IsRoot`, `NoSuchParent`, `NotAGroup`, `AlreadyThere`, `NameTooLong`, `BadSpec`, `TooManyCells`,
+/// `ValueRange`, `TooManyObjects`, `TreeTooDeep`, `ImageFull`, `NoMemory`.
 pub fn create_dataset(
     alloc: Global,
     opened: &Opened,

@@ -6,7 +6,7 @@ use Rattle.std.specs.FinMap.{get-empty, insert, empty}
 use Rattle.std.proofs.lemmas.Bool.Decides.{nat_tests}
 use Rattle.h5_model.specs.Edits.Applied.{applied, new_dataset, new_storage}
 use Rattle.h5_model.specs.Format.Empty.{root_object, root_tree}
-use Rattle.h5_model.specs.Tree.Objects.{Tree, Object, Contiguous}
+use Rattle.h5_model.specs.Tree.Objects.{Tree, Contiguous}
 use Rattle.h5_model.specs.Tree.Places.{cells}
 use Rattle.h5_model.specs.declared.dataset.Spec.{Spec}
 use Rattle.h5_model.specs.declared.dataset.Store.{Store}

@@ -58,14 +58,15 @@ impl File {
 
     /// Creates an array at the path, every cell of which is the fill.
     ///
-    /// Refused as `NotYet`, before any other check, also unless the new array is contiguous and of one size. Else by the lowest number that holds:
-    /// `BadPath`, `PathTooDeep`, `IsRoot`, `NoSuchParent`, `NotAGroup`, `AlreadyThere`, `NameTooLong` above 1023 bytes, `BadSpec` where the
-    /// maximum is not the size, `TooManyCells`, `ValueRange`, `TooManyObjects`, `TreeTooDeep`, `ImageFull`, `NoMemory`. A refusal changes
+    /// Refused as `NotYet`, before any other check, also unless the new array is contiguous and of one size. Else by the lowest number that
+    /// holds: `BadPath`, `PathTooDeep`, `IsRoot`, `NoSuchParent`, `NotAGroup`, `AlreadyThere`, `NameTooLong` above 1023 bytes, `BadSpec` where
+    /// the maximum is not the size, `TooManyCells`, `ValueRange`, `TooManyObjects`, `TreeTooDeep`, `ImageFull`, `NoMemory`. A refusal changes
     /// nothing.
     pub fn create_dataset(&mut self, path: &[u8], spec: &Spec) -> Result<Edited, EditFault>
         ensures edited { MatchResult result (IsEdited self.old (CreateDataset path.now spec.now) self.new)
             (λ e. IsRefused self.old (CreateDataset path.now spec.now) e × (self.new ≡ self.old)) }
-        ensures carried { IfOk result (λ _. is_carried self.old.tree (CreateDataset path.now spec.now) ≡ true) }
+        ensures carried { IfOk result (λ _.
+            is_carried self.old.tree (CreateDataset path.now spec.now) ≡ true) }
     {
         let made = create_dataset(self.alloc, &self.opened, path, spec)?;
         self.take(made)

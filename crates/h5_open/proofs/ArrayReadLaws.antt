@@ -1,14 +1,14 @@
 -- An array that was read in a walk.
-use Rattle.std.proofs.Common.{◌≡◌, ◌⊎◌, inl, inr, ℕ, ◌+◌, ◌-◌, ◌<◌, ◌≤◌, List, [], ◌∷◌, ◌++◌, map, length, refl, sym, ap, subst, append_assoc, Some, None, arith}
-use Rattle.std.specs.Prelude.{◌==◌, true}
+use Rattle.std.proofs.Common.{◌≡◌, ◌⊎◌, inl, inr, ℕ, ◌+◌, ◌-◌, ◌<◌, ◌≤◌, List, [], ◌∷◌, ◌++◌, map, length, refl, sym, ap, subst, Some, None, arith}
+use Rattle.std.specs.Prelude.{◌==◌, false}
 use Rattle.std.specs.List.{AllByRecursion, find}
 use Rattle.h5_bytes.specs.Blocks.{block, holds, cover, Separate}
 use Rattle.h5_bytes.specs.declared.Block.{Block}
-use Rattle.h5_bytes.proofs.BlockLaws.{all_append, cover-append, holds_in}
+use Rattle.h5_bytes.proofs.BlockLaws.{all_append, all_so, cover-append}
 use Rattle.h5_model.specs.Faults.Breaches.{is_header}
 use Rattle.h5_model.specs.Format.Messages.{Message, HasMessages}
 use Rattle.h5_model.specs.Format.Nodes.{tree_blocks}
-use Rattle.h5_model.specs.Format.Reached.{Named, named, ObjectHeader, Shape, length_of, shape_kind}
+use Rattle.h5_model.specs.Format.Reached.{Named, Shape, length_of, shape_kind}
 use Rattle.h5_model.specs.Format.Layout.{Layout, InMessage, InBlock, InChunks}
 use Rattle.h5_attr.specs.Attributes.{HasNamesOnce}
 use Rattle.h5_chunks.specs.Told.{addresses_told, chunk_blocks_told, chunk_nodes_told}
@@ -16,13 +16,9 @@ use Rattle.h5_chunks.specs.Walk.Followed.{IsTreeFollowed}
 use Rattle.h5_chunks.specs.Walk.Forms.{OfChunks}
 use Rattle.h5_layout.specs.Data.{AreDataRead, chunk_shape, data_blocks}
 use Rattle.h5_layout.specs.Told.{array_told, layout_told, type_told}
-use Rattle.h5_laws.proofs.Lists.{contains_in, in_right}
 use Rattle.h5_header.specs.Listed.{Listed, messages_in}
 use Rattle.h5_header.specs.Walk.Met.{with_header}
 use Rattle.h5_header.specs.Walk.Walked.{IsWalked}
-use Rattle.h5_header.proofs.WalkLaws.MessagePlaces.{messages_placed}
-use Rattle.h5_header.proofs.WalkLaws.SpanLaws.{header_spans, all_low, found_covers}
-use Rattle.h5_header.proofs.WalkLaws.DataLaws.{found_all}
 use Rattle.h5_header.proofs.WalkLaws.MetHeader.{met_walked}
 use Rattle.h5_header.proofs.WalkLaws.MetFields.{met_walked as field_walked}
 use Rattle.h5_open.specs.declared.opened.object.OpenedObject.{OpenedObject}
@@ -30,8 +26,9 @@ use Rattle.h5_open.specs.declared.opened.object.OpenedContent.TheVariants as con
 use Rattle.h5_open.specs.Followed.{FollowsData}
 use Rattle.h5_open.specs.Opened.Judged.{IsArrayList}
 use Rattle.h5_open.specs.Read.{IsHeaderRead, IsHeaderDone, IsObjectRead, IsObjectFollowed, IsOwn}
-use Rattle.h5_open.proofs.HeaderFields.{header_fields, fields_only, fields_stand, only_inner}
+use Rattle.h5_open.proofs.HeaderFields.{only_inner}
 use Rattle.h5_open.proofs.ArrayLaws.{y, first, y_inside, y_met, y_length, root_there, chunks_met}
+use Rattle.h5_open.proofs.ContentLaws.{content_followed, message_free}
 use Rattle.h5_open.proofs.DataLaws.{data_inside}
 
 abbrev pub array_object : Listed → OpenedObject
@@ -59,15 +56,6 @@ array_object_read image held now after m depth read list names inner stands clai
   claimed = λ p. omega (arith, claimed p, stored p, cover-append p m.blocks (array_blocks image m));
 }
 
--- a place inside the first message of a type was not claimed before
-pub message_free : (image : List ℕ) (header : ℕ) (ms : List Message) (blocks : List Block) → HasMessages image header ms blocks → (held now : List Block)
-    → ((p : ℕ) → cover p now ≡ cover p held + cover p blocks) → Separate now → (k : ℕ) (m : Message) → find (λ (x : Message). x.kind == k) ms ≡ Some m
-    → (f : ℕ) → m.at ≤ f → f < m.at + 8 + length m.body → cover (f - 8) held ≡ 0
-message_free image header ms blocks has held now claimed separate k m first f from to =
-    let least : 8 ≤ m.at = found_all (λ (x : Message). 8 ≤ x.at) k ms m (all_low image header ms (messages_placed image header ms blocks has)) first in
-    let hit : holds (f - 8) (m.at - 8) (8 + length m.body) ≡ 1 = holds_in (f - 8) (m.at - 8) (8 + length m.body) (omega (arith, from, least)) (omega (arith, from, to, least)) in
-    omega (arith, hit, found_covers header 0 f k (f - 8) ms m first, header_spans image header ms blocks has (f - 8), claimed (f - 8), separate (f - 8))
-
 module _ (image : List ℕ) (held now : List Block) (followed : List Named) (field depth : ℕ) (m : Listed) (done : IsHeaderDone image held now followed field depth m) (separate : Separate now)
     (list : IsArrayList (messages_in image m.list)) (after : List Block) where
   abbrev ms : List Message
@@ -83,17 +71,16 @@ module _ (image : List ℕ) (held now : List Block) (followed : List Named) (fie
   free : (f : ℕ) → found.0.at ≤ f → f < found.0.at + 8 + length found.0.body → cover (f - 8) held ≡ 0
   free f from to = message_free image m.header ms m.blocks has held now done.claimed separate 8 found.0 found.1 f from to
 
+  -- with these fields, none of which names a header
+  array_followed : (new : List Named) → IsWalked image after (new ++ with_header field m.header depth ms followed) → AllByRecursion (IsOwn held field) new
+      → AllByRecursion (λ (y : Named). is_header y.role ≡ false) new → IsObjectFollowed image held after followed field depth (array_object m)
+  array_followed new walked stands inner =
+      content_followed image held now followed field depth m done separate after content.Array new walked stands (only_inner m.header new inner) [] refl
+
   -- there are no blocks of data
   none_followed : ((p : ℕ) → cover p after ≡ cover p now) → IsObjectFollowed image held after followed field depth (array_object m)
-  none_followed stored = record {
-    new = header_fields field m.header depth ms;
-    walked = met_walked image held followed field m.header depth done.met ms m.blocks has after (λ p. omega (arith, stored p, done.claimed p));
-    stands = fields_stand image m.header ms m.blocks has held now done.claimed separate field depth;
-    only = fields_only field m.header depth ms;
-    first = (0, omega arith, refl);
-    fields = [];
-    waiting = refl;
-  }
+  none_followed stored =
+      array_followed [] (met_walked image held followed field m.header depth done.met ms m.blocks has after (λ p. omega (arith, stored p, done.claimed p))) tt tt
 
   -- there is a block of cells
   module _ (b : Block) (some : layout_told ms ≡ InBlock (Some b)) (stored : (p : ℕ) → cover p after ≡ cover p now + cover p (b ∷ [])) where
@@ -111,16 +98,10 @@ module _ (image : List ℕ) (held now : List Block) (followed : List Named) (fie
     claimed_cells p = omega (arith, stored p, ap (holds p b.at) size)
 
     block_followed : IsObjectFollowed image held after followed field depth (array_object m)
-    block_followed = record {
-      new = cells_field ∷ header_fields field m.header depth ms;
-      walked = field_walked image now (with_header field m.header depth ms followed) (met_walked image held followed field m.header depth done.met ms m.blocks has now done.claimed) cells_field
-          (y_met image m.header ms m.blocks has (done.read).inside held followed field depth done.met now done.claimed separate (array_told ms) list.array b some) after claimed_cells;
-      stands = (inr cells_free, fields_stand image m.header ms m.blocks has held now done.claimed separate field depth);
-      only = ((λ e. absurd (cc)), fields_only field m.header depth ms);
-      first = (1, omega arith, refl);
-      fields = [];
-      waiting = refl;
-    }
+    block_followed = array_followed (cells_field ∷ [])
+        (field_walked image now (with_header field m.header depth ms followed) (met_walked image held followed field m.header depth done.met ms m.blocks has now done.claimed) cells_field
+        (y_met image m.header ms m.blocks has (done.read).inside held followed field depth done.met now done.claimed separate (array_told ms) list.array b some) after claimed_cells)
+        (inr cells_free, tt) (refl, tt)
 
   -- there is a tree of chunks
   module _ (sizes : List ℕ) (root : ℕ) (some : layout_told ms ≡ InChunks sizes (Some root)) where
@@ -132,9 +113,6 @@ module _ (image : List ℕ) (held now : List Block) (followed : List Named) (fie
 
     module _ (stored : (p : ℕ) → cover p after ≡ cover p now + cover p (chunk_blocks_told image shape root)) (once : Separate after)
         (gone : IsTreeFollowed image (OfChunks shape) after before (found.0.at + 3) root 0 depth (chunk_nodes_told image shape root) (addresses_told image shape root)) where
-      abbrev own_header : Named
-      own_header = named field ObjectHeader m.header depth
-
       abbrev node_blocks : List Block
       node_blocks = tree_blocks (shape_kind image shape) (chunk_nodes_told image shape root)
 
@@ -145,24 +123,9 @@ module _ (image : List ℕ) (held now : List Block) (followed : List Named) (fie
           let p = y.field - 8 in
           inr (omega (arith, hit, cover-append p node_blocks (map (λ (at : ℕ). block at shape.bytes) (addresses_told image shape root)), stored p, once p, done.claimed p))
 
-      all_own : (ys : List Named) → AllByRecursion (λ (y : Named). (y.field ≡ found.0.at + 3) ⊎ (1 ≤ cover (y.field - 8) node_blocks)) ys → AllByRecursion (IsOwn held field) ys
-      all_own [] stands = tt
-      all_own (y ∷ ys) stands = (own_of y stands.0, all_own ys stands.1)
-
-      seam : (gone.new ++ header_fields field m.header depth ms) ++ followed ≡ gone.new ++ before
-      seam = append_assoc gone.new (header_fields field m.header depth ms) followed
-
       chunks_followed : IsObjectFollowed image held after followed field depth (array_object m)
-      chunks_followed = record {
-        new = gone.new ++ header_fields field m.header depth ms;
-        walked = subst (IsWalked image after) (sym seam) gone.walked;
-        stands = all_append (IsOwn held field) gone.new (header_fields field m.header depth ms) (all_own gone.new gone.stands)
-            (fields_stand image m.header ms m.blocks has held now done.claimed separate field depth);
-        only = all_append (λ (y : Named). is_header y.role ≡ true → y.at ≡ m.header) gone.new (header_fields field m.header depth ms) (only_inner m.header gone.new gone.inner) (fields_only field m.header depth ms);
-        first = contains_in own_header (gone.new ++ header_fields field m.header depth ms) (in_right own_header gone.new (header_fields field m.header depth ms) (inl refl));
-        fields = [];
-        waiting = refl;
-      }
+      chunks_followed = array_followed gone.new gone.walked
+          (all_so (λ (y : Named). (y.field ≡ found.0.at + 3) ⊎ (1 ≤ cover (y.field - 8) node_blocks)) (IsOwn held field) gone.new own_of gone.stands) gone.inner
 
   pub array_object_followed : ((p : ℕ) → cover p after ≡ cover p now + cover p (array_blocks image m)) → Separate after → FollowsData image now after (type_told ms) (layout_told ms)
       → IsObjectFollowed image held after followed field depth (array_object m)

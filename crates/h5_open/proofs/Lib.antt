@@ -12,6 +12,7 @@ pub mod WaitLaws
 pub mod UnderLaws
 pub mod StepLaws
 pub mod FollowLaws
+pub mod ContentLaws
 pub mod ArrayReadLaws
 pub mod GroupReadLaws
 pub mod IndexLaws
