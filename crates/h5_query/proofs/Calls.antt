@@ -135,8 +135,11 @@ module _ (f : FileState) (number : ℕ) (object : OpenedObject) (of : IsObjectOf
       array_found n same attributes listed d told = record {
         accepted = leads.0;
         there =
-            rw leads.1 (same, holds attributes.items listed _
-            (ap (content_in f.image f.table (messages_in f.image object.messages.list)) is ∙ ap Array (sym told)));
+            rw leads.1 (
+              same,
+              holds attributes.items listed _
+                  (ap (content_in f.image f.table (messages_in f.image object.messages.list)) is ∙ ap Array (sym told)),
+            );
       }
 
       pub array_no_list : first_holding (list_rules T path) ≡ Some NotAGroup

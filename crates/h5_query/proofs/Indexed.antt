@@ -61,4 +61,4 @@ module _ (f : FileState) (k : ℕ) (o : OpenedObject) (of : IsObjectOf f k o) wh
     pub array_kept : IsArrayKept f.image o.messages
     array_kept =
         let array = subst (IsContentKept f.image (messages_in f.image o.messages.list)) is of.kept.content in
-        record { within = (of.kept.header).within; list = array.0; data = array.1 }
+        record { within = (of.kept.header).within; list = array.0; stored = array.1 }

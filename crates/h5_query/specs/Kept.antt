@@ -34,7 +34,7 @@ array_dataset image ms = dataset_told image (array_told ms)
 pub record IsArrayKept (image : List ℕ) (m : Listed) : Type 0 where
   pub within : IsWithin (length image) m.list
   pub list : IsArrayList (messages_in image m.list)
-  pub data : AreDataRead image (type_told (messages_in image m.list)) (layout_told (messages_in image m.list))
+  pub stored : AreDataRead image (type_told (messages_in image m.list)) (layout_told (messages_in image m.list))
 
 -- this dataset stands there, and has this number
 pub record IsArrayAt (tree : Tree) (path : List ℕ) (at : ℕ × Dataset) : Type 0 where

@@ -57,7 +57,7 @@ fn array_kind<'a>(alloc: Global, array: &StoredArray<'_>) -> Kind<'a>
 fn show_maxima(alloc: Global, array: &ArrayRef<'_>) -> Dims
     ensures { result ≡ map shown_maximum array.now.maxima }
 {
-    let rank = array.rank();
+    let rank = array.dims().sizes().len();
     let mut maxima = [0; MAX_RANK];
     write_maxima(array, &mut maxima[..rank]);
     Dims::new(alloc, &maxima[..rank]).unwrap()
@@ -65,11 +65,10 @@ fn show_maxima(alloc: Global, array: &ArrayRef<'_>) -> Dims
 
 /// Writes the maxima of an array, 2^64 - 1 for one that is unlimited.
 fn write_maxima(array: &ArrayRef<'_>, shown: &mut [u64])
-    requires maxima { length array.now.maxima ≡ length array.now.sizes }
-    requires room { length shown.old ≡ length array.now.sizes }
+    requires { length shown.old ≡ length array.now.sizes }
     ensures { shown.new ≡ map shown_maximum array.now.maxima }
 {
-    for k in 0..shown.len() {
+    for k in 0..array.rank() {
         shown[k] = array.maximum(k).unwrap_or(UNLIMITED);
     }
 }

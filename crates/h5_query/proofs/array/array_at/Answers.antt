@@ -1,4 +1,4 @@
-use Rattle.h5_query.proofs.Calls.{told_there, group_not_array}
+use Rattle.h5_query.proofs.Calls.{told_there}
 use Rattle.h5_query.proofs.Indexed.{array_kept}
 use Rattle.h5_query.proofs.array.array_at.Goals as goal
 

@@ -6,7 +6,7 @@ pub known_array-requires-clause-array : goal.known_array-requires-clause-array
 known_array-requires-clause-array c = (array_told (messages_in c.args.image.now.bytes c.args.messages.now.list), c.requires.list.array)
 
 pub new-requires : goal.new-requires
-new-requires c = rw c.known_array.ensures c.requires.data
+new-requires c = rw c.known_array.ensures c.requires.stored
 
 pub returns : goal.returns
 returns c = rw c.known_array.ensures at c.new.ensures

@@ -12,7 +12,7 @@ use Rattle.h5_edit.proofs.change.cells.kept_array.Goals.{in-Some, in-None}
 pub stored-requires : goal.stored-requires
 stored-requires c =
     subst (λ (a : Described). IsUnchunked (length c.args.image.now.bytes) a.layout) (sym c.known_array-array.ensures)
-    (kept_block c.args.image.now.bytes (messages_in c.args.image.now.bytes c.args.messages.now.list) c.requires.kept.data c.requires.block)
+    (kept_block c.args.image.now.bytes (messages_in c.args.image.now.bytes c.args.messages.now.list) c.requires.kept.stored c.requires.block)
 
 pub returns : goal.returns
 returns c =
