@@ -1,4 +1,3 @@
-pub mod Carried
 pub mod Sounds
 pub mod Opens
 pub mod Made

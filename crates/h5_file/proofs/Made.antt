@@ -13,12 +13,11 @@ use Rattle.h5_model.specs.declared.edit_fault.EditFault.TheVariants as fault
 use Rattle.h5_laws.proofs.Objects.{in_table}
 use Rattle.h5_laws.proofs.SoundLaws.Read.{placed_at}
 use Rattle.h5_space.specs.Whole.{IsWhole}
-use Rattle.h5_edit.specs.Opened.Carried.{AreCarried, ReadsCarried}
+use Rattle.h5_edit.specs.Opened.Refused.{ReadsSome}
 use Rattle.h5_edit.specs.Opened.Sound.{IsSound, IsWholeFile}
 use Rattle.h5_edit.specs.Opened.State.{FileState, state_of}
 use Rattle.h5_edit.specs.Renumbered.Headers.{table_with, IsReadAt}
 use Rattle.h5_edit.proofs.Refusals.{for_memory}
-use Rattle.h5_file.proofs.Carried.{edited_carried}
 use Rattle.h5_edit.proofs.RenumberedLaws.Renumbered.{next_low}
 use Rattle.h5_edit.proofs.RenumberedLaws.SameHeaders.{given_header}
 use Rattle.h5_edit.specs.declared.made.Made.{Made}
@@ -43,12 +42,8 @@ module _ (f : FileState) (before : IsSound f) (edit : Edit) (made : Made) (is : 
   pub made_reads : Reads image (table_with hs) (tree_after f edit)
   made_reads = (is.anew.reads.placed, is.anew.reads.reads)
 
-  carried_after : AreCarried (tree_after f edit)
-  carried_after = edited_carried f.tree edit f.next is.carried before.carried
-
-  -- its tree has no array that is not opened
-  pub made_carried : ReadsCarried image
-  made_carried = (table_with hs, tree_after f edit, made_reads, carried_after)
+  pub made_reading : ReadsSome image
+  made_reading = (table_with hs, tree_after f edit, made_reads)
 
   -- want of memory is always a refusal
   pub not_taken : IsRefusedBy f edit fault.NoMemory
@@ -107,7 +102,6 @@ module _ (f : FileState) (before : IsSound f) (edit : Edit) (made : Made) (is : 
     sound_after = record {
       placed = is.anew.reads.placed;
       reads = reads_as;
-      carried = carried_after;
       numbers = record { rooted = reads_as.holds.root_group; given = given; low = made_few };
       apart = λ p. omega (arith, blocks_cover p);
     }

@@ -8,6 +8,7 @@ pub mod Renumbered
 pub mod InPlace
 pub mod Written
 pub use Rattle.h5_layout.specs.Data
+pub use Rattle.h5_layout.specs.Pieces
 pub use Rattle.h5_layout.specs.Stored
 pub use Rattle.h5_layout.specs.Described
 pub use Rattle.h5_layout.specs.Told

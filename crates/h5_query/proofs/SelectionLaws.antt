@@ -4,17 +4,25 @@ use Rattle.std.proofs.lemmas.Bool.Decides.{nat_tests}
 use Rattle.std.proofs.lemmas.List.FromFn.{length-range_with_len}
 use Rattle.std.specs.Prelude.{MatchResult, nat_le, ◌==◌, ◌&&◌, if◌then◌else◌, filter}
 use Rattle.std.specs.List.{list_any, range_with_len}
+use Rattle.std.specs.Option.{option_map_or}
 use Rattle.h5_model.proofs.RefusalLaws.{length-axes_of}
 use Rattle.h5_model.specs.Edits.Refusal.{first_holding}
+use Rattle.h5_model.specs.Scripts.Reading.{dataset_rules, selection_rules}
+use Rattle.h5_model.specs.Tree.Objects.{Tree, Dataset}
+use Rattle.h5_model.specs.Tree.Paths.{dataset_at}
 use Rattle.h5_model.specs.Tree.Places.{cells, index_of}
 use Rattle.h5_model.specs.Views.Selection.{Slab, axes_of, has_rank, has_no_stride, overlaps, is_within, is_selected, selection_of}
+use Rattle.h5_model.specs.Views.Shown.{selected_values}
 use Rattle.h5_model.specs.declared.edit_fault.EditFault.{EditFault}
 use Rattle.h5_model.specs.declared.edit_fault.EditFault.TheVariants as fault
 use Rattle.h5_model.specs.declared.hyperslab.Hyper.{Hyper}
 use Rattle.h5_shape.specs.Slab.{slab_of, is_of_one_rank}
 use Rattle.h5_shape.specs.declared.slab.SlabFault.{SlabFault}
 use Rattle.h5_shape.specs.declared.slab.SlabFault.TheVariants as slab
-use Rattle.h5_query.specs.Selected.{hyper_rules, fault_of_slab}
+use Rattle.h5_open.specs.Pieces.{CellsLeft}
+use Rattle.h5_query.specs.Kept.{IsArrayAt}
+use Rattle.h5_query.specs.Selected.{HasRuns, hyper_rules, fault_of_slab}
+use Rattle.h5_query.proofs.RuleLaws.{first-behind, first-found}
 
 -- the outcome of the rules by themselves
 by_rules : (rank stride overlap outside : Bool) (s : Slab)
@@ -70,3 +78,32 @@ selection_few sizes slab =
     let few = few_pass (λ place. is_selected slab (index_of sizes place)) (range_with_len 0 (cells sizes)) in
     let all = length-range_with_len 0 (cells sizes) in
     omega (arith, few, all)
+
+-- ---- the rules of a selection behind those of the path
+
+module _ (tree : Tree) (path : List ℕ) (hyper : Hyper) where
+  abbrev asked_of : Option Dataset → List (EditFault × Bool)
+  asked_of found =
+      (fault.RankMismatch, option_map_or (λ (d : Dataset). not (has_rank (length d.sizes) hyper)) found false)
+      ∷ (fault.StrideZero, list_any has_no_stride (axes_of hyper))
+      ∷ (fault.BlocksOverlap, list_any overlaps (axes_of hyper))
+      ∷ (fault.OutOfExtent, option_map_or (λ (d : Dataset). not (is_within d.sizes (axes_of hyper))) found false)
+      ∷ []
+
+  pub path_refused : (e : EditFault) → first_holding (dataset_rules tree path) ≡ Some e → first_holding (selection_rules tree path hyper) ≡ Some e
+  path_refused e h = first-found (dataset_rules tree path) (asked_of (dataset_at tree path)) e h
+
+  module _ (at : ℕ × Dataset) (there : IsArrayAt tree path at) where
+    pub slab_left : first_holding (selection_rules tree path hyper) ≡ first_holding (hyper_rules (at.1).sizes hyper)
+    slab_left = first-behind (dataset_rules tree path) (asked_of (dataset_at tree path)) there.accepted ∙ ap (λ (found : Option Dataset). first_holding (asked_of found)) there.found
+
+    pub has_runs : (slab : Slab) → first_holding (hyper_rules (at.1).sizes hyper) ≡ None → slab ≡ axes_of hyper → (left : CellsLeft)
+        → left ≡ record { fixed = (at.1).fixed; fill = (at.1).fill; values = selected_values at.1 slab } → HasRuns tree path hyper left
+    has_runs slab selects axes left are = record {
+      accepted = slab_left ∙ selects;
+      dataset = at.1;
+      found = there.found;
+      type_is = ap (λ (l : CellsLeft). l.fixed) are;
+      fill_is = ap (λ (l : CellsLeft). l.fill) are;
+      values_are = ap (λ (l : CellsLeft). l.values) are ∙ ap (selected_values at.1) axes;
+    }

@@ -25,11 +25,12 @@ pub fn one_cell(
         first_holding (cell_rules tree path.now index.now) ≡ Some e) }
 {
     let (_, array) = array_at(alloc, opened, path)?;
-    if index.len() != array.dims().sizes().len() {
+    let dims = array.array().dims();
+    if index.len() != dims.sizes().len() {
         return Err(EditFault::RankMismatch);
     }
-    if !array.dims().is_inside(index) {
+    if !dims.is_inside(index) {
         return Err(EditFault::OutOfExtent);
     }
-    Ok(array.cell(opened.image(), index))
+    Ok(array.cell(index))
 }

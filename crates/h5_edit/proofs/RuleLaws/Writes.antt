@@ -9,14 +9,12 @@ use Rattle.h5_model.specs.Format.Fixed.{fits}
 use Rattle.h5_model.specs.Scripts.Reading.{dataset_rules}
 use Rattle.h5_model.specs.Tree.Objects.{Tree, Dataset}
 use Rattle.h5_model.specs.Tree.Paths.{dataset_at}
-use Rattle.h5_model.specs.Tree.Places.{cells, extent_cells}
 use Rattle.h5_model.specs.Views.Selection.{Slab, axes_of, has_rank, has_no_stride, overlaps, is_within, selected_cells}
 use Rattle.h5_model.specs.declared.edits.Edit.TheVariants.{Write}
 use Rattle.h5_model.specs.declared.edit_fault.EditFault.{EditFault}
 use Rattle.h5_model.specs.declared.edit_fault.EditFault.TheVariants as fault
 use Rattle.h5_model.specs.declared.hyperslab.Hyper.{Hyper}
 use Rattle.h5_query.proofs.RuleLaws.{first-behind, first-found}
-use Rattle.h5_query.proofs.Products.{cells_le}
 use Rattle.h5_query.specs.Selected.{hyper_rules}
 use Rattle.h5_edit.specs.Refusals.Rules.{value_rules}
 use Rattle.h5_edit.proofs.RuleLaws.TableLaws.{or_false}
@@ -48,10 +46,7 @@ module _ (tree : Tree) (next : ℕ) (path : List ℕ) (hyper : Hyper) (values : 
 
 -- ---- how many cells
 
--- of an array that is no larger than arrays may be, so few that a number of 64 bits tells how many
-pub small_count : (sizes : List ℕ) (slab : Slab) → extent_cells sizes ≤ 2 ^ 40 → selected_cells slab ≤ cells sizes → selected_cells slab ≤ 2 ^ 40
-small_count sizes slab small some = let low = cells_le sizes in omega (arith, low, small, some)
-
+-- of an array that is no larger than arrays may be, so few are selected that a number of 64 bits tells how many
 pub exact_count : (count many n : ℕ) → many ≤ 2 ^ 40 → count ≡ min many (2 ^ 64 - 1) → count ≢ n → n ≢ many
 exact_count count many n few is other same = other (let exact : min many (2 ^ 64 - 1) ≡ many = omega arith in is ∙ exact ∙ sym same)
 

@@ -28,7 +28,8 @@ pub(crate) fn check_write(
         (IsRuledOut tree next (Write path.now hyper.now values.now)) }
     ensures sound { IsSound opened.now }
 {
-    let (number, array) = array_at(alloc, opened, path)?;
+    let (number, stored) = array_at(alloc, opened, path)?;
+    let array = stored.array();
     let slab = slab_within(array.dims(), hyper)?;
     if slab.cells() != values.len() as u64 {
         return Err(EditFault::ValueCount);

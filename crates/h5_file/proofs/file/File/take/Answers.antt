@@ -1,11 +1,11 @@
 use Rattle.std.proofs.Common.{refl, ◌∙◌, ap}
 use Rattle.h5_space.specs.Space.{Space}
 use Rattle.h5_edit.specs.Carried.{tree_after}
-use Rattle.h5_file.proofs.Made.{edited, made_carried, made_few, next_within, not_taken, read_at, reads_now}
+use Rattle.h5_file.proofs.Made.{edited, made_reading, made_few, next_within, not_taken, read_at, reads_now}
 use Rattle.h5_file.proofs.file.File.take.Goals as goal
 
-pub open_written-requires-clause-carried : goal.open_written-requires-clause-carried
-open_written-requires-clause-carried c = rw c.new-image.ensures (made_carried c.args.self.now c.requires.sound c.requires.made.0 c.args.made c.requires.made.1)
+pub open_written-requires-clause-read : goal.open_written-requires-clause-read
+open_written-requires-clause-read c = rw c.new-image.ensures (made_reading c.args.self.now c.requires.sound c.requires.made.0 c.args.made c.requires.made.1)
 
 pub returns-in_default : goal.returns-in_default
 returns-in_default c edit is = (not_taken c.args.self.now c.requires.sound edit c.args.made is, refl)
