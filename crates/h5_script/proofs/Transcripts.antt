@@ -1,14 +1,14 @@
 -- The answers of lines that were run are those of the same lines in a session without views, where each is of a form that is taken and
 -- each edit is carried.
-use Rattle.std.proofs.Common.{◌≡◌, ℕ, true, Option, Some, None, List, [], ◌∷◌, ◌++◌, map, refl, sym, ap, ◌∙◌, subst}
+use Rattle.std.proofs.Common.{◌≡◌, ℕ, true, Option, Some, None, List, [], ◌∷◌, ◌++◌, map, refl, sym, ap, ◌∙◌}
 use Rattle.std.specs.List.{AllByRecursion}
 use Rattle.h5_model.specs.Edits.Applied.{State}
 use Rattle.h5_model.specs.Edits.ImageAnswers.{chosen}
 use Rattle.h5_model.specs.Edits.Refusal.{refusal_of, first_holding}
-use Rattle.h5_model.specs.Scripts.Answers.{Answer, Given, Outcome, answer_of, edit_decided, told_unless, transcript_of, session_after, outcomes_of, dumped}
+use Rattle.h5_model.specs.Scripts.Answers.{Answer, Given, answer_of, edit_decided, told_unless, transcript_of, session_after, outcomes_of, dumped}
 use Rattle.h5_model.specs.Scripts.Lines.{Command, Change, OpenView, Show, Close, ListAll, Dump, Repack, Unread}
 use Rattle.h5_model.specs.Scripts.Reading.{path_rules}
-use Rattle.h5_model.specs.Scripts.Sessions.{Session, new_session}
+use Rattle.h5_model.specs.Scripts.Sessions.{new_session}
 use Rattle.h5_model.specs.Scripts.Text.{list_text}
 use Rattle.h5_model.specs.Tree.Paths.{located}
 use Rattle.h5_model.specs.declared.edits.Edit.{Edit}
