@@ -12,3 +12,4 @@ pub mod Readable
 pub mod KeysRise
 pub mod ChunkFound
 pub mod ToldLaws
+pub mod ShapeLaws

@@ -1,17 +1,20 @@
--- Whatever chunks stand in the tree at a root, in whatever blocks, are those that the image tells.
+-- Whatever chunks stand in the tree at a root, in whatever blocks, are those that the image tells; and they stay where the blocks'
+-- bytes do.
 use Rattle.std.proofs.Common.{◌≡◌, ℕ, List, ◌++◌, length, map, sym, ap, ap₂, ◌∙◌, subst}
 use Rattle.std.specs.Prelude.{T}
 use Rattle.std.specs.Ordering.{nat_cmp}
 use Rattle.std.specs.Cmp.Lexicographic.{slice_cmp}
 use Rattle.std.specs.FinMap.{entries, entries-from_sorted, entries_sorted, is_sorted, same_entries_map, values}
-use Rattle.h5_bytes.specs.Blocks.{block}
+use Rattle.h5_bytes.specs.Blocks.{Inside, Keeps, block}
 use Rattle.h5_bytes.specs.declared.Block.{Block}
 use Rattle.h5_model.specs.Format.Superblock.{chunk_k}
 use Rattle.h5_model.specs.Format.Nodes.{reading_of, tree_blocks}
 use Rattle.h5_model.specs.Format.Chunks.{Chunks, HasChunks, chunks_at}
 use Rattle.h5_model.specs.Format.Reached.{Shape, shape_kind}
+use Rattle.h5_model.proofs.Frames.{chunks-same}
 use Rattle.h5_btree.specs.Walk.Forms.{OfChunks}
 use Rattle.h5_btree.specs.Walk.Trees.{IsTree}
+use Rattle.h5_chunks.specs.Read.{AreChunksRead}
 use Rattle.h5_chunks.specs.Told.{chunk_blocks_told, chunks_told, listed_told}
 use Rattle.h5_chunks.proofs.OrderFaults.{listed_is}
 use Rattle.h5_chunks.proofs.Readable.{stored_tree}
@@ -41,3 +44,21 @@ module _ (image : List ℕ) (shape : Shape) (root : ℕ) (chunks : Chunks) (bloc
       has.laid
       ∙ ap₂ (λ (ns xs : List ℕ). tree_blocks (shape_kind image shape) ns ++ map (λ (at : ℕ). block at shape.bytes) xs)
       (nodes_are image shape root has.owned (values chunks) tree) (addresses_are image shape root has.owned (values chunks) tree)
+
+-- chunks stay where the bytes of their blocks stay
+module _ (old new : List ℕ) (shape : Shape) (root : ℕ) (read : AreChunksRead old shape root) (kept : Keeps old new (chunk_blocks_told old shape root)) where
+  stays : HasChunks new (chunk_k new) shape.sizes shape.bytes root (chunks_told old shape root) (chunk_blocks_told old shape root)
+  stays = chunks-same old new (chunk_k old) shape.sizes shape.bytes root (chunks_told old shape root) (chunk_blocks_told old shape root) kept read.stored
+
+  pub chunks_told-same : chunks_told new shape root ≡ chunks_told old shape root
+  chunks_told-same = sym (chunks_are_told new shape root (chunks_told old shape root) (chunk_blocks_told old shape root) stays)
+
+  pub chunk_blocks_told-same : chunk_blocks_told new shape root ≡ chunk_blocks_told old shape root
+  chunk_blocks_told-same = sym (blocks_are_told new shape root (chunks_told old shape root) (chunk_blocks_told old shape root) stays)
+
+  pub chunks_read-same : Inside (length new) (chunk_blocks_told old shape root) → AreChunksRead new shape root
+  chunks_read-same inside = record {
+    stored = subst (HasChunks new (chunk_k new) shape.sizes shape.bytes root (chunks_told new shape root)) (sym chunk_blocks_told-same)
+        (subst (λ (c : Chunks). HasChunks new (chunk_k new) shape.sizes shape.bytes root c (chunk_blocks_told old shape root)) (sym chunks_told-same) stays);
+    inside = subst (Inside (length new)) (sym chunk_blocks_told-same) inside;
+  }

@@ -4,3 +4,4 @@ pub mod Told
 pub mod Order
 pub mod Read
 pub mod Way
+pub use Rattle.h5_btree.specs.Walk

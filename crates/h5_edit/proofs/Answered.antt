@@ -34,9 +34,9 @@ use Rattle.h5_repack.specs.declared.write.WriteFault.{WriteFault}
 use Rattle.h5_repack.specs.declared.write.WriteFault.TheVariants.{TooLong, TooDeep, NoMemory}
 use Rattle.h5_edit.specs.Answers.{answer_to, fault_of_write}
 use Rattle.h5_edit.specs.Carried.{is_too_long, IsRefused}
+use Rattle.h5_edit.proofs.WritableLaws.{writable_tree}
 use Rattle.h5_edit.specs.Fitting.{IsFitting, made_in}
 use Rattle.h5_edit.specs.Made.{IsEditMade}
-use Rattle.h5_edit.proofs.CarriedLaws.{edited_carried}
 use Rattle.h5_edit.proofs.Changes.{few_after}
 use Rattle.h5_repack.proofs.ImageLaws.PlainImages.{plain_reads}
 use Rattle.h5_edit.proofs.Numbered.{standing_map}
@@ -90,7 +90,7 @@ module _ {f : FileState} {edit : Edit} {change : Change} {object : Option Object
     plain_after = subst ArePlain fitting.gives (edited_plain f edit low sound fitting.typed fitting.carried fitting.accepted fitting.roomy)
 
     pub plain_change : IsPlainChange f.tree f.next change
-    plain_change = record { there = fitting.there; plain = opened_plain f low sound; changed_plain = plain_after }
+    plain_change = record { there = fitting.there; plain = opened_plain f low sound (writable_tree f.tree edit fitting.carried); changed_plain = plain_after }
 
     module _ (new : List (Option NewObject)) (are : AreObjects new after) where
       pub tree_to_write : IsTreeToWrite new after
@@ -123,7 +123,7 @@ module _ {f : FileState} {edit : Edit} {change : Change} {object : Option Object
             subst (AreLow leaf internal) (sym fitting.gives) is.low,
           );
         };
-        carried = edited_carried f.tree edit f.next sound.carried fitting.carried;
+        carried = fitting.carried;
         anew = record {
           reads = subst (λ (t : Tree). IsPlainReading w.image.items leaf internal (table_with w.headers.items) t) (sym fitting.gives)
               (read_as leaf internal after k_there sound_change plain_after w is);

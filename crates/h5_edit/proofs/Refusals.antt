@@ -12,12 +12,14 @@ use Rattle.h5_model.specs.declared.edit_fault.EditFault.{EditFault}
 use Rattle.h5_model.specs.declared.edit_fault.EditFault.TheVariants as fault
 use Rattle.h5_query.specs.Opened.Sound.{IsSound}
 use Rattle.h5_query.specs.Opened.State.{FileState}
+use Rattle.h5_edit.specs.Writable.{are_writable}
 use Rattle.h5_edit.specs.Carried.{is_carried, is_anew, is_message_total_full, is_too_long, tree_after, GivenAs, IsGivenFor, IsRefused, IsRefusedBy}
 use Rattle.h5_edit.proofs.Low.{are_low, low_of, of_low}
+use Rattle.h5_edit.proofs.WritableLaws.{carried_kind, other_tree}
 use Rattle.h5_edit.proofs.LowRead.{read_low, edited_low}
 
 -- an edit that is carried is written anew
-pub carried_anew : (tree : Tree) (edit : Edit) → is_carried edit ≡ true → is_anew tree edit ≡ true
+pub carried_anew : (tree : Tree) (edit : Edit) → is_carried tree edit ≡ true → is_anew tree edit ≡ true
 carried_anew tree (Write path hyper values) carried = absurd (let never : false ≡ true = carried in cc)
 carried_anew tree _ carried = refl
 
@@ -54,12 +56,12 @@ module _ (f : FileState) (edit : Edit) where
     deep : AreLow leaf internal (tree_after f edit) → ⊥
     deep low = let never : true ≡ false = sym (of_low leaf internal (tree_after f edit) low) ∙ lies in absurd (cc)
 
-  as_carried : (e : EditFault) → is_carried edit ≡ true → IsRefusedBy f edit e → IsRefused f edit e
+  as_carried : (e : EditFault) → is_carried f.tree edit ≡ true → IsRefusedBy f edit e → IsRefused f edit e
   as_carried e carried by = rw carried by
 
   -- ---- an edit that is carried
 
-  module _ (carried : is_carried edit ≡ true) where
+  module _ (carried : is_carried f.tree edit ≡ true) where
     anew : is_anew f.tree edit ≡ true
     anew = carried_anew f.tree edit carried
 
@@ -82,8 +84,12 @@ module _ (f : FileState) (edit : Edit) where
 
   -- ---- one that is not
 
-  pub not_carried : is_carried edit ≡ false → IsRefused f edit fault.NotYet
+  pub not_carried : is_carried f.tree edit ≡ false → IsRefused f edit fault.NotYet
   not_carried other = rw other refl
+
+  -- its tree cannot be written
+  pub not_written : (e : EditFault) → (are_writable f.tree ≡ false) × (e ≡ fault.NotYet) → IsRefused f edit e
+  not_written e other = rw other.1 (not_carried (other_tree f.tree edit other.0))
 
 -- ---- in place
 
@@ -92,7 +98,7 @@ given_in_place f edit in_place = rw in_place tt
 
 -- ---- an edit of an opened image
 
-module _ {f : FileState} (sound : IsSound f) (edit : Edit) (carried : is_carried edit ≡ true) where
+module _ {f : FileState} (sound : IsSound f) (edit : Edit) (carried : is_carried f.tree edit ≡ true) where
   -- the groups that were read are low, and stay so without a new link
   pub adds_link : (AreLow (leaf_k f.image) (internal_k f.image) (tree_after f edit) → ⊥) → adds_entry edit ≡ true
   adds_link deep = by_test (adds_entry edit) refl where
@@ -100,7 +106,7 @@ module _ {f : FileState} (sound : IsSound f) (edit : Edit) (carried : is_carried
     by_test true is = is
     by_test false is =
         let low = read_low f.image f.table f.tree (sound.placed, sound.reads) in
-        absurd (deep (edited_low (leaf_k f.image) (internal_k f.image) f.tree edit f.next carried is low))
+        absurd (deep (edited_low (leaf_k f.image) (internal_k f.image) f.tree edit f.next (carried_kind f.tree edit carried) is low))
 
   pub by_rule : (e : EditFault) → refusal_of f.tree f.next edit ≡ Some e → IsRefused f edit e
   by_rule e h = by_adding f edit carried adds_link e h

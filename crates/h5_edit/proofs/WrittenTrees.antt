@@ -26,7 +26,8 @@ use Rattle.h5_query.specs.Opened.State.{FileState, state_of}
 use Rattle.h5_query.specs.Written.{with_run, IsStoredRun}
 use Rattle.h5_edit.specs.Carried.{is_anew, may_lack_cells, tree_after}
 use Rattle.h5_edit.specs.Edited.{IsEdited}
-use Rattle.h5_edit.specs.InRun.{IsInRun}
+use Rattle.h5_edit.specs.InRun.{IsInRun, IsRunOf}
+use Rattle.h5_edit.specs.Writable.{is_in_one_block}
 use Rattle.h5_edit.specs.Refusals.Allowed.{IsAt}
 use Rattle.h5_edit.proofs.RuleLaws.TableLaws.{or_false}
 use Rattle.h5_edit.proofs.Refusals.{given_in_place}
@@ -110,12 +111,14 @@ not_anew false some none more = refl
 not_anew true true none more = absurd (cc)
 not_anew true false none more = absurd (cc)
 
-stored_by : (s : Storage) (stored : Bool) → s ≡ Contiguous stored → may_lack_cells s ≡ false → s ≡ Contiguous true
-stored_by s true is has = is
-stored_by s false is has = absurd (let never : true ≡ false = sym (ap may_lack_cells is) ∙ has in cc)
+stored_by : (s : Storage) → is_in_one_block s ≡ true → may_lack_cells s ≡ false → s ≡ Contiguous true
+stored_by (Contiguous true) is has = refl
+stored_by (Contiguous false) is has = absurd (let never : true ≡ false = has in cc)
+stored_by Compact is has = absurd (let never : false ≡ true = is in cc)
+stored_by (Chunked sizes) is has = absurd (let never : false ≡ true = is in cc)
 
 module _ (f : FileState) (sound : IsSound f) (path : List ℕ) (hyper : Hyper) (values : List ℤ) (number : ℕ)
-    (at : IsAt f.tree f.next path (Write path hyper values) number) where
+    (at : IsAt f.tree f.next path (Write path hyper values) number) (run : IsInRun f.tree path hyper) where
   abbrev found : (d : Dataset) × (dataset_at f.tree path ≡ Some d) × Writes d (axes_of hyper) values
   found = accepted_write f.tree f.next path hyper values at.allowed
 
@@ -125,12 +128,15 @@ module _ (f : FileState) (sound : IsSound f) (path : List ℕ) (hyper : Hyper) (
   array : dataset_of f.tree number ≡ Some d
   array = sym (ap (option_and_then (dataset_of f.tree)) at.object) ∙ found.1
 
+  of_run : IsRunOf d hyper
+  of_run = run d found.1
+
   -- it has one dimension
   size_is : (n : ℕ) × (d.sizes ≡ n ∷ [])
-  size_is = one_of d.sizes (sound.carried number d array).line
+  size_is = one_of d.sizes of_run.line
 
   pub axis_is : (a : Axis) × (axes_of hyper ≡ a ∷ [])
-  axis_is = one_of (axes_of hyper) ((found.2).ranked ∙ (sound.carried number d array).line)
+  axis_is = one_of (axes_of hyper) ((found.2).ranked ∙ of_run.line)
 
   -- its cells are stored, where one is written
   pub run_stored : is_anew f.tree (Write path hyper values) ≡ false → 0 < length values → d.storage ≡ Contiguous true
@@ -138,92 +144,90 @@ module _ (f : FileState) (sound : IsSound f) (path : List ℕ) (hyper : Hyper) (
       let counted = (found.2).counted in
       let more : nat_lt 0 (length (selection_of d.sizes (axes_of hyper))) ≡ true = grind (arith, nat_tests) in
       let tests = sym (ap (λ o. option_map_or (λ (e : Dataset). may_lack_cells e.storage && nat_lt 0 (length (selection_of e.sizes (axes_of hyper)))) o false) found.1) ∙ in_place in
-      let is = sound.carried number d array in
-      stored_by d.storage is.stored is.contiguous (not_anew (may_lack_cells d.storage) (nat_lt 0 (length (selection_of d.sizes (axes_of hyper)))) tests more)
+      stored_by d.storage of_run.in_block (not_anew (may_lack_cells d.storage) (nat_lt 0 (length (selection_of d.sizes (axes_of hyper)))) tests more)
 
   pub one_axis : (axes : Slab) → axes ≡ axes_of hyper → 0 < length axes
   one_axis axes are = let one = ap length (are ∙ axis_is.1) in omega (arith, one)
 
   -- they stand from the start on
-  module _ (run : IsInRun f.tree path hyper) where
-    form : (selection_of d.sizes (axes_of hyper) ≡ []) ⊎ (is_run (selection_of d.sizes (axes_of hyper)) ≡ true)
-    form = run d found.1
+  form : (selection_of d.sizes (axes_of hyper) ≡ []) ⊎ (is_run (selection_of d.sizes (axes_of hyper)) ≡ true)
+  form = of_run.run
 
-    pub run_is : selection_of d.sizes (axes_of hyper) ≡ range_with_len (axis_is.0).start (length values)
-    run_is =
-        let both : selection_of d.sizes (axes_of hyper) ≡ selection_of (size_is.0 ∷ []) ((axis_is.0) ∷ []) = (λ i. selection_of (size_is.1 i) (axis_is.1 i)) in
-        let of_one : (selection_of (size_is.0 ∷ []) ((axis_is.0) ∷ []) ≡ []) ⊎ (is_run (selection_of (size_is.0 ∷ []) ((axis_is.0) ∷ [])) ≡ true)
-        = subst (λ (places : List ℕ). (places ≡ []) ⊎ (is_run places ≡ true)) both form in
-        both ∙ run_from_start size_is.0 axis_is.0 of_one
-        ∙ ap (range_with_len (axis_is.0).start) (sym (ap length both) ∙ sym (found.2).counted)
+  pub run_is : selection_of d.sizes (axes_of hyper) ≡ range_with_len (axis_is.0).start (length values)
+  run_is =
+      let both : selection_of d.sizes (axes_of hyper) ≡ selection_of (size_is.0 ∷ []) ((axis_is.0) ∷ []) = (λ i. selection_of (size_is.1 i) (axis_is.1 i)) in
+      let of_one : (selection_of (size_is.0 ∷ []) ((axis_is.0) ∷ []) ≡ []) ⊎ (is_run (selection_of (size_is.0 ∷ []) ((axis_is.0) ∷ [])) ≡ true)
+      = subst (λ (places : List ℕ). (places ≡ []) ⊎ (is_run places ≡ true)) both form in
+      both ∙ run_from_start size_is.0 axis_is.0 of_one
+      ∙ ap (range_with_len (axis_is.0).start) (sym (ap length both) ∙ sym (found.2).counted)
 
-    pub run_room : 0 < length values → (axis_is.0).start + length values ≤ cells d.sizes
-    run_room some = run_ends d.sizes (axes_of hyper) (axis_is.0).start (length values) some run_is
+  pub run_room : 0 < length values → (axis_is.0).start + length values ≤ cells d.sizes
+  run_room some = run_ends d.sizes (axes_of hyper) (axis_is.0).start (length values) some run_is
 
-    object_is : (o : Object) × (get f.tree number ≡ Some o) × (o.content ≡ Array d)
-    object_is = go (get f.tree number) refl where
-      at_content : (o : Object) (c : Content) → o.content ≡ c → get f.tree number ≡ Some o → o.content ≡ Array d
-      at_content o (Group links) is there = absurd (let never : None ≡ Some d = sym (ap (option_and_then (λ (x : Object). dataset_in x.content)) there ∙ ap dataset_in is) ∙ array in cc)
-      at_content o (Array e) is there =
-          is ∙ ap Array (same_Some e d (sym (ap (option_and_then (λ (x : Object). dataset_in x.content)) there ∙ ap dataset_in is) ∙ array))
+  object_is : (o : Object) × (get f.tree number ≡ Some o) × (o.content ≡ Array d)
+  object_is = go (get f.tree number) refl where
+    at_content : (o : Object) (c : Content) → o.content ≡ c → get f.tree number ≡ Some o → o.content ≡ Array d
+    at_content o (Group links) is there = absurd (let never : None ≡ Some d = sym (ap (option_and_then (λ (x : Object). dataset_in x.content)) there ∙ ap dataset_in is) ∙ array in cc)
+    at_content o (Array e) is there =
+        is ∙ ap Array (same_Some e d (sym (ap (option_and_then (λ (x : Object). dataset_in x.content)) there ∙ ap dataset_in is) ∙ array))
 
-      go : (x : Option Object) → get f.tree number ≡ x → (o : Object) × (get f.tree number ≡ Some o) × (o.content ≡ Array d)
-      go None none = absurd (let never : None ≡ Some d = sym (ap (option_and_then (λ (x : Object). dataset_in x.content)) none) ∙ array in cc)
-      go (Some o) there = (o, there, at_content o o.content refl there)
+    go : (x : Option Object) → get f.tree number ≡ x → (o : Object) × (get f.tree number ≡ Some o) × (o.content ≡ Array d)
+    go None none = absurd (let never : None ≡ Some d = sym (ap (option_and_then (λ (x : Object). dataset_in x.content)) none) ∙ array in cc)
+    go (Some o) there = (o, there, at_content o o.content refl there)
 
-    -- the tree of the write, and where no cell is written
-    pub tree_written : is_anew f.tree (Write path hyper values) ≡ false → 0 < length values
-        → tree_after f (Write path hyper values) ≡ with_object f.tree number (with_dataset (with_run (axis_is.0).start values))
-    tree_written in_place some =
-        run_written f.tree f.next path hyper values number object_is.0 d at.object object_is.1 object_is.2 (run_stored in_place some) (axis_is.0).start run_is
+  -- the tree of the write, and where no cell is written
+  pub tree_written : is_anew f.tree (Write path hyper values) ≡ false → 0 < length values
+      → tree_after f (Write path hyper values) ≡ with_object f.tree number (with_dataset (with_run (axis_is.0).start values))
+  tree_written in_place some =
+      run_written f.tree f.next path hyper values number object_is.0 d at.object object_is.1 object_is.2 (run_stored in_place some) (axis_is.0).start run_is
 
-    pub tree_kept : length values ≡ 0 → tree_after f (Write path hyper values) ≡ f.tree
-    tree_kept none =
-        let nothing : selection_of d.sizes (axes_of hyper) ≡ [] = run_is ∙ ap (range_with_len (axis_is.0).start) none in
-        none_written f.tree f.next path hyper values number object_is.0 d at.object object_is.1 object_is.2 nothing
+  pub tree_kept : length values ≡ 0 → tree_after f (Write path hyper values) ≡ f.tree
+  tree_kept none =
+      let nothing : selection_of d.sizes (axes_of hyper) ≡ [] = run_is ∙ ap (range_with_len (axis_is.0).start) none in
+      none_written f.tree f.next path hyper values number object_is.0 d at.object object_is.1 object_is.2 nothing
 
-    -- ---- the image
+  -- ---- the image
 
-    abbrev edit : Edit
-    edit = Write path hyper values
+  abbrev edit : Edit
+  edit = Write path hyper values
 
-    module _ (in_place : is_anew f.tree edit ≡ false) where
-      -- where cells are written: what is asked, and the tree that is made
-      module _ (some : 0 < length values) (axes : Slab) (are : axes ≡ axes_of hyper) (other : Axis) where
-        abbrev place : ℕ
-        place = (slice_index_or axes 0 other).start
+  module _ (in_place : is_anew f.tree edit ≡ false) where
+    -- where cells are written: what is asked, and the tree that is made
+    module _ (some : 0 < length values) (axes : Slab) (are : axes ≡ axes_of hyper) (other : Axis) where
+      abbrev place : ℕ
+      place = (slice_index_or axes 0 other).start
 
-        first : slice_index_or axes 0 other ≡ axis_is.0
-        first = ap (λ (xs : Slab). slice_index_or xs 0 other) (are ∙ axis_is.1)
+      first : slice_index_or axes 0 other ≡ axis_is.0
+      first = ap (λ (xs : Slab). slice_index_or xs 0 other) (are ∙ axis_is.1)
 
-        pub stored_run : (e : Dataset) × IsStoredRun f.tree number place values e
-        stored_run =
-            let there : IsStoredRun f.tree number (axis_is.0).start values d
-            = record { array = array; stored = run_stored in_place some; room = run_room some; of_type = (found.2).fitting } in
-            (d, subst (λ (a : Axis). IsStoredRun f.tree number a.start values d) (sym first) there)
+      pub stored_run : (e : Dataset) × IsStoredRun f.tree number place values e
+      stored_run =
+          let there : IsStoredRun f.tree number (axis_is.0).start values d
+          = record { array = array; stored = run_stored in_place some; room = run_room some; of_type = (found.2).fitting } in
+          (d, subst (λ (a : Axis). IsStoredRun f.tree number a.start values d) (sym first) there)
 
-        tree_run : with_object f.tree number (with_dataset (with_run place values)) ≡ tree_after f edit
-        tree_run = ap (λ (a : Axis). with_object f.tree number (with_dataset (with_run a.start values))) first ∙ sym (tree_written in_place some)
+      tree_run : with_object f.tree number (with_dataset (with_run place values)) ≡ tree_after f edit
+      tree_run = ap (λ (a : Axis). with_object f.tree number (with_dataset (with_run a.start values))) first ∙ sym (tree_written in_place some)
 
-      module _ (e : Edited) (named : option_map (λ (o : ObjectNo). o.0) e.object ≡ Some number) (refreshed : e.refreshed ≡ 0) where
-        edited : (after : FileState) → state_of after ≡ state_of (record f { tree = tree_after f edit }) → IsSound after → (IsWholeFile f → IsWholeFile after)
-            → leaf_k after.image ≡ leaf_k f.image → internal_k after.image ≡ internal_k f.image → IsEdited f edit after e
-        edited after state is whole leaf internal = record {
-          accepted = record { accepted = at.allowed; given = given_in_place f edit in_place };
-          state = state;
-          sound = is;
-          whole = whole;
-          leaf = leaf;
-          internal = internal;
-          object = named ∙ sym at.object;
-          refreshed = refreshed;
-        }
+    module _ (e : Edited) (named : option_map (λ (o : ObjectNo). o.0) e.object ≡ Some number) (refreshed : e.refreshed ≡ 0) where
+      edited : (after : FileState) → state_of after ≡ state_of (record f { tree = tree_after f edit }) → IsSound after → (IsWholeFile f → IsWholeFile after)
+          → leaf_k after.image ≡ leaf_k f.image → internal_k after.image ≡ internal_k f.image → IsEdited f edit after e
+      edited after state is whole leaf internal = record {
+        accepted = record { accepted = at.allowed; given = given_in_place f edit in_place };
+        state = state;
+        sound = is;
+        whole = whole;
+        leaf = leaf;
+        internal = internal;
+        object = named ∙ sym at.object;
+        refreshed = refreshed;
+      }
 
-        pub edited_none : length values ≡ 0 → IsEdited f edit f e
-        edited_none none = edited f (ap (λ (t : Tree). state_of (record f { tree = t })) (sym (tree_kept none))) sound (λ whole. whole) refl refl
+      pub edited_none : length values ≡ 0 → IsEdited f edit f e
+      edited_none none = edited f (ap (λ (t : Tree). state_of (record f { tree = t })) (sym (tree_kept none))) sound (λ whole. whole) refl refl
 
-        pub edited_run : (some : 0 < length values) (axes : Slab) (are : axes ≡ axes_of hyper) (other : Axis) (after : FileState)
-            → after ≡ record f { image = after.image; tree = with_object f.tree number (with_dataset (with_run (slice_index_or axes 0 other).start values)) }
-            → IsSound after → (IsWholeFile f → IsWholeFile after) → leaf_k after.image ≡ leaf_k f.image → internal_k after.image ≡ internal_k f.image → IsEdited f edit after e
-        edited_run some axes are other after changed =
-            edited after (ap state_of changed ∙ ap (λ (t : Tree). state_of (record f { tree = t })) (tree_run some axes are other))
+      pub edited_run : (some : 0 < length values) (axes : Slab) (are : axes ≡ axes_of hyper) (other : Axis) (after : FileState)
+          → after ≡ record f { image = after.image; tree = with_object f.tree number (with_dataset (with_run (slice_index_or axes 0 other).start values)) }
+          → IsSound after → (IsWholeFile f → IsWholeFile after) → leaf_k after.image ≡ leaf_k f.image → internal_k after.image ≡ internal_k f.image → IsEdited f edit after e
+      edited_run some axes are other after changed =
+          edited after (ap state_of changed ∙ ap (λ (t : Tree). state_of (record f { tree = t })) (tree_run some axes are other))

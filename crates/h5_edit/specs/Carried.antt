@@ -18,18 +18,23 @@ use Rattle.h5_model.specs.declared.edit_fault.EditFault.TheVariants as fault
 use Rattle.h5_query.specs.Opened.State.{FileState}
 use Rattle.h5_repack.specs.Image.Plain.{AreLow}
 use Rattle.h5_edit.specs.Refusals.Allowed.{is_carried_spec}
+use Rattle.h5_edit.specs.Writable.{are_writable}
 
 -- ---- which edits are carried
 
 -- a new group, array of one size in one block, or link, and every change of attributes
-abbrev pub is_carried : Edit → Bool
-is_carried (CreateGroup path) = true
-is_carried (CreateDataset path spec) = is_carried_spec spec
-is_carried (HardLink target path) = true
-is_carried (SoftLink text path) = true
-is_carried (SetAttr path attr) = true
-is_carried (RemoveAttr path name) = true
-is_carried _ = false
+abbrev pub is_carried_kind : Edit → Bool
+is_carried_kind (CreateGroup path) = true
+is_carried_kind (CreateDataset path spec) = is_carried_spec spec
+is_carried_kind (HardLink target path) = true
+is_carried_kind (SoftLink text path) = true
+is_carried_kind (SetAttr path attr) = true
+is_carried_kind (RemoveAttr path name) = true
+is_carried_kind _ = false
+
+-- and of a tree that can be written
+abbrev pub is_carried : Tree → Edit → Bool
+is_carried tree edit = is_carried_kind edit && are_writable tree
 
 -- ---- which edits write the image anew
 
@@ -100,4 +105,4 @@ RefusedAs true f edit e = IsRefusedBy f edit e
 RefusedAs false f edit e = e ≡ fault.NotYet
 
 abbrev pub IsRefused : FileState → Edit → EditFault → Type 0
-IsRefused f edit e = RefusedAs (is_carried edit) f edit e
+IsRefused f edit e = RefusedAs (is_carried f.tree edit) f edit e

@@ -1,3 +1,4 @@
+pub mod Writable
 pub mod Carried
 pub mod Made
 pub mod Edited
@@ -11,7 +12,8 @@ pub use Rattle.h5_query.specs.Listed
 pub use Rattle.h5_query.specs.Look
 pub use Rattle.h5_query.specs.Found
 pub use Rattle.h5_query.specs.Place
-pub use Rattle.h5_query.specs.declared.array.StoredArray as StoredArrayType
+pub use Rattle.h5_query.specs.Pieces
+pub use Rattle.h5_query.specs.Selected
 pub use Rattle.h5_query.specs.declared.found.Found as FoundType
 pub use Rattle.h5_query.specs.Opened
 pub use Rattle.h5_query.specs.OpenedObjectType

@@ -1,7 +1,10 @@
 //! Attributes set and removed (File Format Specification 3.0, section IV.A.2.m).
+//!
+//! Each call is refused as `NotYet`, before any other check, where an array of the image is neither in one block nor nowhere.
 
 ghost use Rattle.std.specs.Prelude.{MatchResult};
 ghost use Rattle.h5_model.specs.declared.edits.Edit.TheVariants.{SetAttr, RemoveAttr};
+ghost use Rattle.h5_query.specs.Opened.Sound.{IsSound};
 ghost use Rattle.h5_edit.specs.Carried.{IsRefused};
 ghost use Rattle.h5_edit.specs.Made.{IsEditMade};
 
@@ -9,6 +12,7 @@ use crate::anew::carry_out;
 use crate::change::Change;
 use crate::made::Made;
 use crate::rules::{check_remove_attr, check_set_attr};
+use crate::writable::check_writable;
 use h5_model::{AttrSpec, EditFault, ObjectNo};
 use h5_query::Opened;
 use std::alloc::Global;
@@ -28,10 +32,12 @@ pub fn set_attr(
     path: &[u8],
     attr: &AttrSpec,
 ) -> Result<Made, EditFault>
-    ensures { let f = opened.now in
+    ensures edited { let f = opened.now in
         MatchResult result (IsEditMade f (SetAttr path.now attr.now))
         (IsRefused f (SetAttr path.now attr.now)) }
+    ensures sound { IsSound opened.now }
 {
+    check_writable(alloc, opened)?;
     let number = check_set_attr(alloc, opened, path, attr)?;
     let object = opened.object(number).unwrap();
     // A Continuation may come with the message.
@@ -55,10 +61,12 @@ pub fn remove_attr(
     path: &[u8],
     name: &[u8],
 ) -> Result<Made, EditFault>
-    ensures { let f = opened.now in
+    ensures edited { let f = opened.now in
         MatchResult result (IsEditMade f (RemoveAttr path.now name.now))
         (IsRefused f (RemoveAttr path.now name.now)) }
+    ensures sound { IsSound opened.now }
 {
+    check_writable(alloc, opened)?;
     let number = check_remove_attr(opened, path, name)?;
     let change = Change::RemoveAttr {
         object: number,

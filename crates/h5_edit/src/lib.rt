@@ -1,7 +1,8 @@
 //! Edits of an opened image: why one is refused, in the order of the refusals' numbers, and the image that an accepted one gives, written
 //! anew (File Format Specification 3.0, sections III.C and IV.A).
 //!
-//! Each call writes the whole image, however small the edit is. Where both `TreeTooDeep` and `ImageFull` hold, either is answered.
+//! Each call writes the whole image, however small the edit is, but `write_run`, and answers `NotYet` where an array of the image cannot be
+//! written so far. Where both `TreeTooDeep` and `ImageFull` hold, either is answered.
 #![tactic(auto)]
 
 mod anew;
@@ -10,13 +11,14 @@ mod change;
 mod links;
 mod made;
 mod rules;
+mod writable;
 mod write;
 
 pub use attributes::{remove_attr, set_attr};
 pub use h5_query::{
-    ArrayRef, AttrRef, Dims, Found, Kind, MAX_DEPTH, MAX_RANK, Opened, StoreKind, StoredArray,
+    ArrayRef, AttrRef, Dims, Found, Kind, MAX_DEPTH, MAX_RANK, Opened, Piece, Runs, Slab, SlabFault, StoreKind, StoredArray,
     array_of, attributes_at, found_at, kind_at, links_of, names_at, names_of_attributes, number_at,
-    one_attribute, one_cell,
+    one_attribute, one_cell, runs_at,
 };
 pub use h5_repack::empty_image;
 pub use links::{create_dataset, create_group, hard_link, soft_link};

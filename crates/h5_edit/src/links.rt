@@ -1,11 +1,13 @@
 //! New groups, arrays and links (File Format Specification 3.0, section III.C).
+//!
+//! Each call is refused as `NotYet`, before any other check, where an array of the image is neither in one block nor nowhere.
 
-ghost use Rattle.std.specs.Prelude.{◌≡◌, true, IfOk, MatchResult};
+ghost use Rattle.std.specs.Prelude.{◌≡◌, MatchResult};
 ghost use Rattle.h5_model.specs.declared.edits.Edit.TheVariants.{CreateGroup, CreateDataset, HardLink, SoftLink};
 ghost use Rattle.h5_edit.specs.declared.change.change.Change.TheVariants.{Link as Linked};
 ghost use Rattle.h5_edit.specs.Carried.{IsRefused};
 ghost use Rattle.h5_edit.specs.Made.{IsEditMade};
-ghost use Rattle.h5_edit.specs.Refusals.Allowed.{is_carried_spec};
+ghost use Rattle.h5_query.specs.Opened.Sound.{IsSound};
 
 use crate::anew::carry_out;
 use crate::change::{Change, Target};
@@ -14,6 +16,7 @@ use crate::rules::{
     NewPlace, check_create_dataset, check_create_group, check_hard_link, check_soft_link,
     is_carried,
 };
+use crate::writable::check_writable;
 use h5_model::{EditFault, ObjectNo, Spec};
 use h5_query::Opened;
 use std::alloc::Global;
@@ -24,9 +27,11 @@ use std::alloc::Global;
 /// `TooManyObjects`, `TreeTooDeep` where the tree of the group that takes the link would have more than 16 levels, `ImageFull` where the
 /// image would pass 2147483648 bytes, `NoMemory`.
 pub fn create_group(alloc: Global, opened: &Opened, path: &[u8]) -> Result<Made, EditFault>
-    ensures { let f = opened.now in
+    ensures edited { let f = opened.now in
         MatchResult result (IsEditMade f (CreateGroup path.now)) (IsRefused f (CreateGroup path.now)) }
+    ensures sound { IsSound opened.now }
 {
+    check_writable(alloc, opened)?;
     let place = check_create_group(opened, path)?;
     let change = link_at(place, Target::Group);
     carry_out(alloc, opened, &change, Some(ObjectNo(opened.next())))
@@ -34,9 +39,9 @@ pub fn create_group(alloc: Global, opened: &Opened, path: &[u8]) -> Result<Made,
 
 /// Makes an array at the path, every cell of which is the fill.
 ///
-/// Refused as `NotYet`, before any other check, unless the array is contiguous and of one size. Else by the lowest number that holds:
-/// `BadPath`, `PathTooDeep`, `IsRoot`, `NoSuchParent`, `NotAGroup`, `AlreadyThere`, `NameTooLong`, `BadSpec`, `TooManyCells`, `ValueRange`,
-/// `TooManyObjects`, `TreeTooDeep`, `ImageFull`, `NoMemory`.
+/// Refused as `NotYet`, before any other check, also unless the new array is contiguous and of one size. Else by the lowest number that
+/// holds: `BadPath`, `PathTooDeep`, `IsRoot`, `NoSuchParent`, `NotAGroup`, `AlreadyThere`, `NameTooLong`, `BadSpec`, `TooManyCells`,
+/// `ValueRange`, `TooManyObjects`, `TreeTooDeep`, `ImageFull`, `NoMemory`.
 pub fn create_dataset(
     alloc: Global,
     opened: &Opened,
@@ -46,8 +51,9 @@ pub fn create_dataset(
     ensures edited { let f = opened.now in
         MatchResult result (IsEditMade f (CreateDataset path.now spec.now))
         (IsRefused f (CreateDataset path.now spec.now)) }
-    ensures carried { IfOk result (λ _. is_carried_spec spec.now ≡ true) }
+    ensures sound { IsSound opened.now }
 {
+    check_writable(alloc, opened)?;
     if !is_carried(spec) {
         return Err(EditFault::NotYet);
     }
@@ -68,10 +74,12 @@ pub fn hard_link(
     target: &[u8],
     path: &[u8],
 ) -> Result<Made, EditFault>
-    ensures { let f = opened.now in
+    ensures edited { let f = opened.now in
         MatchResult result (IsEditMade f (HardLink target.now path.now))
         (IsRefused f (HardLink target.now path.now)) }
+    ensures sound { IsSound opened.now }
 {
+    check_writable(alloc, opened)?;
     let (number, place) = check_hard_link(opened, target, path)?;
     let change = link_at(place, Target::Object(number));
     carry_out(alloc, opened, &change, Some(ObjectNo(number)))
@@ -87,10 +95,12 @@ pub fn soft_link(
     text: &[u8],
     path: &[u8],
 ) -> Result<Made, EditFault>
-    ensures { let f = opened.now in
+    ensures edited { let f = opened.now in
         MatchResult result (IsEditMade f (SoftLink text.now path.now))
         (IsRefused f (SoftLink text.now path.now)) }
+    ensures sound { IsSound opened.now }
 {
+    check_writable(alloc, opened)?;
     let place = check_soft_link(opened, text, path)?;
     let change = link_at(place, Target::Text(text));
     carry_out(alloc, opened, &change, None)

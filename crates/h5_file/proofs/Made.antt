@@ -13,7 +13,7 @@ use Rattle.h5_model.specs.declared.edit_fault.EditFault.TheVariants as fault
 use Rattle.h5_laws.proofs.Objects.{in_table}
 use Rattle.h5_laws.proofs.SoundLaws.Read.{placed_at}
 use Rattle.h5_space.specs.Whole.{IsWhole}
-use Rattle.h5_edit.specs.Opened.Carried.{ReadsCarried}
+use Rattle.h5_edit.specs.Opened.Refused.{ReadsSome}
 use Rattle.h5_edit.specs.Opened.Sound.{IsSound, IsWholeFile}
 use Rattle.h5_edit.specs.Opened.State.{FileState, state_of}
 use Rattle.h5_edit.specs.Renumbered.Headers.{table_with, IsReadAt}
@@ -25,7 +25,7 @@ use Rattle.h5_edit.specs.Carried.{IsRefusedBy, tree_after}
 use Rattle.h5_edit.specs.Made.{IsEditMade}
 use Rattle.h5_edit.specs.Edited.{IsEdited}
 
-module _ (f : FileState) (edit : Edit) (made : Made) (is : IsEditMade f edit made) where
+module _ (f : FileState) (before : IsSound f) (edit : Edit) (made : Made) (is : IsEditMade f edit made) where
   abbrev image : List ℕ
   image = made.image.items
 
@@ -42,9 +42,8 @@ module _ (f : FileState) (edit : Edit) (made : Made) (is : IsEditMade f edit mad
   pub made_reads : Reads image (table_with hs) (tree_after f edit)
   made_reads = (is.anew.reads.placed, is.anew.reads.reads)
 
-  -- its tree has no array that is not opened
-  pub made_carried : ReadsCarried image
-  made_carried = (table_with hs, tree_after f edit, made_reads, is.carried)
+  pub made_reading : ReadsSome image
+  made_reading = (table_with hs, tree_after f edit, made_reads)
 
   -- want of memory is always a refusal
   pub not_taken : IsRefusedBy f edit fault.NoMemory
@@ -103,7 +102,6 @@ module _ (f : FileState) (edit : Edit) (made : Made) (is : IsEditMade f edit mad
     sound_after = record {
       placed = is.anew.reads.placed;
       reads = reads_as;
-      carried = is.carried;
       numbers = record { rooted = reads_as.holds.root_group; given = given; low = made_few };
       apart = λ p. omega (arith, blocks_cover p);
     }
@@ -113,7 +111,7 @@ module _ (f : FileState) (edit : Edit) (made : Made) (is : IsEditMade f edit mad
       accepted = is.accepted;
       state = λ i. record { tree = tree_after f edit; next = made_next i };
       sound = sound_after;
-      whole = λ before. whole_after;
+      whole = λ whole. whole_after;
       leaf = ap leaf_k image_is ∙ is.anew.reads.leaf_is;
       internal = ap internal_k image_is ∙ is.anew.reads.internal_is;
       object = rw same is.object;

@@ -7,11 +7,10 @@ use Rattle.h5_bytes.proofs.FieldLaws.{number_at-part}
 use Rattle.h5_model.specs.Faults.Breaches.{Breach, SuperblockBreach, cut}
 use Rattle.h5_model.specs.Format.Superblock.{IsSuperblock, end_of_file}
 use Rattle.h5_model.specs.declared.open_fault.Cause.{Cause}
-use Rattle.h5_model.specs.declared.open_fault.Cause.TheVariants.{NoMemory, NotYet}
-use Rattle.h5_edit.specs.Opened.Carried.{ReadsCarried}
-use Rattle.h5_edit.specs.Opened.NotYet.{IsOpenRefusedAt}
+use Rattle.h5_model.specs.declared.open_fault.Cause.TheVariants.{NoMemory}
+use Rattle.h5_edit.specs.Opened.Refused.{IsOpenRefusedAt}
 use Rattle.h5_laws.proofs.Excluded.{breach_excludes_reads}
-use Rattle.h5_file.specs.Opening.{RefusedBy, IsReadable, IsNoBreach}
+use Rattle.h5_file.specs.Opening.{RefusedBy, IsReadable}
 
 -- ---- bytes that are cut keep their superblock
 
@@ -67,31 +66,15 @@ module _ (bytes : List ℕ) (is : IsSuperblock bytes) where
 
 -- ---- refusals
 
--- no rule of the superblock is one of forms that are not read yet
-no_field : (bytes : List ℕ) (at : ℕ) → SuperblockBreach bytes NotYet at → ⊥
-no_field bytes at (inl h) = h.1
-no_field bytes at (inr h) = h.1
-
 pub field_refused : (bytes : List ℕ) (cause : Cause) (at : ℕ) → SuperblockBreach bytes cause at → RefusedBy bytes cause at
 field_refused bytes NoMemory at h = tt
-field_refused bytes NotYet at h = absurd (no_field bytes at h)
 field_refused bytes _ at h = inl h
 
-pub walk_refused : (bytes : List ℕ) (cause : Cause) (at : ℕ) → IsSuperblock bytes → IsOpenRefusedAt (cut bytes) cause at → RefusedBy bytes cause at
-walk_refused bytes NoMemory at is h = tt
-walk_refused bytes NotYet at is h = (is, h)
-walk_refused bytes _ at is h = inr h
+pub walk_refused : (bytes : List ℕ) (cause : Cause) (at : ℕ) → IsOpenRefusedAt (cut bytes) cause at → RefusedBy bytes cause at
+walk_refused bytes NoMemory at h = tt
+walk_refused bytes _ at h = inr h
 
 -- ---- bytes that are a tree
-
-by_cause : (bytes : List ℕ) (cause c : Cause) (at : ℕ) → cause ≡ c → IsReadable bytes → RefusedBy bytes c at → (ReadsCarried (cut bytes) → c ≡ NoMemory) → IsNoBreach bytes c
-by_cause bytes cause NoMemory at e (table, tree, reads) h only = inl refl
-by_cause bytes cause NotYet at e (table, tree, reads) h only = inr (refl, λ carried. let never : NotYet ≡ NoMemory = only carried in absurd (cc))
-by_cause bytes cause _ at e (table, tree, reads) h only =
-    absurd (breach_excludes_reads bytes cause at (subst (λ c. Breach bytes c at) (sym e) h) table tree reads)
-
-pub no_breach : (bytes : List ℕ) (cause : Cause) (at : ℕ) → IsReadable bytes → RefusedBy bytes cause at → (ReadsCarried (cut bytes) → cause ≡ NoMemory) → IsNoBreach bytes cause
-no_breach bytes cause at readable h only = by_cause bytes cause cause at refl readable h only
 
 -- no rule of the superblock is broken
 pub no_field_breach : (bytes : List ℕ) (cause : Cause) (at : ℕ) → IsReadable bytes → SuperblockBreach bytes cause at → ⊥
@@ -100,8 +83,3 @@ no_field_breach bytes cause at (table, tree, reads) h = breach_excludes_reads by
 -- bytes that end where they say are all of them
 pub all_cut : (bytes : List ℕ) (end : ℕ) → end ≡ end_of_file bytes → length bytes ≤ end → bytes ≡ cut bytes
 all_cut bytes end is past = sym (ap (λ n. take n bytes) (sym is) ∙ take_all end bytes past)
-
--- of a refusal one may say what follows from two things that are said of it
-pub err_says : {T E : Type 0} (r : Result T E) (P Q R : E → Type 0) → ((e : E) → P e → Q e → R e) → IfErr r P → IfErr r Q → IfErr r R
-err_says (Ok t) P Q R on h g = h
-err_says (Err e) P Q R on h g = on e h g

@@ -9,14 +9,13 @@ use Rattle.h5_model.specs.Format.Reads.{Reads}
 use Rattle.h5_model.specs.Format.Superblock.{IsSuperblock, end_of_file}
 use Rattle.h5_model.proofs.OneReading.{one_reading}
 use Rattle.h5_laws.proofs.Objects.{object_at, in_tree}
-use Rattle.h5_edit.specs.Opened.Carried.{ReadsCarried}
+use Rattle.h5_edit.specs.Opened.Refused.{ReadsSome}
 use Rattle.h5_edit.specs.Opened.Sound.{IsSound, IsWholeFile}
 use Rattle.h5_edit.specs.Opened.State.{FileState}
 use Rattle.h5_edit.specs.Renumbered.Headers.{table_with}
 use Rattle.h5_edit.proofs.OpenedLaws.Made.{entries_standing, get_standing}
 use Rattle.h5_edit.proofs.RenumberedLaws.Renumbered.{next_at}
 use Rattle.h5_file.specs.State.{created_state}
-use Rattle.h5_edit.proofs.CarriedLaws.{root_carried}
 use Rattle.h5_edit.proofs.EmptyFile.{empty_reading}
 use Rattle.h5_edit.proofs.Numbered.{standing_map}
 
@@ -31,9 +30,8 @@ empty_alone : Reads empty_file (table_with (Some 96 ∷ [])) root_tree
 unfolding root_table
 empty_alone = (empty_reading.placed, empty_reading.reads)
 
--- and so it reads as a tree of arrays that are opened: it has none
-pub empty_carried : (image : List ℕ) → image ≡ empty_file → ReadsCarried image
-empty_carried image same = subst ReadsCarried (sym same) (table_with (Some 96 ∷ []), root_tree, empty_alone, root_carried)
+pub empty_reads : (image : List ℕ) → image ≡ empty_file → ReadsSome image
+empty_reads image same = subst ReadsSome (sym same) (table_with (Some 96 ∷ []), root_tree, empty_alone)
 
 -- no byte of it is lost
 created_whole : IsWholeFile created_state

@@ -6,6 +6,7 @@ pub use Rattle.h5_edit.specs.Carried
 pub use Rattle.h5_edit.specs.Listed
 pub use Rattle.h5_edit.specs.Look
 pub use Rattle.h5_edit.specs.Found
-pub use Rattle.h5_edit.specs.StoredArrayType
+pub use Rattle.h5_edit.specs.Pieces
+pub use Rattle.h5_edit.specs.Selected
 pub use Rattle.h5_edit.specs.FoundType
 pub use Rattle.h5_edit.specs.Opened

@@ -1,10 +1,14 @@
 //! Edits of a file, each of which writes the image anew.
+//!
+//! Each public call is refused as `NotYet`, before any other check, where an array of the file is neither in one block nor nowhere: it
+//! cannot be written so far.
 
 ghost use Rattle.std.specs.Prelude.{◌≡◌, true, false, None, IfOk, MatchResult};
 ghost use Rattle.h5_model.specs.declared.edits.Edit.{Edit as TheEdit};
 ghost use Rattle.h5_model.specs.declared.edits.Edit.TheVariants.{CreateGroup, CreateDataset, HardLink, SoftLink, SetAttr, RemoveAttr, Write};
 ghost use Rattle.h5_edit.specs.Carried.{IsRefused, IsRefusedBy, is_anew, is_carried};
 ghost use Rattle.h5_edit.specs.Made.{IsEditMade};
+ghost use Rattle.h5_edit.specs.Opened.Sound.{IsSound};
 ghost use Rattle.h5_model.specs.Edits.Refusal.{refusal_of};
 ghost use Rattle.h5_edit.specs.Edited.{IsEdited};
 ghost use Rattle.h5_edit.specs.InRun.{IsInRun};
@@ -20,12 +24,12 @@ impl File {
     /// Carries an edit out: the image is then that of the tree that the edit gives.
     ///
     /// Refused as `NotYet`, before any other check, where it removes a link, writes or resizes, or creates an array that is not contiguous
-    /// of one size; then as the call of its own is. Where both `TreeTooDeep` and `ImageFull` hold, either is answered. A refusal changes
+    /// of one size, or where an array of the file is neither in one block nor nowhere; then as the call of its own is. Where both `TreeTooDeep` and `ImageFull` hold, either is answered. A refusal changes
     /// nothing.
     pub fn edit(&mut self, edit: &Edit) -> Result<Edited, EditFault>
         ensures edited { MatchResult result (IsEdited self.old edit.now self.new) (λ e.
             IsRefused self.old edit.now e × (self.new ≡ self.old)) }
-        ensures carried { IfOk result (λ _. is_carried edit.now ≡ true) }
+        ensures carried { IfOk result (λ _. is_carried self.old.tree edit.now ≡ true) }
     {
         match edit {
             Edit::CreateGroup { path } => self.create_group(path.as_slice()),
@@ -44,8 +48,9 @@ impl File {
     /// `NameTooLong` above 1023 bytes, `TooManyObjects`, `TreeTooDeep` where the tree of the group that takes the link would have more
     /// than 16 levels, `ImageFull` where the image would pass 2147483648 bytes, `NoMemory`. A refusal changes nothing.
     pub fn create_group(&mut self, path: &[u8]) -> Result<Edited, EditFault>
-        ensures { MatchResult result (IsEdited self.old (CreateGroup path.now) self.new)
+        ensures edited { MatchResult result (IsEdited self.old (CreateGroup path.now) self.new)
             (λ e. IsRefused self.old (CreateGroup path.now) e × (self.new ≡ self.old)) }
+        ensures carried { IfOk result (λ _. is_carried self.old.tree (CreateGroup path.now) ≡ true) }
     {
         let made = create_group(self.alloc, &self.opened, path)?;
         self.take(made)
@@ -53,14 +58,15 @@ impl File {
 
     /// Creates an array at the path, every cell of which is the fill.
     ///
-    /// Refused as `NotYet`, before any other check, unless the array is contiguous and of one size. Else by the lowest number that holds:
-    /// `BadPath`, `PathTooDeep`, `IsRoot`, `NoSuchParent`, `NotAGroup`, `AlreadyThere`, `NameTooLong` above 1023 bytes, `BadSpec` where the
-    /// maximum is not the size, `TooManyCells`, `ValueRange`, `TooManyObjects`, `TreeTooDeep`, `ImageFull`, `NoMemory`. A refusal changes
+    /// Refused as `NotYet`, before any other check, also unless the new array is contiguous and of one size. Else by the lowest number that
+    /// holds: `BadPath`, `PathTooDeep`, `IsRoot`, `NoSuchParent`, `NotAGroup`, `AlreadyThere`, `NameTooLong` above 1023 bytes, `BadSpec` where
+    /// the maximum is not the size, `TooManyCells`, `ValueRange`, `TooManyObjects`, `TreeTooDeep`, `ImageFull`, `NoMemory`. A refusal changes
     /// nothing.
     pub fn create_dataset(&mut self, path: &[u8], spec: &Spec) -> Result<Edited, EditFault>
         ensures edited { MatchResult result (IsEdited self.old (CreateDataset path.now spec.now) self.new)
             (λ e. IsRefused self.old (CreateDataset path.now spec.now) e × (self.new ≡ self.old)) }
-        ensures carried { IfOk result (λ _. is_carried (CreateDataset path.now spec.now) ≡ true) }
+        ensures carried { IfOk result (λ _.
+            is_carried self.old.tree (CreateDataset path.now spec.now) ≡ true) }
     {
         let made = create_dataset(self.alloc, &self.opened, path, spec)?;
         self.take(made)
@@ -72,8 +78,9 @@ impl File {
     /// where nothing or a soft link stands at `target`, `AlreadyThere`, `NameTooLong` above 1023 bytes, `GroupLink` where a group stands
     /// at `target`, `TooManyLinks` above 65535, `TreeTooDeep`, `ImageFull`, `NoMemory`. A refusal changes nothing.
     pub fn hard_link(&mut self, target: &[u8], path: &[u8]) -> Result<Edited, EditFault>
-        ensures { MatchResult result (IsEdited self.old (HardLink target.now path.now) self.new)
+        ensures edited { MatchResult result (IsEdited self.old (HardLink target.now path.now) self.new)
             (λ e. IsRefused self.old (HardLink target.now path.now) e × (self.new ≡ self.old)) }
+        ensures carried { IfOk result (λ _. is_carried self.old.tree (HardLink target.now path.now) ≡ true) }
     {
         let made = hard_link(self.alloc, &self.opened, target, path)?;
         self.take(made)
@@ -85,8 +92,9 @@ impl File {
     /// `NoSuchParent`, `NotAGroup`, `AlreadyThere`, `NameTooLong` where the name or the text has more than 1023 bytes, `TreeTooDeep`,
     /// `ImageFull`, `NoMemory`. A refusal changes nothing.
     pub fn soft_link(&mut self, text: &[u8], path: &[u8]) -> Result<Edited, EditFault>
-        ensures { MatchResult result (IsEdited self.old (SoftLink text.now path.now) self.new)
+        ensures edited { MatchResult result (IsEdited self.old (SoftLink text.now path.now) self.new)
             (λ e. IsRefused self.old (SoftLink text.now path.now) e × (self.new ≡ self.old)) }
+        ensures carried { IfOk result (λ _. is_carried self.old.tree (SoftLink text.now path.now) ≡ true) }
     {
         let made = soft_link(self.alloc, &self.opened, text, path)?;
         self.take(made)
@@ -99,8 +107,9 @@ impl File {
     /// `AttributeTooLarge` where the message's body would pass 65528 bytes, `HeaderFull` where the header's total of messages plus 2
     /// passes 65535, `ImageFull` where the image would pass 2147483648 bytes, `NoMemory`. A refusal changes nothing.
     pub fn set_attr(&mut self, path: &[u8], attr: &AttrSpec) -> Result<Edited, EditFault>
-        ensures { MatchResult result (IsEdited self.old (SetAttr path.now attr.now) self.new)
+        ensures edited { MatchResult result (IsEdited self.old (SetAttr path.now attr.now) self.new)
             (λ e. IsRefused self.old (SetAttr path.now attr.now) e × (self.new ≡ self.old)) }
+        ensures carried { IfOk result (λ _. is_carried self.old.tree (SetAttr path.now attr.now) ≡ true) }
     {
         let made = set_attr(self.alloc, &self.opened, path, attr)?;
         self.take(made)
@@ -111,8 +120,9 @@ impl File {
     /// Refused by the lowest number that holds: `BadPath`, `PathTooDeep`, `NoSuchParent`, `NotAGroup`, `NotFound`, `NoSuchAttribute`,
     /// `ImageFull` where the image would pass 2147483648 bytes, `NoMemory`. A refusal changes nothing.
     pub fn remove_attr(&mut self, path: &[u8], name: &[u8]) -> Result<Edited, EditFault>
-        ensures { MatchResult result (IsEdited self.old (RemoveAttr path.now name.now) self.new)
+        ensures edited { MatchResult result (IsEdited self.old (RemoveAttr path.now name.now) self.new)
             (λ e. IsRefused self.old (RemoveAttr path.now name.now) e × (self.new ≡ self.old)) }
+        ensures carried { IfOk result (λ _. is_carried self.old.tree (RemoveAttr path.now name.now) ≡ true) }
     {
         let made = remove_attr(self.alloc, &self.opened, path, name)?;
         self.take(made)
@@ -143,7 +153,8 @@ impl File {
 
     /// Takes the image that an edit gives in place of the file's own. Its objects keep their numbers.
     fn take(&mut self, made: Made) -> Result<Edited, EditFault>
-        requires { (edit : TheEdit) × IsEditMade self.old edit made }
+        requires sound { IsSound self.old }
+        requires made { (edit : TheEdit) × IsEditMade self.old edit made }
         ensures { (edit : TheEdit) → IsEditMade self.old edit made
             → MatchResult result (IsEdited self.old edit self.new) (λ e.
             IsRefusedBy self.old edit e × (self.new ≡ self.old)) }

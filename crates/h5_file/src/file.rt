@@ -3,24 +3,26 @@
 ghost use Rattle.std.specs.Prelude.{◌≡◌, [], IfOk, IfErr, MatchOption, MatchResult, Some, length, map};
 ghost use Rattle.h5_model.specs.Faults.Breaches.{cut};
 ghost use Rattle.h5_model.specs.Edits.Refusal.{first_holding};
-ghost use Rattle.h5_model.specs.Scripts.Reading.{path_rules, attribute_rules, cell_rules};
+ghost use Rattle.h5_model.specs.Scripts.Reading.{path_rules, attribute_rules, cell_rules, selection_rules};
+ghost use Rattle.h5_model.specs.Tree.Objects.{dataset_of};
 ghost use Rattle.h5_model.specs.Format.Superblock.{IsSuperblock, end_of_file};
 ghost use Rattle.std.specs.FinMap.{len};
-ghost use Rattle.h5_edit.specs.Opened.Carried.{ReadsCarried};
-ghost use Rattle.h5_edit.specs.Opened.NotYet.{IsOpenRefusedAt};
+ghost use Rattle.h5_edit.specs.Opened.Refused.{IsOpenRefusedAt, ReadsSome};
 ghost use Rattle.h5_edit.specs.Opened.Sound.{IsSound, IsWholeFile};
 ghost use Rattle.h5_edit.specs.Listed.{IsNoGroup, AreGroupLinks};
-ghost use Rattle.h5_edit.specs.Look.{HasKind, HasLinksNamed, HasCell, HasArrayNumbered, HasAttribute, HasAttributeNames, HasAttributesOf, IsListRefused, IsNoDataset, IsUnlisted};
+ghost use Rattle.h5_edit.specs.Look.{HasKind, HasLinksNamed, HasCell, HasAttribute, HasAttributeNames, HasAttributesOf, IsListRefused, IsNoDataset, IsUnlisted};
 ghost use Rattle.h5_edit.specs.Found.{HasFound, IsUnfound};
 ghost use Rattle.h5_edit.specs.Place.{IsNumber, IsNoObject};
+ghost use Rattle.h5_edit.specs.Selected.{HasRuns};
 ghost use Rattle.h5_file.specs.State.{created_state};
-ghost use Rattle.h5_file.specs.Opening.{IsNoBreach, IsReadable, Refused};
+ghost use Rattle.h5_file.specs.Opening.{IsReadable, Refused};
 
 use h5_edit::{
-    AttrRef, Found, Kind, Opened, StoredArray, array_of, attributes_at, empty_image, found_at,
-    kind_at, links_of, names_at, names_of_attributes, number_at, one_attribute, one_cell,
+    AttrRef, Found, Kind, Opened, Runs, StoredArray, array_of, attributes_at, empty_image,
+    found_at, kind_at, links_of, names_at, names_of_attributes, number_at, one_attribute, one_cell,
+    runs_at,
 };
-use h5_model::{Cause, EditFault, Link, ObjectNo, OpenFault};
+use h5_model::{Cause, EditFault, Hyper, Link, ObjectNo, OpenFault};
 use h5_space::{Image, end_of_file, superblock_fault};
 use std::alloc::{AllocError, Global};
 use std::marker::Model;
@@ -63,9 +65,7 @@ impl File {
     ///
     /// A refusal names the first broken rule of the superblock (File Format Specification 3.0,
     /// section II.A), and else the first that is met on the walk from there, and where it stands;
-    /// it gives the bytes back whole. What is well begun but not read yet is refused as
-    /// [`Cause::NotYet`] where it stands: the header of an array that has not one dimension or is not in
-    /// one block.
+    /// it gives the bytes back whole. Bytes that are a tree are refused as [`Cause::NoMemory`] alone.
     ///
     /// Each block is looked at once. Where bytes follow the end of file address, those before it are
     /// copied first.
@@ -73,8 +73,8 @@ impl File {
         ensures image { IfOk result (λ f. (f.image ≡ cut bytes.items) × (f.free ≡ [])) }
         ensures sound { IfOk result IsSound }
         ensures refused { IfErr result (λ e. Refused bytes.items e.0) }
-        // Bytes that are a tree are refused for want of memory, or because an array is not opened yet, alone.
-        ensures only { IsReadable bytes.items → IfErr result (λ e. IsNoBreach bytes.items e.0.cause) }
+        // Bytes that are a tree are refused for want of memory alone.
+        ensures only { IfErr result (λ e. IsReadable bytes.items → e.0.cause ≡ Cause.NoMemory) }
         // No number was used up before.
         ensures numbers { IfOk result (λ f. f.next ≡ len f.tree) }
         ensures back { IfErr result (λ e. e.1.items ≡ bytes.items) }
@@ -183,6 +183,18 @@ impl File {
         one_cell(self.alloc, &self.opened, path, index)
     }
 
+    /// The selected cells of the array at the path, piece by piece in row-major order, as they stand in the image. The selection is
+    /// the hyperslab of four lists, with a number for each dimension.
+    ///
+    /// Refused as [`File::kind`] is, as `NotADataset` where no array stands there, and by the lowest number that holds of `RankMismatch`,
+    /// `StrideZero`, `BlocksOverlap`, and `OutOfExtent` where a selected cell is outside. Neither the call nor a step takes memory.
+    pub fn runs(&self, path: &[u8], hyper: &Hyper) -> Result<Runs<'_>, EditFault>
+        ensures { MatchResult result (HasRuns self.now.tree path.now hyper.now) (λ e.
+            first_holding (selection_rules self.now.tree path.now hyper.now) ≡ Some e) }
+    {
+        runs_at(self.alloc, &self.opened, path, hyper)
+    }
+
     /// The number of the object at the path. It stays the object's while the file is open.
     ///
     /// Refused as [`File::kind`] is, also as `NotFound` where a soft link stands there. It takes no memory.
@@ -206,19 +218,19 @@ impl File {
 
     /// The array of this number, or `None` where no array has it. It takes no memory.
     pub fn array(&self, number: ObjectNo) -> Option<StoredArray<'_>>
-        ensures { MatchOption result (IsNoDataset self.now.tree number.0)
-            (HasArrayNumbered self.now.tree number.0) }
+        ensures { MatchOption result (IsNoDataset self.now.tree number.0) (λ array.
+            dataset_of self.now.tree number.0 ≡ Some array) }
     {
         array_of(self.alloc, &self.opened, number)
     }
 }
 
-/// Opens an image without free blocks that reads as a tree of arrays that are opened. Fails where memory is refused.
+/// Opens an image without free blocks that reads as a tree. Fails where memory is refused.
 pub(crate) fn open_written(alloc: Global, image: Image) -> Result<Opened, AllocError>
     requires superblock { IsSuperblock image.bytes }
     requires whole { end_of_file image.bytes ≡ length image.bytes }
     requires free { image.free ≡ [] }
-    requires carried { ReadsCarried image.bytes }
+    requires read { ReadsSome image.bytes }
     ensures image { IfOk result (λ o. (o.image ≡ image.bytes) × (o.free ≡ [])) }
     ensures sound { IfOk result IsSound }
     ensures numbers { IfOk result (λ o. o.next ≡ len o.tree) }
@@ -240,7 +252,7 @@ fn open_front(alloc: Global, bytes: Vec<u8>, end: usize) -> Result<File, (OpenFa
     ensures sound { IfOk result IsSound }
     ensures numbers { IfOk result (λ f. f.next ≡ len f.tree) }
     ensures refused { IfErr result (λ e. IsOpenRefusedAt (cut bytes.items) e.0.cause e.0.address) }
-    ensures only { IfErr result (λ e. ReadsCarried (cut bytes.items) → e.0.cause ≡ Cause.NoMemory) }
+    ensures only { IfErr result (λ e. ReadsSome (cut bytes.items) → e.0.cause ≡ Cause.NoMemory) }
     ensures back { IfErr result (λ e. e.1.items ≡ bytes.items) }
 {
     let Ok(front) = Vec::from_slice(alloc, &bytes[..end]) else {

@@ -19,10 +19,11 @@
 //! A [`File`] is made by [`File::create`] or read from bytes by [`File::open`], which names the
 //! rule that bytes break by an [`OpenFault`]. The form of the bytes is the HDF5 File Format
 //! Specification's, version 3.0; docs/FORMAT.md says which part of it is accepted. This version
-//! opens files of any groups and links whose arrays have one dimension in one block, with any
-//! attributes. It makes groups, hard and soft links, and contiguous arrays of one size, and sets and
-//! removes attributes of any object; links that are removed, cells that are written, sizes that are
-//! changed and arrays of other forms are refused as `NotYet`.
+//! opens files of any groups and links, with arrays of any form and any attributes. It makes groups,
+//! hard and soft links, and contiguous arrays of one size, and sets and removes attributes of any
+//! object, in files whose arrays each have their cells in one block or nowhere. Edits of other files,
+//! links that are removed, cells that are written, sizes that are changed and new arrays of other forms
+//! are refused as `NotYet`.
 #![tactic(auto)]
 
 mod edits;
@@ -30,7 +31,8 @@ mod file;
 
 pub use file::File;
 pub use h5_edit::{
-    ArrayRef, AttrRef, Dims, Found, Kind, MAX_DEPTH, MAX_RANK, StoreKind, StoredArray,
+    ArrayRef, AttrRef, Dims, Found, Kind, MAX_DEPTH, MAX_RANK, Piece, Runs, Slab, SlabFault,
+    StoreKind, StoredArray,
 };
 pub use h5_model::{
     AttrSpec, Cause, Edit, EditFault, Edited, Fixed, Hyper, Items, Link, LinkTo, ObjectNo,

@@ -1,3 +1,9 @@
+pub mod BesideLaws
+pub mod LocateLaws
+pub mod GridLaws
+pub mod CellLaws
+pub mod PieceLaws
+pub mod DataLaws
 pub mod ArrayLaws
 pub mod BreachLaws
 pub mod RoomLaws

@@ -1,10 +1,10 @@
 -- The data of an array where they stand in an image: its stored chunks, and its blocks (File Format Specification 3.0, sections
 -- III.A.1 and IV.A.2.i).
-use Rattle.std.specs.Prelude.{ℕ, ◌+◌, ◌*◌, ◌≤◌, Some, None, List, [], ◌∷◌, length}
+use Rattle.std.specs.Prelude.{◌≡◌, ℕ, ◌+◌, ◌*◌, ◌^◌, ◌≤◌, true, Some, None, List, [], ◌∷◌, length}
 use Rattle.std.specs.FinMap.{empty}
 use Rattle.h5_bytes.specs.declared.Block.{Block}
 use Rattle.h5_model.specs.Format.Chunks.{Chunks}
-use Rattle.h5_model.specs.Format.Fixed.{Fixed}
+use Rattle.h5_model.specs.Format.Fixed.{Fixed, IsFixed, fits}
 use Rattle.h5_model.specs.Format.Layout.{Layout, InMessage, InBlock, InChunks}
 use Rattle.h5_model.specs.Format.Reached.{Shape}
 use Rattle.h5_model.specs.Tree.Objects.{Dataset}
@@ -43,3 +43,10 @@ AreDataRead image t (InChunks sizes (Some root)) = AreChunksRead image (chunk_sh
 -- the dataset with this description, whose stored chunks are those that the image tells
 abbrev pub dataset_told : List ℕ → Described → Dataset
 dataset_told image a = described_dataset image a (stored_chunks image a.fixed a.layout)
+
+-- what every dataset that is read keeps to
+pub record IsSoundDataset (d : Dataset) : Type 0 where
+  pub fixed : IsFixed d.fixed
+  pub fill : fits d.fixed d.fill ≡ true
+  pub counted : length d.cells ≡ cells d.sizes
+  pub few : cells d.sizes ≤ 2 ^ 40

@@ -1,7 +1,11 @@
+pub mod CellData
+pub mod ChunkCells
 pub mod Data
 pub mod Described
 pub mod Judged
 pub mod Maxima
+pub mod Pieces
+pub mod Runs
 pub mod Stored
 pub mod Told
 pub mod Written

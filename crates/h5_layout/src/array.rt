@@ -222,7 +222,7 @@ fn data_bytes<'b>(layout: &Layout<'b>, image: &'b Image) -> Option<&'b [u8]>
 }
 
 /// The bytes of the block, where there is one.
-fn block_bytes(image: &Image, block: Option<Block>) -> Option<&[u8]>
+pub(crate) fn block_bytes(image: &Image, block: Option<Block>) -> Option<&[u8]>
     requires { ForSome block (λ b. b.at + b.len ≤ length image.now.bytes) }
     ensures { MatchOption result (block ≡ None) (λ bytes.
         option_map (λ b. part b.at b.len image.now.bytes) block ≡ Some bytes.now) }

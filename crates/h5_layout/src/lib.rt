@@ -1,17 +1,23 @@
-//! Arrays as the object headers of datasets describe them: type, sizes, maxima, fill value and layout, and the cells
-//! that are not in chunks (File Format Specification 3.0, section IV.A.2).
+//! Arrays as the object headers of datasets describe them: type, sizes, maxima, fill value and layout, and their cells
+//! (File Format Specification 3.0, section IV.A.2).
 //!
 //! No call takes memory. Places and lengths of data are in bytes, sizes of arrays and chunks in elements.
 #![tactic(auto)]
 
 mod array;
 mod bodies;
+mod cells;
+mod grid;
 mod judge;
+mod pieces;
 mod read;
+mod stored;
 mod write;
 
 pub use array::ArrayRef;
 pub use h5_msg::Layout;
-pub use h5_shape::{Dims, MAX_RANK};
+pub use h5_shape::{Dims, MAX_RANK, Slab, SlabFault};
+pub use pieces::{Piece, Runs};
 pub use read::{known_array, read_array};
+pub use stored::StoredArray;
 pub use write::write_cells;

@@ -90,8 +90,6 @@ pub enum Cause {
     BadName,
     /// Memory was refused.
     NoMemory,
-    /// The bytes are well begun, and are of a form that this version does not read yet.
-    NotYet,
 }
 
 impl Cause {
@@ -136,7 +134,6 @@ impl Cause {
             Cause::TooLarge => 34,
             Cause::BadName => 35,
             Cause::NoMemory => 36,
-            Cause::NotYet => 37,
         }
     }
 
@@ -181,7 +178,6 @@ impl Cause {
             Cause::TooLarge => "TooLarge",
             Cause::BadName => "BadName",
             Cause::NoMemory => "NoMemory",
-            Cause::NotYet => "NotYet",
         }
     }
 }

@@ -13,7 +13,7 @@ use Rattle.std.proofs.Math.Nat.{mul-le-mul_right}
 use Rattle.h5_bytes.specs.Bytes.{byte_at, part, with_part}
 use Rattle.h5_bytes.specs.Blocks.{holds, cover, Inside, Keeps}
 use Rattle.h5_bytes.specs.declared.Block.{Block}
-use Rattle.h5_bytes.proofs.BlockLaws.{all_append, all_so, cover-append, holds_in}
+use Rattle.h5_bytes.proofs.BlockLaws.{all_append, cover-append, holds_in}
 use Rattle.h5_bytes.proofs.PartLaws.{with_part_is, length-with_part}
 use Rattle.h5_model.specs.Edits.Applied.{with_cells, with_dataset}
 use Rattle.h5_model.specs.Format.Fixed.{Fixed, fits}
@@ -32,7 +32,7 @@ use Rattle.h5_space.specs.Moves.{Moves}
 use Rattle.h5_space.proofs.MovesLaws.{moves_kept}
 use Rattle.h5_header.specs.Listed.{messages_in, IsWithin}
 use Rattle.h5_header.proofs.KeptLaws.{listed-same, header-same}
-use Rattle.h5_layout.specs.Described.{described_dataset}
+use Rattle.h5_layout.specs.Data.{AreDataRead, data_blocks, dataset_told}
 use Rattle.h5_layout.specs.Told.{array_told, extent_told, layout_told, type_told}
 use Rattle.h5_layout.specs.Written.{block_cells}
 use Rattle.h5_laws.proofs.Lists.{in_all, all_in, stands_at}
@@ -41,7 +41,6 @@ use Rattle.h5_laws.proofs.InPlace.DatasetWrites.{cells_block}
 use Rattle.h5_open.specs.declared.opened.object.OpenedObject.{OpenedObject}
 use Rattle.h5_open.specs.declared.opened.object.OpenedContent.{OpenedContent}
 use Rattle.h5_open.specs.declared.opened.object.OpenedContent.TheVariants as content
-use Rattle.h5_open.specs.Opened.Array.{data_blocks}
 use Rattle.h5_open.specs.Opened.Kept.{IsOpened, IsObjectKept, IsContentKept}
 use Rattle.h5_open.specs.Opened.Objects.{objects_of, content_blocks, content_in, object_blocks, object_in, table_of, tree_of}
 use Rattle.h5_open.specs.Opened.Sound.{IsObjectOf, IsWholeFile}
@@ -49,6 +48,7 @@ use Rattle.h5_open.specs.Opened.State.{opened_state}
 use Rattle.h5_open.specs.Written.{with_run, IsKeptBut, IsStoredRun}
 use Rattle.h5_open.proofs.ChangedObject.{changed_at, changed_tree}
 use Rattle.h5_open.proofs.CellsInPlace.{IsArrayAt, cells_reads, cells_apart, cells_whole, k_stay}
+use Rattle.h5_open.proofs.DataLaws.{data_inside}
 use Rattle.h5_open.proofs.KeptFrames.{kept-same}
 use Rattle.h5_open.proofs.OpenedLaws.Entries.{get_tree}
 use Rattle.h5_open.proofs.OpenedLaws.ReadBlocks.{opened_all}
@@ -88,7 +88,7 @@ module _ (q : ℕ) (f : OpenedObject → List Block) where
 
 -- what is kept of an array tells the dataset
 array_kept : (image : List ℕ) (table : FinMap nat_cmp ℕ) (ms : List Message) (c : OpenedContent) (d : Dataset) → dataset_in (content_in image table ms c) ≡ Some d
-    → (c ≡ content.Array) × (d ≡ described_dataset image (array_told ms) empty)
+    → (c ≡ content.Array) × (d ≡ dataset_told image (array_told ms))
 array_kept image table ms (content.Group t) d is = absurd (let never : None ≡ Some d = is in cc)
 array_kept image table ms content.Array d is = (refl, sym (same_Some _ d is))
 
@@ -134,7 +134,7 @@ module _ (old : Space) (slots : List (Option OpenedObject)) (numbers : BTreeMap 
   apart_was = subst (λ (bs : List Block). IsApart bs old.free (length old.bytes)) (opened_all old.bytes slots tree opened.reads.0 opened.each opened.reads.1) opened.apart
 
   module _ (d : Dataset) (place : ℕ) (values : List ℤ) (run : IsStoredRun tree number place values d) where
-    told : (p.content ≡ content.Array) × (d ≡ described_dataset old.bytes (array_told ms) empty)
+    told : (p.content ≡ content.Array) × (d ≡ dataset_told old.bytes (array_told ms))
     told = array_kept old.bytes table ms p.content d (ap (option_and_then (λ (o : Object). dataset_in o.content)) (sym of.there) ∙ run.array)
 
     pub content_kept : IsContentKept old.bytes ms content.Array
@@ -152,12 +152,12 @@ module _ (old : Space) (slots : List (Option OpenedObject)) (numbers : BTreeMap 
 
     module _ (b : Block) (laid : layout_told ms ≡ InBlock (Some b)) where
       pub inside : b.at + b.len ≤ length old.bytes
-      inside = (subst (λ (l : Layout). Inside (length old.bytes) (data_blocks l)) laid content_kept.1).0
+      inside = subst (AreDataRead old.bytes (type_told ms)) laid content_kept.1
 
       it : IsArrayAt old.bytes table tree number b
       it = record {
         o = object_in old.bytes table p;
-        d = described_dataset old.bytes (array_told ms) empty;
+        d = dataset_told old.bytes (array_told ms);
         stands = of.there;
         array = ap (λ (c : OpenedContent). content_in old.bytes table ms c) told.0;
         header = p.messages.header;
@@ -172,7 +172,7 @@ module _ (old : Space) (slots : List (Option OpenedObject)) (numbers : BTreeMap 
       parts : (q : ℕ) → cover q (object_blocks old.bytes p) ≡ cover q p.messages.blocks + holds q b.at b.len
       parts q =
           let content = ap (λ (c : OpenedContent). cover q (content_blocks old.bytes ms c)) told.0 in
-          let stored = ap (λ (l : Layout). cover q (data_blocks l)) laid in
+          let stored = ap (λ (l : Layout). cover q (data_blocks old.bytes (type_told ms) l)) laid in
           omega (arith, content, stored, cover-append q p.messages.blocks (content_blocks old.bytes ms p.content))
 
       module _ (new : Space) (moves : Moves old new (b ∷ []) (b ∷ [])) (long : length new.bytes ≡ length old.bytes) where
@@ -184,7 +184,8 @@ module _ (old : Space) (slots : List (Option OpenedObject)) (numbers : BTreeMap 
         inside_content : (o : OpenedObject) (c : OpenedContent) → IsContentKept old.bytes (messages_in old.bytes o.messages.list) c
             → Inside (length old.bytes) (content_blocks old.bytes (messages_in old.bytes o.messages.list) c)
         inside_content o (content.Group t) kept = kept.2.inside
-        inside_content o content.Array kept = kept.1
+        inside_content o content.Array kept =
+            let list = messages_in old.bytes o.messages.list in data_inside old.bytes (type_told list) (layout_told list) kept.1
 
         other_kept : (k : ℕ) (o : OpenedObject) → slice_get slots k ≡ Some (Some o) → (k < number) ⊎ (number < k) → IsObjectKept old.bytes o → IsObjectKept new.bytes o
         other_kept k o there other kept =
@@ -203,11 +204,9 @@ module _ (old : Space) (slots : List (Option OpenedObject)) (numbers : BTreeMap 
         same_messages = listed-same old.bytes new.bytes p.messages of.kept.header.has of.kept.header.within header_kept
 
         content_now : IsContentKept new.bytes ms content.Array
-        content_now = (
-          content_kept.0,
-          all_so (λ (c : Block). c.at + c.len ≤ length old.bytes) (λ (c : Block). c.at + c.len ≤ length new.bytes) (data_blocks (layout_told ms))
-              (λ c low. omega (arith, low, long)) content_kept.1,
-        )
+        content_now =
+            let still : b.at + b.len ≤ length new.bytes = omega (arith, inside, long) in
+            (content_kept.0, subst (AreDataRead new.bytes (type_told ms)) (sym laid) still)
 
         within_now : IsWithin (length new.bytes) p.messages.list
         within_now = subst (λ (n : ℕ). IsWithin n p.messages.list) (sym long) of.kept.header.within
@@ -257,7 +256,7 @@ module _ (old : Space) (slots : List (Option OpenedObject)) (numbers : BTreeMap 
           cells_are =
               let a = array_told ms in
               let before : it.d.cells ≡ block_cells old.bytes a.fixed b (cells a.sizes)
-              = ap (λ (l : Layout). (described_dataset old.bytes (record a { layout = l }) empty).cells) laid ∙ cells_block old.bytes a.fixed a.fill a.sizes b empty in
+              = ap (λ (l : Layout). (dataset_told old.bytes (record a { layout = l })).cells) laid ∙ cells_block old.bytes a.fixed a.fill a.sizes b empty in
               let after : with_cells it.d.cells (range_with_len place (length values)) values ≡ block_cells new.bytes a.fixed b (cells a.sizes)
               = ap (λ (cs : List ℤ). with_cells cs (range_with_len place (length values)) values) before ∙ sym (written (cells a.sizes) enough room) in
               ap (λ (cs : List ℤ). record it.d { cells = cs }) after

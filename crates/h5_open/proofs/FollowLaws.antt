@@ -16,7 +16,7 @@ use Rattle.h5_open.specs.declared.opened.object.OpenedObject.{OpenedObject}
 use Rattle.h5_open.specs.declared.opened.object.OpenedContent.{OpenedContent}
 use Rattle.h5_open.specs.declared.opened.object.OpenedContent.TheVariants as content
 use Rattle.h5_open.specs.Opened.Kept.{IsObjectKept, IsContentKept}
-use Rattle.h5_open.specs.Opened.NotYet.{IsOpenRefusedAt}
+use Rattle.h5_open.specs.Opened.Refused.{IsOpenRefusedAt}
 use Rattle.h5_open.specs.Opened.Objects.{content_links}
 use Rattle.h5_open.specs.Placed.Whole.{IsGroupContent}
 use Rattle.h5_open.specs.Walk.{IsNamedBy, IsUnder, IsReady, AreFurtherObjects, IsTreeRead, IsLinkReady, IsLinkRead}

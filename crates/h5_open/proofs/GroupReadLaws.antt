@@ -1,10 +1,10 @@
 -- A group that was read in a walk.
-use Rattle.std.proofs.Common.{◌≡◌, ◌⊎◌, inl, inr, ℕ, ◌+◌, ◌-◌, ◌*◌, ◌<◌, ◌≤◌, List, [], ◌∷◌, ◌++◌, map, length, refl, sym, subst, Some, append_assoc, arith}
-use Rattle.std.specs.Prelude.{◌==◌, true}
-use Rattle.std.specs.List.{AllByRecursion, find}
+use Rattle.std.proofs.Common.{◌≡◌, ◌⊎◌, inl, inr, ℕ, ◌+◌, ◌-◌, ◌*◌, ◌<◌, ◌≤◌, List, [], ◌∷◌, map, length, refl, sym, subst, Some, arith}
+use Rattle.std.specs.Prelude.{◌==◌}
+use Rattle.std.specs.List.{find}
 use Rattle.h5_bytes.specs.Blocks.{cover, Separate, Inside}
 use Rattle.h5_bytes.specs.declared.Block.{Block}
-use Rattle.h5_bytes.proofs.BlockLaws.{all_append, all_left, all_right, cover-append}
+use Rattle.h5_bytes.proofs.BlockLaws.{all_append, all_left, all_right, all_so, cover-append}
 use Rattle.h5_model.specs.Format.Addresses.{SymbolTable, symbol_table_of}
 use Rattle.h5_model.specs.Format.Superblock.{leaf_k}
 use Rattle.h5_model.specs.Format.Messages.{Message, HasMessages, count_of}
@@ -12,14 +12,11 @@ use Rattle.h5_model.specs.Format.Symbols.{symbol_block}
 use Rattle.h5_model.specs.Format.Heap.{heap_blocks}
 use Rattle.h5_model.specs.Format.Nodes.{tree_blocks}
 use Rattle.h5_model.specs.Format.Reached.{Named, named, ObjectHeader, SymbolNode, Reached}
-use Rattle.h5_model.specs.Faults.Breaches.{is_header}
-use Rattle.h5_model.specs.Faults.HeaderFaults.{ListBreach}
 use Rattle.h5_model.specs.declared.open_fault.Cause.{Cause}
 use Rattle.h5_model.specs.declared.open_fault.Cause.TheVariants.{NoMemory, MissingMessage, TooDeep}
 use Rattle.h5_attr.specs.Attributes.{HasNamesOnce}
 use Rattle.h5_header.specs.Listed.{Listed, messages_in}
-use Rattle.h5_laws.proofs.Lists.{In, in_all, in_contains, contains_in, in_right}
-use Rattle.h5_header.specs.Walk.Walked.{IsWalked}
+use Rattle.h5_laws.proofs.Lists.{In, in_all, in_contains}
 use Rattle.h5_header.specs.Walk.Met.{IsHeaderMet, with_header}
 use Rattle.h5_header.proofs.WalkLaws.ListLaws.{no_root_refused}
 use Rattle.h5_group.specs.Nodes.Trees.{kind_in, group_nodes_blocks}
@@ -29,12 +26,12 @@ use Rattle.h5_group.specs.Told.{nodes_told, symbol_nodes_told, links_told, block
 use Rattle.h5_group.specs.Walk.{IsGroupMet, IsGroupFollowed}
 use Rattle.h5_open.specs.declared.opened.object.OpenedObject.{OpenedObject}
 use Rattle.h5_open.specs.declared.opened.object.OpenedContent.TheVariants as content
-use Rattle.h5_open.specs.Opened.Judged.{IsGroupList, IsKindBreach, IsGroupBreach}
-use Rattle.h5_open.specs.Opened.NotYet.{IsOpenRefusedAt}
-use Rattle.h5_open.specs.Read.{IsHeaderRead, IsHeaderDone, IsObjectRead, IsObjectFollowed, IsOwn, IsDeepAt, AreWaiting}
-use Rattle.h5_open.proofs.HeaderFields.{header_fields, fields_only, fields_stand, only_inner}
+use Rattle.h5_open.specs.Opened.Judged.{IsGroupList, IsKindBreach}
+use Rattle.h5_open.specs.Opened.Refused.{IsOpenRefusedAt}
+use Rattle.h5_open.specs.Read.{IsHeaderRead, IsHeaderDone, IsObjectRead, IsObjectFollowed, IsOwn, IsDeepAt}
+use Rattle.h5_open.proofs.HeaderFields.{only_inner}
 use Rattle.h5_open.proofs.TableLaws.{found_table, table_numbers, tree_met, heap_met, table_walked}
-use Rattle.h5_open.proofs.ArrayReadLaws.{message_free}
+use Rattle.h5_open.proofs.ContentLaws.{content_followed, message_free}
 use Rattle.h5_open.proofs.ArrayLaws.{list_breach}
 use Rattle.h5_open.proofs.PlaceLaws.{links_wait}
 
@@ -71,16 +68,8 @@ module _ (image : List ℕ) (m : Listed) (has : HasMessages image m.header (mess
   kind_breach cause (inl (top, is, none)) = subst (λ (c : Cause). IsOpenRefusedAt image c m.header) (sym is) (no_root top none)
   kind_breach cause (inr breach) = list_breach image m.header all m.blocks has inside held followed field depth met cause breach
 
-  by_cause : (cause c : Cause) → cause ≡ c → IsGroupBreach image m.header all c → IsOpenRefusedAt image c m.header
-  by_cause cause NoMemory e h = tt
-  by_cause cause _ e h = subst (λ (c : Cause). IsOpenRefusedAt image c m.header) e
-      (list_breach image m.header all m.blocks has inside held followed field depth met cause (subst (λ (c : Cause). ListBreach image m.header all c) (sym e) h))
-
   pub kind_fault : (cause : Cause) (address : ℕ) → address ≡ m.header → IsKindBreach image m.header depth all cause → IsOpenRefusedAt image cause address
   kind_fault cause address at h = subst (IsOpenRefusedAt image cause) (sym at) (kind_breach cause h)
-
-  pub group_fault : (cause : Cause) (address : ℕ) → address ≡ m.header → IsGroupBreach image m.header all cause → IsOpenRefusedAt image cause address
-  group_fault cause address at h = subst (IsOpenRefusedAt image cause) (sym at) (by_cause cause cause refl h)
 
 -- a symbol node of the group lies in the image
 symbols_inside : (image : List ℕ) (nodes : List ℕ) → Inside (length image) (map (symbol_block (leaf_k image)) nodes) → (node : ℕ) → In node nodes → node + (8 + 80 * leaf_k image) ≤ length image
@@ -129,31 +118,14 @@ module _ (image : List ℕ) (held now : List Block) (followed : List Named) (fie
   own_of y (inr (inl e)) = inr (subst (λ (f : ℕ). cover (f - 8) held ≡ 0) (sym e) (free (first + 8) (omega arith) (omega arith)))
   own_of y (inr (inr none)) = inr (omega (arith, none, done.claimed (y.field - 8)))
 
-  all_own : (ys : List Named) → AllByRecursion (λ (y : Named). (y.field ≡ first) ⊎ ((y.field ≡ first + 8) ⊎ (cover (y.field - 8) now ≡ 0))) ys → AllByRecursion (IsOwn held field) ys
-  all_own [] stands = tt
-  all_own (y ∷ ys) stands = (own_of y stands.0, all_own ys stands.1)
-
   module _ (after : List Block) (gone : IsGroupFollowed image now after (with_header field m.header depth ms followed) first (first + 8) depth table) where
-    abbrev own_header : Named
-    own_header = named field ObjectHeader m.header depth
-
-    seam : (gone.new ++ header_fields field m.header depth ms) ++ followed ≡ gone.new ++ with_header field m.header depth ms followed
-    seam = append_assoc gone.new (header_fields field m.header depth ms) followed
-
     -- its links wait
     pub group_object_followed : Separate after → ((p : ℕ) → cover p after ≡ cover p now + cover p (blocks_told image table)) → IsObjectFollowed image held after followed field depth (group_object m table)
     group_object_followed once stored =
         let waits = links_wait image table held now after (λ p. omega (arith, done.claimed p)) (with_header field m.header depth ms followed) first (first + 8) depth gone once stored in
-        record {
-          new = gone.new ++ header_fields field m.header depth ms;
-          walked = subst (IsWalked image after) (sym seam) gone.walked;
-          stands = all_append (IsOwn held field) gone.new (header_fields field m.header depth ms) (all_own gone.new gone.stands)
-              (fields_stand image m.header ms m.blocks has held now done.claimed separate field depth);
-          only = all_append (λ (y : Named). is_header y.role ≡ true → y.at ≡ m.header) gone.new (header_fields field m.header depth ms) (only_inner m.header gone.new gone.inner) (fields_only field m.header depth ms);
-          first = contains_in own_header (gone.new ++ header_fields field m.header depth ms) (in_right own_header gone.new (header_fields field m.header depth ms) (inl refl));
-          fields = waits.0;
-          waiting = subst (λ (ys : List Named). AreWaiting image held after ys depth (links_told image table) waits.0) (sym seam) waits.1;
-        }
+        content_followed image held now followed field depth m done separate after (content.Group table) gone.new gone.walked
+        (all_so (λ (y : Named). (y.field ≡ first) ⊎ ((y.field ≡ first + 8) ⊎ (cover (y.field - 8) now ≡ 0))) (IsOwn held field) gone.new own_of gone.stands)
+        (only_inner m.header gone.new gone.inner) waits.0 waits.1
 
     -- a link would stand too deep
     deep_refused : IsGroupRead image table → (address : ℕ) → IsDeepAt image table depth address → IsOpenRefusedAt image TooDeep address

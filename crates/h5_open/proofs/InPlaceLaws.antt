@@ -22,7 +22,6 @@ use Rattle.h5_space.specs.Space.{Space}
 use Rattle.h5_space.specs.Whole.{IsApart, IsWhole}
 use Rattle.h5_space.proofs.MovesLaws.{moves_apart, moves_whole, moves_kept, moves_local_used}
 use Rattle.h5_model.specs.Scripts.Sessions.{IsState}
-use Rattle.h5_open.specs.Opened.Carried.{AreCarried}
 use Rattle.h5_open.specs.Opened.Sound.{IsSound}
 use Rattle.h5_open.specs.InPlace.{end_field, chosen_objects, other_objects, touched_blocks, IsLeft, IsRemade, IsInPlace}
 
@@ -257,12 +256,11 @@ module _ (old new : Space) (table table' : FinMap nat_cmp ℕ) (tree tree' : Tre
 -- the file is as sound as before
 pub in_place_sound : (old new : Space) (table table' : FinMap nat_cmp ℕ) (next next' : ℕ) (tree tree' : Tree)
     (sound : IsSound (record { image = old.bytes; free = old.free; table = table; next = next; tree = tree })) (placed' : List Placed) (touched : ℕ → Bool)
-    → IsInPlace old new table table' tree tree' sound.placed placed' touched → IsSoundTree tree' → AreCarried tree' → IsState (record { tree = tree'; next = next' })
+    → IsInPlace old new table table' tree tree' sound.placed placed' touched → IsSoundTree tree' → IsState (record { tree = tree'; next = next' })
     → IsSound (record { image = new.bytes; free = new.free; table = table'; next = next'; tree = tree' })
-in_place_sound old new table table' next next' tree tree' sound placed' touched is good carried numbers = record {
+in_place_sound old new table table' next next' tree tree' sound placed' touched is good numbers = record {
   placed = placed';
   reads = in_place_reads old new table table' tree tree' sound.placed placed' touched sound.reads sound.apart is good;
-  carried = carried;
   numbers = numbers;
   apart = in_place_apart old new table table' tree tree' sound.placed placed' touched sound.reads sound.apart is;
 }

@@ -9,10 +9,6 @@ use Rattle.std.proofs.lemmas.Bool.{cases_lt}
 use Rattle.h5_model.specs.Format.Messages.{Message, count_of, first_body}
 use Rattle.h5_model.specs.Faults.HeaderFaults.{SomeBody}
 use Rattle.h5_header.proofs.FoundLaws.{found, none_stands}
-use Rattle.h5_layout.specs.Described.{Described, HasArray}
-use Rattle.h5_layout.proofs.ToldLaws.{laid_out}
-use Rattle.h5_open.specs.Opened.NotYet.{HasOtherArray}
-use Rattle.h5_open.specs.Opened.Array.{IsOtherArray}
 
 -- the first body of a type is that of some message
 pub first_fails : {A : Type 0} (f : List ℕ → Option A) (kind : ℕ) (ms : List Message) (body : List ℕ) → Some body ≡ first_body kind ms → f body ≡ None
@@ -44,10 +40,3 @@ some_read {A = A} (Some y) e x h = let same : x ≡ y = cc in ap (λ (z : A). So
 pub none_read : {A E : Type 0} (o : Option A) (e f : E) → Err f ≡ ok_or o e → o ≡ None
 none_read None e f h = refl
 none_read (Some y) e f h = absurd (cc)
-
--- ---- an array
-
--- an array that has not one dimension, or is not in one block, is one that is not opened yet
-pub other_array : (ms : List Message) (a : Described) → HasArray ms a → IsOtherArray a → HasOtherArray ms
-other_array ms a has (inl many) = inl (record { sizes = a.sizes; maxima = a.maxima }, has.space, many)
-other_array ms a has (inr other) = inr (a.layout, laid_out ms a has, other)

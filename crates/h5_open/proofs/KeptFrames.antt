@@ -1,5 +1,5 @@
 -- What is kept of an object while a file is edited in place: where the bytes of its blocks stay, it stands in the image as before.
-use Rattle.std.proofs.Common.{◌≡◌, ℕ, ◌≤◌, List, [], ◌∷◌, ◌++◌, length, refl, sym, ap, ◌∙◌, subst, arith}
+use Rattle.std.proofs.Common.{◌≡◌, ℕ, ◌≤◌, List, [], ◌∷◌, ◌++◌, length, sym, ap, ◌∙◌, subst, arith}
 use Rattle.h5_bytes.specs.Blocks.{Keeps, Inside, IsKept}
 use Rattle.h5_bytes.specs.declared.Block.{Block}
 use Rattle.h5_bytes.proofs.BlockLaws.{all_left, all_right}
@@ -9,12 +9,14 @@ use Rattle.h5_header.specs.Listed.{messages_in, IsWithin}
 use Rattle.h5_header.proofs.KeptLaws.{listed-same, header-same}
 use Rattle.h5_header.specs.declared.message.Message.{Message as Placed}
 use Rattle.h5_group.specs.Told.{blocks_told}
+use Rattle.h5_layout.specs.Told.{layout_told, type_told}
 use Rattle.h5_group.proofs.ToldLaws.{told-same, blocks_told-same}
 use Rattle.h5_open.specs.declared.opened.object.OpenedObject.{OpenedObject}
 use Rattle.h5_open.specs.declared.opened.object.OpenedContent.{OpenedContent}
 use Rattle.h5_open.specs.declared.opened.object.OpenedContent.TheVariants as content
 use Rattle.h5_open.specs.Opened.Kept.{IsObjectKept, IsContentKept}
 use Rattle.h5_open.specs.Opened.Objects.{content_blocks, object_blocks}
+use Rattle.h5_open.proofs.DataLaws.{data_blocks-same, data_read-same}
 
 module _ (old new : List ℕ) (leaf : leaf_k new ≡ leaf_k old) (internal : internal_k new ≡ internal_k old) (grown : length old ≤ length new) where
   inside_still : (blocks : List Block) → Inside (length old) blocks → Inside (length new) blocks
@@ -40,7 +42,7 @@ module _ (old new : List ℕ) (leaf : leaf_k new ≡ leaf_k old) (internal : int
 
     blocks_of : (c : OpenedContent) → IsContentKept old ms c → Keeps old new (content_blocks old ms c) → content_blocks new ms c ≡ content_blocks old ms c
     blocks_of (content.Group table) held keeps = blocks_told-same old new leaf internal table held.2.linked keeps
-    blocks_of content.Array held keeps = refl
+    blocks_of content.Array held keeps = data_blocks-same old new grown (type_told ms) (layout_told ms) held.1 keeps
 
     pub kept_blocks : object_blocks new o ≡ object_blocks old o
     kept_blocks = ap (λ (bs : List Block). o.messages.blocks ++ bs)
@@ -56,7 +58,7 @@ module _ (old new : List ℕ) (leaf : leaf_k new ≡ leaf_k old) (internal : int
             inside = subst (Inside (length new)) (sym same) (inside_still (blocks_told old table) held.2.inside);
           },
         )
-    content_of content.Array held keeps = (held.0, inside_still _ held.1)
+    content_of content.Array held keeps = (held.0, data_read-same old new grown (type_told ms) (layout_told ms) held.1 keeps)
 
     pub kept-same : IsObjectKept new o
     kept-same = record {

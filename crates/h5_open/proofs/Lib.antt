@@ -2,6 +2,8 @@ pub mod JudgeLaws
 pub mod FoundLaws
 pub mod RefusedLaws
 pub mod HeaderFields
+pub mod DataLaws
+pub mod ChunkRoot
 pub mod ArrayLaws
 pub mod TableLaws
 pub mod PlaceLaws
@@ -10,11 +12,11 @@ pub mod WaitLaws
 pub mod UnderLaws
 pub mod StepLaws
 pub mod FollowLaws
+pub mod ContentLaws
 pub mod ArrayReadLaws
 pub mod GroupReadLaws
 pub mod IndexLaws
 pub mod WholeLaws
-pub mod CarriedLaws
 pub mod DepthLaws
 pub mod OpenedLaws
 pub mod KeptFrames

@@ -3,42 +3,29 @@ use Rattle.std.proofs.Common.{◌≡◌, ◌≢◌, ℕ, List, [], ◌∷◌, re
 use Rattle.std.specs.Prelude.{false}
 use Rattle.std.specs.List.{AllByRecursion}
 use Rattle.h5_bytes.specs.declared.Block.{Block}
-use Rattle.h5_model.specs.Format.Reached.{Named, named, Role, ObjectHeader, Continuation, GroupNode, SymbolNode, HeapHeader, Segment, Data, ChunkNode, Chunk}
-use Rattle.h5_model.specs.Faults.Breaches.{BlockBreach, is_header}
+use Rattle.h5_model.specs.Format.Reached.{Named, named, ObjectHeader}
+use Rattle.h5_model.specs.Faults.Breaches.{is_header}
 use Rattle.h5_model.specs.declared.open_fault.Cause.{Cause}
-use Rattle.h5_model.specs.declared.open_fault.Cause.TheVariants.{NoMemory, NotYet}
+use Rattle.h5_model.specs.declared.open_fault.Cause.TheVariants.{NoMemory}
+use Rattle.h5_laws.proofs.Excluded.{reached_excluded}
 use Rattle.h5_header.specs.Refused.{IsHeaderRefused}
 use Rattle.h5_header.specs.Walk.Walked.{Breaches}
 use Rattle.h5_header.specs.Walk.Met.{IsHeaderMet}
 use Rattle.h5_header.proofs.WalkLaws.WalkedLaws.{IsOther}
 use Rattle.h5_header.proofs.WalkLaws.HeaderLaws.{header_refused}
-use Rattle.h5_group.specs.Nodes.Walk.{IsFault}
-use Rattle.h5_open.specs.Opened.NotYet.{IsOpenRefusedAt}
-
-no_block : (image : List ℕ) (x : Named) (role : Role) → BlockBreach image x role NotYet → ⊥
-no_block image x ObjectHeader h = h.2
-no_block image x (Continuation header) h = h
-no_block image x (GroupNode root heap level) h = h
-no_block image x (SymbolNode root heap) h = h
-no_block image x (HeapHeader root) h = h
-no_block image x Segment h = h
-no_block image x Data h = h
-no_block image x (ChunkNode shape root level) h = h
-no_block image x (Chunk bytes) h = h
-
--- what is not read yet is no breach
-no_breach : (image : List ℕ) (address : ℕ) → Breaches image NotYet address → ⊥
-no_breach image address h = no_block image h.0 h.0.role h.3.1
+use Rattle.h5_open.specs.Opened.Refused.{IsOpenRefusedAt, ReadsSome}
 
 pub as_refused : (image : List ℕ) (cause : Cause) (address : ℕ) → (cause ≢ NoMemory → Breaches image cause address) → IsOpenRefusedAt image cause address
 as_refused image NoMemory address h = tt
-as_refused image NotYet address h = absurd (no_breach image address (h (λ e. cc)))
 as_refused image _ address h = h (λ e. cc)
 
-pub fault_refused : (image : List ℕ) (cause : Cause) (address : ℕ) → IsFault image cause address → IsOpenRefusedAt image cause address
-fault_refused image NoMemory address h = tt
-fault_refused image NotYet address h = absurd (no_breach image address h)
-fault_refused image _ address h = h
+-- a breach is of bytes that read as no tree, so an image that reads is refused for want of memory alone
+memory_alone : (image : List ℕ) (cause c : Cause) (address : ℕ) → cause ≡ c → IsOpenRefusedAt image c address → ReadsSome image → c ≡ NoMemory
+memory_alone image cause NoMemory address e h r = refl
+memory_alone image cause _ address e h (table, tree, (placed, reads)) = absurd (reached_excluded image table tree placed reads h.0 h.1 cause (rw e h.3))
+
+pub only_memory : (image : List ℕ) (cause : Cause) (address : ℕ) → IsOpenRefusedAt image cause address → ReadsSome image → cause ≡ NoMemory
+only_memory image cause address h r = memory_alone image cause cause address refl h r
 
 -- ---- headers that are met
 

@@ -1,3 +1,4 @@
+pub mod Followed
 pub mod Read
 pub mod Walk
 pub mod Opened
@@ -6,6 +7,8 @@ pub mod Counted
 pub mod Renumbered
 pub mod InPlace
 pub mod Written
+pub use Rattle.h5_layout.specs.Data
+pub use Rattle.h5_layout.specs.Pieces
 pub use Rattle.h5_layout.specs.Stored
 pub use Rattle.h5_layout.specs.Described
 pub use Rattle.h5_layout.specs.Told

@@ -17,7 +17,7 @@ use Rattle.h5_header.specs.Walk.Walked.{IsWalked}
 use Rattle.h5_header.specs.Walk.Met.{IsMet, IsHeaderMet}
 use Rattle.h5_open.specs.declared.opened.object.OpenedObject.{OpenedObject}
 use Rattle.h5_open.specs.Opened.Kept.{IsObjectKept}
-use Rattle.h5_open.specs.Opened.NotYet.{IsOpenRefusedAt}
+use Rattle.h5_open.specs.Opened.Refused.{IsOpenRefusedAt}
 use Rattle.h5_open.specs.Opened.Objects.{content_links, object_blocks}
 use Rattle.h5_open.specs.Placed.Whole.{IsGroupContent}
 

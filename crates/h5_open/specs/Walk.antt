@@ -15,7 +15,7 @@ use Rattle.h5_header.specs.Walk.Walked.{IsWalked}
 use Rattle.h5_header.specs.Walk.Met.{IsMet}
 use Rattle.h5_open.specs.declared.opened.object.OpenedObject.{OpenedObject}
 use Rattle.h5_open.specs.Opened.Kept.{IsObjectKept, IsIndex}
-use Rattle.h5_open.specs.Opened.NotYet.{IsOpenRefusedAt}
+use Rattle.h5_open.specs.Opened.Refused.{IsOpenRefusedAt}
 use Rattle.h5_open.specs.Opened.Objects.{IsDense, headers, objects_of, content_links, object_blocks, opened_blocks, table_of}
 use Rattle.h5_open.specs.Placed.Whole.{IsGroupContent, HasHeight, IsLed, AreLed, HasParent, AreNamed}
 use Rattle.h5_open.specs.Read.{IsOwn, AreWaiting}

@@ -6,13 +6,12 @@ ghost use Rattle.h5_header.specs.Kinds.{IsOfGroup, IsOfDataset};
 ghost use Rattle.h5_header.specs.Listed.{messages_in, IsWithin};
 ghost use Rattle.h5_layout.specs.Told.{array_told};
 ghost use Rattle.h5_model.specs.Format.Messages.{count_of};
-ghost use Rattle.h5_open.specs.Opened.Array.{IsCarriedArray, IsOtherArray};
-ghost use Rattle.h5_open.specs.Opened.Judged.{IsGroupList, IsArrayList, IsKindBreach, IsGroupBreach, IsArrayBreach};
+ghost use Rattle.h5_open.specs.Opened.Judged.{IsGroupList, IsArrayList, IsKindBreach, IsBodiesBreach};
 
 use h5_attr::{check_bodies, check_names};
 use h5_group::{SymbolTable, read_symbol_table};
 use h5_header::{Messages, ObjectKind, find_body};
-use h5_layout::{ArrayRef, Layout, read_array};
+use h5_layout::{ArrayRef, read_array};
 use h5_model::message_type::SYMBOL_TABLE;
 use h5_model::{Cause, OpenFault};
 use h5_space::{Image, fault};
@@ -69,7 +68,7 @@ pub(crate) fn judge_group(
     ensures names { OnOk result (HasNamesOnce (messages_in image.now.bytes messages.now.list)) }
     ensures address { IfErr result (λ fault. fault.address ≡ messages.now.header) }
     ensures refused { IfErr result (λ fault.
-        IsGroupBreach image.now.bytes messages.now.header (messages_in image.now.bytes messages.now.list)
+        IsBodiesBreach image.now.bytes messages.now.header (messages_in image.now.bytes messages.now.list)
         fault.cause) }
 {
     check_names(alloc, image, messages)?;
@@ -81,10 +80,10 @@ pub(crate) fn judge_group(
     Ok(table)
 }
 
-/// The array that the messages of a dataset's header describe. It has one dimension and is in one block or nowhere.
+/// The array that the messages of a dataset's header describe.
 ///
-/// Two attributes of one name are `DuplicateMessage`; then the bodies are judged, those of attributes last; then an array that
-/// is another is `NotYet`. All are at the header. `NoMemory` where memory is refused.
+/// Two attributes of one name are `DuplicateMessage`; then the bodies are judged, those of attributes last. All are at the
+/// header. `NoMemory` where memory is refused.
 pub(crate) fn judge_array<'a>(
     alloc: Global,
     image: &'a Image,
@@ -97,24 +96,11 @@ pub(crate) fn judge_array<'a>(
     ensures names { OnOk result (HasNamesOnce (messages_in image.now.bytes messages.now.list)) }
     ensures address { IfErr result (λ fault. fault.address ≡ messages.now.header) }
     ensures refused { IfErr result (λ fault.
-        IsArrayBreach image.now.bytes messages.now.header (messages_in image.now.bytes messages.now.list)
+        IsBodiesBreach image.now.bytes messages.now.header (messages_in image.now.bytes messages.now.list)
         fault.cause) }
 {
     check_names(alloc, image, messages)?;
     let array = read_array(alloc, image, messages)?;
     check_bodies(alloc, image, messages)?;
-    if !is_carried(&array) {
-        return Err(fault(Cause::NotYet, messages.header()));
-    }
     Ok(array)
-}
-
-/// Whether the array has one dimension, and its cells are in one block or nowhere.
-fn is_carried(array: &ArrayRef<'_>) -> bool
-    ensures { MatchBool result (IsCarriedArray array.now) (IsOtherArray array.now) }
-{
-    match array.layout() {
-        Layout::Contiguous(_) => array.dims().sizes().len() == 1,
-        Layout::Compact(_) | Layout::Chunked { .. } => false,
-    }
 }

@@ -1,7 +1,5 @@
 //! Opening: from the bytes of an image to the objects that stand in it (File Format Specification 3.0, sections II.A, III
 //! and IV.A).
-//!
-//! So far arrays are opened that have one dimension and stand in one block.
 #![tactic(auto)]
 
 mod counts;
@@ -14,5 +12,5 @@ mod steps;
 
 pub use h5_attr::{AttrRef, get, list, sorted};
 pub use h5_group::{SymbolTable, entries, lookup};
-pub use h5_layout::{ArrayRef, Dims, Layout, MAX_RANK, known_array};
+pub use h5_layout::{ArrayRef, Dims, Layout, MAX_RANK, Piece, Runs, StoredArray, known_array};
 pub use opened::{Opened, OpenedContent, OpenedObject};

@@ -1,28 +1,30 @@
 //! The reading of one object: its header, and its group or the cells of its array (File Format Specification 3.0, sections III and
 //! IV.A).
 
-ghost use Rattle.std.specs.Prelude.{◌≡◌, ◌⊎◌, ℕ, ◌+◌, ◌≤◌, Some, length, map, IfOk, IfErr, OnOk};
-ghost use Rattle.h5_bytes.specs.Blocks.{cover, Separate, Inside};
-ghost use Rattle.h5_bytes.specs.declared.Block.{Block};
-ghost use Rattle.h5_model.specs.Format.Layout.{InBlock};
+ghost use Rattle.std.specs.Prelude.{◌≡◌, ◌⊎◌, ℕ, ◌+◌, ◌*◌, ◌^◌, ◌≤◌, Some, length, map, IfOk, IfErr, OnOk};
+ghost use Rattle.h5_bytes.specs.Blocks.{Separate};
 ghost use Rattle.h5_model.specs.Format.Superblock.{IsSuperblock};
-ghost use Rattle.h5_layout.specs.Layouts.{layout_in};
+ghost use Rattle.h5_model.specs.Tree.Places.{cells as cells_of};
+ghost use Rattle.h5_space.specs.Claimed.{HasClaimed};
+ghost use Rattle.h5_chunks.specs.Shapes.{AreChunkSizes};
+ghost use Rattle.h5_layout.specs.Data.{AreDataRead, data_blocks};
 ghost use Rattle.h5_header.specs.Kinds.{IsOfGroup, IsOfDataset};
 ghost use Rattle.h5_header.specs.Listed.{messages_in};
-ghost use Rattle.h5_header.specs.Progress.{ClaimBreach};
 ghost use Rattle.h5_group.specs.Links.{IsGroupRead, lent_link};
 ghost use Rattle.h5_group.specs.Told.{links_told};
-ghost use Rattle.h5_open.specs.Opened.Array.{data_blocks};
+ghost use Rattle.h5_model.specs.Format.Layout.{InChunks};
+ghost use Rattle.h5_open.specs.Followed.{FollowsData, IsDataFault};
 ghost use Rattle.h5_open.specs.Opened.Kept.{IsObjectKept};
 ghost use Rattle.h5_open.specs.Opened.Objects.{content_links as object_links};
 ghost use Rattle.h5_open.specs.Read.{IsHeaderRead, IsObjectRead, FollowsObject, IsObjectFault, IsContentRead, FollowsContent, IsContentFault, IsDeepAt};
 
 use crate::judge::{judge_array, judge_group, judge_kind};
 use crate::opened::{OpenedContent, OpenedObject};
+use h5_chunks::{ChunkShape, read_chunks};
 use h5_group::{SymbolTable, entries, links_at, read_group, symbol_nodes};
 use h5_header::{Messages, ObjectKind, claim};
-use h5_layout::Layout;
-use h5_model::{Cause, Link, OpenFault};
+use h5_layout::{ArrayRef, Dims, Layout};
+use h5_model::{Cause, Fixed, Link, OpenFault};
 use h5_space::{Claims, Image, fault};
 use std::alloc::Global;
 
@@ -33,8 +35,7 @@ const LAST: u8 = 64;
 ///
 /// What is wrong with its header comes first, then with the bodies of its messages, all at the header; then, of a group, what
 /// `read_group` refuses, and `TooDeep` at its first symbol node with a link where it stands 64 links below the root; or of an array
-/// what is wrong with the block of its cells, at that block. `NotYet` at the header where an array has not one dimension or its
-/// cells are not in one block.
+/// what is wrong with the block of its cells, at that block, or what `read_chunks` refuses.
 pub(crate) fn read_object(
     alloc: Global,
     image: &Image,
@@ -98,6 +99,7 @@ fn read_array_object(
     claims: &mut Claims,
     messages: Messages,
 ) -> Result<OpenedObject, OpenFault>
+    requires superblock { IsSuperblock image.now.bytes }
     requires end { claims.old.end ≡ length image.now.bytes }
     requires header { IsHeaderRead image.now.bytes messages }
     requires separate { Separate claims.old.held }
@@ -112,7 +114,7 @@ fn read_array_object(
         → IsContentFault image.now.bytes claims.old.held messages depth fault.cause fault.address) }
 {
     let array = judge_array(alloc, image, &messages)?;
-    claim_data(claims, array.layout())?;
+    claim_data(alloc, image, claims, &array)?;
     Ok(OpenedObject {
         messages,
         content: OpenedContent::Array,
@@ -140,23 +142,65 @@ fn check_depth(alloc: Global, image: &Image, table: SymbolTable, depth: u8) -> R
     Ok(())
 }
 
-/// Claims the block of an array's cells, where it has one; a refusal has the block's address.
-fn claim_data(claims: &mut Claims, layout: &Layout<'_>) -> Result<(), OpenFault>
-    requires { Separate claims.old.held }
-    ensures inside { OnOk result (Inside claims.old.end (data_blocks (layout_in layout.now))) }
-    ensures claimed { OnOk result
-        ((p : ℕ) → cover p claims.new.held
-        ≡ cover p claims.old.held + cover p (data_blocks (layout_in layout.now))) }
-    ensures separate { Separate claims.new.held }
+/// Claims the data of an array: the block of its cells, or its chunks with the nodes of their tree, where it has some.
+///
+/// A block of cells is refused at its own address, and chunks as `read_chunks` says.
+fn claim_data(
+    alloc: Global,
+    image: &Image,
+    claims: &mut Claims,
+    array: &ArrayRef<'_>,
+) -> Result<(), OpenFault>
+    requires superblock { IsSuperblock image.now.bytes }
+    requires end { claims.old.end ≡ length image.now.bytes }
+    requires separate { Separate claims.old.held }
+    ensures read { OnOk result (AreDataRead image.now.bytes array.now.fixed array.now.layout) }
+    ensures claimed { OnOk result (HasClaimed claims.old claims.new
+        (data_blocks image.now.bytes array.now.fixed array.now.layout)) }
     ensures end { claims.new.end ≡ claims.old.end }
-    ensures refused { IfErr result (λ fault. (b : Block)
-        × (layout_in layout.now ≡ InBlock (Some b))
-        × ClaimBreach claims.old.end claims.old.held b fault.cause fault.address) }
+    ensures followed { OnOk result
+        (FollowsData image.now.bytes claims.old.held claims.new.held array.now.fixed array.now.layout) }
+    ensures refused { IfErr result (λ fault. IsDataFault image.now.bytes claims.old.held array.now.fixed
+        array.now.layout fault.cause fault.address) }
 {
-    match layout {
+    match array.layout() {
+        Layout::Compact(_) | Layout::Contiguous(None) => Ok(()),
         Layout::Contiguous(Some(block)) => claim(claims, *block),
-        Layout::Contiguous(None) | Layout::Compact(_) | Layout::Chunked { .. } => Ok(()),
+        Layout::Chunked { tree: None, .. } => Ok(()),
+        Layout::Chunked {
+            sizes,
+            tree: Some(root),
+        } => {
+            let chunk = sizes.dims(alloc);
+            claim_chunks(alloc, image, claims, array.fixed(), &chunk, *root)
+        }
     }
+}
+
+/// Claims the chunks of these sizes in the tree at this root, and the nodes of the tree; refused as `read_chunks` says.
+fn claim_chunks(
+    alloc: Global,
+    image: &Image,
+    claims: &mut Claims,
+    fixed: Fixed,
+    sizes: &Dims,
+    root: u64,
+) -> Result<(), OpenFault>
+    requires superblock { IsSuperblock image.now.bytes }
+    requires end { claims.old.end ≡ length image.now.bytes }
+    requires sizes { AreChunkSizes sizes.now }
+    requires small { cells_of sizes.now * fixed.size ≤ 2 ^ 30 }
+    ensures read { OnOk result (AreDataRead image.now.bytes fixed (InChunks sizes.now (Some root))) }
+    ensures claimed { OnOk result (HasClaimed claims.old claims.new
+        (data_blocks image.now.bytes fixed (InChunks sizes.now (Some root)))) }
+    ensures end { claims.new.end ≡ claims.old.end }
+    ensures followed { OnOk result (FollowsData image.now.bytes claims.old.held claims.new.held fixed
+        (InChunks sizes.now (Some root))) }
+    ensures refused { IfErr result (λ fault. IsDataFault image.now.bytes claims.old.held fixed
+        (InChunks sizes.now (Some root)) fault.cause fault.address) }
+{
+    let shape = ChunkShape::new(sizes.sizes(), sizes.cells() * fixed.size() as u64);
+    read_chunks(alloc, image, claims, &shape, root)
 }
 
 /// The links of an object; an array has none.

@@ -8,8 +8,7 @@ ghost use Rattle.std.specs.FinMap.{get, len};
 ghost use Rattle.h5_model.specs.Format.Reads.{Reads};
 ghost use Rattle.h5_model.specs.Format.Superblock.{IsSuperblock, end_of_file};
 ghost use Rattle.h5_model.specs.Tree.Objects.{Tree};
-ghost use Rattle.h5_open.specs.Opened.Carried.{ReadsCarried};
-ghost use Rattle.h5_open.specs.Opened.NotYet.{IsOpenRefusedAt};
+ghost use Rattle.h5_open.specs.Opened.Refused.{IsOpenRefusedAt, ReadsSome};
 ghost use Rattle.h5_open.specs.Opened.Sound.{IsSound, IsObjectOf, IsHeaderIn};
 ghost use Rattle.h5_open.specs.Renumbered.Headers.{IsReadAt, table_with};
 
@@ -50,15 +49,14 @@ impl Opened {
     /// Opens an image: reads the root, and all objects to which links lead from there.
     ///
     /// Refused is, at the address of the block that breaks a rule, the first breach that is met, depth first and by the names of
-    /// links: of an object's header, then of its group's heap, tree, symbol nodes and names, or of its array's cells; `TooDeep` at a
-    /// symbol node with a link 65 links below the root; `GroupLinkedTwice` at the header of a group to which a second link leads; and
-    /// when all objects are read, of the headers' reference counts, by the objects' numbers. `NotYet` answers, at its header, an array
-    /// that has not one dimension or is not in one block. `NoMemory` where memory is refused, and that alone of an image that reads as
-    /// a tree of arrays that are opened. A refusal gives the image back.
+    /// links: of an object's header, then of its group's heap, tree, symbol nodes and names, or of its array's block or chunks; `TooDeep`
+    /// at a symbol node with a link 65 links below the root; `GroupLinkedTwice` at the header of a group to which a second link leads;
+    /// and when all objects are read, of the headers' reference counts, by the objects' numbers. `NoMemory` where memory is refused,
+    /// and that alone of an image that reads as a tree. A refusal gives the image back.
     ///
     /// That the image begins with a superblock, ends where that says, and has no free block, are the caller's conditions. Each block is
-    /// looked at once; memory is taken for the messages and symbol nodes that stand in claimed blocks, and for a reference to each link
-    /// of the groups on the way from the root.
+    /// looked at once; memory is taken for the messages that stand in claimed blocks, for the nodes and leaves of the tree that is read,
+    /// and for a reference to each link of the groups on the way from the root.
     pub fn open(alloc: Global, image: Image) -> Result<Opened, (OpenFault, Image)>
         requires superblock { IsSuperblock image.bytes }
         requires whole { end_of_file image.bytes ≡ length image.bytes }
@@ -68,7 +66,7 @@ impl Opened {
         // No number was used up before.
         ensures numbers { IfOk result (λ o. o.next ≡ len o.tree) }
         ensures refused { IfErr result (λ e. IsOpenRefusedAt image.bytes e.0.cause e.0.address) }
-        ensures only { IfErr result (λ e. ReadsCarried image.bytes → e.0.cause ≡ Cause.NoMemory) }
+        ensures only { IfErr result (λ e. ReadsSome image.bytes → e.0.cause ≡ Cause.NoMemory) }
         ensures back { IfErr result (λ e. e.1 ≡ image) }
     {
         match walk(alloc, &image) {

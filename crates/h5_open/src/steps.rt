@@ -5,9 +5,8 @@ ghost use Rattle.std.specs.List.{Contains};
 ghost use Rattle.h5_model.specs.Format.Superblock.{IsSuperblock, end_of_file};
 ghost use Rattle.h5_group.specs.Links.{lent_link};
 ghost use Rattle.h5_header.specs.Walk.Walked.{IsWalked};
-ghost use Rattle.h5_open.specs.Opened.Carried.{ReadsCarried};
 ghost use Rattle.h5_open.specs.Opened.Kept.{IsOpened};
-ghost use Rattle.h5_open.specs.Opened.NotYet.{IsOpenRefusedAt};
+ghost use Rattle.h5_open.specs.Opened.Refused.{IsOpenRefusedAt, ReadsSome};
 ghost use Rattle.h5_open.specs.Opened.Objects.{IsDense, headers, objects_of};
 ghost use Rattle.h5_bytes.specs.Blocks.{Separate};
 ghost use Rattle.h5_open.specs.Walk.{IsNumbered, ReadsFrom, IsFaultFrom, ReadsLink, IsLinkFault};
@@ -33,7 +32,7 @@ pub(crate) fn walk(alloc: Global, image: &Image) -> Result<Index, OpenFault>
     ensures kept { IfOk result (λ o. IsOpened image.now o.objects.items o.numbers) }
     ensures all { IfOk result (λ o. IsDense o.objects.items) }
     ensures refused { IfErr result (λ fault. IsOpenRefusedAt image.now.bytes fault.cause fault.address) }
-    ensures only { IfErr result (λ fault. ReadsCarried image.now.bytes → fault.cause ≡ Cause.NoMemory) }
+    ensures only { IfErr result (λ fault. ReadsSome image.now.bytes → fault.cause ≡ Cause.NoMemory) }
 {
     let mut claims = claim_superblock(alloc, image)?;
     let mut index = Index {

@@ -2,12 +2,12 @@
 use Rattle.std.proofs.Common.{◌≡◌, ℕ, List, [], ◌∷◌, length, refl, sym, ap, ◌∙◌, Option, Some, None, Bool, not, true, false, arith, ℤ, Vec, subst}
 use Rattle.std.specs.Prelude.{◌==◌, option_map, option_and_then}
 use Rattle.std.specs.Option.{option_map_or}
-use Rattle.std.specs.FinMap.{get, entries, contains_key, empty}
+use Rattle.std.specs.FinMap.{get, entries, contains_key}
 use Rattle.std.specs.declared.alloc.Global.{Global}
 use Rattle.std.proofs.lemmas.Option.{same_Some}
 use Rattle.std.proofs.lemmas.Bool.Decides.{nat_tests}
 use Rattle.h5_model.specs.Tree.Places.{is_inside}
-use Rattle.h5_model.specs.Tree.Objects.{Tree, Object, Content, Dataset, ToObject, Attribute}
+use Rattle.h5_model.specs.Tree.Objects.{Tree, Object, Content, Array, Dataset, ToObject, Attribute}
 use Rattle.h5_model.specs.Tree.Paths.{located, object_at}
 use Rattle.h5_model.specs.Edits.Refusal.{first_holding, is_soft}
 use Rattle.h5_model.specs.Scripts.Reading.{path_rules, list_rules, object_rules, dataset_rules, cell_at}
@@ -16,26 +16,22 @@ use Rattle.h5_model.specs.declared.edit_fault.EditFault.TheVariants.{NotAGroup, 
 use Rattle.h5_header.specs.Listed.{Listed, messages_in}
 use Rattle.h5_open.specs.Attributes.{attributes_of}
 use Rattle.h5_model.specs.Format.Addresses.{SymbolTable}
-use Rattle.h5_open.specs.Described.{Described, described_dataset}
-use Rattle.h5_open.specs.Told.{array_told}
 use Rattle.h5_open.specs.declared.opened.object.OpenedObject.{OpenedObject}
 use Rattle.h5_open.specs.declared.opened.object.OpenedContent.TheVariants as content
 use Rattle.h5_open.specs.Opened.Sound.{IsObjectOf}
 use Rattle.h5_open.specs.Opened.State.{FileState}
 use Rattle.h5_open.specs.Opened.Objects.{links_by, content_in, object_in}
 use Rattle.h5_open.specs.GroupTold.{links_told}
-use Rattle.h5_query.specs.declared.array.StoredArray.{StoredArray}
 use Rattle.h5_query.specs.declared.kind.Kind.{Kind}
 use Rattle.h5_query.specs.declared.kind.Kind.TheVariants as kind
 use Rattle.h5_query.specs.declared.found.Found.TheVariants as found
 use Rattle.h5_model.specs.declared.object_no.ObjectNo.{ObjectNo}
 use Rattle.h5_query.specs.Found.{HasFound, TreeHasObject}
 use Rattle.h5_query.specs.Place.{PathLeadsTo}
-use Rattle.h5_query.specs.Look.{HasKind, HasLinksNamed, HasCell, HasAttribute, IsArrayShown, IsArrayKind}
-use Rattle.h5_query.specs.Kept.{IsHeaderThere, IsArrayThere, names_of_group, array_dataset}
-use Rattle.h5_query.proofs.KeptArrays.{kept_unchunked}
+use Rattle.h5_query.specs.Look.{HasKind, HasLinksNamed, HasCell, HasAttribute, IsArrayKind}
+use Rattle.h5_query.specs.Kept.{IsHeaderThere, IsArrayAt, names_of_group, array_dataset}
 use Rattle.h5_query.proofs.GroupLaws.{keys_are}
-use Rattle.h5_query.proofs.Indexed.{group_read, group_links, group_no_array, array_there, array_kept, array_no_group}
+use Rattle.h5_query.proofs.Indexed.{group_read, group_links, group_no_array, array_there, array_no_group}
 use Rattle.h5_query.proofs.RuleLaws.{list_here, no_dataset, dataset_here, first-behind, index_rules}
 
 abbrev attribute_rule : Tree → List ℕ → List ℕ → List (EditFault × Bool)
@@ -60,13 +56,13 @@ has_attribute image tree path m there name a found =
           })
 
 -- the cell at an index of the array that stands there
-pub cell_there : (image : List ℕ) (tree : Tree) (path : List ℕ) (a : Described) → IsArrayThere image tree path a → (index : List ℕ) (value : ℤ) → length index ≡ length a.sizes
-    → is_inside a.sizes index ≡ true → value ≡ cell_at (described_dataset image a empty) index → HasCell tree path index value
-cell_there image tree path a there index value same inside is =
-    let rank : (length index == length a.sizes) ≡ true = grind (arith, nat_tests, same) in
+pub cell_there : (tree : Tree) (path : List ℕ) (at : ℕ × Dataset) → IsArrayAt tree path at → (index : List ℕ) (value : ℤ) → length index ≡ length (at.1).sizes
+    → is_inside (at.1).sizes index ≡ true → value ≡ cell_at at.1 index → HasCell tree path index value
+cell_there tree path at there index value same inside is =
+    let rank : (length index == length (at.1).sizes) ≡ true = grind (arith, nat_tests, same) in
     record {
       accepted = first-behind (dataset_rules tree path) (index_rules tree path index) there.accepted ∙ rw (there.found, rank, inside) refl;
-      dataset = described_dataset image a empty;
+      dataset = at.1;
       found = there.found;
       value_is = is;
     }
@@ -131,20 +127,25 @@ module _ (f : FileState) (number : ℕ) (object : OpenedObject) (of : IsObjectOf
       }
       array_kind (kind.Soft text) shown = absurd shown
 
-      pub known_kind : (a : Described) → a ≡ array_told (messages_in f.image object.messages.list) → (k : Kind) → IsArrayKind (described_dataset f.image a empty) k → HasKind T path k
-      known_kind a same k shown = array_kind k (subst (λ (b : Described). IsArrayKind (described_dataset f.image b empty) k) same shown)
+      pub known_kind : (d : Dataset) → d ≡ D → (k : Kind) → IsArrayKind d k → HasKind T path k
+      known_kind d same k shown = array_kind k (subst (λ (x : Dataset). IsArrayKind x k) same shown)
 
       pub array_found : (n : ObjectNo) → n.0 ≡ number → (attributes : Vec (List ℕ × Attribute) Global)
-          → attributes.items ≡ entries (attributes_of (messages_in f.image object.messages.list)) → (a : StoredArray) → IsArrayShown D a → HasFound T path (found.Array n attributes a)
-      array_found n same attributes listed a shown = record {
+          → attributes.items ≡ entries (attributes_of (messages_in f.image object.messages.list)) → (d : Dataset) → d ≡ D → HasFound T path (found.Array n attributes d)
+      array_found n same attributes listed d told = record {
         accepted = leads.0;
-        there = rw leads.1 (same, D, holds attributes.items listed _ (ap (content_in f.image f.table (messages_in f.image object.messages.list)) is), shown);
+        there =
+            rw leads.1 (
+              same,
+              holds attributes.items listed _
+                  (ap (content_in f.image f.table (messages_in f.image object.messages.list)) is ∙ ap Array (sym told)),
+            );
       }
 
       pub array_no_list : first_holding (list_rules T path) ≡ Some NotAGroup
       array_no_list = list_here T path number leads.0 leads.1 ∙ rw (array_no_group f number object of is) refl
 
-      pub told_there : IsArrayThere f.image T path (array_told (messages_in f.image object.messages.list))
-      told_there =
+      pub told_there : (d : Dataset) → d ≡ D → IsArrayAt T path (number, d)
+      told_there d told =
           let here = dataset_here T path number D leads.0 leads.1 (array_there f number object of is) in
-          record { accepted = here.0; found = here.1; unchunked = kept_unchunked f.image object.messages (array_kept f number object of is) }
+          record { accepted = here.0; number = rw leads.1 refl; found = here.1 ∙ ap (λ (x : Dataset). Some x) (sym told) }

@@ -57,8 +57,8 @@ module _ (f : FileState) (k : ℕ) (o : OpenedObject) (of : IsObjectOf f k o) wh
         ap (option_and_then (λ (x : Object). dataset_by x.content)) of.there
         ∙ ap (λ (c : OpenedContent). dataset_by (content_in f.image f.table (messages_in f.image o.messages.list) c)) is
 
-    -- the messages describe it, and its block is there
+    -- the messages describe it, and its data stand in the image
     pub array_kept : IsArrayKept f.image o.messages
     array_kept =
         let array = subst (IsContentKept f.image (messages_in f.image o.messages.list)) is of.kept.content in
-        record { within = (of.kept.header).within; list = array.0; inside = array.1 }
+        record { within = (of.kept.header).within; list = array.0; stored = array.1 }

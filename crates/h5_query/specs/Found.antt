@@ -1,7 +1,7 @@
 -- What stands at a path, with what it holds (File Format Specification 3.0, section IV.A).
 use Rattle.std.specs.Prelude.{◌≡◌, ℕ, None, Some, List}
 use Rattle.std.specs.FinMap.{get, entries}
-use Rattle.h5_model.specs.Tree.Objects.{Tree, ToObject, Object, Content, Attribute, Links, Dataset}
+use Rattle.h5_model.specs.Tree.Objects.{Tree, ToObject, Object, Content, Attribute, Links}
 use Rattle.h5_model.specs.Tree.Objects as tree
 use Rattle.h5_model.specs.Tree.Paths.{Located, Here, located}
 use Rattle.h5_model.specs.Edits.Refusal.{first_holding}
@@ -10,7 +10,6 @@ use Rattle.h5_model.specs.declared.edit_fault.EditFault.{EditFault}
 use Rattle.h5_model.specs.declared.edit_fault.EditFault.TheVariants as fault
 use Rattle.h5_query.specs.declared.found.Found.{Found}
 use Rattle.h5_query.specs.declared.found.Found.TheVariants as found
-use Rattle.h5_query.specs.Look.{IsArrayShown}
 
 -- the object of this number has these attributes, by their names, and this content
 pub record TreeHasObject (whole : Tree) (number : ℕ) (attributes : List (List ℕ × Attribute)) (content : Content) : Type 0 where
@@ -24,7 +23,7 @@ abbrev pub IsFoundAs : Tree → Located → Found → Type 0
 IsFoundAs whole (Here (ToObject n)) (found.Group number attributes) =
     (number.0 ≡ n) × (links : Links) × TreeHasObject whole n attributes.items (tree.Group links)
 IsFoundAs whole (Here (ToObject n)) (found.Array number attributes array) =
-    (number.0 ≡ n) × (d : Dataset) × TreeHasObject whole n attributes.items (tree.Array d) × IsArrayShown d array
+    (number.0 ≡ n) × TreeHasObject whole n attributes.items (tree.Array array)
 IsFoundAs whole (Here (tree.Soft text)) (found.Soft shown) = shown.now ≡ text
 IsFoundAs whole _ _ = ⊥
 

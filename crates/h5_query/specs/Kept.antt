@@ -1,6 +1,6 @@
 -- What an opened image keeps of the object at a path, and of the cells of its array (File Format Specification 3.0, section IV.A).
 use Rattle.std.specs.Prelude.{◌≡◌, ℕ, Some, None, List, length, map}
-use Rattle.std.specs.FinMap.{get, empty}
+use Rattle.std.specs.FinMap.{get}
 use Rattle.std.specs.Option.{option_and_then}
 use Rattle.h5_model.specs.Tree.Objects.{Tree, Object, Dataset}
 use Rattle.h5_model.specs.Tree.Paths.{object_at, dataset_at}
@@ -8,18 +8,14 @@ use Rattle.h5_model.specs.Edits.Refusal.{first_holding}
 use Rattle.h5_model.specs.Scripts.Reading.{object_rules, dataset_rules}
 use Rattle.h5_model.specs.Format.Messages.{Message}
 use Rattle.h5_model.specs.Format.Symbols.{Target}
-use Rattle.h5_model.specs.declared.edit_fault.EditFault.{EditFault}
-use Rattle.h5_bytes.specs.Blocks.{Inside}
-use Rattle.h5_open.specs.Stored.{IsUnchunked}
-use Rattle.h5_open.specs.Told.{array_told, layout_told}
+use Rattle.h5_open.specs.Told.{array_told, layout_told, type_told}
 use Rattle.h5_open.specs.GroupTold.{links_told}
 use Rattle.h5_model.specs.Format.Addresses.{SymbolTable}
 use Rattle.h5_model.specs.declared.link.Link.{Link}
-use Rattle.h5_open.specs.Opened.Array.{data_blocks}
+use Rattle.h5_open.specs.Data.{AreDataRead, dataset_told}
 use Rattle.h5_open.specs.Opened.Judged.{IsArrayList}
 use Rattle.h5_header.specs.Listed.{Listed, messages_in, IsWithin}
 use Rattle.h5_open.specs.Attributes.{attributes_of}
-use Rattle.h5_open.specs.Described.{Described, described_dataset}
 use Rattle.h5_open.specs.Opened.Headers.{IsHeaderKept}
 
 -- an object stands there, whose attributes are those of this header
@@ -30,25 +26,21 @@ pub record IsHeaderThere (image : List ℕ) (tree : Tree) (path : List ℕ) (m :
   pub kept : IsHeaderKept image m
   pub attributes_are : object.attributes ≡ attributes_of (messages_in image m.list)
 
--- the dataset that the messages of a header tell, without chunks
+-- the dataset that the messages of a header tell
 abbrev pub array_dataset : List ℕ → List Message → Dataset
-array_dataset image ms = described_dataset image (array_told ms) empty
+array_dataset image ms = dataset_told image (array_told ms)
 
--- the messages are those of an array, and the block of its cells is there
+-- the messages are those of an array, and its data stand in the image
 pub record IsArrayKept (image : List ℕ) (m : Listed) : Type 0 where
   pub within : IsWithin (length image) m.list
   pub list : IsArrayList (messages_in image m.list)
-  pub inside : Inside (length image) (data_blocks (layout_told (messages_in image m.list)))
+  pub stored : AreDataRead image (type_told (messages_in image m.list)) (layout_told (messages_in image m.list))
 
--- this array stands there, in no chunks
-pub record IsArrayThere (image : List ℕ) (tree : Tree) (path : List ℕ) (a : Described) : Type 0 where
+-- this dataset stands there, and has this number
+pub record IsArrayAt (tree : Tree) (path : List ℕ) (at : ℕ × Dataset) : Type 0 where
   pub accepted : first_holding (dataset_rules tree path) ≡ None
-  pub found : dataset_at tree path ≡ Some (described_dataset image a empty)
-  pub unchunked : IsUnchunked (length image) a.layout
-
--- the rules of a dataset's path refuse the path
-abbrev pub IsNoArrayThere : Tree → List ℕ → EditFault → Type 0
-IsNoArrayThere tree path e = first_holding (dataset_rules tree path) ≡ Some e
+  pub number : object_at tree path ≡ Some at.0
+  pub found : dataset_at tree path ≡ Some at.1
 
 -- the names of a group's links, and of one that was lent
 abbrev pub names_of_group : List ℕ → SymbolTable → List (List ℕ)

@@ -5,6 +5,7 @@ pub mod Look
 pub mod Listed
 pub mod Found
 pub mod Kept
+pub mod Selected
 pub use Rattle.h5_open.specs.Opened
 pub use Rattle.h5_open.specs.Described
 pub use Rattle.h5_open.specs.Told
@@ -14,5 +15,7 @@ pub use Rattle.h5_open.specs.Renumbered
 pub use Rattle.h5_open.specs.Written
 pub use Rattle.h5_open.specs.declared.opened.object.OpenedContent as OpenedContentType
 pub use Rattle.h5_open.specs.Stored
+pub use Rattle.h5_open.specs.Data
+pub use Rattle.h5_open.specs.Pieces
 pub use Rattle.h5_open.specs.GroupTold
 pub use Rattle.h5_open.specs.Attributes

@@ -1,11 +1,8 @@
 -- What a look at a path answers.
-use Rattle.std.specs.Prelude.{◌≡◌, ℕ, Bool, ℤ, Option, Some, None, IsSome, List, map, length}
-use Rattle.std.specs.Borrow.{Bor}
+use Rattle.std.specs.Prelude.{◌≡◌, ℕ, ℤ, Some, None, IsSome, List, map}
 use Rattle.std.specs.FinMap.{get, entries}
 use Rattle.std.specs.Option.{option_and_then}
-use Rattle.h5_model.specs.Format.Fixed.{Fixed, IsFixed}
-use Rattle.h5_model.specs.Tree.Places.{cells}
-use Rattle.h5_open.specs.Stored.{AreFilled, AreStored}
+use Rattle.h5_model.specs.Format.Fixed.{Fixed}
 use Rattle.h5_model.specs.Tree.Objects.{Tree, ToObject, Object, Attribute, Dataset, Storage, links_of, dataset_of}
 use Rattle.h5_model.specs.Tree.Objects as tree
 use Rattle.h5_model.specs.Tree.Paths.{Located, Here, located, object_at, dataset_at}
@@ -17,7 +14,6 @@ use Rattle.h5_query.specs.declared.kind.Kind.{Kind}
 use Rattle.h5_query.specs.declared.kind.Kind.TheVariants.{Group, Dataset as ArrayOf, Soft}
 use Rattle.h5_query.specs.declared.kind.StoreKind.{StoreKind}
 use Rattle.h5_query.specs.declared.kind.StoreKind.TheVariants as store
-use Rattle.h5_query.specs.declared.array.StoredArray.{StoredArray}
 
 -- how cells are stored, as a look tells it: not whether contiguous cells are stored yet
 abbrev pub IsStored : Storage → StoreKind → Type 0
@@ -97,24 +93,3 @@ pub record HasAttribute (tree : Tree) (path name : List ℕ) (a : List ℕ × At
 -- no dataset has this number
 abbrev pub IsNoDataset : Tree → ℕ → Type 0
 IsNoDataset whole number = dataset_of whole number ≡ None
-
--- the bytes of the cells, or, where these are not stored, nothing
-abbrev pub HasCells : Dataset → Option (Bor (List ℕ)) → Type 0
-HasCells d None = AreFilled d
-HasCells d (Some bytes) = AreStored d bytes.now
-
--- this is what is shown of the dataset
-pub record IsArrayShown (d : Dataset) (a : StoredArray) : Type 0 where
-  pub sound : IsFixed a.array.fixed
-  pub fixed_is : a.array.fixed ≡ d.fixed
-  pub sizes_are : a.array.sizes ≡ d.sizes
-  pub maxima_are : a.array.maxima ≡ d.maxima
-  pub stored : Bool
-  pub storage_is : d.storage ≡ tree.Contiguous stored
-  pub fill_is : a.array.fill ≡ d.fill
-  pub counted : length d.cells ≡ cells d.sizes
-  pub cells_are : HasCells d a.cells
-
--- the dataset of this number is this array
-abbrev pub HasArrayNumbered : Tree → ℕ → StoredArray → Type 0
-HasArrayNumbered whole number a = (d : Dataset) × (dataset_of whole number ≡ Some d) × IsArrayShown d a

@@ -1,28 +1,48 @@
-//! Arrays of an opened image, by their numbers (File Format Specification 3.0, section IV.A.2.i).
+//! Arrays of an opened image, by their paths and by their numbers (File Format Specification 3.0, section IV.A.2.i).
 
-ghost use Rattle.std.specs.Prelude.{MatchOption};
+ghost use Rattle.std.specs.Prelude.{◌≡◌, Some, MatchOption, MatchResult};
 ghost use Rattle.h5_header.specs.Listed.{messages_in};
-ghost use Rattle.h5_query.specs.Kept.{IsArrayKept, array_dataset};
-ghost use Rattle.h5_query.specs.Look.{IsNoDataset, HasArrayNumbered, IsArrayShown};
+ghost use Rattle.h5_model.specs.Edits.Refusal.{first_holding};
+ghost use Rattle.h5_model.specs.Scripts.Reading.{dataset_rules};
+ghost use Rattle.h5_model.specs.Tree.Objects.{dataset_of};
+ghost use Rattle.h5_query.specs.Kept.{IsArrayAt, IsArrayKept, array_dataset};
+ghost use Rattle.h5_query.specs.Look.{IsNoDataset};
+ghost use Rattle.h5_query.specs.Opened.Sound.{IsSound};
 
+use crate::place::{Place, look};
 use h5_header::Messages;
-use h5_model::ObjectNo;
-use h5_open::{ArrayRef, Opened, OpenedContent, known_array};
+use h5_model::{EditFault, ObjectNo};
+use h5_open::{Opened, OpenedContent, StoredArray, known_array};
 use h5_space::Image;
 use std::alloc::Global;
 
-/// An array, with its cells as they are stored.
-#[derive(Drop)]
-pub struct StoredArray<'a> {
-    pub array: ArrayRef<'a>,
-    /// The cells one behind the other, each in as many bytes as the type has; `None` where each reads the fill.
-    pub cells: Option<&'a [u8]>,
+/// The array at the path, with its number.
+///
+/// Refused as [`crate::look`] is, and as `NotADataset` where no array stands there. It takes no memory.
+pub fn array_at<'a>(
+    alloc: Global,
+    opened: &'a Opened,
+    path: &[u8],
+) -> Result<(u32, StoredArray<'a>), EditFault>
+    ensures there { let tree = opened.now.tree in
+        MatchResult result (IsArrayAt tree path.now) (λ e.
+        first_holding (dataset_rules tree path.now) ≡ Some e) }
+    ensures sound { IsSound opened.now }
+{
+    let image = opened.image();
+    match look(opened, path)? {
+        Place::Object { number, object } => match &object.content {
+            OpenedContent::Array => Ok((number, stored_array(alloc, image, &object.messages))),
+            OpenedContent::Group(_) => Err(EditFault::NotADataset),
+        },
+        Place::Soft(_) => Err(EditFault::NotADataset),
+    }
 }
 
 /// The array of this number, or `None` where no array has it. It takes no memory.
 pub fn array_of<'a>(alloc: Global, opened: &'a Opened, number: ObjectNo) -> Option<StoredArray<'a>>
     ensures { let tree = opened.now.tree in
-        MatchOption result (IsNoDataset tree number.0) (HasArrayNumbered tree number.0) }
+        MatchOption result (IsNoDataset tree number.0) (λ array. dataset_of tree number.0 ≡ Some array) }
 {
     let object = opened.object(number.0)?;
     match &object.content {
@@ -38,10 +58,8 @@ pub(crate) fn stored_array<'a>(
     messages: &Messages,
 ) -> StoredArray<'a>
     requires { IsArrayKept image.now.bytes messages.now }
-    ensures { IsArrayShown
-        (array_dataset image.now.bytes (messages_in image.now.bytes messages.now.list)) result }
+    ensures { let ms = messages_in image.now.bytes messages.now.list in
+        result ≡ array_dataset image.now.bytes ms }
 {
-    let array = known_array(alloc, image, messages);
-    let cells = array.stored(image);
-    StoredArray { array, cells }
+    StoredArray::new(image, known_array(alloc, image, messages))
 }

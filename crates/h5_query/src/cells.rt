@@ -3,12 +3,11 @@
 ghost use Rattle.std.specs.Prelude.{◌≡◌, Some, MatchResult};
 ghost use Rattle.h5_model.specs.Edits.Refusal.{first_holding};
 ghost use Rattle.h5_model.specs.Scripts.Reading.{cell_rules};
-ghost use Rattle.h5_query.specs.Kept.{IsArrayThere, IsNoArrayThere};
 ghost use Rattle.h5_query.specs.Look.{HasCell};
 
-use crate::place::{Place, look};
+use crate::array::array_at;
 use h5_model::EditFault;
-use h5_open::{ArrayRef, Opened, OpenedContent, known_array};
+use h5_open::Opened;
 use std::alloc::Global;
 
 /// The value of the cell at an index of the array at the path.
@@ -25,26 +24,13 @@ pub fn one_cell(
         MatchResult result (HasCell tree path.now index.now) (λ e.
         first_holding (cell_rules tree path.now index.now) ≡ Some e) }
 {
-    let array = array_at(alloc, opened, path)?;
-    if index.len() != array.dims().sizes().len() {
+    let (_, array) = array_at(alloc, opened, path)?;
+    let dims = array.array().dims();
+    if index.len() != dims.sizes().len() {
         return Err(EditFault::RankMismatch);
     }
-    if !array.dims().is_inside(index) {
+    if !dims.is_inside(index) {
         return Err(EditFault::OutOfExtent);
     }
-    Ok(array.cell(opened.image(), index))
-}
-
-/// The array at the path. Refused as `NotADataset` where no array stands there.
-fn array_at<'a>(alloc: Global, opened: &'a Opened, path: &[u8]) -> Result<ArrayRef<'a>, EditFault>
-    ensures { let tree = opened.now.tree in
-        MatchResult result (IsArrayThere opened.now.image tree path.now) (IsNoArrayThere tree path.now) }
-{
-    match look(opened, path)? {
-        Place::Object { object, .. } => match &object.content {
-            OpenedContent::Array => Ok(known_array(alloc, opened.image(), &object.messages)),
-            OpenedContent::Group(_) => Err(EditFault::NotADataset),
-        },
-        Place::Soft(_) => Err(EditFault::NotADataset),
-    }
+    Ok(array.cell(index))
 }

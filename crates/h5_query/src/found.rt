@@ -3,10 +3,10 @@
 ghost use Rattle.std.specs.Prelude.{MatchResult};
 ghost use Rattle.h5_query.specs.Found.{HasFound, IsUnfound};
 
-use crate::array::{StoredArray, stored_array};
+use crate::array::stored_array;
 use crate::place::{Place, look};
 use h5_model::{EditFault, ObjectNo};
-use h5_open::{AttrRef, Opened, OpenedContent, sorted};
+use h5_open::{AttrRef, Opened, OpenedContent, StoredArray, sorted};
 use std::alloc::Global;
 
 /// What stands at a path, with what it holds. Attributes ascend by the bytes of their names.

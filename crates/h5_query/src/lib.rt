@@ -12,18 +12,21 @@ mod kind;
 mod links;
 mod path;
 mod place;
+mod selection;
 mod step;
 
-pub use array::{StoredArray, array_of};
+pub use array::{array_at, array_of};
 pub use attributes::{attributes_at, names_of_attributes, one_attribute};
 pub use cells::one_cell;
 pub use found::{Found, found_at};
 pub use group::{links_of, tree_links};
 pub use h5_open::{
-    ArrayRef, AttrRef, Dims, Layout, MAX_RANK, Opened, OpenedContent, OpenedObject, SymbolTable,
-    entries, get, known_array, sorted,
+    ArrayRef, AttrRef, Dims, Layout, MAX_RANK, Opened, OpenedContent, OpenedObject, Piece, Runs,
+    StoredArray, SymbolTable, entries, get, known_array, sorted,
 };
+pub use h5_shape::{Slab, SlabFault};
 pub use kind::{Kind, StoreKind};
 pub use links::{kind_at, names_at};
 pub use path::MAX_DEPTH;
 pub use place::{Place, Spot, look, look_up, number_at};
+pub use selection::{runs_at, slab_within};

@@ -1,21 +1,20 @@
 //! What the link at a path leads to, and the names in a group.
 
 ghost use Rattle.std.specs.Prelude.{◌≡◌, ℕ, List, Some, IfOk, MatchResult, length, map};
-ghost use Rattle.std.specs.FinMap.{empty};
 ghost use Rattle.h5_model.specs.Edits.Refusal.{first_holding};
 ghost use Rattle.h5_model.specs.Format.Reads.{storage_of};
 ghost use Rattle.h5_model.specs.Scripts.Reading.{path_rules, shown_maximum};
-ghost use Rattle.h5_open.specs.Described.{described_dataset};
 ghost use Rattle.h5_open.specs.Layouts.{layout_in};
 ghost use Rattle.h5_open.specs.Links.{IsGroupRead};
 ghost use Rattle.h5_query.specs.Kept.{name_of, names_of_group};
 ghost use Rattle.h5_query.specs.Look.{HasKind, HasLinksNamed, IsArrayKind, IsListRefused, IsStored};
 
+use crate::array::stored_array;
 use crate::kind::{Kind, StoreKind};
 use crate::place::{Place, look};
 use h5_model::{EditFault, Link};
 use h5_open::{
-    ArrayRef, Dims, Layout, MAX_RANK, Opened, OpenedContent, SymbolTable, entries, known_array,
+    ArrayRef, Dims, Layout, MAX_RANK, Opened, OpenedContent, StoredArray, SymbolTable, entries,
 };
 use h5_space::Image;
 use std::alloc::{AllocError, Global};
@@ -31,20 +30,20 @@ pub fn kind_at<'a>(alloc: Global, opened: &'a Opened, path: &[u8]) -> Result<Kin
     match look(opened, path)? {
         Place::Object { object, .. } => match &object.content {
             OpenedContent::Group(_) => Ok(Kind::Group),
-            OpenedContent::Array => Ok(array_kind(
-                alloc,
-                &known_array(alloc, opened.image(), &object.messages),
-            )),
+            OpenedContent::Array => {
+                let array = stored_array(alloc, opened.image(), &object.messages);
+                Ok(array_kind(alloc, &array))
+            }
         },
         Place::Soft(text) => Ok(Kind::Soft(text)),
     }
 }
 
 /// An array as it is shown.
-fn array_kind<'a>(alloc: Global, array: &ArrayRef<'_>) -> Kind<'a>
-    requires { length array.now.maxima ≡ length array.now.sizes }
-    ensures { (image : List ℕ) → IsArrayKind (described_dataset image array.now empty) result }
+fn array_kind<'a>(alloc: Global, array: &StoredArray<'_>) -> Kind<'a>
+    ensures { IsArrayKind array.now result }
 {
+    let array = array.array();
     Kind::Dataset {
         fixed: array.fixed(),
         dims: Dims::new(alloc, array.dims().sizes()).unwrap(),
@@ -56,7 +55,6 @@ fn array_kind<'a>(alloc: Global, array: &ArrayRef<'_>) -> Kind<'a>
 
 /// The maxima of an array as they are shown.
 fn show_maxima(alloc: Global, array: &ArrayRef<'_>) -> Dims
-    requires { length array.now.maxima ≡ length array.now.sizes }
     ensures { result ≡ map shown_maximum array.now.maxima }
 {
     let rank = array.dims().sizes().len();
@@ -67,11 +65,10 @@ fn show_maxima(alloc: Global, array: &ArrayRef<'_>) -> Dims
 
 /// Writes the maxima of an array, 2^64 - 1 for one that is unlimited.
 fn write_maxima(array: &ArrayRef<'_>, shown: &mut [u64])
-    requires maxima { length array.now.maxima ≡ length array.now.sizes }
-    requires room { length shown.old ≡ length array.now.sizes }
+    requires { length shown.old ≡ length array.now.sizes }
     ensures { shown.new ≡ map shown_maximum array.now.maxima }
 {
-    for k in 0..shown.len() {
+    for k in 0..array.rank() {
         shown[k] = array.maximum(k).unwrap_or(UNLIMITED);
     }
 }

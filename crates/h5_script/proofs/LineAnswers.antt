@@ -112,7 +112,7 @@ refreshes_none old new (Write path hyper values) asked = absurd (cc)
 refreshes_none old new (Resize path dims) asked = absurd (cc)
 
 -- an accepted edit
-pub edit_accepted : (before after : FileState) (edit : Edit) (e : Edited) → taken (Change edit) ≡ Change edit → is_carried edit ≡ true → IsEdited before edit after e
+pub edit_accepted : (before after : FileState) (edit : Edit) (e : Edited) → taken (Change edit) ≡ Change edit → is_carried before.tree edit ≡ true → IsEdited before edit after e
     → IsAnswered before (Change edit) after (codes "ok " ++ (decimal e.refreshed ++ codes "\n")) Accepted
 unfolding line_answer IsGivenAt
 edit_accepted before after edit e asked carried is = record {
@@ -129,7 +129,7 @@ edit_accepted before after edit e asked carried is = record {
 }
 
 -- a refused one
-refused_carried : (s : FileState) (edit : Edit) (f : EditFault) → taken (Change edit) ≡ Change edit → is_carried edit ≡ true → IsRefusedBy s edit f
+refused_carried : (s : FileState) (edit : Edit) (f : EditFault) → taken (Change edit) ≡ Change edit → is_carried s.tree edit ≡ true → IsRefusedBy s edit f
     → IsAnswered s (Change edit) s (refused_text f) Refused
 unfolding line_answer IsGivenAt
 refused_carried s edit f asked carried is = record {
@@ -139,7 +139,7 @@ refused_carried s edit f asked carried is = record {
   outcome_is = rw (asked, carried, is.answer) refl;
 }
 
-refused_other : (s : FileState) (edit : Edit) (f : EditFault) → taken (Change edit) ≡ Change edit → is_carried edit ≡ false → f ≡ fault.NotYet
+refused_other : (s : FileState) (edit : Edit) (f : EditFault) → taken (Change edit) ≡ Change edit → is_carried s.tree edit ≡ false → f ≡ fault.NotYet
     → IsAnswered s (Change edit) s (refused_text f) Refused
 unfolding line_answer IsGivenAt
 refused_other s edit f asked carried is = record {
@@ -152,8 +152,8 @@ refused_other s edit f asked carried is = record {
 pub edit_refused : (before after : FileState) (edit : Edit) (f : EditFault) → taken (Change edit) ≡ Change edit → IsRefused before edit f → after ≡ before
     → IsAnswered before (Change edit) after (refused_text f) Refused
 edit_refused before after edit f asked refused stays =
-    subst (λ (file : FileState). IsAnswered before (Change edit) file (refused_text f) Refused) (sym stays) (by (is_carried edit) refl refused) where
-      by : (b : Bool) → is_carried edit ≡ b → RefusedAs b before edit f → IsAnswered before (Change edit) before (refused_text f) Refused
+    subst (λ (file : FileState). IsAnswered before (Change edit) file (refused_text f) Refused) (sym stays) (by (is_carried before.tree edit) refl refused) where
+      by : (b : Bool) → is_carried before.tree edit ≡ b → RefusedAs b before edit f → IsAnswered before (Change edit) before (refused_text f) Refused
       by true carried is = refused_carried before edit f asked carried is
       by false carried is = refused_other before edit f asked carried is
 

@@ -1,7 +1,6 @@
 -- The answers of lines that were run are those of the same lines in a session without views, where each is of a form that is taken and
 -- each edit is carried.
 use Rattle.std.proofs.Common.{◌≡◌, ℕ, true, Option, Some, None, List, [], ◌∷◌, ◌++◌, map, refl, sym, ap, ◌∙◌}
-use Rattle.std.specs.List.{AllByRecursion}
 use Rattle.h5_model.specs.Edits.Applied.{State}
 use Rattle.h5_model.specs.Edits.ImageAnswers.{chosen}
 use Rattle.h5_model.specs.Edits.Refusal.{refusal_of, first_holding}
@@ -10,6 +9,7 @@ use Rattle.h5_model.specs.Scripts.Lines.{Command, Change, OpenView, Show, Close,
 use Rattle.h5_model.specs.Scripts.Reading.{path_rules}
 use Rattle.h5_model.specs.Scripts.Sessions.{new_session}
 use Rattle.h5_model.specs.Scripts.Text.{list_text}
+use Rattle.h5_model.specs.Tree.Objects.{Tree}
 use Rattle.h5_model.specs.Tree.Paths.{located}
 use Rattle.h5_model.specs.declared.edits.Edit.{Edit}
 use Rattle.h5_model.specs.declared.edit_fault.EditFault.{EditFault}
@@ -19,16 +19,21 @@ use Rattle.h5_script.specs.Answered.{Line, answer_at, IsRunIn}
 use Rattle.h5_script.specs.Runs.{AreRunIn, file_of_run, text_of_run, outcomes_of_run}
 use Rattle.h5_script.specs.Taken.{taken, line_answer}
 
--- the line is of a form that is taken, and the edit that it asks for is carried
-pub record IsTaken (command : Command) : Type 0 where
+-- the line is of a form that is taken, and the edit of this tree that it asks for is carried
+pub record IsTaken (tree : Tree) (command : Command) : Type 0 where
   pub form : taken command ≡ command
-  pub carried : (edit : Edit) → command ≡ Change edit → is_carried edit ≡ true
+  pub carried : (edit : Edit) → command ≡ Change edit → is_carried tree edit ≡ true
+
+-- and so is each line, of the tree that the ones before it leave
+unfoldable pub AreTaken : FileState → List Line → Type 0
+AreTaken f [] = Unit {0}
+AreTaken f (line ∷ lines) = IsTaken f.tree line.command × AreTaken line.after lines
 
 -- what a line asks for, and what is given to it
 abbrev pub asked_with : Line → Command × Given
 asked_with line = (line.command, line.given)
 
-same_answer : (s : State) (command : Command) (given : Given) → IsTaken command → line_answer s command given ≡ answer_of (new_session s) command given
+same_answer : (s : State) (command : Command) (given : Given) → IsTaken s.tree command → line_answer s command given ≡ answer_of (new_session s) command given
 unfolding line_answer
 same_answer s (Change edit) given is = rw (is.form, is.carried edit refl) refl
 same_answer s (OpenView path hyper) given is = absurd (cc (is.form))
@@ -51,7 +56,7 @@ edit_without : (s : State) (edit : Edit) (fault : Option EditFault) → HasNoVie
 edit_without s edit None = refl
 edit_without s edit (Some fault) = refl
 
-without_views : (s : State) (command : Command) (given : Given) → IsTaken command → HasNoView (answer_of (new_session s) command given)
+without_views : (s : State) (command : Command) (given : Given) → IsTaken s.tree command → HasNoView (answer_of (new_session s) command given)
 without_views s (Change edit) given is = edit_without s edit (chosen (refusal_of s.tree s.next edit) given)
 without_views s (OpenView path hyper) given is = absurd (cc (is.form))
 without_views s (Show number) given is = absurd (cc (is.form))
@@ -62,7 +67,7 @@ without_views s Repack given is = absurd (cc (is.form))
 without_views s Unread given is = refl
 
 -- a line's answer in the session, and the session behind it
-module _ (f : FileState) (line : Line) (is : IsTaken line.command) where
+module _ (f : FileState) (line : Line) (is : IsTaken f.tree line.command) where
   same_told : answer_of (new_session (state_of f)) line.command line.given ≡ answer_at f line
   same_told = sym (same_answer (state_of f) line.command line.given is)
 
@@ -72,9 +77,9 @@ module _ (f : FileState) (line : Line) (is : IsTaken line.command) where
       ∙ ap (λ (answer : Answer). new_session (answer.session).state) same_told ∙ ap new_session (sym run.state_is)
 
 -- the text of the answers
-pub transcript_of_run : (f : FileState) (lines : List Line) → AreRunIn f lines → AllByRecursion (λ (line : Line). IsTaken line.command) lines
+pub transcript_of_run : (f : FileState) (lines : List Line) → AreRunIn f lines → AreTaken f lines
     → transcript_of (new_session (state_of f)) (map asked_with lines) ≡ text_of_run f lines
-unfolding AreRunIn text_of_run transcript_of
+unfolding AreTaken AreRunIn text_of_run transcript_of
 transcript_of_run f [] run all = refl
 transcript_of_run f (line ∷ lines) run all =
     ap (λ session. (answer_of (new_session (state_of f)) line.command line.given).text ++ transcript_of session (map asked_with lines)) (session_behind f line all.0 run.0)
@@ -82,9 +87,9 @@ transcript_of_run f (line ∷ lines) run all =
     ∙ ap (λ text. (answer_at f line).text ++ text) (transcript_of_run line.after lines run.1 all.1)
 
 -- how the lines count
-pub outcomes_of_run_are : (f : FileState) (lines : List Line) → AreRunIn f lines → AllByRecursion (λ (line : Line). IsTaken line.command) lines
+pub outcomes_of_run_are : (f : FileState) (lines : List Line) → AreRunIn f lines → AreTaken f lines
     → outcomes_of (new_session (state_of f)) (map asked_with lines) ≡ outcomes_of_run f lines
-unfolding AreRunIn outcomes_of_run
+unfolding AreTaken AreRunIn outcomes_of_run
 outcomes_of_run_are f [] run all = refl
 outcomes_of_run_are f (line ∷ lines) run all =
     ap (λ session. (answer_of (new_session (state_of f)) line.command line.given).outcome ∷ outcomes_of session (map asked_with lines)) (session_behind f line all.0 run.0)
@@ -92,9 +97,9 @@ outcomes_of_run_are f (line ∷ lines) run all =
     ∙ ap (λ outcomes. (answer_at f line).outcome ∷ outcomes) (outcomes_of_run_are line.after lines run.1 all.1)
 
 -- the session behind the lines is that of the file behind them
-pub session_after_run : (f : FileState) (lines : List Line) → AreRunIn f lines → AllByRecursion (λ (line : Line). IsTaken line.command) lines
+pub session_after_run : (f : FileState) (lines : List Line) → AreRunIn f lines → AreTaken f lines
     → session_after (new_session (state_of f)) (map asked_with lines) ≡ new_session (state_of (file_of_run f lines))
-unfolding AreRunIn file_of_run session_after
+unfolding AreTaken AreRunIn file_of_run session_after
 session_after_run f [] run all = refl
 session_after_run f (line ∷ lines) run all =
     ap (λ session. session_after session (map asked_with lines)) (session_behind f line all.0 run.0) ∙ session_after_run line.after lines run.1 all.1

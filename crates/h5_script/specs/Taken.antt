@@ -23,10 +23,10 @@ taken ListAll = ListAll
 taken (Dump path) = Dump path
 taken _ = Unread
 
--- what a command answers: NotYet, before every other check, to an edit that is not carried; no view is open
+-- what a command answers: NotYet, before every other check, to an edit that is not carried of this tree; no view is open
 abbrev pub answer_so_far : State → Command → Given → Answer
 answer_so_far s (Change edit) given =
-    if is_carried edit then answer_of (new_session s) (Change edit) given
+    if is_carried s.tree edit then answer_of (new_session s) (Change edit) given
     else answered Refused (refused_text fault.NotYet) (new_session s)
 answer_so_far s command given = answer_of (new_session s) command given
 
@@ -42,7 +42,7 @@ IsMemory _ = ⊥
 
 -- what may be given to a command: to an edit that is carried what the file decides, to `ls` and `dump` memory
 abbrev pub IsGivenSoFar : FileState → Command → Given → Type 0
-IsGivenSoFar f (Change edit) given = MatchBool (is_carried edit) (IsGivenFor f edit given) (given ≡ None)
+IsGivenSoFar f (Change edit) given = MatchBool (is_carried f.tree edit) (IsGivenFor f edit given) (given ≡ None)
 IsGivenSoFar f ListAll given = IsMemory given
 IsGivenSoFar f (Dump path) given = IsMemory given
 IsGivenSoFar f _ given = given ≡ None

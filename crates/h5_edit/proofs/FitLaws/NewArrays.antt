@@ -19,6 +19,7 @@ use Rattle.h5_model.proofs.WithinLaws.{both, neither}
 use Rattle.h5_repack.specs.Bodies.Sound.{IsBound, IsPlainArray}
 use Rattle.h5_edit.specs.Refusals.Allowed.{is_contiguous, is_carried_spec}
 use Rattle.h5_edit.proofs.FitLaws.Bounds.{own_bounded}
+use Rattle.h5_edit.proofs.WritableLaws.{contiguous_spec}
 
 -- in one block, each size its own maximum, with a fill value of the type
 pub record IsSoundSpec (spec : Spec) : Type 0 where
@@ -87,7 +88,7 @@ module _ (tree : Tree) (next : ℕ) (path : List ℕ) (spec : Spec) (accepted : 
 
   pub accepted_spec : is_carried_spec spec ≡ true → IsSoundSpec spec
   accepted_spec carried =
-      let stored = store_of spec.store (both (is_contiguous spec.store) _ carried).0 in
+      let stored = store_of spec.store (contiguous_spec spec carried) in
       let own : is_store spec.store spec.dims spec.maxima ≡ true = (both (are_maxima spec.dims spec.maxima) _ formed.1).1 in
       let low = formed.0 in
       record {

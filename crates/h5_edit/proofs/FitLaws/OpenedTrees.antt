@@ -1,26 +1,26 @@
 -- The plain layout can hold each object of an opened image (File Format Specification 3.0, sections III and IV.A).
-use Rattle.std.proofs.Common.{◌≡◌, inl, inr, ℕ, ◌+◌, ◌≤◌, List, length, Some, sym, ap, ◌∙◌, subst, arith}
-use Rattle.std.specs.Option.{option_and_then}
+use Rattle.std.proofs.Common.{◌≡◌, inl, inr, ℕ, ◌+◌, ◌≤◌, List, length, true, Some, sym, ap, ◌∙◌, subst, arith}
 use Rattle.std.specs.Ordering.{nat_cmp}
 use Rattle.std.specs.FinMap.{FinMap, get}
 use Rattle.h5_bytes.specs.declared.Block.{Block}
 use Rattle.h5_model.specs.Format.Reads.{HasObject}
-use Rattle.h5_model.specs.Tree.Objects.{Object, Dataset, dataset_in}
+use Rattle.h5_model.specs.Tree.Objects.{Object}
 use Rattle.h5_laws.proofs.Objects.{content_cases, has_object, in_table}
 use Rattle.h5_laws.proofs.SoundLaws.Read.{placed_at}
-use Rattle.h5_query.specs.Opened.Carried.{IsCarried}
 use Rattle.h5_query.specs.Opened.Sound.{IsSound}
 use Rattle.h5_query.specs.Opened.State.{FileState}
 use Rattle.h5_repack.specs.Image.Plain.{IsPlain, IsPlainContent}
 use Rattle.h5_repack.specs.Bodies.Bodies.{others_of}
 use Rattle.h5_edit.specs.Fits.Laws.{AreBytes, OpenedPlain}
+use Rattle.h5_edit.specs.Writable.{is_writable}
+use Rattle.h5_edit.proofs.WritableLaws.{writable_there}
 use Rattle.h5_edit.proofs.FitLaws.PlainArrays.{plain_array}
 use Rattle.h5_edit.proofs.FitLaws.PlainObjects.{plain_object, others_few, read_bodies, total_few}
 
 -- ---- one object
 
 module _ (image : List ℕ) (low : AreBytes image) (table : FinMap nat_cmp ℕ) (header : ℕ) (o : Object) (blocks : List Block) (has : HasObject image table header o blocks)
-    (carried : (d : Dataset) → dataset_in o.content ≡ Some d → IsCarried d) where
+    (writable : is_writable o.content ≡ true) where
   -- with so few others, beside the messages of its content that are there, the header has 65535 messages at most
   pub plain_content : (n : ℕ) → n + length has.messages ≤ length (others_of o) + 65535 → IsPlainContent n o.content
   plain_content n room =
@@ -34,7 +34,7 @@ module _ (image : List ℕ) (low : AreBytes image) (table : FinMap nat_cmp ℕ) 
             let one_type = array.one_type in
             let one_layout = array.one_layout in
             subst (IsPlainContent n) (sym e) (
-              plain_array image low has.messages (read_bodies image low table header o blocks has) d has.content_blocks array (carried d (ap dataset_in e)) n (omega (arith, room, few)),
+              plain_array image low has.messages (read_bodies image low table header o blocks has) d has.content_blocks array (ap is_writable (sym e) ∙ writable) n (omega (arith, room, few)),
               omega (arith, room, few, one_space, one_type, one_layout),
             )
       ]
@@ -66,10 +66,7 @@ module _ (f : FileState) (sound : IsSound f) (number : ℕ) (o : Object) (there 
         has = subst (λ (p : Object). HasObject f.image f.table x.0.header p x.0.blocks) x.3 (has_object f.image f.table f.tree sound.placed sound.reads.holds x.0 x.1);
       }
 
-  pub carried_content : (d : Dataset) → dataset_in o.content ≡ Some d → IsCarried d
-  carried_content d is = sound.carried number d (ap (option_and_then (λ (x : Object). dataset_in x.content)) there ∙ is)
-
 pub opened_plain : OpenedPlain
-opened_plain f low sound number o there =
+opened_plain f low sound writable number o there =
     let r = object_read f sound number o there in
-    plain_read f.image low f.table r.header o r.blocks r.has (carried_content f sound number o there)
+    plain_read f.image low f.table r.header o r.blocks r.has (writable_there f.tree writable number o there)

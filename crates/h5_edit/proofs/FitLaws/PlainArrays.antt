@@ -1,6 +1,6 @@
 -- An array that was read can be written in the plain layout (File Format Specification 3.0, sections IV.A.2.b, IV.A.2.e, IV.A.2.f and
 -- IV.A.2.i).
-use Rattle.std.proofs.Common.{◌≡◌, ℕ, zero, suc, ◌+◌, ◌-◌, ◌*◌, ◌^◌, ◌≤◌, List, [], ◌∷◌, length, map, replicate, Bool, Option, Some, None, ℤ, pos, true, false, cond, refl, sym, ap, ◌∙◌, subst, arith}
+use Rattle.std.proofs.Common.{◌≡◌, ℕ, zero, suc, ◌+◌, ◌-◌, ◌*◌, ◌^◌, ◌≤◌, List, [], ◌∷◌, length, map, replicate, Option, Some, None, ℤ, pos, true, false, cond, refl, sym, ap, ◌∙◌, subst, arith}
 use Rattle.std.specs.Prelude.{nat_lt, ◌==◌, ◌&&◌, is_some, option_map}
 use Rattle.std.specs.List.{AllByRecursion, AllZip, range_with_len, find}
 use Rattle.std.specs.FinMap.{empty}
@@ -25,9 +25,9 @@ use Rattle.h5_model.specs.Tree.Objects.{Dataset, Chunked, Contiguous}
 use Rattle.h5_model.proofs.StoredValues.{fits_value_at}
 use Rattle.h5_model.proofs.WithinLaws.{both}
 use Rattle.h5_query.proofs.FillLaws.{type_sound, fill_fits, old_fill_fits}
-use Rattle.h5_query.specs.Opened.Carried.{IsCarried}
 use Rattle.h5_repack.specs.Bodies.Sound.{IsBound, IsPlainArray}
 use Rattle.h5_edit.specs.Fits.Laws.{AreBytes}
+use Rattle.h5_edit.specs.Writable.{is_in_one_block}
 use Rattle.h5_edit.proofs.FitLaws.Bounds.{read_bounded}
 use Rattle.h5_edit.proofs.FitLaws.PlainBodies.{IsPlainBody, part_low, extent_long}
 use Rattle.h5_edit.proofs.FitLaws.PlainObjects.{content_count}
@@ -99,10 +99,10 @@ unset_cells image t fill sizes (Some b) h =
 
 -- ---- the layout
 
-in_one_block : (sizes : List ℕ) (layout : Layout) (stored : Bool) → storage_of sizes layout ≡ Contiguous stored → (b : Option Block) × (layout ≡ InBlock b)
-in_one_block sizes (InMessage bytes) stored e = absurd (cc)
-in_one_block sizes (InBlock b) stored e = (b, refl)
-in_one_block sizes (InChunks chunk_sizes root) stored e = absurd (cc)
+pub in_one_block : (sizes : List ℕ) (layout : Layout) → is_in_one_block (storage_of sizes layout) ≡ true → (b : Option Block) × (layout ≡ InBlock b)
+in_one_block sizes (InMessage bytes) is = absurd (let never : false ≡ true = is in cc)
+in_one_block sizes (InBlock b) is = (b, refl)
+in_one_block sizes (InChunks chunk_sizes root) is = absurd (let never : false ≡ true = is in cc)
 
 no_chunks : (image : List ℕ) (t : Fixed) (b : Option Block) (chunks : Chunks) (blocks : List Block) → HasData image t (InBlock b) chunks blocks → chunks ≡ empty
 no_chunks image t None chunks blocks has = has.0
@@ -111,9 +111,9 @@ no_chunks image t (Some b) chunks blocks has = has.0
 -- ---- the array
 
 module _ (image : List ℕ) (low : AreBytes image) (ms : List Message) (bodies : AllByRecursion IsPlainBody ms) (d : Dataset) (blocks : List Block)
-    (has : HasDataset image ms d blocks) (carried : IsCarried d) where
+    (has : HasDataset image ms d blocks) (writable : is_in_one_block d.storage ≡ true) where
   in_block : (b : Option Block) × (has.layout ≡ InBlock b)
-  in_block = in_one_block d.sizes has.layout carried.stored (sym has.storage ∙ carried.contiguous)
+  in_block = in_one_block d.sizes has.layout (ap is_in_one_block (sym has.storage) ∙ writable)
 
   abbrev block : Option Block
   block = in_block.0

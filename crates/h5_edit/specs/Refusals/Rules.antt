@@ -1,27 +1,23 @@
 -- The rules of the paths of an edit by their faults, and the rules that a target, an attribute or an array alone decides.
 use Rattle.std.specs.Prelude.{◌≡◌, ℕ, ℤ, ◌^◌, ◌==◌, ◌&&◌, ◌||◌, Bool, false, not, nat_lt, nat_le, if◌then◌else◌, is_none, is_some, Option, Some, None, List, [], ◌∷◌, length}
-use Rattle.std.specs.List.{list_all, list_any}
+use Rattle.std.specs.List.{list_all}
 use Rattle.std.specs.Option.{option_map_or}
 use Rattle.h5_model.specs.Edits.EditFaults.{fault_number}
 use Rattle.h5_model.specs.Format.Fixed.{Fixed, fits}
 use Rattle.h5_model.specs.Tree.Places.{cells, extent_cells}
 use Rattle.h5_model.specs.Format.Sizes.{attribute_size}
 use Rattle.h5_model.specs.Tree.Objects.{Tree, ToObject, links_of, hard_links, are_sizes}
-use Rattle.h5_model.specs.Tree.Paths.{names_of, located, object_at, parent_at}
-use Rattle.h5_model.specs.Views.Selection.{axes_of, has_rank, has_no_stride, overlaps, is_within, selected_cells}
+use Rattle.h5_model.specs.Tree.Paths.{names_of, located, parent_at}
+use Rattle.h5_model.specs.Views.Selection.{axes_of, selected_cells}
 use Rattle.h5_model.specs.Edits.Refusal.{is_deep, is_root, has_no_parent, has_no_group, is_missing, is_here, is_soft, last_is_long, is_no_text, are_maxima}
 use Rattle.h5_model.specs.declared.attribute.AttrSpec.{AttrSpec}
 use Rattle.h5_model.specs.declared.dataset.Spec.{Spec}
 use Rattle.h5_model.specs.declared.edit_fault.EditFault.{EditFault}
 use Rattle.h5_model.specs.declared.edit_fault.EditFault.TheVariants as fault
 use Rattle.h5_model.specs.declared.hyperslab.Hyper.{Hyper}
-use Rattle.h5_query.specs.Described.{Described}
-use Rattle.h5_query.specs.Kept.{IsArrayThere}
 use Rattle.h5_query.specs.Opened.Sound.{IsObjectOf}
 use Rattle.h5_query.specs.Opened.State.{FileState}
 use Rattle.h5_query.specs.Place.{PathLeadsTo}
-use Rattle.h5_shape.specs.declared.slab.SlabFault.{SlabFault}
-use Rattle.h5_shape.specs.declared.slab.SlabFault.TheVariants as slab
 use Rattle.h5_edit.specs.declared.rules.place.NewPlace.{NewPlace}
 use Rattle.h5_edit.specs.declared.rules.place.ObjectAt.{ObjectAt}
 
@@ -88,10 +84,6 @@ pub record IsObject (f : FileState) (path : List ℕ) (o : ObjectAt) : Type 0 wh
   pub kept : IsObjectOf f o.number o.object.now
   pub image : o.image.now.bytes ≡ f.image
 
--- this array stands at the path, and has this number
-abbrev pub IsArrayAt : FileState → List ℕ → (ℕ × Described) → Type 0
-IsArrayAt f path (number, a) = IsArrayThere f.image f.tree path a × (object_at f.tree path ≡ Some number)
-
 -- ---- what an edit alone decides, in the order of the numbers
 
 -- the target of a hard link
@@ -119,20 +111,6 @@ spec_rules s =
     ∷ (fault.TooManyCells, nat_lt (2 ^ 40) (extent_cells s.dims))
     ∷ (fault.ValueRange, not (fits s.fixed s.fill))
     ∷ []
-
--- the selection of an array of these sizes (HDF5 dataspace reference, H5Sselect_hyperslab)
-abbrev pub hyper_rules : List ℕ → Hyper → List (EditFault × Bool)
-hyper_rules sizes hyper =
-    (fault.RankMismatch, not (has_rank (length sizes) hyper))
-    ∷ (fault.StrideZero, list_any has_no_stride (axes_of hyper))
-    ∷ (fault.BlocksOverlap, list_any overlaps (axes_of hyper))
-    ∷ (fault.OutOfExtent, not (is_within sizes (axes_of hyper)))
-    ∷ []
-
-abbrev pub fault_of_slab : SlabFault → EditFault
-fault_of_slab slab.RankMismatch = fault.RankMismatch
-fault_of_slab slab.StrideZero = fault.StrideZero
-fault_of_slab slab.BlocksOverlap = fault.BlocksOverlap
 
 -- values for the selected cells of an array of this type
 abbrev pub value_rules : Fixed → Hyper → List ℤ → List (EditFault × Bool)

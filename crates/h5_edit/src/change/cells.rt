@@ -1,6 +1,6 @@
 //! Arrays to be written: those of an opened image, and new ones (File Format Specification 3.0, sections IV.A.2.d and IV.A.2.i).
 
-ghost use Rattle.std.specs.Prelude.{◌≡◌, ℕ};
+ghost use Rattle.std.specs.Prelude.{◌≡◌, ℕ, true};
 ghost use Rattle.h5_header.specs.Listed.{messages_in};
 ghost use Rattle.h5_model.specs.Edits.Applied.{new_dataset};
 ghost use Rattle.h5_model.specs.Tree.Objects.{Array};
@@ -9,6 +9,7 @@ ghost use Rattle.h5_repack.specs.Bodies.Sound.{IsPlainArray};
 ghost use Rattle.h5_repack.specs.Objects.Objects.{IsNewContent};
 ghost use Rattle.h5_repack.specs.declared.blocks.cells.Cells.TheVariants.{Stored};
 ghost use Rattle.h5_edit.specs.Fits.Laws.{AreBytes};
+ghost use Rattle.h5_edit.specs.Writable.{is_in_one_block};
 
 use h5_header::Messages;
 use h5_model::Spec;
@@ -17,9 +18,11 @@ use h5_repack::{Cells, NewContent};
 use h5_space::Image;
 use std::alloc::Global;
 
-/// The array that the messages of a header of the image describe, with its cells as they are stored.
+/// The array that the messages of a header of the image describe, which is in one block or nowhere, with its cells as they are stored.
 pub(crate) fn kept_array<'a>(alloc: Global, image: &'a Image, messages: &Messages) -> NewContent<'a>
-    requires { IsArrayKept image.now.bytes messages.now }
+    requires kept { IsArrayKept image.now.bytes messages.now }
+    requires block { is_in_one_block (array_dataset image.now.bytes
+        (messages_in image.now.bytes messages.now.list)).storage ≡ true }
     ensures { IsNewContent result
         (Array (array_dataset image.now.bytes (messages_in image.now.bytes messages.now.list))) }
 {

@@ -40,7 +40,6 @@ cause_number cause.TooDeep = 33
 cause_number cause.TooLarge = 34
 cause_number cause.BadName = 35
 cause_number cause.NoMemory = 36
-cause_number cause.NotYet = 37
 
 abbrev pub cause_name : Cause → List ℕ
 cause_name cause.NotHdf5 = codes "NotHdf5"
@@ -79,4 +78,3 @@ cause_name cause.TooDeep = codes "TooDeep"
 cause_name cause.TooLarge = codes "TooLarge"
 cause_name cause.BadName = codes "BadName"
 cause_name cause.NoMemory = codes "NoMemory"
-cause_name cause.NotYet = codes "NotYet"

@@ -7,11 +7,8 @@ use Rattle.std.specs.FinMap.{FinMap, entries}
 use Rattle.h5_bytes.specs.Blocks.{block}
 use Rattle.h5_bytes.specs.declared.Block.{Block}
 use Rattle.h5_model.specs.Format.Addresses.{SymbolTable}
-use Rattle.h5_model.specs.Format.Chunks.{Chunks}
-use Rattle.h5_model.specs.Format.Fixed.{Fixed}
-use Rattle.h5_model.specs.Format.Layout.{Layout, InMessage, InBlock, InChunks}
 use Rattle.h5_model.specs.Format.Messages.{Message}
-use Rattle.h5_model.specs.Format.Reads.{Placed, IsPlaced, IsSame, HasAttributes, HasContent, HasData, HasDataset, HasGroup, HasObject, ReadsAs, all_blocks, is_kept, kept_of}
+use Rattle.h5_model.specs.Format.Reads.{Placed, IsPlaced, IsSame, HasAttributes, HasContent, HasDataset, HasGroup, HasObject, ReadsAs, all_blocks, is_kept, kept_of}
 use Rattle.h5_model.specs.Format.Superblock.{superblock_length}
 use Rattle.h5_model.specs.Format.Symbols.{Target}
 use Rattle.h5_model.specs.Tree.Objects.{Tree, Content, Group, Array, Dataset, Object}
@@ -20,31 +17,24 @@ use Rattle.h5_laws.proofs.InPlace.OneBlocks.{one_blocks}
 use Rattle.h5_header.specs.Listed.{messages_in}
 use Rattle.h5_group.specs.Told.{links_told, blocks_told}
 use Rattle.h5_layout.specs.Described.{Described}
-use Rattle.h5_layout.specs.Told.{array_told, layout_told}
+use Rattle.h5_layout.specs.Data.{data_blocks}
+use Rattle.h5_layout.specs.Told.{array_told, layout_told, type_told}
 use Rattle.h5_layout.proofs.ArrayLaws.{in_header, has_array}
 use Rattle.h5_layout.proofs.ToldLaws.{told}
 use Rattle.h5_open.specs.declared.opened.object.OpenedObject.{OpenedObject}
 use Rattle.h5_open.specs.declared.opened.object.OpenedContent.{OpenedContent}
 use Rattle.h5_open.specs.declared.opened.object.OpenedContent.TheVariants as content
-use Rattle.h5_open.specs.Opened.Array.{IsCarriedArray, data_blocks}
 use Rattle.h5_open.specs.Opened.Kept.{IsObjectKept, IsContentKept}
 use Rattle.h5_open.specs.Opened.Objects.{header_of, objects_of, standing, content_blocks, object_blocks, opened_blocks, table_of}
+use Rattle.h5_open.proofs.DataLaws.{told_blocks}
 use Rattle.h5_open.proofs.OpenedLaws.Entries.{table_entries}
 
 -- ---- contents
 
-block_of_data : (image : List ℕ) (t : Fixed) (layout : Layout) (block : Option Block) → layout ≡ InBlock block → (chunks : Chunks) (blocks : List Block) → HasData image t layout chunks blocks
-    → blocks ≡ data_blocks layout
-block_of_data image t (InMessage bytes) block is chunks blocks stored = stored.1
-block_of_data image t (InBlock None) block is chunks blocks stored = stored.1
-block_of_data image t (InBlock (Some b)) block is chunks blocks stored = stored.1
-block_of_data image t (InChunks sizes root) block is chunks blocks stored = absurd (cc)
-
-dataset_blocks : (image : List ℕ) (ms : List Message) (d : Dataset) (blocks : List Block) → HasDataset image ms d blocks → IsCarriedArray (array_told ms) → blocks ≡ data_blocks (layout_told ms)
-dataset_blocks image ms d blocks has carried =
+dataset_blocks : (image : List ℕ) (ms : List Message) (d : Dataset) (blocks : List Block) → HasDataset image ms d blocks → blocks ≡ data_blocks image (type_told ms) (layout_told ms)
+dataset_blocks image ms d blocks has =
     let same : array_told ms ≡ in_header image ms d blocks has = told ms (in_header image ms d blocks has) (has_array image ms d blocks has) in
-    let layout : has.layout ≡ layout_told ms = sym (ap (λ (a : Described). a.layout) same) in
-    block_of_data image d.fixed has.layout carried.block (layout ∙ carried.in_block) has.chunks blocks has.stored ∙ ap data_blocks layout
+    told_blocks image d.fixed has.layout has.chunks blocks has.stored ∙ ap (λ (a : Described). data_blocks image a.fixed a.layout) (sym same)
 
 -- a group with the links that its table tells
 pub group_kept : (image : List ℕ) (ms : List Message) (found : List (List ℕ × Target)) (blocks : List Block) (t : SymbolTable) → HasGroup image ms found blocks
@@ -57,9 +47,9 @@ module _ (image : List ℕ) (table : FinMap nat_cmp ℕ) where
   content_kept ms (Group links) blocks (content.Group t) (found, has, same) kept =
       let there = group_kept image ms found blocks t has kept in
       (links_told image t, there, subst (AllZip (IsSame table) (entries links)) (one_group image ms found (links_told image t) blocks (blocks_told image t) has there) same)
-  content_kept ms (Group links) blocks content.Array (found, has, same) (list, inside) = absurd (omega (arith, has.once, (list.kinds).no_table))
+  content_kept ms (Group links) blocks content.Array (found, has, same) (list, read) = absurd (omega (arith, has.once, (list.kinds).no_table))
   content_kept ms (Array d) blocks (content.Group t) has (kinds, chosen, read) = absurd (omega (arith, has.one_space, (kinds.alone).0))
-  content_kept ms (Array d) blocks content.Array has (list, inside) = subst (HasDataset image ms d) (dataset_blocks image ms d blocks has list.carried) has
+  content_kept ms (Array d) blocks content.Array has (list, read) = subst (HasDataset image ms d) (dataset_blocks image ms d blocks has) has
 
   -- ---- objects
 

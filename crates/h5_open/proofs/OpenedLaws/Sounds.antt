@@ -1,43 +1,25 @@
 -- What is kept of an opened image tells a sound value.
-use Rattle.std.proofs.Common.{◌≡◌, inl, inr, ℕ, ◌&&◌, List, [], ◌∷◌, length, refl, sym, ap, ◌∙◌, subst, Option, Some, None}
-use Rattle.std.specs.Prelude.{MatchOption, nat_lt, is_some, option_and_then, option_map, slice_get}
+use Rattle.std.proofs.Common.{◌≡◌, inl, inr, ℕ, List, [], ◌∷◌, length, ap, ◌∙◌, subst, Option, Some, None}
+use Rattle.std.specs.Prelude.{MatchOption, option_map, slice_get}
 use Rattle.std.specs.Option.{option_flatten}
 use Rattle.std.specs.Ordering.{nat_cmp}
 use Rattle.std.specs.BTreeMap.{BTreeMap, get as lookup}
-use Rattle.std.specs.FinMap.{FinMap, get}
+use Rattle.std.specs.FinMap.{get}
 use Rattle.std.proofs.lemmas.Option.{same_Some}
 use Rattle.h5_bytes.specs.declared.Block.{Block}
-use Rattle.h5_model.specs.Format.Messages.{Message}
-use Rattle.h5_model.specs.Format.Reads.{storage_of}
 use Rattle.h5_model.specs.Format.Superblock.{root_header}
-use Rattle.h5_model.specs.Tree.Objects.{Dataset, Object, dataset_in}
-use Rattle.h5_model.specs.Tree.Places.{cells}
-use Rattle.h5_header.specs.Listed.{messages_in}
-use Rattle.h5_layout.specs.Told.{array_told}
+use Rattle.h5_model.specs.Tree.Objects.{Object}
 use Rattle.h5_space.specs.Space.{Space}
 use Rattle.h5_space.specs.Whole.{IsApart}
 use Rattle.h5_laws.proofs.Lists.{In, in_all, in_at}
 use Rattle.h5_open.specs.declared.opened.object.OpenedObject.{OpenedObject}
-use Rattle.h5_open.specs.declared.opened.object.OpenedContent.{OpenedContent}
-use Rattle.h5_open.specs.declared.opened.object.OpenedContent.TheVariants as content
-use Rattle.h5_open.specs.Opened.Carried.{IsCarried, AreCarried}
-use Rattle.h5_open.specs.Opened.Kept.{IsOpened, IsObjectKept, IsContentKept}
-use Rattle.h5_open.specs.Opened.Objects.{header_of, objects_of, content_in, object_in, table_of, tree_of}
+use Rattle.h5_open.specs.Opened.Kept.{IsOpened, IsObjectKept}
+use Rattle.h5_open.specs.Opened.Objects.{header_of, objects_of, object_in, table_of, tree_of}
 use Rattle.h5_open.specs.Opened.Sound.{IsSound, IsObjectOf, IsHeaderIn}
 use Rattle.h5_open.specs.Opened.State.{opened_state}
 use Rattle.h5_open.proofs.OpenedLaws.Entries.{get_table, get_tree, slot_of}
 use Rattle.h5_open.proofs.OpenedLaws.Numbers.{numbered}
 use Rattle.h5_open.proofs.OpenedLaws.ReadBlocks.{opened_all}
-
--- ---- arrays
-
-content_carried : (image : List ℕ) (table : FinMap nat_cmp ℕ) (ms : List Message) (c : OpenedContent) → IsContentKept image ms c → (d : Dataset)
-    → dataset_in (content_in image table ms c) ≡ Some d → IsCarried d
-content_carried image table ms (content.Group g) kept d is = absurd (cc)
-content_carried image table ms content.Array kept d is =
-    let array = (kept.0).carried in
-    let sizes = (array_told ms).sizes in
-    subst IsCarried (same_Some _ d is) (record { line = array.rank; stored = is_some array.block && nat_lt 0 (cells sizes); contiguous = ap (storage_of sizes) array.in_block })
 
 -- ---- objects
 
@@ -69,15 +51,6 @@ module _ (image : Space) (slots : List (Option OpenedObject)) (numbers : BTreeMa
     there = get_tree image.bytes slots k ∙ ap (λ (s : Option (Option OpenedObject)). told (option_flatten s)) at;
   }
 
-  carried : AreCarried (tree_of image.bytes slots)
-  carried number d is = go (slice_get slots number) refl (sym (ap (option_and_then (λ (x : Object). dataset_in x.content)) (get_tree image.bytes slots number)) ∙ is) where
-    go : (slot : Option (Option OpenedObject)) → slice_get slots number ≡ slot
-        → option_and_then (λ (x : Object). dataset_in x.content) (told (option_flatten slot)) ≡ Some d → IsCarried d
-    go None at there = absurd (cc)
-    go (Some None) at there = absurd (cc)
-    go (Some (Some o)) at there =
-        content_carried image.bytes (table_of slots) (messages_in image.bytes o.messages.list) o.content (object_kept number o at).content d there
-
   -- ---- what is looked up
 
   -- by a number that was not given out, or whose slot is empty
@@ -102,7 +75,6 @@ module _ (image : Space) (slots : List (Option OpenedObject)) (numbers : BTreeMa
   sound = record {
     placed = opened.reads.0;
     reads = opened.reads.1;
-    carried = carried;
     numbers = numbered image slots numbers opened;
     apart = subst (λ (bs : List Block). IsApart bs image.free (length image.bytes))
         (opened_all image.bytes slots (tree_of image.bytes slots) opened.reads.0 opened.each opened.reads.1) opened.apart;

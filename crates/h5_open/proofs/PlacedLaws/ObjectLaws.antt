@@ -1,40 +1,31 @@
 -- Each object that was read is the one that a reading of the image places at its header.
-use Rattle.std.proofs.Common.{◌≡◌, ℕ, zero, suc, ◌+◌, List, [], ◌∷◌, refl, sym, ◌∙◌, subst, Option, Some, None}
+use Rattle.std.proofs.Common.{◌≡◌, ℕ, zero, suc, ◌+◌, List, [], ◌∷◌, refl, sym, ◌∙◌, subst, Some}
 use Rattle.std.specs.Prelude.{map, IsTrue}
 use Rattle.std.specs.List.{AllByRecursion, AllZip, IsDistinct}
 use Rattle.std.specs.Ordering.{nat_cmp, eq_by_cmp}
-use Rattle.std.specs.FinMap.{get, empty}
-use Rattle.h5_bytes.specs.declared.Block.{Block}
+use Rattle.std.specs.FinMap.{get}
 use Rattle.h5_model.specs.Format.Symbols.{Target, Header, Text}
-use Rattle.h5_model.specs.Format.Fixed.{Fixed}
-use Rattle.h5_model.specs.Format.Layout.{Layout, InMessage, InBlock, InChunks}
 use Rattle.h5_model.specs.Tree.Objects.{Link}
-use Rattle.h5_model.specs.Format.Reads.{HasObject, HasContent, HasData, IsSame, IsPlaced}
+use Rattle.h5_model.specs.Format.Reads.{HasObject, HasContent, IsSame, IsPlaced}
 use Rattle.h5_header.specs.Heads.{is_read}
 use Rattle.h5_header.specs.Listed.{messages_in}
 use Rattle.h5_header.specs.declared.message.Message.{Message as Stood}
-use Rattle.h5_layout.specs.Told.{array_told}
+use Rattle.h5_layout.specs.Data.{data_blocks, stored_chunks}
+use Rattle.h5_layout.specs.Told.{array_told, layout_told, type_told}
 use Rattle.h5_layout.proofs.ArrayLaws.{has_dataset}
 use Rattle.h5_layout.proofs.KnownLaws.{known_in}
 use Rattle.h5_group.specs.Told.{links_told}
 use Rattle.h5_open.specs.declared.opened.object.OpenedObject.{OpenedObject}
 use Rattle.h5_open.specs.declared.opened.object.OpenedContent.{OpenedContent}
 use Rattle.h5_open.specs.declared.opened.object.OpenedContent.TheVariants as content
-use Rattle.h5_open.specs.Opened.Array.{data_blocks}
 use Rattle.h5_open.specs.Opened.Kept.{IsObjectKept, IsContentKept}
 use Rattle.h5_open.specs.Opened.Objects.{headers, number_in, content_links, link_to, content_in, content_blocks, object_in, object_blocks, table_of, slots_of}
 use Rattle.h5_laws.proofs.Lists.{In, in_contains}
 use Rattle.h5_open.specs.Placed.Whole.{IsLedTo, HasHeight, AreLed, placed_from}
+use Rattle.h5_open.proofs.DataLaws.{data_there}
 use Rattle.h5_open.proofs.OpenedLaws.Entries.{get_table_dense, header_at_dense, group_entries}
 use Rattle.h5_open.proofs.PlacedLaws.Places.{at_number}
 use Rattle.h5_open.proofs.PlacedLaws.GroupMessages.{group_known}
-
--- the block of the cells holds no chunk
-data_stored : (image : List ℕ) (t : Fixed) (layout : Layout) (block : Option Block) → layout ≡ InBlock block → HasData image t layout empty (data_blocks layout)
-data_stored image t (InMessage bytes) block is = (refl, refl)
-data_stored image t (InBlock None) block is = (refl, refl)
-data_stored image t (InBlock (Some b)) block is = (refl, refl)
-data_stored image t (InChunks sizes root) block is = absurd (cc)
 
 module _ (image : List ℕ) (objects : List OpenedObject) (distinct : IsDistinct (eq_by_cmp nat_cmp) (headers objects)) where
   -- the table has each header at its number
@@ -71,10 +62,10 @@ module _ (image : List ℕ) (objects : List OpenedObject) (distinct : IsDistinct
     },
     subst (λ (es : List (List ℕ × Link)). AllZip (IsSame (table_of (slots_of objects))) es (links_told image t)) (sym (group_entries image (table_of (slots_of objects)) t read)) same,
   )
-  has_content list content.Array known (array, inside) same =
-      let told = array_told (messages_in image list) in
-      has_dataset image (messages_in image list) told empty (data_blocks told.layout) array.array
-      (known_in image list known (array.kinds).no_table) (data_stored image told.fixed told.layout (array.carried).block (array.carried).in_block)
+  has_content list content.Array known (array, read) same =
+      let ms = messages_in image list in
+      has_dataset image ms (array_told ms) (stored_chunks image (type_told ms) (layout_told ms)) (data_blocks image (type_told ms) (layout_told ms)) array.array
+      (known_in image list known (array.kinds).no_table) (data_there image (type_told ms) (layout_told ms) read)
 
   has_object : (o : OpenedObject) → IsObjectKept image o → AreLed image objects o
       → HasObject image (table_of (slots_of objects)) o.messages.header (object_in image (table_of (slots_of objects)) o) (object_blocks image o)

@@ -3,22 +3,20 @@ use Rattle.std.proofs.Common.{◌≡◌, ℕ, ◌+◌, List, [], ◌∷◌, map,
 use Rattle.std.specs.Prelude.{option_map}
 use Rattle.std.specs.List.{AllByRecursion, AllZip, filter}
 use Rattle.std.specs.Ordering.{nat_cmp}
-use Rattle.std.specs.FinMap.{FinMap, get, entries, empty, same_entries_map}
+use Rattle.std.specs.FinMap.{FinMap, get, entries, same_entries_map}
 use Rattle.h5_bytes.specs.declared.Block.{Block}
 use Rattle.h5_model.specs.Format.Addresses.{SymbolTable}
 use Rattle.h5_model.specs.Format.Messages.{Message}
-use Rattle.h5_model.specs.Format.Fixed.{Fixed}
-use Rattle.h5_model.specs.Format.Chunks.{Chunks}
-use Rattle.h5_model.specs.Format.Layout.{Layout, InMessage, InBlock, InChunks}
 use Rattle.h5_model.specs.Format.Superblock.{leaf_k, internal_k}
 use Rattle.h5_model.specs.Format.Symbols.{Target, Header, Text}
 use Rattle.h5_model.specs.Format.Links.{HasLinks}
 use Rattle.h5_model.specs.Tree.Objects.{Tree, Object, Content, Group, Array, Dataset, Link, Links, ToObject, Soft}
-use Rattle.h5_model.specs.Format.Reads.{IsSame, HasData, HasDataset, HasContent, HasAttributes, HasObject, Placed, IsPlaced, Reads, is_kept, kept_of}
+use Rattle.h5_model.specs.Format.Reads.{IsSame, HasDataset, HasContent, HasAttributes, HasObject, Placed, IsPlaced, Reads, is_kept, kept_of}
 use Rattle.h5_model.proofs.OneReading.{some_same, one_messages, one_links, one_attributes, where_of, first_or}
 use Rattle.h5_header.specs.Listed.{messages_in}
 use Rattle.h5_attr.specs.Attributes.{attributes_of}
-use Rattle.h5_layout.specs.Described.{Described, described_dataset}
+use Rattle.h5_layout.specs.Data.{dataset_told}
+use Rattle.h5_layout.specs.Described.{described_dataset}
 use Rattle.h5_layout.specs.Told.{array_told}
 use Rattle.h5_layout.proofs.ArrayLaws.{in_header, has_array, dataset_in-in_header}
 use Rattle.h5_layout.proofs.ToldLaws.{told}
@@ -26,29 +24,20 @@ use Rattle.h5_group.specs.Told.{links_told, blocks_told}
 use Rattle.h5_open.specs.declared.opened.object.OpenedObject.{OpenedObject}
 use Rattle.h5_open.specs.declared.opened.object.OpenedContent.{OpenedContent}
 use Rattle.h5_open.specs.declared.opened.object.OpenedContent.TheVariants as content
-use Rattle.h5_open.specs.Opened.Array.{IsCarriedArray}
 use Rattle.h5_open.specs.Opened.Kept.{IsObjectKept, IsContentKept}
 use Rattle.h5_open.specs.Opened.Objects.{header_of, objects_of, standing, link_to, links_by, content_in, object_in, table_of, tree_of}
+use Rattle.h5_open.proofs.DataLaws.{told_chunks}
 use Rattle.h5_open.proofs.OpenedLaws.Entries.{table_entries, tree_entries, group_entries}
 use Rattle.h5_open.proofs.OpenedLaws.HeaderNumbers.{number_is}
 
 -- ---- contents
 
--- an array in one block has no stored chunks
-no_chunks : (image : List ℕ) (t : Fixed) (layout : Layout) (block : Option Block) → layout ≡ InBlock block → (chunks : Chunks) (blocks : List Block) → HasData image t layout chunks blocks
-    → chunks ≡ empty
-no_chunks image t (InMessage bytes) block is chunks blocks stored = stored.0
-no_chunks image t (InBlock None) block is chunks blocks stored = stored.0
-no_chunks image t (InBlock (Some b)) block is chunks blocks stored = stored.0
-no_chunks image t (InChunks sizes root) block is chunks blocks stored = absurd (cc)
-
-dataset_is : (image : List ℕ) (ms : List Message) (d : Dataset) (blocks : List Block) → HasDataset image ms d blocks → IsCarriedArray (array_told ms)
-    → described_dataset image (array_told ms) empty ≡ d
-dataset_is image ms d blocks has carried =
+dataset_is : (image : List ℕ) (ms : List Message) (d : Dataset) (blocks : List Block) → HasDataset image ms d blocks → dataset_told image (array_told ms) ≡ d
+dataset_is image ms d blocks has =
     let same : array_told ms ≡ in_header image ms d blocks has = told ms (in_header image ms d blocks has) (has_array image ms d blocks has) in
-    let layout : has.layout ≡ InBlock carried.block = sym (ap (λ (a : Described). a.layout) same) ∙ carried.in_block in
-    let none : has.chunks ≡ empty = no_chunks image d.fixed has.layout carried.block layout has.chunks blocks has.stored in
-    (λ i. described_dataset image (same i) ((sym none) i)) ∙ dataset_in-in_header image ms d blocks has
+    ap (dataset_told image) same
+    ∙ ap (described_dataset image (in_header image ms d blocks has)) (sym (told_chunks image d.fixed has.layout has.chunks blocks has.stored))
+    ∙ dataset_in-in_header image ms d blocks has
 
 module _ (image : List ℕ) (table : FinMap nat_cmp ℕ) (own : (a b h : ℕ) → get table a ≡ Some h → get table b ≡ Some h → a ≡ b) where
   -- a link of the tree is the file's link, by the number of the header
@@ -79,9 +68,9 @@ module _ (image : List ℕ) (table : FinMap nat_cmp ℕ) (own : (a b h : ℕ) �
       ∙ ap (λ (ls : List (List ℕ × Target)). map (λ (l : List ℕ × Target). (l.0, link_to table l.1)) ls) one
       ∙ sym (group_entries image table t read) in
       ap (λ (ls : Links). Group ls) (sym (same_entries_map links (links_by table (links_told image t)) listed))
-  content_is ms (Group links) blocks content.Array (found, has, same) (list, inside) = absurd (omega (arith, has.once, (list.kinds).no_table))
+  content_is ms (Group links) blocks content.Array (found, has, same) (list, read) = absurd (omega (arith, has.once, (list.kinds).no_table))
   content_is ms (Array d) blocks (content.Group t) has (kinds, chosen, read) = absurd (omega (arith, has.one_space, (kinds.alone).0))
-  content_is ms (Array d) blocks content.Array has (list, inside) = ap (λ (x : Dataset). Array x) (dataset_is image ms d blocks has list.carried)
+  content_is ms (Array d) blocks content.Array has (list, read) = ap (λ (x : Dataset). Array x) (dataset_is image ms d blocks has)
 
   -- ---- objects
 

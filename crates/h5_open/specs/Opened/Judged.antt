@@ -5,13 +5,11 @@ use Rattle.h5_model.specs.Format.Messages.{Message, count_of, first_body}
 use Rattle.h5_model.specs.Format.Reads.{HasAttributes}
 use Rattle.h5_model.specs.Faults.HeaderFaults.{ListBreach}
 use Rattle.h5_model.specs.declared.open_fault.Cause.{Cause}
-use Rattle.h5_model.specs.declared.open_fault.Cause.TheVariants.{MissingMessage, NoMemory, NotYet}
+use Rattle.h5_model.specs.declared.open_fault.Cause.TheVariants.{MissingMessage, NoMemory}
 use Rattle.h5_header.specs.Kinds.{IsOfGroup, IsOfDataset}
 use Rattle.h5_attr.specs.Attributes.{attributes_of}
 use Rattle.h5_layout.specs.Described.{HasArray}
 use Rattle.h5_layout.specs.Told.{array_told}
-use Rattle.h5_open.specs.Opened.NotYet.{HasOtherArray}
-use Rattle.h5_open.specs.Opened.Array.{IsCarriedArray}
 
 -- messages of a group, with this tree and heap, and attributes
 pub record IsGroupList (ms : List Message) (table : SymbolTable) : Type 0 where
@@ -19,25 +17,18 @@ pub record IsGroupList (ms : List Message) (table : SymbolTable) : Type 0 where
   pub attributes : HasAttributes ms (attributes_of ms)
   pub chosen : option_and_then symbol_table_of (first_body 17 ms) ≡ Some table
 
--- messages of an array that is opened, with attributes
+-- messages of an array, with attributes
 pub record IsArrayList (ms : List Message) : Type 0 where
   pub kinds : IsOfDataset ms
   pub attributes : HasAttributes ms (attributes_of ms)
   pub array : HasArray ms (array_told ms)
-  pub carried : IsCarriedArray (array_told ms)
 
 -- the root's header is no group's, as it has no Symbol Table; or a rule on all messages of a header is broken
 abbrev pub IsKindBreach : List ℕ → ℕ → ℕ → List Message → Cause → Type 0
 IsKindBreach image header depth ms cause =
     ((depth ≡ 0) × (cause ≡ MissingMessage) × (count_of 17 ms ≡ 0)) ⊎ ListBreach image header ms cause
 
--- a rule on all messages of a group's header is broken
-abbrev pub IsGroupBreach : List ℕ → ℕ → List Message → Cause → Type 0
-IsGroupBreach image header ms NoMemory = Unit {0}
-IsGroupBreach image header ms cause = ListBreach image header ms cause
-
--- a rule on all messages of the header that a link names is broken; or they are a group's, or those of another array
-abbrev pub IsArrayBreach : List ℕ → ℕ → List Message → Cause → Type 0
-IsArrayBreach image header ms NoMemory = Unit {0}
-IsArrayBreach image header ms NotYet = HasOtherArray ms
-IsArrayBreach image header ms cause = ListBreach image header ms cause
+-- memory was short, or a rule on all messages of a header is broken
+abbrev pub IsBodiesBreach : List ℕ → ℕ → List Message → Cause → Type 0
+IsBodiesBreach image header ms NoMemory = Unit {0}
+IsBodiesBreach image header ms cause = ListBreach image header ms cause

@@ -5,7 +5,6 @@ use Rattle.std.specs.List.{AllByRecursion}
 use Rattle.std.specs.Ordering.{nat_cmp}
 use Rattle.std.specs.BTreeMap.{BTreeMap, get as lookup}
 use Rattle.std.specs.FinMap.{FinMap, get}
-use Rattle.h5_bytes.specs.Blocks.{Inside}
 use Rattle.h5_model.specs.Format.Addresses.{symbol_table_of}
 use Rattle.h5_model.specs.Format.Messages.{Message, first_body}
 use Rattle.h5_model.specs.Format.Reads.{Reads}
@@ -15,20 +14,20 @@ use Rattle.h5_header.specs.Heads.{is_read}
 use Rattle.h5_header.specs.Kinds.{IsOfGroup}
 use Rattle.h5_header.specs.Listed.{messages_in}
 use Rattle.h5_group.specs.Links.{IsGroupRead}
-use Rattle.h5_layout.specs.Told.{layout_told}
+use Rattle.h5_layout.specs.Data.{AreDataRead}
+use Rattle.h5_layout.specs.Told.{layout_told, type_told}
 use Rattle.h5_open.specs.declared.opened.object.OpenedObject.{OpenedObject}
 use Rattle.h5_open.specs.declared.opened.object.OpenedContent.{OpenedContent}
 use Rattle.h5_open.specs.declared.opened.object.OpenedContent.TheVariants as content
-use Rattle.h5_open.specs.Opened.Array.{data_blocks}
 use Rattle.h5_open.specs.Opened.Headers.{IsHeaderKept}
 use Rattle.h5_open.specs.Opened.Judged.{IsArrayList}
 use Rattle.h5_open.specs.Opened.Objects.{objects_of, opened_blocks, table_of, tree_of}
 
--- the messages are those of this group, which stands in the image; or those of an array, whose cells do
+-- the messages are those of this group, which stands in the image; or those of an array, whose data do
 abbrev pub IsContentKept : List ℕ → List Message → OpenedContent → Type 0
 IsContentKept image ms (content.Group table) =
     IsOfGroup ms × (option_and_then symbol_table_of (first_body 17 ms) ≡ Some table) × IsGroupRead image table
-IsContentKept image ms content.Array = IsArrayList ms × Inside (length image) (data_blocks (layout_told ms))
+IsContentKept image ms content.Array = IsArrayList ms × AreDataRead image (type_told ms) (layout_told ms)
 
 -- the object stands in the image
 pub record IsObjectKept (image : List ℕ) (o : OpenedObject) : Type 0 where

@@ -1,7 +1,7 @@
 -- The tree that an opened image holds, by what is kept of its objects (File Format Specification 3.0, section IV.A).
 use Rattle.std.specs.Prelude.{◌≡◌, ℕ, ◌+◌, ◌==◌, if◌then◌else◌, Option, Some, None, option_map, List, [], ◌∷◌, ◌++◌, map}
 use Rattle.std.specs.Ordering.{nat_cmp}
-use Rattle.std.specs.FinMap.{FinMap, empty, entries, from_entries}
+use Rattle.std.specs.FinMap.{FinMap, entries, from_entries}
 use Rattle.std.specs.List.{filter_map, flat_map}
 use Rattle.h5_bytes.specs.Blocks.{block}
 use Rattle.h5_bytes.specs.declared.Block.{Block}
@@ -11,13 +11,12 @@ use Rattle.h5_model.specs.Format.Superblock.{superblock_length}
 use Rattle.h5_model.specs.Format.Symbols.{Target, Header, Text}
 use Rattle.h5_model.specs.Tree.Objects.{Tree, Object, Content, Group, Array, Link, Links, ToObject, Soft}
 use Rattle.h5_header.specs.Listed.{messages_in}
-use Rattle.h5_layout.specs.Described.{described_dataset}
-use Rattle.h5_layout.specs.Told.{array_told, layout_told}
+use Rattle.h5_layout.specs.Data.{data_blocks, dataset_told}
+use Rattle.h5_layout.specs.Told.{array_told, layout_told, type_told}
 use Rattle.h5_group.specs.Told.{links_told, blocks_told}
 use Rattle.h5_open.specs.declared.opened.object.OpenedObject.{OpenedObject}
 use Rattle.h5_open.specs.declared.opened.object.OpenedContent.{OpenedContent}
 use Rattle.h5_open.specs.declared.opened.object.OpenedContent.TheVariants as content
-use Rattle.h5_open.specs.Opened.Array.{data_blocks}
 use Rattle.h5_open.specs.Opened.Headers.{object_with}
 
 -- ---- numbers
@@ -78,7 +77,7 @@ links_by table found = from_entries (map (λ (l : List ℕ × Target). (l.0, lin
 -- a group with these links, whose headers the table has; or the array that the messages tell
 abbrev pub content_in : List ℕ → FinMap nat_cmp ℕ → List Message → OpenedContent → Content
 content_in image table ms (content.Group group) = Group (links_by table (links_told image group))
-content_in image table ms content.Array = Array (described_dataset image (array_told ms) empty)
+content_in image table ms content.Array = Array (dataset_told image (array_told ms))
 
 abbrev pub object_in : List ℕ → FinMap nat_cmp ℕ → OpenedObject → Object
 object_in image table o =
@@ -87,7 +86,7 @@ object_in image table o =
 -- the blocks of what an object is, and all of its own blocks
 abbrev pub content_blocks : List ℕ → List Message → OpenedContent → List Block
 content_blocks image ms (content.Group table) = blocks_told image table
-content_blocks image ms content.Array = data_blocks (layout_told ms)
+content_blocks image ms content.Array = data_blocks image (type_told ms) (layout_told ms)
 
 abbrev pub object_blocks : List ℕ → OpenedObject → List Block
 object_blocks image o = o.messages.blocks ++ content_blocks image (messages_in image o.messages.list) o.content

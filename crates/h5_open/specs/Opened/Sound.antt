@@ -6,17 +6,15 @@ use Rattle.h5_model.specs.Format.Reads.{Placed, ReadsAs, all_blocks}
 use Rattle.h5_model.specs.Scripts.Sessions.{IsState}
 use Rattle.h5_space.specs.Whole.{IsApart, IsWhole}
 use Rattle.h5_open.specs.declared.opened.object.OpenedObject.{OpenedObject}
-use Rattle.h5_open.specs.Opened.Carried.{AreCarried}
 use Rattle.h5_open.specs.Opened.Kept.{IsObjectKept}
 use Rattle.h5_open.specs.Opened.Objects.{object_in}
 use Rattle.h5_open.specs.Opened.State.{FileState, state_of}
 
--- The image reads as the tree, with the headers where the table says; its arrays are ones that are opened, so that the image opens
--- again; each object's number was given out; and no free block shares a byte with one in use.
+-- The image reads as the tree, with the headers where the table says; each object's number was given out; and no free block shares a
+-- byte with one in use.
 pub record IsSound (f : FileState) : Type 0 where
   pub placed : List Placed
   pub reads : ReadsAs f.image f.table f.tree placed
-  pub carried : AreCarried f.tree
   pub numbers : IsState (state_of f)
   pub apart : IsApart (all_blocks f.image placed) f.free (length f.image)
 

@@ -16,7 +16,7 @@ bounds-axes-0 c =
     omega (
       arith,
       one_axis c.args.opened.now c.check_write.ensures.sound c.args.path.now c.args.hyper.now c.args.values.now c.in_ok-number.number at.0
-          c.axes.result.now (c.axes.ensures.axes ∙ at.1),
+          (c.requires.run at.0.allowed) c.axes.result.now (c.axes.ensures.axes ∙ at.1),
     )
 
 pub write_cells-requires : goal.write_cells-requires

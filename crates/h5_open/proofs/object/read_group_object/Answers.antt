@@ -1,23 +1,23 @@
 use Rattle.std.proofs.lemmas.Result.{err_from_is_err_and}
 use Rattle.h5_header.specs.Listed.{messages_in}
-use Rattle.h5_open.proofs.RefusedLaws.{fault_refused}
-use Rattle.h5_open.proofs.GroupReadLaws.{group_fault, group_met, first, group_object_read, group_object_followed, depth_fault}
+use Rattle.h5_open.proofs.ArrayLaws.{bodies_fault}
+use Rattle.h5_open.proofs.GroupReadLaws.{group_met, first, group_object_read, group_object_followed, depth_fault}
 use Rattle.h5_header.specs.Walk.Met.{with_header}
 use Rattle.h5_open.proofs.object.read_group_object.Goals as goal
 
 pub returns-in_err-table-clause-refused : goal.returns-in_err-table-clause-refused
 returns-in_err-table-clause-refused c =
     let p = err_from_is_err_and c.from_residual.result c.from_residual.ensures.1 in
-    rw (p.1, p.2) (λ held followed field done. group_fault c.args.image.now.bytes c.args.messages c.requires.header.has c.requires.header.inside held followed field c.args.depth done.met _ _
+    rw (p.1, p.2) (λ held followed field done. bodies_fault c.args.image.now.bytes c.args.messages c.requires.header.has c.requires.header.inside held followed field c.args.depth done.met _ _
     c.in_err-table.ensures.address c.in_err-table.ensures.refused)
 
 pub returns-in_err-read_group-clause-refused : goal.returns-in_err-read_group-clause-refused
 returns-in_err-read_group-clause-refused c =
     let p = err_from_is_err_and c.from_residual-in_err-read_group.result c.from_residual-in_err-read_group.ensures.1 in
-    rw (p.1, p.2) (λ held followed field done. fault_refused c.args.image.now.bytes _ _
-    (c.in_err-read_group.ensures.refused (with_header field c.args.messages.header c.args.depth (messages_in c.args.image.now.bytes c.args.messages.list) followed)
+    rw (p.1, p.2) (λ held followed field done.
+    c.in_err-read_group.ensures.refused (with_header field c.args.messages.header c.args.depth (messages_in c.args.image.now.bytes c.args.messages.list) followed)
     (first c.args.image.now.bytes held c.args.claims.now.held followed field c.args.depth c.args.messages done c.requires.separate c.in_ok-table.table c.in_ok-table.ensures.read) _ c.args.depth
-    (group_met c.args.image.now.bytes held c.args.claims.now.held followed field c.args.depth c.args.messages done c.requires.separate c.in_ok-table.table c.in_ok-table.ensures.read)))
+    (group_met c.args.image.now.bytes held c.args.claims.now.held followed field c.args.depth c.args.messages done c.requires.separate c.in_ok-table.table c.in_ok-table.ensures.read))
 
 pub returns-in_err-check_depth-clause-refused : goal.returns-in_err-check_depth-clause-refused
 returns-in_err-check_depth-clause-refused c =

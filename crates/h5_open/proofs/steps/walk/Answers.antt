@@ -2,7 +2,7 @@ use Rattle.std.proofs.Common.{◌≡◌, [], ap, rules}
 use Rattle.std.proofs.lemmas.Result.{err_from_is_err_and}
 use Rattle.h5_model.specs.Format.Superblock.{root_header}
 use Rattle.h5_open.specs.Opened.Objects.{objects_of}
-use Rattle.h5_open.proofs.CarriedLaws.{only_memory, fault_only_memory}
+use Rattle.h5_open.proofs.RefusedLaws.{only_memory}
 use Rattle.h5_open.proofs.WholeLaws.{none_numbered, ready_at, whole_at, opened}
 use Rattle.h5_open.proofs.steps.walk.Goals as goal
 
@@ -53,4 +53,4 @@ returns-in_err-read_tree-clause-only c =
 pub returns-in_err-check_counts-clause-only : goal.returns-in_err-check_counts-clause-only
 returns-in_err-check_counts-clause-only c =
     let p = err_from_is_err_and c.from_residual-in_err-check_counts.result c.from_residual-in_err-check_counts.ensures.1 in
-    rw (p.1, p.2) (fault_only_memory c.args.image.now.bytes _ _ c.in_err-check_counts.ensures.refused)
+    rw (p.1, p.2) (only_memory c.args.image.now.bytes _ _ c.in_err-check_counts.ensures.refused)

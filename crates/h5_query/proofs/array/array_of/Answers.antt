@@ -1,6 +1,6 @@
-use Rattle.h5_header.specs.Listed.{messages_in}
+use Rattle.std.proofs.Common.{Some, sym, ap, ◌∙◌}
+use Rattle.h5_model.specs.Tree.Objects.{Dataset}
 use Rattle.h5_query.proofs.Indexed.{no_array_there, group_no_array, array_there, array_kept}
-use Rattle.h5_query.specs.Kept.{array_dataset}
 use Rattle.h5_query.proofs.array.array_of.Goals as goal
 
 pub returns-in_err-object : goal.returns-in_err-object
@@ -16,8 +16,6 @@ stored_array-requires c =
     rw c.image.ensures.bytes (array_kept c.args.opened.now c.args.number.0 c.in_ok-object.object.now c.in_ok-object.ensures.found c.in-Array.is)
 
 pub returns-in-Array : goal.returns-in-Array
-returns-in-Array c = (
-  array_dataset c.args.opened.now.image (messages_in c.args.opened.now.image c.in_ok-object.object.now.messages.list),
-  array_there c.args.opened.now c.args.number.0 c.in_ok-object.object.now c.in_ok-object.ensures.found c.in-Array.is,
-  rw c.image.ensures.bytes at c.stored_array.ensures,
-)
+returns-in-Array c =
+    let there = array_there c.args.opened.now c.args.number.0 c.in_ok-object.object.now c.in_ok-object.ensures.found c.in-Array.is in
+    there ∙ ap (λ (d : Dataset). Some d) (sym (rw c.image.ensures.bytes at c.stored_array.ensures))

@@ -25,4 +25,4 @@ returns-in-Array c =
     array_found c.args.opened.now c.in-Object.number c.in-Object.object.now place.1 c.args.path.now place.0
     c.in-Array.is _ refl c.in_ok-attributes.attributes
     ((rw c.image.ensures.bytes at c.in_ok-attributes.ensures) (attributes_of (messages_in c.args.opened.now.image c.in-Object.object.now.messages.list)) kept.attributes)
-    c.stored_array.result (rw c.image-in-Array.ensures.bytes at c.stored_array.ensures)
+    _ (rw c.image-in-Array.ensures.bytes at c.stored_array.ensures)

@@ -1,5 +1,5 @@
 use Rattle.std.proofs.Common.{arith}
-use Rattle.h5_query.proofs.KeptArrays.{next_shown}
+use Rattle.h5_query.proofs.ShownMaxima.{next_shown}
 use Rattle.h5_query.proofs.links.write_maxima.Goals as goal
 
 pub loop-k-preserved : goal.loop-k-preserved

@@ -1,0 +1,198 @@
+-- The chunk of a place, and the place in it, one dimension after another from the last to the first.
+use Rattle.std.proofs.Common.{◌≡◌, ℕ, zero, suc, ◌+◌, ◌-◌, ◌*◌, ◌/◌, ◌%◌, ◌<◌, ◌≤◌, ◌^◌, List, [], ◌∷◌, refl, sym, ap, ap₂, ◌∙◌, arith, length, get_or, drop, set}
+use Rattle.std.proofs.lemmas.Nat.{div-add-mod', div-mul-add, mod-mul-add, mul-add-lt}
+use Rattle.std.proofs.lemmas.List.{drop_more, drop-set, length-drop}
+use Rattle.std.proofs.Math.Nat.{mod-eq_of_lt, mul-le-mul_right, div-div-eq-div-mul}
+use Rattle.h5_model.specs.Tree.Grid.{corner_of, inner_of}
+use Rattle.h5_model.specs.Tree.Places.{cells, place_of, index_of, IsInside}
+use Rattle.h5_model.proofs.PlaceLaws.{positive, place_below}
+
+-- ---- products
+
+some_head : (d : ℕ) (ds : List ℕ) → 0 < cells (d ∷ ds) → 0 < d
+some_head zero ds some = absurd (omega arith)
+some_head (suc d) ds some = omega arith
+
+some_tail : (d : ℕ) (ds : List ℕ) → 0 < cells (d ∷ ds) → 0 < cells ds
+some_tail d ds some = positive 0 d (cells ds) some
+
+pub some_drop : (k : ℕ) (ds : List ℕ) → 0 < cells ds → 0 < cells (drop k ds)
+some_drop zero ds some = some
+some_drop (suc k) [] some = some
+some_drop (suc k) (d ∷ ds) some = some_drop k ds (some_tail d ds some)
+
+pub some_size : (k : ℕ) (ds : List ℕ) → k < length ds → 0 < cells ds → 0 < get_or ds k 0
+some_size k [] low some = absurd (omega arith)
+some_size zero (d ∷ ds) low some = some_head d ds some
+some_size (suc k) (d ∷ ds) low some = some_size k ds (omega arith) (some_tail d ds some)
+
+-- leaving dimensions out leaves no more cells
+pub cells_drop : (k : ℕ) (ds : List ℕ) → 0 < cells ds → cells (drop k ds) ≤ cells ds
+cells_drop zero ds some = omega arith
+cells_drop (suc k) [] some = omega arith
+cells_drop (suc k) (d ∷ ds) some =
+    let rest : cells (drop k ds) ≤ cells ds = cells_drop k ds (some_tail d ds some) in
+    let one : 1 * cells ds ≤ d * cells ds = mul-le-mul_right (cells ds) (some_head d ds some) in
+    omega (arith, rest, one)
+
+pub some_cells : (ds : List ℕ) → ((k : ℕ) → k < length ds → 1 ≤ get_or ds k 0) → 0 < cells ds
+some_cells [] each = omega arith
+some_cells (d ∷ ds) each =
+    let here : 1 ≤ d = each 0 (omega arith) in
+    let rest : 0 < cells ds = some_cells ds (λ k low. each (suc k) (omega arith)) in
+    let one : 1 * cells ds ≤ d * cells ds = mul-le-mul_right (cells ds) here in
+    omega (arith, one)
+
+-- ---- one dimension more
+
+-- the index of a place, its first number by what is left of the place
+index_first : (s : ℕ) (ds : List ℕ) (p : ℕ) → 0 < s → 0 < cells ds
+    → index_of (s ∷ ds) (p % cells (s ∷ ds)) ≡ p / cells ds % s ∷ index_of ds (p % cells ds)
+index_first s ds p some more =
+    let m : ℕ = cells ds in
+    let a : ℕ = p / m in
+    let column : p % m < m = omega arith in
+    let row : a % s < s = omega arith in
+    let place : a * m + p % m ≡ p = div-add-mod' p m in
+    let rows : a / s * s + a % s ≡ a = div-add-mod' a s in
+    let spread : (a / s * s + a % s) * m ≡ a * m = ap (λ n. n * m) rows in
+    let parts : (a / s * s + a % s) * m ≡ a / s * (s * m) + a % s * m = omega arith in
+    let whole : p ≡ a / s * (s * m) + (a % s * m + p % m) = omega (arith, place, spread, parts) in
+    let below : a % s * m + p % m < m * s = mul-add-lt (a % s) m (p % m) s row column in
+    let turned : m * s ≡ s * m = omega arith in
+    let rest : p % (s * m) ≡ a % s * m + p % m = ap (λ n. n % (s * m)) whole ∙ mod-mul-add (a / s) (s * m) (a % s * m + p % m) (omega (arith, below, turned)) in
+    let first : p % (s * m) / m ≡ a % s = ap (λ n. n / m) rest ∙ div-mul-add (a % s) m (p % m) column in
+    let others : p % (s * m) % m ≡ p % m = ap (λ n. n % m) rest ∙ mod-mul-add (a % s) m (p % m) column in
+    rw (first, others) refl
+
+pub length-index : (ds : List ℕ) (p : ℕ) → length (index_of ds p) ≡ length ds
+length-index [] p = refl
+length-index (d ∷ ds) p = ap suc (length-index ds (p % cells ds))
+
+-- an index in a box is inside the box
+pub inner_inside : (chunk index : List ℕ) → length index ≡ length chunk → 0 < cells chunk → IsInside chunk (inner_of chunk index)
+inner_inside [] index same some = tt
+inner_inside (c ∷ cs) [] same some = absurd (omega arith)
+inner_inside (c ∷ cs) (i ∷ is) same some =
+    let here : 0 < c = some_head c cs some in
+    let low : i % c < c = omega arith in
+    (low, inner_inside cs is (omega arith) (some_tail c cs some))
+
+-- ---- the dimensions from the k-th on
+
+module _ (sizes chunk : List ℕ) (place : ℕ) where
+  abbrev pub index_from : ℕ → List ℕ
+  index_from k = index_of (drop k sizes) (place % cells (drop k sizes))
+
+  abbrev pub corner_from : ℕ → List ℕ
+  corner_from k = corner_of (drop k chunk) (index_from k)
+
+  abbrev pub inner_from : ℕ → ℕ
+  inner_from k = place_of (drop k chunk) (inner_of (drop k chunk) (index_from k))
+
+  -- the number of an index in dimension k
+  abbrev pub number_in : ℕ → ℕ
+  number_in k = place / cells (drop (k + 1) sizes) % get_or sizes k 0
+
+module _ (sizes chunk : List ℕ) (place : ℕ) (same : length chunk ≡ length sizes) (some : 0 < cells sizes) (more : 0 < cells chunk) where
+  module _ (k : ℕ) (low : k < length sizes) where
+    pub sizes_more : drop k sizes ≡ get_or sizes k 0 ∷ drop (k + 1) sizes
+    sizes_more = drop_more sizes k 0 low
+
+    pub chunk_more : drop k chunk ≡ get_or chunk k 0 ∷ drop (k + 1) chunk
+    chunk_more = drop_more chunk k 0 (omega arith)
+
+    pub index_more : index_from sizes chunk place k ≡ number_in sizes chunk place k ∷ index_from sizes chunk place (k + 1)
+    index_more = ap (λ ds. index_of ds (place % cells ds)) sizes_more
+        ∙ index_first (get_or sizes k 0) (drop (k + 1) sizes) place (some_size k sizes low some) (some_drop (k + 1) sizes some)
+
+    pub corner_more : corner_from sizes chunk place k ≡ number_in sizes chunk place k / get_or chunk k 0 * get_or chunk k 0 ∷ corner_from sizes chunk place (k + 1)
+    corner_more = ap₂ corner_of chunk_more index_more
+
+    pub inner_more : inner_from sizes chunk place k ≡ number_in sizes chunk place k % get_or chunk k 0 * cells (drop (k + 1) chunk) + inner_from sizes chunk place (k + 1)
+    inner_more = ap₂ (λ cs is. place_of cs (inner_of cs is)) chunk_more index_more
+
+    pub rest_more : place / cells (drop (k + 1) sizes) / get_or sizes k 0 ≡ place / cells (drop k sizes)
+    rest_more =
+        let turned : cells (drop (k + 1) sizes) * get_or sizes k 0 ≡ get_or sizes k 0 * cells (drop (k + 1) sizes) = omega arith in
+        div-div-eq-div-mul place (cells (drop (k + 1) sizes)) (get_or sizes k 0) ∙ ap (λ n. place / n) (turned ∙ sym (ap cells sizes_more))
+
+    pub stride_more : cells (drop (k + 1) chunk) * get_or chunk k 0 ≡ cells (drop k chunk)
+    stride_more =
+        let turned : cells (drop (k + 1) chunk) * get_or chunk k 0 ≡ get_or chunk k 0 * cells (drop (k + 1) chunk) = omega arith in
+        turned ∙ sym (ap cells chunk_more)
+
+  pub inner_low : (k : ℕ) → inner_from sizes chunk place k < cells (drop k chunk)
+  inner_low k =
+      let long : length (index_from sizes chunk place k) ≡ length (drop k chunk) = length-index (drop k sizes) (place % cells (drop k sizes)) ∙ omega (arith, length-drop k sizes, length-drop k chunk) in
+      place_below (drop k chunk) (inner_of (drop k chunk) (index_from sizes chunk place k)) (inner_inside (drop k chunk) (index_from sizes chunk place k) long (some_drop k chunk more))
+
+  pub all_from : place < cells sizes → index_from sizes chunk place 0 ≡ index_of sizes place
+  all_from below = ap (index_of sizes) (mod-eq_of_lt below)
+
+-- what is written down for one dimension
+pub written_more : (corner : List ℕ) (k n c : ℕ) (rest : List ℕ) → k < length corner → drop (k + 1) corner ≡ rest
+    → drop k (set corner k (n - n % c)) ≡ n / c * c ∷ rest
+written_more corner k n c rest low is =
+    let corner_is : n - n % c ≡ n / c * c = omega (arith, div-add-mod' n c) in
+    drop-set corner k (n - n % c) low ∙ ap₂ (λ m ms. m ∷ ms) corner_is is
+
+-- ---- a step from dimension j to the one before it
+
+module _ (sizes chunk : List ℕ) (place : ℕ) (same : length chunk ≡ length sizes) (some : 0 < cells sizes) (more : 0 < cells chunk)
+    (j : ℕ) (up : 0 < j) (within : j ≤ length sizes) (rest stride inner : ℕ) (corner : List ℕ) (room : length corner ≡ length sizes)
+    (rest-is : rest ≡ place / cells (drop j sizes)) (stride-is : stride ≡ cells (drop j chunk)) (inner-is : inner ≡ inner_from sizes chunk place j)
+    (corner-is : drop j corner ≡ corner_from sizes chunk place j) where
+  abbrev k : ℕ
+  k = j - 1
+
+  abbrev box : ℕ
+  box = get_or chunk k 0
+
+  abbrev number : ℕ
+  number = rest % get_or sizes k 0
+
+  back : j ≡ k + 1
+  back = omega arith
+
+  low : k < length sizes
+  low = omega arith
+
+  rest_here : rest ≡ place / cells (drop (k + 1) sizes)
+  rest_here = rest-is ∙ ap (λ n. place / cells (drop n sizes)) back
+
+  stride_here : stride ≡ cells (drop (k + 1) chunk)
+  stride_here = stride-is ∙ ap (λ n. cells (drop n chunk)) back
+
+  inner_here : inner ≡ inner_from sizes chunk place (k + 1)
+  inner_here = inner-is ∙ ap (inner_from sizes chunk place) back
+
+  corner_here : drop (k + 1) corner ≡ corner_from sizes chunk place (k + 1)
+  corner_here = ap (λ n. drop n corner) (sym back) ∙ corner-is ∙ ap (corner_from sizes chunk place) back
+
+  number-is : number ≡ number_in sizes chunk place k
+  number-is = ap (λ n. n % get_or sizes k 0) rest_here
+
+  pub next_rest : rest / get_or sizes k 0 ≡ place / cells (drop k sizes)
+  next_rest = ap (λ n. n / get_or sizes k 0) rest_here ∙ rest_more sizes chunk place same some more k low
+
+  pub next_stride : stride * box ≡ cells (drop k chunk)
+  next_stride = ap (λ n. n * box) stride_here ∙ stride_more sizes chunk place same some more k low
+
+  pub next_inner : inner + number % box * stride ≡ inner_from sizes chunk place k
+  next_inner =
+      let product : number % box * stride ≡ number_in sizes chunk place k % box * cells (drop (k + 1) chunk) = ap₂ (λ n s. n % box * s) number-is stride_here in
+      omega (arith, product, inner_here, inner_more sizes chunk place same some more k low)
+
+  pub next_corner : drop k (set corner k (number - number % box)) ≡ corner_from sizes chunk place k
+  next_corner =
+      written_more corner k number box (corner_from sizes chunk place (k + 1)) (omega (arith, low, room)) corner_here
+      ∙ ap (λ n. n / box * box ∷ corner_from sizes chunk place (k + 1)) number-is
+      ∙ sym (corner_more sizes chunk place same some more k low)
+
+  module _ (small : cells chunk ≤ 2 ^ 30) where
+    pub stride_small : stride * box ≤ 2 ^ 30
+    stride_small = omega (arith, next_stride, cells_drop k chunk more)
+
+    pub inner_small : inner + number % box * stride ≤ 2 ^ 30
+    inner_small = omega (arith, next_inner, inner_low sizes chunk place same some more k, cells_drop k chunk more)

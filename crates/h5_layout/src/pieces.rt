@@ -1,0 +1,92 @@
+//! The selected cells of an array in pieces.
+
+ghost use Rattle.std.specs.Prelude.{◌≡◌, ℕ, ◌<◌, [], MatchOption, Some, length};
+ghost use Rattle.std.specs.Iterator.{at_most};
+ghost use Rattle.h5_layout.specs.Pieces.{CellsLeft, GivesPiece};
+ghost use Rattle.h5_layout.specs.Runs.{AreRunsBelow, places_left};
+
+use crate::cells::StoredCells;
+use h5_shape::{CellRun, CellRuns};
+use std::marker::Model;
+
+/// Some cells as they stand.
+#[derive(Drop)]
+pub enum Piece<'a> {
+    /// The bytes of cells, one behind the other, each in as many bytes as the type has.
+    Bytes(&'a [u8]),
+    /// Cells that are not stored, each of which reads the fill.
+    Fill {
+        /// How many there are.
+        cells: u64,
+    },
+}
+
+/// The selected cells of an array that are left, piece by piece, in row-major order. No step takes memory.
+#[derive(Drop)]
+pub struct Runs<'a> {
+    cells: StoredCells<'a>,
+    /// What is left of the run under way.
+    run: CellRun,
+    /// The runs that follow, if any do.
+    runs: Option<CellRuns>,
+}
+
+impl<'a> Model for Runs<'a> {
+    ghost use Rattle.std.specs.Prelude.{length};
+    ghost use Rattle.h5_layout.specs.Pieces.{CellsLeft};
+    ghost use Rattle.h5_layout.specs.Runs.{AreRunsBelow, cells_left, places_left};
+
+    ghost Value = { CellsLeft };
+
+    ghost view = { λ r. cells_left r.cells (places_left r.run r.runs) };
+
+    ghost invariant = { λ r. AreRunsBelow (length r.cells.values) r.run r.runs };
+}
+
+impl<'a> Runs<'a> {
+    ghost use Rattle.h5_layout.specs.Runs.{AreRunsBelow, cells_left, places_left};
+
+    /// The cells of a run, and of the runs that follow.
+    pub(crate) fn new(cells: StoredCells<'a>, run: CellRun, runs: Option<CellRuns>) -> Self
+        requires { AreRunsBelow (length cells.values) run runs }
+        ensures { result ≡ cells_left cells.entry (places_left run runs) }
+    {
+        Runs { cells, run, runs }
+    }
+}
+
+impl<'a> Iterator for Runs<'a> {
+    type Item = Piece<'a>;
+
+    ghost next_gives = { GivesPiece };
+
+    ghost remaining = { λ r. at_most (length r.values) };
+
+    fn next(&mut self) -> Option<Piece<'a>> {
+        let run = run_under_way(self.run, &mut self.runs)?;
+        let (piece, cells) = self.cells.piece(run.place, run.length);
+        self.run = CellRun {
+            place: run.place + cells,
+            length: run.length - cells,
+        };
+        Some(piece)
+    }
+}
+
+/// What is left of a run, or where nothing is the run that follows.
+fn run_under_way(run: CellRun, runs: &mut Option<CellRuns>) -> Option<CellRun>
+    ensures step { MatchOption result
+        ((places_left run runs.old ≡ []) × (runs.new ≡ runs.old))
+        (λ next. places_left run runs.old ≡ places_left next runs.new) }
+    ensures below { (n : ℕ) → AreRunsBelow n run runs.old → MatchOption result
+        (AreRunsBelow n run runs.new)
+        (λ next. (0 < next.length) × AreRunsBelow n next runs.new) }
+{
+    if run.length > 0 {
+        return Some(run);
+    }
+    match runs {
+        Some(runs) => runs.next(),
+        None => None,
+    }
+}

@@ -1,0 +1,123 @@
+//! An array with the image in which its cells stand.
+
+ghost use Rattle.std.specs.Prelude.{◌≡◌, length};
+ghost use Rattle.h5_model.specs.Tree.Places.{IsInside};
+ghost use Rattle.h5_model.specs.Format.Reads.{storage_of};
+ghost use Rattle.h5_model.specs.Scripts.Reading.{cell_at};
+ghost use Rattle.h5_model.specs.Views.Selection.{Within};
+ghost use Rattle.h5_model.specs.Views.Shown.{selected_values};
+ghost use Rattle.h5_layout.specs.Data.{AreDataRead, IsSoundDataset, dataset_told};
+
+use crate::array::ArrayRef;
+use crate::cells::StoredCells;
+use crate::pieces::{Piece, Runs};
+use h5_msg::value_at;
+use h5_shape::{CellRun, Slab};
+use h5_space::Image;
+use std::marker::Model;
+
+/// An array, and the image in which its cells stand, in whatever form.
+#[derive(Drop)]
+pub struct StoredArray<'a> {
+    image: &'a Image,
+    array: ArrayRef<'a>,
+}
+
+impl<'a> Model for StoredArray<'a> {
+    ghost use Rattle.h5_model.specs.Tree.Objects.{Dataset};
+    ghost use Rattle.h5_layout.specs.Data.{AreDataRead, dataset_told};
+
+    ghost Value = { Dataset };
+
+    ghost view = { λ s. dataset_told s.image.now.bytes s.array };
+
+    ghost invariant = { λ s. AreDataRead s.image.now.bytes s.array.fixed s.array.layout };
+}
+
+impl<'a> StoredArray<'a> {
+    /// The array of this description in this image. That its data stand there is the caller's condition.
+    pub fn new(image: &'a Image, array: ArrayRef<'a>) -> Self
+        requires { AreDataRead image.now.bytes array.fixed array.layout }
+        ensures { result ≡ dataset_told image.now.bytes array.entry }
+    {
+        StoredArray { image, array }
+    }
+
+    /// The description.
+    pub fn array(&self) -> &ArrayRef<'a>
+        ensures fixed { result.now.fixed ≡ self.now.fixed }
+        ensures sizes { result.now.sizes ≡ self.now.sizes }
+        ensures maxima { result.now.maxima ≡ self.now.maxima }
+        ensures fill { result.now.fill ≡ self.now.fill }
+        ensures storage { self.now.storage ≡ storage_of result.now.sizes result.now.layout }
+        ensures sound { IsSoundDataset self.now }
+    {
+        // Its type, its fill and its sizes are sound.
+        let _fixed = self.array.fixed();
+        let _fill = self.array.fill();
+        let _dims = self.array.dims();
+        &self.array
+    }
+
+    /// The value of a cell, by its index.
+    ///
+    /// That the index is inside the sizes is the caller's condition.
+    pub fn cell(&self, index: &[u64]) -> i128
+        requires { IsInside self.now.sizes index.now }
+        ensures { result ≡ cell_at self.now index.now }
+    {
+        let place = self.array.dims().place(index);
+        match self.cells().piece(place, 1).0 {
+            Piece::Bytes(bytes) => value_at(&self.array.fixed(), bytes, 0),
+            Piece::Fill { .. } => self.array.fill(),
+        }
+    }
+
+    /// The selected cells, piece by piece in row-major order. Takes no memory.
+    ///
+    /// That the selection is within the sizes, of as many dimensions, is the caller's condition.
+    pub fn runs(&self, slab: &Slab) -> Runs<'a>
+        requires rank { length slab.now ≡ length self.now.sizes }
+        requires within { Within self.now.sizes slab.now }
+        ensures { result ≡ record {
+          fixed = self.now.fixed;
+          fill = self.now.fill;
+          values = selected_values self.now slab.now;
+        } }
+    {
+        let runs = slab.runs(self.array.dims());
+        Runs::new(self.cells(), NO_CELL, Some(runs))
+    }
+
+    /// All cells, piece by piece in row-major order. Takes no memory.
+    pub fn all(&self) -> Runs<'a>
+        ensures { result ≡ record {
+          fixed = self.now.fixed;
+          fill = self.now.fill;
+          values = self.now.cells;
+        } }
+    {
+        let whole = CellRun {
+            place: 0,
+            length: self.array.cells(),
+        };
+        Runs::new(self.cells(), whole, None)
+    }
+
+    /// All cells, where they stand.
+    fn cells(&self) -> StoredCells<'a>
+        ensures { result ≡ record {
+          fixed = self.now.fixed;
+          fill = self.now.fill;
+          values = self.now.cells;
+        } }
+    {
+        StoredCells::new(self.image, &self.array)
+    }
+}
+
+/// The run of no cell.
+const NO_CELL: CellRun = CellRun {
+    place: 0,
+    length: 0,
+};

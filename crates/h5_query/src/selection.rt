@@ -1,0 +1,63 @@
+//! Selections of an array's cells, and the runs of these (HDF5 dataspace reference, H5Sselect_hyperslab).
+
+ghost use Rattle.std.specs.Prelude.{◌≡◌, Some, None, IfOk, MatchResult};
+ghost use Rattle.h5_model.specs.Edits.Refusal.{first_holding};
+ghost use Rattle.h5_model.specs.Scripts.Reading.{selection_rules};
+ghost use Rattle.h5_model.specs.Views.Selection.{axes_of};
+ghost use Rattle.h5_query.specs.Selected.{HasRuns, IsSlabOf, fault_of_slab, hyper_rules};
+
+use crate::array::array_at;
+use h5_model::{EditFault, Hyper};
+use h5_open::{Dims, Opened, Runs};
+use h5_shape::{Slab, SlabFault};
+use std::alloc::Global;
+
+/// The selected cells of the array at the path, as they stand in the image.
+///
+/// Refused as [`array_at`] is, and as [`slab_within`] is. Neither the call nor a step of the runs takes memory.
+pub fn runs_at<'a>(
+    alloc: Global,
+    opened: &'a Opened,
+    path: &[u8],
+    hyper: &Hyper,
+) -> Result<Runs<'a>, EditFault>
+    ensures { let tree = opened.now.tree in
+        MatchResult result (HasRuns tree path.now hyper.now) (λ e.
+        first_holding (selection_rules tree path.now hyper.now) ≡ Some e) }
+{
+    let (_, array) = array_at(alloc, opened, path)?;
+    let slab = slab_within(array.array().dims(), hyper)?;
+    Ok(array.runs(&slab))
+}
+
+/// The selection of the lists, or the lowest number of why it is none of an array of these sizes: `RankMismatch`, `StrideZero`,
+/// `BlocksOverlap` or `OutOfExtent`.
+pub fn slab_within(dims: &Dims, hyper: &Hyper) -> Result<Slab, EditFault>
+    ensures rules { let rules = hyper_rules dims.now hyper.now in
+        MatchResult result (λ slab. (first_holding rules ≡ None) × (slab ≡ axes_of hyper.now)) (λ e.
+        first_holding rules ≡ Some e) }
+    ensures inside { IfOk result (IsSlabOf dims.now) }
+{
+    if hyper.start.as_slice().len() != dims.sizes().len() {
+        return Err(EditFault::RankMismatch);
+    }
+    let slab = match Slab::new(hyper) {
+        Ok(slab) => slab,
+        Err(fault) => return Err(edit_fault(fault)),
+    };
+    if !slab.within(dims) {
+        return Err(EditFault::OutOfExtent);
+    }
+    Ok(slab)
+}
+
+/// The refusal of an edit whose lists are no selection.
+fn edit_fault(fault: SlabFault) -> EditFault
+    ensures { result ≡ fault_of_slab fault }
+{
+    match fault {
+        SlabFault::RankMismatch => EditFault::RankMismatch,
+        SlabFault::StrideZero => EditFault::StrideZero,
+        SlabFault::BlocksOverlap => EditFault::BlocksOverlap,
+    }
+}
