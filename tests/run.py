@@ -15,8 +15,9 @@ from time import monotonic
 HERE = os.path.dirname(os.path.abspath(__file__))
 FOLDERS = ("end_to_end", "repository")
 # The modules that run longest, the longest first. They begin before the others, so that none is left over at the end.
-LONGEST = ("end_to_end.test_group_scripts", "end_to_end.test_changed_layouts", "end_to_end.test_walk", "end_to_end.test_odd_layouts",
-           "end_to_end.test_random_scripts", "end_to_end.test_message_bodies", "end_to_end.test_attributes", "end_to_end.test_groups")
+LONGEST = tuple(f"end_to_end.test_{name}" for name in (
+    "misuse", "slabs", "group_scripts", "odd_layouts", "changed_layouts", "walk", "random_scripts", "changed_plain_images", "array_forms",
+    "corpus", "attributes", "groups"))
 COUNTS = re.compile(r"(\d+) passed, (\d+) failed")
 # Stands before the name of the module that a process runs by itself.
 ALONE = "--alone"

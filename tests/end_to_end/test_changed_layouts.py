@@ -2,21 +2,23 @@
 
 import random
 
-from .drawn_images import Walked, foreign_image
+from .drawn_images import IMAGES, Walked, images_of_mutate, linked_image
 
 # pylint: disable=wrong-import-order
 from mutate import mutant  # noqa: E402
-
-FOREIGN_MUTANTS = 2000
 
 
 class ChangedLayouts(Walked):
     """Images as any writer may lay them out, changed."""
 
     def test_changed_images_in_odd_layouts(self):
+        counts = self.assert_told(images_of_mutate(foreign=True))
+        self.assertGreater(min(counts.values()), IMAGES // 10)
+
+    def test_changed_images_of_many_links_and_arrays(self):
         def images():
-            for k in range(FOREIGN_MUTANTS):
+            for k in range(IMAGES):
                 rng = random.Random(f"foreign {k}")
-                yield f"o{k}", mutant(foreign_image(rng), rng)
-        counts = self.assert_told(list(images()))
-        self.assertGreater(min(counts["opened"], counts["refused"]), FOREIGN_MUTANTS // 10)
+                yield f"o{k}", mutant(linked_image(rng), rng)
+        counts = self.assert_told(images())
+        self.assertGreater(min(counts.values()), IMAGES // 10)

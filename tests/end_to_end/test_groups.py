@@ -3,6 +3,7 @@
 import random
 
 from . import today
+from .drawn_arrays import contiguous_array
 from .drawn_images import linked_image
 from .support import InFolder, empty_image, h5i, reference
 
@@ -151,7 +152,7 @@ class Groups(InFolder):
         """What an edit does not speak of stays, whoever wrote the file and however it is laid out."""
         for k in range(60):
             rng = random.Random(f"edited {k}")
-            image = linked_image(rng)
+            image = linked_image(rng, contiguous_array)
             reading, refusal = today.opened(image)
             with self.subTest(k=k):
                 self.assertIsNone(refusal)

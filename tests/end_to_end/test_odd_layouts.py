@@ -2,18 +2,20 @@
 
 import random
 
-from .drawn_images import Walked, foreign_image, small_image
-
-VALID = 2000
+from .drawn_images import IMAGES, Walked, images_of_mutate, linked_image, small_image
 
 
 class OddLayouts(Walked):
     """Images as any writer may lay them out."""
 
     def test_images_in_odd_layouts(self):
-        images = []
-        for k in range(VALID):
-            rng = random.Random(f"valid {k}")
-            images.append((f"v{k}", foreign_image(rng) if k % 4 else small_image(rng)))
-        counts = self.assert_told(images)
-        self.assertGreater(counts["opened"], VALID // 2)
+        # Those that are refused have later forms of fill values or attributes.
+        counts = self.assert_told(images_of_mutate(valid=True))
+        self.assertGreater(counts["opened"], IMAGES // 2)
+
+    def test_images_of_links_and_arrays(self):
+        def images():
+            for k in range(IMAGES):
+                rng = random.Random(f"valid {k}")
+                yield f"v{k}", linked_image(rng) if k % 2 else small_image(rng)
+        self.assertEqual(self.assert_told(images()), {"opened": IMAGES, "refused": 0})

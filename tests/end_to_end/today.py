@@ -1,7 +1,7 @@
-"""The reference implementation, held to what the program reads and carries today.
+"""The reference implementation, held to what the program carries today.
 
-The walk is the reference's own, stopped at the first place that is not read yet. Which scripts are answered is the
-reference's own choice too, but for new arrays that are not carried yet.
+Which images are opened, and what is listed and dumped of them, is the reference's own answer. So is that to scripts, but
+where a new array, or one that the file has, can not be written yet.
 """
 
 import os
@@ -14,7 +14,7 @@ sys.path.insert(0, os.path.dirname(REFERENCE))
 # pylint: disable=wrong-import-position
 from h5oracle import reader  # noqa: E402
 from h5oracle.model import CreateDataset, Dataset  # noqa: E402
-from h5oracle.script import BadLine, attr_line, dump_lines, edit_of, ls_lines, run_script  # noqa: E402
+from h5oracle.script import SINCE, BadLine, attr_line, dump_lines, edit_of, ls_lines, run_script, unescape  # noqa: E402, F401
 from h5oracle.session import Session  # noqa: E402
 from h5oracle.values import LINE_LIMIT, OpenFault  # noqa: E402
 
@@ -25,38 +25,27 @@ LINES = 4
 NOT_YET = b"refused 32 NotYet\n"
 
 
-class NotYet(Exception):
-    """A block that is not read yet, with its address."""
-
-
-def is_line(thing):
-    """Whether a dataset has one dimension and is contiguous."""
-    return thing.store == "contiguous" and len(thing.dims) == 1
-
-
-class Walk(reader._Walk):  # pylint: disable=protected-access
-    """An opening that ends at an array that has not one dimension, or is not in one block."""
-
-    def common(self, at, thing, messages):
-        """Attributes and kept messages, the last that is judged before the cells."""
-        super().common(at, thing, messages)
-        if isinstance(thing, Dataset) and not is_line(thing):
-            raise NotYet(at)
-
-
 def opened(data):
     """The reading of an image, or what `h5i` says where it is refused: number, name and address."""
     try:
-        return Walk(data, FORMS, None).run(), None
-    except NotYet as fault:
-        return None, f"37 NotYet at {fault.args[0]}"
+        return reader.open_image(data, FORMS), None
     except OpenFault as fault:
         return None, str(fault)
 
 
-def is_read_yet(tree):
-    """Whether the tree is one that is read: each array has one dimension, and is in one block."""
-    return all(is_line(thing) for thing in tree.objects.values() if isinstance(thing, Dataset))
+def arrays_of(tree):
+    """The arrays of a tree."""
+    return [thing for thing in tree.objects.values() if isinstance(thing, Dataset)]
+
+
+def is_written_yet(array):
+    """Whether an array, or what is to be made of a spec, can be written: it is contiguous."""
+    return array.store == "contiguous"
+
+
+def is_made_yet(spec):
+    """Whether an array can be made: it is contiguous, of one size."""
+    return is_written_yet(spec) and len(spec.dims) == 1
 
 
 def printed(lines):
@@ -79,22 +68,29 @@ def attributes(thing):
     return [attr_line(thing.attrs[name]) for name in sorted(thing.attrs)]
 
 
-def is_carried(line):
-    """Whether a line asks for no edit, or for one that is carried: all that are taken, but for arrays that have not one size or are
-    not in one block."""
+def edit_in(line):
+    """The edit for which a line asks, or `None`: of a line that is none, or is not taken."""
     words = line.split(b" ")
-    if len(line) > LINE_LIMIT or b"" in words:
-        return True
+    if len(line) > LINE_LIMIT or b"" in words or SINCE.get(words[0], LINES + 1) > LINES:
+        return None
     try:
-        edit = edit_of(words)
+        return edit_of(words)
     except BadLine:
+        return None
+
+
+def is_carried(tree, line):
+    """Whether a line asks for no edit, or for one that is carried: the tree's arrays can be written, and the one that is made."""
+    edit = edit_in(line)
+    if edit is None:
         return True
-    return not isinstance(edit, CreateDataset) or (edit.spec.store == "contiguous" and len(edit.spec.dims) == 1)
+    is_made = not isinstance(edit, CreateDataset) or is_made_yet(edit.spec)
+    return is_made and all(is_written_yet(array) for array in arrays_of(tree))
 
 
 def answer(session, line):
     """The answer to one line of a script, and whether an edit was accepted."""
-    if not is_carried(line):
+    if not is_carried(session.tree, line):
         return NOT_YET, False
     run = run_script(session, line + b"\n")
     return run.output(), run.edits > 0

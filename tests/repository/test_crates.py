@@ -10,7 +10,7 @@ CRATES = os.path.join(TOP, "crates")
 
 # A check reads all crates below its own, so its time grows with these three.
 MOST_CRATES = 30
-LONGEST_CHAIN = 13
+LONGEST_CHAIN = 14
 MOST_PATHS = 5_000
 # A longer file of code is better read as two.
 MOST_LINES = 600

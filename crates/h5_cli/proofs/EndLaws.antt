@@ -1,5 +1,5 @@
 -- How runs end.
-use Rattle.std.proofs.Common.{◌≡◌, ◌≢◌, ◌⊎◌, ◌==◌, if◌then◌else◌, Bool, true, false, refl, ℕ, List, Option, Some, subst, sym, inl, inr, arith, Result, Ok, Err, IfOk, Vec}
+use Rattle.std.proofs.Common.{◌≡◌, ◌≢◌, ◌⊎◌, ◌==◌, if◌then◌else◌, Bool, true, false, refl, ℕ, List, Option, Some, None, subst, sym, inl, inr, arith, Result, Ok, Err, IfOk, Vec}
 use Rattle.std.proofs.lemmas.Bool.Decides.{nat_tests}
 use Rattle.std.specs.Io.KnownBytes.{Appends}
 use Rattle.h5_args.specs.Words.{Text, Wanted, WantDump, WantRun}
@@ -8,9 +8,16 @@ use Rattle.std.specs.declared.alloc.AllocError.{AllocError}
 use Rattle.h5_model.specs.Edits.EditFaults.{refused_text}
 use Rattle.h5_model.specs.Tree.Objects.{Tree}
 use Rattle.h5_model.specs.declared.edit_fault.EditFault.{EditFault}
+use Rattle.h5_model.specs.declared.edit_fault.EditFault.TheVariants.{BadPath}
+use Rattle.h5_model.specs.declared.edit_fault.EditFault.TheVariants as refusal
+use Rattle.h5_model.specs.Scripts.Answers.{dumped}
+use Rattle.h5_model.specs.Scripts.Lines.{unescaped}
+use Rattle.h5_model.specs.Tree.Paths.{located}
+use Rattle.h5_script.specs.Dumped.{IsUndumped}
+use Rattle.h5_script.specs.DumpFaultType.TheVariants.{Refused}
 use Rattle.h5_script.specs.Opened.State.{FileState}
 use Rattle.h5_script.specs.Opened.Sound.{IsSound}
-use Rattle.h5_cli.specs.Output.{dump_fault, IsDumpText, IsScriptRun}
+use Rattle.h5_cli.specs.Output.{IsDumpTold, IsRefusalTold, IsScriptRun}
 use Rattle.h5_cli.specs.Ends.{Ends, IsRunOver}
 use Rattle.h5_cli.specs.Status.{status_code}
 use Rattle.h5_cli.specs.declared.status.Status.{Status}
@@ -40,17 +47,60 @@ pub printed_ends : (asked : Option Wanted) (input left old new : Option (List �
 printed_ends asked input left old new text status result (inl failed) ends = ends_as asked input left old new StreamFailed result failed tt
 printed_ends asked input left old new text status result (inr p) ends = ends_as asked input left old new status result p.0 (ends p.1)
 
--- a dump that was printed ends with the status of its text
-pub dump_ends : (file word : Text) (input left old new : Option (List ℕ)) (f : FileState) (text : List ℕ) (status : Status)
-    → IsSound f → IsDumpText f.tree word text status → Appends old new text → Ends (Some (WantDump file word)) input left old new status
-dump_ends file word input left old new f text Done sound answer printed =
-    record { file = f; sound = sound; text = text; answer = answer; printed = printed }
-dump_ends file word input left old new f text CommandRefused sound answer printed =
-    record { file = f; sound = sound; text = text; answer = answer; printed = printed }
-dump_ends file word input left old new f text WrongWords sound answer printed = absurd answer
-dump_ends file word input left old new f text ImageRefused sound answer printed = absurd answer
-dump_ends file word input left old new f text StreamFailed sound answer printed = absurd answer
-dump_ends file word input left old new f text NoMemory sound answer printed = absurd answer
+-- ---- `h5i dump`
+
+-- the line of a refusal was printed last, or the stream failed
+pub refusal_printed : (fault : EditFault) (old new : Option (List ℕ)) (line : List ℕ) (result : Status) → line ≡ refused_text fault
+    → (result ≡ StreamFailed) ⊎ ((result ≡ CommandRefused) × Appends old new line) → IsRefusalTold fault old new result
+refusal_printed fault old new line result is (inl failed) = subst (λ s. IsRefusalTold fault old new s) (sym failed) tt
+refusal_printed fault old new line result is (inr p) =
+    subst (λ s. IsRefusalTold fault old new s) (sym p.0) (subst (λ text. Appends old new text) is p.1)
+
+-- a path that is refused, before anything is written
+pub dump_refused : (tree : Tree) (path : List ℕ) (old mid new : Option (List ℕ)) (fault : EditFault) (status : Status) → (fault ≡ refusal.NoMemory → ⊥)
+    → IsUndumped tree path old mid (Refused fault) → IsRefusalTold fault mid new status → IsDumpTold tree path old new status
+dump_refused tree path old mid new refusal.NoMemory status other is told = absurd (other refl)
+dump_refused tree path old mid new fault status other is told = by status (subst (λ known. IsRefusalTold fault known new status) is.1 told) where
+  by : (s : Status) → IsRefusalTold fault old new s → IsDumpTold tree path old new s
+  by Done t = absurd t
+  by CommandRefused t = (fault, is.0, t)
+  by WrongWords t = absurd t
+  by ImageRefused t = absurd t
+  by StreamFailed t = tt
+  by NoMemory t = tt
+
+-- a dump that was cut off
+pub dump_cut : (tree : Tree) (path : List ℕ) (old new : Option (List ℕ)) (status : Status) → (status ≡ StreamFailed) ⊎ (status ≡ NoMemory) → IsDumpTold tree path old new status
+dump_cut tree path old new status (inl failed) = subst (λ s. IsDumpTold tree path old new s) (sym failed) tt
+dump_cut tree path old new status (inr short) = subst (λ s. IsDumpTold tree path old new s) (sym short) tt
+
+-- the word stands for a path
+pub dump_ends : (file word : Text) (input left old new : Option (List ℕ)) (f : FileState) (path : List ℕ) (status : Status)
+    → IsSound f → unescaped word ≡ Some path → IsDumpTold f.tree path old new status → Ends (Some (WantDump file word)) input left old new status
+dump_ends file word input left old new f path Done sound is told = record {
+  file = f;
+  sound = sound;
+  text = dumped f.tree path (located f.tree path);
+  answer = (rw is told.accepted, rw is refl);
+  printed = told.written;
+}
+dump_ends file word input left old new f path CommandRefused sound is told =
+    record { file = f; sound = sound; text = refused_text told.0; answer = (told.0, rw is told.1, refl); printed = told.2 }
+dump_ends file word input left old new f path WrongWords sound is told = absurd told
+dump_ends file word input left old new f path ImageRefused sound is told = absurd told
+dump_ends file word input left old new f path StreamFailed sound is told = tt
+dump_ends file word input left old new f path NoMemory sound is told = tt
+
+-- the word stands for none
+pub bad_path_ends : (file word : Text) (input left old new : Option (List ℕ)) (f : FileState) (status : Status)
+    → IsSound f → unescaped word ≡ None → IsRefusalTold BadPath old new status → Ends (Some (WantDump file word)) input left old new status
+bad_path_ends file word input left old new f Done sound is told = absurd told
+bad_path_ends file word input left old new f CommandRefused sound is told =
+    record { file = f; sound = sound; text = refused_text BadPath; answer = (BadPath, rw is refl, refl); printed = told }
+bad_path_ends file word input left old new f WrongWords sound is told = absurd told
+bad_path_ends file word input left old new f ImageRefused sound is told = absurd told
+bad_path_ends file word input left old new f StreamFailed sound is told = tt
+bad_path_ends file word input left old new f NoMemory sound is told = tt
 
 -- what was asked by another name
 pub asked_ends : (asked wanted : Option Wanted) (input left old new : Option (List ℕ)) (status : Status) → wanted ≡ asked
@@ -77,9 +127,3 @@ pub written_ends : (asked : Option Wanted) (input left old new : Option (List �
     → (result ≡ status) ⊎ (result ≡ StreamFailed) → Ends asked input left old new status → Ends asked input left old new result
 written_ends asked input left old new status result (inl same) ends = ends_as asked input left old new status result same ends
 written_ends asked input left old new status result (inr failed) ends = ends_as asked input left old new StreamFailed result failed tt
-
--- the line of a refusal is what is printed of a dump that is refused so
-pub refusal_told : (tree : Tree) (word : Text) (r : Result (Vec ℕ Global × Status) AllocError) (e : EditFault) → dump_fault tree word ≡ Some e
-    → IfOk r (λ answer. answer.0.items ≡ refused_text e) → IfOk r (λ answer. answer.1 ≡ CommandRefused) → IfOk r (λ answer. IsDumpText tree word answer.0.items answer.1)
-refusal_told tree word (Ok answer) e is text status = subst (λ s. IsDumpText tree word answer.0.items s) (sym status) (e, is, text)
-refusal_told tree word (Err x) e is text status = tt

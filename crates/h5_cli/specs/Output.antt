@@ -16,10 +16,11 @@ use Rattle.h5_model.specs.declared.edit_fault.EditFault.{EditFault}
 use Rattle.h5_model.specs.declared.edit_fault.EditFault.TheVariants.{BadPath}
 use Rattle.h5_script.specs.Opened.State.{FileState}
 use Rattle.h5_script.specs.Opened.Sound.{IsSound}
+use Rattle.h5_script.specs.Dumped.{IsDumped}
 use Rattle.h5_script.specs.Script.{IsDone}
 use Rattle.h5_script.specs.declared.ran.Ran.{Ran}
 use Rattle.h5_cli.specs.declared.status.Status.{Status}
-use Rattle.h5_cli.specs.declared.status.Status.TheVariants.{Done, CommandRefused}
+use Rattle.h5_cli.specs.declared.status.Status.TheVariants.{Done, CommandRefused, StreamFailed, NoMemory}
 
 -- ---- `h5i ls FILE`
 
@@ -44,6 +45,22 @@ abbrev pub IsDumpText : Tree → Text → List ℕ → Status → Type 0
 IsDumpText tree word text Done = (dump_fault tree word ≡ None) × (text ≡ dump_output tree word)
 IsDumpText tree word text CommandRefused = (fault : EditFault) × (dump_fault tree word ≡ Some fault) × (text ≡ refused_text fault)
 IsDumpText tree word text _ = ⊥
+
+-- the line of a refusal was printed, or it could not be
+abbrev pub IsRefusalTold : EditFault → Option (List ℕ) → Option (List ℕ) → Status → Type 0
+IsRefusalTold fault old new CommandRefused = Appends old new (refused_text fault)
+IsRefusalTold fault old new StreamFailed = Unit {0}
+IsRefusalTold fault old new NoMemory = Unit {0}
+IsRefusalTold fault old new _ = ⊥
+
+-- what stands at the path was printed, or why nothing does; or neither could be
+abbrev pub IsDumpTold : Tree → List ℕ → Option (List ℕ) → Option (List ℕ) → Status → Type 0
+IsDumpTold tree path old new Done = IsDumped tree path old new
+IsDumpTold tree path old new CommandRefused =
+    (fault : EditFault) × (first_holding (path_rules tree path) ≡ Some fault) × Appends old new (refused_text fault)
+IsDumpTold tree path old new StreamFailed = Unit {0}
+IsDumpTold tree path old new NoMemory = Unit {0}
+IsDumpTold tree path old new _ = ⊥
 
 -- this was printed of a file
 pub record IsDumpPrinted (word : Text) (status : Status) (old new : Option (List ℕ)) : Type 0 where

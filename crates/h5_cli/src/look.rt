@@ -1,21 +1,21 @@
 //! Orders that open a file and print what it holds.
 
-ghost use Rattle.std.specs.Prelude.{◌≡◌, ℕ, IfOk, List, MatchResult, Option, Some};
+ghost use Rattle.std.specs.Prelude.{◌≡◌, ◌⊎◌, ℕ, IfOk, List, MatchResult, Option, Some};
 ghost use Rattle.h5_model.specs.Edits.EditFaults.{refused_text};
 ghost use Rattle.h5_model.specs.Scripts.Text.{list_text};
 ghost use Rattle.h5_script.specs.Opened.Sound.{IsSound};
 ghost use Rattle.h5_args.specs.Words.{WantLs, WantDump};
 ghost use Rattle.h5_cli.specs.Ends.{Ends, IsUnopened};
-ghost use Rattle.h5_cli.specs.Output.{IsDumpText};
-ghost use Rattle.h5_cli.specs.declared.status.Status.TheVariants.{CommandRefused};
+ghost use Rattle.h5_cli.specs.Output.{IsDumpTold, IsRefusalTold};
+ghost use Rattle.h5_cli.specs.declared.status.Status.TheVariants.{NoMemory, StreamFailed};
 
 use crate::files::{ReadFault, read_whole};
 use crate::status::Status;
-use crate::tell::{failed_on, no_memory, print, refused};
+use crate::tell::{failed, failed_on, no_memory, print, refused};
 use h5_command::unescaped;
 use h5_model::EditFault;
-use h5_script::{File, push_dump, push_list};
-use h5_text::push_refused;
+use h5_script::{DumpFault, File, push_list, write_dump};
+use h5_text::{PrintFault, push_refused};
 use std::alloc::{AllocError, Global};
 use std::io::Write;
 use std::rt::Files;
@@ -70,34 +70,57 @@ pub(crate) fn ls<R: Files, O: Write, E: Write>(
     }
 }
 
-/// What is dumped of a file at the path that the word stands for, or the line of a refusal, with the
-/// status of a run that prints it.
-pub(crate) fn dump_text(
+/// Prints the line of a refusal.
+fn print_refusal<O: Write, E: Write>(
     alloc: Global,
-    file: &File,
-    word: &str,
-) -> Result<(Vec<u8>, Status), AllocError>
-    ensures { IfOk result (λ answer. IsDumpText file.now.tree word.now answer.0.items answer.1) }
+    fault: EditFault,
+    output: &mut O,
+    errors: &mut E,
+) -> Status
+    ensures { IsRefusalTold fault (O.contents output.old) (O.contents output.new) result }
 {
-    let Some(path) = unescaped(alloc, word.as_bytes())? else {
-        return refusal(alloc, EditFault::BadPath);
-    };
-    let mut text = Vec::new(alloc);
-    match push_dump(alloc, &mut text, file, path.as_slice()) {
-        Ok(()) => Ok((text, Status::Done)),
-        Err(EditFault::NoMemory) => Err(AllocError),
-        Err(fault) => refusal(alloc, fault),
+    match refusal(alloc, fault) {
+        Ok(line) => print(&line, Status::CommandRefused, output, errors),
+        Err(_) => no_memory(errors),
     }
 }
 
-/// The line of a refusal, with the status of a run that prints it.
-fn refusal(alloc: Global, fault: EditFault) -> Result<(Vec<u8>, Status), AllocError>
-    ensures text { IfOk result (λ answer. answer.0.items ≡ refused_text fault) }
-    ensures status { IfOk result (λ answer. answer.1 ≡ CommandRefused) }
+/// The line of a refusal.
+fn refusal(alloc: Global, fault: EditFault) -> Result<Vec<u8>, AllocError>
+    ensures { IfOk result (λ line. line.items ≡ refused_text fault) }
+{
+    let mut line = Vec::new(alloc);
+    push_refused(&mut line, fault)?;
+    Ok(line)
+}
+
+/// How a run ends whose dump was cut off.
+fn cut_off<E: Write>(reason: PrintFault, errors: &mut E) -> Status
+    ensures { (result ≡ StreamFailed) ⊎ (result ≡ NoMemory) }
+{
+    match reason {
+        PrintFault::WriteFailed => failed("cannot print", errors),
+        PrintFault::NoMemory => no_memory(errors),
+    }
+}
+
+/// Dumps what stands at a path of a file.
+fn dump_at<O: Write, E: Write>(
+    alloc: Global,
+    file: &File,
+    path: &[u8],
+    output: &mut O,
+    errors: &mut E,
+) -> Status
+    ensures { IsDumpTold file.now.tree path.now (O.contents output.old) (O.contents output.new) result }
 {
     let mut text = Vec::new(alloc);
-    push_refused(&mut text, fault)?;
-    Ok((text, Status::CommandRefused))
+    match write_dump(alloc, &mut text, file, path, output) {
+        Ok(()) => Status::Done,
+        Err(DumpFault::Refused(EditFault::NoMemory)) => no_memory(errors),
+        Err(DumpFault::Refused(fault)) => print_refusal(alloc, fault, output, errors),
+        Err(DumpFault::Cut(reason)) => cut_off(reason, errors),
+    }
 }
 
 /// Dumps what stands at a path of the file of this name.
@@ -117,8 +140,9 @@ pub(crate) fn dump<R: Files, O: Write, E: Write>(
         Ok(opened) => opened,
         Err(status) => return status,
     };
-    match dump_text(alloc, &opened, path) {
-        Ok((text, status)) => print(&text, status, output, errors),
+    match unescaped(alloc, path.as_bytes()) {
+        Ok(Some(path)) => dump_at(alloc, &opened, path.as_slice(), output, errors),
+        Ok(None) => print_refusal(alloc, EditFault::BadPath, output, errors),
         Err(_) => no_memory(errors),
     }
 }

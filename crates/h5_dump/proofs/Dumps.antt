@@ -1,7 +1,16 @@
 -- What `dump` prints of an object.
-use Rattle.std.proofs.Common.{◌≡◌, ℕ, zero, suc, ◌+◌, ◌*◌, ◌/◌, ◌<◌, ℤ, List, [], ◌∷◌, ◌++◌, length, codes, refl, sym, ap, ◌∙◌, append-nil, replicate, subst, Option, Some, None, arith, Bor, Vec}
+use Rattle.std.proofs.Common.{◌≡◌, ℕ, zero, suc, ◌+◌, ◌-◌, ◌*◌, ◌/◌, ◌<◌, ◌≤◌, ℤ, List, [], ◌∷◌, ◌++◌, length, codes, refl, sym, ap, ◌∙◌, append-nil, replicate, subst, Option, Some, None, arith, Bor, Vec}
+use Rattle.std.specs.Prelude.{Result, Ok, Err, MatchResult}
+use Rattle.std.specs.Io.KnownBytes.{Appends}
+use Rattle.h5_text.specs.Printed.{IsPrinted, WritesSome}
+use Rattle.h5_text.specs.declared.streams.PrintFault.{PrintFault}
+use Rattle.h5_text.proofs.Printing.{printed_last, cut_last}
+use Rattle.h5_model.specs.Edits.Refusal.{first_holding}
+use Rattle.h5_model.specs.Scripts.Reading.{path_rules}
+use Rattle.h5_model.specs.Tree.Paths.{located}
 use Rattle.std.proofs.Math.Nat.{mul_assoc, zero-div}
 use Rattle.std.proofs.lemmas.Nat.{div-mul-add}
+use Rattle.std.proofs.lemmas.List.{replicate-append-replicate}
 use Rattle.std.specs.declared.alloc.Global.{Global}
 use Rattle.std.specs.FinMap.{entries}
 use Rattle.std.specs.List.{flat_map}
@@ -19,7 +28,9 @@ use Rattle.h5_file.specs.Look.{HasCells, IsArrayShown}
 use Rattle.h5_file.specs.StoredArrayType.{StoredArray}
 use Rattle.h5_file.specs.Found.{IsFoundAs, IsUnfound}
 use Rattle.h5_file.specs.FoundType.TheVariants as found
-use Rattle.h5_dump.specs.Dumped.{IsUndumped, told}
+use Rattle.h5_dump.specs.Dumped.{Dumps, IsDumped, IsUndumped, told}
+use Rattle.h5_dump.specs.declared.fault.DumpFault.{DumpFault}
+use Rattle.h5_dump.specs.declared.fault.DumpFault.TheVariants.{Refused, Cut}
 use Rattle.h5_model.specs.declared.object_no.ObjectNo.{ObjectNo}
 use Rattle.h5_model.specs.declared.edit_fault.EditFault.{EditFault}
 use Rattle.h5_model.specs.declared.edit_fault.EditFault.TheVariants.{NoMemory}
@@ -97,6 +108,23 @@ module _ (d : Dataset) (a : StoredArray) (is : IsArrayShown d a) where
       let are = subst (λ (held : Option (Bor (List ℕ))). HasCells d held) unstored is.cells_are in
       rows-told (replicate count fill) ((λ i. replicate ((all ∙ sym sized) i) ((same ∙ is.fill_is) i)) ∙ sym are.0) some w column wide first
 
+-- ---- cells of one value, part by part
+
+pub split-replicate : (n count : ℕ) (v : ℤ) → n ≤ count → replicate count v ≡ replicate n v ++ replicate (count - n) v
+split-replicate n count v few =
+    let sum : n + (count - n) ≡ count = omega (arith, few) in
+    sym (replicate-append-replicate n (count - n) v ∙ ap (λ k. replicate k v) sum)
+
+pub all-replicate : (count left : ℕ) (v : ℤ) (values : List ℤ) → replicate count v ≡ values ++ replicate left v → left ≡ 0 → values ≡ replicate count v
+all-replicate count left v values parts none = sym (parts ∙ ap (λ k. values ++ replicate k v) none ∙ append-nil values)
+
+-- what is held back is written last
+pub cells-written : {T : Type 0} (r : Result T PrintFault) (P : PrintFault → Type 0) (old mid new : Option (List ℕ)) (held now shown text : List ℕ) → shown ≡ now → IsPrinted old mid held now text
+    → MatchResult r (λ _. Appends mid new shown) (λ e. P e × WritesSome mid new shown)
+    → MatchResult r (λ _. Appends old new (held ++ text)) (λ _. WritesSome old new (held ++ text))
+cells-written (Ok x) P old mid new held now shown text same so_far is = printed_last old mid new held now text so_far (subst (λ t. Appends mid new t) same is)
+cells-written (Err e) P old mid new held now shown text same so_far is = cut_last old mid new held now text so_far (subst (λ t. WritesSome mid new t) same is.1)
+
 -- ---- what is dumped of an object
 
 pub dump-group : (path : List ℕ) (o : Object) (links : Links) → o.content ≡ Group links
@@ -151,7 +179,17 @@ module _ (tree : Tree) (path : List ℕ) where
 
 -- ---- a dump that is refused
 
--- before anything is appended
-pub unfound : (tree : Tree) (path old : List ℕ) (e : EditFault) → IsUnfound tree path e → IsUndumped tree path old old e
-unfound tree path old NoMemory is = record { more = []; whole = sym (append-nil old) }
-unfound tree path old e is = (is, refl)
+-- before anything is written
+pub unfound : (tree : Tree) (path : List ℕ) (known : Option (List ℕ)) (e : EditFault) → IsUnfound tree path e → IsUndumped tree path known known (Refused e)
+unfound tree path known NoMemory is = refl
+unfound tree path known e is = (is, refl)
+
+-- what was found was dumped, or cut off
+pub found-dumped : (tree : Tree) (path : List ℕ) (r : Result (Unit {0}) DumpFault) (old new : Option (List ℕ)) → first_holding (path_rules tree path) ≡ None
+    → Dumps r old new (dumped tree path (located tree path)) → MatchResult r (λ _. IsDumped tree path old new) (IsUndumped tree path old new)
+found-dumped tree path (Ok x) old new accepted is = record { accepted = accepted; written = is }
+found-dumped tree path (Err (Refused e)) old new accepted is = refused e is where
+  refused : (f : EditFault) → Dumps {T = Unit {0}} (Err (Refused f)) old new (dumped tree path (located tree path)) → IsUndumped tree path old new (Refused f)
+  refused NoMemory is = is
+  refused f is = absurd is
+found-dumped tree path (Err (Cut reason)) old new accepted is = record { accepted = accepted; some = is }

@@ -1,24 +1,39 @@
--- What a dump appends to a text, and what is left of it where the dump is refused.
-use Rattle.std.specs.Prelude.{◌≡◌, ℕ, true, None, Some, List, [], ◌++◌}
+-- What a dump writes, and what is written where it is refused or cut off.
+use Rattle.std.specs.Prelude.{◌≡◌, ℕ, true, Option, None, Some, List, [], Result, Ok, Err}
+use Rattle.std.specs.Io.KnownBytes.{Appends}
 use Rattle.h5_model.specs.Edits.Refusal.{first_holding}
 use Rattle.h5_model.specs.Scripts.Answers.{dumped}
 use Rattle.h5_model.specs.Scripts.Reading.{path_rules}
 use Rattle.h5_model.specs.Tree.Objects.{Tree, Dataset, Contiguous}
 use Rattle.h5_model.specs.Tree.Paths.{located}
-use Rattle.h5_model.specs.declared.edit_fault.EditFault.{EditFault}
 use Rattle.h5_model.specs.declared.edit_fault.EditFault.TheVariants as fault
-use Rattle.h5_text.specs.Appends.{Extends}
+use Rattle.h5_text.specs.Printed.{WritesSome}
 use Rattle.h5_file.specs.StoredArrayType.{StoredArray}
+use Rattle.h5_dump.specs.declared.fault.DumpFault.{DumpFault}
+use Rattle.h5_dump.specs.declared.fault.DumpFault.TheVariants.{Refused, Cut}
 
--- no rule refuses the path, and what stands there is dumped behind the old text
-pub record IsDumped (tree : Tree) (path old new : List ℕ) : Type 0 where
+-- no rule refuses the path, and what stands there was written
+pub record IsDumped (tree : Tree) (path : List ℕ) (old new : Option (List ℕ)) : Type 0 where
   pub accepted : first_holding (path_rules tree path) ≡ None
-  pub text : new ≡ old ++ dumped tree path (located tree path)
+  pub written : Appends old new (dumped tree path (located tree path))
 
--- memory was short, and the old text begins the new one; or the rules refuse the path, and the text is as it was
-abbrev pub IsUndumped : Tree → List ℕ → List ℕ → List ℕ → EditFault → Type 0
-IsUndumped tree path old new fault.NoMemory = Extends old new
-IsUndumped tree path old new e = (first_holding (path_rules tree path) ≡ Some e) × (new ≡ old)
+-- no rule refuses the path, and a beginning of what stands there was written
+pub record IsPartlyDumped (tree : Tree) (path : List ℕ) (old new : Option (List ℕ)) : Type 0 where
+  pub accepted : first_holding (path_rules tree path) ≡ None
+  pub some : WritesSome old new (dumped tree path (located tree path))
+
+-- memory was short, or the rules refuse the path, and nothing was written; or the dump was cut off
+abbrev pub IsUndumped : Tree → List ℕ → Option (List ℕ) → Option (List ℕ) → DumpFault → Type 0
+IsUndumped tree path old new (Refused fault.NoMemory) = new ≡ old
+IsUndumped tree path old new (Refused e) = (first_holding (path_rules tree path) ≡ Some e) × (new ≡ old)
+IsUndumped tree path old new (Cut reason) = IsPartlyDumped tree path old new
+
+-- the text was written; or memory was short and nothing was; or a beginning of it was
+abbrev pub Dumps : {T : Type 0} → Result T DumpFault → Option (List ℕ) → Option (List ℕ) → List ℕ → Type 0
+Dumps (Ok x) old new text = Appends old new text
+Dumps (Err (Refused fault.NoMemory)) old new text = new ≡ old
+Dumps (Err (Refused e)) old new text = ⊥
+Dumps (Err (Cut reason)) old new text = WritesSome old new text
 
 -- the array as its lines tell it, which name neither its cells nor whether they are stored
 abbrev pub told : StoredArray → Dataset

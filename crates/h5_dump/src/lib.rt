@@ -1,6 +1,13 @@
 //! What is printed of a file: the list of its links, and the dump of an object with its attributes and cells.
 #![tactic(auto)]
 
-mod texts;
+mod array;
+mod cells;
+mod dump;
+mod fault;
+mod list;
 
-pub use texts::{push_dump, push_list};
+pub use dump::write_dump;
+pub use fault::DumpFault;
+pub use h5_file::{Cause, File, MAXIMUM_IMAGE, OpenFault};
+pub use list::push_list;

@@ -32,7 +32,7 @@ mod file;
 pub use file::File;
 pub use h5_edit::{
     ArrayRef, AttrRef, Dims, Found, Kind, MAX_DEPTH, MAX_RANK, Piece, Runs, Slab, SlabFault,
-    StoreKind, StoredArray,
+    StoreKind, StoredArray, store_of,
 };
 pub use h5_model::{
     AttrSpec, Cause, Edit, EditFault, Edited, Fixed, Hyper, Items, Link, LinkTo, ObjectNo,

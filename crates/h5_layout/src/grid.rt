@@ -3,7 +3,7 @@
 ghost use Rattle.std.specs.Prelude.{◌≡◌, ℕ, ◌+◌, ◌*◌, ◌^◌, ◌<◌, ◌≤◌, length, option_map};
 ghost use Rattle.std.specs.FinMap.{get};
 ghost use Rattle.h5_model.specs.Tree.Grid.{corner_of, inner_of};
-ghost use Rattle.h5_model.specs.Tree.Places.{cells as cells_of, index_of, place_of, extent_cells};
+ghost use Rattle.h5_model.specs.Tree.Places.{cells as cells_of, index_of, place_of};
 ghost use Rattle.h5_chunks.specs.Read.{AreChunksRead};
 ghost use Rattle.h5_chunks.specs.Shapes.{AreChunkSizes};
 ghost use Rattle.h5_chunks.specs.Told.{chunks_told};
@@ -103,7 +103,8 @@ impl<'a> ChunkGrid<'a> {
         ensures beside { AreBeside self.now.sizes self.now.shape.sizes place result.cells }
         ensures place { result.place ≡ place_in_chunk self.now place }
         ensures room { result.place + result.cells ≤ cells_of self.now.shape.sizes }
-        ensures bytes { AreChunkBytes self.now (chunk_of self.now place) (option_map (λ b. b.now) result.bytes) }
+        ensures bytes { AreChunkBytes self.now (chunk_of self.now place)
+            (option_map (λ b. b.now) result.bytes) }
     {
         let sizes = &self.sizes[..self.rank];
         let chunk = &self.chunk[..self.rank];

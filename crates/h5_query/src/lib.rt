@@ -26,7 +26,7 @@ pub use h5_open::{
 };
 pub use h5_shape::{Slab, SlabFault};
 pub use kind::{Kind, StoreKind};
-pub use links::{kind_at, names_at};
+pub use links::{kind_at, names_at, store_of};
 pub use path::MAX_DEPTH;
 pub use place::{Place, Spot, look, look_up, number_at};
 pub use selection::{runs_at, slab_within};

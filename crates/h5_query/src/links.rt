@@ -73,6 +73,13 @@ fn write_maxima(array: &ArrayRef<'_>, shown: &mut [u64])
     }
 }
 
+/// How the cells of an array are stored; of chunks their sizes. It takes no memory.
+pub fn store_of(alloc: Global, array: &StoredArray<'_>) -> StoreKind
+    ensures { IsStored array.now.storage result }
+{
+    store_kind(alloc, array.array().layout())
+}
+
 /// How the cells of a layout are stored.
 fn store_kind(alloc: Global, layout: &Layout<'_>) -> StoreKind
     ensures { (sizes : List ℕ) → IsStored (storage_of sizes (layout_in layout.now)) result }

@@ -1,5 +1,5 @@
 -- The known bytes of readers and writers, one call after the other.
-use Rattle.std.proofs.Common.{◌≡◌, ℕ, ◌-◌, Option, Some, None, List, [], ◌++◌, length, take, drop, refl, sym, ap, ◌∙◌, append_assoc, append-nil, take_all, take-append-drop, length-drop, arith}
+use Rattle.std.proofs.Common.{◌≡◌, ℕ, Option, Some, None, List, [], ◌++◌, refl, sym, ap, ◌∙◌, append_assoc, append-nil}
 use Rattle.std.specs.Io.KnownBytes.{Appends, Consumes, Keeps}
 
 pub appends_none : (known : Option (List ℕ)) → Appends known known []
@@ -37,17 +37,3 @@ consumes_kept None mid new bytes p q = tt
 consumes_kept (Some xs) None new bytes p q = absurd p
 consumes_kept (Some xs) (Some ys) None bytes p q = absurd q
 consumes_kept (Some xs) (Some ys) (Some zs) bytes p q = p ∙ ap (λ rest. bytes ++ rest) (sym q)
-
--- a part of the text is written, the rest is not
-abbrev pub IsToldUpTo : Option (List ℕ) → Option (List ℕ) → List ℕ → List ℕ → Type 0
-IsToldUpTo old new text rest = (told : List ℕ) × (told ++ rest ≡ text) × Appends old new told
-
--- so many bytes of the rest were written
-pub told_more : (old mid new : Option (List ℕ)) (text rest : List ℕ) (count n : ℕ) → n ≡ length rest → IsToldUpTo old mid text rest → Appends mid new (take count rest)
-    → IsToldUpTo old new text (take (n - count) (drop count rest))
-told_more old mid new text rest count n is so_far more =
-    let all : take (n - count) (drop count rest) ≡ drop count rest = take_all (n - count) (drop count rest) (omega (arith, is, length-drop count rest)) in (
-      so_far.0 ++ take count rest,
-      ap (λ xs. (so_far.0 ++ take count rest) ++ xs) all ∙ append_assoc so_far.0 (take count rest) (drop count rest) ∙ ap (λ xs. so_far.0 ++ xs) (take-append-drop count rest) ∙ so_far.1,
-      appends_more old mid new so_far.0 (take count rest) so_far.2 more,
-    )

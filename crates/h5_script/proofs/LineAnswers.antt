@@ -1,9 +1,10 @@
 -- What one line answers, by what it asks for.
-use Rattle.std.proofs.Common.{◌≡◌, ℕ, Bool, true, false, Some, None, List, [], ◌++◌, codes, refl, sym, ap, ◌∙◌, subst, append_assoc}
+use Rattle.std.proofs.Common.{◌≡◌, ℕ, Bool, true, false, Option, Some, None, List, [], ◌++◌, codes, refl, sym, ap, ◌∙◌, subst, append_assoc}
 use Rattle.std.specs.Prelude.{Result, Ok, Err, IsErr, is_err, IfOk, MatchResult}
 use Rattle.std.proofs.lemmas.Bool.{false≢true}
 use Rattle.h5_text.specs.Appends.{Appends}
 use Rattle.h5_dump.specs.Dumped.{IsUndumped}
+use Rattle.h5_dump.specs.declared.fault.DumpFault.TheVariants as dump
 use Rattle.h5_command.specs.Commands.{command_of}
 use Rattle.h5_command.specs.declared.command.Command as asked
 use Rattle.h5_command.specs.declared.command.Command.TheVariants as form
@@ -27,9 +28,9 @@ use Rattle.h5_model.specs.declared.edits.Edit.TheVariants.{CreateGroup, CreateDa
 use Rattle.h5_model.specs.declared.edits.Edited.{Edited}
 use Rattle.h5_model.specs.declared.edit_fault.EditFault.{EditFault}
 use Rattle.h5_model.specs.declared.edit_fault.EditFault.TheVariants as fault
-use Rattle.h5_file.specs.Opened.State.{FileState, state_of}
-use Rattle.h5_file.specs.Carried.{IsRefusedBy, RefusedAs, IsRefused, is_carried}
-use Rattle.h5_file.specs.Edited.{IsEdited}
+use Rattle.h5_dump.specs.Opened.State.{FileState, state_of}
+use Rattle.h5_dump.specs.Carried.{IsRefusedBy, RefusedAs, IsRefused, is_carried}
+use Rattle.h5_dump.specs.Edited.{IsEdited}
 use Rattle.h5_script.specs.Answered.{IsAnswered, IsUntold}
 use Rattle.h5_script.specs.Taken.{taken, line_answer, IsGivenAt}
 use Rattle.h5_script.specs.declared.ran.Outcome.{Outcome}
@@ -188,7 +189,11 @@ dump_no_memory : (s : FileState) (path : List ℕ) → IsAnswered s (Dump path) 
 unfolding line_answer IsGivenAt
 dump_no_memory s path = record { given = Some fault.NoMemory; run = record { allowed = tt; state_is = refl; left = refl }; text_is = refl; outcome_is = refl }
 
--- a dump that was refused
-pub dump_undumped : (s : FileState) (path old new : List ℕ) (f : EditFault) → IsUndumped s.tree path old new f → IsAnswered s (Dump path) s (refused_text f) Refused
+-- a dump that was refused, before anything was written
+pub dump_undumped : (s : FileState) (path : List ℕ) (old new : Option (List ℕ)) (f : EditFault) → IsUndumped s.tree path old new (dump.Refused f) → IsAnswered s (Dump path) s (refused_text f) Refused
 dump_undumped s path old new fault.NoMemory is = dump_no_memory s path
 dump_undumped s path old new f is = dump_refused s path f is.0
+
+pub undumped_same : (s : FileState) (path : List ℕ) (old new : Option (List ℕ)) (f : EditFault) → IsUndumped s.tree path old new (dump.Refused f) → new ≡ old
+undumped_same s path old new fault.NoMemory is = is
+undumped_same s path old new f is = is.1

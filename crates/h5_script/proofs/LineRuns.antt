@@ -1,20 +1,23 @@
 -- The run of one line.
 use Rattle.std.proofs.Common.{◌≡◌, ℕ, ◌+◌, Option, Some, None, List, [], ◌∷◌, cond, refl, sym, ap, ◌∙◌, subst, append-nil, arith}
 use Rattle.std.specs.Io.KnownBytes.{Appends}
-use Rattle.h5_file.specs.Opened.State.{FileState}
+use Rattle.h5_dump.specs.Opened.State.{FileState}
 use Rattle.std.specs.Option.{option_map_or}
 use Rattle.h5_model.specs.Scripts.Lines.{Command, line_asks}
 use Rattle.h5_script.specs.Pieces.{commands_of_line}
 use Rattle.h5_script.proofs.RunLaws.{has_begun_one, has_counted_none}
 use Rattle.h5_model.specs.Scripts.Answers.{Given, is_refused, is_accepted}
-use Rattle.h5_script.specs.Answered.{Line, answer_at, outcome_of, IsAnswered, IsRunIn, IsUntold}
-use Rattle.h5_script.specs.Runs.{file_of_run, text_of_run, outcomes_of_run, AreRunIn, IsRun, HasCounted, HasBegun, IsRunCut, RunsTo}
-use Rattle.h5_script.specs.Streams.{WritesSome}
+use Rattle.h5_script.specs.Answered.{Line, answer_at, outcome_of, IsAnswered, IsRunIn, IsTold, IsUntold}
+use Rattle.h5_script.specs.Runs.{file_of_run, text_of_run, outcomes_of_run, AreRunIn, IsRun, HasCounted, HasBegun, IsRunCut, RunsTo, Tells, run_fault}
+use Rattle.h5_text.specs.Printed.{WritesSome}
 use Rattle.h5_script.specs.declared.ran.Outcome.{Outcome}
 use Rattle.h5_script.specs.declared.ran.Ran.{Ran}
 use Rattle.std.specs.Prelude.{Result, Ok, Err, MatchResult, IsErrAnd}
 use Rattle.h5_script.specs.declared.fault.RunFault.{RunFault}
-use Rattle.h5_script.specs.declared.fault.RunFault.TheVariants.{ScriptWrite, NoMemory}
+use Rattle.h5_script.specs.declared.fault.RunFault.TheVariants.{NoMemory}
+use Rattle.h5_text.specs.declared.streams.PrintFault.{PrintFault}
+use Rattle.h5_text.specs.declared.streams.PrintFault.TheVariants.{WriteFailed}
+use Rattle.h5_text.specs.declared.streams.PrintFault.TheVariants as print
 use Rattle.h5_script.proofs.Known.{appends_none}
 
 -- a run of one line
@@ -85,16 +88,20 @@ pub by_fault : {T : Type 0} (result : Result T RunFault) (P : T → Type 0) (B :
 by_fault (Ok x) P B e refused is begun = absurd refused
 by_fault (Err f) P B e refused is begun = (subst IsRunCut (sym refused) is, begun)
 
--- an answer was written whole, or the writer failed
-pub line_written : {T : Type 0} (result : Result T RunFault) (s t : FileState) (command : Command) (text shown : List ℕ) (outcome : Outcome) (old new : Known) (a b : Ran)
-    → IsAnswered s command t text outcome → shown ≡ text
-    → MatchResult result (λ _. Appends old new shown) (λ f. (f ≡ ScriptWrite) × WritesSome old new shown)
-    → b.refused ≡ a.refused + cond (is_refused (outcome_of outcome)) 1 0 → b.edits ≡ a.edits + cond (is_accepted (outcome_of outcome)) 1 0
-    → MatchResult result (λ _. HasCounted (command ∷ []) s t old new a b) (λ f. IsRunCut f × HasBegun (command ∷ []) s t old new)
-line_written (Ok x) s t command text shown outcome old new a b answered same written refused edits =
-    line_ran s t command text outcome old new a b answered (subst (λ (told : List ℕ). Appends old new told) same written) refused edits
-line_written (Err f) s t command text shown outcome old new a b answered same written refused edits =
-    (subst IsRunCut (sym written.0) tt, line_cut s t command text outcome old new answered (subst (λ (told : List ℕ). WritesSome old new told) same written.1))
+-- why an answer is cut off is why a run ends early
+pub run_cut : (reason : PrintFault) (f : RunFault) → f ≡ run_fault reason → IsRunCut f
+run_cut WriteFailed f is = subst IsRunCut (sym is) tt
+run_cut print.NoMemory f is = subst IsRunCut (sym is) tt
+
+-- there was no memory for the answer, or only a beginning of it was written
+pub tells_untold : (result : Result Outcome RunFault) (s t : FileState) (command : Command) (known : Known) → IsErrAnd result (λ f. f ≡ NoMemory) → IsUntold s command t
+    → Tells result s command t known known
+tells_untold result s t command known refused untold = by_memory result (IsTold s command t known known) _ refused (line_untold s t command known untold)
+
+pub tells_cut : (result : Result Outcome RunFault) (s t : FileState) (command : Command) (text : List ℕ) (outcome : Outcome) (old new : Known) (reason : PrintFault)
+    → IsErrAnd result (λ f. f ≡ run_fault reason) → IsAnswered s command t text outcome → WritesSome old new text → Tells result s command t old new
+tells_cut (Ok x) s t command text outcome old new reason refused answered some = absurd refused
+tells_cut (Err f) s t command text outcome old new reason refused answered some = (run_cut reason f refused, line_cut s t command text outcome old new answered some)
 
 -- ---- what a line asks for
 

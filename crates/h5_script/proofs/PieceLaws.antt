@@ -1,7 +1,7 @@
 -- Lines that end in a piece of a script.
 use Rattle.std.proofs.Common.{◌≡◌, ℕ, Option, List, [], ◌∷◌, ◌++◌, refl, sym, ap, ◌∙◌, subst, append_assoc, append-nil, eqb, false, ◌<◌, ◌≤◌, ◌+◌, length, length-append, arith}
 use Rattle.std.proofs.lemmas.List.Elements.{All-append}
-use Rattle.h5_file.specs.Opened.State.{FileState}
+use Rattle.h5_dump.specs.Opened.State.{FileState}
 use Rattle.h5_model.specs.Scripts.Lines.{Command, commands_of}
 use Rattle.h5_script.specs.Pieces.{HasNoEnd, IsFirstLine, AreWholeLines, HasRunLines, HasBegunLines, commands_of_line}
 use Rattle.h5_script.specs.Runs.{HasCounted, HasBegun}

@@ -3,7 +3,7 @@ use Rattle.std.proofs.Common.{◌≡◌, ℕ, ◌+◌, Bool, Option, List, [], �
 use Rattle.std.specs.List.{count_by}
 use Rattle.std.specs.Io.KnownBytes.{Appends}
 use Rattle.std.proofs.lemmas.List.Sums.{sum_by-append}
-use Rattle.h5_file.specs.Opened.State.{FileState}
+use Rattle.h5_dump.specs.Opened.State.{FileState}
 use Rattle.h5_model.specs.Scripts.Lines.{Command}
 use Rattle.h5_model.specs.Scripts.Answers.{Outcome, is_refused, is_accepted}
 use Rattle.h5_script.specs.Answered.{Line, answer_at}

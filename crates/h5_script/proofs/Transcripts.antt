@@ -13,8 +13,8 @@ use Rattle.h5_model.specs.Tree.Objects.{Tree}
 use Rattle.h5_model.specs.Tree.Paths.{located}
 use Rattle.h5_model.specs.declared.edits.Edit.{Edit}
 use Rattle.h5_model.specs.declared.edit_fault.EditFault.{EditFault}
-use Rattle.h5_file.specs.Opened.State.{FileState, state_of}
-use Rattle.h5_file.specs.Carried.{is_carried}
+use Rattle.h5_dump.specs.Opened.State.{FileState, state_of}
+use Rattle.h5_dump.specs.Carried.{is_carried}
 use Rattle.h5_script.specs.Answered.{Line, answer_at, IsRunIn}
 use Rattle.h5_script.specs.Runs.{AreRunIn, file_of_run, text_of_run, outcomes_of_run}
 use Rattle.h5_script.specs.Taken.{taken, line_answer}

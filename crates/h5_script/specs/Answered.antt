@@ -1,11 +1,12 @@
 -- What is known of a line once it was run.
-use Rattle.std.specs.Prelude.{◌≡◌, ℕ, List}
+use Rattle.std.specs.Prelude.{◌≡◌, ℕ, Option, List}
+use Rattle.std.specs.Io.KnownBytes.{Appends}
 use Rattle.h5_model.specs.Scripts.Lines.{Command, Change}
 use Rattle.h5_model.specs.Scripts.Answers.{Given, Answer}
 use Rattle.h5_model.specs.Scripts.Answers as script
 use Rattle.h5_model.specs.declared.edits.Edited.{Edited}
-use Rattle.h5_file.specs.Opened.State.{FileState, state_of}
-use Rattle.h5_file.specs.Edited.{IsEdited}
+use Rattle.h5_dump.specs.Opened.State.{FileState, state_of}
+use Rattle.h5_dump.specs.Edited.{IsEdited}
 use Rattle.h5_script.specs.Taken.{line_answer, IsGivenAt}
 use Rattle.h5_script.specs.declared.ran.Outcome.{Outcome}
 use Rattle.h5_script.specs.declared.ran.Outcome.TheVariants.{Refused, Accepted, Told}
@@ -46,3 +47,9 @@ pub record IsAnswered (before : FileState) (command : Command) (after : FileStat
 pub record IsUntold (before : FileState) (command : Command) (after : FileState) : Type 0 where
   pub given : Given
   pub run : IsRunIn before (record { command = command; given = given; after = after })
+
+-- a line that asks for the command led from one file to another, and its answer was written
+pub record IsTold (before : FileState) (command : Command) (after : FileState) (old new : Option (List ℕ)) (outcome : Outcome) : Type 0 where
+  pub text : List ℕ
+  pub answered : IsAnswered before command after text outcome
+  pub written : Appends old new text

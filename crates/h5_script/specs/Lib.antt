@@ -4,5 +4,6 @@ pub mod Runs
 pub mod Pieces
 pub mod Script
 pub mod Streams
-pub use Rattle.h5_file.specs.Opened
+pub use Rattle.h5_dump.specs.Opened
 pub use Rattle.h5_dump.specs.Dumped
+pub use Rattle.h5_dump.specs.declared.fault.DumpFault as DumpFaultType

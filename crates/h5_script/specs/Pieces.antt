@@ -3,7 +3,7 @@ use Rattle.std.specs.Prelude.{◌≡◌, ◌⊎◌, ◌==◌, ℕ, ◌+◌, fals
 use Rattle.std.specs.List.{All}
 use Rattle.std.specs.Option.{option_map_or}
 use Rattle.std.specs.Io.KnownBytes.{Consumes}
-use Rattle.h5_file.specs.Opened.State.{FileState}
+use Rattle.h5_dump.specs.Opened.State.{FileState}
 use Rattle.h5_model.specs.Scripts.Lines.{Command, line_asks, commands_of}
 use Rattle.h5_script.specs.Runs.{HasCounted, HasBegun, IsRunCut}
 use Rattle.h5_script.specs.Script.{none_ran}

@@ -4,9 +4,12 @@ use Rattle.std.specs.List.{count_by}
 use Rattle.std.specs.Io.KnownBytes.{Appends, Keeps}
 use Rattle.h5_model.specs.Scripts.Lines.{Command}
 use Rattle.h5_model.specs.Scripts.Answers.{Outcome, is_refused, is_accepted}
-use Rattle.h5_file.specs.Opened.State.{FileState}
-use Rattle.h5_script.specs.Answered.{Line, answer_at, IsRunIn}
-use Rattle.h5_script.specs.Streams.{WritesSome}
+use Rattle.h5_dump.specs.Opened.State.{FileState}
+use Rattle.h5_script.specs.Answered.{Line, answer_at, IsRunIn, IsTold}
+use Rattle.h5_text.specs.Printed.{WritesSome}
+use Rattle.h5_text.specs.declared.streams.PrintFault.{PrintFault}
+use Rattle.h5_text.specs.declared.streams.PrintFault.TheVariants as print
+use Rattle.h5_script.specs.declared.ran.Outcome as told
 use Rattle.h5_script.specs.declared.ran.Ran.{Ran}
 use Rattle.h5_script.specs.declared.fault.RunFault.{RunFault}
 use Rattle.h5_script.specs.declared.fault.RunFault.TheVariants.{ScriptWrite, NoMemory}
@@ -86,3 +89,13 @@ IsRunCut _ = ⊥
 abbrev pub RunsTo : {T : Type 0} → Result T RunFault → List Command → FileState → FileState → Option (List ℕ) → Option (List ℕ) → Ran → Ran → Type 0
 RunsTo result asked before after old new counted counts =
     MatchResult result (λ _. HasCounted asked before after old new counted counts) (λ fault. IsRunCut fault × HasBegun asked before after old new)
+
+-- the command was run and its answer was written, or the run ends early
+abbrev pub Tells : Result told.Outcome RunFault → FileState → Command → FileState → Option (List ℕ) → Option (List ℕ) → Type 0
+Tells result before command after old new =
+    MatchResult result (IsTold before command after old new) (λ fault. IsRunCut fault × HasBegun (command ∷ []) before after old new)
+
+-- why a run ends where an answer is cut off
+abbrev pub run_fault : PrintFault → RunFault
+run_fault print.WriteFailed = ScriptWrite
+run_fault print.NoMemory = NoMemory

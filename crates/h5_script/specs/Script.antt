@@ -1,7 +1,7 @@
 -- What a run of a script reads, does to a file, and writes.
 use Rattle.std.specs.Prelude.{◌⊎◌, ℕ, ◌<◌, ◌≤◌, Option, List, length}
 use Rattle.std.specs.Io.KnownBytes.{Consumes, IsAtEnd}
-use Rattle.h5_file.specs.Opened.State.{FileState}
+use Rattle.h5_dump.specs.Opened.State.{FileState}
 use Rattle.h5_model.specs.Scripts.Lines.{commands_of, finished, within_limit}
 use Rattle.h5_script.specs.Runs.{HasRun, HasCounted, HasBegun}
 use Rattle.h5_script.specs.declared.ran.Ran.{Ran}

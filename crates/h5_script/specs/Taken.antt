@@ -7,8 +7,8 @@ use Rattle.h5_model.specs.Scripts.Answers.{Answer, Given, Refused, answered, ans
 use Rattle.h5_model.specs.Scripts.Sessions.{new_session}
 use Rattle.h5_model.specs.declared.edits.Edit.TheVariants.{CreateGroup, CreateDataset, HardLink, SoftLink, SetAttr, RemoveAttr}
 use Rattle.h5_model.specs.declared.edit_fault.EditFault.TheVariants as fault
-use Rattle.h5_file.specs.Opened.State.{FileState}
-use Rattle.h5_file.specs.Carried.{is_carried, IsGivenFor}
+use Rattle.h5_dump.specs.Opened.State.{FileState}
+use Rattle.h5_dump.specs.Carried.{is_carried, IsGivenFor}
 
 -- the commands so far: `group`, `dataset`, `link`, `soft`, `attr`, `unattr`, `ls` and `dump`; a line that asks for anything else is a bad
 -- line

@@ -1,41 +1,60 @@
 //! What one line answers.
 
 ghost use Rattle.std.specs.Prelude.{◌≡◌, [], IfOk, MatchResult, codes};
+ghost use Rattle.h5_dump.specs.Opened.State.{FileState};
 ghost use Rattle.h5_model.specs.Edits.EditFaults.{refused_text};
 ghost use Rattle.h5_model.specs.Scripts.Lines as lines;
 ghost use Rattle.h5_script.specs.declared.ran.Outcome.TheVariants.{Refused};
 ghost use Rattle.h5_command.specs.Commands.{command_of};
 ghost use Rattle.h5_script.specs.Answered.{IsAnswered, IsUntold};
+ghost use Rattle.h5_script.specs.Runs.{Tells};
 ghost use Rattle.h5_script.specs.Taken.{taken};
 
+use crate::fault::RunFault;
 use crate::ran::Outcome;
 use h5_command::Command;
-use h5_dump::{push_dump, push_list};
-use h5_file::File;
+use h5_dump::{DumpFault, File, push_list, write_dump};
 use h5_model::{Edit, EditFault};
-use h5_text::{push_accepted, push_refused, push_text};
+use h5_text::{push_accepted, push_refused, push_text, write_text};
 use std::alloc::{AllocError, Global};
+use std::io::Write;
 
-/// Runs a command. Its answer then stands in `text`, in place of what was there.
+/// Runs a command, and writes its answer. The text is made in the buffer, in place of what was there.
 ///
 /// A want of memory for the answer is told of `ls` and `dump` as a refusal; what is left is
 /// the memory for one short line.
-pub(crate) fn answer(
+pub(crate) fn answer<W: Write>(
     alloc: Global,
     file: &mut File,
     command: &Command,
     text: &mut Vec<u8>,
-) -> Result<Outcome, AllocError>
-    ensures { MatchResult result (IsAnswered file.old (command_of command.now) file.new text.new.items)
-        (λ _. IsUntold file.old (command_of command.now) file.new) }
+    output: &mut W,
+) -> Result<Outcome, RunFault>
+    ensures { Tells result file.old (command_of command.now) file.new (W.contents output.old)
+        (W.contents output.new) }
 {
     text.clear();
     match command {
-        Command::Change(edit) => answer_edit(file, edit, text),
-        Command::ListAll => list(alloc, file, text),
-        Command::Dump { path } => dump(alloc, file, path.as_slice(), text),
-        _ => bad_line(text),
+        Command::Change(edit) => tell(answer_edit(file, edit, text), text, output),
+        Command::ListAll => tell(list(alloc, file, text), text, output),
+        Command::Dump { path } => dump(alloc, file, path.as_slice(), text, output),
+        _ => tell(bad_line(text), text, output),
     }
+}
+
+/// Writes an answer, for which there was memory or not.
+fn tell<W: Write>(
+    answered: Result<Outcome, AllocError>,
+    text: &[u8],
+    output: &mut W,
+) -> Result<Outcome, RunFault>
+    ensures { (s t : FileState) (command : lines.Command)
+        → MatchResult answered (IsAnswered s command t text.now) (λ _. IsUntold s command t)
+        → Tells result s command t (W.contents output.old) (W.contents output.new) }
+{
+    let outcome = answered?;
+    write_text(output, text)?;
+    Ok(outcome)
 }
 
 /// The answer to a line that is taken for none.
@@ -102,14 +121,20 @@ fn list(alloc: Global, file: &File, text: &mut Vec<u8>) -> Result<Outcome, Alloc
 }
 
 /// Dumps what stands at the path.
-fn dump(alloc: Global, file: &File, path: &[u8], text: &mut Vec<u8>) -> Result<Outcome, AllocError>
-    requires { text.old.items ≡ [] }
-    ensures { MatchResult result (IsAnswered file.now (lines.Dump path.now) file.now text.new.items)
-        (λ _. IsUntold file.now (lines.Dump path.now) file.now) }
+fn dump<W: Write>(
+    alloc: Global,
+    file: &File,
+    path: &[u8],
+    text: &mut Vec<u8>,
+    output: &mut W,
+) -> Result<Outcome, RunFault>
+    ensures { Tells result file.now (lines.Dump path.now) file.now (W.contents output.old)
+        (W.contents output.new) }
 {
-    match push_dump(alloc, text, file, path) {
+    match write_dump(alloc, text, file, path, output) {
         Ok(()) => Ok(Outcome::Told),
-        Err(fault) => refused_instead(text, fault),
+        Err(DumpFault::Refused(fault)) => tell(refused_instead(text, fault), text, output),
+        Err(DumpFault::Cut(reason)) => Err(RunFault::from(reason)),
     }
 }
 

@@ -2,6 +2,7 @@
 
 ghost use Rattle.std.specs.Prelude.{◌≡◌};
 
+use h5_text::PrintFault;
 use std::alloc::AllocError;
 use thiserror::Error;
 
@@ -29,5 +30,18 @@ impl From<AllocError> for RunFault {
 
     fn from(_error: AllocError) -> RunFault {
         RunFault::NoMemory
+    }
+}
+
+impl From<PrintFault> for RunFault {
+    ghost use Rattle.h5_script.specs.Runs.{run_fault};
+
+    ghost from_gives = { λ reason fault. fault ≡ run_fault reason };
+
+    fn from(reason: PrintFault) -> RunFault {
+        match reason {
+            PrintFault::WriteFailed => RunFault::ScriptWrite,
+            PrintFault::NoMemory => RunFault::NoMemory,
+        }
     }
 }

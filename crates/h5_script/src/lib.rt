@@ -14,7 +14,6 @@ mod run;
 mod streams;
 
 pub use fault::RunFault;
-pub use h5_dump::{push_dump, push_list};
-pub use h5_file::{Cause, File, MAXIMUM_IMAGE, OpenFault};
+pub use h5_dump::{Cause, DumpFault, File, MAXIMUM_IMAGE, OpenFault, push_list, write_dump};
 pub use ran::Ran;
 pub use run::run_script;

@@ -9,16 +9,15 @@ ghost use Rattle.h5_script.specs.Script.{none_ran};
 use crate::answer::answer;
 use crate::fault::RunFault;
 use crate::ran::Ran;
-use crate::streams::write_text;
 use h5_command::{Command, read_line};
-use h5_file::File;
+use h5_dump::File;
 use std::alloc::{AllocError, Global};
 use std::io::Write;
 
 /// Memory for the answer of a line that has no long one.
 const SHORT_ANSWER: usize = 64;
 
-/// The answer of the last line, and how all lines so far count.
+/// The text that is still to be written of the last answer, and how all lines so far count.
 #[derive(Drop)]
 pub struct Answers {
     pub text: Vec<u8>,
@@ -40,7 +39,7 @@ impl Answers {
     }
 }
 
-/// Runs a command, and writes and counts its answer.
+/// Runs a command, and counts its answer once that is written.
 fn run_command<W: Write>(
     alloc: Global,
     file: &mut File,
@@ -55,9 +54,9 @@ fn run_command<W: Write>(
     ensures refused { OnOk result (answers.new.ran.refused ≤ answers.old.ran.refused + 1) }
     ensures edits { OnOk result (answers.new.ran.edits ≤ answers.old.ran.edits + 1) }
 {
-    let outcome = answer(alloc, file, command, &mut answers.text)?;
+    let outcome = answer(alloc, file, command, &mut answers.text, output)?;
     answers.ran.count(outcome);
-    write_text(output, &answers.text)
+    Ok(())
 }
 
 /// Runs a line, if it asks for anything, and writes its answer.

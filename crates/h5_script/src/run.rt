@@ -6,8 +6,9 @@ ghost use Rattle.h5_script.specs.Script.{IsDone, IsStopped};
 use crate::fault::RunFault;
 use crate::lines::{Answers, run_line, run_piece};
 use crate::ran::Ran;
-use crate::streams::{flush, read_piece};
-use h5_file::File;
+use crate::streams::read_piece;
+use h5_dump::File;
+use h5_text::flush;
 use std::alloc::Global;
 use std::io::{Read, Write};
 

@@ -1,8 +1,7 @@
 //! Scripts that come byte by byte, reads and writes that fail, and the ends of memory and of a line.
 
-use crate::streams::{Holding, Narrow, Slow};
-use h5_file::File;
-use h5_script::{Ran, RunFault, run_script};
+use crate::streams::{Counting, Holding, Narrow, Slow};
+use h5_script::{File, Ran, RunFault, run_script};
 use std::io::Cursor;
 use std::test::Fail;
 
@@ -66,6 +65,34 @@ fn has_told_all_at_its_end(rt: HostRuntime) -> Result<(), Fail> {
     };
     let ran = run_script(rt.alloc(), &mut file, &mut input, &mut output);
     assert!(rt; ran.is_ok() && output.told.as_slice() == ANSWERS);
+    Ok(())
+}
+
+/// An array whose dump is longer than what is kept back.
+const WIDE: &[u8] = b"dataset /d u8 40000 contiguous\ndump /d\n";
+
+#[test]
+fn writes_a_dump_as_it_is_made(rt: HostRuntime) -> Result<(), Fail> {
+    let mut file = File::create(rt.alloc())?;
+    let mut input = WIDE;
+    let mut output = Counting { longest: 0, all: 0 };
+    let ran = run_script(rt.alloc(), &mut file, &mut input, &mut output)?;
+    assert!(rt; ran.refused == 0 && output.all == 80045);
+    assert!(rt; output.longest > 65536 && output.longest < 80000);
+    Ok(())
+}
+
+#[test]
+fn stops_where_a_write_of_a_dump_fails(rt: HostRuntime) -> Result<(), Fail> {
+    let mut file = File::create(rt.alloc())?;
+    let mut input = b"dump /\nls\n".as_slice();
+    let mut output = Narrow {
+        taken: Vec::new(rt.alloc()),
+        writes: 0,
+        fails_at: 4,
+    };
+    let ran = run_script(rt.alloc(), &mut file, &mut input, &mut output);
+    assert!(rt; ran == Err(RunFault::ScriptWrite) && output.taken.as_slice() == b"/ g".as_slice());
     Ok(())
 }
 

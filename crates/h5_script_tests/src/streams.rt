@@ -1,4 +1,4 @@
-//! A reader and a writer of one byte at a time, which fail where they are told to, and a writer that holds back.
+//! A reader and a writer of one byte at a time, which fail where they are told to, a writer that holds back, and one that counts.
 
 use std::io::{self, Read, Write};
 
@@ -67,6 +67,25 @@ impl Write for Holding {
     fn flush(&mut self) -> io::Result<()> {
         self.told.extend_from_slice(&self.held)?;
         self.held.clear();
+        Ok(())
+    }
+}
+
+/// A writer that counts what it is given, and keeps nothing.
+#[derive(Drop)]
+pub(crate) struct Counting {
+    pub(crate) longest: usize,
+    pub(crate) all: usize,
+}
+
+impl Write for Counting {
+    fn write(&mut self, buf: &[u8]) -> io::Result<usize> {
+        self.longest = self.longest.max(buf.len());
+        self.all = self.all.wrapping_add(buf.len());
+        Ok(buf.len())
+    }
+
+    fn flush(&mut self) -> io::Result<()> {
         Ok(())
     }
 }

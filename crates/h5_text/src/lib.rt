@@ -3,6 +3,7 @@
 
 mod listing;
 mod rows;
+mod streams;
 mod texts;
 
 pub use crate::listing::{
@@ -10,6 +11,7 @@ pub use crate::listing::{
     push_soft_line,
 };
 pub use crate::rows::{Rows, push_rows};
+pub use crate::streams::{PrintFault, flush, write_full, write_text};
 pub use crate::texts::{
     Layout, push_accepted, push_escaped, push_opened, push_refused, push_sizes, push_spaced_value,
     push_stored_values, push_text, push_type, push_values, push_view_fault,

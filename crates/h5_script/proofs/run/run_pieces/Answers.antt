@@ -1,6 +1,6 @@
 use Rattle.std.proofs.Common.{◌≡◌, ◌≤◌, ℕ, List, length, take, refl, ap, subst, length-take, arith}
 use Rattle.h5_script.specs.Pieces.{commands_of_line}
-use Rattle.h5_script.specs.Runs.{HasBegun, HasCounted}
+use Rattle.h5_script.specs.Runs.{HasBegun, HasCounted, run_fault}
 use Rattle.h5_script.specs.declared.ran.Ran.{Ran}
 use Rattle.h5_script.specs.declared.fault.RunFault.TheVariants.{ScriptRead, ScriptWrite, NoMemory}
 use Rattle.h5_script.proofs.ScriptRuns.{by_stop, cut_off, stopped_at_first, under_begin, stopped_unread, done_all, cut_last, cut_flush, under_more, too_long, cut_piece}
@@ -47,7 +47,7 @@ returns-in_err-run_line g c =
 
 pub returns-in_err-flush : goal.returns-in_err-flush
 returns-in_err-flush g c =
-    by_stop c.from_residual-in_err-flush.result _ _ c.in_err-flush.field-0.0 ScriptWrite c.from_residual-in_err-flush.ensures.1 c.in_err-flush.ensures.0
+    by_stop c.from_residual-in_err-flush.result _ _ (run_fault c.in_err-flush.field-0.0) ScriptWrite c.from_residual-in_err-flush.ensures.1 (ap run_fault c.in_err-flush.ensures.0)
     (cut_flush c.args.file.now (g.R.Read.remaining c.args.input.now) (g.W.Write.contents c.args.output.now)
     c.loop-read.file (g.R.Read.remaining c.loop-read.input) (g.W.Write.contents c.loop-read.output) c.loop-read.held.items c.loop-read.room c.loop-read.answers.ran c.loop-read.invariant.under
     (g.R.Read.remaining c.read_piece.new.input) (take c.in_ok-count.count c.read_piece.new.piece) c.run_line.new.file (g.W.Write.contents c.run_line.new.output) (g.W.Write.contents c.flush.new.output)
