@@ -7,7 +7,7 @@ pub mod Refusals
 pub mod Fitting
 pub mod Answered
 pub mod RuleLaws
-pub mod Runs
+pub mod RunLaws
 pub mod WrittenTrees
 pub mod FitLaws
 pub mod ChangedLaws

@@ -31,7 +31,7 @@ use Rattle.h5_edit.specs.Writable.{is_in_one_block}
 use Rattle.h5_edit.specs.Refusals.Allowed.{IsAt}
 use Rattle.h5_edit.proofs.RuleLaws.TableLaws.{or_false}
 use Rattle.h5_edit.proofs.Refusals.{given_in_place}
-use Rattle.h5_edit.proofs.Runs.{run_from_start}
+use Rattle.h5_edit.proofs.RunLaws.{run_from_start}
 
 -- an object that stands there anyhow
 insert_there : (tree : Tree) (number : ℕ) (o : Object) → get tree number ≡ Some o → insert tree number o ≡ tree

@@ -1,10 +1,10 @@
 -- Why bytes are not opened: the superblock of the bytes up to their end of file address, and what the walk answers.
-use Rattle.std.proofs.Common.{◌≡◌, inl, inr, ℕ, ◌+◌, ◌<◌, ◌≤◌, List, length, refl, sym, ap, ◌∙◌, subst, arith, rules}
-use Rattle.std.specs.Prelude.{Result, Ok, Err, IfErr, take}
+use Rattle.std.proofs.Common.{◌≡◌, inl, inr, ℕ, ◌+◌, ◌<◌, ◌≤◌, List, length, sym, ap, ◌∙◌, arith, rules}
+use Rattle.std.specs.Prelude.{take}
 use Rattle.std.proofs.lemmas.List.{get_or-take, length-take, same_lists, places, take_all}
 use Rattle.h5_bytes.specs.Bytes.{number_at, byte_at, part}
 use Rattle.h5_bytes.proofs.FieldLaws.{number_at-part}
-use Rattle.h5_model.specs.Faults.Breaches.{Breach, SuperblockBreach, cut}
+use Rattle.h5_model.specs.Faults.Breaches.{SuperblockBreach, cut}
 use Rattle.h5_model.specs.Format.Superblock.{IsSuperblock, end_of_file}
 use Rattle.h5_model.specs.declared.open_fault.Cause.{Cause}
 use Rattle.h5_model.specs.declared.open_fault.Cause.TheVariants.{NoMemory}

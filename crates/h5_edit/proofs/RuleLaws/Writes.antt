@@ -9,7 +9,7 @@ use Rattle.h5_model.specs.Format.Fixed.{fits}
 use Rattle.h5_model.specs.Scripts.Reading.{dataset_rules}
 use Rattle.h5_model.specs.Tree.Objects.{Tree, Dataset}
 use Rattle.h5_model.specs.Tree.Paths.{dataset_at}
-use Rattle.h5_model.specs.Views.Selection.{Slab, axes_of, has_rank, has_no_stride, overlaps, is_within, selected_cells}
+use Rattle.h5_model.specs.Views.Selection.{axes_of, has_rank, has_no_stride, overlaps, is_within, selected_cells}
 use Rattle.h5_model.specs.declared.edits.Edit.TheVariants.{Write}
 use Rattle.h5_model.specs.declared.edit_fault.EditFault.{EditFault}
 use Rattle.h5_model.specs.declared.edit_fault.EditFault.TheVariants as fault

@@ -4,7 +4,7 @@ use Rattle.h5_model.specs.Tree.Objects.{Object}
 use Rattle.h5_query.proofs.OpenedLaws.Indexed.{none_there}
 use Rattle.h5_query.specs.Opened.Objects.{object_in}
 use Rattle.h5_edit.specs.Writable.{is_writable}
-use Rattle.h5_edit.proofs.WritableLaws.{AreWritableBelow, all_below, one_more}
+use Rattle.h5_edit.proofs.WritableLaws.{AreWritableBelow, all_below, one_more, one_other}
 use Rattle.h5_edit.proofs.writable.is_writable.Goals as goal
 use Rattle.h5_edit.proofs.writable.is_writable.Goals.{in-Some+else-not-is_object_writable, in_default}
 
@@ -25,3 +25,9 @@ returns-clause-exact c =
     let f = c.args.opened.now in
     let last : c.loop-number.number ≡ f.next = omega (arith, c.loop-number-test.false, c.loop-number.auto.number-end, c.next-number-end.ensures.next) in
     sym (all_below f.tree f.next (subst (AreWritableBelow f.tree) last c.loop-number.invariant) c.next-number-end.ensures.sound.numbers.given)
+
+pub returns-then-not-is_object_writable-clause-exact : goal.returns-then-not-is_object_writable-clause-exact
+returns-then-not-is_object_writable-clause-exact c =
+    let f = c.args.opened.now in
+    sym (one_other f.tree c.loop-number.number (object_in f.image f.table c.in-Some.object.now) c.in-Some.ensures.found.there
+    (sym c.is_object_writable.ensures ∙ c.if-not-is_object_writable.true))
