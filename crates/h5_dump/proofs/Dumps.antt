@@ -13,22 +13,21 @@ use Rattle.std.proofs.lemmas.Nat.{div-mul-add}
 use Rattle.std.proofs.lemmas.List.{replicate-append-replicate}
 use Rattle.std.specs.declared.alloc.Global.{Global}
 use Rattle.std.specs.FinMap.{entries}
+use Rattle.std.specs.Fmt.{signed_decimal}
 use Rattle.std.specs.List.{flat_map}
 use Rattle.std.specs.Option.{option_map_or}
 use Rattle.h5_model.specs.Format.Fixed.{Fixed}
 use Rattle.h5_model.specs.Tree.Paths.{Located, Here, Missing, NoParent, NoGroup, NoPath}
 use Rattle.h5_model.specs.Scripts.Answers.{dumped, stored_values}
-use Rattle.h5_model.specs.Scripts.Text.{attribute_line, cells_text, content_text, dataset_text, detail_text, dump_text, escaped, line_of, row_length, rows_text}
+use Rattle.h5_model.specs.Scripts.Text.{attribute_line, cells_text, content_text, dataset_text, detail_text, dump_text, escaped, line_of, row_length, rows_text, storage_text}
 use Rattle.h5_model.specs.Tree.Places.{cells}
 use Rattle.h5_model.specs.Tree.Objects.{Tree, Links, Object, Attribute, Group, Array, Dataset, ToObject, Soft}
 use Rattle.h5_text.specs.Listing.{dump_line}
 use Rattle.h5_text.specs.Rows.{cells_from}
 use Rattle.h5_text.proofs.RowTexts.{cells_are_rows}
-use Rattle.h5_file.specs.Look.{HasCells, IsArrayShown}
-use Rattle.h5_file.specs.StoredArrayType.{StoredArray}
 use Rattle.h5_file.specs.Found.{IsFoundAs, IsUnfound}
 use Rattle.h5_file.specs.FoundType.TheVariants as found
-use Rattle.h5_dump.specs.Dumped.{Dumps, IsDumped, IsUndumped, told}
+use Rattle.h5_dump.specs.Dumped.{Dumps, IsDumped, IsUndumped}
 use Rattle.h5_dump.specs.declared.fault.DumpFault.{DumpFault}
 use Rattle.h5_dump.specs.declared.fault.DumpFault.TheVariants.{Refused, Cut}
 use Rattle.h5_model.specs.declared.object_no.ObjectNo.{ObjectNo}
@@ -37,14 +36,16 @@ use Rattle.h5_model.specs.declared.edit_fault.EditFault.TheVariants.{NoMemory}
 
 -- ---- what lines tell of the array
 
-content-same : (d e : Dataset) → d.fixed ≡ e.fixed → d.sizes ≡ e.sizes → d.maxima ≡ e.maxima → content_text (Array d) ≡ content_text (Array e)
+pub content-same : (d e : Dataset) → d.fixed ≡ e.fixed → d.sizes ≡ e.sizes → d.maxima ≡ e.maxima → content_text (Array d) ≡ content_text (Array e)
 content-same d e fixed sizes maxima = rw (fixed, sizes, maxima) refl
 
-pub content-told : (d : Dataset) (a : StoredArray) → IsArrayShown d a → content_text (Array (told a)) ≡ content_text (Array d)
-content-told d a is = content-same (told a) d is.fixed_is is.sizes_are is.maxima_are
+dataset-same : (d e : Dataset) → storage_text d.storage ≡ storage_text e.storage → d.fill ≡ e.fill → dataset_text d ≡ dataset_text e
+dataset-same d e storage fill = λ i. codes " " ++ storage i ++ codes " fill " ++ signed_decimal (fill i)
 
-dataset-told : (d : Dataset) (a : StoredArray) → IsArrayShown d a → dataset_text d ≡ dataset_text (told a)
-dataset-told d a is = rw (is.storage_is, sym is.fill_is) refl
+pub head-same : (path : List ℕ) (d e : Dataset) → d.fixed ≡ e.fixed → d.sizes ≡ e.sizes → d.maxima ≡ e.maxima → storage_text d.storage ≡ storage_text e.storage → d.fill ≡ e.fill
+    → dump_line path d ≡ dump_line path e
+head-same path d e fixed sizes maxima storage fill =
+    λ i. path ++ codes " " ++ content-same d e fixed sizes maxima i ++ dataset-same d e storage fill i ++ codes "\n"
 
 -- ---- the rows of the array
 
@@ -80,33 +81,18 @@ module _ (sizes : List ℕ) (values : List ℤ) (counted : length values ≡ cel
       let rows : length values ≡ length values / width * width = counted ∙ (rows_of sizes).1 ∙ ap (λ k. k * width) (sym many) in
       cells_are_rows (length values / width) width values (some-width sizes some) rows
 
--- the cells of the array, as they are stored, or so many fills
-module _ (d : Dataset) (a : StoredArray) (is : IsArrayShown d a) where
-  sized : cells d.sizes ≡ cells a.array.sizes
-  sized = sym (ap cells is.sizes_are)
+-- the cells of the array
+pub no-cells : (d : Dataset) → length d.cells ≡ cells d.sizes → cells d.sizes ≡ 0 → [] ≡ cells_text (Array d)
+no-cells d counted none = no-rows d.sizes d.cells counted none
 
-  pub no-cells : cells a.array.sizes ≡ 0 → [] ≡ cells_text (Array d)
-  no-cells none = no-rows d.sizes d.cells is.counted (sized ∙ none)
+pub all-cells : (d : Dataset) → length d.cells ≡ cells d.sizes → 0 < cells d.sizes → (width column : ℕ) → width ≡ row_length d.sizes → column ≡ 0 → (values : List ℤ) → values ≡ d.cells
+    → cells_from width column values ≡ cells_text (Array d)
+all-cells d counted some w column wide first values same =
+    (λ i. cells_from (wide i) (first i) (same i)) ∙ all-rows d.sizes d.cells counted some
 
-  rows-told : (values : List ℤ) → values ≡ d.cells → 0 < cells a.array.sizes → (width column : ℕ) → width ≡ row_length a.array.sizes → column ≡ 0
-      → cells_from width column values ≡ cells_text (Array d)
-  rows-told values same some w column wide first =
-      ap (λ (k : ℕ). cells_from k column values) (wide ∙ ap row_length is.sizes_are)
-      ∙ ap (λ (c : ℕ). cells_from (row_length d.sizes) c values) first
-      ∙ ap (cells_from (row_length d.sizes) 0) same
-      ∙ all-rows d.sizes d.cells is.counted (subst (λ n. 0 < n) (sym sized) some)
-
-  pub stored-rows : (bytes : Bor (List ℕ)) → a.cells ≡ Some bytes → 0 < cells a.array.sizes → (width column : ℕ) → width ≡ row_length a.array.sizes → column ≡ 0
-      → (t : Fixed) → t ≡ a.array.fixed → cells_from width column (stored_values t bytes.now) ≡ cells_text (Array d)
-  stored-rows bytes stored some w column wide first t same =
-      let are = subst (λ (held : Option (Bor (List ℕ))). HasCells d held) stored is.cells_are in
-      rows-told (stored_values t bytes.now) (ap (λ (f : Fixed). stored_values f bytes.now) (same ∙ is.fixed_is) ∙ sym are.1) some w column wide first
-
-  pub filled-rows : a.cells ≡ None → 0 < cells a.array.sizes → (width column : ℕ) → width ≡ row_length a.array.sizes → column ≡ 0 → (count : ℕ) → count ≡ cells a.array.sizes → (fill : ℤ) → fill ≡ a.array.fill
-      → cells_from width column (replicate count fill) ≡ cells_text (Array d)
-  filled-rows unstored some w column wide first count all fill same =
-      let are = subst (λ (held : Option (Bor (List ℕ))). HasCells d held) unstored is.cells_are in
-      rows-told (replicate count fill) ((λ i. replicate ((all ∙ sym sized) i) ((same ∙ is.fill_is) i)) ∙ sym are.0) some w column wide first
+-- what a function gives of two values
+pub same-both : {A B C : Type 0} (f : A → B → C) (a b : A) (v w : B) → a ≡ b → v ≡ w → f a v ≡ f b w
+same-both f a b v w first second = λ i. f (first i) (second i)
 
 -- ---- cells of one value, part by part
 
@@ -135,13 +121,11 @@ dump-group path o links is =
     ∙ append-nil (path ++ codes " " ++ codes "group" ++ [] ++ codes "\n" ++ lines)
     ∙ ap (λ t. t ++ codes "\n" ++ lines) (append-nil (path ++ codes " " ++ codes "group")))
 
-pub dump-array : (path : List ℕ) (o : Object) (d : Dataset) (a : StoredArray) → o.content ≡ Array d → IsArrayShown d a
-    → dump_line path (told a) ++ flat_map attribute_line (entries o.attributes) ++ cells_text (Array d) ≡ dump_text path o
-dump-array path o d a content is =
+pub dump-array : (path : List ℕ) (o : Object) (d : Dataset) → o.content ≡ Array d
+    → dump_line path d ++ flat_map attribute_line (entries o.attributes) ++ cells_text (Array d) ≡ dump_text path o
+dump-array path o d content =
     let lines = flat_map attribute_line (entries o.attributes) in
-    sym (ap (λ c. path ++ codes " " ++ content_text c ++ detail_text c ++ codes "\n" ++ lines ++ cells_text c) content
-    ∙ ap (λ t. path ++ codes " " ++ t ++ dataset_text d ++ codes "\n" ++ lines ++ cells_text (Array d)) (sym (content-told d a is))
-    ∙ ap (λ t. path ++ codes " " ++ content_text (Array (told a)) ++ t ++ codes "\n" ++ lines ++ cells_text (Array d)) (dataset-told d a is))
+    sym (ap (λ c. path ++ codes " " ++ content_text c ++ detail_text c ++ codes "\n" ++ lines ++ cells_text c) content)
 
 -- ---- what was found at a path
 
@@ -158,15 +142,15 @@ module _ (tree : Tree) (path : List ℕ) where
   dumped-group NoPath n attributes is = absurd is
 
   -- an array
-  pub dumped-array : (at : Located) (n : ObjectNo) (attributes : Vec (List ℕ × Attribute) Global) (a : StoredArray) → IsFoundAs tree at (found.Array n attributes a)
-      → (o : Object) × (d : Dataset) × (o.content ≡ Array d) × IsArrayShown d a × (attributes.items ≡ entries o.attributes) × (dump_text (escaped path) o ≡ dumped tree path at)
-  dumped-array (Here (ToObject number)) n attributes a is =
-      (is.2.object, is.1, is.2.content_is, is.3, is.2.listed, sym (ap (λ x. option_map_or (dump_text (escaped path)) x []) is.2.found))
-  dumped-array (Here (Soft text)) n attributes a is = absurd is
-  dumped-array Missing n attributes a is = absurd is
-  dumped-array NoParent n attributes a is = absurd is
-  dumped-array NoGroup n attributes a is = absurd is
-  dumped-array NoPath n attributes a is = absurd is
+  pub dumped-array : (at : Located) (n : ObjectNo) (attributes : Vec (List ℕ × Attribute) Global) (d : Dataset) → IsFoundAs tree at (found.Array n attributes d)
+      → (o : Object) × (o.content ≡ Array d) × (attributes.items ≡ entries o.attributes) × (dump_text (escaped path) o ≡ dumped tree path at)
+  dumped-array (Here (ToObject number)) n attributes d is =
+      (is.1.object, is.1.content_is, is.1.listed, sym (ap (λ x. option_map_or (dump_text (escaped path)) x []) is.1.found))
+  dumped-array (Here (Soft text)) n attributes d is = absurd is
+  dumped-array Missing n attributes d is = absurd is
+  dumped-array NoParent n attributes d is = absurd is
+  dumped-array NoGroup n attributes d is = absurd is
+  dumped-array NoPath n attributes d is = absurd is
 
   -- a soft link
   pub dumped-soft : (at : Located) (shown : Bor (List ℕ)) → IsFoundAs tree at (found.Soft shown) → line_of (escaped path) (codes "soft " ++ escaped shown.now) ≡ dumped tree path at

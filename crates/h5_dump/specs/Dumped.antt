@@ -1,14 +1,13 @@
 -- What a dump writes, and what is written where it is refused or cut off.
-use Rattle.std.specs.Prelude.{◌≡◌, ℕ, true, Option, None, Some, List, [], Result, Ok, Err}
+use Rattle.std.specs.Prelude.{◌≡◌, ℕ, Option, None, Some, List, Result, Ok, Err}
 use Rattle.std.specs.Io.KnownBytes.{Appends}
 use Rattle.h5_model.specs.Edits.Refusal.{first_holding}
 use Rattle.h5_model.specs.Scripts.Answers.{dumped}
 use Rattle.h5_model.specs.Scripts.Reading.{path_rules}
-use Rattle.h5_model.specs.Tree.Objects.{Tree, Dataset, Contiguous}
+use Rattle.h5_model.specs.Tree.Objects.{Tree}
 use Rattle.h5_model.specs.Tree.Paths.{located}
 use Rattle.h5_model.specs.declared.edit_fault.EditFault.TheVariants as fault
 use Rattle.h5_text.specs.Printed.{WritesSome}
-use Rattle.h5_file.specs.StoredArrayType.{StoredArray}
 use Rattle.h5_dump.specs.declared.fault.DumpFault.{DumpFault}
 use Rattle.h5_dump.specs.declared.fault.DumpFault.TheVariants.{Refused, Cut}
 
@@ -34,14 +33,3 @@ Dumps (Ok x) old new text = Appends old new text
 Dumps (Err (Refused fault.NoMemory)) old new text = new ≡ old
 Dumps (Err (Refused e)) old new text = ⊥
 Dumps (Err (Cut reason)) old new text = WritesSome old new text
-
--- the array as its lines tell it, which name neither its cells nor whether they are stored
-abbrev pub told : StoredArray → Dataset
-told a = record {
-  fixed = a.array.fixed;
-  sizes = a.array.sizes;
-  maxima = a.array.maxima;
-  storage = Contiguous true;
-  fill = a.array.fill;
-  cells = [];
-}

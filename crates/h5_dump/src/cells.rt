@@ -4,13 +4,13 @@ ghost use Rattle.std.specs.Prelude.{◌≡◌, ◌+◌, ◌/◌, ◌%◌, ◌++�
 ghost use Rattle.std.specs.Io.KnownBytes.{Appends};
 ghost use Rattle.h5_model.specs.Scripts.Answers.{stored_values};
 ghost use Rattle.h5_model.specs.Scripts.Text.{cells_text};
-ghost use Rattle.h5_model.specs.Tree.Objects.{Array, Dataset};
+ghost use Rattle.h5_model.specs.Tree.Objects.{Array};
 ghost use Rattle.h5_text.specs.Printed.{Prints, WritesSome};
 ghost use Rattle.h5_text.specs.Rows.{cells_from};
-ghost use Rattle.h5_file.specs.Look.{IsArrayShown};
+ghost use Rattle.h5_file.specs.Pieces.{piece_values};
 
 use crate::array::row_length;
-use h5_file::StoredArray;
+use h5_file::{Piece, StoredArray};
 use h5_model::Fixed;
 use h5_text::{PrintFault, Rows, write_full, write_text};
 use std::io::Write;
@@ -27,11 +27,9 @@ pub(crate) fn write_cells<W: Write>(
     array: &StoredArray<'_>,
     output: &mut W,
 ) -> Result<(), PrintFault>
-    ensures { (d : Dataset) → IsArrayShown d array.now → MatchResult result
-        (λ _. Appends (W.contents output.old) (W.contents output.new)
-        (text.old.items ++ cells_text (Array d)))
-        (λ _. WritesSome (W.contents output.old) (W.contents output.new)
-        (text.old.items ++ cells_text (Array d))) }
+    ensures { let all = text.old.items ++ cells_text (Array array.now) in MatchResult result
+        (λ _. Appends (W.contents output.old) (W.contents output.new) all)
+        (λ _. WritesSome (W.contents output.old) (W.contents output.new) all) }
 {
     print_cells(text, array, output)?;
     write_text(output, text)
@@ -43,18 +41,39 @@ fn print_cells<W: Write>(
     array: &StoredArray<'_>,
     output: &mut W,
 ) -> Result<(), PrintFault>
-    ensures { (d : Dataset) → IsArrayShown d array.now
-        → Prints result (W.contents output.old) (W.contents output.new) text.old.items text.new.items
-        (cells_text (Array d)) }
+    ensures { Prints result (W.contents output.old) (W.contents output.new) text.old.items text.new.items
+        (cells_text (Array array.now)) }
 {
-    let count = array.array.cells();
-    if count == 0 {
+    let told = array.array();
+    if told.cells() == 0 {
         return Ok(());
     }
-    let mut rows = Rows::new(row_length(array.array.dims().sizes()));
-    match array.cells {
-        Some(cells) => print_stored(text, &mut rows, &array.array.fixed(), cells, output),
-        None => print_repeated(text, &mut rows, array.array.fill(), count, output),
+    let (fixed, fill) = (told.fixed(), told.fill());
+    let mut rows = Rows::new(row_length(told.dims().sizes()));
+    for piece in array.all() {
+        print_piece(text, &mut rows, &fixed, fill, piece, output)?;
+    }
+    Ok(())
+}
+
+/// Prints the next cells, which are a piece of an array of this type and this fill.
+fn print_piece<W: Write>(
+    text: &mut Vec<u8>,
+    rows: &mut Rows,
+    fixed: &Fixed,
+    fill: i128,
+    piece: Piece<'_>,
+    output: &mut W,
+) -> Result<(), PrintFault>
+    ensures text { Prints result (W.contents output.old) (W.contents output.new) text.old.items text.new.items
+        (cells_from rows.old.width rows.old.column (piece_values fixed.now fill piece.entry)) }
+    ensures width { rows.new.width ≡ rows.old.width }
+    ensures column { OnOk result (rows.new.column
+        ≡ (rows.old.column + length (piece_values fixed.now fill piece.entry)) % rows.old.width) }
+{
+    match piece {
+        Piece::Bytes(bytes) => print_stored(text, rows, fixed, bytes, output),
+        Piece::Fill { cells } => print_repeated(text, rows, fill, cells, output),
     }
 }
 

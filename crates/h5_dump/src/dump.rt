@@ -6,19 +6,18 @@ ghost use Rattle.std.specs.List.{flat_map};
 ghost use Rattle.h5_model.specs.Tree.Paths.{located};
 ghost use Rattle.h5_model.specs.Scripts.Answers.{dumped};
 ghost use Rattle.h5_model.specs.Scripts.Text.{attribute_line, dump_text, escaped, line_of};
-ghost use Rattle.h5_model.specs.Tree.Objects.{Array, Dataset, Group, Links, Object, Tree};
+ghost use Rattle.h5_model.specs.Tree.Objects.{Array, Group, Links, Object, Tree};
 ghost use Rattle.h5_text.specs.Appends.{Appends};
 ghost use Rattle.h5_text.specs.Listing.{dump_line};
 ghost use Rattle.h5_file.specs.Found.{HasFound};
-ghost use Rattle.h5_file.specs.Look.{IsArrayShown};
-ghost use Rattle.h5_dump.specs.Dumped.{Dumps, IsDumped, IsUndumped, told};
+ghost use Rattle.h5_dump.specs.Dumped.{Dumps, IsDumped, IsUndumped};
 
-use crate::array::array_text;
+use crate::array::{array_text, shown_layout};
 use crate::cells::{CELLS_ROOM, write_cells};
 use crate::fault::DumpFault;
-use h5_file::{AttrRef, File, Found, MAX_RANK, StoredArray};
+use h5_file::{AttrRef, File, Found, MAX_RANK, StoredArray, store_of};
 use h5_text::{
-    Layout, PathText, push_attribute_head, push_dump_line, push_group_line, push_soft_line,
+    PathText, push_attribute_head, push_dump_line, push_group_line, push_soft_line,
     push_spaced_value, push_text, write_text,
 };
 use std::alloc::{AllocError, Global};
@@ -114,11 +113,10 @@ fn write_array<W: Write>(
     output: &mut W,
 ) -> Result<(), DumpFault>
     requires { text.old.items ≡ [] }
-    ensures { (o : Object) (d : Dataset) → o.content ≡ Array d → IsArrayShown d array.now
-        → attributes.now ≡ entries o.attributes
+    ensures { (o : Object) → o.content ≡ Array array.now → attributes.now ≡ entries o.attributes
         → Dumps result (W.contents output.old) (W.contents output.new) (dump_text (escaped path.now) o) }
 {
-    push_array_head(text, path, array)?;
+    push_array_head(alloc, text, path, array)?;
     push_attributes(alloc, text, attributes)?;
     // Memory for cells is taken before anything is written, since only then their want is a refusal.
     text.reserve(CELLS_ROOM)?;
@@ -128,14 +126,16 @@ fn write_array<W: Write>(
 
 /// Appends the first line of what is dumped of the array.
 fn push_array_head(
+    alloc: Global,
     text: &mut Vec<u8>,
     path: &[u8],
     array: &StoredArray<'_>,
 ) -> Result<(), AllocError>
-    ensures { Appends result text.old.items text.new.items (dump_line (escaped path.now) (told array.now)) }
+    ensures { Appends result text.old.items text.new.items (dump_line (escaped path.now) array.now) }
 {
+    let store = store_of(alloc, array);
     let mut maxima = [None; MAX_RANK];
-    let told = array_text(array, Layout::Contiguous, &mut maxima);
+    let told = array_text(array.array(), shown_layout(&store), &mut maxima);
     push_dump_line(text, PathText::Plain(path), &told)
 }
 

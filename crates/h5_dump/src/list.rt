@@ -3,11 +3,10 @@
 ghost use Rattle.std.specs.Prelude.{◌≡◌, ◌++◌, OnOk, codes, map};
 ghost use Rattle.std.specs.List.{flat_map};
 ghost use Rattle.h5_model.specs.Scripts.Text.{content_text, escaped, line_of, list_text};
-ghost use Rattle.h5_model.specs.Tree.Objects.{Array, Dataset, ToObject};
+ghost use Rattle.h5_model.specs.Tree.Objects.{Array, ToObject};
 ghost use Rattle.h5_text.specs.Appends.{Appends};
 ghost use Rattle.h5_text.specs.Listing.{path_text};
 ghost use Rattle.h5_model.specs.Tree.Links.{tree_link};
-ghost use Rattle.h5_file.specs.Look.{IsArrayShown};
 ghost use Rattle.h5_dump.specs.Listing.{lines_of_link};
 
 use crate::array::array_text;
@@ -109,20 +108,16 @@ fn push_name(path: &mut Vec<u8>, name: &[u8]) -> Result<(), AllocError>
     push_escaped(path, name)
 }
 
-/// Appends the line of an array in a list.
+/// Appends the line of an array in a list, which does not tell how its cells are stored.
 fn push_listed_array(
     text: &mut Vec<u8>,
     path: PathText<'_>,
     array: &StoredArray<'_>,
 ) -> Result<(), AllocError>
-    ensures { (d : Dataset) → IsArrayShown d array.now
-        → Appends result text.old.items text.new.items
-        (line_of (path_text path.entry) (content_text (Array d))) }
+    ensures { Appends result text.old.items text.new.items
+        (line_of (path_text path.entry) (content_text (Array array.now))) }
 {
     let mut maxima = [None; MAX_RANK];
-    push_array_line(
-        text,
-        path,
-        &array_text(array, Layout::Contiguous, &mut maxima),
-    )
+    let told = array_text(array.array(), Layout::Contiguous, &mut maxima);
+    push_array_line(text, path, &told)
 }

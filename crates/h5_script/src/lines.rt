@@ -17,7 +17,7 @@ use std::io::Write;
 /// Memory for the answer of a line that has no long one.
 const SHORT_ANSWER: usize = 64;
 
-/// The text that is still to be written of the last answer, and how all lines so far count.
+/// The buffer in which an answer is made, and how all lines so far count.
 #[derive(Drop)]
 pub struct Answers {
     pub text: Vec<u8>,

@@ -16,21 +16,25 @@ module _ (width column : ℕ) (inside : column < width) (old mid : Known) (held 
         ap (λ w. cells_from width column values ++ cells_from w here part) same ∙ ap (λ k. cells_from width column values ++ cells_from width k part) at
         ∙ sym (cells_append width column values part inside)
 
-    -- the next cells were put into the buffer, and so much of it was written
+    -- the next cells were printed
+    pub cells_more : (part : List ℤ) (new : Known) (kept : List ℕ) → IsPrinted mid new left kept (cells_from wide here part) → IsPrinted old new held kept (cells_from width column (values ++ part))
+    cells_more part new kept next =
+        subst (λ (text : List ℕ). IsPrinted old new held kept text) (cells_behind part)
+        (printed_more old mid new held left (cells_from width column values) so_far kept (cells_from wide here part) next)
+
+    -- they were put into the buffer, and so much of it was written
     pub cells_printed : (part : List ℤ) (put : List ℕ) (new : Known) (kept : List ℕ) → put ≡ left ++ cells_from wide here part → IsPrinted mid new put kept []
         → IsPrinted old new held kept (cells_from width column (values ++ part))
     cells_printed part put new kept is written =
-        let next : IsPrinted mid new left kept (cells_from wide here part ++ []) =
-        printed_more mid mid new left put (cells_from wide here part) (printed_kept mid left put (cells_from wide here part) is) kept [] written in
-        subst (λ (text : List ℕ). IsPrinted old new held kept text) (ap (λ t. cells_from width column values ++ t) (append-nil (cells_from wide here part)) ∙ cells_behind part)
-        (printed_more old mid new held left (cells_from width column values) so_far kept (cells_from wide here part ++ []) next)
+        cells_more part new kept
+        (subst (λ (text : List ℕ). IsPrinted mid new left kept text) (append-nil (cells_from wide here part))
+        (printed_more mid mid new left put (cells_from wide here part) (printed_kept mid left put (cells_from wide here part) is) kept [] written))
 
-    -- it was written in part
-    pub cells_cut : (part rest all : List ℤ) (put : List ℕ) (new : Known) → all ≡ values ++ (part ++ rest) → put ≡ left ++ cells_from wide here part → WritesSome mid new (put ++ [])
+    -- a beginning of them was written
+    pub cells_begun : (part rest all : List ℤ) (new : Known) → all ≡ values ++ (part ++ rest) → WritesSome mid new (left ++ cells_from wide here part)
         → WritesSome old new (held ++ cells_from width column all)
-    cells_cut part rest all put new are is some =
+    cells_begun part rest all new are cut =
         let more : List ℕ = cells_from width ((column + length (values ++ part)) % width) rest in
-        let cut : WritesSome mid new (left ++ cells_from wide here part) = subst (λ (text : List ℕ). WritesSome mid new text) (append-nil put ∙ is) some in
         let longer : WritesSome mid new (left ++ (cells_from wide here part ++ more)) =
         subst (λ (text : List ℕ). WritesSome mid new text) (append_assoc left (cells_from wide here part) more) (cut_longer mid new (left ++ cells_from wide here part) more cut) in
         subst (λ (text : List ℕ). WritesSome old new (held ++ text))
@@ -38,6 +42,12 @@ module _ (width column : ℕ) (inside : column < width) (old mid : Known) (held 
         ∙ sym (cells_append width column (values ++ part) rest inside)
         ∙ ap (cells_from width column) (append_assoc values part rest ∙ sym are))
         (cut_more old mid new held left (cells_from width column values) so_far (cells_from wide here part ++ more) longer)
+
+    -- the same of the buffer that they were put into
+    pub cells_cut : (part rest all : List ℤ) (put : List ℕ) (new : Known) → all ≡ values ++ (part ++ rest) → put ≡ left ++ cells_from wide here part → WritesSome mid new (put ++ [])
+        → WritesSome old new (held ++ cells_from width column all)
+    cells_cut part rest all put new are is some =
+        cells_begun part rest all new are (subst (λ (text : List ℕ). WritesSome mid new text) (append-nil put ∙ is) some)
 
     -- the next column
     pub column_behind : (part : List ℤ) (count next : ℕ) → count ≡ length part → next ≡ (here + count) % wide → next ≡ (column + length (values ++ part)) % width

@@ -7,6 +7,6 @@ use Rattle.h5_dump.proofs.Dumps.{cells-written}
 use Rattle.h5_dump.proofs.cells.write_cells.Goals as goal
 
 pub returns : goal.returns
-returns g c d is =
+returns g c =
     cells-written c.write_text.result (λ (e : PrintFault). e ≡ WriteFailed) (g.W.Write.contents c.args.output.now) (g.W.Write.contents c.print_cells.new.output) (g.W.Write.contents c.write_text.new.output)
-    c.args.text.now.items c.print_cells.new.text.items c.deref.result.now (cells_text (Array d)) c.deref.ensures.value (c.in_ok-print_cells.ensures d is) c.write_text.ensures
+    c.args.text.now.items c.print_cells.new.text.items c.deref.result.now (cells_text (Array c.args.array.now)) c.deref.ensures.value c.in_ok-print_cells.ensures c.write_text.ensures

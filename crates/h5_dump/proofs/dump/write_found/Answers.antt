@@ -9,5 +9,5 @@ returns-in-Array g c tree has =
     let path = c.args.path.now in
     let there = rw c.in-Array.is at has.there in
     let o = dumped-array tree path (located tree path) _ _ _ there in
-    subst (λ (text : List ℕ). Dumps c.write_array.result (g.W.Write.contents c.args.output.now) (g.W.Write.contents c.write_array.new.output) text) o.5
-    (c.write_array.ensures o.0 o.1 o.2 o.3 (c.deref-in-Array.ensures.value ∙ o.4))
+    subst (λ (text : List ℕ). Dumps c.write_array.result (g.W.Write.contents c.args.output.now) (g.W.Write.contents c.write_array.new.output) text) o.3
+    (c.write_array.ensures o.0 o.1 (c.deref-in-Array.ensures.value ∙ o.2))

@@ -30,11 +30,11 @@ push_object-returns-in-Some-clause-lines t c =
     let tree = c.args.file.now.tree in
     let path = c.args.path.now.items in
     let name = c.args.name.now in
-    let has = c.in-Some.ensures in
+    let d = c.in-Some.array in
     subst (λ (text : List ℕ). Appends c.push_listed_array.result c.args.text.now.items c.push_listed_array.new.text.items text)
-    (ap (λ (p : List ℕ). line_of (joined_path p name) (content_text (Array has.0))) c.as_slice.ensures.value
-    ∙ lines_of_array tree c.args.depth path name c.args.number.0 has.0 has.1)
-    (c.push_listed_array.ensures has.0 has.2)
+    (ap (λ (p : List ℕ). line_of (joined_path p name) (content_text (Array d))) c.as_slice.ensures.value
+    ∙ lines_of_array tree c.args.depth path name c.args.number.0 d c.in-Some.ensures)
+    c.push_listed_array.ensures
 
 pub push_object-returns-in_default-2-clause-lines : goal.push_object-returns-in_default-2-clause-lines
 push_object-returns-in_default-2-clause-lines t c =

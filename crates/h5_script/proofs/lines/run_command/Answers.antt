@@ -1,4 +1,3 @@
-use Rattle.std.proofs.Common.{◌∷◌, []}
 use Rattle.h5_command.specs.Commands.{command_of}
 use Rattle.h5_script.proofs.LineRuns.{by_fault, line_ran}
 use Rattle.h5_script.proofs.lines.run_command.Goals as goal
