@@ -1,4 +1,4 @@
-use Rattle.std.proofs.Common.{◌≡◌, ℕ, ◌+◌, ◌/◌, ◌%◌, OnOk, length, sym, ap, ◌∙◌, subst}
+use Rattle.std.proofs.Common.{◌≡◌, ℕ, ◌+◌, ◌%◌, OnOk, length, sym, ap, ◌∙◌, subst}
 use Rattle.h5_model.proofs.StoredValues.{length-stored}
 use Rattle.h5_file.specs.Pieces.{piece_values}
 use Rattle.h5_dump.proofs.cells.print_piece.Goals as goal

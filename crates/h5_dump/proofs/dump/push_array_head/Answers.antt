@@ -1,4 +1,4 @@
-use Rattle.std.proofs.Common.{List, ℕ, ◌++◌, ◌∙◌, ap, subst}
+use Rattle.std.proofs.Common.{List, ℕ, ◌∙◌, ap, subst}
 use Rattle.h5_model.specs.Scripts.Text.{escaped}
 use Rattle.h5_text.specs.Appends.{Appends}
 use Rattle.h5_text.specs.Layouts.{layout_text}

@@ -1,5 +1,5 @@
 use Rattle.std.proofs.Common.{List, ℕ, ◌∙◌, ap, subst}
-use Rattle.h5_model.specs.Scripts.Text.{content_text, line_of}
+use Rattle.h5_model.specs.Scripts.Text.{line_of}
 use Rattle.h5_text.specs.Appends.{Appends}
 use Rattle.h5_text.specs.Listing.{path_text, told_dataset}
 use Rattle.h5_dump.proofs.Dumps.{content-same}
