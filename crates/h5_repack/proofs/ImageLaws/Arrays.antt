@@ -13,7 +13,7 @@ use Rattle.h5_model.specs.Format.Messages.{prefix_at, reference_count}
 use Rattle.h5_model.specs.Format.PlainLength.{content_bytes, data_bytes}
 use Rattle.h5_model.specs.Format.Reads.{HasObject, IsGroup}
 use Rattle.h5_model.specs.Format.Sizes.{header_size}
-use Rattle.h5_model.specs.Tree.Objects.{Tree, Object, Array, Dataset, Contiguous, Links, links_in, links_of, hard_links}
+use Rattle.h5_model.specs.Tree.Objects.{Tree, Object, Array, Dataset, Storage, Compact, Contiguous, Chunked, Links, links_in, links_of, hard_links}
 use Rattle.h5_model.proofs.PlainValues.{length-cells_bytes}
 use Rattle.h5_repack.specs.Bodies.Bodies.{others_of}
 use Rattle.h5_repack.specs.Bodies.Laws.{ArrayReads, ArrayLength, counted_header}
@@ -24,12 +24,14 @@ use Rattle.h5_repack.specs.Image.Written.{object_length, header_in, content_plac
 use Rattle.h5_repack.proofs.ImageLaws.GroupLinks.{header_is}
 use Rattle.h5_repack.proofs.ImageLaws.Objects.{Stands, first_part, second_part}
 
--- the data of an array in one block have their own length, whatever is said of chunks
-pub stored_bytes : (chunk stored others : ℕ) (d : Dataset) → IsPlainArray d others → data_bytes chunk stored d ≡ length (data_of d)
-stored_bytes chunk stored others d is = by_test is.stored is.stored_is where
-  by_test : (b : Bool) → d.storage ≡ Contiguous b → data_bytes chunk stored d ≡ length (data_of d)
-  by_test true e = rw e (sym (length-cells_bytes d.fixed d.cells ∙ ap (λ n. n * (d.fixed).size) is.sound.counted))
-  by_test false e = rw e refl
+-- the data of an array of which no chunk is stored have their own length
+pub stored_bytes : (chunk others : ℕ) (d : Dataset) → IsPlainArray d others → data_bytes chunk 0 d ≡ length (data_of d)
+stored_bytes chunk others d is = by_storage d.storage refl where
+  by_storage : (s : Storage) → d.storage ≡ s → data_bytes chunk 0 d ≡ length (data_of d)
+  by_storage Compact e = rw e refl
+  by_storage (Contiguous true) e = rw e (sym (length-cells_bytes d.fixed d.cells ∙ ap (λ n. n * (d.fixed).size) is.sound.counted))
+  by_storage (Contiguous false) e = rw e refl
+  by_storage (Chunked sizes) e = rw e refl
 
 -- ---- a block that there may be
 
