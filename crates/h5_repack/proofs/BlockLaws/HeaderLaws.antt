@@ -5,7 +5,8 @@ use Rattle.h5_model.specs.Edits.Refusal.{is_chunked}
 use Rattle.h5_model.specs.Format.Fixed.{Fixed}
 use Rattle.h5_model.specs.Format.Layout.{Layout, InMessage, InBlock, InChunks}
 use Rattle.h5_model.specs.Tree.Places.{cells}
-use Rattle.h5_model.specs.Format.Bodies.{pair_bytes}
+use Rattle.h5_bytes.specs.declared.Block.{Block}
+use Rattle.h5_model.specs.Format.Bodies.{pair_bytes, contiguous_bytes, chunked_bytes}
 use Rattle.h5_model.specs.Format.Plain.{header_bytes, message_bytes, messages_bytes, cells_bytes}
 use Rattle.h5_model.specs.Tree.Objects.{Dataset}
 use Rattle.h5_repack.specs.Bodies.Bodies.{array_layout, array_messages, layout_body, messages_of}
@@ -72,6 +73,18 @@ module _ (a : Described) (c : Cells) (d : Dataset) (is : IsNewArray a c d) where
   -- the address of the data, which stand at this place where they are stored
   pub address_is : (place : ℕ) → address_written a c place ≡ (if is_stored d.storage then Some place else None)
   address_is place = ap (λ s. if is_stored s then Some place else None) is.storage_is
+
+-- ---- what the layout says, by its form
+
+module _ (a : Described) (c : Cells) (address : Option ℕ) where
+  abbrev laid_by : Layout → List ℕ
+  laid_by l = layout_body (storage_by l c (cells a.sizes)) a.fixed (cells a.sizes) (cells_written c a) address
+
+  pub block_laid : (b : Option Block) (len : ℕ) → a.layout ≡ InBlock b → len ≡ cells a.sizes * (a.fixed).size → contiguous_bytes address len ≡ layout_written a c address
+  block_laid b len is long = ap (contiguous_bytes address) long ∙ sym (ap laid_by is)
+
+  pub chunks_laid : (chunk : List ℕ) (root : Option ℕ) (t : Fixed) → a.layout ≡ InChunks chunk root → t ≡ a.fixed → chunked_bytes chunk address t.size ≡ layout_written a c address
+  chunks_laid chunk root t is same = ap (λ (k : Fixed). chunked_bytes chunk address k.size) same ∙ sym (ap laid_by is)
 
 -- there are as many bytes as the cells have
 room_by : (c : Cells) (d : Dataset) → AreCellsToWrite c d → length d.cells ≡ cells d.sizes → HasRoom c (cells d.sizes * (d.fixed).size)

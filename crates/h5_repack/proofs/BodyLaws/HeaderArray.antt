@@ -3,24 +3,27 @@
 use Rattle.std.proofs.Common.{◌≡◌, ℕ, ◌+◌, ◌*◌, ◌%◌, ◌^◌, ◌<◌, ◌≤◌, ◌==◌, ◌||◌, List, [], ◌∷◌, ◌++◌, length, map, replicate, get_or, refl, sym, ap, ◌∙◌, subst, arith, Bool, true, false, Option, Some, None, ℤ, pos}
 use Rattle.std.proofs.lemmas.Bool.Decides.{nat_tests}
 use Rattle.std.proofs.lemmas.Slice.Zip.{AllZip-long}
-use Rattle.std.proofs.lemmas.List.{length-append, get_or-replicate, take_all}
+use Rattle.std.proofs.lemmas.List.{length-append, get_or-replicate}
 use Rattle.std.proofs.lemmas.List.FromFn.{fill_by_all}
 use Rattle.std.proofs.Math.Nat.{mul-le-mul}
 use Rattle.std.specs.Prelude.{nat_lt, if◌then◌else◌, option_and_then}
 use Rattle.std.specs.Ordering.{nat_cmp}
 use Rattle.std.specs.List.{AllByRecursion, AllZip, range_with_len}
-use Rattle.std.specs.FinMap.{FinMap, empty}
+use Rattle.std.specs.FinMap.{FinMap, empty, get, get-empty}
+use Rattle.std.specs.Cmp.Lexicographic.{slice_cmp}
 use Rattle.h5_bytes.specs.Bytes.{part}
+use Rattle.h5_bytes.proofs.PartLaws.{part-whole}
 use Rattle.h5_bytes.specs.Blocks.{block}
 use Rattle.h5_bytes.specs.Texts.{pad8}
 use Rattle.h5_bytes.specs.declared.Block.{Block}
-use Rattle.h5_model.specs.Format.Cells.{cells_of}
+use Rattle.h5_model.specs.Format.Cells.{cells_of, value_in_chunk}
+use Rattle.h5_model.specs.Tree.Grid.{corner_of, inner_of}
 use Rattle.h5_model.specs.Format.Fill.{fill_value, old_fill_value, chosen_fill}
 use Rattle.h5_model.specs.Format.Fixed.{Fixed, IsFixed, fits}
 use Rattle.h5_model.specs.Edits.Refusal.{is_chunked}
 use Rattle.h5_model.specs.Format.Layout.{Layout, InMessage, InBlock, InChunks, layout_of}
 use Rattle.h5_model.specs.Format.Messages.{Message, HasMessages, prefix_at, reference_count, count_of, first_body}
-use Rattle.h5_model.specs.Tree.Places.{cells, extent_cells}
+use Rattle.h5_model.specs.Tree.Places.{cells, extent_cells, index_of, place_of}
 use Rattle.h5_model.specs.Format.Bodies.{raised, datatype_bytes, fill_bytes, compact_bytes, contiguous_bytes, chunked_bytes}
 use Rattle.h5_model.specs.Format.Plain.{header_bytes, cells_bytes}
 use Rattle.h5_model.specs.Format.Reads.{HasObject, HasContent, HasDataset, HasData, InDataset, IsChunkSmall, IsFill, storage_of}
@@ -267,13 +270,13 @@ module _ (image : List ℕ) (place : ℕ) (t : Fixed) (sizes : List ℕ) (maxima
   room = let cells_few : cells sizes ≤ 2 ^ 40 = omega (arith, few, cells_le sizes) in mul-le-mul cells_few (size-high t is)
 
   -- each cell reads the fill where none is stored
-  filled : cs ≡ replicate (cells sizes) fill → cs ≡ map (λ (k : ℕ). fill) (range_with_len 0 (cells sizes))
-  filled unset =
-      fill_by_all (λ (k : ℕ). fill) cs (cells sizes) fill counted (λ k low. ap (λ (vs : List ℤ). get_or vs k fill) unset ∙ get_or-replicate (cells sizes) k fill fill low)
+  filled : cs ≡ replicate (cells sizes) fill → (read : ℕ → ℤ) → ((k : ℕ) → fill ≡ read k) → cs ≡ map read (range_with_len 0 (cells sizes))
+  filled unset read is =
+      fill_by_all read cs (cells sizes) fill counted (λ k low. ap (λ (vs : List ℤ). get_or vs k fill) unset ∙ get_or-replicate (cells sizes) k fill fill low ∙ is k)
 
   compact_laid : cells sizes * t.size ≤ 65524 → IsLaid image place (array_by Compact)
   compact_laid low =
-      let whole : part 0 (length bytes) bytes ≡ bytes = take_all (length bytes) bytes (omega arith) in
+      let whole : part 0 (length bytes) bytes ≡ bytes = part-whole bytes in
       record {
         layout = InMessage bytes;
         body = compact_bytes bytes;
@@ -323,7 +326,7 @@ module _ (image : List ℕ) (place : ℕ) (t : Fixed) (sizes : List ℕ) (maxima
         storage = refl;
         small = tt;
         stored = (refl, refl);
-        cells_are = filled unset;
+        cells_are = filled unset (λ k. fill) (λ k. refl);
       }
 
   chunks_laid : (chunk : List ℕ) → length chunk ≡ length sizes → length sizes ≤ 32 → ArePlainChunks t chunk → cs ≡ replicate (cells sizes) fill → IsLaid image place (array_by (Chunked chunk))
@@ -343,7 +346,10 @@ module _ (image : List ℕ) (place : ℕ) (t : Fixed) (sizes : List ℕ) (maxima
         storage = refl;
         small = plain.small;
         stored = (refl, refl);
-        cells_are = filled unset;
+        cells_are = filled unset
+            (λ k. value_in_chunk image t fill (cells chunk * t.size) (place_of chunk (inner_of chunk (index_of sizes k))) (get empty (corner_of chunk (index_of sizes k))))
+            (λ k. ap (value_in_chunk image t fill (cells chunk * t.size) (place_of chunk (inner_of chunk (index_of sizes k))))
+            (sym (get-empty (slice_cmp nat_cmp) (corner_of chunk (index_of sizes k)))));
       }
 
   -- by how it is stored

@@ -67,7 +67,7 @@ module _ (array_length : ArrayLength) (leaf internal : ℕ) (tree : Tree) (table
   length-header_part = array_length (hard_links tree number) (data_address d (content_place o header)) o d own.others e own_content.0
 
   array_long : object_length leaf internal o ≡ header_size o + length data_part
-  array_long = ap (λ n. header_size o + n) (ap (content_bytes leaf internal 0 0) e ∙ stored_bytes 0 0 (length (others_of o)) d own_content.0)
+  array_long = ap (λ n. header_size o + n) (ap (content_bytes leaf internal 0 0) e ∙ stored_bytes 0 (length (others_of o)) d own_content.0)
 
   pub length-array : length (object_bytes leaf internal tree table (number, o)) ≡ object_length leaf internal o
   length-array = ap length array_laid ∙ length-append header_part data_part ∙ ap (λ n. n + length data_part) length-header_part ∙ sym array_long

@@ -122,12 +122,7 @@ fn allocation_time(chunked: bool) -> AllocationTime
 }
 
 /// The fill value message of an array, by whether its cells are in chunks.
-fn push_fill(
-    out: &mut Vec<u8>,
-    chunked: bool,
-    fixed: &Fixed,
-    fill: i128,
-) -> Result<(), AllocError>
+fn push_fill(out: &mut Vec<u8>, chunked: bool, fixed: &Fixed, fill: i128) -> Result<(), AllocError>
     requires { fits fixed.now fill ≡ true }
     ensures { OnOk result
         (out.new.items ≡ out.old.items ++ message_bytes (fill_message chunked fixed.now fill)) }

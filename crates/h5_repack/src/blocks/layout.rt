@@ -98,12 +98,21 @@ fn push_compact(
 /// The layout message of a compact array, each cell of which is the fill.
 fn push_compact_fill(out: &mut Vec<u8>, array: &ArrayRef<'_>) -> Result<(), AllocError>
     requires { cells_of array.now.sizes * array.now.fixed.size ≤ 65524 }
-    ensures { OnOk result (out.new.items ≡ out.old.items ++ message_bytes (8, raised
-        (compact_bytes (cells_bytes array.now.fixed (replicate (cells_of array.now.sizes) array.now.fill))))) }
+    ensures { OnOk result (out.new.items ≡ out.old.items ++ message_bytes (
+      8,
+      raised
+          (compact_bytes (cells_bytes array.now.fixed (replicate (cells_of array.now.sizes) array.now.fill))),
+    )) }
 {
     let alloc = *out.allocator();
     let mut filled = Vec::new(alloc);
-    push_cells(alloc, &mut filled, &array.fixed(), array.fill(), array.cells())?;
+    push_cells(
+        alloc,
+        &mut filled,
+        &array.fixed(),
+        array.fill(),
+        array.cells(),
+    )?;
     push_compact_data(out, &filled)?;
     Ok(())
 }
