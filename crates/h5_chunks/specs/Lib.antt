@@ -4,3 +4,4 @@ pub mod Told
 pub mod Order
 pub mod Read
 pub mod Way
+pub mod Keys
