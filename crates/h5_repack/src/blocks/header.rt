@@ -191,8 +191,8 @@ fn push_fill_message(
     others: &Others,
 ) -> Result<(), AllocError>
     requires { others.now.count ≤ 65535 }
-    ensures { OnOk result (out.new.items ≡ out.old.items
-        ++ messages_bytes (fill_messages (in_chunks array.now.layout) array.now.fixed array.now.fill others.now.count)) }
+    ensures { OnOk result (out.new.items ≡ out.old.items ++ messages_bytes
+        (fill_messages (in_chunks array.now.layout) array.now.fixed array.now.fill others.now.count)) }
 {
     if !has_fill(others) {
         return Ok(());

@@ -48,8 +48,8 @@ fn writes_maxima(array: &ArrayRef<'_>, sizes: &[u64], maxima: &[Option<u64>]) ->
 /// How many bytes the dataspace message of an array has.
 pub(crate) fn space_length(array: &ArrayRef<'_>) -> u64
     requires { length array.now.maxima ≡ length array.now.sizes }
-    ensures exact { result
-        ≡ length (message_bytes (1, space_body (in_chunks array.now.layout) array.now.sizes array.now.maxima)) }
+    ensures exact { result ≡ length (message_bytes
+        (1, space_body (in_chunks array.now.layout) array.now.sizes array.now.maxima)) }
     ensures few { result ≤ 528 }
 {
     let sizes = array.dims().sizes();

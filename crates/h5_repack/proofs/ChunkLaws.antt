@@ -1,0 +1,6 @@
+pub mod KeyBack
+pub mod ChunkLengths
+pub mod ChunkCells
+pub mod ChunkOrder
+pub mod ChunkTree
+pub mod KeyTrees
