@@ -13,7 +13,7 @@ use Rattle.std.specs.FinMap.{FinMap, empty, get, get-empty}
 use Rattle.std.specs.Cmp.Lexicographic.{slice_cmp}
 use Rattle.h5_bytes.specs.Bytes.{part}
 use Rattle.h5_bytes.proofs.PartLaws.{part-whole}
-use Rattle.h5_bytes.specs.Blocks.{block}
+use Rattle.h5_bytes.specs.Blocks.{block, Run}
 use Rattle.h5_bytes.specs.Texts.{pad8}
 use Rattle.h5_bytes.specs.declared.Block.{Block}
 use Rattle.h5_model.specs.Format.Cells.{cells_of, value_in_chunk}
@@ -247,7 +247,7 @@ record IsLaid (image : List ℕ) (place : ℕ) (d : Dataset) : Type 0 where
   body : List ℕ
   blocks : List Block
   body_is : body ≡ array_layout d (if is_stored d.storage then Some place else None)
-  blocks_are : blocks ≡ (if is_stored d.storage then block place (length (data_of d)) ∷ [] else [])
+  run : Run place blocks (place + length (data_of d))
   short : IsLayoutBody body
   says : layout_of d.sizes (d.fixed).size (raised body) ≡ Some layout
   storage : d.storage ≡ storage_of d.sizes layout
@@ -282,7 +282,7 @@ module _ (image : List ℕ) (place : ℕ) (t : Fixed) (sizes : List ℕ) (maxima
         body = compact_bytes bytes;
         blocks = [];
         body_is = refl;
-        blocks_are = refl;
+        run = omega arith;
         short = omega (arith, low, long);
         says = compact_back bytes _ (raised (compact_bytes bytes)) sizes t.size (omega (arith, low, long)) refl (sym long);
         storage = refl;
@@ -302,7 +302,7 @@ module _ (image : List ℕ) (place : ℕ) (t : Fixed) (sizes : List ℕ) (maxima
         body = contiguous_bytes (Some place) len;
         blocks = block place (length bytes) ∷ [];
         body_is = refl;
-        blocks_are = refl;
+        run = (refl, refl);
         short = omega arith;
         says = contiguous_back (Some place) len 24 (raised (contiguous_bytes (Some place) len)) sizes t.size there (omega (arith, room)) refl (omega arith);
         storage = ap (λ b. Contiguous b) any;
@@ -320,7 +320,7 @@ module _ (image : List ℕ) (place : ℕ) (t : Fixed) (sizes : List ℕ) (maxima
         body = contiguous_bytes None len;
         blocks = [];
         body_is = refl;
-        blocks_are = refl;
+        run = omega arith;
         short = omega arith;
         says = contiguous_back None len 24 (raised (contiguous_bytes None len)) sizes t.size there (omega (arith, room)) refl (omega arith);
         storage = refl;
@@ -339,7 +339,7 @@ module _ (image : List ℕ) (place : ℕ) (t : Fixed) (sizes : List ℕ) (maxima
         body = body;
         blocks = [];
         body_is = refl;
-        blocks_are = refl;
+        run = omega arith;
         short = omega (arith, body_long, same, rank);
         says = chunked_back chunk None t.size _ (raised body) sizes (chunk_sizes_low t chunk (size-low t is) plain) plain.some there plain.ranked
             (omega (arith, size-high t is)) refl (sym same);
@@ -382,7 +382,7 @@ module _ (image : List ℕ) (table : FinMap nat_cmp ℕ) (at place count size : 
       body = array_layout d address
 
       abbrev blocks : List Block
-      blocks = if is_stored d.storage then block place (length (data_of d)) ∷ [] else []
+      blocks = laid.blocks
 
       short_body : IsLayoutBody body
       short_body = subst IsLayoutBody laid.body_is laid.short
@@ -391,7 +391,7 @@ module _ (image : List ℕ) (table : FinMap nat_cmp ℕ) (at place count size : 
       has = dataset d.fixed d.sizes d.maxima d.fill (is_chunked d.storage) body is.fixed (is.sound).fill is.ranked is.bounded short_body at p plain without
           image d.storage d.cells is.few laid.layout blocks
           (subst (λ (ns : List ℕ). layout_of d.sizes (d.fixed).size (raised ns) ≡ Some laid.layout) laid.body_is laid.says) laid.storage laid.small
-          (subst (HasData image d.fixed laid.layout empty) laid.blocks_are laid.stored) laid.cells_are unwritten
+          laid.stored laid.cells_are unwritten
 
       object_read : HasObject image table at p (block at size ∷ blocks)
       object_read =
@@ -409,6 +409,8 @@ array_reads image table at place count p d plain e is most few_links short low s
     let long = array_length count (if is_stored d.storage then Some place else None) p d plain e is in
     let laid : IsLaid image place d
     = laid_by image place d.fixed d.sizes d.maxima d.fill d.cells is.fixed (is.sound).values (is.sound).counted is.few d.storage is.stored (is.sound).boxed is.ranked low stands in (
+      laid.blocks,
       object_read image table at place count (header_size p) p plain d is most few_links short low e long stands_at laid,
       count_read image table at place count (header_size p) p plain d is most few_links short low e long stands_at laid,
+      laid.run,
     )

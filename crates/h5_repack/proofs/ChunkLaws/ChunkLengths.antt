@@ -62,7 +62,7 @@ module _ (chunk : List ℕ) where
     one_more n size = omega arith
 
     pub length-chunks : (stored : List (List ℕ)) → length (flat_map (chunk_data d chunk) stored) ≡ length stored * chunk_length d chunk
-    length-chunks [] = refl
+    length-chunks [] = omega arith
     length-chunks (offsets ∷ others) =
         length-append (chunk_data d chunk offsets) (flat_map (chunk_data d chunk) others)
         ∙ (λ i. length-chunk offsets i + length-chunks others i) ∙ one_more (length others) (chunk_length d chunk)

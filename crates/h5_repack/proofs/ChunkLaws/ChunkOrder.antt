@@ -30,12 +30,13 @@ pub before_more : (a b : List ℕ) → length a ≡ length b → Before a b → 
 before_more [] [] same is = absurd (cc)
 before_more [] (y ∷ ys) same is = absurd (omega (arith, same))
 before_more (x ∷ xs) [] same is = absurd (omega (arith, same))
-before_more (x ∷ xs) (y ∷ ys) same is = by_order (nat_cmp x y) is where
+before_more (x ∷ xs) (y ∷ ys) same is = by_order (nat_cmp x y) is (before_more xs ys (omega (arith, same))) where
   by_order : (r : Ordering) → IsTrue (is_lt (ordering_then r (slice_cmp nat_cmp xs ys)))
+      → (IsTrue (is_lt (slice_cmp nat_cmp xs ys)) → IsTrue (is_lt (slice_cmp nat_cmp (xs ++ 0 ∷ []) (ys ++ 0 ∷ []))))
       → IsTrue (is_lt (ordering_then r (slice_cmp nat_cmp (xs ++ 0 ∷ []) (ys ++ 0 ∷ []))))
-  by_order Less h = refl
-  by_order Equal h = before_more xs ys (omega (arith, same)) h
-  by_order Greater h = absurd (cc)
+  by_order Less h again = refl
+  by_order Equal h again = again h
+  by_order Greater h again = absurd (cc)
 
 -- offsets are before those behind their chunk
 pub before_behind : (offsets chunk : List ℕ) → length offsets ≡ length chunk → 1 ≤ length chunk → list_any (λ n. n == 0) chunk ≡ false
@@ -151,8 +152,8 @@ module _ (chunk : List ℕ) (grid : IsGridOf chunk) (size : ℕ) where
         let own = key_of first held.0 in
         let behind = end_of first held.0 in
         let next = left first (index_from first chunk) at 0 own behind (before_behind first chunk own.long grid.ranked grid.some) in
-        (((right first at own among.0, next.0), tt), (next.1, tt))
+        (((right first at own among.0, next.0), tt), next.1, tt)
     chunk_ladder first (next ∷ others) at rising held among =
         let own = key_of first held.0 in
         let step = left first next at size own (key_of next held.1.0) rising.0 in
-        (((right first at own among.0, step.0), tt), (step.1, chunk_ladder next others (at + size) rising.1 held.1 among.1))
+        (((right first at own among.0, step.0), tt), step.1, chunk_ladder next others (at + size) rising.1 held.1 among.1)

@@ -59,7 +59,7 @@ zip_mapped f [] ys = refl
 zip_mapped f (x ∷ xs) [] = refl
 zip_mapped {Y = Y} {Z = Z} f (x ∷ xs) (y ∷ ys) = ap (λ (zs : List (Z × Y)). (f x, y) ∷ zs) (zip_mapped f xs ys)
 
-rest_of : List ℕ → List ℕ
+abbrev rest_of : List ℕ → List ℕ
 rest_of [] = []
 rest_of (n ∷ ns) = ns
 

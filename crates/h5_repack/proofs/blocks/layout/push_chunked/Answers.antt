@@ -1,4 +1,4 @@
-use Rattle.std.proofs.Common.{◌≡◌, ◌++◌, ◌∙◌, List, ℕ, ap, arith, length}
+use Rattle.std.proofs.Common.{◌≡◌, ◌++◌, ◌∙◌, List, ℕ, ap, arith}
 use Rattle.h5_model.specs.Format.Bodies.{chunked_bytes, raised}
 use Rattle.h5_model.specs.Format.Plain.{message_bytes}
 use Rattle.h5_repack.proofs.BlockLaws.ArrayParts.{length-chunked}
