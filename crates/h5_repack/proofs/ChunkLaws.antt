@@ -4,3 +4,4 @@ pub mod ChunkCells
 pub mod ChunkOrder
 pub mod ChunkTree
 pub mod KeyTrees
+pub mod ChunksRead

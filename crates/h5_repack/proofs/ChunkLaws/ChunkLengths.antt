@@ -36,7 +36,7 @@ module _ (chunk : List ℕ) where
   abbrev kind : Kind
   kind = chunk_kind 32 (length chunk)
 
-  key_fits : (size : ℕ) (offsets : List ℕ) → length offsets ≡ length chunk → FitsKind kind chunk_key (record { bytes = size; offsets = offsets })
+  pub key_fits : (size : ℕ) (offsets : List ℕ) → length offsets ≡ length chunk → FitsKind kind chunk_key (record { bytes = size; offsets = offsets })
   key_fits size offsets ranked = length-key size offsets ∙ ap (λ n. 8 + 8 * (n + 1)) ranked
 
   after_fits : (size : ℕ) (offsets : List ℕ) (others : List (List ℕ)) → length offsets ≡ length chunk → AreRanked chunk others

@@ -102,6 +102,10 @@ pairs_sorted size at first others rising = rise_sorted (chunk_pairs size at (fir
 abbrev pub chunk_map : ℕ → ℕ → List (List ℕ) → Chunks
 chunk_map size at stored = from_sorted (chunk_pairs size at stored)
 
+pub entries_of : (size at : ℕ) (first : List ℕ) (others : List (List ℕ)) → AreRising (first ∷ others)
+    → entries (chunk_map size at (first ∷ others)) ≡ chunk_pairs size at (first ∷ others)
+entries_of size at first others rising = entries-from_sorted (slice_cmp nat_cmp) (chunk_pairs size at (first ∷ others)) (pairs_sorted size at first others rising)
+
 module _ (chunk : List ℕ) (grid : IsGridOf chunk) (size : ℕ) (some : 1 ≤ size) where
   pairs_from : (at : ℕ) (stored : List (List ℕ)) (p : List ℕ × ℕ) → In p (key_pairs chunk grid size at stored) → at ≤ p.1
   pairs_from at [] p is = absurd is
@@ -127,6 +131,10 @@ module _ (chunk : List ℕ) (grid : IsGridOf chunk) (size : ℕ) (some : 1 ≤ s
   chunk_places : (at : ℕ) (stored : List (List ℕ)) → map (λ (p : List ℕ × ℕ). p.1) (chunk_pairs size at stored) ≡ places_of (chunk_children size chunk at stored)
   chunk_places at [] = refl
   chunk_places at (offsets ∷ others) = ap (λ (ns : List ℕ). at ∷ ns) (chunk_places (at + size) others)
+
+  pub values_of : (at : ℕ) (first : List ℕ) (others : List (List ℕ)) → AreRising (first ∷ others)
+      → values (chunk_map size at (first ∷ others)) ≡ places_of (chunk_children size chunk at (first ∷ others))
+  values_of at first others rising = ap (map (λ (p : List ℕ × ℕ). p.1)) (entries_of size at first others rising) ∙ chunk_places at (first ∷ others)
 
   -- the offsets of keys are those of the chunks
   abbrev decoded : List ℕ × ℕ → List ℕ × ℕ
@@ -284,20 +292,14 @@ module _ (chunk : List ℕ) (grid : IsGridOf chunk) (size : ℕ) (some : 1 ≤ s
 
     -- ---- the tree
 
-    entries_are : entries (chunk_map size place (first ∷ others)) ≡ chunk_pairs size place (first ∷ others)
-    entries_are = entries-from_sorted (slice_cmp nat_cmp) (chunk_pairs size place (first ∷ others)) (pairs_sorted size place first others rising)
-
-    values_are : values (chunk_map size place (first ∷ others)) ≡ places_of children
-    values_are = ap (map (λ (p : List ℕ × ℕ). p.1)) entries_are ∙ chunk_places place (first ∷ others)
-
     pub chunks_stand : HasChunks image 32 chunk size at (chunk_map size place (first ∷ others))
         (tree_blocks kind plain.owned ++ map (λ n. block n size) (values (chunk_map size place (first ∷ others))))
     chunks_stand = record {
       level = level;
       owned = plain.owned;
-      tree = subst (λ places. HasTree image kind at level plain.owned places) (sym values_are) plain.tree;
+      tree = subst (λ places. HasTree image kind at level plain.owned places) (sym (values_of place first others rising)) plain.tree;
       listed = record {
-        listed = entries_are ∙ sym chunks_are;
+        listed = entries_of size place first others rising ∙ sym chunks_are;
         keyed = keyed;
         ordered = own_chunks_ordered;
       };
