@@ -17,6 +17,7 @@ use Rattle.h5_bytes.specs.Blocks.{block, Run}
 use Rattle.h5_bytes.specs.Texts.{pad8}
 use Rattle.h5_bytes.specs.declared.Block.{Block}
 use Rattle.h5_model.specs.Format.Cells.{cells_of, value_in_chunk}
+use Rattle.h5_model.specs.Format.Chunks.{Chunks}
 use Rattle.h5_model.specs.Tree.Grid.{corner_of, inner_of}
 use Rattle.h5_model.specs.Format.Fill.{fill_value, old_fill_value, chosen_fill}
 use Rattle.h5_model.specs.Format.Fixed.{Fixed, IsFixed, fits}
@@ -42,7 +43,7 @@ use Rattle.h5_repack.specs.Bodies.Laws.{ArrayReads, counted_header}
 use Rattle.h5_repack.specs.Bodies.Headers.{is_stored, data_of}
 use Rattle.h5_repack.specs.Bodies.Sound.{IsBound, IsPlainObject, IsPlainArray, IsPlainStorage, ArePlainChunks}
 use Rattle.h5_repack.proofs.BodyLaws.HeaderAttributes.{sizes_small}
-use Rattle.h5_repack.proofs.BodyLaws.HeaderLengths.{length-layout, array_length}
+use Rattle.h5_repack.proofs.BodyLaws.HeaderLengths.{IsHead, head_of, length-layout, array_length}
 use Rattle.h5_repack.proofs.BodyLaws.ChunkSizes.{chunk_sizes_low}
 use Rattle.h5_repack.proofs.BodyLaws.HeaderOthers.{IsContentMessage, is_other_kind, is_kept_kind, each_message, others_pass, all_plain, has_attributes, has_kept, count_of-content, first_body-content}
 use Rattle.h5_repack.proofs.BodyLaws.HeaderSpace.{space_back, space_padded}
@@ -56,7 +57,7 @@ unfolding in_dataset
 other_in_dataset kind is = grind (arith, nat_tests)
 
 -- a body that a layout message may have
-abbrev IsLayoutBody : List ℕ → Type 0
+abbrev pub IsLayoutBody : List ℕ → Type 0
 IsLayoutBody body = length body ≤ 65528
 
 -- ---- any array, whatever its layout
@@ -177,12 +178,12 @@ module _ (t : Fixed) (sizes : List ℕ) (maxima : List (Option ℕ)) (fill : ℤ
         (known (others_of p) (others_pass p plain in_dataset other_in_dataset) without)
 
     -- what the layout says: the cells, how they are stored, and in which blocks
-    module _ (image : List ℕ) (storage : Storage) (cs : List ℤ) (few : extent_cells sizes ≤ 2 ^ 40) (layout : Layout) (blocks : List Block) where
+    module _ (image : List ℕ) (storage : Storage) (cs : List ℤ) (few : extent_cells sizes ≤ 2 ^ 40) (layout : Layout) (held : Chunks) (blocks : List Block) where
       abbrev array : Dataset
       array = record { fixed = t; sizes = sizes; maxima = maxima; storage = storage; fill = fill; cells = cs }
 
-      dataset : layout_of sizes t.size (raised body) ≡ Some layout → storage ≡ storage_of sizes layout → IsChunkSmall t layout → HasData image t layout empty blocks
-          → cs ≡ cells_of image t fill sizes layout empty → (without ≡ true → fill ≡ pos 0) → HasDataset image messages array blocks
+      dataset : layout_of sizes t.size (raised body) ≡ Some layout → storage ≡ storage_of sizes layout → IsChunkSmall t layout → HasData image t layout held blocks
+          → cs ≡ cells_of image t fill sizes layout held → (without ≡ true → fill ≡ pos 0) → HasDataset image messages array blocks
       dataset laid stored small data_there cells_are unwritten =
           let old = counted_own 4 refl ∙ no_old_fill (at + 16) without in
           let new = counted_own 5 refl in
@@ -205,7 +206,7 @@ module _ (t : Fixed) (sizes : List ℕ) (maxima : List (Option ℕ)) (fill : ℤ
             storage = stored;
             small = few;
             chunk_small = small;
-            chunks = empty;
+            chunks = held;
             stored = data_there;
             cells = cells_are;
           }
@@ -241,19 +242,18 @@ module _ (t : Fixed) (sizes : List ℕ) (maxima : List (Option ℕ)) (fill : ℤ
 
 -- ---- what is read of its layout
 
--- The layout message of an array whose data stand at this place, where they are stored, says this, and it has these blocks.
-record IsLaid (image : List ℕ) (place : ℕ) (d : Dataset) : Type 0 where
-  layout : Layout
-  body : List ℕ
-  blocks : List Block
-  body_is : body ≡ array_layout d (if is_stored d.storage then Some place else None)
-  run : Run place blocks (place + length (data_of d))
-  short : IsLayoutBody body
-  says : layout_of d.sizes (d.fixed).size (raised body) ≡ Some layout
-  storage : d.storage ≡ storage_of d.sizes layout
-  small : IsChunkSmall d.fixed layout
-  stored : HasData image d.fixed layout empty blocks
-  cells_are : d.cells ≡ cells_of image d.fixed d.fill d.sizes layout empty
+-- The layout message of an array with this address says this of it, and its data are these blocks from the place to the end, without gaps.
+pub record IsLaid (image : List ℕ) (place end : ℕ) (address : Option ℕ) (d : Dataset) : Type 0 where
+  pub layout : Layout
+  pub chunks : Chunks
+  pub blocks : List Block
+  pub run : Run place blocks end
+  pub short : IsLayoutBody (array_layout d address)
+  pub says : layout_of d.sizes (d.fixed).size (raised (array_layout d address)) ≡ Some layout
+  pub storage : d.storage ≡ storage_of d.sizes layout
+  pub small : IsChunkSmall d.fixed layout
+  pub stored : HasData image d.fixed layout chunks blocks
+  pub cells_are : d.cells ≡ cells_of image d.fixed d.fill d.sizes layout chunks
 
 module _ (image : List ℕ) (place : ℕ) (t : Fixed) (sizes : List ℕ) (maxima : List (Option ℕ)) (fill : ℤ) (cs : List ℤ) (is : IsFixed t) (all : AreOf t cs)
     (counted : length cs ≡ cells sizes) (few : extent_cells sizes ≤ 2 ^ 40) where
@@ -274,14 +274,13 @@ module _ (image : List ℕ) (place : ℕ) (t : Fixed) (sizes : List ℕ) (maxima
   filled unset read is =
       fill_by_all read cs (cells sizes) fill counted (λ k low. ap (λ (vs : List ℤ). get_or vs k fill) unset ∙ get_or-replicate (cells sizes) k fill fill low ∙ is k)
 
-  compact_laid : cells sizes * t.size ≤ 65524 → IsLaid image place (array_by Compact)
+  compact_laid : cells sizes * t.size ≤ 65524 → IsLaid image place (place + 0) None (array_by Compact)
   compact_laid low =
       let whole : part 0 (length bytes) bytes ≡ bytes = part-whole bytes in
       record {
         layout = InMessage bytes;
-        body = compact_bytes bytes;
+        chunks = empty;
         blocks = [];
-        body_is = refl;
         run = omega arith;
         short = omega (arith, low, long);
         says = compact_back bytes _ (raised (compact_bytes bytes)) sizes t.size (omega (arith, low, long)) refl (sym long);
@@ -292,16 +291,15 @@ module _ (image : List ℕ) (place : ℕ) (t : Fixed) (sizes : List ℕ) (maxima
             ∙ ap (λ (ds : List ℕ). cells_of image t fill sizes (InMessage ds) empty) whole;
       }
 
-  block_laid : place < 2 ^ 63 → 1 ≤ cells sizes → part place (length bytes) image ≡ bytes → IsLaid image place (array_by (Contiguous true))
+  block_laid : place < 2 ^ 63 → 1 ≤ cells sizes → part place (length bytes) image ≡ bytes → IsLaid image place (place + length bytes) (Some place) (array_by (Contiguous true))
   block_laid low some stands =
       let len : ℕ = cells sizes * t.size in
       let there : IsAddress (Some place) = λ n e. let same : place ≡ n = cc in omega (arith, low, same) in
       let any : true ≡ nat_lt 0 (cells sizes) = grind (arith, nat_tests, some) in
       record {
         layout = InBlock (Some (block place len));
-        body = contiguous_bytes (Some place) len;
+        chunks = empty;
         blocks = block place (length bytes) ∷ [];
-        body_is = refl;
         run = (refl, refl);
         short = omega arith;
         says = contiguous_back (Some place) len 24 (raised (contiguous_bytes (Some place) len)) sizes t.size there (omega (arith, room)) refl (omega arith);
@@ -311,15 +309,14 @@ module _ (image : List ℕ) (place : ℕ) (t : Fixed) (sizes : List ℕ) (maxima
         cells_are = cells_of-cells_bytes image t fill sizes (block place len) empty cs (size-low t is) all counted (ap (λ n. part place n image) (sym long) ∙ stands);
       }
 
-  nowhere_laid : cs ≡ replicate (cells sizes) fill → IsLaid image place (array_by (Contiguous false))
+  nowhere_laid : cs ≡ replicate (cells sizes) fill → IsLaid image place (place + 0) None (array_by (Contiguous false))
   nowhere_laid unset =
       let len : ℕ = cells sizes * t.size in
       let there : IsAddress None = λ n e. absurd (cc) in
       record {
         layout = InBlock None;
-        body = contiguous_bytes None len;
+        chunks = empty;
         blocks = [];
-        body_is = refl;
         run = omega arith;
         short = omega arith;
         says = contiguous_back None len 24 (raised (contiguous_bytes None len)) sizes t.size there (omega (arith, room)) refl (omega arith);
@@ -329,16 +326,15 @@ module _ (image : List ℕ) (place : ℕ) (t : Fixed) (sizes : List ℕ) (maxima
         cells_are = filled unset (λ k. fill) (λ k. refl);
       }
 
-  chunks_laid : (chunk : List ℕ) → length chunk ≡ length sizes → length sizes ≤ 32 → ArePlainChunks t chunk → cs ≡ replicate (cells sizes) fill → IsLaid image place (array_by (Chunked chunk))
+  chunks_laid : (chunk : List ℕ) → length chunk ≡ length sizes → length sizes ≤ 32 → ArePlainChunks t chunk → cs ≡ replicate (cells sizes) fill → IsLaid image place (place + 0) None (array_by (Chunked chunk))
   chunks_laid chunk same rank plain unset =
       let there : IsAddress None = λ n e. absurd (cc) in
       let body : List ℕ = chunked_bytes chunk None t.size in
       let body_long : length body ≡ 11 + 4 * (length chunk + 1) = length-layout (Chunked chunk) t sizes bytes None long in
       record {
         layout = InChunks chunk None;
-        body = body;
+        chunks = empty;
         blocks = [];
-        body_is = refl;
         run = omega arith;
         short = omega (arith, body_long, same, rank);
         says = chunked_back chunk None t.size _ (raised body) sizes (chunk_sizes_low t chunk (size-low t is) plain) plain.some there plain.ranked
@@ -354,7 +350,8 @@ module _ (image : List ℕ) (place : ℕ) (t : Fixed) (sizes : List ℕ) (maxima
 
   -- by how it is stored
   laid_by : (storage : Storage) → IsPlainStorage (array_by storage) storage → ((chunk : List ℕ) → storage ≡ Chunked chunk → length chunk ≡ length sizes) → length sizes ≤ 32
-      → place < 2 ^ 63 → part place (length (data_of (array_by storage))) image ≡ data_of (array_by storage) → IsLaid image place (array_by storage)
+      → place < 2 ^ 63 → part place (length (data_of (array_by storage))) image ≡ data_of (array_by storage)
+      → IsLaid image place (place + length (data_of (array_by storage))) (if is_stored storage then Some place else None) (array_by storage)
   laid_by Compact plain boxed rank low stands = compact_laid plain
   laid_by (Contiguous true) plain boxed rank low stands = block_laid low plain stands
   laid_by (Contiguous false) plain boxed rank low stands = nowhere_laid plain
@@ -362,55 +359,40 @@ module _ (image : List ℕ) (place : ℕ) (t : Fixed) (sizes : List ℕ) (maxima
 
 -- ---- any array in this layout
 
-module _ (image : List ℕ) (table : FinMap nat_cmp ℕ) (at place count size : ℕ) (p : Object) (plain : IsPlainObject p) (d : Dataset) (is : IsPlainArray d (length (others_of p)))
-    (most : 3 + length (others_of p) ≤ 65535) (few_links : count < 2 ^ 32) (short : size < 2 ^ 31) (low : place < 2 ^ 63) where
-  abbrev address : Option ℕ
-  address = if is_stored d.storage then Some place else None
-
+module _ (image : List ℕ) (table : FinMap nat_cmp ℕ) (at place end count size : ℕ) (p : Object) (plain : IsPlainObject p) (d : Dataset) (is : IsHead d (length (others_of p)))
+    (address : Option ℕ) (laid : IsLaid image place end address d) (most : 3 + length (others_of p) ≤ 65535) (few_links : count < 2 ^ 32) (short : size < 2 ^ 31) where
   abbrev without : Bool
   without = nat_lt 65535 (4 + length (others_of p))
 
   unwritten : without ≡ true → d.fill ≡ pos 0
   unwritten h = let many : 65535 < 4 + length (others_of p) = grind (arith, nat_tests, h) in is.unwritten many
 
-  module _ (e : p.content ≡ Array d) (long : length (counted_header count p d address) ≡ size) (stands_at : part at size image ≡ counted_header count p d address) where
-    whole : part at (length (counted_header count p d address)) image ≡ counted_header count p d address
-    whole = ap (λ n. part at n image) long ∙ stands_at
+  abbrev body : List ℕ
+  body = array_layout d address
 
-    module _ (laid : IsLaid image place d) where
-      abbrev body : List ℕ
-      body = array_layout d address
+  has : HasDataset image (messages d.fixed d.sizes d.maxima d.fill (is_chunked d.storage) body is.fixed (is.sound).fill is.ranked is.bounded laid.short at p plain without) d laid.blocks
+  has = dataset d.fixed d.sizes d.maxima d.fill (is_chunked d.storage) body is.fixed (is.sound).fill is.ranked is.bounded laid.short at p plain without
+      image d.storage d.cells is.few laid.layout laid.chunks laid.blocks laid.says laid.storage laid.small laid.stored laid.cells_are unwritten
 
-      abbrev blocks : List Block
-      blocks = laid.blocks
-
-      short_body : IsLayoutBody body
-      short_body = subst IsLayoutBody laid.body_is laid.short
-
-      has : HasDataset image (messages d.fixed d.sizes d.maxima d.fill (is_chunked d.storage) body is.fixed (is.sound).fill is.ranked is.bounded short_body at p plain without) d blocks
-      has = dataset d.fixed d.sizes d.maxima d.fill (is_chunked d.storage) body is.fixed (is.sound).fill is.ranked is.bounded short_body at p plain without
-          image d.storage d.cells is.few laid.layout blocks
-          (subst (λ (ns : List ℕ). layout_of d.sizes (d.fixed).size (raised ns) ≡ Some laid.layout) laid.body_is laid.says) laid.storage laid.small
-          laid.stored laid.cells_are unwritten
-
-      object_read : HasObject image table at p (block at size ∷ blocks)
-      object_read =
-          subst (λ n. HasObject image table at p (block at n ∷ blocks)) long
-          (object d.fixed d.sizes d.maxima d.fill (is_chunked d.storage) body is.fixed (is.sound).fill is.ranked is.bounded short_body at p plain without
-          image d.storage d.cells is.few laid.layout blocks count whole refl most (omega (arith, short, long)) table e has)
-
-      count_read : reference_count (prefix_at image at) ≡ count
-      count_read = counted_so d.fixed d.sizes d.maxima d.fill (is_chunked d.storage) body is.fixed (is.sound).fill is.ranked is.bounded short_body at p plain without
-          image d.storage d.cells is.few laid.layout blocks count whole refl most (omega (arith, short, long)) few_links
+  -- its header, with any count, is that of the array, and has that count
+  pub laid_reads : p.content ≡ Array d → length (counted_header count p d address) ≡ size → part at size image ≡ counted_header count p d address
+      → (blocks : List Block) × HasObject image table at p (block at size ∷ blocks) × (reference_count (prefix_at image at) ≡ count) × Run place blocks end
+  laid_reads e long stands_at =
+      let whole : part at (length (counted_header count p d address)) image ≡ counted_header count p d address = ap (λ n. part at n image) long ∙ stands_at in (
+        laid.blocks,
+        subst (λ n. HasObject image table at p (block at n ∷ laid.blocks)) long
+            (object d.fixed d.sizes d.maxima d.fill (is_chunked d.storage) body is.fixed (is.sound).fill is.ranked is.bounded laid.short at p plain without
+            image d.storage d.cells is.few laid.layout laid.chunks laid.blocks count whole refl most (omega (arith, short, long)) table e has),
+        counted_so d.fixed d.sizes d.maxima d.fill (is_chunked d.storage) body is.fixed (is.sound).fill is.ranked is.bounded laid.short at p plain without
+            image d.storage d.cells is.few laid.layout laid.chunks laid.blocks count whole refl most (omega (arith, short, long)) few_links,
+        laid.run,
+      )
 
 -- An array's header with any count, with its data where they are stored, is that of the array, and has that count.
 pub array_reads : ArrayReads
 array_reads image table at place count p d plain e is most few_links short low stands_at stands =
-    let long = array_length count (if is_stored d.storage then Some place else None) p d plain e is in
-    let laid : IsLaid image place d
-    = laid_by image place d.fixed d.sizes d.maxima d.fill d.cells is.fixed (is.sound).values (is.sound).counted is.few d.storage is.stored (is.sound).boxed is.ranked low stands in (
-      laid.blocks,
-      object_read image table at place count (header_size p) p plain d is most few_links short low e long stands_at laid,
-      count_read image table at place count (header_size p) p plain d is most few_links short low e long stands_at laid,
-      laid.run,
-    )
+    let address : Option ℕ = if is_stored d.storage then Some place else None in
+    let laid : IsLaid image place (place + length (data_of d)) address d
+    = laid_by image place d.fixed d.sizes d.maxima d.fill d.cells is.fixed (is.sound).values (is.sound).counted is.few d.storage is.stored (is.sound).boxed is.ranked low stands in
+    laid_reads image table at place (place + length (data_of d)) count (header_size p) p plain d (head_of d (length (others_of p)) is) address laid most few_links short
+    e (array_length count address p d plain e is) stands_at

@@ -1,23 +1,25 @@
 -- How many bytes the header of an array has in the plain layout (File Format Specification 3.0, sections IV.A.1.a and IV.A.2).
 use Rattle.std.proofs.Common.{◌≡◌, ℕ, ◌+◌, ◌*◌, List, [], ◌∷◌, ◌++◌, length, refl, sym, ap, ◌≤◌, ◌∙◌, arith, Bool, true, false, ◌||◌, not, Option, ℤ, length-append}
 use Rattle.std.proofs.lemmas.Slice.Zip.{AllZip-long}
-use Rattle.std.specs.Prelude.{nat_lt, if◌then◌else◌}
+use Rattle.std.specs.Prelude.{nat_lt, if◌then◌else◌, ◌^◌, ◌<◌, pos}
+use Rattle.std.specs.List.{AllZip}
 use Rattle.h5_bytes.specs.Texts.{pad8}
 use Rattle.h5_bytes.specs.Bytes.{little_bytes}
 use Rattle.h5_model.specs.Edits.Refusal.{is_chunked}
 use Rattle.h5_model.specs.Format.Bodies.{raised, fill_bytes, short_words}
-use Rattle.h5_model.specs.Format.Fixed.{Fixed}
-use Rattle.h5_model.specs.Tree.Places.{cells}
+use Rattle.h5_model.specs.Format.Fixed.{Fixed, IsFixed}
+use Rattle.h5_model.specs.Tree.Places.{cells, extent_cells}
+use Rattle.h5_model.specs.Tree.Sound.{IsDataset}
 use Rattle.h5_model.specs.Format.Plain.{header_bytes, messages_bytes, cells_bytes}
-use Rattle.h5_model.specs.Format.Sizes.{array_messages_size as messages_size, dataspace_length, extent_size, layout_size, message_size, writes_maxima}
-use Rattle.h5_model.specs.Tree.Objects.{Dataset, Storage, Compact, Contiguous, Chunked, are_sizes}
+use Rattle.h5_model.specs.Format.Sizes.{array_messages_size as messages_size, dataspace_length, extent_size, header_size, layout_size, message_size, writes_maxima}
+use Rattle.h5_model.specs.Tree.Objects.{Object, Array, Dataset, Storage, Compact, Contiguous, Chunked, are_sizes}
 use Rattle.h5_model.proofs.PaddedLaws.{length-raised}
 use Rattle.h5_model.proofs.PlainValues.{length-cells_bytes}
 use Rattle.h5_msg.proofs.FillLaws.{length-fill_bytes}
 use Rattle.h5_msg.proofs.LayoutLaws.{short_words_long}
 use Rattle.h5_repack.specs.Bodies.Bodies.{others_of, space_body, type_message, fill_message, fill_messages, layout_body, messages_of, array_layout, array_messages}
-use Rattle.h5_repack.specs.Bodies.Laws.{ArrayLength}
-use Rattle.h5_repack.specs.Bodies.Sound.{IsBound, IsPlainArray}
+use Rattle.h5_repack.specs.Bodies.Laws.{ArrayLength, counted_header}
+use Rattle.h5_repack.specs.Bodies.Sound.{IsBound, IsPlainArray, IsPlainObject}
 use Rattle.h5_repack.proofs.BodyLaws.HeaderOthers.{one_more, length-messages, length-others, count-others}
 use Rattle.h5_repack.proofs.BodyLaws.HeaderSpace.{length-space_body, space_padded}
 
@@ -57,7 +59,26 @@ length-header_of count d others address =
     let both = length-messages (array_messages d address (length others)) others in
     omega (arith, both)
 
-pub as_many : (d : Dataset) (others : ℕ) → IsPlainArray d others → length d.maxima ≡ length d.sizes
+-- an array that a header can have, beside so many other messages, however it is stored
+pub record IsHead (d : Dataset) (others : ℕ) : Type 0 where
+  pub ranked : length d.sizes ≤ 32
+  pub bounded : AllZip IsBound d.sizes d.maxima
+  pub few : extent_cells d.sizes ≤ 2 ^ 40
+  pub fixed : IsFixed d.fixed
+  pub sound : IsDataset d
+  pub unwritten : 65535 < 4 + others → d.fill ≡ pos 0
+
+pub head_of : (d : Dataset) (others : ℕ) → IsPlainArray d others → IsHead d others
+head_of d others is = record {
+  ranked = is.ranked;
+  bounded = is.bounded;
+  few = is.few;
+  fixed = is.fixed;
+  sound = is.sound;
+  unwritten = is.unwritten;
+}
+
+as_many : (d : Dataset) (others : ℕ) → IsHead d others → length d.maxima ≡ length d.sizes
 as_many d others is = AllZip-long IsBound d.sizes d.maxima is.bounded
 
 -- ---- the bytes that are counted for them
@@ -75,7 +96,7 @@ writes_counted sizes maxima Compact = refl
 writes_counted sizes maxima (Contiguous stored) = refl
 writes_counted sizes maxima (Chunked chunk) = refl
 
-messages_counted : (d : Dataset) (address : Option ℕ) (others : ℕ) → IsPlainArray d others
+messages_counted : (d : Dataset) (address : Option ℕ) (others : ℕ) → IsHead d others
     → length (messages_bytes (array_messages d address others)) ≡ messages_size others d.sizes d.maxima d.storage (d.fixed).size
 messages_counted d address others is =
     let chunked : Bool = is_chunked d.storage in
@@ -93,10 +114,14 @@ messages_counted d address others is =
     omega (arith, all, space, extent, fills, layout)
 
 -- the header's length is the one that is counted
-pub array_length : ArrayLength
-array_length count address p d plain e is =
+pub head_length : (count : ℕ) (address : Option ℕ) (p : Object) (d : Dataset) → IsPlainObject p → p.content ≡ Array d → IsHead d (length (others_of p))
+    → length (counted_header count p d address) ≡ header_size p
+head_length count address p d plain e is =
     let counted = messages_counted d address (length (others_of p)) is in
     let many = ap (λ k. messages_size k d.sizes d.maxima d.storage (d.fixed).size) (count-others p plain) in
     let own = length-header_of count d (others_of p) address in
     let sum = length-others p plain in
     rw e (omega (arith, own, sum, counted, many))
+
+pub array_length : ArrayLength
+array_length count address p d plain e is = head_length count address p d plain e (head_of d (length (others_of p)) is)
