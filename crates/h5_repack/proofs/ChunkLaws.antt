@@ -5,3 +5,4 @@ pub mod ChunkOrder
 pub mod ChunkTree
 pub mod KeyTrees
 pub mod ChunksRead
+pub mod ChunkedArray

@@ -78,7 +78,7 @@ module _ (image : List ℕ) (d : Dataset) (chunk : List ℕ) where
         each_there (at + size) others (ap (λ n. part (at + n) (length (flat_map (chunk_data d chunk) others)) image) (sym long) ∙ both.1),
       )
 
-  ranked_of : (grid : IsGridOf chunk) (stored : List (List ℕ)) → AllByRecursion (AllZip IsOffset chunk) stored → AreRanked chunk stored
+  pub ranked_of : (grid : IsGridOf chunk) (stored : List (List ℕ)) → AllByRecursion (AllZip IsOffset chunk) stored → AreRanked chunk stored
   ranked_of grid stored held = all_so (AllZip IsOffset chunk) (λ (o : List ℕ). length o ≡ length chunk) stored (λ o is. (key_of chunk grid size o is).long) held
 
   module _ (grid : IsGridOf chunk) (some : 1 ≤ size) (small : size < 2 ^ 32) (at : ℕ) (first : List ℕ) (others : List (List ℕ))
@@ -131,10 +131,10 @@ module _ (image : List ℕ) (d : Dataset) (chunk : List ℕ) where
         (subst (λ n. root_level 32 n ≤ 15) (sym (length-children chunk size place stored)) are.low)
         (let whole = length-append nodes_part chunks_part in omega (arith, whole, room)) both.0
 
-    abbrev chunks : Chunks
+    abbrev pub chunks : Chunks
     chunks = chunk_map size place stored
 
-    abbrev blocks : List Block
+    abbrev pub blocks : List Block
     blocks = tree_blocks kind plain.owned ++ map (λ n. block n size) (values chunks)
 
     -- the chunks
