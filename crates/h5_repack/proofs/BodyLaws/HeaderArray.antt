@@ -41,7 +41,7 @@ use Rattle.h5_shape.proofs.Products.{cells_le}
 use Rattle.h5_repack.specs.Bodies.Bodies.{others_of, space_body, type_message, fill_message, array_layout}
 use Rattle.h5_repack.specs.Bodies.Laws.{ArrayReads, counted_header}
 use Rattle.h5_repack.specs.Bodies.Headers.{is_stored, data_of}
-use Rattle.h5_repack.specs.Bodies.Sound.{IsBound, IsPlainObject, IsPlainArray, IsPlainStorage, ArePlainChunks}
+use Rattle.h5_repack.specs.Bodies.Sound.{IsBound, IsPlainObject, IsPlainStorage, ArePlainChunks}
 use Rattle.h5_repack.proofs.BodyLaws.HeaderAttributes.{sizes_small}
 use Rattle.h5_repack.proofs.BodyLaws.HeaderLengths.{IsHead, head_of, length-layout, array_length}
 use Rattle.h5_repack.proofs.BodyLaws.ChunkSizes.{chunk_sizes_low}

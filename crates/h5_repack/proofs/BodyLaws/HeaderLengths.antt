@@ -1,5 +1,5 @@
 -- How many bytes the header of an array has in the plain layout (File Format Specification 3.0, sections IV.A.1.a and IV.A.2).
-use Rattle.std.proofs.Common.{◌≡◌, ℕ, ◌+◌, ◌*◌, List, [], ◌∷◌, ◌++◌, length, refl, sym, ap, ◌≤◌, ◌∙◌, arith, Bool, true, false, ◌||◌, not, Option, ℤ, length-append}
+use Rattle.std.proofs.Common.{◌≡◌, ℕ, ◌+◌, ◌*◌, List, [], ◌∷◌, ◌++◌, length, refl, ap, ◌≤◌, ◌∙◌, arith, Bool, true, false, ◌||◌, not, Option, ℤ, length-append}
 use Rattle.std.proofs.lemmas.Slice.Zip.{AllZip-long}
 use Rattle.std.specs.Prelude.{nat_lt, if◌then◌else◌, ◌^◌, ◌<◌, pos}
 use Rattle.std.specs.List.{AllZip}

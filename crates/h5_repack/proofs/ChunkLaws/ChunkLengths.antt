@@ -1,6 +1,6 @@
 -- How many bytes the data of a chunked array have in the plain layout: its nodes, and as many bytes for each stored chunk (File Format
 -- Specification 3.0, sections III.A.1 and IV.A.2.i).
-use Rattle.std.proofs.Common.{◌≡◌, ℕ, suc, ◌+◌, ◌*◌, ◌≤◌, List, [], ◌∷◌, ◌++◌, length, length-append, refl, sym, ap, ◌∙◌, arith}
+use Rattle.std.proofs.Common.{◌≡◌, ℕ, suc, ◌+◌, ◌*◌, List, [], ◌∷◌, length, length-append, refl, ap, ◌∙◌, arith}
 use Rattle.std.specs.List.{AllByRecursion, flat_map}
 use Rattle.h5_model.specs.Format.Nodes.{Kind, chunk_kind, node_length}
 use Rattle.h5_model.specs.Format.PlainLength.{nodes_over}

@@ -1,6 +1,6 @@
 -- The keys of a tree of chunks in the plain layout rise, and each chunk is between those around it (File Format Specification 3.0,
 -- section III.A.1).
-use Rattle.std.proofs.Common.{◌≡◌, ℕ, zero, suc, ◌+◌, ◌*◌, ◌^◌, ◌<◌, ◌≤◌, inl, inr, List, [], ◌∷◌, ◌++◌, length, map, get_or, refl, sym, ap, ◌∙◌, subst, arith, true, false}
+use Rattle.std.proofs.Common.{◌≡◌, ℕ, zero, suc, ◌+◌, ◌^◌, ◌<◌, ◌≤◌, List, [], ◌∷◌, ◌++◌, length, get_or, refl, sym, ap, ◌∙◌, subst, arith, true, false}
 use Rattle.std.proofs.lemmas.Bool.Decides.{nat_tests}
 use Rattle.std.specs.Prelude.{IsTrue, ◌==◌, nat_lt}
 use Rattle.std.specs.Ordering.{nat_cmp, is_lt, ordering_then}
@@ -12,13 +12,12 @@ use Rattle.h5_model.specs.Format.Chunks.{IsOffset, all_offsets_in, offsets_in}
 use Rattle.h5_model.specs.Format.Links.{Before, NotAfter}
 use Rattle.h5_model.proofs.TextOrder.{not_after_itself, before_le}
 use Rattle.h5_laws.specs.Ladders.{IsLadder, Sides}
-use Rattle.h5_laws.proofs.Lists.{In}
 use Rattle.h5_msg.proofs.LayoutLaws.{or_left}
 use Rattle.h5_btree.specs.declared.write.child.Child.{Child}
 use Rattle.h5_btree.specs.Writing.Laws.{lists_beside}
 use Rattle.h5_btree.specs.Writing.Written.{keys_of, places_of}
 use Rattle.h5_chunks.specs.Keys.{OffsetKey, chunk_key}
-use Rattle.h5_repack.specs.Bodies.Chunks.{index_from, chunk_children, key_after}
+use Rattle.h5_repack.specs.Bodies.Chunks.{index_from, chunk_children}
 use Rattle.h5_repack.specs.Bodies.StoredChunks.{AreRising}
 use Rattle.h5_repack.proofs.ChunkLaws.KeyBack.{AreWords, offsets_back, all_back}
 use Rattle.h5_repack.proofs.ChunkLaws.ChunkLengths.{length-index_from}

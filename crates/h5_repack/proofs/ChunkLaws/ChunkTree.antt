@@ -1,7 +1,7 @@
 -- The tree of the stored chunks in the plain layout is a tree of the definition, with these chunks (File Format Specification 3.0,
 -- section III.A.1).
-use Rattle.std.proofs.Common.{◌≡◌, ℕ, zero, suc, ◌+◌, ◌*◌, ◌^◌, ◌<◌, ◌≤◌, inl, inr, List, [], ◌∷◌, ◌++◌, length, map, take, get_or, Some, refl, sym, ap, ◌∙◌, subst, arith, true, false}
-use Rattle.std.proofs.lemmas.List.{length-map, map-append}
+use Rattle.std.proofs.Common.{◌≡◌, ℕ, zero, suc, ◌+◌, ◌^◌, ◌<◌, ◌≤◌, inl, inr, List, [], ◌∷◌, ◌++◌, length, map, take, get_or, Some, refl, sym, ap, ◌∙◌, subst, arith}
+use Rattle.std.proofs.lemmas.List.{map-append}
 use Rattle.std.specs.Prelude.{slice_index_or, T}
 use Rattle.std.specs.Ordering.{nat_cmp}
 use Rattle.std.specs.Cmp.Lexicographic.{slice_cmp}
@@ -10,19 +10,19 @@ use Rattle.std.specs.List.{AllByRecursion, AllZip, flat_map, zip}
 use Rattle.h5_bytes.specs.Blocks.{block}
 use Rattle.h5_bytes.specs.Bytes.{undefined}
 use Rattle.h5_bytes.proofs.BlockLaws.{all_append, all_so}
-use Rattle.h5_model.specs.Format.Rows.{IsRow, AreRows, Node, Reading, blank, leaves, next_row, nodes, row_below}
+use Rattle.h5_model.specs.Format.Rows.{IsRow, AreRows, Reading, blank, next_row, nodes, row_below}
 use Rattle.h5_model.specs.Format.Nodes.{HasTree, Kind, chunk_kind, node_at, node_bytes, reading_of, tree_blocks}
-use Rattle.h5_model.specs.Format.Chunks.{Chunks, HasChunks, HasChunkKeys, IsChunkKey, IsChunkOrdered, IsOffset, chunks_at, chunks_in, offsets_in}
+use Rattle.h5_model.specs.Format.Chunks.{Chunks, HasChunks, HasChunkKeys, IsChunkKey, IsChunkOrdered, IsOffset, chunks_at, offsets_in}
 use Rattle.h5_model.proofs.RowLaws.{only_here}
-use Rattle.h5_laws.specs.ChunkLadders.{chunk_lists, chunk_sides, rising_chunk_sides}
-use Rattle.h5_laws.specs.Ladders.{Bottom, IsLadder, IsOrderedBy, IsOrderly, Sides, lists_below}
+use Rattle.h5_laws.specs.ChunkLadders.{chunk_lists, rising_chunk_sides}
+use Rattle.h5_laws.specs.Ladders.{Bottom, IsOrderedBy, IsOrderly, Sides, lists_below}
 use Rattle.h5_laws.proofs.ChunkLadders.{chunk_order, chunks_by}
 use Rattle.h5_laws.proofs.Lists.{In, in_all, all_in, in_right}
 use Rattle.h5_laws.proofs.Rows.{row_level}
 use Rattle.h5_btree.proofs.NodeLaws.{length-children, length-keys}
 use Rattle.h5_btree.specs.Rising.{RiseFrom}
-use Rattle.h5_btree.specs.Writing.Laws.{HasPlainNodes, IsBeside, lists_beside}
-use Rattle.h5_btree.specs.Writing.Written.{keys_of, places_of, root_level}
+use Rattle.h5_btree.specs.Writing.Laws.{HasPlainNodes, lists_beside}
+use Rattle.h5_btree.specs.Writing.Written.{places_of, root_level}
 use Rattle.h5_btree.specs.declared.write.child.Child.{Child}
 use Rattle.h5_chunks.specs.Between.{offsets_of}
 use Rattle.h5_model.specs.Format.Links.{Before}
@@ -31,7 +31,7 @@ use Rattle.h5_chunks.proofs.Ascending.{rise_sorted}
 use Rattle.h5_repack.specs.Bodies.Chunks.{chunk_children}
 use Rattle.h5_repack.specs.Bodies.StoredChunks.{AreRising}
 use Rattle.h5_repack.proofs.ChunkLaws.KeyBack.{key_back}
-use Rattle.h5_repack.proofs.ChunkLaws.ChunkOrder.{IsGridOf, IsKeyOffsets, chunk_ladder, key_of, key_pairs, keys_follow, left_of_next, offsets_are, right_of_key}
+use Rattle.h5_repack.proofs.ChunkLaws.ChunkOrder.{IsGridOf, chunk_ladder, key_of, key_pairs, keys_follow, left_of_next, offsets_are, right_of_key}
 
 -- ---- pairs, one list each
 

@@ -1,6 +1,6 @@
 -- The header of a chunked array in the plain layout, with its tree and its stored chunks, reads as that array, and these are as long as
 -- is counted (File Format Specification 3.0, sections III.A.1, IV.A.1.a and IV.A.2.i).
-use Rattle.std.proofs.Common.{◌≡◌, ℕ, ◌+◌, ◌*◌, ◌^◌, ◌<◌, ◌≤◌, List, [], ◌∷◌, ◌++◌, length, refl, sym, ap, ◌∙◌, subst, arith, Option, Some, None, false}
+use Rattle.std.proofs.Common.{◌≡◌, ℕ, ◌+◌, ◌*◌, ◌^◌, ◌<◌, ◌≤◌, List, [], ◌∷◌, length, refl, sym, ap, ◌∙◌, subst, arith, Some, false}
 use Rattle.std.proofs.Math.Nat.{mul-le-mul}
 use Rattle.std.proofs.lemmas.Bool.Decides.{nat_tests}
 use Rattle.std.specs.Prelude.{◌==◌}
@@ -35,8 +35,8 @@ use Rattle.h5_repack.proofs.BodyLaws.ChunkSizes.{chunk_sizes_low, some_cell}
 use Rattle.h5_repack.proofs.BodyLaws.HeaderArray.{IsLaid, laid_reads}
 use Rattle.h5_repack.proofs.BodyLaws.HeaderLengths.{IsHead, head_length, length-layout}
 use Rattle.h5_repack.proofs.ChunkLaws.ChunkCells.{chunks_cells}
-use Rattle.h5_repack.proofs.ChunkLaws.ChunkLengths.{AreRanked, length-chunked}
-use Rattle.h5_repack.proofs.ChunkLaws.ChunkOrder.{IsGridOf, key_of}
+use Rattle.h5_repack.proofs.ChunkLaws.ChunkLengths.{length-chunked}
+use Rattle.h5_repack.proofs.ChunkLaws.ChunkOrder.{IsGridOf}
 use Rattle.h5_repack.proofs.ChunkLaws.ChunksRead.{blocks, chunks, ranked_of, stored_cells, stored_run, stored_stand}
 
 module _ (d : Dataset) (chunk : List ℕ) (e : d.storage ≡ Chunked chunk) (fixed : IsFixed d.fixed) (sound : IsDataset d) (plain : ArePlainChunks d.fixed chunk) where

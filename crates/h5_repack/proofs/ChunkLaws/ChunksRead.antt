@@ -1,8 +1,7 @@
 -- Where the data of a chunked array stand, the image has its chunks, with its cells, in blocks without gaps (File Format Specification
 -- 3.0, sections III.A.1 and IV.A.2.i).
-use Rattle.std.proofs.Common.{◌≡◌, ℕ, zero, suc, ◌+◌, ◌*◌, ◌^◌, ◌<◌, ◌≤◌, inl, inr, List, [], ◌∷◌, ◌++◌, length, length-append, map, refl, sym, ap, ◌∙◌, subst, arith, Option, Some, None, false}
-use Rattle.std.specs.Ordering.{nat_cmp}
-use Rattle.std.specs.Cmp.Lexicographic.{slice_cmp, nat_list_cmp_total}
+use Rattle.std.proofs.Common.{◌≡◌, ℕ, suc, ◌+◌, ◌*◌, ◌^◌, ◌<◌, ◌≤◌, inl, inr, List, [], ◌∷◌, ◌++◌, length, length-append, map, refl, sym, ap, ◌∙◌, subst, arith, Some, None}
+use Rattle.std.specs.Cmp.Lexicographic.{nat_list_cmp_total}
 use Rattle.std.specs.FinMap.{entries, get, get-entries, values, nat_cmp-IsAntisymmetric, slice_cmp-IsAntisymmetric}
 use Rattle.std.specs.List.{AllByRecursion, AllZip, Contains, flat_map}
 use Rattle.h5_bytes.specs.Bytes.{part}
@@ -12,11 +11,9 @@ use Rattle.h5_bytes.proofs.BlockLaws.{all_so}
 use Rattle.h5_model.specs.Format.Chunks.{Chunks, HasChunks, IsOffset}
 use Rattle.h5_model.specs.Format.Nodes.{Kind, chunk_kind, node_length, tree_blocks}
 use Rattle.h5_model.specs.Format.PlainLength.{nodes_over}
-use Rattle.h5_model.specs.Scripts.Reading.{cell_at}
 use Rattle.h5_model.specs.Tree.Grid.{corner_of}
 use Rattle.h5_model.specs.Tree.Objects.{Dataset}
-use Rattle.h5_model.specs.Tree.Places.{cells, IsInside}
-use Rattle.h5_laws.proofs.Lists.{In, contains_in, in_all, in_contains}
+use Rattle.h5_laws.proofs.Lists.{In, in_all, in_contains}
 use Rattle.h5_laws.proofs.Maps.{found_entry, get_of_entry}
 use Rattle.h5_btree.specs.Writing.Laws.{HasPlainNodes}
 use Rattle.h5_btree.specs.Writing.Written.{places_of, root_level}

@@ -1,5 +1,5 @@
 -- A key of a tree of chunks that was written reads as that key (File Format Specification 3.0, section III.A.1).
-use Rattle.std.proofs.Common.{◌≡◌, ℕ, zero, suc, ◌+◌, ◌*◌, ◌^◌, ◌<◌, List, [], ◌∷◌, ◌++◌, length, length-append, append-nil, append_assoc, map, get_or, drop, refl, sym, ap, ◌∙◌, subst, arith}
+use Rattle.std.proofs.Common.{◌≡◌, ℕ, zero, suc, ◌+◌, ◌*◌, ◌^◌, ◌<◌, List, [], ◌∷◌, ◌++◌, length, length-append, append-nil, get_or, drop, refl, sym, ap, ◌∙◌, subst, arith}
 use Rattle.std.proofs.lemmas.Grind.{flat_map-append}
 use Rattle.std.proofs.lemmas.List.FromFn.{fill_by_all}
 use Rattle.std.proofs.Math.Seq.{drop-append_seam}
@@ -11,7 +11,7 @@ use Rattle.h5_model.specs.Format.Chunks.{IsChunkKey, IsOffset, all_offsets_in, o
 use Rattle.h5_model.specs.Format.Extent.{numbers_at}
 use Rattle.h5_model.proofs.NumberLaws.{reads_back}
 use Rattle.h5_msg.proofs.WordLaws.{number_at-drop, number_at-words, words_long}
-use Rattle.h5_chunks.specs.Keys.{OffsetKey, chunk_key}
+use Rattle.h5_chunks.specs.Keys.{chunk_key}
 
 -- each number is one of eight bytes
 abbrev pub AreWords : List ℕ → Type 0

@@ -6,7 +6,7 @@ use Rattle.h5_bytes.specs.Bytes.{undefined}
 use Rattle.h5_model.specs.Format.Nodes.{Kind, node_length}
 use Rattle.h5_model.specs.Format.Plain.{node_bytes_of}
 use Rattle.h5_btree.specs.declared.write.child.Child.{Child}
-use Rattle.h5_btree.specs.Writing.Written.{as_children, chunks, cut_into_lists, keys_of, last_below, places_of, right_of, row_bytes, row_place, rows_bytes, tree_bytes}
+use Rattle.h5_btree.specs.Writing.Written.{as_children, chunks, cut_into_lists, last_below, places_of, right_of, row_bytes, row_place, rows_bytes, tree_bytes}
 use Rattle.h5_btree.proofs.WriteLaws.TreeLaws.{tree_bytes_is}
 
 take_mapped : {X Y : Type 0} (f : X → Y) (n : ℕ) (xs : List X) → take n (map f xs) ≡ map f (take n xs)

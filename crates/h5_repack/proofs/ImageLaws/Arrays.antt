@@ -17,7 +17,7 @@ use Rattle.h5_model.specs.Tree.Objects.{Tree, Object, Array, Dataset, Storage, C
 use Rattle.h5_model.proofs.PlainValues.{length-cells_bytes}
 use Rattle.h5_repack.specs.Bodies.Bodies.{others_of}
 use Rattle.h5_repack.specs.Bodies.Laws.{ArrayReads, ArrayLength, counted_header}
-use Rattle.h5_repack.specs.Bodies.Headers.{is_stored, data_of}
+use Rattle.h5_repack.specs.Bodies.Headers.{data_of}
 use Rattle.h5_repack.specs.Bodies.Sound.{IsPlainArray}
 use Rattle.h5_repack.specs.Image.Plain.{IsPlain, IsPlainContent, IsPlainTree}
 use Rattle.h5_repack.specs.Image.Written.{object_length, header_in, content_place, data_address, object_bytes}

@@ -1,5 +1,5 @@
 -- Which objects the plain layout can hold: those that an image reads as, or that an accepted edit makes of them.
-use Rattle.std.specs.Prelude.{◌≡◌, ℕ, ◌+◌, ◌*◌, ◌^◌, ◌%◌, ◌<◌, ◌≤◌, ◌==◌, ◌||◌, Bool, true, false, IsTrue, IfSome, pos, Option, List, length, replicate}
+use Rattle.std.specs.Prelude.{◌≡◌, ℕ, ◌+◌, ◌*◌, ◌^◌, ◌%◌, ◌<◌, ◌≤◌, ◌==◌, ◌||◌, true, false, IsTrue, IfSome, pos, Option, List, length, replicate}
 use Rattle.std.specs.List.{AllByRecursion, AllZip, list_any}
 use Rattle.std.specs.FinMap.{entries}
 use Rattle.h5_bytes.specs.Bytes.{undefined}
