@@ -6,3 +6,4 @@ pub mod ChunkTree
 pub mod KeyTrees
 pub mod ChunksRead
 pub mod ChunkedArray
+pub mod HeldChunks

@@ -45,7 +45,7 @@ inner_in_chunk (c ∷ cs) (i ∷ is) same some =
 
 -- ---- the value of a cell
 
-is_inside_from : (sizes index : List ℕ) → IsInside sizes index → is_inside sizes index ≡ true
+pub is_inside_from : (sizes index : List ℕ) → IsInside sizes index → is_inside sizes index ≡ true
 is_inside_from [] [] h = refl
 is_inside_from [] (i ∷ is) h = absurd h
 is_inside_from (d ∷ ds) [] h = absurd h
