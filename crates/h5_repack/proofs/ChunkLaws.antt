@@ -1,5 +1,6 @@
 pub mod KeyBack
 pub mod ChunkLengths
+pub mod ChunkLevels
 pub mod ChunkCells
 pub mod ChunkOrder
 pub mod ChunkTree

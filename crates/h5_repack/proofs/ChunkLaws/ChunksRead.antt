@@ -1,6 +1,7 @@
 -- Where the data of a chunked array stand, the image has its chunks, with its cells, in blocks without gaps (File Format Specification
 -- 3.0, sections III.A.1 and IV.A.2.i).
 use Rattle.std.proofs.Common.{◌≡◌, ℕ, suc, ◌+◌, ◌*◌, ◌^◌, ◌<◌, ◌≤◌, inl, inr, List, [], ◌∷◌, ◌++◌, length, length-append, map, refl, sym, ap, ◌∙◌, subst, arith, Some, None}
+use Rattle.std.proofs.Math.Nat.{mul-le-mul}
 use Rattle.std.specs.Cmp.Lexicographic.{nat_list_cmp_total}
 use Rattle.std.specs.FinMap.{entries, get, get-entries, values, nat_cmp-IsAntisymmetric, slice_cmp-IsAntisymmetric}
 use Rattle.std.specs.List.{AllByRecursion, AllZip, Contains, flat_map}
@@ -25,6 +26,7 @@ use Rattle.h5_repack.specs.Bodies.Chunks.{chunk_children, chunk_data, chunk_leng
 use Rattle.h5_repack.specs.Bodies.StoredChunks.{AreStoredChunks, IsHeldChunk}
 use Rattle.h5_repack.proofs.ChunkLaws.ChunkCells.{AreCellsStored}
 use Rattle.h5_repack.proofs.ChunkLaws.ChunkLengths.{AreRanked, key_fits, keys_fit, length-children, length-chunk, length-chunks, length-nodes, node_long}
+use Rattle.h5_repack.proofs.ChunkLaws.ChunkLevels.{chunk_level}
 use Rattle.h5_repack.proofs.ChunkLaws.ChunkOrder.{IsGridOf, key_of}
 use Rattle.h5_repack.proofs.ChunkLaws.ChunkTree.{chunk_map, chunk_pairs, chunks_stand, entries_of, values_of}
 
@@ -121,11 +123,18 @@ module _ (image : List ℕ) (d : Dataset) (chunk : List ℕ) where
     both : (part at (length nodes_part) image ≡ nodes_part) × (part (at + length nodes_part) (length chunks_part) image ≡ chunks_part)
     both = part_split at nodes_part chunks_part image there
 
+    -- each has a byte
+    few_stored : length stored < 2 ^ 63
+    few_stored =
+        let own : length stored ≤ length stored = omega arith in
+        let each : length stored * 1 ≤ length stored * size = mul-le-mul own some in
+        omega (arith, each, end_is, room)
+
     pub plain : HasPlainNodes image kind chunk_key (record { bytes = size; offsets = first }) at children
     plain = tree_reads OffsetKey image kind chunk_key (record { bytes = size; offsets = first }) at children (omega arith) (omega arith)
         (key_fits chunk size first ranked.0) (keys_fit chunk size place stored ranked)
         (all_so (λ n. n < 2 ^ 63) (λ n. n < 2 ^ 64) (places_of children) (λ n low. omega (arith, low)) (places_low chunk size place (2 ^ 63) stored (omega (arith, end_is, room)) some))
-        (subst (λ n. root_level 32 n ≤ 15) (sym (length-children chunk size place stored)) are.low)
+        (subst (λ n. root_level 32 n ≤ 15) (sym (length-children chunk size place stored)) (chunk_level (length stored) few_stored))
         (let whole = length-append nodes_part chunks_part in omega (arith, whole, room)) both.0
 
     abbrev pub chunks : Chunks

@@ -24,7 +24,6 @@ use Rattle.h5_model.specs.Tree.Places.{cells, index_of, place_of, is_inside, IsI
 use Rattle.h5_model.proofs.PlaceLaws.{index-place, place_below}
 use Rattle.h5_laws.proofs.Lists.{In, all_in, contains_in, from_flat, in_all, in_map}
 use Rattle.h5_laws.proofs.Maps.{found_entry, get_of_entry}
-use Rattle.h5_btree.specs.Writing.Written.{root_level}
 use Rattle.h5_repack.specs.Bodies.StoredChunks.{AreRising, AreStoredChunks, IsHeldChunk, held_chunks}
 use Rattle.h5_repack.proofs.ChunkLaws.ChunkCells.{is_inside_from}
 
@@ -148,10 +147,9 @@ module _ (image : List ℕ) (k : ℕ) (d : Dataset) (chunk : List ℕ) (bytes ro
           (found_entry (slice_cmp-IsAntisymmetric nat_cmp-IsAntisymmetric) (entries held) corner n (sym (get-entries held corner) ∙ kept ∙ is)))))
 
   -- the chunks that hold a cell of the extent
-  pub held_stored : root_level 32 (length (held_chunks d.sizes chunks)) ≤ 15 → AreStoredChunks d chunk (held_chunks d.sizes chunks)
-  held_stored low = record {
+  pub held_stored : AreStoredChunks d chunk (held_chunks d.sizes chunks)
+  held_stored = record {
     rising = sorted_rising (entries held) (entries_sorted held);
     held = all_held (entries held) (all_in (λ (e : List ℕ × ℕ). IsHeldChunk d.sizes chunk e.0) (entries held) each_held);
     unset = absent;
-    low = low;
   }

@@ -1,5 +1,5 @@
 -- Which chunks of an array are stored in the plain layout (File Format Specification 3.0, section IV.A.2.i).
-use Rattle.std.specs.Prelude.{◌≡◌, ℕ, ◌≤◌, List, [], ◌∷◌, map, length}
+use Rattle.std.specs.Prelude.{◌≡◌, ℕ, List, [], ◌∷◌, map}
 use Rattle.std.specs.List.{AllByRecursion, AllZip, Contains}
 use Rattle.std.specs.FinMap.{entries, retain_keys}
 use Rattle.h5_model.specs.Format.Chunks.{Chunks, IsOffset}
@@ -8,7 +8,6 @@ use Rattle.h5_model.specs.Scripts.Reading.{cell_at}
 use Rattle.h5_model.specs.Tree.Grid.{corner_of}
 use Rattle.h5_model.specs.Tree.Objects.{Dataset}
 use Rattle.h5_model.specs.Tree.Places.{IsInside, is_inside}
-use Rattle.h5_btree.specs.Writing.Written.{root_level}
 
 -- the offsets of a chunk that holds a cell of an extent of these sizes: its first one
 pub record IsHeldChunk (sizes chunk offsets : List ℕ) : Type 0 where
@@ -26,7 +25,6 @@ pub record AreStoredChunks (d : Dataset) (chunk : List ℕ) (stored : List (List
   pub rising : AreRising stored
   pub held : AllByRecursion (IsHeldChunk d.sizes chunk) stored
   pub unset : (index : List ℕ) → IsInside d.sizes index → (Contains stored (corner_of chunk index) → ⊥) → cell_at d index ≡ d.fill
-  pub low : root_level 32 (length stored) ≤ 15
 
 -- of these chunks those that hold a cell of an extent of these sizes: their offsets, ascending
 abbrev pub held_chunks : List ℕ → Chunks → List (List ℕ)
