@@ -1,7 +1,8 @@
 -- Of the chunks that an image has, those that hold a cell of the extent are the stored chunks of the array in the plain layout (File
 -- Format Specification 3.0, section III.A.1).
-use Rattle.std.proofs.Common.{◌≡◌, ℕ, ◌+◌, ◌*◌, ◌/◌, ◌%◌, ◌<◌, ◌≤◌, List, [], ◌∷◌, length, map, take, refl, sym, ap, ◌∙◌, subst, arith, Bool, true, false, ◌&&◌, cond, Option, Some, None}
+use Rattle.std.proofs.Common.{◌≡◌, ℕ, ◌+◌, ◌*◌, ◌/◌, ◌%◌, ◌<◌, List, [], ◌∷◌, length, map, take, refl, sym, ap, ◌∙◌, subst, arith, Bool, true, false, ◌&&◌, cond, Option, Some, None}
 use Rattle.std.proofs.lemmas.Bool.Decides.{nat_tests}
+use Rattle.std.proofs.lemmas.List.{get_or-replicate}
 use Rattle.std.proofs.lemmas.List.FromFn.{get_or-map-range_with_len}
 use Rattle.std.proofs.lemmas.Nat.{div-add-mod'}
 use Rattle.std.specs.Prelude.{T, nat_lt, slice_index_or}
@@ -12,6 +13,7 @@ use Rattle.std.specs.FinMap.{entries, entries_sorted, get, get-entries, get-reta
 use Rattle.std.specs.FinMap.Entries.{below_all}
 use Rattle.std.specs.List.{AllByRecursion, AllZip, Contains, zip}
 use Rattle.h5_bytes.specs.declared.Block.{Block}
+use Rattle.h5_model.specs.Edits.Applied.{cell_or_fill, resized}
 use Rattle.h5_model.specs.Format.Cells.{cells_of, value_in_chunk}
 use Rattle.h5_model.specs.Format.Chunks.{Chunks, HasChunkKeys, HasChunks, IsChunkKey, IsOffset, chunks_in, offsets_in}
 use Rattle.h5_model.specs.Format.Layout.{InChunks}
@@ -24,6 +26,7 @@ use Rattle.h5_model.specs.Tree.Places.{cells, index_of, place_of, is_inside, IsI
 use Rattle.h5_model.proofs.PlaceLaws.{index-place, place_below}
 use Rattle.h5_laws.proofs.Lists.{In, all_in, contains_in, from_flat, in_all, in_map}
 use Rattle.h5_laws.proofs.Maps.{found_entry, get_of_entry}
+use Rattle.h5_repack.specs.Bodies.Sound.{IsUnset}
 use Rattle.h5_repack.specs.Bodies.StoredChunks.{AreRising, AreStoredChunks, IsHeldChunk, held_chunks}
 use Rattle.h5_repack.proofs.ChunkLaws.ChunkCells.{is_inside_from}
 
@@ -78,8 +81,45 @@ zip_keys sizes bytes [] children all = tt
 zip_keys sizes bytes (key ∷ keys) [] all = tt
 zip_keys sizes bytes (key ∷ keys) (n ∷ children) all = ((all.0).aligned, zip_keys sizes bytes keys children all.1)
 
+-- ---- cells in no stored chunk
+
+-- each cell in none of these chunks is the fill
+abbrev pub IsFillUnstored : Dataset → List ℕ → Chunks → Type 0
+IsFillUnstored d chunk chunks = (index : List ℕ) → IsInside d.sizes index → get chunks (corner_of chunk index) ≡ None → cell_at d index ≡ d.fill
+
+-- so it is where the cells are read from the chunks
+pub unread_fill : (image : List ℕ) (d : Dataset) (chunk : List ℕ) (root : Option ℕ) (chunks : Chunks)
+    → d.cells ≡ cells_of image d.fixed d.fill d.sizes (InChunks chunk root) chunks → IsFillUnstored d chunk chunks
+unread_fill image d chunk root chunks cells_are index inside none =
+    let place : ℕ = place_of d.sizes index in
+    ap (λ cs. slice_index_or cs place d.fill) cells_are
+    ∙ get_or-map-range_with_len (λ n. value_in_chunk image d.fixed d.fill (cells chunk * (d.fixed).size) (place_of chunk (inner_of chunk (index_of d.sizes n)))
+    (get chunks (corner_of chunk (index_of d.sizes n)))) 0 (cells d.sizes) place place d.fill (place_below d.sizes index inside) (omega arith)
+    ∙ ap (λ (is : List ℕ). value_in_chunk image d.fixed d.fill (cells chunk * (d.fixed).size) (place_of chunk (inner_of chunk is)) (get chunks (corner_of chunk is)))
+    (index-place d.sizes index inside)
+    ∙ ap (value_in_chunk image d.fixed d.fill (cells chunk * (d.fixed).size) (place_of chunk (inner_of chunk index))) none
+
+-- and where the array then has other sizes
+pub resized_fill : (sizes : List ℕ) (d : Dataset) (chunk : List ℕ) (chunks : Chunks) → IsFillUnstored d chunk chunks → IsFillUnstored (resized sizes d) chunk chunks
+resized_fill sizes d chunk chunks unstored index inside none =
+    get_or-map-range_with_len (λ n. cell_or_fill d (index_of sizes n)) 0 (cells sizes) (place_of sizes index) (place_of sizes index) d.fill (place_below sizes index inside) (omega arith)
+    ∙ ap (cell_or_fill d) (index-place sizes index inside) ∙ by_test (is_inside d.sizes index) refl where
+      by_test : (b : Bool) → is_inside d.sizes index ≡ b → cond b (cell_at d index) d.fill ≡ d.fill
+      by_test true is = unstored index (inside_of d.sizes index is) none
+      by_test false is = refl
+
+-- an array of which no chunk is stored
+pub none_stored : (d : Dataset) (chunk : List ℕ) → IsUnset d → AreStoredChunks d chunk []
+none_stored d chunk unset = record {
+  rising = tt;
+  held = tt;
+  unset = λ index inside none.
+      ap (λ cs. slice_index_or cs (place_of d.sizes index) d.fill) unset
+      ∙ get_or-replicate (cells d.sizes) (place_of d.sizes index) d.fill d.fill (place_below d.sizes index inside);
+}
+
 module _ (image : List ℕ) (k : ℕ) (d : Dataset) (chunk : List ℕ) (bytes root : ℕ) (chunks : Chunks) (blocks : List Block) (has : HasChunks image k chunk bytes root chunks blocks)
-    (same : length chunk ≡ length d.sizes) (cells_are : d.cells ≡ cells_of image d.fixed d.fill d.sizes (InChunks chunk (Some root)) chunks) where
+    (same : length chunk ≡ length d.sizes) (unstored : IsFillUnstored d chunk chunks) where
   abbrev V : Reading
   V = reading_of image (chunk_kind k (length chunk)) has.owned
 
@@ -122,17 +162,6 @@ module _ (image : List ℕ) (k : ℕ) (d : Dataset) (chunk : List ℕ) (bytes ro
     abbrev corner : List ℕ
     corner = corner_of chunk index
 
-    -- a cell is read from its chunk, if that is stored
-    cell_is : get chunks corner ≡ None → cell_at d index ≡ d.fill
-    cell_is none =
-        let place : ℕ = place_of d.sizes index in
-        ap (λ cs. slice_index_or cs place d.fill) cells_are
-        ∙ get_or-map-range_with_len (λ n. value_in_chunk image d.fixed d.fill (cells chunk * (d.fixed).size) (place_of chunk (inner_of chunk (index_of d.sizes n)))
-        (get chunks (corner_of chunk (index_of d.sizes n)))) 0 (cells d.sizes) place place d.fill (place_below d.sizes index inside) (omega arith)
-        ∙ ap (λ (is : List ℕ). value_in_chunk image d.fixed d.fill (cells chunk * (d.fixed).size) (place_of chunk (inner_of chunk is)) (get chunks (corner_of chunk is)))
-        (index-place d.sizes index inside)
-        ∙ ap (value_in_chunk image d.fixed d.fill (cells chunk * (d.fixed).size) (place_of chunk (inner_of chunk index))) none
-
     kept : get held corner ≡ get chunks corner
     kept =
         get-retain_keys chunks (is_inside d.sizes) corner (alike corner)
@@ -141,7 +170,7 @@ module _ (image : List ℕ) (k : ℕ) (d : Dataset) (chunk : List ℕ) (bytes ro
     absent : (Contains (held_chunks d.sizes chunks) corner → ⊥) → cell_at d index ≡ d.fill
     absent none = by_found (get chunks corner) refl where
       by_found : (found : Option ℕ) → get chunks corner ≡ found → cell_at d index ≡ d.fill
-      by_found None is = cell_is is
+      by_found None is = unstored index inside is
       by_found (Some n) is =
           absurd (none (contains_in corner (held_chunks d.sizes chunks) (in_map (λ (e : List ℕ × ℕ). e.0) (corner, n) (entries held)
           (found_entry (slice_cmp-IsAntisymmetric nat_cmp-IsAntisymmetric) (entries held) corner n (sym (get-entries held corner) ∙ kept ∙ is)))))
