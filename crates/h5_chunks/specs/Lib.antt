@@ -4,4 +4,5 @@ pub mod Told
 pub mod Order
 pub mod Read
 pub mod Way
+pub mod Keys
 pub use Rattle.h5_btree.specs.Walk

@@ -10,7 +10,9 @@ mod order;
 mod read;
 mod search;
 mod shape;
+mod write;
 
 pub use read::read_chunks;
 pub use search::chunk_at;
 pub use shape::ChunkShape;
+pub use write::ChunkKey;

@@ -3,4 +3,5 @@ pub mod HeaderOthers
 pub mod HeaderGroup
 pub mod HeaderSpace
 pub mod HeaderLengths
+pub mod ChunkSizes
 pub mod HeaderArray

@@ -193,7 +193,7 @@ pub written_empty : (w : Written) → IsWritten 4 16 root_tree w → w.image.ite
 written_empty w is = is.image_is ∙ ap (plain_image 4 16 root_tree) (one_order is.order is.ordered) ∙ same_image
 
 pub never_long : IsUnwritten 4 16 root_tree TooLong → ⊥
-never_long long = let same = image_length 4 16 32 (λ n. 0) root_tree root_order root_plain is_order in absurd (omega (arith, long, same, ends))
+never_long long = let same = image_length 4 16 32 root_tree root_order root_plain is_order in absurd (omega (arith, long, same, ends))
 
 pub never_deep : IsUnwritten 4 16 root_tree TooDeep → ⊥
 never_deep (n, links, is, high) = high (root_low n links is)

@@ -30,7 +30,7 @@ member_within leaf internal at (e ∷ es) n o (inr there) = member_within leaf i
 
 module _ (leaf internal : ℕ) (objects : List (Option NewObject)) (tree : Tree) (held : IsTreeToWrite objects tree) (order : List ℕ) (met : AreMet tree order) where
   whole_length : image_end leaf internal (pairs objects tree held order met) ≡ plain_length leaf internal 32 (λ number. 0) tree
-  whole_length = image_length leaf internal 32 (λ number. 0) tree (pairs objects tree held order met) held.plain (is_order objects tree held order met)
+  whole_length = image_length leaf internal 32 tree (pairs objects tree held order met) held.plain (is_order objects tree held order met)
 
   object_long : (n : ℕ) (o : Object) → slice_get (listed objects tree held) n ≡ Some (Some o) → 2 ^ 31 < object_length leaf internal o
       → 2 ^ 31 < plain_length leaf internal 32 (λ number. 0) tree

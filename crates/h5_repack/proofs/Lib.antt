@@ -7,6 +7,7 @@ pub mod Images
 pub mod Faults
 pub mod BlockLaws
 pub mod BodyLaws
+pub mod ChunkLaws
 pub mod ObjectLaws
 pub mod ImageLaws
 pub mod EmptyFile

@@ -20,7 +20,6 @@ use Rattle.h5_repack.specs.Blocks.ArrayHeader.{group_written, header_written, da
 use Rattle.h5_repack.specs.Blocks.Others.{OthersBytes}
 use Rattle.h5_layout.specs.Described.{Described}
 use Rattle.h5_repack.specs.declared.blocks.cells.Cells.{Cells}
-use Rattle.h5_model.specs.Tree.Places.{cells}
 use Rattle.h5_repack.proofs.BlockLaws.HeaderLaws.{group_is, header_is, data_is, address_is}
 use Rattle.h5_repack.specs.Image.Written.{content_place, group_heap_place, data_address}
 use Rattle.h5_model.specs.Tree.Links.{tree_link}
@@ -97,12 +96,12 @@ group_at l count n links others o s d p is found e size =
 -- ---- arrays
 
 pub array_pushed : (a : Described) (c : Cells) (others : OthersBytes) (count place : ℕ) (address : Option ℕ) (first second third : List ℕ)
-    → address ≡ address_written c (cells a.sizes) place → second ≡ first ++ header_written count a others address → third ≡ second ++ data_written c a
+    → address ≡ address_written a c place → second ≡ first ++ header_written count a c others address → third ≡ second ++ data_written c a
     → (o : Object) (is : IsArrayObject a c others o) → third ≡ first ++ array_at place count o is.dataset
 array_pushed a c others count place address first second third address_here e f o is =
     let d : Dataset = is.dataset in
     let stands : address ≡ data_address d place = address_here ∙ address_is a c d is.array_is place in
-    two_parts first second third (header_written count a others address) (data_written c a) (array_at place count o d) e f
+    two_parts first second third (header_written count a c others address) (data_written c a) (array_at place count o d) e f
     (λ i. (header_is a c d is.array_is others (others_of o) is.others_are count address ∙ ap (λ k. header_bytes count (array_messages d k (length (others_of o)) ++ others_of o)) stands) i
     ++ data_is a c d is.array_is i)
 

@@ -22,13 +22,13 @@ use Rattle.h5_group.specs.Writing.Places.{ArePlaces}
 use Rattle.h5_group.specs.Writing.Written.{links_length, tree_level}
 use Rattle.h5_group.specs.declared.write.places.GroupPlaces.{GroupPlaces}
 use Rattle.h5_group.proofs.WriteLaws.Lengths.{group_length}
-use Rattle.h5_repack.specs.Blocks.ArrayHeader.{group_written, header_written, data_written}
+use Rattle.h5_repack.specs.Blocks.ArrayHeader.{FitsLayout, IsArrayToWrite, group_written, header_written, data_written}
 use Rattle.h5_repack.specs.Blocks.Others.{OthersBytes}
 use Rattle.h5_repack.specs.Blocks.Written.{AreOthers, HasRoom}
 use Rattle.h5_layout.specs.Described.{Described}
 use Rattle.h5_repack.specs.declared.blocks.cells.Cells.{Cells}
 use Rattle.h5_model.specs.Tree.Places.{cells}
-use Rattle.h5_repack.proofs.BlockLaws.HeaderLaws.{group_is, header_is, data_is, room_is}
+use Rattle.h5_repack.proofs.BlockLaws.HeaderLaws.{group_is, header_is, data_is, fits_is, room_is}
 use Rattle.h5_repack.specs.Image.Plain.{IsPlain, IsPlainContent, IsLow}
 use Rattle.h5_repack.specs.Image.Written.{object_length}
 use Rattle.h5_repack.proofs.ImageLaws.Arrays.{stored_bytes}
@@ -115,6 +115,9 @@ module _ (a : Described) (c : Cells) (others : OthersBytes) (o : Object) (is : I
   own_array : IsPlainArray is.dataset (length (others_of o))
   own_array = own_content.0
 
+  pub array_fits : FitsLayout (cells a.sizes * (a.fixed).size) a.layout
+  array_fits = fits_is a c is.dataset is.array_is (own_array).stored
+
   pub array_room : HasRoom c (cells a.sizes * (a.fixed).size)
   array_room = room_is a c is.dataset is.array_is ((own_array).sound).counted
 
@@ -122,20 +125,23 @@ module _ (a : Described) (c : Cells) (others : OthersBytes) (o : Object) (is : I
   array_bounded =
       (λ i. are_maxima ((is.array_is).sizes_are i) ((is.array_is).maxima_are i)) ∙ maxima_fit (is.dataset).sizes (is.dataset).maxima (own_array).bounded
 
+  pub array_writable : IsArrayToWrite a c
+  array_writable = record { bounded = array_bounded; fits = array_fits; room = array_room }
+
   pub array_few : others.count + 3 ≤ 65535
   array_few = omega (arith, (is.others_are).count_is, own_content.1)
 
-  pub array_header_size : (count : ℕ) (address : Option ℕ) → length (header_written count a others address) ≡ header_size o
+  pub array_header_size : (count : ℕ) (address : Option ℕ) → length (header_written count a c others address) ≡ header_size o
   array_header_size count address =
       ap length (header_is a c is.dataset is.array_is others (others_of o) is.others_are count address)
       ∙ array_length count address o is.dataset (is.plain).others is.content own_array
 
   pub array_content : (leaf internal : ℕ) → length (data_written c a) ≡ content_bytes leaf internal 0 0 o.content
   array_content leaf internal =
-      ap length (data_is a c is.dataset is.array_is) ∙ sym (stored_bytes 0 0 (length (others_of o)) is.dataset own_array)
+      ap length (data_is a c is.dataset is.array_is) ∙ sym (stored_bytes 0 (length (others_of o)) is.dataset own_array)
       ∙ sym (ap (content_bytes leaf internal 0 0) is.content)
 
-  pub array_size : (leaf internal header data_length : ℕ) → header ≡ length (header_written 0 a others None) → data_length ≡ length (data_written c a) → header ≤ 2 ^ 31
+  pub array_size : (leaf internal header data_length : ℕ) → header ≡ length (header_written 0 a c others None) → data_length ≡ length (data_written c a) → header ≤ 2 ^ 31
       → data_length ≤ 2 ^ 31 → IsSize leaf internal o (record { header = header; extent = extent.Data data_length })
   array_size leaf internal header data_length header_is length_is low low_data =
       let size : header ≡ header_size o = header_is ∙ array_header_size 0 None in

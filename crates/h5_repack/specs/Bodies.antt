@@ -1,4 +1,6 @@
 pub mod Bodies
 pub mod Headers
 pub mod Sound
+pub mod Chunks
+pub mod StoredChunks
 pub mod Laws

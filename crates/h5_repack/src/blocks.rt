@@ -5,6 +5,7 @@
 mod attribute;
 mod cells;
 mod header;
+mod layout;
 mod others;
 mod space;
 

@@ -67,7 +67,7 @@ fn push_array(
         → out.new.items ≡ out.old.items ++ array_at at count o is.dataset) }
 {
     let address = cells_address(array, cells, at);
-    push_array_header(out, array, others, address, count)?;
+    push_array_header(out, array, cells, others, address, count)?;
     push_data(alloc, out, array, cells)?;
     Ok(())
 }

@@ -1,17 +1,21 @@
 -- What is written of a group and of an array: the header with its messages, the data, and the address of these.
-use Rattle.std.proofs.Common.{◌≡◌, ℕ, ◌+◌, ◌*◌, Option, Some, None, List, [], ◌∷◌, ◌++◌, length, replicate, true, false, refl, ap, ◌∙◌, sym, subst, arith, length-append}
-use Rattle.std.proofs.lemmas.Bool.Decides.{nat_tests}
-use Rattle.std.specs.Prelude.{nat_lt, ◌==◌, if◌then◌else◌}
+use Rattle.std.proofs.Common.{◌≡◌, ℕ, ◌+◌, ◌*◌, ◌≤◌, Option, Some, None, List, [], ◌∷◌, ◌++◌, length, replicate, refl, ap, ◌∙◌, sym, subst, arith, length-append}
+use Rattle.std.specs.Prelude.{if◌then◌else◌}
+use Rattle.h5_model.specs.Edits.Refusal.{is_chunked}
+use Rattle.h5_model.specs.Format.Fixed.{Fixed}
+use Rattle.h5_model.specs.Format.Layout.{Layout, InMessage, InBlock, InChunks}
 use Rattle.h5_model.specs.Tree.Places.{cells}
-use Rattle.h5_model.specs.Format.Bodies.{pair_bytes}
+use Rattle.h5_bytes.specs.declared.Block.{Block}
+use Rattle.h5_model.specs.Format.Bodies.{pair_bytes, contiguous_bytes, chunked_bytes}
 use Rattle.h5_model.specs.Format.Plain.{header_bytes, message_bytes, messages_bytes, cells_bytes}
-use Rattle.h5_model.specs.Tree.Objects.{Dataset, Storage}
-use Rattle.h5_repack.specs.Bodies.Bodies.{array_messages, messages_of}
+use Rattle.h5_model.specs.Tree.Objects.{Dataset}
+use Rattle.h5_repack.specs.Bodies.Bodies.{array_layout, array_messages, layout_body, messages_of}
 use Rattle.h5_repack.specs.Bodies.Headers.{is_stored, data_of}
+use Rattle.h5_repack.specs.Bodies.Sound.{IsPlainStorage}
 use Rattle.h5_layout.specs.Described.{Described}
 use Rattle.h5_repack.specs.declared.blocks.cells.Cells.{Cells}
 use Rattle.h5_repack.specs.declared.blocks.cells.Cells.TheVariants.{Unset, Filled, Stored}
-use Rattle.h5_repack.specs.Blocks.ArrayHeader.{group_written, array_list, header_written, messages_count, messages_size, data_written, address_written}
+use Rattle.h5_repack.specs.Blocks.ArrayHeader.{FitsLayout, group_written, array_list, cells_written, header_written, in_chunks, layout_written, messages_count, messages_size, data_written, address_written, storage_by}
 use Rattle.h5_repack.specs.Blocks.Others.{OthersBytes}
 use Rattle.h5_repack.specs.Blocks.Parts.{prefix_bytes}
 use Rattle.h5_repack.specs.Blocks.Written.{AreOthers, AreCellsToWrite, HasRoom}
@@ -30,61 +34,76 @@ group_is tree heap ms o are =
 
 -- ---- the header and the data of an array
 
+-- whether its cells are in chunks
+chunked_by : (l : Layout) (c : Cells) (count : ℕ) → in_chunks l ≡ is_chunked (storage_by l c count)
+chunked_by (InMessage bytes) c count = refl
+chunked_by (InBlock b) c count = refl
+chunked_by (InChunks chunk root) c count = refl
+
+-- the bytes of its cells
+cells_by : (c : Cells) (d : Dataset) → AreCellsToWrite c d → (a : Described) → a.fixed ≡ d.fixed → a.sizes ≡ d.sizes → a.fill ≡ d.fill → cells_written c a ≡ cells_bytes d.fixed d.cells
+cells_by Unset d are a fixed sizes fill = (λ i. cells_bytes (fixed i) (replicate (cells (sizes i)) (fill i))) ∙ ap (cells_bytes d.fixed) (sym are)
+cells_by Filled d are a fixed sizes fill = (λ i. cells_bytes (fixed i) (replicate (cells (sizes i)) (fill i))) ∙ ap (cells_bytes d.fixed) (sym are)
+cells_by (Stored bytes) d are a fixed sizes fill = are
+
 module _ (a : Described) (c : Cells) (d : Dataset) (is : IsNewArray a c d) where
+  pub cells_are : cells_written c a ≡ cells_bytes d.fixed d.cells
+  cells_are = cells_by c d is.cells_are a is.fixed_is is.sizes_are is.fill_is
+
+  chunked_is : in_chunks a.layout ≡ is_chunked d.storage
+  chunked_is = chunked_by a.layout c (cells a.sizes) ∙ ap is_chunked is.storage_is
+
+  layout_is : (address : Option ℕ) → layout_written a c address ≡ array_layout d address
+  layout_is address = λ i. layout_body (is.storage_is i) (is.fixed_is i) (cells (is.sizes_are i)) (cells_are i) address
+
   -- with any count, and any address
   pub header_is : (o : OthersBytes) (others : List (ℕ × List ℕ)) → AreOthers others o → (count : ℕ) (address : Option ℕ)
-      → header_written count a o address ≡ header_bytes count (array_messages d address (length others) ++ others)
+      → header_written count a c o address ≡ header_bytes count (array_messages d address (length others) ++ others)
   header_is o others are links address =
-      let own = array_list a o address in
+      let own = array_list a c o address in
       let bytes : messages_bytes own ++ o.bytes ≡ messages_bytes (own ++ others) = ap (λ xs. messages_bytes own ++ xs) are.bytes_are ∙ sym (messages_bytes-append own others) in
-      let count : messages_count a o address ≡ length (own ++ others) = ap (λ n. length own + n) are.count_is ∙ sym (length-append own others) in
-      let size : messages_size a o address ≡ length (messages_bytes (own ++ others)) = sym (length-append (messages_bytes own) o.bytes) ∙ ap length bytes in
+      let count : messages_count a c o address ≡ length (own ++ others) = ap (λ n. length own + n) are.count_is ∙ sym (length-append own others) in
+      let size : messages_size a c o address ≡ length (messages_bytes (own ++ others)) = sym (length-append (messages_bytes own) o.bytes) ∙ ap length bytes in
       (λ i. prefix_bytes links (count i) (size i) ++ bytes i)
-      ∙ (λ i. header_bytes links (messages_of (is.fixed_is i) (is.sizes_are i) (is.maxima_are i) (is.fill_is i) address (are.count_is i) ++ others))
+      ∙ (λ i. header_bytes links (messages_of (is.fixed_is i) (is.sizes_are i) (is.maxima_are i) (is.fill_is i) (chunked_is i) (layout_is address i) (are.count_is i) ++ others))
 
-no_cells : (count : ℕ) → nat_lt 0 count ≡ false → count ≡ 0
-no_cells count none = grind (arith, nat_tests)
+  pub data_is : data_written c a ≡ data_of d
+  data_is = λ i. if is_stored (is.storage_is i) then cells_are i else []
 
--- the cells where the dataset stores them
-abbrev data_by : Dataset → Storage → List ℕ
-data_by d s = if is_stored s then cells_bytes d.fixed d.cells else []
+  -- the address of the data, which stand at this place where they are stored
+  pub address_is : (place : ℕ) → address_written a c place ≡ (if is_stored d.storage then Some place else None)
+  address_is place = ap (λ s. if is_stored s then Some place else None) is.storage_is
 
-data_is_by : (c : Cells) (a : Described) (d : Dataset) → AreCellsToWrite c d → a.fixed ≡ d.fixed → a.sizes ≡ d.sizes → a.fill ≡ d.fill → data_written c a ≡ data_of d
-data_is_by Unset a d are fixed sizes fill = ap (data_by d) (sym are)
-data_is_by Filled a d are fixed sizes fill =
-    let n : ℕ = cells d.sizes in
-    let same : cells_bytes d.fixed (replicate n d.fill) ≡ cells_bytes d.fixed d.cells = ap (cells_bytes d.fixed) (sym are.1) in
-    (λ i. cells_bytes (fixed i) (replicate (cells (sizes i)) (fill i)))
-    ∙ elim (nat_lt 0 n) as (λ b. nat_lt 0 n ≡ b → cells_bytes d.fixed (replicate n d.fill) ≡ (if b then cells_bytes d.fixed d.cells else [])) [
-      | true ↦ λ some. same
-      | false ↦ λ none. ap (λ k. cells_bytes d.fixed (replicate k d.fill)) (no_cells n none)
-    ] refl ∙ ap (data_by d) (sym are.0)
-data_is_by (Stored bytes) a d are fixed sizes fill = are.1 ∙ ap (data_by d) (sym are.0)
+-- ---- what the layout says, by its form
 
-same_address : (count place : ℕ) → (if count == 0 then None else Some place) ≡ (if nat_lt 0 count then Some place else None)
-same_address count place = elim (count == 0) as (λ b. (count == 0) ≡ b → (if b then None else Some place) ≡ (if nat_lt 0 count then Some place else None)) [
-  | true ↦ λ none. let no : nat_lt 0 count ≡ false = grind (arith, nat_tests) in rw no refl
-  | false ↦ λ some. let yes : nat_lt 0 count ≡ true = grind (arith, nat_tests) in rw yes refl
-] refl
+module _ (a : Described) (c : Cells) (address : Option ℕ) where
+  abbrev laid_by : Layout → List ℕ
+  laid_by l = layout_body (storage_by l c (cells a.sizes)) a.fixed (cells a.sizes) (cells_written c a) address
 
-address_by : (c : Cells) (d : Dataset) (place : ℕ) → AreCellsToWrite c d → address_written c (cells d.sizes) place ≡ (if is_stored d.storage then Some place else None)
-address_by Unset d place are = ap (λ s. if is_stored s then Some place else None) (sym are)
-address_by Filled d place are = same_address (cells d.sizes) place ∙ ap (λ s. if is_stored s then Some place else None) (sym are.0)
-address_by (Stored bytes) d place are = ap (λ s. if is_stored s then Some place else None) (sym are.0)
+  pub block_laid : (b : Option Block) (len : ℕ) → a.layout ≡ InBlock b → len ≡ cells a.sizes * (a.fixed).size → contiguous_bytes address len ≡ layout_written a c address
+  block_laid b len is long = ap (contiguous_bytes address) long ∙ sym (ap laid_by is)
+
+  pub chunks_laid : (chunk : List ℕ) (root : Option ℕ) (t : Fixed) → a.layout ≡ InChunks chunk root → t ≡ a.fixed → chunked_bytes chunk address t.size ≡ layout_written a c address
+  chunks_laid chunk root t is same = ap (λ (k : Fixed). chunked_bytes chunk address k.size) same ∙ sym (ap laid_by is)
 
 -- there are as many bytes as the cells have
 room_by : (c : Cells) (d : Dataset) → AreCellsToWrite c d → length d.cells ≡ cells d.sizes → HasRoom c (cells d.sizes * (d.fixed).size)
 room_by Unset d are counted = tt
 room_by Filled d are counted = tt
-room_by (Stored bytes) d are counted = ap length are.1 ∙ length-cells_bytes d.fixed d.cells ∙ ap (λ n. n * (d.fixed).size) counted
+room_by (Stored bytes) d are counted = ap length are ∙ length-cells_bytes d.fixed d.cells ∙ ap (λ n. n * (d.fixed).size) counted
+
+-- and the layout can be written
+fits_by : (l : Layout) (c : Cells) (t : Fixed) (d : Dataset) → d.fixed ≡ t → IsPlainStorage d (storage_by l c (cells d.sizes)) → FitsLayout (cells d.sizes * t.size) l
+fits_by (InMessage bytes) c t d same plain = subst (λ (k : Fixed). cells d.sizes * k.size ≤ 65524) same plain
+fits_by (InBlock b) c t d same plain = tt
+fits_by (InChunks chunk root) c t d same plain = ((plain.0).ranked, (plain.0).some)
 
 module _ (a : Described) (c : Cells) (d : Dataset) (is : IsNewArray a c d) where
-  pub data_is : data_written c a ≡ data_of d
-  data_is = data_is_by c a d is.cells_are is.fixed_is is.sizes_are is.fill_is
-
-  -- the address of the data, which stand at this place where they are stored
-  pub address_is : (place : ℕ) → address_written c (cells a.sizes) place ≡ (if is_stored d.storage then Some place else None)
-  address_is place = ap (λ sizes. address_written c (cells sizes) place) is.sizes_are ∙ address_by c d place is.cells_are
-
   pub room_is : length d.cells ≡ cells d.sizes → HasRoom c (cells a.sizes * (a.fixed).size)
   room_is counted = subst (λ n. HasRoom c n) (λ i. cells (sym is.sizes_are i) * (sym is.fixed_is i).size) (room_by c d is.cells_are counted)
+
+  pub fits_is : IsPlainStorage d d.storage → FitsLayout (cells a.sizes * (a.fixed).size) a.layout
+  fits_is plain =
+      let own : IsPlainStorage d (storage_by a.layout c (cells d.sizes))
+      = subst (IsPlainStorage d) (sym is.storage_is ∙ ap (λ (ds : List ℕ). storage_by a.layout c (cells ds)) is.sizes_are) plain in
+      subst (λ (ds : List ℕ). FitsLayout (cells ds * (a.fixed).size) a.layout) (sym is.sizes_are) (fits_by a.layout c a.fixed d (sym is.fixed_is) own)

@@ -1,6 +1,6 @@
 -- The header of an array in the plain layout, with its data where they are stored, reads as that array (File Format Specification 3.0,
 -- sections IV.A.1.a, IV.A.2.b, IV.A.2.d, IV.A.2.f and IV.A.2.i).
-use Rattle.std.proofs.Common.{◌≡◌, ℕ, ◌+◌, ◌*◌, ◌%◌, ◌^◌, ◌<◌, ◌≤◌, ◌==◌, ◌||◌, List, [], ◌∷◌, ◌++◌, length, replicate, get_or, refl, sym, ap, ◌∙◌, subst, arith, Bool, true, false, Option, Some, None, ℤ, pos}
+use Rattle.std.proofs.Common.{◌≡◌, ℕ, ◌+◌, ◌*◌, ◌%◌, ◌^◌, ◌<◌, ◌≤◌, ◌==◌, ◌||◌, List, [], ◌∷◌, ◌++◌, length, map, replicate, get_or, refl, sym, ap, ◌∙◌, subst, arith, Bool, true, false, Option, Some, None, ℤ, pos}
 use Rattle.std.proofs.lemmas.Bool.Decides.{nat_tests}
 use Rattle.std.proofs.lemmas.Slice.Zip.{AllZip-long}
 use Rattle.std.proofs.lemmas.List.{length-append, get_or-replicate}
@@ -8,37 +8,43 @@ use Rattle.std.proofs.lemmas.List.FromFn.{fill_by_all}
 use Rattle.std.proofs.Math.Nat.{mul-le-mul}
 use Rattle.std.specs.Prelude.{nat_lt, if◌then◌else◌, option_and_then}
 use Rattle.std.specs.Ordering.{nat_cmp}
-use Rattle.std.specs.List.{AllByRecursion, AllZip}
-use Rattle.std.specs.FinMap.{FinMap, empty}
+use Rattle.std.specs.List.{AllByRecursion, AllZip, range_with_len}
+use Rattle.std.specs.FinMap.{FinMap, empty, get, get-empty}
+use Rattle.std.specs.Cmp.Lexicographic.{slice_cmp}
 use Rattle.h5_bytes.specs.Bytes.{part}
-use Rattle.h5_bytes.specs.Blocks.{block}
+use Rattle.h5_bytes.proofs.PartLaws.{part-whole}
+use Rattle.h5_bytes.specs.Blocks.{block, Run}
 use Rattle.h5_bytes.specs.Texts.{pad8}
 use Rattle.h5_bytes.specs.declared.Block.{Block}
-use Rattle.h5_model.specs.Format.Cells.{cells_of}
+use Rattle.h5_model.specs.Format.Cells.{cells_of, value_in_chunk}
+use Rattle.h5_model.specs.Format.Chunks.{Chunks}
+use Rattle.h5_model.specs.Tree.Grid.{corner_of, inner_of}
 use Rattle.h5_model.specs.Format.Fill.{fill_value, old_fill_value, chosen_fill}
 use Rattle.h5_model.specs.Format.Fixed.{Fixed, IsFixed, fits}
-use Rattle.h5_model.specs.Format.Layout.{InBlock, layout_of}
+use Rattle.h5_model.specs.Edits.Refusal.{is_chunked}
+use Rattle.h5_model.specs.Format.Layout.{Layout, InMessage, InBlock, InChunks, layout_of}
 use Rattle.h5_model.specs.Format.Messages.{Message, HasMessages, prefix_at, reference_count, count_of, first_body}
-use Rattle.h5_model.specs.Tree.Places.{cells, extent_cells}
-use Rattle.h5_model.specs.Format.Bodies.{raised, datatype_bytes, fill_bytes, contiguous_bytes}
+use Rattle.h5_model.specs.Tree.Places.{cells, extent_cells, index_of, place_of}
+use Rattle.h5_model.specs.Format.Bodies.{raised, datatype_bytes, fill_bytes, compact_bytes, contiguous_bytes, chunked_bytes}
 use Rattle.h5_model.specs.Format.Plain.{header_bytes, cells_bytes}
-use Rattle.h5_model.specs.Format.Reads.{HasObject, HasContent, HasDataset, HasData, InDataset, IsFill, storage_of}
+use Rattle.h5_model.specs.Format.Reads.{HasObject, HasContent, HasDataset, HasData, InDataset, IsChunkSmall, IsFill, storage_of}
 use Rattle.h5_model.specs.Format.Sizes.{header_size}
 use Rattle.h5_model.specs.Tree.Sound.{AreOf}
-use Rattle.h5_model.specs.Tree.Objects.{Object, Content, Array, Dataset, Contiguous}
+use Rattle.h5_model.specs.Tree.Objects.{Object, Content, Array, Dataset, Storage, Compact, Contiguous, Chunked}
 use Rattle.h5_model.proofs.PlainMessages.{messages_from, header_reads, header_counted}
 use Rattle.h5_model.proofs.PlainValues.{size-low, size-high, length-cells_bytes, cells_of-cells_bytes}
 use Rattle.h5_msg.proofs.DatatypeLaws.{fixed_back}
 use Rattle.h5_msg.proofs.FillLaws.{fill_back, length-fill_bytes}
-use Rattle.h5_msg.proofs.LayoutLaws.{IsAddress, contiguous_back}
+use Rattle.h5_msg.proofs.LayoutLaws.{IsAddress, compact_back, contiguous_back, chunked_back}
 use Rattle.h5_model.proofs.PaddedLaws.{length-raised}
 use Rattle.h5_shape.proofs.Products.{cells_le}
-use Rattle.h5_repack.specs.Bodies.Bodies.{others_of, space_body, type_message, fill_message, layout_message}
+use Rattle.h5_repack.specs.Bodies.Bodies.{others_of, space_body, type_message, fill_message, array_layout}
 use Rattle.h5_repack.specs.Bodies.Laws.{ArrayReads, counted_header}
 use Rattle.h5_repack.specs.Bodies.Headers.{is_stored, data_of}
-use Rattle.h5_repack.specs.Bodies.Sound.{IsBound, IsPlainObject, IsPlainArray}
+use Rattle.h5_repack.specs.Bodies.Sound.{IsBound, IsPlainObject, IsPlainStorage, ArePlainChunks}
 use Rattle.h5_repack.proofs.BodyLaws.HeaderAttributes.{sizes_small}
-use Rattle.h5_repack.proofs.BodyLaws.HeaderLengths.{in_block, block_is, array_length}
+use Rattle.h5_repack.proofs.BodyLaws.HeaderLengths.{IsHead, head_of, length-layout, array_length}
+use Rattle.h5_repack.proofs.BodyLaws.ChunkSizes.{chunk_sizes_low}
 use Rattle.h5_repack.proofs.BodyLaws.HeaderOthers.{IsContentMessage, is_other_kind, is_kept_kind, each_message, others_pass, all_plain, has_attributes, has_kept, count_of-content, first_body-content}
 use Rattle.h5_repack.proofs.BodyLaws.HeaderSpace.{space_back, space_padded}
 
@@ -50,57 +56,64 @@ other_in_dataset : (kind : ℕ) → is_other_kind kind ≡ true → in_dataset k
 unfolding in_dataset
 other_in_dataset kind is = grind (arith, nat_tests)
 
-module _ (t : Fixed) (sizes : List ℕ) (maxima : List (Option ℕ)) (fill : ℤ) (is : IsFixed t) (of : fits t fill ≡ true)
-    (rank : length sizes ≤ 32) (bound : AllZip IsBound sizes maxima) where
-  -- the bytes of all cells
-  abbrev bytes : ℕ
-  bytes = cells sizes * t.size
+-- a body that a layout message may have
+abbrev pub IsLayoutBody : List ℕ → Type 0
+IsLayoutBody body = length body ≤ 65528
+
+-- ---- any array, whatever its layout
+
+module _ (t : Fixed) (sizes : List ℕ) (maxima : List (Option ℕ)) (fill : ℤ) (chunked : Bool) (body : List ℕ) (is : IsFixed t) (of : fits t fill ≡ true)
+    (rank : length sizes ≤ 32) (bound : AllZip IsBound sizes maxima) (short_body : IsLayoutBody body) where
+  abbrev time : ℕ
+  time = if chunked then 3 else 1
 
   -- the messages, with a fill or without
   abbrev fills : Bool → List (ℕ × List ℕ)
-  fills without = if without then [] else fill_message t fill ∷ []
+  fills without = if without then [] else fill_message chunked t fill ∷ []
 
-  abbrev bodies : Bool → Option ℕ → List (ℕ × List ℕ)
-  bodies without address = (1, space_body sizes maxima) ∷ type_message t ∷ (fills without ++ layout_message address bytes ∷ [])
+  abbrev bodies : Bool → List (ℕ × List ℕ)
+  bodies without = (1, space_body chunked sizes maxima) ∷ type_message t ∷ (fills without ++ (8, raised body) ∷ [])
 
   -- ---- they are messages of a content
 
-  space_content : IsContentMessage (1, space_body sizes maxima)
+  space_content : IsContentMessage (1, space_body chunked sizes maxima)
   space_content =
-      let long = space_padded sizes maxima rank (AllZip-long IsBound sizes maxima bound) in
+      let long = space_padded chunked sizes maxima rank (AllZip-long IsBound sizes maxima bound) in
       record { plain = record { kind = omega arith; own = refl; padded = long.0; low = long.1 }; kind = refl }
 
   type_content : IsContentMessage (type_message t)
   type_content = record { plain = record { kind = omega arith; own = refl; padded = refl; low = omega arith }; kind = refl }
 
-  fill_content : IsContentMessage (fill_message t fill)
+  fill_content : IsContentMessage (fill_message chunked t fill)
   fill_content =
-      let long : length (raised (fill_bytes 1 t fill)) ≡ 16
-      = length-raised (fill_bytes 1 t fill) ∙ ap pad8 (length-fill_bytes 1 t fill) ∙ omega (arith, size-low t is, size-high t is) in
+      let long : length (raised (fill_bytes time t fill)) ≡ 16
+      = length-raised (fill_bytes time t fill) ∙ ap pad8 (length-fill_bytes time t fill) ∙ omega (arith, size-low t is, size-high t is) in
       record { plain = record { kind = omega arith; own = refl; padded = ap (λ n. n % 8) long; low = omega arith }; kind = refl }
 
-  layout_content : (address : Option ℕ) → IsContentMessage (layout_message address bytes)
-  layout_content address = record { plain = record { kind = omega arith; own = refl; padded = refl; low = omega arith }; kind = refl }
+  layout_content : IsContentMessage (8, raised body)
+  layout_content =
+      let long = length-raised body in
+      record { plain = record { kind = omega arith; own = refl; padded = omega (arith, long); low = omega (arith, long, short_body) }; kind = refl }
 
-  content : (without : Bool) (address : Option ℕ) → AllByRecursion IsContentMessage (bodies without address)
-  content true address = (space_content, (type_content, (layout_content address, tt)))
-  content false address = (space_content, (type_content, (fill_content, (layout_content address, tt))))
+  content : (without : Bool) → AllByRecursion IsContentMessage (bodies without)
+  content true = (space_content, (type_content, (layout_content, tt)))
+  content false = (space_content, (type_content, (fill_content, (layout_content, tt))))
 
   -- ---- which there are
 
-  few_bodies : (without : Bool) (address : Option ℕ) (others : ℕ) → nat_lt 65535 (4 + others) ≡ without → 3 + others ≤ 65535 → length (bodies without address) + others < 65536
-  few_bodies true address others e few = omega (arith, few)
-  few_bodies false address others e few = grind (arith, nat_tests, e)
+  few_bodies : (without : Bool) (others : ℕ) → nat_lt 65535 (4 + others) ≡ without → 3 + others ≤ 65535 → length (bodies without) + others < 65536
+  few_bodies true others e few = omega (arith, few)
+  few_bodies false others e few = grind (arith, nat_tests, e)
 
   module _ (others : List (ℕ × List ℕ)) (all : AllByRecursion (λ (m : ℕ × List ℕ). in_dataset m.0 ≡ true) others) where
-    known : (without : Bool) (address : Option ℕ) → AllByRecursion (λ (m : ℕ × List ℕ). in_dataset m.0 ≡ true) (bodies without address ++ others)
+    known : (without : Bool) → AllByRecursion (λ (m : ℕ × List ℕ). in_dataset m.0 ≡ true) (bodies without ++ others)
     unfolding in_dataset
-    known true address = (refl, (refl, (refl, all)))
-    known false address = (refl, (refl, (refl, (refl, all))))
+    known true = (refl, (refl, (refl, all)))
+    known false = (refl, (refl, (refl, (refl, all))))
 
-  module _ (place : ℕ) (address : Option ℕ) where
+  module _ (place : ℕ) where
     abbrev ms : Bool → List Message
-    ms without = messages_from place (bodies without address)
+    ms without = messages_from place (bodies without)
 
     one_space : (without : Bool) → count_of 1 (ms without) ≡ 1
     one_space true = refl
@@ -131,113 +144,71 @@ module _ (t : Fixed) (sizes : List ℕ) (maxima : List (Option ℕ)) (fill : ℤ
 
     new_fill_read : (without : Bool) → IsFill (fill_value t) (first_body 5 (ms without)) (new_fill without)
     new_fill_read true = refl
-    new_fill_read false = (fill_back 1 t fill _ (raised (fill_bytes 1 t fill)) is of refl, refl)
+    new_fill_read false = (fill_back time t fill _ (raised (fill_bytes time t fill)) is of refl, refl)
 
     chosen : (without : Bool) → (without ≡ true → fill ≡ pos 0) → fill ≡ chosen_fill (new_fill without) None
     chosen true unwritten = unwritten refl
     chosen false unwritten = refl
 
-    layout_found : (without : Bool) → first_body 8 (ms without) ≡ Some (raised (contiguous_bytes address bytes))
+    layout_found : (without : Bool) → first_body 8 (ms without) ≡ Some (raised body)
     layout_found true = refl
     layout_found false = refl
 
-  -- ---- its data
+  -- ---- the header
 
-  module _ (image : List ℕ) (place : ℕ) (cs : List ℤ) (all : AreOf t cs) (counted : length cs ≡ cells sizes) (few : extent_cells sizes ≤ 2 ^ 40) where
-    abbrev address : Bool → Option ℕ
-    address stored = if stored then Some place else None
+  module _ (at : ℕ) (p : Object) (plain : IsPlainObject p) (without : Bool) where
+    abbrev own : List (ℕ × List ℕ)
+    own = bodies without
 
-    abbrev stored_bytes : Bool → List ℕ
-    stored_bytes stored = if stored then cells_bytes t cs else []
+    abbrev messages : List Message
+    messages = messages_from (at + 16) (own ++ others_of p)
 
-    abbrev there : Bool → Option Block
-    there stored = if stored then Some (block place bytes) else None
+    own_content : AllByRecursion IsContentMessage own
+    own_content = content without
 
-    abbrev blocks : Bool → List Block
-    blocks stored = if stored then block place (length (stored_bytes stored)) ∷ [] else []
+    counted_own : (k : ℕ) → is_other_kind k ≡ false → count_of k messages ≡ count_of k (messages_from (at + 16) own)
+    counted_own k kind = count_of-content p plain (at + 16) own own_content k kind
 
-    long : length (cells_bytes t cs) ≡ bytes
-    long = length-cells_bytes t cs ∙ ap (λ n. n * t.size) counted
+    found_own : (k : ℕ) → is_other_kind k ≡ false → first_body k messages ≡ first_body k (messages_from (at + 16) own)
+    found_own k kind = first_body-content p plain (at + 16) own own_content k kind
 
-    room : bytes ≤ 2 ^ 40 * 8
-    room = let cells_few : cells sizes ≤ 2 ^ 40 = omega (arith, few, cells_le sizes) in mul-le-mul cells_few (size-high t is)
+    all_known : AllByRecursion InDataset messages
+    unfolding in_dataset
+    all_known = each_message in_dataset (at + 16) (own ++ others_of p)
+        (known (others_of p) (others_pass p plain in_dataset other_in_dataset) without)
 
-    -- as the layout says, there is a block of them or none
-    laid_out : (stored : Bool) → place < 2 ^ 63 → layout_of sizes t.size (raised (contiguous_bytes (address stored) bytes)) ≡ Some (InBlock (there stored))
-    laid_out true low =
-        let there : IsAddress (Some place) = λ n e. let same : place ≡ n = cc in omega (arith, low, same) in
-        contiguous_back (Some place) bytes 24 (raised (contiguous_bytes (Some place) bytes)) sizes t.size there (omega (arith, room)) refl (omega arith)
-    laid_out false low =
-        let there : IsAddress None = λ n e. absurd (cc) in
-        contiguous_back None bytes 24 (raised (contiguous_bytes None bytes)) sizes t.size there (omega (arith, room)) refl (omega arith)
+    -- what the layout says: the cells, how they are stored, and in which blocks
+    module _ (image : List ℕ) (storage : Storage) (cs : List ℤ) (few : extent_cells sizes ≤ 2 ^ 40) (layout : Layout) (held : Chunks) (blocks : List Block) where
+      abbrev array : Dataset
+      array = record { fixed = t; sizes = sizes; maxima = maxima; storage = storage; fill = fill; cells = cs }
 
-    storage_is : (stored : Bool) → (stored ≡ true → 1 ≤ cells sizes) → Contiguous stored ≡ storage_of sizes (InBlock (there stored))
-    storage_is true filled =
-        let some : true ≡ nat_lt 0 (cells sizes) = let one : 1 ≤ cells sizes = filled refl in grind (arith, nat_tests, one) in
-        ap (λ b. Contiguous b) some
-    storage_is false filled = refl
-
-    has_data : (stored : Bool) → HasData image t (InBlock (there stored)) empty (blocks stored)
-    has_data true = (refl, ap (λ n. block place n ∷ []) long)
-    has_data false = (refl, refl)
-
-    cells_are : (stored : Bool) → part place (length (stored_bytes stored)) image ≡ stored_bytes stored → (stored ≡ false → cs ≡ replicate (cells sizes) fill)
-        → cs ≡ cells_of image t fill sizes (InBlock (there stored)) empty
-    cells_are true stands unset =
-        cells_of-cells_bytes image t fill sizes (block place bytes) empty cs (size-low t is) all counted (ap (λ n. part place n image) (sym long) ∙ stands)
-    cells_are false stands unset =
-        fill_by_all (λ (k : ℕ). fill) cs (cells sizes) fill counted (λ k low. ap (λ (vs : List ℤ). get_or vs k fill) (unset refl) ∙ get_or-replicate (cells sizes) k fill fill low)
-
-    -- ---- the header
-
-    module _ (at : ℕ) (p : Object) (plain : IsPlainObject p) (low : place < 2 ^ 63) (without stored : Bool) where
-      abbrev own : List (ℕ × List ℕ)
-      own = bodies without (address stored)
-
-      abbrev messages : List Message
-      messages = messages_from (at + 16) (own ++ others_of p)
-
-      own_content : AllByRecursion IsContentMessage own
-      own_content = content without (address stored)
-
-      counted_own : (k : ℕ) → is_other_kind k ≡ false → count_of k messages ≡ count_of k (messages_from (at + 16) own)
-      counted_own k kind = count_of-content p plain (at + 16) own own_content k kind
-
-      found_own : (k : ℕ) → is_other_kind k ≡ false → first_body k messages ≡ first_body k (messages_from (at + 16) own)
-      found_own k kind = first_body-content p plain (at + 16) own own_content k kind
-
-      all_known : AllByRecursion InDataset messages
-      unfolding in_dataset
-      all_known = each_message in_dataset (at + 16) (own ++ others_of p)
-          (known (others_of p) (others_pass p plain in_dataset other_in_dataset) without (address stored))
-
-      dataset : (stored ≡ true → 1 ≤ cells sizes) → (stored ≡ false → cs ≡ replicate (cells sizes) fill) → (without ≡ true → fill ≡ pos 0)
-          → part place (length (stored_bytes stored)) image ≡ stored_bytes stored → HasDataset image messages (in_block t sizes maxima stored fill cs) (blocks stored)
-      dataset filled unset unwritten stands =
-          let old = counted_own 4 refl ∙ no_old_fill (at + 16) (address stored) without in
+      dataset : layout_of sizes t.size (raised body) ≡ Some layout → storage ≡ storage_of sizes layout → IsChunkSmall t layout → HasData image t layout held blocks
+          → cs ≡ cells_of image t fill sizes layout held → (without ≡ true → fill ≡ pos 0) → HasDataset image messages array blocks
+      dataset laid stored small data_there cells_are unwritten =
+          let old = counted_own 4 refl ∙ no_old_fill (at + 16) without in
           let new = counted_own 5 refl in
           record {
             known = all_known;
-            one_space = counted_own 1 refl ∙ one_space (at + 16) (address stored) without;
-            one_type = counted_own 3 refl ∙ one_type (at + 16) (address stored) without;
-            one_layout = counted_own 8 refl ∙ one_layout (at + 16) (address stored) without;
+            one_space = counted_own 1 refl ∙ one_space (at + 16) without;
+            one_type = counted_own 3 refl ∙ one_type (at + 16) without;
+            one_layout = counted_own 8 refl ∙ one_layout (at + 16) without;
             old_fills = omega (arith, old);
-            fills = omega (arith, new, one_fill (at + 16) (address stored) without);
-            space = space_back sizes maxima rank (sizes_small sizes few) bound;
+            fills = omega (arith, new, one_fill (at + 16) without);
+            space = space_back chunked sizes maxima rank (sizes_small sizes few) bound;
             type = fixed_back t 16 (raised (datatype_bytes t)) is refl;
             old_fill = None;
-            new_fill = new_fill (at + 16) (address stored) without;
-            old_filled = subst (λ body. IsFill (old_fill_value t) body None) (sym (found_own 4 refl)) (old_fill_read (at + 16) (address stored) without);
-            new_filled = subst (λ body. IsFill (fill_value t) body (new_fill (at + 16) (address stored) without)) (sym (found_own 5 refl)) (new_fill_read (at + 16) (address stored) without);
-            filled = chosen (at + 16) (address stored) without unwritten;
-            layout = InBlock (there stored);
-            laid_out = ap (option_and_then (layout_of sizes t.size)) (found_own 8 refl ∙ layout_found (at + 16) (address stored) without) ∙ laid_out stored low;
-            storage = storage_is stored filled;
+            new_fill = new_fill (at + 16) without;
+            old_filled = subst (λ body. IsFill (old_fill_value t) body None) (sym (found_own 4 refl)) (old_fill_read (at + 16) without);
+            new_filled = subst (λ body. IsFill (fill_value t) body (new_fill (at + 16) without)) (sym (found_own 5 refl)) (new_fill_read (at + 16) without);
+            filled = chosen (at + 16) without unwritten;
+            layout = layout;
+            laid_out = ap (option_and_then (layout_of sizes t.size)) (found_own 8 refl ∙ layout_found (at + 16) without) ∙ laid;
+            storage = stored;
             small = few;
-            chunk_small = tt;
-            chunks = empty;
-            stored = has_data stored;
-            cells = cells_are stored stands unset;
+            chunk_small = small;
+            chunks = held;
+            stored = data_there;
+            cells = cells_are;
           }
 
       module _ (count : ℕ) where
@@ -250,64 +221,178 @@ module _ (t : Fixed) (sizes : List ℕ) (maxima : List (Option ℕ)) (fill : ℤ
           listed : HasMessages image at messages (block at (length header) ∷ [])
           listed =
               let many = length-append own (others_of p) in
-              let enough = few_bodies without (address stored) (length (others_of p)) fits_in most in
+              let enough = few_bodies without (length (others_of p)) fits_in most in
               header_reads image at count (own ++ others_of p) whole (all_plain p plain (at + 16) own own_content) (omega (arith, many, enough)) (omega (arith, short))
 
           counted_so : count < 2 ^ 32 → reference_count (prefix_at image at) ≡ count
           counted_so few_links = header_counted image at count (own ++ others_of p) whole few_links
 
-          object : (table : FinMap nat_cmp ℕ) → p.content ≡ Array (in_block t sizes maxima stored fill cs) → HasDataset image messages (in_block t sizes maxima stored fill cs) (blocks stored)
-              → HasObject image table at p (block at (length header) ∷ blocks stored)
+          object : (table : FinMap nat_cmp ℕ) → p.content ≡ Array array → HasDataset image messages array blocks
+              → HasObject image table at p (block at (length header) ∷ blocks)
           object table e has = record {
             messages = messages;
             header_blocks = block at (length header) ∷ [];
             listed = listed;
-            content_blocks = blocks stored;
-            content = subst (λ (c : Content). HasContent image table messages c (blocks stored)) (sym e) has;
+            content_blocks = blocks;
+            content = subst (λ (c : Content). HasContent image table messages c blocks) (sym e) has;
             attributes = has_attributes p plain (at + 16) own own_content;
             kept = has_kept p plain (at + 16) own own_content;
             laid = refl;
           }
 
--- ---- any array in one block
+-- ---- what is read of its layout
 
--- a header of so many bytes and with this count, and the data, are those of this array, and the header has that count
-abbrev IsRead : List ℕ → FinMap nat_cmp ℕ → ℕ → ℕ → ℕ → ℕ → Object → Dataset → Type 0
-IsRead image table at place count size p d =
-    p.content ≡ Array d → length (counted_header count p d (if is_stored d.storage then Some place else None)) ≡ size
-    → part at size image ≡ counted_header count p d (if is_stored d.storage then Some place else None)
-    → part place (length (data_of d)) image ≡ data_of d
-    → HasObject image table at p (block at size ∷ (if is_stored d.storage then block place (length (data_of d)) ∷ [] else []))
-    × (reference_count (prefix_at image at) ≡ count)
+-- The layout message of an array with this address says this of it, and its data are these blocks from the place to the end, without gaps.
+pub record IsLaid (image : List ℕ) (place end : ℕ) (address : Option ℕ) (d : Dataset) : Type 0 where
+  pub layout : Layout
+  pub chunks : Chunks
+  pub blocks : List Block
+  pub run : Run place blocks end
+  pub short : IsLayoutBody (array_layout d address)
+  pub says : layout_of d.sizes (d.fixed).size (raised (array_layout d address)) ≡ Some layout
+  pub storage : d.storage ≡ storage_of d.sizes layout
+  pub small : IsChunkSmall d.fixed layout
+  pub stored : HasData image d.fixed layout chunks blocks
+  pub cells_are : d.cells ≡ cells_of image d.fixed d.fill d.sizes layout chunks
 
-module _ (image : List ℕ) (table : FinMap nat_cmp ℕ) (at place count size : ℕ) (p : Object) (plain : IsPlainObject p) (d : Dataset) (is : IsPlainArray d (length (others_of p)))
-    (most : 3 + length (others_of p) ≤ 65535) (few_links : count < 2 ^ 32) (short : size < 2 ^ 31) (low : place < 2 ^ 63) where
-  abbrev same : Dataset
-  same = in_block d.fixed d.sizes d.maxima is.stored d.fill d.cells
+module _ (image : List ℕ) (place : ℕ) (t : Fixed) (sizes : List ℕ) (maxima : List (Option ℕ)) (fill : ℤ) (cs : List ℤ) (is : IsFixed t) (all : AreOf t cs)
+    (counted : length cs ≡ cells sizes) (few : extent_cells sizes ≤ 2 ^ 40) where
+  abbrev bytes : List ℕ
+  bytes = cells_bytes t cs
 
+  abbrev array_by : Storage → Dataset
+  array_by storage = record { fixed = t; sizes = sizes; maxima = maxima; storage = storage; fill = fill; cells = cs }
+
+  long : length bytes ≡ cells sizes * t.size
+  long = length-cells_bytes t cs ∙ ap (λ n. n * t.size) counted
+
+  room : cells sizes * t.size ≤ 2 ^ 40 * 8
+  room = let cells_few : cells sizes ≤ 2 ^ 40 = omega (arith, few, cells_le sizes) in mul-le-mul cells_few (size-high t is)
+
+  -- each cell reads the fill where none is stored
+  filled : cs ≡ replicate (cells sizes) fill → (read : ℕ → ℤ) → ((k : ℕ) → fill ≡ read k) → cs ≡ map read (range_with_len 0 (cells sizes))
+  filled unset read is =
+      fill_by_all read cs (cells sizes) fill counted (λ k low. ap (λ (vs : List ℤ). get_or vs k fill) unset ∙ get_or-replicate (cells sizes) k fill fill low ∙ is k)
+
+  compact_laid : cells sizes * t.size ≤ 65524 → IsLaid image place (place + 0) None (array_by Compact)
+  compact_laid low =
+      let whole : part 0 (length bytes) bytes ≡ bytes = part-whole bytes in
+      record {
+        layout = InMessage bytes;
+        chunks = empty;
+        blocks = [];
+        run = omega arith;
+        short = omega (arith, low, long);
+        says = compact_back bytes _ (raised (compact_bytes bytes)) sizes t.size (omega (arith, low, long)) refl (sym long);
+        storage = refl;
+        small = tt;
+        stored = (refl, refl);
+        cells_are = cells_of-cells_bytes bytes t fill sizes (block 0 (length bytes)) empty cs (size-low t is) all counted whole
+            ∙ ap (λ (ds : List ℕ). cells_of image t fill sizes (InMessage ds) empty) whole;
+      }
+
+  block_laid : place < 2 ^ 63 → 1 ≤ cells sizes → part place (length bytes) image ≡ bytes → IsLaid image place (place + length bytes) (Some place) (array_by (Contiguous true))
+  block_laid low some stands =
+      let len : ℕ = cells sizes * t.size in
+      let there : IsAddress (Some place) = λ n e. let same : place ≡ n = cc in omega (arith, low, same) in
+      let any : true ≡ nat_lt 0 (cells sizes) = grind (arith, nat_tests, some) in
+      record {
+        layout = InBlock (Some (block place len));
+        chunks = empty;
+        blocks = block place (length bytes) ∷ [];
+        run = (refl, refl);
+        short = omega arith;
+        says = contiguous_back (Some place) len 24 (raised (contiguous_bytes (Some place) len)) sizes t.size there (omega (arith, room)) refl (omega arith);
+        storage = ap (λ b. Contiguous b) any;
+        small = tt;
+        stored = (refl, ap (λ n. block place n ∷ []) long);
+        cells_are = cells_of-cells_bytes image t fill sizes (block place len) empty cs (size-low t is) all counted (ap (λ n. part place n image) (sym long) ∙ stands);
+      }
+
+  nowhere_laid : cs ≡ replicate (cells sizes) fill → IsLaid image place (place + 0) None (array_by (Contiguous false))
+  nowhere_laid unset =
+      let len : ℕ = cells sizes * t.size in
+      let there : IsAddress None = λ n e. absurd (cc) in
+      record {
+        layout = InBlock None;
+        chunks = empty;
+        blocks = [];
+        run = omega arith;
+        short = omega arith;
+        says = contiguous_back None len 24 (raised (contiguous_bytes None len)) sizes t.size there (omega (arith, room)) refl (omega arith);
+        storage = refl;
+        small = tt;
+        stored = (refl, refl);
+        cells_are = filled unset (λ k. fill) (λ k. refl);
+      }
+
+  chunks_laid : (chunk : List ℕ) → length chunk ≡ length sizes → length sizes ≤ 32 → ArePlainChunks t chunk → cs ≡ replicate (cells sizes) fill → IsLaid image place (place + 0) None (array_by (Chunked chunk))
+  chunks_laid chunk same rank plain unset =
+      let there : IsAddress None = λ n e. absurd (cc) in
+      let body : List ℕ = chunked_bytes chunk None t.size in
+      let body_long : length body ≡ 11 + 4 * (length chunk + 1) = length-layout (Chunked chunk) t sizes bytes None long in
+      record {
+        layout = InChunks chunk None;
+        chunks = empty;
+        blocks = [];
+        run = omega arith;
+        short = omega (arith, body_long, same, rank);
+        says = chunked_back chunk None t.size _ (raised body) sizes (chunk_sizes_low t chunk (size-low t is) plain) plain.some there plain.ranked
+            (omega (arith, size-high t is)) refl (sym same);
+        storage = refl;
+        small = plain.small;
+        stored = (refl, refl);
+        cells_are = filled unset
+            (λ k. value_in_chunk image t fill (cells chunk * t.size) (place_of chunk (inner_of chunk (index_of sizes k))) (get empty (corner_of chunk (index_of sizes k))))
+            (λ k. ap (value_in_chunk image t fill (cells chunk * t.size) (place_of chunk (inner_of chunk (index_of sizes k))))
+            (sym (get-empty (slice_cmp nat_cmp) (corner_of chunk (index_of sizes k)))));
+      }
+
+  -- by how it is stored
+  laid_by : (storage : Storage) → IsPlainStorage (array_by storage) storage → ((chunk : List ℕ) → storage ≡ Chunked chunk → length chunk ≡ length sizes) → length sizes ≤ 32
+      → place < 2 ^ 63 → part place (length (data_of (array_by storage))) image ≡ data_of (array_by storage)
+      → IsLaid image place (place + length (data_of (array_by storage))) (if is_stored storage then Some place else None) (array_by storage)
+  laid_by Compact plain boxed rank low stands = compact_laid plain
+  laid_by (Contiguous true) plain boxed rank low stands = block_laid low plain stands
+  laid_by (Contiguous false) plain boxed rank low stands = nowhere_laid plain
+  laid_by (Chunked chunk) plain boxed rank low stands = chunks_laid chunk (boxed chunk refl) rank plain.0 plain.1
+
+-- ---- any array in this layout
+
+module _ (image : List ℕ) (table : FinMap nat_cmp ℕ) (at place end count size : ℕ) (p : Object) (plain : IsPlainObject p) (d : Dataset) (is : IsHead d (length (others_of p)))
+    (address : Option ℕ) (laid : IsLaid image place end address d) (most : 3 + length (others_of p) ≤ 65535) (few_links : count < 2 ^ 32) (short : size < 2 ^ 31) where
   abbrev without : Bool
   without = nat_lt 65535 (4 + length (others_of p))
 
   unwritten : without ≡ true → d.fill ≡ pos 0
   unwritten h = let many : 65535 < 4 + length (others_of p) = grind (arith, nat_tests, h) in is.unwritten many
 
-  block_read : IsRead image table at place count size p same
-  block_read e long stands_at stands =
-      let whole = ap (λ n. part at n image) long ∙ stands_at in
-      let has = dataset d.fixed d.sizes d.maxima d.fill is.fixed (is.sound).fill is.ranked is.bounded image place d.cells (is.sound).values (is.sound).counted is.few at p plain low
-      without is.stored is.filled is.unset unwritten stands in (
-        subst (λ n. HasObject image table at p (block at n ∷ (if is.stored then block place (length (data_of same)) ∷ [] else []))) long
-            (object d.fixed d.sizes d.maxima d.fill is.fixed (is.sound).fill is.ranked is.bounded image place d.cells (is.sound).values (is.sound).counted is.few at p plain low
-            without is.stored count whole refl most (omega (arith, short, long)) table e has),
-        counted_so d.fixed d.sizes d.maxima d.fill is.fixed (is.sound).fill is.ranked is.bounded image place d.cells (is.sound).values (is.sound).counted is.few at p plain low
-            without is.stored count whole refl most (omega (arith, short, long)) few_links,
-      )
+  abbrev body : List ℕ
+  body = array_layout d address
 
-  any_read : IsRead image table at place count size p d
-  any_read = subst (IsRead image table at place count size p) (sym (block_is d (length (others_of p)) is)) block_read
+  has : HasDataset image (messages d.fixed d.sizes d.maxima d.fill (is_chunked d.storage) body is.fixed (is.sound).fill is.ranked is.bounded laid.short at p plain without) d laid.blocks
+  has = dataset d.fixed d.sizes d.maxima d.fill (is_chunked d.storage) body is.fixed (is.sound).fill is.ranked is.bounded laid.short at p plain without
+      image d.storage d.cells is.few laid.layout laid.chunks laid.blocks laid.says laid.storage laid.small laid.stored laid.cells_are unwritten
+
+  -- its header, with any count, is that of the array, and has that count
+  pub laid_reads : p.content ≡ Array d → length (counted_header count p d address) ≡ size → part at size image ≡ counted_header count p d address
+      → (blocks : List Block) × HasObject image table at p (block at size ∷ blocks) × (reference_count (prefix_at image at) ≡ count) × Run place blocks end
+  laid_reads e long stands_at =
+      let whole : part at (length (counted_header count p d address)) image ≡ counted_header count p d address = ap (λ n. part at n image) long ∙ stands_at in (
+        laid.blocks,
+        subst (λ n. HasObject image table at p (block at n ∷ laid.blocks)) long
+            (object d.fixed d.sizes d.maxima d.fill (is_chunked d.storage) body is.fixed (is.sound).fill is.ranked is.bounded laid.short at p plain without
+            image d.storage d.cells is.few laid.layout laid.chunks laid.blocks count whole refl most (omega (arith, short, long)) table e has),
+        counted_so d.fixed d.sizes d.maxima d.fill (is_chunked d.storage) body is.fixed (is.sound).fill is.ranked is.bounded laid.short at p plain without
+            image d.storage d.cells is.few laid.layout laid.chunks laid.blocks count whole refl most (omega (arith, short, long)) few_links,
+        laid.run,
+      )
 
 -- An array's header with any count, with its data where they are stored, is that of the array, and has that count.
 pub array_reads : ArrayReads
 array_reads image table at place count p d plain e is most few_links short low stands_at stands =
-    any_read image table at place count (header_size p) p plain d is most few_links short low e
-    (array_length count (if is_stored d.storage then Some place else None) p d plain e is) stands_at stands
+    let address : Option ℕ = if is_stored d.storage then Some place else None in
+    let laid : IsLaid image place (place + length (data_of d)) address d
+    = laid_by image place d.fixed d.sizes d.maxima d.fill d.cells is.fixed (is.sound).values (is.sound).counted is.few d.storage is.stored (is.sound).boxed is.ranked low stands in
+    laid_reads image table at place (place + length (data_of d)) count (header_size p) p plain d (head_of d (length (others_of p)) is) address laid most few_links short
+    e (array_length count address p d plain e is) stands_at

@@ -1,5 +1,5 @@
 -- The extent of an array is read back from its dataspace message (File Format Specification 3.0, section IV.A.2.b).
-use Rattle.std.proofs.Common.{◌≡◌, ℕ, ◌+◌, ◌*◌, ◌%◌, ◌^◌, ◌<◌, ◌≤◌, ◌==◌, List, [], ◌∷◌, length, map, refl, sym, ap, ◌∙◌, arith, Bool, true, false, cond, not, Option, Some, None, eqb-true}
+use Rattle.std.proofs.Common.{◌≡◌, ℕ, ◌+◌, ◌*◌, ◌%◌, ◌^◌, ◌<◌, ◌≤◌, ◌==◌, ◌||◌, List, [], ◌∷◌, length, map, refl, sym, ap, ◌∙◌, arith, Bool, true, false, cond, not, Option, Some, None, eqb-true}
 use Rattle.std.proofs.lemmas.Bool.Decides.{nat_tests}
 use Rattle.std.specs.Prelude.{if◌then◌else◌}
 use Rattle.std.specs.List.{AllByRecursion, AllZip}
@@ -39,12 +39,22 @@ own_maxima (d ∷ ds) (Some m ∷ ms) own =
     let same : (m == d) ≡ true = and_left (m == d) (are_sizes ds ms) own in
     (λ i. Some (eqb-true m d same i) ∷ own_maxima ds ms (and_right (m == d) (are_sizes ds ms) own) i)
 
-module _ (sizes : List ℕ) (maxima : List (Option ℕ)) where
+-- where no maxima are written, the cells are not in chunks, and each maximum is the size
+pub no_maxima : (chunked own : Bool) → (chunked || not own) ≡ false → own ≡ true
+no_maxima true own e = absurd (cc)
+no_maxima false true e = refl
+no_maxima false false e = absurd (cc)
+
+module _ (chunked : Bool) (sizes : List ℕ) (maxima : List (Option ℕ)) where
   abbrev extent : Extent
   extent = record { sizes = sizes; maxima = maxima }
 
+  -- whether maxima are written
+  abbrev written : Bool
+  written = chunked || not (are_sizes sizes maxima)
+
   abbrev body_by : Bool → List ℕ
-  body_by b = cond b (dataspace_bytes sizes) (bounded_bytes sizes maxima)
+  body_by b = cond b (bounded_bytes sizes maxima) (dataspace_bytes sizes)
 
   plain_read : length sizes ≤ 32 → Small sizes → are_sizes sizes maxima ≡ true → extent_of (dataspace_bytes sizes) ≡ Some extent
   plain_read rank small own =
@@ -57,18 +67,18 @@ module _ (sizes : List ℕ) (maxima : List (Option ℕ)) where
       (maxima_low sizes maxima bound) (sym (padded_full (bounded_bytes sizes maxima) (length (bounded_bytes sizes maxima)) refl))
 
   -- an extent is read back
-  pub space_back : length sizes ≤ 32 → Small sizes → AllZip IsBound sizes maxima → extent_of (space_body sizes maxima) ≡ Some extent
-  space_back rank small bound = elim (are_sizes sizes maxima) as (λ b. are_sizes sizes maxima ≡ b → extent_of (body_by b) ≡ Some extent) [
-    | true ↦ λ own. plain_read rank small own
-    | false ↦ λ other. bounded_read rank small bound
+  pub space_back : length sizes ≤ 32 → Small sizes → AllZip IsBound sizes maxima → extent_of (space_body chunked sizes maxima) ≡ Some extent
+  space_back rank small bound = elim written as (λ b. written ≡ b → extent_of (body_by b) ≡ Some extent) [
+    | true ↦ λ bounded. bounded_read rank small bound
+    | false ↦ λ plain. plain_read rank small (no_maxima chunked (are_sizes sizes maxima) plain)
   ] refl
 
   -- 8 bytes, 8 for each size, and 8 more for each where there are maxima
   pub length-space_body : length maxima ≡ length sizes
-      → length (space_body sizes maxima) ≡ dataspace_length (length sizes) + (if not (are_sizes sizes maxima) then 8 * length sizes else 0)
-  length-space_body same = elim (are_sizes sizes maxima) as (λ b. length (body_by b) ≡ dataspace_length (length sizes) + (if not b then 8 * length sizes else 0)) [
-    | true ↦ omega (arith, words_long sizes)
-    | false ↦ omega (arith, bounds_long sizes maxima same)
+      → length (space_body chunked sizes maxima) ≡ dataspace_length (length sizes) + (if chunked || not (are_sizes sizes maxima) then 8 * length sizes else 0)
+  length-space_body same = elim written as (λ b. length (body_by b) ≡ dataspace_length (length sizes) + (if b then 8 * length sizes else 0)) [
+    | true ↦ omega (arith, bounds_long sizes maxima same)
+    | false ↦ omega (arith, words_long sizes)
   ]
 
 by_length : (n rank : ℕ) (b : Bool) → rank ≤ 32 → n ≡ dataspace_length rank + (if b then 8 * rank else 0) → (n % 8 ≡ 0) × (n < 65536) × (8 + n ≡ message_size n)
@@ -76,7 +86,8 @@ by_length n rank true most e = (omega (arith, e), omega (arith, most, e), omega 
 by_length n rank false most e = (omega (arith, e), omega (arith, most, e), omega (arith, e))
 
 -- a multiple of 8 bytes, which a message may have
-pub space_padded : (sizes : List ℕ) (maxima : List (Option ℕ)) → length sizes ≤ 32 → length maxima ≡ length sizes
-    → (length (space_body sizes maxima) % 8 ≡ 0) × (length (space_body sizes maxima) < 65536) × (8 + length (space_body sizes maxima) ≡ message_size (length (space_body sizes maxima)))
-space_padded sizes maxima rank same =
-    by_length (length (space_body sizes maxima)) (length sizes) (not (are_sizes sizes maxima)) rank (length-space_body sizes maxima same)
+pub space_padded : (chunked : Bool) (sizes : List ℕ) (maxima : List (Option ℕ)) → length sizes ≤ 32 → length maxima ≡ length sizes
+    → (length (space_body chunked sizes maxima) % 8 ≡ 0) × (length (space_body chunked sizes maxima) < 65536)
+    × (8 + length (space_body chunked sizes maxima) ≡ message_size (length (space_body chunked sizes maxima)))
+space_padded chunked sizes maxima rank same =
+    by_length (length (space_body chunked sizes maxima)) (length sizes) (chunked || not (are_sizes sizes maxima)) rank (length-space_body chunked sizes maxima same)

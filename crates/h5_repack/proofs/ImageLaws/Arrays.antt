@@ -1,45 +1,43 @@
 -- How many bytes an array has in the plain image, and that it reads as that array where they stand, in blocks that hold each of them
 -- once (File Format Specification 3.0, sections IV.A.2.b to IV.A.2.i).
-use Rattle.std.proofs.Common.{◌≡◌, ℕ, ◌+◌, ◌*◌, ◌^◌, ◌≤◌, ◌==◌, List, [], ◌∷◌, ◌++◌, length, length-append, refl, sym, ap, ◌∙◌, subst, arith, Bool, true, false, cond, eqb-true, Option, Some, None}
+use Rattle.std.proofs.Common.{◌≡◌, ℕ, ◌+◌, ◌-◌, ◌*◌, ◌^◌, ◌≤◌, ◌==◌, List, [], ◌∷◌, ◌++◌, length, length-append, refl, sym, ap, ◌∙◌, subst, arith, Bool, true, false, cond, eqb-true, Option, Some, None}
 use Rattle.std.specs.Prelude.{IsSome, is_some, if◌then◌else◌}
 use Rattle.std.specs.Ordering.{nat_cmp}
 use Rattle.std.specs.FinMap.{FinMap, get}
 use Rattle.std.specs.Option.{option_and_then}
 use Rattle.h5_bytes.specs.Bytes.{part}
-use Rattle.h5_bytes.specs.Blocks.{block, Inside, cover, holds}
+use Rattle.h5_bytes.specs.Blocks.{block, Inside, Run, cover, holds}
 use Rattle.h5_bytes.specs.declared.Block.{Block}
-use Rattle.h5_bytes.proofs.BlockLaws.{holds_join, holds_none}
+use Rattle.h5_bytes.proofs.BlockLaws.{cover-run, holds_join, run_rises}
 use Rattle.h5_model.specs.Format.Messages.{prefix_at, reference_count}
 use Rattle.h5_model.specs.Format.PlainLength.{content_bytes, data_bytes}
 use Rattle.h5_model.specs.Format.Reads.{HasObject, IsGroup}
 use Rattle.h5_model.specs.Format.Sizes.{header_size}
-use Rattle.h5_model.specs.Tree.Objects.{Tree, Object, Array, Dataset, Contiguous, Links, links_in, links_of, hard_links}
+use Rattle.h5_model.specs.Tree.Objects.{Tree, Object, Array, Dataset, Storage, Compact, Contiguous, Chunked, Links, links_in, links_of, hard_links}
 use Rattle.h5_model.proofs.PlainValues.{length-cells_bytes}
 use Rattle.h5_repack.specs.Bodies.Bodies.{others_of}
 use Rattle.h5_repack.specs.Bodies.Laws.{ArrayReads, ArrayLength, counted_header}
-use Rattle.h5_repack.specs.Bodies.Headers.{is_stored, data_of}
+use Rattle.h5_repack.specs.Bodies.Headers.{data_of}
 use Rattle.h5_repack.specs.Bodies.Sound.{IsPlainArray}
 use Rattle.h5_repack.specs.Image.Plain.{IsPlain, IsPlainContent, IsPlainTree}
 use Rattle.h5_repack.specs.Image.Written.{object_length, header_in, content_place, data_address, object_bytes}
 use Rattle.h5_repack.proofs.ImageLaws.GroupLinks.{header_is}
 use Rattle.h5_repack.proofs.ImageLaws.Objects.{Stands, first_part, second_part}
 
--- the data of an array in one block have their own length, whatever is said of chunks
-pub stored_bytes : (chunk stored others : ℕ) (d : Dataset) → IsPlainArray d others → data_bytes chunk stored d ≡ length (data_of d)
-stored_bytes chunk stored others d is = by_test is.stored is.stored_is where
-  by_test : (b : Bool) → d.storage ≡ Contiguous b → data_bytes chunk stored d ≡ length (data_of d)
-  by_test true e = rw e (sym (length-cells_bytes d.fixed d.cells ∙ ap (λ n. n * (d.fixed).size) is.sound.counted))
-  by_test false e = rw e refl
+-- the data of an array of which no chunk is stored have their own length
+pub stored_bytes : (chunk others : ℕ) (d : Dataset) → IsPlainArray d others → data_bytes chunk 0 d ≡ length (data_of d)
+stored_bytes chunk others d is = by_storage d.storage refl where
+  by_storage : (s : Storage) → d.storage ≡ s → data_bytes chunk 0 d ≡ length (data_of d)
+  by_storage Compact e = rw e refl
+  by_storage (Contiguous true) e = rw e (sym (length-cells_bytes d.fixed d.cells ∙ ap (λ n. n * (d.fixed).size) is.sound.counted))
+  by_storage (Contiguous false) e = rw e refl
+  by_storage (Chunked sizes) e = rw e refl
 
--- ---- a block that there may be
-
-cover_stored : (p at n : ℕ) (b : Bool) → (b ≡ false → n ≡ 0) → cover p (if b then block at n ∷ [] else []) ≡ holds p at n
-cover_stored p at n true none = omega arith
-cover_stored p at n false none = sym (ap (holds p at) (none refl) ∙ holds_none p at)
-
-inside_stored : (end at n : ℕ) (b : Bool) → at + n ≤ end → Inside end (if b then block at n ∷ [] else [])
-inside_stored end at n true low = (low, tt)
-inside_stored end at n false low = tt
+-- blocks without gaps end where they do
+run_inside : (from to end : ℕ) (bs : List Block) → Run from bs to → to ≤ end → Inside end bs
+run_inside from to end [] run low = tt
+run_inside from to end (b ∷ bs) run low =
+    (let rises = run_rises (from + b.len) to bs run.1 in omega (arith, rises, run.0, low), run_inside (from + b.len) to end bs run.1 low)
 
 module _ (array_length : ArrayLength) (leaf internal : ℕ) (tree : Tree) (table : FinMap nat_cmp ℕ) (plain : IsPlainTree leaf internal tree)
     (number : ℕ) (o : Object) (d : Dataset) (is : get tree number ≡ Some o) (e : o.content ≡ Array d) where
@@ -65,7 +63,7 @@ module _ (array_length : ArrayLength) (leaf internal : ℕ) (tree : Tree) (table
   length-header_part = array_length (hard_links tree number) (data_address d (content_place o header)) o d own.others e own_content.0
 
   array_long : object_length leaf internal o ≡ header_size o + length data_part
-  array_long = ap (λ n. header_size o + n) (ap (content_bytes leaf internal 0 0) e ∙ stored_bytes 0 0 (length (others_of o)) d own_content.0)
+  array_long = ap (λ n. header_size o + n) (ap (content_bytes leaf internal 0 0) e ∙ stored_bytes 0 (length (others_of o)) d own_content.0)
 
   pub length-array : length (object_bytes leaf internal tree table (number, o)) ≡ object_length leaf internal o
   length-array = ap length array_laid ∙ length-append header_part data_part ∙ ap (λ n. n + length data_part) length-header_part ∙ sym array_long
@@ -100,25 +98,28 @@ module _ (array_length : ArrayLength) (leaf internal : ℕ) (tree : Tree) (table
     data_there : part (content_place o header) (length data_part) image ≡ data_part
     data_there = ap (λ n. part (header + n) (length data_part) image) (sym length-header_part) ∙ second_part header header_part data_part image both_there
 
-    abbrev data_blocks : List Block
-    data_blocks = if is_stored d.storage then block (content_place o header) (length data_part) ∷ [] else []
-
-    array_there : HasObject image table header o (block header (header_size o) ∷ data_blocks) × (reference_count (prefix_at image header) ≡ hard_links tree number)
+    array_there : (blocks : List Block) × HasObject image table header o (block header (header_size o) ∷ blocks)
+        × (reference_count (prefix_at image header) ≡ hard_links tree number) × Run (content_place o header) blocks (content_place o header + length data_part)
     array_there = array_reads image table header (content_place o header) (hard_links tree number) o d own.others e own_content.0 own_content.1
         (omega (arith, few_links)) (omega (arith, here, high, low, fits_in, array_long)) (omega (arith, here, low, fits_in, array_long)) header_there data_there
 
-    unstored : is_stored d.storage ≡ false → length data_part ≡ 0
-    unstored none = rw none refl
+    abbrev data_blocks : List Block
+    data_blocks = array_there.0
+
+    data_run : Run (content_place o header) data_blocks (content_place o header + length data_part)
+    data_run = array_there.3
 
     array_covered : (p : ℕ) → cover p (block header (header_size o) ∷ data_blocks) ≡ holds p header (object_length leaf internal o)
     array_covered p =
-        ap (λ n. holds p header (header_size o) + n) (cover_stored p (content_place o header) (length data_part) (is_stored d.storage) unstored)
+        let whole : content_place o header + length data_part - content_place o header ≡ length data_part = omega arith in
+        ap (λ n. holds p header (header_size o) + n)
+        (cover-run p (content_place o header) (content_place o header + length data_part) data_blocks data_run ∙ ap (holds p (content_place o header)) whole)
         ∙ sym (holds_join p header (header_size o) (length data_part)) ∙ sym (ap (holds p header) array_long)
 
     array_within : Inside (header + object_length leaf internal o) (block header (header_size o) ∷ data_blocks)
     array_within = (
       omega (arith, array_long),
-      inside_stored (header + object_length leaf internal o) (content_place o header) (length data_part) (is_stored d.storage) (omega (arith, array_long)),
+      run_inside (content_place o header) (content_place o header + length data_part) (header + object_length leaf internal o) data_blocks data_run (omega (arith, array_long)),
     )
 
     not_first : hard_links tree number ≡ hard_links tree number + (if number == 0 then 1 else 0)
@@ -127,9 +128,9 @@ module _ (array_length : ArrayLength) (leaf internal : ℕ) (tree : Tree) (table
     array_here : Stands image leaf internal tree table header (number, o)
     array_here = record {
       blocks = block header (header_size o) ∷ data_blocks;
-      object = array_there.0;
+      object = array_there.1;
       counted = record {
-        counted = array_there.1 ∙ not_first;
+        counted = array_there.2 ∙ not_first;
         once = λ group. absurd (subst IsGroup e group);
         limit = few_links;
       };

@@ -1,12 +1,14 @@
 -- The messages that a header has in the plain layout (File Format Specification 3.0, section IV.A.2).
-use Rattle.std.specs.Prelude.{ℕ, ◌+◌, ◌*◌, nat_lt, if◌then◌else◌, ℤ, Option, List, [], ◌∷◌, ◌++◌, map, length}
+use Rattle.std.specs.Prelude.{ℕ, ◌+◌, ◌*◌, ◌||◌, Bool, not, nat_lt, if◌then◌else◌, ℤ, Option, List, [], ◌∷◌, ◌++◌, map, length}
 use Rattle.std.specs.FinMap.{entries}
 use Rattle.h5_bytes.specs.Texts.{pad8}
 use Rattle.h5_model.specs.Tree.Places.{cells}
-use Rattle.h5_model.specs.Format.Bodies.{raised, dataspace_bytes, bounded_bytes, datatype_bytes, fill_bytes, contiguous_bytes, attribute_bytes}
+use Rattle.h5_model.specs.Edits.Refusal.{is_chunked}
+use Rattle.h5_model.specs.Format.Bodies.{raised, dataspace_bytes, bounded_bytes, datatype_bytes, fill_bytes, compact_bytes, contiguous_bytes, chunked_bytes, attribute_bytes}
 use Rattle.h5_model.specs.Format.Fixed.{Fixed}
+use Rattle.h5_model.specs.Format.Plain.{cells_bytes}
 use Rattle.h5_model.specs.Format.Sizes.{attribute_size}
-use Rattle.h5_model.specs.Tree.Objects.{Object, Dataset, Attribute, Kept, are_sizes}
+use Rattle.h5_model.specs.Tree.Objects.{Object, Dataset, Storage, Compact, Contiguous, Chunked, Attribute, Kept, are_sizes}
 
 -- ---- what every object may have: its kept messages, and then its attributes by their names
 
@@ -22,29 +24,37 @@ others_of o = map kept_message o.kept ++ map attribute_message (entries o.attrib
 
 -- ---- arrays
 
--- maxima are written where one differs from its size
-abbrev pub space_body : List ℕ → List (Option ℕ) → List ℕ
-space_body sizes maxima = if are_sizes sizes maxima then dataspace_bytes sizes else bounded_bytes sizes maxima
+-- maxima are written where the cells are in chunks, or where one differs from its size
+abbrev pub space_body : Bool → List ℕ → List (Option ℕ) → List ℕ
+space_body chunked sizes maxima = if chunked || not (are_sizes sizes maxima) then bounded_bytes sizes maxima else dataspace_bytes sizes
 
 abbrev pub type_message : Fixed → ℕ × List ℕ
 type_message t = (3, raised (datatype_bytes t))
 
--- a fill that was set, of space that is made with the array
-abbrev pub fill_message : Fixed → ℤ → ℕ × List ℕ
-fill_message t fill = (5, raised (fill_bytes 1 t fill))
+-- a fill that was set; space for chunks is made when they are stored, for other cells with the array
+abbrev pub fill_message : Bool → Fixed → ℤ → ℕ × List ℕ
+fill_message chunked t fill = (5, raised (fill_bytes (if chunked then 3 else 1) t fill))
 
 -- the fill is left out where a header with so many other messages would have more than 65535
-abbrev pub fill_messages : Fixed → ℤ → ℕ → List (ℕ × List ℕ)
-fill_messages t fill others = if nat_lt 65535 (4 + others) then [] else fill_message t fill ∷ []
+abbrev pub fill_messages : Bool → Fixed → ℤ → ℕ → List (ℕ × List ℕ)
+fill_messages chunked t fill others = if nat_lt 65535 (4 + others) then [] else fill_message chunked t fill ∷ []
 
--- so many bytes of data in one block at this address, or nowhere
-abbrev pub layout_message : Option ℕ → ℕ → ℕ × List ℕ
-layout_message address len = (8, raised (contiguous_bytes address len))
+-- how so many cells of this type are stored: these are their bytes; or they are in one block at this address, or nowhere; or in chunks
+-- of these sizes, with their tree at this address, or none
+abbrev pub layout_body : Storage → Fixed → ℕ → List ℕ → Option ℕ → List ℕ
+layout_body Compact t count bytes address = compact_bytes bytes
+layout_body (Contiguous stored) t count bytes address = contiguous_bytes address (count * t.size)
+layout_body (Chunked chunk) t count bytes address = chunked_bytes chunk address t.size
 
--- the messages of an array of this type, sizes, maxima and fill in one block, whose data stand at this address
-abbrev pub messages_of : Fixed → List ℕ → List (Option ℕ) → ℤ → Option ℕ → ℕ → List (ℕ × List ℕ)
-messages_of t sizes maxima fill address others =
-    (1, space_body sizes maxima) ∷ type_message t ∷ (fill_messages t fill others ++ layout_message address (cells sizes * t.size) ∷ [])
+-- the messages of an array of this type, sizes, maxima and fill with this layout, whether its cells are in chunks
+abbrev pub messages_of : Fixed → List ℕ → List (Option ℕ) → ℤ → Bool → List ℕ → ℕ → List (ℕ × List ℕ)
+messages_of t sizes maxima fill chunked layout others =
+    (1, space_body chunked sizes maxima) ∷ type_message t ∷ (fill_messages chunked t fill others ++ (8, raised layout) ∷ [])
+
+-- the layout of an array whose data or whose tree stand at this address
+abbrev pub array_layout : Dataset → Option ℕ → List ℕ
+array_layout d address = layout_body d.storage d.fixed (cells d.sizes) (cells_bytes d.fixed d.cells) address
 
 abbrev pub array_messages : Dataset → Option ℕ → ℕ → List (ℕ × List ℕ)
-array_messages d address others = messages_of d.fixed d.sizes d.maxima d.fill address others
+array_messages d address others =
+    messages_of d.fixed d.sizes d.maxima d.fill (is_chunked d.storage) (array_layout d address) others

@@ -1,9 +1,10 @@
 -- What is shown of the headers of arrays in the plain layout: they read as their arrays, and have the length that is counted for them.
 -- And what is meant by an image that reads as a tree and has no gap.
-use Rattle.std.specs.Prelude.{◌≡◌, ℕ, ◌+◌, ◌^◌, ◌<◌, ◌≤◌, if◌then◌else◌, Option, Some, None, List, [], ◌∷◌, ◌++◌, length}
+use Rattle.std.specs.Prelude.{◌≡◌, ℕ, ◌+◌, ◌^◌, ◌<◌, ◌≤◌, if◌then◌else◌, Option, Some, None, List, ◌∷◌, ◌++◌, length}
 use Rattle.std.specs.Ordering.{nat_cmp}
 use Rattle.std.specs.FinMap.{FinMap}
-use Rattle.h5_bytes.specs.Blocks.{block, CoverOnce}
+use Rattle.h5_bytes.specs.Blocks.{block, CoverOnce, Run}
+use Rattle.h5_bytes.specs.declared.Block.{Block}
 use Rattle.h5_bytes.specs.Bytes.{part}
 use Rattle.h5_model.specs.Format.Messages.{prefix_at, reference_count}
 use Rattle.h5_model.specs.Format.Plain.{header_bytes}
@@ -29,14 +30,14 @@ pub record IsPlainReading (image : List ℕ) (leaf internal : ℕ) (table : FinM
 abbrev pub counted_header : ℕ → Object → Dataset → Option ℕ → List ℕ
 counted_header count p d address = header_bytes count (array_messages d address (length (others_of p)) ++ others_of p)
 
--- Such a header, with the data where they are stored, reads as the array, and has that count.
+-- Such a header, with the data where they are stored, reads as the array, and has that count. The other blocks are its data, without gaps.
 abbrev pub ArrayReads : Type 0
 ArrayReads = (image : List ℕ) (table : FinMap nat_cmp ℕ) (at place count : ℕ) (p : Object) (d : Dataset) → IsPlainObject p → p.content ≡ Array d
     → IsPlainArray d (length (others_of p)) → 3 + length (others_of p) ≤ 65535 → count < 2 ^ 32 → header_size p < 2 ^ 31 → place < 2 ^ 63
     → part at (header_size p) image ≡ counted_header count p d (if is_stored d.storage then Some place else None)
     → part place (length (data_of d)) image ≡ data_of d
-    → HasObject image table at p (block at (header_size p) ∷ (if is_stored d.storage then block place (length (data_of d)) ∷ [] else []))
-    × (reference_count (prefix_at image at) ≡ count)
+    → (blocks : List Block) × HasObject image table at p (block at (header_size p) ∷ blocks) × (reference_count (prefix_at image at) ≡ count)
+    × Run place blocks (place + length (data_of d))
 
 -- it has the length that is counted for it
 abbrev pub ArrayLength : Type 0

@@ -1,14 +1,14 @@
 -- Which objects the plain layout can hold: those that an image reads as, or that an accepted edit makes of them.
-use Rattle.std.specs.Prelude.{◌≡◌, ℕ, ◌+◌, ◌^◌, ◌%◌, ◌<◌, ◌≤◌, ◌==◌, ◌||◌, Bool, true, false, IsTrue, IfSome, pos, Option, List, length, replicate}
-use Rattle.std.specs.List.{AllByRecursion, AllZip}
+use Rattle.std.specs.Prelude.{◌≡◌, ℕ, ◌+◌, ◌*◌, ◌^◌, ◌%◌, ◌<◌, ◌≤◌, ◌==◌, ◌||◌, true, false, IsTrue, IfSome, pos, Option, List, length, replicate}
+use Rattle.std.specs.List.{AllByRecursion, AllZip, list_any}
 use Rattle.std.specs.FinMap.{entries}
 use Rattle.h5_bytes.specs.Bytes.{undefined}
-use Rattle.h5_model.specs.Format.Fixed.{IsFixed}
+use Rattle.h5_model.specs.Format.Fixed.{Fixed, IsFixed}
 use Rattle.h5_model.specs.Tree.Places.{cells, extent_cells}
 use Rattle.h5_model.specs.Edits.Refusal.{has_zero}
 use Rattle.h5_model.specs.Format.Sizes.{attribute_size}
 use Rattle.h5_model.specs.Tree.Sound.{AreOf, IsDataset}
-use Rattle.h5_model.specs.Tree.Objects.{Object, Dataset, Contiguous, Attribute, Kept}
+use Rattle.h5_model.specs.Tree.Objects.{Object, Dataset, Storage, Compact, Contiguous, Chunked, Attribute, Kept}
 
 -- a comment or a modification time, with a body that a message may have
 pub record IsPlainKept (k : Kept) : Type 0 where
@@ -35,15 +35,29 @@ pub record IsPlainObject (o : Object) : Type 0 where
 abbrev pub IsBound : ℕ → Option ℕ → Type 0
 IsBound size maximum = IfSome maximum (λ m. (size ≤ m) × (m < undefined))
 
--- an array in one block; not stored, each cell is the fill; and a fill that is not written, beside so many other messages, is 0
+-- no cell is stored: each reads the fill
+abbrev pub IsUnset : Dataset → Type 0
+IsUnset d = d.cells ≡ replicate (cells d.sizes) d.fill
+
+-- chunks of at least one dimension, of which no size is 0, and of at most 2^30 bytes
+pub record ArePlainChunks (t : Fixed) (chunk : List ℕ) : Type 0 where
+  pub ranked : 1 ≤ length chunk
+  pub some : list_any (λ n. n == 0) chunk ≡ false
+  pub small : cells chunk * t.size ≤ 2 ^ 30
+
+-- compact cells fit in a message; there are contiguous cells where they are stored; of chunks none is stored
+abbrev pub IsPlainStorage : Dataset → Storage → Type 0
+IsPlainStorage d Compact = cells d.sizes * (d.fixed).size ≤ 65524
+IsPlainStorage d (Contiguous true) = 1 ≤ cells d.sizes
+IsPlainStorage d (Contiguous false) = IsUnset d
+IsPlainStorage d (Chunked chunk) = ArePlainChunks d.fixed chunk × IsUnset d
+
+-- an array in this layout; a fill that is not written, beside so many other messages, is 0
 pub record IsPlainArray (d : Dataset) (others : ℕ) : Type 0 where
   pub ranked : length d.sizes ≤ 32
   pub bounded : AllZip IsBound d.sizes d.maxima
   pub few : extent_cells d.sizes ≤ 2 ^ 40
   pub fixed : IsFixed d.fixed
   pub sound : IsDataset d
-  pub stored : Bool
-  pub stored_is : d.storage ≡ Contiguous stored
-  pub filled : stored ≡ true → 1 ≤ cells d.sizes
-  pub unset : stored ≡ false → d.cells ≡ replicate (cells d.sizes) d.fill
+  pub stored : IsPlainStorage d d.storage
   pub unwritten : 65535 < 4 + others → d.fill ≡ pos 0

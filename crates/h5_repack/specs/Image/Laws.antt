@@ -11,9 +11,10 @@ ImageReads = (leaf internal : ℕ) (tree : Tree) (order : List (ℕ × Object)) 
     → image_end leaf internal order ≤ 2 ^ 31
     → IsPlainReading (plain_image leaf internal tree order) leaf internal (table_of leaf internal order) tree
 
+-- no chunk is stored
 abbrev pub ImageLength : Type 0
-ImageLength = (leaf internal chunk : ℕ) (stored : ℕ → ℕ) (tree : Tree) (order : List (ℕ × Object)) → ArePlain tree → IsOrder tree order
-    → image_end leaf internal order ≡ plain_length leaf internal chunk stored tree
+ImageLength = (leaf internal chunk : ℕ) (tree : Tree) (order : List (ℕ × Object)) → ArePlain tree → IsOrder tree order
+    → image_end leaf internal order ≡ plain_length leaf internal chunk (λ number. 0) tree
 
 abbrev pub ImageEnds : Type 0
 ImageEnds = (leaf internal : ℕ) (tree : Tree) (order : List (ℕ × Object)) → IsPlainTree leaf internal tree → IsOrder tree order

@@ -7,18 +7,20 @@ use Rattle.h5_model.specs.Tree.Objects.{Tree, Object, Content, Group, Array, Dat
 use Rattle.h5_model.specs.Tree.Links.{tree_link}
 use Rattle.h5_repack.specs.Bodies.Bodies.{others_of}
 use Rattle.h5_layout.specs.Described.{Described}
+use Rattle.h5_repack.specs.Blocks.ArrayHeader.{storage_written}
 use Rattle.h5_repack.specs.Blocks.Written.{AreCellsToWrite, AreOthers}
 use Rattle.h5_repack.specs.declared.blocks.cells.Cells.{Cells}
 use Rattle.h5_repack.specs.declared.objects.object.NewContent.{NewContent}
 use Rattle.h5_repack.specs.declared.objects.object.NewContent.TheVariants as content
 use Rattle.h5_repack.specs.declared.objects.object.NewObject.{NewObject}
 
--- the array with these cells, which stand in one block
+-- the array with these cells, which are stored as its layout says
 pub record IsNewArray (a : Described) (c : Cells) (d : Dataset) : Type 0 where
   pub fixed_is : a.fixed ≡ d.fixed
   pub sizes_are : a.sizes ≡ d.sizes
   pub maxima_are : a.maxima ≡ d.maxima
   pub fill_is : a.fill ≡ d.fill
+  pub storage_is : storage_written a c ≡ d.storage
   pub cells_are : AreCellsToWrite c d
 
 -- a group of these links, in the order of their names; or this array

@@ -1,15 +1,15 @@
 //! The bytes of cells (File Format Specification 3.0, section IV.A.2.d, class 0), and where they stand.
-ghost use Rattle.std.specs.Prelude.{◌≡◌, ◌-◌, ◌*◌, ◌^◌, ◌==◌, ◌≤◌, ◌++◌, OnOk, true, if◌then◌else◌, None, Some, length, replicate};
+ghost use Rattle.std.specs.Prelude.{◌≡◌, ◌-◌, ◌*◌, ◌^◌, ◌≤◌, ◌++◌, OnOk, true, length, replicate};
 ghost use Rattle.h5_model.specs.Format.Fixed.{bytes_of, fits};
 ghost use Rattle.h5_bytes.specs.Numbers.{zeros};
 ghost use Rattle.h5_model.specs.Format.Plain.{cells_bytes};
 ghost use Rattle.h5_model.specs.Tree.Places.{cells as cells_of};
-ghost use Rattle.h5_repack.specs.Blocks.ArrayHeader.{data_written, address_written};
+ghost use Rattle.h5_repack.specs.Blocks.ArrayHeader.{address_written, are_stored as are_cells_stored, data_written, has_data};
 ghost use Rattle.h5_repack.specs.Blocks.Parts.{copies};
 ghost use Rattle.h5_repack.specs.Blocks.Written.{HasRoom};
 
 use h5_bytes::push_bytes;
-use h5_layout::ArrayRef;
+use h5_layout::{ArrayRef, Layout};
 use h5_model::Fixed;
 use h5_types::encode;
 use std::alloc::{AllocError, Global};
@@ -17,9 +17,9 @@ use std::alloc::{AllocError, Global};
 /// The cells of an array to be written.
 #[derive(Clone, Copy)]
 pub enum Cells<'a> {
-    /// They are not stored.
+    /// Each is the fill value, and none is stored, but those of a compact array.
     Unset,
-    /// Each is the fill value.
+    /// Each is the fill value. They are stored in the block of a contiguous array; no chunk is.
     Filled,
     /// The bytes of the cells, one after another.
     Stored(&'a [u8]),
@@ -50,7 +50,7 @@ fn push_copies(out: &mut Vec<u8>, bytes: &[u8], count: u64) -> Result<(), AllocE
 }
 
 /// So many cells of one value.
-fn push_cells(
+pub(crate) fn push_cells(
     alloc: Global,
     out: &mut Vec<u8>,
     fixed: &Fixed,
@@ -77,38 +77,53 @@ pub(crate) fn cells_length(array: &ArrayRef<'_>) -> u64
     array.cells() * array.fixed().size() as u64
 }
 
-/// How many bytes of data an array with these cells has.
+/// Whether so many cells in one block are stored: those that are the fill where there are any.
+fn are_stored(cells: &Cells<'_>, count: u64) -> bool
+    ensures { result ≡ are_cells_stored cells.now count }
+{
+    match cells {
+        Cells::Unset => false,
+        Cells::Filled => count > 0,
+        Cells::Stored(_) => true,
+    }
+}
+
+/// Whether an array with these cells has data behind its header.
+fn stores_data(array: &ArrayRef<'_>, cells: &Cells<'_>) -> bool
+    ensures { result ≡ has_data array.now cells.now }
+{
+    match array.layout() {
+        Layout::Compact(_) => false,
+        Layout::Contiguous(_) => are_stored(cells, array.cells()),
+        Layout::Chunked { .. } => false,
+    }
+}
+
+/// How many bytes of data an array with these cells has behind its header.
 pub fn data_length(array: &ArrayRef<'_>, cells: &Cells<'_>) -> u64
     requires { HasRoom cells.now (cells_of array.now.sizes * array.now.fixed.size) }
     ensures exact { result ≡ length (data_written cells.now array.now) }
     ensures few { result ≤ 2 ^ 43 }
 {
-    match cells {
-        Cells::Unset => 0,
-        Cells::Filled => cells_length(array),
-        Cells::Stored(_) => cells_length(array),
+    if stores_data(array, cells) {
+        cells_length(array)
+    } else {
+        0
     }
-}
-
-/// The address of the data of so many cells, which begin at a place where there are any.
-fn data_address(place: u64, cells: u64) -> Option<u64>
-    ensures { result ≡ (if cells == 0 then None else Some place) }
-{
-    if cells == 0 { None } else { Some(place) }
 }
 
 /// The address of the data of an array with these cells, which begin at this place where there are any.
 pub fn cells_address(array: &ArrayRef<'_>, cells: &Cells<'_>, place: u64) -> Option<u64>
-    ensures { result ≡ address_written cells.now (cells_of array.now.sizes) place }
+    ensures { result ≡ address_written array.now cells.now place }
 {
-    match cells {
-        Cells::Unset => None,
-        Cells::Filled => data_address(place, array.cells()),
-        Cells::Stored(_) => Some(place),
+    if stores_data(array, cells) {
+        Some(place)
+    } else {
+        None
     }
 }
 
-/// The data of an array with these cells, where there are any.
+/// The data of an array with these cells, where there are any behind its header.
 pub fn push_data(
     alloc: Global,
     out: &mut Vec<u8>,
@@ -117,8 +132,11 @@ pub fn push_data(
 ) -> Result<(), AllocError>
     ensures { OnOk result (out.new.items ≡ out.old.items ++ data_written cells.now array.now) }
 {
+    if !stores_data(array, cells) {
+        return Ok(());
+    }
     match cells {
-        Cells::Unset => Ok(()),
+        Cells::Unset => unreachable!(),
         Cells::Filled => push_cells(alloc, out, &array.fixed(), array.fill(), array.cells()),
         Cells::Stored(bytes) => push_bytes(out, bytes),
     }

@@ -1,28 +1,32 @@
 //! Object headers, version 1, in one block, and the messages of a group and of an array (File Format Specification 3.0,
 //! section IV.A).
-ghost use Rattle.std.specs.Prelude.{◌≡◌, ℕ, ◌+◌, ◌-◌, ◌^◌, ◌<◌, ◌≤◌, ◌++◌, IfOk, OnOk, Option, true, length, nat_lt, not};
+ghost use Rattle.std.specs.Prelude.{◌≡◌, ℕ, ◌+◌, ◌-◌, ◌*◌, ◌^◌, ◌<◌, ◌≤◌, ◌++◌, Bool, IfOk, OnOk, Option, if◌then◌else◌, true, length, nat_lt, not};
 ghost use Rattle.std.specs.Option.{ForSome};
 ghost use Rattle.h5_bytes.specs.Texts.{pad8};
-ghost use Rattle.h5_model.specs.Edits.Refusal.{are_maxima};
 ghost use Rattle.h5_model.specs.Format.Bodies.{pair_bytes};
 ghost use Rattle.h5_model.specs.Format.Fixed.{fits};
 ghost use Rattle.h5_model.specs.Format.Plain.{message_bytes, messages_bytes};
 ghost use Rattle.h5_model.specs.Format.Sizes.{message_size};
+ghost use Rattle.h5_model.specs.Tree.Places.{cells as cells_of};
+ghost use Rattle.h5_msg.specs.Times.{time_number};
 ghost use Rattle.h5_layout.specs.Described.{Described};
-ghost use Rattle.h5_repack.specs.Bodies.Bodies.{fill_message, fill_messages, layout_message, type_message};
-ghost use Rattle.h5_repack.specs.Blocks.ArrayHeader.{group_written, header_written, messages_count as count_of, messages_size as size_of};
+ghost use Rattle.h5_repack.specs.Bodies.Bodies.{fill_message, fill_messages, type_message};
+ghost use Rattle.h5_repack.specs.Blocks.ArrayHeader.{FitsLayout, IsArrayToWrite, group_written, header_written, in_chunks, messages_count as count_of, messages_size as size_of};
 ghost use Rattle.h5_repack.specs.Blocks.Parts.{message_head, message_room, prefix_bytes};
+ghost use Rattle.h5_repack.specs.Blocks.Written.{HasRoom};
+ghost use Rattle.h5_repack.specs.declared.blocks.cells.Cells.{Cells as NewCells};
 
-use crate::blocks::cells::cells_length;
+use crate::blocks::cells::Cells;
+use crate::blocks::layout::{is_in_chunks, layout_length, push_layout};
 use crate::blocks::others::Others;
 use crate::blocks::space::{push_space, space_length};
 use h5_bytes::{push_bytes, push_middle, push_short, push_zeros};
 use h5_layout::ArrayRef;
 use h5_model::Fixed;
-use h5_model::message_type::{DATA_LAYOUT, DATATYPE, FILL_VALUE, SYMBOL_TABLE};
+use h5_model::message_type::{DATATYPE, FILL_VALUE, SYMBOL_TABLE};
 use h5_msg::{
-    AllocationTime, CONTIGUOUS_LENGTH, DATATYPE_LENGTH, SYMBOL_TABLE_LENGTH, SymbolTable,
-    fill_length, write_contiguous_layout, write_datatype, write_fill, write_symbol_table,
+    AllocationTime, DATATYPE_LENGTH, SYMBOL_TABLE_LENGTH, SymbolTable, fill_length, write_datatype,
+    write_fill, write_symbol_table,
 };
 use std::alloc::AllocError;
 
@@ -106,23 +110,25 @@ fn push_type(out: &mut Vec<u8>, fixed: &Fixed) -> Result<(), AllocError>
     Ok(())
 }
 
-/// The fill value message of an array whose space is made with it.
-fn push_fill(out: &mut Vec<u8>, fixed: &Fixed, fill: i128) -> Result<(), AllocError>
-    requires { fits fixed.now fill ≡ true }
-    ensures { OnOk result (out.new.items ≡ out.old.items ++ message_bytes (fill_message fixed.now fill)) }
+/// When space for the cells of an array is made: for chunks when they are stored, for other cells with the array.
+fn allocation_time(chunked: bool) -> AllocationTime
+    ensures { time_number result ≡ (if chunked then 3 else 1) }
 {
-    let at = push_message_room(out, FILL_VALUE, fill_length(fixed))?;
-    write_fill(AllocationTime::Early, fixed, fill, &mut out[at..]);
-    Ok(())
+    if chunked {
+        AllocationTime::Incremental
+    } else {
+        AllocationTime::Early
+    }
 }
 
-/// The layout message of so many bytes of data in one block at this address, or nowhere.
-fn push_layout(out: &mut Vec<u8>, address: Option<u64>, len: u64) -> Result<(), AllocError>
-    requires { ForSome address (λ at. at < 2 ^ 64 - 1) }
-    ensures { OnOk result (out.new.items ≡ out.old.items ++ message_bytes (layout_message address len)) }
+/// The fill value message of an array, by whether its cells are in chunks.
+fn push_fill(out: &mut Vec<u8>, chunked: bool, fixed: &Fixed, fill: i128) -> Result<(), AllocError>
+    requires { fits fixed.now fill ≡ true }
+    ensures { OnOk result
+        (out.new.items ≡ out.old.items ++ message_bytes (fill_message chunked fixed.now fill)) }
 {
-    let at = push_message_room(out, DATA_LAYOUT, CONTIGUOUS_LENGTH)?;
-    write_contiguous_layout(address, len, &mut out[at..]);
+    let at = push_message_room(out, FILL_VALUE, fill_length(fixed))?;
+    write_fill(allocation_time(chunked), fixed, fill, &mut out[at..]);
     Ok(())
 }
 
@@ -167,7 +173,8 @@ fn has_fill(others: &Others) -> bool
 /// How many bytes the fill value message of an array has, where there is one.
 fn fill_message_length(fixed: &Fixed, fill: i128, others: &Others) -> u64
     requires { others.now.count ≤ 65535 }
-    ensures exact { result ≡ length (messages_bytes (fill_messages fixed.now fill others.now.count)) }
+    ensures exact { (chunked : Bool)
+        → result ≡ length (messages_bytes (fill_messages chunked fixed.now fill others.now.count)) }
     ensures few { result ≤ 24 }
 {
     if has_fill(others) {
@@ -180,25 +187,23 @@ fn fill_message_length(fixed: &Fixed, fill: i128, others: &Others) -> u64
 /// The fill value message of an array, where there is one.
 fn push_fill_message(
     out: &mut Vec<u8>,
-    fixed: &Fixed,
-    fill: i128,
+    array: &ArrayRef<'_>,
     others: &Others,
 ) -> Result<(), AllocError>
-    requires few { others.now.count ≤ 65535 }
-    requires of_type { fits fixed.now fill ≡ true }
-    ensures { OnOk result
-        (out.new.items ≡ out.old.items ++ messages_bytes (fill_messages fixed.now fill others.now.count)) }
+    requires { others.now.count ≤ 65535 }
+    ensures { OnOk result (out.new.items ≡ out.old.items ++ messages_bytes
+        (fill_messages (in_chunks array.now.layout) array.now.fixed array.now.fill others.now.count)) }
 {
     if !has_fill(others) {
         return Ok(());
     }
-    push_fill(out, fixed, fill)
+    push_fill(out, is_in_chunks(array), &array.fixed(), array.fill())
 }
 
 /// How many messages an array's header has, with these behind its own.
 fn messages_count(others: &Others) -> u16
     requires { others.now.count + 3 ≤ 65535 }
-    ensures { (a : Described) (address : Option ℕ) → result ≡ count_of a others.now address }
+    ensures { (a : Described) (c : NewCells) (address : Option ℕ) → result ≡ count_of a c others.now address }
 {
     let count = others.count() as u16;
     if has_fill(others) {
@@ -211,46 +216,57 @@ fn messages_count(others: &Others) -> u16
 /// How many bytes these have.
 fn messages_size(array: &ArrayRef<'_>, others: &Others) -> u64
     requires same { length array.now.maxima ≡ length array.now.sizes }
+    requires fits { FitsLayout (cells_of array.now.sizes * array.now.fixed.size) array.now.layout }
     requires few { others.now.count + 3 ≤ 65535 }
-    ensures exact { (address : Option ℕ) → result ≡ size_of array.now others.now address }
+    ensures exact { (c : NewCells) (address : Option ℕ)
+        → HasRoom c (cells_of array.now.sizes * array.now.fixed.size)
+        → result ≡ size_of array.now c others.now address }
     ensures few { result + 16 ≤ 2 ^ 33 }
-    ensures added { result ≤ length others.now.bytes + 608 }
+    ensures added { result ≤ length others.now.bytes + 66112 }
+    ensures holds { length others.now.bytes ≤ result }
 {
     let bytes = others.bytes().len() as u64;
     let space = space_length(array);
     let fill = fill_message_length(&array.fixed(), array.fill(), others);
-    space + 24 + fill + 32 + bytes
+    let layout = layout_length(array);
+    space + 24 + fill + layout + bytes
 }
 
 /// How many bytes an array's header has, its prefix and these messages behind its own with it.
+///
+/// That its cells fit in a message where it is compact is the caller's condition.
 pub fn array_header_length(array: &ArrayRef<'_>, others: &Others) -> u64
     requires same { length array.now.maxima ≡ length array.now.sizes }
+    requires fits { FitsLayout (cells_of array.now.sizes * array.now.fixed.size) array.now.layout }
     requires few { others.now.count + 3 ≤ 65535 }
-    ensures exact { (count : ℕ) (address : Option ℕ)
-        → result ≡ length (header_written count array.now others.now address) }
+    ensures exact { (c : NewCells) (count : ℕ) (address : Option ℕ)
+        → HasRoom c (cells_of array.now.sizes * array.now.fixed.size)
+        → result ≡ length (header_written count array.now c others.now address) }
     ensures few { result ≤ 2 ^ 33 }
     ensures holds { length others.now.bytes ≤ result }
 {
     16 + messages_size(array, others)
 }
 
-/// The header of an array to which so many links lead and whose data stand at this address, or nowhere, with these messages behind
-/// its own.
+/// The header of an array with these cells, to which so many links lead and whose data or whose tree stand at this address, or
+/// nowhere, with these messages behind its own.
 ///
-/// How long these may be can be told by `array_header_length`; `cells_address` gives the address.
+/// How long these may be can be told by `array_header_length`; `cells_address` gives the address. Takes memory for the cells of a
+/// compact array besides, where each is the fill.
 pub fn push_array_header(
     out: &mut Vec<u8>,
     array: &ArrayRef<'_>,
+    cells: &Cells<'_>,
     others: &Others,
     address: Option<u64>,
     references: u32,
 ) -> Result<(), AllocError>
-    requires bounded { are_maxima array.now.sizes array.now.maxima ≡ true }
+    requires array { IsArrayToWrite array.now cells.now }
     requires few { others.now.count + 3 ≤ 65535 }
     requires address { ForSome address (λ at. at < 2 ^ 64 - 1) }
     requires low { length others.now.bytes ≤ 2 ^ 31 }
-    ensures { OnOk result
-        (out.new.items ≡ out.old.items ++ header_written references array.now others.now address) }
+    ensures { OnOk result (out.new.items
+        ≡ out.old.items ++ header_written references array.now cells.now others.now address) }
 {
     push_prefix(
         out,
@@ -260,8 +276,8 @@ pub fn push_array_header(
     )?;
     push_space(out, array)?;
     push_type(out, &array.fixed())?;
-    push_fill_message(out, &array.fixed(), array.fill(), others)?;
-    push_layout(out, address, cells_length(array))?;
+    push_fill_message(out, array, others)?;
+    push_layout(out, array, cells, address)?;
     push_bytes(out, others.bytes())?;
     Ok(())
 }

@@ -1,9 +1,9 @@
 use Rattle.h5_repack.proofs.Pushed.{array_pushed}
-use Rattle.h5_repack.proofs.Sizes.{array_bounded, array_few}
+use Rattle.h5_repack.proofs.Sizes.{array_writable, array_few}
 use Rattle.h5_repack.proofs.object.push_array.Goals as goal
 
-pub push_array_header-requires-clause-bounded : goal.push_array_header-requires-clause-bounded
-push_array_header-requires-clause-bounded c = array_bounded c.args.array.now c.args.cells.now c.args.others.now c.requires.held.0 c.requires.held.1
+pub push_array_header-requires-clause-array : goal.push_array_header-requires-clause-array
+push_array_header-requires-clause-array c = array_writable c.args.array.now c.args.cells.now c.args.others.now c.requires.held.0 c.requires.held.1
 
 pub push_array_header-requires-clause-few : goal.push_array_header-requires-clause-few
 push_array_header-requires-clause-few c = array_few c.args.array.now c.args.cells.now c.args.others.now c.requires.held.0 c.requires.held.1

@@ -1,5 +1,5 @@
 use Rattle.std.proofs.Common.{arith, None}
-use Rattle.h5_repack.proofs.Sizes.{array_bounded, array_few, array_room, array_header_size, array_content, array_size}
+use Rattle.h5_repack.proofs.Sizes.{array_bounded, array_few, array_fits, array_room, array_header_size, array_content, array_size}
 use Rattle.h5_msg.proofs.WordLaws.{as_many_maxima}
 use Rattle.h5_repack.proofs.size.measure_array.Goals as goal
 
@@ -11,6 +11,9 @@ array_header_length-header-requires-clause-same c =
 pub array_header_length-header-requires-clause-few : goal.array_header_length-header-requires-clause-few
 array_header_length-header-requires-clause-few c = array_few c.args.array.now c.args.cells.now c.args.others.now c.requires.0 c.requires.1
 
+pub array_header_length-header-requires-clause-fits : goal.array_header_length-header-requires-clause-fits
+array_header_length-header-requires-clause-fits c = array_fits c.args.array.now c.args.cells.now c.args.others.now c.requires.0 c.requires.1
+
 pub data_length-length-requires : goal.data_length-length-requires
 data_length-length-requires c = array_room c.args.array.now c.args.cells.now c.args.others.now c.requires.0 c.requires.1
 
@@ -18,7 +21,8 @@ pub returns-then-header-gt-MAXIMUM_IMAGE-clause-refused : goal.returns-then-head
 returns-then-header-gt-MAXIMUM_IMAGE-clause-refused c leaf internal o is =
     omega (
       arith,
-      c.array_header_length-header.ensures.exact 0 None,
+      c.array_header_length-header.ensures.exact c.args.cells.now 0 None
+          (array_room c.args.array.now c.args.cells.now c.args.others.now c.requires.0 c.requires.1),
       array_header_size c.args.array.now c.args.cells.now c.args.others.now o is 0 None,
       c.if-header-gt-MAXIMUM_IMAGE.true,
     )
@@ -35,4 +39,4 @@ returns-then-length-gt-MAXIMUM_IMAGE-clause-refused c leaf internal o is =
 pub returns-clause-size : goal.returns-clause-size
 returns-clause-size c leaf internal o is =
     array_size c.args.array.now c.args.cells.now c.args.others.now o is leaf internal c.array_header_length-header.result c.data_length-length.result
-    (c.array_header_length-header.ensures.exact 0 None) c.data_length-length.ensures.exact c.if-header-gt-MAXIMUM_IMAGE.false c.if-length-gt-MAXIMUM_IMAGE.false
+    (c.array_header_length-header.ensures.exact c.args.cells.now 0 None (array_room c.args.array.now c.args.cells.now c.args.others.now c.requires.0 c.requires.1)) c.data_length-length.ensures.exact c.if-header-gt-MAXIMUM_IMAGE.false c.if-length-gt-MAXIMUM_IMAGE.false

@@ -1,10 +1,12 @@
-use Rattle.std.proofs.Common.{length, ap, ◌∙◌, sym}
-use Rattle.h5_model.specs.Tree.Places.{cells}
-use Rattle.h5_repack.specs.Blocks.ArrayHeader.{data_written}
-use Rattle.h5_repack.proofs.BlockLaws.ArrayParts.{length-filled}
+use Rattle.std.proofs.Common.{◌∙◌, sym, true, false}
+use Rattle.h5_repack.proofs.BlockLaws.ArrayParts.{length-data}
 use Rattle.h5_repack.proofs.blocks.cells.data_length.Goals as goal
 
-pub returns-in-Filled-clause-exact : goal.returns-in-Filled-clause-exact
-returns-in-Filled-clause-exact c =
-    let a = c.args.array.now in
-    c.cells_length.ensures.exact ∙ length-filled a.fixed a.fill (cells a.sizes) ∙ sym (ap (λ x. length (data_written x a)) c.in-Filled.is)
+pub returns-then-stores_data-clause-exact : goal.returns-then-stores_data-clause-exact
+returns-then-stores_data-clause-exact c =
+    c.cells_length.ensures.exact
+    ∙ length-data c.args.cells.now c.args.array.now c.requires true (sym c.if-stores_data.true ∙ c.stores_data.ensures)
+
+pub returns-else-stores_data-clause-exact : goal.returns-else-stores_data-clause-exact
+returns-else-stores_data-clause-exact c =
+    length-data c.args.cells.now c.args.array.now c.requires false (sym c.if-stores_data.false ∙ c.stores_data.ensures)

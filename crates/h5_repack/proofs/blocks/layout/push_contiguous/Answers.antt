@@ -1,7 +1,7 @@
 use Rattle.std.proofs.Common.{refl}
 use Rattle.h5_model.specs.Format.Bodies.{contiguous_bytes}
 use Rattle.h5_repack.proofs.BlockLaws.Rooms.{body_written}
-use Rattle.h5_repack.proofs.blocks.header.push_layout.Goals as goal
+use Rattle.h5_repack.proofs.blocks.layout.push_contiguous.Goals as goal
 
 pub returns : goal.returns
 returns c =

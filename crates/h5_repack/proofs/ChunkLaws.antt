@@ -1,0 +1,10 @@
+pub mod KeyBack
+pub mod ChunkLengths
+pub mod ChunkLevels
+pub mod ChunkCells
+pub mod ChunkOrder
+pub mod ChunkTree
+pub mod KeyTrees
+pub mod ChunksRead
+pub mod ChunkedArray
+pub mod HeldChunks
