@@ -2,6 +2,7 @@ pub mod CellData
 pub mod ChunkCells
 pub mod Data
 pub mod Described
+pub mod HeldChunks
 pub mod Judged
 pub mod Maxima
 pub mod Pieces

@@ -2,5 +2,4 @@ pub mod Bodies
 pub mod Headers
 pub mod Sound
 pub mod Chunks
-pub mod StoredChunks
 pub mod Laws

@@ -5,7 +5,7 @@ ghost use Rattle.std.specs.List.{AllByRecursion, AllZip, flat_map};
 ghost use Rattle.h5_model.specs.Tree.Objects.{Object, Tree};
 ghost use Rattle.h5_model.specs.Format.Superblock.{AreK};
 ghost use Rattle.h5_repack.specs.Layout.{IsHeldObject, IsLowLayout, IsLowSize, IsSlotSize, front_at, numbered_at};
-ghost use Rattle.h5_repack.specs.Objects.Objects.{IsFilled, SlotsHold};
+ghost use Rattle.h5_repack.specs.Objects.Objects.{IsFilled, SlotsHold, stored_in};
 ghost use Rattle.h5_repack.specs.Written.{IsTreeToWrite, IsWritten, IsUnwritten};
 
 use crate::group::Layout;
@@ -105,10 +105,12 @@ pub fn write_tree(
     requires few { length objects.now < 2 ^ 32 }
     requires tree { (tree : Tree) × IsTreeToWrite objects.now tree }
     ensures written { IfOk result (λ w.
-        (tree : Tree) → IsTreeToWrite objects.now tree → IsWritten leaf internal tree w) }
+        (tree : Tree) → IsTreeToWrite objects.now tree
+        → IsWritten leaf internal (stored_in objects.now) tree w) }
     ensures numbered { IfOk result (λ w. length w.headers.items ≡ length objects.now) }
     ensures refused { IfErr result (λ fault.
-        (tree : Tree) → IsTreeToWrite objects.now tree → IsUnwritten leaf internal tree fault) }
+        (tree : Tree) → IsTreeToWrite objects.now tree
+        → IsUnwritten leaf internal (stored_in objects.now) tree fault) }
 {
     let Ok(order) = met_order(alloc, objects) else {
         return Err(WriteFault::NoMemory);

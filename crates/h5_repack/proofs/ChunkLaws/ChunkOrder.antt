@@ -17,8 +17,9 @@ use Rattle.h5_btree.specs.declared.write.child.Child.{Child}
 use Rattle.h5_btree.specs.Writing.Laws.{lists_beside}
 use Rattle.h5_btree.specs.Writing.Written.{keys_of, places_of}
 use Rattle.h5_chunks.specs.Keys.{OffsetKey, chunk_key}
-use Rattle.h5_repack.specs.Bodies.Chunks.{index_from, chunk_children}
-use Rattle.h5_repack.specs.Bodies.StoredChunks.{AreRising}
+use Rattle.h5_layout.specs.HeldChunks.{index_from}
+use Rattle.h5_repack.specs.Bodies.Chunks.{chunk_children}
+use Rattle.h5_layout.specs.HeldChunks.{AreRising}
 use Rattle.h5_repack.proofs.ChunkLaws.KeyBack.{AreWords, offsets_back, all_back}
 use Rattle.h5_repack.proofs.ChunkLaws.ChunkLengths.{length-index_from}
 

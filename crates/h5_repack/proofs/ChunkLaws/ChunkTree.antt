@@ -29,7 +29,7 @@ use Rattle.h5_model.specs.Format.Links.{Before}
 use Rattle.h5_chunks.specs.Keys.{OffsetKey, chunk_key}
 use Rattle.h5_chunks.proofs.Ascending.{rise_sorted}
 use Rattle.h5_repack.specs.Bodies.Chunks.{chunk_children}
-use Rattle.h5_repack.specs.Bodies.StoredChunks.{AreRising}
+use Rattle.h5_layout.specs.HeldChunks.{AreRising}
 use Rattle.h5_repack.proofs.ChunkLaws.KeyBack.{key_back}
 use Rattle.h5_repack.proofs.ChunkLaws.ChunkOrder.{IsGridOf, chunk_ladder, key_of, key_pairs, keys_follow, left_of_next, offsets_are, right_of_key}
 

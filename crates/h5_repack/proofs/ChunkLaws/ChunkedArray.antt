@@ -30,7 +30,7 @@ use Rattle.h5_repack.specs.Bodies.Bodies.{others_of, array_layout, layout_body}
 use Rattle.h5_repack.specs.Bodies.Chunks.{chunk_length, chunked_data}
 use Rattle.h5_repack.specs.Bodies.Laws.{counted_header}
 use Rattle.h5_repack.specs.Bodies.Sound.{ArePlainChunks, IsPlainObject}
-use Rattle.h5_repack.specs.Bodies.StoredChunks.{AreStoredChunks, IsHeldChunk}
+use Rattle.h5_layout.specs.HeldChunks.{AreStoredChunks, IsHeldChunk}
 use Rattle.h5_repack.proofs.BodyLaws.ChunkSizes.{chunk_sizes_low, some_cell}
 use Rattle.h5_repack.proofs.BodyLaws.HeaderArray.{IsLaid, laid_reads}
 use Rattle.h5_repack.proofs.BodyLaws.HeaderLengths.{IsHead, head_length, length-layout}

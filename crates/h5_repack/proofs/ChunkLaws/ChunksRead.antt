@@ -23,7 +23,7 @@ use Rattle.h5_btree.proofs.WriteLaws.RowReads.{part_split}
 use Rattle.h5_btree.proofs.WriteLaws.TreeLaws.{tree_reads}
 use Rattle.h5_chunks.specs.Keys.{OffsetKey, chunk_key}
 use Rattle.h5_repack.specs.Bodies.Chunks.{chunk_children, chunk_data, chunk_length, chunk_nodes, chunked_data, chunks_place}
-use Rattle.h5_repack.specs.Bodies.StoredChunks.{AreStoredChunks, IsHeldChunk}
+use Rattle.h5_layout.specs.HeldChunks.{AreStoredChunks, IsHeldChunk}
 use Rattle.h5_repack.proofs.ChunkLaws.ChunkCells.{AreCellsStored}
 use Rattle.h5_repack.proofs.ChunkLaws.ChunkLengths.{AreRanked, key_fits, keys_fit, length-children, length-chunk, length-chunks, length-nodes, node_long}
 use Rattle.h5_repack.proofs.ChunkLaws.ChunkLevels.{chunk_level}

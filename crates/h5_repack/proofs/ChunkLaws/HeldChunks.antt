@@ -27,7 +27,7 @@ use Rattle.h5_model.proofs.PlaceLaws.{index-place, place_below}
 use Rattle.h5_laws.proofs.Lists.{In, all_in, contains_in, from_flat, in_all, in_map}
 use Rattle.h5_laws.proofs.Maps.{found_entry, get_of_entry}
 use Rattle.h5_repack.specs.Bodies.Sound.{IsUnset}
-use Rattle.h5_repack.specs.Bodies.StoredChunks.{AreRising, AreStoredChunks, IsHeldChunk, held_chunks}
+use Rattle.h5_layout.specs.HeldChunks.{AreRising, AreStoredChunks, IsHeldChunk, held_chunks}
 use Rattle.h5_repack.proofs.ChunkLaws.ChunkCells.{is_inside_from}
 
 -- ---- offsets that rise

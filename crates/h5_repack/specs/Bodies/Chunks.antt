@@ -1,30 +1,20 @@
 -- The data of a chunked array in the plain layout: the nodes of its tree, and behind them its stored chunks in the order of their
 -- offsets (File Format Specification 3.0, sections III.A.1 and IV.A.2.i).
-use Rattle.std.specs.Prelude.{ℕ, ◌+◌, ◌*◌, ℤ, List, [], ◌∷◌, ◌++◌, map, length}
-use Rattle.std.specs.List.{flat_map, range_with_len}
-use Rattle.h5_model.specs.Edits.Applied.{cell_or_fill}
+use Rattle.std.specs.Prelude.{ℕ, ◌+◌, ◌*◌, List, [], ◌∷◌, ◌++◌, length}
+use Rattle.std.specs.List.{flat_map}
 use Rattle.h5_model.specs.Format.Nodes.{chunk_kind, node_length}
 use Rattle.h5_model.specs.Format.Plain.{cells_bytes}
 use Rattle.h5_model.specs.Format.PlainLength.{nodes_over}
 use Rattle.h5_model.specs.Tree.Objects.{Dataset}
-use Rattle.h5_model.specs.Tree.Places.{cells, index_of}
+use Rattle.h5_model.specs.Tree.Places.{cells}
 use Rattle.h5_btree.specs.Writing.Written.{tree_bytes}
 use Rattle.h5_btree.specs.declared.write.child.Child.{Child}
 use Rattle.h5_chunks.specs.Keys.{OffsetKey, chunk_key}
+use Rattle.h5_layout.specs.HeldChunks.{chunk_values, index_from}
 
 -- ---- a chunk
 
--- the index in the array of a cell with this index in the chunk at these offsets
-abbrev pub index_from : List ℕ → List ℕ → List ℕ
-index_from [] inner = []
-index_from (o ∷ os) [] = []
-index_from (o ∷ os) (i ∷ is) = (o + i) ∷ index_from os is
-
--- the cells of the chunk at these offsets, in row-major order; outside the extent each is the fill
-abbrev pub chunk_values : Dataset → List ℕ → List ℕ → List ℤ
-chunk_values d chunk offsets =
-    map (λ place. cell_or_fill d (index_from offsets (index_of chunk place))) (range_with_len 0 (cells chunk))
-
+-- the bytes of the cells of the chunk at these offsets
 abbrev pub chunk_data : Dataset → List ℕ → List ℕ → List ℕ
 chunk_data d chunk offsets = cells_bytes d.fixed (chunk_values d chunk offsets)
 
@@ -49,14 +39,14 @@ chunk_children size chunk at (offsets ∷ others) =
 abbrev pub chunks_place : List ℕ → ℕ → ℕ → ℕ
 chunks_place chunk count at = at + nodes_over 64 (2 * 32) count * node_length (chunk_kind 32 (length chunk))
 
--- the tree of the chunks at these offsets, of which the first is given apart
-abbrev pub chunk_nodes : Dataset → List ℕ → List ℕ → List (List ℕ) → ℕ → List ℕ
-chunk_nodes d chunk first all at =
-    tree_bytes (chunk_kind 32 (length chunk)) chunk_key (record { bytes = chunk_length d chunk; offsets = first }) at
-    (chunk_children (chunk_length d chunk) chunk (chunks_place chunk (length all) at) all)
+-- the tree of the chunks of so many bytes at these offsets, of which the first is given apart
+abbrev pub chunk_nodes : ℕ → List ℕ → List ℕ → List (List ℕ) → ℕ → List ℕ
+chunk_nodes size chunk first all at =
+    tree_bytes (chunk_kind 32 (length chunk)) chunk_key (record { bytes = size; offsets = first }) at
+    (chunk_children size chunk (chunks_place chunk (length all) at) all)
 
 -- the tree at this place, and the chunks; nothing where no chunk is stored
 abbrev pub chunked_data : Dataset → List ℕ → List (List ℕ) → ℕ → List ℕ
 chunked_data d chunk [] at = []
 chunked_data d chunk (first ∷ others) at =
-    chunk_nodes d chunk first (first ∷ others) at ++ flat_map (chunk_data d chunk) (first ∷ others)
+    chunk_nodes (chunk_length d chunk) chunk first (first ∷ others) at ++ flat_map (chunk_data d chunk) (first ∷ others)

@@ -1,16 +1,38 @@
--- The header of a group in the plain layout, and the data of an array (File Format Specification 3.0, sections IV.A.1.a and IV.A.2.r).
-use Rattle.std.specs.Prelude.{ℕ, Bool, false, if◌then◌else◌, List, [], ◌∷◌}
+-- The header of a group in the plain layout, and what stands behind the header of an array (File Format Specification 3.0, sections
+-- IV.A.1.a, IV.A.2.i and IV.A.2.r).
+use Rattle.std.specs.Prelude.{ℕ, Bool, true, false, if◌then◌else◌, List, [], ◌∷◌}
 use Rattle.h5_model.specs.Format.Bodies.{pair_bytes}
 use Rattle.h5_model.specs.Format.Plain.{header_bytes, cells_bytes}
-use Rattle.h5_model.specs.Tree.Objects.{Dataset, Storage, Contiguous}
+use Rattle.h5_model.specs.Tree.Objects.{Dataset, Storage, Compact, Contiguous, Chunked}
+use Rattle.h5_layout.specs.HeldChunks.{AreStoredChunks}
+use Rattle.h5_repack.specs.Bodies.Chunks.{chunked_data}
 
-abbrev pub is_stored : Storage → Bool
-is_stored (Contiguous stored) = stored
-is_stored _ = false
+-- ---- the stored chunks of an array, by their offsets: no other array has any
 
--- the cells where they are stored
-abbrev pub data_of : Dataset → List ℕ
-data_of d = if is_stored d.storage then cells_bytes d.fixed d.cells else []
+-- these are the stored chunks, where the cells are in chunks
+abbrev pub AreStoredFor : List (List ℕ) → Dataset → Type 0
+AreStoredFor stored d = by_storage d.storage where
+  by_storage : Storage → Type 0
+  by_storage Compact = Unit {0}
+  by_storage (Contiguous held) = Unit {0}
+  by_storage (Chunked chunk) = AreStoredChunks d chunk stored
+
+-- whether cells, or a tree of chunks, stand behind the header
+abbrev pub is_stored : List (List ℕ) → Storage → Bool
+is_stored stored Compact = false
+is_stored stored (Contiguous held) = held
+is_stored [] (Chunked chunk) = false
+is_stored (first ∷ others) (Chunked chunk) = true
+
+-- the cells in one block, or the tree of chunks with these chunks, at this place
+abbrev pub data_of : List (List ℕ) → Dataset → ℕ → List ℕ
+data_of stored d place = of_storage d.storage where
+  of_storage : Storage → List ℕ
+  of_storage Compact = []
+  of_storage (Contiguous held) = if held then cells_bytes d.fixed d.cells else []
+  of_storage (Chunked chunk) = chunked_data d chunk stored place
+
+-- ---- groups
 
 -- a header of one block, with one link to it
 abbrev pub group_header : ℕ → ℕ → List (ℕ × List ℕ) → List ℕ

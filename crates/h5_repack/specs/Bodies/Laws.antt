@@ -13,7 +13,7 @@ use Rattle.h5_model.specs.Format.Sizes.{header_size}
 use Rattle.h5_model.specs.Format.Superblock.{leaf_k, internal_k}
 use Rattle.h5_model.specs.Tree.Objects.{Tree, Object, Array, Dataset}
 use Rattle.h5_repack.specs.Bodies.Bodies.{others_of, array_messages}
-use Rattle.h5_repack.specs.Bodies.Headers.{is_stored, data_of}
+use Rattle.h5_repack.specs.Bodies.Headers.{AreStoredFor, is_stored, data_of}
 use Rattle.h5_repack.specs.Bodies.Sound.{IsPlainObject, IsPlainArray}
 
 -- the image reads as the tree, has these K values, and has no gap
@@ -30,14 +30,16 @@ pub record IsPlainReading (image : List ℕ) (leaf internal : ℕ) (table : FinM
 abbrev pub counted_header : ℕ → Object → Dataset → Option ℕ → List ℕ
 counted_header count p d address = header_bytes count (array_messages d address (length (others_of p)) ++ others_of p)
 
--- Such a header, with the data where they are stored, reads as the array, and has that count. The other blocks are its data, without gaps.
+-- Such a header, with the data or the chunks that are stored, reads as the array, and has that count. The other blocks are those of the
+-- data, without gaps.
 abbrev pub ArrayReads : Type 0
-ArrayReads = (image : List ℕ) (table : FinMap nat_cmp ℕ) (at place count : ℕ) (p : Object) (d : Dataset) → IsPlainObject p → p.content ≡ Array d
-    → IsPlainArray d (length (others_of p)) → 3 + length (others_of p) ≤ 65535 → count < 2 ^ 32 → header_size p < 2 ^ 31 → place < 2 ^ 63
-    → part at (header_size p) image ≡ counted_header count p d (if is_stored d.storage then Some place else None)
-    → part place (length (data_of d)) image ≡ data_of d
+ArrayReads = (image : List ℕ) (table : FinMap nat_cmp ℕ) (at place count : ℕ) (p : Object) (d : Dataset) (stored : List (List ℕ)) → IsPlainObject p → p.content ≡ Array d
+    → IsPlainArray d (length (others_of p)) → AreStoredFor stored d → 3 + length (others_of p) ≤ 65535 → count < 2 ^ 32 → header_size p < 2 ^ 31
+    → place + length (data_of stored d place) < 2 ^ 63
+    → part at (header_size p) image ≡ counted_header count p d (if is_stored stored d.storage then Some place else None)
+    → part place (length (data_of stored d place)) image ≡ data_of stored d place
     → (blocks : List Block) × HasObject image table at p (block at (header_size p) ∷ blocks) × (reference_count (prefix_at image at) ≡ count)
-    × Run place blocks (place + length (data_of d))
+    × Run place blocks (place + length (data_of stored d place))
 
 -- it has the length that is counted for it
 abbrev pub ArrayLength : Type 0

@@ -45,12 +45,12 @@ pub record ArePlainChunks (t : Fixed) (chunk : List ℕ) : Type 0 where
   pub some : list_any (λ n. n == 0) chunk ≡ false
   pub small : cells chunk * t.size ≤ 2 ^ 30
 
--- compact cells fit in a message; there are contiguous cells where they are stored; of chunks none is stored
+-- compact cells fit in a message; there are contiguous cells where they are stored; chunks fit in their bounds
 abbrev pub IsPlainStorage : Dataset → Storage → Type 0
 IsPlainStorage d Compact = cells d.sizes * (d.fixed).size ≤ 65524
 IsPlainStorage d (Contiguous true) = 1 ≤ cells d.sizes
 IsPlainStorage d (Contiguous false) = IsUnset d
-IsPlainStorage d (Chunked chunk) = ArePlainChunks d.fixed chunk × IsUnset d
+IsPlainStorage d (Chunked chunk) = ArePlainChunks d.fixed chunk
 
 -- an array in this layout; a fill that is not written, beside so many other messages, is 0
 pub record IsPlainArray (d : Dataset) (others : ℕ) : Type 0 where

@@ -3,19 +3,19 @@ use Rattle.std.specs.Prelude.{◌≡◌, ℕ, ◌^◌, ◌≤◌, List, length}
 use Rattle.h5_model.specs.Format.PlainLength.{plain_length}
 use Rattle.h5_model.specs.Tree.Objects.{Tree, Object}
 use Rattle.h5_repack.specs.Bodies.Laws.{IsPlainReading}
-use Rattle.h5_repack.specs.Image.Plain.{ArePlain, IsPlainTree}
-use Rattle.h5_repack.specs.Image.Written.{IsOrder, image_end, plain_image, table_of}
+use Rattle.h5_repack.specs.Image.Plain.{IsPlainTree}
+use Rattle.h5_repack.specs.Image.Written.{IsOrder, StoredIn, counts_of, image_end, plain_image, table_of}
 
 abbrev pub ImageReads : Type 0
-ImageReads = (leaf internal : ℕ) (tree : Tree) (order : List (ℕ × Object)) → IsPlainTree leaf internal tree → IsOrder tree order
-    → image_end leaf internal order ≤ 2 ^ 31
-    → IsPlainReading (plain_image leaf internal tree order) leaf internal (table_of leaf internal order) tree
+ImageReads = (leaf internal : ℕ) (stored : StoredIn) (tree : Tree) (order : List (ℕ × Object)) → IsPlainTree leaf internal stored tree
+    → IsOrder tree order → image_end leaf internal (counts_of stored) order ≤ 2 ^ 31
+    → IsPlainReading (plain_image leaf internal stored tree order) leaf internal (table_of leaf internal (counts_of stored) order) tree
 
--- no chunk is stored
+-- whatever chunks are stored
 abbrev pub ImageLength : Type 0
-ImageLength = (leaf internal chunk : ℕ) (tree : Tree) (order : List (ℕ × Object)) → ArePlain tree → IsOrder tree order
-    → image_end leaf internal order ≡ plain_length leaf internal chunk (λ number. 0) tree
+ImageLength = (leaf internal : ℕ) (counts : ℕ → ℕ) (tree : Tree) (order : List (ℕ × Object)) → IsOrder tree order
+    → image_end leaf internal counts order ≡ plain_length leaf internal 32 counts tree
 
 abbrev pub ImageEnds : Type 0
-ImageEnds = (leaf internal : ℕ) (tree : Tree) (order : List (ℕ × Object)) → IsPlainTree leaf internal tree → IsOrder tree order
-    → length (plain_image leaf internal tree order) ≡ image_end leaf internal order
+ImageEnds = (leaf internal : ℕ) (stored : StoredIn) (tree : Tree) (order : List (ℕ × Object)) → IsPlainTree leaf internal stored tree
+    → IsOrder tree order → length (plain_image leaf internal stored tree order) ≡ image_end leaf internal (counts_of stored) order

@@ -24,27 +24,38 @@ pub record IsOrder (tree : Tree) (order : List (ℕ × Object)) : Type 0 where
   pub all : (number : ℕ) (o : Object) → get tree number ≡ Some o → Contains order (number, o)
   pub distinct : IsDistinct (eq_by_cmp nat_cmp) (map (λ x. x.0) order)
 
+-- ---- stored chunks
+
+-- the offsets of the stored chunks of each object, by its number; those alone count that have an array in chunks
+abbrev pub StoredIn : Type 0
+StoredIn = ℕ → List (List ℕ)
+
+-- how many each object has
+abbrev pub counts_of : StoredIn → ℕ → ℕ
+counts_of stored number = length (stored number)
+
 -- ---- places
 
--- how many bytes an object has, its header and what belongs to it; chunks are none
-abbrev pub object_length : ℕ → ℕ → Object → ℕ
-object_length leaf internal o = header_size o + content_bytes leaf internal 0 0 o.content
+-- how many bytes an object with so many stored chunks has, its header and what belongs to it
+abbrev pub object_length : ℕ → ℕ → ℕ → Object → ℕ
+object_length leaf internal count o = header_size o + content_bytes leaf internal 32 count o.content
 
 -- where the header of each object stands, the first at this place
-abbrev pub headers_from : ℕ → ℕ → ℕ → List (ℕ × Object) → List (ℕ × ℕ)
-headers_from leaf internal at [] = []
-headers_from leaf internal at ((number, o) ∷ order) = (number, at) ∷ headers_from leaf internal (at + object_length leaf internal o) order
+abbrev pub headers_from : ℕ → ℕ → (ℕ → ℕ) → ℕ → List (ℕ × Object) → List (ℕ × ℕ)
+headers_from leaf internal counts at [] = []
+headers_from leaf internal counts at ((number, o) ∷ order) =
+    (number, at) ∷ headers_from leaf internal counts (at + object_length leaf internal (counts number) o) order
 
-abbrev pub end_from : ℕ → ℕ → ℕ → List (ℕ × Object) → ℕ
-end_from leaf internal at [] = at
-end_from leaf internal at ((number, o) ∷ order) = end_from leaf internal (at + object_length leaf internal o) order
+abbrev pub end_from : ℕ → ℕ → (ℕ → ℕ) → ℕ → List (ℕ × Object) → ℕ
+end_from leaf internal counts at [] = at
+end_from leaf internal counts at ((number, o) ∷ order) = end_from leaf internal counts (at + object_length leaf internal (counts number) o) order
 
 -- by the objects' numbers, behind the superblock
-abbrev pub table_of : ℕ → ℕ → List (ℕ × Object) → FinMap nat_cmp ℕ
-table_of leaf internal order = from_entries (headers_from leaf internal 96 order)
+abbrev pub table_of : ℕ → ℕ → (ℕ → ℕ) → List (ℕ × Object) → FinMap nat_cmp ℕ
+table_of leaf internal counts order = from_entries (headers_from leaf internal counts 96 order)
 
-abbrev pub image_end : ℕ → ℕ → List (ℕ × Object) → ℕ
-image_end leaf internal order = end_from leaf internal 96 order
+abbrev pub image_end : ℕ → ℕ → (ℕ → ℕ) → List (ℕ × Object) → ℕ
+image_end leaf internal counts order = end_from leaf internal counts 96 order
 
 -- what belongs to an object stands behind its header
 abbrev pub content_place : Object → ℕ → ℕ
@@ -76,21 +87,21 @@ written_link leaf internal tree table (name, Soft text) = (name, ToText text)
 abbrev pub written_links : ℕ → ℕ → Tree → FinMap nat_cmp ℕ → Links → List (List ℕ × Leads)
 written_links leaf internal tree table links = map (written_link leaf internal tree table) (entries links)
 
--- data that are not stored stand nowhere
-abbrev pub data_address : Dataset → ℕ → Option ℕ
-data_address d place = if is_stored d.storage then Some place else None
+-- data that are not stored stand nowhere, nor does a tree of no chunk
+abbrev pub data_address : List (List ℕ) → Dataset → ℕ → Option ℕ
+data_address stored d place = if is_stored stored d.storage then Some place else None
 
 -- an object whose header stands there: a header of one block with as many links as there are, and what belongs to it
-abbrev pub object_bytes : ℕ → ℕ → Tree → FinMap nat_cmp ℕ → ℕ × Object → List ℕ
-object_bytes leaf internal tree table (number, o) = by_content o.content where
+abbrev pub object_bytes : ℕ → ℕ → StoredIn → Tree → FinMap nat_cmp ℕ → ℕ × Object → List ℕ
+object_bytes leaf internal stored tree table (number, o) = by_content o.content where
   by_content : Content → List ℕ
   by_content (Group links) =
       header_bytes 1 ((17, pair_bytes (content_place o (header_in table number)) (group_heap_place leaf internal o links (header_in table number))) ∷ others_of o)
       ++ links_bytes leaf internal (content_place o (header_in table number)) (written_links leaf internal tree table links)
   by_content (Array d) =
       header_bytes (hard_links tree number)
-      (array_messages d (data_address d (content_place o (header_in table number))) (length (others_of o)) ++ others_of o)
-      ++ data_of d
+      (array_messages d (data_address (stored number) d (content_place o (header_in table number))) (length (others_of o)) ++ others_of o)
+      ++ data_of (stored number) d (content_place o (header_in table number))
 
 -- the root's tree and heap, as its entry in the superblock says
 abbrev pub root_heap : ℕ → ℕ → Object → ℕ
@@ -99,11 +110,12 @@ root_heap leaf internal o = by_content o.content where
   by_content (Group links) = group_heap_place leaf internal o links 96
   by_content (Array d) = 0
 
-abbrev pub superblock_of : ℕ → ℕ → List (ℕ × Object) → List ℕ
-superblock_of leaf internal [] = []
-superblock_of leaf internal ((number, o) ∷ order) =
-    superblock_bytes leaf internal (image_end leaf internal ((number, o) ∷ order)) 96 (content_place o 96) (root_heap leaf internal o)
+abbrev pub superblock_of : ℕ → ℕ → (ℕ → ℕ) → List (ℕ × Object) → List ℕ
+superblock_of leaf internal counts [] = []
+superblock_of leaf internal counts ((number, o) ∷ order) =
+    superblock_bytes leaf internal (image_end leaf internal counts ((number, o) ∷ order)) 96 (content_place o 96) (root_heap leaf internal o)
 
-unfoldable pub plain_image : ℕ → ℕ → Tree → List (ℕ × Object) → List ℕ
-plain_image leaf internal tree order =
-    superblock_of leaf internal order ++ flat_map (object_bytes leaf internal tree (table_of leaf internal order)) order
+unfoldable pub plain_image : ℕ → ℕ → StoredIn → Tree → List (ℕ × Object) → List ℕ
+plain_image leaf internal stored tree order =
+    superblock_of leaf internal (counts_of stored) order
+    ++ flat_map (object_bytes leaf internal stored tree (table_of leaf internal (counts_of stored) order)) order

@@ -1,5 +1,5 @@
 -- Which tree objects make that are handed to the writer, each in the slot of its number; the slot of a number without an object is empty.
-use Rattle.std.specs.Prelude.{◌≡◌, ℕ, Option, Some, None, IsSome, List, map, slice_get}
+use Rattle.std.specs.Prelude.{◌≡◌, ℕ, Option, Some, None, IsSome, List, [], map, slice_get}
 use Rattle.std.specs.List.{AllZip}
 use Rattle.std.specs.FinMap.{get, entries}
 use Rattle.std.specs.Option.{option_flatten}
@@ -8,7 +8,9 @@ use Rattle.h5_model.specs.Tree.Links.{tree_link}
 use Rattle.h5_repack.specs.Bodies.Bodies.{others_of}
 use Rattle.h5_layout.specs.Described.{Described}
 use Rattle.h5_repack.specs.Blocks.ArrayHeader.{storage_written}
-use Rattle.h5_repack.specs.Blocks.Written.{AreCellsToWrite, AreOthers}
+use Rattle.h5_repack.specs.Bodies.Headers.{AreStoredFor}
+use Rattle.h5_repack.specs.Blocks.Written.{AreCellsToWrite, AreOthers, chunks_of}
+use Rattle.h5_repack.specs.Image.Written.{StoredIn}
 use Rattle.h5_repack.specs.declared.blocks.cells.Cells.{Cells}
 use Rattle.h5_repack.specs.declared.objects.object.NewContent.{NewContent}
 use Rattle.h5_repack.specs.declared.objects.object.NewContent.TheVariants as content
@@ -22,6 +24,7 @@ pub record IsNewArray (a : Described) (c : Cells) (d : Dataset) : Type 0 where
   pub fill_is : a.fill ≡ d.fill
   pub storage_is : storage_written a c ≡ d.storage
   pub cells_are : AreCellsToWrite c d
+  pub stored_are : AreStoredFor (chunks_of c) d
 
 -- a group of these links, in the order of their names; or this array
 abbrev pub IsNewContent : NewContent → Content → Type 0
@@ -32,6 +35,20 @@ IsNewContent _ _ = ⊥
 pub record IsNewObject (x : NewObject) (o : Object) : Type 0 where
   pub content : IsNewContent x.content o.content
   pub others : AreOthers (others_of o) x.others
+
+-- ---- the stored chunks of what is handed over
+
+abbrev pub content_chunks : NewContent → List (List ℕ)
+content_chunks (content.Group links) = []
+content_chunks (content.Array a c) = chunks_of c
+
+abbrev pub slot_chunks : Option NewObject → List (List ℕ)
+slot_chunks None = []
+slot_chunks (Some x) = content_chunks x.content
+
+-- by the numbers of the objects
+abbrev pub stored_in : List (Option NewObject) → StoredIn
+stored_in objects number = slot_chunks (option_flatten (slice_get objects number))
 
 -- ---- slots
 

@@ -9,20 +9,22 @@ ghost use Rattle.h5_repack.specs.Blocks.Parts.{copies};
 ghost use Rattle.h5_repack.specs.Blocks.Written.{HasRoom};
 
 use h5_bytes::push_bytes;
-use h5_layout::{ArrayRef, Layout};
+use h5_layout::{ArrayRef, HeldChunks, Layout};
 use h5_model::Fixed;
 use h5_types::encode;
 use std::alloc::{AllocError, Global};
 
 /// The cells of an array to be written.
-#[derive(Clone, Copy)]
+#[derive(Drop)]
 pub enum Cells<'a> {
     /// Each is the fill value, and none is stored, but those of a compact array.
     Unset,
     /// Each is the fill value. They are stored in the block of a contiguous array; no chunk is.
     Filled,
-    /// The bytes of the cells, one after another.
+    /// The bytes of the cells of an array that is not in chunks, one after another.
     Stored(&'a [u8]),
+    /// The chunks that are stored of an array in chunks. Each cell in another chunk is the fill value.
+    Chunks(HeldChunks<'a>),
 }
 
 /// How many cells are appended at a time.
