@@ -179,7 +179,7 @@ whole_by (Chunks held) d are =
 fits_by : (l : Layout) (c : Cells) (t : Fixed) (d : Dataset) → d.fixed ≡ t → IsPlainStorage d (storage_by l c (cells d.sizes)) → FitsLayout (cells d.sizes * t.size) l
 fits_by (InMessage bytes) c t d same plain = subst (λ (k : Fixed). cells d.sizes * k.size ≤ 65524) same plain
 fits_by (InBlock b) c t d same plain = tt
-fits_by (InChunks chunk root) c t d same plain = ((plain.0).ranked, (plain.0).some)
+fits_by (InChunks chunk root) c t d same plain = (plain.ranked, plain.some)
 
 module _ (a : Described) (c : Cells) (d : Dataset) (is : IsNewArray a c d) where
   pub room_is : length d.cells ≡ cells d.sizes → HasRoom c (cells a.sizes * (a.fixed).size)

@@ -105,7 +105,7 @@ fn stores_data(array: &ArrayRef<'_>, cells: &Cells<'_>) -> bool
 /// How many bytes of data an array with these cells has behind its header; `None` where an image cannot have as many.
 pub fn data_length(array: &ArrayRef<'_>, cells: &Cells<'_>) -> Option<u64>
     requires { IsArrayToWrite array.now cells.now }
-    ensures { (place : ℕ) → IsLength result (data_written cells.now array.now place) }
+    ensures { (place : ℕ) → IsLength result (length (data_written cells.now array.now place)) }
 {
     if !stores_data(array, cells) {
         return Some(0);

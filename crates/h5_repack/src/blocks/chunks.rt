@@ -1,5 +1,6 @@
 //! Chunks that are stored behind their tree, as they are appended (File Format Specification 3.0, sections III.A.1 and IV.A.2.i).
 ghost use Rattle.std.specs.Prelude.{◌≡◌, ℕ, ℤ, ◌+◌, ◌-◌, ◌*◌, ◌^◌, ◌<◌, ◌≤◌, ◌++◌, ◌∷◌, IfOk, List, OnOk, Some, drop, length, map, slice_get};
+ghost use Rattle.std.specs.List.{AllByRecursion};
 ghost use Rattle.h5_model.specs.Format.Nodes.{chunk_kind, node_length};
 ghost use Rattle.h5_model.specs.Format.PlainLength.{nodes_over as nodes};
 ghost use Rattle.h5_model.specs.Tree.Objects.{Chunked};
@@ -46,20 +47,22 @@ pub(crate) fn has_chunks(cells: &Cells<'_>) -> bool
 /// The kind of the tree over chunks.
 fn kind_of(held: &HeldChunks<'_>) -> NodeKind
     ensures kind { result ≡ chunk_kind 32 (length held.now.chunk) }
-    ensures short { length held.now.chunk ≤ 32 }
+    ensures short { result.key_length ≤ 272 }
+    ensures ranked { AllByRecursion (λ (part : List ℕ × List ℤ).
+        length part.0 ≡ length held.now.chunk) held.now.parts }
 {
     NodeKind::chunks(CHUNK_K, held.chunk().len())
 }
 
-/// How many bytes the nodes of their tree have.
-fn nodes_length(held: &HeldChunks<'_>) -> u64
-    requires { length held.now.parts < 2 ^ 32 }
-    ensures exact { result
-        ≡ nodes 64 64 (length held.now.parts) * node_length (chunk_kind 32 (length held.now.chunk)) }
+/// How many bytes the nodes of a tree of this kind have over so many chunks.
+fn nodes_length(kind: &NodeKind, count: u64) -> u64
+    requires k { kind.now.k ≡ 32 }
+    requires short { kind.now.key_length ≤ 272 }
+    requires few { count < 2 ^ 32 }
+    ensures exact { result ≡ nodes 64 (2 * kind.now.k) count * node_length kind.now }
     ensures few { result ≤ 2 ^ 48 }
 {
-    let kind = kind_of(held);
-    nodes_over(&kind, held.len() as u64) * kind.node_length() as u64
+    nodes_over(kind, count) * kind.node_length() as u64
 }
 
 /// How many bytes stored chunks have with their tree; `None` where an image cannot have as many.
@@ -71,11 +74,13 @@ pub(crate) fn chunks_length(held: &HeldChunks<'_>) -> Option<u64>
     if count == 0 {
         return Some(0);
     }
+    let kind = kind_of(held);
+    let size = held.chunk_length();
     // Each has at least one byte.
     if count > MAXIMUM_IMAGE {
         return None;
     }
-    length_in_image(nodes_length(held) + count * held.chunk_length())
+    length_in_image(nodes_length(&kind, count) + count * size)
 }
 
 /// The bytes of the key behind a chunk: of that of the next, or of the last key of the tree.
@@ -93,15 +98,20 @@ fn key_behind<'a>(held: &'a HeldChunks<'_>, k: usize, last: &'a [u8]) -> &'a [u8
     }
 }
 
-/// The chunks as the children of the bottom row of their tree, the first of them at the place `at`; `last` is the last key.
+/// The chunks, of so many bytes, as the children of the bottom row of their tree, the first of them at the place `at`; `last` is
+/// the last key.
 fn children_of<'a>(
     alloc: Global,
     held: &'a HeldChunks<'_>,
+    size: u64,
     last: &'a [u8],
     at: u64,
 ) -> Result<Vec<Child<ChunkKey<'a>>>, AllocError>
+    requires size { size ≡ part_length held.now }
+    requires small { size ≤ 2 ^ 30 }
     requires last { IsLastKey held.now last.now }
-    requires low { at + length held.now.parts * part_length held.now < 2 ^ 63 }
+    requires low { at ≤ 2 ^ 62 }
+    requires few { length held.now.parts < 2 ^ 32 }
     ensures { IfOk result (λ children. map (keyed key_bytes) children.items
         ≡ map (keyed chunk_key)
             (chunk_children (part_length held.now) held.now.chunk at (offsets_of held.now))) }
@@ -113,7 +123,7 @@ fn children_of<'a>(
             bytes: key_behind(held, k, last),
         };
         children.push(Child { at: place, key })?;
-        place += held.chunk_length();
+        place += size;
     }
     Ok(children)
 }
@@ -126,8 +136,9 @@ fn push_chunk_tree(
     place: u64,
 ) -> Result<(), AllocError>
     requires some { 1 ≤ length held.now.parts }
-    requires few { length held.now.parts < 2 ^ 32 }
+    requires whole { AreWhole held.now }
     requires low { place ≤ 2 ^ 31 }
+    requires few { length (chunks_written held.now place) ≤ 2 ^ 31 }
     ensures { OnOk result ((first : List ℕ) (others : List (List ℕ))
         → offsets_of held.now ≡ first ∷ others
         → out.new.items ≡ out.old.items
@@ -135,12 +146,14 @@ fn push_chunk_tree(
 {
     let mut last = Vec::new(alloc);
     held.push_last_key(&mut last)?;
-    let begin = place + nodes_length(held);
-    let children = children_of(alloc, held, &last, begin)?;
+    let kind = kind_of(held);
+    let size = held.chunk_length();
+    let begin = place + nodes_length(&kind, held.len() as u64);
+    let children = children_of(alloc, held, size, &last, begin)?;
     let first = ChunkKey {
         bytes: held.key(0).bytes,
     };
-    push_tree(alloc, out, &kind_of(held), first, place, &children)
+    push_tree(alloc, out, &kind, first, place, &children)
 }
 
 /// The chunks, one behind another.
