@@ -169,3 +169,7 @@ module _ (c : Cells) (a : Described) (place : ℕ) where
 
   pub all_data : has_data a c ≡ true → data_written c a place ≡ stored_written c a place
   all_data some = ap (λ b. if b then stored_written c a place else []) some
+
+  pub length-filled_data : c ≡ Filled → has_data a c ≡ true → length (data_written c a place) ≡ cells a.sizes * (a.fixed).size
+  length-filled_data is some =
+      ap length (all_data some) ∙ ap (λ (k : Cells). length (stored_written k a place)) is ∙ length-cells_written Filled a tt

@@ -29,7 +29,7 @@ returns-then-header-gt-MAXIMUM_IMAGE-clause-refused c leaf internal o is =
 
 pub returns-in_default-clause-refused : goal.returns-in_default-clause-refused
 returns-in_default-clause-refused c leaf internal o is =
-    array_long c.args.array.now c.args.cells.now c.args.others.now o is leaf internal ?
+    array_long c.args.array.now c.args.cells.now c.args.others.now o is leaf internal c.in_default.ensures
 
 pub returns-clause-size : goal.returns-clause-size
 returns-clause-size c leaf internal o is =
