@@ -13,7 +13,7 @@ use Rattle.h5_layout.specs.Data.{dataset_told, stored_chunks}
 use Rattle.h5_layout.specs.Described.{Described}
 use Rattle.h5_layout.specs.HeldChunks.{chunk_values, held_cells, held_chunks}
 use Rattle.h5_repack.specs.Bodies.Headers.{AreStoredFor}
-use Rattle.h5_repack.specs.Blocks.Written.{AreHeldOf, offsets_of}
+use Rattle.h5_repack.specs.Blocks.Written.{AreHeldOf}
 use Rattle.h5_repack.proofs.ChunkLaws.ChunkCells.{is_inside_from}
 use Rattle.h5_repack.proofs.ChunkLaws.StoredFor.{resized_for}
 
@@ -33,7 +33,7 @@ module _ (image : List ℕ) (a : Described) (chunk sizes : List ℕ) where
   abbrev array : Dataset
   array = resized sizes (dataset_told image a)
 
-  pub held_offsets : offsets_of (held_cells image a chunk sizes) ≡ held_chunks sizes (stored_chunks image a.fixed a.layout)
+  pub held_offsets : map (λ p. p.0) (held_cells image a chunk sizes).parts ≡ held_chunks sizes (stored_chunks image a.fixed a.layout)
   held_offsets = offsets_alone (chunk_values array chunk) (held_chunks sizes (stored_chunks image a.fixed a.layout))
 
   -- they have the cells of the array
@@ -47,6 +47,6 @@ module _ (image : List ℕ) (a : Described) (chunk sizes : List ℕ) where
   -- and each of its other cells is the fill
   pub held_cells_stored : (blocks : List Block) → HasData image a.fixed a.layout (stored_chunks image a.fixed a.layout) blocks
       → ((chunk : List ℕ) → storage_of a.sizes a.layout ≡ Chunked chunk → length chunk ≡ length a.sizes) → length sizes ≡ length a.sizes
-      → AreStoredFor (offsets_of (held_cells image a chunk sizes)) array
+      → AreStoredFor (map (λ p. p.0) (held_cells image a chunk sizes).parts) array
   held_cells_stored blocks has boxed ranked = subst (λ (stored : List (List ℕ)). AreStoredFor stored array) (sym held_offsets)
       (resized_for image (dataset_told image a) a.layout (stored_chunks image a.fixed a.layout) blocks refl has refl boxed sizes ranked)
