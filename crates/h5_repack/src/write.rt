@@ -93,8 +93,8 @@ fn image_of(
 /// The plain image of the tree of these objects, each in the slot of its number, with these K values of symbol nodes and of nodes. An
 /// empty slot leaves nothing in the image: its number has no object.
 ///
-/// Takes memory for a few numbers of each slot and for the links of one group beside the image. Where there is more than one fault,
-/// any of them may be the answer.
+/// Takes memory for a few numbers of each slot, and for the links of one group or a few numbers of each stored chunk of one array,
+/// beside the image. Where there is more than one fault, any of them may be the answer.
 pub fn write_tree(
     alloc: Global,
     leaf: u16,
