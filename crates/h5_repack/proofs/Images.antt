@@ -34,7 +34,7 @@ use Rattle.h5_repack.specs.declared.group.Layout.{Layout}
 use Rattle.h5_repack.specs.Layout.{AreHeaders, IsExtent, IsSize, IsSlotSize, StoredObject, content_at, front_at, header_by, heap_behind, leads_at, leads_behind, leads_by, no_size, numbered_at, laid_object, written_at}
 use Rattle.h5_repack.specs.Written.{IsTreeToWrite}
 use Rattle.h5_repack.proofs.Leads.{all_written}
-use Rattle.h5_repack.proofs.Orders.{below, empty_size, end_is, headers_are, listed, met_or_none, no_header, numbered, numbers, object, pairs, root_in, size_of, stored_listed, stored_object, stored_there, there, there_is}
+use Rattle.h5_repack.proofs.Orders.{below, empty_size, end_is, headers_are, met_or_none, no_header, numbered, numbers, object, pairs, root_in, size_of, stored_listed, stored_object, stored_there, there, there_is}
 use Rattle.h5_repack.proofs.Pushed.{number_at}
 
 -- ---- lists

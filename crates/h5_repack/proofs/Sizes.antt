@@ -8,7 +8,7 @@ use Rattle.h5_model.specs.Edits.Refusal.{are_maxima}
 use Rattle.h5_model.specs.Format.Plain.{messages_bytes}
 use Rattle.h5_model.specs.Format.PlainLength.{content_bytes, data_bytes, rows_of}
 use Rattle.h5_model.specs.Format.Sizes.{header_size}
-use Rattle.h5_model.specs.Tree.Objects.{Object, Content, Group, Array, Links}
+use Rattle.h5_model.specs.Tree.Objects.{Content, Group, Array, Links}
 use Rattle.h5_btree.specs.Writing.Written.{root_level}
 use Rattle.h5_repack.specs.Bodies.Bodies.{others_of}
 use Rattle.h5_repack.specs.Bodies.Sound.{IsPlainArray}
@@ -30,7 +30,6 @@ use Rattle.h5_repack.specs.declared.blocks.cells.Cells.{Cells}
 use Rattle.h5_model.specs.Tree.Places.{cells}
 use Rattle.h5_repack.proofs.BlockLaws.HeaderLaws.{group_is, header_is, data_is, fits_is, room_is, whole_is}
 use Rattle.h5_repack.specs.Image.Plain.{IsPlain, IsPlainContent, IsLow}
-use Rattle.h5_repack.specs.Image.Written.{object_length}
 use Rattle.h5_repack.proofs.ImageLaws.Arrays.{stored_bytes}
 use Rattle.h5_model.specs.Tree.Links.{tree_link}
 use Rattle.h5_repack.specs.Objects.Objects.{IsNewContent, content_chunks}

@@ -1,6 +1,6 @@
 -- The stored chunks of an array to be written: how many bytes they have with their tree, and that the tree is appended (File Format
 -- Specification 3.0, sections III.A.1 and IV.A.2.i).
-use Rattle.std.proofs.Common.{◌≡◌, ℕ, suc, ◌+◌, ◌-◌, ◌*◌, ◌^◌, ◌<◌, ◌≤◌, ℤ, List, [], ◌∷◌, ◌++◌, length, length-append, map, drop, get_or, refl, sym, ap, ◌∙◌, subst, arith, append_assoc, Option, Some}
+use Rattle.std.proofs.Common.{◌≡◌, ℕ, suc, ◌+◌, ◌-◌, ◌*◌, ◌^◌, ◌<◌, ◌≤◌, ℤ, List, [], ◌∷◌, ◌++◌, length, length-append, map, drop, get_or, refl, sym, ap, ◌∙◌, subst, arith, append_assoc, Some}
 use Rattle.std.proofs.lemmas.List.{length-map, map-append, drop_more, drop_all, drop-map}
 use Rattle.std.proofs.lemmas.Nat.{mul-le}
 use Rattle.std.proofs.lemmas.Option.{slice_get-get_or}
@@ -18,7 +18,6 @@ use Rattle.h5_chunks.specs.Keys.{OffsetKey, chunk_key}
 use Rattle.h5_chunks.specs.declared.write.ChunkKey.{ChunkKey}
 use Rattle.h5_layout.specs.HeldChunks.{HeldCells}
 use Rattle.h5_repack.specs.Bodies.Chunks.{chunk_children, chunk_nodes, chunks_place, key_after}
-use Rattle.h5_repack.specs.Blocks.ArrayHeader.{IsLength}
 use Rattle.h5_repack.specs.Blocks.StoredChunks.{IsLastKey, chunks_written, key_bytes, keyed, part_bytes, part_length, parts_bytes, parts_written}
 use Rattle.h5_repack.specs.Blocks.Written.{AreWhole, offsets_of}
 use Rattle.h5_repack.proofs.ChunkLaws.ChunkLengths.{AreRanked, key_fits, keys_fit, length-children, length-nodes, node_long}

@@ -25,11 +25,7 @@ const CHUNK_K: u16 = 32;
 pub(crate) fn length_in_image(len: u64) -> Option<u64>
     ensures { IsLength result len }
 {
-    if len > MAXIMUM_IMAGE {
-        None
-    } else {
-        Some(len)
-    }
+    if len > MAXIMUM_IMAGE { None } else { Some(len) }
 }
 
 /// Whether chunks are stored.
@@ -89,7 +85,7 @@ fn key_behind<'a>(held: &'a HeldChunks<'_>, k: usize, last: &'a [u8]) -> &'a [u8
     requires last { IsLastKey held.now last.now }
     ensures { (part : List ℕ × List ℤ) → slice_get held.now.parts k ≡ Some part
         → result.now ≡ chunk_key
-            (key_after (part_length held.now) held.now.chunk part.0 (drop (k + 1) (offsets_of held.now))) }
+        (key_after (part_length held.now) held.now.chunk part.0 (drop (k + 1) (offsets_of held.now))) }
 {
     if k < held.len() - 1 {
         held.key(k + 1).bytes
@@ -114,7 +110,7 @@ fn children_of<'a>(
     requires few { length held.now.parts < 2 ^ 32 }
     ensures { IfOk result (λ children. map (keyed key_bytes) children.items
         ≡ map (keyed chunk_key)
-            (chunk_children (part_length held.now) held.now.chunk at (offsets_of held.now))) }
+        (chunk_children (part_length held.now) held.now.chunk at (offsets_of held.now))) }
 {
     let mut children = Vec::with_capacity(alloc, held.len())?;
     let mut place = at;

@@ -1,4 +1,4 @@
-use Rattle.std.proofs.Common.{◌≡◌, ◌+◌, ◌*◌, ◌<◌, ◌≤◌, ◌^◌, ℕ, ◌∙◌, sym, ap, arith, length}
+use Rattle.std.proofs.Common.{◌≡◌, ◌+◌, ◌*◌, ◌<◌, ◌∙◌, sym, ap, arith, length}
 use Rattle.h5_repack.proofs.BlockLaws.StoredChunks.{child_step, chunks_low, place_step}
 use Rattle.h5_repack.proofs.blocks.chunks.children_of.Goals as goal
 

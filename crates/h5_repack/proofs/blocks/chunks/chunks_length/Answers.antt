@@ -1,4 +1,4 @@
-use Rattle.std.proofs.Common.{◌≡◌, ◌+◌, ◌*◌, ◌≤◌, ◌^◌, ℕ, ◌∙◌, sym, ap, subst, arith, length}
+use Rattle.std.proofs.Common.{◌≡◌, ◌+◌, ◌*◌, ◌≤◌, ◌^◌, ℕ, sym, subst, arith, length}
 use Rattle.h5_repack.specs.Blocks.ArrayHeader.{IsLength}
 use Rattle.h5_repack.specs.Blocks.StoredChunks.{chunks_written}
 use Rattle.h5_repack.proofs.BlockLaws.StoredChunks.{chunks_low, chunks_long, chunks_many}

@@ -1,8 +1,7 @@
-use Rattle.std.proofs.Common.{◌≡◌, ◌+◌, ◌*◌, ◌++◌, ◌∷◌, ◌<◌, ◌≤◌, ◌^◌, ℕ, List, ◌∙◌, sym, ap, subst, arith, length, map, refl}
+use Rattle.std.proofs.Common.{◌≡◌, ◌+◌, ◌*◌, ◌++◌, ◌∷◌, ℕ, List, ◌∙◌, ap, arith, length, map, refl}
 use Rattle.std.proofs.lemmas.Result.{IfOk-weaker}
 use Rattle.h5_model.specs.Format.Nodes.{node_length}
 use Rattle.h5_model.specs.Format.PlainLength.{nodes_over}
-use Rattle.h5_btree.specs.declared.write.child.Child.{Child}
 use Rattle.h5_chunks.specs.Keys.{chunk_key}
 use Rattle.h5_chunks.specs.declared.write.ChunkKey.{ChunkKey}
 use Rattle.h5_repack.specs.Bodies.Chunks.{chunk_children, chunk_nodes}
