@@ -11,8 +11,8 @@ use Rattle.h5_model.proofs.PlainValues.{length-cells_bytes}
 use Rattle.h5_btree.specs.declared.write.child.Child.{Child}
 use Rattle.h5_btree.specs.Writing.Written.{AllFit, FitsKind}
 use Rattle.h5_btree.proofs.WriteLaws.TreeLaws.{tree_length}
-use Rattle.h5_chunks.specs.Keys.{OffsetKey, chunk_key}
-use Rattle.h5_layout.specs.HeldChunks.{chunk_values, index_from}
+use Rattle.h5_chunks.specs.Keys.{OffsetKey, chunk_key, index_from}
+use Rattle.h5_layout.specs.HeldChunks.{chunk_values}
 use Rattle.h5_repack.specs.Bodies.Chunks.{chunk_children, chunk_data, chunk_length, chunk_nodes, chunked_data, chunks_place, key_after}
 use Rattle.h5_repack.proofs.ChunkLaws.KeyBack.{length-key}
 use Rattle.std.proofs.lemmas.List.FromFn.{length-map-range_with_len}
