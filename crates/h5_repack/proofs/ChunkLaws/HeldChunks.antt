@@ -1,9 +1,9 @@
 -- Of the chunks that an image has, those that hold a cell of the extent are the stored chunks of the array in the plain layout (File
 -- Format Specification 3.0, section III.A.1).
-use Rattle.std.proofs.Common.{◌≡◌, ℕ, ◌+◌, ◌*◌, ◌/◌, ◌%◌, ◌<◌, List, [], ◌∷◌, length, map, take, refl, sym, ap, ◌∙◌, subst, arith, Bool, true, false, ◌&&◌, cond, Option, Some, None}
+use Rattle.std.proofs.Common.{◌≡◌, ℕ, ◌+◌, ◌*◌, ◌/◌, ◌%◌, ◌<◌, List, [], ◌∷◌, length, map, take, replicate, get_or, refl, sym, ap, ◌∙◌, subst, arith, Bool, true, false, ◌&&◌, cond, Option, Some, None}
 use Rattle.std.proofs.lemmas.Bool.Decides.{nat_tests}
-use Rattle.std.proofs.lemmas.List.{get_or-replicate}
-use Rattle.std.proofs.lemmas.List.FromFn.{get_or-map-range_with_len}
+use Rattle.std.proofs.lemmas.List.{get_or-replicate, length-replicate}
+use Rattle.std.proofs.lemmas.List.FromFn.{fill_by_all, get_or-map-range_with_len}
 use Rattle.std.proofs.lemmas.Nat.{div-add-mod'}
 use Rattle.std.specs.Prelude.{T, nat_lt, slice_index_or}
 use Rattle.std.specs.Ordering.{nat_cmp, is_lt}
@@ -23,8 +23,8 @@ use Rattle.h5_model.specs.Scripts.Reading.{cell_at}
 use Rattle.h5_model.specs.Tree.Grid.{corner_of, inner_of}
 use Rattle.h5_model.specs.Tree.Objects.{Dataset}
 use Rattle.h5_model.specs.Tree.Places.{cells, index_of, place_of, is_inside, IsInside}
-use Rattle.h5_model.proofs.PlaceLaws.{index-place, place_below}
-use Rattle.h5_laws.proofs.Lists.{In, all_in, contains_in, from_flat, in_all, in_map}
+use Rattle.h5_model.proofs.PlaceLaws.{index-place, inside-index, place-index, place_below}
+use Rattle.h5_laws.proofs.Lists.{In, all_in, contains_in, from_flat, in_all, in_contains, in_map}
 use Rattle.h5_laws.proofs.Maps.{found_entry, get_of_entry}
 use Rattle.h5_repack.specs.Bodies.Sound.{IsUnset}
 use Rattle.h5_layout.specs.HeldChunks.{AreRising, AreStoredChunks, IsHeldChunk, held_chunks}
@@ -117,6 +117,17 @@ none_stored d chunk unset = record {
       ap (λ cs. slice_index_or cs (place_of d.sizes index) d.fill) unset
       ∙ get_or-replicate (cells d.sizes) (place_of d.sizes index) d.fill d.fill (place_below d.sizes index inside);
 }
+
+-- and there each cell is the fill
+pub none_unset : (d : Dataset) (chunk : List ℕ) → length d.cells ≡ cells d.sizes → AreStoredChunks d chunk [] → IsUnset d
+none_unset d chunk counted are =
+    fill_by_all (λ (k : ℕ). d.fill) d.cells (cells d.sizes) d.fill counted each
+    ∙ sym (fill_by_all (λ (k : ℕ). d.fill) (replicate (cells d.sizes) d.fill) (cells d.sizes) d.fill (length-replicate (cells d.sizes) d.fill)
+    (λ k low. get_or-replicate (cells d.sizes) k d.fill d.fill low)) where
+      each : (k : ℕ) → k < cells d.sizes → get_or d.cells k d.fill ≡ d.fill
+      each k low =
+          ap (λ place. slice_index_or d.cells place d.fill) (sym (place-index d.sizes k low))
+          ∙ are.unset (index_of d.sizes k) (inside-index d.sizes k low) (λ there. in_contains (corner_of chunk (index_of d.sizes k)) [] there)
 
 module _ (image : List ℕ) (k : ℕ) (d : Dataset) (chunk : List ℕ) (bytes root : ℕ) (chunks : Chunks) (blocks : List Block) (has : HasChunks image k chunk bytes root chunks blocks)
     (same : length chunk ≡ length d.sizes) (unstored : IsFillUnstored d chunk chunks) where
