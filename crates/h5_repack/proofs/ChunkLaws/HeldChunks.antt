@@ -129,20 +129,13 @@ none_unset d chunk counted are =
           ap (λ place. slice_index_or d.cells place d.fill) (sym (place-index d.sizes k low))
           ∙ are.unset (index_of d.sizes k) (inside-index d.sizes k low) (λ there. in_contains (corner_of chunk (index_of d.sizes k)) [] there)
 
-module _ (image : List ℕ) (k : ℕ) (d : Dataset) (chunk : List ℕ) (bytes root : ℕ) (chunks : Chunks) (blocks : List Block) (has : HasChunks image k chunk bytes root chunks blocks)
-    (same : length chunk ≡ length d.sizes) (unstored : IsFillUnstored d chunk chunks) where
-  abbrev V : Reading
-  V = reading_of image (chunk_kind k (length chunk)) has.owned
+-- ---- the chunks that hold a cell of an extent
 
-  abbrev bottom : List ℕ
-  bottom = row_below V has.level (root ∷ [])
+-- each chunk of these is a whole one
+abbrev pub AreAligned : List ℕ → Chunks → Type 0
+AreAligned chunk chunks = (offsets : List ℕ) (n : ℕ) → In (offsets, n) (entries chunks) → AllZip IsOffset chunk offsets
 
-  aligned : (offsets : List ℕ) (n : ℕ) → In (offsets, n) (entries chunks) → AllZip IsOffset chunk offsets
-  aligned offsets n is =
-      let found = from_flat (λ at. chunks_in (length chunk) (V at)) (offsets, n) bottom (subst (In (offsets, n)) (has.listed).listed is) in
-      in_all (λ (c : List ℕ × ℕ). AllZip IsOffset chunk c.0) (offsets, n) (chunks_in (length chunk) (V found.0))
-      (zip_keys chunk bytes (V found.0).keys (V found.0).children (in_all (λ at. HasChunkKeys chunk bytes (V at)) found.0 bottom (has.listed).keyed found.1)) found.2
-
+module _ (d : Dataset) (chunk : List ℕ) (chunks : Chunks) (aligned : AreAligned chunk chunks) (same : length chunk ≡ length d.sizes) (unstored : IsFillUnstored d chunk chunks) where
   abbrev held : Chunks
   held = retain_keys chunks (is_inside d.sizes)
 
@@ -186,10 +179,28 @@ module _ (image : List ℕ) (k : ℕ) (d : Dataset) (chunk : List ℕ) (bytes ro
           absurd (none (contains_in corner (held_chunks d.sizes chunks) (in_map (λ (e : List ℕ × ℕ). e.0) (corner, n) (entries held)
           (found_entry (slice_cmp-IsAntisymmetric nat_cmp-IsAntisymmetric) (entries held) corner n (sym (get-entries held corner) ∙ kept ∙ is)))))
 
-  -- the chunks that hold a cell of the extent
-  pub held_stored : AreStoredChunks d chunk (held_chunks d.sizes chunks)
-  held_stored = record {
+  pub aligned_stored : AreStoredChunks d chunk (held_chunks d.sizes chunks)
+  aligned_stored = record {
     rising = sorted_rising (entries held) (entries_sorted held);
     held = all_held (entries held) (all_in (λ (e : List ℕ × ℕ). IsHeldChunk d.sizes chunk e.0) (entries held) each_held);
     unset = absent;
   }
+
+-- ---- those of an image
+
+module _ (image : List ℕ) (k : ℕ) (chunk : List ℕ) (bytes root : ℕ) (chunks : Chunks) (blocks : List Block) (has : HasChunks image k chunk bytes root chunks blocks) where
+  abbrev V : Reading
+  V = reading_of image (chunk_kind k (length chunk)) has.owned
+
+  abbrev bottom : List ℕ
+  bottom = row_below V has.level (root ∷ [])
+
+  pub read_aligned : AreAligned chunk chunks
+  read_aligned offsets n is =
+      let found = from_flat (λ at. chunks_in (length chunk) (V at)) (offsets, n) bottom (subst (In (offsets, n)) (has.listed).listed is) in
+      in_all (λ (c : List ℕ × ℕ). AllZip IsOffset chunk c.0) (offsets, n) (chunks_in (length chunk) (V found.0))
+      (zip_keys chunk bytes (V found.0).keys (V found.0).children (in_all (λ at. HasChunkKeys chunk bytes (V at)) found.0 bottom (has.listed).keyed found.1)) found.2
+
+  -- the chunks that hold a cell of the extent
+  pub held_stored : (d : Dataset) → length chunk ≡ length d.sizes → IsFillUnstored d chunk chunks → AreStoredChunks d chunk (held_chunks d.sizes chunks)
+  held_stored d same unstored = aligned_stored d chunk chunks read_aligned same unstored
