@@ -62,6 +62,7 @@ module _ (f : FileState) (sound : IsSound f) where
     stored_by (Some o) there = let r = object_read f sound number o there in by_content o there r o.content refl r.has.content
 
     none_by : (found : Option Object) (is : get f.tree number ≡ found) → found ≡ None → (stored_by found is).0 ≡ []
+    unfolding stored_by
     none_by None is none = refl
     none_by (Some o) is none = absurd (cc)
 
