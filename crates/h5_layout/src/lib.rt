@@ -16,7 +16,7 @@ mod stored;
 mod write;
 
 pub use array::ArrayRef;
-pub use h5_msg::Layout;
+pub use h5_msg::{ChunkSizes, Layout};
 pub use h5_shape::{Dims, MAX_RANK, Slab, SlabFault};
 pub use held::HeldChunks;
 pub use pieces::{Piece, Runs};
