@@ -17,3 +17,5 @@ pub mod CornerLaws
 pub mod KeyWritten
 pub mod TileLaws
 pub mod PushedCorner
+pub mod KeptValues
+pub mod NoChunks

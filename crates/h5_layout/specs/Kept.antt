@@ -1,16 +1,18 @@
 -- The cells that stay of chunks whose array is made smaller or larger, where the chunks stand (File Format Specification 3.0, sections
 -- III.A.1 and IV.A.2.i).
-use Rattle.std.specs.Prelude.{◌≡◌, ℕ, ◌+◌, ◌-◌, ◌*◌, ◌^◌, ◌<◌, ◌≤◌, true, min, if◌then◌else◌, ℤ, List, [], ◌∷◌, length, map}
+use Rattle.std.specs.Prelude.{◌≡◌, ℕ, ◌+◌, ◌-◌, ◌*◌, ◌^◌, ◌<◌, ◌≤◌, true, min, if◌then◌else◌, ℤ, Option, None, Some, List, [], ◌∷◌, length, map}
+use Rattle.std.specs.FinMap.{empty}
 use Rattle.std.specs.List.{AllByRecursion}
 use Rattle.h5_bytes.specs.Bytes.{part}
 use Rattle.h5_bytes.specs.Tables.{table}
 use Rattle.h5_model.specs.Format.Cells.{value_in}
-use Rattle.h5_model.specs.Format.Chunks.{offsets_in}
+use Rattle.h5_model.specs.Format.Chunks.{Chunks, offsets_in}
 use Rattle.h5_model.specs.Format.Fixed.{Fixed, IsFixed, fits}
 use Rattle.h5_model.specs.Format.Reached.{Shape}
 use Rattle.h5_model.specs.Tree.Places.{cells, index_of, is_inside}
 use Rattle.h5_chunks.specs.Held.{IsChunkPlace}
 use Rattle.h5_chunks.specs.Shapes.{AreChunkSizes}
+use Rattle.h5_chunks.specs.Told.{chunks_told}
 use Rattle.h5_chunks.specs.declared.held.ChunkPlace.{ChunkPlace}
 use Rattle.h5_layout.specs.Data.{chunk_shape}
 use Rattle.h5_layout.specs.HeldChunks.{HeldCells}
@@ -57,6 +59,11 @@ kept_cells k places = record {
   chunk = k.chunk;
   parts = map (λ (place : ChunkPlace). (offsets_in (length k.chunk) place.key.now, kept_values k place)) places;
 }
+
+-- the chunks in the tree at a root, where there is one
+abbrev pub chunks_below_root : List ℕ → Shape → Option ℕ → Chunks
+chunks_below_root image shape None = empty
+chunks_below_root image shape (Some root) = chunks_told image shape root
 
 -- The chunks at these places are whole ones of the image, none of which has more than 2^30 bytes.
 pub record AreKept (k : Kept) (places : List ChunkPlace) : Type 0 where

@@ -1,8 +1,9 @@
 //! The cells of a chunk of which the first slices are kept (File Format Specification 3.0, section III.A.1).
 
-ghost use Rattle.std.specs.Prelude.{◌≡◌, ◌↔◌, ◌+◌, ◌*◌, ◌^◌, ◌≤◌, ◌++◌, IsTrue, OnOk, length};
+ghost use Rattle.std.specs.Prelude.{◌≡◌, ◌↔◌, ◌+◌, ◌*◌, ◌^◌, ◌≤◌, ◌++◌, true, IsTrue, OnOk, length};
 ghost use Rattle.std.specs.List.{AllByRecursion};
 ghost use Rattle.h5_model.specs.Format.Chunks.{offsets_in};
+ghost use Rattle.h5_model.specs.Format.Fixed.{IsFixed, fits};
 ghost use Rattle.h5_model.specs.Format.Plain.{cells_bytes};
 ghost use Rattle.h5_model.specs.Tree.Places.{cells};
 ghost use Rattle.h5_chunks.specs.Shapes.{AreChunkSizes};
@@ -10,8 +11,9 @@ ghost use Rattle.h5_layout.specs.Kept.{corner_values, slices_kept};
 ghost use Rattle.h5_layout.specs.Spans.{IsKeptSpan, span_sizes, span_slices};
 
 use crate::fill::FillTile;
-use h5_bytes::push_bytes;
-use h5_chunks::ChunkPlace;
+use h5_bytes::{push_bytes, u64_at};
+use h5_chunks::OFFSETS;
+use h5_model::Fixed;
 use std::alloc::AllocError;
 
 /// How many slices a chunk has in a dimension, and how many of them, from the first on, are kept.
@@ -21,8 +23,28 @@ pub(crate) struct Span {
     pub(crate) kept: u64,
 }
 
+/// Writes how many slices the chunk with this key has, and how many of them are below the kept sizes, in each dimension.
+pub(crate) fn write_spans(chunk: &[u64], kept: &[u64], key: &[u8], spans: &mut [Span])
+    requires room { length spans.old ≡ length chunk.now }
+    requires rank { length kept.now ≡ length chunk.now }
+    requires sizes { AreChunkSizes chunk.now }
+    requires long { length key.now ≡ 8 + 8 * (length chunk.now + 1) }
+    ensures sizes { span_sizes spans.new ≡ chunk.now }
+    ensures slices { span_slices spans.new
+        ≡ slices_kept kept.now chunk.now (offsets_in (length chunk.now) key.now) }
+    ensures sound { AllByRecursion IsKeptSpan spans.new }
+{
+    for d in 0..spans.len() {
+        let offset = u64_at(key, OFFSETS + 8 * d);
+        spans[d] = Span {
+            size: chunk[d],
+            kept: chunk[d].min(kept[d].saturating_sub(offset)),
+        };
+    }
+}
+
 /// Whether all cells are kept.
-pub(crate) fn are_whole(spans: &[Span]) -> bool
+fn are_whole(spans: &[Span]) -> bool
     ensures { IsTrue result ↔ (span_slices spans.now ≡ span_sizes spans.now) }
 {
     for span in spans {
@@ -33,10 +55,33 @@ pub(crate) fn are_whole(spans: &[Span]) -> bool
     true
 }
 
-/// Appends the cells of a chunk that stand in these bytes, and the fill for those that are not kept.
+/// Appends the cells of a chunk that stand in these bytes, and the fill for those that are not kept. Takes no memory but
+/// for what is appended.
+pub(crate) fn push_kept(
+    out: &mut Vec<u8>,
+    fixed: Fixed,
+    fill: i128,
+    spans: &[Span],
+    bytes: &[u8],
+) -> Result<(), AllocError>
+    requires sound { IsFixed fixed }
+    requires of_type { fits fixed fill ≡ true }
+    requires spans { AllByRecursion IsKeptSpan spans.now }
+    requires long { length bytes.now ≡ cells (span_sizes spans.now) * fixed.size }
+    requires small { length bytes.now ≤ 2 ^ 30 }
+    ensures { OnOk result (out.new.items ≡ out.old.items ++ cells_bytes fixed
+        (corner_values fixed fill (span_sizes spans.now) (span_slices spans.now) bytes.now)) }
+{
+    if are_whole(spans) {
+        return push_bytes(out, bytes);
+    }
+    push_corner(out, &FillTile::new(fixed, fill), spans, bytes)
+}
+
+/// The same of some dimensions, for a fill whose bytes are there.
 ///
 /// Takes no memory but for what is appended. Copies a run of the bytes at a time.
-pub(crate) fn push_corner(
+fn push_corner(
     out: &mut Vec<u8>,
     fill: &FillTile,
     spans: &[Span],
