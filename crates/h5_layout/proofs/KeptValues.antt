@@ -1,6 +1,6 @@
 -- The cells of a chunk that is handed on are those of the array once it has its new sizes (File Format Specification 3.0, sections III.A.1
 -- and IV.A.2.i).
-use Rattle.std.proofs.Common.{◌≡◌, ℕ, zero, suc, ◌⊎◌, ◌+◌, ◌-◌, ◌*◌, ◌/◌, ◌%◌, ◌<◌, ◌≤◌, ℤ, List, [], ◌∷◌, ◌++◌, length, map, Bool, true, false, cond, Option, Some, None, inl, inr, refl, sym, ap, ap₂, ◌∙◌, subst, arith}
+use Rattle.std.proofs.Common.{◌≡◌, ℕ, ◌⊎◌, ◌+◌, ◌-◌, ◌*◌, ◌/◌, ◌%◌, ◌<◌, ◌≤◌, ℤ, List, [], ◌∷◌, length, map, Bool, true, false, cond, Option, Some, None, inl, inr, refl, sym, ap, ap₂, ◌∙◌, subst, arith}
 use Rattle.std.specs.Prelude.{◌&&◌, ◌==◌, nat_lt, min, slice_index_or}
 use Rattle.std.specs.Ordering.{nat_cmp}
 use Rattle.std.specs.Cmp.Lexicographic.{slice_cmp, nat_list_cmp_total}
@@ -14,14 +14,14 @@ use Rattle.std.proofs.lemmas.Nat.{div-add-mod', div-mul-add, mod-mul-add}
 use Rattle.h5_bytes.specs.Bytes.{part}
 use Rattle.h5_bytes.specs.Tables.{table}
 use Rattle.h5_model.specs.Edits.Applied.{cell_or_fill, resized}
-use Rattle.h5_model.specs.Format.Cells.{cell_of, cells_of, value_in, value_in_chunk}
+use Rattle.h5_model.specs.Format.Cells.{cell_of, value_in, value_in_chunk}
 use Rattle.h5_model.specs.Format.Chunks.{Chunks, IsOffset, offsets_in}
 use Rattle.h5_model.specs.Format.Layout.{Layout, InChunks}
 use Rattle.h5_model.specs.Tree.Grid.{corner_of, inner_of}
 use Rattle.h5_model.specs.Tree.Objects.{Dataset}
 use Rattle.h5_model.specs.Tree.Places.{IsInside, cells, index_of, is_inside, place_of}
 use Rattle.h5_model.proofs.PlaceLaws.{index-place, inside-index, place-index, place_below}
-use Rattle.h5_laws.proofs.Lists.{In, all_in, in_all, in_map}
+use Rattle.h5_laws.proofs.Lists.{In, in_all, in_map}
 use Rattle.h5_laws.proofs.Maps.{get_of_entry}
 use Rattle.h5_chunks.specs.Held.{IsChunkPlace, place_entry}
 use Rattle.h5_chunks.specs.Keys.{index_from}
@@ -29,7 +29,7 @@ use Rattle.h5_chunks.specs.declared.held.ChunkPlace.{ChunkPlace}
 use Rattle.h5_chunks.proofs.InsideLaws.{inside_of}
 use Rattle.h5_layout.specs.Data.{chunk_shape, dataset_told, stored_chunks}
 use Rattle.h5_layout.specs.Described.{Described}
-use Rattle.h5_layout.specs.HeldChunks.{HeldCells, chunk_values, held_cells}
+use Rattle.h5_layout.specs.HeldChunks.{chunk_values, held_cells}
 use Rattle.h5_layout.specs.Kept.{Kept, chunks_below_root, corner_value, kept_cells, kept_values, slices_kept, smaller_sizes}
 use Rattle.h5_layout.specs.Stored.{IsArray, has_room}
 use Rattle.h5_layout.proofs.CellLaws.{map_ranges}

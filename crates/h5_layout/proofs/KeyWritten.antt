@@ -1,8 +1,7 @@
 -- The key of a whole chunk, as it stands in a tree, is that key as it is written (File Format Specification 3.0, section III.A.1).
-use Rattle.std.proofs.Common.{◌≡◌, ℕ, zero, suc, ◌+◌, ◌*◌, ◌<◌, ◌≤◌, List, [], ◌∷◌, ◌++◌, length, map, take, drop, false, refl, sym, ap, ap₂, ◌∙◌, subst, arith}
-use Rattle.std.proofs.lemmas.List.{drop-drop, take_all}
+use Rattle.std.proofs.Common.{◌≡◌, ℕ, zero, suc, ◌+◌, ◌*◌, ◌≤◌, List, [], ◌++◌, length, map, take, drop, false, refl, sym, ap, ◌∙◌, arith}
+use Rattle.std.proofs.lemmas.List.{drop-drop}
 use Rattle.std.proofs.Math.Seq.{take-add}
-use Rattle.std.specs.Prelude.{IsTrue}
 use Rattle.std.specs.List.{range_with_len}
 use Rattle.h5_bytes.specs.Bytes.{little_bytes, number_at, part}
 use Rattle.h5_bytes.specs.Numbers.{middle, word, zeros}
@@ -10,7 +9,7 @@ use Rattle.h5_bytes.proofs.FieldLaws.{number_at-part}
 use Rattle.h5_bytes.proofs.PartLaws.{length-part, part-whole}
 use Rattle.h5_model.specs.Format.Bodies.{words}
 use Rattle.h5_model.specs.Format.Chunks.{IsChunkKey, offsets_in}
-use Rattle.h5_model.specs.Format.Fixed.{Fixed, IsFixed, bytes_of, raw_at, value_at, value_of}
+use Rattle.h5_model.specs.Format.Fixed.{Fixed, IsFixed, bytes_of, raw_at, value_at}
 use Rattle.h5_msg.proofs.ValueBytes.{AreBytes, AreBytes-drop, AreBytes-take, bytes_back}
 use Rattle.h5_chunks.specs.Keys.{chunk_key}
 

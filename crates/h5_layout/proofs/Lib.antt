@@ -19,3 +19,4 @@ pub mod TileLaws
 pub mod PushedCorner
 pub mod KeptValues
 pub mod NoChunks
+pub mod HeldParts

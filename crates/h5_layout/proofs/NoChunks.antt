@@ -2,7 +2,7 @@
 use Rattle.std.proofs.Common.{◌≡◌, ℕ, Bool, List, [], Option, None, refl, sym, ap, ◌∙◌}
 use Rattle.std.specs.Ordering.{nat_cmp}
 use Rattle.std.specs.Cmp.Lexicographic.{slice_cmp}
-use Rattle.std.specs.FinMap.{empty, entries, entries-from_sorted, from_sorted, retain_keys}
+use Rattle.std.specs.FinMap.{empty, entries, entries-from_sorted, retain_keys}
 use Rattle.h5_model.specs.Format.Reached.{Shape}
 use Rattle.h5_model.specs.Tree.Places.{is_inside}
 use Rattle.h5_model.proofs.MapSteps.{known-empty, retain_by_name}

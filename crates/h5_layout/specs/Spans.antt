@@ -1,5 +1,5 @@
 -- A chunk whose first slices are kept, dimension by dimension (File Format Specification 3.0, section III.A.1); and cells of the fill.
-use Rattle.std.specs.Prelude.{◌≡◌, ℕ, ◌≤◌, ℤ, List, map}
+use Rattle.std.specs.Prelude.{ℕ, ◌≤◌, ℤ, List, map}
 use Rattle.h5_model.specs.Format.Fixed.{Fixed}
 use Rattle.h5_layout.specs.declared.corner.Span.{Span}
 

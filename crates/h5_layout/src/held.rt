@@ -191,7 +191,12 @@ impl<'a> HeldChunks<'a> {
         let bytes = &self.image.bytes()[place.at as usize..(place.at + self.chunk_length) as usize];
         let mut spans = [Span { size: 1, kept: 1 }; MAX_RANK];
         let spans = &mut spans[..self.rank];
-        write_spans(&self.chunk[..self.rank], &self.kept[..self.rank], place.key, spans);
+        write_spans(
+            &self.chunk[..self.rank],
+            &self.kept[..self.rank],
+            place.key,
+            spans,
+        );
         push_kept(out, self.fixed, self.fill, spans, bytes)
     }
 }
@@ -232,9 +237,9 @@ fn copy_smaller(old: &[u64], new: &[u64], to: &mut [u64])
 fn written_key(bytes: &[u8]) -> ChunkKey<'_>
     ensures { (sizes : List ℕ) (size : ℕ) → length bytes.now ≡ 8 + 8 * (length sizes + 1)
         → IsChunkKey sizes size bytes.now → result.bytes.now ≡ chunk_key (record {
-      bytes = size;
-      offsets = offsets_in (length sizes) bytes.now;
-    }) }
+          bytes = size;
+          offsets = offsets_in (length sizes) bytes.now;
+        }) }
 {
     ChunkKey { bytes }
 }

@@ -1,9 +1,8 @@
-use Rattle.std.proofs.Common.{rules, ◌≡◌, ℕ, ◌+◌, ◌-◌, ◌*◌, ◌/◌, ◌<◌, ◌≤◌, ◌++◌, List, [], length, get_or, refl, sym, ap, ◌∙◌, append_assoc, subst, arith}
+use Rattle.std.proofs.Common.{rules, ◌≡◌, ℕ, ◌≤◌, ◌++◌, List, [], length, get_or, refl, sym, ap, ◌∙◌, append_assoc, subst, arith}
 use Rattle.std.proofs.lemmas.List.{nil_from_length}
 use Rattle.std.specs.Prelude.{OnOk}
 use Rattle.h5_model.specs.Format.Fixed.{IsFixed}
 use Rattle.h5_model.specs.Format.Plain.{cells_bytes}
-use Rattle.h5_model.specs.Tree.Places.{cells}
 use Rattle.h5_layout.specs.Kept.{corner_values}
 use Rattle.h5_layout.specs.Spans.{CellFill, span_sizes, span_slices}
 use Rattle.h5_layout.specs.declared.corner.Span.{Span}
@@ -47,9 +46,16 @@ push_corner-requires t c =
     let bytes : List ℕ = c.args.bytes.now in
     let some : 1 ≤ length spans = c.in-len1-up.len_at_least in
     let sound : IsFixed f.fixed = c.size-cell.ensures.sound in
-    let long = length-slice f.fixed f.fill spans bytes sound some c.requires.spans c.requires.long c.loop-i.i c.loop-i-test.true in
-    (search rules, (inner_kept f.fixed f.fill spans bytes sound some c.requires.spans c.requires.long, (long,
-    slice_small f.fixed f.fill spans bytes sound some c.requires.spans c.requires.long c.requires.small c.loop-i.i c.loop-i-test.true)))
+    let long = length-slice f.fixed f.fill spans bytes sound some c.requires.spans c.requires.long c.loop-i.i c.loop-i-test.true in (
+      search rules,
+      (
+        inner_kept f.fixed f.fill spans bytes sound some c.requires.spans c.requires.long,
+        (
+          long,
+          slice_small f.fixed f.fill spans bytes sound some c.requires.spans c.requires.long c.requires.small c.loop-i.i c.loop-i-test.true,
+        ),
+      ),
+    )
 
 pub loop-i-preserved : goal.loop-i-preserved
 loop-i-preserved t c =

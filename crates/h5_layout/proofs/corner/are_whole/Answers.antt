@@ -1,4 +1,4 @@
-use Rattle.std.proofs.Common.{◌≡◌, ◌<◌, ℕ, List, length, get_or, refl, ap, arith}
+use Rattle.std.proofs.Common.{◌≡◌, ◌<◌, ℕ, List, length, get_or, ap, arith}
 use Rattle.std.proofs.lemmas.List.{get_or-map}
 use Rattle.h5_layout.specs.Spans.{span_sizes, span_slices}
 use Rattle.h5_layout.specs.declared.corner.Span.{Span}

@@ -1,6 +1,5 @@
-use Rattle.std.proofs.Common.{◌≡◌, ◌<◌, ◌++◌, ◌∷◌, [], ℕ, List, length, get_or, take, sym, ap, ap₂, ◌∙◌, arith}
+use Rattle.std.proofs.Common.{◌≡◌, ◌<◌, ◌++◌, ◌∷◌, [], ℕ, List, length, get_or, sym, ap₂, ◌∙◌, arith}
 use Rattle.std.proofs.lemmas.List.{take_all, take_more, take_more_set}
-use Rattle.std.specs.Prelude.{min}
 use Rattle.h5_layout.specs.Kept.{smaller_sizes}
 use Rattle.h5_layout.proofs.KeptLaws.{get_or-smaller, length-smaller}
 use Rattle.h5_layout.proofs.held.copy_smaller.Goals as goal

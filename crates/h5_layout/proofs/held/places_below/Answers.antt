@@ -1,6 +1,5 @@
-use Rattle.std.proofs.Common.{◌≡◌, ℕ, List, [], length, map, Option, sym, ap, ◌∙◌}
+use Rattle.std.proofs.Common.{length, map, ap, ◌∙◌}
 use Rattle.h5_chunks.specs.Held.{place_entry}
-use Rattle.h5_layout.specs.Kept.{chunks_below_root}
 use Rattle.h5_layout.proofs.NoChunks.{none_held}
 use Rattle.h5_layout.proofs.held.places_below.Goals as goal
 

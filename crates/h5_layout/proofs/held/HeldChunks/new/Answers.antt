@@ -1,9 +1,8 @@
-use Rattle.std.proofs.Common.{rules, ◌≡◌, ◌*◌, ℕ, ℤ, List, length, map, drop, replicate, to_z, of_z, Option, refl, sym, ap, ◌∙◌, subst, arith}
+use Rattle.std.proofs.Common.{rules, ◌≡◌, ◌*◌, ℕ, List, length, map, drop, replicate, to_z, of_z, sym, ap, ◌∙◌, subst}
 use mir.Syntax.{w128}
 use Rattle.std.proofs.lemmas.List.{take_at}
 use Rattle.std.specs.FinMap.{entries, retain_keys}
 use Rattle.std.specs.List.{AllByRecursion}
-use Rattle.h5_model.specs.Format.Chunks.{Chunks}
 use Rattle.h5_model.specs.Format.Fixed.{Fixed}
 use Rattle.h5_model.specs.Format.Layout.{InChunks}
 use Rattle.h5_model.specs.Format.Reached.{Shape}
