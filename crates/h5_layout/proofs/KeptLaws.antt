@@ -14,7 +14,7 @@ use Rattle.h5_model.proofs.PlainValues.{size-low}
 use Rattle.h5_laws.proofs.Lists.{in_all, in_at}
 use Rattle.h5_chunks.specs.Shapes.{AreChunkSizes}
 use Rattle.h5_chunks.specs.declared.held.ChunkPlace.{ChunkPlace}
-use Rattle.h5_layout.specs.Kept.{Kept, kept_cells, kept_values, slices_kept, smaller_sizes}
+use Rattle.h5_layout.specs.Kept.{KeptChunks, kept_cells, kept_values, slices_kept, smaller_sizes}
 use Rattle.h5_layout.proofs.LocateLaws.{some_cells}
 
 pub some_bytes : (t : Fixed) (chunk : List ℕ) → IsFixed t → AreChunkSizes chunk → 1 ≤ cells chunk * t.size
@@ -28,7 +28,7 @@ pub length-offsets_in : (rank : ℕ) (key : List ℕ) → length (offsets_in ran
 length-offsets_in rank key = length-map-range_with_len (λ i. number_at key (8 + 8 * i) 8) 0 rank
 
 -- an offset for each size
-pub ranked : (k : Kept) (places : List ChunkPlace) → AllByRecursion (λ (part : List ℕ × List ℤ). length part.0 ≡ length k.chunk) (kept_cells k places).parts
+pub ranked : (k : KeptChunks) (places : List ChunkPlace) → AllByRecursion (λ (part : List ℕ × List ℤ). length part.0 ≡ length k.chunk) (kept_cells k places).parts
 ranked k [] = tt
 ranked k (place ∷ places) = (length-offsets_in (length k.chunk) place.key.now, ranked k places)
 
@@ -64,7 +64,7 @@ get_or-slices (k ∷ ks) (c ∷ cs) (o ∷ os) (suc d) same long low = get_or-sl
 
 -- ---- one chunk of them
 
-pub part_values : (k : Kept) (places : List ChunkPlace) (n : ℕ) (place : ChunkPlace) (part : List ℕ × List ℤ) → slice_get places n ≡ Some place
+pub part_values : (k : KeptChunks) (places : List ChunkPlace) (n : ℕ) (place : ChunkPlace) (part : List ℕ × List ℤ) → slice_get places n ≡ Some place
     → slice_get (kept_cells k places).parts n ≡ Some part → kept_values k place ≡ part.1
 part_values k places n place part here there =
     let f : ChunkPlace → List ℕ × List ℤ = λ p. (offsets_in (length k.chunk) p.key.now, kept_values k p) in
@@ -74,7 +74,7 @@ part_values k places n place part here there =
 pub place_there : (P : ChunkPlace → Type 0) (places : List ChunkPlace) (n : ℕ) (place : ChunkPlace) → AllByRecursion P places → slice_get places n ≡ Some place → P place
 place_there P places n place all here = in_all P place places all (in_at places n place here)
 
-pub length-parts : (k : Kept) (places : List ChunkPlace) → length (kept_cells k places).parts ≡ length places
+pub length-parts : (k : KeptChunks) (places : List ChunkPlace) → length (kept_cells k places).parts ≡ length places
 length-parts k places = length-map places (λ (p : ChunkPlace). (offsets_in (length k.chunk) p.key.now, kept_values k p))
 
 pub place_at : (places : List ChunkPlace) (n : ℕ) (place : ChunkPlace) → n < length places → place ≡ get_or places n place → slice_get places n ≡ Some place

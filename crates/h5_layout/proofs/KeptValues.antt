@@ -30,7 +30,7 @@ use Rattle.h5_chunks.proofs.InsideLaws.{inside_of}
 use Rattle.h5_layout.specs.Data.{chunk_shape, dataset_told, stored_chunks}
 use Rattle.h5_layout.specs.Described.{Described}
 use Rattle.h5_layout.specs.HeldChunks.{chunk_values, held_cells}
-use Rattle.h5_layout.specs.Kept.{Kept, chunks_below_root, corner_value, kept_cells, kept_values, slices_kept, smaller_sizes}
+use Rattle.h5_layout.specs.Kept.{KeptChunks, chunks_below_root, corner_value, kept_cells, kept_values, slices_kept, smaller_sizes}
 use Rattle.h5_layout.specs.Stored.{IsArray, has_room}
 use Rattle.h5_layout.proofs.CellLaws.{map_ranges}
 
@@ -191,7 +191,7 @@ module _ (image : List ℕ) (a : Described) (chunk : List ℕ) (root : Option �
     abbrev Entry : Type 0
     Entry = List ℕ × ℕ
 
-    abbrev k : Kept
+    abbrev k : KeptChunks
     k = record { image = image; fixed = a.fixed; fill = a.fill; chunk = chunk; kept = smaller_sizes a.sizes sizes }
 
     abbrev Part : Type 0

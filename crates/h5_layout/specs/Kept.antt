@@ -18,7 +18,7 @@ use Rattle.h5_layout.specs.Data.{chunk_shape}
 use Rattle.h5_layout.specs.HeldChunks.{HeldCells}
 
 -- chunks of these sizes in an image; a cell whose index is below the kept sizes has its value, and another the fill
-pub record Kept : Type 0 where
+pub record KeptChunks : Type 0 where
   pub image : List ℕ
   pub fixed : Fixed
   pub fill : ℤ
@@ -47,13 +47,13 @@ abbrev pub corner_values : Fixed → ℤ → List ℕ → List ℕ → List ℕ 
 corner_values t fill chunk slices bytes = table (corner_value t fill chunk slices bytes) (cells chunk)
 
 -- the cells of the chunk with this key at this address
-abbrev pub kept_values : Kept → ChunkPlace → List ℤ
+abbrev pub kept_values : KeptChunks → ChunkPlace → List ℤ
 kept_values k place =
     corner_values k.fixed k.fill k.chunk (slices_kept k.kept k.chunk (offsets_in (length k.chunk) place.key.now))
     (part place.at (cells k.chunk * (k.fixed).size) k.image)
 
 -- the chunks at these places
-abbrev pub kept_cells : Kept → List ChunkPlace → HeldCells
+abbrev pub kept_cells : KeptChunks → List ChunkPlace → HeldCells
 kept_cells k places = record {
   fixed = k.fixed;
   chunk = k.chunk;
@@ -66,7 +66,7 @@ chunks_below_root image shape None = empty
 chunks_below_root image shape (Some root) = chunks_told image shape root
 
 -- The chunks at these places are whole ones of the image, none of which has more than 2^30 bytes.
-pub record AreKept (k : Kept) (places : List ChunkPlace) : Type 0 where
+pub record AreKept (k : KeptChunks) (places : List ChunkPlace) : Type 0 where
   pub sizes : AreChunkSizes k.chunk
   pub rank : length k.kept ≡ length k.chunk
   pub short : AllByRecursion (λ size. size < 2 ^ 32) k.chunk

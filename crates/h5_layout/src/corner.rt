@@ -91,7 +91,8 @@ fn push_corner(
     requires long { length bytes.now ≡ cells (span_sizes spans.now) * fill.now.fixed.size }
     requires small { length bytes.now ≤ 2 ^ 30 }
     ensures { OnOk result (out.new.items ≡ out.old.items ++ cells_bytes fill.now.fixed
-        (corner_values fill.now.fixed fill.now.fill (span_sizes spans.now) (span_slices spans.now) bytes.now)) }
+        (corner_values fill.now.fixed fill.now.fill (span_sizes spans.now) (span_slices spans.now)
+        bytes.now)) }
 {
     let cell = fill.size();
     let [first, inner @ ..] = spans else {

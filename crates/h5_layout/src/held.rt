@@ -84,7 +84,8 @@ impl<'a> HeldChunks<'a> {
         requires data { AreDataRead image.now.bytes array.now.fixed array.now.layout }
         requires rank { length sizes.now ≡ length array.now.sizes }
         requires chunked { (chunk : List ℕ) × (root : Option ℕ) × (array.now.layout ≡ InChunks chunk root) }
-        ensures { IfOk result (λ h. (chunk : List ℕ) (root : Option ℕ) → array.now.layout ≡ InChunks chunk root
+        ensures { IfOk result (λ h. (chunk : List ℕ) (root : Option ℕ)
+            → array.now.layout ≡ InChunks chunk root
             → h ≡ held_cells image.now.bytes array.now chunk sizes.now) }
     {
         let Layout::Chunked {
@@ -137,7 +138,8 @@ impl<'a> HeldChunks<'a> {
         ensures ranked { AllByRecursion (λ (part : List ℕ × List ℤ).
             length part.0 ≡ length self.now.chunk) self.now.parts }
     {
-        &self.chunk[..self.rank]
+        let rank = self.rank;
+        &self.chunk[..rank]
     }
 
     /// The type of the cells.

@@ -7,7 +7,7 @@ use Rattle.h5_chunks.specs.Held.{IsChunkPlace}
 use Rattle.h5_chunks.specs.declared.held.ChunkPlace.{ChunkPlace}
 use Rattle.h5_layout.specs.Data.{chunk_shape}
 use Rattle.h5_layout.specs.HeldChunks.{HeldCells}
-use Rattle.h5_layout.specs.Kept.{Kept, corner_values, kept_cells}
+use Rattle.h5_layout.specs.Kept.{KeptChunks, corner_values, kept_cells}
 use Rattle.h5_layout.specs.Spans.{span_sizes, span_slices}
 use Rattle.h5_layout.proofs.GridLaws.{slice_part}
 use Rattle.h5_layout.proofs.KeptLaws.{length-parts, part_values, place_at, place_there}
@@ -15,7 +15,7 @@ use Rattle.h5_layout.proofs.held.HeldChunks.push_chunk.Goals as goal
 use Rattle.h5_layout.proofs.held.HeldChunks.push_chunk.Goals.{After-bytes}
 
 -- what the chunks are
-abbrev kept : After-bytes → Kept
+abbrev kept : After-bytes → KeptChunks
 kept c =
     let f = c.self.inside in
     record { image = f.image.now.bytes; fixed = f.fixed; fill = f.fill; chunk = take f.rank f.chunk; kept = take f.rank f.kept }
