@@ -8,7 +8,7 @@ ghost use Rattle.h5_chunks.specs.Shapes.{AreChunkSizes};
 use h5_bytes::{u32_at, u64_at};
 
 /// Where a key's offsets begin, behind the chunk's size and the filter mask.
-pub(crate) const OFFSETS: usize = 8;
+pub const OFFSETS: usize = 8;
 
 /// Whether a key is that of a whole chunk of these sizes and so many bytes. Takes no memory.
 pub(crate) fn is_chunk_key(sizes: &[u64], bytes: u64, key: &[u8]) -> bool

@@ -14,6 +14,7 @@ mod shape;
 mod write;
 
 pub use held::{ChunkPlace, held_places};
+pub use key::OFFSETS;
 pub use read::read_chunks;
 pub use search::chunk_at;
 pub use shape::ChunkShape;

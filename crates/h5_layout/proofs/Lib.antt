@@ -13,3 +13,10 @@ pub mod ToldLaws
 pub mod StoredLaws
 pub mod WriteLaws
 pub mod KeptLaws
+pub mod CornerLaws
+pub mod KeyWritten
+pub mod TileLaws
+pub mod PushedCorner
+pub mod KeptValues
+pub mod NoChunks
+pub mod HeldParts

@@ -2,6 +2,7 @@
 
 ghost use Rattle.std.specs.Prelude.{◌≡◌, ℕ, ◌+◌, ◌*◌, ◌^◌, ◌<◌, ◌≤◌, length, option_map};
 ghost use Rattle.std.specs.FinMap.{get};
+ghost use Rattle.std.specs.List.{AllByRecursion};
 ghost use Rattle.h5_model.specs.Tree.Grid.{corner_of, inner_of};
 ghost use Rattle.h5_model.specs.Tree.Places.{cells as cells_of, index_of, place_of};
 ghost use Rattle.h5_chunks.specs.Read.{AreChunksRead};
@@ -133,10 +134,11 @@ impl<'a> ChunkGrid<'a> {
 }
 
 /// Copies chunk sizes.
-fn copy_sizes(from: &ChunkSizes<'_>, to: &mut [u64])
+pub(crate) fn copy_sizes(from: &ChunkSizes<'_>, to: &mut [u64])
     requires { length to.old ≡ length from.now }
     ensures same { to.new ≡ from.now }
     ensures sound { AreChunkSizes from.now }
+    ensures short { AllByRecursion (λ size. size < 2 ^ 32) from.now }
 {
     let rank = from.rank();
     for k in 0..rank {
@@ -145,7 +147,7 @@ fn copy_sizes(from: &ChunkSizes<'_>, to: &mut [u64])
 }
 
 /// How many bytes a chunk has.
-fn bytes_of(chunk: &[u64], size: u64) -> u64
+pub(crate) fn bytes_of(chunk: &[u64], size: u64) -> u64
     requires cell { 1 ≤ size }
     requires sizes { AreChunkSizes chunk.now }
     requires small { cells_of chunk.now * size ≤ 2 ^ 30 }

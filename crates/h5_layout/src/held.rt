@@ -1,21 +1,30 @@
 //! The chunks of an array that are handed on, to be written anew (File Format Specification 3.0, sections III.A.1 and
 //! IV.A.2.i).
 
-ghost use Rattle.std.specs.Prelude.{◌≡◌, ℕ, ℤ, ◌-◌, ◌*◌, ◌^◌, ◌<◌, ◌≤◌, ◌++◌, ◌==◌, List, Option, Some, IfOk, OnOk, length, slice_get};
+ghost use Rattle.std.specs.Prelude.{◌≡◌, ℕ, ℤ, ◌+◌, ◌-◌, ◌*◌, ◌^◌, ◌<◌, ◌≤◌, ◌++◌, ◌==◌, List, Option, Some, IfOk, OnOk, length, map, slice_get};
+ghost use Rattle.std.specs.FinMap.{entries, retain_keys};
 ghost use Rattle.std.specs.List.{AllByRecursion};
+ghost use Rattle.std.specs.Option.{ForSome};
+ghost use Rattle.h5_model.specs.Format.Chunks.{IsChunkKey, offsets_in};
 ghost use Rattle.h5_model.specs.Format.Fixed.{IsFixed};
 ghost use Rattle.h5_model.specs.Format.Layout.{InChunks};
 ghost use Rattle.h5_model.specs.Format.Plain.{cells_bytes};
-ghost use Rattle.h5_model.specs.Tree.Places.{cells as cells_of};
+ghost use Rattle.h5_model.specs.Tree.Places.{cells as cells_of, is_inside};
+ghost use Rattle.h5_chunks.specs.Held.{IsChunkPlace, place_entry};
 ghost use Rattle.h5_chunks.specs.Keys.{chunk_key, index_from};
+ghost use Rattle.h5_chunks.specs.Read.{AreChunksRead};
 ghost use Rattle.h5_chunks.specs.Shapes.{AreChunkSizes};
 ghost use Rattle.h5_layout.specs.Data.{AreDataRead};
 ghost use Rattle.h5_layout.specs.HeldChunks.{held_cells};
+ghost use Rattle.h5_layout.specs.Kept.{chunks_below_root, smaller_sizes};
 
 use crate::array::ArrayRef;
-use h5_chunks::{ChunkKey, ChunkPlace};
+use crate::corner::{Span, push_kept, write_spans};
+use crate::grid::{bytes_of, copy_sizes};
+use h5_chunks::{ChunkKey, ChunkPlace, ChunkShape, held_places, push_last_key};
 use h5_model::Fixed;
-use h5_shape::Dims;
+use h5_msg::Layout;
+use h5_shape::{Dims, MAX_RANK};
 use h5_space::Image;
 use std::alloc::{AllocError, Global};
 use std::marker::Model;
@@ -75,10 +84,36 @@ impl<'a> HeldChunks<'a> {
         requires data { AreDataRead image.now.bytes array.now.fixed array.now.layout }
         requires rank { length sizes.now ≡ length array.now.sizes }
         requires chunked { (chunk : List ℕ) × (root : Option ℕ) × (array.now.layout ≡ InChunks chunk root) }
-        ensures { IfOk result (λ h. (chunk : List ℕ) (root : Option ℕ) → array.now.layout ≡ InChunks chunk root
+        ensures { IfOk result (λ h. (chunk : List ℕ) (root : Option ℕ)
+            → array.now.layout ≡ InChunks chunk root
             → h ≡ held_cells image.now.bytes array.now chunk sizes.now) }
     {
-        Err(AllocError)
+        let Layout::Chunked {
+            sizes: chunk_sizes,
+            tree,
+        } = array.layout()
+        else {
+            unreachable!()
+        };
+        let fixed = array.fixed();
+        let rank = chunk_sizes.rank();
+        let mut chunk = [0; MAX_RANK];
+        copy_sizes(chunk_sizes, &mut chunk[..rank]);
+        let mut kept = [0; MAX_RANK];
+        copy_smaller(array.dims().sizes(), sizes.sizes(), &mut kept[..rank]);
+        let chunk_length = bytes_of(&chunk[..rank], fixed.size() as u64);
+        let shape = ChunkShape::new(&chunk[..rank], chunk_length);
+        let places = places_below(alloc, image, &shape, *tree, sizes.sizes())?;
+        Ok(HeldChunks {
+            image,
+            fixed,
+            fill: array.fill(),
+            rank,
+            chunk,
+            kept,
+            chunk_length,
+            places,
+        })
     }
 
     /// How many chunks there are.
@@ -103,7 +138,8 @@ impl<'a> HeldChunks<'a> {
         ensures ranked { AllByRecursion (λ (part : List ℕ × List ℤ).
             length part.0 ≡ length self.now.chunk) self.now.parts }
     {
-        &self.chunk[..self.rank]
+        let rank = self.rank;
+        &self.chunk[..rank]
     }
 
     /// The type of the cells.
@@ -132,9 +168,7 @@ impl<'a> HeldChunks<'a> {
               offsets = part.0;
             }) }
     {
-        ChunkKey {
-            bytes: self.places[k].key,
-        }
+        written_key(self.places[k].key)
     }
 
     /// Appends the key behind the last chunk, which is of no chunk.
@@ -146,7 +180,7 @@ impl<'a> HeldChunks<'a> {
               offsets = index_from part.0 self.now.chunk;
             })) }
     {
-        Err(AllocError)
+        push_last_key(out, self.places[self.places.len() - 1].key, self.chunk())
     }
 
     /// Appends the bytes of the cells of a chunk. Takes no memory but for what is appended.
@@ -155,6 +189,59 @@ impl<'a> HeldChunks<'a> {
         ensures { (part : List ℕ × List ℤ) → slice_get self.now.parts k ≡ Some part
             → OnOk result (out.new.items ≡ out.old.items ++ cells_bytes self.now.fixed part.1) }
     {
-        Err(AllocError)
+        let place = self.places[k];
+        let bytes = &self.image.bytes()[place.at as usize..(place.at + self.chunk_length) as usize];
+        let mut spans = [Span { size: 1, kept: 1 }; MAX_RANK];
+        let spans = &mut spans[..self.rank];
+        write_spans(
+            &self.chunk[..self.rank],
+            &self.kept[..self.rank],
+            place.key,
+            spans,
+        );
+        push_kept(out, self.fixed, self.fill, spans, bytes)
     }
+}
+
+/// The chunks below this root that hold a cell of an extent of these sizes, where there is one.
+fn places_below<'a>(
+    alloc: Global,
+    image: &'a Image,
+    shape: &ChunkShape<'_>,
+    root: Option<u64>,
+    sizes: &[u64],
+) -> Result<Vec<ChunkPlace<'a>>, AllocError>
+    requires chunks { ForSome root (λ root. AreChunksRead image.now.bytes shape.now root) }
+    requires rank { length sizes.now ≡ length shape.now.sizes }
+    ensures held { IfOk result (λ places. map (place_entry (length shape.now.sizes)) places.items
+        ≡ entries (retain_keys (chunks_below_root image.now.bytes shape.now root) (is_inside sizes.now))) }
+    ensures each { IfOk result (λ places.
+        AllByRecursion (IsChunkPlace image.now.bytes shape.now) places.items) }
+{
+    match root {
+        Some(root) => held_places(alloc, image, shape, root, sizes),
+        None => Ok(Vec::new(alloc)),
+    }
+}
+
+/// Copies the smaller of two sizes in each dimension.
+fn copy_smaller(old: &[u64], new: &[u64], to: &mut [u64])
+    requires room { length to.old ≡ length old.now }
+    requires rank { length new.now ≡ length old.now }
+    ensures { to.new ≡ smaller_sizes old.now new.now }
+{
+    for d in 0..to.len() {
+        to[d] = old[d].min(new[d]);
+    }
+}
+
+/// The key of a whole chunk, as it is written.
+fn written_key(bytes: &[u8]) -> ChunkKey<'_>
+    ensures { (sizes : List ℕ) (size : ℕ) → length bytes.now ≡ 8 + 8 * (length sizes + 1)
+        → IsChunkKey sizes size bytes.now → result.bytes.now ≡ chunk_key (record {
+          bytes = size;
+          offsets = offsets_in (length sizes) bytes.now;
+        }) }
+{
+    ChunkKey { bytes }
 }

@@ -1,12 +1,14 @@
 //! Arrays as the object headers of datasets describe them: type, sizes, maxima, fill value and layout, and their cells
 //! (File Format Specification 3.0, section IV.A.2).
 //!
-//! No call takes memory. Places and lengths of data are in bytes, sizes of arrays and chunks in elements.
+//! No call takes memory but those of `HeldChunks`. Places and lengths of data are in bytes, sizes of arrays and chunks in elements.
 #![tactic(auto)]
 
 mod array;
 mod bodies;
 mod cells;
+mod corner;
+mod fill;
 mod grid;
 mod held;
 mod judge;

@@ -4,7 +4,7 @@ use Rattle.std.proofs.Common.{◌≡◌, ℕ, zero, suc, ◌*◌, ◌%◌, ◌<�
 use Rattle.std.proofs.lemmas.Bool.Decides.{nat_tests}
 use Rattle.std.proofs.lemmas.List.FromFn.{fill_by_all, length-map-range_with_len, get_or-map-range_with_len}
 use Rattle.std.proofs.lemmas.Nat.{div-add-mod'}
-use Rattle.std.specs.Prelude.{◌==◌, nat_lt, slice_index_or}
+use Rattle.std.specs.Prelude.{◌==◌, slice_index_or}
 use Rattle.std.specs.FinMap.{get}
 use Rattle.std.specs.List.{list_any, range_with_len}
 use Rattle.h5_bytes.specs.Bytes.{part}
@@ -22,6 +22,7 @@ use Rattle.h5_model.proofs.PlaceLaws.{place-index, inside-index, place_below, in
 use Rattle.h5_model.proofs.PlainValues.{value_at-cells_bytes}
 use Rattle.h5_msg.proofs.LayoutLaws.{or_left, or_right}
 use Rattle.h5_chunks.specs.Keys.{index_from}
+pub use Rattle.h5_chunks.proofs.InsideLaws.{is_inside_from}
 use Rattle.h5_layout.specs.HeldChunks.{chunk_values}
 use Rattle.h5_repack.specs.Bodies.Chunks.{chunk_data}
 
@@ -46,15 +47,6 @@ inner_in_chunk (c ∷ cs) (i ∷ is) same some =
     (low, inner_in_chunk cs is (omega (arith, same)) (or_right (c == 0) (list_any (λ n. n == 0) cs) some))
 
 -- ---- the value of a cell
-
-pub is_inside_from : (sizes index : List ℕ) → IsInside sizes index → is_inside sizes index ≡ true
-is_inside_from [] [] h = refl
-is_inside_from [] (i ∷ is) h = absurd h
-is_inside_from (d ∷ ds) [] h = absurd h
-is_inside_from (d ∷ ds) (i ∷ is) h =
-    let low : i < d = h.0 in
-    let own : nat_lt i d ≡ true = grind (arith, nat_tests, low) in
-    rw own (is_inside_from ds is h.1)
 
 pub long_index : (sizes index : List ℕ) → IsInside sizes index → length index ≡ length sizes
 long_index [] [] h = refl

@@ -11,6 +11,7 @@ use Rattle.h5_model.proofs.PlainValues.{length-cells_bytes}
 use Rattle.h5_btree.specs.declared.write.child.Child.{Child}
 use Rattle.h5_btree.specs.Writing.Written.{AllFit, FitsKind}
 use Rattle.h5_btree.proofs.WriteLaws.TreeLaws.{tree_length}
+pub use Rattle.h5_chunks.proofs.BehindLaws.{length-index_from}
 use Rattle.h5_chunks.specs.Keys.{OffsetKey, chunk_key, index_from}
 use Rattle.h5_layout.specs.HeldChunks.{chunk_values}
 use Rattle.h5_repack.specs.Bodies.Chunks.{chunk_children, chunk_data, chunk_length, chunk_nodes, chunked_data, chunks_place, key_after}
@@ -22,12 +23,6 @@ use Rattle.h5_model.specs.Tree.Places.{index_of}
 -- a node of a tree of chunks
 pub node_long : (rank : ℕ) → node_length (chunk_kind 32 rank) ≡ chunk_node 32 rank
 node_long rank = omega arith
-
-pub length-index_from : (offsets inner : List ℕ) → length offsets ≡ length inner → length (index_from offsets inner) ≡ length inner
-length-index_from [] [] same = refl
-length-index_from [] (i ∷ is) same = absurd (omega (arith, same))
-length-index_from (o ∷ os) [] same = absurd (omega (arith, same))
-length-index_from (o ∷ os) (i ∷ is) same = omega (arith, length-index_from os is (omega (arith, same)))
 
 -- an offset for each size
 abbrev pub AreRanked : List ℕ → List (List ℕ) → Type 0

@@ -5,7 +5,7 @@ use Rattle.std.proofs.lemmas.Bool.Decides.{nat_tests}
 use Rattle.std.proofs.lemmas.List.{get_or-replicate, length-replicate}
 use Rattle.std.proofs.lemmas.List.FromFn.{fill_by_all, get_or-map-range_with_len}
 use Rattle.std.proofs.lemmas.Nat.{div-add-mod'}
-use Rattle.std.specs.Prelude.{T, nat_lt, slice_index_or}
+use Rattle.std.specs.Prelude.{T, slice_index_or}
 use Rattle.std.specs.Ordering.{nat_cmp, is_lt}
 use Rattle.std.specs.declared.cmp.Ordering.TheVariants.{Equal}
 use Rattle.std.specs.Cmp.Lexicographic.{slice_cmp, nat_list_cmp_total}
@@ -26,6 +26,7 @@ use Rattle.h5_model.specs.Tree.Places.{cells, index_of, place_of, is_inside, IsI
 use Rattle.h5_model.proofs.PlaceLaws.{index-place, inside-index, place-index, place_below}
 use Rattle.h5_laws.proofs.Lists.{In, all_in, contains_in, from_flat, in_all, in_contains, in_map}
 use Rattle.h5_laws.proofs.Maps.{found_entry, get_of_entry}
+use Rattle.h5_chunks.proofs.InsideLaws.{inside_of}
 use Rattle.h5_repack.specs.Bodies.Sound.{IsUnset}
 use Rattle.h5_layout.specs.HeldChunks.{AreRising, AreStoredChunks, IsHeldChunk, held_chunks}
 use Rattle.h5_repack.proofs.ChunkLaws.ChunkCells.{is_inside_from}
@@ -48,18 +49,6 @@ sorted_rising (a ∷ b ∷ es) sorted =
     (truth _ (halves (is_lt (slice_cmp nat_cmp a.0 b.0)) (below_all (slice_cmp nat_cmp) a.0 es) split.0).0, sorted_rising (b ∷ es) split.1)
 
 -- ---- offsets inside
-
-inside_of : (sizes index : List ℕ) → is_inside sizes index ≡ true → IsInside sizes index
-inside_of [] [] h = tt
-inside_of [] (i ∷ is) h = absurd (cc)
-inside_of (d ∷ ds) [] h = absurd (cc)
-inside_of (d ∷ ds) (i ∷ is) h =
-    let split = both (nat_lt i d) (is_inside ds is) h in
-    let own : nat_lt i d ≡ true = split.0 in
-    (grind (arith, nat_tests), inside_of ds is split.1) where
-      both : (b c : Bool) → (b && c) ≡ true → (b ≡ true) × (c ≡ true)
-      both true c h = (refl, h)
-      both false c h = absurd (cc)
 
 -- a chunk that holds a cell of the extent begins in it
 corner_inside : (sizes chunk index : List ℕ) → length chunk ≡ length sizes → IsInside sizes index → IsInside sizes (corner_of chunk index)

@@ -1,4 +1,4 @@
-use Rattle.std.proofs.Common.{◌≤◌, take, arith}
+use Rattle.std.proofs.Common.{take, arith}
 use Rattle.h5_layout.proofs.KeptLaws.{some_bytes}
 use Rattle.h5_layout.proofs.held.HeldChunks.chunk_length.Goals as goal
 
