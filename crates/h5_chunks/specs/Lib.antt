@@ -5,4 +5,5 @@ pub mod Order
 pub mod Read
 pub mod Way
 pub mod Keys
+pub mod Held
 pub use Rattle.h5_btree.specs.Walk

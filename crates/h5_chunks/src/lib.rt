@@ -4,6 +4,7 @@
 //! Offsets and chunk sizes are in elements, addresses and lengths in bytes. Nodes are read where they stand.
 #![tactic(auto)]
 
+mod held;
 mod key;
 mod offsets;
 mod order;
@@ -12,7 +13,8 @@ mod search;
 mod shape;
 mod write;
 
+pub use held::{ChunkPlace, held_places};
 pub use read::read_chunks;
 pub use search::chunk_at;
 pub use shape::ChunkShape;
-pub use write::ChunkKey;
+pub use write::{ChunkKey, push_last_key};

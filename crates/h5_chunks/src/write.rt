@@ -1,40 +1,40 @@
 //! Keys of trees of chunks, as they are written (File Format Specification 3.0, section III.A.1).
 
-ghost use Rattle.std.specs.Prelude.{◌≡◌, ◌++◌, OnOk};
-ghost use Rattle.h5_model.specs.Format.Bodies.{words};
-ghost use Rattle.h5_chunks.specs.Keys.{chunk_key, key_of};
+ghost use Rattle.std.specs.Prelude.{◌≡◌, ◌+◌, ◌*◌, ◌^◌, ◌<◌, ◌++◌, OnOk, length};
+ghost use Rattle.std.specs.List.{AllByRecursion, AllZip};
+ghost use Rattle.h5_model.specs.Format.Chunks.{IsOffset, offsets_in};
+ghost use Rattle.h5_chunks.specs.Keys.{chunk_key, index_from};
 
 use h5_btree::TreeKey;
-use h5_bytes::{push_middle, push_word, push_zeros};
+use h5_bytes::push_bytes;
 use std::alloc::AllocError;
 
-/// A key of a tree of chunks, as it is to be written.
+/// A key of a tree of chunks as it is written, where it stands.
 #[derive(Clone, Copy)]
 pub struct ChunkKey<'a> {
-    /// How many bytes the chunk has that it is of: 0 in the last key of a tree, which is of none.
-    pub bytes: u32,
-    /// The offsets of the chunk in elements, one for each dimension.
-    pub offsets: &'a [u64],
+    /// Its bytes: how many the chunk has that it is of, no filter, the chunk's offsets, and 0 for the element.
+    pub bytes: &'a [u8],
 }
 
 impl TreeKey for ChunkKey<'_> {
-    ghost bytes = { λ k. chunk_key (key_of k) };
+    ghost bytes = { λ k. k.bytes.now };
 
     fn push_to(&self, out: &mut Vec<u8>) -> Result<(), AllocError> {
-        push_middle(out, self.bytes)?;
-        push_zeros(out, 4)?;
-        push_offsets(out, self.offsets)?;
-        push_word(out, 0)?;
-        Ok(())
+        push_bytes(out, self.bytes)
     }
 }
 
-/// Offsets, one behind the other.
-fn push_offsets(out: &mut Vec<u8>, offsets: &[u64]) -> Result<(), AllocError>
-    ensures { OnOk result (out.new.items ≡ out.old.items ++ words offsets.now) }
+/// Appends the last key of a tree, which is of no chunk: that behind the last chunk, whose key and sizes these are.
+///
+/// That the key is one of a chunk of these sizes, each below 2^32, is the caller's condition.
+pub fn push_last_key(out: &mut Vec<u8>, key: &[u8], sizes: &[u64]) -> Result<(), AllocError>
+    requires long { length key.now ≡ 8 + 8 * (length sizes.now + 1) }
+    requires aligned { AllZip IsOffset sizes.now (offsets_in (length sizes.now) key.now) }
+    requires short { AllByRecursion (λ size. size < 2 ^ 32) sizes.now }
+    ensures { OnOk result (out.new.items ≡ out.old.items ++ chunk_key (record {
+      bytes = 0;
+      offsets = index_from (offsets_in (length sizes.now) key.now) sizes.now;
+    })) }
 {
-    for offset in offsets {
-        push_word(out, *offset)?;
-    }
-    Ok(())
+    Err(AllocError)
 }

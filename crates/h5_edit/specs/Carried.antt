@@ -1,5 +1,5 @@
 -- Which edits are carried so far, and when one is refused.
-use Rattle.std.specs.Prelude.{◌≡◌, ◌^◌, ◌+◌, ◌&&◌, Bool, true, false, not, IsTrue, IsFalse, nat_lt, Option, Some, None, length}
+use Rattle.std.specs.Prelude.{◌≡◌, ℕ, ◌^◌, ◌+◌, ◌≤◌, ◌<◌, ◌&&◌, Bool, true, false, not, IsTrue, IsFalse, nat_lt, Option, Some, None, length}
 use Rattle.std.specs.FinMap.{get}
 use Rattle.std.specs.Option.{option_map_or, option_and_then}
 use Rattle.h5_model.specs.Edits.Applied.{applied}
@@ -7,9 +7,8 @@ use Rattle.h5_model.specs.Edits.ImageAnswers.{adds_entry, chosen}
 use Rattle.h5_model.specs.Format.Messages.{prefix_at, total_in}
 use Rattle.h5_model.specs.Tree.Paths.{object_at, dataset_at}
 use Rattle.h5_model.specs.Views.Selection.{axes_of, selection_of}
-use Rattle.h5_model.specs.Format.PlainLength.{plain_length}
 use Rattle.h5_model.specs.Edits.Refusal.{refusal_of}
-use Rattle.h5_model.specs.Format.Superblock.{leaf_k, internal_k, chunk_k}
+use Rattle.h5_model.specs.Format.Superblock.{leaf_k, internal_k}
 use Rattle.h5_model.specs.Tree.Objects.{Tree, Dataset, Storage, Compact, Contiguous, Chunked}
 use Rattle.h5_model.specs.declared.edits.Edit.{Edit}
 use Rattle.h5_model.specs.declared.edits.Edit.TheVariants.{CreateGroup, CreateDataset, HardLink, SoftLink, SetAttr, RemoveAttr, Write}
@@ -17,24 +16,19 @@ use Rattle.h5_model.specs.declared.edit_fault.EditFault.{EditFault}
 use Rattle.h5_model.specs.declared.edit_fault.EditFault.TheVariants as fault
 use Rattle.h5_query.specs.Opened.State.{FileState}
 use Rattle.h5_repack.specs.Image.Plain.{AreLow}
-use Rattle.h5_edit.specs.Refusals.Allowed.{is_carried_spec}
-use Rattle.h5_edit.specs.Writable.{are_writable}
+use Rattle.h5_edit.specs.StoredChunks.{HasLengthAnew}
 
 -- ---- which edits are carried
 
--- a new group, array of one size in one block, or link, and every change of attributes
-abbrev pub is_carried_kind : Edit → Bool
-is_carried_kind (CreateGroup path) = true
-is_carried_kind (CreateDataset path spec) = is_carried_spec spec
-is_carried_kind (HardLink target path) = true
-is_carried_kind (SoftLink text path) = true
-is_carried_kind (SetAttr path attr) = true
-is_carried_kind (RemoveAttr path name) = true
-is_carried_kind _ = false
-
--- and of a tree that can be written
-abbrev pub is_carried : Tree → Edit → Bool
-is_carried tree edit = is_carried_kind edit && are_writable tree
+-- a new group, array or link, and every change of attributes
+abbrev pub is_carried : Edit → Bool
+is_carried (CreateGroup path) = true
+is_carried (CreateDataset path spec) = true
+is_carried (HardLink target path) = true
+is_carried (SoftLink text path) = true
+is_carried (SetAttr path attr) = true
+is_carried (RemoveAttr path name) = true
+is_carried _ = false
 
 -- ---- which edits write the image anew
 
@@ -58,9 +52,12 @@ is_message_total_full f (SetAttr path attr) =
     option_map_or (λ header. nat_lt 65535 (total_in (prefix_at f.image header) + 2)) (option_and_then (get f.table) (object_at f.tree path)) false
 is_message_total_full f _ = false
 
--- the image of the tree, written anew, would pass 2^31 bytes
-abbrev pub is_too_long : FileState → Tree → Bool
-is_too_long f tree = nat_lt (2 ^ 31) (plain_length (leaf_k f.image) (internal_k f.image) (chunk_k f.image) (λ _. 0) tree)
+-- the image of the tree, written anew, has at most 2^31 bytes, or more
+abbrev pub IsShortAnew : FileState → Tree → Type 0
+IsShortAnew f tree = (bytes : ℕ) × HasLengthAnew f tree bytes × (bytes ≤ 2 ^ 31)
+
+abbrev pub IsLongAnew : FileState → Tree → Type 0
+IsLongAnew f tree = (bytes : ℕ) × HasLengthAnew f tree bytes × (2 ^ 31 < bytes)
 
 -- the tree that an edit gives
 abbrev pub tree_after : FileState → Edit → Tree
@@ -70,11 +67,11 @@ tree_after f edit = applied f.tree edit f.next
 -- a link, by its groups' trees: either may be answered where both hold. Memory may be short at any time.
 abbrev pub IsGivenAnew : FileState → Edit → Option EditFault → Type 0
 IsGivenAnew f edit None =
-    IsFalse (is_message_total_full f edit) × IsFalse (is_too_long f (tree_after f edit)) × AreLow (leaf_k f.image) (internal_k f.image) (tree_after f edit)
+    IsFalse (is_message_total_full f edit) × IsShortAnew f (tree_after f edit) × AreLow (leaf_k f.image) (internal_k f.image) (tree_after f edit)
 IsGivenAnew f edit (Some fault.HeaderFull) = IsTrue (is_message_total_full f edit)
 IsGivenAnew f edit (Some fault.TreeTooDeep) =
     IsFalse (is_message_total_full f edit) × (AreLow (leaf_k f.image) (internal_k f.image) (tree_after f edit) → ⊥) × IsTrue (adds_entry edit)
-IsGivenAnew f edit (Some fault.ImageFull) = IsFalse (is_message_total_full f edit) × IsTrue (is_too_long f (tree_after f edit))
+IsGivenAnew f edit (Some fault.ImageFull) = IsFalse (is_message_total_full f edit) × IsLongAnew f (tree_after f edit)
 IsGivenAnew f edit (Some fault.NoMemory) = Unit {0}
 IsGivenAnew f edit _ = ⊥
 
@@ -105,4 +102,4 @@ RefusedAs true f edit e = IsRefusedBy f edit e
 RefusedAs false f edit e = e ≡ fault.NotYet
 
 abbrev pub IsRefused : FileState → Edit → EditFault → Type 0
-IsRefused f edit e = RefusedAs (is_carried f.tree edit) f edit e
+IsRefused f edit e = RefusedAs (is_carried edit) f edit e

@@ -30,7 +30,7 @@ made_in (Remove object name) = 0
 -- object
 pub record IsFitting (f : FileState) (edit : Edit) (change : Change) (object : Option ObjectNo) : Type 0 where
   pub typed : IsTyped edit
-  pub carried : is_carried f.tree edit ≡ true
+  pub carried : is_carried edit ≡ true
   pub accepted : refusal_of f.tree f.next edit ≡ None
   pub roomy : is_message_total_full f edit ≡ false
   pub gives : tree_after f edit ≡ changed f.tree change f.next

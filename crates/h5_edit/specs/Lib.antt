@@ -1,6 +1,7 @@
-pub mod Writable
+pub mod StoredChunks
 pub mod Carried
 pub mod Made
+pub mod Repacked
 pub mod Edited
 pub mod InRun
 pub mod Answers

@@ -27,7 +27,7 @@ pub record IsAccepted (f : FileState) (edit : Edit) : Type 0 where
 
 -- the edit is carried, and is accepted; the image of the tree
 pub record IsEditMade (f : FileState) (edit : Edit) (made : Made) : Type 0 where
-  pub carried : is_carried f.tree edit ≡ true
+  pub carried : is_carried edit ≡ true
   pub accepted : IsAccepted f edit
   pub anew : IsAnew f (tree_after f edit) (state_after (state_of f) edit).next made.image.items made.headers.items
   pub object : option_map (λ o. o.0) made.object ≡ named_object f.tree edit f.next

@@ -1,6 +1,4 @@
 //! Attributes set and removed (File Format Specification 3.0, section IV.A.2.m).
-//!
-//! Each call is refused as `NotYet`, before any other check, where an array of the image is neither in one block nor nowhere.
 
 ghost use Rattle.std.specs.Prelude.{MatchResult};
 ghost use Rattle.h5_model.specs.declared.edits.Edit.TheVariants.{SetAttr, RemoveAttr};
@@ -12,7 +10,6 @@ use crate::anew::carry_out;
 use crate::change::Change;
 use crate::made::Made;
 use crate::rules::{check_remove_attr, check_set_attr};
-use crate::writable::check_writable;
 use h5_model::{AttrSpec, EditFault, ObjectNo};
 use h5_query::Opened;
 use std::alloc::Global;
@@ -37,7 +34,6 @@ pub fn set_attr(
         (IsRefused f (SetAttr path.now attr.now)) }
     ensures sound { IsSound opened.now }
 {
-    check_writable(alloc, opened)?;
     let number = check_set_attr(alloc, opened, path, attr)?;
     let object = opened.object(number).unwrap();
     // A Continuation may come with the message.
@@ -66,7 +62,6 @@ pub fn remove_attr(
         (IsRefused f (RemoveAttr path.now name.now)) }
     ensures sound { IsSound opened.now }
 {
-    check_writable(alloc, opened)?;
     let number = check_remove_attr(opened, path, name)?;
     let change = Change::RemoveAttr {
         object: number,

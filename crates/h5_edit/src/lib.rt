@@ -1,8 +1,8 @@
 //! Edits of an opened image: why one is refused, in the order of the refusals' numbers, and the image that an accepted one gives, written
 //! anew (File Format Specification 3.0, sections III.C and IV.A).
 //!
-//! Each call writes the whole image, however small the edit is, but `write_run`, and answers `NotYet` where an array of the image cannot be
-//! written so far. Where both `TreeTooDeep` and `ImageFull` hold, either is answered.
+//! Each call writes the whole image, however small the edit is, but `write_run`. Where both `TreeTooDeep` and `ImageFull` hold, either is
+//! answered.
 #![tactic(auto)]
 
 mod anew;
@@ -10,8 +10,8 @@ mod attributes;
 mod change;
 mod links;
 mod made;
+mod repack;
 mod rules;
-mod writable;
 mod write;
 
 pub use attributes::{remove_attr, set_attr};
@@ -23,4 +23,5 @@ pub use h5_query::{
 pub use h5_repack::empty_image;
 pub use links::{create_dataset, create_group, hard_link, soft_link};
 pub use made::Made;
+pub use repack::repack;
 pub use write::write_run;

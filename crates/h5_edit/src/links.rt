@@ -1,6 +1,4 @@
 //! New groups, arrays and links (File Format Specification 3.0, section III.C).
-//!
-//! Each call is refused as `NotYet`, before any other check, where an array of the image is neither in one block nor nowhere.
 
 ghost use Rattle.std.specs.Prelude.{◌≡◌, MatchResult};
 ghost use Rattle.h5_model.specs.declared.edits.Edit.TheVariants.{CreateGroup, CreateDataset, HardLink, SoftLink};
@@ -14,9 +12,7 @@ use crate::change::{Change, Target};
 use crate::made::Made;
 use crate::rules::{
     NewPlace, check_create_dataset, check_create_group, check_hard_link, check_soft_link,
-    is_carried,
 };
-use crate::writable::check_writable;
 use h5_model::{EditFault, ObjectNo, Spec};
 use h5_query::Opened;
 use std::alloc::Global;
@@ -31,7 +27,6 @@ pub fn create_group(alloc: Global, opened: &Opened, path: &[u8]) -> Result<Made,
         MatchResult result (IsEditMade f (CreateGroup path.now)) (IsRefused f (CreateGroup path.now)) }
     ensures sound { IsSound opened.now }
 {
-    check_writable(alloc, opened)?;
     let place = check_create_group(opened, path)?;
     let change = link_at(place, Target::Group);
     carry_out(alloc, opened, &change, Some(ObjectNo(opened.next())))
@@ -39,9 +34,9 @@ pub fn create_group(alloc: Global, opened: &Opened, path: &[u8]) -> Result<Made,
 
 /// Makes an array at the path, every cell of which is the fill.
 ///
-/// Refused as `NotYet`, before any other check, also unless the new array is contiguous and of one size. Else by the lowest number that
-/// holds: `BadPath`, `PathTooDeep`, `IsRoot`, `NoSuchParent`, `NotAGroup`, `AlreadyThere`, `NameTooLong`, `BadSpec`, `TooManyCells`,
-/// `ValueRange`, `TooManyObjects`, `TreeTooDeep`, `ImageFull`, `NoMemory`.
+/// Refused by the lowest number that holds: `BadPath`, `PathTooDeep`, `IsRoot`, `NoSuchParent`, `NotAGroup`, `AlreadyThere`,
+/// `NameTooLong`, `BadSpec`, `ChunkTooLarge`, `CompactTooLarge`, `TooManyCells`, `ValueRange`, `TooManyObjects`, `TreeTooDeep`,
+/// `ImageFull`, `NoMemory`.
 pub fn create_dataset(
     alloc: Global,
     opened: &Opened,
@@ -53,10 +48,6 @@ pub fn create_dataset(
         (IsRefused f (CreateDataset path.now spec.now)) }
     ensures sound { IsSound opened.now }
 {
-    check_writable(alloc, opened)?;
-    if !is_carried(spec) {
-        return Err(EditFault::NotYet);
-    }
     let place = check_create_dataset(alloc, opened, path, spec)?;
     // The call's contract says that the type is a sound one.
     let _size = spec.fixed.size();
@@ -79,7 +70,6 @@ pub fn hard_link(
         (IsRefused f (HardLink target.now path.now)) }
     ensures sound { IsSound opened.now }
 {
-    check_writable(alloc, opened)?;
     let (number, place) = check_hard_link(opened, target, path)?;
     let change = link_at(place, Target::Object(number));
     carry_out(alloc, opened, &change, Some(ObjectNo(number)))
@@ -100,7 +90,6 @@ pub fn soft_link(
         (IsRefused f (SoftLink text.now path.now)) }
     ensures sound { IsSound opened.now }
 {
-    check_writable(alloc, opened)?;
     let place = check_soft_link(opened, text, path)?;
     let change = link_at(place, Target::Text(text));
     carry_out(alloc, opened, &change, None)

@@ -6,11 +6,12 @@ mod attribute;
 mod limits;
 mod links;
 mod place;
+mod store;
 mod text;
 mod values;
 mod write;
 
-pub use array::{check_create_dataset, is_carried};
+pub use array::check_create_dataset;
 pub use attribute::{check_remove_attr, check_set_attr};
 pub use links::{check_create_group, check_hard_link, check_soft_link};
 pub use place::NewPlace;

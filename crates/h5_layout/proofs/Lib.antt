@@ -12,3 +12,4 @@ pub mod FillLaws
 pub mod ToldLaws
 pub mod StoredLaws
 pub mod WriteLaws
+pub mod KeptLaws

@@ -1,6 +1,6 @@
 -- The chunks of an array that hold a cell of an extent: which these are, and their cells (File Format Specification 3.0, sections III.A.1 and
 -- IV.A.2.i).
-use Rattle.std.specs.Prelude.{◌≡◌, ℕ, ◌+◌, ℤ, List, [], ◌∷◌, map}
+use Rattle.std.specs.Prelude.{◌≡◌, ℕ, ℤ, List, [], ◌∷◌, map}
 use Rattle.std.specs.FinMap.{entries, retain_keys}
 use Rattle.std.specs.List.{AllByRecursion, AllZip, Contains, range_with_len}
 use Rattle.h5_model.specs.Edits.Applied.{cell_or_fill, resized}
@@ -11,6 +11,7 @@ use Rattle.h5_model.specs.Scripts.Reading.{cell_at}
 use Rattle.h5_model.specs.Tree.Grid.{corner_of}
 use Rattle.h5_model.specs.Tree.Objects.{Dataset}
 use Rattle.h5_model.specs.Tree.Places.{IsInside, cells, index_of, is_inside}
+use Rattle.h5_chunks.specs.Keys.{index_from}
 use Rattle.h5_layout.specs.Data.{dataset_told, stored_chunks}
 use Rattle.h5_layout.specs.Described.{Described}
 
@@ -38,12 +39,6 @@ abbrev pub held_chunks : List ℕ → Chunks → List (List ℕ)
 held_chunks sizes chunks = map (λ e. e.0) (entries (retain_keys chunks (is_inside sizes)))
 
 -- ---- their cells
-
--- the index in the array of a cell with this index in the chunk at these offsets
-abbrev pub index_from : List ℕ → List ℕ → List ℕ
-index_from [] inner = []
-index_from (o ∷ os) [] = []
-index_from (o ∷ os) (i ∷ is) = (o + i) ∷ index_from os is
 
 -- the cells of the chunk at these offsets, in row-major order; outside the extent each is the fill
 abbrev pub chunk_values : Dataset → List ℕ → List ℕ → List ℤ

@@ -4,6 +4,7 @@ pub mod Data
 pub mod Described
 pub mod HeldChunks
 pub mod Judged
+pub mod Kept
 pub mod Maxima
 pub mod Pieces
 pub mod Runs

@@ -8,6 +8,7 @@ mod array;
 mod bodies;
 mod cells;
 mod grid;
+mod held;
 mod judge;
 mod pieces;
 mod read;
@@ -15,8 +16,9 @@ mod stored;
 mod write;
 
 pub use array::ArrayRef;
-pub use h5_msg::Layout;
+pub use h5_msg::{ChunkSizes, Layout};
 pub use h5_shape::{Dims, MAX_RANK, Slab, SlabFault};
+pub use held::HeldChunks;
 pub use pieces::{Piece, Runs};
 pub use read::{known_array, read_array};
 pub use stored::StoredArray;

@@ -1,3 +1,4 @@
 pub mod Times
+pub mod ChunkSizes
 pub mod Layouts
 pub mod Parts

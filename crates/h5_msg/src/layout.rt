@@ -8,6 +8,7 @@ ghost use Rattle.h5_bytes.specs.Blocks.{block};
 ghost use Rattle.h5_model.specs.Format.Layout.{InBlock, InChunks, InMessage, chunked_layout, compact_layout, contiguous_layout, layout_of, short_numbers_at};
 ghost use Rattle.h5_model.specs.Format.Bodies.{chunked_bytes, compact_bytes, contiguous_bytes};
 ghost use Rattle.h5_model.specs.Format.Plain.{padded};
+ghost use Rattle.h5_msg.specs.ChunkSizes.{IsPlaced, sizes_at};
 ghost use Rattle.h5_msg.specs.Layouts.{layout_in};
 ghost use Rattle.h5_model.specs.Tree.Places.{cells as cells_of};
 
@@ -44,32 +45,54 @@ pub fn chunked_length(rank: usize) -> usize
     CHUNK_SIZES + 4 * (rank + 1)
 }
 
-/// The chunk sizes that a Data Layout message names, in elements.
+/// Where chunk sizes stand.
+#[derive(Clone, Copy)]
+enum SizesIn<'a> {
+    /// So many in the body of a Data Layout message.
+    Body { body: &'a [u8], rank: usize },
+    /// One after another, as they were handed over.
+    Row(&'a [u32]),
+}
+
+/// Chunk sizes in elements, as a Data Layout message names them or as they were handed over.
 #[derive(Drop)]
 pub struct ChunkSizes<'a> {
-    body: &'a [u8],
-    rank: usize,
+    place: SizesIn<'a>,
 }
 
 impl<'a> Model for ChunkSizes<'a> {
-    ghost use Rattle.h5_model.specs.Format.Layout.{short_numbers_at};
-    ghost use Rattle.std.specs.Prelude.{◌≡◌, ◌==◌, ◌+◌, ◌*◌, ◌≤◌, ℕ, List, length, false};
+    ghost use Rattle.h5_msg.specs.ChunkSizes.{IsPlaced, sizes_at};
+    ghost use Rattle.std.specs.Prelude.{◌≡◌, ◌==◌, ◌≤◌, ℕ, List, length, false};
     ghost use Rattle.std.specs.List.{list_any};
 
     ghost Value = { List ℕ };
 
-    ghost view = { λ a. short_numbers_at a.body.now 11 a.rank };
+    ghost view = { λ a. sizes_at a.place };
 
-    ghost invariant = { λ a. (11 + 4 * a.rank ≤ length a.body.now) × (a.rank ≤ 32) × (list_any (λ n. n == 0) (short_numbers_at a.body.now 11 a.rank) ≡ false) };
+    ghost invariant = { λ a. IsPlaced a.place × (length (sizes_at a.place) ≤ 32) × (list_any (λ n. n == 0) (sizes_at a.place) ≡ false) };
 }
 
 impl<'a> ChunkSizes<'a> {
+    /// Chunk sizes that are handed over, none of which is 0.
+    pub fn new(sizes: &'a [u32]) -> Self
+        requires few { length sizes.now ≤ 32 }
+        requires some { list_any (λ n. n == 0) sizes.now ≡ false }
+        ensures { result ≡ sizes.now }
+    {
+        ChunkSizes {
+            place: SizesIn::Row(sizes),
+        }
+    }
+
     /// How many dimensions there are.
     pub fn rank(&self) -> usize
         ensures rank { result ≡ length self.now }
         ensures most { result ≤ 32 }
     {
-        self.rank
+        match self.place {
+            SizesIn::Body { rank, .. } => rank,
+            SizesIn::Row(sizes) => sizes.len(),
+        }
     }
 
     /// The chunk size in a dimension.
@@ -78,7 +101,7 @@ impl<'a> ChunkSizes<'a> {
         ensures size { result ≡ slice_index self.now k }
         ensures some { 1 ≤ result }
     {
-        u32_at(self.body, CHUNK_SIZES + 4 * k)
+        size_at(self.place, k)
     }
 
     /// The chunk sizes, none of which is 0. It takes no memory.
@@ -88,19 +111,34 @@ impl<'a> ChunkSizes<'a> {
         ensures some { list_any (λ n. n == 0) self.now ≡ false }
     {
         let mut sizes = [0; MAX_RANK];
-        read_sizes(self.body, self.rank, &mut sizes[..self.rank]);
-        Dims::new(alloc, &sizes[..self.rank]).unwrap()
+        let rank = self.rank();
+        read_sizes(self.place, &mut sizes[..rank]);
+        Dims::new(alloc, &sizes[..rank]).unwrap()
     }
 }
 
-/// Reads so many chunk sizes.
-fn read_sizes(body: &[u8], rank: usize, sizes: &mut [u64])
-    requires there { 11 + 4 * rank ≤ length body.now }
-    requires room { length sizes.old ≡ rank }
-    ensures { sizes.new ≡ short_numbers_at body.now 11 rank }
+/// Reads the chunk sizes that stand there.
+fn read_sizes(place: SizesIn<'_>, sizes: &mut [u64])
+    requires there { IsPlaced place }
+    requires few { length (sizes_at place) ≤ 32 }
+    requires room { length sizes.old ≡ length (sizes_at place) }
+    ensures { sizes.new ≡ sizes_at place.entry }
 {
-    for k in 0..rank {
-        sizes[k] = u64::from(u32_at(body, CHUNK_SIZES + 4 * k));
+    for k in 0..sizes.len() {
+        sizes[k] = u64::from(size_at(place, k));
+    }
+}
+
+/// The chunk size in a dimension.
+fn size_at(place: SizesIn<'_>, k: usize) -> u32
+    requires there { IsPlaced place }
+    requires few { length (sizes_at place) ≤ 32 }
+    requires within { k < length (sizes_at place) }
+    ensures { result ≡ slice_index (sizes_at place.entry) k }
+{
+    match place {
+        SizesIn::Body { body, .. } => u32_at(body, CHUNK_SIZES + 4 * k),
+        SizesIn::Row(sizes) => sizes[k],
     }
 }
 
@@ -198,7 +236,9 @@ fn read_chunked(rank: usize, size: usize, body: &[u8]) -> Result<Layout<'_>, For
     }
     let tree = u64_at(body, 3);
     Ok(Layout::Chunked {
-        sizes: ChunkSizes { body, rank },
+        sizes: ChunkSizes {
+            place: SizesIn::Body { body, rank },
+        },
         tree: if tree == UNDEF { None } else { Some(tree) },
     })
 }

@@ -5,3 +5,4 @@ pub mod HeaderSpace
 pub mod HeaderLengths
 pub mod ChunkSizes
 pub mod HeaderArray
+pub mod ArrayReads

@@ -8,3 +8,4 @@ pub mod KeyTrees
 pub mod ChunksRead
 pub mod ChunkedArray
 pub mod HeldChunks
+pub mod StoredFor

@@ -57,36 +57,36 @@ module _ (lengths : ℕ → ℕ) where
   placed_within at (n ∷ ns) hs apart below m (inr there) =
       placed_within (at + lengths n) ns (set hs n (Some at)) apart.1 (λ k there. subst (λ (z : ℕ). k < z) (sym (length-set hs n (Some at))) (below k (inr there))) m there
 
-  module _ (leaf internal : ℕ) (object : ℕ → Object) where
+  module _ (leaf internal : ℕ) (counts : ℕ → ℕ) (object : ℕ → Object) where
     abbrev pub AreLengths : List ℕ → Type 0
-    AreLengths ns = (n : ℕ) → In n ns → object_length leaf internal (object n) ≡ lengths n
+    AreLengths ns = (n : ℕ) → In n ns → object_length leaf internal (counts n) (object n) ≡ lengths n
 
     abbrev pub pairs : List ℕ → List (ℕ × Object)
     pairs ns = map (λ (n : ℕ). (n, object n)) ns
 
-    pub end_same : (at : ℕ) (ns : List ℕ) → AreLengths ns → end_from leaf internal at (pairs ns) ≡ end_of lengths at ns
+    pub end_same : (at : ℕ) (ns : List ℕ) → AreLengths ns → end_from leaf internal counts at (pairs ns) ≡ end_of lengths at ns
     end_same at [] same = refl
     end_same at (n ∷ ns) same =
-        ap (λ k. end_from leaf internal (at + k) (pairs ns)) (same n (inl refl)) ∙ end_same (at + lengths n) ns (λ m there. same m (inr there))
+        ap (λ k. end_from leaf internal counts (at + k) (pairs ns)) (same n (inl refl)) ∙ end_same (at + lengths n) ns (λ m there. same m (inr there))
 
-    pub find_none : (at : ℕ) (ns : List ℕ) (m : ℕ) → (In m ns → ⊥) → find nat_cmp m (headers_from leaf internal at (pairs ns)) ≡ None
+    pub find_none : (at : ℕ) (ns : List ℕ) (m : ℕ) → (In m ns → ⊥) → find nat_cmp m (headers_from leaf internal counts at (pairs ns)) ≡ None
     find_none at [] m other = refl
     find_none at (n ∷ ns) m other =
-        found_later m n at (headers_from leaf internal (at + object_length leaf internal (object n)) (pairs ns)) (λ e. other (inl (sym e)))
-        ∙ find_none (at + object_length leaf internal (object n)) ns m (λ there. other (inr there))
+        found_later m n at (headers_from leaf internal counts (at + object_length leaf internal (counts n) (object n)) (pairs ns)) (λ e. other (inl (sym e)))
+        ∙ find_none (at + object_length leaf internal (counts n) (object n)) ns m (λ there. other (inr there))
 
     pub headers_found : (at : ℕ) (ns : List ℕ) (hs : List (Option ℕ)) → AreLengths ns → Apart ns → ((n : ℕ) → In n ns → n < length hs) → (m : ℕ) → In m ns
-        → option_flatten (slice_get (headers_of lengths at ns hs) m) ≡ find nat_cmp m (headers_from leaf internal at (pairs ns))
+        → option_flatten (slice_get (headers_of lengths at ns hs) m) ≡ find nat_cmp m (headers_from leaf internal counts at (pairs ns))
     headers_found at [] hs same apart below m there = absurd there
     headers_found at (n ∷ ns) hs same apart below m (inl e) =
-        subst (λ (k : ℕ). option_flatten (slice_get (headers_of lengths at (n ∷ ns) hs) k) ≡ find nat_cmp k (headers_from leaf internal at (pairs (n ∷ ns)))) e
+        subst (λ (k : ℕ). option_flatten (slice_get (headers_of lengths at (n ∷ ns) hs) k) ≡ find nat_cmp k (headers_from leaf internal counts at (pairs (n ∷ ns)))) e
         (ap option_flatten (headers_kept (at + lengths n) ns (set hs n (Some at)) n apart.0 ∙ set_here hs n (Some at) (below n (inl refl)))
-        ∙ sym (found_first n at (headers_from leaf internal (at + object_length leaf internal (object n)) (pairs ns))))
+        ∙ sym (found_first n at (headers_from leaf internal counts (at + object_length leaf internal (counts n) (object n)) (pairs ns))))
     headers_found at (n ∷ ns) hs same apart below m (inr there) =
         headers_found (at + lengths n) ns (set hs n (Some at)) (λ k there. same k (inr there)) apart.1
         (λ k there. subst (λ (z : ℕ). k < z) (sym (length-set hs n (Some at))) (below k (inr there))) m there
-        ∙ ap (λ k. find nat_cmp m (headers_from leaf internal (at + k) (pairs ns))) (sym (same n (inl refl)))
-        ∙ sym (found_later m n at (headers_from leaf internal (at + object_length leaf internal (object n)) (pairs ns))
+        ∙ ap (λ k. find nat_cmp m (headers_from leaf internal counts (at + k) (pairs ns))) (sym (same n (inl refl)))
+        ∙ sym (found_later m n at (headers_from leaf internal counts (at + object_length leaf internal (counts n) (object n)) (pairs ns))
         (λ e. apart.0 (subst (λ (k : ℕ). In k ns) e there)))
 
 -- ---- one object more

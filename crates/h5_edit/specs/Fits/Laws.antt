@@ -1,4 +1,4 @@
--- Which trees the plain layout can hold: those of opened images, where each array is in one block, and those that accepted edits give.
+-- Which trees the plain layout can hold: those of opened images, and those that accepted edits give.
 use Rattle.std.specs.Prelude.{◌≡◌, ℕ, ◌<◌, true, IsFalse, None, List, slice_index}
 use Rattle.h5_model.specs.Format.Fixed.{IsFixed}
 use Rattle.h5_model.specs.Edits.Refusal.{refusal_of}
@@ -8,7 +8,6 @@ use Rattle.h5_query.specs.Opened.Sound.{IsSound}
 use Rattle.h5_query.specs.Opened.State.{FileState}
 use Rattle.h5_repack.specs.Image.Plain.{ArePlain}
 use Rattle.h5_edit.specs.Carried.{is_carried, is_message_total_full, tree_after}
-use Rattle.h5_edit.specs.Writable.{are_writable}
 
 -- ---- opened images
 
@@ -17,7 +16,7 @@ abbrev pub AreBytes : List ℕ → Type 0
 AreBytes bytes = (i : ℕ) → slice_index bytes i < 256
 
 abbrev pub OpenedPlain : Type 0
-OpenedPlain = (f : FileState) → AreBytes f.image → IsSound f → are_writable f.tree ≡ true → ArePlain f.tree
+OpenedPlain = (f : FileState) → AreBytes f.image → IsSound f → ArePlain f.tree
 
 -- ---- edits
 
@@ -28,5 +27,5 @@ IsTyped (SetAttr path attr) = IsFixed attr.fixed
 IsTyped _ = Unit {0}
 
 abbrev pub EditedPlain : Type 0
-EditedPlain = (f : FileState) (edit : Edit) → AreBytes f.image → IsSound f → IsTyped edit → is_carried f.tree edit ≡ true
+EditedPlain = (f : FileState) (edit : Edit) → AreBytes f.image → IsSound f → IsTyped edit → is_carried edit ≡ true
     → refusal_of f.tree f.next edit ≡ None → IsFalse (is_message_total_full f edit) → ArePlain (tree_after f edit)

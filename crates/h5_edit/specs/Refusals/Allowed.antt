@@ -1,25 +1,14 @@
 -- Edits of an opened image that no rule of its tree refuses, and where they take place.
-use Rattle.std.specs.Prelude.{◌≡◌, ℕ, ℤ, ◌==◌, ◌&&◌, Bool, true, false, Some, None, List, length}
+use Rattle.std.specs.Prelude.{◌≡◌, ℕ, ℤ, Some, None, List}
 use Rattle.h5_model.specs.Tree.Paths.{object_at, parent_at}
 use Rattle.h5_model.specs.Edits.Refusal.{refusal_of}
 use Rattle.h5_model.specs.Tree.Objects.{Tree}
 use Rattle.h5_model.specs.Views.Selection.{Slab, axes_of}
-use Rattle.h5_model.specs.declared.dataset.Spec.{Spec}
-use Rattle.h5_model.specs.declared.dataset.Store.{Store}
-use Rattle.h5_model.specs.declared.dataset.Store.TheVariants as store
 use Rattle.h5_model.specs.declared.edits.Edit.{Edit}
 use Rattle.h5_model.specs.declared.edits.Edit.TheVariants.{Write}
 use Rattle.h5_model.specs.declared.edit_fault.EditFault.{EditFault}
 use Rattle.h5_model.specs.declared.hyperslab.Hyper.{Hyper}
 use Rattle.h5_edit.specs.declared.rules.place.NewPlace.{NewPlace}
-
-abbrev pub is_contiguous : Store → Bool
-is_contiguous store.Contiguous = true
-is_contiguous _ = false
-
--- the new arrays that are carried so far: of one dimension, with their cells in one block
-abbrev pub is_carried_spec : Spec → Bool
-is_carried_spec s = is_contiguous s.store && length s.dims == 1
 
 -- no rule refuses the edit, and its new link is to stand in this group under this name
 pub record IsPlaceAllowed (tree : Tree) (next : ℕ) (path : List ℕ) (edit : Edit) (p : NewPlace) : Type 0 where

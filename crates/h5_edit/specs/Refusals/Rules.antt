@@ -1,15 +1,15 @@
 -- The rules of the paths of an edit by their faults, and the rules that a target, an attribute or an array alone decides.
-use Rattle.std.specs.Prelude.{◌≡◌, ℕ, ℤ, ◌^◌, ◌==◌, ◌&&◌, ◌||◌, Bool, false, not, nat_lt, nat_le, if◌then◌else◌, is_none, is_some, Option, Some, None, List, [], ◌∷◌, length}
+use Rattle.std.specs.Prelude.{◌≡◌, ℕ, ℤ, ◌*◌, ◌^◌, ◌==◌, ◌&&◌, ◌||◌, Bool, false, not, nat_lt, nat_le, if◌then◌else◌, is_none, is_some, Option, Some, None, List, [], ◌∷◌, length}
 use Rattle.std.specs.List.{list_all}
 use Rattle.std.specs.Option.{option_map_or}
 use Rattle.h5_model.specs.Edits.EditFaults.{fault_number}
 use Rattle.h5_model.specs.Format.Fixed.{Fixed, fits}
 use Rattle.h5_model.specs.Tree.Places.{cells, extent_cells}
 use Rattle.h5_model.specs.Format.Sizes.{attribute_size}
-use Rattle.h5_model.specs.Tree.Objects.{Tree, ToObject, links_of, hard_links, are_sizes}
+use Rattle.h5_model.specs.Tree.Objects.{Tree, ToObject, links_of, hard_links}
 use Rattle.h5_model.specs.Tree.Paths.{names_of, located, parent_at}
 use Rattle.h5_model.specs.Views.Selection.{axes_of, selected_cells}
-use Rattle.h5_model.specs.Edits.Refusal.{is_deep, is_root, has_no_parent, has_no_group, is_missing, is_here, is_soft, last_is_long, is_no_text, are_maxima}
+use Rattle.h5_model.specs.Edits.Refusal.{is_deep, is_root, has_no_parent, has_no_group, is_missing, is_here, is_soft, last_is_long, is_no_text, are_maxima, is_store, chunk_is_large, compact_is_large}
 use Rattle.h5_model.specs.declared.attribute.AttrSpec.{AttrSpec}
 use Rattle.h5_model.specs.declared.dataset.Spec.{Spec}
 use Rattle.h5_model.specs.declared.edit_fault.EditFault.{EditFault}
@@ -104,10 +104,12 @@ own_rules a =
     ∷ (fault.AttributeTooLarge, nat_lt 65528 (attribute_size (length a.name) a.dims (a.fixed).size))
     ∷ []
 
--- a new array in one block
+-- a new array
 abbrev pub spec_rules : Spec → List (EditFault × Bool)
 spec_rules s =
-    (fault.BadSpec, nat_lt 32 (length s.dims) || not (are_maxima s.dims s.maxima && are_sizes s.dims s.maxima))
+    (fault.BadSpec, nat_lt 32 (length s.dims) || not (are_maxima s.dims s.maxima && is_store s.store s.dims s.maxima))
+    ∷ (fault.ChunkTooLarge, chunk_is_large s.store (s.fixed).size)
+    ∷ (fault.CompactTooLarge, compact_is_large s.store (cells s.dims * (s.fixed).size))
     ∷ (fault.TooManyCells, nat_lt (2 ^ 40) (extent_cells s.dims))
     ∷ (fault.ValueRange, not (fits s.fixed s.fill))
     ∷ []

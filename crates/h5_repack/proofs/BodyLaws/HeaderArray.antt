@@ -1,5 +1,5 @@
--- The header of an array in the plain layout, with its data where they are stored, reads as that array (File Format Specification 3.0,
--- sections IV.A.1.a, IV.A.2.b, IV.A.2.d, IV.A.2.f and IV.A.2.i).
+-- The header of an array in the plain layout reads as that array where its layout says where its data are; so does that of cells in one
+-- block, or of which none is stored (File Format Specification 3.0, sections IV.A.1.a, IV.A.2.b, IV.A.2.d, IV.A.2.f and IV.A.2.i).
 use Rattle.std.proofs.Common.{◌≡◌, ℕ, ◌+◌, ◌*◌, ◌%◌, ◌^◌, ◌<◌, ◌≤◌, ◌==◌, ◌||◌, List, [], ◌∷◌, ◌++◌, length, map, replicate, get_or, refl, sym, ap, ◌∙◌, subst, arith, Bool, true, false, Option, Some, None, ℤ, pos}
 use Rattle.std.proofs.lemmas.Bool.Decides.{nat_tests}
 use Rattle.std.proofs.lemmas.Slice.Zip.{AllZip-long}
@@ -39,11 +39,10 @@ use Rattle.h5_msg.proofs.LayoutLaws.{IsAddress, compact_back, contiguous_back, c
 use Rattle.h5_model.proofs.PaddedLaws.{length-raised}
 use Rattle.h5_shape.proofs.Products.{cells_le}
 use Rattle.h5_repack.specs.Bodies.Bodies.{others_of, space_body, type_message, fill_message, array_layout}
-use Rattle.h5_repack.specs.Bodies.Laws.{ArrayReads, counted_header}
-use Rattle.h5_repack.specs.Bodies.Headers.{is_stored, data_of}
-use Rattle.h5_repack.specs.Bodies.Sound.{IsBound, IsPlainObject, IsPlainStorage, ArePlainChunks}
+use Rattle.h5_repack.specs.Bodies.Laws.{counted_header}
+use Rattle.h5_repack.specs.Bodies.Sound.{IsBound, IsPlainObject, ArePlainChunks}
 use Rattle.h5_repack.proofs.BodyLaws.HeaderAttributes.{sizes_small}
-use Rattle.h5_repack.proofs.BodyLaws.HeaderLengths.{IsHead, head_of, length-layout, array_length}
+use Rattle.h5_repack.proofs.BodyLaws.HeaderLengths.{IsHead, length-layout}
 use Rattle.h5_repack.proofs.BodyLaws.ChunkSizes.{chunk_sizes_low}
 use Rattle.h5_repack.proofs.BodyLaws.HeaderOthers.{IsContentMessage, is_other_kind, is_kept_kind, each_message, others_pass, all_plain, has_attributes, has_kept, count_of-content, first_body-content}
 use Rattle.h5_repack.proofs.BodyLaws.HeaderSpace.{space_back, space_padded}
@@ -274,7 +273,7 @@ module _ (image : List ℕ) (place : ℕ) (t : Fixed) (sizes : List ℕ) (maxima
   filled unset read is =
       fill_by_all read cs (cells sizes) fill counted (λ k low. ap (λ (vs : List ℤ). get_or vs k fill) unset ∙ get_or-replicate (cells sizes) k fill fill low ∙ is k)
 
-  compact_laid : cells sizes * t.size ≤ 65524 → IsLaid image place (place + 0) None (array_by Compact)
+  pub compact_laid : cells sizes * t.size ≤ 65524 → IsLaid image place (place + 0) None (array_by Compact)
   compact_laid low =
       let whole : part 0 (length bytes) bytes ≡ bytes = part-whole bytes in
       record {
@@ -291,7 +290,7 @@ module _ (image : List ℕ) (place : ℕ) (t : Fixed) (sizes : List ℕ) (maxima
             ∙ ap (λ (ds : List ℕ). cells_of image t fill sizes (InMessage ds) empty) whole;
       }
 
-  block_laid : place < 2 ^ 63 → 1 ≤ cells sizes → part place (length bytes) image ≡ bytes → IsLaid image place (place + length bytes) (Some place) (array_by (Contiguous true))
+  pub block_laid : place < 2 ^ 63 → 1 ≤ cells sizes → part place (length bytes) image ≡ bytes → IsLaid image place (place + length bytes) (Some place) (array_by (Contiguous true))
   block_laid low some stands =
       let len : ℕ = cells sizes * t.size in
       let there : IsAddress (Some place) = λ n e. let same : place ≡ n = cc in omega (arith, low, same) in
@@ -309,7 +308,7 @@ module _ (image : List ℕ) (place : ℕ) (t : Fixed) (sizes : List ℕ) (maxima
         cells_are = cells_of-cells_bytes image t fill sizes (block place len) empty cs (size-low t is) all counted (ap (λ n. part place n image) (sym long) ∙ stands);
       }
 
-  nowhere_laid : cs ≡ replicate (cells sizes) fill → IsLaid image place (place + 0) None (array_by (Contiguous false))
+  pub nowhere_laid : cs ≡ replicate (cells sizes) fill → IsLaid image place (place + 0) None (array_by (Contiguous false))
   nowhere_laid unset =
       let len : ℕ = cells sizes * t.size in
       let there : IsAddress None = λ n e. absurd (cc) in
@@ -326,7 +325,7 @@ module _ (image : List ℕ) (place : ℕ) (t : Fixed) (sizes : List ℕ) (maxima
         cells_are = filled unset (λ k. fill) (λ k. refl);
       }
 
-  chunks_laid : (chunk : List ℕ) → length chunk ≡ length sizes → length sizes ≤ 32 → ArePlainChunks t chunk → cs ≡ replicate (cells sizes) fill → IsLaid image place (place + 0) None (array_by (Chunked chunk))
+  pub chunks_laid : (chunk : List ℕ) → length chunk ≡ length sizes → length sizes ≤ 32 → ArePlainChunks t chunk → cs ≡ replicate (cells sizes) fill → IsLaid image place (place + 0) None (array_by (Chunked chunk))
   chunks_laid chunk same rank plain unset =
       let there : IsAddress None = λ n e. absurd (cc) in
       let body : List ℕ = chunked_bytes chunk None t.size in
@@ -347,15 +346,6 @@ module _ (image : List ℕ) (place : ℕ) (t : Fixed) (sizes : List ℕ) (maxima
             (λ k. ap (value_in_chunk image t fill (cells chunk * t.size) (place_of chunk (inner_of chunk (index_of sizes k))))
             (sym (get-empty (slice_cmp nat_cmp) (corner_of chunk (index_of sizes k)))));
       }
-
-  -- by how it is stored
-  laid_by : (storage : Storage) → IsPlainStorage (array_by storage) storage → ((chunk : List ℕ) → storage ≡ Chunked chunk → length chunk ≡ length sizes) → length sizes ≤ 32
-      → place < 2 ^ 63 → part place (length (data_of (array_by storage))) image ≡ data_of (array_by storage)
-      → IsLaid image place (place + length (data_of (array_by storage))) (if is_stored storage then Some place else None) (array_by storage)
-  laid_by Compact plain boxed rank low stands = compact_laid plain
-  laid_by (Contiguous true) plain boxed rank low stands = block_laid low plain stands
-  laid_by (Contiguous false) plain boxed rank low stands = nowhere_laid plain
-  laid_by (Chunked chunk) plain boxed rank low stands = chunks_laid chunk (boxed chunk refl) rank plain.0 plain.1
 
 -- ---- any array in this layout
 
@@ -387,12 +377,3 @@ module _ (image : List ℕ) (table : FinMap nat_cmp ℕ) (at place end count siz
             image d.storage d.cells is.few laid.layout laid.chunks laid.blocks count whole refl most (omega (arith, short, long)) few_links,
         laid.run,
       )
-
--- An array's header with any count, with its data where they are stored, is that of the array, and has that count.
-pub array_reads : ArrayReads
-array_reads image table at place count p d plain e is most few_links short low stands_at stands =
-    let address : Option ℕ = if is_stored d.storage then Some place else None in
-    let laid : IsLaid image place (place + length (data_of d)) address d
-    = laid_by image place d.fixed d.sizes d.maxima d.fill d.cells is.fixed (is.sound).values (is.sound).counted is.few d.storage is.stored (is.sound).boxed is.ranked low stands in
-    laid_reads image table at place (place + length (data_of d)) count (header_size p) p plain d (head_of d (length (others_of p)) is) address laid most few_links short
-    e (array_length count address p d plain e is) stands_at

@@ -21,7 +21,8 @@ use Rattle.h5_model.specs.Tree.Sound.{AreOf, IsDataset}
 use Rattle.h5_model.proofs.PlaceLaws.{place-index, inside-index, place_below, index-place}
 use Rattle.h5_model.proofs.PlainValues.{value_at-cells_bytes}
 use Rattle.h5_msg.proofs.LayoutLaws.{or_left, or_right}
-use Rattle.h5_layout.specs.HeldChunks.{index_from, chunk_values}
+use Rattle.h5_chunks.specs.Keys.{index_from}
+use Rattle.h5_layout.specs.HeldChunks.{chunk_values}
 use Rattle.h5_repack.specs.Bodies.Chunks.{chunk_data}
 
 -- ---- an index is that of its chunk, and that inside it

@@ -11,8 +11,8 @@ use Rattle.h5_model.proofs.PlainValues.{length-cells_bytes}
 use Rattle.h5_btree.specs.declared.write.child.Child.{Child}
 use Rattle.h5_btree.specs.Writing.Written.{AllFit, FitsKind}
 use Rattle.h5_btree.proofs.WriteLaws.TreeLaws.{tree_length}
-use Rattle.h5_chunks.specs.Keys.{OffsetKey, chunk_key}
-use Rattle.h5_layout.specs.HeldChunks.{chunk_values, index_from}
+use Rattle.h5_chunks.specs.Keys.{OffsetKey, chunk_key, index_from}
+use Rattle.h5_layout.specs.HeldChunks.{chunk_values}
 use Rattle.h5_repack.specs.Bodies.Chunks.{chunk_children, chunk_data, chunk_length, chunk_nodes, chunked_data, chunks_place, key_after}
 use Rattle.h5_repack.proofs.ChunkLaws.KeyBack.{length-key}
 use Rattle.std.proofs.lemmas.List.FromFn.{length-map-range_with_len}
@@ -53,6 +53,15 @@ module _ (chunk : List ℕ) where
   length-children size at [] = refl
   length-children size at (offsets ∷ others) = ap suc (length-children size (at + size) others)
 
+  pub length-nodes : (size : ℕ) (first : List ℕ) (stored : List (List ℕ)) (at : ℕ) → length first ≡ length chunk → AreRanked chunk stored
+      → length (chunk_nodes size chunk first stored at) ≡ nodes_over 64 64 (length stored) * chunk_node 32 (length chunk)
+  length-nodes size first stored at ranked all =
+      let place : ℕ = chunks_place chunk (length stored) at in
+      let children : List (Child OffsetKey) = chunk_children size chunk place stored in
+      tree_length OffsetKey kind chunk_key (record { bytes = size; offsets = first }) at children (omega arith)
+      (key_fits size first ranked) (keys_fit size place stored all)
+      ∙ (λ i. nodes_over 64 64 (length-children size place stored i) * node_long (length chunk) i)
+
   module _ (d : Dataset) where
     pub length-chunk : (offsets : List ℕ) → length (chunk_data d chunk offsets) ≡ chunk_length d chunk
     length-chunk offsets =
@@ -68,19 +77,10 @@ module _ (chunk : List ℕ) where
         length-append (chunk_data d chunk offsets) (flat_map (chunk_data d chunk) others)
         ∙ (λ i. length-chunk offsets i + length-chunks others i) ∙ one_more (length others) (chunk_length d chunk)
 
-    pub length-nodes : (first : List ℕ) (stored : List (List ℕ)) (at : ℕ) → length first ≡ length chunk → AreRanked chunk stored
-        → length (chunk_nodes d chunk first stored at) ≡ nodes_over 64 64 (length stored) * chunk_node 32 (length chunk)
-    length-nodes first stored at ranked all =
-        let place : ℕ = chunks_place chunk (length stored) at in
-        let children : List (Child OffsetKey) = chunk_children (chunk_length d chunk) chunk place stored in
-        tree_length OffsetKey kind chunk_key (record { bytes = chunk_length d chunk; offsets = first }) at children (omega arith)
-        (key_fits (chunk_length d chunk) first ranked) (keys_fit (chunk_length d chunk) place stored all)
-        ∙ (λ i. nodes_over 64 64 (length-children (chunk_length d chunk) place stored i) * node_long (length chunk) i)
-
     -- nodes and chunks
     pub length-chunked : (first : List ℕ) (others : List (List ℕ)) (at : ℕ) → AreRanked chunk (first ∷ others)
         → length (chunked_data d chunk (first ∷ others) at)
         ≡ nodes_over 64 64 (length (first ∷ others)) * chunk_node 32 (length chunk) + length (first ∷ others) * (cells chunk * (d.fixed).size)
     length-chunked first others at all =
-        length-append (chunk_nodes d chunk first (first ∷ others) at) (flat_map (chunk_data d chunk) (first ∷ others))
-        ∙ (λ i. length-nodes first (first ∷ others) at all.0 all i + length-chunks (first ∷ others) i)
+        length-append (chunk_nodes (chunk_length d chunk) chunk first (first ∷ others) at) (flat_map (chunk_data d chunk) (first ∷ others))
+        ∙ (λ i. length-nodes (chunk_length d chunk) first (first ∷ others) at all.0 all i + length-chunks (first ∷ others) i)

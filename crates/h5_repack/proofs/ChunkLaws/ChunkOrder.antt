@@ -16,8 +16,7 @@ use Rattle.h5_msg.proofs.LayoutLaws.{or_left}
 use Rattle.h5_btree.specs.declared.write.child.Child.{Child}
 use Rattle.h5_btree.specs.Writing.Laws.{lists_beside}
 use Rattle.h5_btree.specs.Writing.Written.{keys_of, places_of}
-use Rattle.h5_chunks.specs.Keys.{OffsetKey, chunk_key}
-use Rattle.h5_layout.specs.HeldChunks.{index_from}
+use Rattle.h5_chunks.specs.Keys.{OffsetKey, chunk_key, index_from}
 use Rattle.h5_repack.specs.Bodies.Chunks.{chunk_children}
 use Rattle.h5_layout.specs.HeldChunks.{AreRising}
 use Rattle.h5_repack.proofs.ChunkLaws.KeyBack.{AreWords, offsets_back, all_back}

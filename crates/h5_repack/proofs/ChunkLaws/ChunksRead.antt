@@ -97,7 +97,7 @@ module _ (image : List ℕ) (d : Dataset) (chunk : List ℕ) where
     children = chunk_children size chunk place stored
 
     abbrev nodes_part : List ℕ
-    nodes_part = chunk_nodes d chunk first stored at
+    nodes_part = chunk_nodes size chunk first stored at
 
     abbrev chunks_part : List ℕ
     chunks_part = flat_map (chunk_data d chunk) stored
@@ -109,7 +109,7 @@ module _ (image : List ℕ) (d : Dataset) (chunk : List ℕ) where
     ranked = ranked_of grid stored held
 
     nodes_long : length nodes_part ≡ nodes_over 64 64 (length stored) * node_length kind
-    nodes_long = length-nodes chunk d first stored at ranked.0 ranked ∙ ap (λ n. nodes_over 64 64 (length stored) * n) (sym (node_long (length chunk)))
+    nodes_long = length-nodes chunk size first stored at ranked.0 ranked ∙ ap (λ n. nodes_over 64 64 (length stored) * n) (sym (node_long (length chunk)))
 
     place_is : at + length nodes_part ≡ place
     place_is = ap (λ n. at + n) nodes_long

@@ -1,9 +1,9 @@
 -- Of the chunks that an image has, those that hold a cell of the extent are the stored chunks of the array in the plain layout (File
 -- Format Specification 3.0, section III.A.1).
-use Rattle.std.proofs.Common.{◌≡◌, ℕ, ◌+◌, ◌*◌, ◌/◌, ◌%◌, ◌<◌, List, [], ◌∷◌, length, map, take, refl, sym, ap, ◌∙◌, subst, arith, Bool, true, false, ◌&&◌, cond, Option, Some, None}
+use Rattle.std.proofs.Common.{◌≡◌, ℕ, ◌+◌, ◌*◌, ◌/◌, ◌%◌, ◌<◌, List, [], ◌∷◌, length, map, take, replicate, get_or, refl, sym, ap, ◌∙◌, subst, arith, Bool, true, false, ◌&&◌, cond, Option, Some, None}
 use Rattle.std.proofs.lemmas.Bool.Decides.{nat_tests}
-use Rattle.std.proofs.lemmas.List.{get_or-replicate}
-use Rattle.std.proofs.lemmas.List.FromFn.{get_or-map-range_with_len}
+use Rattle.std.proofs.lemmas.List.{get_or-replicate, length-replicate}
+use Rattle.std.proofs.lemmas.List.FromFn.{fill_by_all, get_or-map-range_with_len}
 use Rattle.std.proofs.lemmas.Nat.{div-add-mod'}
 use Rattle.std.specs.Prelude.{T, nat_lt, slice_index_or}
 use Rattle.std.specs.Ordering.{nat_cmp, is_lt}
@@ -23,8 +23,8 @@ use Rattle.h5_model.specs.Scripts.Reading.{cell_at}
 use Rattle.h5_model.specs.Tree.Grid.{corner_of, inner_of}
 use Rattle.h5_model.specs.Tree.Objects.{Dataset}
 use Rattle.h5_model.specs.Tree.Places.{cells, index_of, place_of, is_inside, IsInside}
-use Rattle.h5_model.proofs.PlaceLaws.{index-place, place_below}
-use Rattle.h5_laws.proofs.Lists.{In, all_in, contains_in, from_flat, in_all, in_map}
+use Rattle.h5_model.proofs.PlaceLaws.{index-place, inside-index, place-index, place_below}
+use Rattle.h5_laws.proofs.Lists.{In, all_in, contains_in, from_flat, in_all, in_contains, in_map}
 use Rattle.h5_laws.proofs.Maps.{found_entry, get_of_entry}
 use Rattle.h5_repack.specs.Bodies.Sound.{IsUnset}
 use Rattle.h5_layout.specs.HeldChunks.{AreRising, AreStoredChunks, IsHeldChunk, held_chunks}
@@ -118,20 +118,24 @@ none_stored d chunk unset = record {
       ∙ get_or-replicate (cells d.sizes) (place_of d.sizes index) d.fill d.fill (place_below d.sizes index inside);
 }
 
-module _ (image : List ℕ) (k : ℕ) (d : Dataset) (chunk : List ℕ) (bytes root : ℕ) (chunks : Chunks) (blocks : List Block) (has : HasChunks image k chunk bytes root chunks blocks)
-    (same : length chunk ≡ length d.sizes) (unstored : IsFillUnstored d chunk chunks) where
-  abbrev V : Reading
-  V = reading_of image (chunk_kind k (length chunk)) has.owned
+-- and there each cell is the fill
+pub none_unset : (d : Dataset) (chunk : List ℕ) → length d.cells ≡ cells d.sizes → AreStoredChunks d chunk [] → IsUnset d
+none_unset d chunk counted are =
+    fill_by_all (λ (k : ℕ). d.fill) d.cells (cells d.sizes) d.fill counted each
+    ∙ sym (fill_by_all (λ (k : ℕ). d.fill) (replicate (cells d.sizes) d.fill) (cells d.sizes) d.fill (length-replicate (cells d.sizes) d.fill)
+    (λ k low. get_or-replicate (cells d.sizes) k d.fill d.fill low)) where
+      each : (k : ℕ) → k < cells d.sizes → get_or d.cells k d.fill ≡ d.fill
+      each k low =
+          ap (λ place. slice_index_or d.cells place d.fill) (sym (place-index d.sizes k low))
+          ∙ are.unset (index_of d.sizes k) (inside-index d.sizes k low) (λ there. in_contains (corner_of chunk (index_of d.sizes k)) [] there)
 
-  abbrev bottom : List ℕ
-  bottom = row_below V has.level (root ∷ [])
+-- ---- the chunks that hold a cell of an extent
 
-  aligned : (offsets : List ℕ) (n : ℕ) → In (offsets, n) (entries chunks) → AllZip IsOffset chunk offsets
-  aligned offsets n is =
-      let found = from_flat (λ at. chunks_in (length chunk) (V at)) (offsets, n) bottom (subst (In (offsets, n)) (has.listed).listed is) in
-      in_all (λ (c : List ℕ × ℕ). AllZip IsOffset chunk c.0) (offsets, n) (chunks_in (length chunk) (V found.0))
-      (zip_keys chunk bytes (V found.0).keys (V found.0).children (in_all (λ at. HasChunkKeys chunk bytes (V at)) found.0 bottom (has.listed).keyed found.1)) found.2
+-- each chunk of these is a whole one
+abbrev pub AreAligned : List ℕ → Chunks → Type 0
+AreAligned chunk chunks = (offsets : List ℕ) (n : ℕ) → In (offsets, n) (entries chunks) → AllZip IsOffset chunk offsets
 
+module _ (d : Dataset) (chunk : List ℕ) (chunks : Chunks) (aligned : AreAligned chunk chunks) (same : length chunk ≡ length d.sizes) (unstored : IsFillUnstored d chunk chunks) where
   abbrev held : Chunks
   held = retain_keys chunks (is_inside d.sizes)
 
@@ -175,10 +179,28 @@ module _ (image : List ℕ) (k : ℕ) (d : Dataset) (chunk : List ℕ) (bytes ro
           absurd (none (contains_in corner (held_chunks d.sizes chunks) (in_map (λ (e : List ℕ × ℕ). e.0) (corner, n) (entries held)
           (found_entry (slice_cmp-IsAntisymmetric nat_cmp-IsAntisymmetric) (entries held) corner n (sym (get-entries held corner) ∙ kept ∙ is)))))
 
-  -- the chunks that hold a cell of the extent
-  pub held_stored : AreStoredChunks d chunk (held_chunks d.sizes chunks)
-  held_stored = record {
+  pub aligned_stored : AreStoredChunks d chunk (held_chunks d.sizes chunks)
+  aligned_stored = record {
     rising = sorted_rising (entries held) (entries_sorted held);
     held = all_held (entries held) (all_in (λ (e : List ℕ × ℕ). IsHeldChunk d.sizes chunk e.0) (entries held) each_held);
     unset = absent;
   }
+
+-- ---- those of an image
+
+module _ (image : List ℕ) (k : ℕ) (chunk : List ℕ) (bytes root : ℕ) (chunks : Chunks) (blocks : List Block) (has : HasChunks image k chunk bytes root chunks blocks) where
+  abbrev V : Reading
+  V = reading_of image (chunk_kind k (length chunk)) has.owned
+
+  abbrev bottom : List ℕ
+  bottom = row_below V has.level (root ∷ [])
+
+  pub read_aligned : AreAligned chunk chunks
+  read_aligned offsets n is =
+      let found = from_flat (λ at. chunks_in (length chunk) (V at)) (offsets, n) bottom (subst (In (offsets, n)) (has.listed).listed is) in
+      in_all (λ (c : List ℕ × ℕ). AllZip IsOffset chunk c.0) (offsets, n) (chunks_in (length chunk) (V found.0))
+      (zip_keys chunk bytes (V found.0).keys (V found.0).children (in_all (λ at. HasChunkKeys chunk bytes (V at)) found.0 bottom (has.listed).keyed found.1)) found.2
+
+  -- the chunks that hold a cell of the extent
+  pub held_stored : (d : Dataset) → length chunk ≡ length d.sizes → IsFillUnstored d chunk chunks → AreStoredChunks d chunk (held_chunks d.sizes chunks)
+  held_stored d same unstored = aligned_stored d chunk chunks read_aligned same unstored

@@ -86,27 +86,27 @@ heap_within : (n s x h hs all : ℕ) → all ≡ n + 32 + s + x → h + (hs + al
 heap_within n s x h hs all is low = omega arith
 
 -- a link to an object that ends low leads there
-lead_to : (leaf internal : ℕ) (o : Object) (h : ℕ) (c : Content) → o.content ≡ c → h + object_length leaf internal o ≤ 2 ^ 31
+lead_to : (leaf internal count : ℕ) (o : Object) (h : ℕ) (c : Content) → o.content ≡ c → h + object_length leaf internal count o ≤ 2 ^ 31
     → IsLead (leads_to_object leaf internal o h) × (target_of_leads (leads_to_object leaf internal o h) ≡ Header h)
-lead_to leaf internal o h (Group links) e low =
+lead_to leaf internal count o h (Group links) e low =
     let leads = leads_group leaf internal o links h e in
     let heap_low : group_heap_place leaf internal o links h < 2 ^ 32
     = heap_within (nodes_over 64 (2 * internal) (rows_of (2 * leaf) (len links)) * group_node internal) (plain_segment_size links)
-    (rows_of (2 * leaf) (len links) * symbol_node leaf) h (header_size o) (content_bytes leaf internal 0 0 o.content)
-    (ap (content_bytes leaf internal 0 0) e) low in (
+    (rows_of (2 * leaf) (len links) * symbol_node leaf) h (header_size o) (content_bytes leaf internal 32 count o.content)
+    (ap (content_bytes leaf internal 32 count) e) low in (
       subst IsLead (sym leads) (omega (arith, low), omega (arith, low), heap_low),
       ap target_of_leads leads,
     )
-lead_to leaf internal o h (Array d) e low =
+lead_to leaf internal count o h (Array d) e low =
     let leads = leads_array leaf internal o h (Array d) e refl in
     (subst IsLead (sym leads) (omega (arith, low)), ap target_of_leads leads)
 
 -- ---- the links of a tree's group
 
 -- the objects of the tree stand where the table says, below this end
-abbrev pub ArePlaced : ℕ → ℕ → Tree → FinMap nat_cmp ℕ → ℕ → Type 0
-ArePlaced leaf internal tree table end = (n : ℕ) (o : Object) → get tree n ≡ Some o
-    → (place : ℕ) × (get table n ≡ Some place) × (place + object_length leaf internal o ≤ end)
+abbrev pub ArePlaced : ℕ → ℕ → (ℕ → ℕ) → Tree → FinMap nat_cmp ℕ → ℕ → Type 0
+ArePlaced leaf internal counts tree table end = (n : ℕ) (o : Object) → get tree n ≡ Some o
+    → (place : ℕ) × (get table n ≡ Some place) × (place + object_length leaf internal (counts n) o ≤ end)
 
 pub header_is : (table : FinMap nat_cmp ℕ) (n place : ℕ) → get table n ≡ Some place → header_in table n ≡ place
 header_is table n place e = ap (λ (r : Option ℕ). option_map_or (λ h. h) r 0) e
@@ -220,7 +220,7 @@ module _ (leaf internal : ℕ) (tree : Tree) (table : FinMap nat_cmp ℕ) (sound
 
   -- ---- where they lead
 
-  module _ (end : ℕ) (placed : ArePlaced leaf internal tree table end) (fits_in : end ≤ 2 ^ 31) where
+  module _ (counts : ℕ → ℕ) (end : ℕ) (placed : ArePlaced leaf internal counts tree table end) (fits_in : end ≤ 2 ^ 31) where
     -- where a link to an object leads
     object_lead : (n : ℕ) (o : Object) → get tree n ≡ Some o
         → IsLead (option_map_or (λ (x : Object). leads_to_object leaf internal x (header_in table n)) (get tree n) (ToArray 0))
@@ -230,7 +230,7 @@ module _ (leaf internal : ℕ) (tree : Tree) (table : FinMap nat_cmp ℕ) (sound
         let at = placed n o is in
         let here = header_is table n at.0 at.1 in
         let lead : IsLead (leads_to_object leaf internal o (header_in table n)) × (target_of_leads (leads_to_object leaf internal o (header_in table n)) ≡ Header (header_in table n))
-        = lead_to leaf internal o (header_in table n) o.content refl (omega (arith, here, at.2)) in
+        = lead_to leaf internal (counts n) o (header_in table n) o.content refl (omega (arith, here, at.2)) in
         let chosen : option_map_or (λ (x : Object). leads_to_object leaf internal x (header_in table n)) (get tree n) (ToArray 0) ≡ leads_to_object leaf internal o (header_in table n)
         = ap (λ (r : Option Object). option_map_or (λ (x : Object). leads_to_object leaf internal x (header_in table n)) r (ToArray 0)) is in
         (subst IsLead (sym chosen) lead.0, ap target_of_leads chosen ∙ lead.1, at.1 ∙ ap (λ (h : ℕ). Some h) (sym here))

@@ -15,18 +15,9 @@ use Rattle.h5_repack.proofs.ImageLaws.Orders.{order-total}
 use Rattle.h5_repack.proofs.ImageLaws.Places.{end-total}
 use Rattle.h5_repack.proofs.ImageLaws.Totals.{total-each, total-sum_by}
 
--- no object has stored chunks
-content_same : (leaf internal chunk others : ℕ) (c : Content) → IsPlainContent others c → content_bytes leaf internal 0 0 c ≡ content_bytes leaf internal chunk 0 c
-content_same leaf internal chunk others (Group links) is = refl
-content_same leaf internal chunk others (Array d) is = stored_bytes 0 others d is.0 ∙ sym (stored_bytes chunk others d is.0)
-
 pub image_length : ImageLength
 unfolding plain_length
-image_length leaf internal chunk tree order plain is =
-    end-total leaf internal 96 order
-    ∙ ap (λ n. 96 + n) (order-total tree order is (λ (e : ℕ × Object). object_length leaf internal e.1)
-    ∙ total-each (λ (e : ℕ × Object). object_length leaf internal e.1)
-    (λ (e : ℕ × Object). header_size e.1 + content_bytes leaf internal chunk 0 (e.1).content) (entries tree)
-    (λ e at. ap (λ n. header_size e.1 + n) (content_same leaf internal chunk (length (others_of e.1)) (e.1).content
-    (plain e.0 e.1 (get_of_entry nat_cmp_total tree e.0 e.1 at)).content))
-    ∙ sym (total-sum_by (λ (e : ℕ × Object). header_size e.1 + content_bytes leaf internal chunk 0 (e.1).content) (entries tree)))
+image_length leaf internal counts tree order is =
+    end-total leaf internal counts 96 order
+    ∙ ap (λ n. 96 + n) (order-total tree order is (λ (e : ℕ × Object). object_length leaf internal (counts e.0) e.1)
+    ∙ sym (total-sum_by (λ (e : ℕ × Object). object_length leaf internal (counts e.0) e.1) (entries tree)))

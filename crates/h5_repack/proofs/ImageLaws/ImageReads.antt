@@ -13,7 +13,7 @@ use Rattle.h5_group.specs.Writing.Laws.{LinksRead, LinksLength, GroupLength}
 use Rattle.h5_repack.specs.Bodies.Laws.{IsPlainReading, ArrayReads, ArrayLength}
 use Rattle.h5_repack.specs.Image.Laws.{ImageReads, ImageEnds}
 use Rattle.h5_repack.specs.Image.Plain.{IsPlainTree}
-use Rattle.h5_repack.specs.Image.Written.{IsOrder, object_length, object_bytes, headers_from, content_place, root_heap, table_of, image_end, plain_image}
+use Rattle.h5_repack.specs.Image.Written.{IsOrder, StoredIn, counts_of, object_length, object_bytes, headers_from, content_place, root_heap, table_of, image_end, plain_image}
 use Rattle.h5_repack.proofs.ImageLaws.ImageObjects.{Located, length-image, located}
 use Rattle.h5_repack.proofs.ImageLaws.ImagePlaced.{placed_of, objects_are, all_placed, all_counted, all_inside, table_is, all_cover}
 use Rattle.h5_repack.proofs.ImageLaws.Orders.{in_order}
@@ -22,30 +22,33 @@ use Rattle.h5_repack.proofs.ImageLaws.Superblock.{superblock, whole, root_place,
 
 module _ (links_length_is : LinksLength) (group_length : GroupLength) (array_length : ArrayLength) where
   -- the root first
-  module _ (leaf internal : ℕ) (tree : Tree) (root : Object) (others : Objects) (plain : IsPlainTree leaf internal tree) (is : IsOrder tree ((0, root) ∷ others)) where
+  module _ (leaf internal : ℕ) (stored : StoredIn) (tree : Tree) (root : Object) (others : Objects) (plain : IsPlainTree leaf internal stored tree) (is : IsOrder tree ((0, root) ∷ others)) where
     abbrev order : Objects
     order = (0, root) ∷ others
 
+    abbrev counts : ℕ → ℕ
+    counts = counts_of stored
+
     abbrev end : ℕ
-    end = image_end leaf internal order
+    end = image_end leaf internal counts order
 
     abbrev image : List ℕ
-    image = plain_image leaf internal tree order
+    image = plain_image leaf internal stored tree order
 
     abbrev front : List ℕ
     front = superblock_bytes leaf internal end 96 (content_place root 96) (root_heap leaf internal root)
 
     abbrev rest : List ℕ
-    rest = flat_map (object_bytes leaf internal tree (table_of leaf internal order)) order
+    rest = flat_map (object_bytes leaf internal stored tree (table_of leaf internal counts order)) order
 
     laid : image ≡ front ++ rest
     unfolding plain_image
     laid = refl
 
     pub image_long : length image ≡ end
-    image_long = length-image links_length_is group_length array_length leaf internal tree order plain is image front refl laid
+    image_long = length-image links_length_is group_length array_length leaf internal stored tree order plain is image front refl laid
 
-    module _ (links_read : LinksRead) (array_reads : ArrayReads) (fits_in : image_end leaf internal ((0, root) ∷ others) ≤ 2 ^ 31) where
+    module _ (links_read : LinksRead) (array_reads : ArrayReads) (fits_in : image_end leaf internal counts ((0, root) ∷ others) ≤ 2 ^ 31) where
       front_long : length (front ++ rest) ≡ end
       front_long = ap length (sym laid) ∙ image_long
 
@@ -55,42 +58,42 @@ module _ (links_length_is : LinksLength) (group_length : GroupLength) (array_len
       internal_here : internal_k image ≡ internal
       internal_here = ap internal_k laid ∙ internal_is leaf internal end (content_place root 96) (root_heap leaf internal root) rest plain.k
 
-      root_here : get (table_of leaf internal order) 0 ≡ Some (root_header image)
+      root_here : get (table_of leaf internal counts order) 0 ≡ Some (root_header image)
       root_here =
-          table_find leaf internal order 0 ∙ found_first 0 96 (headers_from leaf internal (96 + object_length leaf internal root) others)
+          table_find leaf internal counts order 0 ∙ found_first 0 96 (headers_from leaf internal counts (96 + object_length leaf internal (counts 0) root) others)
           ∙ ap (λ (h : ℕ). Some h) (sym (ap root_header laid ∙ root_place leaf internal end (content_place root 96) (root_heap leaf internal root) rest plain.k))
 
-      all : AllByRecursion (Located image leaf internal tree order) (entries tree)
-      all = all_in (Located image leaf internal tree order) (entries tree)
-          (λ e there. located links_length_is group_length array_length leaf internal tree order plain is image front refl laid
+      all : AllByRecursion (Located image leaf internal counts tree order) (entries tree)
+      all = all_in (Located image leaf internal counts tree order) (entries tree)
+          (λ e there. located links_length_is group_length array_length leaf internal stored tree order plain is image front refl laid
           links_read array_reads fits_in leaf_here internal_here e (in_order tree order is e there))
 
       abbrev placed : List Placed
-      placed = placed_of image leaf internal tree order (entries tree) all
+      placed = placed_of image leaf internal counts tree order (entries tree) all
 
       covered : CoverOnce (length image) (all_blocks image placed)
       covered p =
-          let sum : 96 + (end - 96) ≡ end = omega (arith, end_rises leaf internal 96 order) in
-          ap (λ n. holds p 0 96 + n) (all_cover image leaf internal tree order is all p)
+          let sum : 96 + (end - 96) ≡ end = omega (arith, end_rises leaf internal counts 96 order) in
+          ap (λ n. holds p 0 96 + n) (all_cover image leaf internal counts tree order is all p)
           ∙ sym (holds_join p 0 96 (end - 96)) ∙ ap (holds p 0) (sum ∙ sym image_long)
 
       within : Inside (length image) (all_blocks image placed)
       within = (
-        omega (arith, image_long, end_rises leaf internal 96 order),
-        subst (λ (n : ℕ). Inside n (flat_map (λ (x : Placed). x.blocks) placed)) (sym image_long) (all_inside image leaf internal tree order (entries tree) all),
+        omega (arith, image_long, end_rises leaf internal counts 96 order),
+        subst (λ (n : ℕ). Inside n (flat_map (λ (x : Placed). x.blocks) placed)) (sym image_long) (all_inside image leaf internal counts tree order (entries tree) all),
       )
 
-      pub reading : IsPlainReading image leaf internal (table_of leaf internal order) tree
+      pub reading : IsPlainReading image leaf internal (table_of leaf internal counts order) tree
       reading = record {
         placed = placed;
         reads = record {
           holds = record {
             superblock = subst IsSuperblock (sym laid) (superblock leaf internal end (content_place root 96) (root_heap leaf internal root) rest plain.k front_long fits_in);
             whole = ap end_of_file laid ∙ whole leaf internal end (content_place root 96) (root_heap leaf internal root) rest plain.k front_long fits_in ∙ ap length (sym laid);
-            numbered = table_is image leaf internal tree order is all;
-            objects = objects_are image leaf internal tree order (entries tree) all;
-            each = all_placed image leaf internal tree order (entries tree) all;
-            own = table_own leaf internal order;
+            numbered = table_is image leaf internal counts tree order is all;
+            objects = objects_are image leaf internal counts tree order (entries tree) all;
+            each = all_placed image leaf internal counts tree order (entries tree) all;
+            own = table_own leaf internal counts order;
             root = root_here;
             root_group = (plain.sound).rooted;
             reached = (plain.sound).reached;
@@ -98,7 +101,7 @@ module _ (links_length_is : LinksLength) (group_length : GroupLength) (array_len
             apart = once_separate (length image) (all_blocks image placed) covered;
             within = within;
           };
-          counted = all_counted image leaf internal tree order (entries tree) all;
+          counted = all_counted image leaf internal counts tree order (entries tree) all;
         };
         covered = covered;
         leaf_is = leaf_here;
@@ -109,12 +112,13 @@ module _ (links_length_is : LinksLength) (group_length : GroupLength) (array_len
 
 module _ (links_length_is : LinksLength) (group_length : GroupLength) (array_length : ArrayLength) where
   pub image_ends : ImageEnds
-  image_ends leaf internal tree objects plain is =
-      subst (λ (xs : Objects). IsOrder tree xs → length (plain_image leaf internal tree xs) ≡ image_end leaf internal xs)
-      (sym is.first) (λ is'. image_long links_length_is group_length array_length leaf internal tree is.root is.others plain is') is
+  image_ends leaf internal stored tree objects plain is =
+      subst (λ (xs : Objects). IsOrder tree xs → length (plain_image leaf internal stored tree xs) ≡ image_end leaf internal (counts_of stored) xs)
+      (sym is.first) (λ is'. image_long links_length_is group_length array_length leaf internal stored tree is.root is.others plain is') is
 
 module _ (links_read : LinksRead) (links_length_is : LinksLength) (group_length : GroupLength) (array_reads : ArrayReads) (array_length : ArrayLength) where
   pub image_reads : ImageReads
-  image_reads leaf internal tree objects plain is fits_in =
-      subst (λ (xs : Objects). IsOrder tree xs → image_end leaf internal xs ≤ 2 ^ 31 → IsPlainReading (plain_image leaf internal tree xs) leaf internal (table_of leaf internal xs) tree)
-      (sym is.first) (λ is' fits'. reading links_length_is group_length array_length leaf internal tree is.root is.others plain is' links_read array_reads fits') is fits_in
+  image_reads leaf internal stored tree objects plain is fits_in =
+      subst (λ (xs : Objects). IsOrder tree xs → image_end leaf internal (counts_of stored) xs ≤ 2 ^ 31
+      → IsPlainReading (plain_image leaf internal stored tree xs) leaf internal (table_of leaf internal (counts_of stored) xs) tree)
+      (sym is.first) (λ is' fits'. reading links_length_is group_length array_length leaf internal stored tree is.root is.others plain is' links_read array_reads fits') is fits_in

@@ -26,7 +26,7 @@ use Rattle.h5_group.specs.Writing.Laws.{ArePlainLinks, IsPlainGroup, LinksRead, 
 use Rattle.h5_group.specs.Writing.Written as links
 use Rattle.h5_group.specs.Writing.Written.{links_bytes, links_length}
 use Rattle.h5_repack.specs.Image.Plain.{IsPlain, IsPlainContent, IsPlainTree, IsLow}
-use Rattle.h5_repack.specs.Image.Written.{object_length, header_in, content_place, group_heap_place, written_links, object_bytes}
+use Rattle.h5_repack.specs.Image.Written.{StoredIn, counts_of, object_length, header_in, content_place, group_heap_place, written_links, object_bytes}
 use Rattle.h5_repack.proofs.ImageLaws.GroupLinks.{ArePlaced, header_is, length-written, length-links, plain_links, same_links, all_written}
 
 -- ---- two parts, one behind the other
@@ -47,17 +47,17 @@ second_part at xs ys image is =
 -- ---- an object that stands at a place
 
 -- it is there, it has its count, and its blocks hold each of its bytes once
-pub record Stands (image : List ℕ) (leaf internal : ℕ) (tree : Tree) (table : FinMap nat_cmp ℕ) (place : ℕ) (e : ℕ × Object) : Type 0 where
+pub record Stands (image : List ℕ) (leaf internal : ℕ) (counts : ℕ → ℕ) (tree : Tree) (table : FinMap nat_cmp ℕ) (place : ℕ) (e : ℕ × Object) : Type 0 where
   pub blocks : List Block
   pub object : HasObject image table place e.1 blocks
   pub counted : IsCounted image tree (record { number = e.0; header = place; object = e.1; blocks = blocks })
-  pub covered : (p : ℕ) → cover p blocks ≡ holds p place (object_length leaf internal e.1)
-  pub within : Inside (place + object_length leaf internal e.1) blocks
+  pub covered : (p : ℕ) → cover p blocks ≡ holds p place (object_length leaf internal (counts e.0) e.1)
+  pub within : Inside (place + object_length leaf internal (counts e.0) e.1) blocks
 
-module _ (links_length_is : LinksLength) (group_length : GroupLength) (leaf internal : ℕ) (tree : Tree) (table : FinMap nat_cmp ℕ) (plain : IsPlainTree leaf internal tree)
+module _ (links_length_is : LinksLength) (group_length : GroupLength) (leaf internal : ℕ) (stored : StoredIn) (tree : Tree) (table : FinMap nat_cmp ℕ) (plain : IsPlainTree leaf internal stored tree)
     (number : ℕ) (o : Object) (group : Links) (is : get tree number ≡ Some o) (e : o.content ≡ Group group) where
   abbrev bytes : ℕ × Object → List ℕ
-  bytes e = object_bytes leaf internal tree table e
+  bytes e = object_bytes leaf internal stored tree table e
 
   abbrev header : ℕ
   header = header_in table number
@@ -95,20 +95,20 @@ module _ (links_length_is : LinksLength) (group_length : GroupLength) (leaf inte
   length-links_part : length links_part ≡ links_length leaf internal written
   length-links_part = length-links leaf internal tree table plain.sound number o group is e links_length_is group_length (content_place o header) plain.k group_low ∙ sym links_long
 
-  content_long : content_bytes leaf internal 0 0 o.content ≡ links_length leaf internal written
-  content_long = ap (content_bytes leaf internal 0 0) e ∙ sym links_long
+  content_long : content_bytes leaf internal 32 (counts_of stored number) o.content ≡ links_length leaf internal written
+  content_long = ap (content_bytes leaf internal 32 (counts_of stored number)) e ∙ sym links_long
 
-  group_long : object_length leaf internal o ≡ header_size o + links_length leaf internal written
+  group_long : object_length leaf internal (counts_of stored number) o ≡ header_size o + links_length leaf internal written
   group_long = ap (λ n. header_size o + n) content_long
 
-  pub length-group : length (bytes (number, o)) ≡ object_length leaf internal o
+  pub length-group : length (bytes (number, o)) ≡ object_length leaf internal (counts_of stored number) o
   length-group = ap length group_laid ∙ length-append header_part links_part ∙ ap₂ (λ (a b : ℕ). a + b) length-header_part length-links_part ∙ sym group_long
 
-  module _ (links_read : LinksRead) (end : ℕ) (placed : ArePlaced leaf internal tree table end) (fits_in : end ≤ 2 ^ 31) where
+  module _ (links_read : LinksRead) (end : ℕ) (placed : ArePlaced leaf internal (counts_of stored) tree table end) (fits_in : end ≤ 2 ^ 31) where
     are_plain : ArePlainLinks leaf internal written
-    are_plain = plain_links leaf internal tree table plain.sound end placed fits_in number o group is e plain.k group_low
+    are_plain = plain_links leaf internal tree table plain.sound (counts_of stored) end placed fits_in number o group is e plain.k group_low
 
-    module _ (image : List ℕ) (place : ℕ) (found : get table number ≡ Some place) (low : place + object_length leaf internal o ≤ end)
+    module _ (image : List ℕ) (place : ℕ) (found : get table number ≡ Some place) (low : place + object_length leaf internal (counts_of stored number) o ≤ end)
         (leaf_is : leaf_k image ≡ leaf) (internal_is : internal_k image ≡ internal)
         (there : part place (length (bytes (number, o))) image ≡ bytes (number, o)) where
       here : header ≡ place
@@ -144,23 +144,23 @@ module _ (links_length_is : LinksLength) (group_length : GroupLength) (leaf inte
       group_reads = group_object image table header leaf internal (content_place o header) (group_heap_place leaf internal o group header) o group (map target_link written)
           linked.blocks own.others e own_content (omega (arith, length-header_part, links_low)) (omega (arith, links_low)) heap_low header_there leaf_is internal_is
           (subst (λ (heap : ℕ). HasLinks image leaf internal (content_place o header) heap (map target_link written) linked.blocks) same_heap linked.linked)
-          (same_links leaf internal tree table plain.sound end placed fits_in number o group is e)
+          (same_links leaf internal tree table plain.sound (counts_of stored) end placed fits_in number o group is e)
 
       linked_here : links_of tree number ≡ Some group
       linked_here = ap (λ (r : Option Object). option_and_then (λ (x : Object). links_in x.content) r) is ∙ ap links_in e
 
-      group_covered : (p : ℕ) → cover p (block header (length header_part) ∷ linked.blocks) ≡ holds p header (object_length leaf internal o)
+      group_covered : (p : ℕ) → cover p (block header (length header_part) ∷ linked.blocks) ≡ holds p header (object_length leaf internal (counts_of stored number) o)
       group_covered p =
           ap₂ (λ (a b : ℕ). a + b) (ap (holds p header) length-header_part) (linked.covered p)
           ∙ sym (holds_join p header (header_size o) (links_length leaf internal written)) ∙ sym (ap (holds p header) group_long)
 
-      group_within : Inside (header + object_length leaf internal o) (block header (length header_part) ∷ linked.blocks)
+      group_within : Inside (header + object_length leaf internal (counts_of stored number) o) (block header (length header_part) ∷ linked.blocks)
       group_within = (
         omega (arith, length-header_part, group_long),
-        subst (λ (n : ℕ). Inside n linked.blocks) (let sum : content_place o header + links_length leaf internal written ≡ header + object_length leaf internal o = omega (arith, group_long) in sum) linked.within,
+        subst (λ (n : ℕ). Inside n linked.blocks) (let sum : content_place o header + links_length leaf internal written ≡ header + object_length leaf internal (counts_of stored number) o = omega (arith, group_long) in sum) linked.within,
       )
 
-      group_here : Stands image leaf internal tree table header (number, o)
+      group_here : Stands image leaf internal (counts_of stored) tree table header (number, o)
       group_here = record {
         blocks = block header (length header_part) ∷ linked.blocks;
         object = group_reads.0;
@@ -173,5 +173,5 @@ module _ (links_length_is : LinksLength) (group_length : GroupLength) (leaf inte
         within = group_within;
       }
 
-      pub group_stands : Stands image leaf internal tree table place (number, o)
-      group_stands = subst (λ (k : ℕ). Stands image leaf internal tree table k (number, o)) here group_here
+      pub group_stands : Stands image leaf internal (counts_of stored) tree table place (number, o)
+      group_stands = subst (λ (k : ℕ). Stands image leaf internal (counts_of stored) tree table k (number, o)) here group_here

@@ -1,5 +1,5 @@
 -- The laws of plain images, by those of their parts.
-use Rattle.h5_repack.proofs.BodyLaws.HeaderArray.{array_reads}
+use Rattle.h5_repack.proofs.BodyLaws.ArrayReads.{array_reads}
 use Rattle.h5_repack.proofs.BodyLaws.HeaderLengths.{array_length}
 use Rattle.h5_group.proofs.WriteLaws.GroupReads.{links_read}
 use Rattle.h5_group.proofs.WriteLaws.Lengths.{links_length_is, group_length}

@@ -9,8 +9,8 @@ use Rattle.h5_model.specs.Tree.Objects.{Dataset}
 use Rattle.h5_model.specs.Tree.Places.{cells}
 use Rattle.h5_btree.specs.Writing.Written.{tree_bytes}
 use Rattle.h5_btree.specs.declared.write.child.Child.{Child}
-use Rattle.h5_chunks.specs.Keys.{OffsetKey, chunk_key}
-use Rattle.h5_layout.specs.HeldChunks.{chunk_values, index_from}
+use Rattle.h5_chunks.specs.Keys.{OffsetKey, chunk_key, index_from}
+use Rattle.h5_layout.specs.HeldChunks.{chunk_values}
 
 -- ---- a chunk
 

@@ -1,0 +1,61 @@
+-- The cells that stay of chunks whose array is made smaller or larger, where the chunks stand (File Format Specification 3.0, sections
+-- III.A.1 and IV.A.2.i).
+use Rattle.std.specs.Prelude.{◌≡◌, ℕ, ◌+◌, ◌-◌, ◌*◌, ◌^◌, ◌<◌, ◌≤◌, true, min, if◌then◌else◌, ℤ, List, [], ◌∷◌, length, map}
+use Rattle.std.specs.List.{AllByRecursion}
+use Rattle.h5_bytes.specs.Bytes.{part}
+use Rattle.h5_bytes.specs.Tables.{table}
+use Rattle.h5_model.specs.Format.Cells.{value_in}
+use Rattle.h5_model.specs.Format.Chunks.{offsets_in}
+use Rattle.h5_model.specs.Format.Fixed.{Fixed, IsFixed, fits}
+use Rattle.h5_model.specs.Format.Reached.{Shape}
+use Rattle.h5_model.specs.Tree.Places.{cells, index_of, is_inside}
+use Rattle.h5_chunks.specs.Held.{IsChunkPlace}
+use Rattle.h5_chunks.specs.Shapes.{AreChunkSizes}
+use Rattle.h5_chunks.specs.declared.held.ChunkPlace.{ChunkPlace}
+use Rattle.h5_layout.specs.Data.{chunk_shape}
+use Rattle.h5_layout.specs.HeldChunks.{HeldCells}
+
+-- chunks of these sizes in an image; a cell whose index is below the kept sizes has its value, and another the fill
+pub record Kept : Type 0 where
+  pub image : List ℕ
+  pub fixed : Fixed
+  pub fill : ℤ
+  pub chunk : List ℕ
+  pub kept : List ℕ
+
+-- how many slices of the chunk at these offsets are below the kept sizes, in each dimension
+abbrev pub slices_kept : List ℕ → List ℕ → List ℕ → List ℕ
+slices_kept [] chunk offsets = []
+slices_kept (k ∷ ks) [] offsets = []
+slices_kept (k ∷ ks) (c ∷ cs) [] = []
+slices_kept (k ∷ ks) (c ∷ cs) (o ∷ os) = min c (k - o) ∷ slices_kept ks cs os
+
+-- the cells of a chunk in row-major order: those in the first so many slices of each dimension, as they stand in these bytes, and the
+-- others the fill
+abbrev pub corner_values : Fixed → ℤ → List ℕ → List ℕ → List ℕ → List ℤ
+corner_values t fill chunk slices bytes =
+    table (λ place. if is_inside slices (index_of chunk place) then value_in t bytes place else fill) (cells chunk)
+
+-- the cells of the chunk with this key at this address
+abbrev pub kept_values : Kept → ChunkPlace → List ℤ
+kept_values k place =
+    corner_values k.fixed k.fill k.chunk (slices_kept k.kept k.chunk (offsets_in (length k.chunk) place.key.now))
+    (part place.at (cells k.chunk * (k.fixed).size) k.image)
+
+-- the chunks at these places
+abbrev pub kept_cells : Kept → List ChunkPlace → HeldCells
+kept_cells k places = record {
+  fixed = k.fixed;
+  chunk = k.chunk;
+  parts = map (λ (place : ChunkPlace). (offsets_in (length k.chunk) place.key.now, kept_values k place)) places;
+}
+
+-- The chunks at these places are whole ones of the image, none of which has more than 2^30 bytes.
+pub record AreKept (k : Kept) (places : List ChunkPlace) : Type 0 where
+  pub sizes : AreChunkSizes k.chunk
+  pub rank : length k.kept ≡ length k.chunk
+  pub short : AllByRecursion (λ size. size < 2 ^ 32) k.chunk
+  pub small : cells k.chunk * (k.fixed).size ≤ 2 ^ 30
+  pub sound : IsFixed k.fixed
+  pub of_type : fits k.fixed k.fill ≡ true
+  pub there : AllByRecursion (IsChunkPlace k.image (chunk_shape k.fixed k.chunk)) places
