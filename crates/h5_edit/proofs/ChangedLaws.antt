@@ -7,3 +7,4 @@ pub mod LinkLaws
 pub mod NumberedLaws
 pub mod ObjectLaws
 pub mod ChangeLaws
+pub mod StoredSlots

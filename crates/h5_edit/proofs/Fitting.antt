@@ -23,7 +23,7 @@ use Rattle.h5_model.specs.declared.edits.Edit.{Edit}
 use Rattle.h5_model.specs.declared.edits.Edit.TheVariants.{CreateGroup, CreateDataset, HardLink, SoftLink, SetAttr, RemoveAttr}
 use Rattle.h5_model.specs.declared.object_no.ObjectNo.{ObjectNo}
 use Rattle.h5_laws.proofs.Lists.{In}
-use Rattle.h5_edit.specs.Refusals.Allowed.{is_carried_spec, IsAt, IsPlaceAllowed, IsLinkPlaced}
+use Rattle.h5_edit.specs.Refusals.Allowed.{IsAt, IsPlaceAllowed, IsLinkPlaced}
 use Rattle.h5_edit.specs.declared.rules.place.NewPlace.{NewPlace}
 use Rattle.h5_laws.proofs.SoundLaws.Applied.{object_stands}
 use Rattle.h5_laws.proofs.SoundLaws.LinksThere.{links_are}
@@ -34,8 +34,8 @@ use Rattle.h5_query.specs.Opened.State.{FileState}
 use Rattle.h5_query.specs.OpenedObjectType.{OpenedObject}
 use Rattle.h5_query.proofs.OpenedLaws.Indexed.{header_there}
 use Rattle.h5_edit.specs.Carried.{is_message_total_full}
+use Rattle.h5_edit.specs.Fits.Laws.{IsTyped}
 use Rattle.h5_edit.specs.Fitting.{IsFitting}
-use Rattle.h5_edit.specs.Writable.{are_writable}
 
 module _ (f : FileState) where
   abbrev tree : Tree
@@ -59,12 +59,12 @@ module _ (f : FileState) where
         let name : f.name ≡ place.name.now = ap (λ (p : ℕ × List ℕ). p.1) same in
         (f.group.links, ap (links_of tree) (sym parent) ∙ links_are tree f.parent f.group, ap (get f.group.links) (sym name) ∙ f.free)
 
-  pub create_group_fits : are_writable tree ≡ true → {path : List ℕ} {place : NewPlace} {object : ObjectNo} → IsPlaceAllowed tree next path (CreateGroup path) place → object.0 ≡ next
+  pub create_group_fits : {path : List ℕ} {place : NewPlace} {object : ObjectNo} → IsPlaceAllowed tree next path (CreateGroup path) place → object.0 ≡ next
       → IsFitting f (CreateGroup path) (Linked place.parent place.name target.Group) (Some object)
   unfolding applied changed
-  create_group_fits writable placed numbered = record {
+  create_group_fits placed numbered = record {
     typed = tt;
-    carried = writable;
+    carried = refl;
     accepted = placed.allowed;
     roomy = refl;
     gives = ap (λ t. insert t next (new_object (Group empty))) (linked_at placed (ToObject next));
@@ -73,13 +73,13 @@ module _ (f : FileState) where
     named = ap (λ n. Some n) numbered;
   }
 
-  pub create_dataset_fits : are_writable tree ≡ true → {path : List ℕ} {place : NewPlace} {object : ObjectNo} (spec : Bor Spec) → IsFixed (spec.now).fixed → is_carried_spec spec.now ≡ true
+  pub create_dataset_fits : {path : List ℕ} {place : NewPlace} {object : ObjectNo} (spec : Bor Spec) → IsTyped (CreateDataset path spec.now)
       → IsPlaceAllowed tree next path (CreateDataset path spec.now) place → object.0 ≡ next
       → IsFitting f (CreateDataset path spec.now) (Linked place.parent place.name (target.Array spec)) (Some object)
   unfolding applied changed
-  create_dataset_fits writable spec typed carried placed numbered = record {
+  create_dataset_fits spec typed placed numbered = record {
     typed = typed;
-    carried = rw carried writable;
+    carried = refl;
     accepted = placed.allowed;
     roomy = refl;
     gives = ap (λ t. insert t next (new_object (Array (new_dataset spec.now)))) (linked_at placed (ToObject next));
@@ -88,12 +88,12 @@ module _ (f : FileState) where
     named = ap (λ n. Some n) numbered;
   }
 
-  pub hard_link_fits : are_writable tree ≡ true → {path old : List ℕ} {number : ℕ} {place : NewPlace} → IsLinkPlaced tree next old path (HardLink old path) (number, place)
+  pub hard_link_fits : {path old : List ℕ} {number : ℕ} {place : NewPlace} → IsLinkPlaced tree next old path (HardLink old path) (number, place)
       → IsFitting f (HardLink old path) (Linked place.parent place.name (target.Object number)) (Some (record { 0 = number }))
   unfolding applied changed
-  hard_link_fits writable {path = path} {number = number} placed = record {
+  hard_link_fits {path = path} {number = number} placed = record {
     typed = tt;
-    carried = writable;
+    carried = refl;
     accepted = (placed.1).allowed;
     roomy = refl;
     gives = ap (λ o. option_map_or (λ number. linked tree path (ToObject number)) o tree) placed.0 ∙ linked_at placed.1 (ToObject number);
@@ -102,12 +102,12 @@ module _ (f : FileState) where
     named = sym placed.0;
   }
 
-  pub soft_link_fits : are_writable tree ≡ true → {path : List ℕ} {place : NewPlace} (text : Bor (List ℕ)) → IsPlaceAllowed tree next path (SoftLink text.now path) place
+  pub soft_link_fits : {path : List ℕ} {place : NewPlace} (text : Bor (List ℕ)) → IsPlaceAllowed tree next path (SoftLink text.now path) place
       → IsFitting f (SoftLink text.now path) (Linked place.parent place.name (target.Text text)) None
   unfolding applied changed
-  soft_link_fits writable text placed = record {
+  soft_link_fits text placed = record {
     typed = tt;
-    carried = writable;
+    carried = refl;
     accepted = placed.allowed;
     roomy = refl;
     gives = linked_at placed (Soft text.now);
@@ -147,13 +147,13 @@ module _ (f : FileState) where
     pub full_here : 65535 < length o.messages.list + 2 → is_message_total_full f (SetAttr path attr) ≡ true
     full_here many = full_at ∙ grind (arith, nat_tests)
 
-  pub set_attr_fits : are_writable tree ≡ true → {path : List ℕ} {number : ℕ} (attr : Bor AttrSpec) (o : OpenedObject) → IsFixed (attr.now).fixed → IsAt tree next path (SetAttr path attr.now) number
+  pub set_attr_fits : {path : List ℕ} {number : ℕ} (attr : Bor AttrSpec) (o : OpenedObject) → IsFixed (attr.now).fixed → IsAt tree next path (SetAttr path attr.now) number
       → IsObjectOf f number o → length o.messages.list + 2 ≤ 65535
       → IsFitting f (SetAttr path attr.now) (Set number attr) (Some (record { 0 = number }))
   unfolding applied changed
-  set_attr_fits writable {path = path} {number = number} attr o typed at of few = record {
+  set_attr_fits {path = path} {number = number} attr o typed at of few = record {
     typed = typed;
-    carried = writable;
+    carried = refl;
     accepted = at.allowed;
     roomy = full_at path attr.now number o at.object of ∙ grind (arith, nat_tests);
     gives = ap (λ o. option_map_or (λ n. with_object tree n (with_attributes (λ m. insert m (attr.now).name (attribute_from attr.now)))) o tree) at.object;
@@ -162,12 +162,12 @@ module _ (f : FileState) where
     named = sym at.object;
   }
 
-  pub remove_attr_fits : are_writable tree ≡ true → IsSound f → {path : List ℕ} {number : ℕ} (name : Bor (List ℕ)) → IsAt tree next path (RemoveAttr path name.now) number
+  pub remove_attr_fits : IsSound f → {path : List ℕ} {number : ℕ} (name : Bor (List ℕ)) → IsAt tree next path (RemoveAttr path name.now) number
       → IsFitting f (RemoveAttr path name.now) (Remove number name) (Some (record { 0 = number }))
   unfolding applied changed
-  remove_attr_fits writable sound {path = path} {number = number} name at = record {
+  remove_attr_fits sound {path = path} {number = number} name at = record {
     typed = tt;
-    carried = writable;
+    carried = refl;
     accepted = at.allowed;
     roomy = refl;
     gives = ap (λ o. option_map_or (λ n. with_object tree n (with_attributes (λ m. remove m name.now))) o tree) at.object;

@@ -14,5 +14,5 @@ pub mod ChangedLaws
 pub use Rattle.h5_query.proofs.OpenedLaws
 pub use Rattle.h5_query.proofs.RenumberedLaws
 pub use Rattle.h5_repack.proofs.EmptyFile
-pub mod WritableLaws
 pub mod CarriedLaws
+pub mod StoredLaws

@@ -28,7 +28,7 @@ use Rattle.h5_laws.proofs.Objects.{content_cases}
 use Rattle.h5_laws.proofs.SoundLaws.Inserted.{same_number_or_other, number_here, number_other}
 use Rattle.h5_laws.proofs.SoundLaws.LinksThere.{group_of}
 use Rattle.h5_repack.specs.Image.Plain.{AreLow}
-use Rattle.h5_edit.specs.Carried.{is_carried_kind}
+use Rattle.h5_edit.specs.Carried.{is_carried}
 use Rattle.h5_edit.proofs.Levels.{flat_few, only_few, rows_fit, level_read}
 
 -- ---- links that were read
@@ -107,7 +107,7 @@ module _ (leaf internal : ℕ) where
     at_path None = low
     at_path (Some number) = at_number number (get tree number) refl
 
-  pub edited_low : (tree : Tree) (edit : Edit) (next : ℕ) → is_carried_kind edit ≡ true → adds_entry edit ≡ false → AreLow leaf internal tree
+  pub edited_low : (tree : Tree) (edit : Edit) (next : ℕ) → is_carried edit ≡ true → adds_entry edit ≡ false → AreLow leaf internal tree
       → AreLow leaf internal (applied tree edit next)
   unfolding applied
   edited_low tree (SetAttr path attr) next plain none low = kept_low tree path _ (λ o. refl) low

@@ -1,5 +1,5 @@
 -- How an edit that is carried is refused: by a rule of the tree, by what the image decides, or for want of memory.
-use Rattle.std.proofs.Common.{◌≡◌, ℕ, refl, sym, ◌∙◌, Bool, true, false, Some, None}
+use Rattle.std.proofs.Common.{◌≡◌, ◌⊎◌, inl, inr, ℕ, refl, sym, ◌∙◌, Bool, true, false, Some, None}
 use Rattle.std.specs.FinMap.{entries}
 use Rattle.h5_repack.specs.Image.Plain.{AreLow}
 use Rattle.h5_model.specs.Edits.ImageAnswers.{adds_entry}
@@ -12,14 +12,13 @@ use Rattle.h5_model.specs.declared.edit_fault.EditFault.{EditFault}
 use Rattle.h5_model.specs.declared.edit_fault.EditFault.TheVariants as fault
 use Rattle.h5_query.specs.Opened.Sound.{IsSound}
 use Rattle.h5_query.specs.Opened.State.{FileState}
-use Rattle.h5_edit.specs.Writable.{are_writable}
-use Rattle.h5_edit.specs.Carried.{is_carried, is_anew, is_message_total_full, is_too_long, tree_after, GivenAs, IsGivenFor, IsRefused, IsRefusedBy}
+use Rattle.h5_edit.specs.Carried.{is_carried, is_anew, is_message_total_full, tree_after, GivenAs, IsGivenFor, IsLongAnew, IsRefused, IsRefusedBy, IsShortAnew}
 use Rattle.h5_edit.proofs.Low.{are_low, low_of, of_low}
-use Rattle.h5_edit.proofs.WritableLaws.{carried_kind, other_tree}
+use Rattle.h5_edit.proofs.StoredLaws.{long_or_short}
 use Rattle.h5_edit.proofs.LowRead.{read_low, edited_low}
 
 -- an edit that is carried is written anew
-pub carried_anew : (tree : Tree) (edit : Edit) → is_carried tree edit ≡ true → is_anew tree edit ≡ true
+pub carried_anew : (tree : Tree) (edit : Edit) → is_carried edit ≡ true → is_anew tree edit ≡ true
 carried_anew tree (Write path hyper values) carried = absurd (let never : false ≡ true = carried in cc)
 carried_anew tree _ carried = refl
 
@@ -42,13 +41,16 @@ module _ (f : FileState) (edit : Edit) where
   abbrev AddsLink : Type 0
   AddsLink = (AreLow leaf internal (tree_after f edit) → ⊥) → adds_entry edit ≡ true
 
-  by_given : is_anew f.tree edit ≡ true → AddsLink → (e : EditFault) (full long low : Bool) → is_message_total_full f edit ≡ full → is_too_long f (tree_after f edit) ≡ long
+  abbrev IsMeasured : Type 0
+  IsMeasured = IsLongAnew f (tree_after f edit) ⊎ IsShortAnew f (tree_after f edit)
+
+  by_given : is_anew f.tree edit ≡ true → AddsLink → (e : EditFault) (full low : Bool) → is_message_total_full f edit ≡ full → IsMeasured
       → are_low leaf internal (entries (tree_after f edit)) ≡ low → refusal_of f.tree f.next edit ≡ Some e → IsRefusedBy f edit e
-  by_given anew adds e true long low has is lies h = record { given = Some fault.HeaderFull; allowed = rw anew has; answer = rw h refl }
-  by_given anew adds e false true low has is lies h = record { given = Some fault.ImageFull; allowed = rw anew (has, is); answer = rw h refl }
-  by_given anew adds e false false true has is lies h =
-      record { given = None; allowed = rw anew (has, is, low_of leaf internal (tree_after f edit) lies); answer = rw h refl }
-  by_given anew adds e false false false has is lies h = record {
+  by_given anew adds e true low has is lies h = record { given = Some fault.HeaderFull; allowed = rw anew has; answer = rw h refl }
+  by_given anew adds e false low has (inl long) lies h = record { given = Some fault.ImageFull; allowed = rw anew (has, long); answer = rw h refl }
+  by_given anew adds e false true has (inr short) lies h =
+      record { given = None; allowed = rw anew (has, short, low_of leaf internal (tree_after f edit) lies); answer = rw h refl }
+  by_given anew adds e false false has (inr short) lies h = record {
     given = Some fault.TreeTooDeep;
     allowed = rw anew (has, deep, adds deep);
     answer = rw h refl;
@@ -56,18 +58,18 @@ module _ (f : FileState) (edit : Edit) where
     deep : AreLow leaf internal (tree_after f edit) → ⊥
     deep low = let never : true ≡ false = sym (of_low leaf internal (tree_after f edit) low) ∙ lies in absurd (cc)
 
-  as_carried : (e : EditFault) → is_carried f.tree edit ≡ true → IsRefusedBy f edit e → IsRefused f edit e
+  as_carried : (e : EditFault) → is_carried edit ≡ true → IsRefusedBy f edit e → IsRefused f edit e
   as_carried e carried by = rw carried by
 
   -- ---- an edit that is carried
 
-  module _ (carried : is_carried f.tree edit ≡ true) where
+  module _ (carried : is_carried edit ≡ true) where
     anew : is_anew f.tree edit ≡ true
     anew = carried_anew f.tree edit carried
 
-    pub by_adding : AddsLink → (e : EditFault) → refusal_of f.tree f.next edit ≡ Some e → IsRefused f edit e
-    by_adding adds e h = as_carried e carried
-        (by_given anew adds e (is_message_total_full f edit) (is_too_long f (tree_after f edit)) (are_low leaf internal (entries (tree_after f edit))) refl refl refl h)
+    by_adding : IsMeasured → AddsLink → (e : EditFault) → refusal_of f.tree f.next edit ≡ Some e → IsRefused f edit e
+    by_adding measured adds e h = as_carried e carried
+        (by_given anew adds e (is_message_total_full f edit) (are_low leaf internal (entries (tree_after f edit))) refl measured refl h)
 
     pub by_memory : IsRefused f edit fault.NoMemory
     by_memory = as_carried fault.NoMemory carried (for_memory f edit)
@@ -75,21 +77,12 @@ module _ (f : FileState) (edit : Edit) where
     pub by_header : refusal_of f.tree f.next edit ≡ None → is_message_total_full f edit ≡ true → IsRefused f edit fault.HeaderFull
     by_header h full = as_carried fault.HeaderFull carried (record { given = Some fault.HeaderFull; allowed = rw anew full; answer = rw h refl })
 
-    pub by_length : refusal_of f.tree f.next edit ≡ None → is_message_total_full f edit ≡ false → is_too_long f (tree_after f edit) ≡ true → IsRefused f edit fault.ImageFull
+    pub by_length : refusal_of f.tree f.next edit ≡ None → is_message_total_full f edit ≡ false → IsLongAnew f (tree_after f edit) → IsRefused f edit fault.ImageFull
     by_length h room long = as_carried fault.ImageFull carried (record { given = Some fault.ImageFull; allowed = rw anew (room, long); answer = rw h refl })
 
     pub by_depth : refusal_of f.tree f.next edit ≡ None → is_message_total_full f edit ≡ false → (AreLow leaf internal (tree_after f edit) → ⊥) → AddsLink
         → IsRefused f edit fault.TreeTooDeep
     by_depth h room deep adds = as_carried fault.TreeTooDeep carried (record { given = Some fault.TreeTooDeep; allowed = rw anew (room, deep, adds deep); answer = rw h refl })
-
-  -- ---- one that is not
-
-  pub not_carried : is_carried f.tree edit ≡ false → IsRefused f edit fault.NotYet
-  not_carried other = rw other refl
-
-  -- its tree cannot be written
-  pub not_written : (e : EditFault) → (are_writable f.tree ≡ false) × (e ≡ fault.NotYet) → IsRefused f edit e
-  not_written e other = rw other.1 (not_carried (other_tree f.tree edit other.0))
 
 -- ---- in place
 
@@ -98,7 +91,7 @@ given_in_place f edit in_place = rw in_place tt
 
 -- ---- an edit of an opened image
 
-module _ {f : FileState} (sound : IsSound f) (edit : Edit) (carried : is_carried f.tree edit ≡ true) where
+module _ {f : FileState} (sound : IsSound f) (edit : Edit) (carried : is_carried edit ≡ true) where
   -- the groups that were read are low, and stay so without a new link
   pub adds_link : (AreLow (leaf_k f.image) (internal_k f.image) (tree_after f edit) → ⊥) → adds_entry edit ≡ true
   adds_link deep = by_test (adds_entry edit) refl where
@@ -106,7 +99,7 @@ module _ {f : FileState} (sound : IsSound f) (edit : Edit) (carried : is_carried
     by_test true is = is
     by_test false is =
         let low = read_low f.image f.table f.tree (sound.placed, sound.reads) in
-        absurd (deep (edited_low (leaf_k f.image) (internal_k f.image) f.tree edit f.next (carried_kind f.tree edit carried) is low))
+        absurd (deep (edited_low (leaf_k f.image) (internal_k f.image) f.tree edit f.next carried is low))
 
   pub by_rule : (e : EditFault) → refusal_of f.tree f.next edit ≡ Some e → IsRefused f edit e
-  by_rule e h = by_adding f edit carried adds_link e h
+  by_rule e h = by_adding f edit carried (long_or_short f sound edit carried) adds_link e h

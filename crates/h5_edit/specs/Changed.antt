@@ -1,3 +1,4 @@
 pub mod Change
 pub mod Edited
 pub mod Appended
+pub mod Cells

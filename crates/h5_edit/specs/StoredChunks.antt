@@ -9,7 +9,7 @@ use Rattle.h5_model.specs.Format.Messages.{Message, HasMessages}
 use Rattle.h5_model.specs.Format.PlainLength.{plain_length}
 use Rattle.h5_model.specs.Format.Reads.{HasDataset}
 use Rattle.h5_model.specs.Format.Superblock.{leaf_k, internal_k}
-use Rattle.h5_model.specs.Tree.Objects.{Tree, Object, Array, Dataset, Chunked}
+use Rattle.h5_model.specs.Tree.Objects.{Tree, Object, Array, Dataset, Chunked, dataset_of}
 use Rattle.h5_query.specs.Opened.State.{FileState}
 use Rattle.h5_repack.specs.Image.Written.{StoredIn, counts_of}
 
@@ -29,11 +29,19 @@ AreStoredOf image sizes None offsets = offsets ≡ []
 AreStoredOf image sizes (Some header) offsets =
     (chunks : Chunks) × HasStoredChunks image header chunks × (offsets ≡ held_chunks sizes chunks)
 
--- so of each array in chunks that the tree has, by its number
+-- so of this object, whose header stands there, if it is an array in chunks
+abbrev pub AreChunksOf : FileState → Object → ℕ → List (List ℕ) → Type 0
+AreChunksOf f o header offsets =
+    (d : Dataset) → o.content ≡ Array d → (chunk : List ℕ) → d.storage ≡ Chunked chunk → AreStoredOf f.image d.sizes (Some header) offsets
+
+-- of the array of this number, where it is in chunks: those of the array that the image has under the number, or none
+abbrev pub AreStoredAt : FileState → Tree → ℕ → List (List ℕ) → Type 0
+AreStoredAt f tree number offsets =
+    (d : Dataset) → dataset_of tree number ≡ Some d → (chunk : List ℕ) → d.storage ≡ Chunked chunk → AreStoredOf f.image d.sizes (get f.table number) offsets
+
+-- and so of each
 abbrev pub AreStoredAfter : FileState → Tree → StoredIn → Type 0
-AreStoredAfter f tree stored =
-    (number : ℕ) (o : Object) (d : Dataset) (chunk : List ℕ) → get tree number ≡ Some o → o.content ≡ Array d → d.storage ≡ Chunked chunk
-    → AreStoredOf f.image d.sizes (get f.table number) (stored number)
+AreStoredAfter f tree stored = (number : ℕ) → AreStoredAt f tree number (stored number)
 
 -- the image of the tree, written anew, has so many bytes
 pub record HasLengthAnew (f : FileState) (tree : Tree) (bytes : ℕ) : Type 0 where

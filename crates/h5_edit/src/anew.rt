@@ -17,9 +17,9 @@ use std::alloc::Global;
 
 /// The K values of symbol nodes and of nodes.
 #[derive(Clone, Copy)]
-struct K {
-    leaf: u16,
-    internal: u16,
+pub(crate) struct K {
+    pub(crate) leaf: u16,
+    pub(crate) internal: u16,
 }
 
 /// Carries an edit out that is this change, and that makes or names this object: no rule refuses it, and no header is full.
@@ -45,7 +45,7 @@ pub(crate) fn carry_out(
 }
 
 /// The K values of an image that begins with a superblock. The image itself tells that its bytes are below 256.
-fn k_of(image: &Image) -> K
+pub(crate) fn k_of(image: &Image) -> K
     requires { IsSuperblock image.now.bytes }
     ensures leaf { result.leaf ≡ leaf_k image.now.bytes }
     ensures internal { result.internal ≡ internal_k image.now.bytes }

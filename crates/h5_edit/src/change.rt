@@ -1,4 +1,4 @@
-//! The objects of an opened image with one change, as they are handed to the writer (File Format Specification 3.0, sections III.C and
+//! The objects of an opened image, as they are or with one change, as they are handed to the writer (File Format Specification 3.0, sections III.C and
 //! IV.A).
 mod attributes;
 mod cells;
@@ -9,4 +9,4 @@ mod objects;
 mod parts;
 
 pub use change::{Change, Target};
-pub use objects::changed_objects;
+pub(crate) use objects::{changed_objects, opened_objects};

@@ -10,7 +10,7 @@ mod attributes;
 mod change;
 mod links;
 mod made;
-mod repack;
+mod repacked;
 mod rules;
 mod write;
 
@@ -23,5 +23,5 @@ pub use h5_query::{
 pub use h5_repack::empty_image;
 pub use links::{create_dataset, create_group, hard_link, soft_link};
 pub use made::Made;
-pub use repack::repack;
+pub use repacked::repack;
 pub use write::write_run;

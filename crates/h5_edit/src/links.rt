@@ -27,9 +27,10 @@ pub fn create_group(alloc: Global, opened: &Opened, path: &[u8]) -> Result<Made,
         MatchResult result (IsEditMade f (CreateGroup path.now)) (IsRefused f (CreateGroup path.now)) }
     ensures sound { IsSound opened.now }
 {
+    let number = opened.next();
     let place = check_create_group(opened, path)?;
     let change = link_at(place, Target::Group);
-    carry_out(alloc, opened, &change, Some(ObjectNo(opened.next())))
+    carry_out(alloc, opened, &change, Some(ObjectNo(number)))
 }
 
 /// Makes an array at the path, every cell of which is the fill.
@@ -48,11 +49,12 @@ pub fn create_dataset(
         (IsRefused f (CreateDataset path.now spec.now)) }
     ensures sound { IsSound opened.now }
 {
+    let number = opened.next();
     let place = check_create_dataset(alloc, opened, path, spec)?;
     // The call's contract says that the type is a sound one.
     let _size = spec.fixed.size();
     let change = link_at(place, Target::Array(spec));
-    carry_out(alloc, opened, &change, Some(ObjectNo(opened.next())))
+    carry_out(alloc, opened, &change, Some(ObjectNo(number)))
 }
 
 /// Makes a second name for the array at `target`.
@@ -70,6 +72,8 @@ pub fn hard_link(
         (IsRefused f (HardLink target.now path.now)) }
     ensures sound { IsSound opened.now }
 {
+    // The call's contract says that the image is a sound one.
+    let _next = opened.next();
     let (number, place) = check_hard_link(opened, target, path)?;
     let change = link_at(place, Target::Object(number));
     carry_out(alloc, opened, &change, Some(ObjectNo(number)))
@@ -90,6 +94,8 @@ pub fn soft_link(
         (IsRefused f (SoftLink text.now path.now)) }
     ensures sound { IsSound opened.now }
 {
+    // The call's contract says that the image is a sound one.
+    let _next = opened.next();
     let place = check_soft_link(opened, text, path)?;
     let change = link_at(place, Target::Text(text));
     carry_out(alloc, opened, &change, None)

@@ -1,115 +1,201 @@
--- The cells of an array as they are stored are the bytes of its values.
-use Rattle.std.proofs.Common.{◌≡◌, ◌≢◌, ℕ, ◌*◌, List, Bor, length, Bool, Option, Some, None, true, false, refl, sym, ap, ◌∙◌, subst}
-use Rattle.std.specs.Prelude.{◌&&◌, is_some, nat_lt}
-use Rattle.std.specs.FinMap.{FinMap, empty}
-use Rattle.std.specs.Ordering.{nat_cmp}
+-- The arrays of an opened image as they are handed to the writer, with their cells or their chunks as they are stored.
+use Rattle.std.proofs.Common.{◌≡◌, ◌≢◌, ℕ, ◌*◌, ◌<◌, List, [], ◌∷◌, length, map, Bool, true, false, cond, Option, Some, None, ℤ, refl, sym, ap, ◌∙◌, subst}
+use Rattle.std.specs.Prelude.{◌&&◌, is_some, nat_lt, slice_index_or}
+use Rattle.std.specs.FinMap.{empty}
+use Rattle.std.specs.List.{range_with_len}
+use Rattle.std.proofs.lemmas.List.FromFn.{fill_by_all, length-map-range_with_len}
 use Rattle.std.proofs.lemmas.Option.{option_and_then_some}
 use Rattle.h5_bytes.specs.declared.Block.{Block}
+use Rattle.h5_layout.specs.HeldChunks.{HeldCells, chunk_values, held_cells, held_chunks}
+use Rattle.h5_model.specs.Edits.Applied.{cell_or_fill, resized}
+use Rattle.h5_model.specs.Edits.Refusal.{is_chunked}
 use Rattle.h5_model.specs.Format.Fixed.{Fixed, IsFixed}
 use Rattle.h5_model.specs.Format.Layout.{Layout, InMessage, InBlock, InChunks}
 use Rattle.h5_model.specs.Format.Messages.{Message, first_body}
 use Rattle.h5_model.specs.Format.Plain.{cells_bytes}
 use Rattle.h5_model.specs.Format.Reads.{storage_of}
 use Rattle.h5_model.specs.Scripts.Answers.{stored_values}
-use Rattle.h5_header.specs.Listed.{messages_in}
-use Rattle.h5_model.specs.Tree.Objects.{Array, Dataset, Contiguous}
-use Rattle.h5_model.specs.Tree.Places.{cells}
+use Rattle.h5_model.specs.Tree.Objects.{Dataset, Storage, Compact, Contiguous, Chunked}
+use Rattle.h5_model.specs.Tree.Places.{cells, index_of, is_inside, place_of}
+use Rattle.h5_model.proofs.PlaceLaws.{inside-index, place-index}
 use Rattle.h5_model.proofs.StoredValues.{stored-cells_bytes}
+use Rattle.h5_query.specs.Data.{AreDataRead, data_blocks, dataset_told, stored_chunks}
 use Rattle.h5_query.specs.Described.{Described, HasArray, described_dataset}
-use Rattle.h5_query.proofs.FillLaws.{type_sound}
 use Rattle.h5_query.specs.Kept.{array_dataset}
 use Rattle.h5_query.specs.Opened.Judged.{IsArrayList}
-use Rattle.h5_query.specs.Opened.Objects.{content_in, object_in}
-use Rattle.h5_query.specs.OpenedObjectType.{OpenedObject}
-use Rattle.h5_query.specs.OpenedContentType.{OpenedContent}
-use Rattle.h5_query.specs.OpenedContentType.TheVariants as content
-use Rattle.h5_query.specs.Data.{AreDataRead, stored_chunks}
-use Rattle.h5_query.specs.Stored.{AreFilled, AreStored, IsUnchunked}
+use Rattle.h5_query.specs.Stored.{AreFilled, AreStored}
 use Rattle.h5_query.specs.Told.{array_told, layout_told, type_told}
-use Rattle.h5_repack.specs.Blocks.Written.{AreCellsToWrite}
-use Rattle.h5_repack.specs.Bodies.Bodies.{others_of}
-use Rattle.h5_repack.specs.Image.Plain.{IsPlain, IsPlainContent}
+use Rattle.h5_query.proofs.DataLaws.{data_there}
+use Rattle.h5_query.proofs.FillLaws.{type_sound}
+use Rattle.h5_repack.specs.Blocks.ArrayHeader.{storage_by}
+use Rattle.h5_repack.specs.Blocks.Written.{AreHeldOf, chunks_of, offsets_of}
+use Rattle.h5_repack.specs.Bodies.Headers.{AreStoredFor}
 use Rattle.h5_repack.specs.Objects.Objects.{IsNewArray}
 use Rattle.h5_repack.specs.declared.blocks.cells.Cells.{Cells}
-use Rattle.h5_repack.specs.declared.blocks.cells.Cells.TheVariants.{Stored, Unset}
+use Rattle.h5_repack.specs.declared.blocks.cells.Cells.TheVariants.{Unset, Filled, Stored, Chunks}
 use Rattle.h5_repack.proofs.BlockLaws.ValueBytes.{values_there}
+use Rattle.h5_repack.proofs.ChunkLaws.ChunkCells.{is_inside_from}
+use Rattle.h5_repack.proofs.ChunkLaws.StoredFor.{held_for, unchunked_stored}
+use Rattle.h5_edit.specs.Changed.Cells.{AreCellsKept, IsUnchunkedLayout}
 use Rattle.h5_edit.specs.Fits.Laws.{AreBytes}
-use Rattle.h5_edit.specs.Writable.{is_in_one_block}
-use Rattle.h5_edit.proofs.FitLaws.PlainArrays.{in_one_block}
 
 type_read : (ms : List Message) (a : Described) → HasArray ms a → IsFixed a.fixed
 type_read ms a has = option_and_then_some _ (first_body 3 ms) a.fixed has.type (λ body there is. type_sound body a.fixed is)
 
 -- bytes of so many cells are those of the values that they store
-pub bytes_of_stored : (t : Fixed) (count : ℕ) (bytes : List ℕ) → IsFixed t → AreBytes bytes → length bytes ≡ count * t.size → bytes ≡ cells_bytes t (stored_values t bytes)
+bytes_of_stored : (t : Fixed) (count : ℕ) (bytes : List ℕ) → IsFixed t → AreBytes bytes → length bytes ≡ count * t.size → bytes ≡ cells_bytes t (stored_values t bytes)
 bytes_of_stored t count bytes sound low long =
     let made = values_there t count bytes sound long low in
     sym (made.1.same) ∙ ap (cells_bytes t) (sym (stored-cells_bytes t made.0 sound made.1.of_type) ∙ ap (stored_values t) made.1.same)
 
--- ---- cells in one block, stored or not
+-- ---- cells that are not in chunks
 
-unset_by : (d : Dataset) (s : Bool) → d.storage ≡ Contiguous s → d.storage ≢ Contiguous true → d.storage ≡ Contiguous false
-unset_by d true is differs = absurd (differs is)
-unset_by d false is differs = is
+no_chunks : (image : List ℕ) (t : Fixed) (l : Layout) → IsUnchunkedLayout l → stored_chunks image t l ≡ empty
+no_chunks image t (InMessage bytes) is = refl
+no_chunks image t (InBlock b) is = refl
+no_chunks image t (InChunks sizes root) is = absurd is
 
-stored_by : (d : Dataset) (s : Bool) → d.storage ≡ Contiguous s → d.storage ≢ Contiguous false → d.storage ≡ Contiguous true
-stored_by d true is differs = is
-stored_by d false is differs = absurd (differs is)
+unchunked : (sizes : List ℕ) (l : Layout) → IsUnchunkedLayout l → is_chunked (storage_of sizes l) ≡ false
+unchunked sizes (InMessage bytes) is = refl
+unchunked sizes (InBlock b) is = refl
+unchunked sizes (InChunks chunk root) is = absurd is
+
+not_stored : (s : Bool) → Contiguous s ≢ Contiguous true → Contiguous false ≡ Contiguous s
+not_stored true differs = absurd (differs refl)
+not_stored false differs = refl
+
+is_stored : (s : Bool) → Contiguous s ≢ Contiguous false → Contiguous true ≡ Contiguous s
+is_stored true differs = refl
+is_stored false differs = absurd (differs refl)
+
+unset_storage : (sizes : List ℕ) (l : Layout) → IsUnchunkedLayout l → storage_of sizes l ≢ Contiguous true → storage_by l Unset (cells sizes) ≡ storage_of sizes l
+unset_storage sizes (InMessage bytes) is differs = refl
+unset_storage sizes (InBlock b) is differs = not_stored (is_some b && nat_lt 0 (cells sizes)) differs
+unset_storage sizes (InChunks chunk root) is differs = absurd is
+
+stored_storage : (sizes : List ℕ) (l : Layout) (c : Cells) → IsUnchunkedLayout l → ((b : Option Block) → storage_by (InBlock b) c (cells sizes) ≡ Contiguous true)
+    → storage_of sizes l ≢ Contiguous false → storage_by l c (cells sizes) ≡ storage_of sizes l
+stored_storage sizes (InMessage bytes) c is by differs = refl
+stored_storage sizes (InBlock b) c is by differs = by b ∙ is_stored (is_some b && nat_lt 0 (cells sizes)) differs
+stored_storage sizes (InChunks chunk root) c is by differs = absurd is
+
+-- ---- chunks that are handed on
+
+-- an array of the sizes that it has
+resized_own : (d : Dataset) → length d.cells ≡ cells d.sizes → resized d.sizes d ≡ d
+resized_own d counted = ap (λ (cs : List ℤ). record d { cells = cs }) (sym (fill_by_all (λ place. cell_or_fill d (index_of d.sizes place)) d.cells (cells d.sizes) d.fill counted own)) where
+  own : (k : ℕ) → k < cells d.sizes → slice_index_or d.cells k d.fill ≡ cell_or_fill d (index_of d.sizes k)
+  own k low = sym (
+    ap (λ b. cond b (slice_index_or d.cells (place_of d.sizes (index_of d.sizes k)) d.fill) d.fill) (is_inside_from d.sizes (index_of d.sizes k) (inside-index d.sizes k low))
+    ∙ ap (λ place. slice_index_or d.cells place d.fill) (place-index d.sizes k low)
+  )
+
+module _ (values : List ℕ → List ℤ) where
+  pub part_offsets : (xs : List (List ℕ)) → map (λ (p : List ℕ × List ℤ). p.0) (map (λ offsets. (offsets, values offsets)) xs) ≡ xs
+  part_offsets [] = refl
+  part_offsets (x ∷ xs) = ap (λ ys. x ∷ ys) (part_offsets xs)
 
 -- ---- the array of a header
 
--- an array that the plain layout can hold is in one block, or nowhere
-pub plain_block : (image : List ℕ) (table : FinMap nat_cmp ℕ) (o : OpenedObject) → IsPlain (object_in image table o) → o.content ≡ content.Array
-    → is_in_one_block (array_dataset image (messages_in image o.messages.list)).storage ≡ true
-plain_block image table o plain is =
-    let ms = messages_in image o.messages.list in
-    let here : IsPlainContent (length (others_of (object_in image table o))) (Array (array_dataset image ms))
-    = subst (λ (c : OpenedContent). IsPlainContent (length (others_of (object_in image table o))) (content_in image table ms c)) is plain.content in
-    ap is_in_one_block (here.0).stored_is
+module _ (image : List ℕ) (ms : List Message) (is : IsArrayList ms) (read : AreDataRead image (type_told ms) (layout_told ms)) where
+  abbrev a : Described
+  a = array_told ms
 
-unchunked : (image : List ℕ) (t : Fixed) (layout : Layout) (b : Option Block) → layout ≡ InBlock b → AreDataRead image t layout → IsUnchunked (length image) layout
-unchunked image t (InMessage bytes) b is read = tt
-unchunked image t (InBlock None) b is read = tt
-unchunked image t (InBlock (Some block)) b is read = read
-unchunked image t (InChunks sizes root) b is read = absurd (cc)
-
--- the block of such an array is there
-pub kept_block : (image : List ℕ) (ms : List Message) → AreDataRead image (type_told ms) (layout_told ms) → is_in_one_block (array_dataset image ms).storage ≡ true
-    → IsUnchunked (length image) (layout_told ms)
-kept_block image ms read writable =
-    let block = in_one_block (array_told ms).sizes (array_told ms).layout writable in
-    unchunked image (type_told ms) (layout_told ms) block.0 block.1 read
-
-module _ (image : List ℕ) (ms : List Message) (is : IsArrayList ms) (writable : is_in_one_block (array_dataset image ms).storage ≡ true) where
   abbrev d : Dataset
   d = array_dataset image ms
 
-  abbrev block : (b : Option Block) × ((array_told ms).layout ≡ InBlock b)
-  block = in_one_block (array_told ms).sizes (array_told ms).layout writable
+  -- without chunks
+  abbrev bare : Dataset
+  bare = described_dataset image a empty
 
-  abbrev flag : Bool
-  flag = is_some block.0 && nat_lt 0 (cells (array_told ms).sizes)
+  alone : IsUnchunkedLayout a.layout → bare ≡ d
+  alone other = ap (described_dataset image a) (sym (no_chunks image a.fixed a.layout other))
 
-  -- no chunk of it is stored
-  alone : d ≡ described_dataset image (array_told ms) empty
-  alone = ap (λ (layout : Layout). described_dataset image (array_told ms) (stored_chunks image (array_told ms).fixed layout)) block.1
+  unset_array : IsUnchunkedLayout a.layout → AreFilled bare → IsNewArray a Unset d
+  unset_array other filled = subst (IsNewArray a Unset) (alone other) (record {
+    fixed_is = refl;
+    sizes_are = refl;
+    maxima_are = refl;
+    fill_is = refl;
+    storage_is = unset_storage a.sizes a.layout other filled.1;
+    cells_are = filled.0;
+    stored_are = unchunked_stored [] bare (unchunked a.sizes a.layout other);
+  })
 
-  in_block : d.storage ≡ Contiguous flag
-  in_block = ap (storage_of (array_told ms).sizes) block.1
+  module _ (bytes : List ℕ) (low : AreBytes bytes) (stored : AreStored bare bytes) where
+    bytes_are : bytes ≡ cells_bytes bare.fixed bare.cells
+    bytes_are = bytes_of_stored a.fixed (cells a.sizes) bytes (type_read ms a is.array) low stored.0 ∙ ap (cells_bytes a.fixed) (sym stored.1)
 
-  written : (c : Cells) → AreCellsToWrite c d → IsNewArray (array_told ms) c d
-  written c are = record { fixed_is = refl; sizes_are = refl; maxima_are = refl; fill_is = refl; cells_are = are }
+  counted : length d.cells ≡ cells d.sizes
+  counted = length-map-range_with_len _ 0 (cells a.sizes)
 
-  module _ (a : Described) (told : a ≡ array_told ms) where
-    pub unset_array : AreFilled (described_dataset image a empty) → IsNewArray a Unset d
-    unset_array filled =
-        let own = subst AreFilled (sym alone) (subst (λ (x : Described). AreFilled (described_dataset image x empty)) told filled) in
-        subst (λ (x : Described). IsNewArray x Unset d) (sym told) (written Unset (unset_by d flag in_block own.1))
+  module _ (chunk : List ℕ) (root : Option ℕ) (layout : a.layout ≡ InChunks chunk root) (long : length chunk ≡ length a.sizes) where
+    abbrev held : HeldCells
+    held = held_cells image a chunk a.sizes
 
-    pub stored_array : (bytes : Bor (List ℕ)) → AreBytes bytes.now → AreStored (described_dataset image a empty) bytes.now → IsNewArray a (Stored bytes) d
-    stored_array bytes low stored =
-        let own = subst (λ (x : Dataset). AreStored x bytes.now) (sym alone) (subst (λ (x : Described). AreStored (described_dataset image x empty) bytes.now) told stored) in
-        subst (λ (x : Described). IsNewArray x (Stored bytes) d) (sym told) (written (Stored bytes) (
-          stored_by d flag in_block own.2,
-          bytes_of_stored d.fixed (cells d.sizes) bytes.now (type_read ms (array_told ms) is.array) low own.0 ∙ ap (cells_bytes d.fixed) (sym own.1),
-        ))
+    in_chunks : d.storage ≡ Chunked chunk
+    in_chunks = ap (storage_of a.sizes) layout
+
+    boxed : (c : List ℕ) → d.storage ≡ Chunked c → length c ≡ length d.sizes
+    boxed c e = let same : chunk ≡ c = (let both : Chunked chunk ≡ Chunked c = sym in_chunks ∙ e in cc) in ap length (sym same) ∙ long
+
+    offsets_are : offsets_of held ≡ held_chunks a.sizes (stored_chunks image a.fixed a.layout)
+    offsets_are = part_offsets (λ offsets. chunk_values (resized a.sizes (dataset_told image a)) chunk offsets) (held_chunks a.sizes (stored_chunks image a.fixed a.layout))
+
+    abbrev pieces : Dataset → List (List ℕ) → List (List ℕ × List ℤ)
+    pieces e xs = map (λ offsets. (offsets, chunk_values e chunk offsets)) xs
+
+    held_of : AreHeldOf held d
+    held_of = record {
+      fixed_is = refl;
+      storage_is = in_chunks;
+      parts_are = ap (λ (e : Dataset). pieces e (held_chunks a.sizes (stored_chunks image a.fixed a.layout))) (resized_own d counted) ∙ ap (pieces d) (sym offsets_are);
+    }
+
+    stored_for : AreStoredFor (offsets_of held) d
+    stored_for = subst (λ xs. AreStoredFor xs d) (sym offsets_are)
+        (held_for image d a.layout (stored_chunks image a.fixed a.layout) (data_blocks image a.fixed a.layout) refl (data_there image a.fixed a.layout read) refl boxed)
+
+    chunked_array : IsNewArray a (Chunks held) d
+    chunked_array = record {
+      fixed_is = refl;
+      sizes_are = refl;
+      maxima_are = refl;
+      fill_is = refl;
+      storage_is = ap (λ (l : Layout). storage_by l (Chunks held) (cells a.sizes)) layout ∙ sym in_chunks;
+      cells_are = held_of;
+      stored_are = stored_for;
+    }
+
+  kept_told : (c : Cells) → AreCellsKept image a c → IsNewArray a c d
+  kept_told Unset (other, filled) = unset_array other filled
+  kept_told Filled never = absurd never
+  kept_told (Stored bytes) (other, low, stored) = subst (IsNewArray a (Stored bytes)) (alone other) (record {
+    fixed_is = refl;
+    sizes_are = refl;
+    maxima_are = refl;
+    fill_is = refl;
+    storage_is = stored_storage a.sizes a.layout (Stored bytes) other (λ b. refl) stored.2;
+    cells_are = bytes_are bytes.now low stored;
+    stored_are = unchunked_stored [] bare (unchunked a.sizes a.layout other);
+  })
+  kept_told (Chunks held) (chunk, root, layout, long, same) = subst (λ (h : HeldCells). IsNewArray a (Chunks h) d) (sym same) (chunked_array chunk root layout long)
+
+  -- whatever describes it so
+  pub kept_array : (x : Described) → x ≡ a → (c : Cells) → AreCellsKept image x c → IsNewArray x c d
+  kept_array x told c kept =
+      subst (λ (y : Described). IsNewArray y c d) (sym told) (kept_told c (subst (λ (y : Described). AreCellsKept image y c) told kept))
+
+  not_chunked : (chunk : List ℕ) → IsUnchunkedLayout a.layout → d.storage ≡ Chunked chunk → [] ≡ held_chunks d.sizes (stored_chunks image a.fixed a.layout)
+  not_chunked chunk other e = absurd (let never : true ≡ false = sym (ap is_chunked e) ∙ unchunked a.sizes a.layout other in cc)
+
+  chunks_told : (c : Cells) → AreCellsKept image a c → (chunk : List ℕ) → d.storage ≡ Chunked chunk → chunks_of c ≡ held_chunks d.sizes (stored_chunks image a.fixed a.layout)
+  chunks_told Unset (other, filled) chunk e = not_chunked chunk other e
+  chunks_told Filled never chunk e = absurd never
+  chunks_told (Stored bytes) (other, low, stored) chunk e = not_chunked chunk other e
+  chunks_told (Chunks held) (sizes, root, layout, long, same) chunk e = ap offsets_of same ∙ offsets_are sizes root layout long
+
+  -- and of its chunks those that hold a cell
+  pub kept_chunks : (x : Described) → x ≡ a → (c : Cells) → AreCellsKept image x c → (chunk : List ℕ) → d.storage ≡ Chunked chunk
+      → chunks_of c ≡ held_chunks d.sizes (stored_chunks image a.fixed a.layout)
+  kept_chunks x told c kept = chunks_told c (subst (λ (y : Described). AreCellsKept image y c) told kept)

@@ -3,7 +3,7 @@ use Rattle.std.proofs.lemmas.List.{append-nil, length-map}
 use Rattle.std.proofs.Common.{◌≡◌, ℕ, ◌+◌, ◌<◌, ◌≤◌, inl, inr, length-append, List, [], ◌∷◌, ◌++◌, length, Bool, true, false, cond, Option, Some, None, refl, sym, ap, ◌∙◌, subst, arith}
 use Rattle.std.specs.Borrow.{Bor}
 use Rattle.std.specs.Prelude.{◌==◌, IsSome, slice_get, if◌then◌else◌, option_map, option_to_list}
-use Rattle.std.specs.Option.{IfSome, option_and_then, option_flatten}
+use Rattle.std.specs.Option.{IfSome, option_and_then, option_flatten, option_map_or}
 use Rattle.std.specs.List.{AllByRecursion, AllZip}
 use Rattle.std.specs.Ordering.{nat_cmp}
 use Rattle.std.specs.Cmp.{nat_cmp_total, unsigned_tied}
@@ -32,7 +32,7 @@ use Rattle.h5_edit.specs.declared.change.change.Target.TheVariants as target
 use Rattle.h5_edit.specs.declared.change.edit.ObjectEdit.{ObjectEdit}
 use Rattle.h5_edit.specs.declared.change.edit.ObjectEdit.TheVariants as edit
 use Rattle.h5_edit.specs.Fitting.{made_by, made_in}
-use Rattle.h5_edit.proofs.ChangedLaws.NumberedLaws.{at_place, at_places, at_places-append, filled_slots, found_one_more, get_changed, length-at_places, numbered_more, numbered_with, with_new, zip_append, zip_filled}
+use Rattle.h5_edit.proofs.ChangedLaws.NumberedLaws.{at_place, at_places, at_places-append, filled_slots, found_one_more, get_changed, length-at_places, numbered_more, numbered_with, with_new, zip_append, zip_filled, insert_there}
 
 -- ---- the changed tree
 
@@ -88,14 +88,6 @@ new_numbered : (change : Change) (tree : Tree) (slots : List (Option Object)) �
 new_numbered (Linked parent name t) tree slots numbered number is k = more_numbered tree slots numbered number t is k
 new_numbered (Set object attr) tree slots numbered number is k = numbered k ∙ sym (ap (λ (xs : List (Option Object)). option_flatten (slice_get xs k)) (append-nil slots))
 new_numbered (Remove object name) tree slots numbered number is k = numbered k ∙ sym (ap (λ (xs : List (Option Object)). option_flatten (slice_get xs k)) (append-nil slots))
-
-module _ (tree : Tree) (change : Change) (number place : ℕ) (e : ObjectEdit) (is : IsEditOf change number place e) where
-  pub numbered_changed : (slots : List (Option Object)) → AreNumbered tree slots → number ≡ length slots
-      → AreNumbered (changed tree change number) (at_places 0 place (edited e) slots ++ filled_slots (new_objects change))
-  numbered_changed slots numbered counted k =
-      ap (λ x. get x k) (changed_is tree change number place e is)
-      ∙ new_numbered change (with_object tree place (edited e)) (at_places 0 place (edited e) slots) (numbered_with tree slots numbered place (edited e)) number
-      (counted ∙ sym (length-at_places 0 place (edited e) slots)) k
 
 -- ---- what can be written
 
@@ -159,16 +151,16 @@ module _ (tree : Tree) (number : ℕ) where
 
 -- ---- the edit of each object
 
-edit_here : (b : Bool) (e : ObjectEdit) (o : Object) → edited_by (if b then Some e else None) o ≡ cond b (edited e o) o
+edit_here : (b : Bool) (e : Option ObjectEdit) (o : Object) → edited_by (if b then e else None) o ≡ cond b (edited_by e o) o
 edit_here true e o = refl
 edit_here false e o = refl
 
-pub edited_at : (e : ObjectEdit) (place number : ℕ) (o : Object) → edited_by (edit_at e place number) o ≡ at_place number place (edited e) o
+edited_at : (e : Option ObjectEdit) (place number : ℕ) (o : Object) → edited_by (edit_at e place number) o ≡ at_place number place (edited_by e) o
 edited_at e place number o = edit_here (number == place) e o
 
-pub editable_at : (e : ObjectEdit) (place number : ℕ) (o : Object) → (number ≡ place → IsEditable o e) → IfSome (edit_at e place number) (IsEditable o)
+pub editable_at : (e : Option ObjectEdit) (place number : ℕ) (o : Object) → (number ≡ place → IfSome e (IsEditable o)) → IfSome (edit_at e place number) (IsEditable o)
 editable_at e place number o can = by_test (number == place) refl where
-  by_test : (b : Bool) → (number == place) ≡ b → IfSome (if b then Some e else None) (IsEditable o)
+  by_test : (b : Bool) → (number == place) ≡ b → IfSome (if b then e else None) (IsEditable o)
   by_test true same = can (grind (arith, nat_tests))
   by_test false other = tt
 
@@ -185,27 +177,27 @@ pub none_written : (tree : Tree) (place : ℕ) (change : Object → Object) → 
 none_written tree place change = record { listed = []; counted = refl; numbered = λ k low. absurd (omega (arith, low)); each = tt }
 
 -- what the edit of one number makes of its slot
-slot_at : (e : ObjectEdit) (place n : ℕ) (found : Option Object) (own : Option ObjectEdit) → own ≡ edit_at e place n
-    → option_map (edited_by own) found ≡ option_map (at_place n place (edited e)) found
+slot_at : (e : Option ObjectEdit) (place n : ℕ) (found : Option Object) (own : Option ObjectEdit) → own ≡ edit_at e place n
+    → option_map (edited_by own) found ≡ option_map (at_place n place (edited_by e)) found
 slot_at e place n None own is = refl
 slot_at e place n (Some o) own is = ap (λ (f : Option ObjectEdit). Some (edited_by f o)) is ∙ ap (λ (x : Object). Some x) (edited_at e place n o)
 
-pub written_more : (tree : Tree) (place : ℕ) (e : ObjectEdit) (written more : List (Option NewObject)) (n : ℕ) (own : Option ObjectEdit) (slot : Option NewObject)
-    → AreWritten tree place (edited e) written n → own ≡ edit_at e place n → SlotsHold IsNewObject slot (option_map (edited_by own) (get tree n))
-    → more ≡ written ++ slot ∷ [] → AreWritten tree place (edited e) more (n + 1)
+pub written_more : (tree : Tree) (place : ℕ) (e : Option ObjectEdit) (written more : List (Option NewObject)) (n : ℕ) (own : Option ObjectEdit) (slot : Option NewObject)
+    → AreWritten tree place (edited_by e) written n → own ≡ edit_at e place n → SlotsHold IsNewObject slot (option_map (edited_by own) (get tree n))
+    → more ≡ written ++ slot ∷ [] → AreWritten tree place (edited_by e) more (n + 1)
 written_more tree place e written more n own slot so is here longer =
     let os : List (Option Object) = so.listed in
     let found : Option Object = get tree n in
-    let same : option_map (edited_by own) found ≡ option_map (at_place (0 + length os) place (edited e)) found
-    = slot_at e place n found own is ∙ ap (λ m. option_map (at_place m place (edited e)) found) (sym so.counted ∙ omega arith) in
-    let zipped : AllZip (SlotsHold IsNewObject) (written ++ slot ∷ []) (at_places 0 place (edited e) os ++ option_map (at_place (0 + length os) place (edited e)) found ∷ [])
-    = zip_append (SlotsHold IsNewObject) written (slot ∷ []) (at_places 0 place (edited e) os) (option_map (at_place (0 + length os) place (edited e)) found ∷ []) so.each
+    let same : option_map (edited_by own) found ≡ option_map (at_place (0 + length os) place (edited_by e)) found
+    = slot_at e place n found own is ∙ ap (λ m. option_map (at_place m place (edited_by e)) found) (sym so.counted ∙ omega arith) in
+    let zipped : AllZip (SlotsHold IsNewObject) (written ++ slot ∷ []) (at_places 0 place (edited_by e) os ++ option_map (at_place (0 + length os) place (edited_by e)) found ∷ [])
+    = zip_append (SlotsHold IsNewObject) written (slot ∷ []) (at_places 0 place (edited_by e) os) (option_map (at_place (0 + length os) place (edited_by e)) found ∷ []) so.each
     (subst (SlotsHold IsNewObject slot) same here, tt) in
-    subst (λ list. AreWritten tree place (edited e) list (n + 1)) (sym longer) (record {
+    subst (λ list. AreWritten tree place (edited_by e) list (n + 1)) (sym longer) (record {
       listed = os ++ found ∷ [];
       counted = length-append os (found ∷ []) ∙ ap (λ m. m + 1) so.counted;
       numbered = one_more;
-      each = subst (AllZip (SlotsHold IsNewObject) (written ++ slot ∷ [])) (sym (at_places-append 0 place (edited e) os found)) zipped;
+      each = subst (AllZip (SlotsHold IsNewObject) (written ++ slot ∷ [])) (sym (at_places-append 0 place (edited_by e) os found)) zipped;
     }) where
       one_more : (k : ℕ) → k < n + 1 → get tree k ≡ option_flatten (slice_get (so.listed ++ get tree n ∷ []) k)
       one_more k low = by_test (k == length so.listed) refl ∙ sym (found_one_more so.listed (get tree n) k) where
@@ -215,6 +207,36 @@ written_more tree place e written more n own slot so is here longer =
             let here : k ≡ n = grind (arith, nat_tests, last, long) in
             ap (get tree) here
         by_test false other = let long = so.counted in so.numbered k (grind (arith, nat_tests, other, low, long))
+
+-- ---- all of them
+
+module _ (tree : Tree) (next place : ℕ) (change : Object → Object) (written : List (Option NewObject)) (so : AreWritten tree place change written next) where
+  -- they are so many
+  pub opened_counted : length written ≡ next
+  opened_counted =
+      let first = AllZip-long (SlotsHold IsNewObject) written (at_places 0 place change so.listed) so.each in
+      let long = length-at_places 0 place change so.listed in
+      omega (arith, first, long, so.counted)
+
+  -- they are those of the tree with the object of one number changed
+  pub opened_written : ((k : ℕ) → IsSome (get tree k) → k < next) → AreObjects written (with_object tree place change)
+  opened_written given = record { listed = at_places 0 place change so.listed; numbered = numbered_with tree so.listed numbered place change; each = so.each } where
+    none_past : (k : ℕ) → next ≤ k → (found : Option Object) → get tree k ≡ found → found ≡ None
+    none_past k past None is = refl
+    none_past k past (Some o) is = absurd (omega (arith, past, given k (rw is refl)))
+
+    numbered : (k : ℕ) → get tree k ≡ option_flatten (slice_get so.listed k)
+    numbered k = elim (cases_lt k next) [
+      | inl low ↦ so.numbered k low
+      | inr past ↦ none_past k past (get tree k) refl ∙ sym (ap option_flatten (slice_get_past so.listed k (omega (arith, past, so.counted))))
+    ]
+
+-- no edit
+pub unedited : (tree : Tree) (place : ℕ) → with_object tree place (edited_by None) ≡ tree
+unedited tree place = by_found (get tree place) refl where
+  by_found : (found : Option Object) → get tree place ≡ found → option_map_or (λ o. insert tree place o) found tree ≡ tree
+  by_found None is = refl
+  by_found (Some o) is = insert_there tree place o is
 
 made_counted : (t : Target) → length (new_target t) ≡ made_by t
 made_counted target.Group = refl
@@ -228,33 +250,25 @@ new_counted (Set object attr) = refl
 new_counted (Remove object name) = refl
 
 module _ (tree : Tree) (change : Change) (next place : ℕ) (e : ObjectEdit) (is : IsEditOf change next place e) (written all : List (Option NewObject)) (more : Option NewObject)
-    (so : AreWritten tree place (edited e) written next) (new : AllZip IsNewObject (option_to_list more) (new_objects change))
+    (so : AreObjects written (with_object tree place (edited e))) (counted : length written ≡ next) (new : AllZip IsNewObject (option_to_list more) (new_objects change))
     (longer : all ≡ written ++ filled_slots (option_to_list more)) where
-  -- they are so many
+  -- with the new objects they are so many
   pub all_counted : length all ≡ next + made_in change
   all_counted =
-      let first = AllZip-long (SlotsHold IsNewObject) written (at_places 0 place (edited e) so.listed) so.each in
       let rest = AllZip-long IsNewObject (option_to_list more) (new_objects change) new in
       let filled = length-map (option_to_list more) (λ (x : NewObject). Some x) in
-      let long = length-at_places 0 place (edited e) so.listed in
       let both = ap length longer ∙ length-append written (filled_slots (option_to_list more)) in
-      omega (arith, first, rest, filled, long, both, so.counted, new_counted change)
+      omega (arith, rest, filled, both, counted, new_counted change)
 
-  -- all slots with the new objects behind them are those of the changed tree
-  pub all_written : ((k : ℕ) → IsSome (get tree k) → k < next) → AreObjects all (changed tree change next)
-  all_written given = record {
-    listed = at_places 0 place (edited e) so.listed ++ filled_slots (new_objects change);
-    numbered = numbered_changed tree change next place e is so.listed numbered (sym so.counted);
-    each = subst (λ list. AllZip (SlotsHold IsNewObject) list (at_places 0 place (edited e) so.listed ++ filled_slots (new_objects change))) (sym longer)
-        (zip_append (SlotsHold IsNewObject) written (filled_slots (option_to_list more)) (at_places 0 place (edited e) so.listed) (filled_slots (new_objects change)) so.each
-        (zip_filled IsNewObject (option_to_list more) (new_objects change) new));
-  } where
-    none_past : (k : ℕ) → next ≤ k → (found : Option Object) → get tree k ≡ found → found ≡ None
-    none_past k past None is = refl
-    none_past k past (Some o) is = absurd (omega (arith, past, given k (rw is refl)))
-
-    numbered : (k : ℕ) → get tree k ≡ option_flatten (slice_get so.listed k)
-    numbered k = elim (cases_lt k next) [
-      | inl low ↦ so.numbered k low
-      | inr past ↦ none_past k past (get tree k) refl ∙ sym (ap option_flatten (slice_get_past so.listed k (omega (arith, past, so.counted))))
-    ]
+  -- and those of the changed tree
+  pub all_written : AreObjects all (changed tree change next)
+  all_written =
+      let first : length so.listed ≡ length written = AllZip-long (SlotsHold IsNewObject) written so.listed so.each in
+      record {
+        listed = so.listed ++ filled_slots (new_objects change);
+        numbered = λ k. ap (λ x. get x k) (changed_is tree change next place e is)
+            ∙ new_numbered change (with_object tree place (edited e)) so.listed so.numbered next (sym counted ∙ sym first) k;
+        each = subst (λ list. AllZip (SlotsHold IsNewObject) list (so.listed ++ filled_slots (new_objects change))) (sym longer)
+            (zip_append (SlotsHold IsNewObject) written (filled_slots (option_to_list more)) so.listed (filled_slots (new_objects change)) so.each
+            (zip_filled IsNewObject (option_to_list more) (new_objects change) new));
+      }

@@ -1,4 +1,4 @@
--- The maxima of an array that is read, and of a new one, are not below its sizes, and can be told from none (File Format
+-- The maxima of an array that is read are not below its sizes, and can be told from none (File Format
 -- Specification 3.0, section IV.A.2.b).
 use Rattle.std.proofs.Common.{◌≡◌, ℕ, zero, suc, ◌+◌, ◌*◌, ◌^◌, ◌<◌, ◌≤◌, List, [], ◌∷◌, map, Option, Some, None, true, false, cond, refl, subst, arith}
 use Rattle.std.specs.Prelude.{nat_le, ◌==◌}
@@ -71,21 +71,3 @@ read_bounded body x low h =
     let p = cond_some (is_dataspace body) (extent_in body) x h in
     subst (λ (e : Extent). extent_cells e.sizes ≤ 2 ^ 40 → AllZip IsBound e.sizes e.maxima) p.1
     (λ small. each_bounded body low p.0 0 (rank_in body) (omega arith) (sizes_below (map (size_in body) (range_with_len 0 (rank_in body))) (2 ^ 40) small))
-
--- ---- sizes that are their own maxima
-
-same_number : (a b : ℕ) → (a == b) ≡ true → a ≡ b
-same_number a b is = grind (arith, nat_tests)
-
-each_own : (sizes : List ℕ) (maxima : List (Option ℕ)) → are_sizes sizes maxima ≡ true → AllByRecursion (λ s. s ≤ 2 ^ 40) sizes → AllZip IsBound sizes maxima
-each_own [] [] own few = tt
-each_own [] (m ∷ ms) own few = absurd (cc)
-each_own (d ∷ ds) [] own few = absurd (cc)
-each_own (d ∷ ds) (None ∷ ms) own few = absurd (cc)
-each_own (d ∷ ds) (Some m ∷ ms) own few =
-    let parts = both (m == d) (are_sizes ds ms) own in
-    let same : m ≡ d = same_number m d parts.0 in
-    ((omega (arith, same), omega (arith, same, few.0)), each_own ds ms parts.1 few.1)
-
-pub own_bounded : (sizes : List ℕ) (maxima : List (Option ℕ)) → are_sizes sizes maxima ≡ true → extent_cells sizes ≤ 2 ^ 40 → AllZip IsBound sizes maxima
-own_bounded sizes maxima own few = each_own sizes maxima own (sizes_below sizes (2 ^ 40) few)

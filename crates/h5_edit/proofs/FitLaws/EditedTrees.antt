@@ -18,8 +18,6 @@ use Rattle.h5_query.specs.Opened.Sound.{IsSound}
 use Rattle.h5_query.specs.Opened.State.{FileState}
 use Rattle.h5_edit.specs.Carried.{is_message_total_full}
 use Rattle.h5_edit.specs.Fits.Laws.{AreBytes, EditedPlain}
-use Rattle.h5_edit.specs.Writable.{are_writable}
-use Rattle.h5_edit.proofs.WritableLaws.{carried_kind, writable_there, writable_tree}
 use Rattle.h5_edit.proofs.FitLaws.ChangedAttributes.{with_set, plain_set, few_set, with_removed, plain_removed, few_removed_others, accepted_attribute}
 use Rattle.h5_edit.proofs.FitLaws.ChangedTrees.{each_put, each_at, each_linked, each_linked_to}
 use Rattle.h5_edit.proofs.FitLaws.NewArrays.{plain_new_array, accepted_spec}
@@ -50,6 +48,10 @@ plain_links change o plain = record {
   content = links_content change o o.content (length (others_of o)) plain.content;
 }
 
+-- whatever number it has
+plain_linked : (change : Links → Links) (number : ℕ) (o : Object) → IsPlain o → IsPlain (with_links change o)
+plain_linked change number o plain = plain_links change o plain
+
 -- ---- an attribute less
 
 -- beside fewer others
@@ -61,9 +63,6 @@ fewer_others d n m less plain = record {
   fixed = plain.fixed;
   sound = plain.sound;
   stored = plain.stored;
-  stored_is = plain.stored_is;
-  filled = plain.filled;
-  unset = plain.unset;
   unwritten = λ many. plain.unwritten (omega (arith, many, less));
 }
 
@@ -79,7 +78,7 @@ plain_without o name plain = record {
 
 -- ---- an attribute more
 
-module _ (f : FileState) (low : AreBytes f.image) (sound : IsSound f) (writable : are_writable f.tree ≡ true) where
+module _ (f : FileState) (low : AreBytes f.image) (sound : IsSound f) where
   module _ (path : List ℕ) (a : AttrSpec) (is : IsPlainAttribute (a.name, attribute_from a)) (roomy : is_message_total_full f (SetAttr path a) ≡ false) where
     module _ (number : ℕ) (o : Object) (at : object_at f.tree path ≡ Some number) (there : get f.tree number ≡ Some o) where
       abbrev r : IsRead f sound number o there
@@ -97,35 +96,34 @@ module _ (f : FileState) (low : AreBytes f.image) (sound : IsSound f) (writable 
 
       plain_with : IsPlain (with_set o a.name (attribute_from a))
       plain_with =
-          let here = writable_there f.tree writable number o there in
           let more = few_set o a.name (attribute_from a) in
           record {
-            others = plain_set o a.name (attribute_from a) (plain_read f.image low f.table r.header o r.blocks r.has here).others is;
-            content = plain_content f.image low f.table r.header o r.blocks r.has here (length (others_of (with_set o a.name (attribute_from a)))) (omega (arith, more, room_at));
+            others = plain_set o a.name (attribute_from a) (plain_read f.image low f.table r.header o r.blocks r.has).others is;
+            content = plain_content f.image low f.table r.header o r.blocks r.has (length (others_of (with_set o a.name (attribute_from a)))) (omega (arith, more, room_at));
           }
 
     plain_attribute_set : ArePlain (with_object_at f.tree path (with_attributes (λ m. insert m a.name (attribute_from a))))
-    plain_attribute_set = each_at IsPlain f.tree path (λ o. with_set o a.name (attribute_from a)) (opened_plain f low sound writable) plain_with
+    plain_attribute_set = each_at (λ n. IsPlain) f.tree path (λ o. with_set o a.name (attribute_from a)) (opened_plain f low sound) plain_with
 
 -- ---- every edit that the plain layout can hold
 
 pub edited_plain : EditedPlain
 unfolding applied
 edited_plain f (CreateGroup path) low sound typed carried accepted roomy =
-    each_put IsPlain (linked f.tree path (ToObject f.next)) f.next (new_object (Group empty))
-    (each_linked IsPlain plain_links f.tree path (ToObject f.next) (opened_plain f low sound carried)) new_group
+    each_put (λ n. IsPlain) (linked f.tree path (ToObject f.next)) f.next (new_object (Group empty))
+    (each_linked (λ n. IsPlain) plain_linked f.tree path (ToObject f.next) (opened_plain f low sound)) new_group
 edited_plain f (CreateDataset path spec) low sound typed carried accepted roomy =
-    let formed = accepted_spec f.tree f.next path spec accepted (carried_kind f.tree (CreateDataset path spec) carried) in
-    each_put IsPlain (linked f.tree path (ToObject f.next)) f.next (new_object (Array (new_dataset spec)))
-    (each_linked IsPlain plain_links f.tree path (ToObject f.next) (opened_plain f low sound (writable_tree f.tree (CreateDataset path spec) carried)))
-    (new_array (new_dataset spec) (λ n few. plain_new_array spec n typed formed few))
-edited_plain f (HardLink target path) low sound typed carried accepted roomy = each_linked_to IsPlain plain_links f.tree target path (opened_plain f low sound carried)
-edited_plain f (SoftLink text path) low sound typed carried accepted roomy = each_linked IsPlain plain_links f.tree path (Soft text) (opened_plain f low sound carried)
+    let formed = accepted_spec f.tree f.next path spec accepted in
+    each_put (λ n. IsPlain) (linked f.tree path (ToObject f.next)) f.next (new_object (Array (new_dataset spec)))
+    (each_linked (λ n. IsPlain) plain_linked f.tree path (ToObject f.next) (opened_plain f low sound))
+    (new_array (new_dataset spec) (λ n few. plain_new_array spec formed n typed.0 typed.1 few))
+edited_plain f (HardLink target path) low sound typed carried accepted roomy = each_linked_to (λ n. IsPlain) plain_linked f.tree target path (opened_plain f low sound)
+edited_plain f (SoftLink text path) low sound typed carried accepted roomy = each_linked (λ n. IsPlain) plain_linked f.tree path (Soft text) (opened_plain f low sound)
 edited_plain f (Unlink path) low sound typed carried accepted roomy = absurd (let never : false ≡ true = carried in cc)
 edited_plain f (SetAttr path attr) low sound typed carried accepted roomy =
-    plain_attribute_set f low sound carried path attr (accepted_attribute f.tree f.next path attr typed accepted) roomy
+    plain_attribute_set f low sound path attr (accepted_attribute f.tree f.next path attr typed accepted) roomy
 edited_plain f (RemoveAttr path name) low sound typed carried accepted roomy =
-    let each = opened_plain f low sound carried in
-    each_at IsPlain f.tree path (λ o. with_removed o name) each (λ number o at there. plain_without o name (each number o there))
+    let each = opened_plain f low sound in
+    each_at (λ n. IsPlain) f.tree path (λ o. with_removed o name) each (λ number o at there. plain_without o name (each number o there))
 edited_plain f (Write path hyper values) low sound typed carried accepted roomy = absurd (let never : false ≡ true = carried in cc)
 edited_plain f (Resize path dims) low sound typed carried accepted roomy = absurd (let never : false ≡ true = carried in cc)

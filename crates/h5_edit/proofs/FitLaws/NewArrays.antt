@@ -1,33 +1,83 @@
--- A new array in one block can be written in the plain layout (File Format Specification 3.0, sections IV.A.2.b, IV.A.2.f and IV.A.2.i).
-use Rattle.std.proofs.Common.{◌≡◌, ℕ, zero, suc, ◌+◌, ◌^◌, ◌≤◌, List, length, replicate, None, ℤ, true, false, refl, sym, ap, ◌∙◌, arith}
-use Rattle.std.specs.Prelude.{nat_lt, ◌&&◌}
+-- A new array can be written in the plain layout (File Format Specification 3.0, sections IV.A.2.b, IV.A.2.f and IV.A.2.i).
+use Rattle.std.proofs.Common.{◌≡◌, ℕ, zero, suc, ◌+◌, ◌*◌, ◌^◌, ◌≤◌, Bool, List, [], ◌∷◌, length, replicate, Option, Some, None, ℤ, true, false, refl, ap, arith}
+use Rattle.std.specs.Prelude.{nat_lt, nat_le, ◌==◌, ◌&&◌, ◌||◌}
+use Rattle.std.specs.List.{AllZip, list_any}
 use Rattle.std.proofs.lemmas.Bool.Decides.{nat_tests}
 use Rattle.std.proofs.lemmas.List.{length-replicate}
 use Rattle.std.proofs.lemmas.Slice.Zip.{AllZip-long}
 use Rattle.h5_model.specs.Format.Fixed.{Fixed, IsFixed, fits}
 use Rattle.h5_model.specs.Tree.Places.{cells, extent_cells}
 use Rattle.h5_model.specs.Tree.Sound.{AreOf}
-use Rattle.h5_model.specs.Tree.Objects.{Tree, Contiguous, Chunked, are_sizes}
+use Rattle.h5_model.specs.Tree.Objects.{Tree, Contiguous, Chunked}
 use Rattle.h5_model.specs.Edits.Applied.{new_dataset, new_storage}
-use Rattle.h5_model.specs.Edits.Refusal.{refusal_of, rules_of, are_maxima, is_store}
+use Rattle.h5_model.specs.Edits.Refusal.{refusal_of, rules_of, are_maxima, is_store, are_chunk_sizes, is_chunk_size, chunk_is_large, compact_is_large}
 use Rattle.h5_model.specs.declared.dataset.Spec.{Spec}
 use Rattle.h5_model.specs.declared.dataset.Store.{Store}
 use Rattle.h5_model.specs.declared.dataset.Store.TheVariants as store
 use Rattle.h5_model.specs.declared.edits.Edit.TheVariants.{CreateDataset}
 use Rattle.h5_model.proofs.RefusalLaws.{none_holds, true_of}
 use Rattle.h5_model.proofs.WithinLaws.{both, neither}
-use Rattle.h5_repack.specs.Bodies.Sound.{IsBound, IsPlainArray}
-use Rattle.h5_edit.specs.Refusals.Allowed.{is_contiguous, is_carried_spec}
-use Rattle.h5_edit.proofs.FitLaws.Bounds.{own_bounded}
-use Rattle.h5_edit.proofs.WritableLaws.{contiguous_spec}
+use Rattle.h5_repack.specs.Bodies.Sound.{IsBound, IsPlainArray, IsPlainStorage}
+use Rattle.h5_edit.specs.Changed.Cells.{HasChunkSizes}
 
--- in one block, each size its own maximum, with a fill value of the type
+-- a store that goes with the sizes and maxima, and a fill value of the type
 pub record IsSoundSpec (spec : Spec) : Type 0 where
-  pub stored : spec.store ≡ store.Contiguous
   pub ranked : length spec.dims ≤ 32
-  pub maxima : are_sizes spec.dims spec.maxima ≡ true
+  pub maxima : are_maxima spec.dims spec.maxima ≡ true
+  pub shaped : is_store spec.store spec.dims spec.maxima ≡ true
+  pub chunk_small : chunk_is_large spec.store (spec.fixed).size ≡ false
+  pub data_small : compact_is_large spec.store (cells spec.dims * (spec.fixed).size) ≡ false
   pub few : extent_cells spec.dims ≤ 2 ^ 40
   pub of_type : fits spec.fixed spec.fill ≡ true
+
+-- ---- chunk sizes
+
+maxima_long : (sizes : List ℕ) (maxima : List (Option ℕ)) → are_maxima sizes maxima ≡ true → length maxima ≡ length sizes
+maxima_long [] [] h = refl
+maxima_long [] (m ∷ ms) h = absurd (cc)
+maxima_long (d ∷ ds) [] h = absurd (cc)
+maxima_long (d ∷ ds) (m ∷ ms) h = ap suc (maxima_long ds ms (both _ (are_maxima ds ms) h).1)
+
+chunk_long : (chunk : List ℕ) (maxima : List (Option ℕ)) → are_chunk_sizes chunk maxima ≡ true → length chunk ≡ length maxima
+chunk_long [] [] h = refl
+chunk_long [] (m ∷ ms) h = absurd (cc)
+chunk_long (c ∷ cs) [] h = absurd (cc)
+chunk_long (c ∷ cs) (m ∷ ms) h = ap suc (chunk_long cs ms (both (is_chunk_size c m) (are_chunk_sizes cs ms) h).1)
+
+size_some : (c : ℕ) (m : Option ℕ) → is_chunk_size c m ≡ true → (c == 0) ≡ false
+size_some c None h = grind (arith, nat_tests, h)
+size_some c (Some m) h = let some = (both (nat_lt 0 c) (m == 0 || nat_le c m) h).0 in grind (arith, nat_tests, some)
+
+chunk_some : (chunk : List ℕ) (maxima : List (Option ℕ)) → are_chunk_sizes chunk maxima ≡ true → list_any (λ n. n == 0) chunk ≡ false
+chunk_some [] [] h = refl
+chunk_some [] (m ∷ ms) h = absurd (cc)
+chunk_some (c ∷ cs) [] h = absurd (cc)
+chunk_some (c ∷ cs) (m ∷ ms) h =
+    let parts = both (is_chunk_size c m) (are_chunk_sizes cs ms) h in
+    rw (size_some c m parts.0, chunk_some cs ms parts.1) refl
+
+pub record AreChunkSizesOf (sizes chunk : List ℕ) : Type 0 where
+  pub ranked : 1 ≤ length chunk
+  pub same : length chunk ≡ length sizes
+  pub some : list_any (λ n. n == 0) chunk ≡ false
+
+pub chunk_sizes_of : (sizes : List ℕ) (maxima : List (Option ℕ)) (chunk : List ℕ) → are_maxima sizes maxima ≡ true → is_store (store.Chunked chunk) sizes maxima ≡ true → AreChunkSizesOf sizes chunk
+chunk_sizes_of sizes maxima chunk bounded shaped =
+    let parts = both (nat_lt 0 (length sizes)) (are_chunk_sizes chunk maxima) shaped in
+    let some = parts.0 in
+    let one : 1 ≤ length sizes = grind (arith, nat_tests, some) in
+    let long = chunk_long chunk maxima parts.1 in
+    let longer = maxima_long sizes maxima bounded in
+    record { ranked = omega (arith, one, long, longer); same = omega (arith, long, longer); some = chunk_some chunk maxima parts.1 }
+
+-- so they can be named
+pub store_sizes : (sizes : List ℕ) (maxima : List (Option ℕ)) (s : Store) → length sizes ≤ 32 → are_maxima sizes maxima ≡ true → is_store s sizes maxima ≡ true → HasChunkSizes s
+store_sizes sizes maxima store.Compact ranked bounded shaped = tt
+store_sizes sizes maxima store.Contiguous ranked bounded shaped = tt
+store_sizes sizes maxima (store.Chunked chunk) ranked bounded shaped =
+    let of = chunk_sizes_of sizes maxima chunk bounded shaped in
+    let same = of.same in
+    (omega (arith, same, ranked), of.some)
 
 -- ---- what is written
 
@@ -35,66 +85,63 @@ same_values : (t : Fixed) (v : ℤ) → fits t v ≡ true → (n : ℕ) → AreO
 same_values t v fit zero = tt
 same_values t v fit (suc n) = (fit, same_values t v fit n)
 
-new_stored : (sizes : List ℕ) (s : Store) → s ≡ store.Contiguous → new_storage sizes s ≡ Contiguous (nat_lt 0 (cells sizes))
-new_stored sizes s is = ap (new_storage sizes) is
+module _ (spec : Spec) (is : IsSoundSpec spec) where
+  plain_storage : (s : Store) → is_store s spec.dims spec.maxima ≡ true → chunk_is_large s (spec.fixed).size ≡ false → compact_is_large s (cells spec.dims * (spec.fixed).size) ≡ false
+      → IsPlainStorage (new_dataset spec) (new_storage spec.dims s)
+  plain_storage store.Compact shaped small short = grind (arith, nat_tests, short)
+  plain_storage store.Contiguous shaped small short = go (nat_lt 0 (cells spec.dims)) refl where
+    go : (stored : Bool) → nat_lt 0 (cells spec.dims) ≡ stored → IsPlainStorage (new_dataset spec) (Contiguous stored)
+    go true some = grind (arith, nat_tests, some)
+    go false none = refl
+  plain_storage (store.Chunked chunk) shaped small short =
+      let of = chunk_sizes_of spec.dims spec.maxima chunk is.maxima shaped in
+      record { ranked = of.ranked; some = of.some; small = grind (arith, nat_tests, small) }
 
-pub plain_new_array : (spec : Spec) (n : ℕ) → IsFixed spec.fixed → IsSoundSpec spec → 4 + n ≤ 65535 → IsPlainArray (new_dataset spec) n
-plain_new_array spec n sound is room =
-    let storage : new_storage spec.dims spec.store ≡ Contiguous (nat_lt 0 (cells spec.dims)) = new_stored spec.dims spec.store is.stored in
-    let bounds = own_bounded spec.dims spec.maxima is.maxima is.few in
-    record {
-      ranked = is.ranked;
-      bounded = bounds;
-      few = is.few;
-      fixed = sound;
-      sound = record {
-        counted = length-replicate (cells spec.dims) spec.fill;
-        fill = is.of_type;
-        values = same_values spec.fixed spec.fill is.of_type (cells spec.dims);
-        bounded = AllZip-long IsBound spec.dims spec.maxima bounds;
-        boxed = λ chunk e. let no : Contiguous (nat_lt 0 (cells spec.dims)) ≡ Chunked chunk = sym storage ∙ e in absurd (cc);
-      };
-      stored = nat_lt 0 (cells spec.dims);
-      stored_is = storage;
-      filled = λ h. grind (arith, nat_tests, h);
-      unset = λ _. refl;
-      unwritten = λ many. absurd (omega (arith, many, room));
-    }
+  boxed : (s : Store) → is_store s spec.dims spec.maxima ≡ true → (chunk : List ℕ) → new_storage spec.dims s ≡ Chunked chunk → length chunk ≡ length spec.dims
+  boxed store.Compact shaped chunk e = absurd (cc)
+  boxed store.Contiguous shaped chunk e = absurd (cc)
+  boxed (store.Chunked sizes) shaped chunk e =
+      let own : sizes ≡ chunk = cc in
+      let long = ap length own in
+      let of = (chunk_sizes_of spec.dims spec.maxima sizes is.maxima shaped).same in
+      omega (arith, long, of)
+
+  pub plain_new_array : (n : ℕ) → IsFixed spec.fixed → AllZip IsBound spec.dims spec.maxima → 4 + n ≤ 65535 → IsPlainArray (new_dataset spec) n
+  plain_new_array n sound bounds room = record {
+    ranked = is.ranked;
+    bounded = bounds;
+    few = is.few;
+    fixed = sound;
+    sound = record {
+      counted = length-replicate (cells spec.dims) spec.fill;
+      fill = is.of_type;
+      values = same_values spec.fixed spec.fill is.of_type (cells spec.dims);
+      bounded = AllZip-long IsBound spec.dims spec.maxima bounds;
+      boxed = boxed spec.store is.shaped;
+    };
+    stored = plain_storage spec.store is.shaped is.chunk_small is.data_small;
+    unwritten = λ many. absurd (omega (arith, many, room));
+  }
 
 -- ---- what no rule refuses
 
-store_of : (s : Store) → is_contiguous s ≡ true → s ≡ store.Contiguous
-store_of store.Contiguous is = refl
-store_of store.Compact is = absurd (let never : false ≡ true = is in cc)
-store_of (store.Chunked sizes) is = absurd (let never : false ≡ true = is in cc)
-
 module _ (tree : Tree) (next : ℕ) (path : List ℕ) (spec : Spec) (accepted : refusal_of tree next (CreateDataset path spec) ≡ None) where
-  formed : (nat_lt 32 (length spec.dims) ≡ false) × ((are_maxima spec.dims spec.maxima && is_store spec.store spec.dims spec.maxima) ≡ true)
+  pub accepted_spec : IsSoundSpec spec
   unfolding refusal_of
-  formed =
+  accepted_spec =
       let rules = none_holds (rules_of tree next (CreateDataset path spec)) accepted in
-      let parts = neither (nat_lt 32 (length spec.dims)) _ rules.1.1.1.1.1.1.1.1.1.1.1.0 in
-      (parts.0, true_of _ parts.1)
-
-  few_cells : nat_lt (2 ^ 40) (extent_cells spec.dims) ≡ false
-  unfolding refusal_of
-  few_cells =
-      let rules = none_holds (rules_of tree next (CreateDataset path spec)) accepted in rules.1.1.1.1.1.1.1.1.1.1.1.1.1.1.1.1.1.1.1.1.0
-
-  fill_fits : fits spec.fixed spec.fill ≡ true
-  unfolding refusal_of
-  fill_fits =
-      let rules = none_holds (rules_of tree next (CreateDataset path spec)) accepted in true_of _ rules.1.1.1.1.1.1.1.1.1.1.1.1.1.1.1.1.1.1.1.1.1.1.0
-
-  pub accepted_spec : is_carried_spec spec ≡ true → IsSoundSpec spec
-  accepted_spec carried =
-      let stored = store_of spec.store (contiguous_spec spec carried) in
-      let own : is_store spec.store spec.dims spec.maxima ≡ true = (both (are_maxima spec.dims spec.maxima) _ formed.1).1 in
-      let low = formed.0 in
+      let shaped = rules.1.1.1.1.1.1.1.1.1.1.1 in
+      let parts = neither (nat_lt 32 (length spec.dims)) _ shaped.0 in
+      let formed = both (are_maxima spec.dims spec.maxima) (is_store spec.store spec.dims spec.maxima) (true_of _ parts.1) in
+      let limits = shaped.1.1.1.1.1.1.1 in
+      let low = parts.0 in
+      let few = limits.1.1.0 in
       record {
-        stored = stored;
         ranked = grind (arith, nat_tests, low);
-        maxima = ap (λ (s : Store). is_store s spec.dims spec.maxima) (sym stored) ∙ own;
-        few = grind (arith, nat_tests, few_cells);
-        of_type = fill_fits;
+        maxima = formed.0;
+        shaped = formed.1;
+        chunk_small = limits.0;
+        data_small = limits.1.0;
+        few = grind (arith, nat_tests, few);
+        of_type = true_of _ limits.1.1.1.1.0;
       }

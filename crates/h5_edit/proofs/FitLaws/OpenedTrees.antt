@@ -1,5 +1,5 @@
 -- The plain layout can hold each object of an opened image (File Format Specification 3.0, sections III and IV.A).
-use Rattle.std.proofs.Common.{◌≡◌, inl, inr, ℕ, ◌+◌, ◌≤◌, List, length, true, Some, sym, ap, ◌∙◌, subst, arith}
+use Rattle.std.proofs.Common.{◌≡◌, inl, inr, ℕ, ◌+◌, ◌≤◌, List, length, Some, sym, ap, ◌∙◌, subst, arith}
 use Rattle.std.specs.Ordering.{nat_cmp}
 use Rattle.std.specs.FinMap.{FinMap, get}
 use Rattle.h5_bytes.specs.declared.Block.{Block}
@@ -12,15 +12,12 @@ use Rattle.h5_query.specs.Opened.State.{FileState}
 use Rattle.h5_repack.specs.Image.Plain.{IsPlain, IsPlainContent}
 use Rattle.h5_repack.specs.Bodies.Bodies.{others_of}
 use Rattle.h5_edit.specs.Fits.Laws.{AreBytes, OpenedPlain}
-use Rattle.h5_edit.specs.Writable.{is_writable}
-use Rattle.h5_edit.proofs.WritableLaws.{writable_there}
 use Rattle.h5_edit.proofs.FitLaws.PlainArrays.{plain_array}
 use Rattle.h5_edit.proofs.FitLaws.PlainObjects.{plain_object, others_few, read_bodies, total_few}
 
 -- ---- one object
 
-module _ (image : List ℕ) (low : AreBytes image) (table : FinMap nat_cmp ℕ) (header : ℕ) (o : Object) (blocks : List Block) (has : HasObject image table header o blocks)
-    (writable : is_writable o.content ≡ true) where
+module _ (image : List ℕ) (low : AreBytes image) (table : FinMap nat_cmp ℕ) (header : ℕ) (o : Object) (blocks : List Block) (has : HasObject image table header o blocks) where
   -- with so few others, beside the messages of its content that are there, the header has 65535 messages at most
   pub plain_content : (n : ℕ) → n + length has.messages ≤ length (others_of o) + 65535 → IsPlainContent n o.content
   plain_content n room =
@@ -34,7 +31,7 @@ module _ (image : List ℕ) (low : AreBytes image) (table : FinMap nat_cmp ℕ) 
             let one_type = array.one_type in
             let one_layout = array.one_layout in
             subst (IsPlainContent n) (sym e) (
-              plain_array image low has.messages (read_bodies image low table header o blocks has) d has.content_blocks array (ap is_writable (sym e) ∙ writable) n (omega (arith, room, few)),
+              plain_array image low has.messages (read_bodies image low table header o blocks has) d has.content_blocks array n (omega (arith, room, few)),
               omega (arith, room, few, one_space, one_type, one_layout),
             )
       ]
@@ -67,6 +64,6 @@ module _ (f : FileState) (sound : IsSound f) (number : ℕ) (o : Object) (there 
       }
 
 pub opened_plain : OpenedPlain
-opened_plain f low sound writable number o there =
+opened_plain f low sound number o there =
     let r = object_read f sound number o there in
-    plain_read f.image low f.table r.header o r.blocks r.has (writable_there f.tree writable number o there)
+    plain_read f.image low f.table r.header o r.blocks r.has

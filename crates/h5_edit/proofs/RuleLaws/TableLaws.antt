@@ -10,13 +10,10 @@ use Rattle.h5_model.specs.Scripts.Reading as reading
 use Rattle.h5_model.specs.Edits.Refusal.{refusal_of, first_holding, some_path, bad_text, is_deep, is_root, unlinks_root, new_path, has_no_parent, has_no_group, not_found, is_missing, is_here, is_soft, is_long, has_many_links}
 use Rattle.h5_model.specs.declared.attribute.AttrSpec.{AttrSpec}
 use Rattle.h5_model.specs.declared.dataset.Spec.{Spec}
-use Rattle.h5_model.specs.declared.dataset.Store.{Store}
-use Rattle.h5_model.specs.declared.dataset.Store.TheVariants as store
 use Rattle.h5_model.specs.declared.edits.Edit.{Edit}
 use Rattle.h5_model.specs.declared.edits.Edit.TheVariants.{CreateGroup, CreateDataset, HardLink, SoftLink, SetAttr, RemoveAttr}
 use Rattle.h5_model.specs.declared.edit_fault.EditFault.{EditFault}
 use Rattle.h5_model.specs.declared.edit_fault.EditFault.TheVariants as fault
-use Rattle.h5_edit.specs.Refusals.Allowed.{is_carried_spec}
 use Rattle.h5_edit.specs.Refusals.Rules.{path_faults, path_fault, is_new_fault, is_object_fault, is_text_fault, lower_of, own_rules, spec_rules, number_rules}
 use Rattle.h5_edit.proofs.RuleLaws.FaultLaws.{behind, chain, found_behind, lower_first}
 
@@ -49,19 +46,11 @@ module _ (tree : Tree) (next : ℕ) (path : List ℕ) where
     abbrev array_rules : List (EditFault × Bool)
     array_rules = spec_rules spec ++ number_rules next
 
-    by_store : spec.store ≡ store.Contiguous → refusal_of tree next (CreateDataset path spec) ≡ behind (path_fault (is_new_fault tree path)) (first_holding array_rules)
+    pub array_table : refusal_of tree next (CreateDataset path spec) ≡ behind (path_fault (is_new_fault tree path)) (first_holding array_rules)
     unfolding refusal_of
-    by_store stored =
-        let asks : refusal_of tree next (CreateDataset path spec) ≡ chain path_faults (asked tree (CreateDataset path spec)) (first_holding array_rules) = rw stored refl in
-        asks ∙ found_behind path_faults (asked tree (CreateDataset path spec)) (is_new_fault tree path) (first_holding array_rules)
+    array_table =
+        found_behind path_faults (asked tree (CreateDataset path spec)) (is_new_fault tree path) (first_holding array_rules)
         (simp or_false, (simp or_false, (simp or_false, (simp or_false, (simp or_false, (refl, (simp or_false, (simp or_false, tt))))))))
-
-    pub array_table : is_carried_spec spec ≡ true → refusal_of tree next (CreateDataset path spec) ≡ behind (path_fault (is_new_fault tree path)) (first_holding array_rules)
-    array_table carried = by_store (in_block spec.store refl) where
-      in_block : (s : Store) → spec.store ≡ s → spec.store ≡ store.Contiguous
-      in_block store.Contiguous e = e
-      in_block store.Compact e = let never : false ≡ true = rw e at carried in cc
-      in_block (store.Chunked sizes) e = let never : false ≡ true = rw e at carried in cc
 
   -- ---- new links
 

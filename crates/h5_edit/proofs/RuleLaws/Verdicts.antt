@@ -14,7 +14,7 @@ use Rattle.h5_model.specs.declared.edit_fault.EditFault.TheVariants as fault
 use Rattle.h5_query.specs.Place.{PathLeadsTo, IsNoObject}
 use Rattle.h5_query.proofs.RuleLaws.{first-behind}
 use Rattle.h5_edit.specs.declared.rules.place.NewPlace.{NewPlace}
-use Rattle.h5_edit.specs.Refusals.Allowed.{is_carried_spec, IsPlaceAllowed, IsLinkPlaced, IsAt, IsRuledOut}
+use Rattle.h5_edit.specs.Refusals.Allowed.{IsPlaceAllowed, IsLinkPlaced, IsAt, IsRuledOut}
 use Rattle.h5_edit.specs.Refusals.Rules.{path_fault, is_new_fault, is_object_fault, is_text_fault, lower_of, lower_fault, IsFreePlace, IsNotFree, own_rules, spec_rules, number_rules, target_rules}
 use Rattle.h5_edit.proofs.RuleLaws.FaultLaws.{behind}
 use Rattle.h5_edit.proofs.RuleLaws.TableLaws.{group_table, array_table, hard_table, target_asked, soft_table, set_table, remove_table, missing_rules, object_fault}
@@ -51,16 +51,16 @@ module _ (tree : Tree) (next : ℕ) (path : List ℕ) where
 
   -- ---- new arrays
 
-  module _ (spec : Spec) (carried : is_carried_spec spec ≡ true) where
+  module _ (spec : Spec) where
     abbrev array_rules : List (EditFault × Bool)
     array_rules = spec_rules spec ++ number_rules next
 
     pub array_refused : (e : EditFault) → IsNotFree tree path e → IsRuledOut tree next (CreateDataset path spec) e
-    array_refused e h = array_table tree next path spec carried ∙ ap (λ o. behind o (first_holding array_rules)) h
+    array_refused e h = array_table tree next path spec ∙ ap (λ o. behind o (first_holding array_rules)) h
 
     module _ (p : NewPlace) (free : IsFreePlace tree path p) where
       array_behind : refusal_of tree next (CreateDataset path spec) ≡ first_holding array_rules
-      array_behind = array_table tree next path spec carried ∙ ap (λ o. behind o (first_holding array_rules)) free.allowed
+      array_behind = array_table tree next path spec ∙ ap (λ o. behind o (first_holding array_rules)) free.allowed
 
       pub spec_refused : (e : EditFault) → first_holding (spec_rules spec) ≡ Some e → IsRuledOut tree next (CreateDataset path spec) e
       spec_refused e h = array_behind ∙ first_kept (spec_rules spec) (number_rules next) e h

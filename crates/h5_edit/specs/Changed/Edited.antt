@@ -38,8 +38,8 @@ edited_by None o = o
 edited_by (Some e) o = edited e o
 
 -- the object of this number has the edit, others none
-abbrev pub edit_at : ObjectEdit → ℕ → ℕ → Option ObjectEdit
-edit_at e place number = if number == place then Some e else None
+abbrev pub edit_at : Option ObjectEdit → ℕ → ℕ → Option ObjectEdit
+edit_at e place number = if number == place then e else None
 
 -- the group has no link of the name yet
 abbrev pub IsFresh : List ℕ → Content → Type 0

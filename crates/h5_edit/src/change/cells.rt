@@ -1,37 +1,65 @@
 //! Arrays to be written: those of an opened image, and new ones (File Format Specification 3.0, sections IV.A.2.d and IV.A.2.i).
 
-ghost use Rattle.std.specs.Prelude.{◌≡◌, ℕ, true};
+ghost use Rattle.std.specs.Prelude.{◌≡◌, ℕ, [], IfOk};
 ghost use Rattle.h5_header.specs.Listed.{messages_in};
 ghost use Rattle.h5_model.specs.Edits.Applied.{new_dataset};
 ghost use Rattle.h5_model.specs.Tree.Objects.{Array};
+ghost use Rattle.h5_layout.specs.Layouts.{layout_in};
+ghost use Rattle.h5_query.specs.Data.{AreDataRead};
 ghost use Rattle.h5_query.specs.Kept.{IsArrayKept, array_dataset};
 ghost use Rattle.h5_repack.specs.Bodies.Sound.{IsPlainArray};
-ghost use Rattle.h5_repack.specs.Objects.Objects.{IsNewContent};
+ghost use Rattle.h5_repack.specs.Objects.Objects.{IsNewContent, content_chunks};
 ghost use Rattle.h5_repack.specs.declared.blocks.cells.Cells.TheVariants.{Stored};
+ghost use Rattle.h5_edit.specs.Changed.Cells.{AreCellsKept, AreChunksKept, HasChunkSizes, IsNewLayout};
 ghost use Rattle.h5_edit.specs.Fits.Laws.{AreBytes};
-ghost use Rattle.h5_edit.specs.Writable.{is_in_one_block};
 
 use h5_header::Messages;
-use h5_model::Spec;
+use h5_layout::{ChunkSizes, HeldChunks};
+use h5_model::{Spec, Store};
 use h5_query::{ArrayRef, Dims, Layout, known_array};
 use h5_repack::{Cells, NewContent};
 use h5_space::Image;
-use std::alloc::Global;
+use std::alloc::{AllocError, Global};
 
-/// The array that the messages of a header of the image describe, which is in one block or nowhere, with its cells as they are stored.
-pub(crate) fn kept_array<'a>(alloc: Global, image: &'a Image, messages: &Messages) -> NewContent<'a>
-    requires kept { IsArrayKept image.now.bytes messages.now }
-    requires block { is_in_one_block (array_dataset image.now.bytes
-        (messages_in image.now.bytes messages.now.list)).storage ≡ true }
-    ensures { IsNewContent result
-        (Array (array_dataset image.now.bytes (messages_in image.now.bytes messages.now.list))) }
+/// As many bytes as the cells of a compact array may have. The layout of one names bytes of its cells, and a new array has none that it
+/// could name: each cell is the fill, and the writer makes their bytes itself.
+static ROOM: [u8; 65524] = [0; 65524];
+
+/// The array that the messages of a header of the image describe, with its cells or its chunks as they are stored.
+///
+/// Takes memory for the place of each chunk.
+pub(crate) fn kept_array<'a>(
+    alloc: Global,
+    image: &'a Image,
+    messages: &Messages,
+) -> Result<NewContent<'a>, AllocError>
+    requires { IsArrayKept image.now.bytes messages.now }
+    ensures array { IfOk result (λ content. IsNewContent content
+        (Array (array_dataset image.now.bytes (messages_in image.now.bytes messages.now.list)))) }
+    ensures chunks { let ms = messages_in image.now.bytes messages.now.list in
+        IfOk result (AreChunksKept image.now.bytes ms (array_dataset image.now.bytes ms)) }
 {
     let array = known_array(alloc, image, messages);
-    let cells = match array.stored(image) {
-        Some(bytes) => stored_cells(bytes),
-        None => Cells::Unset,
-    };
-    NewContent::Array { array, cells }
+    let cells = kept_cells(alloc, image, &array)?;
+    Ok(NewContent::Array { array, cells })
+}
+
+/// The cells of an array of the image as they are stored.
+fn kept_cells<'a>(
+    alloc: Global,
+    image: &'a Image,
+    array: &ArrayRef<'a>,
+) -> Result<Cells<'a>, AllocError>
+    requires { AreDataRead image.now.bytes array.now.fixed array.now.layout }
+    ensures { IfOk result (AreCellsKept image.now.bytes array.now) }
+{
+    if let Layout::Chunked { .. } = array.layout() {
+        return Ok(Cells::Chunks(HeldChunks::new(alloc, image, array, array.dims())?));
+    }
+    match array.stored(image) {
+        Some(bytes) => Ok(stored_cells(bytes)),
+        None => Ok(Cells::Unset),
+    }
 }
 
 /// Cells that are stored in these bytes, each of which is below 256 by its type.
@@ -42,17 +70,33 @@ fn stored_cells(bytes: &[u8]) -> Cells<'_>
     Cells::Stored(bytes)
 }
 
-/// A new array, each cell the fill.
+/// A new array, each cell the fill. No chunk of it is stored.
 pub(crate) fn array_from<'a>(alloc: Global, spec: &'a Spec) -> NewContent<'a>
     requires { (others : ℕ) × IsPlainArray (new_dataset spec.now) others }
-    ensures { IsNewContent result (Array (new_dataset spec.now)) }
+    ensures array { IsNewContent result (Array (new_dataset spec.now)) }
+    ensures chunks { content_chunks result ≡ [] }
 {
     let dims = Dims::new(alloc, spec.dims.as_slice()).unwrap();
     let maxima = spec.maxima.as_slice();
-    let layout = Layout::Contiguous(None);
+    let layout = layout_from(&spec.store);
     let array = ArrayRef::new(spec.fixed, dims, maxima, spec.fill, layout);
     NewContent::Array {
         array,
         cells: Cells::Filled,
+    }
+}
+
+/// A layout of cells that are to be stored so, none of which stands anywhere yet.
+fn layout_from(store: &Store) -> Layout<'_>
+    requires { HasChunkSizes store.now }
+    ensures { IsNewLayout store.now (layout_in result) }
+{
+    match store {
+        Store::Compact => Layout::Compact(&ROOM),
+        Store::Contiguous => Layout::Contiguous(None),
+        Store::Chunked(chunk) => Layout::Chunked {
+            sizes: ChunkSizes::new(chunk.as_slice()),
+            tree: None,
+        },
     }
 }

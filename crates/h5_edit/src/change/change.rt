@@ -7,7 +7,7 @@ use h5_model::{AttrSpec, Spec};
 pub enum Target<'a> {
     /// To a new group.
     Group,
-    /// To a new array in one block, each cell the fill.
+    /// To a new array, each cell the fill.
     Array(&'a Spec),
     /// To the object of this number.
     Object(u32),

@@ -49,10 +49,14 @@ fn link_target(target: Target<'_>, next: u32) -> LinkTo<'_, ObjectNo>
 }
 
 /// The edit, where the object of this number is the one that it is made of.
-pub(crate) fn edit_at(edit: ObjectEdit<'_>, place: u32, number: u32) -> Option<ObjectEdit<'_>>
+pub(crate) fn edit_at(
+    edit: Option<ObjectEdit<'_>>,
+    place: u32,
+    number: u32,
+) -> Option<ObjectEdit<'_>>
     ensures { result ≡ edited.edit_at edit.entry place number }
 {
-    if number == place { Some(edit) } else { None }
+    if number == place { edit } else { None }
 }
 
 /// The new link, where the edit is one.

@@ -1,16 +1,17 @@
-//! The objects of an opened image with a change.
+//! The objects of an opened image, as they are or with a change.
 
-ghost use Rattle.std.specs.Prelude.{◌≡◌, ℕ, ◌+◌, IfOk, IfSome, Some, length, option_map, option_to_list};
+ghost use Rattle.std.specs.Prelude.{◌≡◌, ℕ, ◌+◌, [], IfOk, IfSome, Some, length, option_map, option_to_list};
 ghost use Rattle.std.specs.FinMap.{get};
 ghost use Rattle.std.specs.List.{AllByRecursion, AllZip};
-ghost use Rattle.h5_model.specs.Tree.Objects.{Object};
-ghost use Rattle.h5_repack.specs.Image.Plain.{IsPlain};
+ghost use Rattle.h5_model.specs.Tree.Objects.{Object, with_object};
+ghost use Rattle.h5_repack.specs.Image.Plain.{ArePlain, IsPlain};
 ghost use Rattle.h5_query.specs.Opened.Objects.{object_in};
 ghost use Rattle.h5_query.specs.Opened.Sound.{IsObjectOf};
-ghost use Rattle.h5_repack.specs.Objects.Objects.{AreObjects, IsNewObject, SlotsHold};
+ghost use Rattle.h5_repack.specs.Objects.Objects.{AreObjects, IsNewObject, SlotsHold, content_chunks, slot_chunks, stored_in};
 ghost use Rattle.h5_edit.specs.Changed.Change.{IsPlainChange, changed};
 ghost use Rattle.h5_edit.specs.Changed.Edited.{IsEditable, edited_by, new_objects};
 ghost use Rattle.h5_edit.specs.Fitting.{made_in};
+ghost use Rattle.h5_edit.specs.StoredChunks.{AreChunksOf, AreStoredAfter, AreStoredAt};
 
 use crate::change::attributes::others_in;
 use crate::change::cells::{array_from, kept_array};
@@ -21,12 +22,11 @@ use h5_query::{Opened, OpenedContent, OpenedObject};
 use h5_repack::{NewContent, NewObject, Others};
 use std::alloc::{AllocError, Global};
 
-/// The objects of the tree that the change gives, each in the slot of its number; a number that has no object leaves its slot empty,
-/// and a new object stands behind the others.
+/// The objects of the tree that the change gives, each in the slot of its number, a new object behind the others.
 ///
-/// Names, texts and cells are lent from the image and the change. Takes memory for a reference to each link, and for the messages of
-/// attributes and kept messages.
-pub fn changed_objects<'a>(
+/// Names, texts, cells and chunks are lent from the image and the change. Takes memory for a reference to each link, for the messages of
+/// attributes and kept messages, and for the place of each chunk.
+pub(crate) fn changed_objects<'a>(
     alloc: Global,
     opened: &'a Opened,
     change: &Change<'a>,
@@ -36,16 +36,38 @@ pub fn changed_objects<'a>(
         AreObjects objects.items (changed opened.now.tree change.now opened.now.next)) }
     ensures counted { IfOk result (λ objects.
         length objects.items ≡ opened.now.next + made_in change.now) }
+    ensures stored { IfOk result (λ objects.
+        AreStoredAfter opened.now opened.now.tree (stored_in objects.items)) }
+    ensures new { IfOk result (λ objects. stored_in objects.items opened.now.next ≡ []) }
 {
-    let next = opened.next();
-    let (place, edit) = edit_of(change, next);
-    let mut objects = Vec::new(alloc);
-    for number in 0..next {
-        let own = edit_at(edit, place, number);
-        objects.push(edited_slot(alloc, opened, number, own)?)?;
-    }
+    let (place, edit) = edit_of(change, opened.next());
+    let mut objects = opened_objects(alloc, opened, place, Some(edit))?;
     if let Some(object) = new_object(alloc, change) {
         objects.push(Some(object))?;
+    }
+    Ok(objects)
+}
+
+/// The objects of the opened image, each in the slot of its number, with an edit of the one of this number; a number that has no object
+/// leaves its slot empty.
+pub(crate) fn opened_objects<'a>(
+    alloc: Global,
+    opened: &'a Opened,
+    place: u32,
+    edit: Option<ObjectEdit<'a>>,
+) -> Result<Vec<Option<NewObject<'a>>>, AllocError>
+    requires plain { ArePlain opened.now.tree }
+    requires edit { (o : Object) → get opened.now.tree place ≡ Some o → IfSome edit (IsEditable o) }
+    ensures objects { IfOk result (λ objects.
+        AreObjects objects.items (with_object opened.now.tree place (edited_by edit.entry))) }
+    ensures counted { IfOk result (λ objects. length objects.items ≡ opened.now.next) }
+    ensures stored { IfOk result (λ objects.
+        AreStoredAfter opened.now opened.now.tree (stored_in objects.items)) }
+{
+    let mut objects = Vec::new(alloc);
+    for number in 0..opened.next() {
+        let own = edit_at(edit, place, number);
+        objects.push(edited_slot(alloc, opened, number, own)?)?;
     }
     Ok(objects)
 }
@@ -59,8 +81,10 @@ fn edited_slot<'a>(
 ) -> Result<Option<NewObject<'a>>, AllocError>
     requires plain { (o : Object) → get opened.now.tree number ≡ Some o → IsPlain o }
     requires edit { (o : Object) → get opened.now.tree number ≡ Some o → IfSome edit (IsEditable o) }
-    ensures { IfOk result (λ slot.
+    ensures object { IfOk result (λ slot.
         SlotsHold IsNewObject slot (option_map (edited_by edit.entry) (get opened.now.tree number))) }
+    ensures stored { IfOk result (λ slot.
+        AreStoredAt opened.now opened.now.tree number (slot_chunks slot)) }
 {
     match opened.object(number) {
         Some(object) => Ok(Some(edited_object(alloc, opened, object, edit)?)),
@@ -78,8 +102,11 @@ fn edited_object<'a>(
     requires object { (number : ℕ) × IsObjectOf opened.now number object.now }
     requires plain { IsPlain (object_in opened.now.image opened.now.table object.now) }
     requires edit { IfSome edit (IsEditable (object_in opened.now.image opened.now.table object.now)) }
-    ensures { IfOk result (λ x.
+    ensures object { IfOk result (λ x.
         IsNewObject x (edited_by edit.entry (object_in opened.now.image opened.now.table object.now))) }
+    ensures stored { IfOk result (λ x.
+        AreChunksOf opened.now (object_in opened.now.image opened.now.table object.now)
+        object.now.messages.header (content_chunks x.content)) }
 {
     let image = opened.image();
     let others = others_in(alloc, image, &object.messages, edit)?;
@@ -87,15 +114,16 @@ fn edited_object<'a>(
         OpenedContent::Group(table) => {
             NewContent::Group(links_in(alloc, opened, *table, link_in(edit))?)
         }
-        OpenedContent::Array => kept_array(alloc, image, &object.messages),
+        OpenedContent::Array => kept_array(alloc, image, &object.messages)?,
     };
     Ok(NewObject { content, others })
 }
 
-/// The object that the change adds, without attributes: a group without links, or an array.
+/// The object that the change adds, without attributes: a group without links, or an array. No chunk of it is stored.
 fn new_object<'a>(alloc: Global, change: &Change<'a>) -> Option<NewObject<'a>>
     requires { AllByRecursion IsPlain (new_objects change.now) }
-    ensures { AllZip IsNewObject (option_to_list result) (new_objects change.now) }
+    ensures object { AllZip IsNewObject (option_to_list result) (new_objects change.now) }
+    ensures chunks { slot_chunks result ≡ [] }
 {
     let Change::Link { target, .. } = change else {
         return None;

@@ -1,8 +1,10 @@
 //! New arrays (File Format Specification 3.0, section IV.A.2.i).
 
-ghost use Rattle.std.specs.Prelude.{◌≡◌, Some, None, MatchResult};
+ghost use Rattle.std.specs.Prelude.{◌≡◌, Some, None, IfOk, MatchResult};
+ghost use Rattle.std.specs.List.{AllZip};
 ghost use Rattle.h5_model.specs.declared.edits.Edit.TheVariants.{CreateDataset};
 ghost use Rattle.h5_model.specs.Edits.Refusal.{first_holding};
+ghost use Rattle.h5_repack.specs.Bodies.Sound.{IsBound};
 ghost use Rattle.h5_edit.specs.Refusals.Allowed.{IsPlaceAllowed, IsRuledOut};
 ghost use Rattle.h5_edit.specs.Refusals.Rules.{spec_rules};
 
@@ -25,10 +27,11 @@ pub fn check_create_dataset<'a>(
     path: &'a [u8],
     spec: &Spec,
 ) -> Result<NewPlace<'a>, EditFault>
-    ensures { let tree = opened.now.tree in
+    ensures placed { let tree = opened.now.tree in
         let next = opened.now.next in
         MatchResult result (IsPlaceAllowed tree next path.now (CreateDataset path.now spec.now))
         (IsRuledOut tree next (CreateDataset path.now spec.now)) }
+    ensures typed { IfOk result (λ _. AllZip IsBound (spec.now).dims (spec.now).maxima) }
 {
     let place = new_place(opened, path)?;
     check_spec(alloc, spec)?;
@@ -40,8 +43,9 @@ pub fn check_create_dataset<'a>(
 
 /// Why the array is refused wherever it is to stand, by the lowest number that holds.
 fn check_spec(alloc: Global, spec: &Spec) -> Result<(), EditFault>
-    ensures { let rules = spec_rules spec.now in MatchResult result (λ _. first_holding rules ≡ None) (λ e.
-        first_holding rules ≡ Some e) }
+    ensures rules { let rules = spec_rules spec.now in
+        MatchResult result (λ _. first_holding rules ≡ None) (λ e. first_holding rules ≡ Some e) }
+    ensures typed { IfOk result (λ _. AllZip IsBound (spec.now).dims (spec.now).maxima) }
 {
     let maxima = spec.maxima.as_slice();
     let Some(dims) = Dims::new(alloc, spec.dims.as_slice()) else {
@@ -50,7 +54,7 @@ fn check_spec(alloc: Global, spec: &Spec) -> Result<(), EditFault>
     if !are_maxima(dims.sizes(), maxima) || !is_store(&spec.store, dims.sizes(), maxima) {
         return Err(EditFault::BadSpec);
     }
-    if is_chunk_large(&spec.store, spec.fixed.size()) {
+    if is_chunk_large(alloc, &spec.store, spec.fixed.size()) {
         return Err(EditFault::ChunkTooLarge);
     }
     if is_compact_large(&spec.store, &dims, spec.fixed.size()) {

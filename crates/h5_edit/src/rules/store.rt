@@ -1,18 +1,24 @@
 //! The maxima of a new array, and how its cells are stored (File Format Specification 3.0, sections IV.A.2.b and IV.A.2.i).
 
-ghost use Rattle.std.specs.Prelude.{◌≡◌, ◌-◌, ◌*◌, ◌^◌, min};
+ghost use Rattle.std.specs.Prelude.{◌≡◌, ◌*◌, IsTrue};
+ghost use Rattle.std.specs.List.{AllZip};
 ghost use Rattle.h5_model.specs.Tree.Places.{cells as cells_of};
 ghost use Rattle.h5_model.specs.Tree.Objects.{are_sizes as are_own};
 ghost use Rattle.h5_model.specs.Edits.Refusal as rule;
+ghost use Rattle.h5_repack.specs.Bodies.Sound.{IsBound};
+ghost use Rattle.h5_edit.specs.Changed.Cells.{HasChunkSizes};
 
 use crate::rules::limits::{MAX_CHUNK, MAX_COMPACT};
 use h5_bytes::UNDEF;
+use h5_layout::ChunkSizes;
 use h5_model::Store;
 use h5_query::Dims;
+use std::alloc::Global;
 
 /// Whether there is a maximum for each size, none below it, and none the mark of an unlimited one.
 pub(crate) fn are_maxima(sizes: &[u64], maxima: &[Option<u64>]) -> bool
-    ensures { result ≡ rule.are_maxima sizes.now maxima.now }
+    ensures rule { result ≡ rule.are_maxima sizes.now maxima.now }
+    ensures bounds { IsTrue result → AllZip IsBound sizes.now maxima.now }
 {
     let [size, sizes @ ..] = sizes else {
         return maxima.is_empty();
@@ -25,7 +31,8 @@ pub(crate) fn are_maxima(sizes: &[u64], maxima: &[Option<u64>]) -> bool
 
 /// Whether the size may grow up to this maximum.
 fn is_maximum(size: u64, maximum: Option<u64>) -> bool
-    ensures { result ≡ rule.is_maximum size maximum }
+    ensures rule { result ≡ rule.is_maximum size maximum }
+    ensures bound { IsTrue result → IsBound size maximum }
 {
     match maximum {
         Some(most) => size <= most && most != UNDEF,
@@ -80,23 +87,17 @@ fn is_chunk_size(size: u32, maximum: Option<u64>) -> bool
 }
 
 /// Whether a chunk of cells of so many bytes would have more than 2^30 bytes.
-pub(crate) fn is_chunk_large(store: &Store, size: usize) -> bool
+pub(crate) fn is_chunk_large(alloc: Global, store: &Store, size: usize) -> bool
+    requires { HasChunkSizes store.now }
     ensures { result ≡ rule.chunk_is_large store.now size }
 {
     match store {
-        Store::Chunked(chunk) => chunk_bytes(chunk.as_slice(), size) > MAX_CHUNK,
+        Store::Chunked(chunk) => {
+            let dims = ChunkSizes::new(chunk.as_slice()).dims(alloc);
+            dims.cells().saturating_mul(size as u64) > MAX_CHUNK
+        }
         Store::Compact | Store::Contiguous => false,
     }
-}
-
-/// How many bytes a chunk has of these sizes and of cells of so many bytes, or `u64::MAX` where it has more.
-fn chunk_bytes(chunk: &[u32], size: usize) -> u64
-    ensures { result ≡ min (cells_of chunk.now * size) (2 ^ 64 - 1) }
-{
-    let [first, rest @ ..] = chunk else {
-        return size as u64;
-    };
-    u64::from(*first).saturating_mul(chunk_bytes(rest, size))
 }
 
 /// Whether compact cells of so many bytes would have more than 65524 bytes.

@@ -1,0 +1,161 @@
+-- The stored chunks of the objects of an opened image, in the slots of their numbers.
+use Rattle.std.proofs.Common.{◌≡◌, inl, inr, ℕ, ◌+◌, ◌<◌, ◌≤◌, List, [], ◌∷◌, ◌++◌, length, Bool, true, false, cond, Option, Some, None, refl, sym, ap, ◌∙◌, subst, arith}
+use Rattle.std.specs.Prelude.{◌==◌, IsSome, slice_get, option_and_then, option_to_list}
+use Rattle.std.specs.Option.{option_flatten}
+use Rattle.std.specs.FinMap.{get}
+use Rattle.std.proofs.lemmas.Bool.{cases_lt}
+use Rattle.std.proofs.lemmas.Bool.Decides.{nat_tests}
+use Rattle.std.proofs.lemmas.List.{append-nil, length-append}
+use Rattle.std.proofs.lemmas.Option.{same_Some, slice_get_past}
+use Rattle.h5_header.specs.Listed.{messages_in}
+use Rattle.h5_layout.specs.HeldChunks.{held_chunks}
+use Rattle.h5_layout.proofs.ArrayLaws.{has_dataset}
+use Rattle.h5_layout.proofs.KnownLaws.{known_in}
+use Rattle.h5_model.specs.Format.Addresses.{SymbolTable}
+use Rattle.h5_model.specs.Format.Messages.{Message}
+use Rattle.h5_model.specs.Format.Reads.{HasDataset}
+use Rattle.h5_model.specs.Tree.Objects.{Object, Content, Group, Array, Dataset, dataset_in}
+use Rattle.h5_query.specs.Data.{data_blocks, stored_chunks}
+use Rattle.h5_query.specs.Kept.{array_dataset}
+use Rattle.h5_query.specs.Opened.Kept.{IsContentKept}
+use Rattle.h5_query.specs.Opened.Objects.{content_in, object_in}
+use Rattle.h5_query.specs.OpenedObjectType.{OpenedObject}
+use Rattle.h5_query.specs.OpenedContentType.{OpenedContent}
+use Rattle.h5_query.specs.OpenedContentType.TheVariants as content
+use Rattle.h5_query.specs.Told.{array_told}
+use Rattle.h5_query.proofs.DataLaws.{data_there, told_chunks}
+use Rattle.h5_query.specs.Opened.Sound.{IsObjectOf, IsSound}
+use Rattle.h5_query.specs.Opened.State.{FileState}
+use Rattle.h5_query.proofs.OpenedLaws.Indexed.{next_free}
+use Rattle.h5_repack.specs.Objects.Objects.{content_chunks, slot_chunks, stored_in}
+use Rattle.h5_repack.specs.declared.objects.object.NewContent.{NewContent}
+use Rattle.h5_repack.specs.declared.objects.object.NewObject.{NewObject}
+use Rattle.h5_edit.specs.Changed.Cells.{AreChunksKept}
+use Rattle.h5_edit.specs.StoredChunks.{AreChunksOf, AreStoredAfter, AreStoredAt, AreStoredOf, HasStoredChunks}
+use Rattle.h5_edit.proofs.ChangedLaws.NumberedLaws.{filled_slots, found_one_more}
+
+-- the stored chunks of a slot more
+stored_one_more : (slots : List (Option NewObject)) (slot : Option NewObject) (k : ℕ) (b : Bool) → (k == length slots) ≡ b
+    → stored_in (slots ++ slot ∷ []) k ≡ cond b (slot_chunks slot) (stored_in slots k)
+stored_one_more slots slot k b is = ap slot_chunks (found_one_more slots slot k ∙ ap (λ t. cond t slot (option_flatten (slice_get slots k))) is) ∙ by_case b where
+  by_case : (t : Bool) → slot_chunks (cond t slot (option_flatten (slice_get slots k))) ≡ cond t (slot_chunks slot) (stored_in slots k)
+  by_case true = refl
+  by_case false = refl
+
+module _ (f : FileState) where
+  -- where no object has the number
+  pub none_at : (number : ℕ) (offsets : List (List ℕ)) → get f.tree number ≡ None → AreStoredAt f f.tree number offsets
+  none_at number offsets none d array = absurd (let never : None ≡ Some d = sym (ap (option_and_then (λ (x : Object). dataset_in x.content)) none) ∙ array in cc)
+
+  -- ---- of an object of the image
+
+  module _ (number : ℕ) (o : OpenedObject) (of : IsObjectOf f number o) where
+    abbrev ms : List Message
+    ms = messages_in f.image o.messages.list
+
+    abbrev told : OpenedContent → Content
+    told = content_in f.image f.table ms
+
+    array_there : (c : Content) (d : Dataset) → dataset_in c ≡ Some d → c ≡ Array d
+    array_there (Group links) d is = absurd (cc)
+    array_there (Array e) d is = ap Array (same_Some e d is)
+
+    -- under its number
+    pub stored_at : (offsets : List (List ℕ)) → AreChunksOf f (object_in f.image f.table o) o.messages.header offsets → AreStoredAt f f.tree number offsets
+    stored_at offsets are d array chunk chunked =
+        let content : told o.content ≡ Array d = array_there (told o.content) d (sym (ap (option_and_then (λ (x : Object). dataset_in x.content)) of.there) ∙ array) in
+        subst (λ (found : Option ℕ). AreStoredOf f.image d.sizes found offsets) (sym of.header) (are d content chunk chunked)
+
+    -- a group has none
+    pub group_stored : (g : SymbolTable) → o.content ≡ content.Group g → (offsets : List (List ℕ)) → AreChunksOf f (object_in f.image f.table o) o.messages.header offsets
+    group_stored g is offsets d array = absurd (let never : told (content.Group g) ≡ Array d = sym (ap told is) ∙ array in cc)
+
+    -- those of an array that are handed over
+    pub array_stored : o.content ≡ content.Array → (x : NewContent) → AreChunksKept f.image ms (array_dataset f.image ms) x
+        → AreChunksOf f (object_in f.image f.table o) o.messages.header (content_chunks x)
+    array_stored is x kept d array chunk chunked =
+        let a = array_told ms in
+        let read = subst (IsContentKept f.image ms) is of.kept.content in
+        let same : array_dataset f.image ms ≡ d = (let both : Array (array_dataset f.image ms) ≡ Array d = sym (ap told is) ∙ array in cc) in
+        let has : HasDataset f.image ms (array_dataset f.image ms) (data_blocks f.image a.fixed a.layout)
+        = has_dataset f.image ms a (stored_chunks f.image a.fixed a.layout) (data_blocks f.image a.fixed a.layout) read.0.array
+        (known_in f.image o.messages.list of.kept.known (read.0.kinds).no_table) (data_there f.image a.fixed a.layout read.1) in
+        let chunks : HasStoredChunks f.image o.messages.header (stored_chunks f.image a.fixed a.layout) = record {
+          messages = ms;
+          header_blocks = o.messages.blocks;
+          listed = of.kept.header.has;
+          dataset = array_dataset f.image ms;
+          data_blocks = data_blocks f.image a.fixed a.layout;
+          array = has;
+          chunks_are = told_chunks f.image a.fixed has.layout has.chunks (data_blocks f.image a.fixed a.layout) has.stored
+              ∙ ap (stored_chunks f.image a.fixed) (same_Some has.layout a.layout (sym has.laid_out ∙ read.0.array.laid_out));
+        } in (
+          stored_chunks f.image a.fixed a.layout,
+          chunks,
+          kept chunk (ap (λ (e : Dataset). e.storage) same ∙ chunked) ∙ ap (λ (e : Dataset). held_chunks e.sizes (stored_chunks f.image a.fixed a.layout)) same,
+        )
+
+  -- ---- of the slots
+
+  -- of the first so many slots
+  pub record AreStoredBelow (slots : List (Option NewObject)) (n : ℕ) : Type 0 where
+    pub long : length slots ≡ n
+    pub each : (k : ℕ) → k < n → AreStoredAt f f.tree k (stored_in slots k)
+
+  pub stored_none : AreStoredBelow [] 0
+  stored_none = record { long = refl; each = λ k low. absurd (omega (arith, low)) }
+
+  pub stored_more : (slots more : List (Option NewObject)) (n : ℕ) (slot : Option NewObject) → AreStoredBelow slots n → AreStoredAt f f.tree n (slot_chunks slot)
+      → more ≡ slots ++ slot ∷ [] → AreStoredBelow more (n + 1)
+  stored_more slots more n slot so here longer = subst (λ list. AreStoredBelow list (n + 1)) (sym longer) (record {
+    long = length-append slots (slot ∷ []) ∙ ap (λ m. m + 1) so.long;
+    each = λ k low. by_test k low (k == length slots) refl;
+  }) where
+    by_test : (k : ℕ) → k < n + 1 → (b : Bool) → (k == length slots) ≡ b → AreStoredAt f f.tree k (stored_in (slots ++ slot ∷ []) k)
+    by_test k low true last =
+        let long = so.long in
+        let same : n ≡ k = grind (arith, nat_tests, last, long) in
+        subst (AreStoredAt f f.tree k) (sym (stored_one_more slots slot k true last)) (subst (λ m. AreStoredAt f f.tree m (slot_chunks slot)) same here)
+    by_test k low false other =
+        let long = so.long in
+        subst (AreStoredAt f f.tree k) (sym (stored_one_more slots slot k false other)) (so.each k (grind (arith, nat_tests, other, low, long)))
+
+  -- of all
+  pub stored_all : (slots : List (Option NewObject)) → AreStoredBelow slots f.next → ((k : ℕ) → IsSome (get f.tree k) → k < f.next) → AreStoredAfter f f.tree (stored_in slots)
+  stored_all slots so given k = elim (cases_lt k f.next) [
+    | inl low ↦ so.each k low
+    | inr past ↦ past_all (get f.tree k) refl past
+  ] where
+    past_all : (found : Option Object) → get f.tree k ≡ found → f.next ≤ k → AreStoredAt f f.tree k (stored_in slots k)
+    past_all None is past = none_at k (stored_in slots k) is
+    past_all (Some o) is past = absurd (omega (arith, past, given k (rw is refl)))
+
+  -- ---- a new object behind them, of which no chunk is stored
+
+  module _ (sound : IsSound f) (slots all : List (Option NewObject)) (more : Option NewObject) (long : length slots ≡ f.next) (none : slot_chunks more ≡ [])
+      (longer : all ≡ slots ++ filled_slots (option_to_list more)) where
+    same_below : (x : Option NewObject) → more ≡ x → (k : ℕ) → (k == length slots) ≡ false → stored_in all k ≡ stored_in slots k
+    same_below None is k other =
+        ap (λ list. stored_in list k) (longer ∙ ap (λ (x : Option NewObject). slots ++ filled_slots (option_to_list x)) is ∙ append-nil slots)
+    same_below (Some x) is k other =
+        ap (λ list. stored_in list k) (longer ∙ ap (λ (y : Option NewObject). slots ++ filled_slots (option_to_list y)) is) ∙ stored_one_more slots (Some x) k false other
+
+    none_behind : (x : Option NewObject) → more ≡ x → stored_in all f.next ≡ []
+    none_behind None is =
+        ap (λ list. stored_in list f.next) (longer ∙ ap (λ (x : Option NewObject). slots ++ filled_slots (option_to_list x)) is ∙ append-nil slots)
+        ∙ ap (λ found. slot_chunks (option_flatten found)) (slice_get_past slots f.next (omega (arith, long)))
+    none_behind (Some x) is =
+        let last : (f.next == length slots) ≡ true = grind (arith, nat_tests, long) in
+        ap (λ list. stored_in list f.next) (longer ∙ ap (λ (y : Option NewObject). slots ++ filled_slots (option_to_list y)) is)
+        ∙ stored_one_more slots (Some x) f.next true last ∙ ap slot_chunks (sym is) ∙ none
+
+    pub new_none : stored_in all f.next ≡ []
+    new_none = none_behind more refl
+
+    pub stored_still : AreStoredAfter f f.tree (stored_in slots) → AreStoredAfter f f.tree (stored_in all)
+    stored_still so k = by_test (k == length slots) refl where
+      by_test : (b : Bool) → (k == length slots) ≡ b → AreStoredAt f f.tree k (stored_in all k)
+      by_test true last =
+          let here : k ≡ f.next = grind (arith, nat_tests, last, long) in
+          none_at k (stored_in all k) (ap (get f.tree) here ∙ next_free f sound)
+      by_test false other = subst (AreStoredAt f f.tree k) (sym (same_below more refl k other)) (so k)

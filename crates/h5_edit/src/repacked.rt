@@ -1,0 +1,28 @@
+//! An opened image written anew, with nothing changed.
+
+ghost use Rattle.std.specs.Prelude.{MatchResult};
+ghost use Rattle.h5_query.specs.Opened.Sound.{IsSound};
+ghost use Rattle.h5_edit.specs.Repacked.{IsRepackMade, IsRepackRefused};
+
+use crate::anew::k_of;
+use crate::change::opened_objects;
+use crate::made::{Made, answer};
+use h5_model::EditFault;
+use h5_query::Opened;
+use h5_repack::write_tree;
+use std::alloc::Global;
+
+/// Writes the image anew: its objects keep their numbers, and each byte is used. Of an array in chunks those are stored that were and that
+/// hold a cell.
+///
+/// `ImageFull` where the image would pass 2147483648 bytes, `NoMemory` where memory is refused.
+pub fn repack(alloc: Global, opened: &Opened) -> Result<Made, EditFault>
+    ensures repacked { MatchResult result (IsRepackMade opened.now) (IsRepackRefused opened.now) }
+    ensures sound { IsSound opened.now }
+{
+    let k = k_of(opened.image());
+    let Ok(objects) = opened_objects(alloc, opened, 0, None) else {
+        return Err(EditFault::NoMemory);
+    };
+    answer(write_tree(alloc, k.leaf, k.internal, &objects), None)
+}
