@@ -1,6 +1,5 @@
 -- A file that holds what an edit gives, written anew, is the edited file.
-use Rattle.std.proofs.Common.{◌≡◌, ℕ, refl, sym, Some, None}
-use Rattle.std.specs.Option.{option_map}
+use Rattle.std.proofs.Common.{◌≡◌, refl}
 use Rattle.h5_model.specs.Edits.Applied.{state_after}
 use Rattle.h5_model.specs.declared.edits.Edit.{Edit}
 use Rattle.h5_model.specs.declared.edits.Edited.{Edited}
