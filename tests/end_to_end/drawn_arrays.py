@@ -13,6 +13,7 @@ RANKS = [0, 1, 1, 2, 2, 2, 3, 3, 4, 5, 32]
 # By rank, the greatest size that is drawn. Of a higher rank nearly all sizes are 1.
 MOST_SIZE = {0: 0, 1: 40, 2: 9, 3: 5, 4: 3, 5: 3}
 MOST_CHUNK = 5
+STORES = ["compact", "contiguous", "chunked", "chunked"]
 
 
 def values(rng, fixed, count):
@@ -52,11 +53,11 @@ def store_chunks(made, rng):
     made.clip()
 
 
-def array_in(rng, stores):
-    """An array of some rank, with one of these stores, and none, some or all of its cells stored."""
+def any_array(rng):
+    """An array of some rank and any form, and none, some or all of its cells stored."""
     fixed, sizes = rng.choice(list(TYPES.values())), draw_sizes(rng)
     maxima = tuple(rng.choice([size, size, size + 3, None]) for size in sizes)
-    store = rng.choice([store for store in stores if sizes or store != "chunked"])
+    store = rng.choice([store for store in STORES if sizes or store != "chunked"])
     chunk = draw_chunk(rng, sizes) if store == "chunked" else None
     [fill] = values(rng, fixed, 1)
     made = Dataset(fixed, sizes, maxima, store, chunk, fill)
@@ -66,13 +67,3 @@ def array_in(rng, stores):
     elif store == "compact" or rng.random() < 0.8:
         made.flat = Flat(made.cells(), fixed, fill, cells(rng, fixed, made.cells()))
     return made
-
-
-def any_array(rng):
-    """An array of any form."""
-    return array_in(rng, ["compact", "contiguous", "chunked", "chunked"])
-
-
-def contiguous_array(rng):
-    """An array of any rank in one block, or not stored."""
-    return array_in(rng, ["contiguous"])

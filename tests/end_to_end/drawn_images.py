@@ -65,8 +65,8 @@ def link_name(rng):
             return name
 
 
-def linked_tree(rng, array):
-    """A tree of groups, arrays, soft links, and several hard links to an array, drawn at random; `array` draws each array."""
+def linked_tree(rng):
+    """A tree of groups, arrays of any form, soft links, and several hard links to an array, drawn at random."""
     tree = Tree.root_alone()
     add_messages(tree.objects[0], rng)
     groups, arrays = [0], []
@@ -82,19 +82,19 @@ def linked_tree(rng, array):
             tree.counts[links[name][1]] += 1
         else:
             links[name] = ("object", number)
-            tree.objects[number], tree.counts[number] = (Group() if drawn < 0.65 else array(rng)), 1
+            tree.objects[number], tree.counts[number] = (Group() if drawn < 0.65 else any_array(rng)), 1
             add_messages(tree.objects[number], rng)
             (groups if drawn < 0.65 else arrays).append(number)
     return tree
 
 
-def linked_image(rng, array=any_array):
+def linked_image(rng):
     """An image of such a tree, in a layout drawn at random."""
     leaf, internal = rng.choice([(4, 16), (4, 16), (1, 1), (1, 2), (2, 3)])
     superblock = Superblock(0, leaf, internal, 32, 0, 0)
     if rng.random() < 0.2:
-        return write_plain(linked_tree(rng, array), superblock)
-    return write_foreign(linked_tree(rng, array), rng, superblock, wild=rng.random(), late=False)
+        return write_plain(linked_tree(rng), superblock)
+    return write_foreign(linked_tree(rng), rng, superblock, wild=rng.random(), late=False)
 
 
 def images_of_mutate(foreign=False, valid=False):

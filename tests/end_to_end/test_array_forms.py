@@ -1,6 +1,7 @@
-"""Arrays of every rank and store: in images put together byte by byte, written by the reference, and written by the usual library."""
+"""Arrays of every rank and store: in images put together byte by byte, made by scripts, and written by the reference and by the usual library."""
 
 import json
+import os
 
 from . import today
 from .support import InFolder, empty_image, h5i, library, patched, reference
@@ -197,9 +198,9 @@ class EdgeChunks(InFolder):
 class Written(InFolder):
     """Arrays that the reference writes."""
 
-    def written_by_reference(self, script):
+    def written_by_reference(self, script, name="made.h5"):
         """The path of a file that the reference makes by these lines, with all of its lines."""
-        path = self.path("made.h5")
+        path = self.path(name)
         reference("new", path)
         status, output, errors = reference("run", path, stage=15, script=script)
         self.assertEqual((status, errors), (0, b""), output)
@@ -236,17 +237,21 @@ class Written(InFolder):
         for word, text in rows.items():
             self.assertEqual(h5i("dump", path, word), (0, text.encode(), b""))
 
-    def test_edits_beside_arrays_that_are_not_written_yet(self):
-        for line in (b"dataset /c u8 3 compact", b"dataset /c u8 3 chunked:2"):
-            path = self.written_by_reference(line + b"\n")
-            before = self.stamp(path)
-            edits = (b"group /g\ngroup g\nlink /c /d\nsoft t /s\nattr /c a u8 - 1\nattr / a u8 - 1\nunattr /c a\ndataset /e u8 1 contiguous\n"
-                     b"dataset /e u8 1 compact\n")
-            store = line.split(b" ")[4].replace(b":2", b" {2}")
-            text = b"/c dataset u8 {3} " + store + b" fill 0\n0 0 0\n"
-            self.assertEqual(h5i("run", path, script=edits + b"dump /c\nno line\n"),
-                             (1, today.NOT_YET * 9 + text + b"bad line\n", b""))
-            self.assertEqual(self.stamp(path), before)
+    def test_edits_beside_arrays_of_other_forms(self):
+        edits = (b"group /g\ngroup g\nlink /c /d\nsoft t /s\nattr /c a u8 - 1\nattr / a u8 - 1\nunattr / a\ndataset /e u8 1 contiguous\n"
+                 b"dataset /e u8 1 compact\ndataset /g/e u8 1/inf chunked:1\n")
+        answers = b"ok 0\nrefused 1 BadPath\n" + b"ok 0\n" * 6 + b"refused 7 AlreadyThere\nok 0\n"
+        for store, values in ((b"compact", b"1,2,3"), (b"chunked:2", b"1,2,3"), (b"chunked:2", None)):
+            made = b"dataset /c u8 3 " + store + b" fill=9\n"
+            if values:
+                made += b"write /c 0 1 3 1 " + values + b"\n"
+            path = self.written_by_reference(made)
+            other = self.written_by_reference(made + edits.replace(b"group g\n", b"").replace(b"dataset /e u8 1 compact\n", b""), "other.h5")
+            head = b"dataset u8 {3} " + store.replace(b":2", b" {2}") + b" fill 9\n@a u8 {} 1\n" + (b"1 2 3\n" if values else b"9 9 9\n")
+            with self.subTest(made=made):
+                self.assertEqual(h5i("run", path, script=edits + b"dump /c\ndump /d\nno line\n"),
+                                 (1, answers + b"/c " + head + b"/d " + head + b"bad line\n", b""))
+                self.assertEqual(self.read(path), self.read(other))
 
     def test_trees_of_several_levels(self):
         for count, level in ((64, 0), (65, 1), (4096, 1), (4097, 2)):
@@ -257,6 +262,86 @@ class Written(InFolder):
                 path = self.written("deep.h5", image)
                 text = f"/d dataset u8 {{{count + 1}/inf}} chunked {{1}} fill 0\n{' '.join(['1'] * count)} 0\n"
                 self.assertEqual(h5i("dump", path, "/d"), (0, text.encode(), b""))
+
+
+# Lines that make an array each, and what a dump prints of it.
+ONES = ",".join(["1"] * 31)
+MADE = {
+    "dataset /s i64be - contiguous": "/s dataset i64be {} contiguous fill 0\n0\n",
+    "dataset /z u8 0 contiguous": "/z dataset u8 {0} contiguous fill 0\n",
+    "dataset /c u8 5/inf,4 chunked:2,3": "/c dataset u8 {5/inf, 4} chunked {2, 3} fill 0\n" + "0 0 0 0\n" * 5,
+    "dataset /t i16le - compact fill=-32768": "/t dataset i16le {} compact fill -32768\n-32768\n",
+    "dataset /o u16be 2,3 compact fill=513": "/o dataset u16be {2, 3} compact fill 513\n" + "513 513 513\n" * 2,
+    "dataset /n u32le 3,0,2 compact": "/n dataset u32le {3, 0, 2} compact fill 0\n",
+    "dataset /k i32be 2,2,2 contiguous fill=-2": "/k dataset i32be {2, 2, 2} contiguous fill -2\n" + "-2 -2\n" * 4,
+    "dataset /m u64be 0/3,2/2 chunked:3,1 fill=18446744073709551615":
+        "/m dataset u64be {0/3, 2} chunked {3, 1} fill 18446744073709551615\n",
+    "dataset /w i8 0/0 chunked:7": "/w dataset i8 {0} chunked {7} fill 0\n",
+    "dataset /u u8 1099511627776/inf,0 chunked:1073741824,1": "/u dataset u8 {1099511627776/inf, 0} chunked {1073741824, 1} fill 0\n",
+    f"dataset /r u8 2,{ONES} compact": f"/r dataset u8 {{2, {ONES.replace(',', ', ')}}} compact fill 0\n0\n0\n",
+    f"dataset /v i16be {ONES},3/inf chunked:{ONES},2 fill=-1":
+        f"/v dataset i16be {{{ONES.replace(',', ', ')}, 3/inf}} chunked {{{ONES.replace(',', ', ')}, 2}} fill -1\n-1 -1 -1\n",
+}
+
+
+class Made(InFolder):
+    """Arrays that lines of scripts make."""
+
+    def assert_made(self, lines, texts):
+        """The lines are accepted, the dumps print these texts, and the file is the reference's."""
+        path, other = self.new(), self.path("other.h5")
+        script = "".join(f"{line}\n" for line in lines)
+        answers = "ok 0\n" * len(lines)
+        dumps = "".join(f"dump {line.split(' ')[1]}\n" for line in lines)
+        self.assertEqual(h5i("run", path, script=(script + dumps).encode()), (0, (answers + "".join(texts)).encode(), b""))
+        self.assertEqual(reference("new", other)[0], 0)
+        self.assertEqual(reference("run", other, script=script.encode()), (0, answers.encode(), b""))
+        self.assertEqual(self.read(path), self.read(other))
+        self.assertEqual(reference("check", path)[:2], (0, b"ok\n"))
+        return path
+
+    def test_each_form_alone(self):
+        for line, text in MADE.items():
+            with self.subTest(line=line):
+                path = self.assert_made([line], [text])
+                os.remove(path)
+
+    def test_all_forms_in_one_file(self):
+        path = self.assert_made(list(MADE), list(MADE.values()))
+        for line, text in MADE.items():
+            with self.subTest(line=line):
+                self.assertEqual(h5i("dump", path, line.split(" ")[1]), (0, text.encode(), b""))
+
+    def test_the_largest_that_fit(self):
+        for line in ("dataset /q u8 65524 compact", "dataset /q u16le 32762 compact", "dataset /q u8 1/inf chunked:1073741824",
+                     "dataset /q i64be 1/inf chunked:134217728", "dataset /q u8 1099511627776 chunked:1",
+                     "dataset /q i8 1 compact fill=127"):
+            with self.subTest(line=line):
+                path, other = self.new(), self.path("other.h5")
+                self.assertEqual(h5i("run", path, script=line.encode()), (0, b"ok 0\n", b""))
+                self.assertEqual(reference("new", other)[0], 0)
+                self.assertEqual(reference("run", other, script=line.encode()), (0, b"ok 0\n", b""))
+                self.assertEqual(self.read(path), self.read(other))
+
+    def test_of_two_refusals_the_lower_number(self):
+        path = self.with_array("/d u8 1 contiguous")
+        before = self.stamp(path)
+        rows = {
+            "/d u8 1 compact": "7 AlreadyThere",
+            "/d u8 4 chunked:0": "7 AlreadyThere",
+            f"/{'n' * 1024} u8 4 chunked:0": "8 NameTooLong",
+            "/q u8 4 chunked:4294967295": "12 BadSpec",
+            "/q u8 4/2 compact fill=256": "12 BadSpec",
+            "/q u8 1099511627777/inf chunked:1073741825": "19 ChunkTooLarge",
+            "/q u8 1099511627777 compact fill=256": "20 CompactTooLarge",
+            "/q u8 1099511627777/inf chunked:1 fill=256": "21 TooManyCells",
+            "/q u8 1099511627777 contiguous fill=-1": "21 TooManyCells",
+            "/q u8 1099511627776 contiguous fill=-1": "23 ValueRange",
+        }
+        for line, answer in rows.items():
+            with self.subTest(line=line[:80]):
+                self.assertEqual(h5i("run", path, script=f"dataset {line}\n".encode()), (1, f"refused {answer}\n".encode(), b""))
+        self.assertEqual(self.stamp(path), before)
 
 
 class Library(InFolder):

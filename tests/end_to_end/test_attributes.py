@@ -191,7 +191,7 @@ class Answers(AsTheReference):
             b"dump /d": b"/d dataset i32le {3} contiguous fill -7\n@scale u32be {2, 2} 1 2 3 4294967295\n@unit i8 {} -3\n-7 -7 -7",
             b"dump /": b"/ group\n@unit i8 {} 4",
             b"ls": b"/ group\n/d dataset i32le {3}",
-            b"dataset /e u8 1 compact": b"refused 32 NotYet",
+            b"dataset /e u8 1 compact": b"ok 0",
             b"unattr /d unit": b"ok 0",
             b"unattr /d unit ": b"bad line",
         })

@@ -38,7 +38,7 @@ for name in sys.argv[1:]:
                     links.append([path, "group", None])
                     groups.append((path, there))
                 else:
-                    links.append([path, "dataset", there.shape[0]])
+                    links.append([path, "dataset", list(there.shape)])
         print(json.dumps(sorted(links)))
 """
 
@@ -65,7 +65,7 @@ def links_of(tree):
                 yield [here, "group", None]
                 yield from below(target, here)
             else:
-                yield [here, "dataset", tree.objects[target].dims[0]]
+                yield [here, "dataset", list(tree.objects[target].dims)]
     return sorted(below(0, ""))
 
 

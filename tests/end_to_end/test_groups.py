@@ -3,7 +3,6 @@
 import random
 
 from . import today
-from .drawn_arrays import contiguous_array
 from .drawn_images import linked_image
 from .support import InFolder, empty_image, h5i, reference
 
@@ -119,7 +118,7 @@ class Groups(InFolder):
             b"group g": b"1 BadPath", b"group /": b"3 IsRoot", b"group /x/y": b"4 NoSuchParent", b"group /d/y": b"5 NotAGroup",
             b"group /g/s/y": b"5 NotAGroup", b"group /g": b"7 AlreadyThere", b"group /g/s": b"7 AlreadyThere",
             b"group /g/" + b"n" * 1024: b"8 NameTooLong", b"dataset /g/e u8 1/2 contiguous": b"7 AlreadyThere",
-            b"dataset /g/f u8 1/2 contiguous": b"12 BadSpec", b"dataset /x/f u8 1 compact": b"32 NotYet",
+            b"dataset /g/f u8 1/2 contiguous": b"12 BadSpec", b"dataset /x/f u8 1 compact": b"4 NoSuchParent",
             b"link d /x": b"1 BadPath", b"link /d x": b"1 BadPath", b"link x /d": b"1 BadPath",
             b"link " + b"/a" * 65 + b" x": b"1 BadPath", b"link " + b"/a" * 65 + b" /": b"2 PathTooDeep",
             b"link /x/y /": b"3 IsRoot", b"link /x/y /g/s/z": b"4 NoSuchParent", b"link /d/y /x/z": b"4 NoSuchParent",
@@ -152,11 +151,12 @@ class Groups(InFolder):
         """What an edit does not speak of stays, whoever wrote the file and however it is laid out."""
         for k in range(60):
             rng = random.Random(f"edited {k}")
-            image = linked_image(rng, contiguous_array)
+            image = linked_image(rng)
             reading, refusal = today.opened(image)
             with self.subTest(k=k):
                 self.assertIsNone(refusal)
-                script = b"group /new\\x20group\nsoft t /new\\x20group/s\ndataset /new\\x20group/d i64be 2 contiguous fill=-9\nattr / n\\xfe u8 - 7\n"
+                script = (b"group /new\\x20group\nsoft t /new\\x20group/s\ndataset /new\\x20group/d i64be 2 contiguous fill=-9\n"
+                          b"dataset /new\\x20group/c u16le 2/inf chunked:3\nattr / n\\xfe u8 - 7\n")
                 session = today.session_of(image)
                 wanted, _ = today.answers(session, script)
                 path = self.written("e.h5", image)

@@ -9,7 +9,7 @@ from .support import TOP, InFolder, h5i, reference
 SCRIPT_PAGE = os.path.join(TOP, "docs", "SCRIPT.md")
 QUOTED = re.compile(r"`([^`]*)`")
 EXAMPLE = re.compile(r" +Example(, not yet)?: (.*)")
-NOT_YET = r"(?:bad line|refused 32 NotYet)\n"
+NOT_YET = r"bad line\n"
 LISTING = r"/.*\n(?:.+\n)*?"
 
 

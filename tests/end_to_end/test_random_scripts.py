@@ -4,7 +4,6 @@ import random
 from concurrent.futures import ProcessPoolExecutor
 
 from . import today
-from .drawn_arrays import any_array, contiguous_array
 from .drawn_images import linked_image
 from .drawn_scripts import GROUPS, LineMaker
 from .support import InFolder, empty_image, h5i, reference
@@ -15,13 +14,12 @@ ATTRIBUTE_SEEDS = range(50)
 MOST_ATTRIBUTE_LINES = 80
 OTHERS_SEEDS = range(100)
 OTHERS_LINES = 60
-ANY_ARRAYS_SEEDS = range(30)
 TYPES = [f"{sign}{bits}{order}" for sign in "iu" for bits in (8, 16, 32, 64) for order in ("le", "be", "")]
 NAMES = ["/d", "/e", "/" + "n" * 1023, "/" + "n" * 1024, "/a\\x20b", "/\\xff\\x00", "/\\xff", "/..", "/.", "/",
          "d", "", "//", "/d/", "/x/d", "/d/e", "/a\\x2", "/a\\X20", "/\\x2fd", "/a\tb", "\\x2fd", "/~!"]
 SIZES = ["0", "1", "3", "007", "70", "1/1", "1/2", "1/inf", "1,1", "-", "", "1,", "x", "1/", "-1",
          "18446744073709551616", "18446744073709551615", "1099511627777"]
-STORES = ["contiguous"] * 12 + ["compact", "chunked:1", "chunked:", "chunked:4294967296", "Contiguous", ""]
+STORES = ["contiguous"] * 6 + ["compact"] * 3 + ["chunked:1"] * 3 + ["chunked:1,1", "chunked:-", "chunked:", "chunked:4294967296", "Contiguous", ""]
 FORMS = ["ls", "ls ", "ls x", "dump", "group /g", "repack", "show 0", "close 1", "unlink /d", "soft a /b", "x", "  ",
          "dataset", "dataset /d", "# note", "", "dump /d /e", "resize /d 1", "attr /d a u8 - 1", "unattr /d a",
          "attr / a u8 2 1", "unattr / a", "dump /"]
@@ -59,10 +57,10 @@ def draw(rng):
     return rng.choice(FORMS)
 
 
-def script_of_others(seed, array=contiguous_array):
+def script_of_others(seed):
     """An image in a layout drawn at random, a script that edits it, and how many edits the reference accepts."""
     rng = random.Random(f"others {seed}")
-    image = linked_image(rng, array)
+    image = linked_image(rng)
     maker = LineMaker(rng, today.session_of(image), GROUPS)
     made = [maker.line() for _ in range(OTHERS_LINES)]
     return image, b"".join(line + b"\n" for line, _ in made), sum(edited for _, (_, edited) in made)
@@ -117,13 +115,3 @@ class RandomScripts(InFolder):
                     self.assert_runs(image, script)
                     accepted += edits
         self.assertGreater(accepted, OTHERS_LINES // 2 * len(OTHERS_SEEDS))
-
-    def test_scripts_on_files_with_any_arrays(self):
-        """A file that has an array in chunks, or within its header, is listed and dumped, and not edited yet."""
-        refused = 0
-        for seed in ANY_ARRAYS_SEEDS:
-            with self.subTest(seed=seed):
-                image, script, edits = script_of_others(f"of any arrays {seed}", any_array)
-                self.assert_runs(image, script)
-                refused += edits == 0
-        self.assertGreater(refused, len(ANY_ARRAYS_SEEDS) // 2)

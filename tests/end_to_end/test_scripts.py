@@ -35,7 +35,6 @@ class Answers(InFolder):
         self.assert_answers(path, b"dump /d\n", b"/d dataset i32le {3} contiguous fill -7\n-7 -7 -7\n")
         self.assert_answers(path, b"ls\n", b"/ group\n/d dataset i32le {3}\n")
         self.assertEqual(h5i("ls", path), (0, b"/ group\n/d dataset i32le {3}\n", b""))
-        self.assert_answers(path, b"dataset /e u8 1 compact\n", b"refused 32 NotYet\n", 1)
         self.assertEqual(self.read(path), image)
 
     def test_refusals_on_the_empty_file(self):
@@ -52,11 +51,25 @@ class Answers(InFolder):
             b"dataset /d i64le 268435456 contiguous": b"refused 30 ImageFull",
             b"dataset " + b"/a" * 65 + b" u8 1 contiguous": b"refused 2 PathTooDeep",
             b"dataset /" + b"n" * 1024 + b" u8 1 contiguous": b"refused 8 NameTooLong",
-            # What is not carried yet is refused before every other check.
-            b"dataset d u8 1,1 contiguous": b"refused 32 NotYet",
-            b"dataset d u8 - contiguous": b"refused 32 NotYet",
-            b"dataset d u8 1 compact": b"refused 32 NotYet",
-            b"dataset d u8 1 chunked:1 fill=256": b"refused 32 NotYet",
+            b"dataset d u8 1 chunked:1 fill=256": b"refused 1 BadPath",
+            b"dataset /q u8 4 chunked:0": b"refused 12 BadSpec",
+            b"dataset /q u8 4 chunked:1,1": b"refused 12 BadSpec",
+            b"dataset /q u8 4 chunked:5": b"refused 12 BadSpec",
+            b"dataset /q u8 - chunked:-": b"refused 12 BadSpec",
+            b"dataset /q u8 4/3 chunked:1": b"refused 12 BadSpec",
+            b"dataset /q u8 1/2 compact": b"refused 12 BadSpec",
+            b"dataset /q u8 1/18446744073709551615 chunked:1": b"refused 12 BadSpec",
+            b"dataset /q u8 " + b",".join([b"1"] * 33) + b" compact": b"refused 12 BadSpec",
+            b"dataset /q u8 1/inf chunked:1073741825": b"refused 19 ChunkTooLarge",
+            b"dataset /q i64le 1/inf,1/inf chunked:65536,2049": b"refused 19 ChunkTooLarge",
+            b"dataset /q u8 65525 compact": b"refused 20 CompactTooLarge",
+            b"dataset /q u16le 32763 compact": b"refused 20 CompactTooLarge",
+            b"dataset /q u8 1099511627777 compact": b"refused 20 CompactTooLarge",
+            b"dataset /q u8 1099511627777 chunked:1": b"refused 21 TooManyCells",
+            b"dataset /q u8 1048576,1048577 chunked:1,1": b"refused 21 TooManyCells",
+            b"dataset /q u8 0,1099511627777 contiguous": b"refused 21 TooManyCells",
+            b"dataset /q i8 1 compact fill=128": b"refused 23 ValueRange",
+            b"dataset /q i8 1/inf chunked:1 fill=-129": b"refused 23 ValueRange",
             b"dump /d": b"refused 6 NotFound",
             b"dump d": b"refused 1 BadPath",
             b"dump /d/e": b"refused 4 NoSuchParent",
@@ -76,7 +89,9 @@ class Answers(InFolder):
             b"soft /s": b"bad line",
             b"unlink /d": b"bad line",
             b"resize /d 1": b"bad line",
-            b"repack": b"bad line",
+            b"repack ": b"bad line",
+            b"repack /": b"bad line",
+            b"Repack": b"bad line",
             b"show 0": b"bad line",
             b"write /d 0 1 1 1 5": b"bad line",
             b"dataset /d u8 1": b"bad line",

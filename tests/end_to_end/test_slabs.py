@@ -4,7 +4,6 @@ import os
 import random
 
 from . import today
-from .drawn_arrays import any_array
 from .drawn_images import IMAGES, linked_image, paths_of, word
 from .support import TOP
 from .tried import Tried
@@ -60,7 +59,7 @@ def asked():
     """Lines that ask for hyperslabs, behind those with their images; what the reference answers to each; and each array."""
     rng, lines, wanted = random.Random("slabs"), [], []
     while len(wanted) < SLABS:
-        image = linked_image(rng, any_array)
+        image = linked_image(rng)
         reading, _ = today.opened(image)
         tree = reading.tree
         paths = [(path, number) for path, number in paths_of(tree) if number is not None]

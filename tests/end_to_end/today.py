@@ -1,7 +1,7 @@
 """The reference implementation, held to what the program carries today.
 
 Which images are opened, and what is listed and dumped of them, is the reference's own answer. So is that to scripts, but
-where a new array, or one that the file has, can not be written yet.
+that lines which are not taken yet are bad lines.
 """
 
 import os
@@ -13,16 +13,16 @@ sys.path.insert(0, os.path.dirname(REFERENCE))
 
 # pylint: disable=wrong-import-position
 from h5oracle import reader  # noqa: E402
-from h5oracle.model import CreateDataset, Dataset  # noqa: E402
-from h5oracle.script import SINCE, BadLine, attr_line, dump_lines, edit_of, ls_lines, run_script, unescape  # noqa: E402, F401
+from h5oracle.script import SINCE, attr_line, dump_lines, ls_lines, run_script, unescape  # noqa: E402, F401
 from h5oracle.session import Session  # noqa: E402
-from h5oracle.values import LINE_LIMIT, OpenFault  # noqa: E402
+from h5oracle.values import OpenFault  # noqa: E402
 
 # The forms that are read: all but superblock 1, fill version 3 and attribute versions 2 and 3.
 FORMS = 14
-# The lines that are taken: `group`, `dataset`, `link`, `soft`, `attr`, `unattr`, `ls` and `dump`.
+# The lines that are taken: `group`, `dataset`, `link`, `soft`, `attr`, `unattr`, `ls` and `dump`; and `repack`, which the reference
+# has since a later stage.
 LINES = 4
-NOT_YET = b"refused 32 NotYet\n"
+REPACK = b"repack"
 
 
 def opened(data):
@@ -31,21 +31,6 @@ def opened(data):
         return reader.open_image(data, FORMS), None
     except OpenFault as fault:
         return None, str(fault)
-
-
-def arrays_of(tree):
-    """The arrays of a tree."""
-    return [thing for thing in tree.objects.values() if isinstance(thing, Dataset)]
-
-
-def is_written_yet(array):
-    """Whether an array, or what is to be made of a spec, can be written: it is contiguous."""
-    return array.store == "contiguous"
-
-
-def is_made_yet(spec):
-    """Whether an array can be made: it is contiguous, of one size."""
-    return is_written_yet(spec) and len(spec.dims) == 1
 
 
 def printed(lines):
@@ -68,30 +53,9 @@ def attributes(thing):
     return [attr_line(thing.attrs[name]) for name in sorted(thing.attrs)]
 
 
-def edit_in(line):
-    """The edit for which a line asks, or `None`: of a line that is none, or is not taken."""
-    words = line.split(b" ")
-    if len(line) > LINE_LIMIT or b"" in words or SINCE.get(words[0], LINES + 1) > LINES:
-        return None
-    try:
-        return edit_of(words)
-    except BadLine:
-        return None
-
-
-def is_carried(tree, line):
-    """Whether a line asks for no edit, or for one that is carried: the tree's arrays can be written, and the one that is made."""
-    edit = edit_in(line)
-    if edit is None:
-        return True
-    is_made = not isinstance(edit, CreateDataset) or is_made_yet(edit.spec)
-    return is_made and all(is_written_yet(array) for array in arrays_of(tree))
-
-
 def answer(session, line):
-    """The answer to one line of a script, and whether an edit was accepted."""
-    if not is_carried(session.tree, line):
-        return NOT_YET, False
+    """The answer to one line of a script, and whether an edit, or `repack`, was accepted."""
+    session.stage = SINCE[REPACK] if line == REPACK else LINES
     run = run_script(session, line + b"\n")
     return run.output(), run.edits > 0
 

@@ -1,3 +1,4 @@
 pub mod Sounds
 pub mod Opens
+pub mod Anew
 pub mod Made

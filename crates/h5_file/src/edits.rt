@@ -1,35 +1,35 @@
 //! Edits of a file, each of which writes the image anew.
-//!
-//! Each public call is refused as `NotYet`, before any other check, where an array of the file is neither in one block nor nowhere: it
-//! cannot be written so far.
 
-ghost use Rattle.std.specs.Prelude.{◌≡◌, true, false, None, IfOk, MatchResult};
+ghost use Rattle.std.specs.Prelude.{◌≡◌, ℕ, true, false, None, IfOk, OnErr, MatchResult};
 ghost use Rattle.h5_model.specs.declared.edits.Edit.{Edit as TheEdit};
 ghost use Rattle.h5_model.specs.declared.edits.Edit.TheVariants.{CreateGroup, CreateDataset, HardLink, SoftLink, SetAttr, RemoveAttr, Write};
 ghost use Rattle.h5_edit.specs.Carried.{IsRefused, IsRefusedBy, is_anew, is_carried};
-ghost use Rattle.h5_edit.specs.Made.{IsEditMade};
-ghost use Rattle.h5_edit.specs.Opened.Sound.{IsSound};
+ghost use Rattle.h5_edit.specs.Made.{IsAnew, IsEditMade};
+ghost use Rattle.h5_edit.specs.Repacked.{IsRepackRefused};
 ghost use Rattle.h5_model.specs.Edits.Refusal.{refusal_of};
+ghost use Rattle.h5_model.specs.Tree.Objects.{Tree};
 ghost use Rattle.h5_edit.specs.Edited.{IsEdited};
 ghost use Rattle.h5_edit.specs.InRun.{IsInRun};
+ghost use Rattle.h5_file.specs.Anew.{HoldsAnew, IsRepacked};
 
 use crate::file::{File, open_written};
 use h5_edit::{
-    Made, create_dataset, create_group, hard_link, remove_attr, set_attr, soft_link, write_run,
+    Made, create_dataset, create_group, hard_link, remove_attr, repack, set_attr, soft_link,
+    write_run,
 };
 use h5_model::{AttrSpec, Edit, EditFault, Edited, Hyper, Spec};
 use h5_space::Image;
+use std::alloc::AllocError;
 
 impl File {
     /// Carries an edit out: the image is then that of the tree that the edit gives.
     ///
-    /// Refused as `NotYet`, before any other check, where it removes a link, writes or resizes, or creates an array that is not contiguous
-    /// of one size, or where an array of the file is neither in one block nor nowhere; then as the call of its own is. Where both `TreeTooDeep` and `ImageFull` hold, either is answered. A refusal changes
-    /// nothing.
+    /// Refused as `NotYet`, before any other check, where it removes a link, writes or resizes; then as the call of its own is. Where both
+    /// `TreeTooDeep` and `ImageFull` hold, either is answered. A refusal changes nothing.
     pub fn edit(&mut self, edit: &Edit) -> Result<Edited, EditFault>
         ensures edited { MatchResult result (IsEdited self.old edit.now self.new) (λ e.
             IsRefused self.old edit.now e × (self.new ≡ self.old)) }
-        ensures carried { IfOk result (λ _. is_carried self.old.tree edit.now ≡ true) }
+        ensures carried { IfOk result (λ _. is_carried edit.now ≡ true) }
     {
         match edit {
             Edit::CreateGroup { path } => self.create_group(path.as_slice()),
@@ -50,7 +50,6 @@ impl File {
     pub fn create_group(&mut self, path: &[u8]) -> Result<Edited, EditFault>
         ensures edited { MatchResult result (IsEdited self.old (CreateGroup path.now) self.new)
             (λ e. IsRefused self.old (CreateGroup path.now) e × (self.new ≡ self.old)) }
-        ensures carried { IfOk result (λ _. is_carried self.old.tree (CreateGroup path.now) ≡ true) }
     {
         let made = create_group(self.alloc, &self.opened, path)?;
         self.take(made)
@@ -58,15 +57,14 @@ impl File {
 
     /// Creates an array at the path, every cell of which is the fill.
     ///
-    /// Refused as `NotYet`, before any other check, also unless the new array is contiguous and of one size. Else by the lowest number that
-    /// holds: `BadPath`, `PathTooDeep`, `IsRoot`, `NoSuchParent`, `NotAGroup`, `AlreadyThere`, `NameTooLong` above 1023 bytes, `BadSpec` where
-    /// the maximum is not the size, `TooManyCells`, `ValueRange`, `TooManyObjects`, `TreeTooDeep`, `ImageFull`, `NoMemory`. A refusal changes
-    /// nothing.
+    /// It is refused by the lowest number that holds: `BadPath`, `PathTooDeep`, `IsRoot`, `NoSuchParent`, `NotAGroup`, `AlreadyThere`,
+    /// `NameTooLong` above 1023 bytes, `BadSpec` where the rank is above 32, a maximum is below its size or, of an array that is not in
+    /// chunks, another, or the chunk has another rank, a size of 0 or one above a maximum, `ChunkTooLarge` above 1073741824 bytes,
+    /// `CompactTooLarge` above 65524 bytes, `TooManyCells`, `ValueRange`, `TooManyObjects`, `TreeTooDeep`, `ImageFull`, `NoMemory`. A
+    /// refusal changes nothing.
     pub fn create_dataset(&mut self, path: &[u8], spec: &Spec) -> Result<Edited, EditFault>
         ensures edited { MatchResult result (IsEdited self.old (CreateDataset path.now spec.now) self.new)
             (λ e. IsRefused self.old (CreateDataset path.now spec.now) e × (self.new ≡ self.old)) }
-        ensures carried { IfOk result (λ _.
-            is_carried self.old.tree (CreateDataset path.now spec.now) ≡ true) }
     {
         let made = create_dataset(self.alloc, &self.opened, path, spec)?;
         self.take(made)
@@ -80,7 +78,6 @@ impl File {
     pub fn hard_link(&mut self, target: &[u8], path: &[u8]) -> Result<Edited, EditFault>
         ensures edited { MatchResult result (IsEdited self.old (HardLink target.now path.now) self.new)
             (λ e. IsRefused self.old (HardLink target.now path.now) e × (self.new ≡ self.old)) }
-        ensures carried { IfOk result (λ _. is_carried self.old.tree (HardLink target.now path.now) ≡ true) }
     {
         let made = hard_link(self.alloc, &self.opened, target, path)?;
         self.take(made)
@@ -94,7 +91,6 @@ impl File {
     pub fn soft_link(&mut self, text: &[u8], path: &[u8]) -> Result<Edited, EditFault>
         ensures edited { MatchResult result (IsEdited self.old (SoftLink text.now path.now) self.new)
             (λ e. IsRefused self.old (SoftLink text.now path.now) e × (self.new ≡ self.old)) }
-        ensures carried { IfOk result (λ _. is_carried self.old.tree (SoftLink text.now path.now) ≡ true) }
     {
         let made = soft_link(self.alloc, &self.opened, text, path)?;
         self.take(made)
@@ -109,7 +105,6 @@ impl File {
     pub fn set_attr(&mut self, path: &[u8], attr: &AttrSpec) -> Result<Edited, EditFault>
         ensures edited { MatchResult result (IsEdited self.old (SetAttr path.now attr.now) self.new)
             (λ e. IsRefused self.old (SetAttr path.now attr.now) e × (self.new ≡ self.old)) }
-        ensures carried { IfOk result (λ _. is_carried self.old.tree (SetAttr path.now attr.now) ≡ true) }
     {
         let made = set_attr(self.alloc, &self.opened, path, attr)?;
         self.take(made)
@@ -122,7 +117,6 @@ impl File {
     pub fn remove_attr(&mut self, path: &[u8], name: &[u8]) -> Result<Edited, EditFault>
         ensures edited { MatchResult result (IsEdited self.old (RemoveAttr path.now name.now) self.new)
             (λ e. IsRefused self.old (RemoveAttr path.now name.now) e × (self.new ≡ self.old)) }
-        ensures carried { IfOk result (λ _. is_carried self.old.tree (RemoveAttr path.now name.now) ≡ true) }
     {
         let made = remove_attr(self.alloc, &self.opened, path, name)?;
         self.take(made)
@@ -151,25 +145,46 @@ impl File {
         write_run(self.alloc, &mut self.opened, path, hyper, values)
     }
 
+    /// Writes the image anew without the room that nothing uses, each block behind the one before it. The tree, and the numbers of its
+    /// objects, stay as they are; stored chunks that hold no cell of their array go.
+    ///
+    /// Refused as `ImageFull` where that image would pass 2147483648 bytes, and else for want of memory alone, as `NoMemory`. A refusal
+    /// changes nothing.
+    pub fn repack(&mut self) -> Result<(), EditFault>
+        ensures { MatchResult result (λ _. IsRepacked self.old self.new) (λ e.
+            IsRepackRefused self.old e × (self.new ≡ self.old)) }
+    {
+        let made = repack(self.alloc, &self.opened)?;
+        self.replace(made.image, &made.headers)?;
+        Ok(())
+    }
+
     /// Takes the image that an edit gives in place of the file's own. Its objects keep their numbers.
     fn take(&mut self, made: Made) -> Result<Edited, EditFault>
-        requires sound { IsSound self.old }
-        requires made { (edit : TheEdit) × IsEditMade self.old edit made }
+        requires { (edit : TheEdit) × IsEditMade self.old edit made }
         ensures { (edit : TheEdit) → IsEditMade self.old edit made
             → MatchResult result (IsEdited self.old edit self.new) (λ e.
             IsRefusedBy self.old edit e × (self.new ≡ self.old)) }
     {
-        let image = Image::new(self.alloc, made.image);
-        let Ok(mut opened) = open_written(self.alloc, image) else {
-            return Err(EditFault::NoMemory);
-        };
-        let Ok(()) = opened.renumber(&made.headers) else {
-            return Err(EditFault::NoMemory);
-        };
-        self.opened = opened;
+        self.replace(made.image, &made.headers)?;
         Ok(Edited {
             object: made.object,
             refreshed: 0,
         })
+    }
+
+    /// Takes an image that was written anew, of the file's tree or another, in place of the file's own, and gives its objects the numbers
+    /// of these headers. Fails where memory is refused; the file is then as it was.
+    fn replace(&mut self, image: Vec<u8>, headers: &[Option<u64>]) -> Result<(), AllocError>
+        requires { (tree : Tree) × (next : ℕ) × IsAnew self.old tree next image.items headers.now }
+        ensures anew { IfOk result (λ _. (tree : Tree) (next : ℕ)
+            → IsAnew self.old tree next image.items headers.now → HoldsAnew self.old tree next self.new) }
+        ensures image { IfOk result (λ _. self.new.image ≡ image.items) }
+        ensures same { OnErr result (self.new ≡ self.old) }
+    {
+        let mut opened = open_written(self.alloc, Image::new(self.alloc, image))?;
+        opened.renumber(headers)?;
+        self.opened = opened;
+        Ok(())
     }
 }

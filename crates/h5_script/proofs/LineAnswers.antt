@@ -1,5 +1,5 @@
 -- What one line answers, by what it asks for.
-use Rattle.std.proofs.Common.{◌≡◌, ℕ, Bool, true, false, Option, Some, None, List, [], ◌++◌, codes, refl, sym, ap, ◌∙◌, subst, append_assoc}
+use Rattle.std.proofs.Common.{◌≡◌, ℕ, true, false, Option, Some, None, List, [], ◌++◌, length, codes, refl, sym, ap, ◌∙◌, subst, append_assoc}
 use Rattle.std.specs.Prelude.{Result, Ok, Err, IsErr, is_err, IfOk, MatchResult}
 use Rattle.std.proofs.lemmas.Bool.{false≢true}
 use Rattle.h5_text.specs.Appends.{Appends}
@@ -10,10 +10,10 @@ use Rattle.h5_command.specs.declared.command.Command as asked
 use Rattle.h5_command.specs.declared.command.Command.TheVariants as form
 use Rattle.std.specs.declared.alloc.AllocError.{AllocError}
 use Rattle.std.specs.FinMap.{empty}
-use Rattle.std.specs.Fmt.{decimal}
+use Rattle.std.specs.Fmt.{decimal, digits}
 use Rattle.h5_model.specs.Edits.Applied.{state_after}
 use Rattle.h5_model.specs.Edits.EditFaults.{refused_text}
-use Rattle.h5_model.specs.Scripts.Lines.{Command, Change, ListAll, Dump, Unread}
+use Rattle.h5_model.specs.Scripts.Lines.{Command, Change, ListAll, Dump, Repack, Unread}
 use Rattle.h5_model.specs.Tree.Paths.{located}
 use Rattle.h5_model.specs.Scripts.Reading.{path_rules}
 use Rattle.h5_model.specs.Edits.Refusal.{first_holding}
@@ -29,8 +29,10 @@ use Rattle.h5_model.specs.declared.edits.Edited.{Edited}
 use Rattle.h5_model.specs.declared.edit_fault.EditFault.{EditFault}
 use Rattle.h5_model.specs.declared.edit_fault.EditFault.TheVariants as fault
 use Rattle.h5_dump.specs.Opened.State.{FileState, state_of}
-use Rattle.h5_dump.specs.Carried.{IsRefusedBy, RefusedAs, IsRefused, is_carried}
+use Rattle.h5_dump.specs.Anew.{IsRepacked}
+use Rattle.h5_dump.specs.Carried.{IsRefusedBy, IsRefused, is_carried}
 use Rattle.h5_dump.specs.Edited.{IsEdited}
+use Rattle.h5_dump.specs.Repacked.{IsRepackRefused}
 use Rattle.h5_script.specs.Answered.{IsAnswered, IsUntold}
 use Rattle.h5_script.specs.Taken.{taken, line_answer, IsGivenAt}
 use Rattle.h5_script.specs.declared.ran.Outcome.{Outcome}
@@ -77,17 +79,17 @@ taken_edit (RemoveAttr path name) no_group no_array no_hard no_soft no_set no_re
 taken_edit (Write path hyper values) no_group no_array no_hard no_soft no_set no_remove = refl
 taken_edit (Resize path dims) no_group no_array no_hard no_soft no_set no_remove = refl
 
--- neither an edit nor `ls` nor `dump`
+-- neither an edit nor `ls`, `dump` or `repack`
 pub taken_other : (command : asked.Command) → ((edit : Edit) → command ≡ form.Change edit → ⊥) → (command ≡ form.ListAll → ⊥) → ((path : List ℕ) → command ≡ form.Dump path → ⊥)
-    → taken (command_of command) ≡ Unread
-taken_other (form.Change edit) no_edit no_list no_dump = absurd (no_edit edit refl)
-taken_other (form.OpenView path hyper) no_edit no_list no_dump = refl
-taken_other (form.Show number) no_edit no_list no_dump = refl
-taken_other (form.Close number) no_edit no_list no_dump = refl
-taken_other form.ListAll no_edit no_list no_dump = absurd (no_list refl)
-taken_other (form.Dump path) no_edit no_list no_dump = absurd (no_dump path refl)
-taken_other form.Repack no_edit no_list no_dump = refl
-taken_other form.Unread no_edit no_list no_dump = refl
+    → (command ≡ form.Repack → ⊥) → taken (command_of command) ≡ Unread
+taken_other (form.Change edit) no_edit no_list no_dump no_repack = absurd (no_edit edit refl)
+taken_other (form.OpenView path hyper) no_edit no_list no_dump no_repack = refl
+taken_other (form.Show number) no_edit no_list no_dump no_repack = refl
+taken_other (form.Close number) no_edit no_list no_dump no_repack = refl
+taken_other form.ListAll no_edit no_list no_dump no_repack = absurd (no_list refl)
+taken_other (form.Dump path) no_edit no_list no_dump no_repack = absurd (no_dump path refl)
+taken_other form.Repack no_edit no_list no_dump no_repack = absurd (no_repack refl)
+taken_other form.Unread no_edit no_list no_dump no_repack = refl
 
 -- a line of no form that is taken
 pub bad_answer : (s : FileState) (command : Command) → taken command ≡ Unread → IsAnswered s command s (codes "bad line\n") Refused
@@ -111,51 +113,73 @@ refreshes_none old new (RemoveAttr path name) asked = refl
 refreshes_none old new (Write path hyper values) asked = absurd (cc)
 refreshes_none old new (Resize path dims) asked = absurd (cc)
 
+-- and are carried
+carried_so_far : (edit : Edit) → taken (Change edit) ≡ Change edit → is_carried edit ≡ true
+carried_so_far (CreateGroup path) asked = refl
+carried_so_far (CreateDataset path spec) asked = refl
+carried_so_far (HardLink target path) asked = refl
+carried_so_far (SoftLink text path) asked = refl
+carried_so_far (Unlink path) asked = absurd (cc)
+carried_so_far (SetAttr path attr) asked = refl
+carried_so_far (RemoveAttr path name) asked = refl
+carried_so_far (Write path hyper values) asked = absurd (cc)
+carried_so_far (Resize path dims) asked = absurd (cc)
+
 -- an accepted edit
-pub edit_accepted : (before after : FileState) (edit : Edit) (e : Edited) → taken (Change edit) ≡ Change edit → is_carried before.tree edit ≡ true → IsEdited before edit after e
+pub edit_accepted : (before after : FileState) (edit : Edit) (e : Edited) → taken (Change edit) ≡ Change edit → IsEdited before edit after e
     → IsAnswered before (Change edit) after (codes "ok " ++ (decimal e.refreshed ++ codes "\n")) Accepted
 unfolding line_answer IsGivenAt
-edit_accepted before after edit e asked carried is = record {
+edit_accepted before after edit e asked is = record {
   given = None;
   run = record {
-    allowed = rw (asked, carried) is.accepted.given;
-    state_is = is.state ∙ rw (asked, carried, is.accepted.accepted) refl;
-    left = rw (asked, carried, is.accepted.accepted) (e, is);
+    allowed = rw asked is.accepted.given;
+    state_is = is.state ∙ rw (asked, is.accepted.accepted) refl;
+    left = rw (asked, is.accepted.accepted) (e, is);
   };
-  text_is = ap (λ n. codes "ok " ++ (decimal n ++ codes "\n")) is.refreshed ∙ rw (asked, carried, is.accepted.accepted)
+  text_is = ap (λ n. codes "ok " ++ (decimal n ++ codes "\n")) is.refreshed ∙ rw (asked, is.accepted.accepted)
       (sym (append_assoc (codes "ok ") (decimal 0) (codes "\n"))
       ∙ ap (λ n. (codes "ok " ++ decimal n) ++ codes "\n") (sym (refreshes_none before.tree (state_after (state_of before) edit).tree edit asked)));
-  outcome_is = rw (asked, carried, is.accepted.accepted) refl;
+  outcome_is = rw (asked, is.accepted.accepted) refl;
 }
 
 -- a refused one
-refused_carried : (s : FileState) (edit : Edit) (f : EditFault) → taken (Change edit) ≡ Change edit → is_carried s.tree edit ≡ true → IsRefusedBy s edit f
-    → IsAnswered s (Change edit) s (refused_text f) Refused
+refused_by : (s : FileState) (edit : Edit) (f : EditFault) → taken (Change edit) ≡ Change edit → IsRefusedBy s edit f → IsAnswered s (Change edit) s (refused_text f) Refused
 unfolding line_answer IsGivenAt
-refused_carried s edit f asked carried is = record {
+refused_by s edit f asked is = record {
   given = is.given;
-  run = record { allowed = rw (asked, carried) is.allowed; state_is = rw (asked, carried, is.answer) refl; left = rw (asked, carried, is.answer) refl };
-  text_is = rw (asked, carried, is.answer) refl;
-  outcome_is = rw (asked, carried, is.answer) refl;
-}
-
-refused_other : (s : FileState) (edit : Edit) (f : EditFault) → taken (Change edit) ≡ Change edit → is_carried s.tree edit ≡ false → f ≡ fault.NotYet
-    → IsAnswered s (Change edit) s (refused_text f) Refused
-unfolding line_answer IsGivenAt
-refused_other s edit f asked carried is = record {
-  given = None;
-  run = record { allowed = rw (asked, carried) refl; state_is = rw (asked, carried) refl; left = rw (asked, carried) refl };
-  text_is = ap refused_text is ∙ rw (asked, carried) refl;
-  outcome_is = rw (asked, carried) refl;
+  run = record { allowed = rw asked is.allowed; state_is = rw (asked, is.answer) refl; left = rw (asked, is.answer) refl };
+  text_is = rw (asked, is.answer) refl;
+  outcome_is = rw (asked, is.answer) refl;
 }
 
 pub edit_refused : (before after : FileState) (edit : Edit) (f : EditFault) → taken (Change edit) ≡ Change edit → IsRefused before edit f → after ≡ before
     → IsAnswered before (Change edit) after (refused_text f) Refused
 edit_refused before after edit f asked refused stays =
-    subst (λ (file : FileState). IsAnswered before (Change edit) file (refused_text f) Refused) (sym stays) (by (is_carried before.tree edit) refl refused) where
-      by : (b : Bool) → is_carried before.tree edit ≡ b → RefusedAs b before edit f → IsAnswered before (Change edit) before (refused_text f) Refused
-      by true carried is = refused_carried before edit f asked carried is
-      by false carried is = refused_other before edit f asked carried is
+    subst (λ (file : FileState). IsAnswered before (Change edit) file (refused_text f) Refused) (sym stays)
+    (refused_by before edit f asked (rw (carried_so_far edit asked) at refused))
+
+-- `repack`
+pub repack_accepted : (before after : FileState) → IsRepacked before after → IsAnswered before Repack after (codes "ok " ++ (decimal 0 ++ codes "\n")) Accepted
+unfolding line_answer IsGivenAt digits
+repack_accepted before after is = record {
+  given = None;
+  run = record { allowed = (length after.image, is.long, is.few); state_is = is.anew.state; left = is };
+  text_is = refl;
+  outcome_is = refl;
+}
+
+repack_refused_by : (s : FileState) (f : EditFault) → IsRepackRefused s f → IsAnswered s Repack s (refused_text f) Refused
+unfolding line_answer IsGivenAt
+repack_refused_by s f is = record {
+  given = Some f;
+  run = record { allowed = is; state_is = refl; left = refl };
+  text_is = refl;
+  outcome_is = refl;
+}
+
+pub repack_refused : (before after : FileState) (f : EditFault) → IsRepackRefused before f → after ≡ before → IsAnswered before Repack after (refused_text f) Refused
+repack_refused before after f is stays =
+    subst (λ (file : FileState). IsAnswered before Repack file (refused_text f) Refused) (sym stays) (repack_refused_by before f is)
 
 -- `ls`
 pub list_told : (s : FileState) → IsAnswered s ListAll s (list_text s.tree) Told

@@ -1,12 +1,13 @@
 -- What is known of a line once it was run.
 use Rattle.std.specs.Prelude.{◌≡◌, ℕ, Option, List}
 use Rattle.std.specs.Io.KnownBytes.{Appends}
-use Rattle.h5_model.specs.Scripts.Lines.{Command, Change}
+use Rattle.h5_model.specs.Scripts.Lines.{Command, Change, Repack}
 use Rattle.h5_model.specs.Scripts.Answers.{Given, Answer}
 use Rattle.h5_model.specs.Scripts.Answers as script
 use Rattle.h5_model.specs.declared.edits.Edited.{Edited}
 use Rattle.h5_dump.specs.Opened.State.{FileState, state_of}
 use Rattle.h5_dump.specs.Edited.{IsEdited}
+use Rattle.h5_dump.specs.Anew.{IsRepacked}
 use Rattle.h5_script.specs.Taken.{line_answer, IsGivenAt}
 use Rattle.h5_script.specs.declared.ran.Outcome.{Outcome}
 use Rattle.h5_script.specs.declared.ran.Outcome.TheVariants.{Refused, Accepted, Told}
@@ -25,9 +26,11 @@ pub record Line : Type 0 where
 abbrev pub answer_at : FileState → Line → Answer
 answer_at f line = line_answer (state_of f) line.command line.given
 
--- an edit that is accepted makes of the file what it gives; any other line leaves the file as it is, each byte of it
+-- an edit that is accepted makes of the file what it gives, and `repack` writes it anew; any other line leaves the file as it is, each byte
+-- of it
 abbrev pub Leaves : script.Outcome → Command → FileState → FileState → Type 0
 Leaves script.Accepted (Change edit) f after = (e : Edited) × IsEdited f edit after e
+Leaves script.Accepted Repack f after = IsRepacked f after
 Leaves _ command f after = after ≡ f
 
 -- the line was answered in this file: what is given to it may be given there, and it leaves what it answers

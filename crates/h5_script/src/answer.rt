@@ -38,6 +38,7 @@ pub(crate) fn answer<W: Write>(
         Command::Change(edit) => tell(answer_edit(file, edit, text), text, output),
         Command::ListAll => tell(list(alloc, file, text), text, output),
         Command::Dump { path } => dump(alloc, file, path.as_slice(), text, output),
+        Command::Repack => tell(repack(file, text), text, output),
         _ => tell(bad_line(text), text, output),
     }
 }
@@ -102,6 +103,21 @@ fn carry_out(file: &mut File, edit: &Edit, text: &mut Vec<u8>) -> Result<Outcome
     match file.edit(edit) {
         Ok(edited) => {
             push_accepted(text, edited.refreshed)?;
+            Ok(Outcome::Accepted)
+        }
+        Err(fault) => refused(text, fault),
+    }
+}
+
+/// Writes the file anew.
+fn repack(file: &mut File, text: &mut Vec<u8>) -> Result<Outcome, AllocError>
+    requires { text.old.items ≡ [] }
+    ensures { MatchResult result (IsAnswered file.old lines.Repack file.new text.new.items)
+        (λ _. IsUntold file.old lines.Repack file.new) }
+{
+    match file.repack() {
+        Ok(()) => {
+            push_accepted(text, 0)?;
             Ok(Outcome::Accepted)
         }
         Err(fault) => refused(text, fault),

@@ -10,13 +10,13 @@ pub returns-in_err-push_accepted-in-Ok : goal.returns-in_err-push_accepted-in-Ok
 returns-in_err-push_accepted-in-Ok c =
     by_error c.from_residual.result c.args.file.now c.edit.new.self (Change c.args.edit.now) c.push_accepted.new.out.items c.from_residual.ensures.0
     (not_told c.args.file.now c.edit.new.self (Change c.args.edit.now) (codes "ok " ++ (decimal c.in-Ok.edited.refreshed ++ codes "\n")) Accepted
-    (edit_accepted c.args.file.now c.edit.new.self c.args.edit.now c.in-Ok.edited c.requires.taken c.in-Ok.ensures.carried c.in-Ok.ensures.edited))
+    (edit_accepted c.args.file.now c.edit.new.self c.args.edit.now c.in-Ok.edited c.requires.taken c.in-Ok.ensures.edited))
 
 pub returns-in_ok-push_accepted-in-Ok : goal.returns-in_ok-push_accepted-in-Ok
 returns-in_ok-push_accepted-in-Ok c =
     shown_as c.args.file.now c.edit.new.self (Change c.args.edit.now) (codes "ok " ++ (decimal c.in-Ok.edited.refreshed ++ codes "\n")) c.push_accepted.new.out.items Accepted
     (c.in_ok-push_accepted-in-Ok.ensures ∙ ap (λ (old : List ℕ). old ++ (codes "ok " ++ (decimal c.in-Ok.edited.refreshed ++ codes "\n"))) c.requires.empty)
-    (edit_accepted c.args.file.now c.edit.new.self c.args.edit.now c.in-Ok.edited c.requires.taken c.in-Ok.ensures.carried c.in-Ok.ensures.edited)
+    (edit_accepted c.args.file.now c.edit.new.self c.args.edit.now c.in-Ok.edited c.requires.taken c.in-Ok.ensures.edited)
 
 pub returns-in-Err : goal.returns-in-Err
 returns-in-Err c =
