@@ -5,3 +5,7 @@ pub mod AxisLaws
 pub mod RunLaws
 pub mod LeftLaws
 pub mod SlabRuns
+pub mod AlongLaws
+pub mod SpanLaws
+pub mod PartLaws
+pub mod SlabParts
