@@ -1,5 +1,5 @@
 -- The numbers that an axis selects, by their positions.
-use Rattle.std.proofs.Common.{◌≡◌, ℕ, zero, suc, ◌+◌, ◌-◌, ◌*◌, ◌/◌, ◌%◌, ◌^◌, ◌<◌, ◌≤◌, ◌⊎◌, inl, inr, List, [], ◌∷◌, ◌++◌, length, get_or, refl, sym, ap, ◌∙◌, arith, true, false}
+use Rattle.std.proofs.Common.{◌≡◌, ℕ, zero, suc, ◌+◌, ◌-◌, ◌*◌, ◌/◌, ◌%◌, ◌^◌, ◌<◌, ◌≤◌, ◌⊎◌, inl, inr, ◌++◌, length, get_or, max, refl, ap, ◌∙◌, arith, true, false}
 use Rattle.std.proofs.lemmas.Bool.Decides.{nat_tests}
 use Rattle.std.proofs.lemmas.Bool.{cases_lt, cases_order}
 use Rattle.std.proofs.lemmas.Nat.{div-add-mod', div-mul-add, mod-mul-add, div_below, mod_below, mul-lt}
@@ -21,45 +21,45 @@ get_or-spaced zero step p i low = absurd (omega arith)
 get_or-spaced (suc n) step p zero low = omega arith
 get_or-spaced (suc n) step p (suc i) low = get_or-spaced n step (p + step) i (omega arith) ∙ omega arith
 
-length-blocks : (b st n p : ℕ) → length (flat_map (spaced b 1) (spaced n st p)) ≡ n * b
-length-blocks b st zero p = omega arith
-length-blocks b st (suc n) p =
-    length-append (spaced b 1 p) (flat_map (spaced b 1) (spaced n st (p + st)))
-    ∙ omega (arith, length-spaced b 1 p, length-blocks b st n (p + st))
+pub length-rows : (b e st n p : ℕ) → length (flat_map (spaced b e) (spaced n st p)) ≡ n * b
+length-rows b e st zero p = omega arith
+length-rows b e st (suc n) p =
+    length-append (spaced b e p) (flat_map (spaced b e) (spaced n st (p + st)))
+    ∙ omega (arith, length-spaced b e p, length-rows b e st n (p + st))
 
 -- a position by its block, and its place there
 abbrev pub offset_at : ℕ → ℕ → ℕ → ℕ
 offset_at block stride t = t / block * stride + t % block
 
-offset-low : (b st t : ℕ) → t < b → offset_at b st t ≡ t
-offset-low b st t low =
+quotient-low : (b t : ℕ) → t < b → (t / b ≡ 0) × (t % b ≡ t)
+quotient-low b t low =
     let none : 0 * b + t ≡ t = omega arith in
-    let quotient : t / b ≡ 0 = rw none at (div-mul-add 0 b t low) in
-    let remainder : t % b ≡ t = rw none at (mod-mul-add 0 b t low) in
-    rw (quotient, remainder) (omega arith)
+    (rw none at (div-mul-add 0 b t low), rw none at (mod-mul-add 0 b t low))
 
-offset-next : (b st t : ℕ) → 0 < b → offset_at b st (b + t) ≡ st + offset_at b st t
-offset-next b st t some =
+quotient-next : (b t : ℕ) → 0 < b → ((b + t) / b ≡ t / b + 1) × ((b + t) % b ≡ t % b)
+quotient-next b t some =
     let whole : t / b * b + t % b ≡ t = div-add-mod' t b in
     let rest : t % b < b = mod_below t b some in
     let same : (t / b + 1) * b + t % b ≡ b + t = omega arith in
-    let quotient : (b + t) / b ≡ t / b + 1 = rw same at (div-mul-add (t / b + 1) b (t % b) rest) in
-    let remainder : (b + t) % b ≡ t % b = rw same at (mod-mul-add (t / b + 1) b (t % b) rest) in
-    rw (quotient, remainder) (omega arith)
+    (rw same at (div-mul-add (t / b + 1) b (t % b) rest), rw same at (mod-mul-add (t / b + 1) b (t % b) rest))
 
-pub get_or-blocks : (b st n p t : ℕ) → 0 < b → t < n * b → get_or (flat_map (spaced b 1) (spaced n st p)) t 0 ≡ p + offset_at b st t
-get_or-blocks b st zero p t some low = absurd (omega arith)
-get_or-blocks b st (suc n) p t some low =
-    let rest = flat_map (spaced b 1) (spaced n st (p + st)) in
+-- the place at a position: so far into a row, so many rows on
+pub get_or-rows : (b e st n p t : ℕ) → 0 < b → t < n * b → get_or (flat_map (spaced b e) (spaced n st p)) t 0 ≡ p + t / b * st + t % b * e
+get_or-rows b e st zero p t some low = absurd (omega arith)
+get_or-rows b e st (suc n) p t some low =
+    let rest = flat_map (spaced b e) (spaced n st (p + st)) in
     elim (cases_lt t b) [
       | inl here ↦
-          let long : t < length (spaced b 1 p) = omega (arith, length-spaced b 1 p) in
-          get_or_append_left (spaced b 1 p) rest 0 t long ∙ get_or-spaced b 1 p t here ∙ omega (arith, offset-low b st t here)
+          let long : t < length (spaced b e p) = omega (arith, length-spaced b e p) in
+          let parts = quotient-low b t here in
+          let first : get_or (spaced b e p ++ rest) t 0 ≡ p + t * e = get_or_append_left (spaced b e p) rest 0 t long ∙ get_or-spaced b e p t here in
+          rw (parts.0, parts.1) (first ∙ omega arith)
       | inr past ↦
           let back : b + (t - b) ≡ t = omega arith in
-          let next : offset_at b st t ≡ st + offset_at b st (t - b) = rw back at (offset-next b st (t - b) some) in
-          get_or-append_right (spaced b 1 p) rest b t 0 (length-spaced b 1 p) past
-          ∙ get_or-blocks b st n (p + st) (t - b) some (omega arith) ∙ omega (arith, next)
+          let parts : (t / b ≡ (t - b) / b + 1) × (t % b ≡ (t - b) % b) = rw back at (quotient-next b (t - b) some) in
+          let one : get_or (spaced b e p ++ rest) t 0 ≡ get_or rest (t - b) 0 = get_or-append_right (spaced b e p) rest b t 0 (length-spaced b e p) past in
+          let two : get_or rest (t - b) 0 ≡ p + st + (t - b) / b * st + (t - b) % b * e = get_or-rows b e st n (p + st) (t - b) some (omega arith) in
+          rw (parts.0, parts.1) (one ∙ two ∙ omega arith)
     ]
 
 -- ---- order
@@ -129,7 +129,7 @@ axis_facts a box h =
     (grind (arith, nat_tests), grind (arith, nat_tests), grind (arith, nat_tests), grind (arith, nat_tests))
 
 pub length-numbers : (a : Axis) → length (numbers_along a) ≡ a.count * a.block
-length-numbers a = length-blocks a.block a.stride a.count a.start
+length-numbers a = length-rows a.block 1 a.stride a.count a.start
 
 -- a stride of at least a block serves as well
 pub number_at : (a : Axis) (box st t : ℕ) → IsBoxed a box → ((a.block ≤ a.stride) → st ≡ a.stride) → t < a.count * a.block
@@ -143,7 +143,7 @@ number_at a box st t h same low =
       | inl wide ↦ rw (same wide) refl
       | inr lone ↦ let first : t / a.block ≡ 0 = omega arith in rw first (omega arith)
     ] in
-    let value : get_or (numbers_along a) t 0 ≡ a.start + offset_at a.block a.stride t = get_or-blocks a.block a.stride a.count a.start t f.1 low in
+    let value : get_or (numbers_along a) t 0 ≡ a.start + offset_at a.block a.stride t = get_or-rows a.block 1 a.stride a.count a.start t f.1 low ∙ omega arith in
     (value ∙ ap (λ (n : ℕ). a.start + n) offsets, omega (arith, f.3, offsets))
 
 pub few_numbers : (a : Axis) (box : ℕ) → IsBoxed a box → a.count * a.block ≤ 2 ^ 64
@@ -159,3 +159,19 @@ few_numbers a box h =
 
 pub some_numbers : (a : Axis) (box : ℕ) → IsBoxed a box → 0 < a.count * a.block
 some_numbers a box h = let f = axis_facts a box h in mul-lt 0 0 a.count a.block f.0 f.1
+
+pub number_is : (a : Axis) (box t : ℕ) → IsBoxed a box → t < a.count * a.block → get_or (numbers_along a) t 0 ≡ a.start + t / a.block * a.stride + t % a.block
+number_is a box t h low =
+    let f = axis_facts a box h in
+    get_or-rows a.block 1 a.stride a.count a.start t f.1 low ∙ omega arith
+
+pub numbers_rise : (a : Axis) (box i j : ℕ) → IsBoxed a box → i ≤ j → j < length (numbers_along a) → get_or (numbers_along a) i 0 ≤ get_or (numbers_along a) j 0
+numbers_rise a box i j h order low =
+    let f = axis_facts a box h in
+    let st = max a.stride a.block in
+    let high : j < a.count * a.block = omega (arith, length-numbers a) in
+    let first = number_at a box st i h (λ (wide : a.block ≤ a.stride). omega arith) (omega arith) in
+    let second = number_at a box st j h (λ (wide : a.block ≤ a.stride). omega arith) high in
+    let back : i + (j - i) ≡ j = omega arith in
+    let grows : offset_at a.block st i + (j - i) ≤ offset_at a.block st j = rw back at (offset_grows a.block st (j - i) i f.1 (omega arith)) in
+    rw (first.0, second.0) (omega arith)

@@ -9,3 +9,8 @@ pub mod AlongLaws
 pub mod SpanLaws
 pub mod PartLaws
 pub mod SlabParts
+pub mod GroupLaws
+pub mod PartedLaws
+pub mod PositionLaws
+pub mod CornerLaws
+pub mod PartExamples

@@ -1,15 +1,15 @@
 -- The parts of a selection in boxes of these sizes.
-use Rattle.std.proofs.Common.{◌≡◌, ℕ, zero, suc, ◌+◌, ◌*◌, ◌^◌, ◌<◌, ◌≤◌, List, [], ◌∷◌, ◌++◌, length, replicate, get_or, map, refl, sym, ap, ◌∙◌, arith, Bool, true, false, ◌||◌}
+use Rattle.std.proofs.Common.{◌≡◌, ℕ, zero, suc, ◌^◌, ◌<◌, ◌≤◌, List, [], ◌∷◌, length, replicate, get_or, map, refl, sym, ap, ◌∙◌, arith, Bool, true, false, ◌||◌}
 use Rattle.std.proofs.lemmas.Bool.Decides.{nat_tests}
 use Rattle.std.specs.Prelude.{◌==◌}
-use Rattle.std.specs.List.{flat_map, list_any}
+use Rattle.std.specs.List.{AllZip, flat_map, list_any}
 use Rattle.h5_model.specs.declared.Axis.{Axis}
 use Rattle.h5_model.specs.Views.Selection.{Slab, Within, fits_along, fits_all, has_no_cell, overlaps, selects_none}
 use Rattle.h5_model.proofs.WithinLaws.{both, neither}
 use Rattle.h5_shape.specs.declared.parts.Span.{Span}
 use Rattle.h5_shape.specs.Loops.{spaced}
 use Rattle.h5_shape.specs.Parts.{numbers_along, spans_from, spans_along, parts_of}
-use Rattle.h5_shape.specs.PartsLeft.{IsBoxed, AreBoxed}
+use Rattle.h5_shape.specs.PartsLeft.{AreBoxed}
 use Rattle.h5_shape.proofs.SlabRuns.{within_fits}
 
 -- ---- a selection of some cell
@@ -62,3 +62,19 @@ parts_none (a ∷ rest) (b ∷ bs) rank none =
       | false ↦ λ e. let less : selects_none rest ≡ true = ap (λ (v : Bool). v || selects_none rest) (sym e) ∙ none in
           none_under (spans_along a b) (parts_of rest bs) (parts_none rest bs (omega arith) less)
     ] refl
+
+-- ---- a selection within sizes
+
+below_all : (sizes : List ℕ) (n : ℕ) (bound : ℕ) (index : List ℕ) → length sizes ≡ n → ((k : ℕ) → k < length sizes → get_or sizes k 0 ≤ bound)
+    → AllZip (λ d i. i < d) sizes index → AllZip (λ d i. i < d) (replicate n bound) index
+below_all [] n bound [] rank few h = rw (← rank) tt
+below_all [] n bound (i ∷ is) rank few h = absurd h
+below_all (d ∷ ds) n bound [] rank few h = absurd h
+below_all (d ∷ ds) zero bound (i ∷ is) rank few h = absurd (omega arith)
+below_all (d ∷ ds) (suc n) bound (i ∷ is) rank few h =
+    (omega (arith, few 0 (omega arith), h.0), below_all ds n bound is (omega arith) (λ k low. few (suc k) (omega arith)) h.1)
+
+-- no selected index passes a bound on the sizes
+pub within-bound : (sizes : List ℕ) (slab : Slab) (bound : ℕ) → length sizes ≡ length slab → ((k : ℕ) → k < length sizes → get_or sizes k 0 ≤ bound)
+    → Within sizes slab → Within (replicate (length slab) bound) slab
+within-bound sizes slab bound rank few within = λ index selected. below_all sizes (length slab) bound index rank few (within index selected)

@@ -1,5 +1,5 @@
 -- Selected numbers by the boxes that hold them.
-use Rattle.std.proofs.Common.{◌≡◌, ◌≢◌, ℕ, zero, suc, ◌+◌, ◌-◌, ◌*◌, ◌/◌, ◌%◌, ◌^◌, ◌<◌, ◌≤◌, ◌⊎◌, inl, inr, List, [], ◌∷◌, length, get_or, drop, min, max, refl, sym, ap, ◌∙◌, arith, Bool, true, false, cond}
+use Rattle.std.proofs.Common.{◌≡◌, ◌≢◌, ℕ, zero, suc, ◌+◌, ◌-◌, ◌*◌, ◌/◌, ◌%◌, ◌^◌, ◌<◌, ◌≤◌, ◌⊎◌, inl, inr, List, [], ◌∷◌, length, get_or, drop, min, max, refl, sym, ap, ◌∙◌, arith, true, false, cond}
 use Rattle.std.specs.Prelude.{◌==◌}
 use Rattle.std.proofs.lemmas.Bool.Decides.{nat_tests}
 use Rattle.std.proofs.lemmas.Bool.{cases_lt}
@@ -33,7 +33,10 @@ span_first : (box at x : ℕ) (ss : List Span) → (s : Span) × (rest : List Sp
 span_first box at x [] = (record { corner = x / box * box; from = at; length = 1 }, [], refl, refl)
 span_first box at x (s ∷ ss) = elim (s.corner == x / box * box) as (λ b. (s.corner == x / box * box) ≡ b → (t : Span) × (rest : List Span) × (t.corner ≡ x / box * box)
     × (cond b (record { corner = s.corner; from = at; length = s.length + 1 } ∷ ss) (record { corner = x / box * box; from = at; length = 1 } ∷ s ∷ ss) ≡ t ∷ rest)) [
-      | true ↦ λ e. let here : s.corner ≡ x / box * box = grind (arith, nat_tests) in (record { corner = s.corner; from = at; length = s.length + 1 }, ss, here, refl)
+      | true ↦ λ e.
+          let here : s.corner ≡ x / box * box = grind (arith, nat_tests) in
+          let grown : Span = record { corner = s.corner; from = at; length = s.length + 1 } in
+          (grown, ss, here, refl {a = grown ∷ ss})
       | false ↦ λ _. (record { corner = x / box * box; from = at; length = 1 }, s ∷ ss, refl, refl)
     ] refl
 

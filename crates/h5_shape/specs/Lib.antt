@@ -4,3 +4,4 @@ pub mod Runs
 pub mod Left
 pub mod Parts
 pub mod PartsLeft
+pub mod PartCells

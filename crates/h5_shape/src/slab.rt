@@ -4,6 +4,7 @@ ghost use Rattle.std.specs.List.{list_any};
 ghost use Rattle.h5_model.specs.Views.Selection.{Within, axes_from, fits_along, fits_all, has_no_stride, is_one_run, is_within as is_within_sizes, overlaps, selected_cells, selection_of, selects_none};
 ghost use Rattle.h5_model.specs.Tree.Places.{cells as cells_of};
 ghost use Rattle.h5_shape.specs.Parts.{parts_of};
+ghost use Rattle.h5_shape.specs.PartCells.{AreParted};
 ghost use Rattle.h5_shape.specs.Runs.{AreMaximal, places_in, cell_runs};
 
 use crate::dims::{Dims, MAX_RANK};
@@ -134,7 +135,8 @@ impl Slab {
         requires rank { length chunk.now ≡ length self.now }
         requires sizes { EachIndex chunk.now (λ d. 1 ≤ slice_index chunk.now d) }
         requires top { Within (replicate (length self.now) (2 ^ 64)) self.now }
-        ensures { result ≡ parts_of self.now chunk.now }
+        ensures value { result ≡ parts_of self.now chunk.now }
+        ensures parted { AreParted self.now chunk.now result }
     {
         if is_empty(self.axes()) {
             return ChunkParts::none(self.axes(), chunk);

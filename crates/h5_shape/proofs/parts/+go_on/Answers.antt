@@ -1,8 +1,8 @@
-use Rattle.std.proofs.Common.{◌≡◌, ℕ, ◌+◌, ◌*◌, ◌<◌, ◌≤◌, length, get_or, take, ap, arith}
+use Rattle.std.proofs.Common.{◌≡◌, ◌+◌, ◌*◌, ◌≤◌, get_or, ap, arith}
 use Rattle.std.proofs.lemmas.List.{length-drop}
 use Rattle.h5_model.specs.declared.Axis.{Axis}
 use Rattle.h5_shape.specs.declared.parts.Span.{Span}
-use Rattle.h5_shape.proofs.AlongLaws.{some_numbers, few_numbers}
+use Rattle.h5_shape.proofs.AlongLaws.{few_numbers}
 use Rattle.h5_shape.proofs.PartLaws.{on_more, start_first, set_on, inner_on, go_inner, go_outer, go_end, go_none, kept_at, kept_before, kept_set}
 use Rattle.h5_shape.proofs.parts.+go_on.Goals as goal
 

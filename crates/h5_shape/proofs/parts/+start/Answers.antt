@@ -1,4 +1,4 @@
-use Rattle.std.proofs.Common.{◌+◌, ◌<◌, arith}
+use Rattle.std.proofs.Common.{arith}
 use Rattle.h5_model.specs.declared.Axis.{Axis}
 use Rattle.h5_shape.proofs.AlongLaws.{some_numbers}
 use Rattle.h5_shape.proofs.PartLaws.{boxed_more, start_first, set_on}

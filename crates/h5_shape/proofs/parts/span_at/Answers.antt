@@ -1,7 +1,5 @@
-use Rattle.std.proofs.Common.{◌≡◌, ℕ, ◌+◌, ◌-◌, ◌*◌, ◌/◌, ◌%◌, ◌^◌, ◌<◌, ◌≤◌, arith, inl, inr, ap, ◌∙◌}
-use Rattle.h5_model.specs.declared.Axis.{Axis}
-use Rattle.h5_shape.specs.PartsLeft.{IsBoxed}
-use Rattle.h5_shape.proofs.SpanLaws.{IsLast, IsSpanAt, first_of, is_span_at, first_below, span_reach, span_short, span_here}
+use Rattle.std.proofs.Common.{ℕ, ◌+◌, ◌-◌, ◌*◌, ◌/◌, arith, inl, inr, ap, ◌∙◌}
+use Rattle.h5_shape.proofs.SpanLaws.{IsLast, is_span_at, first_below, span_reach, span_short, span_here}
 use Rattle.h5_shape.proofs.parts.span_at.Goals as goal
 use Rattle.h5_shape.proofs.parts.span_at.Goals.{then-blocks-axis, else-blocks-axis}
 
