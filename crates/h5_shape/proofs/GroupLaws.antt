@@ -1,26 +1,21 @@
 -- The spans of numbers: each number is in one, of its box.
-use Rattle.std.proofs.Common.{◌≡◌, ◌≢◌, ℕ, zero, suc, ◌+◌, ◌-◌, ◌*◌, ◌/◌, ◌%◌, ◌<◌, ◌≤◌, ◌⊎◌, inl, inr, List, [], ◌∷◌, length, get_or, drop, refl, sym, ap, subst, ◌∙◌, arith, true, false, cond}
+use Rattle.std.proofs.Common.{◌≡◌, ◌≢◌, ℕ, zero, suc, ◌+◌, ◌-◌, ◌*◌, ◌/◌, ◌%◌, ◌<◌, ◌≤◌, inl, inr, List, [], ◌∷◌, length, get_or, drop, refl, sym, ap, subst, ◌∙◌, arith, true, false, cond}
 use Rattle.std.specs.Prelude.{◌==◌}
 use Rattle.std.proofs.lemmas.Bool.Decides.{nat_tests}
 use Rattle.std.proofs.lemmas.Bool.{cases_lt, cases_order}
 use Rattle.std.proofs.lemmas.Nat.{div-add-mod', mod_below}
 use Rattle.std.proofs.lemmas.List.{get_or-drop, length-drop}
+use Rattle.std.proofs.lemmas.List.Elements.{All-cons, All-nil, All-weaker}
+use Rattle.std.proofs.lemmas.List.Kept.{AllPairs-cons}
+use Rattle.std.specs.List.{All, AllPairs, Any}
 use Rattle.std.proofs.Math.Nat.{mul-le-mul_right}
 use Rattle.h5_shape.specs.declared.parts.Span.{Span}
 use Rattle.h5_shape.specs.Parts.{span_number, spans_from}
 
--- ---- what stands in a list
-
-abbrev pub In : {X : Type 0} → X → List X → Type 0
-In x [] = ⊥
-In x (y ∷ ys) = (y ≡ x) ⊎ In x ys
-
--- each is in this relation to all later ones
-abbrev pub Sorted : {X : Type 0} → (X → X → Type 0) → List X → Type 0
-Sorted R [] = Unit {0}
-Sorted {X} R (x ∷ xs) = ((y : X) → In y xs → R x y) × Sorted R xs
-
 -- ---- groups
+
+pub any_later : {X : Type 0} (P : X → Type 0) (x : X) (xs : List X) → Any P xs → Any P (x ∷ xs)
+any_later P x xs h = (suc h.0, h.1, omega (arith, h.2), h.3, h.4)
 
 -- the numbers up to the end of the first span are of its box, and the next is not
 pub record IsGroup (box at : ℕ) (xs : List ℕ) (s : Span) : Type 0 where
@@ -80,31 +75,37 @@ grouped box at (x ∷ xs) = grouped_number box at x xs (spans_from box (at + 1) 
 -- ---- what groups hold
 
 pub group_held : (box at : ℕ) (xs : List ℕ) (ss : List Span) (t : ℕ) → AreGroups box at xs ss → at ≤ t → t < at + length xs
-    → (s : Span) × In s ss × (s.from ≤ t) × (t < s.from + s.length)
+    → Any (λ (s : Span). (s.from ≤ t) × (t < s.from + s.length)) ss
 group_held box at xs [] t h low high = absurd (omega (arith, h))
 group_held box at xs (s ∷ ss) t h low high = elim (cases_lt t (at + s.length)) [
-  | inl here ↦ (s, inl refl, omega (arith, h.0.from), omega (arith, h.0.from))
-  | inr past ↦
-      let found = group_held box (at + s.length) (drop s.length xs) ss t h.1 past (omega (arith, length-drop s.length xs, h.0.few)) in
-      (found.0, inr found.1, found.2, found.3)
+  | inl here ↦ (0, s, omega arith, refl, (omega (arith, h.0.from), omega (arith, h.0.from)))
+  | inr past ↦ any_later (λ (s : Span). (s.from ≤ t) × (t < s.from + s.length)) s ss
+      (group_held box (at + s.length) (drop s.length xs) ss t h.1 past (omega (arith, length-drop s.length xs, h.0.few)))
 ]
 
-pub group_cells : (box at : ℕ) (xs : List ℕ) (ss : List Span) (s : Span) (t : ℕ) → AreGroups box at xs ss → In s ss → s.from ≤ t → t < s.from + s.length
-    → (at ≤ t) × (t < at + length xs) × (get_or xs (t - at) 0 / box * box ≡ s.corner)
-group_cells box at xs [] s t h none low high = absurd none
-group_cells box at xs (r ∷ ss) s t h (inl same) low high =
-    let group : IsGroup box at xs s = subst (λ (q : Span). IsGroup box at xs q) same h.0 in
-    (omega (arith, group.from), omega (arith, group.from, group.few), group.same (t - at) (omega (arith, group.from)))
-group_cells box at xs (r ∷ ss) s t h (inr later) low high =
-    let rest = group_cells box (at + r.length) (drop r.length xs) ss s t h.1 later low high in
-    let place : r.length + (t - (at + r.length)) ≡ t - at = omega (arith, rest.0) in
-    let value : get_or (drop r.length xs) (t - (at + r.length)) 0 ≡ get_or xs (t - at) 0 = get_or-drop r.length xs (t - (at + r.length)) 0 ∙ ap (λ (i : ℕ). get_or xs i 0) place in
-    (omega (arith, rest.0), omega (arith, rest.1, length-drop r.length xs, h.0.few), ap (λ (x : ℕ). x / box * box) (sym value) ∙ rest.2)
+-- the numbers of a span are of its box
+abbrev pub IsSpanOf : ℕ → ℕ → List ℕ → Span → Type 0
+IsSpanOf box at xs s = (0 < s.length) × ((t : ℕ) → s.from ≤ t → t < s.from + s.length → (at ≤ t) × (t < at + length xs) × (get_or xs (t - at) 0 / box * box ≡ s.corner))
 
-pub group_some : (box at : ℕ) (xs : List ℕ) (ss : List Span) (s : Span) → AreGroups box at xs ss → In s ss → 0 < s.length
-group_some box at xs [] s h none = absurd none
-group_some box at xs (r ∷ ss) s h (inl same) = subst (λ (q : Span). 0 < q.length) same h.0.some
-group_some box at xs (r ∷ ss) s h (inr later) = group_some box (at + r.length) (drop r.length xs) ss s h.1 later
+first_span : (box at : ℕ) (xs : List ℕ) (s : Span) → IsGroup box at xs s → IsSpanOf box at xs s
+first_span box at xs s h =
+    (h.some, λ t low high. (omega (arith, h.from), omega (arith, h.from, h.few), h.same (t - at) (omega (arith, h.from))))
+
+later_span : (box at n : ℕ) (xs : List ℕ) (s : Span) → n ≤ length xs → IsSpanOf box (at + n) (drop n xs) s → IsSpanOf box at xs s
+later_span box at n xs s few h = (
+  h.0,
+  λ t low high.
+      let rest = h.1 t low high in
+      let place : n + (t - (at + n)) ≡ t - at = omega (arith, rest.0) in
+      let value : get_or (drop n xs) (t - (at + n)) 0 ≡ get_or xs (t - at) 0 = get_or-drop n xs (t - (at + n)) 0 ∙ ap (λ (i : ℕ). get_or xs i 0) place in
+      (omega (arith, rest.0), omega (arith, rest.1, length-drop n xs, few), ap (λ (x : ℕ). x / box * box) (sym value) ∙ rest.2),
+)
+
+pub group_spans : (box at : ℕ) (xs : List ℕ) (ss : List Span) → AreGroups box at xs ss → All (IsSpanOf box at xs) ss
+group_spans box at xs [] h = All-nil (IsSpanOf box at xs)
+group_spans box at xs (s ∷ ss) h =
+    All-cons (IsSpanOf box at xs) s ss (first_span box at xs s h.0) (All-weaker (IsSpanOf box (at + s.length) (drop s.length xs)) (IsSpanOf box at xs)
+    (λ t there. later_span box at s.length xs t h.0.few there) ss (group_spans box (at + s.length) (drop s.length xs) ss h.1))
 
 -- ---- order
 
@@ -127,21 +128,25 @@ rises_drop : (n : ℕ) (xs : List ℕ) → Rises xs → Rises (drop n xs)
 rises_drop n xs h = λ i j low high.
     rw (get_or-drop n xs i 0, get_or-drop n xs j 0) (h (n + i) (n + j) (omega arith) (omega (arith, length-drop n xs)))
 
-pub group_order : (box at : ℕ) (xs : List ℕ) (ss : List Span) → Rises xs → AreGroups box at xs ss → Sorted (λ (s t : Span). s.corner < t.corner) ss
-group_order box at xs [] rises h = tt
-group_order box at xs (s ∷ ss) rises h = (later, group_order box (at + s.length) (drop s.length xs) ss (rises_drop s.length xs rises) h.1) where
-  later : (t : Span) → In t ss → s.corner < t.corner
-  later t there =
-      let some : 0 < t.length = group_some box (at + s.length) (drop s.length xs) ss t h.1 there in
-      let cell = group_cells box (at + s.length) (drop s.length xs) ss t t.from h.1 there (omega arith) (omega arith) in
-      let long : s.length < length xs = omega (arith, cell.0, cell.1, length-drop s.length xs) in
-      let n = t.from - (at + s.length) in
-      let value : get_or xs (s.length + n) 0 / box * box ≡ t.corner = ap (λ (x : ℕ). x / box * box) (sym (get_or-drop s.length xs n 0)) ∙ cell.2 in
-      let first : get_or xs (s.length - 1) 0 / box * box ≡ s.corner = h.0.same (s.length - 1) (omega (arith, h.0.some)) in
-      let apart : get_or xs s.length 0 / box * box ≢ s.corner = h.0.next long in
-      let one : get_or xs (s.length - 1) 0 / box * box ≤ get_or xs s.length 0 / box * box = boxes_rise box (get_or xs (s.length - 1) 0) (get_or xs s.length 0) (rises (s.length - 1) s.length (omega arith) long) in
-      let two : get_or xs s.length 0 / box * box ≤ get_or xs (s.length + n) 0 / box * box = boxes_rise box (get_or xs s.length 0) (get_or xs (s.length + n) 0) (rises s.length (s.length + n) (omega arith) (omega (arith, cell.1, length-drop s.length xs))) in
-      elim (cases_order s.corner (get_or xs s.length 0 / box * box)) [
-        | inl equal ↦ absurd (apart (sym equal))
-        | inr other ↦ elim other [ inl less ↦ omega (arith, two, value) | inr more ↦ absurd (omega (arith, one, first)) ]
-      ]
+later_box : (box at : ℕ) (xs : List ℕ) (s t : Span) → Rises xs → IsGroup box at xs s → IsSpanOf box (at + s.length) (drop s.length xs) t → s.corner < t.corner
+later_box box at xs s t rises group there =
+    let cell = there.1 t.from (omega arith) (omega (arith, there.0)) in
+    let long : s.length < length xs = omega (arith, cell.0, cell.1, length-drop s.length xs) in
+    let n = t.from - (at + s.length) in
+    let value : get_or xs (s.length + n) 0 / box * box ≡ t.corner = ap (λ (x : ℕ). x / box * box) (sym (get_or-drop s.length xs n 0)) ∙ cell.2 in
+    let first : get_or xs (s.length - 1) 0 / box * box ≡ s.corner = group.same (s.length - 1) (omega (arith, group.some)) in
+    let one : get_or xs (s.length - 1) 0 / box * box ≤ get_or xs s.length 0 / box * box =
+    boxes_rise box (get_or xs (s.length - 1) 0) (get_or xs s.length 0) (rises (s.length - 1) s.length (omega arith) long) in
+    let two : get_or xs s.length 0 / box * box ≤ get_or xs (s.length + n) 0 / box * box =
+    boxes_rise box (get_or xs s.length 0) (get_or xs (s.length + n) 0) (rises s.length (s.length + n) (omega arith) (omega (arith, cell.1, length-drop s.length xs))) in
+    elim (cases_order s.corner (get_or xs s.length 0 / box * box)) [
+      | inl equal ↦ absurd (group.next long (sym equal))
+      | inr other ↦ elim other [ inl less ↦ omega (arith, two, value) | inr more ↦ absurd (omega (arith, one, first)) ]
+    ]
+
+pub group_order : (box at : ℕ) (xs : List ℕ) (ss : List Span) → Rises xs → AreGroups box at xs ss → AllPairs (λ (s t : Span). s.corner < t.corner) ss
+group_order box at xs [] rises h = λ i j d order low. absurd (omega arith)
+group_order box at xs (s ∷ ss) rises h =
+    AllPairs-cons (λ (s t : Span). s.corner < t.corner) s ss (All-weaker (IsSpanOf box (at + s.length) (drop s.length xs)) (λ (t : Span). s.corner < t.corner)
+    (λ t there. later_box box at xs s t rises h.0 there) ss (group_spans box (at + s.length) (drop s.length xs) ss h.1))
+    (group_order box (at + s.length) (drop s.length xs) ss (rises_drop s.length xs rises) h.1)

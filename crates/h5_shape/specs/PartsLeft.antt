@@ -50,14 +50,14 @@ AreOnAxes (a ∷ rest) (b ∷ bs) (s ∷ ss) = IsOnAxis a b s × AreOnAxes rest 
 AreOnAxes _ _ _ = ⊥
 
 -- the parts that are left of an iterator
-abbrev pub parts_left : Slab → List ℕ → List Span → Bool → List (List Span)
-parts_left slab boxes spans more = if more then parts_from slab boxes (take (length slab) spans) else []
+abbrev pub left_parts : Slab → List ℕ → List Span → Bool → List (List Span)
+left_parts slab boxes spans more = if more then parts_from slab boxes (take (length slab) spans) else []
 
 abbrev pub AreOnAxesIf : Bool → Slab → List ℕ → List Span → Type 0
 AreOnAxesIf true slab boxes spans = AreOnAxes slab boxes spans
 AreOnAxesIf false slab boxes spans = ⊤
 
 -- it stands at a part, or behind the last
-pub record IsStanding (slab : Slab) (boxes : List ℕ) (spans : List Span) (more : Bool) : Type 0 where
+pub record IsAtPart (slab : Slab) (boxes : List ℕ) (spans : List Span) (more : Bool) : Type 0 where
   pub rank : length slab ≤ 32
   pub on : AreOnAxesIf more slab boxes (take (length slab) spans)

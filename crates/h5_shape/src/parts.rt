@@ -38,13 +38,13 @@ pub struct ChunkParts<'a> {
 impl<'a> Model for ChunkParts<'a> {
     ghost use Rattle.std.specs.Prelude.{List};
     ghost use Rattle.h5_shape.specs.declared.parts.Span.{Span};
-    ghost use Rattle.h5_shape.specs.PartsLeft.{parts_left, IsStanding};
+    ghost use Rattle.h5_shape.specs.PartsLeft.{left_parts, IsAtPart};
 
     ghost Value = { List (List Span) };
 
-    ghost view = { λ p. parts_left p.axes.now p.chunk.now p.spans p.has_part };
+    ghost view = { λ p. left_parts p.axes.now p.chunk.now p.spans p.has_part };
 
-    ghost invariant = { λ p. IsStanding p.axes.now p.chunk.now p.spans p.has_part };
+    ghost invariant = { λ p. IsAtPart p.axes.now p.chunk.now p.spans p.has_part };
 }
 
 impl<'a> ChunkParts<'a> {
@@ -115,7 +115,8 @@ fn start(axes: &[Axis], chunk: &[u64], spans: &mut [Span], k: usize)
 /// Goes to the next part of the dimensions from k on. Behind the last it goes to the first, and says so.
 fn go_on(axes: &[Axis], chunk: &[u64], spans: &mut [Span], k: usize) -> bool
     requires { AreOnAxes (drop k axes.now) (drop k chunk.now) (drop k spans.old) }
-    ensures next { GoesOnTo (drop k axes.now) (drop k chunk.now) (drop k spans.old) result (drop k spans.new) }
+    ensures next { GoesOnTo (drop k axes.now) (drop k chunk.now) (drop k spans.old) result
+        (drop k spans.new) }
     ensures on { AreOnAxes (drop k axes.now) (drop k chunk.now) (drop k spans.new) }
     ensures kept { take k spans.new ≡ take k spans.old }
 {
@@ -147,7 +148,8 @@ fn last_position(axis: &Axis) -> u64
 fn span_at(axis: &Axis, size: u64, from: u64) -> Span
     requires boxed { IsBoxed axis.now size }
     requires inside { from < axis.now.count * axis.now.block }
-    ensures first { spans_from size from (drop from (numbers_along axis.now)) ≡ result ∷ spans_after axis.now size result }
+    ensures first { spans_from size from (drop from (numbers_along axis.now))
+        ≡ result ∷ spans_after axis.now size result }
     ensures from { result.from ≡ from }
     ensures on { IsOnAxis axis.now size result }
 {
