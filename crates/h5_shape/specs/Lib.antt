@@ -5,3 +5,5 @@ pub mod Left
 pub mod Parts
 pub mod PartsLeft
 pub mod PartCells
+pub mod PartsStand
+pub mod PartLent

@@ -1,5 +1,5 @@
 -- The parts of a selection from one of them on, in row-major order (File Format Specification 3.0, section III.A.1, chunked raw data).
-use Rattle.std.specs.Prelude.{◌≡◌, ℕ, ◌+◌, ◌*◌, ◌^◌, ◌<◌, ◌≤◌, Bool, true, false, ⊤, if◌then◌else◌, List, [], ◌∷◌, ◌++◌, length, take, drop, map}
+use Rattle.std.specs.Prelude.{◌≡◌, ℕ, ◌+◌, ◌*◌, ◌^◌, ◌<◌, ◌≤◌, Bool, true, false, ⊤, List, [], ◌∷◌, ◌++◌, drop, map}
 use Rattle.std.specs.List.{flat_map}
 use Rattle.h5_model.specs.declared.hyperslab.Axis.{Axis}
 use Rattle.h5_model.specs.Views.Selection.{Slab, has_no_cell, overlaps, fits_along}
@@ -48,16 +48,3 @@ abbrev pub AreOnAxes : Slab → List ℕ → List Span → Type 0
 AreOnAxes [] [] [] = ⊤
 AreOnAxes (a ∷ rest) (b ∷ bs) (s ∷ ss) = IsOnAxis a b s × AreOnAxes rest bs ss
 AreOnAxes _ _ _ = ⊥
-
--- the parts that are left of an iterator
-abbrev pub left_parts : Slab → List ℕ → List Span → Bool → List (List Span)
-left_parts slab boxes spans more = if more then parts_from slab boxes (take (length slab) spans) else []
-
-abbrev pub AreOnAxesIf : Bool → Slab → List ℕ → List Span → Type 0
-AreOnAxesIf true slab boxes spans = AreOnAxes slab boxes spans
-AreOnAxesIf false slab boxes spans = ⊤
-
--- it stands at a part, or behind the last
-pub record IsAtPart (slab : Slab) (boxes : List ℕ) (spans : List Span) (more : Bool) : Type 0 where
-  pub rank : length slab ≤ 32
-  pub on : AreOnAxesIf more slab boxes (take (length slab) spans)

@@ -1,8 +1,8 @@
 //! The boxes of a chunk grid that hold selected cells (File Format Specification 3.0, section III.A.1, chunked raw data).
-ghost use Rattle.std.specs.Prelude.{◌≡◌, ◌+◌, ◌*◌, ◌<◌, ◌≤◌, false, [], ◌∷◌, length, take, drop, MatchOption};
-ghost use Rattle.h5_model.specs.Views.Selection.{selects_none};
+ghost use Rattle.std.specs.Prelude.{◌≡◌, ◌+◌, ◌*◌, ◌<◌, ◌≤◌, IsTrue, [], ◌∷◌, length, take, drop, MatchOption};
 ghost use Rattle.h5_shape.specs.Parts.{numbers_along, spans_from, parts_of};
 ghost use Rattle.h5_shape.specs.PartsLeft.{AreBoxed, AreOnAxes, GoesOnTo, IsBoxed, IsOnAxis, parts_from, spans_after};
+ghost use Rattle.h5_shape.specs.PartsStand.{GivesPart, IsAtPart, left_parts};
 
 use h5_model::Axis;
 use std::marker::Model;
@@ -26,29 +26,44 @@ const NO_SPAN: Span = Span {
     length: 0,
 };
 
-/// The boxes of a chunk grid that hold a selected cell, in row-major order, from one of them on. It takes no memory.
+/// How far the parts have been lent.
+#[derive(Clone, Copy)]
+enum Stage {
+    /// The first is still to be lent.
+    Before,
+    /// The part that stands here was.
+    At,
+    /// No part is left.
+    Behind,
+}
+
+/// The boxes of a chunk grid that hold a selected cell, in row-major order, those that are left. It takes no memory.
 #[derive(Drop)]
 pub struct ChunkParts<'a> {
     axes: &'a [Axis],
     chunk: &'a [u64],
     spans: [Span; 32],
-    has_part: bool,
+    stage: Stage,
 }
 
 impl<'a> Model for ChunkParts<'a> {
     ghost use Rattle.std.specs.Prelude.{List};
     ghost use Rattle.h5_shape.specs.declared.parts.Span.{Span};
-    ghost use Rattle.h5_shape.specs.PartsLeft.{left_parts, IsAtPart};
+    ghost use Rattle.std.specs.Prelude.{◌≤◌, length, take};
+    ghost use Rattle.h5_shape.specs.PartsStand.{left_parts, IsAtPart};
 
     ghost Value = { List (List Span) };
 
-    ghost view = { λ p. left_parts p.axes.now p.chunk.now p.spans p.has_part };
+    ghost view = { λ p. left_parts p.axes.now p.chunk.now (take (length p.axes.now) p.spans) p.stage };
 
-    ghost invariant = { λ p. IsAtPart p.axes.now p.chunk.now p.spans p.has_part };
+    ghost invariant = { λ p. (length p.axes.now ≤ 32)
+        × IsAtPart p.axes.now p.chunk.now (take (length p.axes.now) p.spans) p.stage };
 }
 
 impl<'a> ChunkParts<'a> {
+    ghost use Rattle.std.specs.Borrow.{sem};
     ghost use Rattle.h5_shape.specs.Parts.{parts_of};
+    ghost use Rattle.h5_shape.specs.PartLent.{EndsWithoutFirst};
 
     /// The parts of a selection of some cell.
     pub(crate) fn new(axes: &'a [Axis], chunk: &'a [u64]) -> ChunkParts<'a>
@@ -62,7 +77,7 @@ impl<'a> ChunkParts<'a> {
             axes,
             chunk,
             spans,
-            has_part: true,
+            stage: Stage::Before,
         }
     }
 
@@ -75,25 +90,37 @@ impl<'a> ChunkParts<'a> {
             axes,
             chunk,
             spans: [NO_SPAN; 32],
-            has_part: false,
+            stage: Stage::Behind,
         }
     }
 
-    /// The first box that is left: for each dimension the selected numbers in it. `None` where no box is left.
-    pub fn part(&self) -> Option<&[Span]>
-        ensures { MatchOption result (self.now ≡ []) (λ part. self.now ≡ part.now ∷ drop 1 self.now) }
+    /// Lends the next of the parts that are left: for each dimension the selected numbers in its box.
+    pub fn next_part(&mut self) -> Option<&[Span]>
+        ensures* left { sem 𝓛 (EndsWithoutFirst self.entry) }
+        ensures lent { MatchOption result (self.old ≡ []) (λ part. self.old ≡ part.now ∷ drop 1 self.old) }
     {
-        self.has_part.then_some(&self.spans[..self.axes.len()])
-    }
-
-    /// Goes on to the next box. Behind the last there is none.
-    pub fn advance(&mut self)
-        ensures { self.new ≡ drop 1 self.old }
-    {
-        if self.has_part {
-            let rank = self.axes.len();
-            self.has_part = go_on(self.axes, self.chunk, &mut self.spans[..rank], 0);
+        let rank = self.axes.len();
+        let stage = self.stage;
+        if !step(self.axes, self.chunk, &mut self.spans[..rank], stage) {
+            self.stage = Stage::Behind;
+            return None;
         }
+        self.stage = Stage::At;
+        Some(&self.spans[..rank])
+    }
+}
+
+/// Puts the next part in its place. Where there is none, says so.
+fn step(axes: &[Axis], chunk: &[u64], spans: &mut [Span], stage: Stage) -> bool
+    requires { IsAtPart axes.now chunk.now spans.old stage }
+    ensures next { GivesPart axes.now chunk.now (left_parts axes.now chunk.now spans.old stage) result
+        spans.new }
+    ensures on { IsTrue result → AreOnAxes axes.now chunk.now spans.new }
+{
+    match stage {
+        Stage::Before => true,
+        Stage::At => go_on(axes, chunk, spans, 0),
+        Stage::Behind => false,
     }
 }
 
