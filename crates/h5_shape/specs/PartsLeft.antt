@@ -39,11 +39,13 @@ pub record IsOnAxis (a : Axis) (box : ℕ) (s : Span) : Type 0 where
   pub some : 0 < s.length
   pub inside : s.from + s.length ≤ a.count * a.block
 
+-- the same of each axis and its size
 abbrev pub AreBoxed : Slab → List ℕ → Type 0
 AreBoxed [] [] = ⊤
 AreBoxed (a ∷ rest) (b ∷ bs) = IsBoxed a b × AreBoxed rest bs
 AreBoxed _ _ = ⊥
 
+-- the same of each span of a part
 abbrev pub AreOnAxes : Slab → List ℕ → List Span → Type 0
 AreOnAxes [] [] [] = ⊤
 AreOnAxes (a ∷ rest) (b ∷ bs) (s ∷ ss) = IsOnAxis a b s × AreOnAxes rest bs ss
