@@ -5,3 +5,12 @@ pub mod AxisLaws
 pub mod RunLaws
 pub mod LeftLaws
 pub mod SlabRuns
+pub mod AlongLaws
+pub mod SpanLaws
+pub mod PartLaws
+pub mod SlabParts
+pub mod GroupLaws
+pub mod PartedLaws
+pub mod PositionLaws
+pub mod CornerLaws
+pub mod PartExamples

@@ -2,3 +2,8 @@ pub mod Slab
 pub mod Loops
 pub mod Runs
 pub mod Left
+pub mod Parts
+pub mod PartsLeft
+pub mod PartCells
+pub mod PartsStand
+pub mod PartLent

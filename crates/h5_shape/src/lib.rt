@@ -3,9 +3,11 @@
 
 mod dims;
 mod loops;
+mod parts;
 mod runs;
 mod slab;
 
 pub use dims::{Dims, MAX_CELLS, MAX_RANK};
+pub use parts::{ChunkParts, Span};
 pub use runs::{CellRun, CellRuns};
 pub use slab::{Slab, SlabFault};

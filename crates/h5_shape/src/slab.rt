@@ -1,12 +1,15 @@
 //! Hyperslab selections (HDF5 dataspace reference, H5Sselect_hyperslab).
-ghost use Rattle.std.specs.Prelude.{◌≡◌, ◌-◌, ◌^◌, ◌≤◌, ◌↔◌, IsTrue, length, min};
+ghost use Rattle.std.specs.Prelude.{◌≡◌, ◌-◌, ◌^◌, ◌≤◌, ◌↔◌, IsTrue, EachIndex, length, min, replicate, slice_index};
 ghost use Rattle.std.specs.List.{list_any};
 ghost use Rattle.h5_model.specs.Views.Selection.{Within, axes_from, fits_along, fits_all, has_no_stride, is_one_run, is_within as is_within_sizes, overlaps, selected_cells, selection_of, selects_none};
 ghost use Rattle.h5_model.specs.Tree.Places.{cells as cells_of};
+ghost use Rattle.h5_shape.specs.Parts.{parts_of};
+ghost use Rattle.h5_shape.specs.PartCells.{AreParted};
 ghost use Rattle.h5_shape.specs.Runs.{AreMaximal, places_in, cell_runs};
 
 use crate::dims::{Dims, MAX_RANK};
 use crate::loops::LoopNest;
+use crate::parts::ChunkParts;
 use crate::runs::CellRuns;
 use h5_model::{Axis, Hyper};
 use std::marker::Model;
@@ -123,6 +126,22 @@ impl Slab {
     {
         let mut runs = self.runs(dims);
         runs.next().is_some() && runs.next().is_none()
+    }
+
+    /// The boxes of the grid of chunks of these sizes that hold a selected cell, and which of the selected cells each of
+    /// them holds, in row-major order. Boxes past an extent count as well. It takes no memory. That there are as many sizes
+    /// as dimensions, none of them 0, and that no selected index passes `u64::MAX`, are the caller's conditions.
+    pub fn chunk_parts<'a>(&'a self, chunk: &'a [u64]) -> ChunkParts<'a>
+        requires rank { length chunk.now ≡ length self.now }
+        requires sizes { EachIndex chunk.now (λ d. 1 ≤ slice_index chunk.now d) }
+        requires top { Within (replicate (length self.now) (2 ^ 64)) self.now }
+        ensures value { result ≡ parts_of self.now chunk.now }
+        ensures parted { AreParted self.now chunk.now result }
+    {
+        if is_empty(self.axes()) {
+            return ChunkParts::none(self.axes(), chunk);
+        }
+        ChunkParts::new(self.axes(), chunk)
     }
 }
 
