@@ -9,7 +9,7 @@ use Rattle.h5_model.specs.declared.dataset.Spec.{Spec}
 use Rattle.h5_model.specs.declared.edits.Edit.{Edit}
 use Rattle.h5_model.specs.declared.edits.Edit.TheVariants.{CreateGroup, CreateDataset, HardLink, SoftLink, Unlink, SetAttr, RemoveAttr, Write, Resize}
 use Rattle.h5_edit.specs.Carried.{is_carried}
-use Rattle.h5_edit.proofs.FitLaws.ChangedTrees.{EachHolds, each_put, each_at, each_linked, each_linked_to}
+use Rattle.h5_edit.proofs.FitLaws.ChangedTrees.{EachHolds, each_put, each_at, each_linked, each_linked_to, each_unlinked}
 
 module _ (Holds : ℕ → Dataset → Type 0) where
   -- what of an object is an array holds
@@ -55,7 +55,7 @@ module _ (Holds : ℕ → Dataset → Type 0) where
         (each_linked HoldsInside links_hold tree path (ToObject next) each) (array_holds spec next (new spec))
     edited_each tree (HardLink target path) each plain = each_linked_to HoldsInside links_hold tree target path each
     edited_each tree (SoftLink text path) each plain = each_linked HoldsInside links_hold tree path (Soft text) each
-    edited_each tree (Unlink path) each plain = absurd (let never : false ≡ true = plain in cc)
+    edited_each tree (Unlink path) each plain = each_unlinked HoldsInside (λ name number o holds. links_hold (λ links. remove links name) number o holds) tree path each
     edited_each tree (SetAttr path attr) each plain =
         each_at HoldsInside tree path (with_attributes (λ m. insert m attr.name (attribute_from attr))) each (λ number o at there. each number o there)
     edited_each tree (RemoveAttr path name) each plain =

@@ -8,3 +8,4 @@ pub mod NumberedLaws
 pub mod ObjectLaws
 pub mod ChangeLaws
 pub mod StoredSlots
+pub mod SlotLaws

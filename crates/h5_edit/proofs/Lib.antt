@@ -6,6 +6,7 @@ pub mod LowRead
 pub mod Refusals
 pub mod Fitting
 pub mod Answered
+pub mod AnsweredUnlinks
 pub mod RuleLaws
 pub mod RunLaws
 pub mod WrittenTrees

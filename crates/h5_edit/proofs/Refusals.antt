@@ -99,7 +99,8 @@ module _ {f : FileState} (sound : IsSound f) (edit : Edit) (carried : is_carried
     by_test true is = is
     by_test false is =
         let low = read_low f.image f.table f.tree (sound.placed, sound.reads) in
-        absurd (deep (edited_low (leaf_k f.image) (internal_k f.image) f.tree edit f.next carried is low))
+        let superblock = sound.reads.holds.superblock in
+        absurd (deep (edited_low (leaf_k f.image) (internal_k f.image) superblock.leaf_low superblock.internal_low f.tree edit f.next carried is low))
 
   pub by_rule : (e : EditFault) → refusal_of f.tree f.next edit ≡ Some e → IsRefused f edit e
   by_rule e h = by_adding f edit carried (long_or_short f sound edit carried) adds_link e h

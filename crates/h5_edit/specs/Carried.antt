@@ -11,7 +11,7 @@ use Rattle.h5_model.specs.Edits.Refusal.{refusal_of}
 use Rattle.h5_model.specs.Format.Superblock.{leaf_k, internal_k}
 use Rattle.h5_model.specs.Tree.Objects.{Tree, Dataset, Storage, Compact, Contiguous, Chunked}
 use Rattle.h5_model.specs.declared.edits.Edit.{Edit}
-use Rattle.h5_model.specs.declared.edits.Edit.TheVariants.{CreateGroup, CreateDataset, HardLink, SoftLink, SetAttr, RemoveAttr, Write}
+use Rattle.h5_model.specs.declared.edits.Edit.TheVariants.{CreateGroup, CreateDataset, HardLink, SoftLink, Unlink, SetAttr, RemoveAttr, Write}
 use Rattle.h5_model.specs.declared.edit_fault.EditFault.{EditFault}
 use Rattle.h5_model.specs.declared.edit_fault.EditFault.TheVariants as fault
 use Rattle.h5_query.specs.Opened.State.{FileState}
@@ -20,12 +20,13 @@ use Rattle.h5_edit.specs.StoredChunks.{HasLengthAnew}
 
 -- ---- which edits are carried
 
--- a new group, array or link, and every change of attributes
+-- a new group, array or link, a link that is taken away, and every change of attributes
 abbrev pub is_carried : Edit → Bool
 is_carried (CreateGroup path) = true
 is_carried (CreateDataset path spec) = true
 is_carried (HardLink target path) = true
 is_carried (SoftLink text path) = true
+is_carried (Unlink path) = true
 is_carried (SetAttr path attr) = true
 is_carried (RemoveAttr path name) = true
 is_carried _ = false

@@ -1,2 +1,3 @@
 pub mod Allowed
+pub mod Removed
 pub mod Rules

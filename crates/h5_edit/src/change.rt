@@ -4,9 +4,11 @@ mod attributes;
 mod cells;
 mod change;
 mod edit;
+mod left;
 mod links;
 mod objects;
 mod parts;
 
 pub use change::{Change, Target};
+pub(crate) use left::left_objects;
 pub(crate) use objects::{changed_objects, opened_objects};

@@ -12,6 +12,7 @@ mod links;
 mod made;
 mod repacked;
 mod rules;
+mod unlinked;
 mod write;
 
 pub use attributes::{remove_attr, set_attr};
@@ -24,4 +25,5 @@ pub use h5_repack::empty_image;
 pub use links::{create_dataset, create_group, hard_link, soft_link};
 pub use made::Made;
 pub use repacked::repack;
+pub use unlinked::unlink;
 pub use write::write_run;

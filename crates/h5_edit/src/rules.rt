@@ -1,6 +1,6 @@
 //! Why an edit of an opened image is refused by its tree, in the order of the refusals' numbers, and where an edit takes place that is
 //! not refused (links, cells and attributes: File Format Specification 3.0, sections III.C, IV.A.2.i and IV.A.2.m). Nothing here takes
-//! memory.
+//! memory but the check of an unlink.
 mod array;
 mod attribute;
 mod limits;
@@ -8,6 +8,7 @@ mod links;
 mod place;
 mod store;
 mod text;
+mod unlink;
 mod values;
 mod write;
 
@@ -15,4 +16,5 @@ pub use array::check_create_dataset;
 pub use attribute::{check_remove_attr, check_set_attr};
 pub use links::{check_create_group, check_hard_link, check_soft_link};
 pub use place::NewPlace;
+pub use unlink::{Removal, check_unlink};
 pub(crate) use write::check_write;

@@ -11,5 +11,6 @@ pub mod DatasetChanges
 pub mod Fewer
 pub mod Unlinked
 pub mod NewPaths
+pub mod Removed
 pub mod Applied
 pub mod Read

@@ -7,7 +7,8 @@ use Rattle.std.specs.Ordering.{nat_cmp, eq_by_cmp}
 use Rattle.std.specs.Cmp.Lexicographic.{slice_cmp, nat_list_cmp_total}
 use Rattle.std.specs.declared.cmp.Ordering.{Ordering}
 use Rattle.std.specs.declared.cmp.Ordering.TheVariants.{Less, Equal}
-use Rattle.std.specs.FinMap.{entries, insert, remove, put, is_sorted, from_sorted, entries_sorted, entries-insert, entries-from_sorted, same_entries_map, nat_cmp-IsAntisymmetric, slice_cmp-IsAntisymmetric}
+use Rattle.std.specs.List.{filter}
+use Rattle.std.specs.FinMap.{FinMap, entries, insert, remove, put, is_sorted, from_sorted, entries_sorted, entries-insert, entries-from_sorted, same_entries_map, nat_cmp-IsAntisymmetric, slice_cmp-IsAntisymmetric}
 use Rattle.std.specs.FinMap.Entries.{by_order, is_sorted-where_key}
 use Rattle.h5_model.proofs.MapSteps.{remove_by_name, entries_by_name}
 use Rattle.h5_model.specs.Tree.Objects.{Attribute, Attributes}
@@ -62,19 +63,25 @@ place_end {X = X} name es at below is = record {
 
 -- ---- the entries of attributes with one more, and with one less
 
-by_entries : (m : Attributes) → m ≡ from_sorted (entries m)
+by_entries : {X : Type 0} (m : FinMap (slice_cmp nat_cmp) X) → m ≡ from_sorted (entries m)
 by_entries m = same_entries_map m (from_sorted (entries m)) (sym (entries-from_sorted (slice_cmp nat_cmp) (entries m) (entries_sorted m)))
 
 is_true : (b : Bool) → T b → b ≡ true
 is_true true h = refl
 is_true false h = absurd h
 
-pub entries-removed : (m : Attributes) (name : List ℕ) → entries (remove m name) ≡ without name (entries m)
-entries-removed m name =
+-- whatever stands under the names
+pub entries-less : {X : Type 0} (m : FinMap (slice_cmp nat_cmp) X) (name : List ℕ)
+    → entries (remove m name) ≡ filter (λ (e : List ℕ × X). not (eq_by_cmp (slice_cmp nat_cmp) name e.0)) (entries m)
+entries-less {X = X} m name =
+    let left : List (List ℕ × X) = filter (λ (e : List ℕ × X). not (eq_by_cmp (slice_cmp nat_cmp) name e.0)) (entries m) in
     let sorted : is_sorted (slice_cmp nat_cmp) (entries m) ≡ true = is_true _ (entries_sorted m) in
-    let still : is_sorted (slice_cmp nat_cmp) (without name (entries m)) ≡ true
+    let still : is_sorted (slice_cmp nat_cmp) left ≡ true
     = is_true _ (is_sorted-where_key (slice_cmp nat_cmp) (λ x. not (eq_by_cmp (slice_cmp nat_cmp) name x)) (entries m) (entries_sorted m)) in
-    ap (λ (n : Attributes). entries (remove n name)) (by_entries m) ∙ ap entries (remove_by_name (entries m) name sorted) ∙ entries_by_name (without name (entries m)) still
+    ap (λ (n : FinMap (slice_cmp nat_cmp) X). entries (remove n name)) (by_entries m) ∙ ap entries (remove_by_name (entries m) name sorted) ∙ entries_by_name left still
+
+pub entries-removed : (m : Attributes) (name : List ℕ) → entries (remove m name) ≡ without name (entries m)
+entries-removed m name = entries-less m name
 
 pub entries-set : (m : Attributes) (name : List ℕ) (a : Attribute) → entries (insert m name a) ≡ put (slice_cmp nat_cmp) name a (entries m)
 entries-set m name a = entries-insert nat_list_cmp_total m name a

@@ -1,12 +1,14 @@
 -- Trees of which one object is put, changed, or linked: what holds of each object and its number before holds of each behind (File Format
 -- Specification 3.0, sections III and IV.A).
-use Rattle.std.proofs.Common.{◌≡◌, inl, inr, ℕ, List, Option, Some, None, refl, sym, ap, ◌∙◌, subst}
-use Rattle.std.specs.FinMap.{get, insert}
+use Rattle.std.proofs.Common.{◌≡◌, inl, inr, ℕ, List, Bool, true, false, cond, Option, Some, None, refl, sym, ap, ◌∙◌, subst}
+use Rattle.std.specs.FinMap.{get, insert, remove, retain_keys, get-retain_keys, nat_cmp-IsAntisymmetric}
+use Rattle.std.specs.Ordering.{nat_cmp}
+use Rattle.std.specs.declared.cmp.Ordering.TheVariants.{Equal}
 use Rattle.std.specs.Option.{option_map_or}
 use Rattle.std.proofs.lemmas.Option.{same_Some}
-use Rattle.h5_model.specs.Edits.Applied.{linked, linked_to, with_links, with_object_at}
+use Rattle.h5_model.specs.Edits.Applied.{linked, linked_to, unlinked, with_links, with_object_at}
 use Rattle.h5_model.specs.Tree.Paths.{object_at, parent_at}
-use Rattle.h5_model.specs.Tree.Objects.{Tree, Object, Links, Link, ToObject, with_object}
+use Rattle.h5_model.specs.Tree.Objects.{Tree, Object, Links, Link, ToObject, is_reached, only_reached, with_object}
 use Rattle.h5_laws.proofs.SoundLaws.Inserted.{same_number_or_other, number_here, number_other}
 
 module _ (Holds : ℕ → Object → Type 0) where
@@ -51,3 +53,21 @@ module _ (Holds : ℕ → Object → Type 0) where
       go : (found : Option ℕ) → EachHolds (option_map_or (λ number. linked tree path (ToObject number)) found tree)
       go None = each
       go (Some number) = each_linked tree path (ToObject number) each
+
+  -- ---- a link less
+
+  each_kept : (tree : Tree) (keep : ℕ → Bool) → ((q x : ℕ) → nat_cmp q x ≡ Equal → keep x ≡ keep q) → EachHolds tree → EachHolds (retain_keys tree keep)
+  each_kept tree keep alike each number o at = go (keep number) (sym (get-retain_keys tree keep number (alike number)) ∙ at) where
+    go : (b : Bool) → cond b (get tree number) None ≡ Some o → Holds number o
+    go true there = each number o there
+    go false never = absurd (let none : None ≡ Some o = never in cc)
+
+  module _ (less : (name : List ℕ) (number : ℕ) (o : Object) → Holds number o → Holds number (with_links (λ links. remove links name) o)) where
+    -- and what no path reaches any more is left out
+    pub each_unlinked : (tree : Tree) (path : List ℕ) → EachHolds tree → EachHolds (only_reached (unlinked tree path))
+    each_unlinked tree path each =
+        each_kept (unlinked tree path) (is_reached (unlinked tree path)) (λ q x tied. ap (is_reached (unlinked tree path)) (sym (nat_cmp-IsAntisymmetric q x tied)))
+        (go (parent_at tree path)) where
+          go : (found : Option (ℕ × List ℕ)) → EachHolds (option_map_or (λ p. with_object tree p.0 (with_links (λ links. remove links p.1))) found tree)
+          go None = each
+          go (Some p) = each_changed tree p.0 (with_links (λ links. remove links p.1)) each (λ o there. less p.1 p.0 o (each p.0 o there))

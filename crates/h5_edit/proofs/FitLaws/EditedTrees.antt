@@ -2,7 +2,7 @@
 -- sections III and IV.A).
 use Rattle.std.proofs.Common.{◌≡◌, ℕ, ◌+◌, ◌≤◌, List, length, true, false, Option, Some, sym, ap, ◌∙◌, arith}
 use Rattle.std.specs.Prelude.{nat_lt}
-use Rattle.std.specs.FinMap.{get, insert, empty}
+use Rattle.std.specs.FinMap.{get, insert, remove, empty}
 use Rattle.std.specs.Option.{option_and_then, option_map_or}
 use Rattle.std.proofs.lemmas.Bool.Decides.{nat_tests}
 use Rattle.h5_model.specs.Edits.Applied.{applied, linked, with_attributes, with_links, with_object_at, new_object, new_dataset, attribute_from}
@@ -19,7 +19,7 @@ use Rattle.h5_query.specs.Opened.State.{FileState}
 use Rattle.h5_edit.specs.Carried.{is_message_total_full}
 use Rattle.h5_edit.specs.Fits.Laws.{AreBytes, EditedPlain}
 use Rattle.h5_edit.proofs.FitLaws.ChangedAttributes.{with_set, plain_set, few_set, with_removed, plain_removed, few_removed_others, accepted_attribute}
-use Rattle.h5_edit.proofs.FitLaws.ChangedTrees.{each_put, each_at, each_linked, each_linked_to}
+use Rattle.h5_edit.proofs.FitLaws.ChangedTrees.{each_put, each_at, each_linked, each_linked_to, each_unlinked}
 use Rattle.h5_edit.proofs.FitLaws.NewArrays.{plain_new_array, accepted_spec}
 use Rattle.h5_edit.proofs.FitLaws.OpenedTrees.{IsRead, object_read, plain_content, plain_read, opened_plain}
 use Rattle.h5_edit.proofs.FitLaws.PlainObjects.{plain_new, no_others}
@@ -119,7 +119,8 @@ edited_plain f (CreateDataset path spec) low sound typed carried accepted roomy 
     (new_array (new_dataset spec) (λ n few. plain_new_array spec formed n typed.0 typed.1 few))
 edited_plain f (HardLink target path) low sound typed carried accepted roomy = each_linked_to (λ n. IsPlain) plain_linked f.tree target path (opened_plain f low sound)
 edited_plain f (SoftLink text path) low sound typed carried accepted roomy = each_linked (λ n. IsPlain) plain_linked f.tree path (Soft text) (opened_plain f low sound)
-edited_plain f (Unlink path) low sound typed carried accepted roomy = absurd (let never : false ≡ true = carried in cc)
+edited_plain f (Unlink path) low sound typed carried accepted roomy =
+    each_unlinked (λ n. IsPlain) (λ name number o plain. plain_links (λ links. remove links name) o plain) f.tree path (opened_plain f low sound)
 edited_plain f (SetAttr path attr) low sound typed carried accepted roomy =
     plain_attribute_set f low sound path attr (accepted_attribute f.tree f.next path attr typed accepted) roomy
 edited_plain f (RemoveAttr path name) low sound typed carried accepted roomy =

@@ -53,7 +53,7 @@ module _ (f : FileState) (number : ℕ) (o : OpenedObject) (of : IsObjectOf f nu
         let none : links_of T 0 ≡ None = subst (λ (n : ℕ). links_of T n ≡ None) zero_number (array_no_group f number o of is) in
         no_links (links_of T 0) none sound.reads.holds.root_group
 
-    links_counted : reference_count (prefix_at f.image o.messages.header) ≡ hard_links T number
+    pub links_counted : reference_count (prefix_at f.image o.messages.header) ≡ hard_links T number
     links_counted =
         let reads = sound.reads in
         let entry : In (number, o.messages.header) (entries f.table) = entry_of_get f.table number o.messages.header of.header in

@@ -55,7 +55,7 @@ module _ (tree : Tree) (path : List ℕ) where
   long = option_map_or last_is_long (names_of path) false
 
   -- the path of no name leads to the root
-  at_root : is_root path ≡ true → located tree path ≡ Here (ToObject 0)
+  pub at_root : is_root path ≡ true → located tree path ≡ Here (ToObject 0)
   at_root h = elim (names_of path) as (λ o. option_map_or (λ names. length names == 0) o false ≡ true
       → option_map_or (λ names. locate tree (ToObject 0) names) o NoPath ≡ Here (ToObject 0)) [
         | None ↦ λ no. absurd (cc)
@@ -76,7 +76,7 @@ module _ (tree : Tree) (path : List ℕ) where
     root_refused none = left ∙ ap (λ root. new_rest root (located tree path) long) (ap (λ o. option_map_or (λ names. length names == 0) o false) none)
 
     module _ (parent : ℕ) (name : List ℕ) (there : parent_at tree path ≡ Some (parent, name)) where
-      below_root : is_root path ≡ false
+      pub below_root : is_root path ≡ false
       below_root = elim (names_of path) as (λ o. option_and_then (parent_from tree (ToObject 0)) o ≡ Some (parent, name)
           → option_map_or (λ names. length names == 0) o false ≡ false) [
             | None ↦ λ no. absurd (cc)

@@ -7,7 +7,7 @@ use Rattle.std.specs.Cmp.Lexicographic.{nat_list_cmp_total}
 use Rattle.std.specs.FinMap.{get, insert, remove, empty, get-empty, nat_cmp-IsAntisymmetric}
 use Rattle.h5_model.specs.Tree.Objects.{Tree, Object, Content, Group, Array, Links, Link, ToObject, Soft, link_in, leads_to, links_to, hard_links}
 use Rattle.h5_model.specs.Edits.Applied.{new_object}
-use Rattle.h5_laws.proofs.SoundLaws.Sums.{weight, sum_insert, sum_none, sum_least, sum_two, sum_fewer}
+use Rattle.h5_laws.proofs.SoundLaws.Sums.{weight, sum_insert, sum_none, sum_least, sum_two, sum_fewer, sum_remove, sum_some}
 use Rattle.h5_laws.proofs.SoundLaws.Inserted.{names_differ, removed_was}
 use Rattle.h5_laws.proofs.SoundLaws.LinksThere.{GroupAt, LinkAt, link_at, link_is}
 
@@ -43,6 +43,11 @@ pub fewer_removed : (n : ℕ) (links : Links) (name : List ℕ) → links_to n (
 fewer_removed n links name =
     sum_fewer nat_list_cmp_total (adds n) names_differ (Soft []) refl links (remove links name)
     (λ x l is. let was = ap (weight (adds n)) (removed_was links name x l is) in omega (arith, was))
+
+-- a link less is one less of those that lead where it led
+pub less_links : (n : ℕ) (links : Links) (name : List ℕ) (link : Link) → get links name ≡ Some link
+    → links_to n (Group links) ≡ links_to n (Group (remove links name)) + adds n link
+less_links n links name link there = sum_remove nat_list_cmp_total (adds n) names_differ links name link there
 
 -- ---- what a count says
 
@@ -97,3 +102,22 @@ none_named tree n none =
     sum_none nat_cmp_total (led_by n) tree (λ a o stands. content_none n o.content (λ links is name there.
     let g : GroupAt tree a = record { object = o; links = links; stands = stands; is = is } in
     none a name (link_is tree a g name ∙ there)))
+
+-- ---- an object that some link names
+
+content_some : (n : ℕ) (c : Content) → 1 ≤ links_to n c → (links : Links) × (name : List ℕ) × (c ≡ Group links) × (get links name ≡ Some (ToObject n))
+content_some n (Array d) many = absurd (omega (arith, many))
+content_some n (Group links) many =
+    let one = sum_some nat_list_cmp_total (adds n) links many in
+    elim (leads_or n one.1) [
+      | inl leads ↦ (links, one.0, refl, one.2 ∙ ap (λ (l : Link). Some l) leads)
+      | inr none ↦ absurd (let some = one.3 in omega (arith, none, some))
+    ]
+
+-- a number that has a hard link is named by a link
+pub some_named : (tree : Tree) (n : ℕ) → 1 ≤ hard_links tree n → (a : ℕ) × (name : List ℕ) × (link_in tree a name ≡ Some (ToObject n))
+some_named tree n many =
+    let at = sum_some nat_cmp_total (led_by n) tree many in
+    let c = content_some n (at.1).content at.3 in
+    let g : GroupAt tree at.0 = record { object = at.1; links = c.0; stands = at.2; is = c.2 } in
+    (at.0, c.1, link_is tree at.0 g c.1 ∙ c.3)

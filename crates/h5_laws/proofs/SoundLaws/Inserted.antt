@@ -4,7 +4,7 @@ use Rattle.std.specs.Ordering.{nat_cmp, is_eq, eq_by_cmp}
 use Rattle.std.specs.declared.cmp.Ordering.{Ordering}
 use Rattle.std.specs.Cmp.{IsTotalOrder, Equal-is, tied_itself, nat_cmp_total}
 use Rattle.std.specs.Cmp.Lexicographic.{slice_cmp, nat_list_cmp_total}
-use Rattle.std.specs.FinMap.{FinMap, IsAntisymmetric, nat_cmp-IsAntisymmetric, slice_cmp-IsAntisymmetric, get, insert, remove, get-insert, get-remove}
+use Rattle.std.specs.FinMap.{FinMap, IsAntisymmetric, nat_cmp-IsAntisymmetric, slice_cmp-IsAntisymmetric, get, insert, remove, get-insert, get-remove, same_map}
 
 module _ {K : Type 0} {R : K → K → Ordering} (o : IsTotalOrder R) (same : IsAntisymmetric R) where
   tested : (b : Bool) (q k : K) → eq_by_cmp R q k ≡ b → (q ≡ k) ⊎ (q ≡ k → ⊥)
@@ -27,6 +27,22 @@ module _ {K : Type 0} {R : K → K → Ordering} (o : IsTotalOrder R) (same : Is
     -- and each other key what it had
     pub insert_other : (q : K) → (q ≡ k → ⊥) → get (insert m k v) q ≡ get m q
     insert_other q other = get-insert o m k v q ∙ ap (λ b. cond b (Some v) (get m q)) (untied (eq_by_cmp R q k) q k refl other)
+
+  module _ {X : Type 0} (m : FinMap R X) (k : K) where
+    -- a key that is removed has no value
+    pub removed_here : get (remove m k) k ≡ None
+    removed_here = get-remove o m k k ∙ ap (λ r. cond (is_eq r) None (get m k)) (tied_itself o k)
+
+    -- and each other key what it had
+    pub removed_other : (q : K) → (q ≡ k → ⊥) → get (remove m k) q ≡ get m q
+    removed_other q other = get-remove o m k q ∙ ap (λ b. cond b None (get m q)) (untied (eq_by_cmp R q k) q k refl other)
+
+    -- what is removed and put again is as before
+    pub put_again : (v : X) → get m k ≡ Some v → insert (remove m k) k v ≡ m
+    put_again v there = same_map o same (insert (remove m k) k v) m (λ q. elim (same_key_or_other q k) [
+      | inl here ↦ ap (get (insert (remove m k) k v)) here ∙ insert_here (remove m k) k v ∙ sym (ap (get m) here ∙ there)
+      | inr other ↦ insert_other (remove m k) k v q other ∙ removed_other q other
+    ])
 
 -- ---- keys that are numbers, and keys that are names
 

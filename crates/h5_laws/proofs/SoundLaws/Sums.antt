@@ -7,14 +7,15 @@ use Rattle.std.specs.Ordering.{is_lt, is_eq}
 use Rattle.std.specs.declared.cmp.Ordering.{Ordering}
 use Rattle.std.specs.declared.cmp.Ordering.TheVariants.{Less, Equal, Greater}
 use Rattle.std.specs.Cmp.{IsTotalOrder, tied_itself}
-use Rattle.std.specs.FinMap.{FinMap, IsAntisymmetric, get, insert, entries, values, find, put, is_sorted, get-entries, entries_sorted, entries-insert}
+use Rattle.std.specs.FinMap.{FinMap, IsAntisymmetric, get, insert, remove, entries, values, find, put, is_sorted, get-entries, entries_sorted, entries-insert}
 use Rattle.std.specs.FinMap.Entries.{below_all, by_order}
+use Rattle.std.proofs.lemmas.Bool.{cases_lt}
 use Rattle.std.proofs.lemmas.List.Sums.{sum_by-cons}
 use Rattle.h5_model.proofs.ReachLaws.{halves, below_entry}
 use Rattle.h5_laws.proofs.Lists.{In}
 use Rattle.h5_laws.proofs.Maps.{true_of, to_entry, get_of_entry}
 use Rattle.h5_laws.proofs.Ascending.{less_of}
-use Rattle.h5_laws.proofs.SoundLaws.Inserted.{insert_other}
+use Rattle.h5_laws.proofs.SoundLaws.Inserted.{insert_other, put_again, removed_here}
 
 abbrev pub weight : {X : Type 0} → (X → ℕ) → Option X → ℕ
 weight f o = option_map_or f o 0
@@ -93,3 +94,22 @@ module _ {K X : Type 0} {R : K → K → Ordering} (o : IsTotalOrder R) where
         → sum_by f (values fewer) ≤ sum_by f (values m)
     sum_fewer same z nothing m fewer low =
         total_fewer same z nothing (entries fewer) (entries_sorted fewer) m (λ k v at. low k v (get_of_entry o fewer k v at))
+
+    -- a value that is removed is taken away
+    pub sum_remove : IsAntisymmetric R → (m : FinMap R X) (k : K) (v : X) → get m k ≡ Some v → sum_by f (values m) ≡ sum_by f (values (remove m k)) + f v
+    sum_remove same m k v there =
+        let again = ap (λ (n : FinMap R X). sum_by f (values n)) (put_again o same m k v there) in
+        let put = sum_insert (remove m k) k v in
+        let none = ap (weight f) (removed_here o same m k) in
+        omega (arith, again, put, none)
+
+    total_some : (es : List (K × X)) → 1 ≤ total es → (k : K) × (v : X) × In (k, v) es × (1 ≤ f v)
+    total_some [] many = absurd (omega (arith, many))
+    total_some (e ∷ es) many = elim (cases_lt 0 (f e.1)) [
+      | inl some ↦ (e.0, e.1, inl refl, omega (arith, some))
+      | inr none ↦ let rest = total_some es (omega (arith, many, none, total_cons e es)) in (rest.0, rest.1, inr rest.2, rest.3)
+    ]
+
+    -- where there is a sum, some value counts
+    pub sum_some : (m : FinMap R X) → 1 ≤ sum_by f (values m) → (k : K) × (v : X) × (get m k ≡ Some v) × (1 ≤ f v)
+    sum_some m many = let e = total_some (entries m) many in (e.0, e.1, get_of_entry o m e.0 e.1 e.2, e.3)

@@ -61,7 +61,7 @@ no_more_links name o n = go o.content where
   go (Group links) = fewer_removed n links name
   go (Array d) = omega arith
 
-fewer_unlinked : (tree : Tree) (path : List ℕ) → IsFewer tree (unlinked tree path)
+pub fewer_unlinked : (tree : Tree) (path : List ℕ) → IsFewer tree (unlinked tree path)
 fewer_unlinked tree path = at_parent (parent_at tree path) where
   at_number : (number : ℕ) (name : List ℕ) (found : Option Object) → get tree number ≡ found → IsFewer tree (option_map_or (λ o. insert tree number (without name o)) found tree)
   at_number number name None is = fewer_itself tree
