@@ -28,16 +28,10 @@ use Rattle.h5_edit.specs.Carried.{is_anew, may_lack_cells, tree_after}
 use Rattle.h5_edit.specs.Edited.{IsEdited}
 use Rattle.h5_edit.specs.InRun.{IsInRun, IsRunOf, is_in_one_block}
 use Rattle.h5_edit.specs.Refusals.Allowed.{IsAt}
+use Rattle.h5_edit.proofs.ChangedLaws.NumberedLaws.{insert_there}
 use Rattle.h5_edit.proofs.RuleLaws.TableLaws.{or_false}
 use Rattle.h5_edit.proofs.Refusals.{given_in_place}
 use Rattle.h5_edit.proofs.RunLaws.{run_from_start}
-
--- an object that stands there anyhow
-pub insert_there : (tree : Tree) (number : ℕ) (o : Object) → get tree number ≡ Some o → insert tree number o ≡ tree
-insert_there tree number o there = same_map nat_cmp_total nat_cmp-IsAntisymmetric (insert tree number o) tree (λ n. elim (same_number_or_other n number) [
-  | inl same ↦ ap (get (insert tree number o)) same ∙ number_here tree number o ∙ sym there ∙ ap (get tree) (sym same)
-  | inr other ↦ number_other tree number o n other
-])
 
 -- no cell is written
 storage_kept : (s : Storage) → written_storage [] s ≡ s

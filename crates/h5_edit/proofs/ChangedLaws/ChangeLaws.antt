@@ -3,7 +3,7 @@ use Rattle.std.proofs.lemmas.List.{append-nil, length-map}
 use Rattle.std.proofs.Common.{◌≡◌, ℕ, ◌+◌, ◌<◌, ◌≤◌, inl, inr, length-append, List, [], ◌∷◌, ◌++◌, length, Bool, true, false, cond, Option, Some, None, refl, sym, ap, ◌∙◌, subst, arith}
 use Rattle.std.specs.Borrow.{Bor}
 use Rattle.std.specs.Prelude.{◌==◌, IsSome, slice_get, if◌then◌else◌, option_map, option_to_list}
-use Rattle.std.specs.Option.{IfSome, option_and_then, option_flatten}
+use Rattle.std.specs.Option.{IfSome, option_and_then, option_flatten, option_map_or}
 use Rattle.std.specs.List.{AllByRecursion, AllZip}
 use Rattle.std.specs.Ordering.{nat_cmp}
 use Rattle.std.specs.Cmp.{nat_cmp_total, unsigned_tied}
@@ -32,7 +32,7 @@ use Rattle.h5_edit.specs.declared.change.change.Target.TheVariants as target
 use Rattle.h5_edit.specs.declared.change.edit.ObjectEdit.{ObjectEdit}
 use Rattle.h5_edit.specs.declared.change.edit.ObjectEdit.TheVariants as edit
 use Rattle.h5_edit.specs.Fitting.{made_by, made_in}
-use Rattle.h5_edit.proofs.ChangedLaws.NumberedLaws.{at_place, at_places, at_places-append, filled_slots, found_one_more, get_changed, length-at_places, numbered_more, numbered_with, with_new, zip_append, zip_filled}
+use Rattle.h5_edit.proofs.ChangedLaws.NumberedLaws.{at_place, at_places, at_places-append, filled_slots, found_one_more, get_changed, length-at_places, numbered_more, numbered_with, with_new, zip_append, zip_filled, insert_there}
 
 -- ---- the changed tree
 
@@ -231,6 +231,13 @@ module _ (tree : Tree) (next place : ℕ) (change : Object → Object) (written 
       | inr past ↦ none_past k past (get tree k) refl ∙ sym (ap option_flatten (slice_get_past so.listed k (omega (arith, past, so.counted))))
     ]
 
+-- no edit
+pub unedited : (tree : Tree) (place : ℕ) → with_object tree place (edited_by None) ≡ tree
+unedited tree place = by_found (get tree place) refl where
+  by_found : (found : Option Object) → get tree place ≡ found → option_map_or (λ o. insert tree place o) found tree ≡ tree
+  by_found None is = refl
+  by_found (Some o) is = insert_there tree place o is
+
 made_counted : (t : Target) → length (new_target t) ≡ made_by t
 made_counted target.Group = refl
 made_counted (target.Array spec) = refl
@@ -256,11 +263,11 @@ module _ (tree : Tree) (change : Change) (next place : ℕ) (e : ObjectEdit) (is
   -- and those of the changed tree
   pub all_written : AreObjects all (changed tree change next)
   all_written =
-      let first : length written ≡ length so.listed = AllZip-long (SlotsHold IsNewObject) written so.listed so.each in
+      let first : length so.listed ≡ length written = AllZip-long (SlotsHold IsNewObject) written so.listed so.each in
       record {
         listed = so.listed ++ filled_slots (new_objects change);
         numbered = λ k. ap (λ x. get x k) (changed_is tree change next place e is)
-            ∙ new_numbered change (with_object tree place (edited e)) so.listed so.numbered next (sym counted ∙ first) k;
+            ∙ new_numbered change (with_object tree place (edited e)) so.listed so.numbered next (sym counted ∙ sym first) k;
         each = subst (λ list. AllZip (SlotsHold IsNewObject) list (so.listed ++ filled_slots (new_objects change))) (sym longer)
             (zip_append (SlotsHold IsNewObject) written (filled_slots (option_to_list more)) so.listed (filled_slots (new_objects change)) so.each
             (zip_filled IsNewObject (option_to_list more) (new_objects change) new));

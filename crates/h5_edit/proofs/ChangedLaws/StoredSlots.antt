@@ -6,14 +6,32 @@ use Rattle.std.specs.FinMap.{get}
 use Rattle.std.proofs.lemmas.Bool.{cases_lt}
 use Rattle.std.proofs.lemmas.Bool.Decides.{nat_tests}
 use Rattle.std.proofs.lemmas.List.{append-nil, length-append}
-use Rattle.std.proofs.lemmas.Option.{slice_get_past}
-use Rattle.h5_model.specs.Tree.Objects.{Object, dataset_in}
-use Rattle.h5_query.specs.Opened.Sound.{IsSound}
+use Rattle.std.proofs.lemmas.Option.{same_Some, slice_get_past}
+use Rattle.h5_header.specs.Listed.{messages_in}
+use Rattle.h5_layout.specs.HeldChunks.{held_chunks}
+use Rattle.h5_layout.proofs.ArrayLaws.{has_dataset}
+use Rattle.h5_layout.proofs.KnownLaws.{known_in}
+use Rattle.h5_model.specs.Format.Addresses.{SymbolTable}
+use Rattle.h5_model.specs.Format.Messages.{Message}
+use Rattle.h5_model.specs.Format.Reads.{HasDataset}
+use Rattle.h5_model.specs.Tree.Objects.{Object, Content, Group, Array, Dataset, dataset_in}
+use Rattle.h5_query.specs.Data.{data_blocks, stored_chunks}
+use Rattle.h5_query.specs.Kept.{array_dataset}
+use Rattle.h5_query.specs.Opened.Kept.{IsContentKept}
+use Rattle.h5_query.specs.Opened.Objects.{content_in, object_in}
+use Rattle.h5_query.specs.OpenedObjectType.{OpenedObject}
+use Rattle.h5_query.specs.OpenedContentType.{OpenedContent}
+use Rattle.h5_query.specs.OpenedContentType.TheVariants as content
+use Rattle.h5_query.specs.Told.{array_told}
+use Rattle.h5_query.proofs.DataLaws.{data_there, told_chunks}
+use Rattle.h5_query.specs.Opened.Sound.{IsObjectOf, IsSound}
 use Rattle.h5_query.specs.Opened.State.{FileState}
 use Rattle.h5_query.proofs.OpenedLaws.Indexed.{next_free}
-use Rattle.h5_repack.specs.Objects.Objects.{slot_chunks, stored_in}
+use Rattle.h5_repack.specs.Objects.Objects.{content_chunks, slot_chunks, stored_in}
+use Rattle.h5_repack.specs.declared.objects.object.NewContent.{NewContent}
 use Rattle.h5_repack.specs.declared.objects.object.NewObject.{NewObject}
-use Rattle.h5_edit.specs.StoredChunks.{AreStoredAfter, AreStoredAt}
+use Rattle.h5_edit.specs.Changed.Cells.{AreChunksKept}
+use Rattle.h5_edit.specs.StoredChunks.{AreChunksOf, AreStoredAfter, AreStoredAt, AreStoredOf, HasStoredChunks}
 use Rattle.h5_edit.proofs.ChangedLaws.NumberedLaws.{filled_slots, found_one_more}
 
 -- the stored chunks of a slot more
@@ -26,8 +44,58 @@ stored_one_more slots slot k b is = ap slot_chunks (found_one_more slots slot k 
 
 module _ (f : FileState) where
   -- where no object has the number
-  none_at : (number : ℕ) (offsets : List (List ℕ)) → get f.tree number ≡ None → AreStoredAt f f.tree number offsets
+  pub none_at : (number : ℕ) (offsets : List (List ℕ)) → get f.tree number ≡ None → AreStoredAt f f.tree number offsets
   none_at number offsets none d array = absurd (let never : None ≡ Some d = sym (ap (option_and_then (λ (x : Object). dataset_in x.content)) none) ∙ array in cc)
+
+  -- ---- of an object of the image
+
+  module _ (number : ℕ) (o : OpenedObject) (of : IsObjectOf f number o) where
+    abbrev ms : List Message
+    ms = messages_in f.image o.messages.list
+
+    abbrev told : OpenedContent → Content
+    told = content_in f.image f.table ms
+
+    array_there : (c : Content) (d : Dataset) → dataset_in c ≡ Some d → c ≡ Array d
+    array_there (Group links) d is = absurd (cc)
+    array_there (Array e) d is = ap Array (same_Some e d is)
+
+    -- under its number
+    pub stored_at : (offsets : List (List ℕ)) → AreChunksOf f (object_in f.image f.table o) o.messages.header offsets → AreStoredAt f f.tree number offsets
+    stored_at offsets are d array chunk chunked =
+        let content : told o.content ≡ Array d = array_there (told o.content) d (sym (ap (option_and_then (λ (x : Object). dataset_in x.content)) of.there) ∙ array) in
+        subst (λ (found : Option ℕ). AreStoredOf f.image d.sizes found offsets) (sym of.header) (are d content chunk chunked)
+
+    -- a group has none
+    pub group_stored : (g : SymbolTable) → o.content ≡ content.Group g → (offsets : List (List ℕ)) → AreChunksOf f (object_in f.image f.table o) o.messages.header offsets
+    group_stored g is offsets d array = absurd (let never : told (content.Group g) ≡ Array d = sym (ap told is) ∙ array in cc)
+
+    -- those of an array that are handed over
+    pub array_stored : o.content ≡ content.Array → (x : NewContent) → AreChunksKept f.image ms (array_dataset f.image ms) x
+        → AreChunksOf f (object_in f.image f.table o) o.messages.header (content_chunks x)
+    array_stored is x kept d array chunk chunked =
+        let a = array_told ms in
+        let read = subst (IsContentKept f.image ms) is of.kept.content in
+        let same : array_dataset f.image ms ≡ d = (let both : Array (array_dataset f.image ms) ≡ Array d = sym (ap told is) ∙ array in cc) in
+        let has : HasDataset f.image ms (array_dataset f.image ms) (data_blocks f.image a.fixed a.layout)
+        = has_dataset f.image ms a (stored_chunks f.image a.fixed a.layout) (data_blocks f.image a.fixed a.layout) read.0.array
+        (known_in f.image o.messages.list of.kept.known (read.0.kinds).no_table) (data_there f.image a.fixed a.layout read.1) in
+        let chunks : HasStoredChunks f.image o.messages.header (stored_chunks f.image a.fixed a.layout) = record {
+          messages = ms;
+          header_blocks = o.messages.blocks;
+          listed = of.kept.header.has;
+          dataset = array_dataset f.image ms;
+          data_blocks = data_blocks f.image a.fixed a.layout;
+          array = has;
+          chunks_are = told_chunks f.image a.fixed has.layout has.chunks (data_blocks f.image a.fixed a.layout) has.stored
+              ∙ ap (stored_chunks f.image a.fixed) (same_Some has.layout a.layout (sym has.laid_out ∙ read.0.array.laid_out));
+        } in (
+          stored_chunks f.image a.fixed a.layout,
+          chunks,
+          kept chunk (ap (λ (e : Dataset). e.storage) same ∙ chunked) ∙ ap (λ (e : Dataset). held_chunks e.sizes (stored_chunks f.image a.fixed a.layout)) same,
+        )
+
+  -- ---- of the slots
 
   -- of the first so many slots
   pub record AreStoredBelow (slots : List (Option NewObject)) (n : ℕ) : Type 0 where

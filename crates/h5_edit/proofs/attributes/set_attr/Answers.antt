@@ -1,18 +1,14 @@
+use Rattle.std.proofs.Common.{refl}
 use Rattle.h5_model.specs.declared.edits.Edit.TheVariants.{SetAttr}
 use Rattle.h5_edit.proofs.RuleLaws.Exits.{passed_on}
 use Rattle.h5_edit.proofs.Fitting.{set_attr_fits, object_found, full_here}
-use Rattle.h5_edit.proofs.Refusals.{by_rule, by_header, not_written}
+use Rattle.h5_edit.proofs.Refusals.{by_rule, by_header}
 use Rattle.h5_edit.proofs.attributes.set_attr.Goals as goal
-
-pub returns-in_err-check_writable-clause-edited : goal.returns-in_err-check_writable-clause-edited
-returns-in_err-check_writable-clause-edited c =
-    passed_on _ _ c.from_residual.result _ c.from_residual.ensures.1
-    (not_written c.args.opened.now (SetAttr c.args.path.now c.args.attr.now) _ c.in_err-check_writable.ensures.exact)
 
 pub returns-in_err-number-clause-edited : goal.returns-in_err-number-clause-edited
 returns-in_err-number-clause-edited c =
-    passed_on _ _ c.from_residual-in_err-number.result _ c.from_residual-in_err-number.ensures.1
-    (by_rule c.in_err-number.ensures.sound (SetAttr c.args.path.now c.args.attr.now) c.in_ok-check_writable.ensures.exact _ c.in_err-number.ensures.at)
+    passed_on _ _ c.from_residual.result _ c.from_residual.ensures.1
+    (by_rule c.in_err-number.ensures.sound (SetAttr c.args.path.now c.args.attr.now) refl _ c.in_err-number.ensures.at)
 
 pub unwrap-object-requires : goal.unwrap-object-requires
 unwrap-object-requires c =
@@ -22,7 +18,7 @@ pub returns-then-list-gt-MAX_MESSAGES-clause-edited : goal.returns-then-list-gt-
 returns-then-list-gt-MAX_MESSAGES-clause-edited c =
     let at = c.in_ok-number.ensures.at in
     let of = rw c.unwrap-object.ensures at c.object.ensures.found in
-    by_header c.args.opened.now (SetAttr c.args.path.now c.args.attr.now) c.in_ok-check_writable.ensures.exact at.allowed
+    by_header c.args.opened.now (SetAttr c.args.path.now c.args.attr.now) refl at.allowed
     (full_here c.args.opened.now c.args.path.now c.args.attr.now c.in_ok-number.number c.unwrap-object.result.now at.object of
     (rw c.list.ensures at c.if-list-gt-MAX_MESSAGES.true))
 
@@ -30,7 +26,7 @@ pub carry_out-requires : goal.carry_out-requires
 carry_out-requires c =
     let of = rw c.unwrap-object.ensures at c.object.ensures.found in (
       SetAttr c.args.path.now c.args.attr.now,
-      set_attr_fits c.args.opened.now c.in_ok-check_writable.ensures.exact c.args.attr c.unwrap-object.result.now c.in_ok-number.ensures.typed c.in_ok-number.ensures.at of
+      set_attr_fits c.args.opened.now c.args.attr c.unwrap-object.result.now c.in_ok-number.ensures.typed c.in_ok-number.ensures.at of
           (rw c.list.ensures at c.if-list-gt-MAX_MESSAGES.false),
     )
 
@@ -38,4 +34,4 @@ pub returns-clause-edited : goal.returns-clause-edited
 returns-clause-edited c =
     let of = rw c.unwrap-object.ensures at c.object.ensures.found in
     c.carry_out.ensures (SetAttr c.args.path.now c.args.attr.now)
-    (set_attr_fits c.args.opened.now c.in_ok-check_writable.ensures.exact c.args.attr c.unwrap-object.result.now c.in_ok-number.ensures.typed c.in_ok-number.ensures.at of (rw c.list.ensures at c.if-list-gt-MAX_MESSAGES.false))
+    (set_attr_fits c.args.opened.now c.args.attr c.unwrap-object.result.now c.in_ok-number.ensures.typed c.in_ok-number.ensures.at of (rw c.list.ensures at c.if-list-gt-MAX_MESSAGES.false))

@@ -2,21 +2,16 @@ use Rattle.std.proofs.Common.{refl}
 use Rattle.h5_model.specs.declared.edits.Edit.TheVariants.{SoftLink}
 use Rattle.h5_edit.proofs.RuleLaws.Exits.{passed_on}
 use Rattle.h5_edit.proofs.Fitting.{soft_link_fits}
-use Rattle.h5_edit.proofs.Refusals.{by_adding, not_written}
+use Rattle.h5_edit.proofs.Refusals.{by_rule}
 use Rattle.h5_edit.proofs.links.soft_link.Goals as goal
-
-pub returns-in_err-check_writable-clause-edited : goal.returns-in_err-check_writable-clause-edited
-returns-in_err-check_writable-clause-edited c =
-    passed_on _ _ c.from_residual.result _ c.from_residual.ensures.1
-    (not_written c.args.opened.now (SoftLink c.args.text.now c.args.path.now) _ c.in_err-check_writable.ensures.exact)
 
 pub returns-in_err-place-clause-edited : goal.returns-in_err-place-clause-edited
 returns-in_err-place-clause-edited c =
-    passed_on _ _ c.from_residual-in_err-place.result _ c.from_residual-in_err-place.ensures.1
-    (by_adding c.args.opened.now (SoftLink c.args.text.now c.args.path.now) c.in_ok-check_writable.ensures.exact (λ _. refl) _ c.in_err-place.ensures)
+    passed_on _ _ c.from_residual.result _ c.from_residual.ensures.1
+    (by_rule c.next-_next.ensures.sound (SoftLink c.args.text.now c.args.path.now) refl _ c.in_err-place.ensures)
 
 pub carry_out-requires : goal.carry_out-requires
-carry_out-requires c = (SoftLink c.args.text.now c.args.path.now, rw c.link_at-change.ensures (soft_link_fits c.args.opened.now c.in_ok-check_writable.ensures.exact c.args.text c.in_ok-place.ensures))
+carry_out-requires c = (SoftLink c.args.text.now c.args.path.now, rw c.link_at-change.ensures (soft_link_fits c.args.opened.now c.args.text c.in_ok-place.ensures))
 
 pub returns-clause-edited : goal.returns-clause-edited
-returns-clause-edited c = c.carry_out.ensures (SoftLink c.args.text.now c.args.path.now) (rw c.link_at-change.ensures (soft_link_fits c.args.opened.now c.in_ok-check_writable.ensures.exact c.args.text c.in_ok-place.ensures))
+returns-clause-edited c = c.carry_out.ensures (SoftLink c.args.text.now c.args.path.now) (rw c.link_at-change.ensures (soft_link_fits c.args.opened.now c.args.text c.in_ok-place.ensures))

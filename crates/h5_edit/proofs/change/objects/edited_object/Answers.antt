@@ -1,6 +1,12 @@
+use Rattle.std.proofs.Common.{sym, subst}
+use Rattle.h5_query.specs.Opened.Objects.{object_in}
+use Rattle.h5_repack.specs.Objects.Objects.{content_chunks}
+use Rattle.h5_repack.specs.declared.objects.object.NewContent.{NewContent}
+use Rattle.h5_edit.specs.StoredChunks.{AreChunksOf}
+use Rattle.h5_edit.proofs.ChangedLaws.StoredSlots.{array_stored, group_stored}
+use Rattle.h5_edit.proofs.change.objects.edited_object.Goals.{in-Group+in_ok-links_in-in-Group, in-Array+in_ok-content-in-Array}
 use Rattle.h5_query.proofs.Indexed.{array_kept, group_read}
 use Rattle.h5_query.proofs.ListedLaws.{found_led}
-use Rattle.h5_edit.proofs.ChangedLaws.CellLaws.{plain_block}
 use Rattle.h5_edit.proofs.change.objects.edited_object.Goals as goal
 
 pub others_in-requires-clause-kept : goal.others_in-requires-clause-kept
@@ -13,9 +19,15 @@ pub links_in-requires-clause-led : goal.links_in-requires-clause-led
 links_in-requires-clause-led c =
     found_led c.args.opened.now c.image-image.ensures.sound c.requires.object.0 c.args.object.now c.requires.object.1 c.in-Group.table c.in-Group.is
 
-pub kept_array-content-requires-clause-kept : goal.kept_array-content-requires-clause-kept
-kept_array-content-requires-clause-kept c = rw c.image-image.ensures.bytes (array_kept c.args.opened.now c.requires.object.0 c.args.object.now c.requires.object.1 c.in-Array.is)
 
-pub kept_array-content-requires-clause-block : goal.kept_array-content-requires-clause-block
-kept_array-content-requires-clause-block c =
-    rw c.image-image.ensures.bytes (plain_block c.args.opened.now.image c.args.opened.now.table c.args.object.now c.requires.plain c.in-Array.is)
+pub returns-clause-stored : goal.returns-clause-stored
+returns-clause-stored c =
+    let f = c.args.opened.now in
+    let number = c.requires.object.0 in
+    let of = c.requires.object.1 in
+    elim c.match-object.branch [
+      | in-Group+in_ok-links_in-in-Group w ↦ group_stored f number c.args.object.now of w.in-Group.table w.in-Group.is (content_chunks c.match-object.content)
+      | in-Array+in_ok-content-in-Array w ↦
+          subst (λ (x : NewContent). AreChunksOf f (object_in f.image f.table c.args.object.now) c.args.object.now.messages.header (content_chunks x)) (sym w.content-is)
+          (array_stored f number c.args.object.now of w.in-Array.is w.in_ok-content-in-Array.content (rw c.image-image.ensures.bytes at w.in_ok-content-in-Array.ensures.chunks))
+    ]

@@ -1,0 +1,10 @@
+use Rattle.h5_edit.specs.Changed.Edited.{edited_by}
+use Rattle.h5_edit.proofs.ChangedLaws.ChangeLaws.{AreWritten}
+use Rattle.h5_edit.proofs.ChangedLaws.StoredSlots.{AreStoredBelow}
+use Rattle.h5_edit.proofs.change.objects.opened_objects.Given as goal
+
+abbrev pub invariant-loop-number : goal.invariant-loop-number
+invariant-loop-number l = record {
+  objects : AreWritten l.opened.tree l.place (edited_by l.edit) l.objects.items l.number;
+  chunks : AreStoredBelow l.opened l.objects.items l.number;
+}
