@@ -6,3 +6,4 @@ pub mod Counts
 pub mod Verdicts
 pub mod Attributes
 pub mod Writes
+pub mod Resizes

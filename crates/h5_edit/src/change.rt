@@ -7,6 +7,7 @@ mod edit;
 mod links;
 mod objects;
 mod parts;
+mod resized;
 
 pub use change::{Change, Target};
 pub(crate) use objects::{changed_objects, opened_objects};

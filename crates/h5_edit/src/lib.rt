@@ -11,6 +11,7 @@ mod change;
 mod links;
 mod made;
 mod repacked;
+mod resized;
 mod rules;
 mod write;
 
@@ -24,4 +25,5 @@ pub use h5_repack::empty_image;
 pub use links::{create_dataset, create_group, hard_link, soft_link};
 pub use made::Made;
 pub use repacked::repack;
+pub use resized::resize;
 pub use write::write_run;
