@@ -36,6 +36,7 @@ use Rattle.h5_query.specs.OpenedObjectType.{OpenedObject}
 use Rattle.h5_query.proofs.OpenedLaws.Indexed.{header_there}
 use Rattle.h5_edit.specs.Carried.{is_message_total_full, is_total_full, IsTotalFull}
 use Rattle.h5_edit.specs.ExtentMaxima.{LacksMaxima, lacks_maxima}
+use Rattle.h5_edit.specs.Fits.Laws.{IsTyped}
 use Rattle.h5_edit.specs.Fitting.{IsFitting}
 
 module _ (f : FileState) where

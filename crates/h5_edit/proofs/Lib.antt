@@ -17,3 +17,4 @@ pub use Rattle.h5_repack.proofs.EmptyFile
 pub mod CarriedLaws
 pub mod StoredLaws
 pub mod TotalLaws
+pub mod OneLength

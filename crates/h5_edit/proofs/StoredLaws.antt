@@ -1,5 +1,5 @@
 -- Which chunks are stored in an image that is written anew: they are there for each opened image and each edit that is carried.
-use Rattle.std.proofs.Common.{◌≡◌, inl, inr, ℕ, ◌^◌, ◌<◌, ◌≤◌, ◌⊎◌, List, [], true, Option, Some, None, refl, sym, ap, ◌∙◌, subst}
+use Rattle.std.proofs.Common.{◌≡◌, inl, inr, ℕ, ◌^◌, ◌⊎◌, List, [], true, Option, Some, None, refl, sym, ap, ◌∙◌, subst}
 use Rattle.std.proofs.lemmas.Bool.{cases_lt}
 use Rattle.std.proofs.lemmas.Option.{same_Some}
 use Rattle.std.specs.Prelude.{option_and_then}
@@ -17,7 +17,7 @@ use Rattle.h5_query.proofs.OpenedLaws.Indexed.{next_free}
 use Rattle.h5_repack.specs.Image.Written.{StoredIn, counts_of}
 use Rattle.h5_edit.specs.Carried.{is_carried, tree_after, IsLongAnew, IsShortAnew}
 use Rattle.h5_edit.specs.StoredChunks.{HasLengthAnew, HasStoredChunks, AreStoredAfter, AreStoredAt, AreStoredOf}
-use Rattle.h5_edit.proofs.CarriedLaws.{ArraysHold, edited_arrays}
+use Rattle.h5_edit.proofs.CarriedLaws.{edited_arrays}
 use Rattle.h5_edit.proofs.FitLaws.OpenedTrees.{IsRead, object_read}
 
 -- the dataset of a number, by the object's content

@@ -27,10 +27,10 @@ pub fn create_group(alloc: Global, opened: &Opened, path: &[u8]) -> Result<Made,
         MatchResult result (IsEditMade f (CreateGroup path.now)) (IsRefused f (CreateGroup path.now)) }
     ensures sound { IsSound opened.now }
 {
-    let number = opened.next();
+    let next = opened.next();
     let place = check_create_group(opened, path)?;
     let change = link_at(place, Target::Group);
-    carry_out(alloc, opened, &change, Some(ObjectNo(number)))
+    carry_out(alloc, opened, &change, Some(ObjectNo(next)))
 }
 
 /// Makes an array at the path, every cell of which is the fill.
@@ -49,12 +49,12 @@ pub fn create_dataset(
         (IsRefused f (CreateDataset path.now spec.now)) }
     ensures sound { IsSound opened.now }
 {
-    let number = opened.next();
+    let next = opened.next();
     let place = check_create_dataset(alloc, opened, path, spec)?;
     // The call's contract says that the type is a sound one.
     let _size = spec.fixed.size();
     let change = link_at(place, Target::Array(spec));
-    carry_out(alloc, opened, &change, Some(ObjectNo(number)))
+    carry_out(alloc, opened, &change, Some(ObjectNo(next)))
 }
 
 /// Makes a second name for the array at `target`.

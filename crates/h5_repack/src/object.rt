@@ -34,7 +34,8 @@ fn push_group(
     requires k { AreK layout.now.leaf layout.now.internal }
     requires layout { IsLowLayout layout.now }
     requires held { (o : StoredObject) × IsGroupObject links.now others.now o
-        × IsExtent layout.now.leaf layout.now.internal (length o.chunks) (o.object).content (Links places.now) }
+        × IsExtent layout.now.leaf layout.now.internal (length o.chunks) (o.object).content
+        (Links places.now) }
     requires low { at + places.now.length ≤ 2 ^ 31 }
     requires header { length others.now.bytes ≤ 2 ^ 31 }
     ensures { OnOk result
@@ -87,7 +88,8 @@ fn push_object(
         × IsHeldObject object.now o
         × IsSize layout.now.leaf layout.now.internal o s }
     ensures { OnOk result
-        ((o : StoredObject) (s : Size) → slice_get layout.now.sizes.now number ≡ Some s → IsHeldObject object.now o
+        ((o : StoredObject) (s : Size) → slice_get layout.now.sizes.now number ≡ Some s
+        → IsHeldObject object.now o
         → IsSize layout.now.leaf layout.now.internal o s
         → out.new.items ≡ out.old.items
         ++ laid_object layout.now (header_by layout.now number) count o) }

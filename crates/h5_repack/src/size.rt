@@ -114,7 +114,8 @@ fn measure(
 ) -> Result<Size, WriteFault>
     requires k { AreK leaf internal }
     requires held { (o : StoredObject) × IsHeldObject object.now o }
-    ensures size { IfOk result (λ s. (o : StoredObject) → IsHeldObject object.now o → IsSize leaf internal o s) }
+    ensures size { IfOk result (λ s.
+        (o : StoredObject) → IsHeldObject object.now o → IsSize leaf internal o s) }
     ensures refused { IfErr result (λ fault.
         (o : StoredObject) → IsHeldObject object.now o → IsUnmeasured leaf internal o fault) }
 {
@@ -134,8 +135,10 @@ fn measure_slot(
     requires k { AreK leaf internal }
     requires held { (place : Option StoredObject) × SlotsHold IsHeldObject slot.now place }
     ensures size { IfOk result (λ s.
-        (place : Option StoredObject) → SlotsHold IsHeldObject slot.now place → IsSlotSize leaf internal place s) }
-    ensures refused { IfErr result (λ fault. (place : Option StoredObject) → SlotsHold IsHeldObject slot.now place
+        (place : Option StoredObject) → SlotsHold IsHeldObject slot.now place
+        → IsSlotSize leaf internal place s) }
+    ensures refused { IfErr result (λ fault.
+        (place : Option StoredObject) → SlotsHold IsHeldObject slot.now place
         → (o : StoredObject) × (place ≡ Some o) × IsUnmeasured leaf internal o fault) }
 {
     match slot {
@@ -155,7 +158,8 @@ pub(crate) fn measure_all(
     objects: &[Option<NewObject<'_>>],
 ) -> Result<Vec<Size>, WriteFault>
     requires k { AreK leaf internal }
-    requires held { (listed : List (Option StoredObject)) × AllZip (SlotsHold IsHeldObject) objects.now listed }
+    requires held { (listed : List (Option StoredObject))
+        × AllZip (SlotsHold IsHeldObject) objects.now listed }
     ensures sizes { IfOk result (λ sizes.
         (listed : List (Option StoredObject)) → AllZip (SlotsHold IsHeldObject) objects.now listed
         → AllZip (IsSlotSize leaf internal) listed sizes.items) }

@@ -78,7 +78,8 @@ fn image_of(
     requires held { (listed : List (Option StoredObject)) × AllZip (SlotsHold IsHeldObject) objects.now listed
         × AllZip (IsSlotSize layout.now.leaf layout.now.internal) listed layout.now.sizes.now }
     ensures { IfOk result (λ image.
-        (listed : List (Option StoredObject)) (root : Size) → AllZip (SlotsHold IsHeldObject) objects.now listed
+        (listed : List (Option StoredObject)) (root : Size)
+        → AllZip (SlotsHold IsHeldObject) objects.now listed
         → AllZip (IsSlotSize layout.now.leaf layout.now.internal) listed layout.now.sizes.now
         → slice_get layout.now.sizes.now 0 ≡ Some root
         → image.items ≡ front_at layout.now root end

@@ -22,7 +22,7 @@ use Rattle.h5_query.specs.Told.{array_told, layout_told, type_told}
 use Rattle.h5_query.proofs.DataLaws.{data_there}
 use Rattle.h5_repack.specs.Objects.Objects.{IsNewArray}
 use Rattle.h5_repack.specs.Blocks.ArrayHeader.{storage_by}
-use Rattle.h5_repack.specs.Blocks.Written.{offsets_of}
+use Rattle.h5_repack.specs.Blocks.Written.{chunks_of}
 use Rattle.h5_repack.specs.declared.blocks.cells.Cells.{Cells}
 use Rattle.h5_repack.specs.declared.blocks.cells.Cells.TheVariants.{Chunks}
 use Rattle.h5_repack.proofs.ChunkLaws.HeldCells.{held_cells_are, held_cells_stored, held_offsets}
@@ -86,7 +86,7 @@ module _ (image : List ℕ) (ms : List Message) (is : IsArrayList ms) (read : Ar
             stored_are = held_cells_stored image a chunk dims (data_blocks image a.fixed a.layout) (data_there image a.fixed a.layout read) boxed can.ranked;
           }
 
-      pub resized_chunks : offsets_of held ≡ held_chunks dims (stored_chunks image a.fixed a.layout)
+      pub resized_chunks : chunks_of (Chunks held) ≡ held_chunks dims (stored_chunks image a.fixed a.layout)
       resized_chunks = held_offsets image a chunk dims
 
     -- ---- whatever describes it so
@@ -106,5 +106,5 @@ module _ (image : List ℕ) (ms : List Message) (is : IsArrayList ms) (read : Ar
           subst (λ (z : Described). IsNewArray z (Chunks h) d) (sym same)
           (subst (λ (p : HeldCells). IsNewArray (array_of a.fixed dims a.maxima a.fill a.layout) (Chunks p) d) (sym held_is) (resized_array c.0 c.1 c.2))
 
-      pub handed_chunks : offsets_of h ≡ held_chunks dims (stored_chunks image a.fixed a.layout)
-      handed_chunks = let c = in_chunks in ap offsets_of held_is ∙ resized_chunks c.0 c.1 c.2
+      pub handed_chunks : chunks_of (Chunks h) ≡ held_chunks dims (stored_chunks image a.fixed a.layout)
+      handed_chunks = let c = in_chunks in ap (λ (p : HeldCells). chunks_of (Chunks p)) held_is ∙ resized_chunks c.0 c.1 c.2

@@ -124,8 +124,8 @@ unset_cells image t fill sizes (Some b) chunks h =
 -- ---- the layout
 
 by_test : {X : Type 0} (b : Bool) (x y : Option X) (z : X) (P : Type 0) → (b ≡ true → x ≡ Some z → P) → (y ≡ Some z → P) → cond b x y ≡ Some z → P
-by_test true x y z P yes no h = yes refl h
-by_test false x y z P yes no h = no h
+by_test true x y z P here there h = here refl h
+by_test false x y z P here there h = there h
 
 -- what a body tells of a layout
 module _ (sizes : List ℕ) (size : ℕ) (body : List ℕ) where
@@ -136,8 +136,8 @@ module _ (sizes : List ℕ) (size : ℕ) (body : List ℕ) where
 
   compact_told : (l : Layout) → compact_layout (cells sizes * size) body ≡ Some l → IsTold l
   compact_told l =
-      let data : Layout = InMessage (slice_range body 4 (4 + cells sizes * size)) in
-      by_test _ (Some data) None l (IsTold l) (λ is e. subst IsTold (same_Some data l e) (grind (arith, nat_tests, is), refl)) (λ none. absurd (cc))
+      let found : Layout = InMessage (slice_range body 4 (4 + cells sizes * size)) in
+      by_test _ (Some found) None l (IsTold l) (λ is e. subst IsTold (same_Some found l e) (grind (arith, nat_tests, is), refl)) (λ none. absurd (cc))
 
   block_told : (b : Option Block) (l : Layout) → Some (InBlock b) ≡ Some l → IsTold l
   block_told b l e = subst IsTold (same_Some (InBlock b) l e) tt
@@ -152,10 +152,10 @@ module _ (sizes : List ℕ) (size : ℕ) (body : List ℕ) where
   chunked_told : (l : Layout) → chunked_layout (length sizes) size body ≡ Some l → IsTold l
   chunked_told l =
       let chunk : List ℕ = short_numbers_at body 11 (length sizes) in
-      let data : Layout = InChunks chunk (address_from (number_at body 3 8)) in
+      let found : Layout = InChunks chunk (address_from (number_at body 3 8)) in
       let long : length chunk ≡ length sizes = length-map-range_with_len (λ i. number_at body (11 + 4 * i) 4) 0 (length sizes) in
-      by_test _ (Some data) None l (IsTold l)
-      (λ is e. subst IsTold (same_Some data l e) (chunk_sizes is long)) (λ none. absurd (cc)) where
+      by_test _ (Some found) None l (IsTold l)
+      (λ is e. subst IsTold (same_Some found l e) (chunk_sizes is long)) (λ none. absurd (cc)) where
         chunk_sizes : (nat_le (11 + 4 * (length sizes + 1)) (length body) && byte_at body 2 == length sizes + 1 && nat_le 1 (length sizes)
             && not (list_any (λ n. n == 0) (short_numbers_at body 11 (length sizes))) && number_at body (11 + 4 * length sizes) 4 == size) ≡ true
             → length (short_numbers_at body 11 (length sizes)) ≡ length sizes → IsTold (InChunks (short_numbers_at body 11 (length sizes)) (address_from (number_at body 3 8)))

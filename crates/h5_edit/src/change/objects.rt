@@ -1,6 +1,6 @@
 //! The objects of an opened image, as they are or with a change.
 
-ghost use Rattle.std.specs.Prelude.{◌≡◌, ℕ, ◌+◌, [], IfOk, IfSome, Some, length, option_map, option_to_list};
+ghost use Rattle.std.specs.Prelude.{◌≡◌, ℕ, ◌+◌, ◌++◌, [], IfOk, IfSome, OnOk, Some, length, map, option_map, option_to_list};
 ghost use Rattle.std.specs.FinMap.{get};
 ghost use Rattle.std.specs.List.{AllByRecursion, AllZip};
 ghost use Rattle.h5_model.specs.Tree.Objects.{Object, with_object};
@@ -43,10 +43,22 @@ pub(crate) fn changed_objects<'a>(
 {
     let (place, edit) = edit_of(change, opened.next());
     let mut objects = opened_objects(alloc, opened, place, Some(edit))?;
-    if let Some(object) = new_object(alloc, change) {
+    push_new(&mut objects, new_object(alloc, change))?;
+    Ok(objects)
+}
+
+/// Appends a new object, where there is one.
+fn push_new<'a>(
+    objects: &mut Vec<Option<NewObject<'a>>>,
+    new: Option<NewObject<'a>>,
+) -> Result<(), AllocError>
+    ensures { OnOk result (objects.new.items
+        ≡ objects.old.items ++ map (λ x. Some x) (option_to_list new.entry)) }
+{
+    if let Some(object) = new {
         objects.push(Some(object))?;
     }
-    Ok(objects)
+    Ok(())
 }
 
 /// The objects of the opened image, each in the slot of its number, with an edit of the one of this number; a number that has no object

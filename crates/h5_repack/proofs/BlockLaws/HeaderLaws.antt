@@ -25,7 +25,7 @@ use Rattle.h5_repack.specs.Blocks.ArrayHeader.{FitsLayout, group_written, array_
 use Rattle.h5_repack.specs.Blocks.Others.{OthersBytes}
 use Rattle.h5_repack.specs.Blocks.Parts.{prefix_bytes}
 use Rattle.h5_repack.specs.Blocks.StoredChunks.{chunks_written, part_bytes, parts_bytes, parts_written}
-use Rattle.h5_repack.specs.Blocks.Written.{AreOthers, AreCellsToWrite, AreHeldOf, AreWholeChunks, HasRoom, chunks_of, offsets_of}
+use Rattle.h5_repack.specs.Blocks.Written.{AreOthers, AreCellsToWrite, AreHeldOf, AreWholeChunks, HasRoom, chunks_of, part_offsets}
 use Rattle.h5_repack.specs.Objects.Objects.{IsNewArray}
 use Rattle.h5_model.proofs.PlainValues.{length-cells_bytes}
 use Rattle.h5_repack.proofs.BlockLaws.Messages.{messages_bytes-append}
@@ -71,15 +71,15 @@ body_is (Chunks held) d are a fixed sizes fill storage address =
 -- ---- the data of an array
 
 -- chunks that are handed over are those of the array
-chunks_are : (h : HeldCells) (d : Dataset) → AreHeldOf h d → parts_bytes h ≡ flat_map (chunk_data d h.chunk) (offsets_of h)
+chunks_are : (h : HeldCells) (d : Dataset) → AreHeldOf h d → parts_bytes h ≡ flat_map (chunk_data d h.chunk) (part_offsets h)
 chunks_are h d are =
-    (λ i. flat_map (part_bytes (are.fixed_is i)) (are.parts_are i)) ∙ flat_mapped (offsets_of h) where
+    (λ i. flat_map (part_bytes (are.fixed_is i)) (are.parts_are i)) ∙ flat_mapped (part_offsets h) where
       flat_mapped : (all : List (List ℕ))
           → flat_map (part_bytes d.fixed) (map (λ offsets. (offsets, chunk_values d h.chunk offsets)) all) ≡ flat_map (chunk_data d h.chunk) all
       flat_mapped [] = refl
       flat_mapped (offsets ∷ others) = ap (λ bytes. chunk_data d h.chunk offsets ++ bytes) (flat_mapped others)
 
-held_data : (h : HeldCells) (d : Dataset) → AreHeldOf h d → (all : List (List ℕ)) → offsets_of h ≡ all → (place : ℕ) → parts_written h all place ≡ chunked_data d h.chunk all place
+held_data : (h : HeldCells) (d : Dataset) → AreHeldOf h d → (all : List (List ℕ)) → part_offsets h ≡ all → (place : ℕ) → parts_written h all place ≡ chunked_data d h.chunk all place
 held_data h d are [] e place = refl
 held_data h d are (first ∷ others) e place =
     let parts : parts_bytes h ≡ flat_map (chunk_data d h.chunk) (first ∷ others) = chunks_are h d are ∙ ap (flat_map (chunk_data d h.chunk)) e in
@@ -94,9 +94,9 @@ block_data d bytes same (Chunked chunk) is place = rw is refl
 
 -- stored chunks
 chunked_parts : (h : HeldCells) (d : Dataset) → AreHeldOf h d → (place : ℕ)
-    → (if is_stored (offsets_of h) (Chunked h.chunk) then chunks_written h place else []) ≡ chunked_data d h.chunk (offsets_of h) place
-chunked_parts h d are place = by_offsets (offsets_of h) refl where
-  by_offsets : (all : List (List ℕ)) → offsets_of h ≡ all → (if is_stored all (Chunked h.chunk) then parts_written h all place else []) ≡ chunked_data d h.chunk all place
+    → (if is_stored (part_offsets h) (Chunked h.chunk) then chunks_written h place else []) ≡ chunked_data d h.chunk (part_offsets h) place
+chunked_parts h d are place = by_offsets (part_offsets h) refl where
+  by_offsets : (all : List (List ℕ)) → part_offsets h ≡ all → (if is_stored all (Chunked h.chunk) then parts_written h all place else []) ≡ chunked_data d h.chunk all place
   by_offsets [] e = refl
   by_offsets (first ∷ others) e = held_data h d are (first ∷ others) e place
 
@@ -112,8 +112,8 @@ data_by Filled d are a fixed sizes fill storage place =
 data_by (Stored bytes) d are a fixed sizes fill storage place =
     block_data d bytes.now are (storage_written a (Stored bytes)) (sym storage) place
 data_by (Chunks held) d are a fixed sizes fill storage place =
-    ap (λ (s : Storage). if is_stored (offsets_of held) s then chunks_written held place else []) (storage ∙ are.storage_is)
-    ∙ chunked_parts held d are place ∙ sym (data_in_chunks d held.chunk (offsets_of held) place are.storage_is)
+    ap (λ (s : Storage). if is_stored (part_offsets held) s then chunks_written held place else []) (storage ∙ are.storage_is)
+    ∙ chunked_parts held d are place ∙ sym (data_in_chunks d held.chunk (part_offsets held) place are.storage_is)
 
 -- ---- an array that is handed over
 
@@ -169,7 +169,7 @@ whole_by Unset d are = tt
 whole_by Filled d are = tt
 whole_by (Stored bytes) d are = tt
 whole_by (Chunks held) d are =
-    subst (λ (parts : List (List ℕ × List ℤ)). AllByRecursion (λ (part : List ℕ × List ℤ). length part.1 ≡ cells held.chunk) parts) (sym are.parts_are) (all_whole (offsets_of held)) where
+    subst (λ (parts : List (List ℕ × List ℤ)). AllByRecursion (λ (part : List ℕ × List ℤ). length part.1 ≡ cells held.chunk) parts) (sym are.parts_are) (all_whole (part_offsets held)) where
       all_whole : (all : List (List ℕ)) → AllByRecursion (λ (part : List ℕ × List ℤ). length part.1 ≡ cells held.chunk) (map (λ offsets. (offsets, chunk_values d held.chunk offsets)) all)
       all_whole [] = tt
       all_whole (offsets ∷ others) =

@@ -1,6 +1,6 @@
 -- The stored chunks of an array to be written: how many bytes they have with their tree, and that the tree is appended (File Format
 -- Specification 3.0, sections III.A.1 and IV.A.2.i).
-use Rattle.std.proofs.Common.{◌≡◌, ℕ, suc, ◌+◌, ◌-◌, ◌*◌, ◌^◌, ◌<◌, ◌≤◌, ℤ, List, [], ◌∷◌, ◌++◌, length, length-append, map, drop, get_or, refl, sym, ap, ◌∙◌, subst, arith, append_assoc, Some}
+use Rattle.std.proofs.Common.{◌≡◌, ℕ, ◌+◌, ◌-◌, ◌*◌, ◌^◌, ◌<◌, ◌≤◌, ℤ, List, [], ◌∷◌, ◌++◌, length, length-append, map, drop, get_or, refl, sym, ap, ◌∙◌, subst, arith, append_assoc, Some}
 use Rattle.std.proofs.lemmas.List.{length-map, map-append, drop_more, drop_all, drop-map}
 use Rattle.std.proofs.lemmas.Nat.{mul-le}
 use Rattle.std.proofs.lemmas.Option.{slice_get-get_or}
@@ -19,7 +19,7 @@ use Rattle.h5_chunks.specs.declared.write.ChunkKey.{ChunkKey}
 use Rattle.h5_layout.specs.HeldChunks.{HeldCells}
 use Rattle.h5_repack.specs.Bodies.Chunks.{chunk_children, chunk_nodes, chunks_place, key_after}
 use Rattle.h5_repack.specs.Blocks.StoredChunks.{IsLastKey, chunks_written, key_bytes, keyed, part_bytes, part_length, parts_bytes, parts_written}
-use Rattle.h5_repack.specs.Blocks.Written.{AreWhole, offsets_of}
+use Rattle.h5_repack.specs.Blocks.Written.{AreWhole, part_offsets}
 use Rattle.h5_repack.proofs.ChunkLaws.ChunkLengths.{AreRanked, key_fits, keys_fit, length-children, length-nodes, node_long}
 use Rattle.h5_repack.proofs.ChunkLaws.ChunkLevels.{chunk_level}
 use Rattle.h5_repack.proofs.ChunkLaws.KeyTrees.{tree_kept}
@@ -45,7 +45,7 @@ chunks_high count size some = let low : count * 1 ≤ count * size = mul-le coun
 abbrev pub AreRankedParts : HeldCells → Type 0
 AreRankedParts h = AllByRecursion (λ (part : List ℕ × List ℤ). length part.0 ≡ length h.chunk) h.parts
 
-as_many : (h : HeldCells) → length (offsets_of h) ≡ length h.parts
+as_many : (h : HeldCells) → length (part_offsets h) ≡ length h.parts
 as_many h = length-map h.parts (λ (part : List ℕ × List ℤ). part.0)
 
 ranked_offsets : (chunk : List ℕ) (parts : List (List ℕ × List ℤ)) → AllByRecursion (λ (part : List ℕ × List ℤ). length part.0 ≡ length chunk) parts
@@ -55,19 +55,16 @@ ranked_offsets chunk (part ∷ parts) all = (all.0, ranked_offsets chunk parts a
 
 -- ---- lengths
 
-one_more : (n size : ℕ) → size + n * size ≡ suc n * size
-one_more n size = omega arith
-
 length-parts : (t : Fixed) (n : ℕ) (parts : List (List ℕ × List ℤ)) → AllByRecursion (λ (part : List ℕ × List ℤ). length part.1 ≡ n) parts
     → length (flat_map (part_bytes t) parts) ≡ length parts * (n * t.size)
 length-parts t n [] all = omega arith
 length-parts t n (part ∷ parts) all =
-    length-append (part_bytes t part) (flat_map (part_bytes t) parts)
-    ∙ (λ i. (length-cells_bytes t part.1 ∙ ap (λ m. m * t.size) all.0) i + length-parts t n parts all.1 i) ∙ one_more (length parts) (n * t.size)
+    let own : length (part_bytes t part) ≡ n * t.size = length-cells_bytes t part.1 ∙ ap (λ m. m * t.size) all.0 in
+    omega (arith, own, length-append (part_bytes t part) (flat_map (part_bytes t) parts), length-parts t n parts all.1)
 
 module _ (h : HeldCells) (whole : AreWhole h) where
   pub chunks_none : (count : ℕ) → count ≡ length h.parts → count ≡ 0 → (place : ℕ) → length (chunks_written h place) ≡ 0
-  chunks_none count is none place = by_offsets (offsets_of h) (as_many h ∙ sym is ∙ none) where
+  chunks_none count is none place = by_offsets (part_offsets h) (as_many h ∙ sym is ∙ none) where
     by_offsets : (all : List (List ℕ)) → length all ≡ 0 → length (parts_written h all place) ≡ 0
     by_offsets [] zero_is = refl
     by_offsets (first ∷ others) zero_is = absurd (omega (arith, zero_is))
@@ -76,7 +73,7 @@ module _ (h : HeldCells) (whole : AreWhole h) where
     -- nodes and chunks
     pub chunks_long : (kind : Kind) (nodes : ℕ) → kind ≡ chunk_kind 32 (length h.chunk) → nodes ≡ nodes_over 64 (2 * kind.k) count * node_length kind
         → (place : ℕ) → length (chunks_written h place) ≡ nodes + count * size
-    chunks_long kind nodes kind_is nodes_are place = by_offsets (offsets_of h) (as_many h ∙ sym count_is) (ranked_offsets h.chunk h.parts ranked) where
+    chunks_long kind nodes kind_is nodes_are place = by_offsets (part_offsets h) (as_many h ∙ sym count_is) (ranked_offsets h.chunk h.parts ranked) where
       by_offsets : (all : List (List ℕ)) → length all ≡ count → AreRanked h.chunk all → length (parts_written h all place) ≡ nodes + count * size
       by_offsets [] long fit = absurd (omega (arith, some, long))
       by_offsets (first ∷ others) long fit =
@@ -101,7 +98,7 @@ abbrev no_part : List ℕ × List ℤ
 no_part = ([], [])
 
 module _ (h : HeldCells) (k : ℕ) where
-  offsets_next : k < length h.parts → drop k (offsets_of h) ≡ (get_or h.parts k no_part).0 ∷ drop (k + 1) (offsets_of h)
+  offsets_next : k < length h.parts → drop k (part_offsets h) ≡ (get_or h.parts k no_part).0 ∷ drop (k + 1) (part_offsets h)
   offsets_next low =
       drop-map (λ (part : List ℕ × List ℤ). part.0) k h.parts ∙ ap (map (λ (part : List ℕ × List ℤ). part.0)) (drop_more h.parts k no_part low)
       ∙ ap (λ (all : List (List ℕ)). (get_or h.parts k no_part).0 ∷ all) (sym (drop-map (λ (part : List ℕ × List ℤ). part.0) (k + 1) h.parts))
@@ -109,16 +106,16 @@ module _ (h : HeldCells) (k : ℕ) where
 -- that of the next
 pub next_key : (h : HeldCells) (k : ℕ) (key : List ℕ) → k + 1 < length h.parts
     → ((part : List ℕ × List ℤ) → slice_get h.parts (k + 1) ≡ Some part → key ≡ chunk_key (record { bytes = part_length h; offsets = part.0 }))
-    → (own : List ℕ) → key ≡ chunk_key (key_after (part_length h) h.chunk own (drop (k + 1) (offsets_of h)))
+    → (own : List ℕ) → key ≡ chunk_key (key_after (part_length h) h.chunk own (drop (k + 1) (part_offsets h)))
 next_key h k key low is own =
     is (get_or h.parts (k + 1) no_part) (slice_get-get_or h.parts (k + 1) no_part low)
     ∙ sym (ap (λ (all : List (List ℕ)). chunk_key (key_after (part_length h) h.chunk own all)) (offsets_next h (k + 1) low))
 
 -- or the last
 pub last_key : (h : HeldCells) (k : ℕ) (key : List ℕ) → k < length h.parts → length h.parts ≤ k + 1 → IsLastKey h key
-    → (part : List ℕ × List ℤ) → slice_get h.parts k ≡ Some part → key ≡ chunk_key (key_after (part_length h) h.chunk part.0 (drop (k + 1) (offsets_of h)))
+    → (part : List ℕ × List ℤ) → slice_get h.parts k ≡ Some part → key ≡ chunk_key (key_after (part_length h) h.chunk part.0 (drop (k + 1) (part_offsets h)))
 last_key h k key low high is part here =
-    let none : drop (k + 1) (offsets_of h) ≡ [] = drop_all (k + 1) (offsets_of h) (omega (arith, high, as_many h)) in
+    let none : drop (k + 1) (part_offsets h) ≡ [] = drop_all (k + 1) (part_offsets h) (omega (arith, high, as_many h)) in
     let last : length h.parts - 1 ≡ k = omega (arith, low, high) in
     is part (ap (slice_get h.parts) last ∙ here) ∙ sym (ap (λ (all : List (List ℕ)). chunk_key (key_after (part_length h) h.chunk part.0 all)) none)
 
@@ -129,18 +126,18 @@ place_step at place k long size is so_far = omega (arith, is, so_far)
 
 pub child_step : (h : HeldCells) (k place size : ℕ) (children new : List (Child ChunkKey)) (key : ChunkKey) → k < length h.parts → size ≡ part_length h
     → new ≡ children ++ record { at = place; key = key } ∷ []
-    → ((part : List ℕ × List ℤ) → slice_get h.parts k ≡ Some part → key.bytes.now ≡ chunk_key (key_after (part_length h) h.chunk part.0 (drop (k + 1) (offsets_of h))))
-    → map (keyed key_bytes) new ++ map (keyed chunk_key) (chunk_children (part_length h) h.chunk (place + size) (drop (k + 1) (offsets_of h)))
-    ≡ map (keyed key_bytes) children ++ map (keyed chunk_key) (chunk_children (part_length h) h.chunk place (drop k (offsets_of h)))
+    → ((part : List ℕ × List ℤ) → slice_get h.parts k ≡ Some part → key.bytes.now ≡ chunk_key (key_after (part_length h) h.chunk part.0 (drop (k + 1) (part_offsets h))))
+    → map (keyed key_bytes) new ++ map (keyed chunk_key) (chunk_children (part_length h) h.chunk (place + size) (drop (k + 1) (part_offsets h)))
+    ≡ map (keyed key_bytes) children ++ map (keyed chunk_key) (chunk_children (part_length h) h.chunk place (drop k (part_offsets h)))
 child_step h k place size children new key low size_is pushed key_is =
     let part : List ℕ × List ℤ = get_or h.parts k no_part in
-    let rest : List (Child (List ℕ)) = map (keyed chunk_key) (chunk_children (part_length h) h.chunk (place + part_length h) (drop (k + 1) (offsets_of h))) in
+    let rest : List (Child (List ℕ)) = map (keyed chunk_key) (chunk_children (part_length h) h.chunk (place + part_length h) (drop (k + 1) (part_offsets h))) in
     let own = key_is part (slice_get-get_or h.parts k no_part low) in
-    let next : map (keyed chunk_key) (chunk_children (part_length h) h.chunk place (drop k (offsets_of h)))
+    let next : map (keyed chunk_key) (chunk_children (part_length h) h.chunk place (drop k (part_offsets h)))
     ≡ record { at = place; key = key.bytes.now } ∷ rest
     = ap (λ (all : List (List ℕ)). map (keyed chunk_key) (chunk_children (part_length h) h.chunk place all)) (offsets_next h k low)
     ∙ (λ i. record { at = place; key = sym own i } ∷ rest) in
-    (λ i. map (keyed key_bytes) (pushed i) ++ map (keyed chunk_key) (chunk_children (part_length h) h.chunk (place + size_is i) (drop (k + 1) (offsets_of h))))
+    (λ i. map (keyed key_bytes) (pushed i) ++ map (keyed chunk_key) (chunk_children (part_length h) h.chunk (place + size_is i) (drop (k + 1) (part_offsets h))))
     ∙ ap (λ (cs : List (Child (List ℕ))). cs ++ rest) (map-append (keyed key_bytes) children (record { at = place; key = key } ∷ []))
     ∙ append_assoc (map (keyed key_bytes) children) (record { at = place; key = key.bytes.now } ∷ []) rest
     ∙ ap (λ (cs : List (Child (List ℕ))). map (keyed key_bytes) children ++ cs) (sym next)
@@ -182,20 +179,20 @@ module _ (h : HeldCells) (ranked : AreRankedParts h) (some : 1 ≤ length h.part
     first_fits = by_parts h.parts ranked some first_is
 
     module _ (begin : ℕ) (children : List (Child ChunkKey))
-        (are : map (keyed key_bytes) children ≡ map (keyed chunk_key) (chunk_children size h.chunk begin (offsets_of h))) where
+        (are : map (keyed key_bytes) children ≡ map (keyed chunk_key) (chunk_children size h.chunk begin (part_offsets h))) where
       abbrev own : List (Child OffsetKey)
-      own = chunk_children size h.chunk begin (offsets_of h)
+      own = chunk_children size h.chunk begin (part_offsets h)
 
       pub as_many_children : length children ≡ length h.parts
       as_many_children =
-          sym (length-map children (keyed key_bytes)) ∙ ap length are ∙ length-map own (keyed chunk_key) ∙ length-children h.chunk size begin (offsets_of h) ∙ as_many h
+          sym (length-map children (keyed key_bytes)) ∙ ap length are ∙ length-map own (keyed chunk_key) ∙ length-children h.chunk size begin (part_offsets h) ∙ as_many h
 
       pub all_fit : AllFit kind key_bytes children
       all_fit =
           subst (λ (k : Kind). AllFit k key_bytes children) (sym kind_is)
           (fit_from (chunk_kind 32 (length h.chunk)) key_bytes children
           (subst (λ (cs : List (Child (List ℕ))). AllFit (chunk_kind 32 (length h.chunk)) (λ (key : List ℕ). key) cs) (sym are)
-          (fit_to (chunk_kind 32 (length h.chunk)) chunk_key own (keys_fit h.chunk size begin (offsets_of h) (ranked_offsets h.chunk h.parts ranked)))))
+          (fit_to (chunk_kind 32 (length h.chunk)) chunk_key own (keys_fit h.chunk size begin (part_offsets h) (ranked_offsets h.chunk h.parts ranked)))))
 
       pub level_low : length h.parts < 2 ^ 32 → root_level kind.k (length children) ≤ 15
       level_low few =
@@ -209,7 +206,7 @@ module _ (h : HeldCells) (ranked : AreRankedParts h) (some : 1 ≤ length h.part
             ∙ ap (λ n. nodes_over 64 (2 * kind.k) n * node_length kind) as_many_children ∙ sym nodes_are
 
         -- the tree of the definition
-        pub tree_is : begin ≡ place + nodes → (head : List ℕ) (others : List (List ℕ)) → offsets_of h ≡ head ∷ others
+        pub tree_is : begin ≡ place + nodes → (head : List ℕ) (others : List (List ℕ)) → part_offsets h ≡ head ∷ others
             → tree_bytes kind key_bytes first place children ≡ chunk_nodes size h.chunk head (head ∷ others) place
         tree_is begin_is head others e =
             let n : length h.parts ≡ length (head ∷ others) = sym (as_many h) ∙ ap length e in
@@ -230,10 +227,10 @@ module _ (h : HeldCells) (ranked : AreRankedParts h) (some : 1 ≤ length h.part
 
 -- the tree, and then the chunks
 pub chunks_pushed : (h : HeldCells) (place : ℕ) (first second third : List ℕ) → 1 ≤ length h.parts
-    → ((head : List ℕ) (others : List (List ℕ)) → offsets_of h ≡ head ∷ others → second ≡ first ++ chunk_nodes (part_length h) h.chunk head (head ∷ others) place)
+    → ((head : List ℕ) (others : List (List ℕ)) → part_offsets h ≡ head ∷ others → second ≡ first ++ chunk_nodes (part_length h) h.chunk head (head ∷ others) place)
     → third ≡ second ++ parts_bytes h → third ≡ first ++ chunks_written h place
-chunks_pushed h place first second third some tree parts = by_offsets (offsets_of h) refl (as_many h) where
-  by_offsets : (all : List (List ℕ)) → offsets_of h ≡ all → length all ≡ length h.parts → third ≡ first ++ parts_written h all place
+chunks_pushed h place first second third some tree parts = by_offsets (part_offsets h) refl (as_many h) where
+  by_offsets : (all : List (List ℕ)) → part_offsets h ≡ all → length all ≡ length h.parts → third ≡ first ++ parts_written h all place
   by_offsets [] e long = absurd (omega (arith, some, long))
   by_offsets (head ∷ others) e long =
       parts ∙ ap (λ bytes. bytes ++ parts_bytes h) (tree head others e) ∙ append_assoc first (chunk_nodes (part_length h) h.chunk head (head ∷ others) place) (parts_bytes h)

@@ -10,7 +10,7 @@ use Rattle.h5_chunks.specs.Keys.{chunk_key, index_from}
 use Rattle.h5_chunks.specs.declared.write.ChunkKey.{ChunkKey}
 use Rattle.h5_layout.specs.HeldChunks.{HeldCells}
 use Rattle.h5_repack.specs.Bodies.Chunks.{chunk_nodes}
-use Rattle.h5_repack.specs.Blocks.Written.{offsets_of}
+use Rattle.h5_repack.specs.Blocks.Written.{part_offsets}
 
 -- how many bytes each of these chunks has
 abbrev pub part_length : HeldCells → ℕ
@@ -29,7 +29,7 @@ parts_written h [] place = []
 parts_written h (first ∷ others) place = chunk_nodes (part_length h) h.chunk first (first ∷ others) place ++ parts_bytes h
 
 abbrev pub chunks_written : HeldCells → ℕ → List ℕ
-chunks_written h place = parts_written h (offsets_of h) place
+chunks_written h place = parts_written h (part_offsets h) place
 
 -- ---- keys of the tree
 

@@ -16,19 +16,19 @@ pub record AreOthers (ms : List (ℕ × List ℕ)) (o : OthersBytes) : Type 0 wh
   pub count_is : o.count ≡ length ms
 
 -- the offsets of chunks that are handed over
-abbrev pub offsets_of : HeldCells → List (List ℕ)
-offsets_of h = map (λ p. p.0) h.parts
+abbrev pub part_offsets : HeldCells → List (List ℕ)
+part_offsets h = map (λ p. p.0) h.parts
 
 -- the stored chunks of an array with these cells, by their offsets
 abbrev pub chunks_of : Cells → List (List ℕ)
-chunks_of (Chunks held) = offsets_of held
+chunks_of (Chunks held) = part_offsets held
 chunks_of _ = []
 
 -- these chunks have the cells of the array that stand in them
 pub record AreHeldOf (h : HeldCells) (d : Dataset) : Type 0 where
   pub fixed_is : h.fixed ≡ d.fixed
   pub storage_is : d.storage ≡ Chunked h.chunk
-  pub parts_are : h.parts ≡ map (λ offsets. (offsets, chunk_values d h.chunk offsets)) (offsets_of h)
+  pub parts_are : h.parts ≡ map (λ offsets. (offsets, chunk_values d h.chunk offsets)) (part_offsets h)
 
 -- each of these chunks has as many cells as its sizes say
 abbrev pub AreWhole : HeldCells → Type 0

@@ -9,7 +9,7 @@ ghost use Rattle.h5_repack.specs.Bodies.Chunks.{chunk_children, chunk_nodes, key
 ghost use Rattle.h5_repack.specs.Bodies.Headers.{is_stored};
 ghost use Rattle.h5_repack.specs.Blocks.ArrayHeader.{IsLength};
 ghost use Rattle.h5_repack.specs.Blocks.StoredChunks.{IsLastKey, chunks_written, key_bytes, keyed, part_length, parts_bytes};
-ghost use Rattle.h5_repack.specs.Blocks.Written.{AreWhole, chunks_of, offsets_of};
+ghost use Rattle.h5_repack.specs.Blocks.Written.{AreWhole, chunks_of, part_offsets};
 
 use crate::blocks::cells::Cells;
 use h5_btree::{Child, NodeKind, nodes_over, push_tree};
@@ -85,7 +85,7 @@ fn key_behind<'a>(held: &'a HeldChunks<'_>, k: usize, last: &'a [u8]) -> &'a [u8
     requires last { IsLastKey held.now last.now }
     ensures { (part : List ℕ × List ℤ) → slice_get held.now.parts k ≡ Some part
         → result.now ≡ chunk_key
-        (key_after (part_length held.now) held.now.chunk part.0 (drop (k + 1) (offsets_of held.now))) }
+        (key_after (part_length held.now) held.now.chunk part.0 (drop (k + 1) (part_offsets held.now))) }
 {
     if k < held.len() - 1 {
         held.key(k + 1).bytes
@@ -110,7 +110,7 @@ fn children_of<'a>(
     requires few { length held.now.parts < 2 ^ 32 }
     ensures { IfOk result (λ children. map (keyed key_bytes) children.items
         ≡ map (keyed chunk_key)
-        (chunk_children (part_length held.now) held.now.chunk at (offsets_of held.now))) }
+        (chunk_children (part_length held.now) held.now.chunk at (part_offsets held.now))) }
 {
     let mut children = Vec::with_capacity(alloc, held.len())?;
     let mut place = at;
@@ -136,7 +136,7 @@ fn push_chunk_tree(
     requires low { place ≤ 2 ^ 31 }
     requires few { length (chunks_written held.now place) ≤ 2 ^ 31 }
     ensures { OnOk result ((first : List ℕ) (others : List (List ℕ))
-        → offsets_of held.now ≡ first ∷ others
+        → part_offsets held.now ≡ first ∷ others
         → out.new.items ≡ out.old.items
         ++ chunk_nodes (part_length held.now) held.now.chunk first (first ∷ others) place) }
 {

@@ -1,8 +1,4 @@
-use Rattle.std.proofs.Common.{◌≡◌, ℕ, ◌++◌, Vec, Option, sym, ap, ◌∙◌, subst}
-use Rattle.std.proofs.lemmas.List.{append-nil}
-use Rattle.std.specs.declared.alloc.Global.{Global}
-use Rattle.std.specs.Prelude.{option_to_list}
-use Rattle.h5_repack.specs.declared.objects.object.NewObject.{NewObject}
+use Rattle.std.proofs.Common.{◌≡◌, ℕ, sym, subst}
 use Rattle.h5_model.specs.Tree.Objects.{Tree, with_object}
 use Rattle.h5_repack.specs.Objects.Objects.{stored_in}
 use Rattle.h5_edit.specs.Changed.Edited.{IsEditOf, edited, new_objects}
@@ -10,10 +6,8 @@ use Rattle.h5_edit.specs.StoredChunks.{AreStoredAfter}
 use Rattle.h5_edit.specs.declared.change.change.Change.{Change}
 use Rattle.h5_edit.specs.declared.change.edit.ObjectEdit.{ObjectEdit}
 use Rattle.h5_edit.proofs.ChangedLaws.ChangeLaws.{all_counted, all_written, changed_is, editable, new_plain}
-use Rattle.h5_edit.proofs.ChangedLaws.NumberedLaws.{filled_slots}
 use Rattle.h5_edit.proofs.ChangedLaws.StoredSlots.{stored_still}
 use Rattle.h5_edit.proofs.change.objects.changed_objects.Goals as goal
-use Rattle.h5_edit.proofs.change.objects.changed_objects.Goals.{in-Some+in_ok-push, in_default}
 
 edit_for : (change : Change) (n m place : ℕ) (e : ObjectEdit) → n ≡ m → IsEditOf change n place e → IsEditOf change m place e
 edit_for change n m place e same is = subst (λ k. IsEditOf change k place e) same is
@@ -31,36 +25,21 @@ pub returns-clause-objects : goal.returns-clause-objects
 returns-clause-objects c =
     let f = c.args.opened.now in
     let is = edit_for c.args.change.now c.next.result f.next c.edit_of-place.result.0 c.edit_of-place.result.1 c.next.ensures.next c.edit_of-place.ensures in
-    all_written f.tree c.args.change.now f.next c.edit_of-place.result.0 c.edit_of-place.result.1 is c.in_ok-objects.objects.items c.match-new_object.objects.items c.new_object.result
-    c.in_ok-objects.ensures.objects c.in_ok-objects.ensures.counted c.new_object.ensures.object (elim c.match-new_object.branch [
-      | in-Some+in_ok-push w ↦ ap (λ (v : Vec (Option NewObject) Global). v.items) w.objects-is ∙ w.in_ok-push.ensures.items
-          ∙ ap (λ (o : Option NewObject). c.in_ok-objects.objects.items ++ filled_slots (option_to_list o)) (sym w.in-Some.is)
-      | in_default w ↦ ap (λ (v : Vec (Option NewObject) Global). v.items) w.objects-is ∙ sym (append-nil c.in_ok-objects.objects.items)
-          ∙ ap (λ (o : Option NewObject). c.in_ok-objects.objects.items ++ filled_slots (option_to_list o)) (sym w.in_default.is)
-    ])
+    all_written f.tree c.args.change.now f.next c.edit_of-place.result.0 c.edit_of-place.result.1 is c.in_ok-objects.objects.items c.push_new.new.objects.items c.new_object.result
+    c.in_ok-objects.ensures.objects c.in_ok-objects.ensures.counted c.new_object.ensures.object c.in_ok-push_new.ensures
 
 pub returns-clause-counted : goal.returns-clause-counted
 returns-clause-counted c =
     let f = c.args.opened.now in
     let is = edit_for c.args.change.now c.next.result f.next c.edit_of-place.result.0 c.edit_of-place.result.1 c.next.ensures.next c.edit_of-place.ensures in
-    all_counted f.tree c.args.change.now f.next c.edit_of-place.result.0 c.edit_of-place.result.1 is c.in_ok-objects.objects.items c.match-new_object.objects.items c.new_object.result
-    c.in_ok-objects.ensures.objects c.in_ok-objects.ensures.counted c.new_object.ensures.object (elim c.match-new_object.branch [
-      | in-Some+in_ok-push w ↦ ap (λ (v : Vec (Option NewObject) Global). v.items) w.objects-is ∙ w.in_ok-push.ensures.items
-          ∙ ap (λ (o : Option NewObject). c.in_ok-objects.objects.items ++ filled_slots (option_to_list o)) (sym w.in-Some.is)
-      | in_default w ↦ ap (λ (v : Vec (Option NewObject) Global). v.items) w.objects-is ∙ sym (append-nil c.in_ok-objects.objects.items)
-          ∙ ap (λ (o : Option NewObject). c.in_ok-objects.objects.items ++ filled_slots (option_to_list o)) (sym w.in_default.is)
-    ])
+    all_counted f.tree c.args.change.now f.next c.edit_of-place.result.0 c.edit_of-place.result.1 is c.in_ok-objects.objects.items c.push_new.new.objects.items c.new_object.result
+    c.in_ok-objects.ensures.objects c.in_ok-objects.ensures.counted c.new_object.ensures.object c.in_ok-push_new.ensures
 
 pub returns-clause-stored : goal.returns-clause-stored
 returns-clause-stored c =
     let f = c.args.opened.now in
     let e = c.edit_of-place.result.1 in
     let is = edit_for c.args.change.now c.next.result f.next c.edit_of-place.result.0 e c.next.ensures.next c.edit_of-place.ensures in
-    subst (λ (t : Tree). AreStoredAfter f t (stored_in c.match-new_object.objects.items)) (sym (changed_is f.tree c.args.change.now f.next c.edit_of-place.result.0 e is))
-    (stored_still f c.next.ensures.sound c.in_ok-objects.objects.items c.match-new_object.objects.items c.new_object.result c.in_ok-objects.ensures.counted
-    c.new_object.ensures.chunks (elim c.match-new_object.branch [
-      | in-Some+in_ok-push w ↦ ap (λ (v : Vec (Option NewObject) Global). v.items) w.objects-is ∙ w.in_ok-push.ensures.items
-          ∙ ap (λ (o : Option NewObject). c.in_ok-objects.objects.items ++ filled_slots (option_to_list o)) (sym w.in-Some.is)
-      | in_default w ↦ ap (λ (v : Vec (Option NewObject) Global). v.items) w.objects-is ∙ sym (append-nil c.in_ok-objects.objects.items)
-          ∙ ap (λ (o : Option NewObject). c.in_ok-objects.objects.items ++ filled_slots (option_to_list o)) (sym w.in_default.is)
-    ]) (with_object f.tree c.edit_of-place.result.0 (edited e)) (new_objects c.args.change.now) c.in_ok-objects.ensures.stored)
+    subst (λ (t : Tree). AreStoredAfter f t (stored_in c.push_new.new.objects.items)) (sym (changed_is f.tree c.args.change.now f.next c.edit_of-place.result.0 e is))
+    (stored_still f c.next.ensures.sound c.in_ok-objects.objects.items c.push_new.new.objects.items c.new_object.result c.in_ok-objects.ensures.counted
+    c.new_object.ensures.chunks c.in_ok-push_new.ensures (with_object f.tree c.edit_of-place.result.0 (edited e)) (new_objects c.args.change.now) c.in_ok-objects.ensures.stored)

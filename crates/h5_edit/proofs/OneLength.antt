@@ -1,0 +1,104 @@
+-- An image that is written anew has one length: which chunks of it are stored is a function of the image and the tree.
+use Rattle.std.proofs.Common.{◌≡◌, inl, inr, ℕ, ◌+◌, List, [], ◌∷◌, length, Option, Some, None, refl, sym, ap, ap₂, ◌∙◌, arith}
+use Rattle.std.specs.Prelude.{option_and_then}
+use Rattle.std.specs.Cmp.{nat_cmp_total}
+use Rattle.std.specs.FinMap.{get, entries}
+use Rattle.std.proofs.lemmas.Option.{same_Some}
+use Rattle.h5_layout.specs.HeldChunks.{held_chunks}
+use Rattle.h5_model.specs.Format.Chunks.{Chunks}
+use Rattle.h5_model.specs.Format.Datatype.{fixed_of}
+use Rattle.h5_model.specs.Format.Extent.{Extent, extent_of}
+use Rattle.h5_model.specs.Format.Layout.{layout_of}
+use Rattle.h5_model.specs.Format.Messages.{Message, first_body}
+use Rattle.h5_model.specs.Format.PlainLength.{content_bytes, data_bytes, plain_length}
+use Rattle.h5_model.specs.Format.Sizes.{header_size}
+use Rattle.h5_model.specs.Format.Superblock.{leaf_k, internal_k}
+use Rattle.h5_model.specs.Tree.Objects.{Tree, Object, Content, Group, Array, Dataset, Storage, Compact, Contiguous, Chunked}
+use Rattle.h5_model.proofs.OneReading.{one_messages}
+use Rattle.h5_laws.proofs.Lists.{In}
+use Rattle.h5_laws.proofs.Maps.{get_of_entry}
+use Rattle.h5_query.specs.Data.{stored_chunks}
+use Rattle.h5_query.specs.Opened.State.{FileState}
+use Rattle.h5_query.proofs.DataLaws.{told_chunks}
+use Rattle.h5_repack.specs.Image.Written.{StoredIn, counts_of}
+use Rattle.h5_repack.proofs.ImageLaws.Totals.{total, total-sum_by}
+use Rattle.h5_edit.specs.Carried.{IsLongAnew, IsShortAnew}
+use Rattle.h5_edit.specs.StoredChunks.{AreStoredAfter, AreStoredOf, HasLengthAnew, HasStoredChunks}
+use Rattle.h5_edit.proofs.StoredLaws.{dataset_is}
+
+-- ---- the chunks at a header
+
+module _ (image : List ℕ) (header : ℕ) (c d : Chunks) (x : HasStoredChunks image header c) (y : HasStoredChunks image header d) where
+  same_messages : x.messages ≡ y.messages
+  same_messages = one_messages image header x.messages y.messages x.header_blocks y.header_blocks x.listed y.listed
+
+  abbrev extent : Dataset → Extent
+  extent e = record { sizes = e.sizes; maxima = e.maxima }
+
+  same_extent : extent x.dataset ≡ extent y.dataset
+  same_extent =
+      same_Some (extent x.dataset) (extent y.dataset) (sym x.array.space ∙ ap (λ (ms : List Message). option_and_then extent_of (first_body 1 ms)) same_messages ∙ y.array.space)
+
+  same_sizes : x.dataset.sizes ≡ y.dataset.sizes
+  same_sizes = ap (λ (e : Extent). e.sizes) same_extent
+
+  same_type : x.dataset.fixed ≡ y.dataset.fixed
+  same_type = same_Some _ _ (sym x.array.type ∙ ap (λ (ms : List Message). option_and_then fixed_of (first_body 3 ms)) same_messages ∙ y.array.type)
+
+  same_layout : x.array.layout ≡ y.array.layout
+  same_layout =
+      let read : option_and_then (layout_of x.dataset.sizes x.dataset.fixed.size) (first_body 8 x.messages) ≡ option_and_then (layout_of y.dataset.sizes y.dataset.fixed.size) (first_body 8 y.messages)
+      = λ i. option_and_then (layout_of (same_sizes i) ((same_type i).size)) (first_body 8 (same_messages i)) in
+      same_Some _ _ (sym x.array.laid_out ∙ read ∙ y.array.laid_out)
+
+  pub one_stored : c ≡ d
+  one_stored =
+      sym x.chunks_are
+      ∙ told_chunks image x.dataset.fixed x.array.layout x.array.chunks x.data_blocks x.array.stored
+      ∙ (λ i. stored_chunks image (same_type i) (same_layout i))
+      ∙ sym (told_chunks image y.dataset.fixed y.array.layout y.array.chunks y.data_blocks y.array.stored)
+      ∙ y.chunks_are
+
+same_offsets : (image sizes : List ℕ) (found : Option ℕ) (a b : List (List ℕ)) → AreStoredOf image sizes found a → AreStoredOf image sizes found b → a ≡ b
+same_offsets image sizes None a b p q = p ∙ sym q
+same_offsets image sizes (Some header) a b p q = p.2 ∙ ap (held_chunks sizes) (one_stored image header p.0 q.0 p.1 q.1) ∙ sym q.2
+
+-- ---- the length
+
+-- numbers of chunks that are the same where they count
+module _ (leaf internal k a b : ℕ) where
+  same_data : (d : Dataset) (s : Storage) → ((chunk : List ℕ) → s ≡ Chunked chunk → a ≡ b) → data_bytes k a (record d { storage = s }) ≡ data_bytes k b (record d { storage = s })
+  same_data d Compact same = refl
+  same_data d (Contiguous stored) same = refl
+  same_data d (Chunked chunk) same = ap (λ n. data_bytes k n (record d { storage = Chunked chunk })) (same chunk refl)
+
+  same_content : (c : Content) → ((d : Dataset) (chunk : List ℕ) → c ≡ Array d → d.storage ≡ Chunked chunk → a ≡ b) → content_bytes leaf internal k a c ≡ content_bytes leaf internal k b c
+  same_content (Group links) same = refl
+  same_content (Array d) same = same_data d d.storage (λ chunk is. same d chunk refl is)
+
+-- what is the same at each member adds up to the same
+same_total : {X : Type 0} (f g : X → ℕ) (xs : List X) → ((x : X) → In x xs → f x ≡ g x) → total f xs ≡ total g xs
+same_total f g [] same = refl
+same_total f g (x ∷ xs) same = ap₂ (λ m n. m + n) (same x (inl refl)) (same_total f g xs (λ y there. same y (inr there)))
+
+module _ (f : FileState) (tree : Tree) where
+  same_length : (s t : StoredIn) → AreStoredAfter f tree s → AreStoredAfter f tree t → (leaf internal k : ℕ)
+      → plain_length leaf internal k (counts_of s) tree ≡ plain_length leaf internal k (counts_of t) tree
+  unfolding plain_length
+  same_length s t p q leaf internal k = ap (λ n. 96 + n) (total-sum_by _ (entries tree) ∙ same_total _ _ (entries tree) each ∙ sym (total-sum_by _ (entries tree))) where
+    each : (e : ℕ × Object) → In e (entries tree) → header_size e.1 + content_bytes leaf internal k (counts_of s e.0) (e.1).content
+        ≡ header_size e.1 + content_bytes leaf internal k (counts_of t e.0) (e.1).content
+    each e there = ap (λ n. header_size e.1 + n) (same_content leaf internal k (counts_of s e.0) (counts_of t e.0) (e.1).content (λ d chunk is chunked.
+        let found = dataset_is tree e.0 e.1 (Array d) (get_of_entry nat_cmp_total tree e.0 e.1 there) is in
+        ap length (same_offsets f.image d.sizes (get f.table e.0) (s e.0) (t e.0) (p e.0 d found chunk chunked) (q e.0 d found chunk chunked))))
+
+  pub one_length : (m n : ℕ) → HasLengthAnew f tree m → HasLengthAnew f tree n → m ≡ n
+  one_length m n x y = x.counted ∙ same_length x.stored y.stored x.chunks y.chunks (leaf_k f.image) (internal_k f.image) 32 ∙ sym y.counted
+
+  -- so it passes 2^31 bytes or does not
+  pub not_both : IsLongAnew f tree → IsShortAnew f tree → ⊥
+  not_both long short =
+      let same = one_length long.0 short.0 long.1 short.1 in
+      let above = long.2 in
+      let below = short.2 in
+      omega (arith, same, above, below)
