@@ -200,14 +200,14 @@ module _ (f : FileState) where
       → IsFitting f (Resize path dims.now) (Other number dims) (Some (record { 0 = number }))
   unfolding applied changed
   resize_fits {path = path} {number = number} dims o at of roomy =
-      let there : dataset_of tree number ≡ Some at.1.0 = sym (ap (option_and_then (dataset_of tree)) at.0.object) ∙ at.1.1 in
+      let there : dataset_of tree number ≡ Some at.1 = sym (ap (option_and_then (dataset_of tree)) at.0.object) ∙ at.2 in
       record {
         typed = tt;
         carried = refl;
         accepted = at.0.allowed;
         roomy = sizes_total path number o at.0.object of false roomy dims.now;
         gives = ap (λ o. option_map_or (λ n. with_object tree n (with_dataset (resized dims.now))) o tree) at.0.object;
-        there = (at.1.0, there, (accepted_sizes tree next path dims.now at.1.0 at.0.allowed at.1.1).resizable);
+        there = (at.1, there, (accepted_sizes tree next path dims.now at.1 at.0.allowed at.2).resizable);
         counted = omega arith;
         named = sym at.0.object;
       }

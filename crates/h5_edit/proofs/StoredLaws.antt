@@ -5,6 +5,7 @@ use Rattle.std.proofs.lemmas.Option.{same_Some}
 use Rattle.std.specs.Prelude.{option_and_then}
 use Rattle.std.specs.FinMap.{get}
 use Rattle.h5_layout.specs.HeldChunks.{held_chunks}
+use Rattle.h5_model.specs.Edits.Applied.{new_dataset}
 use Rattle.h5_model.specs.Format.PlainLength.{plain_length}
 use Rattle.h5_model.specs.Format.Reads.{HasContent}
 use Rattle.h5_model.specs.Format.Superblock.{leaf_k, internal_k}
@@ -17,7 +18,7 @@ use Rattle.h5_query.proofs.OpenedLaws.Indexed.{next_free}
 use Rattle.h5_repack.specs.Image.Written.{StoredIn, counts_of}
 use Rattle.h5_edit.specs.Carried.{is_carried, tree_after, IsLongAnew, IsShortAnew}
 use Rattle.h5_edit.specs.StoredChunks.{HasLengthAnew, HasStoredChunks, AreStoredAfter, AreStoredAt, AreStoredOf}
-use Rattle.h5_edit.proofs.CarriedLaws.{edited_arrays}
+use Rattle.h5_edit.proofs.CarriedLaws.{ArraysHold, edited_arrays}
 use Rattle.h5_edit.proofs.FitLaws.OpenedTrees.{IsRead, object_read}
 
 -- the dataset of a number, by the object's content
@@ -90,7 +91,7 @@ module _ (f : FileState) (sound : IsSound f) where
 
   pub length_after : (edit : Edit) → is_carried edit ≡ true → (bytes : ℕ) × HasLengthAnew f (tree_after f edit) bytes
   length_after edit carried =
-      let all = edited_arrays CanStore f.next (λ spec. new_stored _) (λ dims number d can. can) f.tree edit carried opened_stored in
+      let all = edited_arrays CanStore f.next (λ spec. new_stored (new_dataset spec)) (λ dims number d can. can) f.tree edit carried opened_stored in
       let there = stored_there (tree_after f edit) all in (
         plain_length (leaf_k f.image) (internal_k f.image) 32 (counts_of there.0) (tree_after f edit),
         length_with (tree_after f edit) there.0 there.1,

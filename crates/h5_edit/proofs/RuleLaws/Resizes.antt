@@ -1,5 +1,6 @@
 -- Why a resize is refused, or that it is not: by its path, the array there, and its sizes.
-use Rattle.std.proofs.Common.{◌≡◌, ℕ, ◌^◌, List, [], ◌∷◌, ◌++◌, length, refl, ap, ◌∙◌, Bool, true, false, not, Option, Some, None, nat_lt}
+use Rattle.std.proofs.Common.{◌≡◌, ◌≢◌, ℕ, ◌^◌, List, [], ◌∷◌, ◌++◌, length, refl, sym, ap, ◌∙◌, Bool, true, false, not, Option, Some, None, nat_le, nat_lt, arith}
+use Rattle.std.proofs.lemmas.Bool.Decides.{nat_tests}
 use Rattle.std.specs.Prelude.{◌==◌, if◌then◌else◌}
 use Rattle.std.specs.Option.{option_map_or}
 use Rattle.h5_model.specs.Edits.Refusal.{refusal_of, first_holding, is_chunked, some_above}
@@ -12,6 +13,19 @@ use Rattle.h5_model.specs.declared.edit_fault.EditFault.{EditFault}
 use Rattle.h5_model.specs.declared.edit_fault.EditFault.TheVariants as fault
 use Rattle.h5_query.proofs.RuleLaws.{first-behind, first-found}
 use Rattle.h5_edit.proofs.RuleLaws.TableLaws.{or_false}
+
+-- as many sizes as the array has
+pub same_rank : (dims sizes : List ℕ) (n : ℕ) → n ≡ length sizes → length dims ≡ n → (length dims == length sizes) ≡ true
+same_rank dims sizes n same is = grind (arith, nat_tests)
+
+-- whether there are too many cells, by whether there are few
+pub many_of : (dims sizes : List ℕ) (small : Bool) → sizes ≡ dims → small ≡ nat_le (extent_cells sizes) (2 ^ 40) → nat_lt (2 ^ 40) (extent_cells dims) ≡ not small
+many_of dims sizes small same is =
+    let told : small ≡ nat_le (extent_cells dims) (2 ^ 40) = is ∙ ap (λ (n : List ℕ). nat_le (extent_cells n) (2 ^ 40)) same in
+    by_test small told where
+      by_test : (b : Bool) → b ≡ nat_le (extent_cells dims) (2 ^ 40) → nat_lt (2 ^ 40) (extent_cells dims) ≡ not b
+      by_test true told = grind (arith, nat_tests)
+      by_test false told = grind (arith, nat_tests)
 
 module _ (tree : Tree) (next : ℕ) (path dims : List ℕ) where
   -- the rules behind those of the path, as the table asks them
@@ -42,8 +56,10 @@ module _ (tree : Tree) (next : ℕ) (path dims : List ℕ) where
         ∙ ap (λ (found : Option Dataset). first_holding (asked_of found)) at
         ∙ (λ i. first_holding ((fault.RankMismatch, not (p i)) ∷ (fault.NotChunked, not (q i)) ∷ (fault.AboveMaximum, r i) ∷ (fault.TooManyCells, s i) ∷ []))
 
-    pub rank_refused : (length dims == length d.sizes) ≡ false → refusal_of tree next (Resize path dims) ≡ Some fault.RankMismatch
-    rank_refused p = by_sizes false _ _ _ p refl refl refl
+    pub rank_refused : (n : ℕ) → n ≡ length d.sizes → length dims ≢ n → refusal_of tree next (Resize path dims) ≡ Some fault.RankMismatch
+    rank_refused n same other =
+        let apart : length dims ≢ length d.sizes = λ e. other (e ∙ sym same) in
+        by_sizes false _ _ _ (grind (arith, nat_tests)) refl refl refl
 
     module _ (p : (length dims == length d.sizes) ≡ true) where
       pub store_refused : is_chunked d.storage ≡ false → refusal_of tree next (Resize path dims) ≡ Some fault.NotChunked
