@@ -65,10 +65,10 @@ module _ (f : FileState) (number : ℕ) (o : OpenedObject) (of : IsObjectOf f nu
 
   by_content : (c : OpenedContent) → o.content ≡ c → (body : List ℕ) → first_body 1 ms ≡ Some body → 3 ≤ length body
   by_content (content.Group g) is body there = absurd (
-    let never : None ≡ Some d
-    = sym (ap (option_and_then (λ (x : Object). dataset_in x.content)) of.there ∙ ap (λ (c : OpenedContent). dataset_in (content_in f.image f.table ms c)) is) ∙ at in
-    cc
-  )
+      let never : None ≡ Some d
+      = sym (ap (option_and_then (λ (x : Object). dataset_in x.content)) of.there ∙ ap (λ (c : OpenedContent). dataset_in (content_in f.image f.table ms c)) is) ∙ at in
+      cc
+      )
   by_content content.Array is body there =
       let read = subst (IsContentKept f.image ms) is of.kept.content in
       let a = array_told ms in

@@ -26,12 +26,7 @@ use std::alloc::Global;
 /// Refused by the lowest number that holds: `BadPath`, `PathTooDeep`, `NoSuchParent`, `NotAGroup`, `NotFound`, `NotADataset` also where a
 /// soft link stands there, `RankMismatch`, `NotChunked`, `AboveMaximum`, `TooManyCells`, `HeaderFull` where the header's Dataspace message
 /// has no maxima and its total of messages plus 2 passes 65535, `ImageFull` where the image would pass 2147483648 bytes, `NoMemory`.
-pub fn resize(
-    alloc: Global,
-    opened: &Opened,
-    path: &[u8],
-    dims: &[u64],
-) -> Result<Made, EditFault>
+pub fn resize(alloc: Global, opened: &Opened, path: &[u8], dims: &[u64]) -> Result<Made, EditFault>
     ensures edited { let f = opened.now in
         MatchResult result (IsEditMade f (Resize path.now dims.now))
         (IsRefused f (Resize path.now dims.now)) }

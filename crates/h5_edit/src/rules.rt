@@ -14,8 +14,8 @@ mod write;
 
 pub use array::check_create_dataset;
 pub use attribute::{check_remove_attr, check_set_attr};
-pub use links::{check_create_group, check_hard_link, check_soft_link};
 pub(crate) use limits::MAX_MESSAGES;
+pub use links::{check_create_group, check_hard_link, check_soft_link};
 pub use place::NewPlace;
 pub(crate) use resize::check_resize;
 pub(crate) use write::check_write;

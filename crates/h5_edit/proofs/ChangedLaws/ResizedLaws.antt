@@ -1,9 +1,9 @@
 -- The array of an opened image with other sizes, as it is handed to the writer: its chunks that hold a cell of them.
-use Rattle.std.proofs.Common.{◌≡◌, ℕ, ◌≤◌, List, [], ◌∷◌, length, true, false, Option, Some, refl, sym, ap, ◌∙◌, subst, arith}
+use Rattle.std.proofs.Common.{◌≡◌, ℕ, ◌≤◌, List, length, true, false, Option, refl, sym, ap, ◌∙◌, subst, arith}
 use Rattle.std.specs.Prelude.{◌==◌}
 use Rattle.std.proofs.lemmas.Bool.Decides.{nat_tests}
 use Rattle.std.proofs.lemmas.Option.{option_and_then_some}
-use Rattle.h5_layout.specs.Described.{Described, HasArray, array_of}
+use Rattle.h5_layout.specs.Described.{Described, array_of}
 use Rattle.h5_layout.specs.HeldChunks.{HeldCells, held_cells, held_chunks}
 use Rattle.h5_layout.specs.Stored.{IsArray, has_room}
 use Rattle.h5_layout.proofs.RoomLaws.{is_array}
@@ -23,7 +23,6 @@ use Rattle.h5_query.proofs.DataLaws.{data_there}
 use Rattle.h5_repack.specs.Objects.Objects.{IsNewArray}
 use Rattle.h5_repack.specs.Blocks.ArrayHeader.{storage_by}
 use Rattle.h5_repack.specs.Blocks.Written.{chunks_of}
-use Rattle.h5_repack.specs.declared.blocks.cells.Cells.{Cells}
 use Rattle.h5_repack.specs.declared.blocks.cells.Cells.TheVariants.{Chunks}
 use Rattle.h5_repack.proofs.ChunkLaws.HeldCells.{held_cells_are, held_cells_stored, held_offsets}
 use Rattle.h5_edit.specs.Changed.Sizes.{IsResizable}

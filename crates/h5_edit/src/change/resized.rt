@@ -39,8 +39,7 @@ pub(crate) fn array_in<'a>(
 {
     match edit {
         Some(ObjectEdit::Resize(dims)) => resized_array(alloc, image, messages, dims),
-        None
-        | Some(ObjectEdit::Link(_) | ObjectEdit::SetAttr(_) | ObjectEdit::RemoveAttr(_)) => {
+        None | Some(ObjectEdit::Link(_) | ObjectEdit::SetAttr(_) | ObjectEdit::RemoveAttr(_)) => {
             kept_array(alloc, image, messages)
         }
     }
