@@ -1,5 +1,5 @@
 -- What an edit that is carried, and a repack, is answered by what was written of the tree.
-use Rattle.std.proofs.Common.{◌≡◌, ℕ, ◌+◌, ◌^◌, ◌≤◌, List, [], length, refl, sym, ap, ◌∙◌, subst, Option, None, arith}
+use Rattle.std.proofs.Common.{◌≡◌, ℕ, ◌+◌, ◌^◌, ◌≤◌, List, length, refl, sym, ap, ◌∙◌, subst, Option, None, arith}
 use Rattle.std.specs.Prelude.{IfOk, IfErr, MatchResult, Result, Ok, Err}
 use Rattle.std.specs.Ordering.{nat_cmp}
 use Rattle.std.specs.FinMap.{FinMap}
@@ -42,7 +42,7 @@ use Rattle.h5_repack.proofs.ImageLaws.PlainImages.{plain_reads, plain_ends}
 use Rattle.h5_edit.proofs.LowRead.{read_low}
 use Rattle.h5_edit.proofs.Numbered.{standing_map}
 use Rattle.h5_edit.proofs.Refusals.{adds_link, by_memory, by_length, by_depth, carried_anew}
-use Rattle.h5_edit.proofs.StoredLaws.{length_with, stored_after}
+use Rattle.h5_edit.proofs.StoredLaws.{length_with}
 
 -- ---- one tree, written
 
@@ -106,15 +106,12 @@ module _ {f : FileState} (sound : IsSound f) where
       pub plain_change : IsPlainChange f.tree f.next change
       plain_change = record { there = fitting.there; plain = opened_plain f low sound; changed_plain = plain_after }
 
-      module _ (new : List (Option NewObject)) (are : AreObjects new after) (kept : AreStoredAfter f f.tree (stored_in new)) (none : stored_in new f.next ≡ []) where
+      module _ (new : List (Option NewObject)) (are : AreObjects new after) (chunks_after : AreStoredAfter f after (stored_in new)) where
         pub tree_to_write : IsTreeToWrite new after
         tree_to_write = record { objects_are = are; sound = sound_change; plain = plain_after }
 
         abbrev length_after : ℕ
         length_after = plain_length leaf internal 32 (counts_of (stored_in new)) after
-
-        chunks_after : AreStoredAfter f after (stored_in new)
-        chunks_after = subst (λ (t : Tree). AreStoredAfter f t (stored_in new)) fitting.gives (stored_after f sound (stored_in new) kept none edit fitting.carried)
 
         -- ---- not written
 

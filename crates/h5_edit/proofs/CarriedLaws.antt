@@ -1,9 +1,9 @@
 -- What holds of each array of a tree by its number, and of a new one, holds of each array of the tree that an edit gives which is carried.
-use Rattle.std.proofs.Common.{◌≡◌, ℕ, false, true, Option, Some, None, refl, sym, ap, ◌∙◌, subst}
+use Rattle.std.proofs.Common.{◌≡◌, ℕ, List, false, true, Option, Some, None, refl, sym, ap, ◌∙◌, subst}
 use Rattle.std.specs.Prelude.{option_and_then}
 use Rattle.std.specs.FinMap.{get, insert, remove, empty}
 use Rattle.std.proofs.lemmas.Option.{same_Some}
-use Rattle.h5_model.specs.Edits.Applied.{applied, linked, with_attributes, with_links, new_object, new_dataset, attribute_from}
+use Rattle.h5_model.specs.Edits.Applied.{applied, linked, with_attributes, with_dataset, with_links, new_object, new_dataset, attribute_from, resized}
 use Rattle.h5_model.specs.Tree.Objects.{Tree, Object, Content, Group, Array, Dataset, Links, ToObject, Soft, dataset_in, dataset_of}
 use Rattle.h5_model.specs.declared.dataset.Spec.{Spec}
 use Rattle.h5_model.specs.declared.edits.Edit.{Edit}
@@ -39,12 +39,19 @@ module _ (Holds : ℕ → Dataset → Type 0) where
   group_holds : (number : ℕ) → HoldsInside number (new_object (Group empty))
   group_holds number d is = absurd (cc)
 
+  sized_holds : (dims : List ℕ) → ((number : ℕ) (d : Dataset) → Holds number d → Holds number (resized dims d)) → (number : ℕ) (o : Object) → HoldsInside number o
+      → HoldsInside number (with_dataset (resized dims) o)
+  sized_holds dims sized number o holds d is = go o.content holds is where
+    go : (c : Content) → ((e : Dataset) → dataset_in c ≡ Some e → Holds number e) → dataset_in (with_dataset (resized dims) (record o { content = c })).content ≡ Some d → Holds number d
+    go (Group links) each at = absurd (cc)
+    go (Array e) each at = subst (Holds number) (same_Some (resized dims e) d at) (sized number e (each e refl))
+
   array_holds : (s : Spec) (number : ℕ) → Holds number (new_dataset s) → HoldsInside number (new_object (Array (new_dataset s)))
   array_holds s number holds d is = subst (Holds number) (same_Some (new_dataset s) d is) holds
 
   -- ---- trees
 
-  module _ (next : ℕ) (new : (spec : Spec) → Holds next (new_dataset spec)) where
+  module _ (next : ℕ) (new : (spec : Spec) → Holds next (new_dataset spec)) (sized : (dims : List ℕ) (number : ℕ) (d : Dataset) → Holds number d → Holds number (resized dims d)) where
     edited_each : (tree : Tree) (edit : Edit) → EachHolds HoldsInside tree → is_carried edit ≡ true → EachHolds HoldsInside (applied tree edit next)
     unfolding applied
     edited_each tree (CreateGroup path) each plain =
@@ -61,7 +68,8 @@ module _ (Holds : ℕ → Dataset → Type 0) where
     edited_each tree (RemoveAttr path name) each plain =
         each_at HoldsInside tree path (with_attributes (λ m. remove m name)) each (λ number o at there. each number o there)
     edited_each tree (Write path hyper values) each plain = absurd (let never : false ≡ true = plain in cc)
-    edited_each tree (Resize path dims) each plain = absurd (let never : false ≡ true = plain in cc)
+    edited_each tree (Resize path dims) each plain =
+        each_at HoldsInside tree path (with_dataset (resized dims)) each (λ number o at there. sized_holds dims (sized dims) number o (each number o there))
 
     pub edited_arrays : (tree : Tree) (edit : Edit) → is_carried edit ≡ true → ArraysHold tree → ArraysHold (applied tree edit next)
     edited_arrays tree edit carried all = arrays_hold (applied tree edit next) (edited_each tree edit (each_holds tree all) carried)

@@ -3,6 +3,7 @@ pub mod MergedLaws
 pub mod RestLaws
 pub mod OthersLaws
 pub mod CellLaws
+pub mod ResizedLaws
 pub mod LinkLaws
 pub mod NumberedLaws
 pub mod ObjectLaws

@@ -4,6 +4,7 @@ pub mod PlainObjects
 pub mod Bounds
 pub mod PlainArrays
 pub mod NewArrays
+pub mod ResizedArrays
 pub mod ChangedAttributes
 pub mod OpenedTrees
 pub mod ChangedTrees

@@ -1,29 +1,30 @@
 -- Edits that no rule refuses, as changes of the tree of an opened image.
-use Rattle.std.proofs.Common.{◌≡◌, inl, ℕ, ◌+◌, ◌<◌, ◌≤◌, List, length, refl, sym, ap, ◌∙◌, true, false, Option, Some, None, nat_lt, arith}
+use Rattle.std.proofs.Common.{◌≡◌, inl, ℕ, ◌+◌, ◌<◌, ◌≤◌, List, length, refl, sym, ap, ◌∙◌, subst, Bool, true, false, Option, Some, None, nat_lt, arith}
 use Rattle.std.proofs.lemmas.Bool.Decides.{nat_tests}
 use Rattle.std.proofs.lemmas.List.{length-map}
 use Rattle.std.proofs.lemmas.Option.{same_Some}
-use Rattle.std.specs.Prelude.{IsSome, MatchOption}
+use Rattle.std.specs.Prelude.{◌&&◌, IsSome, MatchOption}
 use Rattle.std.specs.Borrow.{Bor}
 use Rattle.std.specs.FinMap.{get, insert, remove, empty}
 use Rattle.std.specs.Option.{option_and_then, option_map_or}
 use Rattle.h5_edit.specs.Changed.Change.{with_link, changed}
-use Rattle.h5_edit.specs.declared.change.change.Change.TheVariants.{Link as Linked, SetAttr as Set, RemoveAttr as Remove}
+use Rattle.h5_edit.specs.declared.change.change.Change.TheVariants.{Link as Linked, SetAttr as Set, RemoveAttr as Remove, Resize as Other}
 use Rattle.h5_edit.specs.declared.change.change.Target.TheVariants as target
-use Rattle.h5_header.specs.Listed.{message_in}
-use Rattle.h5_model.specs.Edits.Applied.{applied, linked, new_object, new_dataset, with_links, with_attributes, attribute_from}
+use Rattle.h5_header.specs.Listed.{message_in, messages_in}
+use Rattle.h5_model.specs.Edits.Applied.{applied, linked, new_object, new_dataset, with_links, with_attributes, with_dataset, attribute_from, resized}
 use Rattle.h5_model.specs.Format.Fixed.{IsFixed}
 use Rattle.h5_model.specs.Format.Messages.{prefix_at, total_in}
 use Rattle.h5_model.specs.Tree.Paths.{object_at}
 use Rattle.h5_model.specs.Edits.Refusal.{new_path}
-use Rattle.h5_model.specs.Tree.Objects.{Tree, Object, Links, Link, Group, Array, ToObject, Soft, links_of, with_object}
+use Rattle.h5_model.specs.Tree.Objects.{Tree, Object, Links, Link, Group, Array, ToObject, Soft, dataset_of, links_of, with_object}
+use Rattle.h5_edit.proofs.FitLaws.ResizedArrays.{accepted_sizes}
 use Rattle.h5_model.specs.declared.attribute.AttrSpec.{AttrSpec}
 use Rattle.h5_model.specs.declared.dataset.Spec.{Spec}
 use Rattle.h5_model.specs.declared.edits.Edit.{Edit}
-use Rattle.h5_model.specs.declared.edits.Edit.TheVariants.{CreateGroup, CreateDataset, HardLink, SoftLink, SetAttr, RemoveAttr}
+use Rattle.h5_model.specs.declared.edits.Edit.TheVariants.{CreateGroup, CreateDataset, HardLink, SoftLink, SetAttr, RemoveAttr, Resize}
 use Rattle.h5_model.specs.declared.object_no.ObjectNo.{ObjectNo}
 use Rattle.h5_laws.proofs.Lists.{In}
-use Rattle.h5_edit.specs.Refusals.Allowed.{IsAt, IsPlaceAllowed, IsLinkPlaced}
+use Rattle.h5_edit.specs.Refusals.Allowed.{IsAt, IsPlaceAllowed, IsLinkPlaced, IsResizeAt}
 use Rattle.h5_edit.specs.declared.rules.place.NewPlace.{NewPlace}
 use Rattle.h5_laws.proofs.SoundLaws.Applied.{object_stands}
 use Rattle.h5_laws.proofs.SoundLaws.LinksThere.{links_are}
@@ -33,7 +34,8 @@ use Rattle.h5_query.specs.Opened.Sound.{IsSound, IsObjectOf}
 use Rattle.h5_query.specs.Opened.State.{FileState}
 use Rattle.h5_query.specs.OpenedObjectType.{OpenedObject}
 use Rattle.h5_query.proofs.OpenedLaws.Indexed.{header_there}
-use Rattle.h5_edit.specs.Carried.{is_message_total_full}
+use Rattle.h5_edit.specs.Carried.{is_message_total_full, is_total_full, IsTotalFull}
+use Rattle.h5_edit.specs.ExtentMaxima.{LacksMaxima, lacks_maxima}
 use Rattle.h5_edit.specs.Fits.Laws.{IsTyped}
 use Rattle.h5_edit.specs.Fitting.{IsFitting}
 
@@ -135,14 +137,29 @@ module _ (f : FileState) where
     object_found (Some o) of = refl
 
   -- whether its header has no place for a message and a Continuation
-  module _ (path : List ℕ) (attr : AttrSpec) (number : ℕ) (o : OpenedObject) (at : object_at tree path ≡ Some number) (of : IsObjectOf f number o) where
-    full_at : is_message_total_full f (SetAttr path attr) ≡ nat_lt 65535 (length o.messages.list + 2)
-    full_at =
+  module _ (path : List ℕ) (number : ℕ) (o : OpenedObject) (at : object_at tree path ≡ Some number) (of : IsObjectOf f number o) where
+    total_at : is_total_full f path ≡ nat_lt 65535 (length o.messages.list + 2)
+    total_at =
         let test = λ (header : ℕ). nat_lt 65535 (total_in (prefix_at f.image header) + 2) in
         let total = (((of.kept).header).has).total in
         ap (λ (found : Option ℕ). option_map_or test (option_and_then (get f.table) found) false) at
         ∙ ap (λ (found : Option ℕ). option_map_or test found false) of.header
         ∙ ap (λ n. nat_lt 65535 (n + 2)) (total ∙ length-map o.messages.list (message_in f.image))
+
+    -- and whether it needs one for maxima
+    pub sizes_total : (full : Bool) → (lacks_maxima (messages_in f.image o.messages.list) && nat_lt 65535 (length o.messages.list + 2)) ≡ full
+        → (dims : List ℕ) → IsTotalFull f (Resize path dims) full
+    sizes_total full is dims =
+        let ms = messages_in f.image o.messages.list in
+        let header : option_and_then (get f.table) (object_at tree path) ≡ Some o.messages.header = ap (option_and_then (get f.table)) at ∙ of.header in (
+          lacks_maxima ms,
+          subst (λ (found : Option ℕ). LacksMaxima f.image found (lacks_maxima ms)) (sym header) (ms, o.messages.blocks, of.kept.header.has, refl),
+          ap (λ (b : Bool). lacks_maxima ms && b) total_at ∙ is,
+        )
+
+  module _ (path : List ℕ) (attr : AttrSpec) (number : ℕ) (o : OpenedObject) (at : object_at tree path ≡ Some number) (of : IsObjectOf f number o) where
+    full_at : is_message_total_full f (SetAttr path attr) ≡ nat_lt 65535 (length o.messages.list + 2)
+    full_at = total_at path number o at of
 
     pub full_here : 65535 < length o.messages.list + 2 → is_message_total_full f (SetAttr path attr) ≡ true
     full_here many = full_at ∙ grind (arith, nat_tests)
@@ -175,3 +192,22 @@ module _ (f : FileState) where
     counted = omega arith;
     named = sym at.object;
   }
+
+  -- ---- sizes
+
+  pub resize_fits : {path : List ℕ} {number : ℕ} (dims : Bor (List ℕ)) (o : OpenedObject) → IsResizeAt tree next path dims.now number → IsObjectOf f number o
+      → (lacks_maxima (messages_in f.image o.messages.list) && nat_lt 65535 (length o.messages.list + 2)) ≡ false
+      → IsFitting f (Resize path dims.now) (Other number dims) (Some (record { 0 = number }))
+  unfolding applied changed
+  resize_fits {path = path} {number = number} dims o at of roomy =
+      let there : dataset_of tree number ≡ Some at.1 = sym (ap (option_and_then (dataset_of tree)) at.0.object) ∙ at.2 in
+      record {
+        typed = tt;
+        carried = refl;
+        accepted = at.0.allowed;
+        roomy = sizes_total path number o at.0.object of false roomy dims.now;
+        gives = ap (λ o. option_map_or (λ n. with_object tree n (with_dataset (resized dims.now))) o tree) at.0.object;
+        there = (at.1, there, (accepted_sizes tree next path dims.now at.1 at.0.allowed at.2).resizable);
+        counted = omega arith;
+        named = sym at.0.object;
+      }

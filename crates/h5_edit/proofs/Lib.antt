@@ -17,4 +17,5 @@ pub use Rattle.h5_query.proofs.RenumberedLaws
 pub use Rattle.h5_repack.proofs.EmptyFile
 pub mod CarriedLaws
 pub mod StoredLaws
+pub mod TotalLaws
 pub mod OneLength

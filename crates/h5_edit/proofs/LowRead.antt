@@ -12,7 +12,7 @@ use Rattle.std.specs.Cmp.Lexicographic.{nat_list_cmp_total}
 use Rattle.std.proofs.lemmas.Option.{same_Some}
 use Rattle.h5_bytes.specs.Bytes.{part}
 use Rattle.h5_bytes.specs.declared.Block.{Block}
-use Rattle.h5_model.specs.Edits.Applied.{with_links, with_object_at, unlinked, applied}
+use Rattle.h5_model.specs.Edits.Applied.{with_dataset, with_links, with_object_at, unlinked, applied, resized}
 use Rattle.h5_model.specs.Edits.ImageAnswers.{adds_entry}
 use Rattle.h5_model.specs.Format.Links.{HasLinks}
 use Rattle.h5_model.specs.Format.PlainLength.{rows_of}
@@ -22,7 +22,7 @@ use Rattle.h5_model.specs.Format.Symbols.{Target, IsSymbolNode, entries_of, entr
 use Rattle.h5_model.specs.Tree.Objects.{Tree, Object, Content, Group, Array, Links, links_in, links_of, only_reached, with_object}
 use Rattle.h5_model.specs.Tree.Paths.{object_at}
 use Rattle.h5_model.specs.declared.edits.Edit.{Edit}
-use Rattle.h5_model.specs.declared.edits.Edit.TheVariants.{Unlink, SetAttr, RemoveAttr}
+use Rattle.h5_model.specs.declared.edits.Edit.TheVariants.{Unlink, SetAttr, RemoveAttr, Resize}
 use Rattle.h5_btree.specs.Writing.Written.{root_level}
 use Rattle.h5_laws.proofs.Lists.{In, in_all, from_map}
 use Rattle.h5_laws.proofs.Maps.{entry_of_get}
@@ -91,15 +91,16 @@ module _ (leaf internal : ℕ) where
   abbrev links_at : Option Object → Option Links
   links_at = option_and_then (λ (p : Object). links_in p.content)
 
-  put_low : (tree : Tree) (number : ℕ) (o new : Object) → get tree number ≡ Some o → new.content ≡ o.content → AreLow leaf internal tree → AreLow leaf internal (insert tree number new)
+  put_low : (tree : Tree) (number : ℕ) (o new : Object) → get tree number ≡ Some o → links_in new.content ≡ links_in o.content → AreLow leaf internal tree
+      → AreLow leaf internal (insert tree number new)
   put_low tree number o new stands same low n links is = elim (same_number_or_other n number) [
     | inr other ↦ low n links (sym (ap links_at (number_other tree number new n other)) ∙ is)
     | inl here ↦
         low number links
-        (ap links_at stands ∙ sym (ap links_in same) ∙ sym (ap links_at (number_here tree number new)) ∙ sym (ap (links_of (insert tree number new)) here) ∙ is)
+        (ap links_at stands ∙ sym same ∙ sym (ap links_at (number_here tree number new)) ∙ sym (ap (links_of (insert tree number new)) here) ∙ is)
   ]
 
-  kept_low : (tree : Tree) (path : List ℕ) (change : Object → Object) → ((o : Object) → (change o).content ≡ o.content) → AreLow leaf internal tree
+  kept_low : (tree : Tree) (path : List ℕ) (change : Object → Object) → ((o : Object) → links_in (change o).content ≡ links_in o.content) → AreLow leaf internal tree
       → AreLow leaf internal (with_object_at tree path change)
   kept_low tree path change same low = at_path (object_at tree path) where
     at_number : (number : ℕ) (found : Option Object) → get tree number ≡ found → AreLow leaf internal (option_map_or (λ o. insert tree number (change o)) found tree)
@@ -138,10 +139,16 @@ module _ (leaf internal : ℕ) where
           go None there none = absurd (let never : None ≡ Some links = none in cc)
           go (Some o) there e = each_unlinked IsLowGroup low_group tree path (λ n p stands ls here. low n ls (ap links_at stands ∙ here)) number o there links e
 
+  -- other sizes of an array
+  sized_links : (dims : List ℕ) (o : Object) (c : Content) → links_in (with_dataset (resized dims) (record o { content = c })).content ≡ links_in c
+  sized_links dims o (Group links) = refl
+  sized_links dims o (Array d) = refl
+
   pub edited_low : 1 ≤ leaf → 1 ≤ internal → (tree : Tree) (edit : Edit) (next : ℕ) → is_carried edit ≡ true → adds_entry edit ≡ false → AreLow leaf internal tree
       → AreLow leaf internal (applied tree edit next)
   unfolding applied
   edited_low some some_internal tree (Unlink path) next plain none low = unlinked_low some some_internal tree path low
   edited_low some some_internal tree (SetAttr path attr) next plain none low = kept_low tree path _ (λ o. refl) low
   edited_low some some_internal tree (RemoveAttr path name) next plain none low = kept_low tree path _ (λ o. refl) low
+  edited_low some some_internal tree (Resize path dims) next plain none low = kept_low tree path (with_dataset (resized dims)) (λ o. sized_links dims o o.content) low
   edited_low some some_internal tree _ next plain none low = cc

@@ -12,9 +12,10 @@ use Rattle.h5_model.specs.declared.edit_fault.EditFault.{EditFault}
 use Rattle.h5_model.specs.declared.edit_fault.EditFault.TheVariants as fault
 use Rattle.h5_query.specs.Opened.Sound.{IsSound}
 use Rattle.h5_query.specs.Opened.State.{FileState}
-use Rattle.h5_edit.specs.Carried.{is_carried, is_anew, is_message_total_full, tree_after, GivenAs, IsGivenFor, IsLongAnew, IsRefused, IsRefusedBy, IsShortAnew}
+use Rattle.h5_edit.specs.Carried.{is_carried, is_anew, tree_after, GivenAs, IsGivenFor, IsLongAnew, IsRefused, IsRefusedBy, IsShortAnew, IsTotalFull}
 use Rattle.h5_edit.proofs.Low.{are_low, low_of, of_low}
 use Rattle.h5_edit.proofs.StoredLaws.{long_or_short}
+use Rattle.h5_edit.proofs.TotalLaws.{total_told}
 use Rattle.h5_edit.proofs.LowRead.{read_low, edited_low}
 
 -- an edit that is carried is written anew
@@ -44,7 +45,7 @@ module _ (f : FileState) (edit : Edit) where
   abbrev IsMeasured : Type 0
   IsMeasured = IsLongAnew f (tree_after f edit) ⊎ IsShortAnew f (tree_after f edit)
 
-  by_given : is_anew f.tree edit ≡ true → AddsLink → (e : EditFault) (full low : Bool) → is_message_total_full f edit ≡ full → IsMeasured
+  by_given : is_anew f.tree edit ≡ true → AddsLink → (e : EditFault) (full low : Bool) → IsTotalFull f edit full → IsMeasured
       → are_low leaf internal (entries (tree_after f edit)) ≡ low → refusal_of f.tree f.next edit ≡ Some e → IsRefusedBy f edit e
   by_given anew adds e true low has is lies h = record { given = Some fault.HeaderFull; allowed = rw anew has; answer = rw h refl }
   by_given anew adds e false low has (inl long) lies h = record { given = Some fault.ImageFull; allowed = rw anew (has, long); answer = rw h refl }
@@ -67,20 +68,20 @@ module _ (f : FileState) (edit : Edit) where
     anew : is_anew f.tree edit ≡ true
     anew = carried_anew f.tree edit carried
 
-    by_adding : IsMeasured → AddsLink → (e : EditFault) → refusal_of f.tree f.next edit ≡ Some e → IsRefused f edit e
-    by_adding measured adds e h = as_carried e carried
-        (by_given anew adds e (is_message_total_full f edit) (are_low leaf internal (entries (tree_after f edit))) refl measured refl h)
+    by_adding : (full : Bool) × IsTotalFull f edit full → IsMeasured → AddsLink → (e : EditFault) → refusal_of f.tree f.next edit ≡ Some e → IsRefused f edit e
+    by_adding told measured adds e h = as_carried e carried
+        (by_given anew adds e told.0 (are_low leaf internal (entries (tree_after f edit))) told.1 measured refl h)
 
     pub by_memory : IsRefused f edit fault.NoMemory
     by_memory = as_carried fault.NoMemory carried (for_memory f edit)
 
-    pub by_header : refusal_of f.tree f.next edit ≡ None → is_message_total_full f edit ≡ true → IsRefused f edit fault.HeaderFull
+    pub by_header : refusal_of f.tree f.next edit ≡ None → IsTotalFull f edit true → IsRefused f edit fault.HeaderFull
     by_header h full = as_carried fault.HeaderFull carried (record { given = Some fault.HeaderFull; allowed = rw anew full; answer = rw h refl })
 
-    pub by_length : refusal_of f.tree f.next edit ≡ None → is_message_total_full f edit ≡ false → IsLongAnew f (tree_after f edit) → IsRefused f edit fault.ImageFull
+    pub by_length : refusal_of f.tree f.next edit ≡ None → IsTotalFull f edit false → IsLongAnew f (tree_after f edit) → IsRefused f edit fault.ImageFull
     by_length h room long = as_carried fault.ImageFull carried (record { given = Some fault.ImageFull; allowed = rw anew (room, long); answer = rw h refl })
 
-    pub by_depth : refusal_of f.tree f.next edit ≡ None → is_message_total_full f edit ≡ false → (AreLow leaf internal (tree_after f edit) → ⊥) → AddsLink
+    pub by_depth : refusal_of f.tree f.next edit ≡ None → IsTotalFull f edit false → (AreLow leaf internal (tree_after f edit) → ⊥) → AddsLink
         → IsRefused f edit fault.TreeTooDeep
     by_depth h room deep adds = as_carried fault.TreeTooDeep carried (record { given = Some fault.TreeTooDeep; allowed = rw anew (room, deep, adds deep); answer = rw h refl })
 
@@ -103,4 +104,4 @@ module _ {f : FileState} (sound : IsSound f) (edit : Edit) (carried : is_carried
         absurd (deep (edited_low (leaf_k f.image) (internal_k f.image) superblock.leaf_low superblock.internal_low f.tree edit f.next carried is low))
 
   pub by_rule : (e : EditFault) → refusal_of f.tree f.next edit ≡ Some e → IsRefused f edit e
-  by_rule e h = by_adding f edit carried (long_or_short f sound edit carried) adds_link e h
+  by_rule e h = by_adding f edit carried (total_told f sound edit) (long_or_short f sound edit carried) adds_link e h

@@ -7,3 +7,4 @@ pub mod Verdicts
 pub mod Attributes
 pub mod Writes
 pub mod Removals
+pub mod Resizes

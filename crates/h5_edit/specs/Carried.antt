@@ -1,5 +1,5 @@
 -- Which edits are carried so far, and when one is refused.
-use Rattle.std.specs.Prelude.{◌≡◌, ℕ, ◌^◌, ◌+◌, ◌≤◌, ◌<◌, ◌&&◌, Bool, true, false, not, IsTrue, IsFalse, nat_lt, Option, Some, None, length}
+use Rattle.std.specs.Prelude.{◌≡◌, ℕ, ◌^◌, ◌+◌, ◌≤◌, ◌<◌, ◌&&◌, Bool, true, false, not, IsTrue, nat_lt, Option, Some, None, List, length}
 use Rattle.std.specs.FinMap.{get}
 use Rattle.std.specs.Option.{option_map_or, option_and_then}
 use Rattle.h5_model.specs.Edits.Applied.{applied}
@@ -11,16 +11,17 @@ use Rattle.h5_model.specs.Edits.Refusal.{refusal_of}
 use Rattle.h5_model.specs.Format.Superblock.{leaf_k, internal_k}
 use Rattle.h5_model.specs.Tree.Objects.{Tree, Dataset, Storage, Compact, Contiguous, Chunked}
 use Rattle.h5_model.specs.declared.edits.Edit.{Edit}
-use Rattle.h5_model.specs.declared.edits.Edit.TheVariants.{CreateGroup, CreateDataset, HardLink, SoftLink, Unlink, SetAttr, RemoveAttr, Write}
+use Rattle.h5_model.specs.declared.edits.Edit.TheVariants.{CreateGroup, CreateDataset, HardLink, SoftLink, Unlink, SetAttr, RemoveAttr, Write, Resize}
 use Rattle.h5_model.specs.declared.edit_fault.EditFault.{EditFault}
 use Rattle.h5_model.specs.declared.edit_fault.EditFault.TheVariants as fault
 use Rattle.h5_query.specs.Opened.State.{FileState}
 use Rattle.h5_repack.specs.Image.Plain.{AreLow}
+use Rattle.h5_edit.specs.ExtentMaxima.{LacksMaxima}
 use Rattle.h5_edit.specs.StoredChunks.{HasLengthAnew}
 
 -- ---- which edits are carried
 
--- a new group, array or link, a link that is taken away, and every change of attributes
+-- a new group, array or link, a link that is taken away, every change of attributes, and other sizes
 abbrev pub is_carried : Edit → Bool
 is_carried (CreateGroup path) = true
 is_carried (CreateDataset path spec) = true
@@ -29,6 +30,7 @@ is_carried (SoftLink text path) = true
 is_carried (Unlink path) = true
 is_carried (SetAttr path attr) = true
 is_carried (RemoveAttr path name) = true
+is_carried (Resize path dims) = true
 is_carried _ = false
 
 -- ---- which edits write the image anew
@@ -47,11 +49,21 @@ is_anew tree _ = true
 
 -- ---- what the image and memory decide, beside the rules of the tree
 
--- a new attribute needs a message, and a Continuation may come with it; the total of messages has two bytes
-abbrev pub is_message_total_full : FileState → Edit → Bool
-is_message_total_full f (SetAttr path attr) =
+-- the header of the object at a path has no place for a message more, with which a Continuation may come: the total has two bytes
+abbrev pub is_total_full : FileState → List ℕ → Bool
+is_total_full f path =
     option_map_or (λ header. nat_lt 65535 (total_in (prefix_at f.image header) + 2)) (option_and_then (get f.table) (object_at f.tree path)) false
+
+-- a new attribute needs a message
+abbrev pub is_message_total_full : FileState → Edit → Bool
+is_message_total_full f (SetAttr path attr) = is_total_full f path
 is_message_total_full f _ = false
+
+-- whether an edit needs a message for which there is no place: so do other sizes, where the Dataspace message has no maxima
+abbrev pub IsTotalFull : FileState → Edit → Bool → Type 0
+IsTotalFull f (Resize path dims) full =
+    (lacks : Bool) × LacksMaxima f.image (option_and_then (get f.table) (object_at f.tree path)) lacks × ((lacks && is_total_full f path) ≡ full)
+IsTotalFull f edit full = is_message_total_full f edit ≡ full
 
 -- the image of the tree, written anew, has at most 2^31 bytes, or more
 abbrev pub IsShortAnew : FileState → Tree → Type 0
@@ -68,11 +80,11 @@ tree_after f edit = applied f.tree edit f.next
 -- a link, by its groups' trees: either may be answered where both hold. Memory may be short at any time.
 abbrev pub IsGivenAnew : FileState → Edit → Option EditFault → Type 0
 IsGivenAnew f edit None =
-    IsFalse (is_message_total_full f edit) × IsShortAnew f (tree_after f edit) × AreLow (leaf_k f.image) (internal_k f.image) (tree_after f edit)
-IsGivenAnew f edit (Some fault.HeaderFull) = IsTrue (is_message_total_full f edit)
+    IsTotalFull f edit false × IsShortAnew f (tree_after f edit) × AreLow (leaf_k f.image) (internal_k f.image) (tree_after f edit)
+IsGivenAnew f edit (Some fault.HeaderFull) = IsTotalFull f edit true
 IsGivenAnew f edit (Some fault.TreeTooDeep) =
-    IsFalse (is_message_total_full f edit) × (AreLow (leaf_k f.image) (internal_k f.image) (tree_after f edit) → ⊥) × IsTrue (adds_entry edit)
-IsGivenAnew f edit (Some fault.ImageFull) = IsFalse (is_message_total_full f edit) × IsLongAnew f (tree_after f edit)
+    IsTotalFull f edit false × (AreLow (leaf_k f.image) (internal_k f.image) (tree_after f edit) → ⊥) × IsTrue (adds_entry edit)
+IsGivenAnew f edit (Some fault.ImageFull) = IsTotalFull f edit false × IsLongAnew f (tree_after f edit)
 IsGivenAnew f edit (Some fault.NoMemory) = Unit {0}
 IsGivenAnew f edit _ = ⊥
 

@@ -9,10 +9,10 @@ use Rattle.h5_edit.specs.Fits.Laws.{IsTyped}
 use Rattle.h5_query.specs.Opened.State.{FileState, state_of}
 use Rattle.h5_edit.specs.Changed.Change.{IsChange, changed}
 use Rattle.h5_edit.specs.declared.change.change.Change.{Change}
-use Rattle.h5_edit.specs.declared.change.change.Change.TheVariants.{Link as Linked, SetAttr as Set, RemoveAttr as Remove}
+use Rattle.h5_edit.specs.declared.change.change.Change.TheVariants.{Link as Linked, SetAttr as Set, RemoveAttr as Remove, Resize as Other}
 use Rattle.h5_edit.specs.declared.change.change.Target.{Target}
 use Rattle.h5_edit.specs.declared.change.change.Target.TheVariants as target
-use Rattle.h5_edit.specs.Carried.{is_carried, is_message_total_full, tree_after}
+use Rattle.h5_edit.specs.Carried.{is_carried, tree_after, IsTotalFull}
 
 -- how many objects a change makes
 abbrev pub made_by : Target → ℕ
@@ -25,6 +25,7 @@ abbrev pub made_in : Change → ℕ
 made_in (Linked parent name target) = made_by target
 made_in (Set object attr) = 0
 made_in (Remove object name) = 0
+made_in (Other object dims) = 0
 
 -- no rule of the tree refuses the edit, and no header is full; this change, which can be made, gives its tree, and it makes or names this
 -- object
@@ -32,7 +33,7 @@ pub record IsFitting (f : FileState) (edit : Edit) (change : Change) (object : O
   pub typed : IsTyped edit
   pub carried : is_carried edit ≡ true
   pub accepted : refusal_of f.tree f.next edit ≡ None
-  pub roomy : is_message_total_full f edit ≡ false
+  pub roomy : IsTotalFull f edit false
   pub gives : tree_after f edit ≡ changed f.tree change f.next
   pub there : IsChange f.tree change
   pub counted : f.next + made_in change ≡ (state_after (state_of f) edit).next

@@ -1,4 +1,5 @@
 pub mod StoredChunks
+pub mod ExtentMaxima
 pub mod Carried
 pub mod Made
 pub mod Repacked

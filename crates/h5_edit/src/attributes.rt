@@ -9,13 +9,10 @@ ghost use Rattle.h5_edit.specs.Made.{IsEditMade};
 use crate::anew::carry_out;
 use crate::change::Change;
 use crate::made::Made;
-use crate::rules::{check_remove_attr, check_set_attr};
+use crate::rules::{MAX_MESSAGES, check_remove_attr, check_set_attr};
 use h5_model::{AttrSpec, EditFault, ObjectNo};
 use h5_query::Opened;
 use std::alloc::Global;
-
-/// The most messages of a header.
-const MAX_MESSAGES: usize = 65535;
 
 /// Adds an attribute to the object at the path, or puts it in place of the one of its name.
 ///

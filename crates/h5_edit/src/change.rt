@@ -8,6 +8,7 @@ mod left;
 mod links;
 mod objects;
 mod parts;
+mod resized;
 
 pub use change::{Change, Target};
 pub(crate) use left::left_objects;

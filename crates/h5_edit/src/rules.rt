@@ -6,6 +6,7 @@ mod attribute;
 mod limits;
 mod links;
 mod place;
+mod resize;
 mod store;
 mod text;
 mod unlink;
@@ -14,7 +15,9 @@ mod write;
 
 pub use array::check_create_dataset;
 pub use attribute::{check_remove_attr, check_set_attr};
+pub(crate) use limits::MAX_MESSAGES;
 pub use links::{check_create_group, check_hard_link, check_soft_link};
 pub use place::NewPlace;
+pub(crate) use resize::check_resize;
 pub use unlink::{Removal, check_unlink};
 pub(crate) use write::check_write;

@@ -8,7 +8,7 @@ abbrev pub maxima_in : Maxima → List (Option ℕ)
 maxima_in (Read extent) = extent.maxima
 maxima_in (Given maxima) = maxima.now
 
--- there are as many as these sizes, or they were read with them
+-- there are as many as these sizes
 abbrev pub AreMaximaOf : Maxima → List ℕ → Type 0
-AreMaximaOf (Read extent) sizes = sizes ≡ extent.sizes
+AreMaximaOf (Read extent) sizes = length extent.sizes ≡ length sizes
 AreMaximaOf (Given maxima) sizes = length maxima.now ≡ length sizes

@@ -14,6 +14,7 @@ mod held;
 mod judge;
 mod pieces;
 mod read;
+mod resized;
 mod stored;
 mod write;
 

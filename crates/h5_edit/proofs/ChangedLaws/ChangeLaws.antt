@@ -16,8 +16,8 @@ use Rattle.std.proofs.lemmas.Bool.Decides.{nat_tests}
 use Rattle.std.proofs.lemmas.Option.{same_Some, slice_get_past}
 use Rattle.std.proofs.lemmas.Slice.Zip.{AllZip-long}
 use Rattle.h5_repack.specs.Image.Plain.{IsPlain, ArePlain}
-use Rattle.h5_model.specs.Edits.Applied.{attribute_from, with_attributes, with_links, new_object, new_dataset}
-use Rattle.h5_model.specs.Tree.Objects.{Tree, Object, Content, Link, Links, Group, Array, with_object, links_in}
+use Rattle.h5_model.specs.Edits.Applied.{attribute_from, with_attributes, with_dataset, with_links, new_object, new_dataset, resized}
+use Rattle.h5_model.specs.Tree.Objects.{Tree, Object, Content, Dataset, Link, Links, Group, Array, dataset_in, with_object, links_in}
 use Rattle.h5_model.specs.declared.attribute.AttrSpec.{AttrSpec}
 use Rattle.h5_repack.specs.Bodies.Sound.{IsPlainAttribute}
 use Rattle.h5_model.specs.Tree.Links.{tree_target}
@@ -25,8 +25,9 @@ use Rattle.h5_repack.specs.Objects.Objects.{AreObjects, IsNewObject, SlotsHold}
 use Rattle.h5_repack.specs.declared.objects.object.NewObject.{NewObject}
 use Rattle.h5_edit.specs.Changed.Change.{IsPlainChange, changed, with_link, with_target}
 use Rattle.h5_edit.specs.Changed.Edited.{IsEditOf, IsEditable, IsFresh, edit_at, edited, edited_by, new_link, new_objects, new_target}
+use Rattle.h5_edit.specs.Changed.Sizes.{CanHave, IsResizable}
 use Rattle.h5_edit.specs.declared.change.change.Change.{Change}
-use Rattle.h5_edit.specs.declared.change.change.Change.TheVariants.{Link as Linked, SetAttr as Set, RemoveAttr as Remove}
+use Rattle.h5_edit.specs.declared.change.change.Change.TheVariants.{Link as Linked, SetAttr as Set, RemoveAttr as Remove, Resize as Other}
 use Rattle.h5_edit.specs.declared.change.change.Target.{Target}
 use Rattle.h5_edit.specs.declared.change.change.Target.TheVariants as target
 use Rattle.h5_edit.specs.declared.change.edit.ObjectEdit.{ObjectEdit}
@@ -48,6 +49,10 @@ removed_same : (tree : Tree) (place object : ℕ) (n m : List ℕ) → place ≡
     → with_object tree object (with_attributes (λ es. remove es m)) ≡ with_object tree place (with_attributes (λ es. remove es n))
 removed_same tree place object n m p q = λ i. with_object tree (sym p i) (with_attributes (λ es. remove es (sym q i)))
 
+sized_same : (tree : Tree) (place object : ℕ) (n m : List ℕ) → place ≡ object → n ≡ m
+    → with_object tree object (with_dataset (resized m)) ≡ with_object tree place (with_dataset (resized n))
+sized_same tree place object n m p q = λ i. with_object tree (sym p i) (with_dataset (resized (sym q i)))
+
 target_is : (tree : Tree) (parent number : ℕ) (name : List ℕ) (t : Target) → with_target tree parent name t number ≡ with_new (with_link tree parent name (new_link t number)) number (new_target t)
 target_is tree parent number name target.Group = refl
 target_is tree parent number name (target.Array spec) = refl
@@ -63,12 +68,19 @@ changed_is tree (Linked parent name t) number place (edit.Link l) (p, q, r) =
     ∙ ap (λ x. with_new x number (new_target t)) (linked_same tree place parent l.name.now name.now (tree_target l.to) (new_link t number) p q r)
 changed_is tree (Linked parent name t) number place (edit.SetAttr a) is = absurd is
 changed_is tree (Linked parent name t) number place (edit.RemoveAttr n) is = absurd is
+changed_is tree (Linked parent name t) number place (edit.Resize n) is = absurd is
 changed_is tree (Set object attr) number place (edit.Link l) is = absurd is
 changed_is tree (Set object attr) number place (edit.SetAttr a) (p, q) = set_same tree place object a.now attr.now p q
 changed_is tree (Set object attr) number place (edit.RemoveAttr n) is = absurd is
+changed_is tree (Set object attr) number place (edit.Resize n) is = absurd is
 changed_is tree (Remove object name) number place (edit.Link l) is = absurd is
 changed_is tree (Remove object name) number place (edit.SetAttr a) is = absurd is
 changed_is tree (Remove object name) number place (edit.RemoveAttr n) (p, q) = removed_same tree place object n.now name.now p q
+changed_is tree (Remove object name) number place (edit.Resize n) is = absurd is
+changed_is tree (Other object dims) number place (edit.Link l) is = absurd is
+changed_is tree (Other object dims) number place (edit.SetAttr a) is = absurd is
+changed_is tree (Other object dims) number place (edit.RemoveAttr n) is = absurd is
+changed_is tree (Other object dims) number place (edit.Resize n) (p, q) = sized_same tree place object n.now dims.now p q
 
 -- ---- its numbers
 
@@ -88,6 +100,7 @@ new_numbered : (change : Change) (tree : Tree) (slots : List (Option Object)) �
 new_numbered (Linked parent name t) tree slots numbered number is k = more_numbered tree slots numbered number t is k
 new_numbered (Set object attr) tree slots numbered number is k = numbered k ∙ sym (ap (λ (xs : List (Option Object)). option_flatten (slice_get xs k)) (append-nil slots))
 new_numbered (Remove object name) tree slots numbered number is k = numbered k ∙ sym (ap (λ (xs : List (Option Object)). option_flatten (slice_get xs k)) (append-nil slots))
+new_numbered (Other object dims) tree slots numbered number is k = numbered k ∙ sym (ap (λ (xs : List (Option Object)). option_flatten (slice_get xs k)) (append-nil slots))
 
 -- ---- what can be written
 
@@ -105,6 +118,11 @@ fresh_content : (c : Content) (links : Links) (name other : List ℕ) → links_
 fresh_content (Group ls) links name other is none same = ap (λ n. get ls n) same ∙ ap (λ (x : Links). get x name) (same_Some ls links is) ∙ none
 fresh_content (Array d) links name other is none same = absurd (let never : None ≡ Some links = is in cc)
 
+-- an array that can have these sizes
+sized_content : (c : Content) (d : Dataset) (sizes other : List ℕ) → dataset_in c ≡ Some d → IsResizable sizes d → other ≡ sizes → CanHave other c
+sized_content (Group links) d sizes other is can same = absurd (let never : None ≡ Some d = is in cc)
+sized_content (Array e) d sizes other is can same = subst (λ n. IsResizable n e) (sym same) (subst (IsResizable sizes) (sym (same_Some e d is)) can)
+
 module _ (tree : Tree) (number : ℕ) where
   -- the edit can be made of the object that it is for
   pub editable : (change : Change) (plain : IsPlainChange tree number change) (place : ℕ) (e : ObjectEdit) → IsEditOf change number place e
@@ -114,6 +132,7 @@ module _ (tree : Tree) (number : ℕ) where
       fresh_content o.content plain.there.0 name.now l.name.now (sym (ap (option_and_then (λ (x : Object). links_in x.content)) here) ∙ plain.there.1) plain.there.2 q
   editable (Linked parent name t) plain place (edit.SetAttr a) is o found = absurd is
   editable (Linked parent name t) plain place (edit.RemoveAttr n) is o found = absurd is
+  editable (Linked parent name t) plain place (edit.Resize n) is o found = absurd is
   editable (Set object attr) plain place (edit.Link l) is o found = absurd is
   editable (Set object attr) plain place (edit.SetAttr a) is o found =
       let after : Object = edited (edit.SetAttr a) o in
@@ -123,9 +142,17 @@ module _ (tree : Tree) (number : ℕ) where
       (subst (AllByRecursion IsPlainAttribute) (entries-insert nat_list_cmp_total o.attributes (a.now).name (attribute_from a.now))
       ((plain.changed_plain place after there).others).attributes)
   editable (Set object attr) plain place (edit.RemoveAttr n) is o found = absurd is
+  editable (Set object attr) plain place (edit.Resize n) is o found = absurd is
   editable (Remove object name) plain place (edit.Link l) is o found = absurd is
   editable (Remove object name) plain place (edit.SetAttr a) is o found = absurd is
   editable (Remove object name) plain place (edit.RemoveAttr n) is o found = tt
+  editable (Remove object name) plain place (edit.Resize n) is o found = absurd is
+  editable (Other object dims) plain place (edit.Link l) is o found = absurd is
+  editable (Other object dims) plain place (edit.SetAttr a) is o found = absurd is
+  editable (Other object dims) plain place (edit.RemoveAttr n) is o found = absurd is
+  editable (Other object dims) plain place (edit.Resize n) (p, q) o found =
+      let here : get tree object ≡ Some o = ap (get tree) (sym p) ∙ found in
+      sized_content o.content plain.there.0 dims.now n.now (sym (ap (option_and_then (λ (x : Object). dataset_in x.content)) here) ∙ plain.there.1) plain.there.2 q
 
   newest : (t : Tree) (o : Object) → get (insert t number o) number ≡ Some o
   newest t o =
@@ -148,6 +175,7 @@ module _ (tree : Tree) (number : ℕ) where
   new_plain (Linked parent name t) plain = plain_linked parent name t plain.changed_plain
   new_plain (Set object attr) plain = tt
   new_plain (Remove object name) plain = tt
+  new_plain (Other object dims) plain = tt
 
 -- ---- the edit of each object
 
@@ -177,7 +205,7 @@ pub none_written : (tree : Tree) (place : ℕ) (change : Object → Object) → 
 none_written tree place change = record { listed = []; counted = refl; numbered = λ k low. absurd (omega (arith, low)); each = tt }
 
 -- what the edit of one number makes of its slot
-slot_at : (e : Option ObjectEdit) (place n : ℕ) (found : Option Object) (own : Option ObjectEdit) → own ≡ edit_at e place n
+pub slot_at : (e : Option ObjectEdit) (place n : ℕ) (found : Option Object) (own : Option ObjectEdit) → own ≡ edit_at e place n
     → option_map (edited_by own) found ≡ option_map (at_place n place (edited_by e)) found
 slot_at e place n None own is = refl
 slot_at e place n (Some o) own is = ap (λ (f : Option ObjectEdit). Some (edited_by f o)) is ∙ ap (λ (x : Object). Some x) (edited_at e place n o)
@@ -248,6 +276,7 @@ new_counted : (change : Change) → length (new_objects change) ≡ made_in chan
 new_counted (Linked parent name t) = made_counted t
 new_counted (Set object attr) = refl
 new_counted (Remove object name) = refl
+new_counted (Other object dims) = refl
 
 module _ (tree : Tree) (change : Change) (next place : ℕ) (e : ObjectEdit) (is : IsEditOf change next place e) (written all : List (Option NewObject)) (more : Option NewObject)
     (so : AreObjects written (with_object tree place (edited e))) (counted : length written ≡ next) (new : AllZip IsNewObject (option_to_list more) (new_objects change))

@@ -88,7 +88,7 @@ get_changed tree place change o is =
     ∙ get-insert nat_cmp_total tree place (change o) place
     ∙ ap (λ b. cond b (Some (change o)) (get tree place)) (unsigned_tied place place ∙ same)
 
-module _ (tree : Tree) (slots : List (Option Object)) (numbered : (k : ℕ) → get tree k ≡ option_flatten (slice_get slots k)) (place : ℕ) (change : Object → Object) where
+module _ (tree : Tree) (place : ℕ) (change : Object → Object) where
   kept : (found : Option Object) → found ≡ option_map (λ (x : Object). x) found
   kept None = refl
   kept (Some x) = refl
@@ -113,17 +113,25 @@ module _ (tree : Tree) (slots : List (Option Object)) (numbered : (k : ℕ) → 
         none ∙ ap (option_map change) (sym none)
     by_test false other = kept (get tree k)
 
-  get-with_object : (k : ℕ) → get (with_object tree place change) k ≡ option_map (at_place k place change) (get tree k)
+  pub get-with_object : (k : ℕ) → get (with_object tree place change) k ≡ option_map (at_place k place change) (get tree k)
   get-with_object k = by_found (get tree place) refl where
     by_found : (found : Option Object) → get tree place ≡ found
         → get (option_map_or (λ o. insert tree place (change o)) found tree) k ≡ option_map (at_place k place change) (get tree k)
     by_found None is = not_there k is
     by_found (Some o) is = there k o is
 
+module _ (tree : Tree) (slots : List (Option Object)) (numbered : (k : ℕ) → get tree k ≡ option_flatten (slice_get slots k)) (place : ℕ) (change : Object → Object) where
   pub numbered_with : (k : ℕ) → get (with_object tree place change) k ≡ option_flatten (slice_get (at_places 0 place change slots) k)
   numbered_with k =
-      get-with_object k ∙ ap (option_map (at_place k place change)) (numbered k)
+      get-with_object tree place change k ∙ ap (option_map (at_place k place change)) (numbered k)
       ∙ sym (found_at_places 0 place change slots k ∙ ap (λ m. option_map (at_place m place change) (option_flatten (slice_get slots k))) (omega arith))
+
+-- the object of another number is the same
+pub get-with_new : (tree : Tree) (number : ℕ) (os : List Object) (k : ℕ) → (k == number) ≡ false → get (with_new tree number os) k ≡ get tree k
+get-with_new tree number [] k other = refl
+get-with_new tree number (o ∷ os) k other =
+    get-insert nat_cmp_total (with_new tree number os) number o k
+    ∙ ap (λ b. cond b (Some o) (get (with_new tree number os) k)) (unsigned_tied k number ∙ other) ∙ get-with_new tree number os k other
 
 -- one more object behind the others
 pub numbered_more : (tree : Tree) (slots : List (Option Object)) (numbered : (k : ℕ) → get tree k ≡ option_flatten (slice_get slots k)) (number : ℕ) (o : Object) → number ≡ length slots

@@ -1,8 +1,8 @@
 -- The stored chunks of the objects of an opened image, in the slots of their numbers.
 use Rattle.std.proofs.Common.{◌≡◌, inl, inr, ℕ, ◌+◌, ◌<◌, ◌≤◌, List, [], ◌∷◌, ◌++◌, length, Bool, true, false, cond, Option, Some, None, refl, sym, ap, ◌∙◌, subst, arith}
-use Rattle.std.specs.Prelude.{◌==◌, IsSome, slice_get, option_and_then, option_to_list}
+use Rattle.std.specs.Prelude.{◌==◌, IsSome, slice_get, option_and_then, option_map, option_to_list}
 use Rattle.std.specs.Option.{option_flatten}
-use Rattle.std.specs.FinMap.{get}
+use Rattle.std.specs.FinMap.{get, insert}
 use Rattle.std.proofs.lemmas.Bool.{cases_lt}
 use Rattle.std.proofs.lemmas.Bool.Decides.{nat_tests}
 use Rattle.std.proofs.lemmas.List.{append-nil, length-append}
@@ -14,11 +14,14 @@ use Rattle.h5_layout.proofs.KnownLaws.{known_in}
 use Rattle.h5_model.specs.Format.Addresses.{SymbolTable}
 use Rattle.h5_model.specs.Format.Messages.{Message}
 use Rattle.h5_model.specs.Format.Reads.{HasDataset}
-use Rattle.h5_model.specs.Tree.Objects.{Object, Content, Group, Array, Dataset, dataset_in}
+use Rattle.h5_model.specs.Edits.Applied.{with_dataset, with_links, resized}
+use Rattle.h5_model.specs.Tree.Links.{tree_target}
+use Rattle.h5_model.specs.Tree.Objects.{Tree, Object, Content, Links, Group, Array, Dataset, dataset_in, with_object}
 use Rattle.h5_query.specs.Data.{data_blocks, stored_chunks}
 use Rattle.h5_query.specs.Kept.{array_dataset}
 use Rattle.h5_query.specs.Opened.Kept.{IsContentKept}
-use Rattle.h5_query.specs.Opened.Objects.{content_in, object_in}
+use Rattle.h5_query.specs.GroupTold.{links_told}
+use Rattle.h5_query.specs.Opened.Objects.{content_in, links_by, object_in}
 use Rattle.h5_query.specs.OpenedObjectType.{OpenedObject}
 use Rattle.h5_query.specs.OpenedContentType.{OpenedContent}
 use Rattle.h5_query.specs.OpenedContentType.TheVariants as content
@@ -26,13 +29,18 @@ use Rattle.h5_query.specs.Told.{array_told}
 use Rattle.h5_query.proofs.DataLaws.{data_there, told_chunks}
 use Rattle.h5_query.specs.Opened.Sound.{IsObjectOf, IsSound}
 use Rattle.h5_query.specs.Opened.State.{FileState}
-use Rattle.h5_query.proofs.OpenedLaws.Indexed.{next_free}
 use Rattle.h5_repack.specs.Objects.Objects.{content_chunks, slot_chunks, stored_in}
 use Rattle.h5_repack.specs.declared.objects.object.NewContent.{NewContent}
 use Rattle.h5_repack.specs.declared.objects.object.NewObject.{NewObject}
 use Rattle.h5_edit.specs.Changed.Cells.{AreChunksKept}
 use Rattle.h5_edit.specs.StoredChunks.{AreChunksOf, AreStoredAfter, AreStoredAt, AreStoredOf, HasStoredChunks}
-use Rattle.h5_edit.proofs.ChangedLaws.NumberedLaws.{filled_slots, found_one_more}
+use Rattle.h5_edit.specs.Changed.Edited.{edit_at, edited_by}
+use Rattle.h5_edit.specs.Changed.Sizes.{array_after}
+use Rattle.h5_edit.specs.declared.change.edit.ObjectEdit.{ObjectEdit}
+use Rattle.h5_edit.specs.declared.change.edit.ObjectEdit.TheVariants as edit
+use Rattle.h5_edit.proofs.ChangedLaws.ChangeLaws.{slot_at}
+use Rattle.h5_edit.proofs.ChangedLaws.NumberedLaws.{at_place, filled_slots, found_one_more, get-with_new, get-with_object, get_changed, with_new}
+use Rattle.h5_edit.proofs.StoredLaws.{no_next_header}
 
 -- the stored chunks of a slot more
 stored_one_more : (slots : List (Option NewObject)) (slot : Option NewObject) (k : ℕ) (b : Bool) → (k == length slots) ≡ b
@@ -42,41 +50,94 @@ stored_one_more slots slot k b is = ap slot_chunks (found_one_more slots slot k 
   by_case true = refl
   by_case false = refl
 
+-- ---- what an edit makes of the content of an object
+
+links_content : (change : Links → Links) (o : Object) (c : Content) (d : Dataset) → c ≡ Array d → (with_links change (record o { content = c })).content ≡ Array d
+links_content change o (Group links) d is = absurd (cc)
+links_content change o (Array e) d is = is
+
+sized_content : (dims : List ℕ) (o : Object) (c : Content) (d : Dataset) → c ≡ Array d → (with_dataset (resized dims) (record o { content = c })).content ≡ Array (resized dims d)
+sized_content dims o (Group links) d is = absurd (cc)
+sized_content dims o (Array e) d is = let same : e ≡ d = cc in ap (λ (x : Dataset). Array (resized dims x)) same
+
+-- of an array
+pub content_after : (e : Option ObjectEdit) (o : Object) (d : Dataset) → o.content ≡ Array d → (edited_by e o).content ≡ Array (array_after e d)
+content_after None o d is = is
+content_after (Some (edit.Link l)) o d is = links_content (λ links. insert links l.name.now (tree_target l.to)) o o.content d is
+content_after (Some (edit.SetAttr attr)) o d is = is
+content_after (Some (edit.RemoveAttr name)) o d is = is
+content_after (Some (edit.Resize dims)) o d is = sized_content dims.now o o.content d is
+
+group_linked : (change : Links → Links) (o : Object) (c : Content) (links : Links) (d : Dataset) → c ≡ Group links → (with_links change (record o { content = c })).content ≡ Array d → ⊥
+group_linked change o (Group ls) links d is array = cc
+group_linked change o (Array e) links d is array = cc
+
+group_sized : (dims : List ℕ) (o : Object) (c : Content) (links : Links) (d : Dataset) → c ≡ Group links → (with_dataset (resized dims) (record o { content = c })).content ≡ Array d → ⊥
+group_sized dims o (Group ls) links d is array = cc
+group_sized dims o (Array e) links d is array = cc
+
+group_array : (c : Content) (links : Links) (d : Dataset) → c ≡ Group links → c ≡ Array d → ⊥
+group_array (Group ls) links d is array = cc
+group_array (Array e) links d is array = cc
+
+-- a group is no array
+group_after : (e : Option ObjectEdit) (o : Object) (links : Links) (d : Dataset) → o.content ≡ Group links → (edited_by e o).content ≡ Array d → ⊥
+group_after None o links d is array = group_array o.content links d is array
+group_after (Some (edit.Link l)) o links d is array = group_linked (λ ls. insert ls l.name.now (tree_target l.to)) o o.content links d is array
+group_after (Some (edit.SetAttr attr)) o links d is array = group_array o.content links d is array
+group_after (Some (edit.RemoveAttr name)) o links d is array = group_array o.content links d is array
+group_after (Some (edit.Resize dims)) o links d is array = group_sized dims.now o o.content links d is array
+
 module _ (f : FileState) where
   -- where no object has the number
-  pub none_at : (number : ℕ) (offsets : List (List ℕ)) → get f.tree number ≡ None → AreStoredAt f f.tree number offsets
-  none_at number offsets none d array = absurd (let never : None ≡ Some d = sym (ap (option_and_then (λ (x : Object). dataset_in x.content)) none) ∙ array in cc)
+  pub none_at : (tree : Tree) (number : ℕ) (offsets : List (List ℕ)) → get tree number ≡ None → AreStoredAt f tree number offsets
+  none_at tree number offsets none d array = absurd (let never : None ≡ Some d = sym (ap (option_and_then (λ (x : Object). dataset_in x.content)) none) ∙ array in cc)
+
+  -- the object of the number decides
+  same_at : (one other : Tree) (number : ℕ) (offsets : List (List ℕ)) → get one number ≡ get other number → AreStoredAt f one number offsets → AreStoredAt f other number offsets
+  same_at one other number offsets same are d array = are d (ap (option_and_then (λ (x : Object). dataset_in x.content)) same ∙ array)
+
+  -- where no header has it
+  headerless : (tree : Tree) (number : ℕ) (offsets : List (List ℕ)) → get f.table number ≡ None → offsets ≡ [] → AreStoredAt f tree number offsets
+  headerless tree number offsets none is d array chunk chunked = subst (λ (found : Option ℕ). AreStoredOf f.image d.sizes found offsets) (sym none) is
 
   -- ---- of an object of the image
 
-  module _ (number : ℕ) (o : OpenedObject) (of : IsObjectOf f number o) where
+  module _ (number : ℕ) (o : OpenedObject) (of : IsObjectOf f number o) (e : Option ObjectEdit) where
     abbrev ms : List Message
     ms = messages_in f.image o.messages.list
 
     abbrev told : OpenedContent → Content
     told = content_in f.image f.table ms
 
+    abbrev there : Object
+    there = object_in f.image f.table o
+
     array_there : (c : Content) (d : Dataset) → dataset_in c ≡ Some d → c ≡ Array d
     array_there (Group links) d is = absurd (cc)
     array_there (Array e) d is = ap Array (same_Some e d is)
 
     -- under its number
-    pub stored_at : (offsets : List (List ℕ)) → AreChunksOf f (object_in f.image f.table o) o.messages.header offsets → AreStoredAt f f.tree number offsets
+    pub stored_at : (offsets : List (List ℕ)) → AreChunksOf f (edited_by e there) o.messages.header offsets
+        → AreStoredAt f (with_object f.tree number (edited_by e)) number offsets
     stored_at offsets are d array chunk chunked =
-        let content : told o.content ≡ Array d = array_there (told o.content) d (sym (ap (option_and_then (λ (x : Object). dataset_in x.content)) of.there) ∙ array) in
+        let stands = get_changed f.tree number (edited_by e) there of.there in
+        let content : (edited_by e there).content ≡ Array d
+        = array_there (edited_by e there).content d (sym (ap (option_and_then (λ (x : Object). dataset_in x.content)) stands) ∙ array) in
         subst (λ (found : Option ℕ). AreStoredOf f.image d.sizes found offsets) (sym of.header) (are d content chunk chunked)
 
     -- a group has none
-    pub group_stored : (g : SymbolTable) → o.content ≡ content.Group g → (offsets : List (List ℕ)) → AreChunksOf f (object_in f.image f.table o) o.messages.header offsets
-    group_stored g is offsets d array = absurd (let never : told (content.Group g) ≡ Array d = sym (ap told is) ∙ array in cc)
+    pub group_stored : (g : SymbolTable) → o.content ≡ content.Group g → (offsets : List (List ℕ)) → AreChunksOf f (edited_by e there) o.messages.header offsets
+    group_stored g is offsets d array = absurd (group_after e there (links_by f.table (links_told f.image g)) d (ap told is) array)
 
     -- those of an array that are handed over
-    pub array_stored : o.content ≡ content.Array → (x : NewContent) → AreChunksKept f.image ms (array_dataset f.image ms) x
-        → AreChunksOf f (object_in f.image f.table o) o.messages.header (content_chunks x)
+    pub array_stored : o.content ≡ content.Array → (x : NewContent) → AreChunksKept f.image ms (array_after e (array_dataset f.image ms)) x
+        → AreChunksOf f (edited_by e there) o.messages.header (content_chunks x)
     array_stored is x kept d array chunk chunked =
         let a = array_told ms in
         let read = subst (IsContentKept f.image ms) is of.kept.content in
-        let same : array_dataset f.image ms ≡ d = (let both : Array (array_dataset f.image ms) ≡ Array d = sym (ap told is) ∙ array in cc) in
+        let same : array_after e (array_dataset f.image ms) ≡ d
+        = (let both : Array (array_after e (array_dataset f.image ms)) ≡ Array d = sym (content_after e there (array_dataset f.image ms) (ap told is)) ∙ array in cc) in
         let has : HasDataset f.image ms (array_dataset f.image ms) (data_blocks f.image a.fixed a.layout)
         = has_dataset f.image ms a (stored_chunks f.image a.fixed a.layout) (data_blocks f.image a.fixed a.layout) read.0.array
         (known_in f.image o.messages.list of.kept.known (read.0.kinds).no_table) (data_there f.image a.fixed a.layout read.1) in
@@ -97,37 +158,51 @@ module _ (f : FileState) where
 
   -- ---- of the slots
 
+  -- in the slot of its number, with the edit of another
+  pub slot_stored : (place n : ℕ) (e own : Option ObjectEdit) (offsets : List (List ℕ)) → own ≡ edit_at e place n → AreStoredAt f (with_object f.tree n (edited_by own)) n offsets
+      → AreStoredAt f (with_object f.tree place (edited_by e)) n offsets
+  slot_stored place n e own offsets is are =
+      let here : (n == n) ≡ true = grind (arith, nat_tests) in
+      let own_at : get (with_object f.tree n (edited_by own)) n ≡ option_map (edited_by own) (get f.tree n)
+      = get-with_object f.tree n (edited_by own) n ∙ ap (λ b. option_map (λ x. cond b (edited_by own x) x) (get f.tree n)) here in
+      let same = own_at ∙ slot_at e place n (get f.tree n) own is ∙ sym (get-with_object f.tree place (edited_by e) n) in
+      same_at (with_object f.tree n (edited_by own)) (with_object f.tree place (edited_by e)) n offsets same are
+
   -- of the first so many slots
-  pub record AreStoredBelow (slots : List (Option NewObject)) (n : ℕ) : Type 0 where
+  pub record AreStoredBelow (tree : Tree) (slots : List (Option NewObject)) (n : ℕ) : Type 0 where
     pub long : length slots ≡ n
-    pub each : (k : ℕ) → k < n → AreStoredAt f f.tree k (stored_in slots k)
+    pub each : (k : ℕ) → k < n → AreStoredAt f tree k (stored_in slots k)
 
-  pub stored_none : AreStoredBelow [] 0
-  stored_none = record { long = refl; each = λ k low. absurd (omega (arith, low)) }
+  pub stored_none : (tree : Tree) → AreStoredBelow tree [] 0
+  stored_none tree = record { long = refl; each = λ k low. absurd (omega (arith, low)) }
 
-  pub stored_more : (slots more : List (Option NewObject)) (n : ℕ) (slot : Option NewObject) → AreStoredBelow slots n → AreStoredAt f f.tree n (slot_chunks slot)
-      → more ≡ slots ++ slot ∷ [] → AreStoredBelow more (n + 1)
-  stored_more slots more n slot so here longer = subst (λ list. AreStoredBelow list (n + 1)) (sym longer) (record {
+  pub stored_more : (tree : Tree) (slots more : List (Option NewObject)) (n : ℕ) (slot : Option NewObject) → AreStoredBelow tree slots n → AreStoredAt f tree n (slot_chunks slot)
+      → more ≡ slots ++ slot ∷ [] → AreStoredBelow tree more (n + 1)
+  stored_more tree slots more n slot so here longer = subst (λ list. AreStoredBelow tree list (n + 1)) (sym longer) (record {
     long = length-append slots (slot ∷ []) ∙ ap (λ m. m + 1) so.long;
     each = λ k low. by_test k low (k == length slots) refl;
   }) where
-    by_test : (k : ℕ) → k < n + 1 → (b : Bool) → (k == length slots) ≡ b → AreStoredAt f f.tree k (stored_in (slots ++ slot ∷ []) k)
+    by_test : (k : ℕ) → k < n + 1 → (b : Bool) → (k == length slots) ≡ b → AreStoredAt f tree k (stored_in (slots ++ slot ∷ []) k)
     by_test k low true last =
         let long = so.long in
         let same : n ≡ k = grind (arith, nat_tests, last, long) in
-        subst (AreStoredAt f f.tree k) (sym (stored_one_more slots slot k true last)) (subst (λ m. AreStoredAt f f.tree m (slot_chunks slot)) same here)
+        subst (AreStoredAt f tree k) (sym (stored_one_more slots slot k true last)) (subst (λ m. AreStoredAt f tree m (slot_chunks slot)) same here)
     by_test k low false other =
         let long = so.long in
-        subst (AreStoredAt f f.tree k) (sym (stored_one_more slots slot k false other)) (so.each k (grind (arith, nat_tests, other, low, long)))
+        subst (AreStoredAt f tree k) (sym (stored_one_more slots slot k false other)) (so.each k (grind (arith, nat_tests, other, low, long)))
+
+  pub none_mapped : (place k : ℕ) (change : Object → Object) → get f.tree k ≡ None → get (with_object f.tree place change) k ≡ None
+  none_mapped place k change none = get-with_object f.tree place change k ∙ ap (option_map (at_place k place change)) none
 
   -- of all
-  pub stored_all : (slots : List (Option NewObject)) → AreStoredBelow slots f.next → ((k : ℕ) → IsSome (get f.tree k) → k < f.next) → AreStoredAfter f f.tree (stored_in slots)
-  stored_all slots so given k = elim (cases_lt k f.next) [
+  pub stored_all : (place : ℕ) (change : Object → Object) (slots : List (Option NewObject)) → AreStoredBelow (with_object f.tree place change) slots f.next
+      → ((k : ℕ) → IsSome (get f.tree k) → k < f.next) → AreStoredAfter f (with_object f.tree place change) (stored_in slots)
+  stored_all place change slots so given k = elim (cases_lt k f.next) [
     | inl low ↦ so.each k low
     | inr past ↦ past_all (get f.tree k) refl past
   ] where
-    past_all : (found : Option Object) → get f.tree k ≡ found → f.next ≤ k → AreStoredAt f f.tree k (stored_in slots k)
-    past_all None is past = none_at k (stored_in slots k) is
+    past_all : (found : Option Object) → get f.tree k ≡ found → f.next ≤ k → AreStoredAt f (with_object f.tree place change) k (stored_in slots k)
+    past_all None is past = none_at (with_object f.tree place change) k (stored_in slots k) (none_mapped place k change is)
     past_all (Some o) is past = absurd (omega (arith, past, given k (rw is refl)))
 
   -- ---- a new object behind them, of which no chunk is stored
@@ -149,13 +224,13 @@ module _ (f : FileState) where
         ap (λ list. stored_in list f.next) (longer ∙ ap (λ (y : Option NewObject). slots ++ filled_slots (option_to_list y)) is)
         ∙ stored_one_more slots (Some x) f.next true last ∙ ap slot_chunks (sym is) ∙ none
 
-    pub new_none : stored_in all f.next ≡ []
-    new_none = none_behind more refl
-
-    pub stored_still : AreStoredAfter f f.tree (stored_in slots) → AreStoredAfter f f.tree (stored_in all)
-    stored_still so k = by_test (k == length slots) refl where
-      by_test : (b : Bool) → (k == length slots) ≡ b → AreStoredAt f f.tree k (stored_in all k)
+    pub stored_still : (tree : Tree) (os : List Object) → AreStoredAfter f tree (stored_in slots) → AreStoredAfter f (with_new tree f.next os) (stored_in all)
+    stored_still tree os so k = by_test (k == f.next) refl where
+      by_test : (b : Bool) → (k == f.next) ≡ b → AreStoredAt f (with_new tree f.next os) k (stored_in all k)
       by_test true last =
-          let here : k ≡ f.next = grind (arith, nat_tests, last, long) in
-          none_at k (stored_in all k) (ap (get f.tree) here ∙ next_free f sound)
-      by_test false other = subst (AreStoredAt f f.tree k) (sym (same_below more refl k other)) (so k)
+          let here : k ≡ f.next = grind (arith, nat_tests, last) in
+          headerless (with_new tree f.next os) k (stored_in all k) (ap (get f.table) here ∙ no_next_header f sound) (ap (stored_in all) here ∙ none_behind more refl)
+      by_test false other =
+          let apart : (k == length slots) ≡ false = ap (λ n. k == n) long ∙ other in
+          subst (AreStoredAt f (with_new tree f.next os) k) (sym (same_below more refl k apart))
+          (same_at tree (with_new tree f.next os) k (stored_in slots k) (sym (get-with_new tree f.next os k other)) (so k))

@@ -5,10 +5,10 @@ use Rattle.std.specs.Prelude.{nat_lt}
 use Rattle.std.specs.FinMap.{get, insert, remove, empty}
 use Rattle.std.specs.Option.{option_and_then, option_map_or}
 use Rattle.std.proofs.lemmas.Bool.Decides.{nat_tests}
-use Rattle.h5_model.specs.Edits.Applied.{applied, linked, with_attributes, with_links, with_object_at, new_object, new_dataset, attribute_from}
+use Rattle.h5_model.specs.Edits.Applied.{applied, linked, with_attributes, with_dataset, with_links, with_object_at, new_object, new_dataset, attribute_from, resized}
 use Rattle.h5_model.specs.Format.Messages.{prefix_at, total_in}
-use Rattle.h5_model.specs.Tree.Paths.{object_at}
-use Rattle.h5_model.specs.Tree.Objects.{Object, Content, Group, Array, Dataset, Links, ToObject, Soft}
+use Rattle.h5_model.specs.Tree.Paths.{dataset_at, object_at}
+use Rattle.h5_model.specs.Tree.Objects.{Object, Content, Group, Array, Dataset, Links, ToObject, Soft, dataset_in, dataset_of}
 use Rattle.h5_model.specs.declared.attribute.AttrSpec.{AttrSpec}
 use Rattle.h5_model.specs.declared.edits.Edit.TheVariants.{CreateGroup, CreateDataset, HardLink, SoftLink, Unlink, SetAttr, RemoveAttr, Write, Resize}
 use Rattle.h5_repack.specs.Image.Plain.{IsPlain, IsPlainContent, ArePlain}
@@ -21,6 +21,7 @@ use Rattle.h5_edit.specs.Fits.Laws.{AreBytes, EditedPlain}
 use Rattle.h5_edit.proofs.FitLaws.ChangedAttributes.{with_set, plain_set, few_set, with_removed, plain_removed, few_removed_others, accepted_attribute}
 use Rattle.h5_edit.proofs.FitLaws.ChangedTrees.{each_put, each_at, each_linked, each_linked_to, each_unlinked}
 use Rattle.h5_edit.proofs.FitLaws.NewArrays.{plain_new_array, accepted_spec}
+use Rattle.h5_edit.proofs.FitLaws.ResizedArrays.{accepted_sizes, plain_sized}
 use Rattle.h5_edit.proofs.FitLaws.OpenedTrees.{IsRead, object_read, plain_content, plain_read, opened_plain}
 use Rattle.h5_edit.proofs.FitLaws.PlainObjects.{plain_new, no_others}
 
@@ -105,6 +106,14 @@ module _ (f : FileState) (low : AreBytes f.image) (sound : IsSound f) where
     plain_attribute_set : ArePlain (with_object_at f.tree path (with_attributes (λ m. insert m a.name (attribute_from a))))
     plain_attribute_set = each_at (λ n. IsPlain) f.tree path (λ o. with_set o a.name (attribute_from a)) (opened_plain f low sound) plain_with
 
+-- ---- other sizes
+
+-- the array of the object at a path
+array_at : (f : FileState) (number : ℕ) (o : Object) (d : Dataset) (path : List ℕ) → object_at f.tree path ≡ Some number → get f.tree number ≡ Some o → o.content ≡ Array d
+    → dataset_at f.tree path ≡ Some d
+array_at f number o d path at there is =
+    ap (option_and_then (dataset_of f.tree)) at ∙ ap (option_and_then (λ (x : Object). dataset_in x.content)) there ∙ ap dataset_in is
+
 -- ---- every edit that the plain layout can hold
 
 pub edited_plain : EditedPlain
@@ -127,4 +136,7 @@ edited_plain f (RemoveAttr path name) low sound typed carried accepted roomy =
     let each = opened_plain f low sound in
     each_at (λ n. IsPlain) f.tree path (λ o. with_removed o name) each (λ number o at there. plain_without o name (each number o there))
 edited_plain f (Write path hyper values) low sound typed carried accepted roomy = absurd (let never : false ≡ true = carried in cc)
-edited_plain f (Resize path dims) low sound typed carried accepted roomy = absurd (let never : false ≡ true = carried in cc)
+edited_plain f (Resize path dims) low sound typed carried accepted roomy =
+    let each = opened_plain f low sound in
+    each_at (λ n. IsPlain) f.tree path (with_dataset (resized dims)) each (λ number o at there.
+    plain_sized dims o (each number o there) (λ d is. accepted_sizes f.tree f.next path dims d accepted (array_at f number o d path at there is)))

@@ -48,6 +48,7 @@ abbrev pub merged : ObjectEdit → NamedAttributes → NamedAttributes
 merged (edit.Link l) es = es
 merged (edit.SetAttr a) es = put (slice_cmp nat_cmp) (a.now).name (attribute_from a.now) es
 merged (edit.RemoveAttr name) es = without name.now es
+merged (edit.Resize dims) es = es
 
 abbrev pub merged_by : Option ObjectEdit → NamedAttributes → NamedAttributes
 merged_by None es = es

@@ -1,14 +1,15 @@
 -- What a change makes of one object of a tree, and which objects it adds.
 use Rattle.std.specs.Prelude.{◌≡◌, ℕ, ◌==◌, if◌then◌else◌, Option, Some, None, List, [], ◌∷◌}
 use Rattle.std.specs.FinMap.{get, insert, remove, empty}
-use Rattle.h5_model.specs.Edits.Applied.{attribute_from, with_attributes, with_links, new_object, new_dataset}
+use Rattle.h5_model.specs.Edits.Applied.{attribute_from, with_attributes, with_dataset, with_links, new_object, new_dataset, resized}
 use Rattle.h5_model.specs.Tree.Objects.{Object, Content, Link, Links, ToObject, Soft, Group, Array}
 use Rattle.h5_model.specs.Tree.Links.{tree_target}
 use Rattle.h5_model.specs.declared.object_no.ObjectNo.{ObjectNo}
 use Rattle.h5_model.specs.declared.link.Link.{Link as LinkOf}
 use Rattle.h5_repack.specs.Bodies.Sound.{IsPlainAttribute}
+use Rattle.h5_edit.specs.Changed.Sizes.{CanHave}
 use Rattle.h5_edit.specs.declared.change.change.Change.{Change}
-use Rattle.h5_edit.specs.declared.change.change.Change.TheVariants.{Link as Linked, SetAttr as Set, RemoveAttr as Remove}
+use Rattle.h5_edit.specs.declared.change.change.Change.TheVariants.{Link as Linked, SetAttr as Set, RemoveAttr as Remove, Resize as Other}
 use Rattle.h5_edit.specs.declared.change.change.Target.{Target}
 use Rattle.h5_edit.specs.declared.change.change.Target.TheVariants as target
 use Rattle.h5_edit.specs.declared.change.edit.ObjectEdit.{ObjectEdit}
@@ -21,6 +22,7 @@ abbrev pub added_link : Option ObjectEdit → Option (LinkOf ObjectNo)
 added_link (Some (edit.Link l)) = Some l
 added_link (Some (edit.SetAttr attr)) = None
 added_link (Some (edit.RemoveAttr name)) = None
+added_link (Some (edit.Resize dims)) = None
 added_link None = None
 
 -- the links of a group, and an object, with an edit
@@ -32,6 +34,7 @@ abbrev pub edited : ObjectEdit → Object → Object
 edited (edit.Link l) = with_links (λ links. insert links l.name.now (tree_target l.to))
 edited (edit.SetAttr attr) = with_attributes (λ m. insert m (attr.now).name (attribute_from attr.now))
 edited (edit.RemoveAttr name) = with_attributes (λ m. remove m name.now)
+edited (edit.Resize dims) = with_dataset (resized dims.now)
 
 abbrev pub edited_by : Option ObjectEdit → Object → Object
 edited_by None o = o
@@ -55,12 +58,14 @@ abbrev pub IsEditable : Object → ObjectEdit → Type 0
 IsEditable o (edit.Link l) = IsFresh l.name.now o.content
 IsEditable o (edit.SetAttr attr) = IsPlainAttribute ((attr.now).name, attribute_from attr.now)
 IsEditable o (edit.RemoveAttr name) = Unit {0}
+IsEditable o (edit.Resize dims) = CanHave dims.now o.content
 
 -- a new attribute can be written
 abbrev pub IsPlainEdit : ObjectEdit → Type 0
 IsPlainEdit (edit.Link l) = Unit {0}
 IsPlainEdit (edit.SetAttr attr) = IsPlainAttribute ((attr.now).name, attribute_from attr.now)
 IsPlainEdit (edit.RemoveAttr name) = Unit {0}
+IsPlainEdit (edit.Resize dims) = Unit {0}
 
 -- ---- changes
 
@@ -76,6 +81,7 @@ abbrev pub IsEditOf : Change → ℕ → ℕ → ObjectEdit → Type 0
 IsEditOf (Linked parent name target) number place (edit.Link l) = (place ≡ parent) × (l.name.now ≡ name.now) × (tree_target l.to ≡ new_link target number)
 IsEditOf (Set object attr) number place (edit.SetAttr other) = (place ≡ object) × (other.now ≡ attr.now)
 IsEditOf (Remove object name) number place (edit.RemoveAttr other) = (place ≡ object) × (other.now ≡ name.now)
+IsEditOf (Other object dims) number place (edit.Resize other) = (place ≡ object) × (other.now ≡ dims.now)
 IsEditOf _ _ _ _ = ⊥
 
 -- the objects that it adds
@@ -89,3 +95,4 @@ abbrev pub new_objects : Change → List Object
 new_objects (Linked parent name target) = new_target target
 new_objects (Set object attr) = []
 new_objects (Remove object name) = []
+new_objects (Other object dims) = []

@@ -1,5 +1,5 @@
 -- Which trees the plain layout can hold: those of opened images, and those that accepted edits give.
-use Rattle.std.specs.Prelude.{◌≡◌, ℕ, ◌<◌, true, IsFalse, None, List, slice_index}
+use Rattle.std.specs.Prelude.{◌≡◌, ℕ, ◌<◌, true, false, None, List, slice_index}
 use Rattle.std.specs.List.{AllZip}
 use Rattle.h5_model.specs.Format.Fixed.{IsFixed}
 use Rattle.h5_model.specs.Edits.Refusal.{refusal_of}
@@ -9,7 +9,7 @@ use Rattle.h5_query.specs.Opened.Sound.{IsSound}
 use Rattle.h5_query.specs.Opened.State.{FileState}
 use Rattle.h5_repack.specs.Bodies.Sound.{IsBound}
 use Rattle.h5_repack.specs.Image.Plain.{ArePlain}
-use Rattle.h5_edit.specs.Carried.{is_carried, is_message_total_full, tree_after}
+use Rattle.h5_edit.specs.Carried.{is_carried, tree_after, IsTotalFull}
 
 -- ---- opened images
 
@@ -30,4 +30,4 @@ IsTyped _ = Unit {0}
 
 abbrev pub EditedPlain : Type 0
 EditedPlain = (f : FileState) (edit : Edit) → AreBytes f.image → IsSound f → IsTyped edit → is_carried edit ≡ true
-    → refusal_of f.tree f.next edit ≡ None → IsFalse (is_message_total_full f edit) → ArePlain (tree_after f edit)
+    → refusal_of f.tree f.next edit ≡ None → IsTotalFull f edit false → ArePlain (tree_after f edit)

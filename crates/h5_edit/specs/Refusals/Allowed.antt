@@ -1,11 +1,11 @@
 -- Edits of an opened image that no rule of its tree refuses, and where they take place.
 use Rattle.std.specs.Prelude.{◌≡◌, ℕ, ℤ, Some, None, List}
-use Rattle.h5_model.specs.Tree.Paths.{object_at, parent_at}
+use Rattle.h5_model.specs.Tree.Paths.{dataset_at, object_at, parent_at}
 use Rattle.h5_model.specs.Edits.Refusal.{refusal_of}
-use Rattle.h5_model.specs.Tree.Objects.{Tree}
+use Rattle.h5_model.specs.Tree.Objects.{Tree, Dataset}
 use Rattle.h5_model.specs.Views.Selection.{Slab, axes_of}
 use Rattle.h5_model.specs.declared.edits.Edit.{Edit}
-use Rattle.h5_model.specs.declared.edits.Edit.TheVariants.{Write}
+use Rattle.h5_model.specs.declared.edits.Edit.TheVariants.{Write, Resize}
 use Rattle.h5_model.specs.declared.edit_fault.EditFault.{EditFault}
 use Rattle.h5_model.specs.declared.hyperslab.Hyper.{Hyper}
 use Rattle.h5_edit.specs.declared.rules.place.NewPlace.{NewPlace}
@@ -23,6 +23,10 @@ pub record IsAt (tree : Tree) (next : ℕ) (path : List ℕ) (edit : Edit) (numb
 -- no rule refuses the write; the array at its path has this number, and its lists are this selection
 abbrev pub IsWriteAt : Tree → ℕ → List ℕ → Hyper → List ℤ → (ℕ × Slab) → Type 0
 IsWriteAt tree next path hyper values (number, slab) = IsAt tree next path (Write path hyper values) number × (slab ≡ axes_of hyper)
+
+-- no rule refuses the resize; the array at its path has this number
+abbrev pub IsResizeAt : Tree → ℕ → List ℕ → List ℕ → ℕ → Type 0
+IsResizeAt tree next path dims number = IsAt tree next path (Resize path dims) number × (d : Dataset) × (dataset_at tree path ≡ Some d)
 
 -- a hard link to the object of this number
 abbrev pub IsLinkPlaced : Tree → ℕ → List ℕ → List ℕ → Edit → (ℕ × NewPlace) → Type 0

@@ -34,4 +34,9 @@ pub enum Change<'a> {
         object: u32,
         name: &'a [u8],
     },
+    /// The array of this number has these sizes: of its cells those stay whose index is inside both, and the others are the fill.
+    Resize {
+        object: u32,
+        dims: &'a [u64],
+    },
 }

@@ -17,6 +17,8 @@ pub(crate) enum ObjectEdit<'a> {
     SetAttr(&'a AttrSpec),
     /// The attribute of this name is left out.
     RemoveAttr(&'a [u8]),
+    /// The array has these sizes.
+    Resize(&'a [u64]),
 }
 
 /// The number of the object that the change edits, and how; a new object takes the number `next`.
@@ -34,6 +36,7 @@ pub(crate) fn edit_of<'a>(change: &Change<'a>, next: u32) -> (u32, ObjectEdit<'a
         }
         Change::SetAttr { object, attr } => (object, ObjectEdit::SetAttr(attr)),
         Change::RemoveAttr { object, name } => (object, ObjectEdit::RemoveAttr(name)),
+        Change::Resize { object, dims } => (object, ObjectEdit::Resize(dims)),
     }
 }
 
@@ -65,6 +68,8 @@ pub(crate) fn link_in(edit: Option<ObjectEdit<'_>>) -> Option<Link<'_, ObjectNo>
 {
     match edit {
         Some(ObjectEdit::Link(link)) => Some(link),
-        Some(ObjectEdit::SetAttr(_) | ObjectEdit::RemoveAttr(_)) | None => None,
+        Some(ObjectEdit::SetAttr(_) | ObjectEdit::RemoveAttr(_) | ObjectEdit::Resize(_)) | None => {
+            None
+        }
     }
 }

@@ -14,10 +14,11 @@ ghost use Rattle.h5_edit.specs.Fitting.{made_in};
 ghost use Rattle.h5_edit.specs.StoredChunks.{AreChunksOf, AreStoredAfter, AreStoredAt};
 
 use crate::change::attributes::others_in;
-use crate::change::cells::{array_from, kept_array};
+use crate::change::cells::array_from;
 use crate::change::change::{Change, Target};
 use crate::change::edit::{ObjectEdit, edit_at, edit_of, link_in};
 use crate::change::links::links_in;
+use crate::change::resized::array_in;
 use h5_query::{Opened, OpenedContent, OpenedObject};
 use h5_repack::{NewContent, NewObject, Others};
 use std::alloc::{AllocError, Global};
@@ -37,8 +38,8 @@ pub(crate) fn changed_objects<'a>(
     ensures counted { IfOk result (λ objects.
         length objects.items ≡ opened.now.next + made_in change.now) }
     ensures stored { IfOk result (λ objects.
-        AreStoredAfter opened.now opened.now.tree (stored_in objects.items)) }
-    ensures new { IfOk result (λ objects. stored_in objects.items opened.now.next ≡ []) }
+        AreStoredAfter opened.now (changed opened.now.tree change.now opened.now.next)
+        (stored_in objects.items)) }
 {
     let (place, edit) = edit_of(change, opened.next());
     let mut objects = opened_objects(alloc, opened, place, Some(edit))?;
@@ -74,7 +75,8 @@ pub(crate) fn opened_objects<'a>(
         AreObjects objects.items (with_object opened.now.tree place (edited_by edit.entry))) }
     ensures counted { IfOk result (λ objects. length objects.items ≡ opened.now.next) }
     ensures stored { IfOk result (λ objects.
-        AreStoredAfter opened.now opened.now.tree (stored_in objects.items)) }
+        AreStoredAfter opened.now (with_object opened.now.tree place (edited_by edit.entry))
+        (stored_in objects.items)) }
 {
     let mut objects = Vec::new(alloc);
     for number in 0..opened.next() {
@@ -96,7 +98,8 @@ fn edited_slot<'a>(
     ensures object { IfOk result (λ slot.
         SlotsHold IsNewObject slot (option_map (edited_by edit.entry) (get opened.now.tree number))) }
     ensures stored { IfOk result (λ slot.
-        AreStoredAt opened.now opened.now.tree number (slot_chunks slot)) }
+        AreStoredAt opened.now (with_object opened.now.tree number (edited_by edit.entry)) number
+        (slot_chunks slot)) }
 {
     match opened.object(number) {
         Some(object) => Ok(Some(edited_object(alloc, opened, object, edit)?)),
@@ -117,7 +120,8 @@ fn edited_object<'a>(
     ensures object { IfOk result (λ x.
         IsNewObject x (edited_by edit.entry (object_in opened.now.image opened.now.table object.now))) }
     ensures stored { IfOk result (λ x.
-        AreChunksOf opened.now (object_in opened.now.image opened.now.table object.now)
+        AreChunksOf opened.now
+        (edited_by edit.entry (object_in opened.now.image opened.now.table object.now))
         object.now.messages.header (content_chunks x.content)) }
 {
     let image = opened.image();
@@ -126,7 +130,7 @@ fn edited_object<'a>(
         OpenedContent::Group(table) => {
             NewContent::Group(links_in(alloc, opened, *table, link_in(edit))?)
         }
-        OpenedContent::Array => kept_array(alloc, image, &object.messages)?,
+        OpenedContent::Array => array_in(alloc, image, &object.messages, edit)?,
     };
     Ok(NewObject { content, others })
 }

@@ -4,6 +4,9 @@
 /// The most bytes of a link's or an attribute's name, and of the text of a soft link.
 pub(crate) const MAX_NAME: usize = 1023;
 
+/// The most messages of a header.
+pub(crate) const MAX_MESSAGES: usize = 65535;
+
 /// The most bytes of an attribute's message body.
 pub(crate) const MAX_BODY: u64 = 65528;
 

@@ -22,14 +22,14 @@ write_tree-requires-clause-tree c = (
   changed c.args.opened.now.tree c.args.change.now c.args.opened.now.next,
   rw c.deref.ensures.value
       (tree_to_write c.image.ensures.sound c.requires.1 (rw c.image.ensures.bytes at c.k_of-k.ensures.bytes) c.in-Ok.objects.items c.in-Ok.ensures.objects
-      c.in-Ok.ensures.stored c.in-Ok.ensures.new),
+      c.in-Ok.ensures.stored),
 )
 
 pub returns : goal.returns
 returns c edit fitting =
     rw c.answer.ensures
     (answered c.image.ensures.sound fitting (rw c.image.ensures.bytes at c.k_of-k.ensures.bytes) c.in-Ok.objects.items c.in-Ok.ensures.objects
-    c.in-Ok.ensures.stored c.in-Ok.ensures.new
+    c.in-Ok.ensures.stored
     c.k_of-k.result.leaf c.k_of-k.result.internal (c.k_of-k.ensures.leaf ∙ ap leaf_k c.image.ensures.bytes) (c.k_of-k.ensures.internal ∙ ap internal_k c.image.ensures.bytes)
     c.in-Ok.ensures.counted c.write_tree.result (rw c.deref.ensures.value at c.write_tree.ensures.written)
     (rw c.deref.ensures.value at c.write_tree.ensures.numbered) (rw c.deref.ensures.value at c.write_tree.ensures.refused))

@@ -1,4 +1,4 @@
-use Rattle.std.proofs.Common.{rules, ◌≡◌, ◌≤◌, ◌^◌, Some, to_z, of_z, arith}
+use Rattle.std.proofs.Common.{rules, ◌≡◌, ◌≤◌, ◌^◌, Some, length, sym, ap, to_z, of_z, arith}
 use Rattle.std.proofs.lemmas.Result.{err_from_is_err_and}
 use mir.Syntax.{w128}
 use Rattle.h5_model.specs.Format.Datatype.{fixed_of}
@@ -25,7 +25,7 @@ invariant_of-result c =
     let passed : to_z w128 (of_z w128 c.in_ok-fill.fill) ≡ c.in_ok-fill.fill = search rules in
     let sizes : c.in_ok-dims.dims ≡ c.in_ok-dims.extent.sizes = c.in_ok-dims.ensures.sizes in
     let small : extent_cells c.in_ok-dims.dims ≤ 2 ^ 40 = rw sizes c.in_ok-dims.ensures.small in (
-      sizes,
+      sym (ap length sizes),
       rw passed c.in_ok-fill.ensures.of_type,
       record {
         small = small;

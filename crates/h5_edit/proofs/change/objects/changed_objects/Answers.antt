@@ -1,9 +1,12 @@
-use Rattle.std.proofs.Common.{◌≡◌, ℕ, subst}
-use Rattle.h5_edit.specs.Changed.Edited.{IsEditOf}
+use Rattle.std.proofs.Common.{◌≡◌, ℕ, sym, subst}
+use Rattle.h5_model.specs.Tree.Objects.{Tree, with_object}
+use Rattle.h5_repack.specs.Objects.Objects.{stored_in}
+use Rattle.h5_edit.specs.Changed.Edited.{IsEditOf, edited, new_objects}
+use Rattle.h5_edit.specs.StoredChunks.{AreStoredAfter}
 use Rattle.h5_edit.specs.declared.change.change.Change.{Change}
 use Rattle.h5_edit.specs.declared.change.edit.ObjectEdit.{ObjectEdit}
-use Rattle.h5_edit.proofs.ChangedLaws.ChangeLaws.{all_counted, all_written, editable, new_plain}
-use Rattle.h5_edit.proofs.ChangedLaws.StoredSlots.{new_none, stored_still}
+use Rattle.h5_edit.proofs.ChangedLaws.ChangeLaws.{all_counted, all_written, changed_is, editable, new_plain}
+use Rattle.h5_edit.proofs.ChangedLaws.StoredSlots.{stored_still}
 use Rattle.h5_edit.proofs.change.objects.changed_objects.Goals as goal
 
 edit_for : (change : Change) (n m place : ℕ) (e : ObjectEdit) → n ≡ m → IsEditOf change n place e → IsEditOf change m place e
@@ -34,10 +37,9 @@ returns-clause-counted c =
 
 pub returns-clause-stored : goal.returns-clause-stored
 returns-clause-stored c =
-    stored_still c.args.opened.now c.next.ensures.sound c.in_ok-objects.objects.items c.push_new.new.objects.items c.new_object.result c.in_ok-objects.ensures.counted
-    c.new_object.ensures.chunks c.in_ok-push_new.ensures c.in_ok-objects.ensures.stored
-
-pub returns-clause-new : goal.returns-clause-new
-returns-clause-new c =
-    new_none c.args.opened.now c.next.ensures.sound c.in_ok-objects.objects.items c.push_new.new.objects.items c.new_object.result c.in_ok-objects.ensures.counted
-    c.new_object.ensures.chunks c.in_ok-push_new.ensures
+    let f = c.args.opened.now in
+    let e = c.edit_of-place.result.1 in
+    let is = edit_for c.args.change.now c.next.result f.next c.edit_of-place.result.0 e c.next.ensures.next c.edit_of-place.ensures in
+    subst (λ (t : Tree). AreStoredAfter f t (stored_in c.push_new.new.objects.items)) (sym (changed_is f.tree c.args.change.now f.next c.edit_of-place.result.0 e is))
+    (stored_still f c.next.ensures.sound c.in_ok-objects.objects.items c.push_new.new.objects.items c.new_object.result c.in_ok-objects.ensures.counted
+    c.new_object.ensures.chunks c.in_ok-push_new.ensures (with_object f.tree c.edit_of-place.result.0 (edited e)) (new_objects c.args.change.now) c.in_ok-objects.ensures.stored)

@@ -2,6 +2,7 @@ use Rattle.std.proofs.Common.{sym, subst}
 use Rattle.h5_query.specs.Opened.Objects.{object_in}
 use Rattle.h5_repack.specs.Objects.Objects.{content_chunks}
 use Rattle.h5_repack.specs.declared.objects.object.NewContent.{NewContent}
+use Rattle.h5_edit.specs.Changed.Edited.{edited_by}
 use Rattle.h5_edit.specs.StoredChunks.{AreChunksOf}
 use Rattle.h5_edit.proofs.ChangedLaws.StoredSlots.{array_stored, group_stored}
 use Rattle.h5_edit.proofs.change.objects.edited_object.Goals.{in-Group+in_ok-links_in-in-Group, in-Array+in_ok-content-in-Array}
@@ -25,8 +26,8 @@ returns-clause-stored c =
     let number = c.requires.object.0 in
     let of = c.requires.object.1 in
     elim c.match-object.branch [
-      | in-Group+in_ok-links_in-in-Group w ↦ group_stored f number c.args.object.now of w.in-Group.table w.in-Group.is (content_chunks c.match-object.content)
+      | in-Group+in_ok-links_in-in-Group w ↦ group_stored f number c.args.object.now of c.args.edit w.in-Group.table w.in-Group.is (content_chunks c.match-object.content)
       | in-Array+in_ok-content-in-Array w ↦
-          subst (λ (x : NewContent). AreChunksOf f (object_in f.image f.table c.args.object.now) c.args.object.now.messages.header (content_chunks x)) (sym w.content-is)
-          (array_stored f number c.args.object.now of w.in-Array.is w.in_ok-content-in-Array.content (rw c.image-image.ensures.bytes at w.in_ok-content-in-Array.ensures.chunks))
+          subst (λ (x : NewContent). AreChunksOf f (edited_by c.args.edit (object_in f.image f.table c.args.object.now)) c.args.object.now.messages.header (content_chunks x)) (sym w.content-is)
+          (array_stored f number c.args.object.now of c.args.edit w.in-Array.is w.in_ok-content-in-Array.content (rw c.image-image.ensures.bytes at w.in_ok-content-in-Array.ensures.chunks))
     ]

@@ -1,11 +1,11 @@
 use Rattle.std.proofs.Common.{Option, [], None, sym, subst}
 use Rattle.std.specs.Prelude.{option_map}
-use Rattle.h5_model.specs.Tree.Objects.{Object}
+use Rattle.h5_model.specs.Tree.Objects.{Object, with_object}
 use Rattle.h5_query.proofs.OpenedLaws.Indexed.{none_there}
 use Rattle.h5_query.specs.Opened.Objects.{object_in}
 use Rattle.h5_repack.specs.Objects.Objects.{IsNewObject, SlotsHold}
 use Rattle.h5_edit.specs.Changed.Edited.{edited_by}
-use Rattle.h5_edit.proofs.ChangedLaws.StoredSlots.{none_at, stored_at}
+use Rattle.h5_edit.proofs.ChangedLaws.StoredSlots.{none_at, none_mapped, stored_at}
 use Rattle.h5_edit.proofs.change.objects.edited_slot.Goals as goal
 
 pub edited_object-requires-clause-plain : goal.edited_object-requires-clause-plain
@@ -18,7 +18,7 @@ edited_object-requires-clause-edit c =
 
 pub returns-in_ok-edited_object-in-Some-clause-stored : goal.returns-in_ok-edited_object-in-Some-clause-stored
 returns-in_ok-edited_object-in-Some-clause-stored c =
-    stored_at c.args.opened.now c.args.number c.in-Some.object.now c.in-Some.ensures.found _ c.in_ok-edited_object-in-Some.ensures.stored
+    stored_at c.args.opened.now c.args.number c.in-Some.object.now c.in-Some.ensures.found c.args.edit _ c.in_ok-edited_object-in-Some.ensures.stored
 
 pub returns-in-None-clause-object : goal.returns-in-None-clause-object
 returns-in-None-clause-object c =
@@ -27,4 +27,6 @@ returns-in-None-clause-object c =
 
 pub returns-in-None-clause-stored : goal.returns-in-None-clause-stored
 returns-in-None-clause-stored c =
-    none_at c.args.opened.now c.args.number [] (none_there c.args.opened.now c.in-None.ensures.sound c.args.number c.in-None.ensures.found)
+    let f = c.args.opened.now in
+    none_at f (with_object f.tree c.args.number (edited_by c.args.edit)) c.args.number []
+    (none_mapped f c.args.number c.args.number (edited_by c.args.edit) (none_there f c.in-None.ensures.sound c.args.number c.in-None.ensures.found))

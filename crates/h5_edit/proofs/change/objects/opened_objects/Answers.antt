@@ -1,10 +1,11 @@
 use Rattle.std.proofs.Common.{◌≡◌, sym, ◌∙◌, ap, subst, arith, Option}
 use Rattle.std.specs.Option.{IfSome}
 use Rattle.std.specs.FinMap.{get}
+use Rattle.h5_model.specs.Tree.Objects.{with_object}
 use Rattle.h5_edit.specs.Changed.Edited.{IsEditable, edited_by}
 use Rattle.h5_edit.specs.declared.change.edit.ObjectEdit.{ObjectEdit}
 use Rattle.h5_edit.proofs.ChangedLaws.ChangeLaws.{AreWritten, editable_at, opened_counted, opened_written, written_more}
-use Rattle.h5_edit.proofs.ChangedLaws.StoredSlots.{AreStoredBelow, stored_all, stored_more}
+use Rattle.h5_edit.proofs.ChangedLaws.StoredSlots.{AreStoredBelow, slot_stored, stored_all, stored_more}
 use Rattle.h5_edit.proofs.change.objects.opened_objects.Goals as goal
 
 pub edited_slot-requires-clause-plain : goal.edited_slot-requires-clause-plain
@@ -21,8 +22,9 @@ loop-number-preserved c =
     record {
       objects = written_more f.tree c.args.place c.args.edit c.loop-number.objects.items c.push.new.self.items c.loop-number.number
           c.edit_at-own.result c.in_ok-edited_slot.field-0 c.loop-number.invariant.objects c.edit_at-own.ensures c.in_ok-edited_slot.ensures.object c.in_ok-push.ensures.items;
-      chunks = stored_more f c.loop-number.objects.items c.push.new.self.items c.loop-number.number c.in_ok-edited_slot.field-0 c.loop-number.invariant.chunks
-          c.in_ok-edited_slot.ensures.stored c.in_ok-push.ensures.items;
+      chunks = stored_more f (with_object f.tree c.args.place (edited_by c.args.edit)) c.loop-number.objects.items c.push.new.self.items c.loop-number.number
+          c.in_ok-edited_slot.field-0 c.loop-number.invariant.chunks
+          (slot_stored f c.args.place c.loop-number.number c.args.edit c.edit_at-own.result _ c.edit_at-own.ensures c.in_ok-edited_slot.ensures.stored) c.in_ok-push.ensures.items;
     }
 
 pub returns-clause-objects : goal.returns-clause-objects
@@ -43,4 +45,5 @@ pub returns-clause-stored : goal.returns-clause-stored
 returns-clause-stored c =
     let f = c.args.opened.now in
     let last : c.loop-number.number ≡ f.next = omega (arith, c.loop-number-test.false, c.loop-number.auto.number-end, c.next-number-end.ensures.next) in
-    stored_all f c.loop-number.objects.items (subst (AreStoredBelow f c.loop-number.objects.items) last c.loop-number.invariant.chunks) c.next-number-end.ensures.sound.numbers.given
+    stored_all f c.args.place (edited_by c.args.edit) c.loop-number.objects.items
+    (subst (AreStoredBelow f (with_object f.tree c.args.place (edited_by c.args.edit)) c.loop-number.objects.items) last c.loop-number.invariant.chunks) c.next-number-end.ensures.sound.numbers.given

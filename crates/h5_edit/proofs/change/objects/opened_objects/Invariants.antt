@@ -1,3 +1,4 @@
+use Rattle.h5_model.specs.Tree.Objects.{with_object}
 use Rattle.h5_edit.specs.Changed.Edited.{edited_by}
 use Rattle.h5_edit.proofs.ChangedLaws.ChangeLaws.{AreWritten}
 use Rattle.h5_edit.proofs.ChangedLaws.StoredSlots.{AreStoredBelow}
@@ -6,5 +7,5 @@ use Rattle.h5_edit.proofs.change.objects.opened_objects.Given as goal
 abbrev pub invariant-loop-number : goal.invariant-loop-number
 invariant-loop-number l = record {
   objects : AreWritten l.opened.tree l.place (edited_by l.edit) l.objects.items l.number;
-  chunks : AreStoredBelow l.opened l.objects.items l.number;
+  chunks : AreStoredBelow l.opened (with_object l.opened.tree l.place (edited_by l.edit)) l.objects.items l.number;
 }

@@ -1,0 +1,69 @@
+//! Arrays resized (File Format Specification 3.0, sections IV.A.2.b and IV.A.2.i).
+
+ghost use Rattle.std.specs.Prelude.{◌≡◌, ◌+◌, ◌≤◌, ◌&&◌, ℕ, nat_lt, Some, List, length, MatchResult};
+ghost use Rattle.h5_header.specs.Listed.{messages_in, IsWithin};
+ghost use Rattle.h5_model.specs.Format.Messages.{first_body};
+ghost use Rattle.h5_model.specs.declared.edits.Edit.TheVariants.{Resize};
+ghost use Rattle.h5_query.specs.Opened.Sound.{IsSound};
+ghost use Rattle.h5_edit.specs.Carried.{IsRefused};
+ghost use Rattle.h5_edit.specs.ExtentMaxima as extent;
+ghost use Rattle.h5_edit.specs.Made.{IsEditMade};
+
+use crate::anew::carry_out;
+use crate::change::Change;
+use crate::made::Made;
+use crate::rules::{MAX_MESSAGES, check_resize};
+use h5_header::{Messages, find_body};
+use h5_model::message_type::DATASPACE;
+use h5_model::{EditFault, ObjectNo};
+use h5_query::Opened;
+use h5_space::Image;
+use std::alloc::Global;
+
+/// Gives an array in chunks other sizes, as many as it has: the cells stay whose index is inside the old and the new ones, the others that
+/// it then has are the fill. Cells outside the new sizes are gone for good.
+///
+/// Refused by the lowest number that holds: `BadPath`, `PathTooDeep`, `NoSuchParent`, `NotAGroup`, `NotFound`, `NotADataset` also where a
+/// soft link stands there, `RankMismatch`, `NotChunked`, `AboveMaximum`, `TooManyCells`, `HeaderFull` where the header's Dataspace message
+/// has no maxima and its total of messages plus 2 passes 65535, `ImageFull` where the image would pass 2147483648 bytes, `NoMemory`.
+pub fn resize(alloc: Global, opened: &Opened, path: &[u8], dims: &[u64]) -> Result<Made, EditFault>
+    ensures edited { let f = opened.now in
+        MatchResult result (IsEditMade f (Resize path.now dims.now))
+        (IsRefused f (Resize path.now dims.now)) }
+    ensures sound { IsSound opened.now }
+{
+    let number = check_resize(alloc, opened, path, dims)?;
+    let object = opened.object(number).unwrap();
+    if is_full(opened.image(), &object.messages) {
+        return Err(EditFault::HeaderFull);
+    }
+    let change = Change::Resize {
+        object: number,
+        dims,
+    };
+    carry_out(alloc, opened, &change, Some(ObjectNo(number)))
+}
+
+/// Whether the header needs a message for maxima, as its Dataspace message has none, and has no place for it and a Continuation.
+fn is_full(image: &Image, messages: &Messages) -> bool
+    requires within { IsWithin (length image.now.bytes) messages.now.list }
+    requires whole { let ms = messages_in image.now.bytes messages.now.list in
+        (body : List ℕ) → first_body 1 ms ≡ Some body → 3 ≤ length body }
+    ensures { let ms = messages_in image.now.bytes messages.now.list in
+        result ≡ (extent.lacks_maxima ms && nat_lt 65535 (length messages.now.list + 2)) }
+{
+    lacks_maxima(image, messages) && messages.list().len() + 2 > MAX_MESSAGES
+}
+
+/// Whether there is a Dataspace message, which has no maxima.
+fn lacks_maxima(image: &Image, messages: &Messages) -> bool
+    requires within { IsWithin (length image.now.bytes) messages.now.list }
+    requires whole { let ms = messages_in image.now.bytes messages.now.list in
+        (body : List ℕ) → first_body 1 ms ≡ Some body → 3 ≤ length body }
+    ensures { result ≡ extent.lacks_maxima (messages_in image.now.bytes messages.now.list) }
+{
+    match find_body(image, messages, DATASPACE) {
+        Some(body) => body[2] != 1,
+        None => false,
+    }
+}
