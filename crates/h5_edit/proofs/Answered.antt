@@ -1,5 +1,5 @@
 -- What an edit that is carried, and a repack, is answered by what was written of the tree.
-use Rattle.std.proofs.Common.{◌≡◌, ℕ, ◌+◌, ◌^◌, ◌<◌, ◌≤◌, List, [], length, refl, sym, ap, ◌∙◌, subst, Option, None, arith}
+use Rattle.std.proofs.Common.{◌≡◌, ℕ, ◌+◌, ◌^◌, ◌≤◌, List, [], length, refl, sym, ap, ◌∙◌, subst, Option, None, arith}
 use Rattle.std.specs.Prelude.{IfOk, IfErr, MatchResult, Result, Ok, Err}
 use Rattle.std.specs.Ordering.{nat_cmp}
 use Rattle.std.specs.FinMap.{FinMap}
@@ -32,7 +32,7 @@ use Rattle.h5_repack.specs.declared.write.Written.{Written}
 use Rattle.h5_repack.specs.declared.write.WriteFault.{WriteFault}
 use Rattle.h5_repack.specs.declared.write.WriteFault.TheVariants.{TooLong, TooDeep, NoMemory}
 use Rattle.h5_edit.specs.Answers.{answer_to, fault_of_write}
-use Rattle.h5_edit.specs.Carried.{IsLongAnew, IsRefused, IsShortAnew, tree_after}
+use Rattle.h5_edit.specs.Carried.{IsLongAnew, IsRefused, IsShortAnew}
 use Rattle.h5_edit.specs.Fitting.{IsFitting, made_in}
 use Rattle.h5_edit.specs.Made.{IsEditMade}
 use Rattle.h5_edit.specs.Repacked.{IsRepackMade, IsRepackRefused}

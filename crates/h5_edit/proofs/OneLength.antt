@@ -1,5 +1,5 @@
 -- An image that is written anew has one length: which chunks of it are stored is a function of the image and the tree.
-use Rattle.std.proofs.Common.{◌≡◌, inl, inr, ℕ, ◌+◌, ◌^◌, List, [], ◌∷◌, length, Option, Some, None, refl, sym, ap, ap₂, ◌∙◌, arith}
+use Rattle.std.proofs.Common.{◌≡◌, inl, inr, ℕ, ◌+◌, List, [], ◌∷◌, length, Option, Some, None, refl, sym, ap, ap₂, ◌∙◌, arith}
 use Rattle.std.specs.Prelude.{option_and_then}
 use Rattle.std.specs.Cmp.{nat_cmp_total}
 use Rattle.std.specs.FinMap.{get, entries}
@@ -8,8 +8,7 @@ use Rattle.h5_layout.specs.HeldChunks.{held_chunks}
 use Rattle.h5_model.specs.Format.Chunks.{Chunks}
 use Rattle.h5_model.specs.Format.Datatype.{fixed_of}
 use Rattle.h5_model.specs.Format.Extent.{Extent, extent_of}
-use Rattle.h5_model.specs.Format.Fixed.{Fixed}
-use Rattle.h5_model.specs.Format.Layout.{Layout, layout_of}
+use Rattle.h5_model.specs.Format.Layout.{layout_of}
 use Rattle.h5_model.specs.Format.Messages.{Message, first_body}
 use Rattle.h5_model.specs.Format.PlainLength.{content_bytes, data_bytes, plain_length}
 use Rattle.h5_model.specs.Format.Sizes.{header_size}
@@ -22,7 +21,7 @@ use Rattle.h5_query.specs.Data.{stored_chunks}
 use Rattle.h5_query.specs.Opened.State.{FileState}
 use Rattle.h5_query.proofs.DataLaws.{told_chunks}
 use Rattle.h5_repack.specs.Image.Written.{StoredIn, counts_of}
-use Rattle.h5_repack.proofs.ImageLaws.Totals.{total-each, total-sum_by}
+use Rattle.h5_repack.proofs.ImageLaws.Totals.{total, total-sum_by}
 use Rattle.h5_edit.specs.Carried.{IsLongAnew, IsShortAnew}
 use Rattle.h5_edit.specs.StoredChunks.{AreStoredAfter, AreStoredOf, HasLengthAnew, HasStoredChunks}
 use Rattle.h5_edit.proofs.StoredLaws.{dataset_is}
@@ -77,11 +76,16 @@ module _ (leaf internal k a b : ℕ) where
   same_content (Group links) same = refl
   same_content (Array d) same = same_data d d.storage (λ chunk is. same d chunk refl is)
 
+-- what is the same at each member adds up to the same
+same_total : {X : Type 0} (f g : X → ℕ) (xs : List X) → ((x : X) → In x xs → f x ≡ g x) → total f xs ≡ total g xs
+same_total f g [] same = refl
+same_total f g (x ∷ xs) same = ap₂ (λ m n. m + n) (same x (inl refl)) (same_total f g xs (λ y there. same y (inr there)))
+
 module _ (f : FileState) (tree : Tree) where
   same_length : (s t : StoredIn) → AreStoredAfter f tree s → AreStoredAfter f tree t → (leaf internal k : ℕ)
       → plain_length leaf internal k (counts_of s) tree ≡ plain_length leaf internal k (counts_of t) tree
   unfolding plain_length
-  same_length s t p q leaf internal k = ap (λ n. 96 + n) (total-sum_by _ (entries tree) ∙ total-each _ _ (entries tree) each ∙ sym (total-sum_by _ (entries tree))) where
+  same_length s t p q leaf internal k = ap (λ n. 96 + n) (total-sum_by _ (entries tree) ∙ same_total _ _ (entries tree) each ∙ sym (total-sum_by _ (entries tree))) where
     each : (e : ℕ × Object) → In e (entries tree) → header_size e.1 + content_bytes leaf internal k (counts_of s e.0) (e.1).content
         ≡ header_size e.1 + content_bytes leaf internal k (counts_of t e.0) (e.1).content
     each e there = ap (λ n. header_size e.1 + n) (same_content leaf internal k (counts_of s e.0) (counts_of t e.0) (e.1).content (λ d chunk is chunked.

@@ -1,20 +1,17 @@
 -- Which chunks are stored in an image that is written anew: they are there for each opened image and each edit that is carried.
-use Rattle.std.proofs.Common.{◌≡◌, inl, inr, ℕ, ◌^◌, ◌<◌, ◌≤◌, ◌⊎◌, List, [], true, Option, Some, None, refl, sym, ap, ◌∙◌, subst}
+use Rattle.std.proofs.Common.{◌≡◌, inl, inr, ℕ, ◌^◌, ◌⊎◌, List, [], true, Option, Some, None, refl, sym, ap, ◌∙◌, subst}
 use Rattle.std.proofs.lemmas.Bool.{cases_lt}
 use Rattle.std.proofs.lemmas.Option.{same_Some}
 use Rattle.std.specs.Prelude.{option_and_then}
 use Rattle.std.specs.FinMap.{get}
-use Rattle.h5_bytes.specs.declared.Block.{Block}
 use Rattle.h5_layout.specs.HeldChunks.{held_chunks}
-use Rattle.h5_model.specs.Edits.Applied.{applied, new_dataset}
-use Rattle.h5_model.specs.Format.Chunks.{Chunks}
+use Rattle.h5_model.specs.Edits.Applied.{new_dataset}
 use Rattle.h5_model.specs.Format.PlainLength.{plain_length}
-use Rattle.h5_model.specs.Format.Reads.{HasContent, HasDataset, HasObject}
+use Rattle.h5_model.specs.Format.Reads.{HasContent}
 use Rattle.h5_model.specs.Format.Superblock.{leaf_k, internal_k}
 use Rattle.h5_model.specs.Tree.Objects.{Tree, Object, Content, Group, Array, Dataset, Chunked, dataset_in, dataset_of}
 use Rattle.h5_model.specs.declared.dataset.Spec.{Spec}
 use Rattle.h5_model.specs.declared.edits.Edit.{Edit}
-use Rattle.h5_laws.proofs.Lists.{In}
 use Rattle.h5_laws.proofs.Objects.{object_at, in_tree}
 use Rattle.h5_query.specs.Opened.Sound.{IsSound}
 use Rattle.h5_query.specs.Opened.State.{FileState}
@@ -22,7 +19,7 @@ use Rattle.h5_query.proofs.OpenedLaws.Indexed.{next_free}
 use Rattle.h5_repack.specs.Image.Written.{StoredIn, counts_of}
 use Rattle.h5_edit.specs.Carried.{is_carried, tree_after, IsLongAnew, IsShortAnew}
 use Rattle.h5_edit.specs.StoredChunks.{HasLengthAnew, HasStoredChunks, AreStoredAfter, AreStoredAt, AreStoredOf}
-use Rattle.h5_edit.proofs.CarriedLaws.{ArraysHold, edited_arrays}
+use Rattle.h5_edit.proofs.CarriedLaws.{edited_arrays}
 use Rattle.h5_edit.proofs.FitLaws.OpenedTrees.{IsRead, object_read}
 
 -- the dataset of a number, by the object's content
@@ -43,18 +40,18 @@ module _ (f : FileState) (sound : IsSound f) where
     by_content o there r (Array e) is has = (
       held_chunks e.sizes has.chunks,
       λ d array chunk chunked.
-      let same : e ≡ d = same_Some e d (sym (dataset_is f.tree number o (Array e) there is) ∙ array) in
-      let chunks : HasStoredChunks f.image r.header has.chunks = record {
-        messages = r.has.messages;
-        header_blocks = r.has.header_blocks;
-        listed = r.has.listed;
-        dataset = e;
-        data_blocks = r.has.content_blocks;
-        array = has;
-        chunks_are = refl;
-      } in
-      subst (λ (found : Option ℕ). AreStoredOf f.image d.sizes found (held_chunks e.sizes has.chunks)) (sym r.listed)
-      (has.chunks, chunks, ap (λ (x : Dataset). held_chunks x.sizes has.chunks) same),
+          let same : e ≡ d = same_Some e d (sym (dataset_is f.tree number o (Array e) there is) ∙ array) in
+          let chunks : HasStoredChunks f.image r.header has.chunks = record {
+            messages = r.has.messages;
+            header_blocks = r.has.header_blocks;
+            listed = r.has.listed;
+            dataset = e;
+            data_blocks = r.has.content_blocks;
+            array = has;
+            chunks_are = refl;
+          } in
+          subst (λ (found : Option ℕ). AreStoredOf f.image d.sizes found (held_chunks e.sizes has.chunks)) (sym r.listed)
+          (has.chunks, chunks, ap (λ (x : Dataset). held_chunks x.sizes has.chunks) same),
     )
 
     pub stored_by : (found : Option Object) → get f.tree number ≡ found → (offsets : List (List ℕ)) × IsOf offsets

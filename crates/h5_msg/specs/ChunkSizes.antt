@@ -10,6 +10,6 @@ sizes_at (Body body rank) = short_numbers_at body.now 11 rank
 sizes_at (Row sizes) = sizes.now
 
 -- the body has as many
-abbrev pub IsPlaced : SizesIn → Type 0
-IsPlaced (Body body rank) = 11 + 4 * rank ≤ length body.now
-IsPlaced (Row sizes) = Unit {0}
+abbrev pub AreSizesThere : SizesIn → Type 0
+AreSizesThere (Body body rank) = 11 + 4 * rank ≤ length body.now
+AreSizesThere (Row sizes) = Unit {0}

@@ -8,7 +8,7 @@ ghost use Rattle.h5_bytes.specs.Blocks.{block};
 ghost use Rattle.h5_model.specs.Format.Layout.{InBlock, InChunks, InMessage, chunked_layout, compact_layout, contiguous_layout, layout_of, short_numbers_at};
 ghost use Rattle.h5_model.specs.Format.Bodies.{chunked_bytes, compact_bytes, contiguous_bytes};
 ghost use Rattle.h5_model.specs.Format.Plain.{padded};
-ghost use Rattle.h5_msg.specs.ChunkSizes.{IsPlaced, sizes_at};
+ghost use Rattle.h5_msg.specs.ChunkSizes.{AreSizesThere, sizes_at};
 ghost use Rattle.h5_msg.specs.Layouts.{layout_in};
 ghost use Rattle.h5_model.specs.Tree.Places.{cells as cells_of};
 
@@ -61,7 +61,7 @@ pub struct ChunkSizes<'a> {
 }
 
 impl<'a> Model for ChunkSizes<'a> {
-    ghost use Rattle.h5_msg.specs.ChunkSizes.{IsPlaced, sizes_at};
+    ghost use Rattle.h5_msg.specs.ChunkSizes.{AreSizesThere, sizes_at};
     ghost use Rattle.std.specs.Prelude.{◌≡◌, ◌==◌, ◌≤◌, ℕ, List, length, false};
     ghost use Rattle.std.specs.List.{list_any};
 
@@ -69,7 +69,7 @@ impl<'a> Model for ChunkSizes<'a> {
 
     ghost view = { λ a. sizes_at a.place };
 
-    ghost invariant = { λ a. IsPlaced a.place × (length (sizes_at a.place) ≤ 32) × (list_any (λ n. n == 0) (sizes_at a.place) ≡ false) };
+    ghost invariant = { λ a. AreSizesThere a.place × (length (sizes_at a.place) ≤ 32) × (list_any (λ n. n == 0) (sizes_at a.place) ≡ false) };
 }
 
 impl<'a> ChunkSizes<'a> {
@@ -119,7 +119,7 @@ impl<'a> ChunkSizes<'a> {
 
 /// Reads the chunk sizes that stand there.
 fn read_sizes(place: SizesIn<'_>, sizes: &mut [u64])
-    requires there { IsPlaced place }
+    requires there { AreSizesThere place }
     requires few { length (sizes_at place) ≤ 32 }
     requires room { length sizes.old ≡ length (sizes_at place) }
     ensures { sizes.new ≡ sizes_at place.entry }
@@ -131,7 +131,7 @@ fn read_sizes(place: SizesIn<'_>, sizes: &mut [u64])
 
 /// The chunk size in a dimension.
 fn size_at(place: SizesIn<'_>, k: usize) -> u32
-    requires there { IsPlaced place }
+    requires there { AreSizesThere place }
     requires few { length (sizes_at place) ≤ 32 }
     requires within { k < length (sizes_at place) }
     ensures { result ≡ slice_index (sizes_at place.entry) k }

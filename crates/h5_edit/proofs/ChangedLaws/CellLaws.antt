@@ -1,13 +1,11 @@
 -- The arrays of an opened image as they are handed to the writer, with their cells or their chunks as they are stored.
-use Rattle.std.proofs.Common.{◌≡◌, ◌≢◌, ℕ, ◌*◌, ◌<◌, List, [], ◌∷◌, length, map, Bool, true, false, cond, Option, Some, None, ℤ, refl, sym, ap, ◌∙◌, subst}
-use Rattle.std.specs.Prelude.{◌&&◌, is_some, nat_lt, slice_index_or}
+use Rattle.std.proofs.Common.{◌≡◌, ◌≢◌, ℕ, ◌*◌, List, [], length, Bool, true, false, Option, refl, sym, ap, ◌∙◌, subst}
+use Rattle.std.specs.Prelude.{◌&&◌, is_some, nat_lt}
 use Rattle.std.specs.FinMap.{empty}
-use Rattle.std.specs.List.{range_with_len}
-use Rattle.std.proofs.lemmas.List.FromFn.{fill_by_all, length-map-range_with_len}
+use Rattle.std.proofs.lemmas.List.FromFn.{length-map-range_with_len}
 use Rattle.std.proofs.lemmas.Option.{option_and_then_some}
 use Rattle.h5_bytes.specs.declared.Block.{Block}
-use Rattle.h5_layout.specs.HeldChunks.{HeldCells, chunk_values, held_cells, held_chunks}
-use Rattle.h5_model.specs.Edits.Applied.{cell_or_fill, resized}
+use Rattle.h5_layout.specs.HeldChunks.{HeldCells, held_cells, held_chunks}
 use Rattle.h5_model.specs.Edits.Refusal.{is_chunked}
 use Rattle.h5_model.specs.Format.Fixed.{Fixed, IsFixed}
 use Rattle.h5_model.specs.Format.Layout.{Layout, InMessage, InBlock, InChunks}
@@ -15,11 +13,10 @@ use Rattle.h5_model.specs.Format.Messages.{Message, first_body}
 use Rattle.h5_model.specs.Format.Plain.{cells_bytes}
 use Rattle.h5_model.specs.Format.Reads.{storage_of}
 use Rattle.h5_model.specs.Scripts.Answers.{stored_values}
-use Rattle.h5_model.specs.Tree.Objects.{Dataset, Storage, Compact, Contiguous, Chunked}
-use Rattle.h5_model.specs.Tree.Places.{cells, index_of, is_inside, place_of}
-use Rattle.h5_model.proofs.PlaceLaws.{inside-index, place-index}
+use Rattle.h5_model.specs.Tree.Objects.{Dataset, Contiguous, Chunked}
+use Rattle.h5_model.specs.Tree.Places.{cells}
 use Rattle.h5_model.proofs.StoredValues.{stored-cells_bytes}
-use Rattle.h5_query.specs.Data.{AreDataRead, data_blocks, dataset_told, stored_chunks}
+use Rattle.h5_query.specs.Data.{AreDataRead, data_blocks, stored_chunks}
 use Rattle.h5_query.specs.Described.{Described, HasArray, described_dataset}
 use Rattle.h5_query.specs.Kept.{array_dataset}
 use Rattle.h5_query.specs.Opened.Judged.{IsArrayList}
@@ -28,14 +25,14 @@ use Rattle.h5_query.specs.Told.{array_told, layout_told, type_told}
 use Rattle.h5_query.proofs.DataLaws.{data_there}
 use Rattle.h5_query.proofs.FillLaws.{type_sound}
 use Rattle.h5_repack.specs.Blocks.ArrayHeader.{storage_by}
-use Rattle.h5_repack.specs.Blocks.Written.{AreHeldOf, chunks_of, offsets_of}
+use Rattle.h5_repack.specs.Blocks.Written.{AreHeldOf, chunks_of}
 use Rattle.h5_repack.specs.Bodies.Headers.{AreStoredFor}
 use Rattle.h5_repack.specs.Objects.Objects.{IsNewArray}
 use Rattle.h5_repack.specs.declared.blocks.cells.Cells.{Cells}
 use Rattle.h5_repack.specs.declared.blocks.cells.Cells.TheVariants.{Unset, Filled, Stored, Chunks}
 use Rattle.h5_repack.proofs.BlockLaws.ValueBytes.{values_there}
-use Rattle.h5_repack.proofs.ChunkLaws.ChunkCells.{is_inside_from}
-use Rattle.h5_repack.proofs.ChunkLaws.StoredFor.{held_for, unchunked_stored}
+use Rattle.h5_repack.proofs.ChunkLaws.HeldCells.{held_cells_are, held_cells_stored, held_offsets, resized_own}
+use Rattle.h5_repack.proofs.ChunkLaws.StoredFor.{unchunked_stored}
 use Rattle.h5_edit.specs.Changed.Cells.{AreCellsKept, IsUnchunkedLayout}
 use Rattle.h5_edit.specs.Fits.Laws.{AreBytes}
 
@@ -78,22 +75,6 @@ stored_storage : (sizes : List ℕ) (l : Layout) (c : Cells) → IsUnchunkedLayo
 stored_storage sizes (InMessage bytes) c is by differs = refl
 stored_storage sizes (InBlock b) c is by differs = by b ∙ is_stored (is_some b && nat_lt 0 (cells sizes)) differs
 stored_storage sizes (InChunks chunk root) c is by differs = absurd is
-
--- ---- chunks that are handed on
-
--- an array of the sizes that it has
-resized_own : (d : Dataset) → length d.cells ≡ cells d.sizes → resized d.sizes d ≡ d
-resized_own d counted = ap (λ (cs : List ℤ). record d { cells = cs }) (sym (fill_by_all (λ place. cell_or_fill d (index_of d.sizes place)) d.cells (cells d.sizes) d.fill counted own)) where
-  own : (k : ℕ) → k < cells d.sizes → slice_index_or d.cells k d.fill ≡ cell_or_fill d (index_of d.sizes k)
-  own k low = sym (
-    ap (λ b. cond b (slice_index_or d.cells (place_of d.sizes (index_of d.sizes k)) d.fill) d.fill) (is_inside_from d.sizes (index_of d.sizes k) (inside-index d.sizes k low))
-    ∙ ap (λ place. slice_index_or d.cells place d.fill) (place-index d.sizes k low)
-  )
-
-module _ (values : List ℕ → List ℤ) where
-  pub part_offsets : (xs : List (List ℕ)) → map (λ (p : List ℕ × List ℤ). p.0) (map (λ offsets. (offsets, values offsets)) xs) ≡ xs
-  part_offsets [] = refl
-  part_offsets (x ∷ xs) = ap (λ ys. x ∷ ys) (part_offsets xs)
 
 -- ---- the array of a header
 
@@ -139,22 +120,15 @@ module _ (image : List ℕ) (ms : List Message) (is : IsArrayList ms) (read : Ar
     boxed : (c : List ℕ) → d.storage ≡ Chunked c → length c ≡ length d.sizes
     boxed c e = let same : chunk ≡ c = (let both : Chunked chunk ≡ Chunked c = sym in_chunks ∙ e in cc) in ap length (sym same) ∙ long
 
-    offsets_are : offsets_of held ≡ held_chunks a.sizes (stored_chunks image a.fixed a.layout)
-    offsets_are = part_offsets (λ offsets. chunk_values (resized a.sizes (dataset_told image a)) chunk offsets) (held_chunks a.sizes (stored_chunks image a.fixed a.layout))
-
-    abbrev pieces : Dataset → List (List ℕ) → List (List ℕ × List ℤ)
-    pieces e xs = map (λ offsets. (offsets, chunk_values e chunk offsets)) xs
+    offsets_are : chunks_of (Chunks held) ≡ held_chunks a.sizes (stored_chunks image a.fixed a.layout)
+    offsets_are = held_offsets image a chunk a.sizes
 
     held_of : AreHeldOf held d
-    held_of = record {
-      fixed_is = refl;
-      storage_is = in_chunks;
-      parts_are = ap (λ (e : Dataset). pieces e (held_chunks a.sizes (stored_chunks image a.fixed a.layout))) (resized_own d counted) ∙ ap (pieces d) (sym offsets_are);
-    }
+    held_of = subst (AreHeldOf held) (resized_own d counted) (held_cells_are image a chunk a.sizes in_chunks)
 
-    stored_for : AreStoredFor (offsets_of held) d
-    stored_for = subst (λ xs. AreStoredFor xs d) (sym offsets_are)
-        (held_for image d a.layout (stored_chunks image a.fixed a.layout) (data_blocks image a.fixed a.layout) refl (data_there image a.fixed a.layout read) refl boxed)
+    stored_for : AreStoredFor (chunks_of (Chunks held)) d
+    stored_for = subst (AreStoredFor (chunks_of (Chunks held))) (resized_own d counted)
+        (held_cells_stored image a chunk a.sizes (data_blocks image a.fixed a.layout) (data_there image a.fixed a.layout read) boxed refl)
 
     chunked_array : IsNewArray a (Chunks held) d
     chunked_array = record {
@@ -193,7 +167,7 @@ module _ (image : List ℕ) (ms : List Message) (is : IsArrayList ms) (read : Ar
   chunks_told Unset (other, filled) chunk e = not_chunked chunk other e
   chunks_told Filled never chunk e = absurd never
   chunks_told (Stored bytes) (other, low, stored) chunk e = not_chunked chunk other e
-  chunks_told (Chunks held) (sizes, root, layout, long, same) chunk e = ap offsets_of same ∙ offsets_are sizes root layout long
+  chunks_told (Chunks held) (sizes, root, layout, long, same) chunk e = ap (λ (h : HeldCells). chunks_of (Chunks h)) same ∙ offsets_are sizes root layout long
 
   -- and of its chunks those that hold a cell
   pub kept_chunks : (x : Described) → x ≡ a → (c : Cells) → AreCellsKept image x c → (chunk : List ℕ) → d.storage ≡ Chunked chunk

@@ -1,6 +1,6 @@
 -- The maxima of an array that is read are not below its sizes, and can be told from none (File Format
 -- Specification 3.0, section IV.A.2.b).
-use Rattle.std.proofs.Common.{◌≡◌, ℕ, zero, suc, ◌+◌, ◌*◌, ◌^◌, ◌<◌, ◌≤◌, List, [], ◌∷◌, map, Option, Some, None, true, false, cond, refl, subst, arith}
+use Rattle.std.proofs.Common.{◌≡◌, ℕ, zero, suc, ◌+◌, ◌*◌, ◌^◌, ◌<◌, ◌≤◌, List, [], ◌∷◌, map, Some, None, true, false, cond, refl, subst, arith}
 use Rattle.std.specs.Prelude.{nat_le, ◌==◌}
 use Rattle.std.specs.Option.{IfSome}
 use Rattle.std.specs.List.{AllByRecursion, AllZip, range_with_len}
@@ -10,10 +10,8 @@ use Rattle.std.proofs.Math.Nat.{mul-le-mul_left, mul-le-mul_right}
 use Rattle.h5_bytes.specs.Bytes.{number_at, undefined}
 use Rattle.h5_model.specs.Format.Extent.{Extent, extent_of, extent_in, is_dataspace, rank_in, size_in, maximum_in, maximum_from, maximum_fits, has_maxima}
 use Rattle.h5_model.specs.Scripts.Tests.{each_below}
-use Rattle.h5_model.specs.Tree.Objects.{are_sizes}
 use Rattle.h5_model.specs.Tree.Places.{extent_cells}
 use Rattle.h5_model.proofs.TestLaws.{each_below_at}
-use Rattle.h5_model.proofs.WithinLaws.{both}
 use Rattle.h5_repack.specs.Bodies.Sound.{IsBound}
 use Rattle.h5_edit.specs.Fits.Laws.{AreBytes}
 use Rattle.h5_edit.proofs.FitLaws.PlainBodies.{long_low}

@@ -15,7 +15,7 @@ use Rattle.h5_model.specs.declared.edits.Edit.TheVariants.{CreateGroup, CreateDa
 use Rattle.h5_model.specs.declared.edit_fault.EditFault.{EditFault}
 use Rattle.h5_model.specs.declared.edit_fault.EditFault.TheVariants as fault
 use Rattle.h5_edit.specs.Refusals.Rules.{path_faults, path_fault, is_new_fault, is_object_fault, is_text_fault, lower_of, own_rules, spec_rules, number_rules}
-use Rattle.h5_edit.proofs.RuleLaws.FaultLaws.{behind, chain, found_behind, lower_first}
+use Rattle.h5_edit.proofs.RuleLaws.FaultLaws.{behind, found_behind, lower_first}
 
 pub or_false : (b : Bool) → (b || false) ≡ b
 or_false true = refl

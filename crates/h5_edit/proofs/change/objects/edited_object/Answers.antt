@@ -5,7 +5,7 @@ use Rattle.h5_repack.specs.declared.objects.object.NewContent.{NewContent}
 use Rattle.h5_edit.specs.StoredChunks.{AreChunksOf}
 use Rattle.h5_edit.proofs.ChangedLaws.StoredSlots.{array_stored, group_stored}
 use Rattle.h5_edit.proofs.change.objects.edited_object.Goals.{in-Group+in_ok-links_in-in-Group, in-Array+in_ok-content-in-Array}
-use Rattle.h5_query.proofs.Indexed.{array_kept, group_read}
+use Rattle.h5_query.proofs.Indexed.{group_read}
 use Rattle.h5_query.proofs.ListedLaws.{found_led}
 use Rattle.h5_edit.proofs.change.objects.edited_object.Goals as goal
 
@@ -18,7 +18,6 @@ links_in-requires-clause-read c = group_read c.args.opened.now c.requires.object
 pub links_in-requires-clause-led : goal.links_in-requires-clause-led
 links_in-requires-clause-led c =
     found_led c.args.opened.now c.image-image.ensures.sound c.requires.object.0 c.args.object.now c.requires.object.1 c.in-Group.table c.in-Group.is
-
 
 pub returns-clause-stored : goal.returns-clause-stored
 returns-clause-stored c =

@@ -1,4 +1,4 @@
-use Rattle.std.proofs.Common.{◌≡◌, sym, ◌∙◌, ap, subst, arith, Some, Option}
+use Rattle.std.proofs.Common.{◌≡◌, sym, ◌∙◌, ap, subst, arith, Option}
 use Rattle.std.specs.Option.{IfSome}
 use Rattle.std.specs.FinMap.{get}
 use Rattle.h5_edit.specs.Changed.Edited.{IsEditable, edited_by}
