@@ -87,8 +87,6 @@ class Answers(InFolder):
             b"group": b"bad line",
             b"link /d": b"bad line",
             b"soft /s": b"bad line",
-            b"unlink /d": b"bad line",
-            b"resize /d 1": b"bad line",
             b"repack ": b"bad line",
             b"repack /": b"bad line",
             b"Repack": b"bad line",

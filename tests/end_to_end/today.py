@@ -19,10 +19,10 @@ from h5oracle.values import OpenFault  # noqa: E402
 
 # The forms that are read: all but superblock 1, fill version 3 and attribute versions 2 and 3.
 FORMS = 14
-# The lines that are taken: `group`, `dataset`, `link`, `soft`, `attr`, `unattr`, `ls` and `dump`; and `repack`, which the reference
-# has since a later stage.
+# The lines that are taken: `group`, `dataset`, `link`, `soft`, `attr`, `unattr`, `ls` and `dump`; and some that the reference has since
+# a later stage.
 LINES = 4
-REPACK = b"repack"
+LATER = (b"repack", b"unlink", b"resize")
 
 
 def opened(data):
@@ -55,7 +55,8 @@ def attributes(thing):
 
 def answer(session, line):
     """The answer to one line of a script, and whether an edit, or `repack`, was accepted."""
-    session.stage = SINCE[REPACK] if line == REPACK else LINES
+    word = line.split(b" ")[0]
+    session.stage = SINCE[word] if word in LATER else LINES
     run = run_script(session, line + b"\n")
     return run.output(), run.edits > 0
 

@@ -60,7 +60,7 @@ fn changed_by(ran: Ran, file: File) -> Option<File>
 }
 
 /// Runs the script on a file to its end. The file is given back where it has to be written, that is,
-/// where an edit was accepted.
+/// where an edit, or `repack`, was accepted.
 pub(crate) fn run_over<I: Read, O: Write>(
     alloc: Global,
     mut file: File,
@@ -76,7 +76,7 @@ pub(crate) fn run_over<I: Read, O: Write>(
 }
 
 /// Runs a script on the file of this name, and writes the file back where the script ran to its end
-/// and an edit was accepted.
+/// and an edit, or `repack`, was accepted.
 pub fn run<R: Files, I: Read, O: Write, E: Write>(
     rt: &R,
     alloc: Global,

@@ -2,7 +2,7 @@
 
 ghost use Rattle.std.specs.Prelude.{◌≡◌, ℕ, true, false, None, IfOk, OnErr, MatchResult};
 ghost use Rattle.h5_model.specs.declared.edits.Edit.{Edit as TheEdit};
-ghost use Rattle.h5_model.specs.declared.edits.Edit.TheVariants.{CreateGroup, CreateDataset, HardLink, SoftLink, SetAttr, RemoveAttr, Write};
+ghost use Rattle.h5_model.specs.declared.edits.Edit.TheVariants.{CreateGroup, CreateDataset, HardLink, SoftLink, Unlink, SetAttr, RemoveAttr, Write, Resize};
 ghost use Rattle.h5_edit.specs.Carried.{IsRefused, IsRefusedBy, is_anew, is_carried};
 ghost use Rattle.h5_edit.specs.Made.{IsAnew, IsEditMade};
 ghost use Rattle.h5_edit.specs.Repacked.{IsRepackRefused};
@@ -14,8 +14,8 @@ ghost use Rattle.h5_file.specs.Anew.{HoldsAnew, IsRepacked};
 
 use crate::file::{File, open_written};
 use h5_edit::{
-    Made, create_dataset, create_group, hard_link, remove_attr, repack, set_attr, soft_link,
-    write_run,
+    Made, create_dataset, create_group, hard_link, remove_attr, repack, resize, set_attr, soft_link,
+    unlink, write_run,
 };
 use h5_model::{AttrSpec, Edit, EditFault, Edited, Hyper, Spec};
 use h5_space::Image;
@@ -24,7 +24,7 @@ use std::alloc::AllocError;
 impl File {
     /// Carries an edit out: the image is then that of the tree that the edit gives.
     ///
-    /// Refused as `NotYet`, before any other check, where it removes a link, writes or resizes; then as the call of its own is. Where both
+    /// Refused as `NotYet`, before any other check, where it writes cells; then as the call of its own is. Where both
     /// `TreeTooDeep` and `ImageFull` hold, either is answered. A refusal changes nothing.
     pub fn edit(&mut self, edit: &Edit) -> Result<Edited, EditFault>
         ensures edited { MatchResult result (IsEdited self.old edit.now self.new) (λ e.
@@ -36,9 +36,11 @@ impl File {
             Edit::CreateDataset { path, spec } => self.create_dataset(path.as_slice(), spec),
             Edit::HardLink { target, path } => self.hard_link(target.as_slice(), path.as_slice()),
             Edit::SoftLink { text, path } => self.soft_link(text.as_slice(), path.as_slice()),
+            Edit::Unlink { path } => self.unlink(path.as_slice()),
             Edit::SetAttr { path, attr } => self.set_attr(path.as_slice(), attr),
             Edit::RemoveAttr { path, name } => self.remove_attr(path.as_slice(), name.as_slice()),
-            _ => Err(EditFault::NotYet),
+            Edit::Resize { path, dims } => self.resize(path.as_slice(), dims.as_slice()),
+            Edit::Write { .. } => Err(EditFault::NotYet),
         }
     }
 
@@ -96,6 +98,19 @@ impl File {
         self.take(made)
     }
 
+    /// Takes the link at the path away. An object without a link goes, and its number is not used again; the others keep theirs.
+    ///
+    /// Refused by the lowest number that holds: `BadPath`, `PathTooDeep`, `IsRoot`, `NoSuchParent`, `NotAGroup`, `NotFound`,
+    /// `GroupNotEmpty` where a group with links stands there, `ImageFull` where the image would pass 2147483648 bytes, `NoMemory`. A
+    /// refusal changes nothing.
+    pub fn unlink(&mut self, path: &[u8]) -> Result<Edited, EditFault>
+        ensures edited { MatchResult result (IsEdited self.old (Unlink path.now) self.new)
+            (λ e. IsRefused self.old (Unlink path.now) e × (self.new ≡ self.old)) }
+    {
+        let made = unlink(self.alloc, &self.opened, path)?;
+        self.take(made)
+    }
+
     /// Adds an attribute to the object at the path, or puts it in place of the one of its name.
     ///
     /// Refused by the lowest number that holds: `BadPath`, `PathTooDeep`, `NoSuchParent`, `NotAGroup`, `NotFound`, `NameTooLong` above 1023
@@ -119,6 +134,21 @@ impl File {
             (λ e. IsRefused self.old (RemoveAttr path.now name.now) e × (self.new ≡ self.old)) }
     {
         let made = remove_attr(self.alloc, &self.opened, path, name)?;
+        self.take(made)
+    }
+
+    /// Gives the array in chunks at the path other sizes, as many as it has: the cells stay whose index is inside the old and the new ones,
+    /// the others that it then has are the fill. Cells outside the new sizes are gone for good.
+    ///
+    /// Refused by the lowest number that holds: `BadPath`, `PathTooDeep`, `NoSuchParent`, `NotAGroup`, `NotFound`, `NotADataset` also where
+    /// a soft link stands there, `RankMismatch`, `NotChunked`, `AboveMaximum`, `TooManyCells`, `HeaderFull` where the header's Dataspace
+    /// message has no maxima and its total of messages plus 2 passes 65535, `ImageFull` where the image would pass 2147483648 bytes,
+    /// `NoMemory`. A refusal changes nothing.
+    pub fn resize(&mut self, path: &[u8], dims: &[u64]) -> Result<Edited, EditFault>
+        ensures edited { MatchResult result (IsEdited self.old (Resize path.now dims.now) self.new)
+            (λ e. IsRefused self.old (Resize path.now dims.now) e × (self.new ≡ self.old)) }
+    {
+        let made = resize(self.alloc, &self.opened, path, dims)?;
         self.take(made)
     }
 

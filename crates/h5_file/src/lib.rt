@@ -20,9 +20,8 @@
 //! rule that bytes break by an [`OpenFault`]. The form of the bytes is the HDF5 File Format
 //! Specification's, version 3.0; docs/FORMAT.md says which part of it is accepted. This version
 //! opens files of any groups and links, with arrays of any form and any attributes. It makes groups,
-//! hard and soft links, and contiguous arrays of one size, and sets and removes attributes of any
-//! object, in files whose arrays each have their cells in one block or nowhere. Edits of other files,
-//! links that are removed, cells that are written, sizes that are changed and new arrays of other forms
+//! hard and soft links, and arrays of any form, sets and removes attributes of any object, and repacks
+//! a file ([`File::repack`]). Links that are removed, cells that are written and sizes that are changed
 //! are refused as `NotYet`.
 #![tactic(auto)]
 

@@ -1,7 +1,7 @@
 //! Edits by calls: what is accepted where there is memory, the object that is answered, and what no call carries out yet.
 
 use crate::given::{line, note};
-use h5_file::{Edit, EditFault, Edited, File, Hyper, Items, ObjectNo};
+use h5_file::{Edit, EditFault, Edited, File, Fixed, Hyper, Items, ObjectNo, Spec};
 use std::alloc::{AllocError, Global};
 use std::test::Fail;
 
@@ -24,6 +24,38 @@ fn answers_the_object(rt: HostRuntime) -> Result<(), Fail> {
     assert!(rt;
         file.object_number(b"/a")? == ObjectNo(3) && file.object_number(b"/b")? == ObjectNo(2)
     );
+    Ok(())
+}
+
+#[test]
+fn makes_arrays_of_each_store(rt: HostRuntime) -> Result<(), Fail> {
+    let alloc = rt.alloc();
+    let mut file = File::create(alloc)?;
+    let compact = Spec::compact(alloc, Fixed::U8, &[2, 2], 9)?;
+    assert!(rt; is_of(file.create_dataset(b"/k", &compact)?, 1));
+    let chunked = Spec::chunked(alloc, Fixed::I32_LE, &[3, 1], &[None, Some(4)], &[2, 4], -5)?;
+    assert!(rt; is_of(file.create_dataset(b"/c", &chunked)?, 2));
+    let scalar = Spec::contiguous(alloc, Fixed::I32_LE, &[], -7)?;
+    assert!(rt; is_of(file.create_dataset(b"/s", &scalar)?, 3));
+    assert!(rt; file.cell(b"/k", &[1, 0])? == 9 && file.cell(b"/c", &[2, 0])? == -5);
+    assert!(rt; file.cell(b"/s", &[])? == -7);
+    assert!(rt; file.create_dataset(b"/k", &chunked) == Err(EditFault::AlreadyThere));
+    Ok(())
+}
+
+#[test]
+fn repacks(rt: HostRuntime) -> Result<(), Fail> {
+    let mut file = File::create(rt.alloc())?;
+    file.create_group(b"/z")?;
+    file.create_dataset(b"/d", &line(rt.alloc())?)?;
+    let length = file.image().len();
+    file.repack()?;
+    // What an edit has written has no room that nothing uses.
+    assert!(rt; file.image().len() == length && file.cell(b"/d", &[2])? == -7);
+    assert!(rt;
+        file.object_number(b"/z")? == ObjectNo(1) && file.object_number(b"/d")? == ObjectNo(2)
+    );
+    assert!(rt; is_of(file.create_group(b"/z/g")?, 3));
     Ok(())
 }
 

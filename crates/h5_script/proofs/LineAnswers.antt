@@ -1,5 +1,5 @@
 -- What one line answers, by what it asks for.
-use Rattle.std.proofs.Common.{◌≡◌, ℕ, true, false, Option, Some, None, List, [], ◌++◌, length, codes, refl, sym, ap, ◌∙◌, subst, append_assoc}
+use Rattle.std.proofs.Common.{◌≡◌, ℕ, ◌+◌, true, false, Option, Some, None, List, [], ◌++◌, length, codes, refl, sym, ap, ◌∙◌, subst, append_assoc}
 use Rattle.std.specs.Prelude.{Result, Ok, Err, IsErr, is_err, IfOk, MatchResult}
 use Rattle.std.proofs.lemmas.Bool.{false≢true}
 use Rattle.h5_text.specs.Appends.{Appends}
@@ -10,19 +10,18 @@ use Rattle.h5_command.specs.declared.command.Command as asked
 use Rattle.h5_command.specs.declared.command.Command.TheVariants as form
 use Rattle.std.specs.declared.alloc.AllocError.{AllocError}
 use Rattle.std.specs.FinMap.{empty}
+use Rattle.std.specs.Option.{option_map_or}
 use Rattle.std.specs.Fmt.{decimal, digits}
 use Rattle.h5_model.specs.Edits.Applied.{state_after}
 use Rattle.h5_model.specs.Edits.EditFaults.{refused_text}
 use Rattle.h5_model.specs.Scripts.Lines.{Command, Change, ListAll, Dump, Repack, Unread}
-use Rattle.h5_model.specs.Tree.Paths.{located}
+use Rattle.h5_model.specs.Tree.Paths.{located, object_at}
 use Rattle.h5_model.specs.Scripts.Reading.{path_rules}
 use Rattle.h5_model.specs.Edits.Refusal.{first_holding}
 use Rattle.h5_model.specs.Scripts.Answers.{dumped}
 use Rattle.h5_model.specs.Scripts.Text.{list_text}
 use Rattle.h5_model.specs.Tree.Objects.{Tree}
-use Rattle.h5_model.specs.Views.Shown.{refreshed_of}
-use Rattle.h5_model.specs.declared.attribute.AttrSpec.{AttrSpec}
-use Rattle.h5_model.specs.declared.dataset.Spec.{Spec}
+use Rattle.h5_model.specs.Views.Shown.{refreshed_by, refreshed_of}
 use Rattle.h5_model.specs.declared.edits.Edit.{Edit}
 use Rattle.h5_model.specs.declared.edits.Edit.TheVariants.{CreateGroup, CreateDataset, HardLink, SoftLink, Unlink, SetAttr, RemoveAttr, Write, Resize}
 use Rattle.h5_model.specs.declared.edits.Edited.{Edited}
@@ -64,21 +63,6 @@ appended (Err e) old new text fine none is = absurd (false≢true (sym fine))
 pub shown_as : (s t : FileState) (command : Command) (text shown : List ℕ) (o : Outcome) → shown ≡ text → IsAnswered s command t text o → IsAnswered s command t shown o
 shown_as s t command text shown o same is = subst (λ (told : List ℕ). IsAnswered s command t told o) (sym same) is
 
--- an edit that no line asks for yet
-pub taken_edit : (edit : Edit) → ((path : List ℕ) → edit ≡ CreateGroup path → ⊥) → ((path : List ℕ) (spec : Spec) → edit ≡ CreateDataset path spec → ⊥)
-    → ((target path : List ℕ) → edit ≡ HardLink target path → ⊥) → ((text path : List ℕ) → edit ≡ SoftLink text path → ⊥)
-    → ((path : List ℕ) (attr : AttrSpec) → edit ≡ SetAttr path attr → ⊥) → ((path name : List ℕ) → edit ≡ RemoveAttr path name → ⊥)
-    → taken (Change edit) ≡ Unread
-taken_edit (CreateGroup path) no_group no_array no_hard no_soft no_set no_remove = absurd (no_group path refl)
-taken_edit (CreateDataset path spec) no_group no_array no_hard no_soft no_set no_remove = absurd (no_array path spec refl)
-taken_edit (HardLink target path) no_group no_array no_hard no_soft no_set no_remove = absurd (no_hard target path refl)
-taken_edit (SoftLink text path) no_group no_array no_hard no_soft no_set no_remove = absurd (no_soft text path refl)
-taken_edit (Unlink path) no_group no_array no_hard no_soft no_set no_remove = refl
-taken_edit (SetAttr path attr) no_group no_array no_hard no_soft no_set no_remove = absurd (no_set path attr refl)
-taken_edit (RemoveAttr path name) no_group no_array no_hard no_soft no_set no_remove = absurd (no_remove path name refl)
-taken_edit (Write path hyper values) no_group no_array no_hard no_soft no_set no_remove = refl
-taken_edit (Resize path dims) no_group no_array no_hard no_soft no_set no_remove = refl
-
 -- neither an edit nor `ls`, `dump` or `repack`
 pub taken_other : (command : asked.Command) → ((edit : Edit) → command ≡ form.Change edit → ⊥) → (command ≡ form.ListAll → ⊥) → ((path : List ℕ) → command ≡ form.Dump path → ⊥)
     → (command ≡ form.Repack → ⊥) → taken (command_of command) ≡ Unread
@@ -111,7 +95,10 @@ refreshes_none old new (Unlink path) asked = refl
 refreshes_none old new (SetAttr path attr) asked = refl
 refreshes_none old new (RemoveAttr path name) asked = refl
 refreshes_none old new (Write path hyper values) asked = absurd (cc)
-refreshes_none old new (Resize path dims) asked = absurd (cc)
+refreshes_none old new (Resize path dims) asked = by_found (object_at old path) where
+  by_found : (found : Option ℕ) → option_map_or (λ number. refreshed_by old new empty number (Resize path dims)) found 0 + 0 ≡ 0
+  by_found None = refl
+  by_found (Some number) = refl
 
 -- and are carried
 carried_so_far : (edit : Edit) → taken (Change edit) ≡ Change edit → is_carried edit ≡ true
@@ -119,11 +106,11 @@ carried_so_far (CreateGroup path) asked = refl
 carried_so_far (CreateDataset path spec) asked = refl
 carried_so_far (HardLink target path) asked = refl
 carried_so_far (SoftLink text path) asked = refl
-carried_so_far (Unlink path) asked = absurd (cc)
+carried_so_far (Unlink path) asked = refl
 carried_so_far (SetAttr path attr) asked = refl
 carried_so_far (RemoveAttr path name) asked = refl
 carried_so_far (Write path hyper values) asked = absurd (cc)
-carried_so_far (Resize path dims) asked = absurd (cc)
+carried_so_far (Resize path dims) asked = refl
 
 -- an accepted edit
 pub edit_accepted : (before after : FileState) (edit : Edit) (e : Edited) → taken (Change edit) ≡ Change edit → IsEdited before edit after e

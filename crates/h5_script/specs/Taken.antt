@@ -4,21 +4,22 @@ use Rattle.h5_model.specs.Edits.Applied.{State}
 use Rattle.h5_model.specs.Scripts.Lines.{Command, Change, ListAll, Dump, Repack, Unread}
 use Rattle.h5_model.specs.Scripts.Answers.{Answer, Given, answer_of}
 use Rattle.h5_model.specs.Scripts.Sessions.{new_session}
-use Rattle.h5_model.specs.declared.edits.Edit.TheVariants.{CreateGroup, CreateDataset, HardLink, SoftLink, SetAttr, RemoveAttr}
+use Rattle.h5_model.specs.declared.edits.Edit.TheVariants.{CreateGroup, CreateDataset, HardLink, SoftLink, Unlink, SetAttr, RemoveAttr, Resize}
 use Rattle.h5_model.specs.declared.edit_fault.EditFault.TheVariants as fault
 use Rattle.h5_dump.specs.Opened.State.{FileState}
 use Rattle.h5_dump.specs.Carried.{IsGivenFor, IsShortAnew}
 use Rattle.h5_dump.specs.Repacked.{IsRepackRefused}
 
--- the commands so far: `group`, `dataset`, `link`, `soft`, `attr`, `unattr`, `ls`, `dump` and `repack`; a line that asks for anything else is
--- a bad line
+-- the commands so far: all but `write` and those of views; a line that asks for one of these is a bad line
 abbrev pub taken : Command → Command
 taken (Change (CreateGroup path)) = Change (CreateGroup path)
 taken (Change (CreateDataset path spec)) = Change (CreateDataset path spec)
 taken (Change (HardLink target path)) = Change (HardLink target path)
 taken (Change (SoftLink text path)) = Change (SoftLink text path)
+taken (Change (Unlink path)) = Change (Unlink path)
 taken (Change (SetAttr path attr)) = Change (SetAttr path attr)
 taken (Change (RemoveAttr path name)) = Change (RemoveAttr path name)
+taken (Change (Resize path dims)) = Change (Resize path dims)
 taken ListAll = ListAll
 taken (Dump path) = Dump path
 taken Repack = Repack

@@ -87,9 +87,11 @@ fn answer_edit(file: &mut File, edit: &Edit, text: &mut Vec<u8>) -> Result<Outco
         | Edit::CreateDataset { .. }
         | Edit::HardLink { .. }
         | Edit::SoftLink { .. }
+        | Edit::Unlink { .. }
         | Edit::SetAttr { .. }
-        | Edit::RemoveAttr { .. } => carry_out(file, edit, text),
-        _ => bad_line(text),
+        | Edit::RemoveAttr { .. }
+        | Edit::Resize { .. } => carry_out(file, edit, text),
+        Edit::Write { .. } => bad_line(text),
     }
 }
 
