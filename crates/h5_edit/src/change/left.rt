@@ -2,7 +2,6 @@
 
 ghost use Rattle.std.specs.Prelude.{◌≡◌, ◌<◌, ℕ, None, Option, Some, IfOk, IfSome, filter, length, nat_eq, not, option_map, slice_set};
 ghost use Rattle.std.specs.FinMap.{remove};
-
 ghost use Rattle.std.specs.Cmp.Lexicographic.{pointwise};
 ghost use Rattle.h5_laws.specs.Trees.Unlinked.{without_link, without_object};
 ghost use Rattle.h5_model.specs.Edits.Applied.{with_links};
@@ -38,8 +37,8 @@ pub(crate) fn left_objects<'a>(
     ensures counted { IfOk result (λ objects. length objects.items ≡ opened.now.next) }
     ensures stored { IfOk result (λ objects.
         AreStoredAfter opened.now
-        (without_object (without_link opened.now.tree removal.now.parent removal.now.name.now) removal.now.gone)
-        (stored_in objects.items)) }
+        (without_object (without_link opened.now.tree removal.now.parent removal.now.name.now)
+        removal.now.gone) (stored_in objects.items)) }
 {
     let mut objects = opened_objects(alloc, opened, 0, None)?;
     take_link(&mut objects, removal.parent, removal.name);
@@ -98,7 +97,8 @@ fn without<'a>(object: NewObject<'a>, name: &[u8]) -> NewObject<'a>
 
 /// Drops the link of this name.
 fn drop_link(links: &mut Vec<Link<'_, ObjectNo>>, name: &[u8])
-    ensures { links.new.items ≡ filter (λ (l : Link ObjectNo). not (pointwise nat_eq name.now l.name.now)) links.old.items }
+    ensures { links.new.items
+        ≡ filter (λ (l : Link ObjectNo). not (pointwise nat_eq name.now l.name.now)) links.old.items }
 {
     links.retain(|link| name != link.name);
 }

@@ -54,11 +54,7 @@ pub fn check_unlink<'a>(
 }
 
 /// The object to which the link that leads to this place is the last hard one; `GroupNotEmpty` where it is a group with links.
-fn last_link_to(
-    alloc: Global,
-    opened: &Opened,
-    place: Place<'_>,
-) -> Result<Option<u32>, EditFault>
+fn last_link_to(alloc: Global, opened: &Opened, place: Place<'_>) -> Result<Option<u32>, EditFault>
     requires kept { IsOfNumber opened.now place }
     requires linked { (parent : ℕ) × (name : List ℕ)
         × (link_in opened.now.tree parent name ≡ Some (link_at place)) }

@@ -8,8 +8,11 @@ returns-in-Ok-true c =
     let of = rw c.in-Object.is at c.requires.kept in
     let leads = rw c.in-Object.is at c.requires.linked.2 in
     let told = rw c.image-image.ensures.bytes at c.in-Ok-true.ensures in
-    rw c.in-Object.is (inr (refl, group_full f c.image-image.ensures.sound c.requires.linked.0 c.requires.linked.1 c.in-Object.number c.in-Object.object.now of leads c.in-Group.table c.in-Group.is
-    ∙ sym told ∙ c.in-Ok-true.field-0-test))
+    rw c.in-Object.is (inr (
+      refl,
+      group_full f c.image-image.ensures.sound c.requires.linked.0 c.requires.linked.1 c.in-Object.number c.in-Object.object.now of leads c.in-Group.table c.in-Group.is
+          ∙ sym told ∙ c.in-Ok-true.field-0-test,
+    ))
 
 pub returns-in-Ok-false : goal.returns-in-Ok-false
 returns-in-Ok-false c =
