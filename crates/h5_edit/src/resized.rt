@@ -20,8 +20,10 @@ use h5_query::Opened;
 use h5_space::Image;
 use std::alloc::Global;
 
-/// Where the flags of a Dataspace message stand in its body, and the flag that maxima are there.
+/// Where the flags of a Dataspace message stand in its body.
 const FLAGS: usize = 2;
+
+/// The flags of a Dataspace message that has maxima.
 const HAS_MAXIMA: u8 = 1;
 
 /// Gives an array in chunks other sizes, as many as it has: the cells stay whose index is inside the old and the new ones, the others that
