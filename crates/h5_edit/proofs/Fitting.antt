@@ -8,7 +8,7 @@ use Rattle.std.specs.Borrow.{Bor}
 use Rattle.std.specs.FinMap.{get, insert, remove, empty}
 use Rattle.std.specs.Option.{option_and_then, option_map_or}
 use Rattle.h5_edit.specs.Changed.Change.{with_link, changed}
-use Rattle.h5_edit.specs.declared.change.change.Change.TheVariants.{Link as Linked, SetAttr as Set, RemoveAttr as Remove, Resize as Other}
+use Rattle.h5_edit.specs.declared.change.change.Change.TheVariants.{Link as Linked, SetAttr as Set, RemoveAttr as Remove, Resize as Sized}
 use Rattle.h5_edit.specs.declared.change.change.Target.TheVariants as target
 use Rattle.h5_header.specs.Listed.{message_in, messages_in}
 use Rattle.h5_model.specs.Edits.Applied.{applied, linked, new_object, new_dataset, with_links, with_attributes, with_dataset, attribute_from, resized}
@@ -197,7 +197,7 @@ module _ (f : FileState) where
 
   pub resize_fits : {path : List ℕ} {number : ℕ} (dims : Bor (List ℕ)) (o : OpenedObject) → IsResizeAt tree next path dims.now number → IsObjectOf f number o
       → (lacks_maxima (messages_in f.image o.messages.list) && nat_lt 65535 (length o.messages.list + 2)) ≡ false
-      → IsFitting f (Resize path dims.now) (Other number dims) (Some (record { 0 = number }))
+      → IsFitting f (Resize path dims.now) (Sized number dims) (Some (record { 0 = number }))
   unfolding applied changed
   resize_fits {path = path} {number = number} dims o at of roomy =
       let there : dataset_of tree number ≡ Some at.1 = sym (ap (option_and_then (dataset_of tree)) at.0.object) ∙ at.2 in

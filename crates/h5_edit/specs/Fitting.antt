@@ -9,7 +9,7 @@ use Rattle.h5_edit.specs.Fits.Laws.{IsTyped}
 use Rattle.h5_query.specs.Opened.State.{FileState, state_of}
 use Rattle.h5_edit.specs.Changed.Change.{IsChange, changed}
 use Rattle.h5_edit.specs.declared.change.change.Change.{Change}
-use Rattle.h5_edit.specs.declared.change.change.Change.TheVariants.{Link as Linked, SetAttr as Set, RemoveAttr as Remove, Resize as Other}
+use Rattle.h5_edit.specs.declared.change.change.Change.TheVariants.{Link as Linked, SetAttr as Set, RemoveAttr as Remove, Resize as Sized}
 use Rattle.h5_edit.specs.declared.change.change.Target.{Target}
 use Rattle.h5_edit.specs.declared.change.change.Target.TheVariants as target
 use Rattle.h5_edit.specs.Carried.{is_carried, tree_after, IsTotalFull}
@@ -25,7 +25,7 @@ abbrev pub made_in : Change → ℕ
 made_in (Linked parent name target) = made_by target
 made_in (Set object attr) = 0
 made_in (Remove object name) = 0
-made_in (Other object dims) = 0
+made_in (Sized object dims) = 0
 
 -- no rule of the tree refuses the edit, and no header is full; this change, which can be made, gives its tree, and it makes or names this
 -- object

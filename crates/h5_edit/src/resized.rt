@@ -20,6 +20,12 @@ use h5_query::Opened;
 use h5_space::Image;
 use std::alloc::Global;
 
+/// Where the flags of a Dataspace message stand in its body.
+const FLAGS: usize = 2;
+
+/// The flags of a Dataspace message that has maxima.
+const HAS_MAXIMA: u8 = 1;
+
 /// Gives an array in chunks other sizes, as many as it has: the cells stay whose index is inside the old and the new ones, the others that
 /// it then has are the fill. Cells outside the new sizes are gone for good.
 ///
@@ -34,7 +40,7 @@ pub fn resize(alloc: Global, opened: &Opened, path: &[u8], dims: &[u64]) -> Resu
 {
     let number = check_resize(alloc, opened, path, dims)?;
     let object = opened.object(number).unwrap();
-    if is_full(opened.image(), &object.messages) {
+    if is_header_full(opened.image(), &object.messages) {
         return Err(EditFault::HeaderFull);
     }
     let change = Change::Resize {
@@ -45,7 +51,7 @@ pub fn resize(alloc: Global, opened: &Opened, path: &[u8], dims: &[u64]) -> Resu
 }
 
 /// Whether the header needs a message for maxima, as its Dataspace message has none, and has no place for it and a Continuation.
-fn is_full(image: &Image, messages: &Messages) -> bool
+fn is_header_full(image: &Image, messages: &Messages) -> bool
     requires within { IsWithin (length image.now.bytes) messages.now.list }
     requires whole { let ms = messages_in image.now.bytes messages.now.list in
         (body : List ℕ) → first_body 1 ms ≡ Some body → 3 ≤ length body }
@@ -55,7 +61,7 @@ fn is_full(image: &Image, messages: &Messages) -> bool
     lacks_maxima(image, messages) && messages.list().len() + 2 > MAX_MESSAGES
 }
 
-/// Whether there is a Dataspace message, which has no maxima.
+/// Whether there is a Dataspace message, which has no maxima. That its flags are there is the caller's condition.
 fn lacks_maxima(image: &Image, messages: &Messages) -> bool
     requires within { IsWithin (length image.now.bytes) messages.now.list }
     requires whole { let ms = messages_in image.now.bytes messages.now.list in
@@ -63,7 +69,7 @@ fn lacks_maxima(image: &Image, messages: &Messages) -> bool
     ensures { result ≡ extent.lacks_maxima (messages_in image.now.bytes messages.now.list) }
 {
     match find_body(image, messages, DATASPACE) {
-        Some(body) => body[2] != 1,
+        Some(body) => body[FLAGS] != HAS_MAXIMA,
         None => false,
     }
 }

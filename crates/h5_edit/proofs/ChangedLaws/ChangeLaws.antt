@@ -27,7 +27,7 @@ use Rattle.h5_edit.specs.Changed.Change.{IsPlainChange, changed, with_link, with
 use Rattle.h5_edit.specs.Changed.Edited.{IsEditOf, IsEditable, IsFresh, edit_at, edited, edited_by, new_link, new_objects, new_target}
 use Rattle.h5_edit.specs.Changed.Sizes.{CanHave, IsResizable}
 use Rattle.h5_edit.specs.declared.change.change.Change.{Change}
-use Rattle.h5_edit.specs.declared.change.change.Change.TheVariants.{Link as Linked, SetAttr as Set, RemoveAttr as Remove, Resize as Other}
+use Rattle.h5_edit.specs.declared.change.change.Change.TheVariants.{Link as Linked, SetAttr as Set, RemoveAttr as Remove, Resize as Sized}
 use Rattle.h5_edit.specs.declared.change.change.Target.{Target}
 use Rattle.h5_edit.specs.declared.change.change.Target.TheVariants as target
 use Rattle.h5_edit.specs.declared.change.edit.ObjectEdit.{ObjectEdit}
@@ -77,10 +77,10 @@ changed_is tree (Remove object name) number place (edit.Link l) is = absurd is
 changed_is tree (Remove object name) number place (edit.SetAttr a) is = absurd is
 changed_is tree (Remove object name) number place (edit.RemoveAttr n) (p, q) = removed_same tree place object n.now name.now p q
 changed_is tree (Remove object name) number place (edit.Resize n) is = absurd is
-changed_is tree (Other object dims) number place (edit.Link l) is = absurd is
-changed_is tree (Other object dims) number place (edit.SetAttr a) is = absurd is
-changed_is tree (Other object dims) number place (edit.RemoveAttr n) is = absurd is
-changed_is tree (Other object dims) number place (edit.Resize n) (p, q) = sized_same tree place object n.now dims.now p q
+changed_is tree (Sized object dims) number place (edit.Link l) is = absurd is
+changed_is tree (Sized object dims) number place (edit.SetAttr a) is = absurd is
+changed_is tree (Sized object dims) number place (edit.RemoveAttr n) is = absurd is
+changed_is tree (Sized object dims) number place (edit.Resize n) (p, q) = sized_same tree place object n.now dims.now p q
 
 -- ---- its numbers
 
@@ -100,7 +100,7 @@ new_numbered : (change : Change) (tree : Tree) (slots : List (Option Object)) �
 new_numbered (Linked parent name t) tree slots numbered number is k = more_numbered tree slots numbered number t is k
 new_numbered (Set object attr) tree slots numbered number is k = numbered k ∙ sym (ap (λ (xs : List (Option Object)). option_flatten (slice_get xs k)) (append-nil slots))
 new_numbered (Remove object name) tree slots numbered number is k = numbered k ∙ sym (ap (λ (xs : List (Option Object)). option_flatten (slice_get xs k)) (append-nil slots))
-new_numbered (Other object dims) tree slots numbered number is k = numbered k ∙ sym (ap (λ (xs : List (Option Object)). option_flatten (slice_get xs k)) (append-nil slots))
+new_numbered (Sized object dims) tree slots numbered number is k = numbered k ∙ sym (ap (λ (xs : List (Option Object)). option_flatten (slice_get xs k)) (append-nil slots))
 
 -- ---- what can be written
 
@@ -147,10 +147,10 @@ module _ (tree : Tree) (number : ℕ) where
   editable (Remove object name) plain place (edit.SetAttr a) is o found = absurd is
   editable (Remove object name) plain place (edit.RemoveAttr n) is o found = tt
   editable (Remove object name) plain place (edit.Resize n) is o found = absurd is
-  editable (Other object dims) plain place (edit.Link l) is o found = absurd is
-  editable (Other object dims) plain place (edit.SetAttr a) is o found = absurd is
-  editable (Other object dims) plain place (edit.RemoveAttr n) is o found = absurd is
-  editable (Other object dims) plain place (edit.Resize n) (p, q) o found =
+  editable (Sized object dims) plain place (edit.Link l) is o found = absurd is
+  editable (Sized object dims) plain place (edit.SetAttr a) is o found = absurd is
+  editable (Sized object dims) plain place (edit.RemoveAttr n) is o found = absurd is
+  editable (Sized object dims) plain place (edit.Resize n) (p, q) o found =
       let here : get tree object ≡ Some o = ap (get tree) (sym p) ∙ found in
       sized_content o.content plain.there.0 dims.now n.now (sym (ap (option_and_then (λ (x : Object). dataset_in x.content)) here) ∙ plain.there.1) plain.there.2 q
 
@@ -175,7 +175,7 @@ module _ (tree : Tree) (number : ℕ) where
   new_plain (Linked parent name t) plain = plain_linked parent name t plain.changed_plain
   new_plain (Set object attr) plain = tt
   new_plain (Remove object name) plain = tt
-  new_plain (Other object dims) plain = tt
+  new_plain (Sized object dims) plain = tt
 
 -- ---- the edit of each object
 
@@ -276,7 +276,7 @@ new_counted : (change : Change) → length (new_objects change) ≡ made_in chan
 new_counted (Linked parent name t) = made_counted t
 new_counted (Set object attr) = refl
 new_counted (Remove object name) = refl
-new_counted (Other object dims) = refl
+new_counted (Sized object dims) = refl
 
 module _ (tree : Tree) (change : Change) (next place : ℕ) (e : ObjectEdit) (is : IsEditOf change next place e) (written all : List (Option NewObject)) (more : Option NewObject)
     (so : AreObjects written (with_object tree place (edited e))) (counted : length written ≡ next) (new : AllZip IsNewObject (option_to_list more) (new_objects change))

@@ -9,7 +9,7 @@ use Rattle.h5_model.specs.declared.link.Link.{Link as LinkOf}
 use Rattle.h5_repack.specs.Bodies.Sound.{IsPlainAttribute}
 use Rattle.h5_edit.specs.Changed.Sizes.{CanHave}
 use Rattle.h5_edit.specs.declared.change.change.Change.{Change}
-use Rattle.h5_edit.specs.declared.change.change.Change.TheVariants.{Link as Linked, SetAttr as Set, RemoveAttr as Remove, Resize as Other}
+use Rattle.h5_edit.specs.declared.change.change.Change.TheVariants.{Link as Linked, SetAttr as Set, RemoveAttr as Remove, Resize as Sized}
 use Rattle.h5_edit.specs.declared.change.change.Target.{Target}
 use Rattle.h5_edit.specs.declared.change.change.Target.TheVariants as target
 use Rattle.h5_edit.specs.declared.change.edit.ObjectEdit.{ObjectEdit}
@@ -81,7 +81,7 @@ abbrev pub IsEditOf : Change → ℕ → ℕ → ObjectEdit → Type 0
 IsEditOf (Linked parent name target) number place (edit.Link l) = (place ≡ parent) × (l.name.now ≡ name.now) × (tree_target l.to ≡ new_link target number)
 IsEditOf (Set object attr) number place (edit.SetAttr other) = (place ≡ object) × (other.now ≡ attr.now)
 IsEditOf (Remove object name) number place (edit.RemoveAttr other) = (place ≡ object) × (other.now ≡ name.now)
-IsEditOf (Other object dims) number place (edit.Resize other) = (place ≡ object) × (other.now ≡ dims.now)
+IsEditOf (Sized object dims) number place (edit.Resize other) = (place ≡ object) × (other.now ≡ dims.now)
 IsEditOf _ _ _ _ = ⊥
 
 -- the objects that it adds
@@ -95,4 +95,4 @@ abbrev pub new_objects : Change → List Object
 new_objects (Linked parent name target) = new_target target
 new_objects (Set object attr) = []
 new_objects (Remove object name) = []
-new_objects (Other object dims) = []
+new_objects (Sized object dims) = []
