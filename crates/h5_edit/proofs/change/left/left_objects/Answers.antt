@@ -5,6 +5,7 @@ use Rattle.h5_laws.specs.Trees.Unlinked.{without_link, without_object}
 use Rattle.h5_model.specs.Tree.Objects.{Tree}
 use Rattle.h5_repack.specs.Objects.Objects.{AreObjects, stored_in}
 use Rattle.h5_repack.specs.declared.objects.object.NewObject.{NewObject}
+use Rattle.h5_edit.specs.StoredChunks.{AreStoredAfter}
 use Rattle.h5_edit.proofs.ChangedLaws.ChangeLaws.{unedited}
 use Rattle.h5_edit.proofs.ChangedLaws.SlotLaws.{object_taken, stored_left, stored_others}
 use Rattle.h5_edit.proofs.change.left.left_objects.Goals as goal
@@ -30,7 +31,8 @@ returns-clause-objects c =
 pub returns-clause-stored : goal.returns-clause-stored
 returns-clause-stored c =
     let f = c.args.opened.now in
-    stored_left f c.args.removal.now.parent c.args.removal.now.name.now c.in_ok-objects.objects.items c.in_ok-objects.ensures.stored
+    stored_left f c.args.removal.now.parent c.args.removal.now.name.now c.in_ok-objects.objects.items
+    (subst (λ (t : Tree). AreStoredAfter f t (stored_in c.in_ok-objects.objects.items)) (unedited f.tree 0) c.in_ok-objects.ensures.stored)
     c.match-removal.objects.items c.args.removal.now.gone (λ k stays. elim c.match-removal.branch [
       | in-Some w ↦
           let low : w.in-Some.number < f.next = subst (λ (gone : Option ℕ). IfSome gone (λ n. n < f.next)) w.in-Some.is c.requires.gone in
