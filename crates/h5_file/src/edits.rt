@@ -14,8 +14,8 @@ ghost use Rattle.h5_file.specs.Anew.{HoldsAnew, IsRepacked};
 
 use crate::file::{File, open_written};
 use h5_edit::{
-    Made, create_dataset, create_group, hard_link, remove_attr, repack, resize, set_attr, soft_link,
-    unlink, write_run,
+    Made, create_dataset, create_group, hard_link, remove_attr, repack, resize, set_attr,
+    soft_link, unlink, write_run,
 };
 use h5_model::{AttrSpec, Edit, EditFault, Edited, Hyper, Spec};
 use h5_space::Image;
