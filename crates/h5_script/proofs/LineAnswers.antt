@@ -1,6 +1,6 @@
 -- What one line answers, by what it asks for.
-use Rattle.std.proofs.Common.{◌≡◌, ℕ, ◌+◌, true, false, Option, Some, None, List, [], ◌++◌, length, codes, refl, sym, ap, ◌∙◌, subst, append_assoc}
-use Rattle.std.specs.Prelude.{Result, Ok, Err, IsErr, is_err, IfOk, MatchResult}
+use Rattle.std.proofs.Common.{◌≡◌, ℕ, ℤ, ◌+◌, true, false, Option, Some, None, List, [], ◌++◌, map, length, codes, refl, sym, ap, ◌∙◌, subst, append_assoc}
+use Rattle.std.specs.Prelude.{sum_by, Result, Ok, Err, IsErr, is_err, IfOk, MatchResult}
 use Rattle.std.proofs.lemmas.Bool.{false≢true}
 use Rattle.h5_text.specs.Appends.{Appends}
 use Rattle.h5_dump.specs.Dumped.{IsUndumped}
@@ -9,7 +9,8 @@ use Rattle.h5_command.specs.Commands.{command_of}
 use Rattle.h5_command.specs.declared.command.Command as asked
 use Rattle.h5_command.specs.declared.command.Command.TheVariants as form
 use Rattle.std.specs.declared.alloc.AllocError.{AllocError}
-use Rattle.std.specs.FinMap.{empty}
+use Rattle.std.specs.FinMap.{empty, values}
+use Rattle.std.specs.Ordering.{nat_cmp}
 use Rattle.std.specs.Option.{option_map_or}
 use Rattle.std.specs.Fmt.{decimal, digits}
 use Rattle.h5_model.specs.Edits.Applied.{state_after}
@@ -20,11 +21,13 @@ use Rattle.h5_model.specs.Scripts.Reading.{path_rules}
 use Rattle.h5_model.specs.Edits.Refusal.{first_holding}
 use Rattle.h5_model.specs.Scripts.Answers.{dumped}
 use Rattle.h5_model.specs.Scripts.Text.{list_text}
-use Rattle.h5_model.specs.Tree.Objects.{Tree}
-use Rattle.h5_model.specs.Views.Shown.{refreshed_by, refreshed_of}
+use Rattle.h5_model.specs.Tree.Objects.{Tree, Dataset, dataset_of}
+use Rattle.h5_model.specs.Views.Shown.{View, met_by, refreshed_by, refreshed_of}
+use Rattle.h5_model.proofs.MapSteps.{entries-empty}
 use Rattle.h5_model.specs.declared.edits.Edit.{Edit}
 use Rattle.h5_model.specs.declared.edits.Edit.TheVariants.{CreateGroup, CreateDataset, HardLink, SoftLink, Unlink, SetAttr, RemoveAttr, Write, Resize}
 use Rattle.h5_model.specs.declared.edits.Edited.{Edited}
+use Rattle.h5_model.specs.declared.hyperslab.Hyper.{Hyper}
 use Rattle.h5_model.specs.declared.edit_fault.EditFault.{EditFault}
 use Rattle.h5_model.specs.declared.edit_fault.EditFault.TheVariants as fault
 use Rattle.h5_dump.specs.Opened.State.{FileState, state_of}
@@ -63,6 +66,10 @@ appended (Err e) old new text fine none is = absurd (false≢true (sym fine))
 pub shown_as : (s t : FileState) (command : Command) (text shown : List ℕ) (o : Outcome) → shown ≡ text → IsAnswered s command t text o → IsAnswered s command t shown o
 shown_as s t command text shown o same is = subst (λ (told : List ℕ). IsAnswered s command t told o) (sym same) is
 
+-- a write of cells, for which no line is taken yet
+pub taken_write : {path : List ℕ} {hyper : Hyper} {values : List ℤ} (edit : Edit) → edit ≡ Write path hyper values → taken (Change edit) ≡ Unread
+taken_write edit is = ap (λ (e : Edit). taken (Change e)) is
+
 -- neither an edit nor `ls`, `dump` or `repack`
 pub taken_other : (command : asked.Command) → ((edit : Edit) → command ≡ form.Change edit → ⊥) → (command ≡ form.ListAll → ⊥) → ((path : List ℕ) → command ≡ form.Dump path → ⊥)
     → (command ≡ form.Repack → ⊥) → taken (command_of command) ≡ Unread
@@ -85,6 +92,29 @@ bad_answer s command bad = record {
   outcome_is = rw bad refl;
 }
 
+-- no view is open that a resize could meet
+resize_none : (old new : Tree) (path dims : List ℕ) → refreshed_of old new empty (Resize path dims) ≡ 0
+resize_none old new path dims = by_number (object_at old path) where
+  none_open : values (empty {X = View} {R = nat_cmp}) ≡ []
+  none_open = ap (λ es. map (λ (e : ℕ × View). e.1) es) (entries-empty {X = View} nat_cmp)
+
+  met : (number : ℕ) (before after : Dataset) → sum_by (met_by number before after (Resize path dims)) (values (empty {X = View} {R = nat_cmp})) ≡ 0
+  met number before after = ap (sum_by (met_by number before after (Resize path dims))) none_open
+
+  by_after : (number : ℕ) (before : Dataset) (after : Option Dataset)
+      → option_map_or (λ d. sum_by (met_by number before d (Resize path dims)) (values (empty {X = View} {R = nat_cmp}))) after 0 ≡ 0
+  by_after number before None = refl
+  by_after number before (Some d) = met number before d
+
+  by_before : (number : ℕ) (before : Option Dataset)
+      → option_map_or (λ d. option_map_or (λ after. sum_by (met_by number d after (Resize path dims)) (values (empty {X = View} {R = nat_cmp}))) (dataset_of new number) 0) before 0 ≡ 0
+  by_before number None = refl
+  by_before number (Some d) = by_after number d (dataset_of new number)
+
+  by_number : (found : Option ℕ) → 0 + option_map_or (λ number. refreshed_by old new empty number (Resize path dims)) found 0 ≡ 0
+  by_number None = refl
+  by_number (Some number) = ap (λ n. 0 + n) (by_before number (dataset_of old number))
+
 -- the edits that lines ask for so far refresh no chunk
 refreshes_none : (old new : Tree) (edit : Edit) → taken (Change edit) ≡ Change edit → refreshed_of old new empty edit ≡ 0
 refreshes_none old new (CreateGroup path) asked = refl
@@ -95,10 +125,7 @@ refreshes_none old new (Unlink path) asked = refl
 refreshes_none old new (SetAttr path attr) asked = refl
 refreshes_none old new (RemoveAttr path name) asked = refl
 refreshes_none old new (Write path hyper values) asked = absurd (cc)
-refreshes_none old new (Resize path dims) asked = by_found (object_at old path) where
-  by_found : (found : Option ℕ) → option_map_or (λ number. refreshed_by old new empty number (Resize path dims)) found 0 + 0 ≡ 0
-  by_found None = refl
-  by_found (Some number) = refl
+refreshes_none old new (Resize path dims) asked = resize_none old new path dims
 
 -- and are carried
 carried_so_far : (edit : Edit) → taken (Change edit) ≡ Change edit → is_carried edit ≡ true
