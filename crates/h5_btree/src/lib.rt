@@ -22,5 +22,5 @@ pub use node::Node;
 pub use order::{Ordered, check_keys};
 pub use read::{NodeFault, read_node, read_node_at};
 pub use sought::{Sought, child_for};
-pub use walk::{Leaves, Tree, Trees, read_tree, tree_leaves, tree_node};
+pub use walk::{Leaves, Tree, Trees, bottom_nodes, read_tree, tree_leaves, tree_node};
 pub use write::{Child, TreeKey, nodes_over, push_tree, root_level, rows_of};

@@ -10,5 +10,5 @@ mod stands;
 
 pub use leaves::{Leaves, Trees};
 pub use read::{Tree, read_tree};
-pub use rows::tree_leaves;
+pub use rows::{bottom_nodes, tree_leaves};
 pub use stands::tree_node;

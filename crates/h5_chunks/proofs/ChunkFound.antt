@@ -119,13 +119,13 @@ module _ (image : List ℕ) (shape : Shape) (root : ℕ) (read : AreChunksRead i
       all_left (λ (b : Block). b.at + b.len ≤ length image) (tree_blocks (shape_kind image shape) owned) (map (λ (at : ℕ). block at shape.bytes) (values chunks))
       (subst (Inside (length image)) (read.stored).laid read.inside)
 
-  top : level_at image (shape_kind image shape) root ≡ level
+  pub top : level_at image (shape_kind image shape) root ≡ level
   top = level_is image (shape_kind image shape) root level owned (values chunks) stored_there
 
   abbrev bottom : List ℕ
   bottom = row_below V level (root ∷ [])
 
-  entries_are : entries chunks ≡ chunks_at V rank bottom
+  pub entries_are : entries chunks ≡ chunks_at V rank bottom
   entries_are =
       (read.stored).listed.listed
       ∙ ap (chunks_at (reading_of image (shape_kind image shape) owned) rank) (bottom_same image shape root owned (values chunks) tree)

@@ -1,8 +1,9 @@
 -- The chunks of the nodes of a row, and their addresses.
-use Rattle.std.proofs.Common.{◌≡◌, ℕ, ◌≤◌, List, [], ◌∷◌, ◌++◌, length, map, refl, ap, ap₂, ◌∙◌, arith}
+use Rattle.std.proofs.Common.{◌≡◌, ℕ, ◌+◌, ◌<◌, ◌≤◌, List, [], ◌∷◌, ◌++◌, length, map, take, get_or, append-nil, refl, ap, ap₂, ◌∙◌, arith}
+use Rattle.std.proofs.lemmas.Grind.{flat_map-append}
 use Rattle.std.specs.List.{zip}
-use Rattle.std.proofs.lemmas.List.{length-map, map-append}
-use Rattle.h5_model.specs.Format.Rows.{next_row}
+use Rattle.std.proofs.lemmas.List.{length-map, map-append, take_more}
+use Rattle.h5_model.specs.Format.Rows.{Reading, next_row}
 use Rattle.h5_model.specs.Format.Nodes.{node_at}
 use Rattle.h5_model.specs.Format.Chunks.{chunks_at, chunks_in, offsets_in}
 use Rattle.h5_model.specs.Format.Reached.{Shape, shape_kind}
@@ -29,3 +30,11 @@ module _ (image : List ℕ) (shape : Shape) where
       map-append (λ (c : List ℕ × ℕ). c.1) (chunks_in (length shape.sizes) (node_at image (shape_kind image shape) at))
       (chunks_at (node_at image (shape_kind image shape)) (length shape.sizes) row)
       ∙ ap₂ (λ (xs ys : List ℕ). xs ++ ys) (node_addresses at) (row_addresses row)
+
+-- the chunks of one more node
+pub chunks_more : (V : Reading) (rank : ℕ) (row : List ℕ) (k : ℕ) → k < length row
+    → chunks_at V rank (take (k + 1) row) ≡ chunks_at V rank (take k row) ++ chunks_in rank (V (get_or row k 0))
+chunks_more V rank row k low =
+    ap (chunks_at V rank) (take_more row k 0 low)
+    ∙ flat_map-append (λ (at : ℕ). chunks_in rank (V at)) (take k row) (get_or row k 0 ∷ [])
+    ∙ ap (λ (es : List (List ℕ × ℕ)). chunks_at V rank (take k row) ++ es) (append-nil (chunks_in rank (V (get_or row k 0))))

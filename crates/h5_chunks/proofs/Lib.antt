@@ -13,3 +13,6 @@ pub mod KeysRise
 pub mod ChunkFound
 pub mod ToldLaws
 pub mod ShapeLaws
+pub mod InsideLaws
+pub mod HeldLaws
+pub mod BehindLaws

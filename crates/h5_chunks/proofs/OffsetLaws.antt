@@ -4,7 +4,7 @@ use Rattle.std.specs.List.{AllZip, range_with_len}
 use Rattle.h5_bytes.specs.Bytes.{number_at}
 use Rattle.h5_model.specs.Format.Chunks.{IsOffset, offsets_in}
 
-zip_from : (R : ℕ → ℕ → Type 0) (f : ℕ → ℕ) (a : ℕ) (xs : List ℕ) → ((d : ℕ) → d < length xs → R (get_or xs d 0) (f (a + d))) → AllZip R xs (map f (range_with_len a (length xs)))
+pub zip_from : (R : ℕ → ℕ → Type 0) (f : ℕ → ℕ) (a : ℕ) (xs : List ℕ) → ((d : ℕ) → d < length xs → R (get_or xs d 0) (f (a + d))) → AllZip R xs (map f (range_with_len a (length xs)))
 zip_from R f a [] each = tt
 zip_from R f a (x ∷ xs) each =
     let here : a + 0 ≡ a = omega arith in (
@@ -14,7 +14,7 @@ zip_from R f a (x ∷ xs) each =
           subst (λ (n : ℕ). R (get_or xs d 0) (f n)) next (each (suc d) (omega (arith, low)))),
     )
 
-zip_at : (R : ℕ → ℕ → Type 0) (f : ℕ → ℕ) (a : ℕ) (xs : List ℕ) (d : ℕ) → AllZip R xs (map f (range_with_len a (length xs))) → d < length xs → R (get_or xs d 0) (f (a + d))
+pub zip_at : (R : ℕ → ℕ → Type 0) (f : ℕ → ℕ) (a : ℕ) (xs : List ℕ) (d : ℕ) → AllZip R xs (map f (range_with_len a (length xs))) → d < length xs → R (get_or xs d 0) (f (a + d))
 zip_at R f a [] d all low = absurd (omega (arith, low))
 zip_at R f a (x ∷ xs) zero all low = let here : a ≡ a + 0 = omega arith in subst (λ (n : ℕ). R x (f n)) here all.0
 zip_at R f a (x ∷ xs) (suc d) all low =

@@ -13,3 +13,7 @@ pub mod ToldLaws
 pub mod StoredLaws
 pub mod WriteLaws
 pub mod KeptLaws
+pub mod CornerLaws
+pub mod KeyWritten
+pub mod TileLaws
+pub mod PushedCorner

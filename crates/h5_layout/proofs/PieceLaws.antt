@@ -69,7 +69,7 @@ selected_below n sizes slab run runs all first none places long = record {
 
 -- ---- a piece is taken
 
-range_split : (p k m : ℕ) → range_with_len p (k + m) ≡ range_with_len p k ++ range_with_len (p + k) m
+pub range_split : (p k m : ℕ) → range_with_len p (k + m) ≡ range_with_len p k ++ range_with_len (p + k) m
 range_split p zero m =
     let none : zero + m ≡ m = omega arith in
     let here : p + zero ≡ p = omega arith in

@@ -23,6 +23,12 @@ pub record Kept : Type 0 where
   pub chunk : List ℕ
   pub kept : List ℕ
 
+-- in each dimension the smaller of two sizes
+abbrev pub smaller_sizes : List ℕ → List ℕ → List ℕ
+smaller_sizes [] new = []
+smaller_sizes (d ∷ ds) [] = []
+smaller_sizes (d ∷ ds) (n ∷ ns) = min d n ∷ smaller_sizes ds ns
+
 -- how many slices of the chunk at these offsets are below the kept sizes, in each dimension
 abbrev pub slices_kept : List ℕ → List ℕ → List ℕ → List ℕ
 slices_kept [] chunk offsets = []
@@ -30,11 +36,13 @@ slices_kept (k ∷ ks) [] offsets = []
 slices_kept (k ∷ ks) (c ∷ cs) [] = []
 slices_kept (k ∷ ks) (c ∷ cs) (o ∷ os) = min c (k - o) ∷ slices_kept ks cs os
 
--- the cells of a chunk in row-major order: those in the first so many slices of each dimension, as they stand in these bytes, and the
--- others the fill
+-- the cell at a place of a chunk: in the first so many slices of each dimension as it stands in these bytes, else the fill
+abbrev pub corner_value : Fixed → ℤ → List ℕ → List ℕ → List ℕ → ℕ → ℤ
+corner_value t fill chunk slices bytes place = if is_inside slices (index_of chunk place) then value_in t bytes place else fill
+
+-- all of them, in row-major order
 abbrev pub corner_values : Fixed → ℤ → List ℕ → List ℕ → List ℕ → List ℤ
-corner_values t fill chunk slices bytes =
-    table (λ place. if is_inside slices (index_of chunk place) then value_in t bytes place else fill) (cells chunk)
+corner_values t fill chunk slices bytes = table (corner_value t fill chunk slices bytes) (cells chunk)
 
 -- the cells of the chunk with this key at this address
 abbrev pub kept_values : Kept → ChunkPlace → List ℤ

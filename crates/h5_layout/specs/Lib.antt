@@ -8,6 +8,7 @@ pub mod Kept
 pub mod Maxima
 pub mod Pieces
 pub mod Runs
+pub mod Spans
 pub mod Stored
 pub mod Told
 pub mod Written

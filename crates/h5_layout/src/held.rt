@@ -1,8 +1,9 @@
 //! The chunks of an array that are handed on, to be written anew (File Format Specification 3.0, sections III.A.1 and
 //! IV.A.2.i).
 
-ghost use Rattle.std.specs.Prelude.{◌≡◌, ℕ, ℤ, ◌-◌, ◌*◌, ◌^◌, ◌<◌, ◌≤◌, ◌++◌, ◌==◌, List, Option, Some, IfOk, OnOk, length, slice_get};
+ghost use Rattle.std.specs.Prelude.{◌≡◌, ℕ, ℤ, ◌+◌, ◌-◌, ◌*◌, ◌^◌, ◌<◌, ◌≤◌, ◌++◌, ◌==◌, List, Option, Some, IfOk, OnOk, length, slice_get};
 ghost use Rattle.std.specs.List.{AllByRecursion};
+ghost use Rattle.h5_model.specs.Format.Chunks.{IsChunkKey, offsets_in};
 ghost use Rattle.h5_model.specs.Format.Fixed.{IsFixed};
 ghost use Rattle.h5_model.specs.Format.Layout.{InChunks};
 ghost use Rattle.h5_model.specs.Format.Plain.{cells_bytes};
@@ -132,9 +133,7 @@ impl<'a> HeldChunks<'a> {
               offsets = part.0;
             }) }
     {
-        ChunkKey {
-            bytes: self.places[k].key,
-        }
+        written_key(self.places[k].key)
     }
 
     /// Appends the key behind the last chunk, which is of no chunk.
@@ -157,4 +156,15 @@ impl<'a> HeldChunks<'a> {
     {
         Err(AllocError)
     }
+}
+
+/// The key of a whole chunk, as it is written.
+fn written_key(bytes: &[u8]) -> ChunkKey<'_>
+    ensures { (sizes : List ℕ) (size : ℕ) → length bytes.now ≡ 8 + 8 * (length sizes + 1)
+        → IsChunkKey sizes size bytes.now → result.bytes.now ≡ chunk_key (record {
+      bytes = size;
+      offsets = offsets_in (length sizes) bytes.now;
+    }) }
+{
+    ChunkKey { bytes }
 }

@@ -7,6 +7,8 @@
 mod array;
 mod bodies;
 mod cells;
+mod corner;
+mod fill;
 mod grid;
 mod held;
 mod judge;

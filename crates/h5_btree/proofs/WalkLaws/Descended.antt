@@ -1,21 +1,21 @@
--- The way down the rows of a tree that was read before, to its leaves.
+-- The way down the rows of a tree that was read before, to its nodes of level 0.
 use Rattle.std.proofs.Common.{◌≡◌, ℕ, zero, suc, List, [], ◌∷◌, refl, sym, subst}
 use Rattle.std.specs.List.{AllByRecursion}
 use Rattle.h5_bytes.proofs.BlockLaws.{all_left, all_right}
-use Rattle.h5_model.specs.Format.Rows.{IsRow, AreRows, next_row, leaves, nodes}
+use Rattle.h5_model.specs.Format.Rows.{IsRow, AreRows, next_row, nodes, row_below}
 use Rattle.h5_model.specs.Format.Reached.{level_at}
 use Rattle.h5_model.proofs.OneTree.{level_is, owned_is}
 use Rattle.h5_laws.proofs.Trees.{tree_rows}
 use Rattle.h5_btree.specs.Walk.Forms.{TreeForm, kind_of}
 use Rattle.h5_btree.specs.Walk.Below.{reading_in, IsStanding}
-use Rattle.h5_btree.specs.Walk.Stands.{IsNodeAt, IsTreeAt, leaves_at}
+use Rattle.h5_btree.specs.Walk.Stands.{IsNodeAt, IsTreeAt, bottom_at}
 use Rattle.h5_btree.proofs.WalkLaws.StandLaws.{each_node}
 
--- how far the way down has come: this row, of this height, stands there, and below it are the leaves of the tree
+-- how far the way down has come: this row, of this height, stands there, and so far below it are the nodes of level 0
 pub record IsComeTo (image : List ℕ) (form : TreeForm) (root height : ℕ) (row : List ℕ) : Type 0 where
   pub rows : AreRows (reading_in image form) height row
   pub there : AllByRecursion (IsNodeAt image form) (nodes (reading_in image form) height row)
-  pub leads : leaves (reading_in image form) height row ≡ leaves_at image form root
+  pub leads : row_below (reading_in image form) height row ≡ bottom_at image form root
 
 module _ (image : List ℕ) (form : TreeForm) (root : ℕ) where
   row_stands : (level left : ℕ) (row : List ℕ) → IsRow (reading_in image form) level left row → AllByRecursion (IsNodeAt image form) row

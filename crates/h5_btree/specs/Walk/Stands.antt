@@ -1,7 +1,7 @@
 -- Nodes of a tree, and whole trees, where they stand in an image (File Format Specification 3.0, section III.A.1).
 use Rattle.std.specs.Prelude.{ℕ, ◌+◌, ◌≤◌, List, [], ◌∷◌, length}
 use Rattle.h5_bytes.specs.Blocks.{Inside}
-use Rattle.h5_model.specs.Format.Rows.{leaves}
+use Rattle.h5_model.specs.Format.Rows.{leaves, row_below}
 use Rattle.h5_model.specs.Format.Nodes.{IsNode, HasTree, node_at, node_bytes, node_length, tree_blocks}
 use Rattle.h5_model.specs.Format.Reached.{level_at}
 use Rattle.h5_btree.specs.Walk.Forms.{TreeForm, kind_of}
@@ -22,3 +22,7 @@ pub record IsTreeAt (image : List ℕ) (form : TreeForm) (root : ℕ) : Type 0 w
 -- the leaves of the tree at this root, from left to right
 abbrev pub leaves_at : List ℕ → TreeForm → ℕ → List ℕ
 leaves_at image form root = leaves (node_at image (kind_of image form)) (level_at image (kind_of image form) root) (root ∷ [])
+
+-- its nodes of level 0, from left to right
+abbrev pub bottom_at : List ℕ → TreeForm → ℕ → List ℕ
+bottom_at image form root = row_below (node_at image (kind_of image form)) (level_at image (kind_of image form) root) (root ∷ [])

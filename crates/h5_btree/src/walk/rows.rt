@@ -9,7 +9,7 @@ ghost use Rattle.h5_model.specs.Faults.TreeFaults.{SiblingBreach};
 ghost use Rattle.h5_btree.specs.Walk.Forms.{kind_of};
 ghost use Rattle.h5_btree.specs.Walk.Below.{reading_in, IsStanding};
 ghost use Rattle.h5_btree.specs.Walk.Rows.{AreAllRows, IsLevel, IsMisnamed};
-ghost use Rattle.h5_btree.specs.Walk.Stands.{IsTreeAt, leaves_at};
+ghost use Rattle.h5_btree.specs.Walk.Stands.{IsTreeAt, bottom_at, leaves_at};
 
 use crate::node::Node;
 use crate::walk::leaves::Trees;
@@ -98,9 +98,32 @@ fn right_of(row: &[u64], k: usize) -> u64
     UNDEF
 }
 
-/// The leaves of a tree that was read before, from left to right.
+/// The nodes of level 0 of a tree that was read before, from left to right.
 ///
 /// Goes down from its root row by row, and takes memory for a row and the one below it.
+pub fn bottom_nodes<T: Trees>(
+    alloc: Global,
+    image: &Image,
+    over: &T,
+    root: u64,
+) -> Result<Vec<u64>, AllocError>
+    requires long { 20 ≤ length image.now.bytes }
+    requires there { IsTreeAt image.now.bytes (T.form over.now) root }
+    ensures bottom { IfOk result (λ row. row.items ≡ bottom_at image.now.bytes (T.form over.now) root) }
+    ensures stand { IfOk result (λ row.
+        AllByRecursion (IsStanding image.now.bytes (T.form over.now) 0) row.items) }
+{
+    let mut row = Vec::new(alloc);
+    row.push(root)?;
+    let mut height = tree_node(image, over, root).level();
+    while height > 0 {
+        row = children_of(alloc, image, over, &row)?;
+        height -= 1;
+    }
+    Ok(row)
+}
+
+/// The leaves of a tree that was read before, from left to right. Takes memory for a row and the one below it.
 pub fn tree_leaves<T: Trees>(
     alloc: Global,
     image: &Image,
@@ -111,16 +134,8 @@ pub fn tree_leaves<T: Trees>(
     requires there { IsTreeAt image.now.bytes (T.form over.now) root }
     ensures { IfOk result (λ found. found.items ≡ leaves_at image.now.bytes (T.form over.now) root) }
 {
-    let mut row = Vec::new(alloc);
-    row.push(root)?;
-    let mut height = tree_node(image, over, root).level();
-    loop {
-        row = children_of(alloc, image, over, &row)?;
-        if height == 0 {
-            return Ok(row);
-        }
-        height -= 1;
-    }
+    let row = bottom_nodes(alloc, image, over, root)?;
+    children_of(alloc, image, over, &row)
 }
 
 /// The children of a row, in order: the next row.

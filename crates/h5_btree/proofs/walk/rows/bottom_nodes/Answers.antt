@@ -5,13 +5,13 @@ use Rattle.h5_model.specs.Format.Reached.{level_at}
 use Rattle.h5_btree.specs.Walk.Forms.{kind_of}
 use Rattle.h5_btree.specs.Walk.Below.{reading_in, IsStanding}
 use Rattle.h5_btree.proofs.WalkLaws.Descended.{IsComeTo, root_there, root_come, row_there, next_come}
-use Rattle.h5_btree.proofs.walk.rows.tree_leaves.Goals as goal
+use Rattle.h5_btree.proofs.walk.rows.bottom_nodes.Goals as goal
 
 pub tree_node-requires-clause-there : goal.tree_node-requires-clause-there
 tree_node-requires-clause-there g c = root_there c.args.image.now.bytes (g.T.Trees.form c.args.over.now) c.args.root c.requires.there
 
-pub loop-row-init : goal.loop-row-init
-loop-row-init g c =
+pub loop-height-init : goal.loop-height-init
+loop-height-init g c =
     let image = c.args.image.now.bytes in
     let form = g.T.Trees.form c.args.over.now in
     let root = c.args.root in
@@ -23,15 +23,24 @@ pub children_of-requires-clause-stand : goal.children_of-requires-clause-stand
 children_of-requires-clause-stand g c =
     let image = c.args.image.now.bytes in
     let form = g.T.Trees.form c.args.over.now in
-    let height = c.loop-row.height in
-    (height, subst (AllByRecursion (IsStanding image form height)) (sym c.deref.ensures.value) (row_there image form c.args.root height c.loop-row.row.items c.loop-row.invariant))
+    let height = c.loop-height.height in
+    (height, subst (AllByRecursion (IsStanding image form height)) (sym c.deref.ensures.value) (row_there image form c.args.root height c.loop-height.row.items c.loop-height.invariant))
 
-pub loop-row-preserved : goal.loop-row-preserved
-loop-row-preserved g c =
+pub loop-height-preserved : goal.loop-height-preserved
+loop-height-preserved g c =
     let image = c.args.image.now.bytes in
     let form = g.T.Trees.form c.args.over.now in
-    let row = c.loop-row.row.items in
-    let m = c.loop-row.height - 1 in
-    let e : c.loop-row.height ≡ suc m = omega (arith, c.if-height-eq0.false) in
+    let row = c.loop-height.row.items in
+    let m = c.loop-height.height - 1 in
+    let e : c.loop-height.height ≡ suc m = omega (arith, c.loop-height-test.true) in
     let next : c.in_ok-row.row.items ≡ next_row (reading_in image form) row = c.in_ok-row.ensures ∙ ap (next_row (reading_in image form)) c.deref.ensures.value in
-    rw next (next_come image form c.args.root m row (subst (λ (h : ℕ). IsComeTo image form c.args.root h row) e c.loop-row.invariant))
+    rw next (next_come image form c.args.root m row (subst (λ (h : ℕ). IsComeTo image form c.args.root h row) e c.loop-height.invariant))
+
+pub returns : goal.returns
+returns g c =
+    let image = c.args.image.now.bytes in
+    let form = g.T.Trees.form c.args.over.now in
+    let row = c.loop-height.row.items in
+    let done : c.loop-height.height ≡ 0 = omega (arith, c.loop-height-test.false) in
+    let come : IsComeTo image form c.args.root 0 row = subst (λ (h : ℕ). IsComeTo image form c.args.root h row) done c.loop-height.invariant in
+    record { bottom = come.leads; stand = row_there image form c.args.root 0 row come }
