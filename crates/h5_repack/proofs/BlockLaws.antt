@@ -5,3 +5,4 @@ pub mod Messages
 pub mod Rooms
 pub mod ArrayParts
 pub mod HeaderLaws
+pub mod StoredChunks

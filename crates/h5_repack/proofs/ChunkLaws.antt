@@ -9,3 +9,4 @@ pub mod ChunksRead
 pub mod ChunkedArray
 pub mod HeldChunks
 pub mod StoredFor
+pub mod HeldCells

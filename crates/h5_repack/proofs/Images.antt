@@ -21,7 +21,8 @@ use Rattle.h5_group.specs.Writing.Places.{ArePlaces}
 use Rattle.h5_group.specs.Writing.Written.{links_bytes}
 use Rattle.h5_group.specs.declared.write.places.GroupPlaces.{GroupPlaces}
 use Rattle.h5_repack.specs.Image.Plain.{AreLow, IsLow}
-use Rattle.h5_repack.specs.Image.Written.{content_place, data_address, header_in, group_heap_place, image_end, leads_to_object, object_bytes, plain_image, root_heap, superblock_of, table_of, written_link, written_links}
+use Rattle.h5_repack.specs.Image.Written.{StoredIn, content_place, counts_of, data_address, header_in, group_heap_place, image_end, leads_to_object, object_bytes, plain_image, root_heap, superblock_of, table_of, written_link, written_links}
+use Rattle.h5_repack.specs.Objects.Objects.{stored_in}
 use Rattle.h5_repack.specs.Objects.Order.{AreMet}
 use Rattle.h5_repack.specs.declared.objects.object.NewObject.{NewObject}
 use Rattle.h5_laws.proofs.Lists.{In}
@@ -30,10 +31,10 @@ use Rattle.h5_repack.specs.declared.size.Extent.TheVariants as extent
 use Rattle.h5_repack.specs.declared.size.Size.{Size}
 use Rattle.h5_repack.specs.declared.place.Placed.{Placed}
 use Rattle.h5_repack.specs.declared.group.Layout.{Layout}
-use Rattle.h5_repack.specs.Layout.{AreHeaders, IsExtent, IsSize, IsSlotSize, content_at, front_at, header_by, heap_behind, leads_at, leads_behind, leads_by, no_size, numbered_at, laid_object, written_at}
+use Rattle.h5_repack.specs.Layout.{AreHeaders, IsExtent, IsSize, IsSlotSize, StoredObject, content_at, front_at, header_by, heap_behind, leads_at, leads_behind, leads_by, no_size, numbered_at, laid_object, written_at}
 use Rattle.h5_repack.specs.Written.{IsTreeToWrite}
 use Rattle.h5_repack.proofs.Leads.{all_written}
-use Rattle.h5_repack.proofs.Orders.{below, empty_size, end_is, headers_are, listed, met_or_none, no_header, numbered, numbers, object, pairs, root_in, size_of, there, there_is}
+use Rattle.h5_repack.proofs.Orders.{below, empty_size, end_is, headers_are, met_or_none, no_header, numbered, numbers, object, pairs, root_in, size_of, stored_listed, stored_object, stored_there, there, there_is}
 use Rattle.h5_repack.proofs.Pushed.{number_at}
 
 -- ---- lists
@@ -49,7 +50,7 @@ flat_same f bytes g (n ∷ ns) same = (λ i. same n (inl refl) i ++ flat_same f 
 
 -- ---- a group's places, from its size
 
-module _ (leaf internal : ℕ) (g : Links) (p : GroupPlaces) (is : IsExtent leaf internal (Group g) (extent.Links p)) (l : Layout) where
+module _ (leaf internal : ℕ) (g : Links) (p : GroupPlaces) (is : IsExtent leaf internal 0 (Group g) (extent.Links p)) (l : Layout) where
   count_is : length (map (written_at l) (entries g)) ≡ len g
   count_is = length-map (entries g) (written_at l) ∙ sym (len-entries g)
 
@@ -62,45 +63,45 @@ module _ (leaf internal : ℕ) (g : Links) (p : GroupPlaces) (is : IsExtent leaf
   pub own_low : IsLow leaf internal g
   own_low = subst (λ n. root_level internal (rows_of (2 * leaf) n) ≤ 15) count_is (own_places).low
 
-module _ (leaf internal : ℕ) (l : Layout) (o : Object) (s : Size) (size : IsSize leaf internal o s) where
+module _ (leaf internal : ℕ) (l : Layout) (o : StoredObject) (s : Size) (size : IsSize leaf internal o s) where
   -- behind the superblock, as its entry for the root says
-  heap_is : (c : Content) (x : Extent) → o.content ≡ c → s.extent ≡ x → IsExtent leaf internal c x → heap_behind (96 + s.header) s.extent ≡ root_heap leaf internal o
+  heap_is : (c : Content) (x : Extent) → (o.object).content ≡ c → s.extent ≡ x → IsExtent leaf internal (length o.chunks) c x → heap_behind (96 + s.header) s.extent ≡ root_heap leaf internal o.object
   heap_is (Group g) (extent.Links p) e f is =
-      let place : 96 + s.header ≡ content_place o 96 = ap (λ k. 96 + k) size.header in
-      let there : root_heap leaf internal o ≡ group_heap_place leaf internal o g 96 = rw e refl in
+      let place : 96 + s.header ≡ content_place o.object 96 = ap (λ k. 96 + k) size.header in
+      let there : root_heap leaf internal o.object ≡ group_heap_place leaf internal o.object g 96 = rw e refl in
       ap (heap_behind (96 + s.header)) f ∙ (λ i. place i + own_tree leaf internal g p is l i) ∙ sym there
   heap_is (Group g) (extent.Data n) e f is = absurd is
   heap_is (Array d) (extent.Links p) e f is = absurd is
   heap_is (Array d) (extent.Data n) e f is =
-      let none : root_heap leaf internal o ≡ 0 = rw e refl in
+      let none : root_heap leaf internal o.object ≡ 0 = rw e refl in
       ap (heap_behind (96 + s.header)) f ∙ sym none
 
-  leads_same_by : (h : ℕ) (c : Content) (x : Extent) → o.content ≡ c → s.extent ≡ x → IsExtent leaf internal c x → leads_at h s ≡ leads_to_object leaf internal o h
+  leads_same_by : (h : ℕ) (c : Content) (x : Extent) → (o.object).content ≡ c → s.extent ≡ x → IsExtent leaf internal (length o.chunks) c x → leads_at h s ≡ leads_to_object leaf internal o.object h
   leads_same_by h (Group g) (extent.Links p) e f is =
-      let place : h + s.header ≡ content_place o h = ap (λ k. h + k) size.header in
-      let there : leads_to_object leaf internal o h ≡ ToGroup h (content_place o h) (group_heap_place leaf internal o g h) = rw e refl in
+      let place : h + s.header ≡ content_place o.object h = ap (λ k. h + k) size.header in
+      let there : leads_to_object leaf internal o.object h ≡ ToGroup h (content_place o.object h) (group_heap_place leaf internal o.object g h) = rw e refl in
       ap (leads_behind h (h + s.header)) f ∙ (λ i. ToGroup h (place i) (place i + own_tree leaf internal g p is l i)) ∙ sym there
   leads_same_by h (Group g) (extent.Data n) e f is = absurd is
   leads_same_by h (Array d) (extent.Links p) e f is = absurd is
   leads_same_by h (Array d) (extent.Data n) e f is =
-      let there : leads_to_object leaf internal o h ≡ ToArray h = rw e refl in
+      let there : leads_to_object leaf internal o.object h ≡ ToArray h = rw e refl in
       ap (leads_behind h (h + s.header)) f ∙ sym there
 
-  pub leads_same : (h : ℕ) → leads_at h s ≡ leads_to_object leaf internal o h
-  leads_same h = leads_same_by h o.content s.extent refl refl size.extent_is
+  pub leads_same : (h : ℕ) → leads_at h s ≡ leads_to_object leaf internal o.object h
+  leads_same h = leads_same_by h (o.object).content s.extent refl refl size.extent_is
 
-  pub root_same : heap_behind (96 + s.header) s.extent ≡ root_heap leaf internal o
-  root_same = heap_is o.content s.extent refl refl size.extent_is
+  pub root_same : heap_behind (96 + s.header) s.extent ≡ root_heap leaf internal o.object
+  root_same = heap_is (o.object).content s.extent refl refl size.extent_is
 
-low_by : (leaf internal : ℕ) (l : Layout) (links : Links) (c : Content) (x : Extent) → links_in c ≡ Some links → IsExtent leaf internal c x → IsLow leaf internal links
-low_by leaf internal l links (Group g) (extent.Links p) e is = subst (IsLow leaf internal) (same_Some g links e) (own_low leaf internal g p is l)
-low_by leaf internal l links (Group g) (extent.Data n) e is = absurd is
-low_by leaf internal l links (Array d) x e is = absurd (cc)
+low_by : (leaf internal count : ℕ) (l : Layout) (links : Links) (c : Content) (x : Extent) → links_in c ≡ Some links → IsExtent leaf internal count c x → IsLow leaf internal links
+low_by leaf internal count l links (Group g) (extent.Links p) e is = subst (IsLow leaf internal) (same_Some g links e) (own_low leaf internal g p is l)
+low_by leaf internal count l links (Group g) (extent.Data n) e is = absurd is
+low_by leaf internal count l links (Array d) x e is = absurd (cc)
 
 -- ---- the image
 
 module _ (leaf internal : ℕ) (objects : List (Option NewObject)) (tree : Tree) (held : IsTreeToWrite objects tree) (order : List ℕ) (met : AreMet tree order)
-    (sizes : List Size) (sized : AllZip (IsSlotSize leaf internal) (listed objects tree held) sizes) (p : Placed) (are : AreHeaders sizes order p)
+    (sizes : List Size) (sized : AllZip (IsSlotSize leaf internal) (stored_listed objects tree held) sizes) (p : Placed) (are : AreHeaders sizes order p)
     (headers_now : Bor (List (Option ℕ))) (sizes_now : Bor (List Size)) (headers_here : headers_now.now ≡ p.headers.items) (sizes_here : sizes_now.now ≡ sizes) where
   abbrev layout : Layout
   layout = record { leaf = leaf; internal = internal; headers = headers_now; sizes = sizes_now }
@@ -108,8 +109,11 @@ module _ (leaf internal : ℕ) (objects : List (Option NewObject)) (tree : Tree)
   abbrev order_of : List (ℕ × Object)
   order_of = pairs objects tree held order met
 
+  abbrev stored : StoredIn
+  stored = stored_in objects
+
   abbrev table : FinMap nat_cmp ℕ
-  table = table_of leaf internal order_of
+  table = table_of leaf internal (counts_of stored) order_of
 
   read_or : (r : Option ℕ) → unwrap_or r 0 ≡ option_map_or (λ (h : ℕ). h) r 0
   read_or None = refl
@@ -138,7 +142,7 @@ module _ (leaf internal : ℕ) (objects : List (Option NewObject)) (tree : Tree)
   lead_here n = elim (met_or_none objects tree held order met n) [
     | inl inside ↦
         let some = there objects tree held order met n inside in
-        let o : Object = object objects tree held n in
+        let o : StoredObject = stored_object objects tree held n in
         let s = size_of objects tree held order met leaf internal sizes sized n some in
         let found : slice_get sizes_now.now n ≡ Some s.0 = ap (λ (ss : List Size). slice_get ss n) sizes_here ∙ s.1 in
         ap (λ (r : Option Size). option_map_or (leads_at (header_by layout n)) r (ToArray 0)) found
@@ -152,50 +156,52 @@ module _ (leaf internal : ℕ) (objects : List (Option NewObject)) (tree : Tree)
   link_here (name, Soft text) = refl
 
   object_here : (n : ℕ) (o : Object) (h count : ℕ) → h ≡ header_in table n → count ≡ hard_links tree n → (c : Content) → o.content ≡ c
-      → laid_object layout h count o ≡ object_bytes leaf internal tree table (n, o)
+      → laid_object layout h count (record { object = o; chunks = stored n }) ≡ object_bytes leaf internal stored tree table (n, o)
   object_here n o h count place links (Group g) e =
-      let laid : object_bytes leaf internal tree table (n, o)
+      let laid : object_bytes leaf internal stored tree table (n, o)
       ≡ header_bytes 1 ((17, pair_bytes (content_place o (header_in table n)) (group_heap_place leaf internal o g (header_in table n))) ∷ others_of o)
       ++ links_bytes leaf internal (content_place o (header_in table n)) (written_links leaf internal tree table g) = rw e refl in
       let written : map (written_at layout) (entries g) ≡ written_links leaf internal tree table g
       = map_same (written_at layout) (written_link leaf internal tree table) (entries g) link_here in
-      ap (content_at layout h count o) e
+      ap (content_at layout h count (record { object = o; chunks = stored n })) e
       ∙ (λ i. header_bytes 1 ((17, pair_bytes (content_place o (place i)) (group_heap_place leaf internal o g (place i))) ∷ others_of o)
       ++ links_bytes leaf internal (content_place o (place i)) (written i)) ∙ sym laid
   object_here n o h count place links (Array d) e =
-      let laid : object_bytes leaf internal tree table (n, o)
-      ≡ header_bytes (hard_links tree n) (array_messages d (data_address d (content_place o (header_in table n))) (length (others_of o)) ++ others_of o) ++ data_of d
-      = rw e refl in
-      ap (content_at layout h count o) e
-      ∙ (λ i. header_bytes (links i) (array_messages d (data_address d (content_place o (place i))) (length (others_of o)) ++ others_of o) ++ data_of d) ∙ sym laid
+      let laid : object_bytes leaf internal stored tree table (n, o)
+      ≡ header_bytes (hard_links tree n)
+      (array_messages d (data_address (stored n) d (content_place o (header_in table n))) (length (others_of o)) ++ others_of o)
+      ++ data_of (stored n) d (content_place o (header_in table n)) = rw e refl in
+      ap (content_at layout h count (record { object = o; chunks = stored n })) e
+      ∙ (λ i. header_bytes (links i) (array_messages d (data_address (stored n) d (content_place o (place i))) (length (others_of o)) ++ others_of o)
+      ++ data_of (stored n) d (content_place o (place i))) ∙ sym laid
 
   module _ (counts : List ℕ) (counted : (n : ℕ) → n < length objects → slice_get counts n ≡ Some (hard_links tree n)) where
-    each_here : (n : ℕ) → In n order → numbered_at layout counts (listed objects tree held) n ≡ object_bytes leaf internal tree table (n, object objects tree held n)
+    each_here : (n : ℕ) → In n order → numbered_at layout counts (stored_listed objects tree held) n ≡ object_bytes leaf internal stored tree table (n, object objects tree held n)
     each_here n inside =
         let low = below objects tree held order met n inside in
         let o : Object = object objects tree held n in
         let count : slice_index counts n ≡ hard_links tree n = get_or_from_slice_get counts n (hard_links tree n) 0 (counted n low) in
-        sym (number_at layout counts (listed objects tree held) n o (there_is objects tree held n (there objects tree held order met n inside)))
+        sym (number_at layout counts (stored_listed objects tree held) n (stored_object objects tree held n) (stored_there objects tree held n (there objects tree held order met n inside)))
         ∙ object_here n o (header_by layout n) (slice_index counts n) (header_here n) count o.content refl
 
     -- the superblock and all objects
     pub image_here : (image : List ℕ) (end : ℕ) → end ≡ p.end
-        → ((root : Size) → slice_get sizes_now.now 0 ≡ Some root → image ≡ front_at layout root end ++ flat_map (numbered_at layout counts (listed objects tree held)) order)
-        → image ≡ plain_image leaf internal tree order_of
+        → ((root : Size) → slice_get sizes_now.now 0 ≡ Some root → image ≡ front_at layout root end ++ flat_map (numbered_at layout counts (stored_listed objects tree held)) order)
+        → image ≡ plain_image leaf internal stored tree order_of
     unfolding plain_image
     image_here image end end_here pushed =
         let root = size_of objects tree held order met leaf internal sizes sized 0 (there objects tree held order met 0 (root_in objects tree held order met)) in
         let first : order_of ≡ (0, object objects tree held 0) ∷ map (numbered (object objects tree held)) met.others = ap (map (numbered (object objects tree held))) met.first in
         let o : Object = object objects tree held 0 in
         let place : 96 + (root.0).header ≡ content_place o 96 = ap (λ k. 96 + k) (root.2).header in
-        let heap = root_same leaf internal layout o root.0 root.2 in
-        let ends : end ≡ image_end leaf internal order_of = end_here ∙ are.end_is ∙ sym (end_is objects tree held order met leaf internal sizes sized) in
-        let front : front_at layout root.0 end ≡ superblock_of leaf internal order_of
+        let heap = root_same leaf internal layout (stored_object objects tree held 0) root.0 root.2 in
+        let ends : end ≡ image_end leaf internal (counts_of stored) order_of = end_here ∙ are.end_is ∙ sym (end_is objects tree held order met leaf internal sizes sized) in
+        let front : front_at layout root.0 end ≡ superblock_of leaf internal (counts_of stored) order_of
         = (λ i. superblock_bytes leaf internal (ends i) 96 (place i) (heap i))
-        ∙ ap (λ (es : List (ℕ × Object)). superblock_bytes leaf internal (image_end leaf internal es) 96 (content_place o 96) (root_heap leaf internal o)) first
-        ∙ sym (ap (superblock_of leaf internal) first) in
+        ∙ ap (λ (es : List (ℕ × Object)). superblock_bytes leaf internal (image_end leaf internal (counts_of stored) es) 96 (content_place o 96) (root_heap leaf internal o)) first
+        ∙ sym (ap (superblock_of leaf internal (counts_of stored)) first) in
         pushed root.0 (ap (λ (ss : List Size). slice_get ss 0) sizes_here ∙ root.1)
-        ∙ (λ i. front i ++ flat_same (numbered_at layout counts (listed objects tree held)) (object_bytes leaf internal tree table) (object objects tree held) order each_here i)
+        ∙ (λ i. front i ++ flat_same (numbered_at layout counts (stored_listed objects tree held)) (object_bytes leaf internal stored tree table) (object objects tree held) order each_here i)
 
   pub are_low : AreLow leaf internal tree
   are_low n links is = elim (met_or_none objects tree held order met n) [
@@ -205,7 +211,7 @@ module _ (leaf internal : ℕ) (objects : List (Option NewObject)) (tree : Tree)
         let o : Object = object objects tree held n in
         let found : get tree n ≡ Some o = numbers objects tree held n ∙ ap option_flatten (there_is objects tree held n some) in
         let own : links_in o.content ≡ Some links = sym (ap (λ (r : Option Object). option_and_then (λ (x : Object). links_in x.content) r) found) ∙ is in
-        low_by leaf internal layout links o.content (s.0).extent own (s.2).extent_is
+        low_by leaf internal (length (stored_in objects n)) layout links o.content (s.0).extent own (s.2).extent_is
     | inr none ↦
         let never : None ≡ Some links = sym (ap (λ (r : Option Object). option_and_then (λ (x : Object). links_in x.content) r) none.0) ∙ is in absurd (cc)
   ]

@@ -8,12 +8,15 @@ use Rattle.std.specs.Ordering.{nat_cmp, eq_by_cmp}
 use Rattle.std.specs.FinMap.{get, empty}
 use Rattle.std.specs.List.{AllByRecursion, AllZip, Contains, IsDistinct}
 use Rattle.std.specs.Option.{option_flatten, option_map_or}
-use Rattle.h5_model.specs.Tree.Objects.{Tree, Object, Group}
-use Rattle.h5_repack.specs.Image.Plain.{IsPlain}
-use Rattle.h5_repack.specs.Image.Written.{IsOrder, image_end, object_length, table_of}
+use Rattle.h5_model.specs.Tree.Objects.{Tree, Object, Content, Group, Array, Dataset}
+use Rattle.h5_repack.specs.Bodies.Headers.{AreStoredFor}
+use Rattle.h5_repack.specs.Image.Plain.{AreStoredIn, IsPlain}
+use Rattle.h5_repack.specs.Image.Written.{IsOrder, StoredIn, counts_of, image_end, object_length, table_of}
 use Rattle.h5_repack.proofs.ImageLaws.Places.{table_find}
-use Rattle.h5_repack.specs.Objects.Objects.{IsFilled, IsNewObject, SlotsHold}
+use Rattle.h5_repack.specs.Objects.Objects.{IsFilled, IsNewContent, IsNewObject, SlotsHold, content_chunks, slot_chunks, stored_in}
 use Rattle.h5_repack.specs.Objects.Order.{AreMet}
+use Rattle.h5_repack.specs.declared.objects.object.NewContent.{NewContent}
+use Rattle.h5_repack.specs.declared.objects.object.NewContent.TheVariants as content
 use Rattle.h5_repack.specs.declared.objects.object.NewObject.{NewObject}
 use Rattle.h5_laws.proofs.Lists.{In, all_in, in_all, in_map, from_map, in_contains, contains_in}
 use Rattle.h5_laws.proofs.Pigeonhole.{Apart, apart_of_distinct}
@@ -22,10 +25,10 @@ use Rattle.h5_repack.proofs.ObjectLaws.Trees.{filled_of}
 use Rattle.h5_repack.specs.declared.size.Size.{Size}
 use Rattle.h5_repack.specs.declared.place.Placed.{Placed}
 use Rattle.h5_repack.specs.declared.group.Layout.{Layout}
-use Rattle.h5_repack.specs.Layout.{AreHeaders, IsHeldObject, IsLowLayout, IsLowSize, IsSize, IsSlotSize, end_of, header_by, length_by_number, no_size, size_length}
+use Rattle.h5_repack.specs.Layout.{AreHeaders, IsHeldObject, IsLowLayout, IsLowSize, IsSize, IsSlotSize, StoredObject, end_of, header_by, length_by_number, no_size, size_length}
 use Rattle.h5_repack.specs.Written.{IsTreeToWrite}
 use Rattle.h5_repack.proofs.Headers.{end_same, find_none, headers_found, headers_kept, length-headers, placed_within}
-use Rattle.h5_repack.proofs.ObjectLaws.Zips.{filled_below, zip_left, zip_right}
+use Rattle.h5_repack.proofs.ObjectLaws.Zips.{filled_below, flat_some, slots_left, zip_left, zip_right}
 
 -- ---- members
 
@@ -46,19 +49,71 @@ module _ (object : ℕ → Object) where
   numbers_of [] = refl
   numbers_of (n ∷ ns) = ap (λ ms. n ∷ ms) (numbers_of ns)
 
-slot_held : (slot : Option NewObject) (place : Option Object) → SlotsHold IsNewObject slot place → ((o : Object) → place ≡ Some o → IsPlain o) → SlotsHold IsHeldObject slot place
+-- what is in a slot, with its stored chunks
+abbrev pub slot_stored : Option NewObject → Option Object → Option StoredObject
+slot_stored slot None = None
+slot_stored slot (Some o) = Some (record { object = o; chunks = slot_chunks slot })
+
+abbrev pub slots_stored : List (Option NewObject) → List (Option Object) → List (Option StoredObject)
+slots_stored [] listed = []
+slots_stored (slot ∷ objects) [] = []
+slots_stored (slot ∷ objects) (place ∷ listed) = slot_stored slot place ∷ slots_stored objects listed
+
+slot_held : (slot : Option NewObject) (place : Option Object) → SlotsHold IsNewObject slot place → ((o : Object) → place ≡ Some o → IsPlain o)
+    → SlotsHold IsHeldObject slot (slot_stored slot place)
 slot_held None None is plain = tt
 slot_held None (Some o) is plain = absurd is
 slot_held (Some x) None is plain = absurd is
-slot_held (Some x) (Some o) is plain = record { new = is; plain = plain o refl }
+slot_held (Some x) (Some o) is plain = record { new = is; chunks_are = refl; plain = plain o refl }
 
 zip_held : (objects : List (Option NewObject)) (listed : List (Option Object)) → AllZip (SlotsHold IsNewObject) objects listed
-    → ((n : ℕ) (o : Object) → slice_get listed n ≡ Some (Some o) → IsPlain o) → AllZip (SlotsHold IsHeldObject) objects listed
+    → ((n : ℕ) (o : Object) → slice_get listed n ≡ Some (Some o) → IsPlain o) → AllZip (SlotsHold IsHeldObject) objects (slots_stored objects listed)
 zip_held [] [] all plain = tt
 zip_held [] (o ∷ listed) all plain = absurd all
 zip_held (x ∷ objects) [] all plain = absurd all
 zip_held (x ∷ objects) (place ∷ listed) all plain =
     (slot_held x place all.0 (λ o is. plain 0 o (ap (λ (slot : Option Object). Some slot) is)), zip_held objects listed all.1 (λ n p is. plain (suc n) p is))
+
+-- the slot of an object
+stored_at : (objects : List (Option NewObject)) (listed : List (Option Object)) → AllZip (SlotsHold IsNewObject) objects listed → (n : ℕ) (o : Object)
+    → slice_get listed n ≡ Some (Some o) → slice_get (slots_stored objects listed) n ≡ Some (Some (record { object = o; chunks = stored_in objects n }))
+stored_at [] [] all n o is = absurd (cc)
+stored_at [] (place ∷ listed) all n o is = absurd all
+stored_at (x ∷ objects) [] all n o is = absurd all
+stored_at (x ∷ objects) (place ∷ listed) all zero o is =
+    ap (λ (r : Option Object). Some (slot_stored x r)) (same_Some place (Some o) is)
+stored_at (x ∷ objects) (place ∷ listed) all (suc n) o is = stored_at objects listed all.1 n o is
+
+-- and back
+slot_back : (slot : Option NewObject) (place : Option Object) (w : StoredObject) → slot_stored slot place ≡ Some w → (place ≡ Some w.object) × (slot_chunks slot ≡ w.chunks)
+slot_back slot None w is = absurd (cc)
+slot_back slot (Some o) w is =
+    let same : record { object = o; chunks = slot_chunks slot } ≡ w = same_Some (record { object = o; chunks = slot_chunks slot }) w is in
+    (ap (λ (v : StoredObject). Some v.object) same, ap (λ (v : StoredObject). v.chunks) same)
+
+stored_back : (objects : List (Option NewObject)) (listed : List (Option Object)) → AllZip (SlotsHold IsNewObject) objects listed → (n : ℕ) (w : StoredObject)
+    → slice_get (slots_stored objects listed) n ≡ Some (Some w) → (slice_get listed n ≡ Some (Some w.object)) × (stored_in objects n ≡ w.chunks)
+stored_back [] [] all n w is = absurd (cc)
+stored_back [] (place ∷ listed) all n w is = absurd all
+stored_back (x ∷ objects) [] all n w is = absurd all
+stored_back (x ∷ objects) (place ∷ listed) all zero w is =
+    let back = slot_back x place w (same_Some (slot_stored x place) (Some w) is) in
+    (ap (λ (r : Option Object). Some r) back.0, back.1)
+stored_back (x ∷ objects) (place ∷ listed) all (suc n) w is = stored_back objects listed all.1 n w is
+
+-- an empty slot
+stored_none : (objects : List (Option NewObject)) (listed : List (Option Object)) → AllZip (SlotsHold IsNewObject) objects listed → (n : ℕ) (slot : Option StoredObject)
+    → slice_get (slots_stored objects listed) n ≡ Some slot → option_flatten (slice_get listed n) ≡ None → slot ≡ None
+stored_none [] [] all n slot is none = absurd (cc)
+stored_none [] (place ∷ listed) all n slot is none = absurd all
+stored_none (x ∷ objects) [] all n slot is none = absurd all
+stored_none (x ∷ objects) (place ∷ listed) all zero slot is none =
+    sym (same_Some (slot_stored x place) slot is) ∙ ap (λ (r : Option Object). slot_stored x r) none
+stored_none (x ∷ objects) (place ∷ listed) all (suc n) slot is none = stored_none objects listed all.1 n slot is none
+
+new_stored : (k : NewContent) (d : Dataset) → IsNewContent k (Array d) → AreStoredFor (content_chunks k) d
+new_stored (content.Group links) d new = absurd new
+new_stored (content.Array a c) d new = new.stored_are
 
 abbrev pub no_object : Object
 no_object = record { content = Group empty; attributes = empty; kept = [] }
@@ -70,11 +125,18 @@ module _ (objects : List (Option NewObject)) (tree : Tree) (held : IsTreeToWrite
   pub numbers : (n : ℕ) → get tree n ≡ option_flatten (slice_get listed n)
   numbers n = (held.objects_are).numbered n
 
-  pub all_held : AllZip (SlotsHold IsHeldObject) objects listed
+  abbrev pub stored : StoredIn
+  stored = stored_in objects
+
+  -- the objects with their stored chunks
+  abbrev pub stored_listed : List (Option StoredObject)
+  stored_listed = slots_stored objects listed
+
+  pub all_held : AllZip (SlotsHold IsHeldObject) objects stored_listed
   all_held = zip_held objects listed (held.objects_are).each (λ n o is. held.plain n o (numbers n ∙ ap option_flatten is))
 
-  pub as_many : length objects ≡ length listed
-  as_many = sym (AllZip-long (SlotsHold IsHeldObject) objects listed all_held)
+  pub as_many : length objects ≡ length stored_listed
+  as_many = sym (AllZip-long (SlotsHold IsHeldObject) objects stored_listed all_held)
 
   abbrev pub object : ℕ → Object
   object n = unwrap_or (option_flatten (slice_get listed n)) no_object
@@ -85,6 +147,22 @@ module _ (objects : List (Option NewObject)) (tree : Tree) (held : IsTreeToWrite
     go None none = absurd (let never : false ≡ true = none in cc)
     go (Some None) none = absurd (let never : false ≡ true = none in cc)
     go (Some (Some o)) is = refl
+
+  abbrev pub stored_object : ℕ → StoredObject
+  stored_object n = record { object = object n; chunks = stored n }
+
+  pub stored_there : (n : ℕ) → IsSome (get tree n) → slice_get stored_listed n ≡ Some (Some (stored_object n))
+  stored_there n some = stored_at objects listed (held.objects_are).each n (object n) (there_is n some)
+
+  pub found_back : (n : ℕ) (w : StoredObject) → slice_get stored_listed n ≡ Some (Some w) → (slice_get listed n ≡ Some (Some w.object)) × (stored n ≡ w.chunks)
+  found_back n w is = stored_back objects listed (held.objects_are).each n w is
+
+  -- the stored chunks that are handed over are those of the tree's arrays
+  pub are_stored : AreStoredIn stored tree
+  are_stored n o d is e =
+      let x = slots_left IsNewObject objects listed n o (held.objects_are).each (flat_some (slice_get listed n) o (sym (numbers n) ∙ is)) in
+      let own : AreStoredFor (content_chunks (x.0).content) d = new_stored (x.0).content d (subst (λ (c : Content). IsNewContent (x.0).content c) e (x.2).content) in
+      subst (λ (chunks : List (List ℕ)). AreStoredFor chunks d) (sym (ap (λ (slot : Option (Option NewObject)). slot_chunks (option_flatten slot)) x.1)) own
 
   module _ (order : List ℕ) (met : AreMet tree order) where
     abbrev pub pairs : List (ℕ × Object)
@@ -137,37 +215,37 @@ module _ (objects : List (Option NewObject)) (tree : Tree) (held : IsTreeToWrite
       distinct = subst (λ (ns : List ℕ). IsDistinct (eq_by_cmp nat_cmp) ns) (sym (numbers_of object order)) met.distinct;
     }
 
-    module _ (leaf internal : ℕ) (sizes : List Size) (sized : AllZip (IsSlotSize leaf internal) listed sizes) where
+    module _ (leaf internal : ℕ) (sizes : List Size) (sized : AllZip (IsSlotSize leaf internal) stored_listed sizes) where
       pub as_many_sizes : length objects ≡ length sizes
-      as_many_sizes = as_many ∙ sym (AllZip-long (IsSlotSize leaf internal) listed sizes sized)
+      as_many_sizes = as_many ∙ sym (AllZip-long (IsSlotSize leaf internal) stored_listed sizes sized)
 
-      pub size_of : (n : ℕ) → IsSome (get tree n) → (s : Size) × (slice_get sizes n ≡ Some s) × IsSize leaf internal (object n) s
-      size_of n some = zip_right (IsSlotSize leaf internal) listed sizes n (Some (object n)) sized (there_is n some)
+      pub size_of : (n : ℕ) → IsSome (get tree n) → (s : Size) × (slice_get sizes n ≡ Some s) × IsSize leaf internal (stored_object n) s
+      size_of n some = zip_right (IsSlotSize leaf internal) stored_listed sizes n (Some (stored_object n)) sized (stored_there n some)
 
-      low_slot : (place : Option Object) (s : Size) → IsSlotSize leaf internal place s → IsLowSize s
+      low_slot : (place : Option StoredObject) (s : Size) → IsSlotSize leaf internal place s → IsLowSize s
       low_slot (Some o) s is = is.low
       low_slot None s is = subst IsLowSize (sym is) (record { header = omega arith; extent_low = omega arith })
 
       pub low_size : (n : ℕ) (s : Size) → slice_get sizes n ≡ Some s → IsLowSize s
-      low_size n s found = let place = zip_left (IsSlotSize leaf internal) listed sizes n s sized found in low_slot place.0 s place.2
+      low_size n s found = let place = zip_left (IsSlotSize leaf internal) stored_listed sizes n s sized found in low_slot place.0 s place.2
 
       -- a number without an object has no bytes
       pub empty_size : (n : ℕ) (s : Size) → get tree n ≡ None → slice_get sizes n ≡ Some s → s ≡ no_size
       empty_size n s none found =
-          let place = zip_left (IsSlotSize leaf internal) listed sizes n s sized found in
-          go place.0 (sym (ap option_flatten place.1) ∙ sym (numbers n) ∙ none) place.2 where
-            go : (place : Option Object) → place ≡ None → IsSlotSize leaf internal place s → s ≡ no_size
+          let place = zip_left (IsSlotSize leaf internal) stored_listed sizes n s sized found in
+          go place.0 (stored_none objects listed (held.objects_are).each n place.0 place.1 (sym (numbers n) ∙ none)) place.2 where
+            go : (place : Option StoredObject) → place ≡ None → IsSlotSize leaf internal place s → s ≡ no_size
             go None is size = size
             go (Some o) is size = absurd (cc)
 
       pub length_is : (n : ℕ) (s : Size) → slice_get sizes n ≡ Some s → length_by_number sizes n ≡ size_length s
       length_is n s found = ap (λ (r : Option Size). option_map_or size_length r 0) found
 
-      pub lengths_are : (n : ℕ) → In n order → object_length leaf internal (object n) ≡ length_by_number sizes n
+      pub lengths_are : (n : ℕ) → In n order → object_length leaf internal (counts_of stored n) (object n) ≡ length_by_number sizes n
       lengths_are n at = let s = size_of n (there n at) in sym (length_is n s.0 s.1 ∙ (s.2).whole)
 
-      pub end_is : image_end leaf internal pairs ≡ end_of (length_by_number sizes) 96 order
-      end_is = end_same (length_by_number sizes) leaf internal object 96 order lengths_are
+      pub end_is : image_end leaf internal (counts_of stored) pairs ≡ end_of (length_by_number sizes) 96 order
+      end_is = end_same (length_by_number sizes) leaf internal (counts_of stored) object 96 order lengths_are
 
       abbrev nowhere : List (Option ℕ)
       nowhere = replicate (length sizes) None
@@ -189,13 +267,13 @@ module _ (objects : List (Option NewObject)) (tree : Tree) (held : IsTreeToWrite
               none_at (suc k) zero = refl
               none_at (suc k) (suc m) = none_at k m
 
-        pub headers_are : (n : ℕ) → option_flatten (slice_get p.headers.items n) ≡ get (table_of leaf internal pairs) n
+        pub headers_are : (n : ℕ) → option_flatten (slice_get p.headers.items n) ≡ get (table_of leaf internal (counts_of stored) pairs) n
         headers_are n = elim (met_or_none n) [
           | inl inside ↦
               ap (λ (hs : List (Option ℕ)). option_flatten (slice_get hs n)) are.headers_are
-              ∙ headers_found (length_by_number sizes) leaf internal object 96 order nowhere lengths_are apart below_nowhere n inside ∙ sym (table_find leaf internal pairs n)
+              ∙ headers_found (length_by_number sizes) leaf internal (counts_of stored) object 96 order nowhere lengths_are apart below_nowhere n inside ∙ sym (table_find leaf internal (counts_of stored) pairs n)
           | inr none ↦
-              no_header n none.1 ∙ sym (table_find leaf internal pairs n ∙ find_none (length_by_number sizes) leaf internal object 96 order n none.1)
+              no_header n none.1 ∙ sym (table_find leaf internal (counts_of stored) pairs n ∙ find_none (length_by_number sizes) leaf internal (counts_of stored) object 96 order n none.1)
         ]
 
         pub low_layout : (l : Layout) → l.headers.now ≡ p.headers.items → l.sizes.now ≡ sizes → IsLowLayout l

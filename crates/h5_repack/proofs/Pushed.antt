@@ -10,7 +10,7 @@ use Rattle.std.specs.Option.{option_flatten, option_map_or}
 use Rattle.h5_model.specs.Format.Plain.{header_bytes}
 use Rattle.h5_model.specs.Format.PlainLength.{nodes_over, rows_of}
 use Rattle.h5_model.specs.Format.Sizes.{group_node}
-use Rattle.h5_model.specs.Tree.Objects.{Object, Content, Dataset}
+use Rattle.h5_model.specs.Tree.Objects.{Content, Dataset}
 use Rattle.h5_repack.specs.Bodies.Bodies.{others_of, array_messages}
 use Rattle.h5_group.specs.Heap.Links.{Leads}
 use Rattle.h5_group.specs.Writing.Places.{ArePlaces}
@@ -18,6 +18,7 @@ use Rattle.h5_group.specs.Writing.Written.{links_bytes}
 use Rattle.h5_group.specs.declared.write.places.GroupPlaces.{GroupPlaces}
 use Rattle.h5_repack.specs.Blocks.ArrayHeader.{group_written, header_written, data_written, address_written}
 use Rattle.h5_repack.specs.Blocks.Others.{OthersBytes}
+use Rattle.h5_repack.specs.Blocks.Written.{chunks_of}
 use Rattle.h5_layout.specs.Described.{Described}
 use Rattle.h5_repack.specs.declared.blocks.cells.Cells.{Cells}
 use Rattle.h5_repack.proofs.BlockLaws.HeaderLaws.{group_is, header_is, data_is, address_is}
@@ -30,7 +31,7 @@ use Rattle.h5_repack.specs.declared.size.Extent.{Extent}
 use Rattle.h5_repack.specs.declared.size.Extent.TheVariants as extent
 use Rattle.h5_repack.specs.declared.size.Size.{Size}
 use Rattle.h5_repack.specs.declared.group.Layout.{Layout}
-use Rattle.h5_repack.specs.Layout.{IsArrayObject, IsExtent, IsGroupObject, IsHeldObject, IsSize, IsSlotSize, array_at, content_at, extent_length, header_by, numbered_at, laid_object, size_length, written_at}
+use Rattle.h5_repack.specs.Layout.{IsArrayObject, IsExtent, IsGroupObject, IsHeldObject, IsSize, IsSlotSize, StoredObject, array_at, content_at, extent_length, header_by, numbered_at, laid_object, size_length, written_at}
 use Rattle.h5_repack.proofs.Sizes.{own_written, own_count}
 use Rattle.h5_repack.specs.Objects.Objects.{SlotsHold}
 use Rattle.h5_repack.proofs.ObjectLaws.Zips.{slots_right, zip_right}
@@ -56,18 +57,18 @@ links_low h sizes n s d p found e low =
     omega (arith, own, header_read sizes n s d found, low)
 
 -- no group has data
-pub no_data : (leaf internal : ℕ) (links : List (Link ObjectNo)) (others : OthersBytes) (o : Object) (sizes : List Size) (n : ℕ) (s d : Size) (k : ℕ) → IsGroupObject links others o
+pub no_data : (leaf internal : ℕ) (links : List (Link ObjectNo)) (others : OthersBytes) (o : StoredObject) (sizes : List Size) (n : ℕ) (s d : Size) (k : ℕ) → IsGroupObject links others o
     → slice_get sizes n ≡ Some s → (get_or sizes n d).extent ≡ extent.Data k → IsSize leaf internal o s → ⊥
 no_data leaf internal links others o sizes n s d k is found e size =
-    subst (λ (c : Content). IsExtent leaf internal c (extent.Data k)) is.content
-    (subst (λ (x : Extent). IsExtent leaf internal o.content x) (extent_read sizes n s d (extent.Data k) found e) size.extent_is)
+    subst (λ (c : Content). IsExtent leaf internal (length o.chunks) c (extent.Data k)) is.content
+    (subst (λ (x : Extent). IsExtent leaf internal (length o.chunks) (o.object).content x) (extent_read sizes n s d (extent.Data k) found e) size.extent_is)
 
 -- ---- groups
 
-module _ (leaf internal : ℕ) (links : List (Link ObjectNo)) (others : OthersBytes) (o : Object) (is : IsGroupObject links others o) (p : GroupPlaces)
-    (is_extent : IsExtent leaf internal o.content (extent.Links p)) (l : Layout) (ls : List (List ℕ × Leads)) (ls_are : ls ≡ map (written_at l) (map tree_link links)) where
+module _ (leaf internal : ℕ) (links : List (Link ObjectNo)) (others : OthersBytes) (o : StoredObject) (is : IsGroupObject links others o) (p : GroupPlaces)
+    (is_extent : IsExtent leaf internal (length o.chunks) (o.object).content (extent.Links p)) (l : Layout) (ls : List (List ℕ × Leads)) (ls_are : ls ≡ map (written_at l) (map tree_link links)) where
   pub places_are : ArePlaces leaf internal ls p
-  places_are = subst (λ (c : Content). IsExtent leaf internal c (extent.Links p)) is.content is_extent ls (own_written links others o is leaf internal l ls ls_are)
+  places_are = subst (λ (c : Content). IsExtent leaf internal (length o.chunks) c (extent.Links p)) is.content is_extent ls (own_written links others o is leaf internal l ls ls_are)
 
   pub tree_within : p.tree ≤ p.length
   tree_within = omega (arith, (places_are).tree, (places_are).length_is)
@@ -76,36 +77,40 @@ module _ (leaf internal : ℕ) (links : List (Link ObjectNo)) (others : OthersBy
   tree_is = (places_are).tree
       ∙ ap (λ n. nodes_over 64 (2 * internal) (rows_of (2 * leaf) n) * group_node internal) (own_count links others o is leaf internal l ls ls_are)
 
-pub group_at : (l : Layout) (count n : ℕ) (links : List (Link ObjectNo)) (others : OthersBytes) (o : Object) (s d : Size) (p : GroupPlaces) (is : IsGroupObject links others o)
+pub group_at : (l : Layout) (count n : ℕ) (links : List (Link ObjectNo)) (others : OthersBytes) (o : StoredObject) (s d : Size) (p : GroupPlaces) (is : IsGroupObject links others o)
     → slice_get l.sizes.now n ≡ Some s → (get_or l.sizes.now n d).extent ≡ extent.Links p → IsSize l.leaf l.internal o s
     → group_written (header_by l n + (get_or l.sizes.now n d).header) (header_by l n + (get_or l.sizes.now n d).header + p.tree) others
     ++ links_bytes l.leaf l.internal (header_by l n + (get_or l.sizes.now n d).header) (map (written_at l) (map tree_link links))
     ≡ laid_object l (header_by l n) count o
 group_at l count n links others o s d p is found e size =
     let h : ℕ = header_by l n in
-    let own : IsExtent l.leaf l.internal o.content (extent.Links p)
-    = subst (λ (x : Extent). IsExtent l.leaf l.internal o.content x) (extent_read l.sizes.now n s d (extent.Links p) found e) size.extent_is in
+    let own : IsExtent l.leaf l.internal (length o.chunks) (o.object).content (extent.Links p)
+    = subst (λ (x : Extent). IsExtent l.leaf l.internal (length o.chunks) (o.object).content x) (extent_read l.sizes.now n s d (extent.Links p) found e) size.extent_is in
     let tree = tree_is l.leaf l.internal links others o is p own l (map (written_at l) (map tree_link links)) refl in
-    let place : h + (get_or l.sizes.now n d).header ≡ content_place o h = ap (λ k. h + k) (header_read l.sizes.now n s d found ∙ size.header) in
-    let heap : h + (get_or l.sizes.now n d).header + p.tree ≡ group_heap_place l.leaf l.internal o is.group h = (λ i. place i + tree i) in
+    let place : h + (get_or l.sizes.now n d).header ≡ content_place o.object h = ap (λ k. h + k) (header_read l.sizes.now n s d found ∙ size.header) in
+    let heap : h + (get_or l.sizes.now n d).header + p.tree ≡ group_heap_place l.leaf l.internal o.object is.group h = (λ i. place i + tree i) in
     (λ i. group_written (place i) (heap i) others ++ links_bytes l.leaf l.internal (place i) (map (written_at l) (is.linked i)))
-    ∙ ap (λ xs. xs ++ links_bytes l.leaf l.internal (content_place o h) (map (written_at l) (entries is.group)))
-    (group_is (content_place o h) (group_heap_place l.leaf l.internal o is.group h) (others_of o) others is.others_are)
+    ∙ ap (λ xs. xs ++ links_bytes l.leaf l.internal (content_place o.object h) (map (written_at l) (entries is.group)))
+    (group_is (content_place o.object h) (group_heap_place l.leaf l.internal o.object is.group h) (others_of o.object) others is.others_are)
     ∙ sym (ap (content_at l h count o) is.content)
 
 -- ---- arrays
 
 pub array_pushed : (a : Described) (c : Cells) (others : OthersBytes) (count place : ℕ) (address : Option ℕ) (first second third : List ℕ)
-    → address ≡ address_written a c place → second ≡ first ++ header_written count a c others address → third ≡ second ++ data_written c a
-    → (o : Object) (is : IsArrayObject a c others o) → third ≡ first ++ array_at place count o is.dataset
+    → address ≡ address_written a c place → second ≡ first ++ header_written count a c others address → third ≡ second ++ data_written c a place
+    → (o : StoredObject) (is : IsArrayObject a c others o) → third ≡ first ++ array_at place count o is.dataset
 array_pushed a c others count place address first second third address_here e f o is =
     let d : Dataset = is.dataset in
-    let stands : address ≡ data_address d place = address_here ∙ address_is a c d is.array_is place in
-    two_parts first second third (header_written count a c others address) (data_written c a) (array_at place count o d) e f
-    (λ i. (header_is a c d is.array_is others (others_of o) is.others_are count address ∙ ap (λ k. header_bytes count (array_messages d k (length (others_of o)) ++ others_of o)) stands) i
-    ++ data_is a c d is.array_is i)
+    let messages : List (ℕ × List ℕ) = others_of o.object in
+    let stands : address ≡ data_address (chunks_of c) d place = address_here ∙ address_is a c d is.array_is place in
+    let stored : array_at place count (record o { chunks = chunks_of c }) d ≡ array_at place count o d
+    = ap (λ (chunks : List (List ℕ)). array_at place count (record o { chunks = chunks }) d) is.chunks_are in
+    two_parts first second third (header_written count a c others address) (data_written c a place) (array_at place count (record o { chunks = chunks_of c }) d) e f
+    (λ i. (header_is a c d is.array_is others messages is.others_are count address
+    ∙ ap (λ (k : Option ℕ). header_bytes count (array_messages d k (length messages) ++ messages)) stands) i ++ data_is a c d is.array_is place i)
+    ∙ ap (λ (bytes : List ℕ). first ++ bytes) stored
 
-pub array_object_at : (l : Layout) (count n : ℕ) (a : Described) (c : Cells) (others : OthersBytes) (o : Object) (s d : Size) (is : IsArrayObject a c others o)
+pub array_object_at : (l : Layout) (count n : ℕ) (a : Described) (c : Cells) (others : OthersBytes) (o : StoredObject) (s d : Size) (is : IsArrayObject a c others o)
     → slice_get l.sizes.now n ≡ Some s → IsSize l.leaf l.internal o s
     → array_at (header_by l n + (get_or l.sizes.now n d).header) count o is.dataset ≡ laid_object l (header_by l n) count o
 array_object_at l count n a c others o s d is found size =
@@ -115,18 +120,18 @@ array_object_at l count n a c others o s d is found size =
 -- ---- all objects
 
 -- an object's tree and size, by its number
-pub held_at : (leaf internal n : ℕ) (objects : List (Option NewObject)) (listed : List (Option Object)) (sizes : List Size) (x : NewObject)
+pub held_at : (leaf internal n : ℕ) (objects : List (Option NewObject)) (listed : List (Option StoredObject)) (sizes : List Size) (x : NewObject)
     → AllZip (SlotsHold IsHeldObject) objects listed → AllZip (IsSlotSize leaf internal) listed sizes → slice_get objects n ≡ Some (Some x)
-    → (o : Object) × (s : Size) × (slice_get sizes n ≡ Some s) × IsHeldObject x o × IsSize leaf internal o s × (slice_get listed n ≡ Some (Some o))
+    → (o : StoredObject) × (s : Size) × (slice_get sizes n ≡ Some s) × IsHeldObject x o × IsSize leaf internal o s × (slice_get listed n ≡ Some (Some o))
 held_at leaf internal n objects listed sizes x held sized is =
     let o = slots_right IsHeldObject objects listed n x held is in
     let s = zip_right (IsSlotSize leaf internal) listed sizes n (Some o.0) sized o.1 in
     (o.0, s.0, s.1, o.2, s.2, o.1)
 
-pub number_at : (l : Layout) (counts : List ℕ) (listed : List (Option Object)) (n : ℕ) (o : Object) → slice_get listed n ≡ Some (Some o)
+pub number_at : (l : Layout) (counts : List ℕ) (listed : List (Option StoredObject)) (n : ℕ) (o : StoredObject) → slice_get listed n ≡ Some (Some o)
     → laid_object l (header_by l n) (slice_index counts n) o ≡ numbered_at l counts listed n
 number_at l counts listed n o is =
-    sym (ap (λ (r : Option (Option Object)). option_map_or (laid_object l (header_by l n) (slice_index counts n)) (option_flatten r) []) is)
+    sym (ap (λ (r : Option (Option StoredObject)). option_map_or (laid_object l (header_by l n) (slice_index counts n)) (option_flatten r) []) is)
 
 pub objects_more : (f : ℕ → List ℕ) (ns : List ℕ) (i : ℕ) (first second third here : List ℕ) → i < length ns → second ≡ first ++ flat_map f (take i ns)
     → third ≡ second ++ here → here ≡ f (get_or ns i 0) → third ≡ first ++ flat_map f (take (i + 1) ns)

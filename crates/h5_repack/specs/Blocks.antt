@@ -1,4 +1,5 @@
 pub mod Parts
 pub mod Others
 pub mod Written
+pub mod StoredChunks
 pub mod ArrayHeader

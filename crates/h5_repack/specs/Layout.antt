@@ -5,6 +5,7 @@ use Rattle.std.specs.List.{AllZip}
 use Rattle.std.specs.Option.{option_flatten, option_map_or}
 use Rattle.h5_model.specs.Format.Bodies.{pair_bytes}
 use Rattle.h5_model.specs.Format.Plain.{header_bytes, superblock_bytes}
+use Rattle.h5_model.specs.Format.PlainLength.{data_bytes}
 use Rattle.h5_model.specs.Format.Sizes.{header_size}
 use Rattle.h5_model.specs.Tree.Objects.{Object, Content, Group, Array, Dataset, Link, Links, ToObject, Soft}
 use Rattle.h5_repack.specs.Bodies.Bodies.{others_of, array_messages}
@@ -16,11 +17,11 @@ use Rattle.h5_group.specs.Writing.Places.{ArePlaces}
 use Rattle.h5_repack.specs.Image.Plain.{IsPlain, IsLow}
 use Rattle.h5_repack.specs.Image.Written.{object_length, content_place, group_heap_place, data_address}
 use Rattle.h5_repack.specs.Blocks.Others.{OthersBytes}
-use Rattle.h5_repack.specs.Blocks.Written.{AreOthers}
+use Rattle.h5_repack.specs.Blocks.Written.{AreOthers, chunks_of}
 use Rattle.h5_layout.specs.Described.{Described}
 use Rattle.h5_repack.specs.declared.blocks.cells.Cells.{Cells}
 use Rattle.h5_model.specs.Tree.Links.{tree_link}
-use Rattle.h5_repack.specs.Objects.Objects.{IsNewArray, IsNewObject}
+use Rattle.h5_repack.specs.Objects.Objects.{IsNewArray, IsNewObject, content_chunks}
 use Rattle.h5_repack.specs.declared.objects.object.NewObject.{NewObject}
 use Rattle.h5_model.specs.declared.object_no.ObjectNo.{ObjectNo}
 use Rattle.h5_model.specs.declared.link.Link.{Link as LinkOf}
@@ -34,24 +35,31 @@ use Rattle.h5_repack.specs.declared.write.WriteFault.TheVariants.{TooLong, TooDe
 
 -- ---- objects
 
+-- an object, and the offsets of its stored chunks
+pub record StoredObject : Type 0 where
+  pub object : Object
+  pub chunks : List (List ℕ)
+
 -- an object that the plain layout can hold
-pub record IsHeldObject (x : NewObject) (o : Object) : Type 0 where
-  pub new : IsNewObject x o
-  pub plain : IsPlain o
+pub record IsHeldObject (x : NewObject) (o : StoredObject) : Type 0 where
+  pub new : IsNewObject x o.object
+  pub chunks_are : content_chunks x.content ≡ o.chunks
+  pub plain : IsPlain o.object
 
-pub record IsGroupObject (links : List (LinkOf ObjectNo)) (others : OthersBytes) (o : Object) : Type 0 where
+pub record IsGroupObject (links : List (LinkOf ObjectNo)) (others : OthersBytes) (o : StoredObject) : Type 0 where
   pub group : Links
-  pub content : o.content ≡ Group group
+  pub content : (o.object).content ≡ Group group
   pub linked : map tree_link links ≡ entries group
-  pub others_are : AreOthers (others_of o) others
-  pub plain : IsPlain o
+  pub others_are : AreOthers (others_of o.object) others
+  pub plain : IsPlain o.object
 
-pub record IsArrayObject (array : Described) (cells : Cells) (others : OthersBytes) (o : Object) : Type 0 where
+pub record IsArrayObject (array : Described) (cells : Cells) (others : OthersBytes) (o : StoredObject) : Type 0 where
   pub dataset : Dataset
-  pub content : o.content ≡ Array dataset
+  pub content : (o.object).content ≡ Array dataset
   pub array_is : IsNewArray array cells dataset
-  pub others_are : AreOthers (others_of o) others
-  pub plain : IsPlain o
+  pub chunks_are : chunks_of cells ≡ o.chunks
+  pub others_are : AreOthers (others_of o.object) others
+  pub plain : IsPlain o.object
 
 -- ---- sizes
 
@@ -71,35 +79,39 @@ pub record IsLowSize (s : Size) : Type 0 where
   pub header : s.header ≤ 2 ^ 31
   pub extent_low : IsLowExtent s.extent
 
--- a group's links lie so wherever their objects stand
-abbrev pub IsExtent : ℕ → ℕ → Content → Extent → Type 0
-IsExtent leaf internal (Group links) (extent.Links p) = (ls : List (List ℕ × Leads)) → AllZip laws.IsLinkWritten (entries links) ls → ArePlaces leaf internal ls p
-IsExtent leaf internal (Array d) (extent.Data n) = n ≡ length (data_of d)
-IsExtent leaf internal _ _ = ⊥
+-- a group's links lie so wherever their objects stand, and an array with so many stored chunks has these data
+abbrev pub IsExtent : ℕ → ℕ → ℕ → Content → Extent → Type 0
+IsExtent leaf internal count (Group links) (extent.Links p) = (ls : List (List ℕ × Leads)) → AllZip laws.IsLinkWritten (entries links) ls → ArePlaces leaf internal ls p
+IsExtent leaf internal count (Array d) (extent.Data n) = n ≡ data_bytes 32 count d
+IsExtent leaf internal count _ _ = ⊥
 
-pub record IsSize (leaf internal : ℕ) (o : Object) (s : Size) : Type 0 where
-  pub header : s.header ≡ header_size o
-  pub extent_is : IsExtent leaf internal o.content s.extent
-  pub whole : size_length s ≡ object_length leaf internal o
+-- how many bytes an object has with its stored chunks
+abbrev pub stored_length : ℕ → ℕ → StoredObject → ℕ
+stored_length leaf internal o = object_length leaf internal (length o.chunks) o.object
+
+pub record IsSize (leaf internal : ℕ) (o : StoredObject) (s : Size) : Type 0 where
+  pub header : s.header ≡ header_size o.object
+  pub extent_is : IsExtent leaf internal (length o.chunks) (o.object).content s.extent
+  pub whole : size_length s ≡ stored_length leaf internal o
   pub low : IsLowSize s
 
 -- an empty slot has no bytes
 abbrev pub no_size : Size
 no_size = record { header = 0; extent = extent.Data 0 }
 
-abbrev pub IsSlotSize : ℕ → ℕ → Option Object → Size → Type 0
+abbrev pub IsSlotSize : ℕ → ℕ → Option StoredObject → Size → Type 0
 IsSlotSize leaf internal (Some o) s = IsSize leaf internal o s
 IsSlotSize leaf internal None s = s ≡ no_size
 
 -- why an object's size is none that an image can have
-abbrev pub IsUnmeasured : ℕ → ℕ → Object → WriteFault → Type 0
-IsUnmeasured leaf internal o TooLong = 2 ^ 31 < object_length leaf internal o
-IsUnmeasured leaf internal o TooDeep = (links : Links) × (o.content ≡ Group links) × (IsLow leaf internal links → ⊥)
+abbrev pub IsUnmeasured : ℕ → ℕ → StoredObject → WriteFault → Type 0
+IsUnmeasured leaf internal o TooLong = 2 ^ 31 < stored_length leaf internal o
+IsUnmeasured leaf internal o TooDeep = (links : Links) × ((o.object).content ≡ Group links) × (IsLow leaf internal links → ⊥)
 IsUnmeasured leaf internal o NoMemory = Unit {0}
 
-abbrev pub AreUnmeasured : ℕ → ℕ → List (Option Object) → WriteFault → Type 0
-AreUnmeasured leaf internal listed TooLong = (number : ℕ) × (o : Object) × (slice_get listed number ≡ Some (Some o)) × IsUnmeasured leaf internal o TooLong
-AreUnmeasured leaf internal listed TooDeep = (number : ℕ) × (o : Object) × (slice_get listed number ≡ Some (Some o)) × IsUnmeasured leaf internal o TooDeep
+abbrev pub AreUnmeasured : ℕ → ℕ → List (Option StoredObject) → WriteFault → Type 0
+AreUnmeasured leaf internal listed TooLong = (number : ℕ) × (o : StoredObject) × (slice_get listed number ≡ Some (Some o)) × IsUnmeasured leaf internal o TooLong
+AreUnmeasured leaf internal listed TooDeep = (number : ℕ) × (o : StoredObject) × (slice_get listed number ≡ Some (Some o)) × IsUnmeasured leaf internal o TooDeep
 AreUnmeasured leaf internal listed NoMemory = Unit {0}
 
 -- ---- places
@@ -164,21 +176,21 @@ written_at l (name, Soft text) = (name, ToText text)
 -- ---- bytes
 
 -- an array's, whose data have this place
-abbrev pub array_at : ℕ → ℕ → Object → Dataset → List ℕ
+abbrev pub array_at : ℕ → ℕ → StoredObject → Dataset → List ℕ
 array_at place count o d =
-    header_bytes count (array_messages d (data_address d place) (length (others_of o)) ++ others_of o) ++ data_of d
+    header_bytes count (array_messages d (data_address o.chunks d place) (length (others_of o.object)) ++ others_of o.object) ++ data_of o.chunks d place
 
 -- the bytes of an object whose header stands there and to which so many links lead
-abbrev pub content_at : Layout → ℕ → ℕ → Object → Content → List ℕ
+abbrev pub content_at : Layout → ℕ → ℕ → StoredObject → Content → List ℕ
 content_at l header count o (Group links) =
-    header_bytes 1 ((17, pair_bytes (content_place o header) (group_heap_place l.leaf l.internal o links header)) ∷ others_of o)
-    ++ links_bytes l.leaf l.internal (content_place o header) (map (written_at l) (entries links))
-content_at l header count o (Array d) = array_at (content_place o header) count o d
+    header_bytes 1 ((17, pair_bytes (content_place o.object header) (group_heap_place l.leaf l.internal o.object links header)) ∷ others_of o.object)
+    ++ links_bytes l.leaf l.internal (content_place o.object header) (map (written_at l) (entries links))
+content_at l header count o (Array d) = array_at (content_place o.object header) count o d
 
-abbrev pub laid_object : Layout → ℕ → ℕ → Object → List ℕ
-laid_object l header count o = content_at l header count o o.content
+abbrev pub laid_object : Layout → ℕ → ℕ → StoredObject → List ℕ
+laid_object l header count o = content_at l header count o (o.object).content
 
-abbrev pub numbered_at : Layout → List ℕ → List (Option Object) → ℕ → List ℕ
+abbrev pub numbered_at : Layout → List ℕ → List (Option StoredObject) → ℕ → List ℕ
 numbered_at l counts listed number =
     option_map_or (laid_object l (header_by l number) (slice_index counts number)) (option_flatten (slice_get listed number)) []
 

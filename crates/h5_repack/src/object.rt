@@ -3,12 +3,11 @@
 ghost use Rattle.std.specs.Prelude.{◌≡◌, ◌+◌, ◌^◌, ◌<◌, ◌≤◌, ◌++◌, List, Option, OnOk, Some, length, map, slice_get};
 ghost use Rattle.std.specs.List.{AllByRecursion, AllZip, flat_map};
 ghost use Rattle.h5_model.specs.Format.Superblock.{AreK};
-ghost use Rattle.h5_model.specs.Tree.Objects.{Object};
 ghost use Rattle.h5_group.specs.Writing.Written.{links_bytes};
-ghost use Rattle.h5_repack.specs.Blocks.ArrayHeader.{group_written};
+ghost use Rattle.h5_repack.specs.Blocks.ArrayHeader.{data_written, group_written};
 ghost use Rattle.h5_model.specs.Tree.Links.{tree_link};
 ghost use Rattle.h5_repack.specs.declared.size.Extent.TheVariants.{Links};
-ghost use Rattle.h5_repack.specs.Layout.{IsArrayObject, IsExtent, IsGroupObject, IsHeldObject, IsLowLayout, IsSize, IsSlotSize, array_at, header_by, numbered_at, laid_object, written_at};
+ghost use Rattle.h5_repack.specs.Layout.{IsArrayObject, IsExtent, IsGroupObject, IsHeldObject, IsLowLayout, IsSize, IsSlotSize, StoredObject, array_at, header_by, numbered_at, laid_object, written_at};
 ghost use Rattle.h5_repack.specs.Objects.Objects.{IsFilled, SlotsHold};
 
 use crate::blocks::{
@@ -34,8 +33,8 @@ fn push_group(
 ) -> Result<(), AllocError>
     requires k { AreK layout.now.leaf layout.now.internal }
     requires layout { IsLowLayout layout.now }
-    requires held { (o : Object) × IsGroupObject links.now others.now o
-        × IsExtent layout.now.leaf layout.now.internal o.content (Links places.now) }
+    requires held { (o : StoredObject) × IsGroupObject links.now others.now o
+        × IsExtent layout.now.leaf layout.now.internal (length o.chunks) (o.object).content (Links places.now) }
     requires low { at + places.now.length ≤ 2 ^ 31 }
     requires header { length others.now.bytes ≤ 2 ^ 31 }
     ensures { OnOk result
@@ -59,16 +58,17 @@ fn push_array(
     cells: &Cells<'_>,
     others: &Others,
 ) -> Result<(), AllocError>
-    requires held { (o : Object) × IsArrayObject array.now cells.now others.now o }
+    requires held { (o : StoredObject) × IsArrayObject array.now cells.now others.now o }
     requires low { at ≤ 2 ^ 31 }
+    requires few { length (data_written cells.now array.now at) ≤ 2 ^ 31 }
     requires header { length others.now.bytes ≤ 2 ^ 31 }
     ensures { OnOk result
-        ((o : Object) (is : IsArrayObject array.now cells.now others.now o)
+        ((o : StoredObject) (is : IsArrayObject array.now cells.now others.now o)
         → out.new.items ≡ out.old.items ++ array_at at count o is.dataset) }
 {
     let address = cells_address(array, cells, at);
     push_array_header(out, array, cells, others, address, count)?;
-    push_data(alloc, out, array, cells)?;
+    push_data(alloc, out, array, cells, at)?;
     Ok(())
 }
 
@@ -83,11 +83,11 @@ fn push_object(
 ) -> Result<(), AllocError>
     requires k { AreK layout.now.leaf layout.now.internal }
     requires layout { IsLowLayout layout.now }
-    requires held { (o : Object) × (s : Size) × (slice_get layout.now.sizes.now number ≡ Some s)
+    requires held { (o : StoredObject) × (s : Size) × (slice_get layout.now.sizes.now number ≡ Some s)
         × IsHeldObject object.now o
         × IsSize layout.now.leaf layout.now.internal o s }
     ensures { OnOk result
-        ((o : Object) (s : Size) → slice_get layout.now.sizes.now number ≡ Some s → IsHeldObject object.now o
+        ((o : StoredObject) (s : Size) → slice_get layout.now.sizes.now number ≡ Some s → IsHeldObject object.now o
         → IsSize layout.now.leaf layout.now.internal o s
         → out.new.items ≡ out.old.items
         ++ laid_object layout.now (header_by layout.now number) count o) }
@@ -120,9 +120,9 @@ pub(crate) fn push_objects(
     requires layout { IsLowLayout layout.now }
     requires filled { AllByRecursion (IsFilled objects.now) order.now }
     requires counted { length counts.now ≡ length objects.now }
-    requires held { (listed : List (Option Object)) × AllZip (SlotsHold IsHeldObject) objects.now listed
+    requires held { (listed : List (Option StoredObject)) × AllZip (SlotsHold IsHeldObject) objects.now listed
         × AllZip (IsSlotSize layout.now.leaf layout.now.internal) listed layout.now.sizes.now }
-    ensures { OnOk result ((listed : List (Option Object))
+    ensures { OnOk result ((listed : List (Option StoredObject))
         → AllZip (SlotsHold IsHeldObject) objects.now listed
         → AllZip (IsSlotSize layout.now.leaf layout.now.internal) listed layout.now.sizes.now
         → out.new.items ≡ out.old.items ++ flat_map (numbered_at layout.now counts.now listed) order.now) }

@@ -3,8 +3,7 @@
 ghost use Rattle.std.specs.Prelude.{◌≡◌, ℕ, ◌^◌, ◌<◌, ◌≤◌, List, Option, Some, IfOk, IfErr};
 ghost use Rattle.std.specs.List.{AllZip};
 ghost use Rattle.h5_model.specs.Format.Superblock.{AreK};
-ghost use Rattle.h5_model.specs.Tree.Objects.{Object};
-ghost use Rattle.h5_repack.specs.Layout.{AreUnmeasured, IsArrayObject, IsGroupObject, IsHeldObject, IsLowSize, IsSize, IsSlotSize, IsUnmeasured, size_length};
+ghost use Rattle.h5_repack.specs.Layout.{AreUnmeasured, IsArrayObject, IsGroupObject, IsHeldObject, IsLowSize, IsSize, IsSlotSize, IsUnmeasured, StoredObject, size_length};
 ghost use Rattle.h5_repack.specs.Objects.Objects.{SlotsHold};
 
 use crate::blocks::{Cells, Others, array_header_length, data_length, group_header_length};
@@ -51,22 +50,21 @@ fn measure_array(
     cells: &Cells<'_>,
     others: &Others,
 ) -> Result<Size, WriteFault>
-    requires { (o : Object) × IsArrayObject array.now cells.now others.now o }
+    requires { (o : StoredObject) × IsArrayObject array.now cells.now others.now o }
     ensures size { IfOk result (λ s.
-        (leaf internal : ℕ) (o : Object) → IsArrayObject array.now cells.now others.now o
+        (leaf internal : ℕ) (o : StoredObject) → IsArrayObject array.now cells.now others.now o
         → IsSize leaf internal o s) }
     ensures refused { IfErr result (λ fault.
-        (leaf internal : ℕ) (o : Object) → IsArrayObject array.now cells.now others.now o
+        (leaf internal : ℕ) (o : StoredObject) → IsArrayObject array.now cells.now others.now o
         → IsUnmeasured leaf internal o fault) }
 {
     let header = array_header_length(array, others);
-    let length = data_length(array, cells);
     if header > MAXIMUM_IMAGE {
         return Err(WriteFault::TooLong);
     }
-    if length > MAXIMUM_IMAGE {
+    let Some(length) = data_length(array, cells) else {
         return Err(WriteFault::TooLong);
-    }
+    };
     Ok(Size {
         header,
         extent: Extent::Data(length),
@@ -83,11 +81,11 @@ fn measure_group(
     others: &Others,
 ) -> Result<Size, WriteFault>
     requires k { AreK leaf internal }
-    requires held { (o : Object) × IsGroupObject links.now others.now o }
+    requires held { (o : StoredObject) × IsGroupObject links.now others.now o }
     ensures size { IfOk result (λ s.
-        (o : Object) → IsGroupObject links.now others.now o → IsSize leaf internal o s) }
+        (o : StoredObject) → IsGroupObject links.now others.now o → IsSize leaf internal o s) }
     ensures refused { IfErr result (λ fault.
-        (o : Object) → IsGroupObject links.now others.now o → IsUnmeasured leaf internal o fault) }
+        (o : StoredObject) → IsGroupObject links.now others.now o → IsUnmeasured leaf internal o fault) }
 {
     let header = group_header_length(others);
     if header > MAXIMUM_IMAGE {
@@ -115,10 +113,10 @@ fn measure(
     object: &NewObject<'_>,
 ) -> Result<Size, WriteFault>
     requires k { AreK leaf internal }
-    requires held { (o : Object) × IsHeldObject object.now o }
-    ensures size { IfOk result (λ s. (o : Object) → IsHeldObject object.now o → IsSize leaf internal o s) }
+    requires held { (o : StoredObject) × IsHeldObject object.now o }
+    ensures size { IfOk result (λ s. (o : StoredObject) → IsHeldObject object.now o → IsSize leaf internal o s) }
     ensures refused { IfErr result (λ fault.
-        (o : Object) → IsHeldObject object.now o → IsUnmeasured leaf internal o fault) }
+        (o : StoredObject) → IsHeldObject object.now o → IsUnmeasured leaf internal o fault) }
 {
     match &object.content {
         NewContent::Group(links) => measure_group(alloc, leaf, internal, links, &object.others),
@@ -134,11 +132,11 @@ fn measure_slot(
     slot: &Option<NewObject<'_>>,
 ) -> Result<Size, WriteFault>
     requires k { AreK leaf internal }
-    requires held { (place : Option Object) × SlotsHold IsHeldObject slot.now place }
+    requires held { (place : Option StoredObject) × SlotsHold IsHeldObject slot.now place }
     ensures size { IfOk result (λ s.
-        (place : Option Object) → SlotsHold IsHeldObject slot.now place → IsSlotSize leaf internal place s) }
-    ensures refused { IfErr result (λ fault. (place : Option Object) → SlotsHold IsHeldObject slot.now place
-        → (o : Object) × (place ≡ Some o) × IsUnmeasured leaf internal o fault) }
+        (place : Option StoredObject) → SlotsHold IsHeldObject slot.now place → IsSlotSize leaf internal place s) }
+    ensures refused { IfErr result (λ fault. (place : Option StoredObject) → SlotsHold IsHeldObject slot.now place
+        → (o : StoredObject) × (place ≡ Some o) × IsUnmeasured leaf internal o fault) }
 {
     match slot {
         Some(object) => measure(alloc, leaf, internal, object),
@@ -157,12 +155,12 @@ pub(crate) fn measure_all(
     objects: &[Option<NewObject<'_>>],
 ) -> Result<Vec<Size>, WriteFault>
     requires k { AreK leaf internal }
-    requires held { (listed : List (Option Object)) × AllZip (SlotsHold IsHeldObject) objects.now listed }
+    requires held { (listed : List (Option StoredObject)) × AllZip (SlotsHold IsHeldObject) objects.now listed }
     ensures sizes { IfOk result (λ sizes.
-        (listed : List (Option Object)) → AllZip (SlotsHold IsHeldObject) objects.now listed
+        (listed : List (Option StoredObject)) → AllZip (SlotsHold IsHeldObject) objects.now listed
         → AllZip (IsSlotSize leaf internal) listed sizes.items) }
     ensures refused { IfErr result (λ fault.
-        (listed : List (Option Object)) → AllZip (SlotsHold IsHeldObject) objects.now listed
+        (listed : List (Option StoredObject)) → AllZip (SlotsHold IsHeldObject) objects.now listed
         → AreUnmeasured leaf internal listed fault) }
 {
     let mut sizes = Vec::new(alloc);

@@ -2,9 +2,9 @@
 
 ghost use Rattle.std.specs.Prelude.{◌≡◌, ◌+◌, ◌<◌, ◌≤◌, ◌^◌, ◌++◌, List, Option, IfOk, IfErr, Some, OnOk, length, slice_get};
 ghost use Rattle.std.specs.List.{AllByRecursion, AllZip, flat_map};
-ghost use Rattle.h5_model.specs.Tree.Objects.{Object, Tree};
+ghost use Rattle.h5_model.specs.Tree.Objects.{Tree};
 ghost use Rattle.h5_model.specs.Format.Superblock.{AreK};
-ghost use Rattle.h5_repack.specs.Layout.{IsHeldObject, IsLowLayout, IsLowSize, IsSlotSize, front_at, numbered_at};
+ghost use Rattle.h5_repack.specs.Layout.{IsHeldObject, IsLowLayout, IsLowSize, IsSlotSize, StoredObject, front_at, numbered_at};
 ghost use Rattle.h5_repack.specs.Objects.Objects.{IsFilled, SlotsHold, stored_in};
 ghost use Rattle.h5_repack.specs.Written.{IsTreeToWrite, IsWritten, IsUnwritten};
 
@@ -75,10 +75,10 @@ fn image_of(
     requires end { end ≤ 2 ^ 31 }
     requires filled { AllByRecursion (IsFilled objects.now) order.now }
     requires counted { length counts.now ≡ length objects.now }
-    requires held { (listed : List (Option Object)) × AllZip (SlotsHold IsHeldObject) objects.now listed
+    requires held { (listed : List (Option StoredObject)) × AllZip (SlotsHold IsHeldObject) objects.now listed
         × AllZip (IsSlotSize layout.now.leaf layout.now.internal) listed layout.now.sizes.now }
     ensures { IfOk result (λ image.
-        (listed : List (Option Object)) (root : Size) → AllZip (SlotsHold IsHeldObject) objects.now listed
+        (listed : List (Option StoredObject)) (root : Size) → AllZip (SlotsHold IsHeldObject) objects.now listed
         → AllZip (IsSlotSize layout.now.leaf layout.now.internal) listed layout.now.sizes.now
         → slice_get layout.now.sizes.now 0 ≡ Some root
         → image.items ≡ front_at layout.now root end
@@ -93,8 +93,8 @@ fn image_of(
 /// The plain image of the tree of these objects, each in the slot of its number, with these K values of symbol nodes and of nodes. An
 /// empty slot leaves nothing in the image: its number has no object.
 ///
-/// Takes memory for a few numbers of each slot and for the links of one group beside the image. Where there is more than one fault,
-/// any of them may be the answer.
+/// Takes memory for a few numbers of each slot, and for the links of one group or a few numbers of each stored chunk of one array,
+/// beside the image. Where there is more than one fault, any of them may be the answer.
 pub fn write_tree(
     alloc: Global,
     leaf: u16,

@@ -19,11 +19,11 @@ use Rattle.h5_repack.specs.Bodies.Bodies.{space_body, type_message, fill_message
 use Rattle.h5_layout.specs.Described.{Described}
 use Rattle.h5_repack.specs.Blocks.Others.{OthersBytes}
 use Rattle.h5_repack.proofs.BodyLaws.HeaderSpace.{length-space_body, space_padded}
-use Rattle.h5_repack.specs.Blocks.ArrayHeader.{array_list, cells_written, data_written, has_data, header_written, in_chunks, layout_written, messages_count, messages_size, storage_written}
+use Rattle.h5_repack.specs.Blocks.ArrayHeader.{array_list, cells_written, data_written, has_data, header_written, in_chunks, layout_written, messages_count, messages_size, storage_written, stored_written}
 use Rattle.h5_repack.specs.Blocks.Parts.{prefix_bytes}
 use Rattle.h5_repack.specs.Blocks.Written.{HasRoom}
 use Rattle.h5_repack.specs.declared.blocks.cells.Cells.{Cells}
-use Rattle.h5_repack.specs.declared.blocks.cells.Cells.TheVariants.{Unset, Filled, Stored}
+use Rattle.h5_repack.specs.declared.blocks.cells.Cells.TheVariants.{Unset, Filled, Stored, Chunks}
 use Rattle.h5_repack.proofs.BodyLaws.HeaderLengths.{length-layout}
 use Rattle.h5_repack.proofs.BlockLaws.Messages.{messages_bytes-append}
 
@@ -149,6 +149,7 @@ pub length-cells_written : (c : Cells) (a : Described) → HasRoom c (cells a.si
 length-cells_written Unset a room = sym (length-filled a.fixed a.fill (cells a.sizes))
 length-cells_written Filled a room = sym (length-filled a.fixed a.fill (cells a.sizes))
 length-cells_written (Stored bytes) a room = room
+length-cells_written (Chunks held) a room = sym (length-filled a.fixed a.fill (cells a.sizes))
 
 -- a layout message, wherever the data are
 pub length-laid : (a : Described) (c : Cells) (address : Option ℕ) → HasRoom c (cells a.sizes * (a.fixed).size)
@@ -160,8 +161,15 @@ length-laid a c address room =
     let own : length (message_bytes (8, raised body)) ≡ 8 + length (raised body) = omega arith in
     own ∙ ap (λ n. 8 + n) (length-raised body ∙ ap pad8 long)
 
--- data behind the header
-pub length-data : (c : Cells) (a : Described) → HasRoom c (cells a.sizes * (a.fixed).size) → (b : Bool) → b ≡ has_data a c
-    → (if b then cells a.sizes * (a.fixed).size else 0) ≡ length (data_written c a)
-length-data c a room true e = rw (sym e) (sym (length-cells_written c a room))
-length-data c a room false e = rw (sym e) refl
+-- ---- data behind the header
+
+module _ (c : Cells) (a : Described) (place : ℕ) where
+  pub no_data : has_data a c ≡ false → data_written c a place ≡ []
+  no_data none = ap (λ b. if b then stored_written c a place else []) none
+
+  pub all_data : has_data a c ≡ true → data_written c a place ≡ stored_written c a place
+  all_data some = ap (λ b. if b then stored_written c a place else []) some
+
+  pub length-filled_data : c ≡ Filled → has_data a c ≡ true → length (data_written c a place) ≡ cells a.sizes * (a.fixed).size
+  length-filled_data is some =
+      ap length (all_data some) ∙ ap (λ (k : Cells). length (stored_written k a place)) is ∙ length-cells_written Filled a tt

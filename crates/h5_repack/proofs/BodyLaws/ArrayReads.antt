@@ -1,10 +1,8 @@
 -- The header of an array in the plain layout, with its data where they are stored, reads as that array (File Format Specification 3.0,
 -- sections IV.A.1.a and IV.A.2.i).
-use Rattle.std.proofs.Common.{◌≡◌, ℕ, ◌+◌, ◌^◌, ◌<◌, ◌≤◌, List, [], ◌∷◌, length, refl, arith, true, false, Option, Some, None}
+use Rattle.std.proofs.Common.{◌≡◌, ℕ, ◌+◌, ◌^◌, ◌<◌, List, [], ◌∷◌, length, refl, arith, true, false, Option, Some, None}
 use Rattle.std.specs.Prelude.{if◌then◌else◌}
 use Rattle.h5_bytes.specs.Bytes.{part}
-use Rattle.h5_model.specs.Format.Fixed.{IsFixed}
-use Rattle.h5_model.specs.Format.PlainLength.{data_bytes}
 use Rattle.h5_model.specs.Format.Sizes.{header_size}
 use Rattle.h5_model.specs.Tree.Objects.{Dataset, Storage, Compact, Contiguous, Chunked}
 use Rattle.h5_repack.specs.Bodies.Bodies.{others_of}

@@ -28,7 +28,6 @@ use Rattle.h5_model.specs.Tree.Places.{cells, extent_cells, index_of, place_of}
 use Rattle.h5_model.specs.Format.Bodies.{raised, datatype_bytes, fill_bytes, compact_bytes, contiguous_bytes, chunked_bytes}
 use Rattle.h5_model.specs.Format.Plain.{header_bytes, cells_bytes}
 use Rattle.h5_model.specs.Format.Reads.{HasObject, HasContent, HasDataset, HasData, InDataset, IsChunkSmall, IsFill, storage_of}
-use Rattle.h5_model.specs.Format.Sizes.{header_size}
 use Rattle.h5_model.specs.Tree.Sound.{AreOf}
 use Rattle.h5_model.specs.Tree.Objects.{Object, Content, Array, Dataset, Storage, Compact, Contiguous, Chunked}
 use Rattle.h5_model.proofs.PlainMessages.{messages_from, header_reads, header_counted}

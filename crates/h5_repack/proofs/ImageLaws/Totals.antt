@@ -22,11 +22,6 @@ total-append f (x ∷ xs) ys = omega (arith, total-append f xs ys)
 total-around : {X : Type 0} (f : X → ℕ) (before : List X) (x : X) (after : List X) → total f (before ++ x ∷ after) ≡ f x + total f (before ++ after)
 total-around f before x after = omega (arith, total-append f before (x ∷ after), total-append f before after)
 
--- what is the same at each member adds up to the same
-pub total-each : {X : Type 0} (f g : X → ℕ) (xs : List X) → ((x : X) → In x xs → f x ≡ g x) → total f xs ≡ total g xs
-total-each f g [] same = refl
-total-each f g (x ∷ xs) same = omega (arith, same x (inl refl), total-each f g xs (λ y at. same y (inr at)))
-
 -- ---- members that stand once
 
 abbrev pub Once : {X : Type 0} → List X → Type 0

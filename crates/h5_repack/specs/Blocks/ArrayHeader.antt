@@ -1,5 +1,6 @@
--- The header and the data of an array to be written, as they are appended (File Format Specification 3.0, sections IV.A.1.a and IV.A.2).
-use Rattle.std.specs.Prelude.{◌≡◌, ℕ, ◌+◌, ◌*◌, ◌≤◌, ◌==◌, Bool, true, false, nat_lt, if◌then◌else◌, Option, Some, None, List, [], ◌++◌, length, replicate}
+-- The header and the data of an array to be written, as they are appended (File Format Specification 3.0, sections III.A.1, IV.A.1.a and
+-- IV.A.2).
+use Rattle.std.specs.Prelude.{◌≡◌, ℕ, ◌+◌, ◌*◌, ◌^◌, ◌<◌, ◌≤◌, ◌==◌, Bool, true, false, nat_lt, if◌then◌else◌, Option, Some, None, List, [], ◌++◌, length, replicate}
 use Rattle.std.specs.List.{list_any}
 use Rattle.h5_model.specs.Edits.Refusal.{are_maxima}
 use Rattle.h5_model.specs.Format.Bodies.{pair_bytes}
@@ -11,10 +12,11 @@ use Rattle.h5_layout.specs.Described.{Described}
 use Rattle.h5_repack.specs.Bodies.Bodies.{layout_body, messages_of}
 use Rattle.h5_repack.specs.Bodies.Headers.{is_stored}
 use Rattle.h5_repack.specs.declared.blocks.cells.Cells.{Cells}
-use Rattle.h5_repack.specs.declared.blocks.cells.Cells.TheVariants.{Unset, Filled, Stored}
+use Rattle.h5_repack.specs.declared.blocks.cells.Cells.TheVariants.{Unset, Filled, Stored, Chunks}
 use Rattle.h5_repack.specs.Blocks.Others.{OthersBytes}
 use Rattle.h5_repack.specs.Blocks.Parts.{prefix_bytes}
-use Rattle.h5_repack.specs.Blocks.Written.{HasRoom}
+use Rattle.h5_repack.specs.Blocks.StoredChunks.{chunks_written}
+use Rattle.h5_repack.specs.Blocks.Written.{AreWholeChunks, HasRoom, chunks_of}
 
 -- the header of a group whose tree and heap begin at these addresses, with these messages besides its Symbol Table
 abbrev pub group_written : ℕ → ℕ → OthersBytes → List ℕ
@@ -27,6 +29,7 @@ abbrev pub are_stored : Cells → ℕ → Bool
 are_stored Unset count = false
 are_stored Filled count = nat_lt 0 count
 are_stored (Stored bytes) count = true
+are_stored (Chunks held) count = false
 
 abbrev pub in_chunks : Layout → Bool
 in_chunks (InChunks chunk root) = true
@@ -41,19 +44,32 @@ storage_by (InChunks chunk root) c count = Chunked chunk
 abbrev pub storage_written : Described → Cells → Storage
 storage_written a c = storage_by a.layout c (cells a.sizes)
 
--- the bytes of all cells
+-- the bytes of all cells of an array that is not in chunks
 abbrev pub cells_written : Cells → Described → List ℕ
 cells_written Unset a = cells_bytes a.fixed (replicate (cells a.sizes) a.fill)
 cells_written Filled a = cells_bytes a.fixed (replicate (cells a.sizes) a.fill)
 cells_written (Stored bytes) a = bytes.now
+cells_written (Chunks held) a = cells_bytes a.fixed (replicate (cells a.sizes) a.fill)
 
--- whether cells stand behind the header
+-- all cells, or the chunks that are stored
+abbrev pub stored_written : Cells → Described → ℕ → List ℕ
+stored_written Unset a place = cells_written Unset a
+stored_written Filled a place = cells_written Filled a
+stored_written (Stored bytes) a place = cells_written (Stored bytes) a
+stored_written (Chunks held) a place = chunks_written held place
+
+-- whether cells, or a tree of chunks, stand behind the header
 abbrev pub has_data : Described → Cells → Bool
-has_data a c = is_stored (storage_written a c)
+has_data a c = is_stored (chunks_of c) (storage_written a c)
 
--- the data behind the header, where there are any
-abbrev pub data_written : Cells → Described → List ℕ
-data_written c a = if has_data a c then cells_written c a else []
+-- the data behind the header, at this place, where there are any
+abbrev pub data_written : Cells → Described → ℕ → List ℕ
+data_written c a place = if has_data a c then stored_written c a place else []
+
+-- so many bytes; none where an image cannot have as many
+abbrev pub IsLength : Option ℕ → ℕ → Type 0
+IsLength None long = 2 ^ 31 < long
+IsLength (Some n) long = (n ≡ long) × (long ≤ 2 ^ 31)
 
 -- the address of the data, which stand at this place where there are any
 abbrev pub address_written : Described → Cells → ℕ → Option ℕ
@@ -90,8 +106,9 @@ FitsLayout len (InMessage bytes) = len ≤ 65524
 FitsLayout len (InBlock b) = Unit {0}
 FitsLayout len (InChunks chunk root) = (1 ≤ length chunk) × (list_any (λ n. n == 0) chunk ≡ false)
 
--- an array and its cells that can be written: bytes that are handed over are as many as the cells have
+-- an array and its cells that can be written: bytes that are handed over are as many as the cells have, and chunks are whole
 pub record IsArrayToWrite (a : Described) (c : Cells) : Type 0 where
   pub bounded : are_maxima a.sizes a.maxima ≡ true
   pub fits : FitsLayout (cells a.sizes * (a.fixed).size) a.layout
   pub room : HasRoom c (cells a.sizes * (a.fixed).size)
+  pub chunks : AreWholeChunks c

@@ -1,13 +1,13 @@
 //! The bytes of cells (File Format Specification 3.0, section IV.A.2.d, class 0), and where they stand.
-ghost use Rattle.std.specs.Prelude.{◌≡◌, ◌-◌, ◌*◌, ◌^◌, ◌≤◌, ◌++◌, OnOk, true, length, replicate};
+ghost use Rattle.std.specs.Prelude.{◌≡◌, ℕ, ◌-◌, ◌*◌, ◌^◌, ◌≤◌, ◌++◌, OnOk, true, length, replicate};
 ghost use Rattle.h5_model.specs.Format.Fixed.{bytes_of, fits};
 ghost use Rattle.h5_bytes.specs.Numbers.{zeros};
 ghost use Rattle.h5_model.specs.Format.Plain.{cells_bytes};
 ghost use Rattle.h5_model.specs.Tree.Places.{cells as cells_of};
-ghost use Rattle.h5_repack.specs.Blocks.ArrayHeader.{address_written, are_stored as are_cells_stored, data_written, has_data};
+ghost use Rattle.h5_repack.specs.Blocks.ArrayHeader.{IsArrayToWrite, IsLength, address_written, are_stored as are_cells_stored, data_written, has_data};
 ghost use Rattle.h5_repack.specs.Blocks.Parts.{copies};
-ghost use Rattle.h5_repack.specs.Blocks.Written.{HasRoom};
 
+use crate::blocks::chunks::{chunks_length, has_chunks, length_in_image, push_chunks};
 use h5_bytes::push_bytes;
 use h5_layout::{ArrayRef, HeldChunks, Layout};
 use h5_model::Fixed;
@@ -87,30 +87,34 @@ fn are_stored(cells: &Cells<'_>, count: u64) -> bool
         Cells::Unset => false,
         Cells::Filled => count > 0,
         Cells::Stored(_) => true,
+        Cells::Chunks(_) => false,
     }
 }
 
-/// Whether an array with these cells has data behind its header.
+/// Whether an array with these cells has data behind its header: cells, or chunks with their tree.
 fn stores_data(array: &ArrayRef<'_>, cells: &Cells<'_>) -> bool
     ensures { result ≡ has_data array.now cells.now }
 {
     match array.layout() {
         Layout::Compact(_) => false,
         Layout::Contiguous(_) => are_stored(cells, array.cells()),
-        Layout::Chunked { .. } => false,
+        Layout::Chunked { .. } => has_chunks(cells),
     }
 }
 
-/// How many bytes of data an array with these cells has behind its header.
-pub fn data_length(array: &ArrayRef<'_>, cells: &Cells<'_>) -> u64
-    requires { HasRoom cells.now (cells_of array.now.sizes * array.now.fixed.size) }
-    ensures exact { result ≡ length (data_written cells.now array.now) }
-    ensures few { result ≤ 2 ^ 43 }
+/// How many bytes of data an array with these cells has behind its header; `None` where an image cannot have as many.
+pub fn data_length(array: &ArrayRef<'_>, cells: &Cells<'_>) -> Option<u64>
+    requires { IsArrayToWrite array.now cells.now }
+    ensures { (place : ℕ) → IsLength result (length (data_written cells.now array.now place)) }
 {
-    if stores_data(array, cells) {
-        cells_length(array)
-    } else {
-        0
+    if !stores_data(array, cells) {
+        return Some(0);
+    }
+    match cells {
+        Cells::Unset => unreachable!(),
+        Cells::Filled => length_in_image(cells_length(array)),
+        Cells::Stored(bytes) => length_in_image(bytes.len() as u64),
+        Cells::Chunks(held) => chunks_length(held),
     }
 }
 
@@ -125,14 +129,18 @@ pub fn cells_address(array: &ArrayRef<'_>, cells: &Cells<'_>, place: u64) -> Opt
     }
 }
 
-/// The data of an array with these cells, where there are any behind its header.
+/// The data of an array with these cells, where there are any behind its header: at this place, where `out` ends.
 pub fn push_data(
     alloc: Global,
     out: &mut Vec<u8>,
     array: &ArrayRef<'_>,
     cells: &Cells<'_>,
+    place: u64,
 ) -> Result<(), AllocError>
-    ensures { OnOk result (out.new.items ≡ out.old.items ++ data_written cells.now array.now) }
+    requires array { IsArrayToWrite array.now cells.now }
+    requires low { place ≤ 2 ^ 31 }
+    requires few { length (data_written cells.now array.now place) ≤ 2 ^ 31 }
+    ensures { OnOk result (out.new.items ≡ out.old.items ++ data_written cells.now array.now place) }
 {
     if !stores_data(array, cells) {
         return Ok(());
@@ -141,5 +149,6 @@ pub fn push_data(
         Cells::Unset => unreachable!(),
         Cells::Filled => push_cells(alloc, out, &array.fixed(), array.fill(), array.cells()),
         Cells::Stored(bytes) => push_bytes(out, bytes),
+        Cells::Chunks(held) => push_chunks(alloc, out, held, place),
     }
 }

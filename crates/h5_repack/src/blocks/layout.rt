@@ -92,6 +92,8 @@ fn push_compact(
         Cells::Unset => push_compact_fill(out, array),
         Cells::Filled => push_compact_fill(out, array),
         Cells::Stored(bytes) => push_compact_data(out, bytes),
+        // No chunk is in a header.
+        Cells::Chunks(_) => push_compact_fill(out, array),
     }
 }
 

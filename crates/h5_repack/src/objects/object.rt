@@ -12,7 +12,7 @@ use h5_model::{Link, ObjectNo};
 pub enum NewContent<'a> {
     /// A group, with its links ascending by the bytes of their names.
     Group(Vec<Link<'a, ObjectNo>>),
-    /// An array, whose cells are stored as its layout says: in its header, in one block, or in chunks, of which none is stored.
+    /// An array, whose cells are stored as its layout says: in its header, in one block, or in chunks.
     Array {
         array: ArrayRef<'a>,
         cells: Cells<'a>,

@@ -12,3 +12,6 @@ pub returns : goal.returns
 returns c o is =
     array_pushed c.args.array.now c.args.cells.now c.args.others.now c.args.count c.args.at c.cells_address-address.result c.args.out.now.items c.push_array_header.new.out.items
     c.push_data.new.out.items c.cells_address-address.ensures c.in_ok-push_array_header.ensures c.in_ok-push_data.ensures o is
+
+pub push_data-requires-clause-array : goal.push_data-requires-clause-array
+push_data-requires-clause-array c = array_writable c.args.array.now c.args.cells.now c.args.others.now c.requires.held.0 c.requires.held.1

@@ -5,8 +5,7 @@ use Rattle.std.proofs.lemmas.Option.{slice_get_read}
 use Rattle.std.proofs.lemmas.Result.{err_from_is_err_and}
 use Rattle.std.specs.Prelude.{slice_get}
 use Rattle.std.specs.List.{AllZip}
-use Rattle.h5_model.specs.Tree.Objects.{Object}
-use Rattle.h5_repack.specs.Layout.{IsHeldObject, IsSlotSize}
+use Rattle.h5_repack.specs.Layout.{IsHeldObject, IsSlotSize, StoredObject}
 use Rattle.h5_repack.specs.Objects.Objects.{SlotsHold}
 use Rattle.h5_repack.proofs.Sizes.{unmeasured_at}
 use Rattle.h5_repack.proofs.ObjectLaws.Zips.{zip_right, zip_more}
@@ -31,7 +30,7 @@ returns-in_err-size-clause-refused c =
     rw (p.1, p.2) (λ listed held.
     let o = zip_right (SlotsHold IsHeldObject) objects listed i x held found in
     let un = c.in_err-size.ensures.refused o.0 o.2 in
-    unmeasured_at c.args.leaf c.args.internal listed i un.0 c.in_err-size.field-0.0 (o.1 ∙ ap (λ (place : Option Object). Some place) un.1) un.2)
+    unmeasured_at c.args.leaf c.args.internal listed i un.0 c.in_err-size.field-0.0 (o.1 ∙ ap (λ (place : Option StoredObject). Some place) un.1) un.2)
 
 pub loop-object-preserved : goal.loop-object-preserved
 loop-object-preserved c listed held =
@@ -49,4 +48,4 @@ pub returns-clause-sizes : goal.returns-clause-sizes
 returns-clause-sizes c listed held =
     let i = c.loop-object.object-index in
     let all : take i listed ≡ listed = take_all i listed (subst (λ n. n ≤ i) (sym (AllZip-long (SlotsHold IsHeldObject) c.args.objects.now listed held)) c.loop-object-test.false) in
-    subst (λ (os : List (Option Object)). AllZip (IsSlotSize c.args.leaf c.args.internal) os c.loop-object.sizes.items) all (c.loop-object.invariant listed held)
+    subst (λ (os : List (Option StoredObject)). AllZip (IsSlotSize c.args.leaf c.args.internal) os c.loop-object.sizes.items) all (c.loop-object.invariant listed held)

@@ -1,5 +1,5 @@
 use Rattle.std.proofs.Common.{arith, None}
-use Rattle.h5_repack.proofs.Sizes.{array_bounded, array_few, array_fits, array_room, array_header_size, array_content, array_size}
+use Rattle.h5_repack.proofs.Sizes.{array_bounded, array_few, array_fits, array_header_size, array_long, array_room, array_size, array_writable}
 use Rattle.h5_msg.proofs.WordLaws.{as_many_maxima}
 use Rattle.h5_repack.proofs.size.measure_array.Goals as goal
 
@@ -14,8 +14,8 @@ array_header_length-header-requires-clause-few c = array_few c.args.array.now c.
 pub array_header_length-header-requires-clause-fits : goal.array_header_length-header-requires-clause-fits
 array_header_length-header-requires-clause-fits c = array_fits c.args.array.now c.args.cells.now c.args.others.now c.requires.0 c.requires.1
 
-pub data_length-length-requires : goal.data_length-length-requires
-data_length-length-requires c = array_room c.args.array.now c.args.cells.now c.args.others.now c.requires.0 c.requires.1
+pub data_length-requires : goal.data_length-requires
+data_length-requires c = array_writable c.args.array.now c.args.cells.now c.args.others.now c.requires.0 c.requires.1
 
 pub returns-then-header-gt-MAXIMUM_IMAGE-clause-refused : goal.returns-then-header-gt-MAXIMUM_IMAGE-clause-refused
 returns-then-header-gt-MAXIMUM_IMAGE-clause-refused c leaf internal o is =
@@ -27,16 +27,12 @@ returns-then-header-gt-MAXIMUM_IMAGE-clause-refused c leaf internal o is =
       c.if-header-gt-MAXIMUM_IMAGE.true,
     )
 
-pub returns-then-length-gt-MAXIMUM_IMAGE-clause-refused : goal.returns-then-length-gt-MAXIMUM_IMAGE-clause-refused
-returns-then-length-gt-MAXIMUM_IMAGE-clause-refused c leaf internal o is =
-    omega (
-      arith,
-      c.data_length-length.ensures.exact,
-      array_content c.args.array.now c.args.cells.now c.args.others.now o is leaf internal,
-      c.if-length-gt-MAXIMUM_IMAGE.true,
-    )
+pub returns-in_default-clause-refused : goal.returns-in_default-clause-refused
+returns-in_default-clause-refused c leaf internal o is =
+    array_long c.args.array.now c.args.cells.now c.args.others.now o is leaf internal c.in_default.ensures
 
 pub returns-clause-size : goal.returns-clause-size
 returns-clause-size c leaf internal o is =
-    array_size c.args.array.now c.args.cells.now c.args.others.now o is leaf internal c.array_header_length-header.result c.data_length-length.result
-    (c.array_header_length-header.ensures.exact c.args.cells.now 0 None (array_room c.args.array.now c.args.cells.now c.args.others.now c.requires.0 c.requires.1)) c.data_length-length.ensures.exact c.if-header-gt-MAXIMUM_IMAGE.false c.if-length-gt-MAXIMUM_IMAGE.false
+    array_size c.args.array.now c.args.cells.now c.args.others.now o is leaf internal c.array_header_length-header.result c.in-Some.length
+    (c.array_header_length-header.ensures.exact c.args.cells.now 0 None (array_room c.args.array.now c.args.cells.now c.args.others.now c.requires.0 c.requires.1))
+    c.if-header-gt-MAXIMUM_IMAGE.false c.in-Some.ensures

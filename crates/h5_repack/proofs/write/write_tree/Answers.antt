@@ -10,20 +10,20 @@ use Rattle.h5_repack.proofs.Faults.{unwritten_measured, unwritten_placed}
 use Rattle.h5_repack.proofs.Images.{are_low, image_here}
 use Rattle.h5_laws.proofs.Lists.{all_in}
 use Rattle.h5_repack.specs.Objects.Objects.{IsFilled}
-use Rattle.h5_repack.proofs.Orders.{all_held, as_many_headers, as_many_sizes, below, filled, headers_are, is_order, listed, low_layout, low_size, pairs, some_objects, end_is}
+use Rattle.h5_repack.proofs.Orders.{all_held, are_stored, as_many_headers, as_many_sizes, below, filled, headers_are, is_order, low_layout, low_size, pairs, some_objects, end_is, stored_listed}
 use Rattle.h5_repack.proofs.write.write_tree.Goals as goal
 
 pub measure_all-requires-clause-held : goal.measure_all-requires-clause-held
 measure_all-requires-clause-held c =
     let objects = c.args.objects.now in
-    (listed objects c.requires.tree.0 c.requires.tree.1, all_held objects c.requires.tree.0 c.requires.tree.1)
+    (stored_listed objects c.requires.tree.0 c.requires.tree.1, all_held objects c.requires.tree.0 c.requires.tree.1)
 
 pub returns-in_err-sizes-clause-refused : goal.returns-in_err-sizes-clause-refused
 returns-in_err-sizes-clause-refused c =
     let objects = c.args.objects.now in
     let p = err_from_is_err_and c.from_residual.result c.from_residual.ensures.1 in
     rw (p.1, p.2) (λ tree held. unwritten_measured c.args.leaf c.args.internal objects tree held c.in-Ok.order.items (c.in-Ok.ensures tree held.objects_are held.sound) c.in_err-sizes.field-0.0
-    (c.in_err-sizes.ensures.refused (listed objects tree held) (all_held objects tree held)))
+    (c.in_err-sizes.ensures.refused (stored_listed objects tree held) (all_held objects tree held)))
 
 pub place_all-requires-clause-below : goal.place_all-requires-clause-below
 place_all-requires-clause-below c =
@@ -31,7 +31,7 @@ place_all-requires-clause-below c =
     let tree = c.requires.tree.0 in
     let held = c.requires.tree.1 in
     let met = c.in-Ok.ensures tree held.objects_are held.sound in
-    let sized = c.in_ok-sizes.ensures.sizes (listed objects tree held) (all_held objects tree held) in
+    let sized = c.in_ok-sizes.ensures.sizes (stored_listed objects tree held) (all_held objects tree held) in
     let count : length objects ≡ length c.deref-2.result.now
     = as_many_sizes objects tree held c.in-Ok.order.items met c.args.leaf c.args.internal c.in_ok-sizes.sizes.items sized ∙ ap length (sym c.deref-2.ensures.value) in
     subst (λ (ns : List ℕ). AllByRecursion (λ number. number < length c.deref-2.result.now) ns) (sym c.deref.ensures.value)
@@ -44,9 +44,9 @@ place_all-requires-clause-low c number s found =
     let tree = c.requires.tree.0 in
     let held = c.requires.tree.1 in
     let met = c.in-Ok.ensures tree held.objects_are held.sound in
-    let sized = c.in_ok-sizes.ensures.sizes (listed objects tree held) (all_held objects tree held) in
-    let same : AllZip (IsSlotSize c.args.leaf c.args.internal) (listed objects tree held) c.deref-2.result.now
-    = subst (λ (ss : List Size). AllZip (IsSlotSize c.args.leaf c.args.internal) (listed objects tree held) ss) (sym c.deref-2.ensures.value) sized in
+    let sized = c.in_ok-sizes.ensures.sizes (stored_listed objects tree held) (all_held objects tree held) in
+    let same : AllZip (IsSlotSize c.args.leaf c.args.internal) (stored_listed objects tree held) c.deref-2.result.now
+    = subst (λ (ss : List Size). AllZip (IsSlotSize c.args.leaf c.args.internal) (stored_listed objects tree held) ss) (sym c.deref-2.ensures.value) sized in
     low_size objects tree held c.in-Ok.order.items met c.args.leaf c.args.internal c.deref-2.result.now same number s found
 
 pub returns-in_err-placed-clause-refused : goal.returns-in_err-placed-clause-refused
@@ -59,7 +59,7 @@ returns-in_err-placed-clause-refused c =
     = subst (λ (ns : List ℕ). IsUnplaced sizes ns c.in_err-placed.field-0.0) c.deref.ensures.value
     (subst (λ (ss : List Size). IsUnplaced ss c.deref.result.now c.in_err-placed.field-0.0) c.deref-2.ensures.value c.in_err-placed.ensures.refused) in
     rw (p.1, p.2) (λ tree held. unwritten_placed c.args.leaf c.args.internal objects tree held order (c.in-Ok.ensures tree held.objects_are held.sound) sizes
-    (c.in_ok-sizes.ensures.sizes (listed objects tree held) (all_held objects tree held)) c.in_err-placed.field-0.0 unplaced)
+    (c.in_ok-sizes.ensures.sizes (stored_listed objects tree held) (all_held objects tree held)) c.in_err-placed.field-0.0 unplaced)
 
 pub image_of-requires-clause-layout : goal.image_of-requires-clause-layout
 image_of-requires-clause-layout c =
@@ -69,7 +69,7 @@ image_of-requires-clause-layout c =
     let tree = c.requires.tree.0 in
     let held = c.requires.tree.1 in
     let met = c.in-Ok.ensures tree held.objects_are held.sound in
-    let sized = c.in_ok-sizes.ensures.sizes (listed objects tree held) (all_held objects tree held) in
+    let sized = c.in_ok-sizes.ensures.sizes (stored_listed objects tree held) (all_held objects tree held) in
     let are : AreHeaders sizes order c.in_ok-placed.placed
     = subst (λ (ns : List ℕ). AreHeaders sizes ns c.in_ok-placed.placed) c.deref.ensures.value
     (subst (λ (ss : List Size). AreHeaders ss c.deref.result.now c.in_ok-placed.placed) c.deref-2.ensures.value c.in_ok-placed.ensures.placed) in
@@ -84,7 +84,7 @@ image_of-requires-clause-some c =
     let tree = c.requires.tree.0 in
     let held = c.requires.tree.1 in
     let met = c.in-Ok.ensures tree held.objects_are held.sound in
-    let sized = c.in_ok-sizes.ensures.sizes (listed objects tree held) (all_held objects tree held) in
+    let sized = c.in_ok-sizes.ensures.sizes (stored_listed objects tree held) (all_held objects tree held) in
     omega (
       arith,
       some_objects objects tree held order met,
@@ -104,10 +104,10 @@ image_of-requires-clause-held c =
     let objects = c.args.objects.now in
     let tree = c.requires.tree.0 in
     let held = c.requires.tree.1 in
-    let sized = c.in_ok-sizes.ensures.sizes (listed objects tree held) (all_held objects tree held) in (
-      listed objects tree held,
+    let sized = c.in_ok-sizes.ensures.sizes (stored_listed objects tree held) (all_held objects tree held) in (
+      stored_listed objects tree held,
       all_held objects tree held,
-      subst (λ (ss : List Size). AllZip (IsSlotSize c.args.leaf c.args.internal) (listed objects tree held) ss) (sym c.deref-4.ensures.value) sized,
+      subst (λ (ss : List Size). AllZip (IsSlotSize c.args.leaf c.args.internal) (stored_listed objects tree held) ss) (sym c.deref-4.ensures.value) sized,
     )
 
 pub returns-clause-written : goal.returns-clause-written
@@ -119,7 +119,7 @@ returns-clause-written c tree held =
     let sizes = c.in_ok-sizes.sizes.items in
     let placed = c.in_ok-placed.placed in
     let met = c.in-Ok.ensures tree held.objects_are held.sound in
-    let objects_of = listed objects tree held in
+    let objects_of = stored_listed objects tree held in
     let sized = c.in_ok-sizes.ensures.sizes objects_of (all_held objects tree held) in
     let here : AllZip (IsSlotSize leaf internal) objects_of c.deref-4.result.now
     = subst (λ (ss : List Size). AllZip (IsSlotSize leaf internal) objects_of ss) (sym c.deref-4.ensures.value) sized in
@@ -135,6 +135,7 @@ returns-clause-written c tree held =
     = λ root found. c.in-Ok-image_of.ensures objects_of root (all_held objects tree held) here found
     ∙ ap (λ (ns : List ℕ). front_at layout root placed.end ++ flat_map (numbered_at layout counts objects_of) ns) c.deref-5.ensures.value in
     record {
+      chunks = are_stored objects tree held;
       low = are_low leaf internal objects tree held order met sizes sized placed are c.deref-3.result c.deref-4.result c.deref-3.ensures.value c.deref-4.ensures.value;
       order = pairs objects tree held order met;
       ordered = is_order objects tree held order met;
@@ -152,7 +153,7 @@ returns-clause-numbered c =
     let tree = c.requires.tree.0 in
     let held = c.requires.tree.1 in
     let met = c.in-Ok.ensures tree held.objects_are held.sound in
-    let sized = c.in_ok-sizes.ensures.sizes (listed objects tree held) (all_held objects tree held) in
+    let sized = c.in_ok-sizes.ensures.sizes (stored_listed objects tree held) (all_held objects tree held) in
     let are : AreHeaders sizes order c.in_ok-placed.placed
     = subst (λ (ns : List ℕ). AreHeaders sizes ns c.in_ok-placed.placed) c.deref.ensures.value
     (subst (λ (ss : List Size). AreHeaders ss c.deref.result.now c.in_ok-placed.placed) c.deref-2.ensures.value c.in_ok-placed.ensures.placed) in
