@@ -17,3 +17,6 @@ pub mod CornerLaws
 pub mod KeyWritten
 pub mod TileLaws
 pub mod PushedCorner
+pub mod StandingLaws
+pub mod StandingWritten
+pub mod StandsAt

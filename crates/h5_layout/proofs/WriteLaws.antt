@@ -20,11 +20,11 @@ use Rattle.h5_msg.proofs.WordLaws.{and_left, and_right}
 use Rattle.h5_layout.specs.Written.{block_cells}
 
 -- nothing is written
-with_part-none : (at : ℕ) (bytes : List ℕ) → at ≤ length bytes → with_part at [] bytes ≡ bytes
+pub with_part-none : (at : ℕ) (bytes : List ℕ) → at ≤ length bytes → with_part at [] bytes ≡ bytes
 with_part-none at bytes low = with_part_is at [] bytes (omega (arith, low)) ∙ same_lists _ _ (search (rules, places)) (λ k d l. grind (arith, places))
 
 -- bytes are written one after another
-with_part-append : (at : ℕ) (a b bytes : List ℕ) → at + (length a + length b) ≤ length bytes
+pub with_part-append : (at : ℕ) (a b bytes : List ℕ) → at + (length a + length b) ≤ length bytes
     → with_part at (a ++ b) bytes ≡ with_part (at + length a) b (with_part at a bytes)
 with_part-append at a b bytes room =
     let one : at + length a ≤ length bytes = omega (arith, room) in

@@ -9,6 +9,7 @@ pub mod Maxima
 pub mod Pieces
 pub mod Runs
 pub mod Spans
+pub mod Standing
 pub mod Stored
 pub mod Told
 pub mod Written

@@ -4,6 +4,7 @@
 //! No call takes memory. Places and lengths of data are in bytes, sizes of arrays and chunks in elements.
 #![tactic(auto)]
 
+mod address;
 mod array;
 mod bodies;
 mod cells;
@@ -17,6 +18,7 @@ mod read;
 mod stored;
 mod write;
 
+pub use address::{StoredRun, stored_from, write_stored};
 pub use array::ArrayRef;
 pub use h5_msg::{ChunkSizes, Layout};
 pub use h5_shape::{Dims, MAX_RANK, Slab, SlabFault};
