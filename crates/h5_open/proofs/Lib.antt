@@ -26,6 +26,8 @@ pub mod CellsInPlace
 pub mod PlacedLaws
 pub mod CountedLaws
 pub mod RenumberedLaws
+pub mod ArrayOpened
 pub mod CellsOpened
+pub mod StandingOpened
 pub use Rattle.h5_layout.proofs.RoomLaws
 pub use Rattle.h5_layout.proofs.FillLaws

@@ -31,7 +31,7 @@ use Rattle.h5_open.proofs.OpenedLaws.Entries.{table_entries}
 
 -- ---- contents
 
-dataset_blocks : (image : List ℕ) (ms : List Message) (d : Dataset) (blocks : List Block) → HasDataset image ms d blocks → blocks ≡ data_blocks image (type_told ms) (layout_told ms)
+pub dataset_blocks : (image : List ℕ) (ms : List Message) (d : Dataset) (blocks : List Block) → HasDataset image ms d blocks → blocks ≡ data_blocks image (type_told ms) (layout_told ms)
 dataset_blocks image ms d blocks has =
     let same : array_told ms ≡ in_header image ms d blocks has = told ms (in_header image ms d blocks has) (has_array image ms d blocks has) in
     told_blocks image d.fixed has.layout has.chunks blocks has.stored ∙ ap (λ (a : Described). data_blocks image a.fixed a.layout) (sym same)

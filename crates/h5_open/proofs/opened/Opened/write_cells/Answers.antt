@@ -12,7 +12,8 @@ use Rattle.h5_open.specs.Opened.Objects.{tree_of}
 use Rattle.h5_open.specs.Opened.Sound.{IsWholeFile}
 use Rattle.h5_open.specs.Opened.State.{FileState, opened_state}
 use Rattle.h5_open.specs.Written.{with_run, IsKeptBut, IsStoredRun}
-use Rattle.h5_open.proofs.CellsOpened.{IsCellsWritten, block_there, cells_all_written, content_kept, header_within, slot_there, write_inside, write_of_type, write_room}
+use Rattle.h5_open.proofs.ArrayOpened.{header_within, slot_there}
+use Rattle.h5_open.proofs.CellsOpened.{IsCellsWritten, block_there, cells_all_written, content_kept, write_inside, write_of_type, write_room}
 use Rattle.h5_open.proofs.OpenedLaws.LentSlots.{lent_some, slot_lent, slot_read}
 use Rattle.h5_open.proofs.OpenedLaws.Sounds.{sound}
 use Rattle.h5_open.proofs.opened.Opened.write_cells.Goals as goal
