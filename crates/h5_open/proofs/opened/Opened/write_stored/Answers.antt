@@ -62,3 +62,51 @@ known_array-array-requires c =
       dataset = content.0.kinds;
       array = (array_told (messages_in image.bytes object.messages.list), content.0.array);
     }
+
+-- what was written
+written : (c : goal.After-write_stored) → IsStoredWritten c.self.inside.image c.write_stored.new.image c.self.inside.index.objects.items c.self.inside.index.numbers c.args.number c.args.at c.args.values.now
+written c =
+    let image = c.self.inside.image in
+    let index = c.self.inside.index in
+    let slots = index.objects.items in
+    let object = c.unwrap-object.result.now in
+    let there = slot image slots c.args.self.now c.self.view_is c.args.number c.args.at c.args.values.now c.requires in
+    let run = run_in image slots c.args.self.now c.self.view_is c.args.number c.args.at c.args.values.now c.requires in
+    let at = slot_lent slots c.args.number there.0 there.1 c.index.result.now c.index.ensures c.as_ref.result c.as_ref.ensures.value c.unwrap-object.result c.unwrap-object.ensures in
+    let is : IsFixed c.fixed-fixed.result = search rules in
+    let same : c.fixed-fixed.result ≡ (array_told (messages_in image.bytes object.messages.list)).fixed = c.fixed-fixed.ensures ∙ ap (λ (a : Described). a.fixed) c.known_array-array.ensures in
+    all_stored image slots index.numbers c.self.invariant c.args.number object at c.args.at c.args.values.now run.0 run.1 run.2 (subst IsFixed same is)
+    c.write_stored.new.image (c.write_stored.ensures ∙ ap (λ (t : Fixed). with_bytes_at image c.args.at (cells_bytes t c.args.values.now)) same)
+
+pub invariant_of-self : goal.invariant_of-self
+invariant_of-self c = (written c).opened
+
+pub returns-clause-changed : goal.returns-clause-changed
+returns-clause-changed c place a is =
+    (written c).state place a (subst (λ (f : FileState). IsStandingRun f c.args.number place c.args.values.now c.args.at a) (sym c.self.view_is) is)
+    ∙ ap (λ (f : FileState). record f {
+      image = c.write_stored.new.image.bytes;
+      tree = with_object f.tree c.args.number (with_dataset (with_run place c.args.values.now));
+    }) c.self.view_is
+
+pub returns-clause-leaf : goal.returns-clause-leaf
+returns-clause-leaf c = (written c).leaf ∙ ap (λ (f : FileState). leaf_k f.image) c.self.view_is
+
+pub returns-clause-internal : goal.returns-clause-internal
+returns-clause-internal c = (written c).internal ∙ ap (λ (f : FileState). internal_k f.image) c.self.view_is
+
+pub returns-clause-sound : goal.returns-clause-sound
+returns-clause-sound c = sound c.write_stored.new.image c.self.inside.index.objects.items c.self.inside.index.numbers (written c).opened
+
+pub returns-clause-whole : goal.returns-clause-whole
+returns-clause-whole c whole = (written c).whole (subst IsWholeFile (sym c.self.view_is) whole)
+
+pub returns-clause-local : goal.returns-clause-local
+returns-clause-local c place a is =
+    subst (λ (f : FileState). IsKeptBut f.image c.write_stored.new.image.bytes (length c.args.values.now * a.fixed.size)) c.self.view_is
+    ((written c).local place a (subst (λ (f : FileState). IsStandingRun f c.args.number place c.args.values.now c.args.at a) (sym c.self.view_is) is))
+
+pub returns-clause-chunks : goal.returns-clause-chunks
+returns-clause-chunks c a is =
+    (written c).chunks a (subst (λ (f : FileState). IsArrayThere f c.args.number a) (sym c.self.view_is) is)
+    ∙ ap (λ (f : FileState). stored_chunks f.image a.fixed a.layout) c.self.view_is
