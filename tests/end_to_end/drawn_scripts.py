@@ -1,9 +1,19 @@
-"""Lines of scripts drawn at random, by following what the reference answers to them."""
+"""Lines of scripts drawn at random, by following what the reference answers to them; and the files that the program makes of them."""
+
+import random
+from concurrent.futures import ProcessPoolExecutor
+from dataclasses import dataclass
+from functools import partial
 
 from . import today
+from .drawn_images import linked_image
+from .stored_cells import with_cells
+from .support import STAGE, InFolder, empty_image, h5i
 
 # pylint: disable=wrong-import-order
-from h5oracle.values import TYPES  # noqa: E402
+from h5oracle.model import Dataset, Flat, Resize, Tree, Write, new_boxes, object_at, refusal, same_tree  # noqa: E402
+from h5oracle.script import BadLine, edit_of  # noqa: E402
+from h5oracle.values import TYPES, product  # noqa: E402
 from randscript import Maker  # noqa: E402
 
 # How often each kind of line is drawn where groups and links are made.
@@ -11,21 +21,94 @@ GROUPS = dict(group=16, many=24, line=12, link=14, soft=12, attr=8, unattr=3, du
 # And where arrays of every form are made beside them, and all is repacked at times.
 ARRAYS = dict(dataset=30, group=8, many=12, link=10, soft=6, attr=10, unattr=4, dump=12, root=2, ls=1, repack=3, bad=6, note=1, write=1, unlink=1,
               resize=1, view=1)
+# Where cells are written, and arrays resized.
+WRITES = dict(dataset=14, write=40, resize=14, dump=14, unlink=3, link=5, soft=2, group=4, attr=4, unattr=2, root=1, ls=1, repack=2, bad=5, note=1)
+# And where views are open meanwhile.
+VIEWS = WRITES | dict(view=16, show=30, close=4, dump=5)
+# A chunk of more bytes, which the program takes, would be written again by each edit behind the write that stores it.
+LARGE_CHUNK, LARGEST_CHUNK = 1 << 16, 1 << 30
+# Where nothing else is done, so that most writes are made in a file as others have laid it out.
+CELLS = dict(write=6, dump=1, view=2, show=2)
+
+
+@dataclass
+class Drawn:
+    """An image, a script that edits it, and what comes of it by the reference."""
+
+    image: bytes
+    script: bytes
+    answers: bytes
+    tree: Tree
+    # The file behind it: the plain image where one was written anew, else the old one but for cells.
+    after: bytes
+    anew: bool
+    edits: int
+
+    def stores(self):
+        """How the cells of the arrays are stored, and of how many dimensions they are."""
+        return {(thing.store, len(thing.dims)) for thing in self.tree.objects.values() if isinstance(thing, Dataset)}
 
 
 class LineMaker(Maker):
     """Draws lines of some kinds."""
 
-    def __init__(self, rng, session, kinds):
-        super().__init__(rng, session)
-        self.kinds = kinds
+    def __init__(self, rng, image, kinds):
+        super().__init__(rng, today.session_of(image))
+        self.kinds, self.image = kinds, image
+        # The image was written anew.
+        self.anew = False
 
     def line(self):
-        """The next line, which is also run."""
+        """The next line, which is also run: the line, its answer, and whether an edit was accepted."""
         kind = self.rng.choices(list(self.kinds), list(self.kinds.values()))[0]
         line = getattr(self, "make_" + kind)()
         line = line.encode("ascii") if isinstance(line, str) else line
-        return line, today.answer(self.session, line)
+        edit = self.accepted_edit(line)
+        in_place = isinstance(edit, Write) and self.is_in_place(edit)
+        text, edited = today.answers(self.session, line + b"\n")
+        if edited and not in_place:
+            if isinstance(edit, Resize) and not self.anew:
+                self.keep_chunks(object_at(self.session.tree, edit.path))
+            self.anew = True
+        return line, (text, edited)
+
+    def after(self):
+        """The image behind the lines so far, where an edit was accepted."""
+        return self.session.image() if self.anew else with_cells(self.image, self.session.tree)
+
+    def accepted_edit(self, line):
+        """The edit of a line, if there is one and no rule of the tree refuses it."""
+        try:
+            edit = edit_of(line.split(b" "))
+        except BadLine:
+            return None
+        return None if edit is None or refusal(self.session.tree, self.session.given, edit, STAGE) else edit
+
+    def is_in_place(self, edit):
+        """Whether all cells that the edit writes are stored."""
+        thing = self.session.tree.objects[object_at(self.session.tree, edit.path)]
+        if thing.store == "chunked":
+            return not new_boxes(self.session.tree, edit)
+        return thing.flat is not None or not edit.hyper.cells()
+
+    def keep_chunks(self, number):
+        """Of an array that is resized, chunks that others stored outside of its sizes stay where they are inside of the new ones; all
+        their cells are the fill. The reference's tree has none of them.
+        """
+        reading, _ = today.opened(self.image)
+        thing = self.session.tree.objects[number]
+        for offsets, _ in reading.stored_chunks.get(number, []):
+            if offsets not in thing.chunks and all(at < size for at, size in zip(offsets, thing.dims)):
+                thing.chunks[offsets] = Flat(product(thing.chunk), thing.fixed, thing.fill)
+
+    def make_dataset(self):
+        """A new array, whose chunks are small, or larger than any may be."""
+        while True:
+            line = super().make_dataset()
+            sizes = line.split(" ")[4].removeprefix("chunked:")
+            if sizes[0].isdecimal() and LARGE_CHUNK < 8 * product(map(int, sizes.split(","))) <= 8 * LARGEST_CHUNK:
+                continue
+            return line
 
     def make_root(self):
         """dump of the root"""
@@ -36,3 +119,52 @@ class LineMaker(Maker):
         fixed = self.pick(TYPES.values())
         fill = f" fill={self.value(fixed)}" if self.odd(0.4) else ""
         return f"dataset {self.new_path()} {fixed.text()} {self.rng.randrange(9)} contiguous{fill}"
+
+
+def drawn(seed, name, kinds, lines, others=False):
+    """A script of so many lines of these kinds. Every other image is the empty file, or none where `others` is true. The rest have a
+    layout drawn at random.
+    """
+    rng = random.Random(f"{name} {seed}")
+    return drawn_on(linked_image(rng) if seed % 2 or others else empty_image(), rng, kinds, lines)
+
+
+def drawn_on(image, rng, kinds, lines):
+    """A script of so many lines of these kinds that edits an image."""
+    maker = LineMaker(rng, image, kinds)
+    made = [maker.line() for _ in range(lines)]
+    edits = sum(edited for _, (_, edited) in made)
+    return Drawn(image, b"".join(line + b"\n" for line, _ in made), b"".join(text for _, (text, _) in made), maker.session.tree,
+                 maker.after() if edits else image, maker.anew, edits)
+
+
+class DrawnScripts(InFolder):
+    """Scripts that are drawn, run by the program."""
+
+    def assert_right(self, one):
+        """The answers, the tree and the bytes of a script's file."""
+        path = self.written("e.h5", one.image)
+        self.assertEqual(h5i("run", path, script=one.script), (today.status_of(one.answers), one.answers, b""))
+        after = self.read(path)
+        self.assertTrue(after == one.after)
+        reading, refusal = today.opened(after)
+        self.assertIsNone(refusal)
+        self.assertIsNone(same_tree(reading.tree, one.tree))
+        self.assertEqual(h5i("ls", path), (0, today.listing(one.tree), b""))
+
+    def assert_all_right(self, seeds, *words, **options):
+        """All scripts that `drawn` makes of the seeds and these words: how many edits are accepted, how arrays are stored, and how
+        many of the files were not written anew.
+        """
+        edits, stores, in_place = 0, set(), 0
+        with ProcessPoolExecutor() as pool:
+            for seed, one in enumerate(pool.map(partial(drawn_of, words, options), seeds)):
+                with self.subTest(seed=seed):
+                    self.assert_right(one)
+                edits, stores, in_place = edits + one.edits, stores | one.stores(), in_place + (one.edits > 0 and not one.anew)
+        return edits, stores, in_place
+
+
+def drawn_of(words, options, seed):
+    """The script that `drawn` makes of a seed and these words."""
+    return drawn(seed, *words, **options)

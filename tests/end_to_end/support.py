@@ -9,6 +9,8 @@ import unittest
 TOP = os.path.dirname(os.path.dirname(os.path.dirname(os.path.abspath(__file__))))
 PROGRAM = os.path.abspath(os.environ.get("H5I", os.path.join(TOP, "build", "h5i")))
 REFERENCE = os.path.join(TOP, "tests", "reference", "h5oracle.py")
+# Writes what h5py reads of each file beside it.
+WITH_H5PY = os.path.join(TOP, "tests", "reference", "with_h5py.py")
 # The Python that Debian's h5py belongs to, whatever stands first on PATH.
 LIBRARY_PYTHON = os.environ.get("LIBRARY_PYTHON", "/usr/bin/python3")
 
@@ -50,12 +52,14 @@ def h5i(*words, **options):
     return run_command(PROGRAM, *words, **options)
 
 
-def reference(*words, stage=14, **options):
-    """Runs the reference implementation, as it is without the forms that are not read yet.
+# The reference as the program is: all lines of scripts are taken, an edit is never refused for what edits in place would need, views
+# are gathered anew, and the later forms are not read.
+STAGE = 7
 
-    With stage 2 scripts have the lines `dataset`, `ls` and `dump` alone.
-    """
-    return run_command(sys.executable, REFERENCE, "--stage", str(stage), *words, **options)
+
+def reference(*words, **options):
+    """Runs the reference implementation, as it is at this stage."""
+    return run_command(sys.executable, REFERENCE, "--stage", str(STAGE), *words, **options)
 
 
 def library(code, *words):
@@ -86,6 +90,11 @@ class InFolder(unittest.TestCase):
         """The bytes of a file."""
         with open(path, "rb") as file:
             return file.read()
+
+    def library_texts(self, paths):
+        """What the usual library reads of each file, one at least."""
+        self.assertEqual(run_command(LIBRARY_PYTHON, WITH_H5PY, *paths), (0, b"", b""))
+        return [self.read(path + ".txt") for path in paths]
 
     def new(self, name="e.h5"):
         """The path of a file that the program has made."""

@@ -142,7 +142,7 @@ class EdgeChunks(InFolder):
     def test_the_reference_writes_the_same(self):
         path = self.path("reference.h5")
         reference("new", path)
-        self.assertEqual(reference("run", path, stage=15, script=MAKE_EDGES), (0, b"ok 0\nok 0\n", b""))
+        self.assertEqual(reference("run", path, script=MAKE_EDGES), (0, b"ok 0\nok 0\n", b""))
         self.assertEqual(self.read(path), edges_image())
 
     def test_chunks_that_are_not_stored(self):
@@ -199,10 +199,10 @@ class Written(InFolder):
     """Arrays that the reference writes."""
 
     def written_by_reference(self, script, name="made.h5"):
-        """The path of a file that the reference makes by these lines, with all of its lines."""
+        """The path of a file that the reference makes by these lines."""
         path = self.path(name)
         reference("new", path)
-        status, output, errors = reference("run", path, stage=15, script=script)
+        status, output, errors = reference("run", path, script=script)
         self.assertEqual((status, errors), (0, b""), output)
         return path
 

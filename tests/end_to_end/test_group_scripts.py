@@ -71,7 +71,7 @@ def links_of(tree):
 
 def script_of_groups(seed):
     """A script that makes groups, arrays and links, what the reference answers to it, and its file: how many edits it accepts."""
-    maker = LineMaker(random.Random(f"groups {seed}"), today.session_of(empty_image()), GROUPS)
+    maker = LineMaker(random.Random(f"groups {seed}"), empty_image(), GROUPS)
     made = [maker.line() for _ in range(GROUP_LINES)]
     script = b"".join(line + b"\n" for line, _ in made)
     return script, b"".join(text for _, (text, _) in made), maker.session.image(), sum(edited for _, (_, edited) in made)

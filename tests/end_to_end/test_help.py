@@ -8,8 +8,7 @@ from .support import TOP, InFolder, h5i, reference
 
 SCRIPT_PAGE = os.path.join(TOP, "docs", "SCRIPT.md")
 QUOTED = re.compile(r"`([^`]*)`")
-EXAMPLE = re.compile(r" +Example(, not yet)?: (.*)")
-NOT_YET = r"bad line\n"
+EXAMPLE = re.compile(r" +Example: (.*)")
 LISTING = r"/.*\n(?:.+\n)*?"
 
 
@@ -42,11 +41,9 @@ def help_text(*words):
 
 
 def examples():
-    """Each example line of the help, and whether it is marked as not carried yet."""
-    for line in help_text("help", "run").splitlines():
-        found = EXAMPLE.fullmatch(line)
-        if found:
-            yield found.group(2), found.group(1) is not None
+    """The example lines of the help."""
+    found = (EXAMPLE.fullmatch(line) for line in help_text("help", "run").splitlines())
+    return [each.group(1) for each in found if each]
 
 
 class Version(unittest.TestCase):
@@ -78,8 +75,8 @@ class Lines(InFolder):
 
     def test_each_form_is_named(self):
         text = help_text("help", "run")
-        named = {line.strip().removesuffix(" (not yet)") for line in text.splitlines()}
-        first_words = {line.split(" ")[0] for line, _ in examples()}
+        named = {line.strip() for line in text.splitlines()}
+        first_words = {line.split(" ")[0] for line in examples()}
         found = list(forms())
         self.assertGreater(len(found), 10)
         for form, _ in found:
@@ -91,29 +88,16 @@ class Lines(InFolder):
                 with self.subTest(quoted=quoted):
                     self.assertIn(quoted.strip(), text)
 
-    def expected(self, lines):
-        """The answers that docs/SCRIPT.md has for the lines, and `not yet` for those so marked, as an expression."""
-        answers = {form.split(" ")[0]: answer for form, answer in forms()}
-        return "".join(NOT_YET if not_yet else answers[line.split(" ")[0]] for line, not_yet in lines)
-
     def test_the_examples_are_answered_as_the_page_says(self):
-        lines = list(examples())
-        script = "".join(f"{line}\n" for line, _ in lines).encode()
-        status, output, errors = h5i("run", self.new(), script=script)
-        self.assertEqual((status, errors), (1 if any(not_yet for _, not_yet in lines) else 0, b""))
-        self.assertRegex(output.decode("ascii"), rf"\A{self.expected(lines)}\Z")
+        lines = examples()
+        answers = {form.split(" ")[0]: answer for form, answer in forms()}
+        status, output, errors = h5i("run", self.new(), script="".join(f"{line}\n" for line in lines).encode())
+        self.assertEqual((status, errors), (0, b""))
+        expected = "".join(answers[line.split(" ")[0]] for line in lines)
+        self.assertRegex(output.decode("ascii"), rf"\A{expected}\Z")
 
-    def test_the_examples_that_are_carried_are_answered_as_by_the_reference(self):
-        script = "".join(f"{line}\n" for line, not_yet in examples() if not not_yet).encode()
+    def test_the_examples_are_answered_as_by_the_reference(self):
+        script = "".join(f"{line}\n" for line in examples()).encode()
         other = self.path("other.h5")
         self.assertEqual(reference("new", other)[0], 0)
         self.assertEqual(h5i("run", self.new(), script=script), reference("run", other, script=script))
-
-    def test_all_examples_are_carried_by_the_reference(self):
-        lines = [(line, False) for line, _ in examples()]
-        script = "".join(f"{line}\n" for line, _ in lines).encode()
-        other = self.path("other.h5")
-        self.assertEqual(reference("new", other)[0], 0)
-        status, output, errors = reference("run", other, script=script)
-        self.assertEqual((status, errors), (0, b""))
-        self.assertRegex(output.decode("ascii"), rf"\A{self.expected(lines)}\Z")

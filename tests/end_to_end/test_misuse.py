@@ -25,7 +25,7 @@ class Misuse(Tried):
     """Programs that hold what the library lends them for too long."""
 
     def test_there_are_some(self):
-        self.assertEqual(len(programs()), 2)
+        self.assertEqual(len(programs()), 3)
 
     def test_each_is_refused_at_its_line(self):
         for name, lines in programs().items():

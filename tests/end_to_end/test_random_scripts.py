@@ -61,7 +61,7 @@ def script_of_others(seed):
     """An image in a layout drawn at random, a script that edits it, and how many edits the reference accepts."""
     rng = random.Random(f"others {seed}")
     image = linked_image(rng)
-    maker = LineMaker(rng, today.session_of(image), GROUPS)
+    maker = LineMaker(rng, image, GROUPS)
     made = [maker.line() for _ in range(OTHERS_LINES)]
     return image, b"".join(line + b"\n" for line, _ in made), sum(edited for _, (_, edited) in made)
 
@@ -99,7 +99,7 @@ class RandomScripts(InFolder):
                 image = empty_image()
                 # The second script goes on where the first has ended.
                 for _ in range(2):
-                    maker = LineMaker(rng, today.session_of(image), ATTRIBUTES)
+                    maker = LineMaker(rng, image, ATTRIBUTES)
                     made = [maker.line() for _ in range(rng.randrange(1, MOST_ATTRIBUTE_LINES))]
                     image = self.assert_runs(image, b"".join(line + b"\n" for line, _ in made))
                     accepted += sum(edited for _, (_, edited) in made)

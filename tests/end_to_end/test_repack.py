@@ -8,7 +8,7 @@ from concurrent.futures import ThreadPoolExecutor
 
 from . import today
 from .drawn_images import AT_ONCE, DUMPS, IMAGES, linked_image, paths_of, small_image, word
-from .support import LIBRARY_PYTHON, PROGRAM, REFERENCE, InFolder, empty_image, h5i, library, patched, reference, run_command
+from .support import PROGRAM, InFolder, empty_image, h5i, library, patched, reference
 from .test_corpus import DATA, causes
 from .test_scripts import limited
 
@@ -21,8 +21,6 @@ from h5oracle.reader import Superblock, open_image  # noqa: E402
 LIMIT = 2147483648
 DRAWN = IMAGES // 2
 ACCEPTED = (0, b"ok 0\n", b"")
-# Writes what h5py reads of each file beside it.
-WITH_H5PY = os.path.join(os.path.dirname(REFERENCE), "with_h5py.py")
 NINE_LINKS = b"dataset /d i32le 3 contiguous\n" + b"".join(b"link /d /%c\n" % name for name in b"efghijkl")
 
 # Edits of the usual library: an attribute, a link and an array, and of each array in chunks that may grow more cells, one of which is set.
@@ -173,15 +171,9 @@ class Drawn(Repacked):
 class Library(Repacked):
     """Files that the usual library wrote."""
 
-    def texts(self, paths):
-        """What the usual library reads of each file, one at least."""
-        status, output, errors = run_command(LIBRARY_PYTHON, WITH_H5PY, *paths)
-        self.assertEqual((status, output, errors), (0, b"", b""))
-        return [self.read(path + ".txt") for path in paths]
-
     def assert_same_texts(self, pairs):
         """The usual library reads the same of both files of each pair."""
-        found = self.texts([path for pair in pairs for path in pair])
+        found = self.library_texts([path for pair in pairs for path in pair])
         for (one, _), before, after in zip(pairs, found[::2], found[1::2], strict=True):
             with self.subTest(path=os.path.basename(one)):
                 self.assertNotIn(b"ERROR", before)

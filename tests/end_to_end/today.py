@@ -1,34 +1,30 @@
 """The reference implementation, held to what the program carries today.
 
-Which images are opened, and what is listed and dumped of them, is the reference's own answer. So is that to scripts, but
-that lines which are not taken yet are bad lines.
+Which images are opened, what is listed and dumped of them, and what is answered to scripts is the reference's own answer, at the
+stage at which views are gathered anew and the later forms are not read.
 """
 
 import os
 import sys
 
-from .support import REFERENCE
+from .support import REFERENCE, STAGE
 
 sys.path.insert(0, os.path.dirname(REFERENCE))
 
 # pylint: disable=wrong-import-position
 from h5oracle import reader  # noqa: E402
-from h5oracle.script import SINCE, attr_line, dump_lines, ls_lines, run_script, unescape  # noqa: E402, F401
+from h5oracle.script import attr_line, dump_lines, ls_lines, run_script, unescape  # noqa: E402, F401
 from h5oracle.session import Session  # noqa: E402
 from h5oracle.values import OpenFault  # noqa: E402
 
-# The forms that are read: all but superblock 1, fill version 3 and attribute versions 2 and 3.
-FORMS = 14
-# The lines that are taken: `group`, `dataset`, `link`, `soft`, `attr`, `unattr`, `ls` and `dump`; and some that the reference has since
-# a later stage.
-LINES = 4
-LATER = (b"repack", b"unlink", b"resize")
+# How lines begin that count as refused.
+REFUSED = (b"bad line", b"refused ", b"fault ")
 
 
 def opened(data):
     """The reading of an image, or what `h5i` says where it is refused: number, name and address."""
     try:
-        return reader.open_image(data, FORMS), None
+        return reader.open_image(data, STAGE), None
     except OpenFault as fault:
         return None, str(fault)
 
@@ -53,31 +49,17 @@ def attributes(thing):
     return [attr_line(thing.attrs[name]) for name in sorted(thing.attrs)]
 
 
-def answer(session, line):
-    """The answer to one line of a script, and whether an edit, or `repack`, was accepted."""
-    word = line.split(b" ")[0]
-    session.stage = SINCE[word] if word in LATER else LINES
-    run = run_script(session, line + b"\n")
+def answers(session, script):
+    """The answers to a script, and whether an edit, or `repack`, was accepted."""
+    run = run_script(session, script)
     return run.output(), run.edits > 0
 
 
-def answers(session, script):
-    """The answers to a script, and whether an edit was accepted."""
-    lines = script.split(b"\n")
-    if lines[-1] == b"":
-        lines.pop()
-    each = [answer(session, line) for line in lines]
-    return b"".join(text for text, _ in each), any(edited for _, edited in each)
-
-
 def session_of(image):
-    """The reference's session on an image, with the lines that are taken today."""
-    session = Session.open(image, FORMS)
-    session.stage = LINES
-    session.growth.stage = LINES
-    return session
+    """The reference's session on an image."""
+    return Session.open(image, STAGE)
 
 
 def status_of(output):
     """The status of a run with this output: 1 where a line was refused or bad."""
-    return 1 if any(line == b"bad line" or line.startswith(b"refused ") for line in output.splitlines()) else 0
+    return 1 if any(line.startswith(REFUSED) for line in output.splitlines()) else 0

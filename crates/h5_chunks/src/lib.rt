@@ -15,7 +15,8 @@ mod write;
 
 pub use held::{ChunkPlace, held_places};
 pub use key::OFFSETS;
+pub use offsets::is_key_before;
 pub use read::read_chunks;
 pub use search::chunk_at;
 pub use shape::ChunkShape;
-pub use write::{ChunkKey, push_last_key};
+pub use write::{ChunkKey, push_chunk_key, push_last_key};

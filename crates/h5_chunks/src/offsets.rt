@@ -56,6 +56,17 @@ impl Offsets {
     }
 }
 
+/// Whether the chunk with one key is before that with the other, by the offsets of so many dimensions, compared one by one from
+/// the first on.
+pub fn is_key_before(rank: usize, key: &[u8], other: &[u8]) -> bool
+    requires few { rank ≤ 32 }
+    requires long { length key.now ≡ 8 + 8 * (rank + 1) }
+    requires other_long { length other.now ≡ 8 + 8 * (rank + 1) }
+    ensures { result ≡ is_lt (slice_cmp nat_cmp (offsets_in rank key.now) (offsets_in rank other.now)) }
+{
+    Offsets::of_key(rank, key).is_before(&Offsets::of_key(rank, other))
+}
+
 /// Reads as many offsets of a key as there is room for.
 fn read_offsets(key: &[u8], offsets: &mut [u64])
     requires few { length offsets.old ≤ 32 }

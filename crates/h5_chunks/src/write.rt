@@ -26,6 +26,30 @@ impl TreeKey for ChunkKey<'_> {
     }
 }
 
+/// Appends the key of a chunk of so many bytes, below 2^32, at these offsets.
+pub fn push_chunk_key(out: &mut Vec<u8>, bytes: u64, offsets: &[u64]) -> Result<(), AllocError>
+    requires { bytes < 2 ^ 32 }
+    ensures { OnOk result (out.new.items ≡ out.old.items ++ chunk_key (record {
+      bytes = bytes;
+      offsets = offsets.now;
+    })) }
+{
+    push_middle(out, bytes as u32)?;
+    push_zeros(out, 4)?;
+    push_offsets(out, offsets)?;
+    push_word(out, 0)
+}
+
+/// Appends these offsets.
+fn push_offsets(out: &mut Vec<u8>, offsets: &[u64]) -> Result<(), AllocError>
+    ensures { OnOk result (out.new.items ≡ out.old.items ++ words offsets.now) }
+{
+    for offset in offsets {
+        push_word(out, *offset)?;
+    }
+    Ok(())
+}
+
 /// Appends the last key of a tree, which is of no chunk: that behind the last chunk, whose key and sizes these are.
 ///
 /// That the key is one of a chunk of these sizes, each below 2^32, is the caller's condition.

@@ -115,10 +115,10 @@ pub counted_ends : (file : Text) (input left old new : Option (List ℕ)) (r : I
 counted_ends file input left old new r true none = (r, grind (arith, nat_tests))
 counted_ends file input left old new r false some = (r, grind (arith, nat_tests))
 
-pub run_ends : (file : Text) (input left old new : Option (List ℕ)) (f : FileState) (status : Status) (changed : Option FileState)
+pub run_ends : (file : Text) (input left old new : Option (List ℕ)) (f : FileState) (status : Status) (changed : Option (List ℕ))
     → IsSound f → IsRunOver f input left old new status changed → Ends (Some (WantRun file)) input left old new status
 run_ends file input left old new f status changed sound over = ends_as (Some (WantRun file)) input left old new _ status over.status_is
-    (counted_ends file input left old new (record { file = f; sound = sound; after = _; ran = over.ran; done = over.done }) _ refl)
+    (counted_ends file input left old new (record { file = f; sound = sound; after = over.after; sound_after = over.sound sound; ran = over.ran; done = over.done }) _ refl)
 
 -- and where the file could not be written back, because of the stream
 pub written_ends : (asked : Option Wanted) (input left old new : Option (List ℕ)) (status result : Status)

@@ -1,7 +1,9 @@
 -- How a run ends for what was asked: which statuses it can have, and what stands on the standard output then. `input` and
 -- `left` are the bytes of the standard input before and after the run, `old` and `new` those of the standard output.
 use Rattle.std.specs.Prelude.{◌≡◌, ℕ, ◌<◌, ◌==◌, List, Option, Some, None, if◌then◌else◌}
+use Rattle.h5_script.specs.Opened.Sound.{IsSound}
 use Rattle.h5_script.specs.Opened.State.{FileState}
+use Rattle.h5_script.specs.Session.{SessionState, without_views}
 use Rattle.h5_script.specs.Script.{IsDone}
 use Rattle.h5_script.specs.declared.ran.Ran.{Ran}
 use Rattle.h5_args.specs.Words.{Wanted, WantNew, WantLs, WantDump, WantRun}
@@ -50,10 +52,12 @@ IsUnopened _ = ⊥
 abbrev pub ran_status : Ran → Status
 ran_status ran = if ran.refused == 0 then Done else CommandRefused
 
--- the script was run to its end on this file: the status, and the file to be written back, where an edit was accepted
-pub record IsRunOver (file : FileState) (input left old new : Option (List ℕ)) (status : Status) (changed : Option FileState) : Type 0 where
-  pub after : FileState
+-- The script was run to its end in a session of this file: the status, and the image to be written back, where an edit was accepted. It
+-- is sound where the file was.
+pub record IsRunOver (file : FileState) (input left old new : Option (List ℕ)) (status : Status) (changed : Option (List ℕ)) : Type 0 where
+  pub after : SessionState
   pub ran : Ran
-  pub done : IsDone file after input left old new ran
+  pub done : IsDone (without_views file) after input left old new ran
+  pub sound : IsSound file → IsSound after.file
   pub status_is : status ≡ ran_status ran
-  pub changed_is : changed ≡ (if ran.edits == 0 then None else Some after)
+  pub changed_is : changed ≡ (if ran.edits == 0 then None else Some after.file.image)

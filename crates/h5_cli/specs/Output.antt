@@ -18,6 +18,7 @@ use Rattle.h5_script.specs.Opened.State.{FileState}
 use Rattle.h5_script.specs.Opened.Sound.{IsSound}
 use Rattle.h5_script.specs.Dumped.{IsDumped}
 use Rattle.h5_script.specs.Script.{IsDone}
+use Rattle.h5_script.specs.Session.{SessionState, without_views}
 use Rattle.h5_script.specs.declared.ran.Ran.{Ran}
 use Rattle.h5_cli.specs.declared.status.Status.{Status}
 use Rattle.h5_cli.specs.declared.status.Status.TheVariants.{Done, CommandRefused, StreamFailed, NoMemory}
@@ -72,10 +73,11 @@ pub record IsDumpPrinted (word : Text) (status : Status) (old new : Option (List
 
 -- ---- `h5i run FILE`
 
--- the whole script was run on a file, and the answers of its lines were printed; so many were refused
+-- the whole script was run in a session of a file, and the answers of its lines were printed; so many were refused
 pub record IsScriptRun (input left old new : Option (List ℕ)) : Type 0 where
   pub file : FileState
   pub sound : IsSound file
-  pub after : FileState
+  pub after : SessionState
+  pub sound_after : IsSound after.file
   pub ran : Ran
-  pub done : IsDone file after input left old new ran
+  pub done : IsDone (without_views file) after input left old new ran

@@ -1,6 +1,6 @@
 //! Orders that write a file.
 
-ghost use Rattle.std.specs.Prelude.{◌≡◌, ◌⊎◌, ◌==◌, ℕ, IfOk, List, Option, None, Some, if◌then◌else◌};
+ghost use Rattle.std.specs.Prelude.{◌≡◌, ◌⊎◌, ◌==◌, ℕ, IfOk, List, Option, None, Some, if◌then◌else◌, option_map};
 ghost use Rattle.h5_args.specs.Words.{WantNew, WantRun};
 ghost use Rattle.h5_cli.specs.Ends.{Ends, IsRunOver, ran_status};
 ghost use Rattle.h5_cli.specs.declared.status.Status.TheVariants.{StreamFailed};
@@ -8,7 +8,7 @@ ghost use Rattle.h5_cli.specs.declared.status.Status.TheVariants.{StreamFailed};
 use crate::look::opened;
 use crate::status::Status;
 use crate::tell::{failed, failed_on, no_memory};
-use h5_script::{File, Ran, RunFault, run_script};
+use h5_script::{File, Ran, RunFault, Session, run_script};
 use std::alloc::Global;
 use std::fs;
 use std::io::{Read, Write};
@@ -52,27 +52,33 @@ fn status_of(ran: Ran) -> Status
     }
 }
 
-/// The file, where a script has changed it.
-fn changed_by(ran: Ran, file: File) -> Option<File>
-    ensures { result ≡ (if ran.edits == 0 then None else Some file) }
+/// The bytes of the session's file, where a script has changed it.
+fn changed_by(ran: Ran, session: Session) -> Option<Vec<u8>>
+    ensures { option_map (λ image. image.items) result ≡ (if ran.edits == 0 then None
+        else Some session.file.image) }
 {
-    if ran.edits == 0 { None } else { Some(file) }
+    if ran.edits == 0 {
+        None
+    } else {
+        Some(session.into_image())
+    }
 }
 
-/// Runs the script on a file to its end. The file is given back where it has to be written, that is,
+/// Runs the script on a file to its end. The bytes of the file are given where it has to be written, that is,
 /// where an edit, or `repack`, was accepted.
 pub(crate) fn run_over<I: Read, O: Write>(
     alloc: Global,
-    mut file: File,
+    file: File,
     input: &mut I,
     output: &mut O,
-) -> Result<(Status, Option<File>), RunFault>
+) -> Result<(Status, Option<Vec<u8>>), RunFault>
     ensures { IfOk result (λ over.
         IsRunOver file (I.remaining input.old) (I.remaining input.new) (O.contents output.old)
-        (O.contents output.new) over.0 over.1) }
+        (O.contents output.new) over.0 (option_map (λ image. image.items) over.1)) }
 {
-    let ran = run_script(alloc, &mut file, input, output)?;
-    Ok((status_of(ran), changed_by(ran, file)))
+    let mut session = Session::new(file);
+    let ran = run_script(alloc, &mut session, input, output)?;
+    Ok((status_of(ran), changed_by(ran, session)))
 }
 
 /// Runs a script on the file of this name, and writes the file back where the script ran to its end
@@ -93,7 +99,7 @@ pub fn run<R: Files, I: Read, O: Write, E: Write>(
         Err(status) => return status,
     };
     match run_over(alloc, opened, input, output) {
-        Ok((status, Some(changed))) => write_whole(rt, file, changed.image(), status, errors),
+        Ok((status, Some(changed))) => write_whole(rt, file, &changed, status, errors),
         Ok((status, None)) => status,
         Err(RunFault::NoMemory) => no_memory(errors),
         Err(_) => failed("script failed", errors),

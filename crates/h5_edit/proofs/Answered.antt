@@ -1,5 +1,5 @@
 -- What an edit that is carried, and a repack, is answered by what was written of the tree.
-use Rattle.std.proofs.Common.{◌≡◌, ℕ, ◌+◌, ◌^◌, ◌≤◌, List, length, refl, sym, ap, ◌∙◌, subst, Option, None, arith}
+use Rattle.std.proofs.Common.{◌≡◌, ℕ, ◌+◌, ◌^◌, ◌≤◌, List, length, refl, sym, ap, ◌∙◌, subst, true, Option, None, arith}
 use Rattle.std.specs.Prelude.{IfOk, IfErr, MatchResult, Result, Ok, Err}
 use Rattle.std.specs.Ordering.{nat_cmp}
 use Rattle.std.specs.FinMap.{FinMap}
@@ -32,16 +32,16 @@ use Rattle.h5_repack.specs.declared.write.Written.{Written}
 use Rattle.h5_repack.specs.declared.write.WriteFault.{WriteFault}
 use Rattle.h5_repack.specs.declared.write.WriteFault.TheVariants.{TooLong, TooDeep, NoMemory}
 use Rattle.h5_edit.specs.Answers.{answer_to, fault_of_write}
-use Rattle.h5_edit.specs.Carried.{IsLongAnew, IsRefused, IsShortAnew}
+use Rattle.h5_edit.specs.Carried.{IsLongAnew, IsRefused, IsShortAnew, tree_after}
 use Rattle.h5_edit.specs.Fitting.{IsFitting, made_in}
 use Rattle.h5_edit.specs.Made.{IsEditMade}
 use Rattle.h5_edit.specs.Repacked.{IsRepackMade, IsRepackRefused}
-use Rattle.h5_edit.specs.StoredChunks.{AreStoredAfter}
+use Rattle.h5_edit.specs.StoredChunks.{AreStoredAfter, selecting_of}
 use Rattle.h5_edit.proofs.Changes.{few_after}
 use Rattle.h5_repack.proofs.ImageLaws.PlainImages.{plain_reads, plain_ends}
 use Rattle.h5_edit.proofs.LowRead.{read_low}
 use Rattle.h5_edit.proofs.Numbered.{standing_map}
-use Rattle.h5_edit.proofs.Refusals.{adds_link, by_memory, by_length, by_depth, carried_anew}
+use Rattle.h5_edit.proofs.Refusals.{by_memory, by_length, by_depth, deep_adds}
 use Rattle.h5_edit.proofs.StoredLaws.{length_with}
 
 -- ---- one tree, written
@@ -101,12 +101,12 @@ module _ {f : FileState} (sound : IsSound f) where
 
     module _ (low : AreBytes f.image) where
       plain_after : ArePlain after
-      plain_after = subst ArePlain fitting.gives (edited_plain f edit low sound fitting.typed fitting.carried fitting.accepted fitting.roomy)
+      plain_after = subst ArePlain fitting.gives (edited_plain f edit low sound fitting.typed fitting.accepted fitting.roomy)
 
       pub plain_change : IsPlainChange f.tree f.next change
       plain_change = record { there = fitting.there; plain = opened_plain f low sound; changed_plain = plain_after }
 
-      module _ (new : List (Option NewObject)) (are : AreObjects new after) (chunks_after : AreStoredAfter f after (stored_in new)) where
+      module _ (new : List (Option NewObject)) (are : AreObjects new after) (chunks_after : AreStoredAfter f after (selecting_of f edit) (stored_in new)) where
         pub tree_to_write : IsTreeToWrite new after
         tree_to_write = record { objects_are = are; sound = sound_change; plain = plain_after }
 
@@ -117,13 +117,12 @@ module _ {f : FileState} (sound : IsSound f) where
 
         refused : (fault : WriteFault) → IsUnwritten leaf internal (stored_in new) after fault → IsRefused f edit (fault_of_write fault)
         refused TooLong long =
-            by_length f edit fitting.carried fitting.accepted fitting.roomy
-            (subst (IsLongAnew f) (sym fitting.gives) (length_after, length_with f sound after (stored_in new) chunks_after, long))
+            by_length f edit fitting.anew fitting.accepted fitting.roomy
+            (subst (λ (t : Tree). IsLongAnew f t (selecting_of f edit)) (sym fitting.gives) (length_after, length_with f after (selecting_of f edit) (stored_in new) chunks_after, long))
         refused TooDeep deep =
-            by_depth f edit fitting.carried fitting.accepted fitting.roomy (λ lies.
-            deep.3 (subst (AreLow leaf internal) fitting.gives lies deep.0 deep.1 deep.2))
-            (adds_link sound edit fitting.carried)
-        refused NoMemory no_memory = by_memory f edit fitting.carried
+            let not_low : AreLow leaf internal (tree_after f edit) → ⊥ = λ lies. deep.3 (subst (AreLow leaf internal) fitting.gives lies deep.0 deep.1 deep.2) in
+            by_depth f edit fitting.anew fitting.accepted fitting.roomy not_low (deep_adds sound edit not_low)
+        refused NoMemory no_memory = by_memory f edit fitting.anew
 
         -- ---- written
 
@@ -132,14 +131,17 @@ module _ {f : FileState} (sound : IsSound f) where
         made w is numbered counted = record {
           accepted = record {
             accepted = fitting.accepted;
-            given = rw (carried_anew f.tree edit fitting.carried) (
-              fitting.roomy,
-              subst (IsShortAnew f) (sym fitting.gives)
-                  (length_after, length_with f sound after (stored_in new) chunks_after, short leaf internal (stored_in new) after k_there sound_change plain_after w is),
-              subst (AreLow leaf internal) (sym fitting.gives) is.low,
+            given = λ _. (
+              true,
+              fitting.anew,
+              (
+                fitting.roomy,
+                subst (λ (t : Tree). IsShortAnew f t (selecting_of f edit)) (sym fitting.gives)
+                    (length_after, length_with f after (selecting_of f edit) (stored_in new) chunks_after, short leaf internal (stored_in new) after k_there sound_change plain_after w is),
+                subst (AreLow leaf internal) (sym fitting.gives) is.low,
+              ),
             );
           };
-          carried = fitting.carried;
           anew = record {
             reads = subst (λ (t : Tree). IsPlainReading w.image.items leaf internal (table_with w.headers.items) t) (sym fitting.gives)
                 (read_as leaf internal (stored_in new) after k_there sound_change plain_after w is);
@@ -162,13 +164,13 @@ module _ {f : FileState} (sound : IsSound f) where
 
   -- ---- a repack
 
-  module _ (low : AreBytes f.image) (new : List (Option NewObject)) (are : AreObjects new f.tree) (kept : AreStoredAfter f f.tree (stored_in new)) where
+  module _ (low : AreBytes f.image) (new : List (Option NewObject)) (are : AreObjects new f.tree) (kept : AreStoredAfter f f.tree None (stored_in new)) where
     pub tree_there : IsTreeToWrite new f.tree
     tree_there = record { objects_are = are; sound = sound_there; plain = opened_plain f low sound }
 
     not_repacked : (fault : WriteFault) → IsUnwritten leaf internal (stored_in new) f.tree fault → IsRepackRefused f (fault_of_write fault)
     not_repacked TooLong long =
-        (plain_length leaf internal 32 (counts_of (stored_in new)) f.tree, length_with f sound f.tree (stored_in new) kept, long)
+        (plain_length leaf internal 32 (counts_of (stored_in new)) f.tree, length_with f f.tree None (stored_in new) kept, long)
     not_repacked TooDeep deep = absurd (deep.3 (read_low f.image f.table f.tree (sound.placed, sound.reads) deep.0 deep.1 deep.2))
     not_repacked NoMemory no_memory = tt
 

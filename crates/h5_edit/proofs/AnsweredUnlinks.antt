@@ -38,7 +38,7 @@ use Rattle.h5_edit.specs.StoredChunks.{AreStoredAfter}
 use Rattle.h5_edit.specs.declared.rules.unlink.Removal.{Removal}
 use Rattle.h5_edit.proofs.Answered.{k_there, read_as, short}
 use Rattle.h5_edit.proofs.FitLaws.EditedTrees.{edited_plain}
-use Rattle.h5_edit.proofs.Refusals.{adds_link, by_depth, by_length, by_memory, by_rule}
+use Rattle.h5_edit.proofs.Refusals.{by_depth, by_length, by_memory, by_rule, deep_adds}
 use Rattle.h5_edit.proofs.RuleLaws.Removals.{link_beside}
 use Rattle.h5_edit.proofs.StoredLaws.{length_with}
 
@@ -59,7 +59,7 @@ module _ {f : FileState} (sound : IsSound f) (path : List ℕ) where
   pub not_checked : (e : EditFault) → IsUnlinkFault f.tree f.next path e → IsRefused f edit e
   not_checked e h = elim h [
     | inl memory ↦ subst (IsRefused f edit) (sym memory) (by_memory f edit refl)
-    | inr rule ↦ by_rule sound edit refl e rule
+    | inr rule ↦ by_rule f edit e rule
   ]
 
   module _ (r : Removal) (is : IsRemoval f.tree f.next path r) where
@@ -93,9 +93,9 @@ module _ {f : FileState} (sound : IsSound f) (path : List ℕ) where
 
     module _ (low : AreBytes f.image) where
       plain_after : ArePlain after
-      plain_after = subst ArePlain gives (edited_plain f edit low sound tt refl is.allowed refl)
+      plain_after = subst ArePlain gives (edited_plain f edit low sound tt is.allowed refl)
 
-      module _ (new : List (Option NewObject)) (are : AreObjects new after) (stored : AreStoredAfter f after (stored_in new)) where
+      module _ (new : List (Option NewObject)) (are : AreObjects new after) (stored : AreStoredAfter f after None (stored_in new)) where
         pub left_to_write : IsTreeToWrite new after
         left_to_write = record { objects_are = are; sound = sound_after; plain = plain_after }
 
@@ -103,9 +103,10 @@ module _ {f : FileState} (sound : IsSound f) (path : List ℕ) where
         length_after = plain_length leaf internal 32 (counts_of (stored_in new)) after
 
         refused : (fault : WriteFault) → IsUnwritten leaf internal (stored_in new) after fault → IsRefused f edit (fault_of_write fault)
-        refused TooLong long = by_length f edit refl is.allowed refl (subst (IsLongAnew f) (sym gives) (length_after, length_with f sound after (stored_in new) stored, long))
+        refused TooLong long = by_length f edit refl is.allowed refl (subst (λ (t : Tree). IsLongAnew f t None) (sym gives) (length_after, length_with f after None (stored_in new) stored, long))
         refused TooDeep deep =
-            by_depth f edit refl is.allowed refl (λ lies. deep.3 (subst (AreLow leaf internal) gives lies deep.0 deep.1 deep.2)) (adds_link sound edit refl)
+            let not_low : AreLow leaf internal (tree_after f edit) → ⊥ = λ lies. deep.3 (subst (AreLow leaf internal) gives lies deep.0 deep.1 deep.2) in
+            by_depth f edit refl is.allowed refl not_low (deep_adds sound edit not_low)
         refused NoMemory no_memory = by_memory f edit refl
 
         made : (w : Written) → IsWritten leaf internal (stored_in new) after w → length w.headers.items ≡ length new → length new ≡ f.next
@@ -113,14 +114,17 @@ module _ {f : FileState} (sound : IsSound f) (path : List ℕ) where
         made w written numbered counted = record {
           accepted = record {
             accepted = is.allowed;
-            given = (
+            given = λ _. (
+              true,
               refl,
-              subst (IsShortAnew f) (sym gives)
-                  (length_after, length_with f sound after (stored_in new) stored, short leaf internal (stored_in new) after (k_there sound) sound_after plain_after w written),
-              subst (AreLow leaf internal) (sym gives) written.low,
+              (
+                refl,
+                subst (λ (t : Tree). IsShortAnew f t None) (sym gives)
+                    (length_after, length_with f after None (stored_in new) stored, short leaf internal (stored_in new) after (k_there sound) sound_after plain_after w written),
+                subst (AreLow leaf internal) (sym gives) written.low,
+              ),
             );
           };
-          carried = refl;
           anew = record {
             reads = subst (λ (t : Tree). IsPlainReading w.image.items leaf internal (table_with w.headers.items) t) (sym gives)
                 (read_as leaf internal (stored_in new) after (k_there sound) sound_after plain_after w written);

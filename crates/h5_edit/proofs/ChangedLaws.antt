@@ -4,9 +4,11 @@ pub mod RestLaws
 pub mod OthersLaws
 pub mod CellLaws
 pub mod ResizedLaws
+pub mod StoredArrays
 pub mod LinkLaws
 pub mod NumberedLaws
 pub mod ObjectLaws
 pub mod ChangeLaws
 pub mod StoredSlots
+pub mod MetLaws
 pub mod SlotLaws

@@ -5,6 +5,7 @@ pub mod Bounds
 pub mod PlainArrays
 pub mod NewArrays
 pub mod ResizedArrays
+pub mod WrittenArrays
 pub mod ChangedAttributes
 pub mod OpenedTrees
 pub mod ChangedTrees

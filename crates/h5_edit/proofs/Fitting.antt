@@ -66,7 +66,8 @@ module _ (f : FileState) where
   unfolding applied changed
   create_group_fits placed numbered = record {
     typed = tt;
-    carried = refl;
+    anew = refl;
+    met = refl;
     accepted = placed.allowed;
     roomy = refl;
     gives = ap (λ t. insert t next (new_object (Group empty))) (linked_at placed (ToObject next));
@@ -81,7 +82,8 @@ module _ (f : FileState) where
   unfolding applied changed
   create_dataset_fits spec typed placed numbered = record {
     typed = typed;
-    carried = refl;
+    anew = refl;
+    met = refl;
     accepted = placed.allowed;
     roomy = refl;
     gives = ap (λ t. insert t next (new_object (Array (new_dataset spec.now)))) (linked_at placed (ToObject next));
@@ -95,7 +97,8 @@ module _ (f : FileState) where
   unfolding applied changed
   hard_link_fits {path = path} {number = number} placed = record {
     typed = tt;
-    carried = refl;
+    anew = refl;
+    met = refl;
     accepted = (placed.1).allowed;
     roomy = refl;
     gives = ap (λ o. option_map_or (λ number. linked tree path (ToObject number)) o tree) placed.0 ∙ linked_at placed.1 (ToObject number);
@@ -109,7 +112,8 @@ module _ (f : FileState) where
   unfolding applied changed
   soft_link_fits text placed = record {
     typed = tt;
-    carried = refl;
+    anew = refl;
+    met = refl;
     accepted = placed.allowed;
     roomy = refl;
     gives = linked_at placed (Soft text.now);
@@ -170,7 +174,8 @@ module _ (f : FileState) where
   unfolding applied changed
   set_attr_fits {path = path} {number = number} attr o typed at of few = record {
     typed = typed;
-    carried = refl;
+    anew = refl;
+    met = refl;
     accepted = at.allowed;
     roomy = full_at path attr.now number o at.object of ∙ grind (arith, nat_tests);
     gives = ap (λ o. option_map_or (λ n. with_object tree n (with_attributes (λ m. insert m (attr.now).name (attribute_from attr.now)))) o tree) at.object;
@@ -184,7 +189,8 @@ module _ (f : FileState) where
   unfolding applied changed
   remove_attr_fits sound {path = path} {number = number} name at = record {
     typed = tt;
-    carried = refl;
+    anew = refl;
+    met = refl;
     accepted = at.allowed;
     roomy = refl;
     gives = ap (λ o. option_map_or (λ n. with_object tree n (with_attributes (λ m. remove m name.now))) o tree) at.object;
@@ -203,7 +209,8 @@ module _ (f : FileState) where
       let there : dataset_of tree number ≡ Some at.1 = sym (ap (option_and_then (dataset_of tree)) at.0.object) ∙ at.2 in
       record {
         typed = tt;
-        carried = refl;
+        anew = refl;
+        met = refl;
         accepted = at.0.allowed;
         roomy = sizes_total path number o at.0.object of false roomy dims.now;
         gives = ap (λ o. option_map_or (λ n. with_object tree n (with_dataset (resized dims.now))) o tree) at.0.object;

@@ -8,7 +8,6 @@ pub mod Fitting
 pub mod Answered
 pub mod AnsweredUnlinks
 pub mod RuleLaws
-pub mod RunLaws
 pub mod WrittenTrees
 pub mod FitLaws
 pub mod ChangedLaws
@@ -19,3 +18,13 @@ pub mod CarriedLaws
 pub mod StoredLaws
 pub mod TotalLaws
 pub mod OneLength
+pub mod ArraysThere
+pub mod ChangedTwice
+pub mod WrittenRuns
+pub mod SameLengths
+pub mod MetStored
+pub mod MissingLaws
+pub mod WriteSteps
+pub mod SelectedRuns
+pub mod AnsweredStores
+pub mod OpenedAnew

@@ -12,17 +12,17 @@ use Rattle.std.specs.Cmp.Lexicographic.{nat_list_cmp_total}
 use Rattle.std.proofs.lemmas.Option.{same_Some}
 use Rattle.h5_bytes.specs.Bytes.{part}
 use Rattle.h5_bytes.specs.declared.Block.{Block}
-use Rattle.h5_model.specs.Edits.Applied.{with_dataset, with_links, with_object_at, unlinked, applied, resized}
-use Rattle.h5_model.specs.Edits.ImageAnswers.{adds_entry}
+use Rattle.h5_model.specs.Edits.Applied.{with_dataset, with_links, with_object_at, unlinked, applied, resized, written}
 use Rattle.h5_model.specs.Format.Links.{HasLinks}
 use Rattle.h5_model.specs.Format.PlainLength.{rows_of}
 use Rattle.h5_model.specs.Format.Reads.{Placed, IsPlaced, HasObject, IsSame, Reads, ReadsAs}
 use Rattle.h5_model.specs.Format.Superblock.{leaf_k, internal_k}
 use Rattle.h5_model.specs.Format.Symbols.{Target, IsSymbolNode, entries_of, entry_of, link_of, symbol_bytes, symbols_at, symbols_in, symbols_of}
-use Rattle.h5_model.specs.Tree.Objects.{Tree, Object, Content, Group, Array, Links, links_in, links_of, only_reached, with_object}
+use Rattle.h5_model.specs.Tree.Objects.{Tree, Object, Content, Group, Array, Dataset, Links, links_in, links_of, only_reached, with_object}
 use Rattle.h5_model.specs.Tree.Paths.{object_at}
+use Rattle.h5_model.specs.Views.Selection.{axes_of}
 use Rattle.h5_model.specs.declared.edits.Edit.{Edit}
-use Rattle.h5_model.specs.declared.edits.Edit.TheVariants.{Unlink, SetAttr, RemoveAttr, Resize}
+use Rattle.h5_model.specs.declared.edits.Edit.TheVariants.{Unlink, SetAttr, RemoveAttr, Write, Resize}
 use Rattle.h5_btree.specs.Writing.Written.{root_level}
 use Rattle.h5_laws.proofs.Lists.{In, in_all, from_map}
 use Rattle.h5_laws.proofs.Maps.{entry_of_get}
@@ -30,7 +30,7 @@ use Rattle.h5_laws.proofs.Objects.{content_cases}
 use Rattle.h5_laws.proofs.SoundLaws.Inserted.{same_number_or_other, number_here, number_other}
 use Rattle.h5_laws.proofs.SoundLaws.LinksThere.{group_of}
 use Rattle.h5_repack.specs.Image.Plain.{AreLow, IsLow}
-use Rattle.h5_edit.specs.Carried.{is_carried}
+use Rattle.h5_edit.specs.Carried.{adds_link}
 use Rattle.h5_edit.proofs.FitLaws.ChangedTrees.{each_unlinked}
 use Rattle.h5_edit.proofs.Levels.{flat_few, only_few, rows_fit, root_level-mono, level_read}
 
@@ -100,7 +100,7 @@ module _ (leaf internal : ℕ) where
         (ap links_at stands ∙ sym same ∙ sym (ap links_at (number_here tree number new)) ∙ sym (ap (links_of (insert tree number new)) here) ∙ is)
   ]
 
-  kept_low : (tree : Tree) (path : List ℕ) (change : Object → Object) → ((o : Object) → links_in (change o).content ≡ links_in o.content) → AreLow leaf internal tree
+  pub kept_low : (tree : Tree) (path : List ℕ) (change : Object → Object) → ((o : Object) → links_in (change o).content ≡ links_in o.content) → AreLow leaf internal tree
       → AreLow leaf internal (with_object_at tree path change)
   kept_low tree path change same low = at_path (object_at tree path) where
     at_number : (number : ℕ) (found : Option Object) → get tree number ≡ found → AreLow leaf internal (option_map_or (λ o. insert tree number (change o)) found tree)
@@ -139,16 +139,18 @@ module _ (leaf internal : ℕ) where
           go None there none = absurd (let never : None ≡ Some links = none in cc)
           go (Some o) there e = each_unlinked IsLowGroup low_group tree path (λ n p stands ls here. low n ls (ap links_at stands ∙ here)) number o there links e
 
-  -- other sizes of an array
-  sized_links : (dims : List ℕ) (o : Object) (c : Content) → links_in (with_dataset (resized dims) (record o { content = c })).content ≡ links_in c
-  sized_links dims o (Group links) = refl
-  sized_links dims o (Array d) = refl
+  -- an array that is changed
+  pub array_links : (change : Dataset → Dataset) (o : Object) (c : Content) → links_in (with_dataset change (record o { content = c })).content ≡ links_in c
+  array_links change o (Group links) = refl
+  array_links change o (Array d) = refl
 
-  pub edited_low : 1 ≤ leaf → 1 ≤ internal → (tree : Tree) (edit : Edit) (next : ℕ) → is_carried edit ≡ true → adds_entry edit ≡ false → AreLow leaf internal tree
+  pub edited_low : 1 ≤ leaf → 1 ≤ internal → (tree : Tree) (edit : Edit) (next : ℕ) → adds_link edit ≡ false → AreLow leaf internal tree
       → AreLow leaf internal (applied tree edit next)
   unfolding applied
-  edited_low some some_internal tree (Unlink path) next plain none low = unlinked_low some some_internal tree path low
-  edited_low some some_internal tree (SetAttr path attr) next plain none low = kept_low tree path _ (λ o. refl) low
-  edited_low some some_internal tree (RemoveAttr path name) next plain none low = kept_low tree path _ (λ o. refl) low
-  edited_low some some_internal tree (Resize path dims) next plain none low = kept_low tree path (with_dataset (resized dims)) (λ o. sized_links dims o o.content) low
-  edited_low some some_internal tree _ next plain none low = cc
+  edited_low some some_internal tree (Unlink path) next none low = unlinked_low some some_internal tree path low
+  edited_low some some_internal tree (SetAttr path attr) next none low = kept_low tree path _ (λ o. refl) low
+  edited_low some some_internal tree (RemoveAttr path name) next none low = kept_low tree path _ (λ o. refl) low
+  edited_low some some_internal tree (Resize path dims) next none low = kept_low tree path (with_dataset (resized dims)) (λ o. array_links (resized dims) o o.content) low
+  edited_low some some_internal tree (Write path hyper values) next none low =
+      kept_low tree path (with_dataset (written (axes_of hyper) values)) (λ o. array_links (written (axes_of hyper) values) o o.content) low
+  edited_low some some_internal tree _ next none low = cc

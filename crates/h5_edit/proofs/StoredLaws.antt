@@ -1,10 +1,10 @@
--- Which chunks are stored in an image that is written anew: they are there for each opened image and each edit that is carried.
-use Rattle.std.proofs.Common.{◌≡◌, inl, inr, ℕ, ◌^◌, ◌⊎◌, List, [], true, Option, Some, None, refl, sym, ap, ◌∙◌, subst}
-use Rattle.std.proofs.lemmas.Bool.{cases_lt}
+-- Which chunks are stored in an image that is written anew: they are there for each opened image, and each edit but a write.
+use Rattle.std.proofs.Common.{◌≡◌, ℕ, List, [], Option, Some, None, refl, sym, ap, ◌∙◌, subst}
 use Rattle.std.proofs.lemmas.Option.{same_Some}
 use Rattle.std.specs.Prelude.{option_and_then}
 use Rattle.std.specs.FinMap.{get}
 use Rattle.h5_layout.specs.HeldChunks.{held_chunks}
+use Rattle.h5_layout.specs.StoredAt.{HasStoredChunks}
 use Rattle.h5_model.specs.Edits.Applied.{new_dataset}
 use Rattle.h5_model.specs.Format.PlainLength.{plain_length}
 use Rattle.h5_model.specs.Format.Reads.{HasContent}
@@ -16,8 +16,8 @@ use Rattle.h5_query.specs.Opened.Sound.{IsSound}
 use Rattle.h5_query.specs.Opened.State.{FileState}
 use Rattle.h5_query.proofs.OpenedLaws.Indexed.{next_free}
 use Rattle.h5_repack.specs.Image.Written.{StoredIn, counts_of}
-use Rattle.h5_edit.specs.Carried.{is_carried, tree_after, IsLongAnew, IsShortAnew}
-use Rattle.h5_edit.specs.StoredChunks.{HasLengthAnew, HasStoredChunks, AreStoredAfter, AreStoredAt, AreStoredOf}
+use Rattle.h5_edit.specs.Carried.{tree_after}
+use Rattle.h5_edit.specs.StoredChunks.{HasLengthAnew, AreStoredAfter, AreStoredAt, AreStoredOf, Selecting, selecting_of}
 use Rattle.h5_edit.proofs.CarriedLaws.{ArraysHold, edited_arrays}
 use Rattle.h5_edit.proofs.FitLaws.OpenedTrees.{IsRead, object_read}
 
@@ -40,7 +40,7 @@ module _ (f : FileState) (sound : IsSound f) where
 
   -- whatever sizes it has
   abbrev CanStore : ℕ → Dataset → Type 0
-  CanStore number d = (sizes : List ℕ) → (offsets : List (List ℕ)) × AreStoredOf f.image sizes (get f.table number) offsets
+  CanStore number d = (sizes : List ℕ) → (offsets : List (List ℕ)) × ((chunk : List ℕ) → AreStoredOf f.image sizes chunk None (get f.table number) offsets)
 
   read_stored : (number : ℕ) (o : Object) (there : get f.tree number ≡ Some o) (r : IsRead f sound number o there) (c : Content) (d : Dataset) → dataset_in c ≡ Some d
       → HasContent f.image f.table r.has.messages c r.has.content_blocks → CanStore number d
@@ -56,7 +56,7 @@ module _ (f : FileState) (sound : IsSound f) where
         chunks_are = refl;
       } in (
         held_chunks sizes has.chunks,
-        subst (λ (found : Option ℕ). AreStoredOf f.image sizes found (held_chunks sizes has.chunks)) (sym r.listed) (has.chunks, chunks, refl),
+        λ chunk. subst (λ (found : Option ℕ). AreStoredOf f.image sizes chunk None found (held_chunks sizes has.chunks)) (sym r.listed) (has.chunks, chunks, refl),
       )
 
   opened_stored : ArraysHold CanStore f.tree
@@ -68,40 +68,37 @@ module _ (f : FileState) (sound : IsSound f) where
         read_stored number o there r o.content d (sym (dataset_is f.tree number o o.content there refl) ∙ array) r.has.content
 
   new_stored : (d : Dataset) → CanStore f.next d
-  new_stored d sizes = ([], subst (λ (found : Option ℕ). AreStoredOf f.image sizes found []) (sym no_next_header) refl)
+  new_stored d sizes = ([], λ chunk. subst (λ (found : Option ℕ). AreStoredOf f.image sizes chunk None found []) (sym no_next_header) refl)
 
   -- ---- of a tree
 
   module _ (tree : Tree) (all : ArraysHold CanStore tree) where
-    by_array : (number : ℕ) (found : Option Dataset) → dataset_of tree number ≡ found → (offsets : List (List ℕ)) × AreStoredAt f tree number offsets
+    by_array : (number : ℕ) (found : Option Dataset) → dataset_of tree number ≡ found → (offsets : List (List ℕ)) × AreStoredAt f tree None number offsets
     by_array number None none = ([], λ d array. absurd (let never : None ≡ Some d = sym none ∙ array in cc))
     by_array number (Some e) is =
         let can = all number e is e.sizes in (
           can.0,
-          λ d array chunk chunked. subst (λ (x : Dataset). AreStoredOf f.image x.sizes (get f.table number) can.0) (same_Some e d (sym is ∙ array)) can.1,
+          λ d array chunk chunked.
+              subst (λ (x : Dataset). AreStoredOf f.image x.sizes chunk None (get f.table number) can.0) (same_Some e d (sym is ∙ array)) (can.1 chunk),
         )
 
-    stored_there : (stored : StoredIn) × AreStoredAfter f tree stored
+    stored_there : (stored : StoredIn) × AreStoredAfter f tree None stored
     stored_there = (λ number. (by_array number (dataset_of tree number) refl).0, λ number. (by_array number (dataset_of tree number) refl).1)
 
-  -- how long the image is that is written anew
-  pub length_with : (tree : Tree) (stored : StoredIn) → AreStoredAfter f tree stored
-      → HasLengthAnew f tree (plain_length (leaf_k f.image) (internal_k f.image) 32 (counts_of stored) tree)
-  length_with tree stored are = record { stored = stored; chunks = are; counted = refl }
+-- ---- the length
 
-  pub length_after : (edit : Edit) → is_carried edit ≡ true → (bytes : ℕ) × HasLengthAnew f (tree_after f edit) bytes
-  length_after edit carried =
-      let all = edited_arrays CanStore f.next (λ spec. new_stored (new_dataset spec)) (λ dims number d can. can) f.tree edit carried opened_stored in
-      let there = stored_there (tree_after f edit) all in (
-        plain_length (leaf_k f.image) (internal_k f.image) 32 (counts_of there.0) (tree_after f edit),
-        length_with (tree_after f edit) there.0 there.1,
-      )
+-- how long the image is that is written anew
+pub length_with : (f : FileState) (tree : Tree) (met : Selecting) (stored : StoredIn) → AreStoredAfter f tree met stored
+    → HasLengthAnew f tree met (plain_length (leaf_k f.image) (internal_k f.image) 32 (counts_of stored) tree)
+length_with f tree met stored are = record { stored = stored; chunks = are; counted = refl }
 
-  -- it passes 2^31 bytes, or it does not
-  pub long_or_short : (edit : Edit) → is_carried edit ≡ true → IsLongAnew f (tree_after f edit) ⊎ IsShortAnew f (tree_after f edit)
-  long_or_short edit carried =
-      let n = length_after edit carried in
-      elim (cases_lt (2 ^ 31) n.0) [
-        | inl long ↦ inl (n.0, n.1, long)
-        | inr short ↦ inr (n.0, n.1, short)
-      ]
+-- of a write what is stored anew is what was written
+pub length_after : (f : FileState) → IsSound f → (edit : Edit) → selecting_of f edit ≡ None → (bytes : ℕ) × HasLengthAnew f (tree_after f edit) (selecting_of f edit) bytes
+length_after f sound edit none =
+    let all = edited_arrays (CanStore f sound) f.next (λ spec. new_stored f sound (new_dataset spec)) (λ dims number d can. can) (λ slab values number d can. can) f.tree edit
+    (opened_stored f sound) in
+    let there = stored_there f sound (tree_after f edit) all in (
+      plain_length (leaf_k f.image) (internal_k f.image) 32 (counts_of there.0) (tree_after f edit),
+      subst (λ (met : Selecting). HasLengthAnew f (tree_after f edit) met (plain_length (leaf_k f.image) (internal_k f.image) 32 (counts_of there.0) (tree_after f edit))) (sym none)
+          (length_with f (tree_after f edit) None there.0 there.1),
+    )

@@ -1,224 +1,236 @@
--- The tree that a write gives whose cells stand one behind another, and are stored: the array has the values from a place on.
-use Rattle.std.proofs.Common.{◌≡◌, ◌⊎◌, ℕ, ◌<◌, ◌≤◌, ◌+◌, ◌&&◌, Bool, List, [], ◌∷◌, zero, suc, cond, length, refl, sym, ap, ◌∙◌, subst, Option, Some, None, true, false, nat_lt, arith}
+-- The tree that a write gives: with the values in the selected cells, and with storage for them.
+use Rattle.std.proofs.Common.{◌≡◌, ℕ, zero, suc, ◌<◌, ◌≤◌, ◌&&◌, ◌||◌, Bool, List, [], ◌∷◌, cond, length, refl, sym, ap, ◌∙◌, subst, not, Option, Some, None, true, false, nat_lt, arith}
 use Rattle.std.proofs.lemmas.Bool.Decides.{nat_tests}
-use Rattle.std.specs.Prelude.{ℤ, filter, slice_index_or}
 use Rattle.std.proofs.lemmas.Option.{same_Some}
+use Rattle.std.specs.Prelude.{ℤ, is_some, option_and_then}
 use Rattle.std.specs.FinMap.{get, insert}
-use Rattle.std.specs.List.{AllByRecursion, range_with_len}
-use Rattle.std.specs.Option.{option_map, option_map_or, option_and_then}
-use Rattle.h5_model.specs.Edits.Applied.{applied, with_cells, with_dataset, written, written_storage}
-use Rattle.h5_model.specs.Tree.Objects.{Tree, Object, Content, Group, Array, Dataset, Storage, Compact, Contiguous, Chunked, with_object, dataset_in, dataset_of}
-use Rattle.h5_model.specs.Tree.Paths.{object_at, dataset_at}
-use Rattle.h5_model.specs.Tree.Places.{cells, index_of}
-use Rattle.h5_model.specs.Views.Selection.{Slab, axes_of, is_run, is_selected, selection_of}
-use Rattle.h5_model.specs.declared.edits.Edit.TheVariants.{Write}
-use Rattle.h5_model.specs.declared.edits.Edit.{Edit}
-use Rattle.h5_model.specs.declared.edits.Edited.{Edited}
-use Rattle.h5_model.specs.declared.object_no.ObjectNo.{ObjectNo}
+use Rattle.std.specs.List.{list_any}
+use Rattle.std.specs.Option.{option_map, option_map_or}
+use Rattle.h5_bytes.specs.declared.Block.{Block}
+use Rattle.h5_layout.specs.Described.{Described}
+use Rattle.h5_layout.specs.Standing.{is_stored_cell, is_stored_in}
+use Rattle.h5_model.specs.Edits.Applied.{applied, state_after, with_cells, with_dataset, written, written_storage}
+use Rattle.h5_model.specs.Format.Chunks.{Chunks}
+use Rattle.h5_model.specs.Format.Layout.{Layout, InMessage, InBlock, InChunks}
+use Rattle.h5_model.specs.Format.Reads.{storage_of}
 use Rattle.h5_model.specs.Format.Superblock.{leaf_k, internal_k}
+use Rattle.h5_model.specs.Tree.Objects.{Tree, Object, Content, Array, Dataset, Storage, Compact, Contiguous, Chunked, with_object, dataset_of}
+use Rattle.h5_model.specs.Tree.Paths.{object_at}
+use Rattle.h5_model.specs.Tree.Places.{cells, index_of}
+use Rattle.h5_model.specs.Views.Selection.{Slab, axes_of, selection_of}
+use Rattle.h5_model.specs.declared.edits.Edit.{Edit}
+use Rattle.h5_model.specs.declared.edits.Edit.TheVariants.{Write}
+use Rattle.h5_model.specs.declared.edits.Edited.{Edited}
 use Rattle.h5_model.specs.declared.hyperslab.Hyper.{Hyper}
-use Rattle.h5_model.specs.declared.hyperslab.Axis.{Axis}
-use Rattle.h5_model.proofs.RefusalLaws.{Writes, accepted_write}
-use Rattle.h5_query.specs.Opened.Sound.{IsSound, IsWholeFile}
+use Rattle.h5_model.specs.declared.object_no.ObjectNo.{ObjectNo}
+use Rattle.h5_query.specs.Data.{dataset_told, stored_chunks}
+use Rattle.h5_query.specs.Opened.Sound.{IsSound}
 use Rattle.h5_query.specs.Opened.State.{FileState, state_of}
-use Rattle.h5_query.specs.Written.{with_run, IsStoredRun}
-use Rattle.h5_edit.specs.Carried.{is_anew, may_lack_cells, tree_after}
+use Rattle.h5_query.specs.Written.{IsArrayThere}
+use Rattle.h5_edit.specs.Carried.{tree_after}
+use Rattle.h5_edit.specs.Changed.Missing.{IsMissing, IsMissingIn}
+use Rattle.h5_edit.specs.Changed.Sizes.{IsLacking, stored_all, stored_storage}
 use Rattle.h5_edit.specs.Edited.{IsEdited}
-use Rattle.h5_edit.specs.InRun.{IsInRun, IsRunOf, is_in_one_block}
+use Rattle.h5_edit.specs.LacksStorage.{LacksStorage, lacks_cells}
+use Rattle.h5_edit.specs.Made.{IsAccepted}
 use Rattle.h5_edit.specs.Refusals.Allowed.{IsAt}
-use Rattle.h5_edit.proofs.ChangedLaws.NumberedLaws.{insert_there}
-use Rattle.h5_edit.proofs.RuleLaws.TableLaws.{or_false}
+use Rattle.h5_edit.specs.Stored.{AreValuesWritten, IsStoredAnew, IsStoring, tree_stored, with_places}
+use Rattle.h5_edit.specs.declared.change.missing.Missing.{Missing}
+use Rattle.h5_edit.specs.declared.change.missing.Missing.TheVariants as missing
+use Rattle.h5_edit.proofs.ArraysThere.{array_content, object_there}
+use Rattle.h5_edit.proofs.ChangedTwice.{changed_alike, changed_twice}
+use Rattle.h5_edit.proofs.FitLaws.WrittenArrays.{some_cells}
 use Rattle.h5_edit.proofs.Refusals.{given_in_place}
-use Rattle.h5_edit.proofs.RunLaws.{run_from_start}
+use Rattle.h5_edit.proofs.RuleLaws.TableLaws.{or_false}
 
--- no cell is written
-storage_kept : (s : Storage) → written_storage [] s ≡ s
-storage_kept Compact = refl
-storage_kept (Contiguous stored) = ap Contiguous (or_false stored)
-storage_kept (Chunked sizes) = refl
+-- ---- lists
 
-module _ (tree : Tree) (next : ℕ) (path : List ℕ) (hyper : Hyper) (values : List ℤ) (number : ℕ) (o : Object) (d : Dataset)
-    (at : object_at tree path ≡ Some number) (there : get tree number ≡ Some o) (is : o.content ≡ Array d) where
-  abbrev slab : Slab
-  slab = axes_of hyper
+-- where one passes there is one
+some_of : (test : ℕ → Bool) (places : List ℕ) → list_any test places ≡ true → nat_lt 0 (length places) ≡ true
+some_of test [] any = absurd (let never : false ≡ true = any in cc)
+some_of test (p ∷ ps) any = grind (arith, nat_tests)
 
-  object_written : (change : Dataset → Dataset) → with_object tree number (with_dataset change) ≡ insert tree number (record o { content = Array (change d) })
-  object_written change =
-      ap (λ found. option_map_or (λ (x : Object). insert tree number (with_dataset change x)) found tree) there
-      ∙ ap (λ (c : Content). insert tree number (with_dataset change (record o { content = c }))) is
+none_of : (a b : Bool) → (a || b) ≡ false → (a ≡ false) × (b ≡ false)
+none_of false b none = (refl, none)
+none_of true b none = absurd (let never : true ≡ false = none in cc)
 
-  write_gives : applied tree (Write path hyper values) next ≡ with_object tree number (with_dataset (written slab values))
-  unfolding applied
-  write_gives = ap (λ found. option_map_or (λ n. with_object tree n (with_dataset (written slab values))) found tree) at
+not_false : (b : Bool) → not b ≡ false → b ≡ true
+not_false true is = refl
+not_false false is = absurd (let never : true ≡ false = is in cc)
 
-  -- the cells are stored, and are these
-  pub run_written : d.storage ≡ Contiguous true → (place : ℕ) → selection_of d.sizes slab ≡ range_with_len place (length values)
-      → applied tree (Write path hyper values) next ≡ with_object tree number (with_dataset (with_run place values))
-  run_written stored place run =
-      let kept : written_storage (selection_of d.sizes slab) d.storage ≡ d.storage = ap (written_storage (selection_of d.sizes slab)) stored ∙ sym stored in
-      let same : written slab values d ≡ with_run place values d = (λ i. record d { storage = kept i; cells = with_cells d.cells (run i) values }) in
-      write_gives ∙ object_written (written slab values) ∙ ap (λ (e : Dataset). insert tree number (record o { content = Array e })) same
-      ∙ sym (object_written (with_run place values))
+-- ---- storage
 
-  -- there are none
-  pub none_written : selection_of d.sizes slab ≡ [] → applied tree (Write path hyper values) next ≡ tree
-  none_written none =
-      let kept : written_storage (selection_of d.sizes slab) d.storage ≡ d.storage = ap (λ places. written_storage places d.storage) none ∙ storage_kept d.storage in
-      let same : written slab values d ≡ d = (λ i. record d { storage = kept i; cells = with_cells d.cells (none i) values }) in
-      write_gives ∙ object_written (written slab values) ∙ ap (λ (e : Dataset). insert tree number (record o { content = Array e })) same
-      ∙ ap (λ (c : Content). insert tree number (record o { content = c })) (sym is) ∙ insert_there tree number o there
+module _ (sizes : List ℕ) (slab : Slab) where
+  abbrev places : List ℕ
+  places = selection_of sizes slab
 
--- ---- how far a run goes
+  -- where a selected cell has none, it is made
+  storage_made : (image : List ℕ) (a : Described) (m : Missing) (l : Layout) → IsMissingIn image a slab m l → nat_lt 0 (length places) ≡ true
+      → written_storage places (storage_of sizes l) ≡ stored_storage sizes (storage_of sizes l)
+  storage_made image a missing.Block (InBlock b) none some =
+      let any = some_cells sizes slab some in
+      let here : nat_lt 0 (cells sizes) ≡ true = grind (arith, nat_tests) in
+      ap (λ (c : Option Block). written_storage places (storage_of sizes (InBlock c))) none ∙ ap Contiguous (some ∙ sym here)
+      ∙ sym (ap (λ (c : Option Block). stored_storage sizes (storage_of sizes (InBlock c))) none)
+  storage_made image a missing.Block (InMessage bytes) never some = absurd never
+  storage_made image a missing.Block (InChunks chunk root) never some = absurd never
+  storage_made image a (missing.Chunks new) (InMessage bytes) never some = absurd never
+  storage_made image a (missing.Chunks new) (InBlock b) never some = absurd never
+  storage_made image a (missing.Chunks new) (InChunks chunk root) are some = refl
 
-all_low : (test : ℕ → Bool) (end from len : ℕ) → from + len ≡ end → AllByRecursion (λ y. y < end) (filter test (range_with_len from len))
-all_low test end from zero is = tt
-all_low test end from (suc len) is =
-    let rest : AllByRecursion (λ y. y < end) (filter test (range_with_len (from + 1) len)) = all_low test end (from + 1) len (omega (arith, is)) in
-    elim (test from) as (λ b. AllByRecursion (λ y. y < end) (cond b (from ∷ filter test (range_with_len (from + 1) len)) (filter test (range_with_len (from + 1) len)))) [
-      | true ↦ (omega (arith, is), rest)
-      | false ↦ rest
-    ]
+  lacking_by : (image : List ℕ) (a : Described) (m : Missing) (l : Layout) → IsMissingIn image a slab m l → IsLacking (storage_of sizes l)
+  lacking_by image a missing.Block (InBlock b) none = subst (λ (c : Option Block). IsLacking (storage_of sizes (InBlock c))) (sym none) refl
+  lacking_by image a missing.Block (InMessage bytes) never = absurd never
+  lacking_by image a missing.Block (InChunks chunk root) never = absurd never
+  lacking_by image a (missing.Chunks new) (InMessage bytes) never = absurd never
+  lacking_by image a (missing.Chunks new) (InBlock b) never = absurd never
+  lacking_by image a (missing.Chunks new) (InChunks chunk root) are = tt
 
-ends_by : (end start len : ℕ) → AllByRecursion (λ y. y < end) (range_with_len start (suc len)) → start + suc len ≤ end
-ends_by end start zero all = let low = all.0 in omega (arith, low)
-ends_by end start (suc len) all = let rest = ends_by end (start + 1) len all.1 in omega (arith, rest)
+  -- where each has, it stays
+  storage_kept : (l : Layout) (chunks : Chunks) → list_any (λ place. not (is_stored_in l chunks (index_of sizes place))) places ≡ false
+      → written_storage places (storage_of sizes l) ≡ storage_of sizes l
+  storage_kept (InMessage bytes) chunks none = refl
+  storage_kept (InChunks chunk root) chunks none = refl
+  storage_kept (InBlock b) chunks none = by_places places refl where
+    by_places : (ps : List ℕ) → places ≡ ps → Contiguous ((is_some b && nat_lt 0 (cells sizes)) || nat_lt 0 (length places)) ≡ Contiguous (is_some b && nat_lt 0 (cells sizes))
+    by_places [] is = ap Contiguous (ap (λ (ps : List ℕ). (is_some b && nat_lt 0 (cells sizes)) || nat_lt 0 (length ps)) is ∙ or_false (is_some b && nat_lt 0 (cells sizes)))
+    by_places (p ∷ ps) is =
+        let first = none_of (not (is_some b)) (list_any (λ place. not (is_some b)) ps) (sym (ap (list_any (λ place. not (is_some b))) is) ∙ none) in
+        let block : is_some b ≡ true = not_false (is_some b) first.0 in
+        let more : nat_lt 0 (length (p ∷ ps)) ≡ true = grind (arith, nat_tests) in
+        let some : nat_lt 0 (length places) ≡ true = ap (λ (qs : List ℕ). nat_lt 0 (length qs)) is ∙ more in
+        let any = some_cells sizes slab some in
+        let test : nat_lt 0 (cells sizes) ≡ true = grind (arith, nat_tests) in
+        let both : (is_some b && nat_lt 0 (cells sizes)) ≡ true = (λ i. block i && test i) in
+        ap Contiguous ((λ i. both i || some i) ∙ sym both)
 
-run_ends : (sizes : List ℕ) (axes : Slab) (start len : ℕ) → 0 < len → selection_of sizes axes ≡ range_with_len start len → start + len ≤ cells sizes
-unfolding selection_of
-run_ends sizes axes start zero some is = absurd (omega (arith, some))
-run_ends sizes axes start (suc len) some is =
-    ends_by (cells sizes) start len (subst (AllByRecursion (λ y. y < cells sizes)) is (all_low (λ place. is_selected axes (index_of sizes place)) (cells sizes) 0 (cells sizes) (omega arith)))
+-- ---- the array of an opened image
 
--- ---- a write of an opened image that no rule refuses
+module _ (f : FileState) (number : ℕ) (a : Described) (there : IsArrayThere f number a) (d : Dataset) (array : dataset_of f.tree number ≡ Some d) where
+  told_is : dataset_told f.image a ≡ d
+  told_is = same_Some (dataset_told f.image a) d (sym there.told ∙ array)
 
--- a list of one
-one_of : {X : Type 0} (xs : List X) → length xs ≡ 1 → (x : X) × (xs ≡ x ∷ [])
-one_of [] one = absurd (cc)
-one_of (x ∷ []) one = (x, refl)
-one_of (x ∷ y ∷ xs) one = absurd (omega (arith, one))
+  pub sizes_are : a.sizes ≡ d.sizes
+  sizes_are = ap (λ (x : Dataset). x.sizes) told_is
 
-not_anew : (lacks some : Bool) → (lacks && some) ≡ false → some ≡ true → lacks ≡ false
-not_anew false some none more = refl
-not_anew true true none more = absurd (cc)
-not_anew true false none more = absurd (cc)
+  storage_is : storage_of a.sizes a.layout ≡ d.storage
+  storage_is = ap (λ (x : Dataset). x.storage) told_is
 
-stored_by : (s : Storage) → is_in_one_block s ≡ true → may_lack_cells s ≡ false → s ≡ Contiguous true
-stored_by (Contiguous true) is has = refl
-stored_by (Contiguous false) is has = absurd (let never : true ≡ false = has in cc)
-stored_by Compact is has = absurd (let never : false ≡ true = is in cc)
-stored_by (Chunked sizes) is has = absurd (let never : false ≡ true = is in cc)
+  module _ (slab : Slab) where
+    pub lacking_of : (m : Missing) → IsMissing f.image a slab m → IsLacking d.storage
+    lacking_of m is = subst IsLacking storage_is (lacking_by a.sizes slab f.image a m a.layout is)
 
-module _ (f : FileState) (sound : IsSound f) (path : List ℕ) (hyper : Hyper) (values : List ℤ) (number : ℕ)
-    (at : IsAt f.tree f.next path (Write path hyper values) number) (run : IsInRun f.tree path hyper) where
-  abbrev found : (d : Dataset) × (dataset_at f.tree path ≡ Some d) × Writes d (axes_of hyper) values
-  found = accepted_write f.tree f.next path hyper values at.allowed
+    -- a cell is selected
+    some_selected : lacks_cells f.image a slab ≡ true → nat_lt 0 (length (selection_of a.sizes slab)) ≡ true
+    some_selected lacks = some_of (λ place. not (is_stored_cell f.image a place)) (selection_of a.sizes slab) lacks
 
-  abbrev d : Dataset
-  d = found.0
+    -- with the storage that was missing it is stored as a write stores it
+    made_as : (m : Missing) → IsMissing f.image a slab m → lacks_cells f.image a slab ≡ true
+        → written_storage (selection_of d.sizes slab) d.storage ≡ stored_storage d.sizes d.storage
+    made_as m is lacks =
+        subst (λ (x : Dataset). written_storage (selection_of x.sizes slab) x.storage ≡ stored_storage x.sizes x.storage) told_is
+        (storage_made a.sizes slab f.image a m a.layout is (some_selected lacks))
 
-  array : dataset_of f.tree number ≡ Some d
-  array = sym (ap (option_and_then (dataset_of f.tree)) at.object) ∙ found.1
+    -- and where none is missing it stays so
+    kept_as : lacks_cells f.image a slab ≡ false → written_storage (selection_of d.sizes slab) d.storage ≡ d.storage
+    kept_as none =
+        subst (λ (x : Dataset). written_storage (selection_of x.sizes slab) x.storage ≡ x.storage) told_is
+        (storage_kept a.sizes slab a.layout (stored_chunks f.image a.fixed a.layout) none)
 
-  of_run : IsRunOf d hyper
-  of_run = run d found.1
+-- ---- the tree
 
-  -- it has one dimension
-  size_is : (n : ℕ) × (d.sizes ≡ n ∷ [])
-  size_is = one_of d.sizes of_run.line
-
-  pub axis_is : (a : Axis) × (axes_of hyper ≡ a ∷ [])
-  axis_is = one_of (axes_of hyper) ((found.2).ranked ∙ of_run.line)
-
-  -- its cells are stored, where one is written
-  pub run_stored : is_anew f.tree (Write path hyper values) ≡ false → 0 < length values → d.storage ≡ Contiguous true
-  run_stored in_place some =
-      let counted = (found.2).counted in
-      let more : nat_lt 0 (length (selection_of d.sizes (axes_of hyper))) ≡ true = grind (arith, nat_tests) in
-      let tests = sym (ap (λ o. option_map_or (λ (e : Dataset). may_lack_cells e.storage && nat_lt 0 (length (selection_of e.sizes (axes_of hyper)))) o false) found.1) ∙ in_place in
-      stored_by d.storage of_run.in_block (not_anew (may_lack_cells d.storage) (nat_lt 0 (length (selection_of d.sizes (axes_of hyper)))) tests more)
-
-  pub one_axis : (axes : Slab) → axes ≡ axes_of hyper → 0 < length axes
-  one_axis axes are = let one = ap length (are ∙ axis_is.1) in omega (arith, one)
-
-  -- they stand from the start on
-  form : (selection_of d.sizes (axes_of hyper) ≡ []) ⊎ (is_run (selection_of d.sizes (axes_of hyper)) ≡ true)
-  form = of_run.run
-
-  pub run_is : selection_of d.sizes (axes_of hyper) ≡ range_with_len (axis_is.0).start (length values)
-  run_is =
-      let both : selection_of d.sizes (axes_of hyper) ≡ selection_of (size_is.0 ∷ []) ((axis_is.0) ∷ []) = (λ i. selection_of (size_is.1 i) (axis_is.1 i)) in
-      let of_one : (selection_of (size_is.0 ∷ []) ((axis_is.0) ∷ []) ≡ []) ⊎ (is_run (selection_of (size_is.0 ∷ []) ((axis_is.0) ∷ [])) ≡ true)
-      = subst (λ (places : List ℕ). (places ≡ []) ⊎ (is_run places ≡ true)) both form in
-      both ∙ run_from_start size_is.0 axis_is.0 of_one
-      ∙ ap (range_with_len (axis_is.0).start) (sym (ap length both) ∙ sym (found.2).counted)
-
-  pub run_room : 0 < length values → (axis_is.0).start + length values ≤ cells d.sizes
-  run_room some = run_ends d.sizes (axes_of hyper) (axis_is.0).start (length values) some run_is
-
-  object_is : (o : Object) × (get f.tree number ≡ Some o) × (o.content ≡ Array d)
-  object_is = go (get f.tree number) refl where
-    at_content : (o : Object) (c : Content) → o.content ≡ c → get f.tree number ≡ Some o → o.content ≡ Array d
-    at_content o (Group links) is there = absurd (let never : None ≡ Some d = sym (ap (option_and_then (λ (x : Object). dataset_in x.content)) there ∙ ap dataset_in is) ∙ array in cc)
-    at_content o (Array e) is there =
-        is ∙ ap Array (same_Some e d (sym (ap (option_and_then (λ (x : Object). dataset_in x.content)) there ∙ ap dataset_in is) ∙ array))
-
-    go : (x : Option Object) → get f.tree number ≡ x → (o : Object) × (get f.tree number ≡ Some o) × (o.content ≡ Array d)
-    go None none = absurd (let never : None ≡ Some d = sym (ap (option_and_then (λ (x : Object). dataset_in x.content)) none) ∙ array in cc)
-    go (Some o) there = (o, there, at_content o o.content refl there)
-
-  -- the tree of the write, and where no cell is written
-  pub tree_written : is_anew f.tree (Write path hyper values) ≡ false → 0 < length values
-      → tree_after f (Write path hyper values) ≡ with_object f.tree number (with_dataset (with_run (axis_is.0).start values))
-  tree_written in_place some =
-      run_written f.tree f.next path hyper values number object_is.0 d at.object object_is.1 object_is.2 (run_stored in_place some) (axis_is.0).start run_is
-
-  pub tree_kept : length values ≡ 0 → tree_after f (Write path hyper values) ≡ f.tree
-  tree_kept none =
-      let nothing : selection_of d.sizes (axes_of hyper) ≡ [] = run_is ∙ ap (range_with_len (axis_is.0).start) none in
-      none_written f.tree f.next path hyper values number object_is.0 d at.object object_is.1 object_is.2 nothing
-
-  -- ---- the image
-
+module _ (f : FileState) (path : List ℕ) (hyper : Hyper) (values : List ℤ) (number : ℕ) (at : object_at f.tree path ≡ Some number) where
   abbrev edit : Edit
   edit = Write path hyper values
 
-  module _ (in_place : is_anew f.tree edit ≡ false) where
-    -- where cells are written: what is asked, and the tree that is made
-    module _ (some : 0 < length values) (axes : Slab) (are : axes ≡ axes_of hyper) (other : Axis) where
-      abbrev place : ℕ
-      place = (slice_index_or axes 0 other).start
+  abbrev slab : Slab
+  slab = axes_of hyper
 
-      first : slice_index_or axes 0 other ≡ axis_is.0
-      first = ap (λ (xs : Slab). slice_index_or xs 0 other) (are ∙ axis_is.1)
+  write_gives : tree_after f edit ≡ with_object f.tree number (with_dataset (written slab values))
+  unfolding applied
+  write_gives = ap (λ found. option_map_or (λ n. with_object f.tree n (with_dataset (written slab values))) found f.tree) at
 
-      pub stored_run : (e : Dataset) × IsStoredRun f.tree number place values e
-      stored_run =
-          let there : IsStoredRun f.tree number (axis_is.0).start values d
-          = record { array = array; stored = run_stored in_place some; room = run_room some; of_type = (found.2).fitting } in
-          (d, subst (λ (a : Axis). IsStoredRun f.tree number a.start values d) (sym first) there)
+  module _ (a : Described) (there : IsArrayThere f number a) (d : Dataset) (array : dataset_of f.tree number ≡ Some d) where
+    abbrev chosen : List ℕ
+    chosen = selection_of d.sizes slab
 
-      tree_run : with_object f.tree number (with_dataset (with_run place values)) ≡ tree_after f edit
-      tree_run = ap (λ (a : Axis). with_object f.tree number (with_dataset (with_run a.start values))) first ∙ sym (tree_written in_place some)
+    -- in place the cells alone are others
+    pub tree_in_place : lacks_cells f.image a slab ≡ false → with_object f.tree number (with_dataset (with_places chosen values)) ≡ tree_after f edit
+    tree_in_place none =
+        changed_alike f.tree number d array (with_places chosen values) (written slab values)
+        (ap (λ (s : Storage). record d { storage = s; cells = with_cells d.cells chosen values }) (sym (kept_as f number a there d array slab none)))
+        ∙ sym write_gives
 
-    module _ (e : Edited) (named : option_map (λ (o : ObjectNo). o.0) e.object ≡ Some number) (refreshed : e.refreshed ≡ 0) where
-      edited : (after : FileState) → state_of after ≡ state_of (record f { tree = tree_after f edit }) → IsSound after → (IsWholeFile f → IsWholeFile after)
-          → leaf_k after.image ≡ leaf_k f.image → internal_k after.image ≡ internal_k f.image → IsEdited f edit after e
-      edited after state is whole leaf internal = record {
-        accepted = record { accepted = at.allowed; given = given_in_place f edit in_place };
-        state = state;
-        sound = is;
-        whole = whole;
-        leaf = leaf;
-        internal = internal;
-        object = named ∙ sym at.object;
-        refreshed = refreshed;
-      }
+    module _ (m : Missing) (is : IsMissing f.image a slab m) (lacks : lacks_cells f.image a slab ≡ true) where
+      written_is : with_places chosen values (stored_all d) ≡ written slab values d
+      written_is = ap (λ (s : Storage). record d { storage = s; cells = with_cells d.cells chosen values }) (sym (made_as f number a there d array slab m is lacks))
 
-      pub edited_none : length values ≡ 0 → IsEdited f edit f e
-      edited_none none = edited f (ap (λ (t : Tree). state_of (record f { tree = t })) (sym (tree_kept none))) sound (λ whole. whole) refl refl
+      -- the cells of the tree with the storage that was missing
+      pub tree_anew : with_object (tree_stored f number) number (with_dataset (with_places chosen values)) ≡ tree_after f edit
+      tree_anew =
+          changed_twice f.tree number stored_all (with_places chosen values)
+          ∙ changed_alike f.tree number d array (λ e. with_places chosen values (stored_all e)) (written slab values) written_is
+          ∙ sym write_gives
 
-      pub edited_run : (some : 0 < length values) (axes : Slab) (are : axes ≡ axes_of hyper) (other : Axis) (after : FileState)
-          → after ≡ record f { image = after.image; tree = with_object f.tree number (with_dataset (with_run (slice_index_or axes 0 other).start values)) }
-          → IsSound after → (IsWholeFile f → IsWholeFile after) → leaf_k after.image ≡ leaf_k f.image → internal_k after.image ≡ internal_k f.image → IsEdited f edit after e
-      edited_run some axes are other after changed =
-          edited after (ap state_of changed ∙ ap (λ (t : Tree). state_of (record f { tree = t })) (tree_run some axes are other))
+      -- both trees by their one object that differs
+      pub record AreBoth : Type 0 where
+        pub o : Object
+        pub cs : List ℤ
+        pub before : tree_stored f number ≡ insert f.tree number (record o { content = Array (stored_all d) })
+        pub after : tree_after f edit ≡ insert f.tree number (record o { content = Array (record (stored_all d) { cells = cs }) })
+
+      pub both_trees : AreBoth
+      both_trees =
+          let o = object_there f number d array in
+          let content = array_content o.0.content d o.2 in
+          record {
+            o = o.0;
+            cs = with_cells d.cells chosen values;
+            before = object_changed o.0 content o.1 stored_all;
+            after = write_gives ∙ object_changed o.0 content o.1 (written slab values)
+                ∙ ap (λ (e : Dataset). insert f.tree number (record o.0 { content = Array e })) (sym written_is);
+          } where
+            object_changed : (o : Object) → o.content ≡ Array d → get f.tree number ≡ Some o → (change : Dataset → Dataset)
+                → with_object f.tree number (with_dataset change) ≡ insert f.tree number (record o { content = Array (change d) })
+            object_changed o content there change =
+                ap (λ found. option_map_or (λ (x : Object). insert f.tree number (with_dataset change x)) found f.tree) there
+                ∙ ap (λ (c : Content). insert f.tree number (with_dataset change (record o { content = c }))) content
+
+-- ---- the edited image
+
+module _ (f : FileState) (sound : IsSound f) (path : List ℕ) (hyper : Hyper) (values : List ℤ) (number : ℕ)
+    (at : IsAt f.tree f.next path (Write path hyper values) number) (a : Described) (there : IsArrayThere f number a) (d : Dataset)
+    (array : dataset_of f.tree number ≡ Some d) (e : Edited) (named : option_map (λ (o : ObjectNo). o.0) e.object ≡ Some number) (refreshed : e.refreshed ≡ 0) where
+  abbrev wrote : Edit
+  wrote = Write path hyper values
+
+  pub edited_in_place : lacks_cells f.image a (axes_of hyper) ≡ false → (now : FileState) → AreValuesWritten f number (selection_of d.sizes (axes_of hyper)) values now
+      → IsEdited f wrote now e
+  edited_in_place none now is = record {
+    accepted = record { accepted = at.allowed; given = given_in_place f wrote (number, a, at.object, there, none) };
+    state = ap state_of is.changed ∙ ap (λ (t : Tree). state_of (record f { tree = t })) (tree_in_place f path hyper values number at.object a there d array none);
+    sound = is.sound sound;
+    whole = is.whole;
+    leaf = is.leaf;
+    internal = is.internal;
+    object = named ∙ sym at.object;
+    refreshed = refreshed;
+  }
+
+  module _ (m : Missing) (missed : IsMissing f.image a (axes_of hyper) m) (lacks : lacks_cells f.image a (axes_of hyper) ≡ true) where
+    pub edited_anew : (fresh : FileState) → IsStoredAnew f path hyper values number fresh → (now : FileState)
+        → AreValuesWritten fresh number (selection_of d.sizes (axes_of hyper)) values now → IsEdited f wrote now e
+    edited_anew fresh made now is = record {
+      accepted = made.accepted;
+      state = ap state_of is.changed ∙ (λ i. record {
+        tree = with_object ((made.anew.state i).tree) number (with_dataset (with_places (selection_of d.sizes (axes_of hyper)) values));
+        next = (made.anew.state i).next;
+      })
+          ∙ ap (λ (t : Tree). state_of (record f { tree = t })) (tree_anew f path hyper values number at.object a there d array m missed lacks);
+      sound = is.sound made.anew.sound;
+      whole = λ _. is.whole made.anew.whole;
+      leaf = is.leaf ∙ made.anew.leaf;
+      internal = is.internal ∙ made.anew.internal;
+      object = named ∙ sym at.object;
+      refreshed = refreshed;
+    }

@@ -1,51 +1,30 @@
--- Which edits are carried so far, and when one is refused.
-use Rattle.std.specs.Prelude.{◌≡◌, ℕ, ◌^◌, ◌+◌, ◌≤◌, ◌<◌, ◌&&◌, Bool, true, false, not, IsTrue, nat_lt, Option, Some, None, List, length}
+-- Which edits write the image anew, what image and memory decide of an edit beside the rules of the tree, and when it is refused.
+use Rattle.std.specs.Prelude.{◌≡◌, ℕ, ◌^◌, ◌+◌, ◌≤◌, ◌<◌, ◌&&◌, Bool, true, false, IsTrue, nat_lt, Option, Some, None, List}
 use Rattle.std.specs.FinMap.{get}
 use Rattle.std.specs.Option.{option_map_or, option_and_then}
 use Rattle.h5_model.specs.Edits.Applied.{applied}
-use Rattle.h5_model.specs.Edits.ImageAnswers.{adds_entry, chosen}
+use Rattle.h5_model.specs.Edits.ImageAnswers.{chosen}
 use Rattle.h5_model.specs.Format.Messages.{prefix_at, total_in}
-use Rattle.h5_model.specs.Tree.Paths.{object_at, dataset_at}
-use Rattle.h5_model.specs.Views.Selection.{axes_of, selection_of}
+use Rattle.h5_model.specs.Tree.Paths.{object_at}
 use Rattle.h5_model.specs.Edits.Refusal.{refusal_of}
 use Rattle.h5_model.specs.Format.Superblock.{leaf_k, internal_k}
-use Rattle.h5_model.specs.Tree.Objects.{Tree, Dataset, Storage, Compact, Contiguous, Chunked}
+use Rattle.h5_model.specs.Tree.Objects.{Tree}
 use Rattle.h5_model.specs.declared.edits.Edit.{Edit}
-use Rattle.h5_model.specs.declared.edits.Edit.TheVariants.{CreateGroup, CreateDataset, HardLink, SoftLink, Unlink, SetAttr, RemoveAttr, Write, Resize}
+use Rattle.h5_model.specs.declared.edits.Edit.TheVariants.{CreateGroup, CreateDataset, HardLink, SoftLink, SetAttr, Write, Resize}
 use Rattle.h5_model.specs.declared.edit_fault.EditFault.{EditFault}
 use Rattle.h5_model.specs.declared.edit_fault.EditFault.TheVariants as fault
 use Rattle.h5_query.specs.Opened.State.{FileState}
 use Rattle.h5_repack.specs.Image.Plain.{AreLow}
 use Rattle.h5_edit.specs.ExtentMaxima.{LacksMaxima}
-use Rattle.h5_edit.specs.StoredChunks.{HasLengthAnew}
-
--- ---- which edits are carried
-
--- a new group, array or link, a link that is taken away, every change of attributes, and other sizes
-abbrev pub is_carried : Edit → Bool
-is_carried (CreateGroup path) = true
-is_carried (CreateDataset path spec) = true
-is_carried (HardLink target path) = true
-is_carried (SoftLink text path) = true
-is_carried (Unlink path) = true
-is_carried (SetAttr path attr) = true
-is_carried (RemoveAttr path name) = true
-is_carried (Resize path dims) = true
-is_carried _ = false
+use Rattle.h5_edit.specs.LacksStorage.{LacksStorage}
+use Rattle.h5_edit.specs.StoredChunks.{HasLengthAnew, Selecting, selecting_of}
 
 -- ---- which edits write the image anew
 
--- cells may have to be stored before they can be written: contiguous ones that are not; which chunks are, a tree does not tell
-abbrev pub may_lack_cells : Storage → Bool
-may_lack_cells Compact = false
-may_lack_cells (Contiguous stored) = not stored
-may_lack_cells (Chunked sizes) = true
-
--- each edit but a write of no cell, or of cells that are stored: these are written in place
-abbrev pub is_anew : Tree → Edit → Bool
-is_anew tree (Write path hyper values) =
-    option_map_or (λ (d : Dataset). may_lack_cells d.storage && nat_lt 0 (length (selection_of d.sizes (axes_of hyper)))) (dataset_at tree path) false
-is_anew tree _ = true
+-- each but a write, and a write where storage is lacking: else the cells are written in place
+abbrev pub IsMadeAnew : FileState → Edit → Bool → Type 0
+IsMadeAnew f (Write path hyper values) anew = LacksStorage f path hyper anew
+IsMadeAnew f edit anew = anew ≡ true
 
 -- ---- what the image and memory decide, beside the rules of the tree
 
@@ -66,25 +45,34 @@ IsTotalFull f (Resize path dims) full =
 IsTotalFull f edit full = is_message_total_full f edit ≡ full
 
 -- the image of the tree, written anew, has at most 2^31 bytes, or more
-abbrev pub IsShortAnew : FileState → Tree → Type 0
-IsShortAnew f tree = (bytes : ℕ) × HasLengthAnew f tree bytes × (bytes ≤ 2 ^ 31)
+abbrev pub IsShortAnew : FileState → Tree → Selecting → Type 0
+IsShortAnew f tree met = (bytes : ℕ) × HasLengthAnew f tree met bytes × (bytes ≤ 2 ^ 31)
 
-abbrev pub IsLongAnew : FileState → Tree → Type 0
-IsLongAnew f tree = (bytes : ℕ) × HasLengthAnew f tree bytes × (2 ^ 31 < bytes)
+abbrev pub IsLongAnew : FileState → Tree → Selecting → Type 0
+IsLongAnew f tree met = (bytes : ℕ) × HasLengthAnew f tree met bytes × (2 ^ 31 < bytes)
 
 -- the tree that an edit gives
 abbrev pub tree_after : FileState → Edit → Tree
 tree_after f edit = applied f.tree edit f.next
 
+-- the edits that add a link to a group
+abbrev pub adds_link : Edit → Bool
+adds_link (CreateGroup path) = true
+adds_link (CreateDataset path spec) = true
+adds_link (HardLink target path) = true
+adds_link (SoftLink text path) = true
+adds_link _ = false
+
 -- Anew, HeaderFull comes first. Then ImageFull goes by the image of the tree that the edit gives, and TreeTooDeep, of an edit that adds
--- a link, by its groups' trees: either may be answered where both hold. Memory may be short at any time.
+-- a link, by its groups' trees: either may be answered where both hold. No tree of chunks is too deep in an image that is not too long.
+-- Memory may be short at any time.
 abbrev pub IsGivenAnew : FileState → Edit → Option EditFault → Type 0
 IsGivenAnew f edit None =
-    IsTotalFull f edit false × IsShortAnew f (tree_after f edit) × AreLow (leaf_k f.image) (internal_k f.image) (tree_after f edit)
+    IsTotalFull f edit false × IsShortAnew f (tree_after f edit) (selecting_of f edit) × AreLow (leaf_k f.image) (internal_k f.image) (tree_after f edit)
 IsGivenAnew f edit (Some fault.HeaderFull) = IsTotalFull f edit true
 IsGivenAnew f edit (Some fault.TreeTooDeep) =
-    IsTotalFull f edit false × (AreLow (leaf_k f.image) (internal_k f.image) (tree_after f edit) → ⊥) × IsTrue (adds_entry edit)
-IsGivenAnew f edit (Some fault.ImageFull) = IsTotalFull f edit false × IsLongAnew f (tree_after f edit)
+    IsTotalFull f edit false × (AreLow (leaf_k f.image) (internal_k f.image) (tree_after f edit) → ⊥) × IsTrue (adds_link edit)
+IsGivenAnew f edit (Some fault.ImageFull) = IsTotalFull f edit false × IsLongAnew f (tree_after f edit) (selecting_of f edit)
 IsGivenAnew f edit (Some fault.NoMemory) = Unit {0}
 IsGivenAnew f edit _ = ⊥
 
@@ -98,21 +86,14 @@ abbrev pub GivenAs : Bool → FileState → Edit → Option EditFault → Type 0
 GivenAs true f edit given = IsGivenAnew f edit given
 GivenAs false f edit given = IsGivenInPlace given
 
+-- it counts where no rule of the tree refuses the edit
 abbrev pub IsGivenFor : FileState → Edit → Option EditFault → Type 0
-IsGivenFor f edit given = GivenAs (is_anew f.tree edit) f edit given
+IsGivenFor f edit given = refusal_of f.tree f.next edit ≡ None → (anew : Bool) × IsMadeAnew f edit anew × GivenAs anew f edit given
 
 -- ---- refusals
 
--- of an edit that is carried: by a rule of the tree, or by what is given beside them
-pub record IsRefusedBy (f : FileState) (edit : Edit) (e : EditFault) : Type 0 where
+-- by a rule of the tree, or by what is given beside them
+pub record IsRefused (f : FileState) (edit : Edit) (e : EditFault) : Type 0 where
   pub given : Option EditFault
   pub allowed : IsGivenFor f edit given
   pub answer : chosen (refusal_of f.tree f.next edit) given ≡ Some e
-
--- NotYet, exactly where it is not carried, and before every other check
-abbrev pub RefusedAs : Bool → FileState → Edit → EditFault → Type 0
-RefusedAs true f edit e = IsRefusedBy f edit e
-RefusedAs false f edit e = e ≡ fault.NotYet
-
-abbrev pub IsRefused : FileState → Edit → EditFault → Type 0
-IsRefused f edit e = RefusedAs (is_carried edit) f edit e

@@ -3,3 +3,4 @@ pub mod Change
 pub mod Edited
 pub mod Appended
 pub mod Cells
+pub mod Missing

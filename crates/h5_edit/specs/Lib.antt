@@ -4,7 +4,8 @@ pub mod Carried
 pub mod Made
 pub mod Repacked
 pub mod Edited
-pub mod InRun
+pub mod LacksStorage
+pub mod Stored
 pub mod Answers
 pub mod Fitting
 pub mod Refusals

@@ -13,11 +13,11 @@ use Rattle.h5_edit.specs.StoredChunks.{HasLengthAnew}
 pub record IsRepackMade (f : FileState) (made : Made) : Type 0 where
   pub anew : IsAnew f f.tree f.next made.image.items made.headers.items
   pub object : made.object ≡ None
-  pub long : HasLengthAnew f f.tree (length made.image.items)
+  pub long : HasLengthAnew f f.tree None (length made.image.items)
   pub few : length made.image.items ≤ 2 ^ 31
 
 -- the image would pass 2^31 bytes, or memory was refused
 abbrev pub IsRepackRefused : FileState → EditFault → Type 0
-IsRepackRefused f fault.ImageFull = IsLongAnew f f.tree
+IsRepackRefused f fault.ImageFull = IsLongAnew f f.tree None
 IsRepackRefused f fault.NoMemory = Unit {0}
 IsRepackRefused f _ = ⊥

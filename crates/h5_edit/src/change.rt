@@ -6,10 +6,13 @@ mod change;
 mod edit;
 mod left;
 mod links;
+mod missing;
 mod objects;
 mod parts;
 mod resized;
 
 pub use change::{Change, Target};
 pub(crate) use left::left_objects;
+pub use missing::Missing;
+pub(crate) use missing::missing_in;
 pub(crate) use objects::{changed_objects, opened_objects};

@@ -1,8 +1,8 @@
 //! Edits of an opened image: why one is refused, in the order of the refusals' numbers, and the image that an accepted one gives, written
 //! anew (File Format Specification 3.0, sections III.C and IV.A).
 //!
-//! Each call writes the whole image, however small the edit is, but `write_run`. Where both `TreeTooDeep` and `ImageFull` hold, either is
-//! answered.
+//! Each call writes the whole image, however small the edit is, but `write` where the cells are stored. Where both `TreeTooDeep` and
+//! `ImageFull` hold, either is answered.
 #![tactic(auto)]
 
 mod anew;
@@ -10,22 +10,27 @@ mod attributes;
 mod change;
 mod links;
 mod made;
+mod opening;
 mod repacked;
 mod resized;
 mod rules;
+mod stored;
 mod unlinked;
-mod write;
+mod written;
 
 pub use attributes::{remove_attr, set_attr};
 pub use h5_query::{
     ArrayRef, AttrRef, Dims, Found, Kind, MAX_DEPTH, MAX_RANK, Opened, Piece, Runs, Slab,
-    SlabFault, StoreKind, StoredArray, array_of, attributes_at, found_at, kind_at, links_of,
-    names_at, names_of_attributes, number_at, one_attribute, one_cell, runs_at, store_of,
+    SlabFault, StoreKind, StoredArray, array_at, array_of, attributes_at, found_at, kind_at,
+    links_of, names_at, names_of_attributes, number_at, one_attribute, one_cell, runs_at,
+    selected_at, store_of,
 };
 pub use h5_repack::empty_image;
+pub use h5_types::encode;
 pub use links::{create_dataset, create_group, hard_link, soft_link};
 pub use made::Made;
+pub use opening::{open_made, open_written};
 pub use repacked::repack;
 pub use resized::resize;
 pub use unlinked::unlink;
-pub use write::write_run;
+pub use written::write;

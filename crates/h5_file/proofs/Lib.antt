@@ -1,4 +1,5 @@
 pub mod Sounds
 pub mod Opens
-pub mod Anew
 pub mod Made
+pub mod GatherLaws
+pub mod ViewLaws

@@ -6,9 +6,8 @@ use Rattle.h5_model.specs.declared.edits.Edited.{Edited}
 use Rattle.h5_edit.specs.Opened.State.{FileState, state_of}
 use Rattle.h5_edit.specs.declared.made.Made.{Made}
 use Rattle.h5_edit.specs.Carried.{tree_after}
-use Rattle.h5_edit.specs.Made.{IsEditMade}
+use Rattle.h5_edit.specs.Made.{HoldsAnew, IsEditMade}
 use Rattle.h5_edit.specs.Edited.{IsEdited}
-use Rattle.h5_file.specs.Anew.{HoldsAnew}
 
 pub edited : (f : FileState) (edit : Edit) (made : Made) → IsEditMade f edit made → (after : FileState)
     → HoldsAnew f (tree_after f edit) (state_after (state_of f) edit).next after → (e : Edited) → e ≡ record { object = made.object; refreshed = 0 }

@@ -1,8 +1,10 @@
 pub mod State
 pub mod Opening
 pub mod Anew
+pub mod ArrayNumber
+pub mod Session
+pub mod OpenViews
 pub use Rattle.h5_edit.specs.Edited
-pub use Rattle.h5_edit.specs.InRun
 pub use Rattle.h5_edit.specs.Carried
 pub use Rattle.h5_edit.specs.Repacked
 pub use Rattle.h5_edit.specs.Listed

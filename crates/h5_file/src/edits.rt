@@ -1,35 +1,30 @@
-//! Edits of a file, each of which writes the image anew.
+//! Edits of a file. Each writes the image anew, but a write of cells that are stored.
 
-ghost use Rattle.std.specs.Prelude.{◌≡◌, ℕ, true, false, None, IfOk, OnErr, MatchResult};
+ghost use Rattle.std.specs.Prelude.{◌≡◌, ℕ, IfOk, OnErr, MatchResult};
 ghost use Rattle.h5_model.specs.declared.edits.Edit.{Edit as TheEdit};
 ghost use Rattle.h5_model.specs.declared.edits.Edit.TheVariants.{CreateGroup, CreateDataset, HardLink, SoftLink, Unlink, SetAttr, RemoveAttr, Write, Resize};
-ghost use Rattle.h5_edit.specs.Carried.{IsRefused, IsRefusedBy, is_anew, is_carried};
-ghost use Rattle.h5_edit.specs.Made.{IsAnew, IsEditMade};
+ghost use Rattle.h5_edit.specs.Carried.{IsRefused};
+ghost use Rattle.h5_edit.specs.Made.{HoldsAnew, IsAnew, IsEditMade};
 ghost use Rattle.h5_edit.specs.Repacked.{IsRepackRefused};
-ghost use Rattle.h5_model.specs.Edits.Refusal.{refusal_of};
 ghost use Rattle.h5_model.specs.Tree.Objects.{Tree};
 ghost use Rattle.h5_edit.specs.Edited.{IsEdited};
-ghost use Rattle.h5_edit.specs.InRun.{IsInRun};
-ghost use Rattle.h5_file.specs.Anew.{HoldsAnew, IsRepacked};
+ghost use Rattle.h5_file.specs.Anew.{IsRepacked};
 
-use crate::file::{File, open_written};
+use crate::file::File;
 use h5_edit::{
-    Made, create_dataset, create_group, hard_link, remove_attr, repack, resize, set_attr,
-    soft_link, unlink, write_run,
+    Made, create_dataset, create_group, hard_link, open_made, remove_attr, repack, resize,
+    set_attr, soft_link, unlink, write,
 };
 use h5_model::{AttrSpec, Edit, EditFault, Edited, Hyper, Spec};
-use h5_space::Image;
 use std::alloc::AllocError;
 
 impl File {
     /// Carries an edit out: the image is then that of the tree that the edit gives.
     ///
-    /// Refused as `NotYet`, before any other check, where it writes cells; then as the call of its own is. Where both
-    /// `TreeTooDeep` and `ImageFull` hold, either is answered. A refusal changes nothing.
+    /// Refused as the call of its own is. Where both `TreeTooDeep` and `ImageFull` hold, either is answered. A refusal changes nothing.
     pub fn edit(&mut self, edit: &Edit) -> Result<Edited, EditFault>
         ensures edited { MatchResult result (IsEdited self.old edit.now self.new) (λ e.
             IsRefused self.old edit.now e × (self.new ≡ self.old)) }
-        ensures carried { IfOk result (λ _. is_carried edit.now ≡ true) }
     {
         match edit {
             Edit::CreateGroup { path } => self.create_group(path.as_slice()),
@@ -40,7 +35,11 @@ impl File {
             Edit::SetAttr { path, attr } => self.set_attr(path.as_slice(), attr),
             Edit::RemoveAttr { path, name } => self.remove_attr(path.as_slice(), name.as_slice()),
             Edit::Resize { path, dims } => self.resize(path.as_slice(), dims.as_slice()),
-            Edit::Write { .. } => Err(EditFault::NotYet),
+            Edit::Write {
+                path,
+                hyper,
+                values,
+            } => self.write(path.as_slice(), hyper, values.as_slice()),
         }
     }
 
@@ -152,27 +151,24 @@ impl File {
         self.take(made)
     }
 
-    /// Writes values into the selected cells of an array of one dimension whose cells are stored, where they stand one behind another: the
-    /// bytes of these cells change, and no others.
+    /// Writes values into the selected cells of the array at the path, in row-major order.
+    ///
+    /// Where each selected cell is stored, the bytes of these cells change, and no others. Else the image is first written anew with the
+    /// storage that is missing: the block of a contiguous array, or the chunks that hold a selected cell; their other cells are the fill.
     ///
     /// Refused by the lowest number that holds: `BadPath`, `PathTooDeep`, `NoSuchParent`, `NotAGroup`, `NotFound`, `NotADataset` also where
-    /// a soft link stands there, `RankMismatch`, `StrideZero`, `BlocksOverlap`, `OutOfExtent`, `ValueCount`, `ValueRange`. A refusal
-    /// changes nothing.
-    ///
-    /// That cells which are to be written are stored, and that they stand one behind another, are the caller's conditions.
-    pub(crate) fn write_run(
+    /// a soft link stands there, `RankMismatch`, `StrideZero`, `BlocksOverlap`, `OutOfExtent`, `ValueCount`, `ValueRange`, `ImageFull` where
+    /// the image with that storage would pass 2147483648 bytes, `NoMemory`. A refusal changes nothing.
+    pub fn write(
         &mut self,
         path: &[u8],
         hyper: &Hyper,
         values: &[i128],
     ) -> Result<Edited, EditFault>
-        requires stored { is_anew self.old.tree (Write path.now hyper.now values.now) ≡ false }
-        requires run { refusal_of self.old.tree self.old.next (Write path.now hyper.now values.now) ≡ None
-            → IsInRun self.old.tree path.now hyper.now }
-        ensures { MatchResult result (IsEdited self.old (Write path.now hyper.now values.now) self.new) (λ e.
-            IsRefusedBy self.old (Write path.now hyper.now values.now) e × (self.new ≡ self.old)) }
+        ensures edited { MatchResult result (IsEdited self.old (Write path.now hyper.now values.now) self.new)
+            (λ e. IsRefused self.old (Write path.now hyper.now values.now) e × (self.new ≡ self.old)) }
     {
-        write_run(self.alloc, &mut self.opened, path, hyper, values)
+        write(self.alloc, &mut self.opened, path, hyper, values)
     }
 
     /// Writes the image anew without the room that nothing uses, each block behind the one before it. The tree, and the numbers of its
@@ -194,7 +190,7 @@ impl File {
         requires { (edit : TheEdit) × IsEditMade self.old edit made }
         ensures { (edit : TheEdit) → IsEditMade self.old edit made
             → MatchResult result (IsEdited self.old edit self.new) (λ e.
-            IsRefusedBy self.old edit e × (self.new ≡ self.old)) }
+            IsRefused self.old edit e × (self.new ≡ self.old)) }
     {
         self.replace(made.image, &made.headers)?;
         Ok(Edited {
@@ -212,9 +208,7 @@ impl File {
         ensures image { IfOk result (λ _. self.new.image ≡ image.items) }
         ensures same { OnErr result (self.new ≡ self.old) }
     {
-        let mut opened = open_written(self.alloc, Image::new(self.alloc, image))?;
-        opened.renumber(headers)?;
-        self.opened = opened;
+        self.opened = open_made(self.alloc, image, headers)?;
         Ok(())
     }
 }

@@ -3,7 +3,7 @@
 ghost use Rattle.std.specs.Prelude.{◌≡◌, [], IfOk, IfErr, MatchOption, MatchResult, Some, length, map};
 ghost use Rattle.h5_model.specs.Faults.Breaches.{cut};
 ghost use Rattle.h5_model.specs.Edits.Refusal.{first_holding};
-ghost use Rattle.h5_model.specs.Scripts.Reading.{path_rules, attribute_rules, cell_rules, selection_rules};
+ghost use Rattle.h5_model.specs.Scripts.Reading.{path_rules, attribute_rules, cell_rules, dataset_rules, selection_rules};
 ghost use Rattle.h5_model.specs.Tree.Objects.{dataset_of};
 ghost use Rattle.h5_model.specs.Format.Superblock.{IsSuperblock, end_of_file};
 ghost use Rattle.std.specs.FinMap.{len};
@@ -15,12 +15,13 @@ ghost use Rattle.h5_edit.specs.Found.{HasFound, IsUnfound};
 ghost use Rattle.h5_edit.specs.Place.{IsNumber, IsNoObject};
 ghost use Rattle.h5_edit.specs.Selected.{HasRuns};
 ghost use Rattle.h5_file.specs.State.{created_state};
+ghost use Rattle.h5_file.specs.ArrayNumber.{IsArrayNumber};
 ghost use Rattle.h5_file.specs.Opening.{IsReadable, Refused};
 
 use h5_edit::{
-    AttrRef, Found, Kind, Opened, Runs, StoredArray, array_of, attributes_at, empty_image,
-    found_at, kind_at, links_of, names_at, names_of_attributes, number_at, one_attribute, one_cell,
-    runs_at,
+    AttrRef, Found, Kind, Opened, Runs, StoredArray, array_at, array_of, attributes_at,
+    empty_image, found_at, kind_at, links_of, names_at, names_of_attributes, number_at,
+    one_attribute, one_cell, open_written, runs_at,
 };
 use h5_model::{Cause, EditFault, Hyper, Link, ObjectNo, OpenFault};
 use h5_space::{Image, end_of_file, superblock_fault};
@@ -205,6 +206,18 @@ impl File {
         number_at(&self.opened, path)
     }
 
+    /// The number of the array at the path. It stays the array's while the file is open.
+    ///
+    /// Refused as [`File::kind`] is, and as `NotADataset` where no array stands there. It takes no memory.
+    pub fn number(&self, path: &[u8]) -> Result<ObjectNo, EditFault>
+        ensures { MatchResult result (λ number.
+            IsArrayNumber self.now.tree path.now number.0) (λ e.
+            first_holding (dataset_rules self.now.tree path.now) ≡ Some e) }
+    {
+        let (number, _array) = array_at(self.alloc, &self.opened, path)?;
+        Ok(ObjectNo(number))
+    }
+
     /// The links of the group of this number, ascending by the bytes of their names, or `None` where no group has it.
     ///
     /// Takes memory for a reference to each link.
@@ -222,25 +235,6 @@ impl File {
             dataset_of self.now.tree number.0 ≡ Some array) }
     {
         array_of(self.alloc, &self.opened, number)
-    }
-}
-
-/// Opens an image without free blocks that reads as a tree. Fails where memory is refused.
-pub(crate) fn open_written(alloc: Global, image: Image) -> Result<Opened, AllocError>
-    requires superblock { IsSuperblock image.bytes }
-    requires whole { end_of_file image.bytes ≡ length image.bytes }
-    requires free { image.free ≡ [] }
-    requires read { ReadsSome image.bytes }
-    ensures image { IfOk result (λ o. (o.image ≡ image.bytes) × (o.free ≡ [])) }
-    ensures sound { IfOk result IsSound }
-    ensures numbers { IfOk result (λ o. o.next ≡ len o.tree) }
-{
-    match Opened::open(alloc, image) {
-        Ok(opened) => Ok(opened),
-        Err((fault, _image)) => match fault.cause {
-            Cause::NoMemory => Err(AllocError),
-            _ => unreachable!(),
-        },
     }
 }
 

@@ -20,13 +20,17 @@
 //! rule that bytes break by an [`OpenFault`]. The form of the bytes is the HDF5 File Format
 //! Specification's, version 3.0; docs/FORMAT.md says which part of it is accepted. This version
 //! opens files of any groups and links, with arrays of any form and any attributes. It makes groups,
-//! hard and soft links, and arrays of any form, sets and removes attributes of any object, and repacks
-//! a file ([`File::repack`]). Links that are removed, cells that are written and sizes that are changed
-//! are refused as `NotYet`.
+//! hard and soft links, and arrays of any form, takes links away, sets and removes attributes of any
+//! object, writes cells, changes the sizes of arrays in chunks, and repacks a file ([`File::repack`]).
+//!
+//! A [`Session`] is a file with open views: each shows the selected cells of an array as the edits leave it.
 #![tactic(auto)]
 
 mod edits;
 mod file;
+mod gather;
+mod session;
+mod views;
 
 pub use file::File;
 pub use h5_edit::{
@@ -35,6 +39,7 @@ pub use h5_edit::{
 };
 pub use h5_model::{
     AttrSpec, Cause, Edit, EditFault, Edited, Fixed, Hyper, Items, Link, LinkTo, ObjectNo,
-    OpenFault, Spec, Store,
+    OpenFault, Spec, Store, ViewFault, ViewNo,
 };
 pub use h5_space::MAXIMUM_IMAGE;
+pub use session::{Session, Shown};

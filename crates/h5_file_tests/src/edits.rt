@@ -1,7 +1,7 @@
-//! Edits by calls: what is accepted where there is memory, the object that is answered, and what no call carries out yet.
+//! Edits by calls: what is accepted where there is memory, and the object that is answered.
 
 use crate::given::{line, note};
-use h5_file::{Edit, EditFault, Edited, File, Fixed, Hyper, Items, ObjectNo, Spec};
+use h5_file::{Edited, File, Fixed, Hyper, ObjectNo, Spec};
 use std::alloc::{AllocError, Global};
 use std::test::Fail;
 
@@ -49,19 +49,16 @@ fn unlinks_and_repacks(rt: HostRuntime) -> Result<(), Fail> {
     Ok(())
 }
 
-/// 5 as the first cell of `/d`.
-fn write(alloc: Global) -> Result<Edit, AllocError> {
-    Ok(Edit::Write {
-        path: Items::from_slice(alloc, b"/d")?,
-        hyper: Hyper::new(alloc, &[0], &[1], &[1], &[1])?,
-        values: Items::from_slice(alloc, &[5])?,
-    })
+/// The first cell of an array of one dimension.
+fn first(alloc: Global) -> Result<Hyper, AllocError> {
+    Hyper::new(alloc, &[0], &[1], &[1], &[1])
 }
 
 #[test]
-fn says_what_is_not_carried_yet(rt: HostRuntime) -> Result<(), Fail> {
+fn writes_cells(rt: HostRuntime) -> Result<(), Fail> {
     let mut file = File::create(rt.alloc())?;
     file.create_dataset(b"/d", &line(rt.alloc())?)?;
-    assert!(rt; file.edit(&write(rt.alloc())?) == Err(EditFault::NotYet));
+    assert!(rt; is_of(file.write(b"/d", &first(rt.alloc())?, &[5])?, 1));
+    assert!(rt; file.cell(b"/d", &[0])? == 5);
     Ok(())
 }

@@ -7,6 +7,9 @@ pub mod SameLaws
 pub mod WholeLaws
 pub mod MetLaws
 pub mod KeptLaws
+pub mod StretchLaws
+pub mod BodyWrites
+pub mod FirstWritten
 pub mod CrossLaws
 pub mod RefusedLaws
 pub mod ReadableLaws

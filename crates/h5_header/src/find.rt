@@ -16,13 +16,13 @@ pub fn find_body<'a>(image: &'a Image, messages: &Messages, kind: u16) -> Option
     requires { IsWithin (length image.now.bytes) messages.now.list }
     ensures { option_copied result ≡ first_body kind (messages_in image.now.bytes messages.now.list) }
 {
-    let message = first_of(messages.list(), kind)?;
+    let message = find_message(messages, kind)?;
     image.part(message.at, u64::from(message.size))
 }
 
-/// The first message of a type.
-fn first_of(list: &[Message], kind: u16) -> Option<&Message>
-    ensures { option_copied result ≡ find (λ m. m.kind == kind) list.now }
+/// The first message of a type, or `None` where there is none. Takes no memory.
+pub fn find_message(messages: &Messages, kind: u16) -> Option<&Message>
+    ensures { option_copied result ≡ find (λ m. m.kind == kind) messages.now.list }
 {
-    list.iter().find(|m| m.kind == kind)
+    messages.list().iter().find(|m| m.kind == kind)
 }

@@ -12,7 +12,7 @@ mod kinds;
 mod message;
 mod read;
 
-pub use find::find_body;
+pub use find::{find_body, find_message};
 pub use h5_space::claim;
 pub use header::Messages;
 pub use kinds::ObjectKind;

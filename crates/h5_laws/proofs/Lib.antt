@@ -45,3 +45,5 @@ pub mod LadderTrees
 pub mod LadderRows
 pub mod NameLadders
 pub mod ChunkLadders
+pub mod TypesKept
+pub mod RisingMaps

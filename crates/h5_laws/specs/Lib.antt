@@ -5,3 +5,4 @@ pub mod Readings
 pub mod Ladders
 pub mod NameLadders
 pub mod ChunkLadders
+pub mod Rising

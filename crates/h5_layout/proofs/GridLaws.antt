@@ -1,5 +1,5 @@
 -- A chunk that is stored lies in the image.
-use Rattle.std.proofs.Common.{◌≡◌, ℕ, suc, ◌+◌, ◌-◌, ◌*◌, ◌<◌, ◌≤◌, List, ◌∷◌, ◌++◌, length, map, Some, refl, sym, ◌∙◌, subst, arith, get_or, take, drop}
+use Rattle.std.proofs.Common.{◌≡◌, ℕ, suc, ◌+◌, ◌-◌, ◌*◌, ◌<◌, ◌≤◌, List, ◌∷◌, ◌++◌, length, map, Option, Some, None, IfSome, refl, sym, ◌∙◌, subst, arith, get_or, take, drop}
 use Rattle.std.specs.FinMap.{entries, get, get-entries, nat_cmp-IsAntisymmetric, slice_cmp-IsAntisymmetric, values}
 use Rattle.std.proofs.Math.Nat.{mul-le-mul_right}
 use Rattle.std.proofs.lemmas.Slice.{first_rest}
@@ -35,6 +35,12 @@ chunk_inside image shape root read offsets at found =
     in_all (λ (b : Block). b.at + b.len ≤ length image) (block at shape.bytes) (map (λ (a : ℕ). block a shape.bytes) (values chunks))
     (all_right (λ (b : Block). b.at + b.len ≤ length image) (tree_blocks (chunk_kind (chunk_k image) (length shape.sizes)) read.stored.owned)
     (map (λ (a : ℕ). block a shape.bytes) (values chunks)) inside) there
+
+-- so does one that is found
+pub found_inside : (image : List ℕ) (shape : Shape) (root : ℕ) → AreChunksRead image shape root → (offsets : List ℕ) (found : Option ℕ)
+    → found ≡ get (chunks_told image shape root) offsets → IfSome found (λ at. at + shape.bytes ≤ length image)
+found_inside image shape root read offsets None is = tt
+found_inside image shape root read offsets (Some at) is = chunk_inside image shape root read offsets at (sym is)
 
 -- ---- chunk sizes
 

@@ -7,11 +7,16 @@ pub mod DataLaws
 pub mod ArrayLaws
 pub mod BreachLaws
 pub mod RoomLaws
+pub mod CompactLaws
+pub mod CompactWritten
 pub mod KnownLaws
 pub mod FillLaws
 pub mod ToldLaws
 pub mod StoredLaws
 pub mod WriteLaws
+pub mod StandsAt
+pub mod StandingLaws
+pub mod StandingWritten
 pub mod KeptLaws
 pub mod CornerLaws
 pub mod KeyWritten
@@ -20,3 +25,10 @@ pub mod PushedCorner
 pub mod KeptValues
 pub mod NoChunks
 pub mod HeldParts
+pub mod RisingLaws
+pub mod CornerInside
+pub mod StoredWith
+pub mod KeyBack
+pub mod MergedLaws
+pub mod MissingLaws
+pub mod HeldWith

@@ -50,7 +50,7 @@ chunked_room sizes size body layout h =
     rw (← p.1) (eq-eqb _ _ long)
 
 -- one of three readings, by the class
-by_class : (a b c d : Bool) (x y z : Option Layout) (layout : Layout) (P : Type 0) → (x ≡ Some layout → P) → (y ≡ Some layout → P) → (z ≡ Some layout → P)
+pub by_class : (a b c d : Bool) (x y z : Option Layout) (layout : Layout) (P : Type 0) → (x ≡ Some layout → P) → (y ≡ Some layout → P) → (z ≡ Some layout → P)
     → cond a (cond b x (cond c y (cond d z None))) None ≡ Some layout → P
 by_class false b c d x y z layout P p q r h = absurd (cc)
 by_class true true c d x y z layout P p q r h = p h

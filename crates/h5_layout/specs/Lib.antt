@@ -1,4 +1,5 @@
 pub mod CellData
+pub mod Compact
 pub mod ChunkCells
 pub mod Data
 pub mod Described
@@ -6,10 +7,14 @@ pub mod HeldChunks
 pub mod Judged
 pub mod Kept
 pub mod Maxima
+pub mod Merged
+pub mod Missing
+pub mod NewChunks
 pub mod Pieces
 pub mod Runs
 pub mod Spans
+pub mod Standing
 pub mod Stored
+pub mod StoredAt
 pub mod Told
-pub mod Written
 pub use Rattle.h5_msg.specs.Layouts

@@ -1,6 +1,6 @@
 //! The cells of an array in chunks (File Format Specification 3.0, section III.A.1).
 
-ghost use Rattle.std.specs.Prelude.{◌≡◌, ℕ, ◌+◌, ◌*◌, ◌^◌, ◌<◌, ◌≤◌, length, option_map};
+ghost use Rattle.std.specs.Prelude.{◌≡◌, ℕ, ◌+◌, ◌*◌, ◌^◌, ◌<◌, ◌≤◌, IfSome, length, option_map};
 ghost use Rattle.std.specs.FinMap.{get};
 ghost use Rattle.std.specs.List.{AllByRecursion};
 ghost use Rattle.h5_model.specs.Tree.Grid.{corner_of, inner_of};
@@ -51,7 +51,9 @@ impl<'a> Model for ChunkGrid<'a> {
 /// Where some cells stand one behind the other in a chunk.
 #[derive(Drop)]
 pub(crate) struct ChunkRow<'a> {
-    /// The bytes of the chunk, where it is stored.
+    /// The address of the chunk, where it is stored.
+    pub(crate) at: Option<u64>,
+    /// Its bytes.
     pub(crate) bytes: Option<&'a [u8]>,
     /// The place of the first cell in the chunk.
     pub(crate) place: u64,
@@ -104,29 +106,41 @@ impl<'a> ChunkGrid<'a> {
         ensures beside { AreBeside self.now.sizes self.now.shape.sizes place result.cells }
         ensures place { result.place ≡ place_in_chunk self.now place }
         ensures room { result.place + result.cells ≤ cells_of self.now.shape.sizes }
+        ensures at { result.at ≡ chunk_of self.now place }
         ensures bytes { AreChunkBytes self.now (chunk_of self.now place)
             (option_map (λ b. b.now) result.bytes) }
+        ensures inside { IfSome result.at (λ at. at + self.now.shape.bytes ≤ length self.now.image) }
     {
         let sizes = &self.sizes[..self.rank];
         let chunk = &self.chunk[..self.rank];
         let mut corner = [0; MAX_RANK];
         let inner = locate(sizes, chunk, place, &mut corner[..self.rank]);
+        let at = self.address_of(&corner[..self.rank]);
         ChunkRow {
-            bytes: self.bytes_at(&corner[..self.rank]),
+            at,
+            bytes: self.bytes_at(at),
             place: inner,
             cells: row_left(sizes, chunk, place),
         }
     }
 
-    /// The bytes of the chunk with this first index, where it is stored.
-    fn bytes_at(&self, corner: &[u64]) -> Option<&'a [u8]>
+    /// The address of the chunk with this first index, where it is stored.
+    fn address_of(&self, corner: &[u64]) -> Option<u64>
         requires { length corner.now ≡ length self.now.shape.sizes }
-        ensures { AreChunkBytes self.now
-            (get (chunks_told self.now.image self.now.shape self.now.root) corner.now)
-            (option_map (λ b. b.now) result) }
+        ensures exact { result
+            ≡ get (chunks_told self.now.image self.now.shape self.now.root) corner.now }
+        ensures inside { IfSome result (λ at. at + self.now.shape.bytes ≤ length self.now.image) }
     {
         let shape = ChunkShape::new(&self.chunk[..self.rank], self.chunk_bytes);
-        let Some(at) = chunk_at(self.image, &shape, self.root, corner) else {
+        chunk_at(self.image, &shape, self.root, corner)
+    }
+
+    /// The bytes of the chunk at this address, where it is stored.
+    fn bytes_at(&self, at: Option<u64>) -> Option<&'a [u8]>
+        requires { IfSome at (λ at. at + self.now.shape.bytes ≤ length self.now.image) }
+        ensures { AreChunkBytes self.now at (option_map (λ b. b.now) result) }
+    {
+        let Some(at) = at else {
             return None;
         };
         Some(&self.image.bytes()[at as usize..(at + self.chunk_bytes) as usize])

@@ -1,19 +1,23 @@
 //! An array with the image in which its cells stand.
 
-ghost use Rattle.std.specs.Prelude.{◌≡◌, length};
+ghost use Rattle.std.specs.Prelude.{◌≡◌, false, MatchOption, length};
+ghost use Rattle.h5_model.specs.Edits.Refusal.{is_chunked};
+ghost use Rattle.h5_model.specs.Tree.Objects.{Chunked};
 ghost use Rattle.h5_model.specs.Tree.Places.{IsInside};
 ghost use Rattle.h5_model.specs.Format.Reads.{storage_of};
 ghost use Rattle.h5_model.specs.Scripts.Reading.{cell_at};
 ghost use Rattle.h5_model.specs.Views.Selection.{Within};
-ghost use Rattle.h5_model.specs.Views.Shown.{selected_values};
+ghost use Rattle.h5_model.specs.Views.Shown.{is_in_line, selected_values};
 ghost use Rattle.h5_layout.specs.Data.{AreDataRead, IsSoundDataset, dataset_told};
 
 use crate::array::ArrayRef;
 use crate::cells::StoredCells;
 use crate::pieces::{Piece, Runs};
-use h5_msg::value_at;
-use h5_shape::{CellRun, Slab};
+use h5_model::Fixed;
+use h5_msg::{Layout, value_at};
+use h5_shape::{CellRun, Dims, Slab};
 use h5_space::Image;
+use std::alloc::Global;
 use std::marker::Model;
 
 /// An array, and the image in which its cells stand, in whatever form.
@@ -57,6 +61,50 @@ impl<'a> StoredArray<'a> {
         let _fill = self.array.fill();
         let _dims = self.array.dims();
         &self.array
+    }
+
+    /// The type of the cells.
+    pub fn fixed(&self) -> Fixed
+        ensures { result ≡ self.now.fixed }
+    {
+        self.array.fixed()
+    }
+
+    /// The sizes of the array.
+    pub fn dims(&self) -> &Dims
+        ensures { result.now ≡ self.now.sizes }
+    {
+        self.array.dims()
+    }
+
+    /// The sizes of its chunks, or `None` where it is not in chunks. It takes no memory.
+    pub fn chunk(&self, alloc: Global) -> Option<Dims>
+        ensures { MatchOption result (is_chunked self.now.storage ≡ false) (λ sizes.
+            self.now.storage ≡ Chunked sizes) }
+    {
+        match self.array.layout() {
+            Layout::Compact(_) => None,
+            Layout::Contiguous(_) => None,
+            Layout::Chunked { sizes, .. } => Some(sizes.dims(alloc)),
+        }
+    }
+
+    /// The value of a cell that was never written.
+    pub fn fill(&self) -> i128
+        ensures { result ≡ self.now.fill }
+    {
+        self.array.fill()
+    }
+
+    /// Whether its cells are stored one behind another: those of a compact array are, and those of a contiguous one that has storage.
+    pub fn stored(&self) -> bool
+        ensures { result ≡ is_in_line self.now.storage }
+    {
+        match self.array.layout() {
+            Layout::Compact(_) => true,
+            Layout::Contiguous(block) => block.is_some() && self.array.cells() > 0,
+            Layout::Chunked { .. } => false,
+        }
     }
 
     /// The value of a cell, by its index.

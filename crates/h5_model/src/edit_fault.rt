@@ -72,8 +72,6 @@ pub enum EditFault {
     ImageFull,
     /// Memory was refused.
     NoMemory,
-    /// The edit is not carried yet. It comes before every other check, until all edits are carried.
-    NotYet,
 }
 
 impl EditFault {
@@ -115,7 +113,6 @@ impl EditFault {
             EditFault::TreeTooDeep => 29,
             EditFault::ImageFull => 30,
             EditFault::NoMemory => 31,
-            EditFault::NotYet => 32,
         }
     }
 
@@ -155,7 +152,6 @@ impl EditFault {
             EditFault::TreeTooDeep => "TreeTooDeep",
             EditFault::ImageFull => "ImageFull",
             EditFault::NoMemory => "NoMemory",
-            EditFault::NotYet => "NotYet",
         }
     }
 }

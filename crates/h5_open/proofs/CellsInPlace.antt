@@ -1,24 +1,21 @@
--- Cells of an array that were written in their block: what that makes of a reading of the image.
+-- Data of an array that were written where they stand: what that makes of a reading of the image.
 use Rattle.std.proofs.Common.{◌≡◌, ℕ, ◌+◌, ◌≤◌, Bool, true, cond, List, [], ◌∷◌, map, length, refl, sym, ap, ◌∙◌, subst, arith, Some}
-use Rattle.std.specs.Prelude.{◌==◌, if◌then◌else◌, option_and_then}
+use Rattle.std.specs.Prelude.{◌==◌, if◌then◌else◌}
 use Rattle.std.specs.Ordering.{nat_cmp}
 use Rattle.std.specs.Cmp.{nat_cmp_total}
 use Rattle.std.specs.FinMap.{FinMap, get, insert}
 use Rattle.std.specs.List.{flat_map}
 use Rattle.std.proofs.lemmas.Bool.Decides.{nat_tests}
 use Rattle.std.proofs.lemmas.Option.{same_Some}
-use Rattle.h5_bytes.specs.Bytes.{part}
-use Rattle.h5_bytes.specs.Blocks.{block, holds, cover, Inside, Keeps}
+use Rattle.h5_bytes.specs.Blocks.{block, cover, Inside, Keeps}
 use Rattle.h5_bytes.specs.declared.Block.{Block}
 use Rattle.h5_bytes.proofs.BlockLaws.{all_left, all_so, cover-append}
 use Rattle.h5_bytes.proofs.FieldLaws.{number_at-same}
 use Rattle.h5_model.specs.Edits.Applied.{with_dataset}
-use Rattle.h5_model.specs.Format.Layout.{Layout, InBlock, layout_of}
-use Rattle.h5_model.specs.Format.Messages.{Message, HasMessages, first_body, reference_count}
-use Rattle.h5_model.specs.Format.Reads.{Placed, IsPlaced, IsCounted, ReadsAs, HasObject, HasContent, HasData, HasDataset, all_blocks}
+use Rattle.h5_model.specs.Format.Messages.{Message, HasMessages, reference_count}
+use Rattle.h5_model.specs.Format.Reads.{Placed, IsPlaced, IsCounted, ReadsAs, HasObject, HasContent, HasDataset, all_blocks}
 use Rattle.h5_model.specs.Format.Superblock.{leaf_k, internal_k}
 use Rattle.h5_model.specs.Tree.Objects.{Tree, Object, Content, Array, Dataset, hard_links}
-use Rattle.h5_model.specs.Tree.Places.{cells}
 use Rattle.h5_model.proofs.Frames.{prefix-same, messages-same}
 use Rattle.h5_model.proofs.OneReading.{one_messages}
 use Rattle.h5_space.specs.Space.{Space}
@@ -28,25 +25,25 @@ use Rattle.h5_space.proofs.MovesLaws.{moves_kept}
 use Rattle.h5_laws.specs.Trees.Sound.{IsSoundTree}
 use Rattle.h5_laws.proofs.Lists.{In, in_all, all_in, in_map, in_flat}
 use Rattle.h5_laws.proofs.Maps.{get_of_entry}
-use Rattle.h5_laws.proofs.InPlace.CellWrites.{cells_in}
-use Rattle.h5_laws.proofs.InPlace.DatasetWrites.{dataset_written}
 use Rattle.h5_laws.proofs.SoundLaws.Alike.{alike_links, sound_alike}
 use Rattle.h5_laws.proofs.SoundLaws.Read.{placed_at, sound_reading}
 use Rattle.h5_open.specs.InPlace.{end_field, chosen_objects, other_objects, touched_blocks, IsLeft, IsRemade, IsInPlace}
 use Rattle.h5_open.proofs.ChangedObject.{stands_of, is_of, changed_at, is_number, same_stand, same_touched, same_others, from_touched, changed_entries, change_links, change_counts, still_there, cover_one, in_touched}
+use Rattle.h5_layout.specs.Data.{data_blocks}
+use Rattle.h5_layout.specs.Told.{layout_told, type_told}
+use Rattle.h5_open.proofs.OpenedLaws.ReadBlocks.{dataset_blocks}
 use Rattle.h5_open.proofs.InPlaceLaws.{in_place_apart, in_place_reads, in_place_whole}
 
--- a block that was written is one of these
-wide_moves : (s t : Space) (b : Block) (bs cs : List Block) → ((p : ℕ) → holds p b.at b.len ≤ cover p bs) → ((p : ℕ) → cover p cs ≡ cover p bs)
-    → Moves s t (b ∷ []) (b ∷ []) → Moves s t bs cs
-wide_moves s t b bs cs among same m = record {
+-- blocks that were written are among these
+wide_moves : (s t : Space) (ds bs cs : List Block) → ((p : ℕ) → cover p ds ≤ cover p bs) → ((p : ℕ) → cover p cs ≡ cover p bs) → Moves s t ds ds → Moves s t bs cs
+wide_moves s t ds bs cs among same m = record {
   grown = m.grown;
-  kept = λ p low none free. let here = among p in let unheld : cover p (b ∷ []) ≡ 0 = omega (arith, here, none) in m.kept p low unheld free;
+  kept = λ p low none free. let here = among p in let unheld : cover p ds ≡ 0 = omega (arith, here, none) in m.kept p low unheld free;
   moved = λ p. omega (arith, m.moved p, same p);
 }
 
--- the array of this number, by its header's messages, whose cells stand in this block
-pub record IsArrayAt (old : List ℕ) (table : FinMap nat_cmp ℕ) (tree : Tree) (number : ℕ) (b : Block) : Type 0 where
+-- the array of this number, by its header's messages, and the blocks of its data
+pub record IsArrayAt (old : List ℕ) (table : FinMap nat_cmp ℕ) (tree : Tree) (number : ℕ) : Type 0 where
   pub o : Object
   pub d : Dataset
   pub stands : get tree number ≡ Some o
@@ -56,11 +53,12 @@ pub record IsArrayAt (old : List ℕ) (table : FinMap nat_cmp ℕ) (tree : Tree)
   pub ms : List Message
   pub header_blocks : List Block
   pub listed : HasMessages old header ms header_blocks
-  pub laid : option_and_then (layout_of d.sizes d.fixed.size) (first_body 8 ms) ≡ Some (InBlock (Some b))
+  pub blocks : List Block
+  pub has : HasDataset old ms d blocks
 
 module _ (old new : Space) (table : FinMap nat_cmp ℕ) (tree : Tree) (placed : List Placed)
     (reads : ReadsAs old.bytes table tree placed) (apart : IsApart (all_blocks old.bytes placed) old.free (length old.bytes))
-    (number : ℕ) (b : Block) (it : IsArrayAt old.bytes table tree number b) (moves : Moves old new (b ∷ []) (b ∷ [])) (long : length new.bytes ≡ length old.bytes) where
+    (number : ℕ) (it : IsArrayAt old.bytes table tree number) (moves : Moves old new it.blocks it.blocks) (long : length new.bytes ≡ length old.bytes) where
   -- ---- where the array stands
 
   module _ (y : Placed) (there : In y placed) (mine : y.number ≡ number) where
@@ -87,20 +85,19 @@ module _ (old new : Space) (table : FinMap nat_cmp ℕ) (tree : Tree) (placed : 
     data_there : HasDataset old.bytes was.messages it.d was.content_blocks
     data_there = subst (λ (c : Content). HasContent old.bytes table was.messages c was.content_blocks) content_is was.content
 
-    layout_is : data_there.layout ≡ InBlock (Some b)
-    layout_is = same_Some data_there.layout (InBlock (Some b))
-        (sym data_there.laid_out ∙ ap (λ (ms : List Message). option_and_then (layout_of it.d.sizes it.d.fixed.size) (first_body 8 ms)) messages_are ∙ it.laid)
+    blocks_are : was.content_blocks ≡ it.blocks
+    blocks_are =
+        dataset_blocks old.bytes was.messages it.d was.content_blocks data_there
+        ∙ ap (λ (ms : List Message). data_blocks old.bytes (type_told ms) (layout_told ms)) messages_are
+        ∙ sym (dataset_blocks old.bytes it.ms it.d it.blocks it.has)
 
-    blocks_are : was.content_blocks ≡ b ∷ []
-    blocks_are = (subst (λ (l : Layout). HasData old.bytes it.d.fixed l data_there.chunks was.content_blocks) layout_is data_there.stored).1
-
-    cover_parts : (p : ℕ) → cover p y.blocks ≡ cover p was.header_blocks + holds p b.at b.len
+    cover_parts : (p : ℕ) → cover p y.blocks ≡ cover p was.header_blocks + cover p it.blocks
     cover_parts p =
         let laid = ap (cover p) was.laid in
         let content = ap (cover p) blocks_are in
         omega (arith, laid, content, cover-append p was.header_blocks was.content_blocks)
 
-    among : (p : ℕ) → cover p was.header_blocks + holds p b.at b.len ≤ cover p (flat_map (λ (x : Placed). x.blocks) placed)
+    among : (p : ℕ) → cover p was.header_blocks + cover p it.blocks ≤ cover p (flat_map (λ (x : Placed). x.blocks) placed)
     among p = omega (arith, cover_parts p, cover_one p y placed there)
 
     inside_object : Inside (length old.bytes) y.blocks
@@ -108,7 +105,7 @@ module _ (old new : Space) (table : FinMap nat_cmp ℕ) (tree : Tree) (placed : 
         in_all (λ (c : Block). c.at + c.len ≤ length old.bytes) c (flat_map (λ (x : Placed). x.blocks) placed) reads.holds.within.1 (in_flat (λ (x : Placed). x.blocks) y c placed there at))
 
     header_kept : Keeps old.bytes new.bytes was.header_blocks
-    header_kept = moves_kept old new (b ∷ []) (b ∷ []) was.header_blocks moves (λ p. omega (arith, apart p, among p))
+    header_kept = moves_kept old new it.blocks it.blocks was.header_blocks moves (λ p. omega (arith, apart p, among p, cover-append p it.blocks was.header_blocks))
         (all_left (λ (c : Block). c.at + c.len ≤ length old.bytes) was.header_blocks was.content_blocks (subst (Inside (length old.bytes)) was.laid inside_object))
 
   its : (x : Placed) × In x placed × (x.number ≡ number) × (x.object ≡ it.o)
@@ -116,7 +113,7 @@ module _ (old new : Space) (table : FinMap nat_cmp ℕ) (tree : Tree) (placed : 
 
   -- the superblock
   front_kept : Keeps old.bytes new.bytes (block 0 96 ∷ [])
-  front_kept = moves_kept old new (b ∷ []) (b ∷ []) (block 0 96 ∷ []) moves (λ p. omega (arith, apart p, among its.0 its.1 its.2 p))
+  front_kept = moves_kept old new it.blocks it.blocks (block 0 96 ∷ []) moves (λ p. omega (arith, apart p, among its.0 its.1 its.2 p, cover-append p it.blocks (block 0 96 ∷ [])))
       (reads.holds.within.0, tt)
 
   -- the K values
@@ -125,7 +122,7 @@ module _ (old new : Space) (table : FinMap nat_cmp ℕ) (tree : Tree) (placed : 
 
   -- ---- the reading with the array changed
 
-  module _ (change : Dataset → Dataset) (cells_are : change it.d ≡ record it.d { cells = cells_in it.d.fixed (part b.at b.len new.bytes) (cells it.d.sizes) }) where
+  module _ (change : Dataset → Dataset) (now : HasDataset new.bytes it.ms (change it.d) it.blocks) where
     abbrev tree' : Tree
     tree' = insert tree number (with_dataset change it.o)
 
@@ -144,8 +141,8 @@ module _ (old new : Space) (table : FinMap nat_cmp ℕ) (tree : Tree) (placed : 
       here = was y there mine
 
       data_now : HasDataset new.bytes here.messages (change it.d) here.content_blocks
-      data_now = subst (λ (d : Dataset). HasDataset new.bytes here.messages d here.content_blocks) (sym cells_are)
-          (dataset_written old.bytes new.bytes here.messages it.d here.content_blocks (data_there y there mine) b (layout_is y there mine))
+      data_now = subst (HasDataset new.bytes here.messages (change it.d)) (sym (blocks_are y there mine))
+          (subst (λ (ms : List Message). HasDataset new.bytes ms (change it.d) it.blocks) (sym (messages_are y there mine)) now)
 
       content_now : HasContent new.bytes table here.messages (with_dataset change y.object).content here.content_blocks
       content_now = subst (λ (c : Content). HasContent new.bytes table here.messages (with_dataset change (record y.object { content = c })).content here.content_blocks)
@@ -185,7 +182,7 @@ module _ (old new : Space) (table : FinMap nat_cmp ℕ) (tree : Tree) (placed : 
         let number_is : from.0.number ≡ number = grind (arith, nat_tests, from.2) in
         subst (IsRemade new.bytes table tree') from.3 (remade from.0 from.1 number_is)
 
-    touched_holds : (p : ℕ) → holds p b.at b.len ≤ cover p (end_field ∷ touched_blocks (is_number number) placed)
+    touched_holds : (p : ℕ) → cover p it.blocks ≤ cover p (end_field ∷ touched_blocks (is_number number) placed)
     touched_holds p =
         let all = cover_one p its.0 (chosen_objects (is_number number) placed) (in_touched number its.0 placed its.1 its.2) in
         omega (arith, all, cover_parts its.0 its.1 its.2 p)
@@ -193,7 +190,7 @@ module _ (old new : Space) (table : FinMap nat_cmp ℕ) (tree : Tree) (placed : 
     -- the image is edited in place, and the array alone is touched
     pub cells_in_place : IsInPlace old new table table tree tree' placed placed' (is_number number)
     cells_in_place = record {
-      moves = wide_moves old new b (end_field ∷ touched_blocks (is_number number) placed) (end_field ∷ touched_blocks (is_number number) placed') touched_holds
+      moves = wide_moves old new it.blocks (end_field ∷ touched_blocks (is_number number) placed) (end_field ∷ touched_blocks (is_number number) placed') touched_holds
           (λ p. ap (λ (bs : List Block). cover p (end_field ∷ bs)) (same_touched number (with_dataset change) placed)) moves;
       end = number_at-same old.bytes new.bytes 0 96 40 8 front_kept.0 (omega arith) ∙ reads.holds.whole ∙ sym long;
       small = omega (arith, long, reads.holds.whole, reads.holds.superblock.small);

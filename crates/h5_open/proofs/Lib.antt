@@ -26,6 +26,13 @@ pub mod CellsInPlace
 pub mod PlacedLaws
 pub mod CountedLaws
 pub mod RenumberedLaws
-pub mod CellsOpened
+pub mod StoredCells
+pub mod ArrayOpened
+pub mod StandingOpened
+pub mod RunsWritten
+pub mod ObjectInPlace
+pub mod CompactOpened
+pub mod CompactFirst
+pub mod FirstRun
 pub use Rattle.h5_layout.proofs.RoomLaws
 pub use Rattle.h5_layout.proofs.FillLaws

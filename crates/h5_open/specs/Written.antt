@@ -1,27 +1,61 @@
 -- Cells of an array that are written where they stand (File Format Specification 3.0, section IV.A.2.i).
-use Rattle.std.specs.Prelude.{◌≡◌, ℕ, ◌+◌, ◌≤◌, ℤ, true, Some, List, length}
+use Rattle.std.specs.Prelude.{◌≡◌, ℕ, ◌+◌, ◌<◌, ◌≤◌, ℤ, true, Some, List, length}
+use Rattle.std.specs.FinMap.{get}
 use Rattle.std.specs.List.{list_all, range_with_len}
-use Rattle.h5_bytes.specs.Blocks.{holds}
+use Rattle.h5_bytes.specs.Blocks.{cover}
 use Rattle.h5_bytes.specs.Bytes.{byte_at}
-use Rattle.h5_model.specs.Edits.Applied.{with_cells}
+use Rattle.h5_bytes.specs.declared.Block.{Block}
+use Rattle.h5_model.specs.Edits.Applied.{with_cells, with_dataset}
 use Rattle.h5_model.specs.Format.Fixed.{fits}
-use Rattle.h5_model.specs.Tree.Objects.{Tree, Dataset, Contiguous, dataset_of}
+use Rattle.h5_model.specs.Format.Messages.{Message, HasMessages}
+use Rattle.h5_model.specs.Format.Superblock.{leaf_k, internal_k}
+use Rattle.h5_model.specs.Tree.Objects.{Dataset, dataset_of, with_object}
 use Rattle.h5_model.specs.Tree.Places.{cells}
+use Rattle.h5_layout.specs.Data.{dataset_told}
+use Rattle.h5_layout.specs.Described.{Described, HasArray}
+use Rattle.h5_layout.specs.Standing.{cell_blocks, is_stored_cell}
+use Rattle.h5_open.specs.Opened.Sound.{IsWholeFile}
+use Rattle.h5_open.specs.Opened.State.{FileState}
 
 -- the array with values in its cells from this place on, in row-major order
 abbrev pub with_run : ℕ → List ℤ → Dataset → Dataset
 with_run place values d = record d { cells = with_cells d.cells (range_with_len place (length values)) values }
 
--- the object of this number is an array with its cells in one block; the values are of its type, and from this place on there is a
--- cell for each
-pub record IsStoredRun (tree : Tree) (number place : ℕ) (values : List ℤ) (d : Dataset) : Type 0 where
-  pub array : dataset_of tree number ≡ Some d
-  pub stored : d.storage ≡ Contiguous true
+-- the object of this number is the array that its header's messages describe
+pub record IsArrayThere (f : FileState) (number : ℕ) (a : Described) : Type 0 where
+  pub header : ℕ
+  pub at : get f.table number ≡ Some header
+  pub messages : List Message
+  pub blocks : List Block
+  pub listed : HasMessages f.image header messages blocks
+  pub described : HasArray messages a
+  pub told : dataset_of f.tree number ≡ Some (dataset_told f.image a)
+
+-- the cell at this place of the array is stored in the image
+abbrev pub IsCellStored : FileState → ℕ → ℕ → Type 0
+IsCellStored f number place = (a : Described) → IsArrayThere f number a → is_stored_cell f.image a place ≡ true
+
+-- the object of this number is an array, which has a cell for each of these values from this place on; the cells are stored, and the
+-- values are of its type
+pub record IsStoredRun (f : FileState) (number place : ℕ) (values : List ℤ) (d : Dataset) : Type 0 where
+  pub array : dataset_of f.tree number ≡ Some d
+  pub stored : (k : ℕ) → k < length values → IsCellStored f number (place + k)
   pub room : place + length values ≤ cells d.sizes
   pub of_type : list_all (fits d.fixed) values ≡ true
 
--- there are as many bytes, and all are as before but for so many from some place on
-pub record IsKeptBut (old new : List ℕ) (len : ℕ) : Type 0 where
+-- there are as many bytes, and all outside of these blocks are as before
+pub record IsKeptOutside (old new : List ℕ) (blocks : List Block) : Type 0 where
   pub long : length new ≡ length old
-  pub at : ℕ
-  pub kept : (p : ℕ) → holds p at len ≡ 0 → byte_at new p ≡ byte_at old p
+  pub kept : (p : ℕ) → cover p blocks ≡ 0 → byte_at new p ≡ byte_at old p
+
+-- of the opened image the array of this number alone is another, which has these values in its cells from this place on
+pub record AreCellsWritten (old : FileState) (number place : ℕ) (values : List ℤ) (new : FileState) : Type 0 where
+  pub changed : new ≡ record old { image = new.image; tree = with_object old.tree number (with_dataset (with_run place values)) }
+  pub leaf : leaf_k new.image ≡ leaf_k old.image
+  pub internal : internal_k new.image ≡ internal_k old.image
+  pub whole : IsWholeFile old → IsWholeFile new
+  pub stored : (p : ℕ) → IsCellStored old number p → IsCellStored new number p
+  pub local : (a : Described) (there : IsArrayThere old number a)
+      → IsKeptOutside old.image new.image (cell_blocks old.image a there.blocks)
+  pub again : (a : Described) (there : IsArrayThere old number a)
+      → (b : Described) × (now : IsArrayThere new number b) × (cell_blocks new.image b now.blocks ≡ cell_blocks old.image a there.blocks)

@@ -21,7 +21,7 @@ use Rattle.h5_shape.specs.declared.slab.SlabFault.{SlabFault}
 use Rattle.h5_shape.specs.declared.slab.SlabFault.TheVariants as slab
 use Rattle.h5_open.specs.Pieces.{CellsLeft}
 use Rattle.h5_query.specs.Kept.{IsArrayAt}
-use Rattle.h5_query.specs.Selected.{HasRuns, hyper_rules, fault_of_slab}
+use Rattle.h5_query.specs.Selected.{HasRuns, IsSelectedAt, IsSlabOf, hyper_rules, fault_of_slab}
 use Rattle.h5_query.proofs.RuleLaws.{first-behind, first-found}
 
 -- the outcome of the rules by themselves
@@ -97,13 +97,26 @@ module _ (tree : Tree) (path : List ℕ) (hyper : Hyper) where
     pub slab_left : first_holding (selection_rules tree path hyper) ≡ first_holding (hyper_rules (at.1).sizes hyper)
     slab_left = first-behind (dataset_rules tree path) (asked_of (dataset_at tree path)) there.accepted ∙ ap (λ (found : Option Dataset). first_holding (asked_of found)) there.found
 
-    pub has_runs : (slab : Slab) → first_holding (hyper_rules (at.1).sizes hyper) ≡ None → slab ≡ axes_of hyper → (left : CellsLeft)
-        → left ≡ record { fixed = (at.1).fixed; fill = (at.1).fill; values = selected_values at.1 slab } → HasRuns tree path hyper left
-    has_runs slab selects axes left are = record {
+    pub slab_refused : (e : EditFault) → first_holding (hyper_rules (at.1).sizes hyper) ≡ Some e → first_holding (selection_rules tree path hyper) ≡ Some e
+    slab_refused e h = slab_left ∙ h
+
+    pub selected_there : (slab : Slab) → first_holding (hyper_rules (at.1).sizes hyper) ≡ None → slab ≡ axes_of hyper → IsSlabOf (at.1).sizes slab
+        → IsSelectedAt tree path hyper (at.0, at.1, slab)
+    selected_there slab selects axes inside = record {
       accepted = slab_left ∙ selects;
-      dataset = at.1;
+      number = there.number;
       found = there.found;
-      type_is = ap (λ (l : CellsLeft). l.fixed) are;
-      fill_is = ap (λ (l : CellsLeft). l.fill) are;
-      values_are = ap (λ (l : CellsLeft). l.values) are ∙ ap (selected_values at.1) axes;
+      axes = axes;
+      slab = inside;
     }
+
+  pub has_runs : (at : ℕ × Dataset × Slab) → IsSelectedAt tree path hyper at → (left : CellsLeft)
+      → left ≡ record { fixed = (at.1).fixed; fill = (at.1).fill; values = selected_values at.1 at.2 } → HasRuns tree path hyper left
+  has_runs at there left are = record {
+    accepted = there.accepted;
+    dataset = at.1;
+    found = there.found;
+    type_is = ap (λ (l : CellsLeft). l.fixed) are;
+    fill_is = ap (λ (l : CellsLeft). l.fill) are;
+    values_are = ap (λ (l : CellsLeft). l.values) are ∙ ap (selected_values at.1) there.axes;
+  }

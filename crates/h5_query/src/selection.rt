@@ -4,11 +4,11 @@ ghost use Rattle.std.specs.Prelude.{◌≡◌, Some, None, IfOk, MatchResult};
 ghost use Rattle.h5_model.specs.Edits.Refusal.{first_holding};
 ghost use Rattle.h5_model.specs.Scripts.Reading.{selection_rules};
 ghost use Rattle.h5_model.specs.Views.Selection.{axes_of};
-ghost use Rattle.h5_query.specs.Selected.{HasRuns, IsSlabOf, fault_of_slab, hyper_rules};
+ghost use Rattle.h5_query.specs.Selected.{HasRuns, IsSelectedAt, IsSlabOf, fault_of_slab, hyper_rules};
 
 use crate::array::array_at;
 use h5_model::{EditFault, Hyper};
-use h5_open::{Dims, Opened, Runs};
+use h5_open::{Dims, Opened, Runs, StoredArray};
 use h5_shape::{Slab, SlabFault};
 use std::alloc::Global;
 
@@ -25,9 +25,26 @@ pub fn runs_at<'a>(
         MatchResult result (HasRuns tree path.now hyper.now) (λ e.
         first_holding (selection_rules tree path.now hyper.now) ≡ Some e) }
 {
-    let (_, array) = array_at(alloc, opened, path)?;
-    let slab = slab_within(array.array().dims(), hyper)?;
+    let (_, array, slab) = selected_at(alloc, opened, path, hyper)?;
     Ok(array.runs(&slab))
+}
+
+/// The array at the path with its number, and the selection of the lists, which is within its sizes.
+///
+/// Refused as [`array_at`] is, and as [`slab_within`] is. It takes no memory.
+pub fn selected_at<'a>(
+    alloc: Global,
+    opened: &'a Opened,
+    path: &[u8],
+    hyper: &Hyper,
+) -> Result<(u32, StoredArray<'a>, Slab), EditFault>
+    ensures { let tree = opened.now.tree in
+        MatchResult result (IsSelectedAt tree path.now hyper.now) (λ e.
+        first_holding (selection_rules tree path.now hyper.now) ≡ Some e) }
+{
+    let (number, array) = array_at(alloc, opened, path)?;
+    let slab = slab_within(array.array().dims(), hyper)?;
+    Ok((number, array, slab))
 }
 
 /// The selection of the lists, or the lowest number of why it is none of an array of these sizes: `RankMismatch`, `StrideZero`,

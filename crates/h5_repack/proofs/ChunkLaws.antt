@@ -1,4 +1,3 @@
-pub mod KeyBack
 pub mod ChunkLengths
 pub mod ChunkLevels
 pub mod ChunkCells

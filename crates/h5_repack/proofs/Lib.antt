@@ -11,3 +11,4 @@ pub mod ChunkLaws
 pub mod ObjectLaws
 pub mod ImageLaws
 pub mod EmptyFile
+pub mod WrittenStored

@@ -5,4 +5,5 @@ pub mod LineRuns
 pub mod PieceLaws
 pub mod ScriptRuns
 pub mod LineAnswers
-pub mod Transcripts
+pub mod ViewAnswers
+pub mod Sounds

@@ -1,7 +1,7 @@
 -- Lines that end in a piece of a script.
 use Rattle.std.proofs.Common.{◌≡◌, ℕ, Option, List, [], ◌∷◌, ◌++◌, refl, sym, ap, ◌∙◌, subst, append_assoc, append-nil, eqb, false, ◌<◌, ◌≤◌, ◌+◌, length, length-append, arith}
 use Rattle.std.proofs.lemmas.List.Elements.{All-append}
-use Rattle.h5_dump.specs.Opened.State.{FileState}
+use Rattle.h5_dump.specs.Session.{SessionState}
 use Rattle.h5_model.specs.Scripts.Lines.{Command, commands_of}
 use Rattle.h5_script.specs.Pieces.{HasNoEnd, IsFirstLine, AreWholeLines, HasRunLines, HasBegunLines, commands_of_line}
 use Rattle.h5_script.specs.Runs.{HasCounted, HasBegun}
@@ -27,7 +27,7 @@ commands_with_end line endless = commands_of-end line [] ∙ ap (λ commands. co
 commands_and_line : (done line : List ℕ) → AreWholeLines done → HasNoEnd line → commands_of done ++ commands_of_line line ≡ commands_of (done ++ (line ++ 10 ∷ []))
 commands_and_line done line whole endless = sym (commands_of-whole done (line ++ 10 ∷ []) whole ∙ ap (λ commands. commands_of done ++ commands) (commands_with_end line endless))
 
-module _ (s : FileState) (old : Known) (a : Ran) where
+module _ (s : SessionState) (old : Known) (a : Ran) where
   -- nothing was run yet
   pub lines_none : (held : List ℕ) → HasNoEnd held → HasRunLines held held s s old old a a
   lines_none held endless = record {
@@ -38,9 +38,9 @@ module _ (s : FileState) (old : Known) (a : Ran) where
     run = subst (λ (commands : List Command). HasCounted commands s s old old a a) (sym commands_of-nil) (has_counted_none s old a);
   }
 
-  module _ (m : FileState) (mid : Known) (b : Ran) (seen held : List ℕ) (so_far : HasRunLines seen held s m old mid a b) where
+  module _ (m : SessionState) (mid : Known) (b : Ran) (seen held : List ℕ) (so_far : HasRunLines seen held s m old mid a b) where
     -- the held bytes are the beginning of a line, which was run
-    pub lines_more : (line : List ℕ) (t : FileState) (new : Known) (c : Ran) → HasNoEnd line → HasCounted (commands_of_line (held ++ line)) m t mid new b c
+    pub lines_more : (line : List ℕ) (t : SessionState) (new : Known) (c : Ran) → HasNoEnd line → HasCounted (commands_of_line (held ++ line)) m t mid new b c
         → HasRunLines (seen ++ (line ++ 10 ∷ [])) [] s t old new a c
     lines_more line t new c endless ran =
         let all = endless_more held line so_far.endless endless in
@@ -58,7 +58,7 @@ module _ (s : FileState) (old : Known) (a : Ran) where
           never k low = omega (arith, low)
 
     -- the line was begun
-    pub lines_begun : (line rest bytes : List ℕ) (t : FileState) (new : Known) → HasNoEnd line → seen ++ (line ++ 10 ∷ rest) ≡ bytes → HasBegun (commands_of_line (held ++ line)) m t mid new
+    pub lines_begun : (line rest bytes : List ℕ) (t : SessionState) (new : Known) → HasNoEnd line → seen ++ (line ++ 10 ∷ rest) ≡ bytes → HasBegun (commands_of_line (held ++ line)) m t mid new
         → HasBegunLines bytes s t old new
     lines_begun line rest bytes t new endless is begun =
         let all = endless_more held line so_far.endless endless in
@@ -74,13 +74,13 @@ module _ (s : FileState) (old : Known) (a : Ran) where
         }
 
     -- the same where the line stands in a buffer, which is then cleared
-    pub lines_next : (line shown after : List ℕ) (t : FileState) (new : Known) (c : Ran) → HasNoEnd line → shown ≡ held ++ line → after ≡ []
+    pub lines_next : (line shown after : List ℕ) (t : SessionState) (new : Known) (c : Ran) → HasNoEnd line → shown ≡ held ++ line → after ≡ []
         → HasCounted (commands_of_line shown) m t mid new b c → HasRunLines (seen ++ (line ++ 10 ∷ [])) after s t old new a c
     lines_next line shown after t new c endless is cleared ran =
         subst (λ (left : List ℕ). HasRunLines (seen ++ (line ++ 10 ∷ [])) left s t old new a c) (sym cleared)
         (lines_more line t new c endless (subst (λ (bytes : List ℕ). HasCounted (commands_of_line bytes) m t mid new b c) is ran))
 
-    pub lines_stopped : (line shown rest bytes : List ℕ) (t : FileState) (new : Known) → HasNoEnd line → shown ≡ held ++ line → seen ++ (line ++ 10 ∷ rest) ≡ bytes
+    pub lines_stopped : (line shown rest bytes : List ℕ) (t : SessionState) (new : Known) → HasNoEnd line → shown ≡ held ++ line → seen ++ (line ++ 10 ∷ rest) ≡ bytes
         → HasBegun (commands_of_line shown) m t mid new → HasBegunLines bytes s t old new
     lines_stopped line shown rest bytes t new endless is parts begun =
         lines_begun line rest bytes t new endless parts (subst (λ (text : List ℕ). HasBegun (commands_of_line text) m t mid new) is begun)

@@ -2,98 +2,93 @@
 use Rattle.std.proofs.Common.{◌≡◌, ℕ, ◌+◌, Bool, Option, List, [], ◌∷◌, ◌++◌, refl, sym, ap, ◌∙◌, subst, append_assoc, inl, inr, arith}
 use Rattle.std.specs.List.{count_by}
 use Rattle.std.specs.Io.KnownBytes.{Appends}
+use Rattle.std.proofs.lemmas.List.{map-append}
 use Rattle.std.proofs.lemmas.List.Sums.{sum_by-append}
-use Rattle.h5_dump.specs.Opened.State.{FileState}
+use Rattle.h5_dump.specs.Session.{SessionState, session_of}
 use Rattle.h5_model.specs.Scripts.Lines.{Command}
-use Rattle.h5_model.specs.Scripts.Answers.{Outcome, is_refused, is_accepted}
-use Rattle.h5_script.specs.Answered.{Line, answer_at}
-use Rattle.h5_script.specs.Runs.{commands_in, file_of_run, text_of_run, outcomes_of_run, AreRunIn, IsRun, HasRun, HasCounted, HasBegun, IsPartlyTold}
+use Rattle.h5_model.specs.Scripts.Sessions.{Session}
+use Rattle.h5_model.specs.Scripts.Answers.{Outcome, gathered, is_accepted, is_refused, outcomes_of, session_after, transcript_of}
+use Rattle.h5_model.proofs.ScriptLaws.{outcomes_of-append, session_after-append, transcript_of-append}
+use Rattle.h5_script.specs.Answered.{Line}
+use Rattle.h5_script.specs.Runs.{commands_in, asked_in, AreRun, HasRun, HasCounted, HasBegun, IsPartlyTold}
 use Rattle.h5_script.specs.declared.ran.Ran.{Ran}
 use Rattle.h5_script.proofs.Known.{appends_none, appends_more, keeps_all}
 
-pub file_of_run-append : (s : FileState) (first others : List Line) → file_of_run s (first ++ others) ≡ file_of_run (file_of_run s first) others
-unfolding file_of_run
-file_of_run-append s [] others = refl
-file_of_run-append s (line ∷ first) others = file_of_run-append line.after first others
+are_run-append : (s m t : SessionState) (first others : List Line) → AreRun s first m → AreRun m others t → AreRun s (first ++ others) t
+unfolding AreRun
+are_run-append s m t [] others each more = subst (λ (q : SessionState). AreRun q others t) each more
+are_run-append s m t (line ∷ first) others each more = (each.0, are_run-append line.after m t first others each.1 more)
 
-pub text_of_run-append : (s : FileState) (first others : List Line) → text_of_run s (first ++ others) ≡ text_of_run s first ++ text_of_run (file_of_run s first) others
-unfolding file_of_run text_of_run
-text_of_run-append s [] others = refl
-text_of_run-append s (line ∷ first) others =
-    ap (λ text. (answer_at s line).text ++ text) (text_of_run-append line.after first others)
-    ∙ sym (append_assoc (answer_at s line).text (text_of_run line.after first) (text_of_run (file_of_run line.after first) others))
+commands_in-append : (first others : List Line) → commands_in (first ++ others) ≡ commands_in first ++ commands_in others
+commands_in-append first others = map-append (λ (line : Line). line.command) first others
 
-pub outcomes_of_run-append : (s : FileState) (first others : List Line)
-    → outcomes_of_run s (first ++ others) ≡ outcomes_of_run s first ++ outcomes_of_run (file_of_run s first) others
-unfolding file_of_run outcomes_of_run
-outcomes_of_run-append s [] others = refl
-outcomes_of_run-append s (line ∷ first) others =
-    ap (λ outcomes. (answer_at s line).outcome ∷ outcomes) (outcomes_of_run-append line.after first others)
-
-pub are_run_in-append : (s : FileState) (first others : List Line) → AreRunIn s first → AreRunIn (file_of_run s first) others → AreRunIn s (first ++ others)
-unfolding file_of_run AreRunIn
-are_run_in-append s [] others each more = more
-are_run_in-append s (line ∷ first) others each more = (each.0, are_run_in-append line.after first others each.1 more)
-
-pub commands_in-append : (first others : List Line) → commands_in (first ++ others) ≡ commands_in first ++ commands_in others
-commands_in-append [] others = refl
-commands_in-append (line ∷ first) others = ap (λ commands. line.command ∷ commands) (commands_in-append first others)
+asked_in-append : (first others : List Line) → asked_in (first ++ others) ≡ asked_in first ++ asked_in others
+asked_in-append first others = map-append (λ (line : Line). (line.command, line.given)) first others
 
 -- ---- runs behind runs
-
-pub run_none : (s : FileState) → IsRun [] s s []
-unfolding file_of_run AreRunIn
-run_none s = record { asked_are = refl; each = tt; after_is = refl }
-
-pub run_more : (asked more : List Command) (s m t : FileState) (first others : List Line) → IsRun asked s m first → IsRun more m t others → IsRun (asked ++ more) s t (first ++ others)
-run_more asked more s m t first others one two = record {
-  asked_are = commands_in-append first others ∙ ap (λ commands. commands ++ commands_in others) one.asked_are ∙ ap (λ commands. asked ++ commands) two.asked_are;
-  each = are_run_in-append s first others one.each (subst (λ (q : FileState). AreRunIn q others) one.after_is two.each);
-  after_is = two.after_is ∙ ap (λ q. file_of_run q others) one.after_is ∙ sym (file_of_run-append s first others);
-}
 
 abbrev Known : Type 0
 Known = Option (List ℕ)
 
--- the text of runs, one behind the other
-text_more : (s m : FileState) (first others : List Line) → m ≡ file_of_run s first → text_of_run s first ++ text_of_run m others ≡ text_of_run s (first ++ others)
-text_more s m first others is = ap (λ q. text_of_run s first ++ text_of_run q others) is ∙ sym (text_of_run-append s first others)
+pub has_run_none : (s : SessionState) (known : Known) → HasRun [] s s known known
+unfolding AreRun session_after transcript_of
+has_run_none s known = record { lines = []; asked_are = refl; each = refl; session_is = refl; written = appends_none known }
 
-pub has_run_none : (s : FileState) (known : Known) → HasRun [] s s known known
-unfolding text_of_run
-has_run_none s known = record { lines = []; run = run_none s; written = appends_none known }
+-- lines behind lines, the first of which led to this session
+module _ (s m : SessionState) (first others : List Line) (is : session_of m ≡ session_after gathered (session_of s) (asked_in first)) where
+  session_more : session_after gathered (session_of m) (asked_in others) ≡ session_after gathered (session_of s) (asked_in (first ++ others))
+  session_more =
+      ap (λ (q : Session). session_after gathered q (asked_in others)) is ∙ sym (session_after-append gathered (session_of s) (asked_in first) (asked_in others))
+      ∙ ap (session_after gathered (session_of s)) (sym (asked_in-append first others))
 
-pub has_run_more : (asked more : List Command) (s m t : FileState) (old mid new : Known) → HasRun asked s m old mid → HasRun more m t mid new → HasRun (asked ++ more) s t old new
+  text_more : transcript_of gathered (session_of s) (asked_in first) ++ transcript_of gathered (session_of m) (asked_in others)
+      ≡ transcript_of gathered (session_of s) (asked_in (first ++ others))
+  text_more =
+      ap (λ (q : Session). transcript_of gathered (session_of s) (asked_in first) ++ transcript_of gathered q (asked_in others)) is
+      ∙ sym (transcript_of-append gathered (session_of s) (asked_in first) (asked_in others))
+      ∙ ap (transcript_of gathered (session_of s)) (sym (asked_in-append first others))
+
+  outcomes_more : outcomes_of gathered (session_of s) (asked_in (first ++ others))
+      ≡ outcomes_of gathered (session_of s) (asked_in first) ++ outcomes_of gathered (session_of m) (asked_in others)
+  outcomes_more =
+      ap (outcomes_of gathered (session_of s)) (asked_in-append first others)
+      ∙ outcomes_of-append gathered (session_of s) (asked_in first) (asked_in others)
+      ∙ sym (ap (λ (q : Session). outcomes_of gathered (session_of s) (asked_in first) ++ outcomes_of gathered q (asked_in others)) is)
+
+  counts_more : (p : Outcome → Bool) (a b c : ℕ) → b ≡ a + count_by p (outcomes_of gathered (session_of s) (asked_in first))
+      → c ≡ b + count_by p (outcomes_of gathered (session_of m) (asked_in others)) → c ≡ a + count_by p (outcomes_of gathered (session_of s) (asked_in (first ++ others)))
+  counts_more p a b c one two =
+      let all : count_by p (outcomes_of gathered (session_of s) (asked_in (first ++ others)))
+      ≡ count_by p (outcomes_of gathered (session_of s) (asked_in first)) + count_by p (outcomes_of gathered (session_of m) (asked_in others))
+      = ap (count_by p) outcomes_more
+      ∙ sum_by-append _ (outcomes_of gathered (session_of s) (asked_in first)) (outcomes_of gathered (session_of m) (asked_in others)) in
+      omega (arith, all, one, two)
+
+pub has_run_more : (asked more : List Command) (s m t : SessionState) (old mid new : Known) → HasRun asked s m old mid → HasRun more m t mid new → HasRun (asked ++ more) s t old new
 has_run_more asked more s m t old mid new one two = record {
   lines = one.lines ++ two.lines;
-  run = run_more asked more s m t one.lines two.lines one.run two.run;
-  written = subst (λ (text : List ℕ). Appends old new text) (text_more s m one.lines two.lines one.run.after_is)
-      (appends_more old mid new (text_of_run s one.lines) (text_of_run m two.lines) one.written two.written);
+  asked_are = commands_in-append one.lines two.lines ∙ ap (λ commands. commands ++ commands_in two.lines) one.asked_are ∙ ap (λ commands. asked ++ commands) two.asked_are;
+  each = are_run-append s m t one.lines two.lines one.each two.each;
+  session_is = two.session_is ∙ session_more s m one.lines two.lines one.session_is;
+  written = subst (λ (text : List ℕ). Appends old new text) (text_more s m one.lines two.lines one.session_is)
+      (appends_more old mid new _ _ one.written two.written);
 }
 
-counts_more : (p : Outcome → Bool) (s m : FileState) (first others : List Line) (a b c : ℕ) → m ≡ file_of_run s first
-    → b ≡ a + count_by p (outcomes_of_run s first) → c ≡ b + count_by p (outcomes_of_run m others) → c ≡ a + count_by p (outcomes_of_run s (first ++ others))
-counts_more p s m first others a b c is one two =
-    let all : count_by p (outcomes_of_run s (first ++ others)) ≡ count_by p (outcomes_of_run s first) + count_by p (outcomes_of_run m others)
-    = ap (count_by p) (outcomes_of_run-append s first others ∙ ap (λ q. outcomes_of_run s first ++ outcomes_of_run q others) (sym is))
-    ∙ sum_by-append _ (outcomes_of_run s first) (outcomes_of_run m others) in
-    omega (arith, all, one, two)
-
-pub has_counted_none : (s : FileState) (known : Known) (counts : Ran) → HasCounted [] s s known known counts counts
-unfolding outcomes_of_run has_run_none
+pub has_counted_none : (s : SessionState) (known : Known) (counts : Ran) → HasCounted [] s s known known counts counts
+unfolding has_run_none
 has_counted_none s known counts = record { run = has_run_none s known; refused = omega arith; edits = omega arith }
 
-pub has_counted_more : (asked more : List Command) (s m t : FileState) (old mid new : Known) (a b c : Ran)
+pub has_counted_more : (asked more : List Command) (s m t : SessionState) (old mid new : Known) (a b c : Ran)
     → HasCounted asked s m old mid a b → HasCounted more m t mid new b c → HasCounted (asked ++ more) s t old new a c
 unfolding has_run_more
 has_counted_more asked more s m t old mid new a b c one two = record {
   run = has_run_more asked more s m t old mid new one.run two.run;
-  refused = counts_more is_refused s m one.run.lines two.run.lines a.refused b.refused c.refused one.run.run.after_is one.refused two.refused;
-  edits = counts_more is_accepted s m one.run.lines two.run.lines a.edits b.edits c.edits one.run.run.after_is one.edits two.edits;
+  refused = counts_more s m one.run.lines two.run.lines one.run.session_is is_refused a.refused b.refused c.refused one.refused two.refused;
+  edits = counts_more s m one.run.lines two.run.lines one.run.session_is is_accepted a.edits b.edits c.edits one.edits two.edits;
 }
 
 -- no command was run yet
-pub has_begun_none : (asked : List Command) (s : FileState) (known : Known) → HasBegun asked s s known known
+pub has_begun_none : (asked : List Command) (s : SessionState) (known : Known) → HasBegun asked s s known known
 has_begun_none asked s known = record {
   first = [];
   others = asked;
@@ -105,7 +100,7 @@ has_begun_none asked s known = record {
 }
 
 -- all commands were run
-pub has_begun_all : (asked more : List Command) (s t : FileState) (old new : Known) → HasRun asked s t old new → HasBegun (asked ++ more) s t old new
+pub has_begun_all : (asked more : List Command) (s t : SessionState) (old new : Known) → HasRun asked s t old new → HasBegun (asked ++ more) s t old new
 has_begun_all asked more s t old new all = record {
   first = asked;
   others = more;
@@ -117,7 +112,7 @@ has_begun_all asked more s t old new all = record {
 }
 
 -- the first of the commands was run and told in part, whatever others follow
-partly_of : (asked more : List Command) (s t : FileState) (old new : Known) → IsPartlyTold asked s t old new → IsPartlyTold (asked ++ more) s t old new
+partly_of : (asked more : List Command) (s t : SessionState) (old new : Known) → IsPartlyTold asked s t old new → IsPartlyTold (asked ++ more) s t old new
 partly_of asked more s t old new partly = record {
   line = partly.line;
   others = partly.others ++ more;
@@ -128,7 +123,7 @@ partly_of asked more s t old new partly = record {
 }
 
 -- more commands may follow
-pub has_begun_of : (asked more : List Command) (s t : FileState) (old new : Known) → HasBegun asked s t old new → HasBegun (asked ++ more) s t old new
+pub has_begun_of : (asked more : List Command) (s t : SessionState) (old new : Known) → HasBegun asked s t old new → HasBegun (asked ++ more) s t old new
 has_begun_of asked more s t old new begun = record {
   first = begun.first;
   others = begun.others ++ more;
@@ -143,7 +138,7 @@ has_begun_of asked more s t old new begun = record {
 }
 
 -- some commands were run whole, and others behind them were begun
-pub has_begun_more : (asked more : List Command) (s m t : FileState) (old mid new : Known) → HasRun asked s m old mid → HasBegun more m t mid new → HasBegun (asked ++ more) s t old new
+pub has_begun_more : (asked more : List Command) (s m t : SessionState) (old mid new : Known) → HasRun asked s m old mid → HasBegun more m t mid new → HasBegun (asked ++ more) s t old new
 has_begun_more asked more s m t old mid new one two = record {
   first = asked ++ two.first;
   others = two.others;
@@ -155,7 +150,7 @@ has_begun_more asked more s m t old mid new one two = record {
 }
 
 -- the first command was run, and a beginning of its answer was written
-pub has_begun_one : (asked : List Command) (s t : FileState) (old new : Known) → IsPartlyTold asked s t old new → HasBegun asked s t old new
+pub has_begun_one : (asked : List Command) (s t : SessionState) (old new : Known) → IsPartlyTold asked s t old new → HasBegun asked s t old new
 has_begun_one asked s t old new partly = record {
   first = [];
   others = asked;

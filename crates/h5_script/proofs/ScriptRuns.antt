@@ -4,7 +4,7 @@ use Rattle.std.specs.Prelude.{nat_lt, Result, Ok, Err, MatchResult, IsErrAnd}
 use Rattle.std.specs.Io.KnownBytes.{Consumes, Keeps, IsAtEnd}
 use Rattle.std.proofs.lemmas.Bool.Decides.{nat_tests}
 use Rattle.std.proofs.lemmas.List.{take-take}
-use Rattle.h5_dump.specs.Opened.State.{FileState}
+use Rattle.h5_dump.specs.Session.{SessionState}
 use Rattle.h5_model.specs.Scripts.Lines.{Command, commands_of, finished, within_limit}
 use Rattle.h5_script.specs.Pieces.{AreWholeLines, HasRunLines, HasBegunLines, IsUnderway, commands_of_line}
 use Rattle.h5_script.specs.Runs.{HasRun, HasCounted, HasBegun, IsRunCut}
@@ -25,7 +25,7 @@ abbrev limit : ℕ
 limit = 16777216
 
 -- a run that ends early by a writer or by memory
-pub cut_off : (s t : FileState) (input left old new : Known) (f : RunFault) → IsRunCut f → IsCutOff s t input left old new → IsStopped s t input left old new f
+pub cut_off : (s t : SessionState) (input left old new : Known) (f : RunFault) → IsRunCut f → IsCutOff s t input left old new → IsStopped s t input left old new f
 cut_off s t input left old new ScriptRead is off = absurd is
 cut_off s t input left old new ScriptWrite is off = off
 cut_off s t input left old new ScriptTooLong is off = absurd is
@@ -57,13 +57,13 @@ within_long script front more is counted long =
     ∙ ap (λ xs. finished (take limit xs)) is ∙ ap finished (take_front front more limit (sym counted))
 
 -- whatever follows the lines that were run, the run of the whole has begun
-begun_within : (done rest : List ℕ) (s t : FileState) (old new : Known) → AreWholeLines done → HasBegun (commands_of done) s t old new → HasBegun (commands_of (done ++ rest)) s t old new
+begun_within : (done rest : List ℕ) (s t : SessionState) (old new : Known) → AreWholeLines done → HasBegun (commands_of done) s t old new → HasBegun (commands_of (done ++ rest)) s t old new
 begun_within done rest s t old new whole begun =
     subst (λ (commands : List Command). HasBegun commands s t old new) (sym (commands_of-whole done rest whole)) (has_begun_of (commands_of done) (commands_of rest) s t old new begun)
 
 -- ---- the run's state
 
-module _ (s : FileState) (input old : Known) where
+module _ (s : SessionState) (input old : Known) where
   pub under_start : IsUnderway s s input input old old [] limit none_ran
   under_start = record {
     script = [];
@@ -87,7 +87,7 @@ module _ (s : FileState) (input old : Known) where
     run = inl (has_begun_none (commands_of (finished (within_limit []))) s old);
   })
 
-  module _ (m : FileState) (mid : Known) (now : Known) (held : List ℕ) (room : ℕ) (a : Ran) (under : IsUnderway s m input mid old now held room a) where
+  module _ (m : SessionState) (mid : Known) (now : Known) (held : List ℕ) (room : ℕ) (a : Ran) (under : IsUnderway s m input mid old now held room a) where
     -- the lines of the script so far
     whole_run : HasCounted (commands_of under.run.done) s m old now none_ran a
     whole_run = under.run.run
@@ -117,7 +117,7 @@ module _ (s : FileState) (input old : Known) where
         subst (λ (xs : List ℕ). Consumes input left xs) (ap (λ xs. under.script ++ xs) none ∙ append-nil under.script) (consumes_more input mid left under.script bytes under.read read)
 
     -- the last line was run
-    pub done_all : (left : Known) (bytes : List ℕ) (t : FileState) (new last : Known) (b : Ran) → bytes ≡ [] → Consumes mid left bytes → IsAtEnd left
+    pub done_all : (left : Known) (bytes : List ℕ) (t : SessionState) (new last : Known) (b : Ran) → bytes ≡ [] → Consumes mid left bytes → IsAtEnd left
         → HasCounted (commands_of_line held) m t now new a b → Keeps new last → IsDone s t input left old last b
     done_all left bytes t new last b none read ended ran kept =
         let all = subst (λ (commands : List Command). HasCounted commands s t old new none_ran b) all_commands
@@ -128,14 +128,20 @@ module _ (s : FileState) (input old : Known) where
           ended = ended;
           short = low;
           run = record {
-            run = record { lines = all.run.lines; run = all.run.run; written = appends_kept old new last _ all.run.written kept };
+            run = record {
+              lines = all.run.lines;
+              asked_are = all.run.asked_are;
+              each = all.run.each;
+              session_is = all.run.session_is;
+              written = appends_kept old new last _ all.run.written kept;
+            };
             refused = all.refused;
             edits = all.edits;
           };
         }
 
     -- the last line was begun
-    pub cut_last : (left : Known) (bytes : List ℕ) (t : FileState) (new : Known) → bytes ≡ [] → Consumes mid left bytes → IsAtEnd left
+    pub cut_last : (left : Known) (bytes : List ℕ) (t : SessionState) (new : Known) → bytes ≡ [] → Consumes mid left bytes → IsAtEnd left
         → HasBegun (commands_of_line held) m t now new → IsCutOff s t input left old new
     cut_last left bytes t new none read ended begun = record {
       script = under.script;
@@ -148,11 +154,17 @@ module _ (s : FileState) (input old : Known) where
     }
 
     -- the last line was run, and what was held back could not be written
-    pub cut_flush : (left : Known) (bytes : List ℕ) (t : FileState) (new last : Known) (b : Ran) → bytes ≡ [] → Consumes mid left bytes → IsAtEnd left
+    pub cut_flush : (left : Known) (bytes : List ℕ) (t : SessionState) (new last : Known) (b : Ran) → bytes ≡ [] → Consumes mid left bytes → IsAtEnd left
         → HasCounted (commands_of_line held) m t now new a b → Keeps new last → IsCutOff s t input left old last
     cut_flush left bytes t new last b none read ended ran kept =
         cut_last left bytes t last none read ended (subst (λ (commands : List Command). HasBegun commands m t now last) (append-nil (commands_of_line held))
-        (has_begun_all (commands_of_line held) [] m t now last (record { lines = ran.run.lines; run = ran.run.run; written = appends_kept now new last _ ran.run.written kept })))
+        (has_begun_all (commands_of_line held) [] m t now last (record {
+          lines = ran.run.lines;
+          asked_are = ran.run.asked_are;
+          each = ran.run.each;
+          session_is = ran.run.session_is;
+          written = appends_kept now new last _ ran.run.written kept;
+        })))
 
     -- ---- a piece
 
@@ -167,7 +179,7 @@ module _ (s : FileState) (input old : Known) where
       read_more = consumes_more input mid left under.script (take count piece) under.read read.read
 
       -- the lines of a part of the piece, behind those before it
-      module _ (part : List ℕ) (t : FileState) (new : Known) where
+      module _ (part : List ℕ) (t : SessionState) (new : Known) where
         lines_behind : (done others : List ℕ) → done ++ others ≡ held ++ part → under.script ++ part ≡ (under.run.done ++ done) ++ others
         lines_behind done others is =
             ap (λ xs. xs ++ part) (sym under.run.parts) ∙ append_assoc under.run.done held part ∙ ap (λ xs. under.run.done ++ xs) (sym is) ∙ sym (append_assoc under.run.done done others)
@@ -193,7 +205,7 @@ module _ (s : FileState) (input old : Known) where
         }
 
       -- all of the piece is within the limit
-      pub under_more : (part after : List ℕ) (t : FileState) (new : Known) (b : Ran) → count ≤ room → part ≡ take count piece → HasRunLines (held ++ part) after m t now new a b
+      pub under_more : (part after : List ℕ) (t : SessionState) (new : Known) (b : Ran) → count ≤ room → part ≡ take count piece → HasRunLines (held ++ part) after m t now new a b
           → IsUnderway s t input left old new after (room - count) b
       under_more part after t new b enough is more = record {
         script = grown;
@@ -202,7 +214,7 @@ module _ (s : FileState) (input old : Known) where
         run = subst (λ (xs : List ℕ). HasRunLines (under.script ++ xs) after s t old new none_ran b) is (lines_ran part t new after b more);
       }
 
-      pub cut_within : (part : List ℕ) (t : FileState) (new : Known) → count ≤ room → part ≡ take count piece → HasBegunLines (held ++ part) m t now new → IsCutOff s t input left old new
+      pub cut_within : (part : List ℕ) (t : SessionState) (new : Known) → count ≤ room → part ≡ take count piece → HasBegunLines (held ++ part) m t now new → IsCutOff s t input left old new
       cut_within part t new enough is more =
           let begun = lines_began part t new more in
           let short : length grown ≤ limit = omega (arith, long_grown, under.limit, enough) in
@@ -233,7 +245,7 @@ module _ (s : FileState) (input old : Known) where
           let more = parted part over is in
           within_long grown (under.script ++ part) more.0 more.1 (front_long part over is) (omega (arith, long_grown, under.limit, over))
 
-      pub too_long : (part after : List ℕ) (t : FileState) (new : Known) (b : Ran) → room < count → part ≡ take room piece → HasRunLines (held ++ part) after m t now new a b
+      pub too_long : (part after : List ℕ) (t : SessionState) (new : Known) (b : Ran) → room < count → part ≡ take room piece → HasRunLines (held ++ part) after m t now new a b
           → IsTooLong s t input left old new
       too_long part after t new b over is more =
           let all = lines_ran part t new after b more in
@@ -245,7 +257,7 @@ module _ (s : FileState) (input old : Known) where
                 (sym (within_front part over is ∙ ap finished (sym all.parts) ∙ finished_is all.done after all.whole all.endless)) all.run.run;
           }
 
-      pub cut_over : (part : List ℕ) (t : FileState) (new : Known) → room < count → part ≡ take room piece → HasBegunLines (held ++ part) m t now new → IsCutOff s t input left old new
+      pub cut_over : (part : List ℕ) (t : SessionState) (new : Known) → room < count → part ≡ take room piece → HasBegunLines (held ++ part) m t now new → IsCutOff s t input left old new
       cut_over part t new over is more =
           let begun = lines_began part t new more in
           record {
@@ -257,7 +269,7 @@ module _ (s : FileState) (input old : Known) where
                 (begun_within begun.done (finished (finished begun.others)) s t old new begun.whole begun.run));
           }
 
-      pub cut_piece : (within : ℕ) (part : List ℕ) (t : FileState) (new : Known) → within ≡ min count room → part ≡ take within piece → HasBegunLines (held ++ part) m t now new
+      pub cut_piece : (within : ℕ) (part : List ℕ) (t : SessionState) (new : Known) → within ≡ min count room → part ≡ take within piece → HasBegunLines (held ++ part) m t now new
           → IsCutOff s t input left old new
       cut_piece within part t new is parts more = by (nat_lt room count) refl where
         same : (n : ℕ) → within ≡ n → part ≡ take n piece

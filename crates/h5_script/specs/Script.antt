@@ -1,7 +1,7 @@
 -- What a run of a script reads, does to a file, and writes.
 use Rattle.std.specs.Prelude.{◌⊎◌, ℕ, ◌<◌, ◌≤◌, Option, List, length}
 use Rattle.std.specs.Io.KnownBytes.{Consumes, IsAtEnd}
-use Rattle.h5_dump.specs.Opened.State.{FileState}
+use Rattle.h5_dump.specs.Session.{SessionState}
 use Rattle.h5_model.specs.Scripts.Lines.{commands_of, finished, within_limit}
 use Rattle.h5_script.specs.Runs.{HasRun, HasCounted, HasBegun}
 use Rattle.h5_script.specs.declared.ran.Ran.{Ran}
@@ -13,7 +13,7 @@ abbrev pub none_ran : Ran
 none_ran = record { refused = 0; edits = 0 }
 
 -- the script was read to its end, all its lines were run, and their outcomes were counted
-pub record IsDone (before after : FileState) (input left old new : Option (List ℕ)) (ran : Ran) : Type 0 where
+pub record IsDone (before after : SessionState) (input left old new : Option (List ℕ)) (ran : Ran) : Type 0 where
   pub script : List ℕ
   pub read : Consumes input left script
   pub ended : IsAtEnd left
@@ -21,28 +21,28 @@ pub record IsDone (before after : FileState) (input left old new : Option (List 
   pub run : HasCounted (commands_of script) before after old new none_ran ran
 
 -- the reader failed behind these bytes: the lines that they finish were run
-pub record IsUnread (before after : FileState) (input left old new : Option (List ℕ)) : Type 0 where
+pub record IsUnread (before after : SessionState) (input left old new : Option (List ℕ)) : Type 0 where
   pub script : List ℕ
   pub read : Consumes input left script
   pub short : length script ≤ 16777216
   pub run : HasRun (commands_of (finished script)) before after old new
 
 -- more bytes were read than a script has: the lines that the others finish were run
-pub record IsTooLong (before after : FileState) (input left old new : Option (List ℕ)) : Type 0 where
+pub record IsTooLong (before after : SessionState) (input left old new : Option (List ℕ)) : Type 0 where
   pub script : List ℕ
   pub read : Consumes input left script
   pub long : 16777216 < length script
   pub run : HasRun (commands_of (within_limit script)) before after old new
 
 -- the writer failed, or memory was refused: the first lines were run, an unfinished one only at the end
-pub record IsCutOff (before after : FileState) (input left old new : Option (List ℕ)) : Type 0 where
+pub record IsCutOff (before after : SessionState) (input left old new : Option (List ℕ)) : Type 0 where
   pub script : List ℕ
   pub read : Consumes input left script
   pub run : HasBegun (commands_of (finished (within_limit script))) before after old new
       ⊎ (IsAtEnd left × HasBegun (commands_of (within_limit script)) before after old new)
 
 -- what was done where a run ends early
-abbrev pub IsStopped : FileState → FileState → Option (List ℕ) → Option (List ℕ) → Option (List ℕ) → Option (List ℕ) → RunFault → Type 0
+abbrev pub IsStopped : SessionState → SessionState → Option (List ℕ) → Option (List ℕ) → Option (List ℕ) → Option (List ℕ) → RunFault → Type 0
 IsStopped before after input left old new ScriptRead = IsUnread before after input left old new
 IsStopped before after input left old new ScriptTooLong = IsTooLong before after input left old new
 IsStopped before after input left old new ScriptWrite = IsCutOff before after input left old new

@@ -1,45 +1,54 @@
 //! What one line answers.
 
 ghost use Rattle.std.specs.Prelude.{◌≡◌, [], IfOk, MatchResult, codes};
-ghost use Rattle.h5_dump.specs.Opened.State.{FileState};
+ghost use Rattle.h5_dump.specs.Session.{SessionState};
 ghost use Rattle.h5_model.specs.Edits.EditFaults.{refused_text};
 ghost use Rattle.h5_model.specs.Scripts.Lines as lines;
+ghost use Rattle.h5_model.specs.Views.ViewFaults.{view_fault_text};
 ghost use Rattle.h5_script.specs.declared.ran.Outcome.TheVariants.{Refused};
 ghost use Rattle.h5_command.specs.Commands.{command_of};
 ghost use Rattle.h5_script.specs.Answered.{IsAnswered, IsUntold};
 ghost use Rattle.h5_script.specs.Runs.{Tells};
-ghost use Rattle.h5_script.specs.Taken.{taken};
 
 use crate::fault::RunFault;
 use crate::ran::Outcome;
 use h5_command::Command;
-use h5_dump::{DumpFault, File, push_list, write_dump};
-use h5_model::{Edit, EditFault};
-use h5_text::{push_accepted, push_refused, push_text, write_text};
+use h5_dump::{DumpFault, Session, push_list, write_dump};
+use h5_model::{Edit, EditFault, Hyper, ViewFault, ViewNo};
+use h5_text::{
+    push_accepted, push_opened, push_refused, push_text, push_view_fault, write_shown, write_text,
+};
 use std::alloc::{AllocError, Global};
 use std::io::Write;
 
 /// Runs a command, and writes its answer. The text is made in the buffer, in place of what was there.
 ///
 /// A want of memory for the answer is told of `ls` and `dump` as a refusal; what is left is
-/// the memory for one short line.
+/// the memory for one short line, and of `show` that for some thousand values.
 pub(crate) fn answer<W: Write>(
     alloc: Global,
-    file: &mut File,
+    session: &mut Session,
     command: &Command,
     text: &mut Vec<u8>,
     output: &mut W,
 ) -> Result<Outcome, RunFault>
-    ensures { Tells result file.old (command_of command.now) file.new (W.contents output.old)
+    ensures { Tells result session.old (command_of command.now) session.new (W.contents output.old)
         (W.contents output.new) }
 {
     text.clear();
     match command {
-        Command::Change(edit) => tell(answer_edit(file, edit, text), text, output),
-        Command::ListAll => tell(list(alloc, file, text), text, output),
-        Command::Dump { path } => dump(alloc, file, path.as_slice(), text, output),
-        Command::Repack => tell(repack(file, text), text, output),
-        _ => tell(bad_line(text), text, output),
+        Command::Change(edit) => tell(carry_out(session, edit, text), text, output),
+        Command::OpenView { path, hyper } => tell(
+            open_view(session, path.as_slice(), hyper, text),
+            text,
+            output,
+        ),
+        Command::Show(number) => show(session, *number, text, output),
+        Command::Close(number) => tell(close_view(session, *number, text), text, output),
+        Command::ListAll => tell(list(alloc, session, text), text, output),
+        Command::Dump { path } => dump(alloc, session, path.as_slice(), text, output),
+        Command::Repack => tell(repack(session, text), text, output),
+        Command::Unread => tell(bad_line(text), text, output),
     }
 }
 
@@ -49,7 +58,7 @@ fn tell<W: Write>(
     text: &[u8],
     output: &mut W,
 ) -> Result<Outcome, RunFault>
-    ensures { (s t : FileState) (command : lines.Command)
+    ensures { (s t : SessionState) (command : lines.Command)
         → MatchResult answered (IsAnswered s command t text.now) (λ _. IsUntold s command t)
         → Tells result s command t (W.contents output.old) (W.contents output.new) }
 {
@@ -76,33 +85,22 @@ fn refused(text: &mut Vec<u8>, fault: EditFault) -> Result<Outcome, AllocError>
     Ok(Outcome::Refused)
 }
 
-/// Carries out an edit, if lines may ask for it.
-fn answer_edit(file: &mut File, edit: &Edit, text: &mut Vec<u8>) -> Result<Outcome, AllocError>
+/// The answer to a line of a view that is refused.
+fn refused_view(text: &mut Vec<u8>, fault: ViewFault) -> Result<Outcome, AllocError>
     requires { text.old.items ≡ [] }
-    ensures { MatchResult result (IsAnswered file.old (lines.Change edit.now) file.new text.new.items)
-        (λ _. IsUntold file.old (lines.Change edit.now) file.new) }
+    ensures { IfOk result (λ outcome. (outcome ≡ Refused) × (text.new.items ≡ view_fault_text fault)) }
 {
-    match edit {
-        Edit::CreateGroup { .. }
-        | Edit::CreateDataset { .. }
-        | Edit::HardLink { .. }
-        | Edit::SoftLink { .. }
-        | Edit::Unlink { .. }
-        | Edit::SetAttr { .. }
-        | Edit::RemoveAttr { .. }
-        | Edit::Resize { .. } => carry_out(file, edit, text),
-        Edit::Write { .. } => bad_line(text),
-    }
+    push_view_fault(text, fault)?;
+    Ok(Outcome::Refused)
 }
 
-/// Carries out an edit that lines may ask for.
-fn carry_out(file: &mut File, edit: &Edit, text: &mut Vec<u8>) -> Result<Outcome, AllocError>
-    requires taken { taken (lines.Change edit.now) ≡ lines.Change edit.now }
-    requires empty { text.old.items ≡ [] }
-    ensures { MatchResult result (IsAnswered file.old (lines.Change edit.now) file.new text.new.items)
-        (λ _. IsUntold file.old (lines.Change edit.now) file.new) }
+/// Carries out an edit.
+fn carry_out(session: &mut Session, edit: &Edit, text: &mut Vec<u8>) -> Result<Outcome, AllocError>
+    requires { text.old.items ≡ [] }
+    ensures { MatchResult result (IsAnswered session.old (lines.Change edit.now) session.new text.new.items)
+        (λ _. IsUntold session.old (lines.Change edit.now) session.new) }
 {
-    match file.edit(edit) {
+    match session.edit(edit) {
         Ok(edited) => {
             push_accepted(text, edited.refreshed)?;
             Ok(Outcome::Accepted)
@@ -111,13 +109,69 @@ fn carry_out(file: &mut File, edit: &Edit, text: &mut Vec<u8>) -> Result<Outcome
     }
 }
 
-/// Writes the file anew.
-fn repack(file: &mut File, text: &mut Vec<u8>) -> Result<Outcome, AllocError>
+/// Opens a view of the array at the path.
+fn open_view(
+    session: &mut Session,
+    path: &[u8],
+    hyper: &Hyper,
+    text: &mut Vec<u8>,
+) -> Result<Outcome, AllocError>
     requires { text.old.items ≡ [] }
-    ensures { MatchResult result (IsAnswered file.old lines.Repack file.new text.new.items)
-        (λ _. IsUntold file.old lines.Repack file.new) }
+    ensures { let asked = lines.OpenView path.now hyper.now in
+        MatchResult result (IsAnswered session.old asked session.new text.new.items)
+        (λ _. IsUntold session.old asked session.new) }
 {
-    match file.repack() {
+    match session.open_view(path, hyper) {
+        Ok(view) => {
+            push_opened(text, view.0)?;
+            Ok(Outcome::Told)
+        }
+        Err(fault) => refused_view(text, fault),
+    }
+}
+
+/// Writes what the view of this number shows.
+fn show<W: Write>(
+    session: &Session,
+    number: u32,
+    text: &mut Vec<u8>,
+    output: &mut W,
+) -> Result<Outcome, RunFault>
+    requires { text.old.items ≡ [] }
+    ensures { Tells result session.now (lines.Show number) session.now (W.contents output.old)
+        (W.contents output.new) }
+{
+    match session.show(ViewNo(number)) {
+        Ok(shown) => {
+            write_shown(text, shown.lent, &shown.fixed, shown.bytes, output)?;
+            Ok(Outcome::Told)
+        }
+        Err(fault) => tell(refused_view(text, fault), text, output),
+    }
+}
+
+/// Closes the view of this number.
+fn close_view(session: &mut Session, number: u32, text: &mut Vec<u8>) -> Result<Outcome, AllocError>
+    requires { text.old.items ≡ [] }
+    ensures { MatchResult result (IsAnswered session.old (lines.Close number) session.new text.new.items)
+        (λ _. IsUntold session.old (lines.Close number) session.new) }
+{
+    match session.close_view(ViewNo(number)) {
+        Ok(()) => {
+            push_text(text, b"closed\n")?;
+            Ok(Outcome::Told)
+        }
+        Err(fault) => refused_view(text, fault),
+    }
+}
+
+/// Writes the file anew.
+fn repack(session: &mut Session, text: &mut Vec<u8>) -> Result<Outcome, AllocError>
+    requires { text.old.items ≡ [] }
+    ensures { MatchResult result (IsAnswered session.old lines.Repack session.new text.new.items)
+        (λ _. IsUntold session.old lines.Repack session.new) }
+{
+    match session.repack() {
         Ok(()) => {
             push_accepted(text, 0)?;
             Ok(Outcome::Accepted)
@@ -127,12 +181,12 @@ fn repack(file: &mut File, text: &mut Vec<u8>) -> Result<Outcome, AllocError>
 }
 
 /// Lists the file.
-fn list(alloc: Global, file: &File, text: &mut Vec<u8>) -> Result<Outcome, AllocError>
+fn list(alloc: Global, session: &Session, text: &mut Vec<u8>) -> Result<Outcome, AllocError>
     requires { text.old.items ≡ [] }
-    ensures { MatchResult result (IsAnswered file.now lines.ListAll file.now text.new.items)
-        (λ _. IsUntold file.now lines.ListAll file.now) }
+    ensures { MatchResult result (IsAnswered session.now lines.ListAll session.now text.new.items)
+        (λ _. IsUntold session.now lines.ListAll session.now) }
 {
-    if push_list(alloc, text, file).is_err() {
+    if push_list(alloc, text, session.file()).is_err() {
         return refused_instead(text, EditFault::NoMemory);
     }
     Ok(Outcome::Told)
@@ -141,15 +195,15 @@ fn list(alloc: Global, file: &File, text: &mut Vec<u8>) -> Result<Outcome, Alloc
 /// Dumps what stands at the path.
 fn dump<W: Write>(
     alloc: Global,
-    file: &File,
+    session: &Session,
     path: &[u8],
     text: &mut Vec<u8>,
     output: &mut W,
 ) -> Result<Outcome, RunFault>
-    ensures { Tells result file.now (lines.Dump path.now) file.now (W.contents output.old)
+    ensures { Tells result session.now (lines.Dump path.now) session.now (W.contents output.old)
         (W.contents output.new) }
 {
-    match write_dump(alloc, text, file, path, output) {
+    match write_dump(alloc, text, session.file(), path, output) {
         Ok(()) => Ok(Outcome::Told),
         Err(DumpFault::Refused(fault)) => tell(refused_instead(text, fault), text, output),
         Err(DumpFault::Cut(reason)) => Err(RunFault::from(reason)),

@@ -10,7 +10,7 @@ use crate::answer::answer;
 use crate::fault::RunFault;
 use crate::ran::Ran;
 use h5_command::{Command, read_line};
-use h5_dump::File;
+use h5_dump::Session;
 use std::alloc::{AllocError, Global};
 use std::io::Write;
 
@@ -42,19 +42,19 @@ impl Answers {
 /// Runs a command, and counts its answer once that is written.
 fn run_command<W: Write>(
     alloc: Global,
-    file: &mut File,
+    session: &mut Session,
     command: &Command,
     answers: &mut Answers,
     output: &mut W,
 ) -> Result<(), RunFault>
     requires refused { answers.old.ran.refused < 2 ^ 63 }
     requires edits { answers.old.ran.edits < 2 ^ 63 }
-    ensures run { RunsTo result (command_of command.now ∷ []) file.old file.new
+    ensures run { RunsTo result (command_of command.now ∷ []) session.old session.new
         (W.contents output.old) (W.contents output.new) answers.old.ran answers.new.ran }
     ensures refused { OnOk result (answers.new.ran.refused ≤ answers.old.ran.refused + 1) }
     ensures edits { OnOk result (answers.new.ran.edits ≤ answers.old.ran.edits + 1) }
 {
-    let outcome = answer(alloc, file, command, &mut answers.text, output)?;
+    let outcome = answer(alloc, session, command, &mut answers.text, output)?;
     answers.ran.count(outcome);
     Ok(())
 }
@@ -62,14 +62,14 @@ fn run_command<W: Write>(
 /// Runs a line, if it asks for anything, and writes its answer.
 pub(crate) fn run_line<W: Write>(
     alloc: Global,
-    file: &mut File,
+    session: &mut Session,
     line: &[u8],
     answers: &mut Answers,
     output: &mut W,
 ) -> Result<(), RunFault>
     requires refused { answers.old.ran.refused < 2 ^ 63 }
     requires edits { answers.old.ran.edits < 2 ^ 63 }
-    ensures run { RunsTo result (commands_of_line line.now) file.old file.new
+    ensures run { RunsTo result (commands_of_line line.now) session.old session.new
         (W.contents output.old) (W.contents output.new) answers.old.ran answers.new.ran }
     ensures refused { OnOk result (answers.new.ran.refused ≤ answers.old.ran.refused + 1) }
     ensures edits { OnOk result (answers.new.ran.edits ≤ answers.old.ran.edits + 1) }
@@ -77,7 +77,7 @@ pub(crate) fn run_line<W: Write>(
     let Some(command) = read_line(alloc, line)? else {
         return Ok(());
     };
-    run_command(alloc, file, &command, answers, output)
+    run_command(alloc, session, &command, answers, output)
 }
 
 /// The first line that ends in the bytes, and what stands behind its end.
@@ -97,7 +97,7 @@ fn cut(bytes: &[u8]) -> Option<(&[u8], &[u8])>
 /// follows the last of them is held then.
 pub(crate) fn run_piece<W: Write>(
     alloc: Global,
-    file: &mut File,
+    session: &mut Session,
     held: &mut Vec<u8>,
     piece: &[u8],
     answers: &mut Answers,
@@ -106,7 +106,7 @@ pub(crate) fn run_piece<W: Write>(
     requires held { HasNoEnd held.old.items }
     requires refused { answers.old.ran.refused + length piece.now < 2 ^ 63 }
     requires edits { answers.old.ran.edits + length piece.now < 2 ^ 63 }
-    ensures run { RunsLinesTo result (held.old.items ++ piece.now) held.new.items file.old file.new
+    ensures run { RunsLinesTo result (held.old.items ++ piece.now) held.new.items session.old session.new
         (W.contents output.old) (W.contents output.new) answers.old.ran answers.new.ran }
     ensures refused { OnOk result (answers.new.ran.refused ≤ answers.old.ran.refused + length piece.now) }
     ensures edits { OnOk result (answers.new.ran.edits ≤ answers.old.ran.edits + length piece.now) }
@@ -114,7 +114,7 @@ pub(crate) fn run_piece<W: Write>(
     let mut rest = piece;
     while let Some((line, behind)) = cut(rest) {
         held.extend_from_slice(line)?;
-        run_line(alloc, file, held, answers, output)?;
+        run_line(alloc, session, held, answers, output)?;
         held.clear();
         rest = behind;
     }

@@ -1,13 +1,14 @@
 //! A whole script.
 
 ghost use Rattle.std.specs.Prelude.{◌<◌, MatchResult, length};
+ghost use Rattle.h5_dump.specs.Opened.Sound.{IsSound};
 ghost use Rattle.h5_script.specs.Script.{IsDone, IsStopped};
 
 use crate::fault::RunFault;
 use crate::lines::{Answers, run_line, run_piece};
 use crate::ran::Ran;
 use crate::streams::read_piece;
-use h5_dump::File;
+use h5_dump::Session;
 use h5_text::flush;
 use std::alloc::Global;
 use std::io::{Read, Write};
@@ -25,17 +26,17 @@ const MAX_READS: u64 = 33554432;
 /// Runs a script, which is read piece by piece into the buffer.
 fn run_pieces<R: Read, W: Write>(
     alloc: Global,
-    file: &mut File,
+    session: &mut Session,
     input: &mut R,
     output: &mut W,
     piece: &mut [u8],
 ) -> Result<Ran, RunFault>
     requires { 0 < length piece.old }
     ensures { MatchResult result
-        (IsDone file.old file.new (R.remaining input.old) (R.remaining input.new) (W.contents output.old)
-        (W.contents output.new))
-        (IsStopped file.old file.new (R.remaining input.old) (R.remaining input.new) (W.contents output.old)
-        (W.contents output.new)) }
+        (IsDone session.old session.new (R.remaining input.old) (R.remaining input.new)
+        (W.contents output.old) (W.contents output.new))
+        (IsStopped session.old session.new (R.remaining input.old) (R.remaining input.new)
+        (W.contents output.old) (W.contents output.new)) }
 {
     let mut held = Vec::new(alloc);
     let mut answers = Answers::new(alloc)?;
@@ -43,13 +44,13 @@ fn run_pieces<R: Read, W: Write>(
     for _read in 0..MAX_READS {
         let count = read_piece(input, piece)?;
         if count == 0 {
-            run_line(alloc, file, &held, &mut answers, output)?;
+            run_line(alloc, session, &held, &mut answers, output)?;
             flush(output)?;
             return Ok(answers.ran);
         }
         let within = count.min(room);
         let part = &piece[..within];
-        run_piece(alloc, file, &mut held, part, &mut answers, output)?;
+        run_piece(alloc, session, &mut held, part, &mut answers, output)?;
         if count > room {
             return Err(RunFault::ScriptTooLong);
         }
@@ -62,20 +63,21 @@ fn run_pieces<R: Read, W: Write>(
 ///
 /// Lines run as they come, and each answer is written before the next line is run. The script may
 /// have 16777216 bytes; of a longer one the lines are run that end within so many. A read or a write
-/// that fails is never tried again; where it fails, or memory is refused, the file stays as the lines
+/// that fails is never tried again; where it fails, or memory is refused, the session stays as the lines
 /// so far have left it.
 pub fn run_script<R: Read, W: Write>(
     alloc: Global,
-    file: &mut File,
+    session: &mut Session,
     input: &mut R,
     output: &mut W,
 ) -> Result<Ran, RunFault>
-    ensures { MatchResult result
-        (IsDone file.old file.new (R.remaining input.old) (R.remaining input.new) (W.contents output.old)
-        (W.contents output.new))
-        (IsStopped file.old file.new (R.remaining input.old) (R.remaining input.new) (W.contents output.old)
-        (W.contents output.new)) }
+    ensures run { MatchResult result
+        (IsDone session.old session.new (R.remaining input.old) (R.remaining input.new)
+        (W.contents output.old) (W.contents output.new))
+        (IsStopped session.old session.new (R.remaining input.old) (R.remaining input.new)
+        (W.contents output.old) (W.contents output.new)) }
+    ensures sound { IsSound session.old.file → IsSound session.new.file }
 {
     let mut piece = vec![in alloc; 0u8; PIECE]?;
-    run_pieces(alloc, file, input, output, &mut piece)
+    run_pieces(alloc, session, input, output, &mut piece)
 }

@@ -1,5 +1,5 @@
 -- The boxes of a selection's parts are those of its cells, each once.
-use Rattle.std.proofs.Common.{◌≡◌, ℕ, ◌<◌, List, length, get_or, map, sym, subst, ap, ◌∙◌, inl, inr, arith}
+use Rattle.std.proofs.Common.{◌≡◌, ◌↔◌, ℕ, ◌<◌, List, length, get_or, map, sym, subst, ap, ◌∙◌, inl, inr, arith}
 use Rattle.std.proofs.lemmas.Bool.{cases_order}
 use Rattle.std.proofs.lemmas.List.{get_or-map, length-map}
 use Rattle.std.proofs.lemmas.List.Elements.{All-map}
@@ -32,6 +32,16 @@ corner-selected slab boxes parts h = All-map (λ corner. (index : List ℕ) × S
     let some = h.some k d low in
     let cell = h.cells k d low some.0 some.1 in
     (selected_index slab some.0, position-selected slab some.0 cell.0, cell.1))
+
+-- so they are those of the selected cells, and no others
+pub corner-met : (slab : Slab) (boxes corner : List ℕ) (parts : List (List Span)) → AreParted slab boxes parts
+    → Contains (map part_corner parts) corner ↔ ((index : List ℕ) × Selected slab index × (corner_of boxes index ≡ corner))
+corner-met slab boxes corner parts h = (from, to) where
+  from : Contains (map part_corner parts) corner → (index : List ℕ) × Selected slab index × (corner_of boxes index ≡ corner)
+  from (k, low, is) = let own = corner-selected slab boxes parts h k corner low in (own.0, own.1, own.2 ∙ is)
+
+  to : (index : List ℕ) × Selected slab index × (corner_of boxes index ≡ corner) → Contains (map part_corner parts) corner
+  to (index, selected, is) = subst (Contains (map part_corner parts)) is (corner-held slab boxes index parts h selected)
 
 -- no two parts hold one cell
 pub part-once : (slab : Slab) (boxes at : List ℕ) (parts : List (List Span)) (i j : ℕ) (d : List Span) → AreParted slab boxes parts → i < length parts → j < length parts

@@ -6,3 +6,4 @@ pub mod LineTexts
 pub mod Printing
 pub mod StoredParts
 pub mod PrintedRows
+pub mod PrintedValues

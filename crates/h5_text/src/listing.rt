@@ -1,13 +1,11 @@
-//! The lines that `ls` and `dump` write of an object. As with other texts, a buffer that is refused memory keeps what it held.
+//! The lines that `ls` writes of an object. As with other texts, a buffer that is refused memory keeps what it held.
 ghost use Rattle.std.specs.Prelude.{◌++◌, codes};
-ghost use Rattle.h5_model.specs.Scripts.Text.{content_text, dataset_text, escaped, line_of};
+ghost use Rattle.h5_model.specs.Scripts.Text.{content_text, escaped, line_of};
 ghost use Rattle.h5_model.specs.Tree.Objects.{Array};
 ghost use Rattle.h5_text.specs.Appends.{Appends};
-ghost use Rattle.h5_text.specs.Listing.{attribute_line_head, dump_line, path_text, told_dataset};
+ghost use Rattle.h5_text.specs.Listing.{path_text, told_dataset};
 
-use crate::texts::{
-    Layout, push_escaped, push_extent, push_sizes, push_text, push_type, push_value,
-};
+use crate::texts::{Layout, push_escaped, push_extent, push_text, push_type};
 use h5_model::Fixed;
 use std::alloc::AllocError;
 
@@ -69,7 +67,7 @@ pub fn push_soft_line(out: &mut Vec<u8>, path: PathText<'_>, text: &[u8]) -> Res
 }
 
 /// Appends what a line has behind a dataset's path: that it is one, its type and its sizes.
-fn push_content(out: &mut Vec<u8>, array: &ArrayText<'_, '_>) -> Result<(), AllocError>
+pub(crate) fn push_content(out: &mut Vec<u8>, array: &ArrayText<'_, '_>) -> Result<(), AllocError>
     ensures { Appends result out.old.items out.new.items (content_text (Array (told_dataset array.now))) }
 {
     push_text(out, b"dataset ")?;
@@ -91,47 +89,4 @@ pub fn push_array_line(
     push_text(out, b" ")?;
     push_content(out, array)?;
     push_text(out, b"\n")
-}
-
-/// Appends how a dataset's cells are stored, and its fill.
-fn push_detail(out: &mut Vec<u8>, array: &ArrayText<'_, '_>) -> Result<(), AllocError>
-    ensures { Appends result out.old.items out.new.items (dataset_text (told_dataset array.now)) }
-{
-    push_text(out, b" ")?;
-    array.layout.push_to(out)?;
-    push_text(out, b" fill ")?;
-    push_value(out, array.fill)
-}
-
-/// Appends the first line of what is dumped of a dataset, which also tells how the cells are stored, and the fill.
-pub fn push_dump_line(
-    out: &mut Vec<u8>,
-    path: PathText<'_>,
-    array: &ArrayText<'_, '_>,
-) -> Result<(), AllocError>
-    ensures { Appends result out.old.items out.new.items
-        (dump_line (path_text path.entry) (told_dataset array.now)) }
-{
-    path.push_to(out)?;
-    push_text(out, b" ")?;
-    push_content(out, array)?;
-    push_detail(out, array)?;
-    push_text(out, b"\n")
-}
-
-/// Appends the line of an attribute as far as its values, which follow with a space before each.
-pub fn push_attribute_head(
-    out: &mut Vec<u8>,
-    name: &[u8],
-    fixed: &Fixed,
-    sizes: &[u64],
-) -> Result<(), AllocError>
-    ensures { Appends result out.old.items out.new.items (attribute_line_head name.now fixed.now sizes.now) }
-{
-    push_text(out, b"@")?;
-    push_escaped(out, name)?;
-    push_text(out, b" ")?;
-    push_type(out, fixed)?;
-    push_text(out, b" ")?;
-    push_sizes(out, sizes)
 }

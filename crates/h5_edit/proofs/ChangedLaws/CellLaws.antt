@@ -40,7 +40,7 @@ type_read : (ms : List Message) (a : Described) → HasArray ms a → IsFixed a.
 type_read ms a has = option_and_then_some _ (first_body 3 ms) a.fixed has.type (λ body there is. type_sound body a.fixed is)
 
 -- bytes of so many cells are those of the values that they store
-bytes_of_stored : (t : Fixed) (count : ℕ) (bytes : List ℕ) → IsFixed t → AreBytes bytes → length bytes ≡ count * t.size → bytes ≡ cells_bytes t (stored_values t bytes)
+pub bytes_of_stored : (t : Fixed) (count : ℕ) (bytes : List ℕ) → IsFixed t → AreBytes bytes → length bytes ≡ count * t.size → bytes ≡ cells_bytes t (stored_values t bytes)
 bytes_of_stored t count bytes sound low long =
     let made = values_there t count bytes sound long low in
     sym (made.1.same) ∙ ap (cells_bytes t) (sym (stored-cells_bytes t made.0 sound made.1.of_type) ∙ ap (stored_values t) made.1.same)

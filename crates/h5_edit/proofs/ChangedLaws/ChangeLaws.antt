@@ -25,9 +25,9 @@ use Rattle.h5_repack.specs.Objects.Objects.{AreObjects, IsNewObject, SlotsHold}
 use Rattle.h5_repack.specs.declared.objects.object.NewObject.{NewObject}
 use Rattle.h5_edit.specs.Changed.Change.{IsPlainChange, changed, with_link, with_target}
 use Rattle.h5_edit.specs.Changed.Edited.{IsEditOf, IsEditable, IsFresh, edit_at, edited, edited_by, new_link, new_objects, new_target}
-use Rattle.h5_edit.specs.Changed.Sizes.{CanHave, IsResizable}
+use Rattle.h5_edit.specs.Changed.Sizes.{CanHave, CanStore, IsLacking, IsResizable, stored_all}
 use Rattle.h5_edit.specs.declared.change.change.Change.{Change}
-use Rattle.h5_edit.specs.declared.change.change.Change.TheVariants.{Link as Linked, SetAttr as Set, RemoveAttr as Remove, Resize as Sized}
+use Rattle.h5_edit.specs.declared.change.change.Change.TheVariants.{Link as Linked, SetAttr as Set, RemoveAttr as Remove, Resize as Sized, Store as Stores}
 use Rattle.h5_edit.specs.declared.change.change.Target.{Target}
 use Rattle.h5_edit.specs.declared.change.change.Target.TheVariants as target
 use Rattle.h5_edit.specs.declared.change.edit.ObjectEdit.{ObjectEdit}
@@ -53,6 +53,9 @@ sized_same : (tree : Tree) (place object : ℕ) (n m : List ℕ) → place ≡ o
     → with_object tree object (with_dataset (resized m)) ≡ with_object tree place (with_dataset (resized n))
 sized_same tree place object n m p q = λ i. with_object tree (sym p i) (with_dataset (resized (sym q i)))
 
+stored_same : (tree : Tree) (place object : ℕ) → place ≡ object → with_object tree object (with_dataset stored_all) ≡ with_object tree place (with_dataset stored_all)
+stored_same tree place object p = λ i. with_object tree (sym p i) (with_dataset stored_all)
+
 target_is : (tree : Tree) (parent number : ℕ) (name : List ℕ) (t : Target) → with_target tree parent name t number ≡ with_new (with_link tree parent name (new_link t number)) number (new_target t)
 target_is tree parent number name target.Group = refl
 target_is tree parent number name (target.Array spec) = refl
@@ -69,18 +72,27 @@ changed_is tree (Linked parent name t) number place (edit.Link l) (p, q, r) =
 changed_is tree (Linked parent name t) number place (edit.SetAttr a) is = absurd is
 changed_is tree (Linked parent name t) number place (edit.RemoveAttr n) is = absurd is
 changed_is tree (Linked parent name t) number place (edit.Resize n) is = absurd is
+changed_is tree (Linked parent name t) number place (edit.Store m) is = absurd is
 changed_is tree (Set object attr) number place (edit.Link l) is = absurd is
 changed_is tree (Set object attr) number place (edit.SetAttr a) (p, q) = set_same tree place object a.now attr.now p q
 changed_is tree (Set object attr) number place (edit.RemoveAttr n) is = absurd is
 changed_is tree (Set object attr) number place (edit.Resize n) is = absurd is
+changed_is tree (Set object attr) number place (edit.Store m) is = absurd is
 changed_is tree (Remove object name) number place (edit.Link l) is = absurd is
 changed_is tree (Remove object name) number place (edit.SetAttr a) is = absurd is
 changed_is tree (Remove object name) number place (edit.RemoveAttr n) (p, q) = removed_same tree place object n.now name.now p q
 changed_is tree (Remove object name) number place (edit.Resize n) is = absurd is
+changed_is tree (Remove object name) number place (edit.Store m) is = absurd is
 changed_is tree (Sized object dims) number place (edit.Link l) is = absurd is
 changed_is tree (Sized object dims) number place (edit.SetAttr a) is = absurd is
 changed_is tree (Sized object dims) number place (edit.RemoveAttr n) is = absurd is
 changed_is tree (Sized object dims) number place (edit.Resize n) (p, q) = sized_same tree place object n.now dims.now p q
+changed_is tree (Sized object dims) number place (edit.Store m) is = absurd is
+changed_is tree (Stores object missing) number place (edit.Link l) is = absurd is
+changed_is tree (Stores object missing) number place (edit.SetAttr a) is = absurd is
+changed_is tree (Stores object missing) number place (edit.RemoveAttr n) is = absurd is
+changed_is tree (Stores object missing) number place (edit.Resize n) is = absurd is
+changed_is tree (Stores object missing) number place (edit.Store m) (p, q) = stored_same tree place object p
 
 -- ---- its numbers
 
@@ -101,6 +113,7 @@ new_numbered (Linked parent name t) tree slots numbered number is k = more_numbe
 new_numbered (Set object attr) tree slots numbered number is k = numbered k ∙ sym (ap (λ (xs : List (Option Object)). option_flatten (slice_get xs k)) (append-nil slots))
 new_numbered (Remove object name) tree slots numbered number is k = numbered k ∙ sym (ap (λ (xs : List (Option Object)). option_flatten (slice_get xs k)) (append-nil slots))
 new_numbered (Sized object dims) tree slots numbered number is k = numbered k ∙ sym (ap (λ (xs : List (Option Object)). option_flatten (slice_get xs k)) (append-nil slots))
+new_numbered (Stores object missing) tree slots numbered number is k = numbered k ∙ sym (ap (λ (xs : List (Option Object)). option_flatten (slice_get xs k)) (append-nil slots))
 
 -- ---- what can be written
 
@@ -118,6 +131,11 @@ fresh_content : (c : Content) (links : Links) (name other : List ℕ) → links_
 fresh_content (Group ls) links name other is none same = ap (λ n. get ls n) same ∙ ap (λ (x : Links). get x name) (same_Some ls links is) ∙ none
 fresh_content (Array d) links name other is none same = absurd (let never : None ≡ Some links = is in cc)
 
+-- an array that lacks storage
+lacking_content : (c : Content) (d : Dataset) → dataset_in c ≡ Some d → IsLacking d.storage → CanStore c
+lacking_content (Group links) d is lacks = absurd (let never : None ≡ Some d = is in cc)
+lacking_content (Array e) d is lacks = subst (λ (x : Dataset). IsLacking x.storage) (sym (same_Some e d is)) lacks
+
 -- an array that can have these sizes
 sized_content : (c : Content) (d : Dataset) (sizes other : List ℕ) → dataset_in c ≡ Some d → IsResizable sizes d → other ≡ sizes → CanHave other c
 sized_content (Group links) d sizes other is can same = absurd (let never : None ≡ Some d = is in cc)
@@ -133,6 +151,7 @@ module _ (tree : Tree) (number : ℕ) where
   editable (Linked parent name t) plain place (edit.SetAttr a) is o found = absurd is
   editable (Linked parent name t) plain place (edit.RemoveAttr n) is o found = absurd is
   editable (Linked parent name t) plain place (edit.Resize n) is o found = absurd is
+  editable (Linked parent name t) plain place (edit.Store m) is o found = absurd is
   editable (Set object attr) plain place (edit.Link l) is o found = absurd is
   editable (Set object attr) plain place (edit.SetAttr a) is o found =
       let after : Object = edited (edit.SetAttr a) o in
@@ -143,16 +162,26 @@ module _ (tree : Tree) (number : ℕ) where
       ((plain.changed_plain place after there).others).attributes)
   editable (Set object attr) plain place (edit.RemoveAttr n) is o found = absurd is
   editable (Set object attr) plain place (edit.Resize n) is o found = absurd is
+  editable (Set object attr) plain place (edit.Store m) is o found = absurd is
   editable (Remove object name) plain place (edit.Link l) is o found = absurd is
   editable (Remove object name) plain place (edit.SetAttr a) is o found = absurd is
   editable (Remove object name) plain place (edit.RemoveAttr n) is o found = tt
   editable (Remove object name) plain place (edit.Resize n) is o found = absurd is
+  editable (Remove object name) plain place (edit.Store m) is o found = absurd is
   editable (Sized object dims) plain place (edit.Link l) is o found = absurd is
   editable (Sized object dims) plain place (edit.SetAttr a) is o found = absurd is
   editable (Sized object dims) plain place (edit.RemoveAttr n) is o found = absurd is
   editable (Sized object dims) plain place (edit.Resize n) (p, q) o found =
       let here : get tree object ≡ Some o = ap (get tree) (sym p) ∙ found in
       sized_content o.content plain.there.0 dims.now n.now (sym (ap (option_and_then (λ (x : Object). dataset_in x.content)) here) ∙ plain.there.1) plain.there.2 q
+  editable (Sized object dims) plain place (edit.Store m) is o found = absurd is
+  editable (Stores object missing) plain place (edit.Link l) is o found = absurd is
+  editable (Stores object missing) plain place (edit.SetAttr a) is o found = absurd is
+  editable (Stores object missing) plain place (edit.RemoveAttr n) is o found = absurd is
+  editable (Stores object missing) plain place (edit.Resize n) is o found = absurd is
+  editable (Stores object missing) plain place (edit.Store m) (p, q) o found =
+      let here : get tree object ≡ Some o = ap (get tree) (sym p) ∙ found in
+      lacking_content o.content plain.there.0 (sym (ap (option_and_then (λ (x : Object). dataset_in x.content)) here) ∙ plain.there.1) plain.there.2
 
   newest : (t : Tree) (o : Object) → get (insert t number o) number ≡ Some o
   newest t o =
@@ -176,6 +205,7 @@ module _ (tree : Tree) (number : ℕ) where
   new_plain (Set object attr) plain = tt
   new_plain (Remove object name) plain = tt
   new_plain (Sized object dims) plain = tt
+  new_plain (Stores object missing) plain = tt
 
 -- ---- the edit of each object
 
@@ -277,6 +307,7 @@ new_counted (Linked parent name t) = made_counted t
 new_counted (Set object attr) = refl
 new_counted (Remove object name) = refl
 new_counted (Sized object dims) = refl
+new_counted (Stores object missing) = refl
 
 module _ (tree : Tree) (change : Change) (next place : ℕ) (e : ObjectEdit) (is : IsEditOf change next place e) (written all : List (Option NewObject)) (more : Option NewObject)
     (so : AreObjects written (with_object tree place (edited e))) (counted : length written ≡ next) (new : AllZip IsNewObject (option_to_list more) (new_objects change))

@@ -50,6 +50,8 @@ module _ (o after : OthersBytes) (ms : List Message) (list : NamedAttributes) (n
       subst (λ es. AreOthers (kept_messages ms ++ attribute_messages es) done) sorted (appended (kept_messages ms) (kept [] none))
   others_are done (Some (edit.Resize dims)) content appended =
       subst (λ es. AreOthers (kept_messages ms ++ attribute_messages es) done) sorted (appended (kept_messages ms) (kept [] none))
+  others_are done (Some (edit.Store missing)) content appended =
+      subst (λ es. AreOthers (kept_messages ms ++ attribute_messages es) done) sorted (appended (kept_messages ms) (kept [] none))
   others_are done (Some (edit.SetAttr a)) content appended =
       let same : merged (edit.SetAttr a) list ≡ entries (insert (attributes_of ms) (a.now).name (attribute_from a.now))
       = ap (merged (edit.SetAttr a)) sorted ∙ sym (entries-set (attributes_of ms) (a.now).name (attribute_from a.now)) in

@@ -199,10 +199,10 @@ array_less tree n name k = ap array_in (get_less tree n name k) ∙ by_test (k =
       let here : k ≡ n = grind (arith, nat_tests) in by_found (get tree n) ∙ ap (λ (m : ℕ). array_in (get tree m)) (sym here)
   by_test false other = refl
 
-module _ (f : FileState) (parent : ℕ) (name : List ℕ) (objects : List (Option NewObject)) (are : AreStoredAfter f f.tree (stored_in objects)) where
+module _ (f : FileState) (parent : ℕ) (name : List ℕ) (objects : List (Option NewObject)) (are : AreStoredAfter f f.tree None (stored_in objects)) where
   -- where each array that is left has the chunks that it had
   pub stored_left : (left : List (Option NewObject)) (gone : Option ℕ) → ((k : ℕ) → (gone ≡ Some k → ⊥) → stored_in left k ≡ stored_in objects k)
-      → AreStoredAfter f (without_object (without_link f.tree parent name) gone) (stored_in left)
+      → AreStoredAfter f (without_object (without_link f.tree parent name) gone) None (stored_in left)
   stored_left left None same k d array chunk chunked =
       rw (same k (λ no. let never : None ≡ Some k = no in absurd (cc))) (are k d (sym (array_less f.tree parent name k) ∙ array) chunk chunked)
   stored_left left (Some n) same k d array chunk chunked = by_test (k == n) refl where
@@ -211,7 +211,7 @@ module _ (f : FileState) (parent : ℕ) (name : List ℕ) (objects : List (Optio
         sym (get-remove nat_cmp_total (without_link f.tree parent name) n k
         ∙ ap (λ (t : Bool). cond t None (get (without_link f.tree parent name) k)) (unsigned_tied k n ∙ is))
 
-    by_test : (b : Bool) → (k == n) ≡ b → AreStoredOf f.image d.sizes (get f.table k) (stored_in left k)
+    by_test : (b : Bool) → (k == n) ≡ b → AreStoredOf f.image d.sizes chunk None (get f.table k) (stored_in left k)
     by_test true here = absurd (let never : None ≡ Some d = ap array_in (removed true here) ∙ array in cc)
     by_test false other =
         let apart : Some n ≡ Some k → ⊥ = λ e. let here : n ≡ k = cc in absurd (grind (arith, nat_tests, here)) in

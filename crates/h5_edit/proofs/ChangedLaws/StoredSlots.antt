@@ -1,6 +1,6 @@
 -- The stored chunks of the objects of an opened image, in the slots of their numbers.
 use Rattle.std.proofs.Common.{◌≡◌, inl, inr, ℕ, ◌+◌, ◌<◌, ◌≤◌, List, [], ◌∷◌, ◌++◌, length, Bool, true, false, cond, Option, Some, None, refl, sym, ap, ◌∙◌, subst, arith}
-use Rattle.std.specs.Prelude.{◌==◌, IsSome, slice_get, option_and_then, option_map, option_to_list}
+use Rattle.std.specs.Prelude.{◌==◌, IsSome, if◌then◌else◌, slice_get, option_and_then, option_map, option_to_list}
 use Rattle.std.specs.Option.{option_flatten}
 use Rattle.std.specs.FinMap.{get, insert}
 use Rattle.std.proofs.lemmas.Bool.{cases_lt}
@@ -8,7 +8,7 @@ use Rattle.std.proofs.lemmas.Bool.Decides.{nat_tests}
 use Rattle.std.proofs.lemmas.List.{append-nil, length-append}
 use Rattle.std.proofs.lemmas.Option.{same_Some, slice_get_past}
 use Rattle.h5_header.specs.Listed.{messages_in}
-use Rattle.h5_layout.specs.HeldChunks.{held_chunks}
+use Rattle.h5_layout.specs.StoredAt.{HasStoredChunks}
 use Rattle.h5_layout.proofs.ArrayLaws.{has_dataset}
 use Rattle.h5_layout.proofs.KnownLaws.{known_in}
 use Rattle.h5_model.specs.Format.Addresses.{SymbolTable}
@@ -17,6 +17,7 @@ use Rattle.h5_model.specs.Format.Reads.{HasDataset}
 use Rattle.h5_model.specs.Edits.Applied.{with_dataset, with_links, resized}
 use Rattle.h5_model.specs.Tree.Links.{tree_target}
 use Rattle.h5_model.specs.Tree.Objects.{Tree, Object, Content, Links, Group, Array, Dataset, dataset_in, with_object}
+use Rattle.h5_model.specs.Views.Selection.{Slab}
 use Rattle.h5_query.specs.Data.{data_blocks, stored_chunks}
 use Rattle.h5_query.specs.Kept.{array_dataset}
 use Rattle.h5_query.specs.Opened.Kept.{IsContentKept}
@@ -33,9 +34,10 @@ use Rattle.h5_repack.specs.Objects.Objects.{content_chunks, slot_chunks, stored_
 use Rattle.h5_repack.specs.declared.objects.object.NewContent.{NewContent}
 use Rattle.h5_repack.specs.declared.objects.object.NewObject.{NewObject}
 use Rattle.h5_edit.specs.Changed.Cells.{AreChunksKept}
-use Rattle.h5_edit.specs.StoredChunks.{AreChunksOf, AreStoredAfter, AreStoredAt, AreStoredOf, HasStoredChunks}
+use Rattle.h5_edit.specs.Changed.Missing.{IsMetAt}
+use Rattle.h5_edit.specs.StoredChunks.{AreChunksOf, AreStoredAfter, AreStoredAs, AreStoredAt, AreStoredOf, Selecting, selected_in}
 use Rattle.h5_edit.specs.Changed.Edited.{edit_at, edited_by}
-use Rattle.h5_edit.specs.Changed.Sizes.{array_after}
+use Rattle.h5_edit.specs.Changed.Sizes.{array_after, stored_all}
 use Rattle.h5_edit.specs.declared.change.edit.ObjectEdit.{ObjectEdit}
 use Rattle.h5_edit.specs.declared.change.edit.ObjectEdit.TheVariants as edit
 use Rattle.h5_edit.proofs.ChangedLaws.ChangeLaws.{slot_at}
@@ -56,9 +58,9 @@ links_content : (change : Links → Links) (o : Object) (c : Content) (d : Datas
 links_content change o (Group links) d is = absurd (cc)
 links_content change o (Array e) d is = is
 
-sized_content : (dims : List ℕ) (o : Object) (c : Content) (d : Dataset) → c ≡ Array d → (with_dataset (resized dims) (record o { content = c })).content ≡ Array (resized dims d)
-sized_content dims o (Group links) d is = absurd (cc)
-sized_content dims o (Array e) d is = let same : e ≡ d = cc in ap (λ (x : Dataset). Array (resized dims x)) same
+array_content : (change : Dataset → Dataset) (o : Object) (c : Content) (d : Dataset) → c ≡ Array d → (with_dataset change (record o { content = c })).content ≡ Array (change d)
+array_content change o (Group links) d is = absurd (cc)
+array_content change o (Array e) d is = let same : e ≡ d = cc in ap (λ (x : Dataset). Array (change x)) same
 
 -- of an array
 pub content_after : (e : Option ObjectEdit) (o : Object) (d : Dataset) → o.content ≡ Array d → (edited_by e o).content ≡ Array (array_after e d)
@@ -66,15 +68,16 @@ content_after None o d is = is
 content_after (Some (edit.Link l)) o d is = links_content (λ links. insert links l.name.now (tree_target l.to)) o o.content d is
 content_after (Some (edit.SetAttr attr)) o d is = is
 content_after (Some (edit.RemoveAttr name)) o d is = is
-content_after (Some (edit.Resize dims)) o d is = sized_content dims.now o o.content d is
+content_after (Some (edit.Resize dims)) o d is = array_content (resized dims.now) o o.content d is
+content_after (Some (edit.Store missing)) o d is = array_content stored_all o o.content d is
 
 group_linked : (change : Links → Links) (o : Object) (c : Content) (links : Links) (d : Dataset) → c ≡ Group links → (with_links change (record o { content = c })).content ≡ Array d → ⊥
 group_linked change o (Group ls) links d is array = cc
 group_linked change o (Array e) links d is array = cc
 
-group_sized : (dims : List ℕ) (o : Object) (c : Content) (links : Links) (d : Dataset) → c ≡ Group links → (with_dataset (resized dims) (record o { content = c })).content ≡ Array d → ⊥
-group_sized dims o (Group ls) links d is array = cc
-group_sized dims o (Array e) links d is array = cc
+group_changed : (change : Dataset → Dataset) (o : Object) (c : Content) (links : Links) (d : Dataset) → c ≡ Group links → (with_dataset change (record o { content = c })).content ≡ Array d → ⊥
+group_changed change o (Group ls) links d is array = cc
+group_changed change o (Array e) links d is array = cc
 
 group_array : (c : Content) (links : Links) (d : Dataset) → c ≡ Group links → c ≡ Array d → ⊥
 group_array (Group ls) links d is array = cc
@@ -86,24 +89,26 @@ group_after None o links d is array = group_array o.content links d is array
 group_after (Some (edit.Link l)) o links d is array = group_linked (λ ls. insert ls l.name.now (tree_target l.to)) o o.content links d is array
 group_after (Some (edit.SetAttr attr)) o links d is array = group_array o.content links d is array
 group_after (Some (edit.RemoveAttr name)) o links d is array = group_array o.content links d is array
-group_after (Some (edit.Resize dims)) o links d is array = group_sized dims.now o o.content links d is array
+group_after (Some (edit.Resize dims)) o links d is array = group_changed (resized dims.now) o o.content links d is array
+group_after (Some (edit.Store missing)) o links d is array = group_changed stored_all o o.content links d is array
 
 module _ (f : FileState) where
   -- where no object has the number
-  pub none_at : (tree : Tree) (number : ℕ) (offsets : List (List ℕ)) → get tree number ≡ None → AreStoredAt f tree number offsets
-  none_at tree number offsets none d array = absurd (let never : None ≡ Some d = sym (ap (option_and_then (λ (x : Object). dataset_in x.content)) none) ∙ array in cc)
+  pub none_at : (tree : Tree) (met : Option Slab) (number : ℕ) (offsets : List (List ℕ)) → get tree number ≡ None → AreStoredAt f tree met number offsets
+  none_at tree met number offsets none d array = absurd (let never : None ≡ Some d = sym (ap (option_and_then (λ (x : Object). dataset_in x.content)) none) ∙ array in cc)
 
   -- the object of the number decides
-  same_at : (one other : Tree) (number : ℕ) (offsets : List (List ℕ)) → get one number ≡ get other number → AreStoredAt f one number offsets → AreStoredAt f other number offsets
-  same_at one other number offsets same are d array = are d (ap (option_and_then (λ (x : Object). dataset_in x.content)) same ∙ array)
+  same_at : (one other : Tree) (met : Option Slab) (number : ℕ) (offsets : List (List ℕ)) → get one number ≡ get other number → AreStoredAt f one met number offsets
+      → AreStoredAt f other met number offsets
+  same_at one other met number offsets same are d array = are d (ap (option_and_then (λ (x : Object). dataset_in x.content)) same ∙ array)
 
   -- where no header has it
-  headerless : (tree : Tree) (number : ℕ) (offsets : List (List ℕ)) → get f.table number ≡ None → offsets ≡ [] → AreStoredAt f tree number offsets
-  headerless tree number offsets none is d array chunk chunked = subst (λ (found : Option ℕ). AreStoredOf f.image d.sizes found offsets) (sym none) is
+  headerless : (tree : Tree) (met : Option Slab) (number : ℕ) (offsets : List (List ℕ)) → get f.table number ≡ None → offsets ≡ [] → AreStoredAt f tree met number offsets
+  headerless tree met number offsets none is d array chunk chunked = subst (λ (found : Option ℕ). AreStoredOf f.image d.sizes chunk met found offsets) (sym none) is
 
   -- ---- of an object of the image
 
-  module _ (number : ℕ) (o : OpenedObject) (of : IsObjectOf f number o) (e : Option ObjectEdit) where
+  module _ (number : ℕ) (o : OpenedObject) (of : IsObjectOf f number o) (e : Option ObjectEdit) (met : Option Slab) where
     abbrev ms : List Message
     ms = messages_in f.image o.messages.list
 
@@ -118,21 +123,21 @@ module _ (f : FileState) where
     array_there (Array e) d is = ap Array (same_Some e d is)
 
     -- under its number
-    pub stored_at : (offsets : List (List ℕ)) → AreChunksOf f (edited_by e there) o.messages.header offsets
-        → AreStoredAt f (with_object f.tree number (edited_by e)) number offsets
+    pub stored_at : (offsets : List (List ℕ)) → AreChunksOf f met (edited_by e there) o.messages.header offsets
+        → AreStoredAt f (with_object f.tree number (edited_by e)) met number offsets
     stored_at offsets are d array chunk chunked =
         let stands = get_changed f.tree number (edited_by e) there of.there in
         let content : (edited_by e there).content ≡ Array d
         = array_there (edited_by e there).content d (sym (ap (option_and_then (λ (x : Object). dataset_in x.content)) stands) ∙ array) in
-        subst (λ (found : Option ℕ). AreStoredOf f.image d.sizes found offsets) (sym of.header) (are d content chunk chunked)
+        subst (λ (found : Option ℕ). AreStoredOf f.image d.sizes chunk met found offsets) (sym of.header) (are d content chunk chunked)
 
     -- a group has none
-    pub group_stored : (g : SymbolTable) → o.content ≡ content.Group g → (offsets : List (List ℕ)) → AreChunksOf f (edited_by e there) o.messages.header offsets
+    pub group_stored : (g : SymbolTable) → o.content ≡ content.Group g → (offsets : List (List ℕ)) → AreChunksOf f met (edited_by e there) o.messages.header offsets
     group_stored g is offsets d array = absurd (group_after e there (links_by f.table (links_told f.image g)) d (ap told is) array)
 
     -- those of an array that are handed over
-    pub array_stored : o.content ≡ content.Array → (x : NewContent) → AreChunksKept f.image ms (array_after e (array_dataset f.image ms)) x
-        → AreChunksOf f (edited_by e there) o.messages.header (content_chunks x)
+    pub array_stored : o.content ≡ content.Array → (x : NewContent) → AreChunksKept f.image ms met (array_after e (array_dataset f.image ms)) x
+        → AreChunksOf f met (edited_by e there) o.messages.header (content_chunks x)
     array_stored is x kept d array chunk chunked =
         let a = array_told ms in
         let read = subst (IsContentKept f.image ms) is of.kept.content in
@@ -153,56 +158,76 @@ module _ (f : FileState) where
         } in (
           stored_chunks f.image a.fixed a.layout,
           chunks,
-          kept chunk (ap (λ (e : Dataset). e.storage) same ∙ chunked) ∙ ap (λ (e : Dataset). held_chunks e.sizes (stored_chunks f.image a.fixed a.layout)) same,
+          subst (λ (e : Dataset). AreStoredAs e.sizes chunk (stored_chunks f.image a.fixed a.layout) met (content_chunks x)) same
+              (kept chunk (ap (λ (e : Dataset). e.storage) same ∙ chunked)),
         )
 
   -- ---- of the slots
 
   -- in the slot of its number, with the edit of another
-  pub slot_stored : (place n : ℕ) (e own : Option ObjectEdit) (offsets : List (List ℕ)) → own ≡ edit_at e place n → AreStoredAt f (with_object f.tree n (edited_by own)) n offsets
-      → AreStoredAt f (with_object f.tree place (edited_by e)) n offsets
-  slot_stored place n e own offsets is are =
+  pub slot_stored : (place n : ℕ) (e own : Option ObjectEdit) (met : Option Slab) (offsets : List (List ℕ)) → own ≡ edit_at e place n
+      → AreStoredAt f (with_object f.tree n (edited_by own)) met n offsets → AreStoredAt f (with_object f.tree place (edited_by e)) met n offsets
+  slot_stored place n e own met offsets is are =
       let here : (n == n) ≡ true = grind (arith, nat_tests) in
       let own_at : get (with_object f.tree n (edited_by own)) n ≡ option_map (edited_by own) (get f.tree n)
       = get-with_object f.tree n (edited_by own) n ∙ ap (λ b. option_map (λ x. cond b (edited_by own x) x) (get f.tree n)) here in
       let same = own_at ∙ slot_at e place n (get f.tree n) own is ∙ sym (get-with_object f.tree place (edited_by e) n) in
-      same_at (with_object f.tree n (edited_by own)) (with_object f.tree place (edited_by e)) n offsets same are
+      same_at (with_object f.tree n (edited_by own)) (with_object f.tree place (edited_by e)) met n offsets same are
+
+  -- what is selected of the array of a number
+  abbrev nothing : Option Slab
+  nothing = None
+
+  met_at : (place n : ℕ) (met : Option Slab) → selected_in (option_map (λ slab. (place, slab)) met) n ≡ (if n == place then met else None)
+  met_at place n (Some slab) = refl
+  met_at place n None = by_test (n == place) where
+    by_test : (b : Bool) → nothing ≡ (if b then nothing else nothing)
+    by_test true = refl
+    by_test false = refl
+
+  pub slot_met : (place n : ℕ) (e own : Option ObjectEdit) (met : Option Slab) → own ≡ edit_at e place n → IsMetAt f place e met
+      → IsMetAt f n own (selected_in (option_map (λ slab. (place, slab)) met) n)
+  slot_met place n e own met is at =
+      subst (IsMetAt f n own) (sym (met_at place n met)) (subst (λ (x : Option ObjectEdit). IsMetAt f n x (if n == place then met else None)) (sym is) (by_test (n == place) refl)) where
+        by_test : (b : Bool) → (n == place) ≡ b → IsMetAt f n (if b then e else None) (if b then met else None)
+        by_test true same = let here : n ≡ place = grind (arith, nat_tests) in subst (λ k. IsMetAt f k e met) (sym here) at
+        by_test false other = λ a there. refl
 
   -- of the first so many slots
-  pub record AreStoredBelow (tree : Tree) (slots : List (Option NewObject)) (n : ℕ) : Type 0 where
+  pub record AreStoredBelow (tree : Tree) (met : Selecting) (slots : List (Option NewObject)) (n : ℕ) : Type 0 where
     pub long : length slots ≡ n
-    pub each : (k : ℕ) → k < n → AreStoredAt f tree k (stored_in slots k)
+    pub each : (k : ℕ) → k < n → AreStoredAt f tree (selected_in met k) k (stored_in slots k)
 
-  pub stored_none : (tree : Tree) → AreStoredBelow tree [] 0
-  stored_none tree = record { long = refl; each = λ k low. absurd (omega (arith, low)) }
+  pub stored_none : (tree : Tree) (met : Selecting) → AreStoredBelow tree met [] 0
+  stored_none tree met = record { long = refl; each = λ k low. absurd (omega (arith, low)) }
 
-  pub stored_more : (tree : Tree) (slots more : List (Option NewObject)) (n : ℕ) (slot : Option NewObject) → AreStoredBelow tree slots n → AreStoredAt f tree n (slot_chunks slot)
-      → more ≡ slots ++ slot ∷ [] → AreStoredBelow tree more (n + 1)
-  stored_more tree slots more n slot so here longer = subst (λ list. AreStoredBelow tree list (n + 1)) (sym longer) (record {
+  pub stored_more : (tree : Tree) (met : Selecting) (slots more : List (Option NewObject)) (n : ℕ) (slot : Option NewObject) → AreStoredBelow tree met slots n
+      → AreStoredAt f tree (selected_in met n) n (slot_chunks slot) → more ≡ slots ++ slot ∷ [] → AreStoredBelow tree met more (n + 1)
+  stored_more tree met slots more n slot so here longer = subst (λ list. AreStoredBelow tree met list (n + 1)) (sym longer) (record {
     long = length-append slots (slot ∷ []) ∙ ap (λ m. m + 1) so.long;
     each = λ k low. by_test k low (k == length slots) refl;
   }) where
-    by_test : (k : ℕ) → k < n + 1 → (b : Bool) → (k == length slots) ≡ b → AreStoredAt f tree k (stored_in (slots ++ slot ∷ []) k)
+    by_test : (k : ℕ) → k < n + 1 → (b : Bool) → (k == length slots) ≡ b → AreStoredAt f tree (selected_in met k) k (stored_in (slots ++ slot ∷ []) k)
     by_test k low true last =
         let long = so.long in
         let same : n ≡ k = grind (arith, nat_tests, last, long) in
-        subst (AreStoredAt f tree k) (sym (stored_one_more slots slot k true last)) (subst (λ m. AreStoredAt f tree m (slot_chunks slot)) same here)
+        subst (AreStoredAt f tree (selected_in met k) k) (sym (stored_one_more slots slot k true last)) (subst (λ m. AreStoredAt f tree (selected_in met m) m (slot_chunks slot)) same here)
     by_test k low false other =
         let long = so.long in
-        subst (AreStoredAt f tree k) (sym (stored_one_more slots slot k false other)) (so.each k (grind (arith, nat_tests, other, low, long)))
+        subst (AreStoredAt f tree (selected_in met k) k) (sym (stored_one_more slots slot k false other)) (so.each k (grind (arith, nat_tests, other, low, long)))
 
   pub none_mapped : (place k : ℕ) (change : Object → Object) → get f.tree k ≡ None → get (with_object f.tree place change) k ≡ None
   none_mapped place k change none = get-with_object f.tree place change k ∙ ap (option_map (at_place k place change)) none
 
   -- of all
-  pub stored_all : (place : ℕ) (change : Object → Object) (slots : List (Option NewObject)) → AreStoredBelow (with_object f.tree place change) slots f.next
-      → ((k : ℕ) → IsSome (get f.tree k) → k < f.next) → AreStoredAfter f (with_object f.tree place change) (stored_in slots)
-  stored_all place change slots so given k = elim (cases_lt k f.next) [
+  pub all_stored : (place : ℕ) (change : Object → Object) (met : Selecting) (slots : List (Option NewObject)) → AreStoredBelow (with_object f.tree place change) met slots f.next
+      → ((k : ℕ) → IsSome (get f.tree k) → k < f.next) → AreStoredAfter f (with_object f.tree place change) met (stored_in slots)
+  all_stored place change met slots so given k = elim (cases_lt k f.next) [
     | inl low ↦ so.each k low
     | inr past ↦ past_all (get f.tree k) refl past
   ] where
-    past_all : (found : Option Object) → get f.tree k ≡ found → f.next ≤ k → AreStoredAt f (with_object f.tree place change) k (stored_in slots k)
-    past_all None is past = none_at (with_object f.tree place change) k (stored_in slots k) (none_mapped place k change is)
+    past_all : (found : Option Object) → get f.tree k ≡ found → f.next ≤ k → AreStoredAt f (with_object f.tree place change) (selected_in met k) k (stored_in slots k)
+    past_all None is past = none_at (with_object f.tree place change) (selected_in met k) k (stored_in slots k) (none_mapped place k change is)
     past_all (Some o) is past = absurd (omega (arith, past, given k (rw is refl)))
 
   -- ---- a new object behind them, of which no chunk is stored
@@ -224,13 +249,13 @@ module _ (f : FileState) where
         ap (λ list. stored_in list f.next) (longer ∙ ap (λ (y : Option NewObject). slots ++ filled_slots (option_to_list y)) is)
         ∙ stored_one_more slots (Some x) f.next true last ∙ ap slot_chunks (sym is) ∙ none
 
-    pub stored_still : (tree : Tree) (os : List Object) → AreStoredAfter f tree (stored_in slots) → AreStoredAfter f (with_new tree f.next os) (stored_in all)
-    stored_still tree os so k = by_test (k == f.next) refl where
-      by_test : (b : Bool) → (k == f.next) ≡ b → AreStoredAt f (with_new tree f.next os) k (stored_in all k)
+    pub stored_still : (tree : Tree) (os : List Object) (met : Selecting) → AreStoredAfter f tree met (stored_in slots) → AreStoredAfter f (with_new tree f.next os) met (stored_in all)
+    stored_still tree os met so k = by_test (k == f.next) refl where
+      by_test : (b : Bool) → (k == f.next) ≡ b → AreStoredAt f (with_new tree f.next os) (selected_in met k) k (stored_in all k)
       by_test true last =
           let here : k ≡ f.next = grind (arith, nat_tests, last) in
-          headerless (with_new tree f.next os) k (stored_in all k) (ap (get f.table) here ∙ no_next_header f sound) (ap (stored_in all) here ∙ none_behind more refl)
+          headerless (with_new tree f.next os) (selected_in met k) k (stored_in all k) (ap (get f.table) here ∙ no_next_header f sound) (ap (stored_in all) here ∙ none_behind more refl)
       by_test false other =
           let apart : (k == length slots) ≡ false = ap (λ n. k == n) long ∙ other in
-          subst (AreStoredAt f (with_new tree f.next os) k) (sym (same_below more refl k apart))
-          (same_at tree (with_new tree f.next os) k (stored_in slots k) (sym (get-with_new tree f.next os k other)) (so k))
+          subst (AreStoredAt f (with_new tree f.next os) (selected_in met k) k) (sym (same_below more refl k apart))
+          (same_at tree (with_new tree f.next os) (selected_in met k) k (stored_in slots k) (sym (get-with_new tree f.next os k other)) (so k))

@@ -1,13 +1,17 @@
 -- The plain layout can hold each object of the tree that an accepted edit of an opened image gives (File Format Specification 3.0,
 -- sections III and IV.A).
-use Rattle.std.proofs.Common.{◌≡◌, ℕ, ◌+◌, ◌≤◌, List, length, true, false, Option, Some, sym, ap, ◌∙◌, arith}
+use Rattle.std.proofs.Common.{◌≡◌, ℕ, ◌+◌, ◌≤◌, List, length, true, false, Option, Some, sym, ap, ◌∙◌, subst, arith}
 use Rattle.std.specs.Prelude.{nat_lt}
 use Rattle.std.specs.FinMap.{get, insert, remove, empty}
 use Rattle.std.specs.Option.{option_and_then, option_map_or}
 use Rattle.std.proofs.lemmas.Bool.Decides.{nat_tests}
-use Rattle.h5_model.specs.Edits.Applied.{applied, linked, with_attributes, with_dataset, with_links, with_object_at, new_object, new_dataset, attribute_from, resized}
+use Rattle.std.proofs.lemmas.Option.{same_Some}
+use Rattle.h5_model.specs.Edits.Applied.{applied, linked, with_attributes, with_dataset, with_links, with_object_at, new_object, new_dataset, attribute_from, resized, written}
 use Rattle.h5_model.specs.Format.Messages.{prefix_at, total_in}
 use Rattle.h5_model.specs.Tree.Paths.{dataset_at, object_at}
+use Rattle.h5_model.specs.Tree.Sound.{AreOf}
+use Rattle.h5_model.specs.Views.Selection.{axes_of}
+use Rattle.h5_model.proofs.RefusalLaws.{accepted_write}
 use Rattle.h5_model.specs.Tree.Objects.{Object, Content, Group, Array, Dataset, Links, ToObject, Soft, dataset_in, dataset_of}
 use Rattle.h5_model.specs.declared.attribute.AttrSpec.{AttrSpec}
 use Rattle.h5_model.specs.declared.edits.Edit.TheVariants.{CreateGroup, CreateDataset, HardLink, SoftLink, Unlink, SetAttr, RemoveAttr, Write, Resize}
@@ -22,6 +26,7 @@ use Rattle.h5_edit.proofs.FitLaws.ChangedAttributes.{with_set, plain_set, few_se
 use Rattle.h5_edit.proofs.FitLaws.ChangedTrees.{each_put, each_at, each_linked, each_linked_to, each_unlinked}
 use Rattle.h5_edit.proofs.FitLaws.NewArrays.{plain_new_array, accepted_spec}
 use Rattle.h5_edit.proofs.FitLaws.ResizedArrays.{accepted_sizes, plain_sized}
+use Rattle.h5_edit.proofs.FitLaws.WrittenArrays.{plain_cells, values_are}
 use Rattle.h5_edit.proofs.FitLaws.OpenedTrees.{IsRead, object_read, plain_content, plain_read, opened_plain}
 use Rattle.h5_edit.proofs.FitLaws.PlainObjects.{plain_new, no_others}
 
@@ -118,25 +123,31 @@ array_at f number o d path at there is =
 
 pub edited_plain : EditedPlain
 unfolding applied
-edited_plain f (CreateGroup path) low sound typed carried accepted roomy =
+edited_plain f (CreateGroup path) low sound typed accepted roomy =
     each_put (λ n. IsPlain) (linked f.tree path (ToObject f.next)) f.next (new_object (Group empty))
     (each_linked (λ n. IsPlain) plain_linked f.tree path (ToObject f.next) (opened_plain f low sound)) new_group
-edited_plain f (CreateDataset path spec) low sound typed carried accepted roomy =
+edited_plain f (CreateDataset path spec) low sound typed accepted roomy =
     let formed = accepted_spec f.tree f.next path spec accepted in
     each_put (λ n. IsPlain) (linked f.tree path (ToObject f.next)) f.next (new_object (Array (new_dataset spec)))
     (each_linked (λ n. IsPlain) plain_linked f.tree path (ToObject f.next) (opened_plain f low sound))
     (new_array (new_dataset spec) (λ n few. plain_new_array spec formed n typed.0 typed.1 few))
-edited_plain f (HardLink target path) low sound typed carried accepted roomy = each_linked_to (λ n. IsPlain) plain_linked f.tree target path (opened_plain f low sound)
-edited_plain f (SoftLink text path) low sound typed carried accepted roomy = each_linked (λ n. IsPlain) plain_linked f.tree path (Soft text) (opened_plain f low sound)
-edited_plain f (Unlink path) low sound typed carried accepted roomy =
+edited_plain f (HardLink target path) low sound typed accepted roomy = each_linked_to (λ n. IsPlain) plain_linked f.tree target path (opened_plain f low sound)
+edited_plain f (SoftLink text path) low sound typed accepted roomy = each_linked (λ n. IsPlain) plain_linked f.tree path (Soft text) (opened_plain f low sound)
+edited_plain f (Unlink path) low sound typed accepted roomy =
     each_unlinked (λ n. IsPlain) (λ name number o plain. plain_links (λ links. remove links name) o plain) f.tree path (opened_plain f low sound)
-edited_plain f (SetAttr path attr) low sound typed carried accepted roomy =
+edited_plain f (SetAttr path attr) low sound typed accepted roomy =
     plain_attribute_set f low sound path attr (accepted_attribute f.tree f.next path attr typed accepted) roomy
-edited_plain f (RemoveAttr path name) low sound typed carried accepted roomy =
+edited_plain f (RemoveAttr path name) low sound typed accepted roomy =
     let each = opened_plain f low sound in
     each_at (λ n. IsPlain) f.tree path (λ o. with_removed o name) each (λ number o at there. plain_without o name (each number o there))
-edited_plain f (Write path hyper values) low sound typed carried accepted roomy = absurd (let never : false ≡ true = carried in cc)
-edited_plain f (Resize path dims) low sound typed carried accepted roomy =
+edited_plain f (Write path hyper values) low sound typed accepted roomy =
+    let each = opened_plain f low sound in
+    let wrote = accepted_write f.tree f.next path hyper values accepted in
+    each_at (λ n. IsPlain) f.tree path (with_dataset (written (axes_of hyper) values)) each (λ number o at there.
+    plain_cells (axes_of hyper) values o (each number o there) (λ d is.
+    let same : wrote.0 ≡ d = same_Some wrote.0 d (sym wrote.1 ∙ array_at f number o d path at there is) in
+    subst (λ (x : Dataset). AreOf x.fixed values) same (values_are (wrote.0).fixed values wrote.2.fitting)))
+edited_plain f (Resize path dims) low sound typed accepted roomy =
     let each = opened_plain f low sound in
     each_at (λ n. IsPlain) f.tree path (with_dataset (resized dims)) each (λ number o at there.
     plain_sized dims o (each number o there) (λ d is. accepted_sizes f.tree f.next path dims d accepted (array_at f number o d path at there is)))

@@ -114,7 +114,7 @@ no_values f v zero e = refl
 no_values f v (suc n) e = absurd (omega (arith, e))
 
 -- where no cell is stored, each is the fill
-unset_cells : (image : List ℕ) (t : Fixed) (fill : ℤ) (sizes : List ℕ) (b : Option Block) (chunks : Chunks) → (is_some b && nat_lt 0 (cells sizes)) ≡ false
+pub unset_cells : (image : List ℕ) (t : Fixed) (fill : ℤ) (sizes : List ℕ) (b : Option Block) (chunks : Chunks) → (is_some b && nat_lt 0 (cells sizes)) ≡ false
     → cells_of image t fill sizes (InBlock b) chunks ≡ replicate (cells sizes) fill
 unset_cells image t fill sizes None chunks h = constant fill 0 (cells sizes)
 unset_cells image t fill sizes (Some b) chunks h =

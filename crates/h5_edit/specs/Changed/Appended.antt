@@ -49,6 +49,7 @@ merged (edit.Link l) es = es
 merged (edit.SetAttr a) es = put (slice_cmp nat_cmp) (a.now).name (attribute_from a.now) es
 merged (edit.RemoveAttr name) es = without name.now es
 merged (edit.Resize dims) es = es
+merged (edit.Store missing) es = es
 
 abbrev pub merged_by : Option ObjectEdit → NamedAttributes → NamedAttributes
 merged_by None es = es

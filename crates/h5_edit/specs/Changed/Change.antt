@@ -4,9 +4,9 @@ use Rattle.std.specs.FinMap.{get, insert, remove, empty}
 use Rattle.h5_model.specs.Edits.Applied.{attribute_from, with_attributes, with_dataset, with_links, new_object, new_dataset, resized}
 use Rattle.h5_model.specs.Tree.Objects.{Tree, Dataset, Link, Links, ToObject, Soft, Group, Array, dataset_of, with_object, links_of}
 use Rattle.h5_repack.specs.Image.Plain.{ArePlain}
-use Rattle.h5_edit.specs.Changed.Sizes.{IsResizable}
+use Rattle.h5_edit.specs.Changed.Sizes.{IsLacking, IsResizable, stored_all}
 use Rattle.h5_edit.specs.declared.change.change.Change.{Change}
-use Rattle.h5_edit.specs.declared.change.change.Change.TheVariants.{Link as Linked, SetAttr as Set, RemoveAttr as Remove, Resize as Sized}
+use Rattle.h5_edit.specs.declared.change.change.Change.TheVariants.{Link as Linked, SetAttr as Set, RemoveAttr as Remove, Resize as Sized, Store as Stores}
 use Rattle.h5_edit.specs.declared.change.change.Target.{Target}
 use Rattle.h5_edit.specs.declared.change.change.Target.TheVariants as target
 
@@ -24,13 +24,16 @@ changed tree (Linked parent name target) number = with_target tree parent name.n
 changed tree (Set object attr) number = with_object tree object (with_attributes (λ m. insert m (attr.now).name (attribute_from attr.now)))
 changed tree (Remove object name) number = with_object tree object (with_attributes (λ m. remove m name.now))
 changed tree (Sized object dims) number = with_object tree object (with_dataset (resized dims.now))
+changed tree (Stores object missing) number = with_object tree object (with_dataset stored_all)
 
--- the group is there, and has no link of this name; the object is there; the array is there, and can have these sizes
+-- the group is there, and has no link of this name; the object is there; the array is there, and can have these sizes, or
+-- lacks storage
 abbrev pub IsChange : Tree → Change → Type 0
 IsChange tree (Linked parent name target) = (links : Links) × (links_of tree parent ≡ Some links) × (get links name.now ≡ None)
 IsChange tree (Set object attr) = IsSome (get tree object)
 IsChange tree (Remove object name) = IsSome (get tree object)
 IsChange tree (Sized object dims) = (d : Dataset) × (dataset_of tree object ≡ Some d) × IsResizable dims.now d
+IsChange tree (Stores object missing) = (d : Dataset) × (dataset_of tree object ≡ Some d) × IsLacking d.storage
 
 -- a change that gives a tree which the plain layout can hold
 pub record IsPlainChange (tree : Tree) (number : ℕ) (change : Change) : Type 0 where

@@ -7,9 +7,9 @@ use Rattle.h5_model.specs.Tree.Links.{tree_target}
 use Rattle.h5_model.specs.declared.object_no.ObjectNo.{ObjectNo}
 use Rattle.h5_model.specs.declared.link.Link.{Link as LinkOf}
 use Rattle.h5_repack.specs.Bodies.Sound.{IsPlainAttribute}
-use Rattle.h5_edit.specs.Changed.Sizes.{CanHave}
+use Rattle.h5_edit.specs.Changed.Sizes.{CanHave, CanStore, stored_all}
 use Rattle.h5_edit.specs.declared.change.change.Change.{Change}
-use Rattle.h5_edit.specs.declared.change.change.Change.TheVariants.{Link as Linked, SetAttr as Set, RemoveAttr as Remove, Resize as Sized}
+use Rattle.h5_edit.specs.declared.change.change.Change.TheVariants.{Link as Linked, SetAttr as Set, RemoveAttr as Remove, Resize as Sized, Store as Stores}
 use Rattle.h5_edit.specs.declared.change.change.Target.{Target}
 use Rattle.h5_edit.specs.declared.change.change.Target.TheVariants as target
 use Rattle.h5_edit.specs.declared.change.edit.ObjectEdit.{ObjectEdit}
@@ -23,6 +23,7 @@ added_link (Some (edit.Link l)) = Some l
 added_link (Some (edit.SetAttr attr)) = None
 added_link (Some (edit.RemoveAttr name)) = None
 added_link (Some (edit.Resize dims)) = None
+added_link (Some (edit.Store missing)) = None
 added_link None = None
 
 -- the links of a group, and an object, with an edit
@@ -35,6 +36,7 @@ edited (edit.Link l) = with_links (λ links. insert links l.name.now (tree_targe
 edited (edit.SetAttr attr) = with_attributes (λ m. insert m (attr.now).name (attribute_from attr.now))
 edited (edit.RemoveAttr name) = with_attributes (λ m. remove m name.now)
 edited (edit.Resize dims) = with_dataset (resized dims.now)
+edited (edit.Store missing) = with_dataset stored_all
 
 abbrev pub edited_by : Option ObjectEdit → Object → Object
 edited_by None o = o
@@ -59,6 +61,7 @@ IsEditable o (edit.Link l) = IsFresh l.name.now o.content
 IsEditable o (edit.SetAttr attr) = IsPlainAttribute ((attr.now).name, attribute_from attr.now)
 IsEditable o (edit.RemoveAttr name) = Unit {0}
 IsEditable o (edit.Resize dims) = CanHave dims.now o.content
+IsEditable o (edit.Store missing) = CanStore o.content
 
 -- a new attribute can be written
 abbrev pub IsPlainEdit : ObjectEdit → Type 0
@@ -66,6 +69,7 @@ IsPlainEdit (edit.Link l) = Unit {0}
 IsPlainEdit (edit.SetAttr attr) = IsPlainAttribute ((attr.now).name, attribute_from attr.now)
 IsPlainEdit (edit.RemoveAttr name) = Unit {0}
 IsPlainEdit (edit.Resize dims) = Unit {0}
+IsPlainEdit (edit.Store missing) = Unit {0}
 
 -- ---- changes
 
@@ -82,6 +86,7 @@ IsEditOf (Linked parent name target) number place (edit.Link l) = (place ≡ par
 IsEditOf (Set object attr) number place (edit.SetAttr other) = (place ≡ object) × (other.now ≡ attr.now)
 IsEditOf (Remove object name) number place (edit.RemoveAttr other) = (place ≡ object) × (other.now ≡ name.now)
 IsEditOf (Sized object dims) number place (edit.Resize other) = (place ≡ object) × (other.now ≡ dims.now)
+IsEditOf (Stores object missing) number place (edit.Store other) = (place ≡ object) × (other.now ≡ missing.now)
 IsEditOf _ _ _ _ = ⊥
 
 -- the objects that it adds
@@ -96,3 +101,4 @@ new_objects (Linked parent name target) = new_target target
 new_objects (Set object attr) = []
 new_objects (Remove object name) = []
 new_objects (Sized object dims) = []
+new_objects (Stores object missing) = []

@@ -1,5 +1,5 @@
 -- Which trees the plain layout can hold: those of opened images, and those that accepted edits give.
-use Rattle.std.specs.Prelude.{◌≡◌, ℕ, ◌<◌, true, false, None, List, slice_index}
+use Rattle.std.specs.Prelude.{◌≡◌, ℕ, ◌<◌, false, None, List, slice_index}
 use Rattle.std.specs.List.{AllZip}
 use Rattle.h5_model.specs.Format.Fixed.{IsFixed}
 use Rattle.h5_model.specs.Edits.Refusal.{refusal_of}
@@ -9,7 +9,7 @@ use Rattle.h5_query.specs.Opened.Sound.{IsSound}
 use Rattle.h5_query.specs.Opened.State.{FileState}
 use Rattle.h5_repack.specs.Bodies.Sound.{IsBound}
 use Rattle.h5_repack.specs.Image.Plain.{ArePlain}
-use Rattle.h5_edit.specs.Carried.{is_carried, tree_after, IsTotalFull}
+use Rattle.h5_edit.specs.Carried.{tree_after, IsTotalFull}
 
 -- ---- opened images
 
@@ -29,5 +29,5 @@ IsTyped (SetAttr path attr) = IsFixed attr.fixed
 IsTyped _ = Unit {0}
 
 abbrev pub EditedPlain : Type 0
-EditedPlain = (f : FileState) (edit : Edit) → AreBytes f.image → IsSound f → IsTyped edit → is_carried edit ≡ true
+EditedPlain = (f : FileState) (edit : Edit) → AreBytes f.image → IsSound f → IsTyped edit
     → refusal_of f.tree f.next edit ≡ None → IsTotalFull f edit false → ArePlain (tree_after f edit)

@@ -91,7 +91,9 @@ fn push_attributes(
         (Appends others.old others.new (attribute_messages (merged_by edit.entry list.now))) }
 {
     match edit {
-        None | Some(ObjectEdit::Link(_) | ObjectEdit::Resize(_)) => push_all(others, list),
+        None | Some(ObjectEdit::Link(_) | ObjectEdit::Resize(_) | ObjectEdit::Store(_)) => {
+            push_all(others, list)
+        }
         Some(ObjectEdit::SetAttr(attr)) => push_with(others, list, attr),
         Some(ObjectEdit::RemoveAttr(name)) => push_without(others, list, name),
     }

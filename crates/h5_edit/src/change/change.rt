@@ -1,5 +1,6 @@
 //! Changes of an opened image.
 
+use crate::change::missing::Missing;
 use h5_model::{AttrSpec, Spec};
 
 /// Where a new link leads.
@@ -38,5 +39,10 @@ pub enum Change<'a> {
     Resize {
         object: u32,
         dims: &'a [u64],
+    },
+    /// The storage that is missing of the array of this number is made, its cells the fill.
+    Store {
+        object: u32,
+        missing: &'a Missing,
     },
 }

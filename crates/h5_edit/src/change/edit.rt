@@ -6,6 +6,7 @@ ghost use Rattle.h5_edit.specs.Changed.Edited.{IsEditOf, new_link};
 ghost use Rattle.h5_edit.specs.Changed.Edited as edited;
 
 use crate::change::change::{Change, Target};
+use crate::change::missing::Missing;
 use h5_model::{AttrSpec, Link, LinkTo, ObjectNo};
 
 /// What a change makes of one object.
@@ -19,6 +20,8 @@ pub(crate) enum ObjectEdit<'a> {
     RemoveAttr(&'a [u8]),
     /// The array has these sizes.
     Resize(&'a [u64]),
+    /// This storage of the array is made.
+    Store(&'a Missing),
 }
 
 /// The number of the object that the change edits, and how; a new object takes the number `next`.
@@ -37,6 +40,7 @@ pub(crate) fn edit_of<'a>(change: &Change<'a>, next: u32) -> (u32, ObjectEdit<'a
         Change::SetAttr { object, attr } => (object, ObjectEdit::SetAttr(attr)),
         Change::RemoveAttr { object, name } => (object, ObjectEdit::RemoveAttr(name)),
         Change::Resize { object, dims } => (object, ObjectEdit::Resize(dims)),
+        Change::Store { object, missing } => (object, ObjectEdit::Store(missing)),
     }
 }
 
@@ -68,8 +72,12 @@ pub(crate) fn link_in(edit: Option<ObjectEdit<'_>>) -> Option<Link<'_, ObjectNo>
 {
     match edit {
         Some(ObjectEdit::Link(link)) => Some(link),
-        Some(ObjectEdit::SetAttr(_) | ObjectEdit::RemoveAttr(_) | ObjectEdit::Resize(_)) | None => {
-            None
-        }
+        Some(
+            ObjectEdit::SetAttr(_)
+            | ObjectEdit::RemoveAttr(_)
+            | ObjectEdit::Resize(_)
+            | ObjectEdit::Store(_),
+        )
+        | None => None,
     }
 }

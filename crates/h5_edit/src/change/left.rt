@@ -38,7 +38,7 @@ pub(crate) fn left_objects<'a>(
     ensures stored { IfOk result (λ objects.
         AreStoredAfter opened.now
         (without_object (without_link opened.now.tree removal.now.parent removal.now.name.now)
-        removal.now.gone) (stored_in objects.items)) }
+        removal.now.gone) None (stored_in objects.items)) }
 {
     let mut objects = opened_objects(alloc, opened, 0, None)?;
     take_link(&mut objects, removal.parent, removal.name);

@@ -1,17 +1,19 @@
 //! The objects of an opened image, as they are or with a change.
 
-ghost use Rattle.std.specs.Prelude.{◌≡◌, ℕ, ◌+◌, ◌++◌, [], IfOk, IfSome, OnOk, Some, length, map, option_map, option_to_list};
+ghost use Rattle.std.specs.Prelude.{◌≡◌, ℕ, ◌+◌, ◌++◌, [], IfOk, IfSome, OnOk, Option, Some, length, map, option_map, option_to_list};
 ghost use Rattle.std.specs.FinMap.{get};
 ghost use Rattle.std.specs.List.{AllByRecursion, AllZip};
 ghost use Rattle.h5_model.specs.Tree.Objects.{Object, with_object};
+ghost use Rattle.h5_model.specs.Views.Selection.{Slab};
 ghost use Rattle.h5_repack.specs.Image.Plain.{ArePlain, IsPlain};
 ghost use Rattle.h5_query.specs.Opened.Objects.{object_in};
 ghost use Rattle.h5_query.specs.Opened.Sound.{IsObjectOf};
 ghost use Rattle.h5_repack.specs.Objects.Objects.{AreObjects, IsNewObject, SlotsHold, content_chunks, slot_chunks, stored_in};
 ghost use Rattle.h5_edit.specs.Changed.Change.{IsPlainChange, changed};
 ghost use Rattle.h5_edit.specs.Changed.Edited.{IsEditable, edited_by, new_objects};
+ghost use Rattle.h5_edit.specs.Changed.Missing.{IsMetAt, IsMetIn};
 ghost use Rattle.h5_edit.specs.Fitting.{made_in};
-ghost use Rattle.h5_edit.specs.StoredChunks.{AreChunksOf, AreStoredAfter, AreStoredAt};
+ghost use Rattle.h5_edit.specs.StoredChunks.{AreChunksOf, AreStoredAfter, AreStoredAt, Selecting};
 
 use crate::change::attributes::others_in;
 use crate::change::cells::array_from;
@@ -32,13 +34,15 @@ pub(crate) fn changed_objects<'a>(
     opened: &'a Opened,
     change: &Change<'a>,
 ) -> Result<Vec<Option<NewObject<'a>>>, AllocError>
-    requires { IsPlainChange opened.now.tree opened.now.next change.now }
+    requires plain { IsPlainChange opened.now.tree opened.now.next change.now }
+    requires met { (met : Selecting) × IsMetIn opened.now change.now met }
     ensures objects { IfOk result (λ objects.
         AreObjects objects.items (changed opened.now.tree change.now opened.now.next)) }
     ensures counted { IfOk result (λ objects.
         length objects.items ≡ opened.now.next + made_in change.now) }
     ensures stored { IfOk result (λ objects.
-        AreStoredAfter opened.now (changed opened.now.tree change.now opened.now.next)
+        (met : Selecting) → IsMetIn opened.now change.now met
+        → AreStoredAfter opened.now (changed opened.now.tree change.now opened.now.next) met
         (stored_in objects.items)) }
 {
     let (place, edit) = edit_of(change, opened.next());
@@ -71,12 +75,14 @@ pub(crate) fn opened_objects<'a>(
 ) -> Result<Vec<Option<NewObject<'a>>>, AllocError>
     requires plain { ArePlain opened.now.tree }
     requires edit { (o : Object) → get opened.now.tree place ≡ Some o → IfSome edit (IsEditable o) }
+    requires met { (met : Option Slab) × IsMetAt opened.now place edit met }
     ensures objects { IfOk result (λ objects.
         AreObjects objects.items (with_object opened.now.tree place (edited_by edit.entry))) }
     ensures counted { IfOk result (λ objects. length objects.items ≡ opened.now.next) }
     ensures stored { IfOk result (λ objects.
-        AreStoredAfter opened.now (with_object opened.now.tree place (edited_by edit.entry))
-        (stored_in objects.items)) }
+        (met : Option Slab) → IsMetAt opened.now place edit.entry met
+        → AreStoredAfter opened.now (with_object opened.now.tree place (edited_by edit.entry))
+        (option_map (λ slab. (place, slab)) met) (stored_in objects.items)) }
 {
     let mut objects = Vec::new(alloc);
     for number in 0..opened.next() {
@@ -95,10 +101,12 @@ fn edited_slot<'a>(
 ) -> Result<Option<NewObject<'a>>, AllocError>
     requires plain { (o : Object) → get opened.now.tree number ≡ Some o → IsPlain o }
     requires edit { (o : Object) → get opened.now.tree number ≡ Some o → IfSome edit (IsEditable o) }
+    requires met { (met : Option Slab) × IsMetAt opened.now number edit met }
     ensures object { IfOk result (λ slot.
         SlotsHold IsNewObject slot (option_map (edited_by edit.entry) (get opened.now.tree number))) }
     ensures stored { IfOk result (λ slot.
-        AreStoredAt opened.now (with_object opened.now.tree number (edited_by edit.entry)) number
+        (met : Option Slab) → IsMetAt opened.now number edit.entry met
+        → AreStoredAt opened.now (with_object opened.now.tree number (edited_by edit.entry)) met number
         (slot_chunks slot)) }
 {
     match opened.object(number) {
@@ -114,13 +122,16 @@ fn edited_object<'a>(
     object: &OpenedObject,
     edit: Option<ObjectEdit<'a>>,
 ) -> Result<NewObject<'a>, AllocError>
-    requires object { (number : ℕ) × IsObjectOf opened.now number object.now }
+    requires object { (number : ℕ) × IsObjectOf opened.now number object.now
+        × ((met : Option Slab) × IsMetAt opened.now number edit met) }
     requires plain { IsPlain (object_in opened.now.image opened.now.table object.now) }
     requires edit { IfSome edit (IsEditable (object_in opened.now.image opened.now.table object.now)) }
     ensures object { IfOk result (λ x.
         IsNewObject x (edited_by edit.entry (object_in opened.now.image opened.now.table object.now))) }
     ensures stored { IfOk result (λ x.
-        AreChunksOf opened.now
+        (number : ℕ) (met : Option Slab) → IsObjectOf opened.now number object.now
+        → IsMetAt opened.now number edit.entry met
+        → AreChunksOf opened.now met
         (edited_by edit.entry (object_in opened.now.image opened.now.table object.now))
         object.now.messages.header (content_chunks x.content)) }
 {

@@ -1,8 +1,10 @@
 //! Cells to be written (File Format Specification 3.0, section IV.A.2.i; selections: HDF5 dataspace reference, H5Sselect_hyperslab).
 
-ghost use Rattle.std.specs.Prelude.{MatchResult};
+ghost use Rattle.std.specs.Prelude.{◌≡◌, IfOk, MatchResult, Some};
+ghost use Rattle.h5_model.specs.Tree.Objects.{Dataset, dataset_of};
 ghost use Rattle.h5_model.specs.declared.edits.Edit.TheVariants.{Write};
 ghost use Rattle.h5_query.specs.Opened.Sound.{IsSound};
+ghost use Rattle.h5_query.specs.Selected.{IsSlabOf};
 ghost use Rattle.h5_edit.specs.Refusals.Allowed.{IsRuledOut, IsWriteAt};
 
 use crate::rules::values::are_of_type;
@@ -26,6 +28,8 @@ pub(crate) fn check_write(
         let next = opened.now.next in
         MatchResult result (IsWriteAt tree next path.now hyper.now values.now)
         (IsRuledOut tree next (Write path.now hyper.now values.now)) }
+    ensures selected { IfOk result (λ at. (d : Dataset) → dataset_of opened.now.tree at.0 ≡ Some d
+        → IsSlabOf d.sizes at.1) }
     ensures sound { IsSound opened.now }
 {
     let (number, stored) = array_at(alloc, opened, path)?;

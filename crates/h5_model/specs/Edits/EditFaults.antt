@@ -4,7 +4,7 @@ use Rattle.std.specs.Fmt.{decimal}
 use Rattle.h5_model.specs.declared.edit_fault.EditFault.{EditFault}
 use Rattle.h5_model.specs.declared.edit_fault.EditFault.TheVariants as fault
 
--- the rules' numbers; NotYet is no rule, and comes before all of them until every edit is carried
+-- the rules' numbers
 abbrev pub fault_number : EditFault → ℕ
 fault_number fault.BadPath = 1
 fault_number fault.PathTooDeep = 2
@@ -37,7 +37,6 @@ fault_number fault.HeaderFull = 28
 fault_number fault.TreeTooDeep = 29
 fault_number fault.ImageFull = 30
 fault_number fault.NoMemory = 31
-fault_number fault.NotYet = 32
 
 abbrev pub fault_name : EditFault → List ℕ
 fault_name fault.BadPath = codes "BadPath"
@@ -71,7 +70,6 @@ fault_name fault.HeaderFull = codes "HeaderFull"
 fault_name fault.TreeTooDeep = codes "TreeTooDeep"
 fault_name fault.ImageFull = codes "ImageFull"
 fault_name fault.NoMemory = codes "NoMemory"
-fault_name fault.NotYet = codes "NotYet"
 
 -- the answer of a script's line
 abbrev pub refused_text : EditFault → List ℕ

@@ -31,7 +31,7 @@ use Rattle.h5_open.proofs.OpenedLaws.Entries.{table_entries}
 
 -- ---- contents
 
-dataset_blocks : (image : List ℕ) (ms : List Message) (d : Dataset) (blocks : List Block) → HasDataset image ms d blocks → blocks ≡ data_blocks image (type_told ms) (layout_told ms)
+pub dataset_blocks : (image : List ℕ) (ms : List Message) (d : Dataset) (blocks : List Block) → HasDataset image ms d blocks → blocks ≡ data_blocks image (type_told ms) (layout_told ms)
 dataset_blocks image ms d blocks has =
     let same : array_told ms ≡ in_header image ms d blocks has = told ms (in_header image ms d blocks has) (has_array image ms d blocks has) in
     told_blocks image d.fixed has.layout has.chunks blocks has.stored ∙ ap (λ (a : Described). data_blocks image a.fixed a.layout) (sym same)
@@ -53,7 +53,7 @@ module _ (image : List ℕ) (table : FinMap nat_cmp ℕ) where
 
   -- ---- objects
 
-  blocks_kept : (p : OpenedObject) (o : Object) (blocks : List Block) → IsObjectKept image p → HasObject image table p.messages.header o blocks → object_blocks image p ≡ blocks
+  pub blocks_kept : (p : OpenedObject) (o : Object) (blocks : List Block) → IsObjectKept image p → HasObject image table p.messages.header o blocks → object_blocks image p ≡ blocks
   blocks_kept p o blocks kept has =
       let list = messages_in image p.messages.list in
       let ms : has.messages ≡ list = one_messages image p.messages.header has.messages list has.header_blocks p.messages.blocks has.listed (kept.header).has in

@@ -1,35 +1,35 @@
 //! Cells written where they stand (File Format Specification 3.0, section IV.A.2.i).
 
-ghost use Rattle.std.specs.Prelude.{◌≡◌, ◌*◌, ◌≤◌, Some, length};
-ghost use Rattle.h5_bytes.specs.declared.Block.{Block};
+ghost use Rattle.std.specs.Prelude.{◌≡◌, ℕ, ◌+◌, ◌<◌, ◌≤◌, true, length, take};
 ghost use Rattle.h5_model.specs.Edits.Applied.{with_dataset};
-ghost use Rattle.h5_model.specs.Format.Layout.{InBlock};
 ghost use Rattle.h5_model.specs.Format.Superblock.{leaf_k, internal_k};
 ghost use Rattle.h5_model.specs.Tree.Objects.{Dataset, with_object};
 ghost use Rattle.h5_model.specs.Tree.Places.{cells};
-ghost use Rattle.h5_header.specs.Kinds.{IsOfDataset};
 ghost use Rattle.h5_header.specs.Listed.{messages_in, IsWithin};
-ghost use Rattle.h5_layout.specs.Described.{Described, HasArray};
-ghost use Rattle.h5_layout.specs.Told.{extent_told, layout_told, type_told};
+ghost use Rattle.h5_layout.specs.Data.{AreDataRead};
+ghost use Rattle.h5_layout.specs.Described.{Described};
+ghost use Rattle.h5_layout.specs.Compact.{IsRunAt};
+ghost use Rattle.h5_layout.specs.Standing.{cell_blocks, is_stored_cell};
+ghost use Rattle.h5_layout.specs.Told.{array_told};
+ghost use Rattle.h5_open.specs.Opened.Judged.{IsArrayList};
 ghost use Rattle.h5_open.specs.Opened.Sound.{IsSound, IsWholeFile};
-ghost use Rattle.h5_open.specs.Written.{IsKeptBut, IsStoredRun, with_run};
+ghost use Rattle.h5_open.specs.Written.{AreCellsWritten, IsArrayThere, IsCellStored, IsKeptOutside, IsStoredRun, with_run};
 
 use super::Opened;
-use h5_bytes::Block;
 use h5_header::Messages;
-use h5_layout::{Layout, known_array, write_cells};
+use h5_layout::{Layout, StoredRun, compact_place, known_array, stored_from, write_stored};
 use h5_model::Fixed;
 use h5_space::Image;
 use std::alloc::Global;
 
 impl Opened {
-    /// Writes values into the cells of an array that stand in one block, from this place on in row-major order. The bytes of these cells
-    /// alone change: nothing is read again, and what is kept of the objects stays. Takes no memory.
+    /// Writes values into the cells of an array where they stand, from this place on in row-major order. The bytes of these cells alone
+    /// change: nothing is read again, what is kept of the objects stays, and so does the place of each cell. Takes no memory.
     ///
-    /// That the object of the number is such an array, that it has these cells, and that the values are of its type, are the caller's
-    /// conditions.
+    /// That the object of the number is an array, that it has these cells, that they are stored, and that the values are of its type, are
+    /// the caller's conditions.
     pub fn write_cells(&mut self, alloc: Global, number: u32, place: u64, values: &[i128])
-        requires { (d : Dataset) × IsStoredRun self.old.tree number place values.now d }
+        requires run { (d : Dataset) × IsStoredRun self.old number place values.now d }
         ensures changed { self.new ≡ record self.old {
           image = self.new.image;
           tree = with_object self.old.tree number (with_dataset (with_run place values.now));
@@ -38,30 +38,75 @@ impl Opened {
         ensures internal { internal_k self.new.image ≡ internal_k self.old.image }
         ensures sound { IsSound self.new }
         ensures whole { IsWholeFile self.old → IsWholeFile self.new }
-        ensures local { (d : Dataset) → IsStoredRun self.old.tree number place values.now d
-            → IsKeptBut self.old.image self.new.image (length values.now * d.fixed.size) }
+        ensures stored { (p : ℕ) → IsCellStored self.old number p → IsCellStored self.new number p }
+        ensures local { (a : Described) (there : IsArrayThere self.old number a)
+            → IsKeptOutside self.old.image self.new.image (cell_blocks self.old.image a there.blocks) }
+    {
+        // An opened image is sound.
+        let _image = &self.image;
+        let mut done = 0;
+        while done < values.len() {
+            done += self.write_first(alloc, number, place + done as u64, &values[done..]);
+        }
+    }
+
+    /// Writes the first of these values, into cells that stand one behind another. Returns how many it wrote.
+    fn write_first(&mut self, alloc: Global, number: u32, place: u64, values: &[i128]) -> usize
+        requires run { (d : Dataset) × IsStoredRun self.old number place values.now d }
+        requires some { 0 < length values.now }
+        ensures some { 0 < result }
+        ensures few { result ≤ length values.now }
+        ensures written { AreCellsWritten self.old number place (take result values.now) self.new }
+        ensures sound { IsSound self.new }
     {
         let object = self.index.objects[number as usize].as_ref().unwrap();
-        let (fixed, block) = stored_cells(alloc, &self.image, &object.messages);
-        write_cells(&mut self.image, &fixed, block, place, values);
+        let (fixed, run) = standing_from(
+            alloc,
+            &self.image,
+            &object.messages,
+            place,
+            values.len() as u64,
+        );
+        let count = run.cells as usize;
+        write_stored(&mut self.image, &fixed, run.at, &values[..count]);
+        count
     }
 }
 
-/// The type of an array, and the block that its cells stand in.
-fn stored_cells(alloc: Global, image: &Image, messages: &Messages) -> (Fixed, Block)
+/// The type of an array, and where its cells from a place on stand one behind another, in the header's message, in a block or in a
+/// chunk, with at most so many.
+fn standing_from(
+    alloc: Global,
+    image: &Image,
+    messages: &Messages,
+    place: u64,
+    most: u64,
+) -> (Fixed, StoredRun)
     requires within { IsWithin (length image.now.bytes) messages.now.list }
-    requires dataset { IsOfDataset (messages_in image.now.bytes messages.now.list) }
-    requires array { (a : Described) × HasArray (messages_in image.now.bytes messages.now.list) a }
-    requires stored { (b : Block)
-        × (layout_told (messages_in image.now.bytes messages.now.list) ≡ InBlock (Some b)) }
-    ensures fixed { result.0 ≡ type_told (messages_in image.now.bytes messages.now.list) }
-    ensures block { layout_told (messages_in image.now.bytes messages.now.list) ≡ InBlock (Some result.1) }
-    ensures room { cells (extent_told (messages_in image.now.bytes messages.now.list)).sizes * result.0.size
-        ≤ result.1.len }
+    requires list { IsArrayList (messages_in image.now.bytes messages.now.list) }
+    requires read { AreDataRead image.now.bytes
+        (array_told (messages_in image.now.bytes messages.now.list)).fixed
+        (array_told (messages_in image.now.bytes messages.now.list)).layout }
+    requires some { 0 < most }
+    requires below { place + most ≤ cells (array_told (messages_in image.now.bytes messages.now.list)).sizes }
+    requires stored { is_stored_cell image.now.bytes
+        (array_told (messages_in image.now.bytes messages.now.list)) place ≡ true }
+    ensures fixed { result.0 ≡ (array_told (messages_in image.now.bytes messages.now.list)).fixed }
+    ensures some { 0 < result.1.cells }
+    ensures few { result.1.cells ≤ most }
+    ensures stand { IsRunAt image.now.bytes messages.now.list
+        (array_told (messages_in image.now.bytes messages.now.list)) place result.1.cells result.1.at }
 {
+    // The image is not longer than memory.
+    let _bytes = image.bytes();
     let array = known_array(alloc, image, messages);
-    match array.layout() {
-        Layout::Contiguous(Some(block)) => (array.fixed(), *block),
-        _ => unreachable!(),
+    let fixed = array.fixed();
+    if let Layout::Compact(_) = array.layout() {
+        let at = compact_place(image, messages) + place * fixed.size() as u64;
+        return (fixed, StoredRun { at, cells: most });
+    }
+    match stored_from(image, &array, place, most) {
+        Some(run) => (fixed, run),
+        None => unreachable!(),
     }
 }

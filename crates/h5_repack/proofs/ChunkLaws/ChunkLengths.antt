@@ -15,7 +15,7 @@ pub use Rattle.h5_chunks.proofs.BehindLaws.{length-index_from}
 use Rattle.h5_chunks.specs.Keys.{OffsetKey, chunk_key, index_from}
 use Rattle.h5_layout.specs.HeldChunks.{chunk_values}
 use Rattle.h5_repack.specs.Bodies.Chunks.{chunk_children, chunk_data, chunk_length, chunk_nodes, chunked_data, chunks_place, key_after}
-use Rattle.h5_repack.proofs.ChunkLaws.KeyBack.{length-key}
+use Rattle.h5_layout.proofs.KeyBack.{length-key}
 use Rattle.std.proofs.lemmas.List.FromFn.{length-map-range_with_len}
 use Rattle.h5_model.specs.Edits.Applied.{cell_or_fill}
 use Rattle.h5_model.specs.Tree.Places.{index_of}

@@ -19,7 +19,7 @@ use Rattle.h5_btree.specs.Writing.Written.{keys_of, places_of}
 use Rattle.h5_chunks.specs.Keys.{OffsetKey, chunk_key, index_from}
 use Rattle.h5_repack.specs.Bodies.Chunks.{chunk_children}
 use Rattle.h5_layout.specs.HeldChunks.{AreRising}
-use Rattle.h5_repack.proofs.ChunkLaws.KeyBack.{AreWords, offsets_back, all_back}
+use Rattle.h5_layout.proofs.KeyBack.{AreWords, offsets_back, all_back}
 use Rattle.h5_repack.proofs.ChunkLaws.ChunkLengths.{length-index_from}
 
 -- ---- offsets before others

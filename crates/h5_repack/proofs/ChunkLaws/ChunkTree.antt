@@ -30,7 +30,7 @@ use Rattle.h5_chunks.specs.Keys.{OffsetKey, chunk_key}
 use Rattle.h5_chunks.proofs.Ascending.{rise_sorted}
 use Rattle.h5_repack.specs.Bodies.Chunks.{chunk_children}
 use Rattle.h5_layout.specs.HeldChunks.{AreRising}
-use Rattle.h5_repack.proofs.ChunkLaws.KeyBack.{key_back}
+use Rattle.h5_layout.proofs.KeyBack.{key_back}
 use Rattle.h5_repack.proofs.ChunkLaws.ChunkOrder.{IsGridOf, chunk_ladder, key_of, key_pairs, keys_follow, left_of_next, offsets_are, right_of_key}
 
 -- ---- pairs, one list each
@@ -90,6 +90,11 @@ in_bottom V (suc level) row n at = in_right n row (nodes V level (next_row V row
 abbrev pub chunk_pairs : ℕ → ℕ → List (List ℕ) → List (List ℕ × ℕ)
 chunk_pairs size at [] = []
 chunk_pairs size at (offsets ∷ others) = (offsets, at) ∷ chunk_pairs size (at + size) others
+
+-- with these offsets
+pub pair_offsets : (size at : ℕ) (stored : List (List ℕ)) → map (λ (e : List ℕ × ℕ). e.0) (chunk_pairs size at stored) ≡ stored
+pair_offsets size at [] = refl
+pair_offsets size at (offsets ∷ others) = ap (λ (l : List (List ℕ)). offsets ∷ l) (pair_offsets size (at + size) others)
 
 rise_pairs : (size at : ℕ) (last : List ℕ) (others : List (List ℕ)) → AreRising (last ∷ others) → RiseFrom offsets_of Before (Some last) (chunk_pairs size at others)
 rise_pairs size at last [] rising = tt

@@ -1,29 +1,17 @@
 -- The chunks of an array that are handed on are its stored chunks, once it has the sizes that it is to have (File Format Specification
 -- 3.0, section III.A.1).
-use Rattle.std.proofs.Common.{◌≡◌, ℕ, ◌<◌, ℤ, List, [], ◌∷◌, length, map, get_or, refl, sym, ap, subst}
-use Rattle.std.proofs.lemmas.List.FromFn.{fill_by_all}
-use Rattle.std.specs.Prelude.{slice_index_or}
+use Rattle.std.proofs.Common.{◌≡◌, ℕ, ℤ, List, [], ◌∷◌, length, map, refl, sym, ap, subst}
 use Rattle.h5_bytes.specs.declared.Block.{Block}
-use Rattle.h5_model.specs.Edits.Applied.{cell_or_fill, resized}
+use Rattle.h5_model.specs.Edits.Applied.{resized}
 use Rattle.h5_model.specs.Format.Reads.{HasData, storage_of}
 use Rattle.h5_model.specs.Tree.Objects.{Dataset, Chunked}
-use Rattle.h5_model.specs.Tree.Places.{cells, index_of}
-use Rattle.h5_model.proofs.PlaceLaws.{inside-index, place-index}
 use Rattle.h5_layout.specs.Data.{dataset_told, stored_chunks}
 use Rattle.h5_layout.specs.Described.{Described}
 use Rattle.h5_layout.specs.HeldChunks.{chunk_values, held_cells, held_chunks}
+pub use Rattle.h5_layout.proofs.HeldWith.{resized_own}
 use Rattle.h5_repack.specs.Bodies.Headers.{AreStoredFor}
 use Rattle.h5_repack.specs.Blocks.Written.{AreHeldOf}
-use Rattle.h5_repack.proofs.ChunkLaws.ChunkCells.{is_inside_from}
 use Rattle.h5_repack.proofs.ChunkLaws.StoredFor.{resized_for}
-
--- an array that gets the sizes it has is the same
-pub resized_own : (d : Dataset) → length d.cells ≡ cells d.sizes → resized d.sizes d ≡ d
-resized_own d counted = ap (λ (cs : List ℤ). record d { cells = cs }) (sym (fill_by_all (λ place. cell_or_fill d (index_of d.sizes place)) d.cells (cells d.sizes) d.fill counted each)) where
-  each : (place : ℕ) → place < cells d.sizes → get_or d.cells place d.fill ≡ cell_or_fill d (index_of d.sizes place)
-  each place low =
-      rw (is_inside_from d.sizes (index_of d.sizes place) (inside-index d.sizes place low))
-      (ap (λ n. slice_index_or d.cells n d.fill) (sym (place-index d.sizes place low)))
 
 offsets_alone : (f : List ℕ → List ℤ) (all : List (List ℕ)) → map (λ (p : List ℕ × List ℤ). p.0) (map (λ (offsets : List ℕ). (offsets, f offsets)) all) ≡ all
 offsets_alone f [] = refl

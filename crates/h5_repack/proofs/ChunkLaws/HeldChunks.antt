@@ -1,16 +1,13 @@
 -- Of the chunks that an image has, those that hold a cell of the extent are the stored chunks of the array in the plain layout (File
 -- Format Specification 3.0, section III.A.1).
-use Rattle.std.proofs.Common.{◌≡◌, ℕ, ◌+◌, ◌*◌, ◌/◌, ◌%◌, ◌<◌, List, [], ◌∷◌, length, map, take, replicate, get_or, refl, sym, ap, ◌∙◌, subst, arith, Bool, true, false, ◌&&◌, cond, Option, Some, None}
-use Rattle.std.proofs.lemmas.Bool.Decides.{nat_tests}
+use Rattle.std.proofs.Common.{◌≡◌, ℕ, ◌*◌, ◌<◌, List, [], ◌∷◌, length, map, take, replicate, get_or, refl, sym, ap, ◌∙◌, subst, arith, Bool, true, false, cond, Option, Some, None}
 use Rattle.std.proofs.lemmas.List.{get_or-replicate, length-replicate}
 use Rattle.std.proofs.lemmas.List.FromFn.{fill_by_all, get_or-map-range_with_len}
-use Rattle.std.proofs.lemmas.Nat.{div-add-mod'}
-use Rattle.std.specs.Prelude.{T, slice_index_or}
-use Rattle.std.specs.Ordering.{nat_cmp, is_lt}
+use Rattle.std.specs.Prelude.{slice_index_or}
+use Rattle.std.specs.Ordering.{nat_cmp}
 use Rattle.std.specs.declared.cmp.Ordering.TheVariants.{Equal}
 use Rattle.std.specs.Cmp.Lexicographic.{slice_cmp, nat_list_cmp_total}
-use Rattle.std.specs.FinMap.{entries, entries_sorted, get, get-entries, get-retain_keys, is_sorted, retain_keys, nat_cmp-IsAntisymmetric, slice_cmp-IsAntisymmetric}
-use Rattle.std.specs.FinMap.Entries.{below_all}
+use Rattle.std.specs.FinMap.{entries, entries_sorted, get, get-entries, get-retain_keys, retain_keys, nat_cmp-IsAntisymmetric, slice_cmp-IsAntisymmetric}
 use Rattle.std.specs.List.{AllByRecursion, AllZip, Contains, zip}
 use Rattle.h5_bytes.specs.declared.Block.{Block}
 use Rattle.h5_model.specs.Edits.Applied.{cell_or_fill, resized}
@@ -28,39 +25,10 @@ use Rattle.h5_laws.proofs.Lists.{In, all_in, contains_in, from_flat, in_all, in_
 use Rattle.h5_laws.proofs.Maps.{found_entry, get_of_entry}
 use Rattle.h5_chunks.proofs.InsideLaws.{inside_of}
 use Rattle.h5_repack.specs.Bodies.Sound.{IsUnset}
-use Rattle.h5_layout.specs.HeldChunks.{AreRising, AreStoredChunks, IsHeldChunk, held_chunks}
+use Rattle.h5_layout.specs.HeldChunks.{AreStoredChunks, IsHeldChunk, held_chunks}
+use Rattle.h5_layout.proofs.CornerInside.{corner_inside}
+use Rattle.h5_layout.proofs.RisingLaws.{sorted_rising}
 use Rattle.h5_repack.proofs.ChunkLaws.ChunkCells.{is_inside_from}
-
--- ---- offsets that rise
-
-halves : (b c : Bool) → T (b && c) → T b × T c
-halves true c h = (tt, h)
-halves false c h = absurd h
-
-truth : (b : Bool) → T b → b ≡ true
-truth true h = refl
-truth false h = absurd h
-
-sorted_rising : (es : List (List ℕ × ℕ)) → T (is_sorted (slice_cmp nat_cmp) es) → AreRising (map (λ (e : List ℕ × ℕ). e.0) es)
-sorted_rising [] sorted = tt
-sorted_rising (a ∷ []) sorted = tt
-sorted_rising (a ∷ b ∷ es) sorted =
-    let split = halves (below_all (slice_cmp nat_cmp) a.0 (b ∷ es)) (is_sorted (slice_cmp nat_cmp) (b ∷ es)) sorted in
-    (truth _ (halves (is_lt (slice_cmp nat_cmp a.0 b.0)) (below_all (slice_cmp nat_cmp) a.0 es) split.0).0, sorted_rising (b ∷ es) split.1)
-
--- ---- offsets inside
-
--- a chunk that holds a cell of the extent begins in it
-corner_inside : (sizes chunk index : List ℕ) → length chunk ≡ length sizes → IsInside sizes index → IsInside sizes (corner_of chunk index)
-corner_inside [] [] [] same h = tt
-corner_inside [] (c ∷ cs) index same h = absurd (omega (arith, same))
-corner_inside [] [] (i ∷ is) same h = absurd h
-corner_inside (d ∷ ds) [] index same h = absurd (omega (arith, same))
-corner_inside (d ∷ ds) (c ∷ cs) [] same h = absurd h
-corner_inside (d ∷ ds) (c ∷ cs) (i ∷ is) same h =
-    let whole : i / c * c + i % c ≡ i = div-add-mod' i c in
-    let low : i < d = h.0 in
-    (omega (arith, whole, low), corner_inside ds cs is (omega (arith, same)) h.1)
 
 -- ---- keys of whole chunks
 

@@ -8,7 +8,7 @@ use Rattle.h5_edit.proofs.attributes.set_attr.Goals as goal
 pub returns-in_err-number-clause-edited : goal.returns-in_err-number-clause-edited
 returns-in_err-number-clause-edited c =
     passed_on _ _ c.from_residual.result _ c.from_residual.ensures.1
-    (by_rule c.in_err-number.ensures.sound (SetAttr c.args.path.now c.args.attr.now) refl _ c.in_err-number.ensures.at)
+    (by_rule c.args.opened.now (SetAttr c.args.path.now c.args.attr.now) _ c.in_err-number.ensures.at)
 
 pub unwrap-object-requires : goal.unwrap-object-requires
 unwrap-object-requires c =

@@ -8,7 +8,7 @@ use Rattle.h5_edit.proofs.links.create_dataset.Goals as goal
 pub returns-in_err-place-clause-edited : goal.returns-in_err-place-clause-edited
 returns-in_err-place-clause-edited c =
     passed_on _ _ c.from_residual.result _ c.from_residual.ensures.1
-    (by_rule c.next-next.ensures.sound (CreateDataset c.args.path.now c.args.spec.now) refl _ c.in_err-place.ensures.placed)
+    (by_rule c.args.opened.now (CreateDataset c.args.path.now c.args.spec.now) _ c.in_err-place.ensures.placed)
 
 pub carry_out-requires : goal.carry_out-requires
 carry_out-requires c = (

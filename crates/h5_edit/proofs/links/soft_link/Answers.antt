@@ -8,7 +8,7 @@ use Rattle.h5_edit.proofs.links.soft_link.Goals as goal
 pub returns-in_err-place-clause-edited : goal.returns-in_err-place-clause-edited
 returns-in_err-place-clause-edited c =
     passed_on _ _ c.from_residual.result _ c.from_residual.ensures.1
-    (by_rule c.next-next.ensures.sound (SoftLink c.args.text.now c.args.path.now) refl _ c.in_err-place.ensures)
+    (by_rule c.args.opened.now (SoftLink c.args.text.now c.args.path.now) _ c.in_err-place.ensures)
 
 pub carry_out-requires : goal.carry_out-requires
 carry_out-requires c = (SoftLink c.args.text.now c.args.path.now, rw c.link_at-change.ensures (soft_link_fits c.args.opened.now c.args.text c.in_ok-place.ensures))

@@ -1,4 +1,4 @@
-use Rattle.std.proofs.Common.{ap, arith, length, ◌∙◌, subst}
+use Rattle.std.proofs.Common.{ap, arith, length, None, refl, ◌∙◌, subst}
 use Rattle.h5_model.specs.Format.Superblock.{leaf_k, internal_k}
 use Rattle.h5_model.specs.Tree.Objects.{Tree}
 use Rattle.h5_repack.specs.Objects.Objects.{AreObjects, stored_in}
@@ -22,7 +22,8 @@ write_tree-requires-clause-tree c = (
   rw c.deref.ensures.value
       (tree_there c.image.ensures.sound (rw c.image.ensures.bytes at c.k_of-k.ensures.bytes) c.in-Ok.objects.items
       (subst (AreObjects c.in-Ok.objects.items) (unedited c.args.opened.now.tree 0) c.in-Ok.ensures.objects)
-      (subst (λ (t : Tree). AreStoredAfter c.args.opened.now t (stored_in c.in-Ok.objects.items)) (unedited c.args.opened.now.tree 0) c.in-Ok.ensures.stored)),
+      (subst (λ (t : Tree). AreStoredAfter c.args.opened.now t None (stored_in c.in-Ok.objects.items)) (unedited c.args.opened.now.tree 0)
+      (c.in-Ok.ensures.stored None (λ a there. refl)))),
 )
 
 pub returns-clause-repacked : goal.returns-clause-repacked
@@ -30,7 +31,8 @@ returns-clause-repacked c =
     rw c.answer.ensures
     (repacked c.image.ensures.sound (rw c.image.ensures.bytes at c.k_of-k.ensures.bytes) c.in-Ok.objects.items
     (subst (AreObjects c.in-Ok.objects.items) (unedited c.args.opened.now.tree 0) c.in-Ok.ensures.objects)
-    (subst (λ (t : Tree). AreStoredAfter c.args.opened.now t (stored_in c.in-Ok.objects.items)) (unedited c.args.opened.now.tree 0) c.in-Ok.ensures.stored)
+    (subst (λ (t : Tree). AreStoredAfter c.args.opened.now t None (stored_in c.in-Ok.objects.items)) (unedited c.args.opened.now.tree 0)
+    (c.in-Ok.ensures.stored None (λ a there. refl)))
     c.k_of-k.result.leaf c.k_of-k.result.internal (c.k_of-k.ensures.leaf ∙ ap leaf_k c.image.ensures.bytes) (c.k_of-k.ensures.internal ∙ ap internal_k c.image.ensures.bytes)
     c.in-Ok.ensures.counted c.write_tree.result (rw c.deref.ensures.value at c.write_tree.ensures.written)
     (rw c.deref.ensures.value at c.write_tree.ensures.numbered) (rw c.deref.ensures.value at c.write_tree.ensures.refused))

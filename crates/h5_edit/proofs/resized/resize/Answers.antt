@@ -11,7 +11,7 @@ use Rattle.h5_edit.proofs.resized.resize.Goals as goal
 pub returns-in_err-number-clause-edited : goal.returns-in_err-number-clause-edited
 returns-in_err-number-clause-edited c =
     passed_on _ _ c.from_residual.result _ c.from_residual.ensures.1
-    (by_rule c.in_err-number.ensures.sound (Resize c.args.path.now c.args.dims.now) refl _ c.in_err-number.ensures.at)
+    (by_rule c.args.opened.now (Resize c.args.path.now c.args.dims.now) _ c.in_err-number.ensures.at)
 
 pub unwrap-object-requires : goal.unwrap-object-requires
 unwrap-object-requires c =

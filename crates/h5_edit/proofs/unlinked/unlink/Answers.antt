@@ -1,10 +1,10 @@
-use Rattle.std.proofs.Common.{ap, arith, length, ◌∙◌}
+use Rattle.std.proofs.Common.{ap, arith, length, refl, ◌∙◌}
 use Rattle.h5_laws.specs.Trees.Unlinked.{without_link, without_object}
 use Rattle.h5_model.specs.Format.Superblock.{leaf_k, internal_k}
 use Rattle.h5_model.specs.declared.edits.Edit.TheVariants.{Unlink}
 use Rattle.h5_edit.proofs.AnsweredUnlinks.{gone_low, left_to_write, not_checked, parent_low, unlink_answered}
 use Rattle.h5_edit.proofs.FitLaws.OpenedTrees.{opened_plain}
-use Rattle.h5_edit.proofs.Refusals.{for_memory}
+use Rattle.h5_edit.proofs.Refusals.{by_memory}
 use Rattle.h5_edit.proofs.RuleLaws.Exits.{passed_on}
 use Rattle.h5_edit.proofs.unlinked.unlink.Goals as goal
 
@@ -23,7 +23,7 @@ pub left_objects-requires-clause-gone : goal.left_objects-requires-clause-gone
 left_objects-requires-clause-gone c = gone_low c.image.ensures.sound c.args.path.now c.in_ok-removal.removal c.in_ok-removal.ensures.at
 
 pub returns-in_default-clause-edited : goal.returns-in_default-clause-edited
-returns-in_default-clause-edited c = for_memory c.args.opened.now (Unlink c.args.path.now)
+returns-in_default-clause-edited c = by_memory c.args.opened.now (Unlink c.args.path.now) refl
 
 pub write_tree-requires-clause-few : goal.write_tree-requires-clause-few
 write_tree-requires-clause-few c =

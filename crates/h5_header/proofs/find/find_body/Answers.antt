@@ -9,13 +9,13 @@ use Rattle.h5_header.proofs.find.find_body.Goals as goal
 pub returns-in_err-message : goal.returns-in_err-message
 returns-in_err-message c =
     let list = c.args.messages.now.list in
-    let none : None ≡ find (λ (m : Placed). m.kind == c.args.kind) list = rw c.list.ensures at c.in_err-message.ensures in
+    let none : None ≡ find (λ (m : Placed). m.kind == c.args.kind) list = c.in_err-message.ensures in
     rw c.from_residual.ensures (ap (option_map (λ (m : Placed). part m.at m.size c.args.image.now.bytes)) none ∙ sym (first_body-in c.args.image.now.bytes c.args.kind list))
 
 pub returns : goal.returns
 returns c =
     let m = c.in_ok-message.message.now in
-    let here : Some m ≡ find (λ (x : Placed). x.kind == c.args.kind) c.args.messages.now.list = rw c.list.ensures at c.in_ok-message.ensures in
+    let here : Some m ≡ find (λ (x : Placed). x.kind == c.args.kind) c.args.messages.now.list = c.in_ok-message.ensures in
     let value = rw c.from.ensures at c.part.ensures.value in
     copied_part c.args.image.now.bytes c.args.messages.now.list c.args.kind m c.part.result c.requires (sym here)
     (λ (within : m.at + m.size ≤ length c.args.image.now.bytes). c.part.ensures.inside.1 (rw c.from.ensures within)) value

@@ -15,5 +15,6 @@ returns-clause-inside c =
     record {
       rank = sym (slab_long c.args.dims.now c.args.hyper.now same c.sizes.ensures.rank c.in-Ok.slab (sym c.in-Ok.is ∙ c.new.ensures));
       within = c.within.ensures.inside.0 c.if-not-within.false;
+      counted = all;
       few = omega (arith, few, all);
     }

@@ -4,7 +4,8 @@ use Rattle.h5_model.specs.Tree.Paths.{located}
 use Rattle.h5_model.specs.Scripts.Answers.{dumped}
 use Rattle.h5_model.specs.Scripts.Lines.{Dump}
 use Rattle.std.specs.Prelude.{MatchResult}
-use Rattle.h5_dump.specs.Dumped.{IsUndumped}
+use Rattle.h5_dump.specs.Dumped.{IsDumped, IsPartlyDumped, IsUndumped}
+use Rattle.h5_dump.specs.Opened.State.{FileState}
 use Rattle.h5_dump.specs.declared.fault.DumpFault.{DumpFault}
 use Rattle.h5_dump.specs.declared.fault.DumpFault.TheVariants as dump
 use Rattle.h5_script.specs.Answered.{IsAnswered, IsUntold}
@@ -15,30 +16,39 @@ use Rattle.h5_script.proofs.LineRuns.{line_cut, run_cut}
 use Rattle.h5_script.proofs.answer.dump.Goals as goal
 
 pub returns-in-Ok : goal.returns-in-Ok
-returns-in-Ok g c = record {
-  text = dumped c.args.file.now.tree c.args.path.now (located c.args.file.now.tree c.args.path.now);
-  answered = dump_told c.args.file.now c.args.path.now c.in-Ok.ensures.accepted;
-  written = c.in-Ok.ensures.written;
-}
+returns-in-Ok g c =
+    let session = c.args.session.now in
+    let told : IsDumped session.file.tree c.args.path.now (g.W.Write.contents c.args.output.now) (g.W.Write.contents c.write_dump.new.output) =
+    subst (λ (f : FileState). IsDumped f.tree c.args.path.now (g.W.Write.contents c.args.output.now) (g.W.Write.contents c.write_dump.new.output)) c.file.ensures.file c.in-Ok.ensures in
+    record {
+      text = dumped session.file.tree c.args.path.now (located session.file.tree c.args.path.now);
+      answered = dump_told session c.args.path.now told.accepted;
+      written = told.written;
+    }
 
 pub returns-in-Err-Refused : goal.returns-in-Err-Refused
 returns-in-Err-Refused g c =
-    let file = c.args.file.now in
+    let session = c.args.session.now in
     let command = Dump c.args.path.now in
     let fault = c.in-Err-Refused.fault in
     let old = g.W.Write.contents c.args.output.now in
     let now = g.W.Write.contents c.write_dump.new.output in
-    let is : IsUndumped file.tree c.args.path.now old now (dump.Refused fault) =
-    subst (λ (f : DumpFault). IsUndumped file.tree c.args.path.now old now f) c.in-Err-Refused.field-0-is c.in-Err-Refused.ensures in
-    let answered = told_or_not c.refused_instead.result file file command c.refused_instead.new.text.items (refused_text fault) Refused (dump_undumped file c.args.path.now old now fault is) c.refused_instead.ensures in
-    subst (λ (known : Option (List ℕ)). Tells c.tell.result file command file known (g.W.Write.contents c.tell.new.output)) (undumped_same file c.args.path.now old now fault is)
-    (c.tell.ensures file file command (subst (λ (text : List ℕ). MatchResult c.refused_instead.result (IsAnswered file command file text) (λ _. IsUntold file command file)) (sym c.deref.ensures.value) answered))
+    let there : IsUndumped c.file.result.now.tree c.args.path.now old now (dump.Refused fault) =
+    subst (λ (f : DumpFault). IsUndumped c.file.result.now.tree c.args.path.now old now f) c.in-Err-Refused.field-0-is c.in-Err-Refused.ensures in
+    let is : IsUndumped session.file.tree c.args.path.now old now (dump.Refused fault) =
+    subst (λ (f : FileState). IsUndumped f.tree c.args.path.now old now (dump.Refused fault)) c.file.ensures.file there in
+    let answered = told_or_not c.refused_instead.result session session command c.refused_instead.new.text.items (refused_text fault) Refused (dump_undumped session c.args.path.now old now fault is) c.refused_instead.ensures in
+    subst (λ (known : Option (List ℕ)). Tells c.tell.result session command session known (g.W.Write.contents c.tell.new.output)) (undumped_same session c.args.path.now old now fault is)
+    (c.tell.ensures session session command (subst (λ (text : List ℕ). MatchResult c.refused_instead.result (IsAnswered session command session text) (λ _. IsUntold session command session)) (sym c.deref.ensures.value) answered))
 
 pub returns-in-Err-Cut : goal.returns-in-Err-Cut
 returns-in-Err-Cut g c =
-    let file = c.args.file.now in
-    let is = subst (λ (f : DumpFault). IsUndumped file.tree c.args.path.now (g.W.Write.contents c.args.output.now) (g.W.Write.contents c.write_dump.new.output) f) c.in-Err-Cut.field-0-is c.in-Err-Cut.ensures in (
+    let session = c.args.session.now in
+    let old = g.W.Write.contents c.args.output.now in
+    let now = g.W.Write.contents c.write_dump.new.output in
+    let there = subst (λ (f : DumpFault). IsUndumped c.file.result.now.tree c.args.path.now old now f) c.in-Err-Cut.field-0-is c.in-Err-Cut.ensures in
+    let is : IsPartlyDumped session.file.tree c.args.path.now old now = subst (λ (f : FileState). IsPartlyDumped f.tree c.args.path.now old now) c.file.ensures.file there in (
       run_cut c.in-Err-Cut.reason c.from.result c.from.ensures,
-      line_cut file file (Dump c.args.path.now) (dumped file.tree c.args.path.now (located file.tree c.args.path.now)) Told (g.W.Write.contents c.args.output.now) (g.W.Write.contents c.write_dump.new.output)
-          (dump_told file c.args.path.now is.accepted) is.some,
+      line_cut session session (Dump c.args.path.now) (dumped session.file.tree c.args.path.now (located session.file.tree c.args.path.now)) Told old now
+          (dump_told session c.args.path.now is.accepted) is.some,
     )

@@ -9,6 +9,6 @@ returns-in_err-outcome-clause-run g c =
 pub returns-clause-run : goal.returns-clause-run
 returns-clause-run g c =
     let told = c.in_ok-outcome.ensures in
-    line_ran c.args.file.now c.answer.new.file (command_of c.args.command.now) told.text c.in_ok-outcome.outcome
+    line_ran c.args.session.now c.answer.new.session (command_of c.args.command.now) told.text c.in_ok-outcome.outcome
     (g.W.Write.contents c.args.output.now) (g.W.Write.contents c.answer.new.output) c.args.answers.now.ran c.count.new.self
     told.answered told.written c.count.ensures.refused c.count.ensures.edits

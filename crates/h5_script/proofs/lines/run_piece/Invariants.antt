@@ -7,7 +7,7 @@ abbrev pub invariant-loop-line : goal.invariant-loop-line
 invariant-loop-line g l = record {
   seen : List ℕ;
   parts : seen ++ l.rest ≡ l.fn.held.items ++ l.fn.piece;
-  run : HasRunLines seen l.held.items l.fn.file l.file (g.W.Write.contents l.fn.output) (g.W.Write.contents l.output) l.fn.answers.ran l.answers.ran;
+  run : HasRunLines seen l.held.items l.fn.session l.session (g.W.Write.contents l.fn.output) (g.W.Write.contents l.output) l.fn.answers.ran l.answers.ran;
   refused : l.answers.ran.refused + length l.rest ≤ l.fn.answers.ran.refused + length l.fn.piece;
   edits : l.answers.ran.edits + length l.rest ≤ l.fn.answers.ran.edits + length l.fn.piece;
 }

@@ -5,7 +5,7 @@ use Rattle.h5_script.proofs.run.run_pieces.Given as goal
 -- the whole lines so far were run; each read has taken a byte at least from the room
 abbrev pub invariant-loop-read : goal.invariant-loop-read
 invariant-loop-read g l = record {
-  under : IsUnderway l.fn.file l.file (g.R.Read.remaining l.fn.input) (g.R.Read.remaining l.input)
+  under : IsUnderway l.fn.session l.session (g.R.Read.remaining l.fn.input) (g.R.Read.remaining l.input)
       (g.W.Write.contents l.fn.output) (g.W.Write.contents l.output) l.held.items l.room l.answers.ran;
   refused : l.answers.ran.refused + l.room ≤ 16777216;
   edits : l.answers.ran.edits + l.room ≤ 16777216;

@@ -32,7 +32,7 @@ pub returns-clause-stored : goal.returns-clause-stored
 returns-clause-stored c =
     let f = c.args.opened.now in
     stored_left f c.args.removal.now.parent c.args.removal.now.name.now c.in_ok-objects.objects.items
-    (subst (λ (t : Tree). AreStoredAfter f t (stored_in c.in_ok-objects.objects.items)) (unedited f.tree 0) c.in_ok-objects.ensures.stored)
+    (subst (λ (t : Tree). AreStoredAfter f t None (stored_in c.in_ok-objects.objects.items)) (unedited f.tree 0) (c.in_ok-objects.ensures.stored None (λ a there. refl)))
     c.match-removal.objects.items c.args.removal.now.gone (λ k stays. elim c.match-removal.branch [
       | in-Some w ↦
           let low : w.in-Some.number < f.next = subst (λ (gone : Option ℕ). IfSome gone (λ n. n < f.next)) w.in-Some.is c.requires.gone in

@@ -2,6 +2,9 @@ use Rattle.std.proofs.Common.{sym, subst}
 use Rattle.h5_query.specs.Opened.Objects.{object_in}
 use Rattle.h5_repack.specs.Objects.Objects.{content_chunks}
 use Rattle.h5_repack.specs.declared.objects.object.NewContent.{NewContent}
+use Rattle.h5_header.specs.Listed.{messages_in}
+use Rattle.h5_query.specs.Told.{array_told}
+use Rattle.h5_edit.proofs.ArraysThere.{told_there}
 use Rattle.h5_edit.specs.Changed.Edited.{edited_by}
 use Rattle.h5_edit.specs.StoredChunks.{AreChunksOf}
 use Rattle.h5_edit.proofs.ChangedLaws.StoredSlots.{array_stored, group_stored}
@@ -20,14 +23,21 @@ pub links_in-requires-clause-led : goal.links_in-requires-clause-led
 links_in-requires-clause-led c =
     found_led c.args.opened.now c.image-image.ensures.sound c.requires.object.0 c.args.object.now c.requires.object.1 c.in-Group.table c.in-Group.is
 
-pub returns-clause-stored : goal.returns-clause-stored
-returns-clause-stored c =
+pub array_in-requires-clause-met : goal.array_in-requires-clause-met
+array_in-requires-clause-met c =
     let f = c.args.opened.now in
     let number = c.requires.object.0 in
     let of = c.requires.object.1 in
+    rw c.image-image.ensures.bytes (c.requires.object.2.0, c.requires.object.2.1 (array_told (messages_in f.image c.args.object.now.messages.list)) (told_there f number c.args.object.now of c.in-Array.is))
+
+pub returns-clause-stored : goal.returns-clause-stored
+returns-clause-stored c number met of is =
+    let f = c.args.opened.now in
     elim c.match-object.branch [
-      | in-Group+in_ok-links_in-in-Group w ↦ group_stored f number c.args.object.now of c.args.edit w.in-Group.table w.in-Group.is (content_chunks c.match-object.content)
+      | in-Group+in_ok-links_in-in-Group w ↦ group_stored f number c.args.object.now of c.args.edit met w.in-Group.table w.in-Group.is (content_chunks c.match-object.content)
       | in-Array+in_ok-content-in-Array w ↦
-          subst (λ (x : NewContent). AreChunksOf f (edited_by c.args.edit (object_in f.image f.table c.args.object.now)) c.args.object.now.messages.header (content_chunks x)) (sym w.content-is)
-          (array_stored f number c.args.object.now of c.args.edit w.in-Array.is w.in_ok-content-in-Array.content (rw c.image-image.ensures.bytes at w.in_ok-content-in-Array.ensures.chunks))
+          subst (λ (x : NewContent). AreChunksOf f met (edited_by c.args.edit (object_in f.image f.table c.args.object.now)) c.args.object.now.messages.header (content_chunks x)) (sym w.content-is)
+          (array_stored f number c.args.object.now of c.args.edit met w.in-Array.is w.in_ok-content-in-Array.content
+          ((rw c.image-image.ensures.bytes at w.in_ok-content-in-Array.ensures.chunks) met
+          (is (array_told (messages_in f.image c.args.object.now.messages.list)) (told_there f number c.args.object.now of w.in-Array.is))))
     ]

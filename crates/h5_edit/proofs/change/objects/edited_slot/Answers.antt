@@ -16,9 +16,13 @@ pub edited_object-requires-clause-edit : goal.edited_object-requires-clause-edit
 edited_object-requires-clause-edit c =
     c.requires.edit (object_in c.args.opened.now.image c.args.opened.now.table c.in-Some.object.now) c.in-Some.ensures.found.there
 
+pub edited_object-requires-clause-object : goal.edited_object-requires-clause-object
+edited_object-requires-clause-object c = (c.args.number, c.in-Some.ensures.found, c.requires.met)
+
 pub returns-in_ok-edited_object-in-Some-clause-stored : goal.returns-in_ok-edited_object-in-Some-clause-stored
-returns-in_ok-edited_object-in-Some-clause-stored c =
-    stored_at c.args.opened.now c.args.number c.in-Some.object.now c.in-Some.ensures.found c.args.edit _ c.in_ok-edited_object-in-Some.ensures.stored
+returns-in_ok-edited_object-in-Some-clause-stored c met is =
+    stored_at c.args.opened.now c.args.number c.in-Some.object.now c.in-Some.ensures.found c.args.edit met _
+    (c.in_ok-edited_object-in-Some.ensures.stored c.args.number met c.in-Some.ensures.found is)
 
 pub returns-in-None-clause-object : goal.returns-in-None-clause-object
 returns-in-None-clause-object c =
@@ -26,7 +30,7 @@ returns-in-None-clause-object c =
     subst (λ (found : Option Object). SlotsHold IsNewObject None (option_map (edited_by c.args.edit) found)) (sym none) tt
 
 pub returns-in-None-clause-stored : goal.returns-in-None-clause-stored
-returns-in-None-clause-stored c =
+returns-in-None-clause-stored c met is =
     let f = c.args.opened.now in
-    none_at f (with_object f.tree c.args.number (edited_by c.args.edit)) c.args.number []
+    none_at f (with_object f.tree c.args.number (edited_by c.args.edit)) met c.args.number []
     (none_mapped f c.args.number c.args.number (edited_by c.args.edit) (none_there f c.in-None.ensures.sound c.args.number c.in-None.ensures.found))

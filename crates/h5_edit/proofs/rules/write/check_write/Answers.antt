@@ -1,3 +1,7 @@
+use Rattle.std.proofs.lemmas.Option.{same_Some}
+use Rattle.std.specs.Option.{option_and_then}
+use Rattle.h5_model.specs.Tree.Objects.{Dataset, dataset_of}
+use Rattle.h5_query.specs.Selected.{IsSlabOf}
 use Rattle.std.proofs.Common.{◌≢◌, ◌≤◌, ◌^◌, length, sym, ap, ◌∙◌, subst, arith}
 use Rattle.h5_model.specs.Views.Selection.{Slab, selected_cells}
 use Rattle.h5_edit.proofs.RuleLaws.Exits.{passed_on}
@@ -51,3 +55,10 @@ returns-clause-at c =
       },
       selects.1,
     )
+
+pub returns-clause-selected : goal.returns-clause-selected
+returns-clause-selected c d array =
+    let there = c.in_ok-number.ensures.there in
+    let inside = rw (c.dims.ensures.sizes, c.array-array.ensures.sizes) at c.in_ok-slab.ensures.inside in
+    let same = same_Some _ d (sym (sym (ap (option_and_then (dataset_of c.args.opened.now.tree)) there.number) ∙ there.found) ∙ array) in
+    subst (λ (x : Dataset). IsSlabOf x.sizes c.in_ok-slab.slab) same inside

@@ -16,7 +16,7 @@ replace-requires c =
 pub returns-in_err-replace : goal.returns-in_err-replace
 returns-in_err-replace c edit is =
     let p = err_from_is_err_and c.from_residual.result c.from_residual.ensures.1 in
-    rw (p.1, p.2) (for_memory c.args.self.now edit, c.in_err-replace.ensures.same)
+    rw (p.1, p.2) (for_memory c.args.self.now edit is.accepted, c.in_err-replace.ensures.same)
 
 pub returns : goal.returns
 returns c edit is =

@@ -1,115 +1,87 @@
-use Rattle.std.proofs.Common.{◌≡◌, ◌∙◌, ◌*◌, ℕ, ℤ, List, Option, Some, length, sym, ap, subst, arith}
-use Rattle.std.specs.Prelude.{slice_get}
-use Rattle.std.proofs.lemmas.Option.{slice_get_within}
-use Rattle.h5_model.specs.Edits.Applied.{with_dataset}
-use Rattle.h5_model.specs.Format.Superblock.{leaf_k, internal_k}
-use Rattle.h5_model.specs.Tree.Objects.{Dataset, with_object}
-use Rattle.h5_header.specs.Listed.{messages_in}
-use Rattle.h5_layout.specs.Told.{array_told}
+use Rattle.std.proofs.Common.{◌≡◌, ◌+◌, ◌-◌, ◌≤◌, ◌^◌, ℕ, ℤ, List, Option, length, take, drop, sym, ap, subst, arith}
+use Rattle.std.specs.BTreeMap.{BTreeMap}
+use Rattle.std.proofs.lemmas.List.{length-drop, take_all}
+use Rattle.h5_model.specs.Tree.Objects.{Dataset}
 use Rattle.h5_space.specs.Space.{Space}
 use Rattle.h5_open.specs.declared.opened.object.OpenedObject.{OpenedObject}
-use Rattle.h5_open.specs.Opened.Objects.{tree_of}
-use Rattle.h5_open.specs.Opened.Sound.{IsWholeFile}
+use Rattle.h5_open.specs.Opened.Kept.{IsOpened}
+use Rattle.h5_open.specs.Opened.Sound.{IsSound}
 use Rattle.h5_open.specs.Opened.State.{FileState, opened_state}
-use Rattle.h5_open.specs.Written.{with_run, IsKeptBut, IsStoredRun}
-use Rattle.h5_open.proofs.CellsOpened.{IsCellsWritten, block_there, cells_all_written, content_kept, header_within, slot_there, write_inside, write_of_type, write_room}
-use Rattle.h5_open.proofs.OpenedLaws.LentSlots.{lent_some, slot_lent, slot_read}
+use Rattle.h5_open.specs.Written.{AreCellsWritten, IsStoredRun, with_run}
+use Rattle.h5_open.proofs.ArrayOpened.{slot_there}
 use Rattle.h5_open.proofs.OpenedLaws.Sounds.{sound}
+use Rattle.h5_open.proofs.RunsWritten.{more_written, none_written, others_behind}
+use Rattle.h5_open.proofs.StandingOpened.{run_low}
 use Rattle.h5_open.proofs.opened.Opened.write_cells.Goals as goal
 
--- the cells, by what is kept of the image
-module _ (image : Space) (slots : List (Option OpenedObject)) (f : FileState) (view : opened_state image slots ≡ f) (number place : ℕ) (values : List ℤ)
-    (run : (d : Dataset) × IsStoredRun f.tree number place values d) where
-  run_in : (d : Dataset) × IsStoredRun (tree_of image.bytes slots) number place values d
-  run_in = subst (λ (g : FileState). (d : Dataset) × IsStoredRun g.tree number place values d) (sym view) run
+-- no place is above 2^40
+places_low : (image : Space) (slots : List (Option OpenedObject)) (numbers : BTreeMap ℕ ℕ) → IsOpened image slots numbers → (f : FileState) → opened_state image slots ≡ f
+    → (number place : ℕ) (values : List ℤ) → (d : Dataset) × IsStoredRun f number place values d → place + length values ≤ 2 ^ 40
+places_low image slots numbers opened f view number place values run =
+    let inside = subst (λ (g : FileState). (d : Dataset) × IsStoredRun g number place values d) (sym view) run in
+    let slot = slot_there image.bytes slots number inside.0 inside.1.array in
+    run_low image slots numbers opened number slot.0 slot.1 inside.0 place values inside.1
 
-  -- the slot of the array
-  slot : (o : OpenedObject) × (slice_get slots number ≡ Some (Some o))
-  slot = slot_there image.bytes slots number run_in.0 run_in.1.array
+pub loop-done-init : goal.loop-done-init
+loop-done-init c = record {
+  within = omega arith;
+  written = none_written c.args.self.now c.args.number c.args.place;
+  sound = subst IsSound c.self.view_is (sound c.self.inside.image c.self.inside.index.objects.items c.self.inside.index.numbers c.self.invariant);
+}
 
-pub index-requires : goal.index-requires
-index-requires c =
-    let slots = c.self.inside.index.objects.items in
-    let there = slot c.self.inside.image slots c.args.self.now c.self.view_is c.args.number c.args.place c.args.values.now c.requires in
-    omega (arith, slice_get_within slots c.args.number (Some there.0) there.1)
+pub overflow_add-place : goal.overflow_add-place
+overflow_add-place c =
+    let low = places_low c.self.inside.image c.self.inside.index.objects.items c.self.inside.index.numbers c.self.invariant c.args.self.now c.self.view_is
+    c.args.number c.args.place c.args.values.now c.requires.run in
+    omega (arith, low, c.loop-done-test.true)
 
-pub unwrap-object-requires : goal.unwrap-object-requires
-unwrap-object-requires c =
-    let slots = c.self.inside.index.objects.items in
-    let there = slot c.self.inside.image slots c.args.self.now c.self.view_is c.args.number c.args.place c.args.values.now c.requires in
-    lent_some c.as_ref.result there.0 (c.as_ref.ensures.value ∙ slot_read slots c.args.number there.0 there.1 c.index.result.now c.index.ensures)
+pub write_first-done-requires-clause-run : goal.write_first-done-requires-clause-run
+write_first-done-requires-clause-run c =
+    let vs = take c.loop-done.done c.args.values.now in
+    let i = c.loop-done.invariant in (
+      with_run c.args.place vs c.requires.run.0,
+      others_behind c.args.self.now c.loop-done.self c.args.number c.args.place c.args.values.now c.loop-done.done i.within i.written c.requires.run.0 c.requires.run.1,
+    )
 
-pub stored_cells-fixed-requires : goal.stored_cells-fixed-requires
-stored_cells-fixed-requires c =
-    let image = c.self.inside.image in
-    let index = c.self.inside.index in
-    let slots = index.objects.items in
-    let object = c.unwrap-object.result.now in
-    let there = slot image slots c.args.self.now c.self.view_is c.args.number c.args.place c.args.values.now c.requires in
-    let run = run_in image slots c.args.self.now c.self.view_is c.args.number c.args.place c.args.values.now c.requires in
-    let at = slot_lent slots c.args.number there.0 there.1 c.index.result.now c.index.ensures c.as_ref.result c.as_ref.ensures.value c.unwrap-object.result c.unwrap-object.ensures in
-    let content = content_kept image slots index.numbers c.self.invariant c.args.number object at run.0 c.args.place c.args.values.now run.1 in
+pub loop-done-preserved : goal.loop-done-preserved
+loop-done-preserved c =
+    let i = c.loop-done.invariant in
+    let values = c.args.values.now in
+    let done = c.loop-done.done in
+    let left : List ℤ = drop done values in
+    let long = length-drop done values in
+    let all : take (length values - done) left ≡ left = take_all (length values - done) left (omega (arith, long)) in
+    let counted = ap length all in
     record {
-      within = header_within image slots index.numbers c.self.invariant c.args.number object at;
-      dataset = content.0.kinds;
-      array = (array_told (messages_in image.bytes object.messages.list), content.0.array);
-      stored = block_there image slots index.numbers c.self.invariant c.args.number object at run.0 c.args.place c.args.values.now run.1;
+      within = omega (arith, c.write_first-done.ensures.few, counted, long, i.within);
+      written = more_written c.args.self.now c.loop-done.self c.args.number c.args.place values done i.within i.written c.write_first-done.result c.write_first-done.new.self c.write_first-done.ensures.written;
+      sound = c.write_first-done.ensures.sound;
     }
 
-pub write_cells-requires : goal.write_cells-requires
-write_cells-requires c =
-    let image = c.self.inside.image in
-    let index = c.self.inside.index in
-    let slots = index.objects.items in
-    let object = c.unwrap-object.result.now in
-    let there = slot image slots c.args.self.now c.self.view_is c.args.number c.args.place c.args.values.now c.requires in
-    let run = run_in image slots c.args.self.now c.self.view_is c.args.number c.args.place c.args.values.now c.requires in
-    let at = slot_lent slots c.args.number there.0 there.1 c.index.result.now c.index.ensures c.as_ref.result c.as_ref.ensures.value c.unwrap-object.result c.unwrap-object.ensures in
-    let found = c.stored_cells-fixed in
-    record {
-      inside = write_inside image slots index.numbers c.self.invariant c.args.number c.args.place c.args.values.now run object at found.result.0 found.result.1 found.ensures.fixed found.ensures.block found.ensures.room;
-      room = write_room image slots index.numbers c.self.invariant c.args.number c.args.place c.args.values.now run object at found.result.0 found.result.1 found.ensures.fixed found.ensures.block found.ensures.room;
-      of_type = write_of_type image slots index.numbers c.self.invariant c.args.number c.args.place c.args.values.now run object at found.result.0 found.result.1 found.ensures.fixed found.ensures.block found.ensures.room;
-    }
-
--- what was written
-written : (c : goal.After-write_cells) → IsCellsWritten c.self.inside.image c.write_cells.new.image c.self.inside.index.objects.items c.self.inside.index.numbers c.args.number c.args.place c.args.values.now
+-- all of them are written
+written : (c : goal.After-loop-done) → AreCellsWritten c.args.self.now c.args.number c.args.place c.args.values.now c.loop-done.self
 written c =
-    let image = c.self.inside.image in
-    let index = c.self.inside.index in
-    let slots = index.objects.items in
-    let there = slot image slots c.args.self.now c.self.view_is c.args.number c.args.place c.args.values.now c.requires in
-    let run = run_in image slots c.args.self.now c.self.view_is c.args.number c.args.place c.args.values.now c.requires in
-    let at = slot_lent slots c.args.number there.0 there.1 c.index.result.now c.index.ensures c.as_ref.result c.as_ref.ensures.value c.unwrap-object.result c.unwrap-object.ensures in
-    let found = c.stored_cells-fixed in
-    let wrote = c.write_cells.ensures in
-    cells_all_written image slots index.numbers c.self.invariant c.args.number c.args.place c.args.values.now run c.unwrap-object.result.now at
-    found.result.0 found.result.1 found.ensures.fixed found.ensures.block found.ensures.room c.write_cells.new.image wrote.written wrote.moves wrote.cells
-
-pub invariant_of-self : goal.invariant_of-self
-invariant_of-self c = (written c).opened
+    let i = c.loop-done.invariant in
+    let all : take c.loop-done.done c.args.values.now ≡ c.args.values.now = take_all c.loop-done.done c.args.values.now c.loop-done-test.false in
+    subst (λ (vs : List ℤ). AreCellsWritten c.args.self.now c.args.number c.args.place vs c.loop-done.self) all i.written
 
 pub returns-clause-changed : goal.returns-clause-changed
-returns-clause-changed c =
-    (written c).state
-    ∙ ap (λ (f : FileState). record f {
-      image = c.write_cells.new.image.bytes;
-      tree = with_object f.tree c.args.number (with_dataset (with_run c.args.place c.args.values.now));
-    }) c.self.view_is
+returns-clause-changed c = (written c).changed
 
 pub returns-clause-leaf : goal.returns-clause-leaf
-returns-clause-leaf c = (written c).leaf ∙ ap (λ (f : FileState). leaf_k f.image) c.self.view_is
+returns-clause-leaf c = (written c).leaf
 
 pub returns-clause-internal : goal.returns-clause-internal
-returns-clause-internal c = (written c).internal ∙ ap (λ (f : FileState). internal_k f.image) c.self.view_is
+returns-clause-internal c = (written c).internal
 
 pub returns-clause-sound : goal.returns-clause-sound
-returns-clause-sound c = sound c.write_cells.new.image c.self.inside.index.objects.items c.self.inside.index.numbers (written c).opened
+returns-clause-sound c = c.loop-done.invariant.sound
 
 pub returns-clause-whole : goal.returns-clause-whole
-returns-clause-whole c whole = (written c).whole (subst IsWholeFile (sym c.self.view_is) whole)
+returns-clause-whole c = (written c).whole
+
+pub returns-clause-stored : goal.returns-clause-stored
+returns-clause-stored c = (written c).stored
 
 pub returns-clause-local : goal.returns-clause-local
-returns-clause-local c d is =
-    subst (λ (f : FileState). IsKeptBut f.image c.write_cells.new.image.bytes (length c.args.values.now * d.fixed.size)) c.self.view_is
-    ((written c).local d (subst (λ (f : FileState). IsStoredRun f.tree c.args.number c.args.place c.args.values.now d) (sym c.self.view_is) is))
+returns-clause-local c = (written c).local

@@ -1,0 +1,75 @@
+//! Storage that is missing of cells that are to be written (File Format Specification 3.0, sections III.A.1 and IV.A.2.i).
+
+ghost use Rattle.std.specs.Prelude.{◌≡◌, ◌==◌, ◌||◌, if◌then◌else◌, IfOk, None, Some, is_some, length};
+ghost use Rattle.h5_header.specs.Listed.{messages_in};
+ghost use Rattle.h5_model.specs.Views.Selection.{selected_cells};
+ghost use Rattle.h5_query.specs.Kept.{IsArrayKept};
+ghost use Rattle.h5_query.specs.Selected.{IsSlabOf};
+ghost use Rattle.h5_query.specs.Told.{array_told};
+ghost use Rattle.h5_edit.specs.Changed.Missing.{IsFound};
+ghost use Rattle.h5_edit.specs.declared.change.missing.Missing.TheVariants as missing;
+
+use h5_bytes::Block;
+use h5_header::Messages;
+use h5_layout::{NewChunks, missing_chunks};
+use h5_query::{Layout, Slab, known_array};
+use h5_space::Image;
+use std::alloc::{AllocError, Global};
+
+/// Storage that is missing of an array.
+#[derive(Drop)]
+pub enum Missing {
+    /// The block of a contiguous array.
+    Block,
+    /// Chunks.
+    Chunks(NewChunks),
+}
+
+/// What is missing of the storage of the selected cells of the array that the messages of a header of the image describe, or `None` where
+/// each of them is stored.
+///
+/// Takes memory for the keys of missing chunks.
+pub(crate) fn missing_in(
+    alloc: Global,
+    image: &Image,
+    messages: &Messages,
+    slab: &Slab,
+) -> Result<Option<Missing>, AllocError>
+    requires kept { IsArrayKept image.now.bytes messages.now }
+    requires slab { let a = array_told (messages_in image.now.bytes messages.now.list) in
+        IsSlabOf a.sizes slab.now }
+    ensures { let a = array_told (messages_in image.now.bytes messages.now.list) in
+        IfOk result (IsFound image.now.bytes a slab.now) }
+{
+    let array = known_array(alloc, image, messages);
+    match array.layout() {
+        Layout::Compact(_) => Ok(None),
+        Layout::Contiguous(block) => Ok(missing_block(*block, slab)),
+        Layout::Chunked { .. } => {
+            let new = missing_chunks(alloc, image, &array, slab)?;
+            Ok(missing_part(new))
+        }
+    }
+}
+
+/// The block of an array, where it has none and a cell is selected.
+fn missing_block(block: Option<Block>, slab: &Slab) -> Option<Missing>
+    ensures { result ≡ (if is_some block || selected_cells slab.now == 0 then None else Some missing.Block) }
+{
+    if block.is_some() || slab.cells() == 0 {
+        None
+    } else {
+        Some(Missing::Block)
+    }
+}
+
+/// These chunks, where there are any.
+fn missing_part(new: NewChunks) -> Option<Missing>
+    ensures { result ≡ (if length new.offsets == 0 then None else Some (missing.Chunks new)) }
+{
+    if new.is_empty() {
+        None
+    } else {
+        Some(Missing::Chunks(new))
+    }
+}

@@ -1,0 +1,276 @@
+-- Views as they are held: by their numbers, and through edits of the file.
+use Rattle.std.proofs.Common.{◌≡◌, ℕ, zero, suc, ◌+◌, ◌*◌, ◌<◌, ◌≤◌, Bool, true, false, List, [], ◌∷◌, ◌++◌, map, length, get_or, set, refl, sym, ap, ◌∙◌, subst, inl, inr, Option, Some, None, is_some, Result, Ok, Err, arith, drop, take, append-nil, length-append, nat_le}
+use Rattle.std.proofs.lemmas.Bool.{cases_lt}
+use Rattle.std.proofs.lemmas.Bool.Decides.{nat_tests}
+use Rattle.std.proofs.lemmas.List.{length-map, drop_all, take_all}
+use Rattle.std.specs.Prelude.{MatchOption, IsSome, ◌||◌}
+use Rattle.std.specs.Option.{option_and_then, option_map_or}
+use Rattle.std.specs.FinMap.{contains_key, get, insert, remove, len}
+use Rattle.std.specs.List.{AllByRecursion}
+use Rattle.std.specs.List as list
+use Rattle.std.specs.List.Sorted.{IsSearchInRange, IsBinarySearchResult}
+use Rattle.std.specs.Ordering.{nat_cmp}
+use Rattle.std.specs.Result.{result_ok}
+use Rattle.h5_laws.specs.Rising.{RiseWithin}
+use Rattle.h5_laws.proofs.RisingMaps.{searched, rise_push, rise_remove, get_at, get_none, get_above, len_map, map_push, map_remove, found_all}
+use Rattle.h5_laws.proofs.TypesKept.{size-accepted}
+use Rattle.h5_model.specs.Edits.Applied.{State, state_after}
+use Rattle.h5_model.specs.Edits.Refusal.{refusal_of}
+use Rattle.h5_model.specs.Format.Plain.{cells_bytes}
+use Rattle.h5_model.specs.Scripts.Answers.{has_many_views}
+use Rattle.h5_model.specs.Scripts.Sessions.{IsView, IsSession}
+use Rattle.h5_model.specs.Tree.Objects.{Object, Dataset, dataset_in, dataset_of}
+use Rattle.h5_model.specs.Views.Selection.{Slab, selected_cells, selection_of}
+use Rattle.h5_model.specs.Views.Shown.{View, selected_values, shown_of, shows}
+use Rattle.h5_model.specs.declared.edits.Edit.{Edit}
+use Rattle.h5_model.specs.declared.hyperslab.Hyper.{Hyper}
+use Rattle.h5_model.specs.declared.view_fault.ViewFault.{ViewFault}
+use Rattle.h5_model.specs.declared.view_fault.ViewFault.TheVariants as fault
+use Rattle.h5_model.proofs.PlainValues.{length-cells_bytes}
+use Rattle.h5_model.proofs.SessionLaws.{IsView-accepted}
+use Rattle.h5_edit.specs.Opened.Sound.{IsSound}
+use Rattle.h5_edit.specs.Opened.State.{FileState, state_of}
+use Rattle.h5_edit.specs.Selected.{IsSelectedAt}
+use Rattle.h5_file.specs.OpenViews.{AreNumbered, AreViewsKept, IsViewAt, IsViewFit, IsViewGathered, numbered_view, session_state, view_of, views_of}
+use Rattle.h5_file.specs.Session.{IsViewClosed, IsViewOf, IsViewOpened, IsViewRefused, IsViewRefusedBy, session_of}
+use Rattle.h5_file.specs.declared.views.KeptView.{KeptView}
+
+abbrev number_of : KeptView → ℕ
+number_of v = v.number
+
+-- ---- all of a list
+
+module _ {X : Type 0} (P : X → Type 0) where
+  pub all_push : (xs : List X) (x : X) → AllByRecursion P xs → P x → AllByRecursion P (xs ++ x ∷ [])
+  all_push [] x all one = (one, tt)
+  all_push (y ∷ xs) x all one = (all.0, all_push xs x all.1 one)
+
+  pub all_remove : (xs : List X) (k : ℕ) → AllByRecursion P xs → AllByRecursion P (list.remove xs k)
+  all_remove [] zero all = tt
+  all_remove [] (suc k) all = tt
+  all_remove (x ∷ xs) zero all = all.1
+  all_remove (x ∷ xs) (suc k) all = (all.0, all_remove xs k all.1)
+
+  pub all_at : (xs : List X) (k : ℕ) (d : X) → AllByRecursion P xs → k < length xs → P (get_or xs k d)
+  all_at [] k d all there = absurd (omega arith)
+  all_at (x ∷ xs) zero d all there = all.0
+  all_at (x ∷ xs) (suc k) d all there = all_at xs k d all.1 (omega arith)
+
+pub all_weaker : {X : Type 0} (P Q : X → Type 0) → ((x : X) → P x → Q x) → (xs : List X) → AllByRecursion P xs → AllByRecursion Q xs
+all_weaker P Q step [] all = tt
+all_weaker P Q step (x ∷ xs) all = (step x all.0, all_weaker P Q step xs all.1)
+
+-- ---- by number
+
+-- what a search by halving answers
+pub place_found : (views : List KeptView) (end number : ℕ) → AreNumbered views end → (r : Result ℕ ℕ) → IsSearchInRange r (length views)
+    → IsBinarySearchResult (λ (y : KeptView). nat_cmp y.number number) views r
+    → MatchOption (result_ok r) (contains_key (views_of views) number ≡ false) (IsViewAt views number)
+place_found views end number rise (Ok at) inside found =
+    let is = searched number_of views 0 end number rise (Ok at) inside found in record { below = is.0; number_is = is.1 }
+place_found views end number rise (Err at) inside found =
+    ap is_some (get_none number_of view_of views number (searched number_of views 0 end number rise (Err at) inside found))
+
+module _ (views : List KeptView) (end number at : ℕ) (rise : AreNumbered views end) (is : IsViewAt views number at) (d : KeptView) where
+  pub view_there : get (views_of views) number ≡ Some (view_of (get_or views at d))
+  view_there = get_at number_of view_of views 0 end at d number rise is.below (is.number_is d)
+
+  pub views_left : views_of (list.remove views at) ≡ remove (views_of views) number
+  views_left = map_remove number_of view_of views 0 end at d number rise is.below (is.number_is d)
+
+-- one view more
+pub views_more : (views : List KeptView) (end : ℕ) (v : KeptView) → AreNumbered views end → end ≡ v.number → views_of (views ++ v ∷ []) ≡ insert (views_of views) v.number (view_of v)
+views_more views end v rise is = map_push number_of view_of views 0 end v rise (omega (arith, is))
+
+pub numbered_more : (views : List KeptView) (end : ℕ) (v : KeptView) → AreNumbered views end → end ≡ v.number → AreNumbered (views ++ v ∷ []) (end + 1)
+numbered_more views end v rise is = rise_push number_of views 0 end v (end + 1) rise (omega (arith, is)) (omega (arith, is))
+
+pub numbered_left : (views : List KeptView) (end at : ℕ) → AreNumbered views end → AreNumbered (list.remove views at) end
+numbered_left views end at rise = rise_remove number_of views 0 end at rise
+
+pub many_views : (views : List KeptView) (end : ℕ) → AreNumbered views end → len (views_of views) ≡ length views
+many_views views end rise = len_map number_of view_of views 0 end rise
+
+-- ---- sessions
+
+view_kept : (file : FileState) (v : KeptView) → IsViewFit file.tree file.next v → IsView (state_of file) (view_of v)
+view_kept file v fit = record { given = fit.given; ranked = fit.ranked }
+
+pub session_sound : (file : FileState) (views : List KeptView) (next : ℕ) → IsSound file → AreViewsKept file views next → IsSession (session_of (session_state file views next))
+session_sound file views next sound kept = record {
+  state = sound.numbers;
+  each = λ number view there. found_all number_of view_of (IsViewFit file.tree file.next) (IsView (state_of file)) (view_kept file) views number view kept.fit there;
+  given = λ number some. elim (cases_lt number next) [
+    | inl below ↦ below
+    | inr above ↦ absurd (let never : true ≡ false = sym some ∙ ap is_some (get_above number_of view_of views 0 next number kept.numbered above) in cc)
+  ];
+  low = kept.low;
+  few = omega (arith, kept.few, many_views views next kept.numbered);
+}
+
+-- ---- edits
+
+fit_edited : (s : State) (edit : Edit) → refusal_of s.tree s.next edit ≡ None → (v : KeptView) → IsViewFit s.tree s.next v
+    → IsViewFit (state_after s edit).tree (state_after s edit).next v
+fit_edited s edit accepted v fit =
+    let seen = IsView-accepted s edit (view_of v) accepted (record { given = fit.given; ranked = fit.ranked }) in
+    record {
+      given = seen.given;
+      ranked = seen.ranked;
+      room = λ d there.
+          let old = size-accepted s edit v.object fit.given d there in
+          fit.room old.0 old.1 ∙ ap (λ n. selected_cells v.slab * n) (sym old.2);
+    }
+
+-- an accepted edit leaves the views room for their cells
+pub all_fit_edited : (before after : FileState) (edit : Edit) → refusal_of before.tree before.next edit ≡ None → state_of after ≡ state_after (state_of before) edit
+    → (views : List KeptView) → AllByRecursion (IsViewFit before.tree before.next) views → AllByRecursion (IsViewFit after.tree after.next) views
+all_fit_edited before after edit accepted is views all =
+    subst (λ (s : State). AllByRecursion (IsViewFit s.tree s.next) views) (sym is)
+    (all_weaker (IsViewFit before.tree before.next) (IsViewFit (state_after (state_of before) edit).tree (state_after (state_of before) edit).next)
+    (fit_edited (state_of before) edit accepted) views all)
+
+-- ---- opening
+
+pub full_is : (file : FileState) (views : List KeptView) (next : ℕ) (full : Bool) → AreNumbered views next → full ≡ (nat_le 1024 (length views) || nat_le 4294967295 next)
+    → full ≡ has_many_views (session_of (session_state file views next))
+full_is file views next full rise is = is ∙ ap (λ n. nat_le 1024 n || nat_le 4294967295 next) (sym (many_views views next rise))
+
+pub refused_by : (file : FileState) (views : List KeptView) (next : ℕ) (path : List ℕ) (hyper : Hyper) (full : Bool) (e : ViewFault) → AreNumbered views next
+    → full ≡ (nat_le 1024 (length views) || nat_le 4294967295 next) → IsViewRefusedBy file.tree path hyper full e → IsViewRefused (session_state file views next) path hyper e
+refused_by file views next path hyper full e rise is refused =
+    subst (λ (b : Bool). IsViewRefusedBy file.tree path hyper b e) (full_is file views next full rise is) refused
+
+module _ (file : FileState) (views : List KeptView) (next : ℕ) (kept : AreViewsKept file views next) (v : KeptView) (full : Bool)
+    (is : full ≡ (nat_le 1024 (length views) || nat_le 4294967295 next)) (free : full ≡ false) (new : List KeptView) (more : new ≡ views ++ v ∷ []) (number : v.number ≡ next) where
+  room_left : (nat_le 1024 (length views) || nat_le 4294967295 next) ≡ false
+  room_left = sym is ∙ free
+
+  pub kept_more : IsViewFit file.tree file.next v → IsViewGathered file.tree v → AreViewsKept file new (next + 1)
+  kept_more fit gathered = subst (λ (vs : List KeptView). AreViewsKept file vs (next + 1)) (sym more) (record {
+    numbered = numbered_more views next v kept.numbered (sym number);
+    low = let left = room_left in grind (arith, nat_tests);
+    few = let left = room_left in let low : length views < 1024 = grind (arith, nat_tests) in omega (arith, low, length-append views (v ∷ []));
+    fit = all_push (IsViewFit file.tree file.next) views v kept.fit fit;
+    gathered = all_push (IsViewGathered file.tree) views v kept.gathered gathered;
+  })
+
+  pub opened_more : (path : List ℕ) (hyper : Hyper) → IsViewOf file.tree path hyper (view_of v)
+      → IsViewOpened (session_state file views next) path hyper next (session_state file new (next + 1))
+  opened_more path hyper of =
+      let all : views_of new ≡ insert (views_of views) next (view_of v)
+      = ap views_of more ∙ views_more views next v kept.numbered (sym number) ∙ ap (λ n. insert (views_of views) n (view_of v)) number in
+      record {
+        few = sym (full_is file views next full kept.numbered is) ∙ free;
+        number_is = refl;
+        view = view_of v;
+        view_is = of;
+        after_is = λ i. record { file = file; views = all i; next_view = next + 1 };
+      }
+
+-- a view of selected cells has room for just these
+pub fit_opened : (file : FileState) (path : List ℕ) (hyper : Hyper) (number : ℕ) (d : Dataset) (slab : Slab) → IsSound file → IsSelectedAt file.tree path hyper (number, d, slab)
+    → (v : KeptView) → v.object ≡ number → v.slab ≡ slab → v.kept.items ≡ cells_bytes d.fixed (selected_values d slab) → IsViewFit file.tree file.next v
+fit_opened file path hyper number d slab sound at v object axes kept =
+    let there : dataset_of file.tree number ≡ Some d = sym (ap (option_and_then (dataset_of file.tree)) at.number) ∙ at.found in
+    let same = λ (e : Dataset) (is : dataset_of file.tree v.object ≡ Some e). some_same e d (sym is ∙ ap (dataset_of file.tree) object ∙ there) in
+    let long : length v.kept.items ≡ selected_cells slab * d.fixed.size
+    = ap length kept ∙ length-cells_bytes d.fixed (selected_values d slab) ∙ ap (λ n. n * d.fixed.size) (length-map (selection_of d.sizes slab) _ ∙ at.slab.counted) in
+    record {
+      given = subst (λ n. n < file.next) (sym object) (sound.numbers.given number (stands number d there));
+      ranked = λ e is. ap length axes ∙ at.slab.rank ∙ ap (λ (x : Dataset). length x.sizes) (sym (same e is));
+      room = λ e is. long ∙ (λ i. selected_cells (sym axes i) * (sym (same e is) i).fixed.size);
+    } where
+      some_same : (e d : Dataset) → Some e ≡ Some d → e ≡ d
+      some_same e d is = cc
+
+      stands : (n : ℕ) (d : Dataset) → dataset_of file.tree n ≡ Some d → IsSome (get file.tree n)
+      stands n d is = elim (get file.tree n) as (λ o. option_and_then (λ (x : Object). dataset_in x.content) o ≡ Some d → is_some o ≡ true) [
+        | None ↦ λ no. absurd (let never : None ≡ Some d = no in cc)
+        | Some o ↦ λ _. refl
+      ] is
+
+-- ---- closing
+
+shorter : {X : Type 0} (xs : List X) (k : ℕ) → length (list.remove xs k) ≤ length xs
+shorter [] zero = omega arith
+shorter [] (suc k) = omega arith
+shorter (x ∷ xs) zero = omega arith
+shorter (x ∷ xs) (suc k) = omega (arith, shorter xs k)
+
+pub kept_left : (file : FileState) (views : List KeptView) (next at : ℕ) (new : List KeptView) → AreViewsKept file views next → new ≡ list.remove views at → AreViewsKept file new next
+kept_left file views next at new kept is = subst (λ (vs : List KeptView). AreViewsKept file vs next) (sym is) (record {
+  numbered = numbered_left views next at kept.numbered;
+  low = kept.low;
+  few = omega (arith, shorter views at, kept.few);
+  fit = all_remove (IsViewFit file.tree file.next) views at kept.fit;
+  gathered = all_remove (IsViewGathered file.tree) views at kept.gathered;
+})
+
+pub closed_left : (file : FileState) (views : List KeptView) (next number at : ℕ) (new : List KeptView) (d : KeptView) → AreViewsKept file views next → IsViewAt views number at
+    → new ≡ list.remove views at → IsViewClosed (session_state file views next) number (session_state file new next)
+closed_left file views next number at new d kept there is =
+    let all : views_of new ≡ remove (views_of views) number = ap views_of is ∙ views_left views next number at kept.numbered there d in
+    record {
+      open_before = ap is_some (view_there views next number at kept.numbered there d);
+      after_is = λ i. record { file = file; views = all i; next_view = next };
+    }
+
+-- ---- showing
+
+pub shown_as : (file : FileState) (views : List KeptView) (next number at : ℕ) (v : KeptView) → AreViewsKept file views next → IsViewAt views number at → v ≡ get_or views at v
+    → shown_of file.tree (view_of v) ≡ shows file.tree (views_of views) number
+shown_as file views next number at v kept there is =
+    sym (ap (λ (o : Option View). option_map_or (shown_of file.tree) o (Err fault.NoSuchView)) (view_there views next number at kept.numbered there v ∙ ap (λ (x : KeptView). Some (view_of x)) (sym is)))
+
+-- ---- gathered again
+
+rise_same : (xs ys : List KeptView) (low end : ℕ) → map numbered_view ys ≡ map numbered_view xs → RiseWithin number_of low xs end → RiseWithin number_of low ys end
+rise_same [] [] low end is rise = rise
+rise_same [] (y ∷ ys) low end is rise = absurd (cc)
+rise_same (x ∷ xs) [] low end is rise = absurd (cc)
+rise_same (x ∷ xs) (y ∷ ys) low end is rise =
+    let first : numbered_view y ≡ numbered_view x = cc in
+    let head : y.number ≡ x.number = ap (λ (e : ℕ × View). e.0) first in
+    let rest : map numbered_view ys ≡ map numbered_view xs = cc in
+    (subst (λ n. low ≤ n) (sym head) rise.0, rise_same xs ys (y.number + 1) end rest (subst (λ n. RiseWithin number_of (n + 1) xs end) (sym head) rise.1))
+
+pub same_long : (xs ys : List KeptView) → map numbered_view ys ≡ map numbered_view xs → length ys ≡ length xs
+same_long xs ys is = sym (length-map ys numbered_view) ∙ ap length is ∙ length-map xs numbered_view
+
+-- what is written back into a vector is all that it has
+pub all_back : {X : Type 0} (n : ℕ) (new old : List X) → length new ≡ length old → n ≡ length old → take n (new ++ drop (length new) old) ≡ new
+all_back n new old long count =
+    ap (take n) (ap (λ xs. new ++ xs) (drop_all (length new) old (omega (arith, long))) ∙ append-nil new) ∙ take_all n new (omega (arith, long, count))
+
+pub kept_again : (before after : FileState) (views new : List KeptView) (next : ℕ) → AreViewsKept before views next → map numbered_view new ≡ map numbered_view views
+    → AllByRecursion (IsViewFit after.tree after.next) new → AllByRecursion (IsViewGathered after.tree) new → AreViewsKept after new next
+kept_again before after views new next kept same fit gathered = record {
+  numbered = rise_same views new 0 next same kept.numbered;
+  low = kept.low;
+  few = omega (arith, kept.few, same_long views new same);
+  fit = fit;
+  gathered = gathered;
+}
+
+-- ---- one view after the other
+
+module _ (P : KeptView → Type 0) where
+  first_more : (xs : List KeptView) (k : ℕ) (x : KeptView) → k < length xs → AllByRecursion P (take k xs) → P x → AllByRecursion P (take (suc k) (set xs k x))
+  first_more [] k x there all one = absurd (omega arith)
+  first_more (y ∷ xs) zero x there all one = (one, tt)
+  first_more (y ∷ xs) (suc k) x there all one = (all.0, first_more xs k x (omega arith) all.1 one)
+
+  pub all_first : (xs : List KeptView) (k : ℕ) (x : KeptView) → k < length xs → AllByRecursion P (take k xs) → P x → AllByRecursion P (take (k + 1) (set xs k x))
+  all_first xs k x there all one =
+      let next : suc k ≡ k + 1 = omega arith in subst (λ (n : ℕ). AllByRecursion P (take n (set xs k x))) next (first_more xs k x there all one)
+
+  pub all_set : (xs : List KeptView) (k : ℕ) (x : KeptView) → AllByRecursion P xs → P x → AllByRecursion P (set xs k x)
+  all_set [] k x all one = tt
+  all_set (y ∷ xs) zero x all one = (one, all.1)
+  all_set (y ∷ xs) (suc k) x all one = (all.0, all_set xs k x all.1 one)
+
+pub map_set : (xs : List KeptView) (k : ℕ) (x d : KeptView) → k < length xs → numbered_view x ≡ numbered_view (get_or xs k d) → map numbered_view (set xs k x) ≡ map numbered_view xs
+map_set [] k x d there is = refl
+map_set (y ∷ xs) zero x d there is = ap (λ n. n ∷ map numbered_view xs) is
+map_set (y ∷ xs) (suc k) x d there is = ap (λ ns. numbered_view y ∷ ns) (map_set xs k x d (omega arith) is)

@@ -1,0 +1,50 @@
+use Rattle.std.proofs.Common.{◌+◌, refl, subst, ap, ◌∙◌, List, length, nat_le}
+use Rattle.std.specs.Prelude.{◌||◌}
+use Rattle.std.proofs.lemmas.Result.{err_from_is_err_and}
+use Rattle.h5_model.specs.declared.view_fault.ViewFault.TheVariants as fault
+use Rattle.h5_file.specs.OpenViews.{session_state}
+use Rattle.h5_file.specs.Session.{IsViewOpened, IsViewRefused, SessionState}
+use Rattle.h5_file.specs.declared.views.KeptView.{KeptView}
+use Rattle.h5_file.proofs.ViewLaws.{kept_more, opened_more, refused_by}
+use Rattle.h5_file.proofs.session.Session.open_view.Goals as goal
+
+pub returns-in_err-view : goal.returns-in_err-view
+returns-in_err-view c =
+    let s = c.self.inside in
+    let many = c.has_many-is_full.ensures ∙ ap (λ (vs : List KeptView). nat_le 1024 (length vs) || nat_le 4294967295 s.next) c.deref.ensures.value in
+    let e = c.in_err-view.field-0.0 in
+    let refused = refused_by s.file s.views.items s.next c.args.path.now c.args.hyper.now c.has_many-is_full.result e c.self.invariant.numbered many
+    c.in_err-view.ensures.refused in
+    let p = err_from_is_err_and c.from_residual.result c.from_residual.ensures.1 in
+    rw (p.1, p.2) (subst (λ (v : SessionState). IsViewRefused v c.args.path.now c.args.hyper.now e) c.self.view_is refused, refl)
+
+pub returns-in_err-push_view : goal.returns-in_err-push_view
+returns-in_err-push_view c =
+    let s = c.self.inside in
+    let many = c.has_many-is_full.ensures ∙ ap (λ (vs : List KeptView). nat_le 1024 (length vs) || nat_le 4294967295 s.next) c.deref.ensures.value in
+    let opened = c.in_ok-view.ensures.opened in
+    let refused = refused_by s.file s.views.items s.next c.args.path.now c.args.hyper.now c.has_many-is_full.result fault.NoMemory c.self.invariant.numbered many
+    (opened.2.allowed, opened.0) in
+    let exit = c.from_residual-in_err-push_view.ensures in
+    let p = err_from_is_err_and c.from_residual-in_err-push_view.result exit.1 in
+    rw (p.1, p.2) (
+      subst (λ (v : SessionState). IsViewRefused v c.args.path.now c.args.hyper.now fault.NoMemory) c.self.view_is refused,
+      ap (λ (vs : List KeptView). session_state s.file vs s.next) c.in_err-push_view.ensures.err ∙ c.self.view_is,
+    )
+
+pub invariant_of-self-2 : goal.invariant_of-self-2
+invariant_of-self-2 c =
+    let s = c.self.inside in
+    let many = c.has_many-is_full.ensures ∙ ap (λ (vs : List KeptView). nat_le 1024 (length vs) || nat_le 4294967295 s.next) c.deref.ensures.value in
+    let of = c.in_ok-view.ensures in
+    kept_more s.file s.views.items s.next c.self.invariant c.in_ok-view.view c.has_many-is_full.result many of.opened.0 c.push_view.new.views.items
+    c.in_ok-push_view.ensures.ok of.opened.1 of.fit of.gathered
+
+pub returns : goal.returns
+returns c =
+    let s = c.self.inside in
+    let many = c.has_many-is_full.ensures ∙ ap (λ (vs : List KeptView). nat_le 1024 (length vs) || nat_le 4294967295 s.next) c.deref.ensures.value in
+    let opened = c.in_ok-view.ensures.opened in
+    subst (λ (v : SessionState). IsViewOpened v c.args.path.now c.args.hyper.now s.next (session_state s.file c.push_view.new.views.items (s.next + 1))) c.self.view_is
+    (opened_more s.file s.views.items s.next c.self.invariant c.in_ok-view.view c.has_many-is_full.result many opened.0 c.push_view.new.views.items
+    c.in_ok-push_view.ensures.ok opened.1 c.args.path.now c.args.hyper.now opened.2)

@@ -1,0 +1,114 @@
+use Rattle.std.proofs.Common.{rules, ◌≡◌, ◌*◌, ◌^◌, ◌<◌, ℕ, List, length, map, drop, replicate, to_z, of_z, sym, ap, ◌∙◌, subst}
+use mir.Syntax.{w128}
+use Rattle.std.proofs.lemmas.List.{take_at}
+use Rattle.std.specs.FinMap.{entries, retain_keys}
+use Rattle.std.specs.List.{AllByRecursion}
+use Rattle.h5_model.specs.Format.Fixed.{Fixed}
+use Rattle.h5_model.specs.Format.Layout.{InChunks}
+use Rattle.h5_model.specs.Format.Reached.{Shape}
+use Rattle.h5_model.specs.Tree.Places.{cells, is_inside}
+use Rattle.h5_msg.specs.Layouts.{layout_in}
+use Rattle.h5_chunks.specs.Held.{IsChunkPlace, place_entry}
+use Rattle.h5_chunks.specs.Shapes.{AreChunkSizes}
+use Rattle.h5_chunks.specs.declared.held.ChunkPlace.{ChunkPlace}
+use Rattle.h5_layout.specs.Data.{chunk_shape, stored_chunks}
+use Rattle.h5_layout.specs.Described.{Described}
+use Rattle.h5_layout.specs.Kept.{IsKeptPlace, chunks_below_root, kept_cells, smaller_sizes}
+use Rattle.h5_layout.specs.Merged.{IsNewKey, keys_in, places_merged, place_kept, place_stored, places_new}
+use Rattle.h5_layout.proofs.GridLaws.{same_shape}
+use Rattle.h5_layout.proofs.HeldWith.{merged_places, new_places, stored_places}
+use Rattle.h5_layout.proofs.KeptLaws.{length-smaller}
+use Rattle.h5_layout.proofs.KeptValues.{chunk_rank, layout_parts, stored_below}
+use Rattle.h5_layout.proofs.held.keep_chunks.Goals as goal
+
+pub returns : goal.returns
+returns c chunk root laid =
+    let image : List ℕ = c.args.image.now.bytes in
+    let a : Described = c.args.array.now in
+    let sizes : List ℕ = c.args.sizes.now in
+    let places : List ChunkPlace = c.in_ok-stored.stored.items in
+    let known : InChunks c.in-Chunked.chunk_sizes c.in-Chunked.tree ≡ a.layout = ap layout_in (sym c.in-Chunked.is) ∙ c.layout.ensures.layout in
+    let parts = layout_parts c.in-Chunked.chunk_sizes chunk c.in-Chunked.tree root (known ∙ laid) in
+    let chunk_is : c.copy_sizes.new.to ≡ chunk = c.copy_sizes.ensures.same ∙ parts.0 in
+    let rank : length c.copy_sizes.new.to ≡ c.rank-rank.result = ap length c.copy_sizes.ensures.same ∙ sym c.rank-rank.ensures.rank in
+    let kept_is : c.copy_smaller.new.to ≡ smaller_sizes a.sizes sizes
+    = c.copy_smaller.ensures ∙ (λ i. smaller_sizes ((c.sizes.ensures.numbers ∙ c.dims.ensures.sizes) i) (c.sizes-2.ensures.numbers i)) in
+    let long : length chunk ≡ length a.sizes = chunk_rank a chunk root laid c.layout.ensures.sound in
+    let ranks : length (smaller_sizes a.sizes sizes) ≡ length chunk = length-smaller a.sizes sizes c.requires.rank ∙ sym long in
+    let kept_rank : length c.copy_smaller.new.to ≡ c.rank-rank.result = ap length kept_is ∙ ranks ∙ sym (ap length chunk_is) ∙ rank in
+    let chunk_lent = take_at c.copy_sizes.new.to (drop c.rank-rank.result (replicate 32 0)) c.rank-rank.result rank ∙ chunk_is in
+    let kept_lent = take_at c.copy_smaller.new.to (drop c.rank-rank.result (replicate 32 0)) c.rank-rank.result kept_rank ∙ kept_is in
+    let size : c.size.result ≡ (a.fixed).size = c.size.ensures.size ∙ ap (λ (t : Fixed). t.size) c.fixed-fixed.ensures in
+    let bytes : c.new-shape.result.bytes ≡ cells chunk * (a.fixed).size
+    = c.new-shape.ensures.bytes ∙ c.bytes_of-chunk_length.ensures ∙ (λ i. cells (chunk_lent i) * size i) in
+    let shape : c.new-shape.result ≡ chunk_shape a.fixed chunk
+    = same_shape c.new-shape.result chunk (cells chunk * (a.fixed).size) (c.new-shape.ensures.sizes ∙ chunk_lent) bytes in
+    let passed : to_z w128 (of_z w128 c.fill.result) ≡ c.fill.result = search rules in
+    let fill : to_z w128 (of_z w128 c.fill.result) ≡ a.fill = passed ∙ c.fill.ensures.value in
+    let stored : chunks_below_root image c.new-shape.result c.in-Chunked.tree ≡ stored_chunks image a.fixed a.layout
+    = ap (λ (s : Shape). chunks_below_root image s c.in-Chunked.tree) shape
+    ∙ stored_below image a chunk c.in-Chunked.tree (ap (InChunks chunk) parts.1 ∙ sym laid) in
+    let held : map (place_entry (length chunk)) places ≡ entries (retain_keys (stored_chunks image a.fixed a.layout) (is_inside sizes))
+    = ap (λ (s : Shape). map (place_entry (length s.sizes)) places) (sym shape) ∙ c.in_ok-stored.ensures.held
+    ∙ (λ i. entries (retain_keys (stored i) (is_inside (c.sizes-3.ensures.numbers i)))) in
+    let each : AllByRecursion (IsChunkPlace image (chunk_shape a.fixed chunk)) places
+    = subst (λ (s : Shape). AllByRecursion (IsChunkPlace image s) places) shape c.in_ok-stored.ensures.each in
+    let merged_are : map place_kept c.in_ok-places.places.items ≡ places_merged (length chunk) (map place_stored places) (places_new (keys_in (length chunk) c.args.keys.now))
+    = c.in_ok-places.ensures ∙ ap (λ (ps : List ChunkPlace). places_merged c.rank-rank.result (map place_stored ps) (places_new (keys_in c.rank-rank.result c.args.keys.now))) c.deref.ensures.value ∙ ap (λ n. places_merged n (map place_stored places) (places_new (keys_in n c.args.keys.now))) (sym rank ∙ ap length chunk_is) in
+    record {
+      sizes_are = subst AreChunkSizes parts.0 c.copy_sizes.ensures.sound;
+      long = long;
+      places = places;
+      held = held;
+      each = each;
+      are = λ i. kept_cells (record { image = image; fixed = c.fixed-fixed.ensures i; fill = fill i; chunk = chunk_lent i; kept = kept_lent i }) (merged_are i);
+    }
+
+pub invariant_of-result : goal.invariant_of-result
+invariant_of-result c =
+    let image : List ℕ = c.args.image.now.bytes in
+    let a : Described = c.args.array.now in
+    let sizes : List ℕ = c.in-Chunked.chunk_sizes in
+    let fixed : Fixed = c.fixed-fixed.result in
+    let stored : List ChunkPlace = c.in_ok-stored.stored.items in
+    let rank : length c.copy_sizes.new.to ≡ c.rank-rank.result = ap length c.copy_sizes.ensures.same ∙ sym c.rank-rank.ensures.rank in
+    let ranked : c.rank-rank.result ≡ length sizes = c.rank-rank.ensures.rank in
+    let chunk_lent = take_at c.copy_sizes.new.to (drop c.rank-rank.result (replicate 32 0)) c.rank-rank.result rank ∙ c.copy_sizes.ensures.same in
+    let size : c.size.result ≡ fixed.size = c.size.ensures.size in
+    let bytes : c.new-shape.result.bytes ≡ cells sizes * fixed.size
+    = c.new-shape.ensures.bytes ∙ c.bytes_of-chunk_length.ensures ∙ (λ i. cells (chunk_lent i) * size i) in
+    let shape : c.new-shape.result ≡ chunk_shape fixed sizes
+    = same_shape c.new-shape.result sizes (cells sizes * fixed.size) (c.new-shape.ensures.sizes ∙ chunk_lent) bytes in
+    let known : a.layout ≡ InChunks sizes c.in-Chunked.tree = sym (ap layout_in (sym c.in-Chunked.is) ∙ c.layout.ensures.layout) in
+    let each : AllByRecursion (IsChunkPlace image (chunk_shape fixed sizes)) stored
+    = subst (λ (s : Shape). AllByRecursion (IsChunkPlace image s) stored) shape c.in_ok-stored.ensures.each in
+    let keys : AllByRecursion (IsNewKey (chunk_shape fixed sizes)) (keys_in (length sizes) c.args.keys.now)
+    = subst (λ (t : Fixed). AllByRecursion (IsNewKey (chunk_shape t sizes)) (keys_in (length sizes) c.args.keys.now)) (sym c.fixed-fixed.ensures)
+    (c.requires.keys sizes c.in-Chunked.tree known c.copy_sizes.ensures.sound) in
+    let merged_are : map place_kept c.in_ok-places.places.items ≡ places_merged (length sizes) (map place_stored stored) (places_new (keys_in (length sizes) c.args.keys.now))
+    = c.in_ok-places.ensures
+    ∙ ap (λ (ps : List ChunkPlace). places_merged c.rank-rank.result (map place_stored ps) (places_new (keys_in c.rank-rank.result c.args.keys.now))) c.deref.ensures.value
+    ∙ ap (λ n. places_merged n (map place_stored stored) (places_new (keys_in n c.args.keys.now))) ranked in
+    let there : AllByRecursion (IsKeptPlace image (chunk_shape fixed sizes)) (map place_kept c.in_ok-places.places.items)
+    = subst (AllByRecursion (IsKeptPlace image (chunk_shape fixed sizes))) (sym merged_are)
+    (merged_places (IsKeptPlace image (chunk_shape fixed sizes)) (length sizes) (map place_stored stored) (places_new (keys_in (length sizes) c.args.keys.now))
+    (stored_places image (chunk_shape fixed sizes) stored each) (new_places image (chunk_shape fixed sizes) (keys_in (length sizes) c.args.keys.now) keys)) in
+    let placed = subst (λ (xs : List ℕ). AllByRecursion (IsKeptPlace image (chunk_shape fixed xs)) (map place_kept c.in_ok-places.places.items)) (sym chunk_lent) there in
+    let ns : List ℕ = c.args.sizes.now in
+    let kept_is : c.copy_smaller.new.to ≡ smaller_sizes a.sizes ns
+    = c.copy_smaller.ensures ∙ (λ i. smaller_sizes ((c.sizes.ensures.numbers ∙ c.dims.ensures.sizes) i) (c.sizes-2.ensures.numbers i)) in
+    let long : length sizes ≡ length a.sizes = chunk_rank a sizes c.in-Chunked.tree known c.layout.ensures.sound in
+    let ranks : length c.copy_smaller.new.to ≡ length sizes = ap length kept_is ∙ length-smaller a.sizes ns c.requires.rank ∙ sym long in
+    let kept_lent = take_at c.copy_smaller.new.to (drop c.rank-rank.result (replicate 32 0)) c.rank-rank.result (ranks ∙ sym ranked) in (
+      search rules,
+      search rules,
+      record {
+        sizes = subst AreChunkSizes (sym chunk_lent) c.copy_sizes.ensures.sound;
+        rank = ap length kept_lent ∙ ranks ∙ sym (ap length chunk_lent);
+        short = subst (AllByRecursion (λ size. size < 2 ^ 32)) (sym chunk_lent) c.copy_sizes.ensures.short;
+        small = search rules;
+        sound = search rules;
+        of_type = search rules;
+        there = placed;
+      },
+    )

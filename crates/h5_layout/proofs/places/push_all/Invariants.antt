@@ -1,0 +1,10 @@
+use Rattle.std.proofs.Common.{◌≡◌, ◌++◌, length, map}
+use Rattle.h5_layout.specs.Merged.{keys_in, place_kept, places_new}
+use Rattle.h5_layout.proofs.places.push_all.Given as goal
+
+abbrev pub invariant-loop-left : goal.invariant-loop-left
+invariant-loop-left l = map place_kept l.places.items ++ places_new (keys_in l.rank l.left)
+    ≡ map place_kept l.initial.places.items ++ places_new (keys_in l.rank l.initial.left)
+
+abbrev pub decreases-loop-left : goal.decreases-loop-left
+decreases-loop-left l = length l.left

@@ -1,0 +1,179 @@
+//! The chunks of an array that a selection meets and that are not stored (File Format Specification 3.0, sections III.A.1
+//! and IV.A.2.i).
+
+ghost use Rattle.std.specs.Prelude.{◌≡◌, ◌==◌, ◌<◌, ◌≤◌, ◌^◌, ℕ, List, Option, IfOk, is_some, length, map};
+ghost use Rattle.std.specs.List.{AllByRecursion};
+ghost use Rattle.std.specs.FinMap.{get};
+ghost use Rattle.std.specs.Option.{ForSome};
+ghost use Rattle.h5_model.specs.Format.Chunks.{offsets_in};
+ghost use Rattle.h5_model.specs.Format.Layout.{InChunks};
+ghost use Rattle.h5_model.specs.Views.Selection.{Within};
+ghost use Rattle.h5_shape.specs.PartCells.{part_corner};
+ghost use Rattle.h5_shape.specs.declared.parts.Span.{Span as SpanOfPart};
+ghost use Rattle.h5_chunks.specs.Read.{AreChunksRead};
+ghost use Rattle.h5_layout.specs.Data.{AreDataRead};
+ghost use Rattle.h5_layout.specs.Kept.{chunks_below_root};
+ghost use Rattle.h5_layout.specs.Merged.{keys_in};
+ghost use Rattle.h5_layout.specs.Missing.{HasNextCorner, keys_missing};
+ghost use Rattle.h5_layout.specs.NewChunks.{AreMissing};
+
+use crate::array::ArrayRef;
+use crate::grid::{bytes_of, copy_sizes};
+use crate::places::key_length;
+use h5_chunks::{ChunkShape, chunk_at, push_chunk_key};
+use h5_msg::Layout;
+use h5_shape::{ChunkParts, MAX_RANK, Slab, Span};
+use h5_space::Image;
+use std::alloc::{AllocError, Global};
+use std::marker::Model;
+
+/// The chunks of an array that a selection meets and that are not stored, as keys of a tree of chunks, one behind another, in
+/// the order of their offsets.
+#[derive(Drop)]
+pub struct NewChunks {
+    rank: usize,
+    chunk_length: u64,
+    keys: Vec<u8>,
+}
+
+impl Model for NewChunks {
+    ghost use Rattle.std.specs.Prelude.{◌≤◌, map};
+    ghost use Rattle.std.specs.List.{AllByRecursion};
+    ghost use Rattle.h5_model.specs.Format.Chunks.{offsets_in};
+    ghost use Rattle.h5_layout.specs.Merged.{IsKeyOf, keys_in};
+    ghost use Rattle.h5_layout.specs.NewChunks.{NewOffsets};
+
+    ghost Value = { NewOffsets };
+
+    ghost view = { λ n. record {
+      rank = n.rank;
+      bytes = n.chunk_length;
+      offsets = map (offsets_in n.rank) (keys_in n.rank n.keys.items);
+    } };
+
+    ghost invariant = { λ n. (n.rank ≤ 32) × AllByRecursion (IsKeyOf n.rank n.chunk_length) (keys_in n.rank n.keys.items) };
+}
+
+impl NewChunks {
+    ghost use Rattle.std.specs.Prelude.{◌==◌, length};
+    ghost use Rattle.h5_layout.specs.Merged.{IsKeyOf};
+
+    /// Whether there are none.
+    pub fn is_empty(&self) -> bool
+        ensures { result ≡ (length self.now.offsets == 0) }
+    {
+        self.keys.len() < key_length(self.rank)
+    }
+
+    /// Their keys, one behind another.
+    pub(crate) fn keys(&self) -> &[u8]
+        ensures offsets { map (offsets_in self.now.rank) (keys_in self.now.rank result.now)
+            ≡ self.now.offsets }
+        ensures each { AllByRecursion (IsKeyOf self.now.rank self.now.bytes)
+            (keys_in self.now.rank result.now) }
+    {
+        &self.keys
+    }
+}
+
+/// The chunks of an array in chunks that hold a selected cell and are not stored.
+///
+/// Takes memory for their keys. Each is looked for by one way down the tree. That the data were read, that the array is in
+/// chunks, and that the selection is within its sizes, are the caller's conditions.
+pub fn missing_chunks(
+    alloc: Global,
+    image: &Image,
+    array: &ArrayRef<'_>,
+    slab: &Slab,
+) -> Result<NewChunks, AllocError>
+    requires data { AreDataRead image.now.bytes array.now.fixed array.now.layout }
+    requires rank { length slab.now ≡ length array.now.sizes }
+    requires within { Within array.now.sizes slab.now }
+    requires chunked { (chunk : List ℕ) × (root : Option ℕ) × (array.now.layout ≡ InChunks chunk root) }
+    ensures { IfOk result (λ new. (chunk : List ℕ) (root : Option ℕ)
+        → array.now.layout ≡ InChunks chunk root
+        → AreMissing image.now.bytes array.now chunk slab.now new) }
+{
+    let Layout::Chunked {
+        sizes: chunk_sizes,
+        tree,
+    } = array.layout()
+    else {
+        unreachable!()
+    };
+    let rank = chunk_sizes.rank();
+    let mut chunk = [0; MAX_RANK];
+    copy_sizes(chunk_sizes, &mut chunk[..rank]);
+    let chunk_length = bytes_of(&chunk[..rank], array.fixed().size() as u64);
+    let shape = ChunkShape::new(&chunk[..rank], chunk_length);
+    let parts = slab.chunk_parts(&chunk[..rank]);
+    let keys = missing_keys(alloc, image, &shape, *tree, parts, rank, chunk_length)?;
+    Ok(NewChunks {
+        rank,
+        chunk_length,
+        keys,
+    })
+}
+
+/// The keys of those chunks at the corners of these parts, of so many dimensions and bytes, that are not stored below this root.
+fn missing_keys(
+    alloc: Global,
+    image: &Image,
+    shape: &ChunkShape<'_>,
+    root: Option<u64>,
+    parts: ChunkParts<'_>,
+    rank: usize,
+    chunk_length: u64,
+) -> Result<Vec<u8>, AllocError>
+    requires chunks { ForSome root (λ root. AreChunksRead image.now.bytes shape.now root) }
+    requires rank { rank ≡ length shape.now.sizes }
+    requires few { rank ≤ 32 }
+    requires ranks { AllByRecursion (λ (part : List SpanOfPart). length part ≡ rank) parts }
+    requires small { chunk_length < 2 ^ 32 }
+    ensures { IfOk result (λ keys. keys.items
+        ≡ keys_missing (chunks_below_root image.now.bytes shape.now root) chunk_length parts.entry) }
+{
+    let mut parts = parts;
+    let mut corner = [0; MAX_RANK];
+    let mut keys = Vec::new(alloc);
+    while next_corner(&mut parts, &mut corner[..rank]) {
+        if !is_stored(image, shape, root, &corner[..rank]) {
+            push_chunk_key(&mut keys, chunk_length, &corner[..rank])?;
+        }
+    }
+    Ok(keys)
+}
+
+/// Whether a chunk is stored at these offsets below this root.
+fn is_stored(image: &Image, shape: &ChunkShape<'_>, root: Option<u64>, offsets: &[u64]) -> bool
+    requires chunks { ForSome root (λ root. AreChunksRead image.now.bytes shape.now root) }
+    requires rank { length offsets.now ≡ length shape.now.sizes }
+    ensures { result ≡ is_some (get (chunks_below_root image.now.bytes shape.now root) offsets.now) }
+{
+    match root {
+        Some(root) => chunk_at(image, shape, root, offsets).is_some(),
+        None => false,
+    }
+}
+
+/// Writes the first index of the box of the next part. Where no part is left, says so.
+fn next_corner(parts: &mut ChunkParts<'_>, corner: &mut [u64]) -> bool
+    requires { AllByRecursion (λ (part : List SpanOfPart). length part ≡ length corner.old) parts.old }
+    ensures { HasNextCorner parts.old result parts.new corner.new }
+{
+    let Some(part) = parts.next_part() else {
+        return false;
+    };
+    write_corner(part, corner);
+    true
+}
+
+/// Writes the first index of a part's box.
+fn write_corner(part: &[Span], corner: &mut [u64])
+    requires { length part.now ≡ length corner.old }
+    ensures { corner.new ≡ part_corner part.now }
+{
+    for k in 0..corner.len() {
+        corner[k] = part[k].corner;
+    }
+}
