@@ -16,21 +16,27 @@ ghost use Rattle.h5_laws.specs.Trees.Laws.{ReadsSound, SoundApplied};
 /// So bytes that are refused with a cause that holds could not have been opened. It does nothing.
 pub fn breach_excludes_reads()
     ensures { BreachExcludesReads }
-{}
+{
+    // `Excluded.breach_excludes_reads` proves it.
+}
 
 /// An image reads as one tree at most, where the header of each object is given by its number.
 ///
 /// So what a file says of its tree leaves no choice: the bytes and the headers tell it. It does nothing.
 pub fn table_reads_once()
     ensures { ReadsOnce }
-{}
+{
+    // `OneReading.one_reading` of `h5_model` proves it.
+}
 
 /// With two tables of headers, an image reads as trees that differ in the numbers of their objects alone.
 ///
 /// So the numbers are the only choice that the bytes leave. It does nothing.
 pub fn tables_read_alike()
     ensures { ReadsAlike }
-{}
+{
+    // `TwoTables.reads_alike` proves it.
+}
 
 /// A tree that an image reads as is sound, and so is what an accepted edit gives of a sound tree.
 ///
@@ -39,4 +45,6 @@ pub fn tables_read_alike()
 pub fn trees_are_sound()
     ensures read { ReadsSound }
     ensures edited { SoundApplied }
-{}
+{
+    // `Read.reads_sound` and `Applied.sound_applied` of `SoundLaws` prove it.
+}
