@@ -14,7 +14,7 @@ use Rattle.h5_layout.specs.Described.{Described}
 use Rattle.h5_layout.specs.Standing.{is_stored_cell}
 use Rattle.h5_layout.specs.StoredAt.{HasStored}
 use Rattle.h5_model.specs.Tree.Grid.{corner_of}
-use Rattle.h5_model.specs.Tree.Objects.{Tree, Dataset, Storage, Compact, Contiguous, Chunked, dataset_of, with_object}
+use Rattle.h5_model.specs.Tree.Objects.{Tree, Dataset, Storage, Compact, Contiguous, Chunked, dataset_of}
 use Rattle.h5_model.specs.Tree.Places.{cells, index_of}
 use Rattle.h5_model.specs.Edits.Applied.{State}
 use Rattle.h5_model.specs.Views.Selection.{Slab, Selected, axes_of, is_selected, selection_of}
@@ -35,7 +35,7 @@ use Rattle.h5_edit.specs.Stored.{AreMetStored, AreSelectedStored, IsStorageMade,
 use Rattle.h5_edit.specs.StoredChunks.{AreStoredAfter, AreStoredAt, AreStoredOf}
 use Rattle.h5_edit.specs.declared.change.missing.Missing.{Missing}
 use Rattle.h5_edit.specs.declared.made.Made.{Made}
-use Rattle.h5_edit.proofs.ArraysThere.{object_there}
+use Rattle.h5_edit.proofs.ArraysThere.{object_there, one_there}
 use Rattle.h5_edit.proofs.ChangedTwice.{dataset_changed}
 use Rattle.h5_edit.proofs.WrittenTrees.{sizes_are}
 
@@ -143,8 +143,9 @@ is_true : (b : Bool) → not b ≡ false → b ≡ true
 is_true true is = refl
 is_true false is = absurd (let never : true ≡ false = is in cc)
 
-pub none_lacking : (f : FileState) (number : ℕ) (slab : Slab) → ((a : Described) → IsArrayThere f number a → lacks_cells f.image a slab ≡ false) → AreSelectedStored f number slab
-none_lacking f number slab none d array place at a there =
-    is_true (is_stored_cell f.image a place)
-    (none_passes (λ p. not (is_stored_cell f.image a p)) place (selection_of a.sizes slab) (none a there)
-    (subst (λ (sizes : List ℕ). In place (selection_of sizes slab)) (sym (sizes_are f number a there d array)) (in_contains place (selection_of d.sizes slab) at)))
+pub none_lacking : (f : FileState) (number : ℕ) (a : Described) → IsArrayThere f number a → (slab : Slab) → lacks_cells f.image a slab ≡ false → AreSelectedStored f number slab
+none_lacking f number a there slab none d array place at b other =
+    subst (λ (x : Described). is_stored_cell f.image x place ≡ true) (one_there f number a b there other)
+    (is_true (is_stored_cell f.image a place)
+    (none_passes (λ p. not (is_stored_cell f.image a p)) place (selection_of a.sizes slab) none
+    (subst (λ (sizes : List ℕ). In place (selection_of sizes slab)) (sym (sizes_are f number a there d array)) (in_contains place (selection_of d.sizes slab) at))))

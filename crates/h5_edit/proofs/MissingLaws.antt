@@ -1,13 +1,9 @@
 -- What is missing of the storage of selected cells, by the layout of their array.
 use Rattle.std.proofs.Common.{◌≡◌, inl, inr, ℕ, zero, suc, ◌+◌, ◌<◌, ◌||◌, List, [], ◌∷◌, Bool, true, false, cond, not, Option, Some, None, length, refl, sym, ap, ◌∙◌, subst, arith}
 use Rattle.std.proofs.lemmas.Bool.Decides.{nat_tests}
-use Rattle.std.specs.Prelude.{◌==◌, IfOk, Result, Ok, Err, filter, if◌then◌else◌, is_some}
-use Rattle.std.specs.declared.alloc.AllocError.{AllocError}
-use Rattle.h5_query.specs.Opened.State.{FileState}
-use Rattle.h5_query.specs.Written.{IsArrayThere}
-use Rattle.h5_edit.proofs.ArraysThere.{one_there}
+use Rattle.std.specs.Prelude.{◌==◌, filter, if◌then◌else◌, is_some}
 use Rattle.std.specs.FinMap.{get}
-use Rattle.std.specs.List.{Contains, list_any, range_with_len}
+use Rattle.std.specs.List.{list_any, range_with_len}
 use Rattle.h5_bytes.specs.declared.Block.{Block}
 use Rattle.h5_laws.proofs.Lists.{In, contains_in, in_contains}
 use Rattle.h5_layout.specs.Described.{Described}
@@ -22,9 +18,8 @@ use Rattle.h5_model.specs.Views.Selection.{Slab, Selected, is_selected, selected
 use Rattle.h5_model.proofs.PlaceLaws.{index-place, place_below}
 use Rattle.h5_model.proofs.SelectionLaws.{to_is_selected}
 use Rattle.h5_query.specs.Data.{stored_chunks}
-use Rattle.h5_edit.specs.Changed.Missing.{IsFound, IsMissing, IsMissingIn}
+use Rattle.h5_edit.specs.Changed.Missing.{IsFound, IsMissingIn}
 use Rattle.h5_edit.specs.LacksStorage.{lacks_cells}
-use Rattle.h5_edit.specs.declared.change.missing.Missing.{Missing}
 use Rattle.h5_edit.specs.declared.change.missing.Missing.TheVariants as missing
 use Rattle.h5_edit.proofs.MetStored.{index_selected}
 
@@ -143,10 +138,3 @@ module _ (image : List ℕ) (a : Described) (slab : Slab) where
             lacks_is (InChunks chunk root) is ∙ missing_one offsets others some,
             subst (IsMissingIn image a slab (missing.Chunks new)) (sym is) are,
           )
-
--- ---- however the array is described
-
-pub found_there : (f : FileState) (number : ℕ) (a : Described) → IsArrayThere f number a → (slab : Slab) (r : Result (Option Missing) AllocError) → IfOk r (IsFound f.image a slab)
-    → IfOk r (λ m. (b : Described) → IsArrayThere f number b → IsFound f.image b slab m)
-found_there f number a there slab (Err e) found = tt
-found_there f number a there slab (Ok m) found = λ b other. subst (λ (x : Described). IsFound f.image x slab m) (one_there f number a b there other) found

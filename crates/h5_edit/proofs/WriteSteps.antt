@@ -1,13 +1,12 @@
 -- A write of an opened image that no rule refuses, step by step: what is asked of each, and what it makes.
-use Rattle.std.proofs.Common.{◌≡◌, ℕ, ℤ, List, length, Bool, true, false, Option, Some, None, refl, sym, ap, ◌∙◌, subst}
+use Rattle.std.proofs.Common.{◌≡◌, ℕ, ℤ, ◌^◌, ◌≤◌, List, Option, Some, None, refl, sym, ap, ◌∙◌, subst}
 use Rattle.std.specs.Prelude.{option_and_then}
 use Rattle.std.specs.Option.{option_map}
-use Rattle.h5_layout.specs.Described.{Described}
 use Rattle.h5_model.specs.Edits.Applied.{State}
-use Rattle.h5_model.specs.Tree.Objects.{Tree, Dataset, dataset_of}
-use Rattle.h5_model.specs.Tree.Paths.{dataset_at, object_at}
+use Rattle.h5_model.specs.Tree.Objects.{Dataset, dataset_of}
+use Rattle.h5_model.specs.Tree.Paths.{dataset_at}
+use Rattle.h5_model.specs.Tree.Places.{cells}
 use Rattle.h5_model.specs.Views.Selection.{Slab, axes_of, selection_of}
-use Rattle.h5_model.specs.declared.edits.Edit.{Edit}
 use Rattle.h5_model.specs.declared.edits.Edit.TheVariants.{Write}
 use Rattle.h5_model.specs.declared.edits.Edited.{Edited}
 use Rattle.h5_model.specs.declared.edit_fault.EditFault.TheVariants as fault
@@ -16,109 +15,111 @@ use Rattle.h5_model.specs.declared.object_no.ObjectNo.{ObjectNo}
 use Rattle.h5_model.proofs.RefusalLaws.{Writes, accepted_write}
 use Rattle.h5_query.specs.Opened.Sound.{IsSound}
 use Rattle.h5_query.specs.Opened.State.{FileState}
-use Rattle.h5_query.specs.Selected.{IsSlabOf}
-use Rattle.h5_query.specs.Written.{IsArrayThere}
+use Rattle.h5_shape.specs.Runs.{AreMaximal, places_in}
+use Rattle.h5_shape.specs.declared.runs.CellRun.{CellRun}
 use Rattle.h5_edit.specs.Carried.{IsRefused}
-use Rattle.h5_edit.specs.Changed.Missing.{IsFound, IsMissing}
+use Rattle.h5_edit.specs.Changed.Missing.{IsFound}
 use Rattle.h5_edit.specs.Changed.Sizes.{stored_all}
 use Rattle.h5_edit.specs.Edited.{IsEdited}
 use Rattle.h5_edit.specs.LacksStorage.{lacks_cells}
 use Rattle.h5_edit.specs.Refusals.Allowed.{IsWriteAt}
-use Rattle.h5_edit.specs.Stored.{AreSelectedStored, AreValuesWritten, IsSelectionStored, IsStoredAnew, IsStoring}
+use Rattle.h5_edit.specs.Stored.{AreRunsStored, AreValuesWritten, IsPlanned, IsStoredAnew, IsStoring}
 use Rattle.h5_edit.specs.declared.change.missing.Missing.{Missing}
+use Rattle.h5_edit.specs.declared.rules.write.SelectedArray.{SelectedArray}
+use Rattle.h5_edit.specs.declared.written.WritePlan.{WritePlan}
 use Rattle.h5_edit.proofs.ChangedTwice.{dataset_changed}
 use Rattle.h5_edit.proofs.MetStored.{none_lacking}
 use Rattle.h5_edit.proofs.Refusals.{short_of_memory}
-use Rattle.h5_edit.proofs.WrittenTrees.{edited_anew, edited_in_place}
+use Rattle.h5_edit.proofs.SelectedRuns.{runs_stored}
+use Rattle.h5_edit.proofs.WrittenTrees.{edited_anew, edited_in_place, sizes_are}
 
-module _ {f : FileState} (sound : IsSound f) {path : List ℕ} {hyper : Hyper} {values : List ℤ} {number : ℕ} {slab : Slab}
-    (at : IsWriteAt f.tree f.next path hyper values (number, slab))
-    (selected : (d : Dataset) → dataset_of f.tree number ≡ Some d → IsSlabOf d.sizes slab) where
-  abbrev edit : Edit
-  edit = Write path hyper values
+module _ {f : FileState} {path : List ℕ} {hyper : Hyper} {values : List ℤ} where
+  -- ---- the plan
 
-  abbrev found : (d : Dataset) × (dataset_at f.tree path ≡ Some d) × Writes d (axes_of hyper) values
-  found = accepted_write f.tree f.next path hyper values at.0.allowed
-
-  abbrev d : Dataset
-  d = found.0
-
-  array : dataset_of f.tree number ≡ Some d
-  array = sym (ap (option_and_then (dataset_of f.tree)) at.0.object) ∙ found.1
-
-  counted : length values ≡ length (selection_of d.sizes slab)
-  counted = (found.2).counted ∙ ap (λ (s : Slab). length (selection_of d.sizes s)) (sym at.1)
-
-  -- what is missing is asked of an array
-  pub array_asked : (d : Dataset) × (dataset_of f.tree number ≡ Some d) × IsSlabOf d.sizes slab
-  array_asked = (d, array, selected d array)
-
-  -- of the cells of what is opened with it
-  fresh_array : (fresh : FileState) → IsStoredAnew f path hyper values number fresh → dataset_of fresh.tree number ≡ Some (stored_all d)
-  fresh_array fresh made = ap (λ (s : State). dataset_of s.tree number) made.anew.state ∙ dataset_changed f.tree number d array stored_all
-
-  module _ (a : Described) (there : IsArrayThere f number a) where
+  module _ {s : SelectedArray} (is : IsWriteAt f path hyper values s) where
     -- memory is short
-    pub no_memory : IsRefused f edit fault.NoMemory
-    no_memory = short_of_memory f edit (λ _. (lacks_cells f.image a (axes_of hyper), (number, a, at.0.object, there, refl)))
+    pub no_memory : IsRefused f (Write path hyper values) fault.NoMemory
+    no_memory = short_of_memory f (Write path hyper values) (λ _. (lacks_cells f.image s.array (axes_of hyper), (s.number, s.array, is.at.object, is.there, refl)))
 
-    -- the number is answered
-    module _ (e : Edited) (named : option_map (λ (o : ObjectNo). o.0) e.object ≡ Some number) (refreshed : e.refreshed ≡ 0) where
-      -- ---- nothing is missing
+    pub planned : (missing : Option Missing) → IsFound f.image s.array s.slab missing → (runs : List CellRun) → places_in runs ≡ selection_of s.array.sizes s.slab
+        → AreMaximal runs → cells s.array.sizes ≤ 2 ^ 40 → IsPlanned f path hyper values (record { number = s.number; runs = runs; missing = missing })
+    planned missing found runs places maximal few = record {
+      at = is.at;
+      array = s.array;
+      there = is.there;
+      found = subst (λ (axes : Slab). IsFound f.image s.array axes missing) is.axes found;
+      places = places ∙ ap (selection_of s.array.sizes) is.axes;
+      maximal = maximal;
+      few = few;
+    }
 
-      pub in_place : IsFound f.image a slab None → (now : FileState)
-          → ((d : Dataset) → dataset_of f.tree number ≡ Some d → AreValuesWritten f number (selection_of d.sizes slab) values now) → IsEdited f edit now e
-      in_place none now wrote =
-          edited_in_place f sound path hyper values number at.0 a there d array e named refreshed
-          (ap (lacks_cells f.image a) (sym at.1) ∙ none) now
-          (subst (λ (s : Slab). AreValuesWritten f number (selection_of d.sizes s) values now) at.1 (wrote d array))
+  module _ {p : WritePlan} (is : IsPlanned f path hyper values p) where
+    abbrev found : (d : Dataset) × (dataset_at f.tree path ≡ Some d) × Writes d (axes_of hyper) values
+    found = accepted_write f.tree f.next path hyper values is.at.allowed
 
-      -- ---- storage is made
+    abbrev d : Dataset
+    d = found.0
 
-      module _ (m : Missing) (missed : IsFound f.image a slab (Some m)) where
-        pub anew : (fresh : FileState) → IsStoredAnew f path hyper values number fresh → (now : FileState)
-            → ((d : Dataset) → dataset_of fresh.tree number ≡ Some d → AreValuesWritten fresh number (selection_of d.sizes slab) values now) → IsEdited f edit now e
-        anew fresh made now wrote =
-            edited_anew f sound path hyper values number at.0 a there d array e named refreshed m
-            (subst (λ (s : Slab). IsMissing f.image a s m) at.1 missed.1) (ap (lacks_cells f.image a) (sym at.1) ∙ missed.0) fresh made now
-            (subst (λ (s : Slab). AreValuesWritten fresh number (selection_of d.sizes s) values now) at.1
-            (wrote (stored_all d) (fresh_array fresh made)))
+    array : dataset_of f.tree p.number ≡ Some d
+    array = sym (ap (option_and_then (dataset_of f.tree)) is.at.object) ∙ found.1
+
+    sizes : is.array.sizes ≡ d.sizes
+    sizes = sizes_are f p.number is.array is.there d array
+
+    places : places_in p.runs ≡ selection_of d.sizes (axes_of hyper)
+    places = is.places ∙ ap (λ (s : List ℕ). selection_of s (axes_of hyper)) sizes
+
+    few : cells d.sizes ≤ 2 ^ 40
+    few = subst (λ (s : List ℕ). cells s ≤ 2 ^ 40) sizes is.few
+
+    -- of what is opened with the storage that was missing
+    fresh_array : (fresh : FileState) → IsStoredAnew f path hyper values p.number fresh → dataset_of fresh.tree p.number ≡ Some (stored_all d)
+    fresh_array fresh made = ap (λ (s : State). dataset_of s.tree p.number) made.anew.state ∙ dataset_changed f.tree p.number d array stored_all
 
     -- ---- what is asked
 
-    -- of the cells in place
-    pub stored_asked : ((b : Described) → IsArrayThere f number b → IsFound f.image b slab None) → (d : Dataset) × IsSelectionStored f number slab values d
-    stored_asked none = (
+    -- of the runs in place
+    pub in_place_asked : p.missing ≡ None → (e : Dataset) × AreRunsStored f p.number p.runs values e
+    in_place_asked none = (
       d,
-      record {
-        array = array;
-        slab_of = selected d array;
-        counted = counted;
-        of_type = (found.2).fitting;
-        stored = none_lacking f number slab none;
-      },
+      runs_stored f p.number d array (axes_of hyper)
+          (none_lacking f p.number is.array is.there (axes_of hyper) (subst (IsFound f.image is.array (axes_of hyper)) none is.found))
+          values (found.2).counted (found.2).fitting p.runs places is.maximal few,
     )
 
     -- of the storage
-    module _ (m : Missing) (missed : IsFound f.image a slab (Some m)) where
-      pub storing : IsStoring f path hyper values number m
+    module _ {m : Missing} (some : p.missing ≡ Some m) where
+      abbrev missed : IsFound f.image is.array (axes_of hyper) (Some m)
+      missed = subst (IsFound f.image is.array (axes_of hyper)) some is.found
+
+      pub storing : IsStoring f path hyper values p.number m
       storing = record {
-        accepted = at.0.allowed;
-        object = at.0.object;
-        array = a;
-        there = there;
-        lacking = ap (lacks_cells f.image a) (sym at.1) ∙ missed.0;
-        missing = subst (λ (s : Slab). IsMissing f.image a s m) at.1 missed.1;
+        accepted = is.at.allowed;
+        object = is.at.object;
+        array = is.array;
+        there = is.there;
+        lacking = missed.0;
+        missing = missed.1;
       }
 
-  pub fresh_asked : (fresh : FileState) → IsStoredAnew f path hyper values number fresh → (e : Dataset) × IsSelectionStored fresh number slab values e
-  fresh_asked fresh made = (
-    stored_all d,
-    record {
-      array = fresh_array fresh made;
-      slab_of = selected d array;
-      counted = counted;
-      of_type = (found.2).fitting;
-      stored = subst (AreSelectedStored fresh number) (sym at.1) made.stored;
-    },
-  )
+    -- of the runs in what is opened with it
+    pub fresh_asked : (fresh : FileState) → IsStoredAnew f path hyper values p.number fresh → (e : Dataset) × AreRunsStored fresh p.number p.runs values e
+    fresh_asked fresh made = (
+      stored_all d,
+      runs_stored fresh p.number (stored_all d) (fresh_array fresh made) (axes_of hyper) made.stored values (found.2).counted (found.2).fitting p.runs places is.maximal few,
+    )
+
+    -- ---- what it makes, where the number is answered
+
+    module _ (sound : IsSound f) (e : Edited) (named : option_map (λ (o : ObjectNo). o.0) e.object ≡ Some p.number) (refreshed : e.refreshed ≡ 0) where
+      pub in_place : p.missing ≡ None → (now : FileState) → AreValuesWritten f p.number (places_in p.runs) values now → IsEdited f (Write path hyper values) now e
+      in_place none now wrote =
+          edited_in_place f sound path hyper values p.number is.at is.array is.there d array e named refreshed
+          (subst (IsFound f.image is.array (axes_of hyper)) none is.found) now
+          (subst (λ (ps : List ℕ). AreValuesWritten f p.number ps values now) places wrote)
+
+      pub anew : {m : Missing} → p.missing ≡ Some m → (fresh : FileState) → IsStoredAnew f path hyper values p.number fresh → (now : FileState)
+          → AreValuesWritten fresh p.number (places_in p.runs) values now → IsEdited f (Write path hyper values) now e
+      anew {m} some fresh made now wrote =
+          edited_anew f sound path hyper values p.number is.at is.array is.there d array e named refreshed m (missed some).1 (missed some).0 fresh made now
+          (subst (λ (ps : List ℕ). AreValuesWritten fresh p.number ps values now) places wrote)

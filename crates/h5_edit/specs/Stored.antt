@@ -20,16 +20,17 @@ use Rattle.h5_model.specs.declared.hyperslab.Hyper.{Hyper}
 use Rattle.h5_query.specs.Opened.Sound.{IsSound, IsWholeFile}
 use Rattle.h5_query.specs.Opened.State.{FileState}
 use Rattle.h5_query.specs.Renumbered.Headers.{table_with}
-use Rattle.h5_query.specs.Selected.{IsSlabOf}
 use Rattle.h5_query.specs.Written.{IsArrayThere, IsCellStored}
-use Rattle.h5_shape.specs.Runs.{places_in}
+use Rattle.h5_shape.specs.Runs.{AreMaximal, places_in}
 use Rattle.h5_shape.specs.declared.runs.CellRun.{CellRun}
-use Rattle.h5_edit.specs.Changed.Missing.{IsMissing}
+use Rattle.h5_edit.specs.Changed.Missing.{IsFound, IsMissing}
 use Rattle.h5_edit.specs.Changed.Sizes.{stored_all}
 use Rattle.h5_edit.specs.LacksStorage.{lacks_cells}
 use Rattle.h5_edit.specs.Made.{HoldsAnew, IsAccepted, IsAnew}
+use Rattle.h5_edit.specs.Refusals.Allowed.{IsAt}
 use Rattle.h5_edit.specs.declared.change.missing.Missing.{Missing}
 use Rattle.h5_edit.specs.declared.made.Made.{Made}
+use Rattle.h5_edit.specs.declared.written.WritePlan.{WritePlan}
 
 -- ---- storage made
 
@@ -71,15 +72,18 @@ pub record IsStoredAnew (f : FileState) (path : List ℕ) (hyper : Hyper) (value
 
 -- ---- cells written
 
--- the array has a cell for each of these values in the selection; the cells are stored, and the values are of its type
-pub record IsSelectionStored (f : FileState) (number : ℕ) (slab : Slab) (values : List ℤ) (d : Dataset) : Type 0 where
-  pub array : dataset_of f.tree number ≡ Some d
-  pub slab_of : IsSlabOf d.sizes slab
-  pub counted : length values ≡ length (selection_of d.sizes slab)
-  pub of_type : list_all (fits d.fixed) values ≡ true
-  pub stored : AreSelectedStored f number slab
+-- no rule of the tree refuses the write to the array of this number; these are the maximal runs of its selected cells, and so much of their
+-- storage is missing
+pub record IsPlanned (f : FileState) (path : List ℕ) (hyper : Hyper) (values : List ℤ) (p : WritePlan) : Type 0 where
+  pub at : IsAt f.tree f.next path (Write path hyper values) p.number
+  pub array : Described
+  pub there : IsArrayThere f p.number array
+  pub found : IsFound f.image array (axes_of hyper) p.missing
+  pub places : places_in p.runs ≡ selection_of array.sizes (axes_of hyper)
+  pub maximal : AreMaximal p.runs
+  pub few : cells array.sizes ≤ 2 ^ 40
 
--- so for runs of cells
+-- the array has a cell for each of these values in the runs; the cells are stored, and the values are of its type
 pub record AreRunsStored (f : FileState) (number : ℕ) (runs : List CellRun) (values : List ℤ) (d : Dataset) : Type 0 where
   pub array : dataset_of f.tree number ≡ Some d
   pub few : cells d.sizes ≤ 2 ^ 40

@@ -14,5 +14,5 @@ mod resized;
 pub use change::{Change, Target};
 pub(crate) use left::left_objects;
 pub use missing::Missing;
-pub(crate) use missing::missing_in;
+pub(crate) use missing::missing_of;
 pub(crate) use objects::{changed_objects, opened_objects};

@@ -1,42 +1,19 @@
 //! Storage made for cells that are to be written (File Format Specification 3.0, sections III.A.1 and IV.A.2.i).
 
-ghost use Rattle.std.specs.Prelude.{◌≡◌, ℕ, ℤ, IfOk, List, MatchResult, Some};
-ghost use Rattle.h5_model.specs.Tree.Objects.{Dataset, dataset_of};
+ghost use Rattle.std.specs.Prelude.{ℕ, ℤ, List, MatchResult};
 ghost use Rattle.h5_model.specs.declared.edits.Edit.TheVariants.{Write};
 ghost use Rattle.h5_model.specs.declared.hyperslab.Hyper.{Hyper as TheHyper};
-ghost use Rattle.h5_layout.specs.Described.{Described};
-ghost use Rattle.h5_query.specs.Selected.{IsSlabOf};
-ghost use Rattle.h5_query.specs.Written.{IsArrayThere};
 ghost use Rattle.h5_edit.specs.Carried.{IsRefused};
-ghost use Rattle.h5_edit.specs.Changed.Missing.{IsFound};
 ghost use Rattle.h5_edit.specs.Stored.{IsStorageMade, IsStoredAnew, IsStoring};
 
 use crate::anew::k_of;
-use crate::change::{Change, Missing, changed_objects, missing_in};
+use crate::change::{Change, Missing, changed_objects};
 use crate::made::{Made, answer};
 use crate::opening::open_made;
 use h5_model::EditFault;
-use h5_query::{Opened, Slab};
+use h5_query::Opened;
 use h5_repack::write_tree;
-use std::alloc::{AllocError, Global};
-
-/// What is missing of the storage of the selected cells of the array of this number, or `None` where each of them is stored.
-///
-/// Takes memory for the keys of missing chunks.
-pub(crate) fn missing_at(
-    alloc: Global,
-    opened: &Opened,
-    number: u32,
-    slab: &Slab,
-) -> Result<Option<Missing>, AllocError>
-    requires { (d : Dataset) × (dataset_of opened.now.tree number ≡ Some d) × IsSlabOf d.sizes slab.now }
-    ensures there { (a : Described) × IsArrayThere opened.now number a }
-    ensures missing { IfOk result (λ missing. (a : Described) → IsArrayThere opened.now number a
-        → IsFound opened.now.image a slab.now missing) }
-{
-    let object = opened.object(number).unwrap();
-    missing_in(alloc, opened.image(), &object.messages, slab)
-}
+use std::alloc::Global;
 
 /// Opens the image written anew with the storage that is missing of the array of this number, in which each cell is the fill. The image
 /// that was opened stays as it is.

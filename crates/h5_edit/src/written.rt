@@ -1,26 +1,20 @@
 //! Cells written (File Format Specification 3.0, sections III.A.1 and IV.A.2.i).
 
-ghost use Rattle.std.specs.Prelude.{◌≡◌, ◌^◌, ◌≤◌, Some, MatchResult};
-ghost use Rattle.h5_model.specs.Tree.Objects.{Dataset, dataset_of};
-ghost use Rattle.h5_model.specs.Tree.Places.{cells};
-ghost use Rattle.h5_model.specs.Views.Selection.{selection_of};
+ghost use Rattle.std.specs.Prelude.{◌≡◌, MatchResult};
+ghost use Rattle.h5_model.specs.Tree.Objects.{Dataset};
 ghost use Rattle.h5_model.specs.declared.edits.Edit.TheVariants.{Write};
-ghost use Rattle.h5_header.specs.Listed.{messages_in};
-ghost use Rattle.h5_query.specs.Kept.{IsArrayKept};
-ghost use Rattle.h5_query.specs.Selected.{IsSlabOf};
-ghost use Rattle.h5_query.specs.Told.{array_told};
-ghost use Rattle.h5_shape.specs.Runs.{AreMaximal, places_in};
+ghost use Rattle.h5_query.specs.Opened.Sound.{IsSound};
+ghost use Rattle.h5_shape.specs.Runs.{places_in};
 ghost use Rattle.h5_edit.specs.Carried.{IsRefused};
 ghost use Rattle.h5_edit.specs.Edited.{IsEdited};
-ghost use Rattle.h5_edit.specs.Stored.{AreRunsStored, AreValuesWritten, IsSelectionStored};
+ghost use Rattle.h5_edit.specs.Stored.{AreRunsStored, AreValuesWritten, IsPlanned};
 
+use crate::change::{Missing, missing_of};
 use crate::rules::check_write;
-use crate::stored::{missing_at, stored_anew};
-use h5_header::Messages;
+use crate::stored::stored_anew;
 use h5_model::{EditFault, Edited, Hyper, ObjectNo};
-use h5_query::{Opened, Slab, known_array};
+use h5_query::Opened;
 use h5_shape::CellRuns;
-use h5_space::Image;
 use std::alloc::Global;
 
 /// Writes values into the selected cells of the array at the path, in row-major order.
@@ -41,12 +35,16 @@ pub fn write(
     ensures { MatchResult result (IsEdited opened.old (Write path.now hyper.now values.now) opened.new) (λ e.
         IsRefused opened.old (Write path.now hyper.now values.now) e × (opened.new ≡ opened.old)) }
 {
-    let (number, slab) = check_write(alloc, opened, path, hyper, values)?;
-    match missing_at(alloc, opened, number, &slab)? {
-        None => write_selected(alloc, opened, number, &slab, values),
+    let WritePlan {
+        number,
+        runs,
+        missing,
+    } = plan_write(alloc, opened, path, hyper, values)?;
+    match missing {
+        None => write_runs(alloc, opened, number, runs, values),
         Some(missing) => {
             let mut fresh = stored_anew(alloc, opened, number, &missing)?;
-            write_selected(alloc, &mut fresh, number, &slab, values);
+            write_runs(alloc, &mut fresh, number, runs, values);
             *opened = fresh;
         }
     }
@@ -56,15 +54,38 @@ pub fn write(
     })
 }
 
-/// Writes values into the selected cells of the array of this number, all of which are stored: the bytes of these cells change, and no
-/// others. Takes no memory.
-fn write_selected(alloc: Global, opened: &mut Opened, number: u32, slab: &Slab, values: &[i128])
-    requires { (d : Dataset) × IsSelectionStored opened.old number slab.now values.now d }
-    ensures { (d : Dataset) → dataset_of opened.old.tree number ≡ Some d
-        → AreValuesWritten opened.old number (selection_of d.sizes slab.now) values.now opened.new }
+/// How a write is made: the number of the array, the selected cells as runs of consecutive places, and what is missing of their storage, or
+/// `None` where each of them is stored.
+#[derive(Drop)]
+struct WritePlan {
+    number: u32,
+    runs: CellRuns,
+    missing: Option<Missing>,
+}
+
+/// How a write is to be made, by one reading of the array's header.
+///
+/// Refused as [`check_write`] is, and as `NoMemory`. Takes memory for the keys of missing chunks.
+fn plan_write(
+    alloc: Global,
+    opened: &Opened,
+    path: &[u8],
+    hyper: &Hyper,
+    values: &[i128],
+) -> Result<WritePlan, EditFault>
+    ensures planned { let f = opened.now in
+        MatchResult result (IsPlanned f path.now hyper.now values.now)
+        (IsRefused f (Write path.now hyper.now values.now)) }
+    ensures sound { IsSound opened.now }
 {
-    let runs = selected_runs(alloc, opened, number, slab);
-    write_runs(alloc, opened, number, runs, values);
+    let selected = check_write(alloc, opened, path, hyper, values)?;
+    let array = &selected.array;
+    let missing = missing_of(alloc, opened.image(), array, &selected.slab)?;
+    Ok(WritePlan {
+        number: selected.number,
+        runs: selected.slab.runs(array.dims()),
+        missing,
+    })
 }
 
 /// Writes values into the cells of these runs, all of which are stored.
@@ -78,31 +99,4 @@ fn write_runs(alloc: Global, opened: &mut Opened, number: u32, runs: CellRuns, v
         opened.write_cells(alloc, number, run.place, first);
         left = others;
     }
-}
-
-/// The selected cells of the array of this number as runs of consecutive places.
-fn selected_runs(alloc: Global, opened: &Opened, number: u32, slab: &Slab) -> CellRuns
-    requires { (d : Dataset) × (dataset_of opened.now.tree number ≡ Some d) × IsSlabOf d.sizes slab.now }
-    ensures places { (d : Dataset) → dataset_of opened.now.tree number ≡ Some d
-        → places_in result ≡ selection_of d.sizes slab.now }
-    ensures maximal { AreMaximal result }
-    ensures few { (d : Dataset) → dataset_of opened.now.tree number ≡ Some d → cells d.sizes ≤ 2 ^ 40 }
-{
-    let object = opened.object(number).unwrap();
-    runs_in(alloc, opened.image(), &object.messages, slab)
-}
-
-/// The selected cells of the array that the messages of a header of the image describe as runs of consecutive places.
-fn runs_in(alloc: Global, image: &Image, messages: &Messages, slab: &Slab) -> CellRuns
-    requires kept { IsArrayKept image.now.bytes messages.now }
-    requires slab { let a = array_told (messages_in image.now.bytes messages.now.list) in
-        IsSlabOf a.sizes slab.now }
-    ensures places { let a = array_told (messages_in image.now.bytes messages.now.list) in
-        places_in result ≡ selection_of a.sizes slab.now }
-    ensures maximal { AreMaximal result }
-    ensures few { let a = array_told (messages_in image.now.bytes messages.now.list) in
-        cells a.sizes ≤ 2 ^ 40 }
-{
-    let array = known_array(alloc, image, messages);
-    slab.runs(array.dims())
 }

@@ -5,14 +5,14 @@ ghost use Rattle.h5_header.specs.Listed.{messages_in};
 ghost use Rattle.h5_model.specs.Edits.Refusal.{first_holding};
 ghost use Rattle.h5_model.specs.Scripts.Reading.{dataset_rules};
 ghost use Rattle.h5_model.specs.Tree.Objects.{dataset_of};
-ghost use Rattle.h5_query.specs.Kept.{IsArrayAt, IsArrayKept, array_dataset};
+ghost use Rattle.h5_query.specs.Kept.{IsArrayAt, IsArrayKept, IsDescribedAt, array_dataset};
 ghost use Rattle.h5_query.specs.Look.{IsNoDataset};
 ghost use Rattle.h5_query.specs.Opened.Sound.{IsSound};
 
 use crate::place::{Place, look};
 use h5_header::Messages;
 use h5_model::{EditFault, ObjectNo};
-use h5_open::{Opened, OpenedContent, StoredArray, known_array};
+use h5_open::{ArrayRef, Opened, OpenedContent, StoredArray, known_array};
 use h5_space::Image;
 use std::alloc::Global;
 
@@ -29,10 +29,27 @@ pub fn array_at<'a>(
         first_holding (dataset_rules tree path.now) ≡ Some e) }
     ensures sound { IsSound opened.now }
 {
+    let (number, array) = described_at(alloc, opened, path)?;
+    Ok((number, StoredArray::new(opened.image(), array)))
+}
+
+/// The array at the path as its header describes it, with its number. Its data were read.
+///
+/// Refused as [`array_at`] is. It takes no memory.
+pub fn described_at<'a>(
+    alloc: Global,
+    opened: &'a Opened,
+    path: &[u8],
+) -> Result<(u32, ArrayRef<'a>), EditFault>
+    ensures there { let f = opened.now in
+        MatchResult result (IsDescribedAt f path.now) (λ e.
+        first_holding (dataset_rules f.tree path.now) ≡ Some e) }
+    ensures sound { IsSound opened.now }
+{
     let image = opened.image();
     match look(opened, path)? {
         Place::Object { number, object } => match &object.content {
-            OpenedContent::Array => Ok((number, stored_array(alloc, image, &object.messages))),
+            OpenedContent::Array => Ok((number, known_array(alloc, image, &object.messages))),
             OpenedContent::Group(_) => Err(EditFault::NotADataset),
         },
         Place::Soft(_) => Err(EditFault::NotADataset),

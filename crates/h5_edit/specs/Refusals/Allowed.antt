@@ -3,12 +3,17 @@ use Rattle.std.specs.Prelude.{◌≡◌, ℕ, ℤ, Some, None, List}
 use Rattle.h5_model.specs.Tree.Paths.{dataset_at, object_at, parent_at}
 use Rattle.h5_model.specs.Edits.Refusal.{refusal_of}
 use Rattle.h5_model.specs.Tree.Objects.{Tree, Dataset}
-use Rattle.h5_model.specs.Views.Selection.{Slab, axes_of}
+use Rattle.h5_model.specs.Views.Selection.{axes_of}
 use Rattle.h5_model.specs.declared.edits.Edit.{Edit}
 use Rattle.h5_model.specs.declared.edits.Edit.TheVariants.{Write, Resize}
 use Rattle.h5_model.specs.declared.edit_fault.EditFault.{EditFault}
 use Rattle.h5_model.specs.declared.hyperslab.Hyper.{Hyper}
+use Rattle.h5_query.specs.Data.{AreDataRead}
+use Rattle.h5_query.specs.Opened.State.{FileState}
+use Rattle.h5_query.specs.Selected.{IsSlabOf}
+use Rattle.h5_query.specs.Written.{IsArrayThere}
 use Rattle.h5_edit.specs.declared.rules.place.NewPlace.{NewPlace}
+use Rattle.h5_edit.specs.declared.rules.write.SelectedArray.{SelectedArray}
 
 -- no rule refuses the edit, and its new link is to stand in this group under this name
 pub record IsPlaceAllowed (tree : Tree) (next : ℕ) (path : List ℕ) (edit : Edit) (p : NewPlace) : Type 0 where
@@ -20,9 +25,14 @@ pub record IsAt (tree : Tree) (next : ℕ) (path : List ℕ) (edit : Edit) (numb
   pub allowed : refusal_of tree next edit ≡ None
   pub object : object_at tree path ≡ Some number
 
--- no rule refuses the write; the array at its path has this number, and its lists are this selection
-abbrev pub IsWriteAt : Tree → ℕ → List ℕ → Hyper → List ℤ → (ℕ × Slab) → Type 0
-IsWriteAt tree next path hyper values (number, slab) = IsAt tree next path (Write path hyper values) number × (slab ≡ axes_of hyper)
+-- no rule refuses the write; the array at its path has this number and is described so, its data stand in the image, and its lists are
+-- this selection, which is within its sizes
+pub record IsWriteAt (f : FileState) (path : List ℕ) (hyper : Hyper) (values : List ℤ) (s : SelectedArray) : Type 0 where
+  pub at : IsAt f.tree f.next path (Write path hyper values) s.number
+  pub there : IsArrayThere f s.number s.array
+  pub stored : AreDataRead f.image s.array.fixed s.array.layout
+  pub axes : s.slab ≡ axes_of hyper
+  pub slab_of : IsSlabOf s.array.sizes s.slab
 
 -- no rule refuses the resize; the array at its path has this number
 abbrev pub IsResizeAt : Tree → ℕ → List ℕ → List ℕ → ℕ → Type 0

@@ -1,18 +1,15 @@
 //! Storage that is missing of cells that are to be written (File Format Specification 3.0, sections III.A.1 and IV.A.2.i).
 
 ghost use Rattle.std.specs.Prelude.{◌≡◌, ◌==◌, ◌||◌, if◌then◌else◌, IfOk, None, Some, is_some, length};
-ghost use Rattle.h5_header.specs.Listed.{messages_in};
 ghost use Rattle.h5_model.specs.Views.Selection.{selected_cells};
-ghost use Rattle.h5_query.specs.Kept.{IsArrayKept};
+ghost use Rattle.h5_query.specs.Data.{AreDataRead};
 ghost use Rattle.h5_query.specs.Selected.{IsSlabOf};
-ghost use Rattle.h5_query.specs.Told.{array_told};
 ghost use Rattle.h5_edit.specs.Changed.Missing.{IsFound};
 ghost use Rattle.h5_edit.specs.declared.change.missing.Missing.TheVariants as missing;
 
 use h5_bytes::Block;
-use h5_header::Messages;
 use h5_layout::{NewChunks, missing_chunks};
-use h5_query::{Layout, Slab, known_array};
+use h5_query::{ArrayRef, Layout, Slab};
 use h5_space::Image;
 use std::alloc::{AllocError, Global};
 
@@ -25,28 +22,25 @@ pub enum Missing {
     Chunks(NewChunks),
 }
 
-/// What is missing of the storage of the selected cells of the array that the messages of a header of the image describe, or `None` where
-/// each of them is stored.
+/// What is missing of the storage of the selected cells of an array of the image, or `None` where each of them is stored.
 ///
-/// Takes memory for the keys of missing chunks.
-pub(crate) fn missing_in(
+/// Takes memory for the keys of missing chunks. That the array's data stand in the image, and that the selection is within its sizes, are
+/// the caller's conditions.
+pub(crate) fn missing_of(
     alloc: Global,
     image: &Image,
-    messages: &Messages,
+    array: &ArrayRef<'_>,
     slab: &Slab,
 ) -> Result<Option<Missing>, AllocError>
-    requires kept { IsArrayKept image.now.bytes messages.now }
-    requires slab { let a = array_told (messages_in image.now.bytes messages.now.list) in
-        IsSlabOf a.sizes slab.now }
-    ensures { let a = array_told (messages_in image.now.bytes messages.now.list) in
-        IfOk result (IsFound image.now.bytes a slab.now) }
+    requires stored { AreDataRead image.now.bytes array.now.fixed array.now.layout }
+    requires slab { IsSlabOf array.now.sizes slab.now }
+    ensures { IfOk result (IsFound image.now.bytes array.now slab.now) }
 {
-    let array = known_array(alloc, image, messages);
     match array.layout() {
         Layout::Compact(_) => Ok(None),
         Layout::Contiguous(block) => Ok(missing_block(*block, slab)),
         Layout::Chunked { .. } => {
-            let new = missing_chunks(alloc, image, &array, slab)?;
+            let new = missing_chunks(alloc, image, array, slab)?;
             Ok(missing_part(new))
         }
     }

@@ -4,12 +4,11 @@ use Rattle.h5_repack.specs.Objects.Objects.{content_chunks}
 use Rattle.h5_repack.specs.declared.objects.object.NewContent.{NewContent}
 use Rattle.h5_header.specs.Listed.{messages_in}
 use Rattle.h5_query.specs.Told.{array_told}
-use Rattle.h5_edit.proofs.ArraysThere.{told_there}
 use Rattle.h5_edit.specs.Changed.Edited.{edited_by}
 use Rattle.h5_edit.specs.StoredChunks.{AreChunksOf}
 use Rattle.h5_edit.proofs.ChangedLaws.StoredSlots.{array_stored, group_stored}
 use Rattle.h5_edit.proofs.change.objects.edited_object.Goals.{in-Group+in_ok-links_in-in-Group, in-Array+in_ok-content-in-Array}
-use Rattle.h5_query.proofs.Indexed.{group_read}
+use Rattle.h5_query.proofs.Indexed.{array_described, group_read}
 use Rattle.h5_query.proofs.ListedLaws.{found_led}
 use Rattle.h5_edit.proofs.change.objects.edited_object.Goals as goal
 
@@ -28,7 +27,7 @@ array_in-requires-clause-met c =
     let f = c.args.opened.now in
     let number = c.requires.object.0 in
     let of = c.requires.object.1 in
-    rw c.image-image.ensures.bytes (c.requires.object.2.0, c.requires.object.2.1 (array_told (messages_in f.image c.args.object.now.messages.list)) (told_there f number c.args.object.now of c.in-Array.is))
+    rw c.image-image.ensures.bytes (c.requires.object.2.0, c.requires.object.2.1 (array_told (messages_in f.image c.args.object.now.messages.list)) (array_described f number c.args.object.now of c.in-Array.is))
 
 pub returns-clause-stored : goal.returns-clause-stored
 returns-clause-stored c number met of is =
@@ -39,5 +38,5 @@ returns-clause-stored c number met of is =
           subst (λ (x : NewContent). AreChunksOf f met (edited_by c.args.edit (object_in f.image f.table c.args.object.now)) c.args.object.now.messages.header (content_chunks x)) (sym w.content-is)
           (array_stored f number c.args.object.now of c.args.edit met w.in-Array.is w.in_ok-content-in-Array.content
           ((rw c.image-image.ensures.bytes at w.in_ok-content-in-Array.ensures.chunks) met
-          (is (array_told (messages_in f.image c.args.object.now.messages.list)) (told_there f number c.args.object.now of w.in-Array.is))))
+          (is (array_told (messages_in f.image c.args.object.now.messages.list)) (array_described f number c.args.object.now of w.in-Array.is))))
     ]
