@@ -6,6 +6,8 @@ from dataclasses import dataclass
 LINE = re.compile(r"fn (\S+): (.*)")
 # Reasons that lie in another function, which is not proved.
 OF_OTHERS = ("it calls ", "it waits for ", "it passes ", "a call of ")
+# The reason of a function with a loop of which nothing says why it ends.
+NO_END = "expected a measure in "
 ERROR = re.compile(r"(?:\./)?(\S+?):(\d+):\d+: error(?:\[[\w-]+\])?: (?:(`[^`]*`): )?(.*)")
 # What the prover says of a text that it cannot read, where a statement that is only false reads well.
 NOT_READ = re.compile(r"is not in scope|has no field|is no name|operand is missing|expected the end|cannot continue")
@@ -50,6 +52,8 @@ def word_for(said):
     if head in ("no proof", "not proved") and reasons and all(reason.startswith(OF_OTHERS) for reason in reasons):
         return OTHERS
     if head == "not proved" and not any(reason.startswith(OF_OTHERS) for reason in reasons):
+        return OWN
+    if head == "no proof" and reasons and all(reason.startswith(NO_END) for reason in reasons):
         return OWN
     return UNKNOWN
 

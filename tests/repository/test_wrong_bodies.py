@@ -179,6 +179,11 @@ class Verdicts(unittest.TestCase):
             self.assertEqual(words[name], verdicts.GOAL)
         self.assertTrue(report.reached and not report.proved and not report.unread)
 
+    def test_a_loop_of_which_nothing_says_why_it_ends_is_the_functions_own(self):
+        said = "no proof: expected a measure in ./proofs/breach_excludes_reads/Invariants.antt"
+        self.assertEqual(verdicts.word_for(said), verdicts.OWN)
+        self.assertEqual(verdicts.word_for(f"{said}; antt ended"), verdicts.UNKNOWN)
+
     def test_words_it_does_not_know_settle_nothing(self):
         for said in ("could not tell", "no proof: antt ended", "no proof: expected answers in ./proofs/X.antt"):
             self.assertEqual(verdicts.word_for(said), verdicts.UNKNOWN, said)
