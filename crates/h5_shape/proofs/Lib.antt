@@ -3,8 +3,11 @@ pub mod LoopLaws
 pub mod SelectedPlaces
 pub mod AxisLaws
 pub mod RunLaws
+pub mod JoinLaws
+pub mod InnerSteps
 pub mod LeftLaws
 pub mod SlabRuns
+pub mod OneRunLaws
 pub mod AlongLaws
 pub mod SpanLaws
 pub mod PartLaws

@@ -33,13 +33,16 @@ spaced-append (suc m) n step p =
     let sum : suc m + n ≡ suc (m + n) = omega arith in
     rw (at, sum) (ap (λ (xs : List ℕ). p ∷ xs) (spaced-append m n step (p + step)))
 
+-- places that go on where those before them end are one row of places
+pub spaced_rows : (n b step p : ℕ) → flat_map (spaced b step) (spaced n (b * step) p) ≡ spaced (n * b) step p
+spaced_rows zero b step p = let none : zero * b ≡ 0 = omega arith in rw none refl
+spaced_rows (suc n) b step p =
+    let all : suc n * b ≡ b + n * b = omega arith in
+    rw (all, spaced_rows n b step (p + b * step)) (spaced-append b (n * b) step p)
+
 -- runs that follow one another without a gap are one
 pub spaced_join : (n s p : ℕ) → flat_map (spaced s 1) (spaced n s p) ≡ spaced (n * s) 1 p
-spaced_join zero s p = let none : zero * s ≡ 0 = omega arith in rw none refl
-spaced_join (suc n) s p =
-    let all : suc n * s ≡ s + n * s = omega arith in
-    let unit : s * 1 ≡ s = omega arith in
-    rw (all, spaced_join n s (p + s)) (rw unit at (spaced-append s (n * s) 1 p))
+spaced_join n s p = let unit : s * 1 ≡ s = omega arith in rw unit at (spaced_rows n s 1 p)
 
 -- ---- loops
 

@@ -1,6 +1,8 @@
 pub mod Slab
 pub mod Loops
 pub mod Runs
+pub mod InnerRuns
+pub mod OneRun
 pub mod Left
 pub mod Parts
 pub mod PartsLeft

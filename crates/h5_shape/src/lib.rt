@@ -5,9 +5,11 @@ mod dims;
 mod loops;
 mod parts;
 mod runs;
+mod single_run;
 mod slab;
 
 pub use dims::{Dims, MAX_CELLS, MAX_RANK};
 pub use parts::{ChunkParts, Span};
 pub use runs::{CellRun, CellRuns};
+pub use single_run::one_run;
 pub use slab::{Slab, SlabFault};

@@ -1,7 +1,7 @@
 //! Sizes and selections at the limits, which the program does not reach yet; places are those of NumPy's `ravel_multi_index`.
 
 use h5_model::{Hyper, Items};
-use h5_shape::{Dims, Slab};
+use h5_shape::{Dims, Slab, SlabFault, one_run};
 use std::alloc::{AllocError, Global};
 use std::test::Fail;
 
@@ -102,27 +102,86 @@ fn last_rows(alloc: Global) -> Result<Hyper, AllocError> {
     })
 }
 
-/// Whether the selection in the sizes has these runs, as places and lengths, and is one run where there is one.
-fn has_runs(slab: &Slab, dims: &Dims, wanted: &[(u64, u64)]) -> bool {
-    if slab.axes().len() != dims.sizes().len() || !slab.within(dims) || !dims.is_small() {
+/// Whether the hyperslab is this one run, as place and length, or none.
+fn is_run(dims: &Dims, hyper: &Hyper, wanted: Option<(u64, u64)>) -> bool {
+    if !dims.is_small() {
         return false;
+    }
+    match one_run(dims, hyper) {
+        Some(run) => wanted == Some((run.place, run.length)),
+        None => wanted.is_none(),
+    }
+}
+
+/// Whether the selection in the sizes has these runs, as places and lengths, and is one run where there is one, and this.
+fn has_runs(hyper: &Hyper, dims: &Dims, wanted: &[(u64, u64)]) -> Result<bool, SlabFault> {
+    let slab = Slab::new(hyper)?;
+    if slab.axes().len() != dims.sizes().len() || !slab.within(dims) || !dims.is_small() {
+        return Ok(false);
     }
     let mut runs = slab.runs(dims);
     for (place, length) in wanted {
         match runs.next() {
             Some(run) if run.place == *place && run.length == *length => {}
-            _ => return false,
+            _ => return Ok(false),
         }
     }
-    runs.next().is_none() && slab.one_run(dims) == (wanted.len() == 1)
+    let only = match wanted {
+        [run] => Some(*run),
+        _ => None,
+    };
+    Ok(runs.next().is_none() && is_run(dims, hyper, only))
 }
 
 #[test]
 fn goes_over_runs(rt: HostRuntime) -> Result<(), Fail> {
     let dims = Dims::new(rt.alloc(), &[3, 6]).ok_or(AllocError)?;
-    let slab = Slab::new(&rows(rt.alloc())?)?;
-    assert!(rt; has_runs(&slab, &dims, &[(1, 2), (4, 2), (13, 2), (16, 2)]));
-    let slab = Slab::new(&last_rows(rt.alloc())?)?;
-    assert!(rt; has_runs(&slab, &dims, &[(6, 12)]));
+    let hyper = rows(rt.alloc())?;
+    assert!(rt; has_runs(&hyper, &dims, &[(1, 2), (4, 2), (13, 2), (16, 2)])?);
+    let hyper = last_rows(rt.alloc())?;
+    assert!(rt; has_runs(&hyper, &dims, &[(6, 12)])?);
+    Ok(())
+}
+
+/// Sizes, the starts, strides, counts and blocks of a hyperslab, and the one run that it is, as place and length.
+static ONE_RUN: [(&[u64], [&[u64]; 4], Option<(u64, u64)>); 17] = [
+    // A cell.
+    (&[3, 6], [&[1, 2], &[1, 1], &[1, 1], &[1, 1]], Some((8, 1))),
+    // Two rows, and two planes in blocks of one row.
+    (&[3, 6], [&[1, 0], &[1, 1], &[2, 1], &[1, 6]], Some((6, 12))),
+    (
+        &[3, 2, 5],
+        [&[1, 0, 0], &[9, 1, 1], &[1, 2, 1], &[2, 1, 5]],
+        Some((10, 20)),
+    ),
+    // Three cells of a row, and three of each of two rows.
+    (&[3, 6], [&[2, 1], &[1, 1], &[1, 1], &[1, 3]], Some((13, 3))),
+    (&[3, 6], [&[1, 0], &[1, 1], &[2, 1], &[1, 3]], None),
+    (&[3, 6], [&[1, 0], &[1, 1], &[1, 1], &[2, 3]], None),
+    // Blocks of one cell and of two, two apart, and the first and the third row.
+    (&[8], [&[1], &[2], &[3], &[1]], None),
+    (&[8], [&[1], &[2], &[3], &[2]], Some((1, 6))),
+    (&[3, 6], [&[0, 0], &[2, 1], &[2, 1], &[1, 6]], None),
+    // No block, no cell of a block, a stride of 0, and blocks that overlap.
+    (&[8], [&[1], &[1], &[0], &[1]], None),
+    (&[8], [&[1], &[1], &[1], &[0]], None),
+    (&[8], [&[1], &[0], &[1], &[1]], None),
+    (&[8], [&[1], &[1], &[2], &[2]], None),
+    // A list too long, lists for two dimensions where there is one, and a cell past the extent.
+    (&[8], [&[1], &[1], &[1, 1], &[1]], None),
+    (&[8], [&[0, 1], &[1, 1], &[1, 1], &[1, 1]], None),
+    (&[8], [&[5], &[1], &[1], &[4]], None),
+    // The cell of a scalar.
+    (&[], [&[], &[], &[], &[]], Some((0, 1))),
+];
+
+#[test]
+fn finds_one_run(rt: HostRuntime) -> Result<(), Fail> {
+    for k in 0..ONE_RUN.len() {
+        let (sizes, [start, stride, count, block], wanted) = ONE_RUN[k];
+        let dims = Dims::new(rt.alloc(), sizes).ok_or(AllocError)?;
+        let hyper = Hyper::new(rt.alloc(), start, stride, count, block)?;
+        assert!(rt; is_run(&dims, &hyper, wanted), "row {k}");
+    }
     Ok(())
 }
