@@ -35,9 +35,9 @@ use Rattle.h5_open.specs.declared.opened.object.OpenedContent.{OpenedContent}
 use Rattle.h5_open.specs.declared.opened.object.OpenedContent.TheVariants as content
 use Rattle.h5_open.specs.Opened.Kept.{IsOpened}
 use Rattle.h5_open.specs.Opened.Objects.{content_in, table_of}
-use Rattle.h5_open.specs.Opened.State.{opened_state}
+use Rattle.h5_open.specs.Opened.State.{FileState, opened_state}
 use Rattle.h5_open.specs.Written.{with_run, AreCellsWritten, IsArrayThere, IsKeptOutside, IsStoredRun}
-use Rattle.h5_open.proofs.ArrayOpened.{array_content, data_once, header_kept, its_blocks, k_are, kept_array, ms, of, same_messages, state_now, still_opened, whole_now}
+use Rattle.h5_open.proofs.ArrayOpened.{array_content, data_once, header_kept, its_blocks, k_are, kept_array, ms, of, same_messages, slot_there, state_now, still_opened, whole_now}
 
 module _ (image : Space) (slots : List (Option OpenedObject)) (numbers : BTreeMap ℕ ℕ) (opened : IsOpened image slots numbers) (number : ℕ) (p : OpenedObject)
     (stands : slice_get slots number ≡ Some (Some p)) where
@@ -85,6 +85,16 @@ module _ (image : Space) (slots : List (Option OpenedObject)) (numbers : BTreeMa
       told = ap (option_and_then (λ (o : Object). dataset_in o.content)) (of image slots numbers opened number p stands).there
           ∙ ap (λ (c : OpenedContent). dataset_in (content_in image.bytes (table_of slots) list c)) kind;
     }
+
+-- an array whose cells are written, by what is kept of the image
+module _ (image : Space) (slots : List (Option OpenedObject)) (f : FileState) (view : opened_state image slots ≡ f) (number place : ℕ) (values : List ℤ)
+    (run : (d : Dataset) × IsStoredRun f number place values d) where
+  pub run_in : (d : Dataset) × IsStoredRun (opened_state image slots) number place values d
+  run_in = subst (λ (g : FileState). (d : Dataset) × IsStoredRun g number place values d) (sym view) run
+
+  -- its slot
+  pub slot : (p : OpenedObject) × (slice_get slots number ≡ Some (Some p))
+  slot = slot_there image.bytes slots number run_in.0 run_in.1.array
 
 -- bytes outside of some blocks, where bytes in them are written
 pub kept_outside : (old new : List ℕ) (at : ℕ) (w : List ℕ) (bs : List Block) → at + length w ≤ length old → new ≡ with_part at w old

@@ -13,7 +13,8 @@ use Rattle.h5_model.specs.Tree.Objects.{Dataset, dataset_of, with_object}
 use Rattle.h5_model.specs.Tree.Places.{cells}
 use Rattle.h5_layout.specs.Data.{dataset_told}
 use Rattle.h5_layout.specs.Described.{Described, HasArray}
-use Rattle.h5_layout.specs.Standing.{cell_blocks, is_stored_cell}
+use Rattle.h5_layout.specs.Standing.{IsStandingAt, cell_blocks, is_stored_cell}
+use Rattle.h5_open.specs.declared.opened.write.StandingCells.{StandingCells}
 use Rattle.h5_open.specs.Opened.Sound.{IsWholeFile}
 use Rattle.h5_open.specs.Opened.State.{FileState}
 
@@ -42,6 +43,10 @@ pub record IsStoredRun (f : FileState) (number place : ℕ) (values : List ℤ) 
   pub stored : (k : ℕ) → k < length values → IsCellStored f number (place + k)
   pub room : place + length values ≤ cells d.sizes
   pub of_type : list_all (fits d.fixed) values ≡ true
+
+-- so many cells of the array of this number stand one behind another, as these say
+abbrev pub AreStanding : FileState → ℕ → StandingCells → ℕ → Type 0
+AreStanding f number cells n = (a : Described) → IsArrayThere f number a → (cells.fixed ≡ a.fixed) × IsStandingAt f.image a cells.place n cells.at
 
 -- there are as many bytes, and all outside of these blocks are as before
 pub record IsKeptOutside (old new : List ℕ) (blocks : List Block) : Type 0 where

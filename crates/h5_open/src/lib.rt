@@ -13,4 +13,4 @@ mod steps;
 pub use h5_attr::{AttrRef, get, list, sorted};
 pub use h5_group::{SymbolTable, entries, lookup};
 pub use h5_layout::{ArrayRef, Dims, Layout, MAX_RANK, Piece, Runs, StoredArray, known_array};
-pub use opened::{Opened, OpenedContent, OpenedObject};
+pub use opened::{Opened, OpenedContent, OpenedObject, StandingCells};

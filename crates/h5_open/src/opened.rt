@@ -20,6 +20,7 @@ use h5_space::Image;
 pub use object::{OpenedContent, OpenedObject};
 use std::alloc::{AllocError, Global};
 use std::marker::Model;
+pub use write::StandingCells;
 
 /// An image that was opened, with what is kept of its objects.
 ///

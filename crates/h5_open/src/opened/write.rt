@@ -13,7 +13,7 @@ ghost use Rattle.h5_layout.specs.Standing.{cell_blocks, is_stored_cell};
 ghost use Rattle.h5_layout.specs.Told.{array_told};
 ghost use Rattle.h5_open.specs.Opened.Judged.{IsArrayList};
 ghost use Rattle.h5_open.specs.Opened.Sound.{IsSound, IsWholeFile};
-ghost use Rattle.h5_open.specs.Written.{AreCellsWritten, IsArrayThere, IsCellStored, IsKeptOutside, IsStoredRun, with_run};
+ghost use Rattle.h5_open.specs.Written.{AreCellsWritten, AreStanding, IsArrayThere, IsCellStored, IsKeptOutside, IsStoredRun, with_run};
 
 use super::Opened;
 use h5_header::Messages;
@@ -21,6 +21,17 @@ use h5_layout::{Layout, StoredRun, compact_place, known_array, stored_from, writ
 use h5_model::Fixed;
 use h5_space::Image;
 use std::alloc::Global;
+
+/// Cells of an array that stand one behind another in an image.
+#[derive(Clone, Copy)]
+pub struct StandingCells {
+    /// The type of each.
+    pub fixed: Fixed,
+    /// The place of the first of them in the array, in row-major order.
+    pub place: u64,
+    /// Its address.
+    pub at: u64,
+}
 
 impl Opened {
     /// Writes values into the cells of an array where they stand, from this place on in row-major order. The bytes of these cells alone
@@ -48,6 +59,30 @@ impl Opened {
         while done < values.len() {
             done += self.write_first(alloc, number, place + done as u64, &values[done..]);
         }
+    }
+
+    /// Writes values into cells of an array that are known to stand one behind another. The bytes of these cells alone change: nothing
+    /// is read, not even the array's header, what is kept of the objects stays, and so does the place of each cell. Takes no memory.
+    ///
+    /// That the object of the number is an array, that these cells of it stand so, that there is a value, and that the values are of its
+    /// type, are the caller's conditions.
+    pub fn write_standing(&mut self, number: u32, cells: &StandingCells, values: &[i128])
+        requires run { (d : Dataset) × IsStoredRun self.old number cells.now.place values.now d }
+        requires some { 0 < length values.now }
+        requires standing { AreStanding self.old number cells.now (length values.now) }
+        ensures changed { self.new ≡ record self.old {
+          image = self.new.image;
+          tree = with_object self.old.tree number (with_dataset (with_run cells.now.place values.now));
+        } }
+        ensures leaf { leaf_k self.new.image ≡ leaf_k self.old.image }
+        ensures internal { internal_k self.new.image ≡ internal_k self.old.image }
+        ensures sound { IsSound self.new }
+        ensures whole { IsWholeFile self.old → IsWholeFile self.new }
+        ensures stored { (p : ℕ) → IsCellStored self.old number p → IsCellStored self.new number p }
+        ensures local { (a : Described) (there : IsArrayThere self.old number a)
+            → IsKeptOutside self.old.image self.new.image (cell_blocks self.old.image a there.blocks) }
+    {
+        write_stored(&mut self.image, &cells.fixed, cells.at, values);
     }
 
     /// Writes the first of these values, into cells that stand one behind another. Returns how many it wrote.

@@ -1,4 +1,4 @@
-use Rattle.std.proofs.Common.{◌≡◌, ◌+◌, ◌-◌, ◌≤◌, ◌^◌, ℕ, ℤ, List, Option, length, take, drop, sym, ap, subst, arith}
+use Rattle.std.proofs.Common.{◌≡◌, ◌+◌, ◌-◌, ◌≤◌, ◌^◌, ℕ, ℤ, List, Option, length, take, drop, ap, subst, arith}
 use Rattle.std.specs.BTreeMap.{BTreeMap}
 use Rattle.std.proofs.lemmas.List.{length-drop, take_all}
 use Rattle.h5_model.specs.Tree.Objects.{Dataset}
@@ -8,19 +8,18 @@ use Rattle.h5_open.specs.Opened.Kept.{IsOpened}
 use Rattle.h5_open.specs.Opened.Sound.{IsSound}
 use Rattle.h5_open.specs.Opened.State.{FileState, opened_state}
 use Rattle.h5_open.specs.Written.{AreCellsWritten, IsStoredRun, with_run}
-use Rattle.h5_open.proofs.ArrayOpened.{slot_there}
 use Rattle.h5_open.proofs.OpenedLaws.Sounds.{sound}
 use Rattle.h5_open.proofs.RunsWritten.{more_written, none_written, others_behind}
-use Rattle.h5_open.proofs.StandingOpened.{run_low}
+use Rattle.h5_open.proofs.StandingOpened.{run_in, run_low, slot}
 use Rattle.h5_open.proofs.opened.Opened.write_cells.Goals as goal
 
 -- no place is above 2^40
 places_low : (image : Space) (slots : List (Option OpenedObject)) (numbers : BTreeMap ℕ ℕ) → IsOpened image slots numbers → (f : FileState) → opened_state image slots ≡ f
     → (number place : ℕ) (values : List ℤ) → (d : Dataset) × IsStoredRun f number place values d → place + length values ≤ 2 ^ 40
 places_low image slots numbers opened f view number place values run =
-    let inside = subst (λ (g : FileState). (d : Dataset) × IsStoredRun g number place values d) (sym view) run in
-    let slot = slot_there image.bytes slots number inside.0 inside.1.array in
-    run_low image slots numbers opened number slot.0 slot.1 inside.0 place values inside.1
+    let inside = run_in image slots f view number place values run in
+    let there = slot image slots f view number place values run in
+    run_low image slots numbers opened number there.0 there.1 inside.0 place values inside.1
 
 pub loop-done-init : goal.loop-done-init
 loop-done-init c = record {

@@ -1,34 +1,18 @@
-use Rattle.std.proofs.Common.{rules, ◌≡◌, ◌∙◌, ◌+◌, ◌*◌, ◌≤◌, true, ℕ, ℤ, List, Option, Some, length, take, sym, ap, subst, arith}
-use Rattle.std.specs.Prelude.{slice_get}
+use Rattle.std.proofs.Common.{rules, ◌≡◌, ◌∙◌, ◌+◌, ◌*◌, ◌≤◌, true, Some, length, take, sym, ap, subst, arith}
 use Rattle.std.specs.List.{list_all}
 use Rattle.std.proofs.lemmas.Option.{slice_get_within}
 use Rattle.h5_model.specs.Format.Fixed.{Fixed, IsFixed, fits}
 use Rattle.h5_model.specs.Format.Plain.{cells_bytes}
-use Rattle.h5_model.specs.Tree.Objects.{Dataset}
 use Rattle.h5_space.specs.Lending.{with_bytes_at}
-use Rattle.h5_space.specs.Space.{Space}
-use Rattle.h5_open.specs.declared.opened.object.OpenedObject.{OpenedObject}
 use Rattle.h5_open.specs.Opened.State.{FileState, opened_state}
 use Rattle.h5_open.specs.Opened.Kept.{IsOpened}
-use Rattle.h5_open.specs.Written.{AreCellsWritten, IsStoredRun}
-use Rattle.h5_open.proofs.ArrayOpened.{array_content, header_within, slot_there}
+use Rattle.h5_open.specs.Written.{AreCellsWritten}
+use Rattle.h5_open.proofs.ArrayOpened.{array_content, header_within}
 use Rattle.h5_open.proofs.FirstRun.{any_inside, any_of_type, any_written, first_stored}
-use Rattle.h5_open.proofs.StandingOpened.{kind, room}
+use Rattle.h5_open.proofs.StandingOpened.{kind, room, run_in, slot}
 use Rattle.h5_open.proofs.OpenedLaws.LentSlots.{lent_some, slot_lent, slot_read}
 use Rattle.h5_open.proofs.OpenedLaws.Sounds.{sound}
 use Rattle.h5_open.proofs.opened.Opened.write_first.Goals as goal
-
-abbrev IsRun : FileState → ℕ → ℕ → List ℤ → Type 0
-IsRun f number place values = (d : Dataset) × IsStoredRun f number place values d
-
--- the cells, by what is kept of the image
-module _ (image : Space) (slots : List (Option OpenedObject)) (f : FileState) (view : opened_state image slots ≡ f) (number place : ℕ) (values : List ℤ) (run : IsRun f number place values) where
-  run_in : IsRun (opened_state image slots) number place values
-  run_in = subst (λ (g : FileState). IsRun g number place values) (sym view) run
-
-  -- the slot of the array
-  slot : (o : OpenedObject) × (slice_get slots number ≡ Some (Some o))
-  slot = slot_there image.bytes slots number run_in.0 run_in.1.array
 
 pub index-requires : goal.index-requires
 index-requires c =
