@@ -1,8 +1,8 @@
 -- The objects of an opened image by their numbers.
-use Rattle.std.proofs.Common.{◌≡◌, ℕ, refl, ap, ◌∙◌, subst, Some, None}
-use Rattle.std.specs.Prelude.{option_and_then, IsSome}
+use Rattle.std.proofs.Common.{◌≡◌, ℕ, refl, sym, ap, ◌∙◌, subst, Option, Some, None, Bor}
+use Rattle.std.specs.Prelude.{option_and_then, IsSome, MatchOption}
 use Rattle.std.specs.FinMap.{get}
-use Rattle.h5_model.specs.Tree.Objects.{Object, links_of, dataset_of, links_in, dataset_in as dataset_by}
+use Rattle.h5_model.specs.Tree.Objects.{Object, Dataset, links_of, dataset_of, links_in, dataset_in as dataset_by}
 use Rattle.h5_model.specs.Format.Addresses.{SymbolTable}
 use Rattle.h5_header.specs.Listed.{messages_in}
 use Rattle.h5_open.specs.GroupTold.{links_told}
@@ -29,6 +29,11 @@ module _ (f : FileState) (sound : IsSound f) where
 
   pub root_there : IsSome (get f.table 0)
   root_there = rw sound.reads.holds.root refl
+
+  -- of an array's number an object is found
+  pub object_found : (k : ℕ) (d : Dataset) → dataset_of f.tree k ≡ Some d → (found : Option (Bor OpenedObject)) → MatchOption found (get f.table k ≡ None) (λ o. IsObjectOf f k o.now) → IsSome found
+  object_found k d array None none = absurd (let never : None ≡ Some d = sym (no_array_there k none) ∙ array in cc)
+  object_found k d array (Some o) there = refl
 
 module _ (f : FileState) (k : ℕ) (o : OpenedObject) (of : IsObjectOf f k o) where
   -- a group has it

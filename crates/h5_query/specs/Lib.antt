@@ -14,6 +14,7 @@ pub use Rattle.h5_open.specs.declared.opened.object.OpenedObject as OpenedObject
 pub use Rattle.h5_open.specs.Renumbered
 pub use Rattle.h5_open.specs.Written
 pub use Rattle.h5_open.specs.declared.opened.object.OpenedContent as OpenedContentType
+pub use Rattle.h5_open.specs.declared.opened.write.StandingCells as StandingCellsType
 pub use Rattle.h5_open.specs.Stored
 pub use Rattle.h5_open.specs.Data
 pub use Rattle.h5_open.specs.Pieces

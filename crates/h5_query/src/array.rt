@@ -4,10 +4,12 @@ ghost use Rattle.std.specs.Prelude.{◌≡◌, Some, MatchOption, MatchResult};
 ghost use Rattle.h5_header.specs.Listed.{messages_in};
 ghost use Rattle.h5_model.specs.Edits.Refusal.{first_holding};
 ghost use Rattle.h5_model.specs.Scripts.Reading.{dataset_rules};
-ghost use Rattle.h5_model.specs.Tree.Objects.{dataset_of};
+ghost use Rattle.h5_model.specs.Tree.Objects.{Dataset, dataset_of};
+ghost use Rattle.h5_query.specs.Data.{AreDataRead};
 ghost use Rattle.h5_query.specs.Kept.{IsArrayAt, IsArrayKept, IsDescribedAt, array_dataset};
 ghost use Rattle.h5_query.specs.Look.{IsNoDataset};
 ghost use Rattle.h5_query.specs.Opened.Sound.{IsSound};
+ghost use Rattle.h5_query.specs.Written.{IsArrayThere};
 
 use crate::place::{Place, look};
 use h5_header::Messages;
@@ -54,6 +56,18 @@ pub fn described_at<'a>(
         },
         Place::Soft(_) => Err(EditFault::NotADataset),
     }
+}
+
+/// The array of this number as its header describes it. Its data were read. It takes no memory.
+///
+/// That an array has the number is the caller's condition.
+pub fn described_of<'a>(alloc: Global, opened: &'a Opened, number: u32) -> ArrayRef<'a>
+    requires { (d : Dataset) × dataset_of opened.now.tree number ≡ Some d }
+    ensures there { IsArrayThere opened.now number result }
+    ensures stored { AreDataRead opened.now.image result.fixed result.layout }
+{
+    let object = opened.object(number).unwrap();
+    known_array(alloc, opened.image(), &object.messages)
 }
 
 /// The array of this number, or `None` where no array has it. It takes no memory.

@@ -15,14 +15,14 @@ mod place;
 mod selection;
 mod step;
 
-pub use array::{array_at, array_of, described_at};
+pub use array::{array_at, array_of, described_at, described_of};
 pub use attributes::{attributes_at, names_of_attributes, one_attribute};
 pub use cells::one_cell;
 pub use found::{Found, found_at};
 pub use group::{links_of, tree_links};
 pub use h5_open::{
     ArrayRef, AttrRef, Dims, Layout, MAX_RANK, Opened, OpenedContent, OpenedObject, Piece, Runs,
-    StoredArray, SymbolTable, entries, get, known_array, sorted,
+    StandingCells, StoredArray, SymbolTable, entries, get, known_array, sorted,
 };
 pub use h5_shape::{Slab, SlabFault};
 pub use kind::{Kind, StoreKind};
