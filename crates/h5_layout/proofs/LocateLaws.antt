@@ -43,6 +43,10 @@ some_cells (d ∷ ds) each =
     let one : 1 * cells ds ≤ d * cells ds = mul-le-mul_right (cells ds) here in
     omega (arith, one)
 
+-- the dimensions from one on have its size times the cells of those behind it
+pub product_from : (k : ℕ) (ds : List ℕ) → k < length ds → cells (drop k ds) ≡ get_or ds k 0 * cells (drop (k + 1) ds)
+product_from k ds low = ap cells (drop_more ds k 0 low)
+
 -- ---- one dimension more
 
 -- the index of a place, its first number by what is left of the place

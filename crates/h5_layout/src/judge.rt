@@ -1,7 +1,7 @@
 //! Rules on the bodies of a dataset's messages.
 
-ghost use Rattle.std.specs.Prelude.{◌≡◌, ◌≤◌, ◌^◌, Some, IfOk, IfErr, ok_or, false, true};
-ghost use Rattle.h5_model.specs.Tree.Places.{extent_cells};
+ghost use Rattle.std.specs.Prelude.{◌≡◌, ◌-◌, ◌≤◌, ◌^◌, Some, IfOk, IfErr, drop, length, min, ok_or, false, true};
+ghost use Rattle.h5_model.specs.Tree.Places.{cells as cells_of, extent_cells};
 ghost use Rattle.h5_model.specs.Format.Extent.{extent_of};
 ghost use Rattle.h5_model.specs.Format.Datatype.{fixed_of};
 ghost use Rattle.h5_model.specs.Format.Fixed.{IsFixed, fits};
@@ -12,7 +12,8 @@ ghost use Rattle.h5_layout.specs.Judged.{is_chunk_large as is_large, layout_brea
 
 use h5_model::{Cause, Fixed};
 use h5_msg::{
-    Dataspace, Layout, read_dataspace, read_datatype, read_fill, read_layout, read_old_fill,
+    ChunkSizes, Dataspace, Layout, read_dataspace, read_datatype, read_fill, read_layout,
+    read_old_fill,
 };
 use h5_shape::Dims;
 use std::alloc::Global;
@@ -77,7 +78,6 @@ pub(crate) fn judge_fill(fixed: &Fixed, body: &[u8]) -> Result<i128, Cause>
 
 /// What a Data Layout message says of an array of these sizes and this type.
 pub(crate) fn judge_layout<'a>(
-    alloc: Global,
     dims: &Dims,
     fixed: &Fixed,
     body: &'a [u8],
@@ -91,19 +91,31 @@ pub(crate) fn judge_layout<'a>(
     let Ok(layout) = read_layout(dims, fixed, body) else {
         return Err(Cause::LayoutForm);
     };
-    if is_chunk_large(alloc, fixed, &layout) {
+    if is_chunk_large(fixed, &layout) {
         return Err(Cause::TooLarge);
     }
     Ok(layout)
 }
 
 /// Whether a chunk has more than 2^30 bytes.
-fn is_chunk_large(alloc: Global, fixed: &Fixed, layout: &Layout<'_>) -> bool
+fn is_chunk_large(fixed: &Fixed, layout: &Layout<'_>) -> bool
     ensures { result ≡ is_large fixed.now (layout_in layout.now) }
 {
     let Layout::Chunked { sizes, .. } = layout else {
         return false;
     };
     let size = fixed.size() as u128;
-    u128::from(sizes.dims(alloc).cells()) * size > MAX_CHUNK
+    u128::from(cells_from(sizes, 0)) * size > MAX_CHUNK
+}
+
+/// The product of the chunk sizes from dimension `k` on, or `u64::MAX` where it is larger.
+#[tactic(auto, using(crate::proofs::LocateLaws::product_from))]
+fn cells_from(sizes: &ChunkSizes<'_>, k: usize) -> u64
+    requires { k ≤ length sizes.now }
+    ensures { result ≡ min (cells_of (drop k sizes.now)) (2 ^ 64 - 1) }
+{
+    if k == sizes.rank() {
+        return 1;
+    }
+    u64::from(sizes.size(k)).saturating_mul(cells_from(sizes, k + 1))
 }

@@ -77,7 +77,7 @@ fn judge<'a>(alloc: Global, image: &'a Image, messages: &Messages) -> Result<Arr
     let (dims, extent) = judge_sizes(alloc, one_body(image, messages, DATASPACE))?;
     let fixed = judge_datatype(one_body(image, messages, DATATYPE))?;
     let fill = judge_fills(image, messages, &fixed)?;
-    let layout = judge_layout(alloc, &dims, &fixed, one_body(image, messages, DATA_LAYOUT))?;
+    let layout = judge_layout(&dims, &fixed, one_body(image, messages, DATA_LAYOUT))?;
     Ok(ArrayRef {
         fixed,
         dims,
