@@ -1,10 +1,10 @@
 -- The chunk of a place, and the place in it, one dimension after another from the last to the first.
-use Rattle.std.proofs.Common.{◌≡◌, ℕ, zero, suc, ◌+◌, ◌-◌, ◌*◌, ◌/◌, ◌%◌, ◌<◌, ◌≤◌, ◌^◌, List, [], ◌∷◌, refl, sym, ap, ap₂, ◌∙◌, arith, length, get_or, drop, set}
+use Rattle.std.proofs.Common.{◌≡◌, ℕ, zero, suc, ◌+◌, ◌-◌, ◌*◌, ◌/◌, ◌%◌, ◌<◌, ◌≤◌, ◌^◌, ◌==◌, if◌then◌else◌, List, [], ◌∷◌, refl, sym, ap, ap₂, ◌∙◌, arith, length, get_or, drop, set}
 use Rattle.std.proofs.lemmas.Nat.{div-add-mod', div-mul-add, mod-mul-add, mul-add-lt}
 use Rattle.std.proofs.lemmas.List.{drop_more, drop-set, length-drop}
 use Rattle.std.proofs.Math.Nat.{mod-eq_of_lt, mul-le-mul_right, div-div-eq-div-mul}
 use Rattle.h5_model.specs.Tree.Grid.{corner_of, inner_of}
-use Rattle.h5_model.specs.Tree.Places.{cells, place_of, index_of, IsInside}
+use Rattle.h5_model.specs.Tree.Places.{cells, extent_cells, place_of, index_of, IsInside}
 use Rattle.h5_model.proofs.PlaceLaws.{positive, place_below}
 
 -- ---- products
@@ -46,6 +46,11 @@ some_cells (d ∷ ds) each =
 -- the dimensions from one on have its size times the cells of those behind it
 pub product_from : (k : ℕ) (ds : List ℕ) → k < length ds → cells (drop k ds) ≡ get_or ds k 0 * cells (drop (k + 1) ds)
 product_from k ds low = ap cells (drop_more ds k 0 low)
+
+-- the same, with sizes of 0 left out
+pub positive_from : (k : ℕ) (ds : List ℕ) → k < length ds
+    → extent_cells (drop k ds) ≡ (if get_or ds k 0 == 0 then 1 else get_or ds k 0) * extent_cells (drop (k + 1) ds)
+positive_from k ds low = ap extent_cells (drop_more ds k 0 low)
 
 -- ---- one dimension more
 

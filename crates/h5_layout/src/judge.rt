@@ -15,27 +15,40 @@ use h5_msg::{
     ChunkSizes, Dataspace, Layout, read_dataspace, read_datatype, read_fill, read_layout,
     read_old_fill,
 };
-use h5_shape::Dims;
-use std::alloc::Global;
+use h5_shape::{Dims, MAX_CELLS};
 
 /// The most bytes of a chunk.
 const MAX_CHUNK: u128 = 1 << 30;
 
-/// What a Dataspace message says, with its sizes.
-pub(crate) fn judge_sizes(alloc: Global, body: &[u8]) -> Result<(Dims, Dataspace<'_>), Cause>
-    ensures told { IfOk result (λ told. extent_of body.now ≡ Some told.1) }
-    ensures sizes { IfOk result (λ told. told.0 ≡ told.1.sizes) }
-    ensures small { IfOk result (λ told. extent_cells told.1.sizes ≤ 2 ^ 40) }
+/// What a Dataspace message says.
+pub(crate) fn judge_sizes(body: &[u8]) -> Result<Dataspace<'_>, Cause>
+    ensures told { IfOk result (λ extent. extent_of body.now ≡ Some extent) }
+    ensures small { IfOk result (λ extent. extent_cells extent.sizes ≤ 2 ^ 40) }
     ensures refused { IfErr result (λ cause. space_breach (extent_of body.now) ≡ Some cause) }
 {
     let Ok(extent) = read_dataspace(body) else {
         return Err(Cause::DataspaceForm);
     };
-    let dims = extent.dims(alloc);
-    if !dims.is_small() {
+    if positive_from(&extent, 0) > MAX_CELLS {
         return Err(Cause::TooLarge);
     }
-    Ok((dims, extent))
+    Ok(extent)
+}
+
+/// The product of the sizes from dimension `k` on, those of 0 left out, or `u64::MAX` where it is larger.
+#[tactic(auto, using(crate::proofs::LocateLaws::positive_from))]
+fn positive_from(extent: &Dataspace<'_>, k: usize) -> u64
+    requires { k ≤ length extent.now.sizes }
+    ensures { result ≡ min (extent_cells (drop k extent.now.sizes)) (2 ^ 64 - 1) }
+{
+    if k == extent.rank() {
+        return 1;
+    }
+    let rest = positive_from(extent, k + 1);
+    match extent.size(k) {
+        0 => rest,
+        size => size.saturating_mul(rest),
+    }
 }
 
 /// What a Datatype message says.

@@ -74,9 +74,10 @@ fn judge<'a>(alloc: Global, image: &'a Image, messages: &Messages) -> Result<Arr
     ensures first { IfErr result (λ cause.
         breach_in (messages_in image.now.bytes messages.now.list) ≡ Some cause) }
 {
-    let (dims, extent) = judge_sizes(alloc, one_body(image, messages, DATASPACE))?;
+    let extent = judge_sizes(one_body(image, messages, DATASPACE))?;
     let fixed = judge_datatype(one_body(image, messages, DATATYPE))?;
     let fill = judge_fills(image, messages, &fixed)?;
+    let dims = extent.dims(alloc);
     let layout = judge_layout(&dims, &fixed, one_body(image, messages, DATA_LAYOUT))?;
     Ok(ArrayRef {
         fixed,
