@@ -60,7 +60,7 @@ pub fn known_array<'a>(alloc: Global, image: &'a Image, messages: &Messages) -> 
     requires array { (a : Described) × HasArray (messages_in image.now.bytes messages.now.list) a }
     ensures { result ≡ array_told (messages_in image.now.bytes messages.now.list) }
 {
-    match read_array(alloc, image, messages) {
+    match judge(alloc, image, messages) {
         Ok(array) => array,
         Err(_) => unreachable!(),
     }
