@@ -11,9 +11,10 @@ ghost use Rattle.h5_layout.specs.Data.{AreDataRead};
 ghost use Rattle.h5_layout.specs.Standing.{IsStandingAt, address_at};
 
 use crate::array::ArrayRef;
-use crate::grid::ChunkGrid;
+use crate::grid::{GridRef, copy_sizes};
 use h5_model::Fixed;
 use h5_msg::{Layout, write_values};
+use h5_shape::MAX_RANK;
 use h5_space::Image;
 
 /// Cells of an array that stand one behind another in its image.
@@ -55,7 +56,10 @@ pub fn stored_from(image: &Image, array: &ArrayRef<'_>, place: u64, most: u64) -
             let Some(root) = tree else {
                 return None;
             };
-            let grid = ChunkGrid::new(image, array.dims(), sizes, size, *root);
+            let mut room = [0; MAX_RANK];
+            let chunk = &mut room[..sizes.rank()];
+            copy_sizes(sizes, chunk);
+            let grid = GridRef::new(image, array.dims().sizes(), chunk, size, *root);
             let row = grid.row_at(place);
             let Some(at) = row.at else {
                 return None;

@@ -77,7 +77,7 @@ impl<'a> StoredCells<'a> {
             CellData::Filled => (Piece::Fill { cells: most }, most),
             CellData::InLine(bytes) => (whole_piece(&self.fixed, bytes, place, most), most),
             CellData::InChunks(grid) => {
-                let row = grid.row_at(place);
+                let row = grid.lend().row_at(place);
                 let cells = most.min(row.cells);
                 match row.bytes {
                     Some(bytes) => (whole_piece(&self.fixed, bytes, row.place, cells), cells),

@@ -16,7 +16,8 @@ use h5_shape::{Dims, MAX_RANK};
 use h5_space::Image;
 use std::marker::Model;
 
-/// An array in chunks, and the image in which they stand.
+/// An array in chunks, and the image in which they stand. It has the sizes of both in itself, so that it can outlive the
+/// array's description.
 #[derive(Drop)]
 pub(crate) struct ChunkGrid<'a> {
     image: &'a Image,
@@ -44,6 +45,37 @@ impl<'a> Model for ChunkGrid<'a> {
       image = g.image.now.bytes;
       sizes = take g.rank g.sizes;
       shape = record { sizes = take g.rank g.chunk; bytes = g.chunk_bytes };
+      root = g.root;
+    }) };
+}
+
+/// An array in chunks, and the image in which they stand, with the sizes of both lent: where it is asked once, they need no
+/// copy.
+#[derive(Drop)]
+pub(crate) struct GridRef<'a, 'g> {
+    image: &'a Image,
+    root: u64,
+    sizes: &'g [u64],
+    chunk: &'g [u64],
+    chunk_bytes: u64,
+}
+
+impl<'a, 'g> Model for GridRef<'a, 'g> {
+    ghost use Rattle.h5_layout.specs.ChunkCells.{Grid, IsGrid};
+
+    ghost Value = { Grid };
+
+    ghost view = { λ g. record {
+      image = g.image.now.bytes;
+      sizes = g.sizes.now;
+      shape = record { sizes = g.chunk.now; bytes = g.chunk_bytes };
+      root = g.root;
+    } };
+
+    ghost invariant = { λ g. IsGrid (record {
+      image = g.image.now.bytes;
+      sizes = g.sizes.now;
+      shape = record { sizes = g.chunk.now; bytes = g.chunk_bytes };
       root = g.root;
     }) };
 }
@@ -99,6 +131,53 @@ impl<'a> ChunkGrid<'a> {
         }
     }
 
+    /// The same array, with the sizes lent.
+    pub(crate) fn lend(&self) -> GridRef<'a, '_>
+        ensures { result ≡ self.now }
+    {
+        GridRef {
+            image: self.image,
+            root: self.root,
+            sizes: &self.sizes[..self.rank],
+            chunk: &self.chunk[..self.rank],
+            chunk_bytes: self.chunk_bytes,
+        }
+    }
+}
+
+impl<'a, 'g> GridRef<'a, 'g> {
+    /// An array of these sizes and chunk sizes, with cells of so many bytes, whose chunks stand below this root.
+    pub(crate) fn new(
+        image: &'a Image,
+        sizes: &'g [u64],
+        chunk: &'g [u64],
+        size: u64,
+        root: u64,
+    ) -> Self
+        requires rank { length chunk.now ≡ length sizes.now }
+        requires few { cells_of sizes.now ≤ 2 ^ 40 }
+        requires cell { 1 ≤ size }
+        requires sizes { AreChunkSizes chunk.now }
+        requires small { cells_of chunk.now * size ≤ 2 ^ 30 }
+        requires stored { AreChunksRead image.now.bytes
+            (record { sizes = chunk.now; bytes = cells_of chunk.now * size }) root }
+        ensures { result ≡ record {
+          image = image.now.bytes;
+          sizes = sizes.now;
+          shape = record { sizes = chunk.now; bytes = cells_of chunk.now * size };
+          root = root;
+        } }
+    {
+        let chunk_bytes = bytes_of(chunk, size);
+        GridRef {
+            image,
+            root,
+            sizes,
+            chunk,
+            chunk_bytes,
+        }
+    }
+
     /// The cells from this place on that stand one behind the other in a row of a chunk.
     pub(crate) fn row_at(&self, place: u64) -> ChunkRow<'a>
         requires { place < cells_of self.now.sizes }
@@ -111,16 +190,15 @@ impl<'a> ChunkGrid<'a> {
             (option_map (λ b. b.now) result.bytes) }
         ensures inside { IfSome result.at (λ at. at + self.now.shape.bytes ≤ length self.now.image) }
     {
-        let sizes = &self.sizes[..self.rank];
-        let chunk = &self.chunk[..self.rank];
-        let mut corner = [0; MAX_RANK];
-        let inner = locate(sizes, chunk, place, &mut corner[..self.rank]);
-        let at = self.address_of(&corner[..self.rank]);
+        let mut room = [0; MAX_RANK];
+        let corner = &mut room[..self.sizes.len()];
+        let inner = locate(self.sizes, self.chunk, place, corner);
+        let at = self.address_of(corner);
         ChunkRow {
             at,
             bytes: self.bytes_at(at),
             place: inner,
-            cells: row_left(sizes, chunk, place),
+            cells: row_left(self.sizes, self.chunk, place),
         }
     }
 
@@ -131,7 +209,7 @@ impl<'a> ChunkGrid<'a> {
             ≡ get (chunks_told self.now.image self.now.shape self.now.root) corner.now }
         ensures inside { IfSome result (λ at. at + self.now.shape.bytes ≤ length self.now.image) }
     {
-        let shape = ChunkShape::new(&self.chunk[..self.rank], self.chunk_bytes);
+        let shape = ChunkShape::new(self.chunk, self.chunk_bytes);
         chunk_at(self.image, &shape, self.root, corner)
     }
 

@@ -6,7 +6,7 @@ use Rattle.h5_layout.proofs.StandsAt.{block_stands, none_chunked}
 use Rattle.h5_layout.proofs.address.stored_from.Goals as goal
 
 pub new-grid-requires-clause-few : goal.new-grid-requires-clause-few
-new-grid-requires-clause-few c = few_cells c.args.array.now.sizes c.dims.result.now c.args.array.now c.dims.ensures.sizes c.dims.ensures.sound
+new-grid-requires-clause-few c = few_cells c.args.array.now.sizes c.sizes.result.now c.args.array.now (c.sizes.ensures.numbers ∙ c.dims.ensures.sizes) c.dims.ensures.sound
 
 pub returns-in_default-tree : goal.returns-in_default-tree
 returns-in_default-tree c =

@@ -1,5 +1,6 @@
 use Rattle.std.proofs.Common.{◌≡◌, ℕ, ◌+◌, ◌*◌, ◌≤◌, Some, None, length, refl, sym, ap, ◌∙◌, subst, arith}
 use Rattle.std.proofs.Math.Nat.{mul-le-mul_right}
+use Rattle.h5_model.specs.Tree.Places.{cells}
 use Rattle.h5_layout.specs.ChunkCells.{AreChunkBytes, Grid, chunk_of}
 use Rattle.h5_layout.specs.CellData.{HasCellRoom, all_cells}
 use Rattle.h5_layout.specs.Pieces.{CellsLeft}
@@ -25,7 +26,7 @@ pub row_at-row-requires : goal.row_at-row-requires
 row_at-row-requires c =
     let f = c.self.inside in
     let room = subst (HasCellRoom f.fixed f.count) c.in-InChunks.is c.self.invariant.1 in
-    omega (arith, room.0, counted f c.args.self.now c.self.view_is, c.requires.below, c.requires.some)
+    omega (arith, room.0, counted f c.args.self.now c.self.view_is, c.requires.below, c.requires.some, ap (λ (g : Grid). cells g.sizes) c.lend.ensures)
 
 pub whole_piece-requires-clause-room : goal.whole_piece-requires-clause-room
 whole_piece-requires-clause-room c =
@@ -62,12 +63,13 @@ returns-in-Some-clause-piece c =
     let f = c.self.inside in
     let n : ℕ = c.min-cells.result in
     let row = c.row_at-row in
-    let grid : Grid = c.in-InChunks.grid in
+    let grid : Grid = c.lend.result in
     let held : CellData = InChunks grid in
+    let here : f.held ≡ held = c.in-InChunks.is ∙ ap InChunks (sym c.lend.ensures) in
     let few : n ≤ row.result.cells = omega (arith, c.min-cells.ensures) in
     let beside = fewer_beside grid.sizes grid.shape.sizes c.args.place row.result.cells n few row.ensures.beside in
     let stored : AreChunkBytes grid (chunk_of grid c.args.place) (Some c.in-Some.bytes.now) = rw c.in-Some.is at row.ensures.bytes in
-    subst (λ (all : CellsLeft). IsPieceAt all c.args.place c.args.most c.whole_piece-in-Some.result n) (seen f c.args.self.now held c.self.view_is c.in-InChunks.is)
+    subst (λ (all : CellsLeft). IsPieceAt all c.args.place c.args.most c.whole_piece-in-Some.result n) (seen f c.args.self.now held c.self.view_is here)
     (held_piece f.fixed f.fill f.count c.args.place n c.args.most (omega (arith, c.min-cells.ensures, row.ensures.some, c.requires.some)) (omega (arith, c.min-cells.ensures))
     (omega (arith, counted f c.args.self.now c.self.view_is, c.requires.below)) held c.whole_piece-in-Some.result c.in-Some.bytes.now row.result.place c.whole_piece-in-Some.ensures
     (stored_row f.fixed f.fill grid c.args.place n row.result.place beside row.ensures.place c.in-Some.bytes.now stored))
@@ -80,12 +82,13 @@ returns-in-None-clause-piece c =
     let f = c.self.inside in
     let n : ℕ = c.min-cells.result in
     let row = c.row_at-row in
-    let grid : Grid = c.in-InChunks.grid in
+    let grid : Grid = c.lend.result in
     let held : CellData = InChunks grid in
+    let here : f.held ≡ held = c.in-InChunks.is ∙ ap InChunks (sym c.lend.ensures) in
     let few : n ≤ row.result.cells = omega (arith, c.min-cells.ensures) in
     let beside = fewer_beside grid.sizes grid.shape.sizes c.args.place row.result.cells n few row.ensures.beside in
     let none : AreChunkBytes grid (chunk_of grid c.args.place) None = rw c.in-None.is at row.ensures.bytes in
-    subst (λ (all : CellsLeft). IsPieceAt all c.args.place c.args.most (Fill n) n) (seen f c.args.self.now held c.self.view_is c.in-InChunks.is)
+    subst (λ (all : CellsLeft). IsPieceAt all c.args.place c.args.most (Fill n) n) (seen f c.args.self.now held c.self.view_is here)
     (unstored_piece f.fixed f.fill f.count c.args.place n c.args.most (omega (arith, c.min-cells.ensures, row.ensures.some, c.requires.some)) (omega (arith, c.min-cells.ensures))
     (omega (arith, counted f c.args.self.now c.self.view_is, c.requires.below)) held
     (filled_row f.fixed f.fill grid c.args.place n row.result.place beside row.ensures.place none))

@@ -3,7 +3,7 @@ use Rattle.h5_bytes.specs.Bytes.{part}
 use Rattle.h5_bytes.proofs.PartLaws.{length-part}
 use Rattle.h5_layout.specs.ChunkCells.{Grid}
 use Rattle.h5_layout.proofs.GridLaws.{slice_part}
-use Rattle.h5_layout.proofs.grid.ChunkGrid.bytes_at.Goals as goal
+use Rattle.h5_layout.proofs.grid.GridRef.bytes_at.Goals as goal
 
 pub returns : goal.returns
 returns c =

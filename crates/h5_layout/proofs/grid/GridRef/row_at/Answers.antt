@@ -1,0 +1,12 @@
+use Rattle.std.proofs.Common.{◌+◌, ◌≤◌, subst}
+use Rattle.h5_model.specs.Tree.Places.{cells}
+use Rattle.h5_layout.specs.ChunkCells.{Grid}
+use Rattle.h5_layout.proofs.GridLaws.{row_room}
+use Rattle.h5_layout.proofs.grid.GridRef.row_at.Goals as goal
+
+pub returns-clause-room : goal.returns-clause-room
+returns-clause-room c =
+    let f = c.self.inside in
+    let g : Grid = record { image = f.image.now.bytes; sizes = f.sizes.now; shape = record { sizes = f.chunk.now; bytes = f.chunk_bytes }; root = f.root } in
+    subst (λ (g : Grid). c.locate-inner.result + c.row_left.result ≤ cells g.shape.sizes) c.self.view_is
+    (row_room g c.args.place c.row_left.result c.locate-inner.result c.self.invariant c.row_left.ensures.beside c.row_left.ensures.some c.locate-inner.ensures.inner)
