@@ -1,24 +1,20 @@
 -- What a write is answered whose storage is lacking, by what was written of the tree with that storage.
-use Rattle.std.proofs.Common.{◌≡◌, inl, inr, ℕ, ◌+◌, ◌^◌, ◌≤◌, ◌<◌, ℤ, List, [], ◌∷◌, length, Bool, true, false, Option, Some, None, refl, sym, ap, ◌∙◌, subst, arith, nat_lt}
+use Rattle.std.proofs.Common.{◌≡◌, ℕ, ◌+◌, ◌≤◌, ℤ, List, length, true, Option, Some, None, refl, sym, ap, ◌∙◌, subst, arith}
 use Rattle.std.specs.Prelude.{IfOk, IfErr, MatchResult, Result, Ok, Err, option_map, option_and_then}
 use Rattle.std.specs.Borrow.{Bor}
-use Rattle.std.specs.FinMap.{get, insert}
-use Rattle.std.specs.List.{AllByRecursion, Contains}
+use Rattle.std.specs.FinMap.{get}
 use Rattle.std.specs.Option.{option_map_or}
 use Rattle.std.proofs.lemmas.Option.{same_Some}
 use Rattle.h5_layout.specs.Described.{Described}
 use Rattle.h5_laws.specs.Trees.Sound.{IsSoundTree}
-use Rattle.h5_laws.proofs.Objects.{in_table}
 use Rattle.h5_laws.proofs.SoundLaws.DatasetChanges.{sound_dataset}
-use Rattle.h5_laws.proofs.SoundLaws.Read.{placed_at, reads_sound}
+use Rattle.h5_laws.proofs.SoundLaws.Read.{reads_sound}
 use Rattle.h5_model.specs.Edits.Applied.{with_dataset, written}
-use Rattle.h5_model.specs.Format.Layout.{Layout, InMessage, InBlock, InChunks}
 use Rattle.h5_model.specs.Format.PlainLength.{plain_length}
-use Rattle.h5_model.specs.Format.Reads.{storage_of}
 use Rattle.h5_model.specs.Format.Superblock.{leaf_k, internal_k}
-use Rattle.h5_model.specs.Tree.Objects.{Tree, Object, Content, Group, Array, Dataset, Storage, dataset_in, dataset_of, with_object}
-use Rattle.h5_model.specs.Tree.Paths.{dataset_at, object_at}
-use Rattle.h5_model.specs.Views.Selection.{Slab, axes_of, selection_of}
+use Rattle.h5_model.specs.Tree.Objects.{Tree, Object, Content, Group, Array, Dataset, dataset_in, dataset_of, with_object}
+use Rattle.h5_model.specs.Tree.Paths.{dataset_at}
+use Rattle.h5_model.specs.Views.Selection.{Slab, axes_of}
 use Rattle.h5_model.specs.declared.edits.Edit.{Edit}
 use Rattle.h5_model.specs.declared.edits.Edit.TheVariants.{Write}
 use Rattle.h5_model.specs.declared.edit_fault.EditFault.TheVariants as fault
@@ -26,11 +22,8 @@ use Rattle.h5_model.specs.declared.hyperslab.Hyper.{Hyper}
 use Rattle.h5_model.proofs.RefusalLaws.{Writes, accepted_write}
 use Rattle.h5_query.specs.Opened.Sound.{IsSound}
 use Rattle.h5_query.specs.Opened.State.{FileState}
-use Rattle.h5_query.specs.Renumbered.Headers.{table_with}
-use Rattle.h5_query.specs.Written.{IsArrayThere}
-use Rattle.h5_repack.specs.Bodies.Laws.{IsPlainReading}
 use Rattle.h5_repack.specs.Image.Plain.{IsPlain, ArePlain, AreLow}
-use Rattle.h5_repack.specs.Image.Written.{StoredIn, counts_of}
+use Rattle.h5_repack.specs.Image.Written.{counts_of}
 use Rattle.h5_repack.specs.Objects.Objects.{AreObjects, stored_in}
 use Rattle.h5_repack.specs.Written.{IsTreeToWrite, IsWritten, IsUnwritten}
 use Rattle.h5_repack.specs.declared.objects.object.NewObject.{NewObject}
@@ -39,18 +32,16 @@ use Rattle.h5_repack.specs.declared.write.WriteFault.{WriteFault}
 use Rattle.h5_repack.specs.declared.write.WriteFault.TheVariants.{TooLong, TooDeep, NoMemory}
 use Rattle.h5_repack.proofs.WrittenStored.{written_stored}
 use Rattle.h5_edit.specs.Answers.{answer_to, fault_of_write}
-use Rattle.h5_edit.specs.Carried.{IsLongAnew, IsMadeAnew, IsRefused, IsShortAnew, tree_after}
+use Rattle.h5_edit.specs.Carried.{IsMadeAnew, IsRefused, tree_after}
 use Rattle.h5_edit.specs.Changed.Change.{IsPlainChange, changed}
-use Rattle.h5_edit.specs.Changed.Missing.{IsMetIn, IsMissing, IsMissingIn}
-use Rattle.h5_edit.specs.Changed.Sizes.{CanStore, IsLacking, stored_all, stored_storage}
+use Rattle.h5_edit.specs.Changed.Missing.{IsMetIn, IsMissing}
+use Rattle.h5_edit.specs.Changed.Sizes.{CanStore, IsLacking, stored_all}
 use Rattle.h5_edit.specs.Fits.Laws.{AreBytes}
-use Rattle.h5_edit.specs.LacksStorage.{LacksStorage}
-use Rattle.h5_edit.specs.Made.{IsAccepted, IsAnew}
-use Rattle.h5_edit.specs.Stored.{AreMetStored, IsStorageMade, IsStoring, tree_stored}
+use Rattle.h5_edit.specs.Stored.{IsStorageMade, IsStoring, tree_stored}
 use Rattle.h5_edit.specs.StoredChunks.{AreStoredAfter, HasLengthAnew, Selecting, selecting_of}
 use Rattle.h5_edit.specs.declared.change.change.Change.TheVariants.{Store as Stores}
 use Rattle.h5_edit.specs.declared.change.missing.Missing.{Missing}
-use Rattle.h5_edit.proofs.Answered.{k_there, length_is, read_as, short}
+use Rattle.h5_edit.proofs.Answered.{k_there, read_as, short}
 use Rattle.h5_edit.proofs.ArraysThere.{object_there, one_there}
 use Rattle.h5_edit.proofs.FitLaws.ChangedTrees.{each_changed}
 use Rattle.h5_edit.proofs.FitLaws.OpenedTrees.{opened_plain}
@@ -58,9 +49,7 @@ use Rattle.h5_edit.proofs.FitLaws.WrittenArrays.{plain_storage}
 use Rattle.h5_edit.proofs.LowRead.{array_links, edited_low, kept_low, read_low}
 use Rattle.h5_edit.proofs.Refusals.{by_length, by_memory}
 use Rattle.h5_edit.proofs.SameLengths as lengths
-use Rattle.h5_edit.proofs.StoredLaws.{length_with}
 use Rattle.h5_edit.proofs.MetStored.{met_stored}
-use Rattle.h5_edit.proofs.Numbered.{standing_map}
 use Rattle.h5_edit.proofs.WrittenTrees.{both_trees, lacking_of}
 
 module _ {f : FileState} (sound : IsSound f) {path : List ℕ} {hyper : Hyper} {values : List ℤ} {number : ℕ} (m : Bor Missing)

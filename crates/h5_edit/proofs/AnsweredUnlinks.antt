@@ -1,8 +1,7 @@
 -- What an unlink that no rule refuses is answered, by what was written of the objects that it leaves.
 use Rattle.std.proofs.Common.{◌≡◌, ℕ, ◌<◌, List, length, refl, sym, ap, ◌∙◌, subst, Bool, true, false, cond, Option, Some, None, inl, inr}
-use Rattle.std.specs.Prelude.{◌==◌, IfOk, IfErr, IsSome, MatchResult, Result, Ok, Err, is_some}
+use Rattle.std.specs.Prelude.{◌==◌, IfOk, IfErr, MatchResult, Result, Ok, Err}
 use Rattle.std.specs.Option.{IfSome}
-use Rattle.std.specs.FinMap.{get}
 use Rattle.h5_laws.specs.Trees.Sound.{IsSoundTree}
 use Rattle.h5_laws.specs.Trees.Unlinked.{goes_with, without_link, without_object}
 use Rattle.h5_laws.proofs.SoundLaws.Applied.{sound_applied}

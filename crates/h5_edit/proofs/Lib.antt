@@ -25,6 +25,8 @@ pub mod SameLengths
 pub mod MetStored
 pub mod MissingLaws
 pub mod WriteSteps
+pub mod FoundStanding
+pub mod StandingRuns
 pub mod SelectedRuns
 pub mod AnsweredStores
 pub mod OpenedAnew

@@ -1,5 +1,5 @@
 -- How long the image of a tree is, and which chunks are stored in it, is the same whatever values the cells of an array have.
-use Rattle.std.proofs.Common.{◌≡◌, inl, inr, ℕ, ◌+◌, ℤ, List, [], ◌∷◌, Option, Some, None, refl, sym, ap, ap₂, ◌∙◌, subst, Ordering}
+use Rattle.std.proofs.Common.{◌≡◌, inl, inr, ℕ, ◌+◌, ℤ, List, [], ◌∷◌, Option, Some, refl, sym, ap, ◌∙◌, subst, Ordering}
 use Rattle.std.specs.Prelude.{option_and_then}
 use Rattle.std.specs.Cmp.{nat_cmp_total}
 use Rattle.std.specs.Ordering.{nat_cmp}

@@ -1,5 +1,5 @@
 -- Values that are written a run at a time are written into all cells of the runs.
-use Rattle.std.proofs.Common.{◌≡◌, inl, inr, ℕ, zero, suc, ◌+◌, ◌-◌, ◌<◌, ◌≤◌, List, [], ◌∷◌, ◌++◌, length, take, drop, true, Bool, Some, length-append, append_assoc, refl, sym, ap, ap₂, ◌∙◌, subst, arith}
+use Rattle.std.proofs.Common.{◌≡◌, inl, inr, ℕ, zero, suc, ◌+◌, ◌-◌, ◌<◌, ◌≤◌, List, [], ◌∷◌, ◌++◌, length, take, drop, true, Bool, Some, length-append, append_assoc, refl, sym, ap, ◌∙◌, subst, arith}
 use Rattle.std.specs.Prelude.{ℤ, slice_set}
 use Rattle.std.specs.List.{AllByRecursion, list_all, range_with_len}
 use Rattle.std.proofs.lemmas.Bool.{and_parts}
@@ -66,7 +66,7 @@ length_first xs zero few = refl
 length_first [] (suc n) few = absurd (omega (arith, few))
 length_first (x ∷ xs) (suc n) few = ap suc (length_first xs n (omega (arith, few)))
 
-all_first : {X : Type 0} (xs : List X) (n : ℕ) → length xs ≤ n → take n xs ≡ xs
+pub all_first : {X : Type 0} (xs : List X) (n : ℕ) → length xs ≤ n → take n xs ≡ xs
 all_first [] zero past = refl
 all_first [] (suc n) past = refl
 all_first (x ∷ xs) zero past = absurd (omega (arith, past))
@@ -87,12 +87,12 @@ in_range from zero k low = absurd (omega (arith, low))
 in_range from (suc n) zero low = inl (omega arith)
 in_range from (suc n) (suc k) low = inr (subst (λ (m : ℕ). In m (range_with_len (from + 1) n)) (omega arith) (in_range (from + 1) n k (omega (arith, low))))
 
-length_range : (from n : ℕ) → length (range_with_len from n) ≡ n
+pub length_range : (from n : ℕ) → length (range_with_len from n) ≡ n
 length_range from zero = refl
 length_range from (suc n) = ap suc (length_range (from + 1) n)
 
 -- a run that is inside ends inside
-ends_in : (end from n : ℕ) → 0 < n → AllByRecursion (λ place. place < end) (range_with_len from n) → from + n ≤ end
+pub ends_in : (end from n : ℕ) → 0 < n → AllByRecursion (λ place. place < end) (range_with_len from n) → from + n ≤ end
 ends_in end from zero some all = absurd (omega (arith, some))
 ends_in end from (suc zero) some all = let low = all.0 in omega (arith, low)
 ends_in end from (suc (suc n)) some all = let rest = ends_in end (from + 1) (suc n) (omega arith) all.1 in omega (arith, rest)
@@ -102,7 +102,7 @@ ends_in end from (suc (suc n)) some all = let rest = ends_in end (from + 1) (suc
 places_append : (rs ss : List CellRun) → places_in (rs ++ ss) ≡ places_in rs ++ places_in ss
 places_append rs ss = flat_map-append (λ (r : CellRun). range_with_len r.place r.length) rs ss
 
-places_one : (r : CellRun) → places_in (r ∷ []) ≡ range_with_len r.place r.length
+pub places_one : (r : CellRun) → places_in (r ∷ []) ≡ range_with_len r.place r.length
 places_one r = append-nil (range_with_len r.place r.length)
 
 -- ---- cells

@@ -1,20 +1,19 @@
 -- The tree that a write gives: with the values in the selected cells, and with storage for them.
-use Rattle.std.proofs.Common.{◌≡◌, ℕ, zero, suc, ◌<◌, ◌≤◌, ◌&&◌, ◌||◌, Bool, List, [], ◌∷◌, cond, length, refl, sym, ap, ◌∙◌, subst, not, Option, Some, None, true, false, nat_lt, arith}
+use Rattle.std.proofs.Common.{◌≡◌, ℕ, ◌&&◌, ◌||◌, Bool, List, [], ◌∷◌, length, refl, sym, ap, ◌∙◌, subst, not, Option, Some, true, false, nat_lt, arith}
 use Rattle.std.proofs.lemmas.Bool.Decides.{nat_tests}
 use Rattle.std.proofs.lemmas.Option.{same_Some}
-use Rattle.std.specs.Prelude.{ℤ, is_some, option_and_then}
+use Rattle.std.specs.Prelude.{ℤ, is_some}
 use Rattle.std.specs.FinMap.{get, insert}
 use Rattle.std.specs.List.{list_any}
 use Rattle.std.specs.Option.{option_map, option_map_or}
 use Rattle.h5_bytes.specs.declared.Block.{Block}
 use Rattle.h5_layout.specs.Described.{Described}
 use Rattle.h5_layout.specs.Standing.{is_stored_cell, is_stored_in}
-use Rattle.h5_model.specs.Edits.Applied.{applied, state_after, with_cells, with_dataset, written, written_storage}
+use Rattle.h5_model.specs.Edits.Applied.{applied, with_cells, with_dataset, written, written_storage}
 use Rattle.h5_model.specs.Format.Chunks.{Chunks}
 use Rattle.h5_model.specs.Format.Layout.{Layout, InMessage, InBlock, InChunks}
 use Rattle.h5_model.specs.Format.Reads.{storage_of}
-use Rattle.h5_model.specs.Format.Superblock.{leaf_k, internal_k}
-use Rattle.h5_model.specs.Tree.Objects.{Tree, Object, Content, Array, Dataset, Storage, Compact, Contiguous, Chunked, with_object, dataset_of}
+use Rattle.h5_model.specs.Tree.Objects.{Tree, Object, Content, Array, Dataset, Storage, Contiguous, with_object, dataset_of}
 use Rattle.h5_model.specs.Tree.Paths.{object_at}
 use Rattle.h5_model.specs.Tree.Places.{cells, index_of}
 use Rattle.h5_model.specs.Views.Selection.{Slab, axes_of, selection_of}
@@ -31,10 +30,9 @@ use Rattle.h5_edit.specs.Carried.{tree_after}
 use Rattle.h5_edit.specs.Changed.Missing.{IsMissing, IsMissingIn}
 use Rattle.h5_edit.specs.Changed.Sizes.{IsLacking, stored_all, stored_storage}
 use Rattle.h5_edit.specs.Edited.{IsEdited}
-use Rattle.h5_edit.specs.LacksStorage.{LacksStorage, lacks_cells}
-use Rattle.h5_edit.specs.Made.{IsAccepted}
+use Rattle.h5_edit.specs.LacksStorage.{lacks_cells}
 use Rattle.h5_edit.specs.Refusals.Allowed.{IsAt}
-use Rattle.h5_edit.specs.Stored.{AreValuesWritten, IsStoredAnew, IsStoring, tree_stored, with_places}
+use Rattle.h5_edit.specs.Stored.{AreValuesWritten, IsStoredAnew, tree_stored, with_places}
 use Rattle.h5_edit.specs.declared.change.missing.Missing.{Missing}
 use Rattle.h5_edit.specs.declared.change.missing.Missing.TheVariants as missing
 use Rattle.h5_edit.proofs.ArraysThere.{array_content, object_there}

@@ -4,6 +4,7 @@ use Rattle.std.specs.Prelude.{◌≡◌, ℕ, ◌^◌, ◌<◌, ◌≤◌, ℤ, 
 use Rattle.std.specs.List.{AllByRecursion, Contains, list_all}
 use Rattle.std.specs.FinMap.{FinMap, get}
 use Rattle.std.specs.Ordering.{nat_cmp}
+use Rattle.std.specs.Option.{option_map}
 use Rattle.h5_layout.specs.Described.{Described}
 use Rattle.h5_layout.specs.StoredAt.{HasStored}
 use Rattle.h5_model.specs.Edits.Applied.{with_cells, with_dataset}
@@ -16,7 +17,9 @@ use Rattle.h5_model.specs.Tree.Paths.{object_at}
 use Rattle.h5_model.specs.Tree.Places.{cells, index_of}
 use Rattle.h5_model.specs.Views.Selection.{Slab, axes_of, selection_of}
 use Rattle.h5_model.specs.declared.edits.Edit.TheVariants.{Write}
+use Rattle.h5_model.specs.declared.edits.Edited.{Edited}
 use Rattle.h5_model.specs.declared.hyperslab.Hyper.{Hyper}
+use Rattle.h5_model.specs.declared.object_no.ObjectNo.{ObjectNo}
 use Rattle.h5_query.specs.Opened.Sound.{IsSound, IsWholeFile}
 use Rattle.h5_query.specs.Opened.State.{FileState}
 use Rattle.h5_query.specs.Renumbered.Headers.{table_with}
@@ -27,7 +30,8 @@ use Rattle.h5_edit.specs.Changed.Missing.{IsFound, IsMissing}
 use Rattle.h5_edit.specs.Changed.Sizes.{stored_all}
 use Rattle.h5_edit.specs.LacksStorage.{lacks_cells}
 use Rattle.h5_edit.specs.Made.{HoldsAnew, IsAccepted, IsAnew}
-use Rattle.h5_edit.specs.Refusals.Allowed.{IsAt}
+use Rattle.h5_edit.specs.Edited.{IsEdited}
+use Rattle.h5_edit.specs.Refusals.Allowed.{IsWriteAt}
 use Rattle.h5_edit.specs.declared.change.missing.Missing.{Missing}
 use Rattle.h5_edit.specs.declared.made.Made.{Made}
 use Rattle.h5_edit.specs.declared.written.WritePlan.{WritePlan}
@@ -72,16 +76,13 @@ pub record IsStoredAnew (f : FileState) (path : List ℕ) (hyper : Hyper) (value
 
 -- ---- cells written
 
--- no rule of the tree refuses the write to the array of this number; these are the maximal runs of its selected cells, and so much of their
--- storage is missing
-pub record IsPlanned (f : FileState) (path : List ℕ) (hyper : Hyper) (values : List ℤ) (p : WritePlan) : Type 0 where
-  pub at : IsAt f.tree f.next path (Write path hyper values) p.number
-  pub array : Described
-  pub there : IsArrayThere f p.number array
-  pub found : IsFound f.image array (axes_of hyper) p.missing
-  pub places : places_in p.runs ≡ selection_of array.sizes (axes_of hyper)
+-- these are the maximal runs of the selected cells of the array of this number, and so much of their storage is missing
+pub record IsPlanned (f : FileState) (path : List ℕ) (hyper : Hyper) (values : List ℤ) (number : ℕ) (p : WritePlan) : Type 0 where
+  pub write : IsWriteAt f path hyper values number
+  pub found : IsFound f.image write.array (axes_of hyper) p.missing
+  pub places : places_in p.runs ≡ selection_of (write.array).sizes (axes_of hyper)
   pub maximal : AreMaximal p.runs
-  pub few : cells array.sizes ≤ 2 ^ 40
+  pub few : cells (write.array).sizes ≤ 2 ^ 40
 
 -- the array has a cell for each of these values in the runs; the cells are stored, and the values are of its type
 pub record AreRunsStored (f : FileState) (number : ℕ) (runs : List CellRun) (values : List ℤ) (d : Dataset) : Type 0 where
@@ -104,3 +105,8 @@ pub record AreValuesWritten (old : FileState) (number : ℕ) (places : List ℕ)
   pub internal : internal_k new.image ≡ internal_k old.image
   pub sound : IsSound old → IsSound new
   pub whole : IsWholeFile old → IsWholeFile new
+
+-- the write is made, where the number of the array is answered
+abbrev pub IsWriteMade : FileState → List ℕ → Hyper → List ℤ → ℕ → FileState → Type 0
+IsWriteMade f path hyper values number now =
+    (e : Edited) → option_map (λ (o : ObjectNo). o.0) e.object ≡ Some number → e.refreshed ≡ 0 → IsEdited f (Write path hyper values) now e

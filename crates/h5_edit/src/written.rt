@@ -1,21 +1,22 @@
 //! Cells written (File Format Specification 3.0, sections III.A.1 and IV.A.2.i).
 
-ghost use Rattle.std.specs.Prelude.{◌≡◌, MatchResult};
+ghost use Rattle.std.specs.Prelude.{◌≡◌, ℕ, ℤ, List, IfOk, MatchResult};
 ghost use Rattle.h5_model.specs.Tree.Objects.{Dataset};
 ghost use Rattle.h5_model.specs.declared.edits.Edit.TheVariants.{Write};
 ghost use Rattle.h5_query.specs.Opened.Sound.{IsSound};
 ghost use Rattle.h5_shape.specs.Runs.{places_in};
 ghost use Rattle.h5_edit.specs.Carried.{IsRefused};
 ghost use Rattle.h5_edit.specs.Edited.{IsEdited};
-ghost use Rattle.h5_edit.specs.Stored.{AreRunsStored, AreValuesWritten, IsPlanned};
+ghost use Rattle.h5_edit.specs.Refusals.Allowed.{IsWriteAt};
+ghost use Rattle.h5_edit.specs.Stored.{AreRunsStored, AreValuesWritten, IsPlanned, IsWriteMade};
 
 use crate::change::{Missing, missing_of};
 use crate::rules::check_write;
 use crate::stored::stored_anew;
 use h5_model::{EditFault, Edited, Hyper, ObjectNo};
-use h5_query::Opened;
+use h5_query::{Opened, described_of, slab_within};
 use h5_shape::CellRuns;
-use std::alloc::Global;
+use std::alloc::{AllocError, Global};
 
 /// Writes values into the selected cells of the array at the path, in row-major order.
 ///
@@ -35,11 +36,34 @@ pub fn write(
     ensures { MatchResult result (IsEdited opened.old (Write path.now hyper.now values.now) opened.new) (λ e.
         IsRefused opened.old (Write path.now hyper.now values.now) e × (opened.new ≡ opened.old)) }
 {
-    let WritePlan {
-        number,
-        runs,
-        missing,
-    } = plan_write(alloc, opened, path, hyper, values)?;
+    let target = check_write(alloc, opened, path, hyper, values)?;
+    let number = target.number;
+    match target.standing {
+        Some(cells) => opened.write_standing(number, &cells, values),
+        None => write_selected(alloc, opened, number, hyper, values)?,
+    }
+    Ok(Edited {
+        object: Some(ObjectNo(number)),
+        refreshed: 0,
+    })
+}
+
+/// Writes values into the selected cells of the array of this number, run by run. The storage that is missing is made first.
+///
+/// `ImageFull` where the image with that storage would pass 2147483648 bytes, `NoMemory` where memory is refused. A refusal changes nothing.
+fn write_selected(
+    alloc: Global,
+    opened: &mut Opened,
+    number: u32,
+    hyper: &Hyper,
+    values: &[i128],
+) -> Result<(), EditFault>
+    requires { (path : List ℕ) × IsWriteAt opened.old path hyper.now values.now number }
+    ensures { (path : List ℕ) → IsWriteAt opened.old path hyper.now values.now number
+        → MatchResult result (λ _. IsWriteMade opened.old path hyper.now values.now number opened.new) (λ e.
+        IsRefused opened.old (Write path hyper.now values.now) e × (opened.new ≡ opened.old)) }
+{
+    let WritePlan { runs, missing } = plan_write(alloc, opened, number, hyper)?;
     match missing {
         None => write_runs(alloc, opened, number, runs, values),
         Some(missing) => {
@@ -48,42 +72,38 @@ pub fn write(
             *opened = fresh;
         }
     }
-    Ok(Edited {
-        object: Some(ObjectNo(number)),
-        refreshed: 0,
-    })
+    Ok(())
 }
 
-/// How a write is made: the number of the array, the selected cells as runs of consecutive places, and what is missing of their storage, or
-/// `None` where each of them is stored.
+/// How selected cells are written: as runs of consecutive places, and what is missing of their storage, or `None` where each of them is
+/// stored.
 #[derive(Drop)]
 struct WritePlan {
-    number: u32,
     runs: CellRuns,
     missing: Option<Missing>,
 }
 
-/// How a write is to be made, by one reading of the array's header.
+/// How the selected cells of the array of this number are to be written. Takes memory for the keys of missing chunks.
 ///
-/// Refused as [`check_write`] is, and as `NoMemory`. Takes memory for the keys of missing chunks.
+/// That no rule refuses the write is the caller's condition.
 fn plan_write(
     alloc: Global,
     opened: &Opened,
-    path: &[u8],
+    number: u32,
     hyper: &Hyper,
-    values: &[i128],
-) -> Result<WritePlan, EditFault>
-    ensures planned { let f = opened.now in
-        MatchResult result (IsPlanned f path.now hyper.now values.now)
-        (IsRefused f (Write path.now hyper.now values.now)) }
+) -> Result<WritePlan, AllocError>
+    requires { (path : List ℕ) × (values : List ℤ) × IsWriteAt opened.now path hyper.now values number }
+    ensures planned { (path : List ℕ) (values : List ℤ) → IsWriteAt opened.now path hyper.now values number
+        → IfOk result (IsPlanned opened.now path hyper.now values number) }
     ensures sound { IsSound opened.now }
 {
-    let selected = check_write(alloc, opened, path, hyper, values)?;
-    let array = &selected.array;
-    let missing = missing_of(alloc, opened.image(), array, &selected.slab)?;
+    let array = described_of(alloc, opened, number);
+    let Ok(slab) = slab_within(array.dims(), hyper) else {
+        unreachable!()
+    };
+    let missing = missing_of(alloc, opened.image(), &array, &slab)?;
     Ok(WritePlan {
-        number: selected.number,
-        runs: selected.slab.runs(array.dims()),
+        runs: slab.runs(array.dims()),
         missing,
     })
 }

@@ -15,8 +15,6 @@ use Rattle.h5_model.specs.declared.edit_fault.EditFault.{EditFault}
 use Rattle.h5_model.specs.declared.edit_fault.EditFault.TheVariants.{NotAGroup, NotADataset, NotFound, NoSuchAttribute}
 use Rattle.h5_header.specs.Listed.{Listed, messages_in}
 use Rattle.h5_open.specs.Attributes.{attributes_of}
-use Rattle.h5_open.specs.Described.{Described}
-use Rattle.h5_open.specs.Told.{array_told}
 use Rattle.h5_model.specs.Format.Addresses.{SymbolTable}
 use Rattle.h5_open.specs.declared.opened.object.OpenedObject.{OpenedObject}
 use Rattle.h5_open.specs.declared.opened.object.OpenedContent.TheVariants as content
@@ -31,9 +29,9 @@ use Rattle.h5_model.specs.declared.object_no.ObjectNo.{ObjectNo}
 use Rattle.h5_query.specs.Found.{HasFound, TreeHasObject}
 use Rattle.h5_query.specs.Place.{PathLeadsTo}
 use Rattle.h5_query.specs.Look.{HasKind, HasLinksNamed, HasCell, HasAttribute, IsArrayKind}
-use Rattle.h5_query.specs.Kept.{IsHeaderThere, IsArrayAt, IsDescribedAt, names_of_group, array_dataset}
+use Rattle.h5_query.specs.Kept.{IsHeaderThere, IsArrayAt, names_of_group, array_dataset}
 use Rattle.h5_query.proofs.GroupLaws.{keys_are}
-use Rattle.h5_query.proofs.Indexed.{group_read, group_links, group_no_array, array_there, array_no_group, array_kept, array_described}
+use Rattle.h5_query.proofs.Indexed.{group_read, group_links, group_no_array, array_there, array_no_group}
 use Rattle.h5_query.proofs.RuleLaws.{list_here, no_dataset, dataset_here, first-behind, index_rules}
 
 abbrev attribute_rule : Tree → List ℕ → List ℕ → List (EditFault × Bool)
@@ -147,13 +145,7 @@ module _ (f : FileState) (number : ℕ) (object : OpenedObject) (of : IsObjectOf
       pub array_no_list : first_holding (list_rules T path) ≡ Some NotAGroup
       array_no_list = list_here T path number leads.0 leads.1 ∙ rw (array_no_group f number object of is) refl
 
-      pub described_there : (a : Described) → a ≡ array_told (messages_in f.image object.messages.list) → IsDescribedAt f path (number, a)
-      described_there a told =
+      pub array_numbered : (d : Dataset) × IsArrayAt T path (number, d)
+      array_numbered =
           let here = dataset_here T path number D leads.0 leads.1 (array_there f number object of is) in
-          subst (λ (x : Described). IsDescribedAt f path (number, x)) (sym told) (record {
-            accepted = here.0;
-            number = rw leads.1 refl;
-            found = here.1;
-            there = array_described f number object of is;
-            stored = (array_kept f number object of is).stored;
-          })
+          (D, record { accepted = here.0; number = rw leads.1 refl; found = here.1 })

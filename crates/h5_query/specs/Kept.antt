@@ -13,13 +13,10 @@ use Rattle.h5_open.specs.GroupTold.{links_told}
 use Rattle.h5_model.specs.Format.Addresses.{SymbolTable}
 use Rattle.h5_model.specs.declared.link.Link.{Link}
 use Rattle.h5_open.specs.Data.{AreDataRead, dataset_told}
-use Rattle.h5_open.specs.Described.{Described}
 use Rattle.h5_open.specs.Opened.Judged.{IsArrayList}
 use Rattle.h5_header.specs.Listed.{Listed, messages_in, IsWithin}
 use Rattle.h5_open.specs.Attributes.{attributes_of}
 use Rattle.h5_open.specs.Opened.Headers.{IsHeaderKept}
-use Rattle.h5_open.specs.Opened.State.{FileState}
-use Rattle.h5_open.specs.Written.{IsArrayThere}
 
 -- an object stands there, whose attributes are those of this header
 pub record IsHeaderThere (image : List ℕ) (tree : Tree) (path : List ℕ) (m : Listed) : Type 0 where
@@ -44,14 +41,6 @@ pub record IsArrayAt (tree : Tree) (path : List ℕ) (at : ℕ × Dataset) : Typ
   pub accepted : first_holding (dataset_rules tree path) ≡ None
   pub number : object_at tree path ≡ Some at.0
   pub found : dataset_at tree path ≡ Some at.1
-
--- the array that is described so stands there, and has this number; its data stand in the image
-pub record IsDescribedAt (f : FileState) (path : List ℕ) (at : ℕ × Described) : Type 0 where
-  pub accepted : first_holding (dataset_rules f.tree path) ≡ None
-  pub number : object_at f.tree path ≡ Some at.0
-  pub found : dataset_at f.tree path ≡ Some (dataset_told f.image at.1)
-  pub there : IsArrayThere f at.0 at.1
-  pub stored : AreDataRead f.image (at.1).fixed (at.1).layout
 
 -- the names of a group's links, and of one that was lent
 abbrev pub names_of_group : List ℕ → SymbolTable → List (List ℕ)

@@ -6,7 +6,7 @@ ghost use Rattle.h5_model.specs.Edits.Refusal.{first_holding};
 ghost use Rattle.h5_model.specs.Scripts.Reading.{dataset_rules};
 ghost use Rattle.h5_model.specs.Tree.Objects.{Dataset, dataset_of};
 ghost use Rattle.h5_query.specs.Data.{AreDataRead};
-ghost use Rattle.h5_query.specs.Kept.{IsArrayAt, IsArrayKept, IsDescribedAt, array_dataset};
+ghost use Rattle.h5_query.specs.Kept.{IsArrayAt, IsArrayKept, array_dataset};
 ghost use Rattle.h5_query.specs.Look.{IsNoDataset};
 ghost use Rattle.h5_query.specs.Opened.Sound.{IsSound};
 ghost use Rattle.h5_query.specs.Written.{IsArrayThere};
@@ -31,27 +31,23 @@ pub fn array_at<'a>(
         first_holding (dataset_rules tree path.now) ≡ Some e) }
     ensures sound { IsSound opened.now }
 {
-    let (number, array) = described_at(alloc, opened, path)?;
-    Ok((number, StoredArray::new(opened.image(), array)))
+    let image = opened.image();
+    let number = array_number(opened, path)?;
+    let array = described_of(alloc, opened, number);
+    Ok((number, StoredArray::new(image, array)))
 }
 
-/// The array at the path as its header describes it, with its number. Its data were read.
+/// The number of the array at the path.
 ///
 /// Refused as [`array_at`] is. It takes no memory.
-pub fn described_at<'a>(
-    alloc: Global,
-    opened: &'a Opened,
-    path: &[u8],
-) -> Result<(u32, ArrayRef<'a>), EditFault>
-    ensures there { let f = opened.now in
-        MatchResult result (IsDescribedAt f path.now) (λ e.
-        first_holding (dataset_rules f.tree path.now) ≡ Some e) }
-    ensures sound { IsSound opened.now }
+pub fn array_number(opened: &Opened, path: &[u8]) -> Result<u32, EditFault>
+    ensures { let tree = opened.now.tree in
+        MatchResult result (λ number. (d : Dataset) × IsArrayAt tree path.now (number, d)) (λ e.
+        first_holding (dataset_rules tree path.now) ≡ Some e) }
 {
-    let image = opened.image();
     match look(opened, path)? {
         Place::Object { number, object } => match &object.content {
-            OpenedContent::Array => Ok((number, known_array(alloc, image, &object.messages))),
+            OpenedContent::Array => Ok(number),
             OpenedContent::Group(_) => Err(EditFault::NotADataset),
         },
         Place::Soft(_) => Err(EditFault::NotADataset),

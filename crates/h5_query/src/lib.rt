@@ -15,7 +15,7 @@ mod place;
 mod selection;
 mod step;
 
-pub use array::{array_at, array_of, described_at, described_of};
+pub use array::{array_at, array_number, array_of, described_of};
 pub use attributes::{attributes_at, names_of_attributes, one_attribute};
 pub use cells::one_cell;
 pub use found::{Found, found_at};

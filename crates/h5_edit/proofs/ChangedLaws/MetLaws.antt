@@ -3,7 +3,6 @@ use Rattle.std.proofs.Common.{◌≡◌, ℕ, List, Option, Some, None, refl, sy
 use Rattle.std.specs.Prelude.{IfOk, Result, Ok, Err, option_map}
 use Rattle.std.specs.Borrow.{Bor}
 use Rattle.std.specs.declared.alloc.AllocError.{AllocError}
-use Rattle.h5_layout.specs.Described.{Described}
 use Rattle.h5_model.specs.Format.Messages.{Message}
 use Rattle.h5_model.specs.Tree.Objects.{Dataset}
 use Rattle.h5_query.specs.Told.{array_told}

@@ -1,5 +1,5 @@
 -- Objects in slots with one of them changed or taken out.
-use Rattle.std.proofs.Common.{◌≡◌, ℕ, zero, suc, ◌+◌, ◌<◌, List, [], ◌∷◌, length, map, get_or, Bool, true, false, cond, Option, Some, None, Vec, refl, sym, ap, ◌∙◌, subst, arith, not, nat_eq}
+use Rattle.std.proofs.Common.{◌≡◌, ℕ, zero, suc, ◌<◌, List, [], ◌∷◌, length, map, get_or, Bool, true, false, cond, Option, Some, None, Vec, refl, sym, ap, ◌∙◌, subst, arith, not, nat_eq}
 use Rattle.std.specs.Prelude.{◌==◌, slice_get, slice_set, option_map}
 use Rattle.std.specs.declared.alloc.Global.{Global}
 use Rattle.std.specs.Option.{option_flatten, option_map_or, option_and_then}
@@ -13,7 +13,7 @@ use Rattle.std.proofs.lemmas.Slice.Zip.{AllZip-long}
 use Rattle.h5_laws.specs.Trees.Unlinked.{without_link, without_object}
 use Rattle.h5_model.specs.Edits.Applied.{with_links}
 use Rattle.h5_model.specs.Tree.Links.{tree_link}
-use Rattle.h5_model.specs.Tree.Objects.{Tree, Object, Content, Group, Array, Dataset, Link, Links, with_object, dataset_in, dataset_of}
+use Rattle.h5_model.specs.Tree.Objects.{Tree, Object, Content, Group, Array, Dataset, Link, Links, dataset_in, dataset_of}
 use Rattle.h5_model.specs.declared.link.Link.{Link as LinkOf}
 use Rattle.h5_model.specs.declared.object_no.ObjectNo.{ObjectNo}
 use Rattle.h5_query.specs.Opened.State.{FileState}

@@ -1,6 +1,6 @@
 -- The array of an opened image with the storage that was missing of it, as it is handed to the writer.
-use Rattle.std.proofs.Common.{◌≡◌, ℕ, ◌≤◌, suc, ◌<◌, List, [], ◌∷◌, length, get_or, map, zero, Bool, ◌||◌, Option, Some, None, true, false, refl, sym, ap, ◌∙◌, subst, arith}
-use Rattle.std.specs.Prelude.{ℤ, ◌==◌}
+use Rattle.std.proofs.Common.{◌≡◌, ℕ, List, [], length, map, Option, Some, None, true, false, refl, sym, ap, ◌∙◌, subst, arith}
+use Rattle.std.specs.Prelude.{◌==◌}
 use Rattle.std.proofs.lemmas.Bool.Decides.{nat_tests}
 use Rattle.h5_layout.specs.Described.{Described}
 use Rattle.h5_layout.specs.HeldChunks.{AreStoredChunks, AreStoredWith, HeldCells, chunk_values, held_chunks}
@@ -9,23 +9,21 @@ use Rattle.h5_layout.proofs.RoomLaws.{is_array}
 use Rattle.h5_layout.proofs.HeldWith.{with_all, with_parts, with_stored}
 use Rattle.h5_model.specs.Format.Cells.{cells_of}
 use Rattle.h5_model.specs.Format.Layout.{Layout, InMessage, InBlock, InChunks}
-use Rattle.h5_model.specs.Format.Messages.{Message, first_body}
+use Rattle.h5_model.specs.Format.Messages.{Message}
 use Rattle.h5_model.specs.Format.Reads.{storage_of}
 use Rattle.h5_model.specs.Edits.Refusal.{is_chunked}
 use Rattle.h5_model.specs.Tree.Objects.{Dataset, Storage, Contiguous, Chunked}
 use Rattle.h5_model.specs.Tree.Places.{cells}
-use Rattle.h5_model.specs.Views.Selection.{Slab, Within}
+use Rattle.h5_model.specs.Views.Selection.{Slab}
 use Rattle.h5_query.specs.Data.{AreDataRead, data_blocks, stored_chunks}
 use Rattle.h5_query.specs.Kept.{array_dataset}
 use Rattle.h5_query.specs.Opened.Judged.{IsArrayList}
 use Rattle.h5_query.specs.Stored.{has_room}
 use Rattle.h5_query.specs.Told.{array_told, layout_told, type_told}
 use Rattle.h5_query.proofs.DataLaws.{data_there}
-use Rattle.h5_repack.specs.Bodies.Headers.{AreStoredFor}
 use Rattle.h5_repack.specs.Blocks.ArrayHeader.{storage_by}
 use Rattle.h5_repack.specs.Blocks.Written.{AreHeldOf, chunks_of, part_offsets}
 use Rattle.h5_repack.specs.Objects.Objects.{IsNewArray}
-use Rattle.h5_repack.specs.declared.blocks.cells.Cells.{Cells}
 use Rattle.h5_repack.specs.declared.blocks.cells.Cells.TheVariants.{Filled, Chunks}
 use Rattle.h5_repack.proofs.ChunkLaws.StoredFor.{chunks_of_stored, held_for, stored_for, unchunked_stored}
 use Rattle.h5_edit.specs.Changed.Missing.{IsMissing, IsMissingIn}

@@ -1,6 +1,6 @@
 -- An array in which cells are written, or that gets storage for its cells, can be written in the plain layout (File Format Specification
 -- 3.0, section IV.A.2.i).
-use Rattle.std.proofs.Common.{◌≡◌, ℕ, suc, zero, ◌||◌, ◌≤◌, List, [], ◌∷◌, length, Bool, true, false, nat_lt, refl, sym, ap, ◌∙◌, subst, arith}
+use Rattle.std.proofs.Common.{◌≡◌, ℕ, suc, zero, ◌≤◌, List, [], ◌∷◌, length, Bool, true, false, nat_lt, refl, sym, ap, ◌∙◌, subst, arith}
 use Rattle.std.specs.Prelude.{ℤ, filter}
 use Rattle.std.specs.List.{list_all, range_with_len}
 use Rattle.std.proofs.lemmas.Bool.{and_parts}

@@ -1,10 +1,8 @@
 -- Why an unlink is refused, or that it is not, by what stands at its path.
-use Rattle.std.proofs.Common.{◌≡◌, ℕ, ◌+◌, ◌≤◌, List, [], ◌∷◌, length, refl, sym, ap, ◌∙◌, Bool, true, false, cond, Option, Some, None, inl, inr, arith}
-use Rattle.std.specs.Prelude.{◌||◌, ◌==◌, IsSome, is_none, is_some, nat_lt, if◌then◌else◌}
-use Rattle.std.specs.FinMap.{FinMap, get, len, len-entries}
-use Rattle.std.specs.List.{list_any}
+use Rattle.std.proofs.Common.{◌≡◌, ℕ, ◌+◌, ◌≤◌, List, [], ◌∷◌, length, refl, sym, ap, ◌∙◌, Bool, true, false, cond, Option, Some, None, arith}
+use Rattle.std.specs.Prelude.{◌||◌, ◌==◌, is_none, is_some, nat_lt, if◌then◌else◌}
+use Rattle.std.specs.FinMap.{get, len, len-entries}
 use Rattle.std.specs.Option.{option_map_or, option_and_then}
-use Rattle.std.specs.Ordering.{nat_cmp}
 use Rattle.std.proofs.lemmas.Bool.Decides.{nat_tests}
 use Rattle.std.proofs.lemmas.List.{length-map}
 use Rattle.h5_model.specs.Format.Addresses.{SymbolTable}
@@ -12,8 +10,7 @@ use Rattle.h5_model.specs.Format.Messages.{prefix_at, reference_count}
 use Rattle.h5_model.specs.Format.Symbols.{Target}
 use Rattle.h5_model.specs.Tree.Objects.{Tree, Links, Link, ToObject, Soft, links_of, link_in, hard_links}
 use Rattle.h5_model.specs.Tree.Paths.{Located, Here, Missing, NoParent, NoGroup, NoPath, names_of, locate, located, object_there, parent_from, parent_at}
-use Rattle.h5_model.specs.Edits.Refusal.{refusal_of, first_holding, some_path, bad_text, is_deep, is_root, has_no_parent, has_no_group, is_missing, not_found, unlinks_full}
-use Rattle.h5_model.specs.declared.edits.Edit.{Edit}
+use Rattle.h5_model.specs.Edits.Refusal.{refusal_of, first_holding, is_deep, is_root, has_no_parent, has_no_group, is_missing, unlinks_full}
 use Rattle.h5_model.specs.declared.edits.Edit.TheVariants.{Unlink}
 use Rattle.h5_model.specs.declared.edit_fault.EditFault.{EditFault}
 use Rattle.h5_model.specs.declared.edit_fault.EditFault.TheVariants as fault
@@ -23,7 +20,6 @@ use Rattle.h5_laws.specs.Trees.Sound.{IsSoundTree}
 use Rattle.h5_laws.proofs.SoundLaws.Counts.{link_counts}
 use Rattle.h5_laws.proofs.SoundLaws.Read.{reads_sound}
 use Rattle.h5_query.specs.GroupTold.{links_told}
-use Rattle.h5_query.specs.Links.{IsGroupRead}
 use Rattle.h5_query.specs.OpenedObjectType.{OpenedObject}
 use Rattle.h5_query.specs.OpenedContentType.TheVariants as content
 use Rattle.h5_query.specs.Opened.Objects.{link_to, links_by}
@@ -36,7 +32,6 @@ use Rattle.h5_edit.specs.Refusals.Removed.{IsRemoval, has_links_at}
 use Rattle.h5_edit.specs.declared.rules.unlink.Removal.{Removal}
 use Rattle.h5_edit.proofs.RuleLaws.Counts.{links_counted}
 use Rattle.h5_edit.proofs.RuleLaws.NewPaths.{at_root, below_root}
-use Rattle.h5_edit.proofs.RuleLaws.TableLaws.{or_false}
 
 -- ---- the rules
 

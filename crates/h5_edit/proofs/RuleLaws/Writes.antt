@@ -5,7 +5,7 @@ use Rattle.std.specs.Prelude.{ℤ, ◌==◌, if◌then◌else◌}
 use Rattle.std.specs.List.{list_all, list_any}
 use Rattle.std.specs.Option.{option_map_or}
 use Rattle.h5_model.specs.Edits.Refusal.{refusal_of, first_holding}
-use Rattle.h5_model.specs.Format.Fixed.{fits}
+use Rattle.h5_model.specs.Format.Fixed.{Fixed, fits}
 use Rattle.h5_model.specs.Scripts.Reading.{dataset_rules}
 use Rattle.h5_model.specs.Tree.Objects.{Tree, Dataset}
 use Rattle.h5_model.specs.Tree.Paths.{dataset_at}
@@ -44,6 +44,12 @@ module _ (tree : Tree) (next : ℕ) (path : List ℕ) (hyper : Hyper) (values : 
       → refusal_of tree next (Write path hyper values) ≡ first_holding (hyper_rules d.sizes hyper ++ value_rules d.fixed hyper values)
   write_left d h at = write_table ∙ first-behind (dataset_rules tree path) (asked_of (dataset_at tree path)) h ∙ ap (λ (found : Option Dataset). first_holding (asked_of found)) at
 
+  pub path_allowed : refusal_of tree next (Write path hyper values) ≡ None → first_holding (dataset_rules tree path) ≡ None
+  path_allowed h = by_fault (first_holding (dataset_rules tree path)) refl where
+    by_fault : (found : Option EditFault) → first_holding (dataset_rules tree path) ≡ found → first_holding (dataset_rules tree path) ≡ None
+    by_fault None is = is
+    by_fault (Some e) is = absurd (let never : None ≡ Some e = sym h ∙ write_refused e is in cc)
+
 -- ---- how many cells
 
 -- of an array that is no larger than arrays may be, so few are selected that a number of 64 bits tells how many
@@ -53,27 +59,28 @@ exact_count count many n few is other same = other (let exact : min many (2 ^ 64
 pub same_count : (count many n : ℕ) → many ≤ 2 ^ 40 → count ≡ min many (2 ^ 64 - 1) → count ≡ n → n ≡ many
 same_count count many n few is same = let exact : min many (2 ^ 64 - 1) ≡ many = omega arith in sym same ∙ is ∙ exact
 
--- ---- values
+-- ---- the selection and the values
 
-module _ (tree : Tree) (next : ℕ) (path : List ℕ) (hyper : Hyper) (values : List ℤ) (d : Dataset)
-    (there : first_holding (dataset_rules tree path) ≡ None) (at : dataset_at tree path ≡ Some d) where
-  pub slab_refused : (e : EditFault) → first_holding (hyper_rules d.sizes hyper) ≡ Some e → refusal_of tree next (Write path hyper values) ≡ Some e
-  slab_refused e h = write_left tree next path hyper values d there at ∙ first-found (hyper_rules d.sizes hyper) (value_rules d.fixed hyper values) e h
+module _ (sizes : List ℕ) (fixed : Fixed) (hyper : Hyper) (values : List ℤ) where
+  abbrev first_left : Option EditFault
+  first_left = first_holding (hyper_rules sizes hyper ++ value_rules fixed hyper values)
 
-  module _ (selects : first_holding (hyper_rules d.sizes hyper) ≡ None) where
-    values_left : refusal_of tree next (Write path hyper values) ≡ first_holding (value_rules d.fixed hyper values)
-    values_left = write_left tree next path hyper values d there at ∙ first-behind (hyper_rules d.sizes hyper) (value_rules d.fixed hyper values) selects
+  pub slab_refused : (e : EditFault) → first_holding (hyper_rules sizes hyper) ≡ Some e → first_left ≡ Some e
+  slab_refused e h = first-found (hyper_rules sizes hyper) (value_rules fixed hyper values) e h
 
-    by_values : (counted fitting : Bool) → (length values == selected_cells (axes_of hyper)) ≡ counted → list_all (fits d.fixed) values ≡ fitting
-        → refusal_of tree next (Write path hyper values) ≡ (if not counted then Some fault.ValueCount else (if not fitting then Some fault.ValueRange else None))
-    by_values counted fitting count fit = values_left ∙ (λ i. first_holding ((fault.ValueCount, not (count i)) ∷ (fault.ValueRange, not (fit i)) ∷ []))
+  module _ (selects : first_holding (hyper_rules sizes hyper) ≡ None) where
+    by_values : (counted fitting : Bool) → (length values == selected_cells (axes_of hyper)) ≡ counted → list_all (fits fixed) values ≡ fitting
+        → first_left ≡ (if not counted then Some fault.ValueCount else (if not fitting then Some fault.ValueRange else None))
+    by_values counted fitting count fit =
+        first-behind (hyper_rules sizes hyper) (value_rules fixed hyper values) selects
+        ∙ (λ i. first_holding ((fault.ValueCount, not (count i)) ∷ (fault.ValueRange, not (fit i)) ∷ []))
 
-    pub count_refused : length values ≢ selected_cells (axes_of hyper) → refusal_of tree next (Write path hyper values) ≡ Some fault.ValueCount
-    count_refused other = by_values false (list_all (fits d.fixed) values) (grind (arith, nat_tests)) refl
+    pub count_refused : length values ≢ selected_cells (axes_of hyper) → first_left ≡ Some fault.ValueCount
+    count_refused other = by_values false (list_all (fits fixed) values) (grind (arith, nat_tests)) refl
 
     module _ (counted : length values ≡ selected_cells (axes_of hyper)) where
-      pub range_refused : list_all (fits d.fixed) values ≡ false → refusal_of tree next (Write path hyper values) ≡ Some fault.ValueRange
+      pub range_refused : list_all (fits fixed) values ≡ false → first_left ≡ Some fault.ValueRange
       range_refused other = by_values true false (grind (arith, nat_tests)) other
 
-      pub write_allowed : list_all (fits d.fixed) values ≡ true → refusal_of tree next (Write path hyper values) ≡ None
-      write_allowed fit = by_values true true (grind (arith, nat_tests)) fit
+      pub cells_allowed : list_all (fits fixed) values ≡ true → first_left ≡ None
+      cells_allowed fit = by_values true true (grind (arith, nat_tests)) fit

@@ -1,8 +1,8 @@
 -- Storage that is missing of an array, and the changes that make it (File Format Specification 3.0, sections III.A.1 and IV.A.2.i).
-use Rattle.std.specs.Prelude.{◌≡◌, ℕ, Bool, true, false, Option, Some, None, List}
+use Rattle.std.specs.Prelude.{◌≡◌, ℕ, true, false, Option, Some, None, List}
 use Rattle.h5_layout.specs.Described.{Described}
 use Rattle.h5_layout.specs.NewChunks.{AreMissing}
-use Rattle.h5_model.specs.Format.Layout.{Layout, InMessage, InBlock, InChunks}
+use Rattle.h5_model.specs.Format.Layout.{Layout, InBlock, InChunks}
 use Rattle.h5_model.specs.Views.Selection.{Slab}
 use Rattle.h5_query.specs.Opened.State.{FileState}
 use Rattle.h5_query.specs.Written.{IsArrayThere}

@@ -1,19 +1,24 @@
 -- Edits of an opened image that no rule of its tree refuses, and where they take place.
-use Rattle.std.specs.Prelude.{◌≡◌, ℕ, ℤ, Some, None, List}
+use Rattle.std.specs.Prelude.{◌≡◌, ℕ, ◌^◌, ◌≤◌, ℤ, true, IfSome, IsSome, Some, None, List, length}
+use Rattle.std.specs.List.{list_all}
+use Rattle.h5_layout.specs.Described.{Described}
+use Rattle.h5_layout.specs.Standing.{IsStandingAt, address_at}
+use Rattle.h5_model.specs.Format.Fixed.{fits}
+use Rattle.h5_model.specs.Tree.Places.{cells}
 use Rattle.h5_model.specs.Tree.Paths.{dataset_at, object_at, parent_at}
 use Rattle.h5_model.specs.Edits.Refusal.{refusal_of}
 use Rattle.h5_model.specs.Tree.Objects.{Tree, Dataset}
-use Rattle.h5_model.specs.Views.Selection.{axes_of}
 use Rattle.h5_model.specs.declared.edits.Edit.{Edit}
 use Rattle.h5_model.specs.declared.edits.Edit.TheVariants.{Write, Resize}
 use Rattle.h5_model.specs.declared.edit_fault.EditFault.{EditFault}
 use Rattle.h5_model.specs.declared.hyperslab.Hyper.{Hyper}
-use Rattle.h5_query.specs.Data.{AreDataRead}
+use Rattle.h5_query.specs.StandingCellsType.{StandingCells}
 use Rattle.h5_query.specs.Opened.State.{FileState}
-use Rattle.h5_query.specs.Selected.{IsSlabOf}
 use Rattle.h5_query.specs.Written.{IsArrayThere}
+use Rattle.h5_shape.specs.OneRun.{IsOneRun}
+use Rattle.h5_shape.specs.declared.runs.CellRun.{CellRun}
 use Rattle.h5_edit.specs.declared.rules.place.NewPlace.{NewPlace}
-use Rattle.h5_edit.specs.declared.rules.write.SelectedArray.{SelectedArray}
+use Rattle.h5_edit.specs.declared.rules.write.WriteTarget.{WriteTarget}
 
 -- no rule refuses the edit, and its new link is to stand in this group under this name
 pub record IsPlaceAllowed (tree : Tree) (next : ℕ) (path : List ℕ) (edit : Edit) (p : NewPlace) : Type 0 where
@@ -25,14 +30,38 @@ pub record IsAt (tree : Tree) (next : ℕ) (path : List ℕ) (edit : Edit) (numb
   pub allowed : refusal_of tree next edit ≡ None
   pub object : object_at tree path ≡ Some number
 
--- no rule refuses the write; the array at its path has this number and is described so, its data stand in the image, and its lists are
--- this selection, which is within its sizes
-pub record IsWriteAt (f : FileState) (path : List ℕ) (hyper : Hyper) (values : List ℤ) (s : SelectedArray) : Type 0 where
-  pub at : IsAt f.tree f.next path (Write path hyper values) s.number
-  pub there : IsArrayThere f s.number s.array
-  pub stored : AreDataRead f.image s.array.fixed s.array.layout
-  pub axes : s.slab ≡ axes_of hyper
-  pub slab_of : IsSlabOf s.array.sizes s.slab
+-- no rule refuses the write, and the object at its path is the array of this number
+pub record IsWriteAt (f : FileState) (path : List ℕ) (hyper : Hyper) (values : List ℤ) (number : ℕ) : Type 0 where
+  pub at : IsAt f.tree f.next path (Write path hyper values) number
+  pub array : Described
+  pub there : IsArrayThere f number array
+
+-- the cells that are selected of an array are one run, with a value of its type for each
+pub record AreValuesOfRun (a : Described) (hyper : Hyper) (values : List ℤ) (run : CellRun) : Type 0 where
+  pub selected : IsOneRun a.sizes hyper run
+  pub counted : length values ≡ run.length
+  pub of_type : list_all (fits a.fixed) values ≡ true
+
+-- and they stand one behind another in the image, as these
+pub record AreSelectedStanding (image : List ℕ) (a : Described) (hyper : Hyper) (values : List ℤ) (cells : StandingCells) : Type 0 where
+  pub run : CellRun
+  pub valued : AreValuesOfRun a hyper values run
+  pub type_is : cells.fixed ≡ a.fixed
+  pub place_is : cells.place ≡ run.place
+  pub standing : IsStandingAt image a run.place run.length cells.at
+
+-- one cell alone is selected, with a value of the type, and it is stored in a block or in a chunk
+pub record IsOneStored (image : List ℕ) (a : Described) (hyper : Hyper) (values : List ℤ) : Type 0 where
+  pub run : CellRun
+  pub valued : AreValuesOfRun a hyper values run
+  pub one : run.length ≡ 1
+  pub stored : IsSome (address_at image a run.place)
+
+-- the write takes place at this array, and where its cells were found to stand together, they do
+pub record IsTarget (f : FileState) (path : List ℕ) (hyper : Hyper) (values : List ℤ) (t : WriteTarget) : Type 0 where
+  pub write : IsWriteAt f path hyper values t.number
+  pub few : cells (write.array).sizes ≤ 2 ^ 40
+  pub found : IfSome t.standing (AreSelectedStanding f.image write.array hyper values)
 
 -- no rule refuses the resize; the array at its path has this number
 abbrev pub IsResizeAt : Tree → ℕ → List ℕ → List ℕ → ℕ → Type 0

@@ -1,6 +1,6 @@
 use Rattle.std.proofs.Common.{◌∙◌, ap}
 use Rattle.h5_space.specs.Space.{Space}
-use Rattle.h5_edit.proofs.OpenedAnew.{anew_reading, anew_superblock, anew_end, holds_anew, holds_image, holds_table, next_within, read_at, reads_now}
+use Rattle.h5_edit.proofs.OpenedAnew.{anew_reading, holds_anew, holds_image, holds_table, next_within, read_at, reads_now}
 use Rattle.h5_edit.proofs.opening.open_made.Goals as goal
 
 pub open_written-requires-clause-read : goal.open_written-requires-clause-read

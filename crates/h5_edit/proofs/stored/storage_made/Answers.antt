@@ -1,11 +1,11 @@
-use Rattle.std.proofs.Common.{ap, arith, length, refl, subst, Some, ◌∙◌, ◌+◌, ◌≡◌, ℕ, List}
+use Rattle.std.proofs.Common.{ap, arith, length, subst, Some, ◌∙◌, ◌≡◌}
 use Rattle.h5_model.specs.Format.Superblock.{leaf_k, internal_k}
 use Rattle.h5_model.specs.Tree.Objects.{Tree}
 use Rattle.h5_model.specs.Views.Selection.{axes_of}
 use Rattle.h5_repack.specs.Objects.Objects.{AreObjects, stored_in}
 use Rattle.h5_edit.specs.Stored.{tree_stored}
 use Rattle.h5_edit.specs.StoredChunks.{AreStoredAfter}
-use Rattle.h5_edit.proofs.AnsweredStores.{change_gives, few_stored, no_memory, plain_change, stored_answered, stored_to_write, stores}
+use Rattle.h5_edit.proofs.AnsweredStores.{change_gives, no_memory, plain_change, stored_answered, stored_to_write, stores}
 use Rattle.h5_edit.proofs.stored.storage_made.Goals as goal
 
 pub changed_objects-requires-clause-plain : goal.changed_objects-requires-clause-plain

@@ -1,4 +1,4 @@
-use Rattle.std.proofs.Common.{refl, ◌∙◌, ap}
+use Rattle.std.proofs.Common.{refl, ◌∙◌}
 use Rattle.std.proofs.lemmas.Result.{err_from_is_err_and}
 use Rattle.h5_model.specs.declared.edits.Edit.TheVariants.{Write}
 use Rattle.h5_edit.specs.Stored.{tree_stored}

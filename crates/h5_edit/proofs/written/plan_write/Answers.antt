@@ -1,40 +1,24 @@
-use Rattle.std.proofs.Common.{◌^◌, ◌≤◌, sym, arith}
-use Rattle.std.proofs.lemmas.Result.{err_from_is_err_and}
+use Rattle.std.proofs.Common.{◌^◌, ◌≤◌, arith}
 use Rattle.h5_model.specs.Tree.Places.{cells}
-use Rattle.h5_model.specs.declared.edits.Edit.TheVariants.{Write}
 use Rattle.h5_shape.proofs.Products.{cells_le}
-use Rattle.h5_edit.proofs.Refusals.{by_rule}
-use Rattle.h5_edit.proofs.RuleLaws.Exits.{passed_on}
-use Rattle.h5_edit.proofs.WriteSteps.{no_memory, planned}
+use Rattle.h5_edit.proofs.WriteSteps.{planned, selected_somehow}
 use Rattle.h5_edit.proofs.written.plan_write.Goals as goal
 
-pub returns-in_err-selected-clause-planned : goal.returns-in_err-selected-clause-planned
-returns-in_err-selected-clause-planned c =
-    passed_on _ _ c.from_residual.result _ c.from_residual.ensures.1
-    (by_rule c.args.opened.now (Write c.args.path.now c.args.hyper.now c.args.values.now) _ c.in_err-selected.ensures.at)
+pub unreachable-requires : goal.unreachable-requires
+unreachable-requires c =
+    selected_somehow c.requires.2 c.described_of-array.result c.described_of-array.ensures.there _ (rw c.dims.ensures.sizes at c.in_default.ensures.rules)
 
-pub missing_of-requires-clause-stored : goal.missing_of-requires-clause-stored
-missing_of-requires-clause-stored c = rw c.image.ensures.bytes c.in_ok-selected.ensures.at.stored
-
-pub missing_of-requires-clause-slab : goal.missing_of-requires-clause-slab
-missing_of-requires-clause-slab c = c.in_ok-selected.ensures.at.slab_of
-
-pub returns-in_err-missing-clause-planned : goal.returns-in_err-missing-clause-planned
-returns-in_err-missing-clause-planned c =
-    let p = err_from_is_err_and c.from_residual-in_err-missing.result c.from_residual-in_err-missing.ensures.1 in
-    rw (p.1, p.2) (no_memory c.in_ok-selected.ensures.at)
-
-pub runs-requires : goal.runs-requires
-runs-requires c =
+pub runs-requires-clause-small : goal.runs-requires-clause-small
+runs-requires-clause-small c =
     let small = c.dims.ensures.sound.small in
-    let le = cells_le c.in_ok-selected.selected.array.sizes in
-    let is = c.in_ok-selected.ensures.at.slab_of in
-    rw c.dims.ensures.sizes (record { rank = sym is.rank; within = is.within; small = omega (arith, small, le) })
+    let le = cells_le c.described_of-array.result.sizes in
+    rw c.dims-2.ensures.sizes (omega (arith, small, le))
 
 pub returns-clause-planned : goal.returns-clause-planned
-returns-clause-planned c =
-    let s = c.in_ok-selected.selected in
+returns-clause-planned c path values is =
+    let a = c.described_of-array.result in
     let small = c.dims.ensures.sound.small in
-    let le = cells_le s.array.sizes in
-    let few : cells s.array.sizes ≤ 2 ^ 40 = omega (arith, small, le) in
-    planned c.in_ok-selected.ensures.at _ (rw c.image.ensures.bytes at c.in_ok-missing.ensures) _ (rw c.dims.ensures.sizes at c.runs.ensures.places) c.runs.ensures.maximal few
+    let le = cells_le a.sizes in
+    let few : cells a.sizes ≤ 2 ^ 40 = omega (arith, small, le) in
+    planned is a c.described_of-array.ensures.there c.in-Ok.slab (c.in-Ok.ensures.rules.1) _ (rw c.image.ensures.bytes at c.in_ok-missing.ensures) _
+    (rw c.dims-2.ensures.sizes at c.runs.ensures.places) c.runs.ensures.maximal few

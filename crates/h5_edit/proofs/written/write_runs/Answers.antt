@@ -1,4 +1,4 @@
-use Rattle.std.proofs.Common.{◌≡◌, ℕ, ◌+◌, ◌≤◌, length, drop, take, refl, sym, ap, ◌∙◌, arith}
+use Rattle.std.proofs.Common.{◌+◌, length, drop, take, refl, sym, ap, ◌∙◌, arith}
 use Rattle.h5_edit.proofs.WrittenRuns.{all_written, drop_twice, length_rest, none_first, one_more, room, run_stored}
 use Rattle.h5_edit.proofs.written.write_runs.Goals as goal
 

@@ -1,5 +1,4 @@
 use Rattle.std.proofs.Common.{sym, subst}
-use Rattle.h5_model.specs.Edits.Applied.{with_links}
 use Rattle.h5_repack.specs.Objects.Objects.{IsNewObject}
 use Rattle.h5_repack.specs.declared.objects.object.NewContent.{NewContent}
 use Rattle.h5_edit.proofs.ChangedLaws.SlotLaws.{array_stays, group_dropped, less}

@@ -1,4 +1,4 @@
-use Rattle.std.proofs.Common.{◌≡◌, Option, Some, sym, ap, ◌∙◌, subst}
+use Rattle.std.proofs.Common.{Some, ap, ◌∙◌}
 use Rattle.h5_header.specs.Listed.{messages_in}
 use Rattle.h5_query.specs.Kept.{array_dataset}
 use Rattle.h5_edit.specs.declared.change.edit.ObjectEdit.{ObjectEdit}

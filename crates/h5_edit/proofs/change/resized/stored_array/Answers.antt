@@ -1,4 +1,4 @@
-use Rattle.std.proofs.Common.{◌≡◌, Some, List, ℕ, sym, ap, ◌∙◌, subst}
+use Rattle.std.proofs.Common.{Some, sym, subst}
 use Rattle.h5_header.specs.Listed.{messages_in}
 use Rattle.h5_query.specs.Data.{stored_chunks}
 use Rattle.h5_query.specs.Kept.{array_dataset}

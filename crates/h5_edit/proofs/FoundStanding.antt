@@ -1,0 +1,105 @@
+-- Selected cells that are one run: why nothing refuses them, and what is known where they were found to stand together or were not.
+use Rattle.std.proofs.Common.{◌≡◌, ℕ, ℤ, ◌+◌, ◌<◌, ◌≤◌, List, [], ◌∷◌, Bool, true, false, not, Result, Ok, Err, if◌then◌else◌, Option, Some, None, length, refl, sym, ap, ◌∙◌, subst}
+use Rattle.std.specs.Prelude.{◌++◌, ◌&&◌, is_some, nat_le}
+use Rattle.std.specs.List.{Contains, list_any, range_with_len}
+use Rattle.std.specs.Option.{IfSome}
+use Rattle.h5_laws.proofs.Lists.{all_in, contains_in}
+use Rattle.h5_layout.specs.Described.{Described}
+use Rattle.h5_model.specs.Edits.Refusal.{first_holding}
+use Rattle.h5_model.specs.Tree.Places.{cells}
+use Rattle.h5_model.specs.Views.Selection.{Slab, axes_of, has_rank, has_no_stride, overlaps, is_within, selected_cells, selection_of}
+use Rattle.h5_model.specs.declared.edit_fault.EditFault.TheVariants as fault
+use Rattle.h5_model.specs.declared.hyperslab.Hyper.{Hyper}
+use Rattle.h5_model.proofs.RefusalLaws.{length-axes_of}
+use Rattle.h5_model.proofs.CountLaws.{length-selection}
+use Rattle.h5_model.proofs.WithinLaws.{to_is_within}
+use Rattle.h5_query.specs.Selected.{hyper_rules}
+use Rattle.h5_query.specs.StandingCellsType.{StandingCells}
+use Rattle.h5_shape.specs.OneRun.{IsOneRun}
+use Rattle.h5_shape.specs.Runs.{AreMaximal, places_in}
+use Rattle.h5_shape.specs.Slab.{is_of_one_rank}
+use Rattle.h5_shape.specs.declared.runs.CellRun.{CellRun}
+use Rattle.h5_shape.specs.declared.slab.SlabFault.{SlabFault}
+use Rattle.h5_shape.specs.declared.slab.SlabFault.TheVariants as slab_fault
+use Rattle.h5_shape.proofs.RunLaws.{places_of_runs, runs-maximal}
+use Rattle.h5_edit.specs.Refusals.Allowed.{AreSelectedStanding}
+use Rattle.h5_edit.specs.Refusals.Rules.{value_rules}
+use Rattle.h5_edit.proofs.MetStored.{place_low}
+use Rattle.h5_edit.proofs.RuleLaws.Writes.{cells_allowed}
+use Rattle.h5_edit.proofs.WrittenRuns.{ends_in, length_range, places_one}
+
+and_first : (a b : Bool) → (a && b) ≡ true → a ≡ true
+and_first true b both = refl
+and_first false b both = absurd (let never : false ≡ true = both in cc)
+
+not_true : (b : Bool) → not b ≡ false → b ≡ true
+not_true true is = refl
+not_true false is = absurd (let never : true ≡ false = is in cc)
+
+-- what four lists keep to that are a selection
+module _ (slab : Slab) where
+  abbrev judged : Bool → Bool → Bool → Result Slab SlabFault
+  judged rank strides apart =
+      if not rank then Err slab_fault.RankMismatch
+      else if strides then Err slab_fault.StrideZero
+      else if apart then Err slab_fault.BlocksOverlap
+      else Ok slab
+
+  kept : (rank strides apart : Bool) → judged rank strides apart ≡ Ok slab → (rank ≡ true) × (strides ≡ false) × (apart ≡ false)
+  kept false strides apart is = absurd (cc)
+  kept true true apart is = absurd (cc)
+  kept true false true is = absurd (cc)
+  kept true false false is = (refl, refl, refl)
+
+module _ (sizes : List ℕ) (hyper : Hyper) (run : CellRun) (is : IsOneRun sizes hyper run) where
+  abbrev slab : Slab
+  slab = axes_of hyper
+
+  abbrev selection : List ℕ
+  selection = selection_of sizes slab
+
+  rules : (is_of_one_rank hyper ≡ true) × (list_any has_no_stride slab ≡ false) × (list_any overlaps slab ≡ false)
+  rules = kept slab (is_of_one_rank hyper) (list_any has_no_stride slab) (list_any overlaps slab) is.selection
+
+  ranked : has_rank (length sizes) hyper ≡ true
+  ranked =
+      let own = and_first (has_rank (length hyper.start) hyper) (nat_le (length hyper.start) 32) rules.0 in
+      let long = length-axes_of (length hyper.start) hyper own in
+      subst (λ n. has_rank n hyper ≡ true) (sym long ∙ is.rank) own
+
+  inside : is_within sizes slab ≡ true
+  inside = to_is_within sizes slab is.within
+
+  -- no rule of a selection refuses it
+  pub run_selects : first_holding (hyper_rules sizes hyper) ≡ None
+  run_selects = λ i. first_holding (
+      (fault.RankMismatch, not (ranked i))
+      ∷ (fault.StrideZero, rules.1 i)
+      ∷ (fault.BlocksOverlap, rules.2 i)
+      ∷ (fault.OutOfExtent, not (inside i))
+      ∷ []
+      )
+
+  pub places_are : range_with_len run.place run.length ≡ selection
+  places_are = sym (places_one run) ∙ ap places_in (sym is.runs) ∙ places_of_runs selection
+
+  pub run_some : 0 < run.length
+  run_some = subst AreMaximal is.runs (runs-maximal selection)
+
+  -- it has all selected cells
+  pub run_counted : run.length ≡ selected_cells slab
+  run_counted = sym (length_range run.place run.length) ∙ ap length places_are ∙ length-selection sizes slab (sym is.rank) inside rules.2
+
+  -- and they are cells of the array
+  pub run_inside : run.place + run.length ≤ cells sizes
+  run_inside =
+      ends_in (cells sizes) run.place run.length run_some (all_in (λ place. place < cells sizes) (range_with_len run.place run.length) (λ place at.
+      place_low sizes slab place (subst (λ (ps : List ℕ). Contains ps place) places_are (contains_in place (range_with_len run.place run.length) at))))
+
+-- with a value of the type for each of its cells, no rule refuses a write of it
+pub allowed_there : (image : List ℕ) (a : Described) (hyper : Hyper) (values : List ℤ) (found : Option StandingCells) → IfSome found (AreSelectedStanding image a hyper values)
+    → is_some found ≡ true → first_holding (hyper_rules a.sizes hyper ++ value_rules a.fixed hyper values) ≡ None
+allowed_there image a hyper values None stands some = absurd (cc)
+allowed_there image a hyper values (Some cells) stands some =
+    let v = stands.valued in
+    cells_allowed a.sizes a.fixed hyper values (run_selects a.sizes hyper stands.run v.selected) (v.counted ∙ run_counted a.sizes hyper stands.run v.selected) v.of_type

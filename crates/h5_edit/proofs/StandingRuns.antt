@@ -1,0 +1,131 @@
+-- A write of cells that stand one behind another: what is asked of it, and what it makes.
+use Rattle.std.proofs.Common.{◌≡◌, ℕ, zero, suc, ℤ, ◌+◌, ◌*◌, ◌<◌, List, [], ◌∷◌, Bool, true, false, not, Option, Some, None, length, take, refl, sym, ap, ◌∙◌, subst, arith}
+use Rattle.std.specs.Prelude.{is_some}
+use Rattle.std.specs.FinMap.{get}
+use Rattle.std.specs.List.{list_any, range_with_len}
+use Rattle.std.specs.Option.{IfSome, option_map}
+use Rattle.h5_layout.specs.Described.{Described}
+use Rattle.h5_layout.specs.Standing.{IsStandingAt, address_of, is_stored_cell, is_stored_in}
+use Rattle.h5_model.specs.Edits.Applied.{with_dataset}
+use Rattle.h5_model.specs.Format.Chunks.{Chunks}
+use Rattle.h5_model.specs.Format.Fixed.{Fixed}
+use Rattle.h5_model.specs.Format.Layout.{Layout, InMessage, InBlock, InChunks}
+use Rattle.h5_model.specs.Format.Superblock.{leaf_k, internal_k}
+use Rattle.h5_model.specs.Tree.Grid.{corner_of, inner_of}
+use Rattle.h5_model.specs.Tree.Objects.{Dataset, with_object}
+use Rattle.h5_model.specs.Tree.Places.{index_of, place_of}
+use Rattle.h5_model.specs.Views.Selection.{axes_of, selection_of}
+use Rattle.h5_model.specs.declared.hyperslab.Hyper.{Hyper}
+use Rattle.h5_query.specs.StandingCellsType.{StandingCells}
+use Rattle.h5_query.specs.Data.{stored_chunks}
+use Rattle.h5_query.specs.Opened.Sound.{IsSound, IsWholeFile}
+use Rattle.h5_query.specs.Opened.State.{FileState}
+use Rattle.h5_query.specs.Written.{AreStanding, IsCellStored, IsStoredRun, with_run}
+use Rattle.h5_shape.specs.Runs.{AreMaximal, cell_runs, places_in}
+use Rattle.h5_shape.specs.declared.runs.CellRun.{CellRun}
+use Rattle.h5_shape.proofs.RunLaws.{places_of_runs, runs-maximal}
+use Rattle.h5_edit.specs.LacksStorage.{lacks_cells}
+use Rattle.h5_edit.specs.Refusals.Allowed.{AreSelectedStanding, IsTarget}
+use Rattle.h5_edit.specs.Stored.{AreRunsStored, AreValuesWritten, IsPlanned, IsWriteMade}
+use Rattle.h5_edit.specs.declared.rules.write.WriteTarget.{WriteTarget}
+use Rattle.h5_edit.proofs.ArraysThere.{one_there}
+use Rattle.h5_edit.proofs.WriteSteps.{in_place, in_place_asked}
+use Rattle.h5_edit.proofs.WrittenRuns.{AreFirstWritten, all_first, all_written, none_first, one_more, places_one, run_stored}
+
+-- ---- a cell with an address is stored
+
+stored_by : (t : Fixed) (sizes : List ℕ) (l : Layout) (chunks : Chunks) (index : List ℕ) (at : ℕ) → address_of t sizes l chunks index ≡ Some at → is_stored_in l chunks index ≡ true
+stored_by t sizes (InMessage bytes) chunks index at is = refl
+stored_by t sizes (InBlock None) chunks index at is = absurd (let never : None ≡ Some at = is in cc)
+stored_by t sizes (InBlock (Some b)) chunks index at is = refl
+stored_by t sizes (InChunks chunk root) chunks index at is = by_found (get chunks (corner_of chunk index)) refl where
+  by_found : (found : Option ℕ) → get chunks (corner_of chunk index) ≡ found → is_some found ≡ true
+  by_found None none = absurd (let never : None ≡ Some at = sym (ap (option_map (λ base. base + place_of chunk (inner_of chunk index) * t.size)) none) ∙ is in cc)
+  by_found (Some base) some = refl
+
+none_fails : (test : ℕ → Bool) (from n : ℕ) → ((k : ℕ) → k < n → test (from + k) ≡ true) → list_any (λ place. not (test place)) (range_with_len from n) ≡ false
+none_fails test from zero all = refl
+none_fails test from (suc n) all =
+    let first : test from ≡ true = subst (λ m. test m ≡ true) (omega arith) (all 0 (omega arith)) in
+    let rest = none_fails test (from + 1) n (λ k low. subst (λ m. test m ≡ true) (omega arith) (all (suc k) (omega (arith, low)))) in
+    rw (first, rest) refl
+
+-- ---- the one run
+
+module _ {f : FileState} {path : List ℕ} {hyper : Hyper} {values : List ℤ} {t : WriteTarget} (is : IsTarget f path hyper values t) (c : StandingCells)
+    (some : t.standing ≡ Some c) where
+  abbrev a : Described
+  a = is.write.array
+
+  abbrev selection : List ℕ
+  selection = selection_of a.sizes (axes_of hyper)
+
+  stands : AreSelectedStanding f.image a hyper values c
+  stands = subst (λ (found : Option StandingCells). IfSome found (AreSelectedStanding f.image a hyper values)) some is.found
+
+  abbrev run : CellRun
+  run = stands.run
+
+  abbrev one_run : cell_runs selection ≡ run ∷ []
+  one_run = stands.valued.selected.runs
+
+  maximal : 0 < run.length
+  maximal = subst AreMaximal one_run (runs-maximal selection)
+
+  places : places_in (run ∷ []) ≡ selection
+  places = ap places_in (sym one_run) ∙ places_of_runs selection
+
+  -- each selected cell is stored
+  none_lacks : lacks_cells f.image a (axes_of hyper) ≡ false
+  none_lacks =
+      ap (list_any (λ place. not (is_stored_cell f.image a place))) (sym places ∙ places_one run)
+      ∙ none_fails (is_stored_cell f.image a) run.place run.length (λ k low.
+      stored_by a.fixed a.sizes a.layout (stored_chunks f.image a.fixed a.layout) (index_of a.sizes (run.place + k)) _ (stands.standing k low))
+
+  plan : IsPlanned f path hyper values t.number (record { runs = run ∷ []; missing = None })
+  plan = record { write = is.write; found = none_lacks; places = places; maximal = maximal; few = is.few }
+
+  asked : (d : Dataset) × AreRunsStored f t.number (run ∷ []) values d
+  asked = in_place_asked plan refl
+
+  none_yet : AreFirstWritten f t.number (run ∷ []) values asked.0 asked.1 0 (run ∷ []) f
+  none_yet = none_first f t.number (run ∷ []) values asked.0 asked.1 (run ∷ []) refl
+
+  all_values : values ≡ take run.length values
+  all_values = let counted = stands.valued.counted in sym (all_first values run.length (omega (arith, counted)))
+
+  -- ---- what is asked
+
+  pub run_asked : (d : Dataset) × IsStoredRun f t.number c.place values d
+  run_asked =
+      subst (λ place. (d : Dataset) × IsStoredRun f t.number place values d) (sym stands.place_is)
+      (run_stored f t.number (run ∷ []) values asked.0 asked.1 0 (run ∷ []) [] run f none_yet refl values all_values)
+
+  pub some_asked : 0 < length values
+  some_asked = let counted = stands.valued.counted in let more = maximal in omega (arith, counted, more)
+
+  pub standing_asked : AreStanding f t.number c (length values)
+  standing_asked b there =
+      let same = one_there f t.number a b is.write.there there in (
+        stands.type_is ∙ ap (λ (x : Described). x.fixed) same,
+        subst (λ (x : Described). IsStandingAt f.image x c.place (length values) c.at) same
+            (subst (λ place. IsStandingAt f.image a place (length values) c.at) (sym stands.place_is)
+            (subst (λ n. IsStandingAt f.image a run.place n c.at) (sym stands.valued.counted) stands.standing)),
+      )
+
+  -- ---- what it makes
+
+  module _ (sound_before : IsSound f) (now : FileState)
+      (changed : now ≡ record f { image = now.image; tree = with_object f.tree t.number (with_dataset (with_run c.place values)) })
+      (leaf : leaf_k now.image ≡ leaf_k f.image) (internal : internal_k now.image ≡ internal_k f.image) (sound : IsSound now) (whole : IsWholeFile f → IsWholeFile now)
+      (stored : (place : ℕ) → IsCellStored f t.number place → IsCellStored now t.number place) where
+    wrote : AreValuesWritten f t.number (places_in (run ∷ [])) values now
+    wrote =
+        all_written f t.number (run ∷ []) values asked.0 asked.1 (0 + run.length) [] now
+        (one_more f t.number (run ∷ []) values asked.0 asked.1 0 (run ∷ []) [] run f none_yet refl values all_values now
+        (subst (λ place. now ≡ record f { image = now.image; tree = with_object f.tree t.number (with_dataset (with_run place values)) }) stands.place_is changed)
+        leaf internal sound whole stored)
+        refl
+
+    pub standing_written : IsWriteMade f path hyper values t.number now
+    standing_written = in_place plan sound_before refl now wrote
