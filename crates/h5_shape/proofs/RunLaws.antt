@@ -1,7 +1,9 @@
 -- Runs of consecutive places.
-use Rattle.std.proofs.Common.{◌≡◌, ℕ, zero, suc, ◌+◌, ◌<◌, List, [], ◌∷◌, ◌++◌, refl, sym, ap, ◌∙◌, arith, Bool, true, false, cond, ◌&&◌}
+use Rattle.std.proofs.Common.{◌≡◌, ℕ, zero, suc, ◌+◌, ◌<◌, List, [], ◌∷◌, ◌++◌, refl, sym, ap, ◌∙◌, arith, Bool, true, false, cond, ◌&&◌, not, Option, Some, None}
 use Rattle.std.proofs.lemmas.Bool.Decides.{nat_tests}
 use Rattle.std.specs.Prelude.{◌==◌}
+use Rattle.std.specs.Option.{is_some}
+use Rattle.std.specs.Iterator.{YieldsFirst}
 use Rattle.h5_model.specs.Views.Selection.{rises_by_one, is_run}
 use Rattle.h5_shape.specs.declared.runs.CellRun.{CellRun}
 use Rattle.h5_shape.specs.Loops.{spaced}
@@ -71,6 +73,15 @@ rises p (q ∷ qs) =
 pub run-single : (ps : List ℕ) → is_run ps ≡ is_single (cell_runs ps)
 run-single [] = refl
 run-single (p ∷ ps) = rises p ps
+
+-- two steps tell whether there is exactly one run
+pub single-steps : (rs ss ts : List CellRun) (r s : Option CellRun) → YieldsFirst (λ (left : List CellRun). left) rs r ss → YieldsFirst (λ (left : List CellRun). left) ss s ts
+    → is_some r ≡ true → (b : Bool) → is_some s ≡ not b → b ≡ is_single rs
+single-steps rs ss ts None s first second some b h = absurd (cc)
+single-steps rs ss ts (Some x) None first second some true h = sym (ap is_single (first ∙ ap (λ (l : List CellRun). x ∷ l) second.0))
+single-steps rs ss ts (Some x) None first second some false h = absurd (cc)
+single-steps rs ss ts (Some x) (Some y) first second some true h = absurd (cc)
+single-steps rs ss ts (Some x) (Some y) first second some false h = sym (ap is_single (first ∙ ap (λ (l : List CellRun). x ∷ l) second))
 
 put_places : (p : ℕ) (rs : List CellRun) → places_in (put p rs) ≡ p ∷ places_in rs
 put_places p [] = refl

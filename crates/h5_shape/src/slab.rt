@@ -1,7 +1,7 @@
 //! Hyperslab selections (HDF5 dataspace reference, H5Sselect_hyperslab).
 ghost use Rattle.std.specs.Prelude.{◌≡◌, ◌-◌, ◌^◌, ◌≤◌, ◌↔◌, IsTrue, EachIndex, length, min, replicate, slice_index};
 ghost use Rattle.std.specs.List.{list_any};
-ghost use Rattle.h5_model.specs.Views.Selection.{Within, axes_from, fits_along, fits_all, has_no_stride, is_within as is_within_sizes, overlaps, selected_cells, selection_of, selects_none};
+ghost use Rattle.h5_model.specs.Views.Selection.{Within, axes_from, fits_along, fits_all, has_no_stride, is_one_run, is_within as is_within_sizes, overlaps, selected_cells, selection_of, selects_none};
 ghost use Rattle.h5_model.specs.Tree.Places.{cells as cells_of};
 ghost use Rattle.h5_shape.specs.Parts.{parts_of};
 ghost use Rattle.h5_shape.specs.PartCells.{AreParted};
@@ -115,6 +115,17 @@ impl Slab {
             nest.select(dims.sizes(), self.axes());
         }
         CellRuns::new(nest, has_more)
+    }
+
+    /// Whether there is a selected cell, and the selected cells stand at consecutive row-major places.
+    pub fn one_run(&self, dims: &Dims) -> bool
+        requires rank { length dims.now ≡ length self.now }
+        requires within { Within dims.now self.now }
+        requires small { cells_of dims.now ≤ 2 ^ 40 }
+        ensures { result ≡ is_one_run dims.now self.now }
+    {
+        let mut runs = self.runs(dims);
+        runs.next().is_some() && runs.next().is_none()
     }
 
     /// The boxes of the grid of chunks of these sizes that hold a selected cell, and which of the selected cells each of

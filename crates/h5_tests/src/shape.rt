@@ -130,7 +130,8 @@ fn has_runs(hyper: &Hyper, dims: &Dims, wanted: &[(u64, u64)]) -> Result<bool, S
         [run] => Some(*run),
         _ => None,
     };
-    Ok(runs.next().is_none() && is_run(dims, hyper, only))
+    let is_one = slab.one_run(dims) == only.is_some();
+    Ok(runs.next().is_none() && is_one && is_run(dims, hyper, only))
 }
 
 #[test]
