@@ -1,34 +1,28 @@
 -- An opened image in which cells of a compact array were written in its header: what is kept of its objects is kept still.
-use Rattle.std.proofs.Common.{◌≡◌, ℕ, ◌+◌, ◌*◌, ◌<◌, ◌≤◌, ◌⊎◌, inl, inr, true, ◌==◌, List, [], ◌++◌, map, length, refl, sym, ap, ◌∙◌, subst, arith, Option, Some, ℤ}
+use Rattle.std.proofs.Common.{◌≡◌, ℕ, ◌+◌, ◌*◌, ◌≤◌, true, ◌==◌, List, [], ◌∷◌, ◌++◌, map, length, refl, sym, ap, ◌∙◌, subst, arith, Option, Some, ℤ}
 use Rattle.std.specs.Prelude.{slice_get, ◌||◌}
 use Rattle.std.specs.BTreeMap.{BTreeMap}
-use Rattle.std.specs.Cmp.{nat_cmp_total}
 use Rattle.std.specs.Cmp.Lexicographic.{slice_cmp}
-use Rattle.std.specs.FinMap.{FinMap, get, insert, empty, from_entries}
-use Rattle.std.specs.List.{AllByRecursion, AllZip, IsDistinct, filter, filter_map, find, list_all}
+use Rattle.std.specs.FinMap.{FinMap, from_entries}
+use Rattle.std.specs.List.{AllZip, IsDistinct, filter, filter_map, find, list_all}
 use Rattle.std.specs.Ordering.{nat_cmp, eq_by_cmp}
-use Rattle.std.proofs.lemmas.Bool.{cases_order}
-use Rattle.std.proofs.lemmas.Option.{same_Some}
 use Rattle.h5_bytes.specs.Bytes.{part}
-use Rattle.h5_bytes.specs.Blocks.{cover, holds, Inside}
-use Rattle.h5_bytes.specs.declared.Block.{Block}
-use Rattle.h5_bytes.proofs.BlockLaws.{all_append, cover-append, holds-le}
+use Rattle.h5_bytes.specs.Blocks.{cover, holds}
+use Rattle.h5_bytes.proofs.BlockLaws.{cover-append, holds-le}
 use Rattle.h5_bytes.proofs.PartLaws.{length-with_part}
 use Rattle.h5_model.specs.Edits.Applied.{with_dataset}
 use Rattle.h5_model.specs.Format.AttributeBody.{attribute_of}
 use Rattle.h5_model.specs.Format.Fixed.{IsFixed, fits}
 use Rattle.h5_model.specs.Format.Layout.{Layout, InMessage}
-use Rattle.h5_model.specs.Format.Messages.{Message, count_of, prefix_at, reference_count}
+use Rattle.h5_model.specs.Format.Messages.{Message, count_of, reference_count}
 use Rattle.h5_model.specs.Format.Plain.{cells_bytes}
-use Rattle.h5_model.specs.Format.Reads.{Placed, Reads, ReadsAs, HasAttributes, HasDataset, HasObject, IsPlaced, all_blocks, is_attribute_message, is_kept, kept_of}
+use Rattle.h5_model.specs.Format.Reads.{HasAttributes, is_attribute_message, is_kept, kept_of}
 use Rattle.h5_model.specs.Format.Superblock.{leaf_k, internal_k}
-use Rattle.h5_model.specs.Tree.Objects.{Tree, Object, Dataset, Array, Attribute, Attributes, with_object}
+use Rattle.h5_model.specs.Tree.Objects.{Tree, Array, Attribute, Attributes, with_object}
 use Rattle.h5_model.specs.Tree.Places.{cells}
 use Rattle.h5_space.specs.Space.{Space}
-use Rattle.h5_space.specs.Whole.{IsApart}
 use Rattle.h5_space.specs.Lending.{with_bytes_at}
 use Rattle.h5_space.specs.Moves.{Moves}
-use Rattle.h5_space.proofs.MovesLaws.{moves_kept}
 use Rattle.h5_header.specs.Kinds.{IsOfDataset}
 use Rattle.h5_header.specs.Listed.{messages_in}
 use Rattle.h5_header.specs.declared.message.Message.{Message as Listed}
@@ -39,30 +33,21 @@ use Rattle.h5_attr.specs.Attributes.{attributes_of, HasNamesOnce}
 use Rattle.h5_layout.specs.Data.{AreDataRead, data_blocks, dataset_told}
 use Rattle.h5_layout.specs.Described.{Described, HasArray}
 use Rattle.h5_layout.specs.Told.{array_told, layout_told, type_told}
-use Rattle.h5_layout.proofs.ArrayLaws.{has_dataset}
 use Rattle.h5_layout.proofs.CompactWritten.{array_with, compact_array, compact_high, compact_inside, compact_low, compact_told}
-use Rattle.h5_layout.proofs.KnownLaws.{known_in}
 use Rattle.h5_layout.proofs.StandingWritten.{moves_within}
 use Rattle.h5_layout.proofs.ToldLaws.{told}
-use Rattle.h5_laws.proofs.Lists.{In, in_all, all_in, in_map, stands_at}
-use Rattle.h5_laws.proofs.Maps.{get_of_entry}
 use Rattle.h5_open.specs.declared.opened.object.OpenedObject.{OpenedObject}
 use Rattle.h5_open.specs.declared.opened.object.OpenedContent.{OpenedContent}
 use Rattle.h5_open.specs.declared.opened.object.OpenedContent.TheVariants as content
-use Rattle.h5_open.specs.Opened.Headers.{object_with}
 use Rattle.h5_open.specs.Opened.Kept.{IsOpened, IsObjectKept, IsContentKept}
-use Rattle.h5_open.specs.Opened.Objects.{objects_of, content_blocks, content_in, object_blocks, object_in, table_of, tree_of}
-use Rattle.h5_open.specs.Opened.Sound.{IsObjectOf, IsSound, IsWholeFile}
+use Rattle.h5_open.specs.Opened.Objects.{content_blocks, object_blocks, object_in, table_of, tree_of}
+use Rattle.h5_open.specs.Opened.Sound.{IsObjectOf, IsWholeFile}
 use Rattle.h5_open.specs.Opened.State.{opened_state}
 use Rattle.h5_open.specs.Written.{with_run, IsKeptOutside}
-use Rattle.h5_open.proofs.ArrayOpened.{array_content, ms, of, one_cover, two_cover}
-use Rattle.h5_open.proofs.ChangedObject.{stands_of, is_of, changed_at, changed_tree}
-use Rattle.h5_open.proofs.DataLaws.{data_inside}
-use Rattle.h5_open.proofs.KeptFrames.{kept-same}
-use Rattle.h5_open.proofs.ObjectInPlace.{IsMadeAgain, again_apart, again_reads, again_whole, k_stay}
-use Rattle.h5_open.proofs.OpenedLaws.ReadBlocks.{blocks_kept, opened_all}
-use Rattle.h5_open.proofs.OpenedLaws.Sounds.{from_objects, sound}
-use Rattle.h5_open.proofs.RenumberedLaws.SameTree.{same_tree}
+use Rattle.h5_open.proofs.ArrayOpened.{array_content, ms, of}
+use Rattle.h5_open.specs.ChangedInPlace.{IsChangedInPlace}
+use Rattle.h5_open.specs.SlotsInPlace.{IsOneRemade}
+use Rattle.h5_open.proofs.OneRemade.{one_changed, one_cover, one_opened, one_tree, written_remade}
 use Rattle.h5_open.proofs.StandingOpened.{kept_outside}
 
 -- ---- what the messages say of attributes, by those that are an attribute's
@@ -122,17 +107,8 @@ module _ (old : Space) (slots : List (Option OpenedObject)) (numbers : BTreeMap 
   abbrev it : IsObjectOf (opened_state old slots) number p
   it = of old slots numbers opened number p at
 
-  reading : IsSound (opened_state old slots)
-  reading = sound old slots numbers opened
-
   kept : IsContentKept old.bytes list content.Array
   kept = array_content old slots numbers opened number p at is_array
-
-  abbrev o : Object
-  o = object_with (Array (dataset_told old.bytes a)) list
-
-  o_is : object_in old.bytes table p ≡ o
-  o_is = ap (λ (c : OpenedContent). object_with (content_in old.bytes table list c) list) is_array
 
   blocks_are : object_blocks old.bytes p ≡ p.messages.blocks ++ []
   blocks_are = ap (λ (c : OpenedContent). p.messages.blocks ++ content_blocks old.bytes list c) is_array
@@ -148,29 +124,6 @@ module _ (old : Space) (slots : List (Option OpenedObject)) (numbers : BTreeMap 
     within = it.kept.header.within;
     separate = λ q. omega (arith, opened.apart q, one_cover q (object_blocks old.bytes) slots number p at, parts q, holds-le q 0 (length old.bytes));
   }
-
-  -- where the array stands in a reading
-  module _ (placed : List Placed) (reads : ReadsAs old.bytes table tree placed) (y : Placed) (there : In y placed) (mine : y.number ≡ number) where
-    header_is : y.header ≡ p.messages.header
-    header_is =
-        let here = get_of_entry nat_cmp_total table y.number y.header (subst (In (stands_of y)) (sym reads.holds.numbered) (in_map stands_of y placed there)) in
-        same_Some y.header p.messages.header (sym here ∙ ap (get table) mine ∙ it.header)
-
-    object_is : y.object ≡ o
-    object_is =
-        let here = get_of_entry nat_cmp_total tree y.number y.object (subst (In (is_of y)) (sym reads.holds.objects) (in_map is_of y placed there)) in
-        same_Some y.object (object_in old.bytes table p) (sym here ∙ ap (get tree) mine ∙ it.there) ∙ o_is
-
-    its_blocks : p.messages.blocks ++ [] ≡ y.blocks
-    its_blocks =
-        let was : HasObject old.bytes table y.header y.object y.blocks = in_all (IsPlaced old.bytes table) y placed reads.holds.each there in
-        sym blocks_are ∙ blocks_kept old.bytes table p y.object y.blocks it.kept (subst (λ (h : ℕ). HasObject old.bytes table h y.object y.blocks) header_is was)
-
-    own_blocks : (q : ℕ) → cover q p.messages.blocks ≤ cover q y.blocks
-    own_blocks q = let all = ap (cover q) its_blocks in omega (arith, all, cover-append q p.messages.blocks [])
-
-  apart_of : IsApart (all_blocks old.bytes reading.placed) old.free (length old.bytes)
-  apart_of = reading.apart
 
   module _ (place : ℕ) (values : List ℤ) (room : place + length values ≤ cells a.sizes) where
     abbrev w : List ℕ
@@ -260,114 +213,35 @@ module _ (old : Space) (slots : List (Option OpenedObject)) (numbers : BTreeMap 
         content = subst (IsContentKept new.bytes list') (sym is_array) content_now;
       }
 
-      has_dataset_now : HasDataset new.bytes list' (with_run place values (dataset_told old.bytes a)) []
-      has_dataset_now = subst (λ (d : Dataset). HasDataset new.bytes list' d []) changed
-          (has_dataset new.bytes list' now empty [] has_now (known_in new.bytes p.messages.list it.kept.known kinds_now.no_table) (refl, refl))
+      blocks_now : object_blocks new.bytes p ≡ object_blocks old.bytes p
+      blocks_now =
+          ap (λ (c : OpenedContent). p.messages.blocks ++ content_blocks new.bytes list' c) is_array
+          ∙ ap (λ (l : Layout). p.messages.blocks ++ data_blocks new.bytes (type_told list') l) (ap (λ (d : Described). d.layout) told_is)
+          ∙ sym blocks_are
 
-      object_now : HasObject new.bytes table p.messages.header (with_dataset (with_run place values) o) (p.messages.blocks ++ [])
-      object_now = record {
-        messages = list';
-        header_blocks = p.messages.blocks;
-        listed = (body.standing).has;
-        content_blocks = [];
-        content = has_dataset_now;
-        attributes = has_still list list' attributes_same (attributes_of list) it.kept.header.attributes;
-        kept = ap (map kept_of) (sym kept_same);
-        laid = refl;
-      }
+      remade : IsOneRemade old new slots slots number p p
+      remade = written_remade old new slots numbers opened number p at p.messages.blocks (λ q. omega (arith, parts q)) moves long array_still (rw is_array tt) (ap reference_count body.prefix) blocks_now
 
-      -- ---- the objects of a reading
+      changed_now : object_in new.bytes table p ≡ with_dataset (with_run place values) (object_in old.bytes table p)
+      changed_now =
+          let cells_there : dataset_told new.bytes (array_told list') ≡ with_run place values (dataset_told old.bytes a) = ap (dataset_told new.bytes) told_is ∙ changed in
+          let kept_there : map kept_of (filter is_kept list') ≡ map kept_of (filter is_kept list) = ap (map kept_of) kept_same in
+          let attributes_there : attributes_of list' ≡ attributes_of list = same_attributes list list' attributes_same in
+          rw is_array (λ i. record { content = Array (cells_there i); attributes = attributes_there i; kept = kept_there i })
 
-      module _ (placed : List Placed) (reads : ReadsAs old.bytes table tree placed) where
-        made : (y : Placed) → In y placed → y.number ≡ number → IsMadeAgain old.bytes new.bytes table (with_run place values) y
-        made y there mine =
-            let header = header_is placed reads y there mine in
-            record {
-              there = subst (λ (h : ℕ). HasObject new.bytes table h (with_dataset (with_run place values) y.object) y.blocks) (sym header)
-                  (subst (HasObject new.bytes table p.messages.header (with_dataset (with_run place values) y.object)) (its_blocks placed reads y there mine)
-                  (subst (λ (q : Object). HasObject new.bytes table p.messages.header (with_dataset (with_run place values) q) (p.messages.blocks ++ [])) (sym (object_is placed reads y there mine)) object_now));
-              counted = ap (λ (h : ℕ). reference_count (prefix_at new.bytes h)) header ∙ ap reference_count body.prefix
-                  ∙ sym (ap (λ (h : ℕ). reference_count (prefix_at old.bytes h)) header);
-            }
-
-        module _ (apart : IsApart (all_blocks old.bytes placed) old.free (length old.bytes)) where
-          abbrev tree' : Tree
-          tree' = insert tree number (with_dataset (with_run place values) (object_in old.bytes table p))
-
-          abbrev placed' : List Placed
-          placed' = map (changed_at number (with_dataset (with_run place values))) placed
-
-          k_are : (leaf_k new.bytes ≡ leaf_k old.bytes) × (internal_k new.bytes ≡ internal_k old.bytes)
-          k_are = k_stay old new table tree placed reads apart number (object_in old.bytes table p) it.there p.messages.blocks (own_blocks placed reads) moves long
-
-          reads_now : ReadsAs new.bytes table tree' placed'
-          reads_now = again_reads old new table tree placed reads apart number (object_in old.bytes table p) it.there p.messages.blocks (own_blocks placed reads) moves long (with_run place values) made
-
-          apart_now : IsApart (all_blocks new.bytes placed') new.free (length new.bytes)
-          apart_now = again_apart old new table tree placed reads apart number (object_in old.bytes table p) it.there p.messages.blocks (own_blocks placed reads) moves long (with_run place values) made
-
-      -- ---- the objects that are kept
-
-      k_same : (leaf_k new.bytes ≡ leaf_k old.bytes) × (internal_k new.bytes ≡ internal_k old.bytes)
-      k_same = k_are reading.placed reading.reads apart_of
-
-      inside_content : (q : OpenedObject) (c : OpenedContent) → IsContentKept old.bytes (messages_in old.bytes q.messages.list) c
-          → Inside (length old.bytes) (content_blocks old.bytes (messages_in old.bytes q.messages.list) c)
-      inside_content q (content.Group t) held = held.2.inside
-      inside_content q content.Array held =
-          let said = messages_in old.bytes q.messages.list in data_inside old.bytes (type_told said) (layout_told said) held.1
-
-      other_kept : (k : ℕ) (q : OpenedObject) → slice_get slots k ≡ Some (Some q) → (k < number) ⊎ (number < k) → IsObjectKept old.bytes q → IsObjectKept new.bytes q
-      other_kept k q there other held =
-          let blocks = object_blocks old.bytes q in
-          kept-same old.bytes new.bytes k_same.0 k_same.1 (omega (arith, long)) q held
-          (moves_kept old new p.messages.blocks p.messages.blocks blocks moves
-          (λ i. omega (arith, opened.apart i, two_cover i (object_blocks old.bytes) slots k number q p there at other, parts i, cover-append i p.messages.blocks blocks))
-          (all_append (λ (c : Block). c.at + c.len ≤ length old.bytes) q.messages.blocks (content_blocks old.bytes (messages_in old.bytes q.messages.list) q.content)
-          held.header.inside (inside_content q q.content held.content)))
-
-      slot_kept : (k : ℕ) (q : OpenedObject) → slice_get slots k ≡ Some (Some q) → IsObjectKept old.bytes q → IsObjectKept new.bytes q
-      slot_kept k q there held = elim (cases_order k number) [
-        | inl same ↦
-            let one : p ≡ q = same_Some p q (same_Some (Some p) (Some q) (sym at ∙ ap (slice_get slots) (sym same) ∙ there)) in
-            subst (IsObjectKept new.bytes) one array_still
-        | inr other ↦ other_kept k q there other held
-      ]
-
-      each : AllByRecursion (IsObjectKept new.bytes) (objects_of slots)
-      each = all_in (IsObjectKept new.bytes) (objects_of slots) (λ q member.
-          let stands = stands_at (Some q) slots (from_objects slots q member) in
-          slot_kept stands.0 q stands.1 (in_all (IsObjectKept old.bytes) q (objects_of slots) opened.each member))
-
-      tree_now : tree_of new.bytes slots ≡ tree' reading.placed reading.reads apart_of
-      tree_now = same_tree new.bytes slots (tree' reading.placed reading.reads apart_of) each (placed' reading.placed reading.reads apart_of, reads_now reading.placed reading.reads apart_of)
+      all : IsChangedInPlace (opened_state old slots) (opened_state new slots) (with_object tree number (with_dataset (with_run place values))) (length slots) (number ∷ []) 0
+      all = subst (λ (t : Tree). IsChangedInPlace (opened_state old slots) (opened_state new slots) t (length slots) (number ∷ []) 0)
+          (one_tree old new slots slots numbers opened number p p remade (with_dataset (with_run place values)) changed_now)
+          (one_changed old new slots slots numbers opened number p p remade 0 (omega (arith, long)))
 
       -- all of it
       pub compact_written : IsCompactWritten old new slots numbers number place values p
       compact_written = record {
-        opened = record {
-          reads = subst (Reads new.bytes table) (sym tree_now) (placed' reading.placed reading.reads apart_of, reads_now reading.placed reading.reads apart_of);
-          each = each;
-          index = opened.index;
-          low = opened.low;
-          apart = subst (λ (bs : List Block). IsApart bs new.free (length new.bytes))
-              (sym (opened_all new.bytes slots (tree' reading.placed reading.reads apart_of) (placed' reading.placed reading.reads apart_of) each (reads_now reading.placed reading.reads apart_of)))
-              (apart_now reading.placed reading.reads apart_of);
-        };
-        state =
-            let same : tree_of new.bytes slots ≡ with_object tree number (with_dataset (with_run place values))
-            = tree_now ∙ sym (changed_tree number (with_dataset (with_run place values)) tree reading.placed reading.reads.holds.objects (object_in old.bytes table p) it.there) in
-            ap (λ (t : Tree). record (opened_state old slots) { image = new.bytes; tree = t }) same;
-        leaf = k_same.0;
-        internal = k_same.1;
-        whole = λ whole.
-            let apart : IsApart (all_blocks old.bytes whole.placed) old.free (length old.bytes) = λ q. omega (arith, whole.covered q) in
-            record {
-              placed = placed' whole.placed whole.reads apart;
-              reads = subst (λ (t : Tree). ReadsAs new.bytes table t (placed' whole.placed whole.reads apart)) (sym tree_now) (reads_now whole.placed whole.reads apart);
-              covered = again_whole old new table tree whole.placed whole.reads apart number (object_in old.bytes table p) it.there p.messages.blocks (own_blocks whole.placed whole.reads) moves long
-                  (with_run place values) (made whole.placed whole.reads) whole.covered;
-            };
+        opened = one_opened old new slots slots numbers opened number p p remade;
+        state = ap (λ (t : Tree). record (opened_state old slots) { image = new.bytes; tree = t }) all.state.0;
+        leaf = all.leaf;
+        internal = all.internal;
+        whole = all.whole;
         local = kept_outside old.bytes new.bytes start w p.messages.blocks fit refl covered;
         bytes = part (x.at + 4) (cells a.sizes * a.fixed.size) new.bytes;
         laid = ap (λ (d : Described). d.layout) told_is;

@@ -21,8 +21,6 @@ use Rattle.h5_laws.proofs.InPlace.StillThere.{kept_each}
 use Rattle.h5_space.specs.Space.{Space}
 use Rattle.h5_space.specs.Whole.{IsApart, IsWhole}
 use Rattle.h5_space.proofs.MovesLaws.{moves_apart, moves_whole, moves_kept, moves_local_used}
-use Rattle.h5_model.specs.Scripts.Sessions.{IsState}
-use Rattle.h5_open.specs.Opened.Sound.{IsSound}
 use Rattle.h5_open.specs.InPlace.{end_field, chosen_objects, other_objects, touched_blocks, IsLeft, IsRemade, IsInPlace}
 
 -- ---- the objects of some numbers, and the others
@@ -52,7 +50,7 @@ in_chosen touched x (y ∷ placed) (inr at) is = go (touched y.number) refl (in_
   go true e there = subst (In x) (sym (chosen_here touched y placed e)) (inr there)
   go false e there = subst (In x) (sym (chosen_not touched y placed e)) there
 
-in_others : (touched : ℕ → Bool) (x : Placed) (placed : List Placed) → In x placed → touched x.number ≡ false → In x (other_objects touched placed)
+pub in_others : (touched : ℕ → Bool) (x : Placed) (placed : List Placed) → In x placed → touched x.number ≡ false → In x (other_objects touched placed)
 in_others touched x [] at is = absurd at
 in_others touched x (y ∷ placed) (inl e) is = subst (In x) (sym (others_here touched y placed (ap (λ (z : Placed). touched z.number) e ∙ is))) (inl e)
 in_others touched x (y ∷ placed) (inr at) is = go (touched y.number) refl (in_others touched x placed at is) where
@@ -60,7 +58,7 @@ in_others touched x (y ∷ placed) (inr at) is = go (touched y.number) refl (in_
   go false e there = subst (In x) (sym (others_here touched y placed e)) (inr there)
   go true e there = subst (In x) (sym (others_not touched y placed e)) there
 
-others_in : (touched : ℕ → Bool) (x : Placed) (placed : List Placed) → In x (other_objects touched placed) → In x placed
+pub others_in : (touched : ℕ → Bool) (x : Placed) (placed : List Placed) → In x (other_objects touched placed) → In x placed
 others_in touched x [] at = absurd at
 others_in touched x (y ∷ placed) at = go (touched y.number) refl (others_in touched x placed) where
   first : (In x (other_objects touched placed) → In x placed) → In x (y ∷ other_objects touched placed) → In x (y ∷ placed)
@@ -72,7 +70,7 @@ others_in touched x (y ∷ placed) at = go (touched y.number) refl (others_in to
   go true e more = inr (more (subst (In x) (others_not touched y placed e) at))
 
 -- their blocks are those of the chosen ones and of the others
-cover-split : (touched : ℕ → Bool) (p : ℕ) (placed : List Placed)
+pub cover-split : (touched : ℕ → Bool) (p : ℕ) (placed : List Placed)
     → cover p (blocks_of placed) ≡ cover p (touched_blocks touched placed) + cover p (blocks_of (other_objects touched placed))
 cover-split touched p [] = refl
 cover-split touched p (x ∷ placed) = go (touched x.number) refl (cover-split touched p placed) where
@@ -164,7 +162,7 @@ module _ (old new : Space) (table table' : FinMap nat_cmp ℕ) (tree tree' : Tre
     ),
   )
 
-  keeps : Keeps old.bytes new.bytes others
+  pub keeps : Keeps old.bytes new.bytes others
   keeps = moves_kept old new (end_field ∷ touched_blocks touched placed) (end_field ∷ touched_blocks touched placed') others is.moves apart_before inside_others
 
   byte_stays : (p : ℕ) → p < 40 → byte_at new.bytes p ≡ byte_at old.bytes p
@@ -175,10 +173,10 @@ module _ (old new : Space) (table table' : FinMap nat_cmp ℕ) (tree tree' : Tre
       is.moves.kept p (omega (arith, low, long))
       (omega (arith, apart p, here, field, end, cover-split touched p placed)) (omega (arith, apart p, here, end))
 
-  leaf_stays : leaf_k new.bytes ≡ leaf_k old.bytes
+  pub leaf_stays : leaf_k new.bytes ≡ leaf_k old.bytes
   leaf_stays = number_at-same old.bytes new.bytes 0 40 16 2 keeps.0 (omega arith)
 
-  internal_stays : internal_k new.bytes ≡ internal_k old.bytes
+  pub internal_stays : internal_k new.bytes ≡ internal_k old.bytes
   internal_stays = number_at-same old.bytes new.bytes 0 40 18 2 keeps.0 (omega arith)
 
   root_stays : root_header new.bytes ≡ root_header old.bytes
@@ -252,15 +250,3 @@ module _ (old new : Space) (table table' : FinMap nat_cmp ℕ) (tree tree' : Tre
   -- the new image reads as the new tree
   pub in_place_reads : IsSoundTree tree' → ReadsAs new.bytes table' tree' placed'
   in_place_reads sound = step_reads old.bytes new.bytes table table' tree tree' placed placed' reads step sound
-
--- the file is as sound as before
-pub in_place_sound : (old new : Space) (table table' : FinMap nat_cmp ℕ) (next next' : ℕ) (tree tree' : Tree)
-    (sound : IsSound (record { image = old.bytes; free = old.free; table = table; next = next; tree = tree })) (placed' : List Placed) (touched : ℕ → Bool)
-    → IsInPlace old new table table' tree tree' sound.placed placed' touched → IsSoundTree tree' → IsState (record { tree = tree'; next = next' })
-    → IsSound (record { image = new.bytes; free = new.free; table = table'; next = next'; tree = tree' })
-in_place_sound old new table table' next next' tree tree' sound placed' touched is good numbers = record {
-  placed = placed';
-  reads = in_place_reads old new table table' tree tree' sound.placed placed' touched sound.reads sound.apart is good;
-  numbers = numbers;
-  apart = in_place_apart old new table table' tree tree' sound.placed placed' touched sound.reads sound.apart is;
-}

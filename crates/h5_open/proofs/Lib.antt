@@ -21,8 +21,16 @@ pub mod DepthLaws
 pub mod OpenedLaws
 pub mod KeptFrames
 pub mod InPlaceLaws
-pub mod ChangedObject
-pub mod CellsInPlace
+pub mod OpenedStep
+pub mod ToldObject
+pub mod SlotPlaces
+pub mod SlotsInPlace
+pub mod TouchedBlocks
+pub mod OneRemade
+pub mod SlotEdits
+pub mod ObjectMade
+pub mod ChangedThen
+pub mod UntouchedKept
 pub mod PlacedLaws
 pub mod CountedLaws
 pub mod RenumberedLaws
@@ -30,7 +38,6 @@ pub mod StoredCells
 pub mod ArrayOpened
 pub mod StandingOpened
 pub mod RunsWritten
-pub mod ObjectInPlace
 pub mod CompactOpened
 pub mod CompactFirst
 pub mod FirstRun

@@ -37,7 +37,7 @@ use Rattle.h5_open.specs.Opened.Kept.{IsOpened}
 use Rattle.h5_open.specs.Opened.Objects.{content_in, table_of}
 use Rattle.h5_open.specs.Opened.State.{FileState, opened_state}
 use Rattle.h5_open.specs.Written.{with_run, AreCellsWritten, IsArrayThere, IsKeptOutside, IsStoredRun}
-use Rattle.h5_open.proofs.ArrayOpened.{array_content, data_once, header_kept, its_blocks, k_are, kept_array, ms, of, same_messages, slot_there, state_now, still_opened, whole_now}
+use Rattle.h5_open.proofs.ArrayOpened.{array_changed, array_content, data_once, header_kept, its_blocks, kept_array, ms, of, same_messages, slot_there, still_opened}
 
 module _ (image : Space) (slots : List (Option OpenedObject)) (numbers : BTreeMap ℕ ℕ) (opened : IsOpened image slots numbers) (number : ℕ) (p : OpenedObject)
     (stands : slice_get slots number ≡ Some (Some p)) where
@@ -181,18 +181,18 @@ module _ (old : Space) (slots : List (Option OpenedObject)) (numbers : BTreeMap 
           let covered = stored_covered old.bytes it messages has fixed read once place at first first_some first_stand first_room in
           let moves : Moves old new (its_blocks old slots numbers opened number p stands kind) (its_blocks old slots numbers opened number p stands kind)
           = moves_within old new at (cells_bytes it.fixed first) (its_blocks old slots numbers opened number p stands kind) fit bytes_are free_is covered in
-          let k = k_are old slots numbers opened number p stands kind new moves long in
           let still = still_opened old slots numbers opened number p stands kind new moves long now blocks (with_run place first) changed in
+          let all = array_changed old slots numbers opened number p stands kind new moves long now blocks (with_run place first) changed in
           let same = same_messages old slots numbers opened number p stands kind new moves long in
           let told_again : told new slots numbers still number p stands ≡ it = ap array_told same in
           let header : Keeps old.bytes new.bytes p.messages.blocks = header_kept old slots numbers opened number p stands kind new moves long in
           record {
             opened_now = still;
             written = record {
-              changed = state_now old slots numbers opened number p stands kind new moves long now blocks (with_run place first) changed free_is;
-              leaf = k.0;
-              internal = k.1;
-              whole = whole_now old slots numbers opened number p stands kind new moves long now blocks (with_run place first) changed;
+              changed = λ i. record (opened_state old slots) { image = new.bytes; free = free_is i; tree = all.state.0 i };
+              leaf = all.leaf;
+              internal = all.internal;
+              whole = all.whole;
               stored = λ q was b its.
                   let there = was it (array_there old slots numbers opened number p stands kind) in
                   subst (λ (x : Described). is_stored_cell new.bytes x q ≡ true) (sym (array_is new slots numbers still number p stands b its ∙ told_again))

@@ -6,6 +6,8 @@ pub mod Placed
 pub mod Counted
 pub mod Renumbered
 pub mod InPlace
+pub mod ChangedInPlace
+pub mod SlotsInPlace
 pub mod Written
 pub use Rattle.h5_layout.specs.Data
 pub use Rattle.h5_layout.specs.Pieces

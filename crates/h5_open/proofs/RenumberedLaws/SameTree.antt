@@ -74,7 +74,7 @@ module _ (image : List ℕ) (table : FinMap nat_cmp ℕ) (own : (a b h : ℕ) �
 
   -- ---- objects
 
-  object_is : (p : OpenedObject) (o : Object) (blocks : List Block) → IsObjectKept image p → HasObject image table p.messages.header o blocks → object_in image table p ≡ o
+  pub object_is : (p : OpenedObject) (o : Object) (blocks : List Block) → IsObjectKept image p → HasObject image table p.messages.header o blocks → object_in image table p ≡ o
   object_is p o blocks kept has =
       let ms : has.messages ≡ messages_in image p.messages.list
       = one_messages image p.messages.header has.messages (messages_in image p.messages.list) has.header_blocks p.messages.blocks has.listed (kept.header).has in
