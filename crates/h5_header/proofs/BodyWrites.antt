@@ -1,23 +1,22 @@
 -- A header in which bytes of one body are written: its messages are the ones that it had, but for that body.
-use Rattle.std.proofs.Common.{◌≡◌, ◌≢◌, ℕ, ◌+◌, ◌-◌, ◌≤◌, inl, inr, List, [], ◌∷◌, ◌++◌, map, length, refl, sym, ◌∙◌, ap, ap₂, subst, arith, Bool, true, false, ◌==◌, eqb-true}
+use Rattle.std.proofs.Common.{◌≡◌, ◌≢◌, ℕ, ◌+◌, ◌-◌, ◌≤◌, inl, List, [], ◌∷◌, ◌++◌, map, length, refl, sym, ◌∙◌, ap, ap₂, subst, arith, Bool, true, false, ◌==◌, eqb-true}
 use Rattle.std.specs.List.{AllByRecursion}
 use Rattle.std.proofs.lemmas.List.{map-append, length-map}
 use Rattle.std.proofs.lemmas.List.Concat.{flat_map-append}
-use Rattle.std.proofs.lemmas.Bool.{cases_lt}
 use Rattle.h5_bytes.specs.Bytes.{number_at, byte_at, part, with_part}
 use Rattle.h5_bytes.specs.Blocks.{block, holds, cover, Separate, Inside, IsKept, Keeps}
 use Rattle.h5_bytes.specs.declared.Block.{Block}
-use Rattle.h5_bytes.proofs.BlockLaws.{holds_in, holds_join, holds_past, holds-inner, cover_past, cover-append, all_append, all_left, all_right}
+use Rattle.h5_bytes.proofs.BlockLaws.{holds_join, holds-inner, cover-append, all_append, all_left, all_right}
 use Rattle.h5_bytes.proofs.FieldLaws.{number_at-same}
 use Rattle.h5_bytes.proofs.PartLaws.{length-part, length-with_part, part-with_part_other}
 use Rattle.h5_model.specs.Format.Messages.{Message, IsMessage, Fills, FillBlocks, IsContinued, continuation, continuations, HasMessages, first_block, first_size, prefix_at}
 use Rattle.h5_model.proofs.Frames.{front-same, rest-same}
-use Rattle.h5_space.specs.Space.{Space}
-use Rattle.h5_space.proofs.MovesLaws.{moves_write, moves_kept}
 use Rattle.h5_header.specs.Listed.{Listed, message_in, messages_in, IsWithin}
+use Rattle.h5_header.specs.Standing.{IsStanding}
 use Rattle.h5_header.specs.declared.message.Message.{Message as Placed}
 use Rattle.h5_header.proofs.MessageLaws.{byte_at-part}
-use Rattle.h5_header.proofs.StretchLaws.{stretch, Follow, IsHeaded, all_of, message_long, follow_of, fills_of, parts_headed, parts_cover}
+use Rattle.h5_header.proofs.StretchLaws.{stretch, Follow, IsHeaded, all_of, message_long, follow_of, fills_of, stretches_inside, parts_headed, parts_cover}
+use Rattle.h5_header.proofs.BesideLaws.{kept_beside}
 
 -- ---- messages whose heads stay
 
@@ -122,7 +121,7 @@ module _ (old new : List ℕ) (grown : length old ≤ length new) where
       }
 
   -- those that are kept of it are these
-  listed_now : (list : List Placed) → IsWithin (length old) list → messages_in new list ≡ map now (messages_in old list)
+  pub listed_now : (list : List Placed) → IsWithin (length old) list → messages_in new list ≡ map now (messages_in old list)
   listed_now [] within = refl
   listed_now (m ∷ list) within =
       let long : m.size ≡ length (part m.at m.size old) = sym (length-part m.at m.size old within.0) in
@@ -138,7 +137,7 @@ module _ (old new : List ℕ) (grown : length old ≤ length new) where
       let body : part m.at (length m.body) old ≡ m.body = ap₂ (λ p n. part p n old) (sym place) (message_long old at m is) ∙ sym is.body in
       ap (λ (bs : List ℕ). record m { body = bs }) (same ∙ body)
 
-  all_now_same : (ms : List Message) → AllByRecursion (IsHeaded old) ms → Keeps old new (map stretch ms) → map now ms ≡ ms
+  pub all_now_same : (ms : List Message) → AllByRecursion (IsHeaded old) ms → Keeps old new (map stretch ms) → map now ms ≡ ms
   all_now_same [] headed kept = refl
   all_now_same (m ∷ ms) headed kept = ap₂ (λ (x : Message) (xs : List Message). x ∷ xs) (now_same m headed.0 kept.0) (all_now_same ms headed.1 kept.1)
 
@@ -150,33 +149,6 @@ module _ (old new : List ℕ) (grown : length old ≤ length new) where
   )
 
 -- ---- a write in one body
-
--- a write in one block leaves the blocks beside it
-kept_beside : (old w : List ℕ) (at : ℕ) (b : Block) (more : List Block) → b.at ≤ at → at + length w ≤ b.at + b.len → b.at + b.len ≤ length old
-    → Separate (b ∷ more) → Inside (length old) more → Keeps old (with_part at w old) more
-kept_beside old w at b more low high room separate inside =
-    let s : Space = record { bytes = old; free = []; room_bytes = 0; room_blocks = 0 } in
-    let t : Space = record { bytes = with_part at w old; free = []; room_bytes = 0; room_blocks = 0 } in
-    moves_kept s t (block at (length w) ∷ []) (block at (length w) ∷ []) more
-    (moves_write s t at (length w) w refl (omega (arith, high, room)) refl refl)
-    (λ p. elim (cases_lt p (length old)) [
-      | inl within ↦ omega (arith, separate p, holds-inner p at (length w) b.at b.len low high, holds_in p 0 (length old) (omega arith) (omega (arith, within)))
-      | inr past ↦ omega (arith, holds_past p at (length w) (omega (arith, high, room, past)), cover_past p (length old) more inside past)
-    ])
-    inside
-
--- the header stands in the image with the messages that are kept of it, in blocks that share no byte
-pub record IsStanding (image : List ℕ) (m : Listed) : Type 0 where
-  pub has : HasMessages image m.header (messages_in image m.list) m.blocks
-  pub inside : Inside (length image) m.blocks
-  pub within : IsWithin (length image) m.list
-  pub separate : Separate m.blocks
-
-stretches_inside : (image : List ℕ) (ms : List Message) → AllByRecursion (IsHeaded image) ms → Inside (length image) (map stretch ms)
-stretches_inside image [] all = tt
-stretches_inside image (m ∷ ms) all =
-    let is = (all.0).1 in
-    (omega (arith, is.whole, is.place, message_long image (all.0).0 m is), stretches_inside image ms all.1)
 
 module _ (old : List ℕ) (m : Listed) (is : IsStanding old m) (front : List Placed) (x : Placed) (back : List Placed) (cut : m.list ≡ front ++ x ∷ back) where
   abbrev before : List Message
@@ -223,13 +195,13 @@ module _ (old : List ℕ) (m : Listed) (is : IsStanding old m) (front : List Pla
       let parts = ap (cover p) (map-append stretch before (message_in old x ∷ behind)) ∙ cover-append p (map stretch before) (map stretch (message_in old x ∷ behind)) in
       omega (arith, ap (cover p) has.laid, all, said_all, named_all, parts, holds_join p m.header 16 first)
 
-  body_inside : x.at + x.size ≤ length old
+  pub body_inside : x.at + x.size ≤ length old
   body_inside = (all_right (λ (y : Placed). y.at + y.size ≤ length old) front (x ∷ back) (subst (IsWithin (length old)) cut is.within)).0
 
   long : length (message_in old x).body ≡ x.size
   long = length-part x.at x.size old body_inside
 
-  behind_head : 8 ≤ x.at
+  pub behind_head : 8 ≤ x.at
   behind_head = omega (arith, ((headed_behind.0).1).place)
 
   module _ (own : x.kind ≢ 16) (w : List ℕ) (at : ℕ) (low : x.at ≤ at) (high : at + length w ≤ x.at + x.size) where

@@ -8,8 +8,9 @@ use Rattle.h5_bytes.specs.Bytes.{part, with_part}
 use Rattle.h5_bytes.specs.Blocks.{holds, cover}
 use Rattle.h5_model.specs.Format.Messages.{Message, count_of, first_body, prefix_at}
 use Rattle.h5_header.specs.Listed.{Listed, message_in, messages_in}
+use Rattle.h5_header.specs.Standing.{IsStanding}
 use Rattle.h5_header.specs.declared.message.Message.{Message as Placed}
-use Rattle.h5_header.proofs.BodyWrites.{IsStanding, body_covered, prefix_stays, said, said_now, still_standing}
+use Rattle.h5_header.proofs.BodyWrites.{body_covered, prefix_stays, said, said_now, still_standing}
 
 -- the same messages, but that the first of this type has another body
 pub record HasNewBody (kind : ℕ) (ms ms' : List Message) (body : List ℕ) : Type 0 where

@@ -4,7 +4,7 @@ use Rattle.std.specs.List.{AllByRecursion, flat_map}
 use Rattle.std.proofs.lemmas.List.{map-append}
 use Rattle.std.proofs.lemmas.List.Concat.{flat_map-append}
 use Rattle.h5_bytes.specs.Bytes.{number_at, byte_at, part}
-use Rattle.h5_bytes.specs.Blocks.{block, holds, cover, Inside}
+use Rattle.h5_bytes.specs.Blocks.{block, holds, cover, Inside, IsKept, Keeps}
 use Rattle.h5_bytes.specs.declared.Block.{Block}
 use Rattle.h5_bytes.proofs.BlockLaws.{holds_join, holds_none, cover-append, all_append, all_left, all_right}
 use Rattle.h5_bytes.proofs.FieldLaws.{number_at-part}
@@ -90,10 +90,24 @@ fills_of image b inside to (m ∷ ms) follow =
       fills_of image b inside (to + 8 + number_at (part b.at b.len image) (to + 2) 2) ms (subst (λ (p : ℕ). Follow image p ms (b.at + b.len)) next follow.1),
     )
 
+-- ---- one after another
+
+pub follow_join : (image : List ℕ) (at : ℕ) (xs : List Message) (mid : ℕ) (ys : List Message) (end : ℕ) → Follow image at xs mid → Follow image mid ys end
+    → Follow image at (xs ++ ys) end
+follow_join image at [] mid ys end left right = subst (λ (p : ℕ). Follow image p ys end) (sym left) right
+follow_join image at (x ∷ xs) mid ys end left right = (left.0, follow_join image (at + 8 + number_at image (at + 2) 2) xs mid ys end left.1 right)
+
+pub follow_split : (image : List ℕ) (at : ℕ) (xs ys : List Message) (end : ℕ) → Follow image at (xs ++ ys) end
+    → (mid : ℕ) × Follow image at xs mid × Follow image mid ys end
+follow_split image at [] ys end follow = (at, refl, follow)
+follow_split image at (x ∷ xs) ys end follow =
+    let rest = follow_split image (at + 8 + number_at image (at + 2) 2) xs ys end follow.1 in
+    (rest.0, (follow.0, rest.1), rest.2)
+
 -- ---- whose bytes the messages have
 
 -- the bytes of messages that follow each other are those from the first to the end
-follow_cover : (p : ℕ) (image : List ℕ) (at : ℕ) (ms : List Message) (end : ℕ) → Follow image at ms end → cover p (map stretch ms) ≡ holds p at (end - at)
+pub follow_cover : (p : ℕ) (image : List ℕ) (at : ℕ) (ms : List Message) (end : ℕ) → Follow image at ms end → cover p (map stretch ms) ≡ holds p at (end - at)
 follow_cover p image at [] end follow = let none : end - at ≡ 0 = omega (arith, follow) in rw none (sym (holds_none p at))
 follow_cover p image at (m ∷ ms) end follow =
     let is = follow.0 in
@@ -112,7 +126,7 @@ follow_cover p image at (m ∷ ms) end follow =
 abbrev pub IsHeaded : List ℕ → Message → Type 0
 IsHeaded image m = (at : ℕ) × IsMessage 0 image at m
 
-follow_headed : (image : List ℕ) (at : ℕ) (ms : List Message) (end : ℕ) → Follow image at ms end → AllByRecursion (IsHeaded image) ms
+pub follow_headed : (image : List ℕ) (at : ℕ) (ms : List Message) (end : ℕ) → Follow image at ms end → AllByRecursion (IsHeaded image) ms
 follow_headed image at [] end follow = tt
 follow_headed image at (m ∷ ms) end follow = ((at, follow.0), follow_headed image (at + 8 + number_at image (at + 2) 2) ms end follow.1)
 
@@ -154,3 +168,46 @@ module _ (image : List ℕ) where
       let names : cover q (continuations (p ++ all_of parts)) ≡ cover q (continuations p) + cover q (continuations (all_of parts))
       = ap (cover q) split ∙ cover-append q (continuations p) (continuations (all_of parts)) in
       omega (arith, rest, this, both, names, cover-append q waiting (continuations p))
+
+-- their bytes lie in the image
+pub stretches_inside : (image : List ℕ) (ms : List Message) → AllByRecursion (IsHeaded image) ms → Inside (length image) (map stretch ms)
+stretches_inside image [] all = tt
+stretches_inside image (m ∷ ms) all =
+    let is = (all.0).1 in
+    (omega (arith, is.whole, is.place, message_long image (all.0).0 m is), stretches_inside image ms all.1)
+
+-- ---- what stays
+
+module _ (old new : List ℕ) (grown : length old ≤ length new) where
+  pub message_kept : (at : ℕ) (m : Message) → IsMessage 0 old at m → IsKept old new (stretch m) → IsMessage 0 new at m
+  message_kept at m is kept =
+      let place : m.at - 8 ≡ at = omega (arith, is.place) in
+      let size = number_at old (at + 2) 2 in
+      let len : length m.body ≡ size = message_long old at m is in
+      let same : part at (8 + size) new ≡ part at (8 + size) old = rw (place, len) at kept in
+      let field_same : (k n : ℕ) → k + n ≤ 8 → number_at new (at + k) n ≡ number_at old (at + k) n
+      = λ k n low. sym (number_at-part k n at (8 + size) new (omega (arith, low))) ∙ ap (λ bs. number_at bs k n) same ∙ number_at-part k n at (8 + size) old (omega (arith, low)) in
+      let zero : at + 0 ≡ at = omega arith in
+      let s : number_at new (at + 2) 2 ≡ size = field_same 2 2 (omega arith) in
+      let flag : byte_at new (at + 4) ≡ byte_at old (at + 4)
+      = sym (byte_at-part 4 at (8 + size) new (omega arith)) ∙ ap (λ bs. byte_at bs 4) same ∙ byte_at-part 4 at (8 + size) old (omega arith) in
+      record {
+        kind = is.kind ∙ sym (rw zero at (field_same 0 2 (omega arith)));
+        place = is.place;
+        body = is.body ∙ sym (part-part 8 size at (8 + size) old (omega arith)) ∙ sym (ap (part 8 size) same) ∙ part-part 8 size at (8 + size) new (omega arith)
+            ∙ sym (ap (λ n. part (at + 8) n new) s);
+        whole = omega (arith, s, is.whole, grown);
+        padded = rw s is.padded;
+        own = rw flag is.own;
+      }
+
+  pub follow_kept : (at : ℕ) (ms : List Message) (end : ℕ) → Keeps old new (map stretch ms) → Follow old at ms end → Follow new at ms end
+  follow_kept at [] end kept follow = follow
+  follow_kept at (m ∷ ms) end kept follow =
+      let is = message_kept at m follow.0 kept.0 in
+      let len : number_at old (at + 2) 2 ≡ number_at new (at + 2) 2 = sym (message_long old at m follow.0) ∙ message_long new at m is in
+      (is, subst (λ (n : ℕ). Follow new (at + 8 + n) ms end) len (follow_kept (at + 8 + number_at old (at + 2) 2) ms end kept.1 follow.1))
+
+  pub headed_kept : (ms : List Message) → AllByRecursion (IsHeaded old) ms → Keeps old new (map stretch ms) → AllByRecursion (IsHeaded new) ms
+  headed_kept [] all kept = tt
+  headed_kept (m ∷ ms) all kept = (((all.0).0, message_kept (all.0).0 m (all.0).1 kept.0), headed_kept ms all.1 kept.1)

@@ -1,5 +1,8 @@
 pub mod Heads
 pub mod Listed
+pub mod Standing
+pub mod Room
+pub mod Added
 pub mod Refused
 pub mod Progress
 pub mod Kinds

@@ -12,6 +12,8 @@ pub record Listed : Type 0 where
   pub header : ℕ
   pub list : List Placed
   pub blocks : List Block
+  -- for how many messages more there is room without memory
+  pub room : ℕ
 
 -- the message whose body stands at a place of the image
 abbrev pub message_in : List ℕ → Placed → Message

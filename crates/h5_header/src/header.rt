@@ -1,29 +1,33 @@
 //! The messages of an object header (File Format Specification 3.0, section IV.A.1.a).
 
-ghost use Rattle.std.specs.Prelude.{◌≡◌, ◌+◌, ◌<◌, ◌≤◌, Some, length, slice_get, option_map, IfOk, IfErr, OnOk};
+ghost use Rattle.std.specs.Prelude.{◌≡◌, ◌+◌, ◌<◌, ◌≤◌, Some, length, ◌++◌, ◌-◌, ◌^◌, max, take, drop, slice_get, slice_set, option_map, IfOk, IfErr, OnOk, OnErr, IsOk};
 ghost use Rattle.h5_bytes.specs.Blocks.{Separate};
 ghost use Rattle.h5_bytes.specs.Bytes.{byte_at};
 ghost use Rattle.h5_model.specs.Format.Messages.{prefix_at, reference_count};
 ghost use Rattle.h5_header.specs.Listed.{messages_in, IsWithin};
+ghost use Rattle.h5_header.specs.Standing.{kept_at, kept_with_nil};
 ghost use Rattle.h5_header.specs.Progress.{ReadThrough, Stops};
 
 use crate::block::read_block;
 use crate::claims::{PREFIX, claim_prefix};
 use crate::message::Message;
 use h5_bytes::{Block, u32_at};
+use h5_model::message_type::NIL;
 use h5_model::{Cause, OpenFault};
 use h5_space::{Claims, Image, claim, fault};
-use std::alloc::Global;
+use std::alloc::{AllocError, Global};
 use std::marker::Model;
 
 /// The messages of an object header, in the order in which they stand in its blocks.
 ///
-/// It keeps where the messages stand, and no byte of the image.
+/// It keeps where the messages stand, and no byte of the image. A message more is kept in room that was
+/// reserved, so that an edit can run out of memory only before its first change.
 #[derive(Drop)]
 pub struct Messages {
     header: u64,
     list: Vec<Message>,
     blocks: Vec<Block>,
+    room: usize,
 }
 
 impl Model for Messages {
@@ -31,7 +35,11 @@ impl Model for Messages {
 
     ghost Value = { Listed };
 
-    ghost view = { λ s. record { header = s.header; list = s.list.items; blocks = s.blocks.items } };
+    ghost use Rattle.h5_header.specs.Room.{IsRoomKept};
+
+    ghost view = { λ s. record { header = s.header; list = s.list.items; blocks = s.blocks.items; room = s.room } };
+
+    ghost invariant = { IsRoomKept };
 }
 
 impl Messages {
@@ -80,6 +88,61 @@ impl Messages {
     {
         u32_at(image.bytes(), self.header as usize + 4)
     }
+
+    /// Makes room for one message more: for two messages and a block, which it may need. Takes no memory
+    /// where there is room already.
+    ///
+    /// `AllocError` where a growth is refused. Nothing changes then.
+    pub fn reserve(&mut self) -> Result<(), AllocError>
+        ensures ok { OnOk result (self.new ≡ record self.old { room = max self.old.room 1 }) }
+        ensures err { OnErr result (self.new ≡ self.old) }
+        ensures covered { 1 ≤ self.old.room → IsOk result }
+    {
+        if self.room == 0 {
+            self.list.reserve(2)?;
+            self.blocks.reserve(1)?;
+            self.room = 1;
+        }
+        Ok(())
+    }
+
+    /// Keeps a message of `size` bytes in the place of message `k`, and behind it the NIL message that is
+    /// left. Uses the room of one message. Takes no memory.
+    pub(crate) fn keep_in(&mut self, k: usize, kind: u16, size: u16)
+        requires known { k < length self.old.list }
+        requires fits { size ≤ (kept_at self.old.list k).size }
+        requires head { size < (kept_at self.old.list k).size → size + 8 ≤ (kept_at self.old.list k).size }
+        requires small { (kept_at self.old.list k).at + (kept_at self.old.list k).size < 2 ^ 64 }
+        requires room { 1 ≤ self.old.room }
+        ensures { self.new ≡ record self.old {
+          list = take k self.old.list ++ (kept_with_nil kind size (kept_at self.old.list k) ++ drop (k + 1) self.old.list);
+          room = self.old.room - 1;
+        } }
+    {
+        let old = self.list[k];
+        self.list[k] = Message {
+            kind,
+            at: old.at,
+            size,
+        };
+        if size < old.size {
+            let rest = Message {
+                kind: NIL,
+                at: old.at + size as u64 + 8,
+                size: old.size - size - 8,
+            };
+            let _ = self.list.insert(k + 1, rest);
+        }
+        self.room -= 1;
+    }
+
+    /// Keeps this message in the place of message `k`. Takes no memory.
+    pub(crate) fn set(&mut self, k: usize, message: Message)
+        requires { k < length self.old.list }
+        ensures { self.new ≡ record self.old { list = slice_set self.old.list k message } }
+    {
+        self.list[k] = message;
+    }
 }
 
 /// Reads all blocks of a header, in the order in which they are named.
@@ -126,5 +189,6 @@ pub(crate) fn read_header(
         header,
         list,
         blocks,
+        room: 0,
     })
 }

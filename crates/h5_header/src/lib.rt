@@ -6,10 +6,12 @@
 
 mod block;
 mod claims;
+mod edits;
 mod find;
 mod header;
 mod kinds;
 mod message;
+mod put;
 mod read;
 
 pub use find::{find_body, find_message};

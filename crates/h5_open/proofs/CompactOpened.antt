@@ -26,7 +26,7 @@ use Rattle.h5_space.specs.Moves.{Moves}
 use Rattle.h5_header.specs.Kinds.{IsOfDataset}
 use Rattle.h5_header.specs.Listed.{messages_in}
 use Rattle.h5_header.specs.declared.message.Message.{Message as Listed}
-use Rattle.h5_header.proofs.BodyWrites.{IsStanding}
+use Rattle.h5_header.specs.Standing.{IsStanding}
 use Rattle.h5_header.proofs.FoundLaws.{within_at}
 use Rattle.h5_header.proofs.FirstWritten.{IsBodyWritten, body_written, same_count, same_filter, written_covered}
 use Rattle.h5_attr.specs.Attributes.{attributes_of, HasNamesOnce}

@@ -126,7 +126,7 @@ get_or-append_left : (xs ys : List ℕ) (k d : ℕ) → k < length xs → get_or
 get_or-append_left xs ys k d low = grind (arith, places)
 
 -- a byte outside of what is written
-byte-with_part : (at : ℕ) (new bytes : List ℕ) (p : ℕ) → at + length new ≤ length bytes → (p < at) ⊎ (at + length new ≤ p)
+pub byte-with_part : (at : ℕ) (new bytes : List ℕ) (p : ℕ) → at + length new ≤ length bytes → (p < at) ⊎ (at + length new ≤ p)
     → byte_at (with_part at new bytes) p ≡ byte_at bytes p
 byte-with_part at new bytes p room far = ap (λ bs. get_or bs p 0) (with_part_is at new bytes room) ∙ grind (arith, places, far)
 

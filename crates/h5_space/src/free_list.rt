@@ -19,6 +19,7 @@ pub(crate) fn cut(free: &mut Vec<Block>, k: usize, len: u64) -> u64
     requires fits { (d : Block) → len ≤ (slice_index_or free.old.items k d).len }
     requires small { (d : Block) → (slice_index_or free.old.items k d).at
         + (slice_index_or free.old.items k d).len < 2 ^ 64 }
+    ensures place { (d : Block) → result ≡ (slice_index_or free.old.items k d).at }
     ensures taken { (p : ℕ) → cover p free.new.items + holds p result len ≡ cover p free.old.items }
     ensures inside { (end : ℕ) → IsSpaced free.old.items end → result + len ≤ end }
     ensures joined { (end : ℕ) → IsSpaced free.old.items end → IsSpaced free.new.items end }

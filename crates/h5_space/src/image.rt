@@ -1,8 +1,8 @@
 ghost use Rattle.std.specs.Prelude.{◌≡◌, ℕ, ◌+◌, ◌≤◌, ◌^◌, ◌<◌, [], ◌++◌, IsSome, IfSome, ◌↔◌, length, IsTrue, IsOk, OnOk, OnErr, Err, max, replicate};
 ghost use Rattle.std.specs.Borrow.{sem};
-ghost use Rattle.h5_bytes.specs.Bytes.{part};
+ghost use Rattle.h5_bytes.specs.Bytes.{part, with_part};
 ghost use Rattle.h5_bytes.specs.Blocks.{holds, cover};
-ghost use Rattle.h5_space.specs.Space.{IsSpaced, growth};
+ghost use Rattle.h5_space.specs.Space.{IsSpaced, growth, next_place};
 ghost use Rattle.h5_space.specs.Lending.{LendsPart};
 
 use crate::free_list::{cut, first_fit, put_back};
@@ -146,7 +146,33 @@ impl Image {
         Ok(())
     }
 
-    /// Takes a block of `len` bytes, and gives its place.
+    /// Copies the `len` bytes from place `from` to place `to`, where no other bytes change. The two may
+    /// share bytes.
+    ///
+    /// That both end by the end of the image is the caller's condition. Takes no memory.
+    pub fn copy(&mut self, from: u64, len: u64, to: u64)
+        requires from { from + len ≤ length self.old.bytes }
+        requires to { to + len ≤ length self.old.bytes }
+        ensures { self.new ≡ record self.old {
+          bytes = with_part to (part from len self.old.bytes) self.old.bytes;
+        } }
+    {
+        self.bytes
+            .copy_within(from as usize..(from + len) as usize, to as usize);
+    }
+
+    /// Where a block of `len` bytes will stand, if it is the next one that is taken. Takes no memory.
+    pub fn place_for(&self, len: u64) -> u64
+        ensures { result ≡ next_place len self.now }
+    {
+        let fit = first_fit(self.free.as_slice(), len);
+        match fit {
+            Some(k) => self.free[k].at,
+            None => self.bytes.len() as u64,
+        }
+    }
+
+    /// Takes a block of `len` bytes, and gives its place, which is the one that `place_for` gives.
     ///
     /// It comes out of a free block where one is as long, and keeps the bytes that it has there; else
     /// it stands behind the old end, and is zero. Uses `len` bytes and one block of the room, whose
@@ -154,6 +180,7 @@ impl Image {
     pub fn take(&mut self, len: u64) -> u64
         requires bytes { len ≤ self.old.room_bytes }
         requires blocks { 1 ≤ self.old.room_blocks }
+        ensures place { result ≡ next_place len self.old }
         ensures bytes { self.new.bytes ≡ self.old.bytes ++ replicate (growth len self.old.free) 0 }
         ensures inside { result + len ≤ length self.new.bytes }
 

@@ -1,12 +1,13 @@
-use Rattle.std.proofs.Common.{◌≡◌, ◌+◌, ◌-◌, ◌++◌, arith, length, take, replicate, vec_len, ap, refl, sym, ◌∙◌, position, Some, nat_le, append-nil}
+use Rattle.std.proofs.Common.{◌≡◌, ◌+◌, ◌-◌, ◌++◌, arith, length, take, replicate, vec_len, ap, refl, sym, ◌∙◌, position, Option, Some, nat_le, append-nil}
+use Rattle.std.specs.Option.{option_map_or}
 use Rattle.std.proofs.lemmas.List.Quantifiers.{position-Some}
 use Rattle.std.proofs.lemmas.Bool.{leb-true}
 use Rattle.std.proofs.lemmas.List.{take_all}
 use Rattle.h5_bytes.specs.declared.Block.{Block}
 use Rattle.h5_bytes.specs.Blocks.{holds, cover}
 use Rattle.h5_bytes.proofs.BlockLaws.{holds_none}
-use Rattle.h5_space.specs.Space.{Space, growth}
-use Rattle.h5_space.proofs.FitLaws.{growth_found, growth_missing}
+use Rattle.h5_space.specs.Space.{Space, growth, next_place}
+use Rattle.h5_space.proofs.FitLaws.{find_found, find_missing, growth_found, growth_missing}
 use Rattle.h5_space.proofs.image.Image.take.Goals as goal
 use Rattle.h5_space.proofs.image.Image.take.Goals.{In-Some, In-None}
 
@@ -15,6 +16,24 @@ found c = rw (← c.as_slice.ensures.value) (sym c.first_fit.ensures ∙ c.in-So
 
 stays : (c : In-Some) → growth c.args.len c.args.self.now.free ≡ 0
 stays c = ap (λ (s : Space). growth c.args.len s.free) (sym c.self.view_is) ∙ growth_found c.args.len c.self.inside.free.items c.in-Some.k (record { at = 0; len = 0 }) (found c)
+
+pub returns-in-Some-clause-place : goal.returns-in-Some-clause-place
+returns-in-Some-clause-place c =
+    let k = (goal.at.returns-in-Some-clause-place c).In-Some in
+    let free = c.self.inside.free.items in
+    let none : Block = record { at = 0; len = 0 } in
+    let first = find_found (λ (b : Block). nat_le c.args.len b.len) free k.in-Some.k none (found k) in
+    c.cut.ensures.place none ∙ sym (ap (λ (s : Space). next_place c.args.len s) (sym c.self.view_is)
+    ∙ ap (λ (o : Option Block). option_map_or (λ (b : Block). b.at) o (length c.self.inside.bytes.items)) first)
+
+pub returns-in-None-clause-place : goal.returns-in-None-clause-place
+returns-in-None-clause-place c =
+    let k = (goal.at.returns-in-None-clause-place c).In-None in
+    let free = c.self.inside.free.items in
+    let end : c.len-end.result ≡ length c.self.inside.bytes.items = omega (arith, c.len-end.ensures, c.self.inside.bytes.ok.0) in
+    let first = find_missing (λ (b : Block). nat_le c.args.len b.len) free (rw (← c.as_slice.ensures.value) (sym c.first_fit.ensures ∙ k.in-None.is)) in
+    end ∙ sym (ap (λ (s : Space). next_place c.args.len s) (sym c.self.view_is)
+    ∙ ap (λ (o : Option Block). option_map_or (λ (b : Block). b.at) o (length c.self.inside.bytes.items)) first)
 
 pub cut-requires-clause-fits : goal.cut-requires-clause-fits
 cut-requires-clause-fits c d = leb-true _ _ (position-Some (λ (b : Block). nat_le c.args.len b.len) c.self.inside.free.items _ d (found (goal.at.cut-requires-clause-fits c).In-Some)).1

@@ -1,0 +1,47 @@
+-- Messages that were written one after another: where they stand, and that they name no block.
+use Rattle.std.proofs.Common.{◌≡◌, ℕ, ◌+◌, ◌==◌, true, false, List, [], ◌∷◌, map, length, refl, sym, ◌∙◌, ap, ap₂, arith}
+use Rattle.std.specs.List.{AllByRecursion}
+use Rattle.h5_bytes.specs.Bytes.{part}
+use Rattle.h5_bytes.specs.Blocks.{Keeps}
+use Rattle.h5_bytes.specs.declared.Block.{Block}
+use Rattle.h5_model.specs.Format.Messages.{Message, IsMessage, IsContinued, continuations}
+use Rattle.h5_model.proofs.PlainMessages.{IsPlain, messages_from}
+use Rattle.h5_header.specs.Listed.{messages_in, IsWithin}
+use Rattle.h5_header.specs.declared.message.Message.{Message as Placed}
+use Rattle.h5_header.proofs.StretchLaws.{IsHeaded, message_long}
+
+-- where a message stands
+abbrev pub placed : Message → Placed
+placed y = record { kind = y.kind; at = y.at; size = length y.body }
+
+-- at their places in the image stand these messages
+pub placed_back : (image : List ℕ) (ms : List Message) → AllByRecursion (IsHeaded image) ms → messages_in image (map placed ms) ≡ ms
+placed_back image [] all = refl
+placed_back image (y ∷ ms) all =
+    let at = (all.0).0 in
+    let is : IsMessage 0 image at y = (all.0).1 in
+    let place : at + 8 ≡ y.at = omega (arith, is.place) in
+    let body : part y.at (length y.body) image ≡ y.body = ap₂ (λ p n. part p n image) (sym place) (message_long image at y is) ∙ sym is.body in
+    ap₂ (λ (bs : List ℕ) (zs : List Message). record y { body = bs } ∷ zs) body (placed_back image ms all.1)
+
+pub placed_within : (image : List ℕ) (ms : List Message) → AllByRecursion (IsHeaded image) ms → IsWithin (length image) (map placed ms)
+placed_within image [] all = tt
+placed_within image (y ∷ ms) all =
+    let is = (all.0).1 in
+    (omega (arith, is.whole, is.place, message_long image (all.0).0 y is), placed_within image ms all.1)
+
+pub no_names : (at : ℕ) (ms : List (ℕ × List ℕ)) → AllByRecursion IsPlain ms → continuations (messages_from at ms) ≡ []
+no_names at [] all = refl
+no_names at (m ∷ ms) all = rw (all.0.own, no_names (at + 8 + length m.1) ms all.1) refl
+
+pub no_continuation : (at : ℕ) (ms : List (ℕ × List ℕ)) → AllByRecursion IsPlain ms → AllByRecursion IsContinued (messages_from at ms)
+no_continuation at [] all = tt
+no_continuation at (m ∷ ms) all = (
+  λ e. let other : (m.0 == 16) ≡ false = all.0.own in let sixteen : (m.0 == 16) ≡ true = ap (λ k. k == 16) e in absurd (cc),
+  no_continuation (at + 8 + length m.1) ms all.1,
+)
+
+-- what stays and then stays again stays
+pub keeps_then : (old mid new : List ℕ) (bs : List Block) → Keeps old mid bs → Keeps mid new bs → Keeps old new bs
+keeps_then old mid new [] first second = tt
+keeps_then old mid new (b ∷ bs) first second = (second.0 ∙ first.0, keeps_then old mid new bs first.1 second.1)
