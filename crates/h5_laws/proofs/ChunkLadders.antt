@@ -37,7 +37,7 @@ zip_long (x ∷ xs) [] long = refl
 zip_long (x ∷ xs) (y ∷ ys) long = ap suc (zip_long xs ys (omega (arith, long)))
 
 -- what is before another is before what that is not after
-before_after : (a b c : List ℕ) → Before a b → NotAfter b c → Before a c
+pub before_after : (a b c : List ℕ) → Before a b → NotAfter b c → Before a c
 before_after a b c before not_after = by_order (slice_cmp nat_cmp b c) refl where
   by_order : (r : Ordering) → slice_cmp nat_cmp b c ≡ r → Before a c
   by_order Less is = ap is_lt (nat_list_cmp_total.trans a b c (less_of (slice_cmp nat_cmp a b) before) is)

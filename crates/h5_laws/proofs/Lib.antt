@@ -47,3 +47,8 @@ pub mod NameLadders
 pub mod ChunkLadders
 pub mod TypesKept
 pub mod RisingMaps
+pub mod KeyLadders
+pub mod KeyInserts
+pub mod KeyRemoves
+pub mod KeyInstances
+pub mod KeyDepth

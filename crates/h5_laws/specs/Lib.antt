@@ -6,3 +6,5 @@ pub mod Ladders
 pub mod NameLadders
 pub mod ChunkLadders
 pub mod Rising
+pub mod KeyTrees
+pub mod KeyEdits
