@@ -8,3 +8,16 @@ pub mod WriteLaws
 pub mod WalkLaws
 pub mod OrderLaws
 pub mod RisingLaws
+pub mod RowEdits
+pub mod ClimbLaws
+pub mod DropLaws
+pub mod WayRows
+pub mod OwnedLaws
+pub mod TreeReadings
+pub mod NodeEdits
+pub mod NodeMoves
+pub mod ClimbSteps
+pub mod DropSteps
+pub mod SplitSteps
+pub mod UnlinkSteps
+pub mod RaiseSteps

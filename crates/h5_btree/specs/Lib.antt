@@ -4,3 +4,5 @@ pub mod Writing
 pub mod Walk
 pub mod Order
 pub mod Rising
+pub mod Climb
+pub mod Rewritten

@@ -6,6 +6,7 @@
 #![tactic(auto)]
 
 mod descent;
+mod edit;
 mod kind;
 mod name;
 mod node;
@@ -13,9 +14,12 @@ mod order;
 mod read;
 mod sought;
 mod walk;
+mod way;
 mod write;
+mod written;
 
 pub use descent::{ChildPlace, find_leaf, find_place};
+pub use edit::{insert_child, remove_child, set_child, set_key, set_left, set_right};
 pub use kind::NodeKind;
 pub use name::SoughtName;
 pub use node::Node;
@@ -23,4 +27,5 @@ pub use order::{Ordered, check_keys};
 pub use read::{NodeFault, read_node, read_node_at};
 pub use sought::{Sought, child_for};
 pub use walk::{Leaves, Tree, Trees, bottom_nodes, read_tree, tree_leaves, tree_node};
+pub use way::Step;
 pub use write::{Child, TreeKey, nodes_over, push_tree, root_level, rows_of};

@@ -15,7 +15,7 @@ use std::marker::Model;
 const HEAD: usize = 24;
 
 /// How many bytes the address of a child has.
-const CHILD: usize = 8;
+pub(crate) const CHILD: usize = 8;
 
 /// The greatest level of a node.
 pub const MAX_LEVEL: u8 = 15;
@@ -144,7 +144,7 @@ impl<'a> Node<'a> {
 }
 
 /// Where a key begins.
-fn place_of(kind: NodeKind, i: usize) -> usize
+pub(crate) fn place_of(kind: NodeKind, i: usize) -> usize
     requires { i ≤ 2 * kind.k }
     ensures { result ≡ key_place kind i }
 {

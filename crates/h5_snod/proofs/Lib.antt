@@ -1,3 +1,4 @@
 pub mod EntryLaws
 pub mod NameLaws
 pub mod WrittenLaws
+pub mod EditLaws

@@ -1,0 +1,95 @@
+//! Nodes edited where they stand (File Format Specification 3.0, section III.A.1).
+//!
+//! Each call changes one node: one of its keys, children or neighbours, or it puts a child in or takes one out. No other
+//! byte of the image changes, and no call takes memory.
+
+ghost use Rattle.std.specs.Prelude.{◌≡◌, ◌+◌, ◌*◌, ◌^◌, ◌<◌, ◌≤◌, length, slice_set};
+ghost use Rattle.std.specs.List.{insert, remove};
+ghost use Rattle.h5_model.specs.Format.Nodes.{IsNode, entries_in, node_at, node_bytes, node_length};
+ghost use Rattle.h5_btree.specs.Rewritten.{IsRewritten};
+
+use crate::kind::NodeKind;
+use crate::written::{put_child, put_child_in, put_key, put_left, put_right, take_child_out};
+use h5_space::Image;
+
+/// Names another neighbour to the left.
+pub fn set_left(image: &mut Image, kind: NodeKind, at: u64, left: u64)
+    requires inside { at + node_length kind ≤ length image.old.bytes }
+    requires form { IsNode kind (node_bytes image.old.bytes kind at) }
+    ensures { IsRewritten image.old image.new kind at (record (node_at image.old.bytes kind at) {
+      left = left;
+    }) }
+{
+    let bytes = image.part_at_mut(at, kind.node_length() as u64);
+    put_left(kind, bytes, left);
+}
+
+/// Names another neighbour to the right.
+pub fn set_right(image: &mut Image, kind: NodeKind, at: u64, right: u64)
+    requires inside { at + node_length kind ≤ length image.old.bytes }
+    requires form { IsNode kind (node_bytes image.old.bytes kind at) }
+    ensures { IsRewritten image.old image.new kind at (record (node_at image.old.bytes kind at) {
+      right = right;
+    }) }
+{
+    let bytes = image.part_at_mut(at, kind.node_length() as u64);
+    put_right(kind, bytes, right);
+}
+
+/// Writes another key at place `i`.
+pub fn set_key(image: &mut Image, kind: NodeKind, at: u64, i: usize, key: &[u8])
+    requires inside { at + node_length kind ≤ length image.old.bytes }
+    requires form { IsNode kind (node_bytes image.old.bytes kind at) }
+    requires place { i ≤ entries_in (node_bytes image.old.bytes kind at) }
+    requires width { length key.now ≡ kind.key_length }
+    ensures { IsRewritten image.old image.new kind at (record (node_at image.old.bytes kind at) {
+      keys = slice_set (node_at image.old.bytes kind at).keys i key.now;
+    }) }
+{
+    let bytes = image.part_at_mut(at, kind.node_length() as u64);
+    put_key(kind, bytes, i, key);
+}
+
+/// Writes the address of another child at place `i`.
+pub fn set_child(image: &mut Image, kind: NodeKind, at: u64, i: usize, child: u64)
+    requires inside { at + node_length kind ≤ length image.old.bytes }
+    requires form { IsNode kind (node_bytes image.old.bytes kind at) }
+    requires place { i < entries_in (node_bytes image.old.bytes kind at) }
+    ensures { IsRewritten image.old image.new kind at (record (node_at image.old.bytes kind at) {
+      children = slice_set (node_at image.old.bytes kind at).children i child;
+    }) }
+{
+    let bytes = image.part_at_mut(at, kind.node_length() as u64);
+    put_child(kind, bytes, i, child);
+}
+
+/// Puts a child and a key in at place `j`, the key before the child: those from there on move one place.
+pub fn insert_child(image: &mut Image, kind: NodeKind, at: u64, j: usize, key: &[u8], child: u64)
+    requires inside { at + node_length kind ≤ length image.old.bytes }
+    requires form { IsNode kind (node_bytes image.old.bytes kind at) }
+    requires place { j ≤ entries_in (node_bytes image.old.bytes kind at) }
+    requires room { entries_in (node_bytes image.old.bytes kind at) < 2 * kind.k }
+    requires few { entries_in (node_bytes image.old.bytes kind at) + 1 < 2 ^ 16 }
+    requires width { length key.now ≡ kind.key_length }
+    ensures { IsRewritten image.old image.new kind at (record (node_at image.old.bytes kind at) {
+      keys = insert (node_at image.old.bytes kind at).keys j key.now;
+      children = insert (node_at image.old.bytes kind at).children j child;
+    }) }
+{
+    let bytes = image.part_at_mut(at, kind.node_length() as u64);
+    put_child_in(kind, bytes, j, key, child);
+}
+
+/// Takes child `j` out, and the key before it: those behind move one place.
+pub fn remove_child(image: &mut Image, kind: NodeKind, at: u64, j: usize)
+    requires inside { at + node_length kind ≤ length image.old.bytes }
+    requires form { IsNode kind (node_bytes image.old.bytes kind at) }
+    requires place { j < entries_in (node_bytes image.old.bytes kind at) }
+    ensures { IsRewritten image.old image.new kind at (record (node_at image.old.bytes kind at) {
+      keys = remove (node_at image.old.bytes kind at).keys j;
+      children = remove (node_at image.old.bytes kind at).children j;
+    }) }
+{
+    let bytes = image.part_at_mut(at, kind.node_length() as u64);
+    take_child_out(kind, bytes, j);
+}
