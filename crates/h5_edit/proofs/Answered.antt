@@ -142,6 +142,7 @@ module _ {f : FileState} (sound : IsSound f) where
               ),
             );
           };
+          way = fitting.anew;
           anew = record {
             reads = subst (λ (t : Tree). IsPlainReading w.image.items leaf internal (table_with w.headers.items) t) (sym fitting.gives)
                 (read_as leaf internal (stored_in new) after k_there sound_change plain_after w is);

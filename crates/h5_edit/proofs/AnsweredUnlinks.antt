@@ -124,6 +124,7 @@ module _ {f : FileState} (sound : IsSound f) (path : List ℕ) where
               ),
             );
           };
+          way = refl;
           anew = record {
             reads = subst (λ (t : Tree). IsPlainReading w.image.items leaf internal (table_with w.headers.items) t) (sym gives)
                 (read_as leaf internal (stored_in new) after (k_there sound) sound_after plain_after w written);

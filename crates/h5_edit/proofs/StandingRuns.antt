@@ -18,6 +18,7 @@ use Rattle.h5_model.specs.Views.Selection.{axes_of, selection_of}
 use Rattle.h5_model.specs.declared.hyperslab.Hyper.{Hyper}
 use Rattle.h5_query.specs.StandingCellsType.{StandingCells}
 use Rattle.h5_query.specs.Data.{stored_chunks}
+use Rattle.h5_query.specs.ChangedInPlace.{IsChangedInPlace}
 use Rattle.h5_query.specs.Opened.Sound.{IsSound, IsWholeFile}
 use Rattle.h5_query.specs.Opened.State.{FileState}
 use Rattle.h5_query.specs.Written.{AreStanding, IsCellStored, IsStoredRun, with_run}
@@ -118,13 +119,15 @@ module _ {f : FileState} {path : List ℕ} {hyper : Hyper} {values : List ℤ} {
   module _ (sound_before : IsSound f) (now : FileState)
       (changed : now ≡ record f { image = now.image; tree = with_object f.tree t.number (with_dataset (with_run c.place values)) })
       (leaf : leaf_k now.image ≡ leaf_k f.image) (internal : internal_k now.image ≡ internal_k f.image) (sound : IsSound now) (whole : IsWholeFile f → IsWholeFile now)
+      (in_place_now : IsChangedInPlace f now (with_object f.tree t.number (with_dataset (with_run c.place values))) f.next (t.number ∷ []) 0)
       (stored : (place : ℕ) → IsCellStored f t.number place → IsCellStored now t.number place) where
     wrote : AreValuesWritten f t.number (places_in (run ∷ [])) values now
     wrote =
         all_written f t.number (run ∷ []) values asked.0 asked.1 (0 + run.length) [] now
         (one_more f t.number (run ∷ []) values asked.0 asked.1 0 (run ∷ []) [] run f none_yet refl values all_values now
         (subst (λ place. now ≡ record f { image = now.image; tree = with_object f.tree t.number (with_dataset (with_run place values)) }) stands.place_is changed)
-        leaf internal sound whole stored)
+        leaf internal sound whole
+        (subst (λ place. IsChangedInPlace f now (with_object f.tree t.number (with_dataset (with_run place values))) f.next (t.number ∷ []) 0) stands.place_is in_place_now) stored)
         refl
 
     pub standing_written : IsWriteMade f path hyper values t.number now

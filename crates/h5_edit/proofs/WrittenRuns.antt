@@ -11,9 +11,11 @@ use Rattle.h5_model.specs.Format.Fixed.{fits}
 use Rattle.h5_model.specs.Format.Superblock.{leaf_k, internal_k}
 use Rattle.h5_model.specs.Tree.Objects.{Tree, Dataset, dataset_of, with_object}
 use Rattle.h5_model.specs.Tree.Places.{cells}
+use Rattle.h5_query.specs.ChangedInPlace.{IsChangedInPlace}
 use Rattle.h5_query.specs.Opened.Sound.{IsSound, IsWholeFile}
 use Rattle.h5_query.specs.Opened.State.{FileState}
 use Rattle.h5_query.specs.Written.{IsCellStored, IsStoredRun, with_run}
+use Rattle.h5_query.proofs.ChangedThen.{changed_none, changed_then}
 use Rattle.h5_shape.specs.Runs.{places_in}
 use Rattle.h5_shape.specs.declared.runs.CellRun.{CellRun}
 use Rattle.h5_edit.specs.Stored.{AreRunsStored, AreValuesWritten, with_places}
@@ -138,6 +140,7 @@ module _ (old : FileState) (number : ℕ) (all : List CellRun) (values : List �
       internal = refl;
       sound = λ sound. sound;
       whole = λ whole. whole;
+      in_place = λ sound. subst (λ (t : Tree). IsChangedInPlace old old t old.next (number ∷ []) 0) (sym (changed_never old.tree number)) (changed_none old (number ∷ []) sound);
     };
     stored = λ place stored. stored;
   }
@@ -222,6 +225,7 @@ module _ (old : FileState) (number : ℕ) (all : List CellRun) (values : List �
     module _ (vs : List ℤ) (same : vs ≡ part) (after : FileState)
         (changed : after ≡ record now { image = after.image; tree = with_object now.tree number (with_dataset (with_run r.place vs)) })
         (leaf : leaf_k after.image ≡ leaf_k now.image) (internal : internal_k after.image ≡ internal_k now.image) (sound : IsSound after) (whole : IsWholeFile now → IsWholeFile after)
+        (in_place : IsChangedInPlace now after (with_object now.tree number (with_dataset (with_run r.place vs))) now.next (number ∷ []) 0)
         (stored : (place : ℕ) → IsCellStored now number place → IsCellStored after number place) where
       tree_now : now.tree ≡ with_object old.tree number (with_dataset (with_places (places_in so.done) (take from values)))
       tree_now = ap (λ (x : FileState). x.tree) so.written.changed
@@ -239,6 +243,14 @@ module _ (old : FileState) (number : ℕ) (all : List CellRun) (values : List �
           ∙ ap (λ (x : FileState). record x { image = after.image; tree = after.tree }) so.written.changed
           ∙ ap (λ (t : Tree). record old { image = after.image; tree = t }) tree_after
 
+      both_in_place : IsSound old
+          → IsChangedInPlace old after (with_object old.tree number (with_dataset (with_places (places_in (so.done ++ r ∷ [])) (take (from + r.length) values)))) old.next (number ∷ []) 0
+      both_in_place first =
+          let then = changed_then old now after _ _ old.next now.next (number ∷ []) 0 0 first (so.written.in_place first) in_place in
+          subst (λ (t : Tree). IsChangedInPlace old after t old.next (number ∷ []) 0) (sym (ap (λ (x : FileState). x.tree) changed) ∙ tree_after)
+          (subst (λ (n : ℕ). IsChangedInPlace old after (with_object now.tree number (with_dataset (with_run r.place vs))) n (number ∷ []) 0)
+          (ap (λ (x : FileState). x.next) so.written.changed) then)
+
       pub one_more : AreFirstWritten (from + r.length) rest after
       one_more = record {
         done = so.done ++ r ∷ [];
@@ -255,6 +267,7 @@ module _ (old : FileState) (number : ℕ) (all : List CellRun) (values : List �
           internal = internal ∙ so.written.internal;
           sound = λ _. sound;
           whole = λ w. whole (so.written.whole w);
+          in_place = both_in_place;
         };
         stored = λ place held. stored place (so.stored place held);
       }

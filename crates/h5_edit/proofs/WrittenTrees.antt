@@ -10,6 +10,7 @@ use Rattle.h5_bytes.specs.declared.Block.{Block}
 use Rattle.h5_layout.specs.Described.{Described}
 use Rattle.h5_layout.specs.Standing.{is_stored_cell, is_stored_in}
 use Rattle.h5_model.specs.Edits.Applied.{applied, with_cells, with_dataset, written, written_storage}
+use Rattle.h5_model.specs.Edits.Touched.{touched_by}
 use Rattle.h5_model.specs.Format.Chunks.{Chunks}
 use Rattle.h5_model.specs.Format.Layout.{Layout, InMessage, InBlock, InChunks}
 use Rattle.h5_model.specs.Format.Reads.{storage_of}
@@ -23,6 +24,7 @@ use Rattle.h5_model.specs.declared.edits.Edited.{Edited}
 use Rattle.h5_model.specs.declared.hyperslab.Hyper.{Hyper}
 use Rattle.h5_model.specs.declared.object_no.ObjectNo.{ObjectNo}
 use Rattle.h5_query.specs.Data.{dataset_told, stored_chunks}
+use Rattle.h5_query.specs.ChangedInPlace.{IsChangedInPlace}
 use Rattle.h5_query.specs.Opened.Sound.{IsSound}
 use Rattle.h5_query.specs.Opened.State.{FileState, state_of}
 use Rattle.h5_query.specs.Written.{IsArrayThere}
@@ -202,6 +204,10 @@ module _ (f : FileState) (sound : IsSound f) (path : List ℕ) (hyper : Hyper) (
   abbrev wrote : Edit
   wrote = Write path hyper values
 
+  write_touches : touched_by f.tree wrote ≡ number ∷ []
+  unfolding touched_by
+  write_touches = ap (λ (found : Option ℕ). option_map_or (λ n. n ∷ []) found []) at.object
+
   pub edited_in_place : lacks_cells f.image a (axes_of hyper) ≡ false → (now : FileState) → AreValuesWritten f number (selection_of d.sizes (axes_of hyper)) values now
       → IsEdited f wrote now e
   edited_in_place none now is = record {
@@ -213,6 +219,10 @@ module _ (f : FileState) (sound : IsSound f) (path : List ℕ) (hyper : Hyper) (
     internal = is.internal;
     object = named ∙ sym at.object;
     refreshed = refreshed;
+    anew = false;
+    way = (number, a, at.object, there, none);
+    made = subst (λ (ns : List ℕ). IsChangedInPlace f now (tree_after f wrote) f.next ns 0) (sym write_touches)
+        (subst (λ (t : Tree). IsChangedInPlace f now t f.next (number ∷ []) 0) (tree_in_place f path hyper values number at.object a there d array none) (is.in_place sound));
   }
 
   module _ (m : Missing) (missed : IsMissing f.image a (axes_of hyper) m) (lacks : lacks_cells f.image a (axes_of hyper) ≡ true) where
@@ -231,4 +241,7 @@ module _ (f : FileState) (sound : IsSound f) (path : List ℕ) (hyper : Hyper) (
       internal = is.internal ∙ made.anew.internal;
       object = named ∙ sym at.object;
       refreshed = refreshed;
+      anew = true;
+      way = (number, a, at.object, there, lacks);
+      made = (is.whole made.anew.whole, ap (λ (s : FileState). s.free) is.changed ∙ made.anew.free);
     }

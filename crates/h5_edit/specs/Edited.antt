@@ -1,15 +1,26 @@
--- What an accepted edit makes of an opened image.
-use Rattle.std.specs.Prelude.{◌≡◌}
+-- What an accepted edit makes of an opened image (File Format Specification 3.0, sections II.A, III and IV.A).
+use Rattle.std.specs.Prelude.{◌≡◌, Bool, true, false, []}
 use Rattle.std.specs.Option.{option_map}
 use Rattle.h5_model.specs.Edits.Applied.{state_after, named_object}
+use Rattle.h5_model.specs.Edits.Touched.{touched_by}
 use Rattle.h5_model.specs.Format.Superblock.{leaf_k, internal_k}
 use Rattle.h5_model.specs.declared.edits.Edit.{Edit}
 use Rattle.h5_model.specs.declared.edits.Edited.{Edited}
+use Rattle.h5_query.specs.ChangedInPlace.{IsChangedInPlace}
 use Rattle.h5_query.specs.Opened.Sound.{IsSound, IsWholeFile}
 use Rattle.h5_query.specs.Opened.State.{FileState, state_of}
+use Rattle.h5_edit.specs.Carried.{IsMadeAnew, tree_after}
 use Rattle.h5_edit.specs.Made.{IsAccepted}
 
--- No rule refuses it. The image is one of the tree that it gives, no byte of which gets lost, and keeps the K values.
+-- An image that is written anew has each byte in one block, and none is free. In place the bytes of the objects alone change that the
+-- edit touches, no header moves, and the image keeps its length.
+abbrev pub IsMadeAs : Bool → FileState → Edit → FileState → Type 0
+IsMadeAs true before edit after = IsWholeFile after × (after.free ≡ [])
+IsMadeAs false before edit after =
+    IsChangedInPlace before after (tree_after before edit) (state_after (state_of before) edit).next (touched_by before.tree edit) 0
+
+-- No rule refuses it. The image is one of the tree that it gives, no byte of which gets lost, and keeps the K values. It was made anew, or
+-- in place.
 pub record IsEdited (before : FileState) (edit : Edit) (after : FileState) (e : Edited) : Type 0 where
   pub accepted : IsAccepted before edit
   pub state : state_of after ≡ state_after (state_of before) edit
@@ -19,3 +30,6 @@ pub record IsEdited (before : FileState) (edit : Edit) (after : FileState) (e : 
   pub internal : internal_k after.image ≡ internal_k before.image
   pub object : option_map (λ o. o.0) e.object ≡ named_object before.tree edit before.next
   pub refreshed : e.refreshed ≡ 0
+  pub anew : Bool
+  pub way : IsMadeAnew before edit anew
+  pub made : IsMadeAs anew before edit after

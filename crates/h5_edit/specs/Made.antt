@@ -1,6 +1,6 @@
 -- What an accepted edit makes: the image of the tree that it gives, written anew (File Format Specification 3.0, sections II.A, III and
 -- IV.A).
-use Rattle.std.specs.Prelude.{◌≡◌, ℕ, ◌≤◌, Option, None, List, [], length}
+use Rattle.std.specs.Prelude.{◌≡◌, ℕ, ◌≤◌, true, Option, None, List, [], length}
 use Rattle.std.specs.Option.{option_map}
 use Rattle.h5_model.specs.Edits.Applied.{state_after, named_object}
 use Rattle.h5_model.specs.Edits.Refusal.{refusal_of}
@@ -12,7 +12,7 @@ use Rattle.h5_query.specs.Opened.State.{FileState, state_of}
 use Rattle.h5_repack.specs.Bodies.Laws.{IsPlainReading}
 use Rattle.h5_query.specs.Renumbered.Headers.{table_with}
 use Rattle.h5_edit.specs.declared.made.Made.{Made}
-use Rattle.h5_edit.specs.Carried.{tree_after, IsGivenFor}
+use Rattle.h5_edit.specs.Carried.{tree_after, IsGivenFor, IsMadeAnew}
 
 -- it reads as the tree, without gaps, and keeps the K values; these are the headers of its objects by their numbers, with a place for
 -- each number that was given out
@@ -29,6 +29,7 @@ pub record IsAccepted (f : FileState) (edit : Edit) : Type 0 where
 -- the edit is accepted; the image of the tree
 pub record IsEditMade (f : FileState) (edit : Edit) (made : Made) : Type 0 where
   pub accepted : IsAccepted f edit
+  pub way : IsMadeAnew f edit true
   pub anew : IsAnew f (tree_after f edit) (state_after (state_of f) edit).next made.image.items made.headers.items
   pub object : option_map (λ o. o.0) made.object ≡ named_object f.tree edit f.next
 

@@ -1,6 +1,6 @@
 -- Storage made for cells that are to be written, and the cells written into it (File Format Specification 3.0, sections III.A.1 and
 -- IV.A.2.i).
-use Rattle.std.specs.Prelude.{◌≡◌, ℕ, ◌^◌, ◌<◌, ◌≤◌, ℤ, true, Some, None, List, length}
+use Rattle.std.specs.Prelude.{◌≡◌, ℕ, ◌^◌, ◌<◌, ◌≤◌, ℤ, true, Some, None, List, [], ◌∷◌, length}
 use Rattle.std.specs.List.{AllByRecursion, Contains, list_all}
 use Rattle.std.specs.FinMap.{FinMap, get}
 use Rattle.std.specs.Ordering.{nat_cmp}
@@ -20,6 +20,7 @@ use Rattle.h5_model.specs.declared.edits.Edit.TheVariants.{Write}
 use Rattle.h5_model.specs.declared.edits.Edited.{Edited}
 use Rattle.h5_model.specs.declared.hyperslab.Hyper.{Hyper}
 use Rattle.h5_model.specs.declared.object_no.ObjectNo.{ObjectNo}
+use Rattle.h5_query.specs.ChangedInPlace.{IsChangedInPlace}
 use Rattle.h5_query.specs.Opened.Sound.{IsSound, IsWholeFile}
 use Rattle.h5_query.specs.Opened.State.{FileState}
 use Rattle.h5_query.specs.Renumbered.Headers.{table_with}
@@ -105,6 +106,8 @@ pub record AreValuesWritten (old : FileState) (number : ℕ) (places : List ℕ)
   pub internal : internal_k new.image ≡ internal_k old.image
   pub sound : IsSound old → IsSound new
   pub whole : IsWholeFile old → IsWholeFile new
+  pub in_place : IsSound old
+      → IsChangedInPlace old new (with_object old.tree number (with_dataset (with_places places values))) old.next (number ∷ []) 0
 
 -- the write is made, where the number of the array is answered
 abbrev pub IsWriteMade : FileState → List ℕ → Hyper → List ℤ → ℕ → FileState → Type 0

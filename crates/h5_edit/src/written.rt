@@ -20,8 +20,9 @@ use std::alloc::{AllocError, Global};
 
 /// Writes values into the selected cells of the array at the path, in row-major order.
 ///
-/// Where each selected cell is stored, the bytes of these cells change, and no others. Else the image is first written anew with the
-/// storage that is missing: the block of a contiguous array, or the chunks that hold a selected cell; their other cells are the fill.
+/// Where each selected cell is stored, the cells are written where they stand: no byte outside the array's blocks changes, no header
+/// moves, and the image keeps its length. Else the image is first written anew with the storage that is missing: the block of a
+/// contiguous array, or the chunks that hold a selected cell; their other cells are the fill.
 ///
 /// Refused by the lowest number that holds: `BadPath`, `PathTooDeep`, `NoSuchParent`, `NotAGroup`, `NotFound`, `NotADataset` also where a
 /// soft link stands there, `RankMismatch`, `StrideZero`, `BlocksOverlap`, `OutOfExtent`, `ValueCount`, `ValueRange`, `ImageFull` where the

@@ -1,5 +1,5 @@
 -- A file that holds what an edit gives, written anew, is the edited file.
-use Rattle.std.proofs.Common.{◌≡◌, refl}
+use Rattle.std.proofs.Common.{◌≡◌, true, refl}
 use Rattle.h5_model.specs.Edits.Applied.{state_after}
 use Rattle.h5_model.specs.declared.edits.Edit.{Edit}
 use Rattle.h5_model.specs.declared.edits.Edited.{Edited}
@@ -21,4 +21,7 @@ edited f edit made is after anew e same = record {
   internal = anew.internal;
   object = rw same is.object;
   refreshed = rw same refl;
+  anew = true;
+  way = is.way;
+  made = (anew.whole, anew.free);
 }

@@ -103,7 +103,8 @@ impl File {
 
     /// The bytes of the file, with the file given up.
     pub fn into_image(self) -> Vec<u8>
-        ensures { result.items ≡ self.image }
+        ensures bytes { result.items ≡ self.image }
+        ensures sound { IsSound self }
     {
         self.opened.into_image().into_bytes()
     }

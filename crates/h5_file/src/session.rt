@@ -78,7 +78,8 @@ impl Session {
 
     /// The bytes of the file, with the session given up.
     pub fn into_image(self) -> Vec<u8>
-        ensures { result.items ≡ self.file.image }
+        ensures bytes { result.items ≡ self.file.image }
+        ensures sound { IsSound self.file }
     {
         self.file.into_image()
     }

@@ -70,6 +70,7 @@ module _ (old : Space) (slots : List (Option OpenedObject)) (numbers : BTreeMap 
       leaf = all_written.leaf;
       internal = all_written.internal;
       whole = all_written.whole;
+      in_place = all_written.in_place;
       stored = λ q was c its.
           subst (λ (e : Described). is_stored_cell new.bytes e q ≡ true) (sym (array_is new slots numbers run_opened number p stands c its))
           (ap (λ (l : Layout). is_stored_cell new.bytes (record b { layout = l }) q) all_written.laid);

@@ -85,6 +85,8 @@ pub record IsCompactWritten (old new : Space) (slots : List (Option OpenedObject
   pub leaf : leaf_k new.bytes ≡ leaf_k old.bytes
   pub internal : internal_k new.bytes ≡ internal_k old.bytes
   pub whole : IsWholeFile (opened_state old slots) → IsWholeFile (opened_state new slots)
+  pub in_place : IsChangedInPlace (opened_state old slots) (opened_state new slots) (with_object (tree_of old.bytes slots) number (with_dataset (with_run place values))) (length slots)
+      (number ∷ []) 0
   pub local : IsKeptOutside old.bytes new.bytes p.messages.blocks
   pub bytes : List ℕ
   pub laid : layout_told (messages_in new.bytes p.messages.list) ≡ InMessage bytes
@@ -242,6 +244,7 @@ module _ (old : Space) (slots : List (Option OpenedObject)) (numbers : BTreeMap 
         leaf = all.leaf;
         internal = all.internal;
         whole = all.whole;
+        in_place = all;
         local = kept_outside old.bytes new.bytes start w p.messages.blocks fit refl covered;
         bytes = part (x.at + 4) (cells a.sizes * a.fixed.size) new.bytes;
         laid = ap (λ (d : Described). d.layout) told_is;

@@ -14,8 +14,11 @@ use Rattle.h5_model.specs.Edits.Applied.{with_cells, with_dataset}
 use Rattle.h5_model.specs.Tree.Objects.{Tree, Object, Content, Group, Array, Dataset, dataset_in, dataset_of, with_object}
 use Rattle.h5_laws.proofs.SoundLaws.Inserted.{number_here, number_other, same_number_or_other}
 use Rattle.h5_layout.proofs.StandingWritten.{parts_of_type}
+use Rattle.h5_open.specs.ChangedInPlace.{IsChangedInPlace}
+use Rattle.h5_open.specs.Opened.Sound.{IsSound}
 use Rattle.h5_open.specs.Opened.State.{FileState}
 use Rattle.h5_open.specs.Written.{with_run, AreCellsWritten, IsCellStored, IsStoredRun}
+use Rattle.h5_open.proofs.ChangedThen.{changed_none as none_changed, changed_then}
 
 -- ---- cells
 
@@ -99,9 +102,11 @@ array_changed tree number change d is = go (get tree number) refl is where
 -- ---- an opened image
 
 -- where no cell is written, all is as before
-pub none_written : (f : FileState) (number place : ℕ) → AreCellsWritten f number place [] f
-none_written f number place = record {
+pub none_written : (f : FileState) (number place : ℕ) → IsSound f → AreCellsWritten f number place [] f
+none_written f number place sound = record {
   changed = ap (λ (t : Tree). record f { tree = t }) (sym (unchanged f.tree number (with_dataset (with_run place [])) (no_run place)));
+  in_place = subst (λ (t : Tree). IsChangedInPlace f f t f.next (number ∷ []) 0) (sym (unchanged f.tree number (with_dataset (with_run place [])) (no_run place)))
+      (none_changed f (number ∷ []) sound);
   leaf = refl;
   internal = refl;
   whole = λ whole. whole;
@@ -130,13 +135,22 @@ module _ (f g : FileState) (number place : ℕ) (vs : List ℤ) (first : AreCell
         of_type = (parts_of_type d.fixed vs ws run.of_type).1;
       }
 
+  tree_both : (ws : List ℤ) → with_object (with_object f.tree number (with_dataset (with_run place vs))) number (with_dataset (with_run (place + length vs) ws))
+      ≡ with_object f.tree number (with_dataset (with_run place (vs ++ ws)))
+  tree_both ws = changed_twice f.tree number (with_dataset (with_run place vs)) (with_dataset (with_run (place + length vs) ws)) (with_dataset (with_run place (vs ++ ws))) (two_runs place vs ws)
+
   -- both together
-  pub both_written : (ws : List ℤ) (h : FileState) → AreCellsWritten g number (place + length vs) ws h → AreCellsWritten f number place (vs ++ ws) h
-  both_written ws h next = record {
+  pub both_written : IsSound f → (ws : List ℤ) (h : FileState) → AreCellsWritten g number (place + length vs) ws h → AreCellsWritten f number place (vs ++ ws) h
+  both_written sound ws h next = record {
     changed = next.changed
         ∙ ap (λ (s : FileState). record s { image = h.image; tree = with_object s.tree number (with_dataset (with_run (place + length vs) ws)) }) first.changed
-        ∙ ap (λ (t : Tree). record f { image = h.image; tree = t })
-        (changed_twice f.tree number (with_dataset (with_run place vs)) (with_dataset (with_run (place + length vs) ws)) (with_dataset (with_run place (vs ++ ws))) (two_runs place vs ws));
+        ∙ ap (λ (t : Tree). record f { image = h.image; tree = t }) (tree_both ws);
+    in_place =
+        let then = changed_then f g h _ _ f.next g.next (number ∷ []) 0 0 sound first.in_place next.in_place in
+        subst (λ (t : Tree). IsChangedInPlace f h t f.next (number ∷ []) 0)
+        (ap (λ (t : Tree). with_object t number (with_dataset (with_run (place + length vs) ws))) tree_then ∙ tree_both ws)
+        (subst (λ (n : ℕ). IsChangedInPlace f h (with_object g.tree number (with_dataset (with_run (place + length vs) ws))) n (number ∷ []) 0)
+        (ap (λ (s : FileState). s.next) first.changed) then);
     leaf = next.leaf ∙ first.leaf;
     internal = next.internal ∙ first.internal;
     whole = λ whole. next.whole (first.whole whole);
@@ -174,10 +188,10 @@ module _ (f g : FileState) (number place : ℕ) (values : List ℤ) (done : ℕ)
       (subst (λ (n : ℕ). IsStoredRun g number (place + n) (drop done values) (with_run place (take done values) d)) counted all)
 
   -- and where some of them are, so many more are written
-  pub more_written : (n : ℕ) (h : FileState) → AreCellsWritten g number (place + done) (take n (take (length values - done) (drop done values))) h
+  pub more_written : IsSound f → (n : ℕ) (h : FileState) → AreCellsWritten g number (place + done) (take n (take (length values - done) (drop done values))) h
       → AreCellsWritten f number place (take (done + n) values) h
-  more_written n h next =
+  more_written sound n h next =
       let left = subst (λ (vs : List ℤ). AreCellsWritten g number (place + done) (take n vs) h) others next in
       let there = subst (λ (k : ℕ). AreCellsWritten g number (place + k) (take n (drop done values)) h) (sym counted) left in
       subst (λ (vs : List ℤ). AreCellsWritten f number place vs h) (sym (take-add done n values))
-      (both_written f g number place (take done values) first (take n (drop done values)) h there)
+      (both_written f g number place (take done values) first sound (take n (drop done values)) h there)

@@ -193,6 +193,7 @@ module _ (old : Space) (slots : List (Option OpenedObject)) (numbers : BTreeMap 
               leaf = all.leaf;
               internal = all.internal;
               whole = all.whole;
+              in_place = all;
               stored = λ q was b its.
                   let there = was it (array_there old slots numbers opened number p stands kind) in
                   subst (λ (x : Described). is_stored_cell new.bytes x q ≡ true) (sym (array_is new slots numbers still number p stands b its ∙ told_again))

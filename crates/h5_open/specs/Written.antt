@@ -1,5 +1,5 @@
 -- Cells of an array that are written where they stand (File Format Specification 3.0, section IV.A.2.i).
-use Rattle.std.specs.Prelude.{◌≡◌, ℕ, ◌+◌, ◌<◌, ◌≤◌, ℤ, true, Some, List, length}
+use Rattle.std.specs.Prelude.{◌≡◌, ℕ, ◌+◌, ◌<◌, ◌≤◌, ℤ, true, Some, List, [], ◌∷◌, length}
 use Rattle.std.specs.FinMap.{get}
 use Rattle.std.specs.List.{list_all, range_with_len}
 use Rattle.h5_bytes.specs.Blocks.{cover}
@@ -15,6 +15,7 @@ use Rattle.h5_layout.specs.Data.{dataset_told}
 use Rattle.h5_layout.specs.Described.{Described, HasArray}
 use Rattle.h5_layout.specs.Standing.{IsStandingAt, cell_blocks, is_stored_cell}
 use Rattle.h5_open.specs.declared.opened.write.StandingCells.{StandingCells}
+use Rattle.h5_open.specs.ChangedInPlace.{IsChangedInPlace}
 use Rattle.h5_open.specs.Opened.Sound.{IsWholeFile}
 use Rattle.h5_open.specs.Opened.State.{FileState}
 
@@ -59,6 +60,7 @@ pub record AreCellsWritten (old : FileState) (number place : ℕ) (values : List
   pub leaf : leaf_k new.image ≡ leaf_k old.image
   pub internal : internal_k new.image ≡ internal_k old.image
   pub whole : IsWholeFile old → IsWholeFile new
+  pub in_place : IsChangedInPlace old new (with_object old.tree number (with_dataset (with_run place values))) old.next (number ∷ []) 0
   pub stored : (p : ℕ) → IsCellStored old number p → IsCellStored new number p
   pub local : (a : Described) (there : IsArrayThere old number a)
       → IsKeptOutside old.image new.image (cell_blocks old.image a there.blocks)

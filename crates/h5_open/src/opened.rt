@@ -87,7 +87,9 @@ impl Opened {
 
     /// The image, with what is kept of its objects given up. Takes no memory.
     pub fn into_image(self) -> Image
-        ensures { (result.bytes ≡ self.image) × (result.free ≡ self.free) }
+        ensures bytes { result.bytes ≡ self.image }
+        ensures free { result.free ≡ self.free }
+        ensures sound { IsSound self }
     {
         self.image
     }

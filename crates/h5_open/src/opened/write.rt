@@ -1,6 +1,6 @@
 //! Cells written where they stand (File Format Specification 3.0, section IV.A.2.i).
 
-ghost use Rattle.std.specs.Prelude.{◌≡◌, ℕ, ◌+◌, ◌<◌, ◌≤◌, true, length, take};
+ghost use Rattle.std.specs.Prelude.{◌≡◌, ℕ, ◌+◌, ◌<◌, ◌≤◌, ◌∷◌, [], true, length, take};
 ghost use Rattle.h5_model.specs.Edits.Applied.{with_dataset};
 ghost use Rattle.h5_model.specs.Format.Superblock.{leaf_k, internal_k};
 ghost use Rattle.h5_model.specs.Tree.Objects.{Dataset, with_object};
@@ -11,6 +11,7 @@ ghost use Rattle.h5_layout.specs.Described.{Described};
 ghost use Rattle.h5_layout.specs.Compact.{IsRunAt};
 ghost use Rattle.h5_layout.specs.Standing.{cell_blocks, is_stored_cell};
 ghost use Rattle.h5_layout.specs.Told.{array_told};
+ghost use Rattle.h5_open.specs.ChangedInPlace.{IsChangedInPlace};
 ghost use Rattle.h5_open.specs.Opened.Judged.{IsArrayList};
 ghost use Rattle.h5_open.specs.Opened.Sound.{IsSound, IsWholeFile};
 ghost use Rattle.h5_open.specs.Written.{AreCellsWritten, AreStanding, IsArrayThere, IsCellStored, IsKeptOutside, IsStoredRun, with_run};
@@ -49,6 +50,9 @@ impl Opened {
         ensures internal { internal_k self.new.image ≡ internal_k self.old.image }
         ensures sound { IsSound self.new }
         ensures whole { IsWholeFile self.old → IsWholeFile self.new }
+        ensures in_place { IsChangedInPlace self.old self.new
+            (with_object self.old.tree number (with_dataset (with_run place values.now)))
+            self.old.next (number ∷ []) 0 }
         ensures stored { (p : ℕ) → IsCellStored self.old number p → IsCellStored self.new number p }
         ensures local { (a : Described) (there : IsArrayThere self.old number a)
             → IsKeptOutside self.old.image self.new.image (cell_blocks self.old.image a there.blocks) }
@@ -78,6 +82,9 @@ impl Opened {
         ensures internal { internal_k self.new.image ≡ internal_k self.old.image }
         ensures sound { IsSound self.new }
         ensures whole { IsWholeFile self.old → IsWholeFile self.new }
+        ensures in_place { IsChangedInPlace self.old self.new
+            (with_object self.old.tree number (with_dataset (with_run cells.now.place values.now)))
+            self.old.next (number ∷ []) 0 }
         ensures stored { (p : ℕ) → IsCellStored self.old number p → IsCellStored self.new number p }
         ensures local { (a : Described) (there : IsArrayThere self.old number a)
             → IsKeptOutside self.old.image self.new.image (cell_blocks self.old.image a there.blocks) }

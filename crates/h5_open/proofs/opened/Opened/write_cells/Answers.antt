@@ -21,11 +21,15 @@ places_low image slots numbers opened f view number place values run =
     let there = slot image slots f view number place values run in
     run_low image slots numbers opened number there.0 there.1 inside.0 place values inside.1
 
+-- the image is sound
+first_sound : (image : Space) (slots : List (Option OpenedObject)) (numbers : BTreeMap ℕ ℕ) → IsOpened image slots numbers → (f : FileState) → opened_state image slots ≡ f → IsSound f
+first_sound image slots numbers opened f view = subst IsSound view (sound image slots numbers opened)
+
 pub loop-done-init : goal.loop-done-init
 loop-done-init c = record {
   within = omega arith;
-  written = none_written c.args.self.now c.args.number c.args.place;
-  sound = subst IsSound c.self.view_is (sound c.self.inside.image c.self.inside.index.objects.items c.self.inside.index.numbers c.self.invariant);
+  written = none_written c.args.self.now c.args.number c.args.place (first_sound c.self.inside.image c.self.inside.index.objects.items c.self.inside.index.numbers c.self.invariant c.args.self.now c.self.view_is);
+  sound = first_sound c.self.inside.image c.self.inside.index.objects.items c.self.inside.index.numbers c.self.invariant c.args.self.now c.self.view_is;
 }
 
 pub overflow_add-place : goal.overflow_add-place
@@ -53,7 +57,8 @@ loop-done-preserved c =
     let counted = ap length all in
     record {
       within = omega (arith, c.write_first-done.ensures.few, counted, long, i.within);
-      written = more_written c.args.self.now c.loop-done.self c.args.number c.args.place values done i.within i.written c.write_first-done.result c.write_first-done.new.self c.write_first-done.ensures.written;
+      written = more_written c.args.self.now c.loop-done.self c.args.number c.args.place values done i.within i.written
+          (first_sound c.self.inside.image c.self.inside.index.objects.items c.self.inside.index.numbers c.self.invariant c.args.self.now c.self.view_is) c.write_first-done.result c.write_first-done.new.self c.write_first-done.ensures.written;
       sound = c.write_first-done.ensures.sound;
     }
 
@@ -81,6 +86,9 @@ returns-clause-whole c = (written c).whole
 
 pub returns-clause-stored : goal.returns-clause-stored
 returns-clause-stored c = (written c).stored
+
+pub returns-clause-in_place : goal.returns-clause-in_place
+returns-clause-in_place c = (written c).in_place
 
 pub returns-clause-local : goal.returns-clause-local
 returns-clause-local c = (written c).local

@@ -107,5 +107,8 @@ returns-clause-whole c = (after c).1.whole
 pub returns-clause-stored : goal.returns-clause-stored
 returns-clause-stored c = (after c).1.stored
 
+pub returns-clause-in_place : goal.returns-clause-in_place
+returns-clause-in_place c = (after c).1.in_place
+
 pub returns-clause-local : goal.returns-clause-local
 returns-clause-local c = (after c).1.local
