@@ -1,4 +1,4 @@
-"""What the program tells of itself: its version, and the lines of a script with an example each."""
+"""What the program tells of itself: its version, the lines of a script with an example each, and what each refusal means."""
 
 import os
 import re
@@ -7,6 +7,13 @@ import unittest
 from .support import TOP, InFolder, h5i, reference
 
 SCRIPT_PAGE = os.path.join(TOP, "docs", "SCRIPT.md")
+FORMAT_PAGE = os.path.join(TOP, "docs", "FORMAT.md")
+DEFINITIONS = os.path.join(TOP, "crates", "h5_model", "specs")
+# The three lists of refusals: where each is defined, by which definition of numbers and of names, and its head in docs/FORMAT.md.
+REFUSALS = (("Faults/OpenFaults.antt", "cause_number cause", "cause_name cause", "Cause"),
+            ("Edits/EditFaults.antt", "fault_number fault", "fault_name fault", "Refusal"),
+            ("Views/ViewFaults.antt", "view_fault_number fault", "view_fault_name fault", "Fault"))
+ENTRY = re.compile(r" +([0-9]+) ([A-Za-z0-9]+): (.*)")
 QUOTED = re.compile(r"`([^`]*)`")
 EXAMPLE = re.compile(r" +Example: (.*)")
 LISTING = r"/.*\n(?:.+\n)*?"
@@ -101,3 +108,56 @@ class Lines(InFolder):
         other = self.path("other.h5")
         self.assertEqual(reference("new", other)[0], 0)
         self.assertEqual(h5i("run", self.new(), script=script), reference("run", other, script=script))
+
+
+def defined(file, number, name):
+    """The numbers and names of a list of refusals, as the definitions have them, in their order."""
+    with open(os.path.join(DEFINITIONS, file), encoding="utf-8") as definitions:
+        text = definitions.read()
+    numbers = re.findall(rf"^{re.escape(number)}\.(\w+) = ([0-9]+)$", text, re.MULTILINE)
+    names = dict(re.findall(rf'^{re.escape(name)}\.(\w+) = codes "(\w+)"$', text, re.MULTILINE))
+    return [(int(number), names[constructor]) for constructor, number in numbers]
+
+
+def told():
+    """The lists of refusals in the help: of each the number, the name, the rule and the usual reason."""
+    lists = []
+    for part in help_text("help").partition("\nWhat a refusal means")[2].split("\n\n"):
+        joined = re.sub(r"\n     (?! )", " ", part)
+        rows = [ENTRY.fullmatch(line) for line in joined.splitlines()]
+        if rows and all(rows):
+            lists.append([(int(row[1]), row[2], *row[3].split(" Usually: ")) for row in rows])
+    return lists
+
+
+def written(head):
+    """A table of refusals in docs/FORMAT.md, as `told` has them."""
+    with open(FORMAT_PAGE, encoding="utf-8") as page:
+        lines = page.read().partition(f"\n| No. | {head} | The rule | Usually |\n")[2].splitlines()
+    rows = []
+    for line in lines[1:]:
+        if not line.startswith("|"):
+            break
+        number, name, rule, reason = (cell.strip() for cell in line.strip("|").split(" | "))
+        rows.append((int(number), name, rule, reason[0].lower() + reason[1:]))
+    return rows
+
+
+class Refusals(unittest.TestCase):
+    """What each refusal means."""
+
+    def test_each_refusal_is_told(self):
+        wanted = [defined(*each[:3]) for each in REFUSALS]
+        self.assertEqual([len(each) for each in wanted], [36, 31, 5])
+        self.assertEqual([[row[:2] for row in each] for each in told()], wanted)
+
+    def test_the_page_says_the_same(self):
+        self.assertEqual([written(head) for *_, head in REFUSALS], told())
+
+    def test_lines_are_short(self):
+        self.assertLessEqual(max(map(len, help_text("help").splitlines())), 100)
+
+    def test_the_short_help_says_where_they_are(self):
+        self.assertNotIn("NotHdf5", help_text("-h"))
+        self.assertIn("--help", help_text("-h"))
+        self.assertEqual(help_text("--help"), help_text("help"))

@@ -1,10 +1,11 @@
 //! The command, as clap takes it.
 
 ghost use Rattle.std.specs.Prelude.{◌≡◌, IfOk, codes, false};
-ghost use Rattle.clap.specs.Words.{app_of, rule_of};
-ghost use Rattle.h5_args.specs.Words.{required_rule, also, file_app, path_app, h5i_app};
+ghost use Rattle.clap.specs.Words.{app_of, new_app, rule_of};
+ghost use Rattle.h5_args.specs.Words.{required_rule, also, file_app, path_app, needing, versioned, h5i_app};
 
 use crate::lines::LINES;
+use crate::refusals::REFUSALS;
 use clap::{Arg, Command};
 use std::alloc::{AllocError, Global};
 
@@ -67,14 +68,22 @@ fn with_run<'a>(alloc: Global, command: Command<'a>) -> Result<Command<'a>, Allo
     command.subcommand(sub)
 }
 
+/// The command `h5i` with no subcommand yet, whose long help tells what each refusal means.
+fn bare<'a>(alloc: Global) -> Command<'a>
+    ensures { app_of result ≡ needing (versioned (new_app (codes "h5i"))) }
+{
+    Command::new(alloc, "h5i")
+        .about("Create, read and edit HDF5 files of whole-number arrays")
+        .after_long_help(REFUSALS)
+        .version(VERSION)
+        .subcommand_required(true)
+}
+
 /// The command `h5i`, with the line that its help has for each subcommand.
 pub fn h5i<'a>(alloc: Global) -> Result<Command<'a>, AllocError>
     ensures { IfOk result (λ c. app_of c ≡ h5i_app) }
 {
-    let none = Command::new(alloc, "h5i")
-        .about("Create, read and edit HDF5 files of whole-number arrays")
-        .version(VERSION)
-        .subcommand_required(true);
+    let none = bare(alloc);
     let with_new = with_file(
         alloc,
         none,

@@ -5,6 +5,7 @@ mod command;
 mod lines;
 mod orders;
 mod read;
+mod refusals;
 
 pub use orders::{Order, OrderFault};
 pub use read::order;
