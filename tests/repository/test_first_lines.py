@@ -1,4 +1,4 @@
-"""The lines at the head of the library are those that its crate of tests runs."""
+"""The lines at the head of the library are those that its crate of tests runs, and README.md is short."""
 
 import os
 import unittest
@@ -33,3 +33,9 @@ class FirstLines(unittest.TestCase):
     def test_the_tests_run_them(self):
         self.assertGreater(len(documented()), 5)
         self.assertEqual(documented(), tested())
+
+    def test_the_readme_is_short(self):
+        lines = lines_of("README.md")
+        self.assertLessEqual(len(lines), 150)
+        commands = [line.split()[0] for line in lines if line.startswith("    bin/")]
+        self.assertEqual(commands, ["bin/install", "bin/test", "bin/build"])
