@@ -69,6 +69,10 @@ class Package(Made):
 class Kept(Made):
     """The package in dist."""
 
+    def setUp(self):
+        super().setUp()
+        self.assertTrue(os.path.isdir(DIST), "there is no package: bin/package makes it of what bin/build has built")
+
     def test_its_sum_is_right(self):
         package = package_in(DIST)
         self.assertEqual(files_below(DIST), ["SHA256SUMS", "SOURCES", package])
