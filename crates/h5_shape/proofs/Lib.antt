@@ -17,3 +17,6 @@ pub mod PartedLaws
 pub mod PositionLaws
 pub mod CornerLaws
 pub mod PartExamples
+pub mod AxisNumbers
+pub mod InBoxLaws
+pub mod InBoxCells

@@ -9,3 +9,4 @@ pub mod PartsLeft
 pub mod PartCells
 pub mod PartsStand
 pub mod PartLent
+pub mod InBox

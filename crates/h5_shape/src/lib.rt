@@ -7,9 +7,11 @@ mod parts;
 mod runs;
 mod single_run;
 mod slab;
+mod spans;
 
 pub use dims::{Dims, MAX_CELLS, MAX_RANK};
 pub use parts::{ChunkParts, Span};
 pub use runs::{CellRun, CellRuns};
 pub use single_run::one_run;
 pub use slab::{Slab, SlabFault};
+pub use spans::spans_in;
