@@ -57,19 +57,19 @@ pairs_append R (x ∷ xs) ys first second across =
     AllPairs-cons R x (xs ++ ys) (All-append (R x) xs ys (pairs_head R x xs first) (All-head (λ z. All (R z) ys) x xs across))
     (pairs_append R xs ys (pairs_tail R x xs first) second (All-tail (λ z. All (R z) ys) x xs across))
 
-pairs_map : {X Y : Type 0} (R : Y → Y → Type 0) (f : X → Y) (xs : List X) → AllPairs (λ x y. R (f x) (f y)) xs → AllPairs R (map f xs)
+pub pairs_map : {X Y : Type 0} (R : Y → Y → Type 0) (f : X → Y) (xs : List X) → AllPairs (λ x y. R (f x) (f y)) xs → AllPairs R (map f xs)
 pairs_map R f [] h = λ i j d order low. absurd (omega arith)
 pairs_map R f (x ∷ xs) h =
     AllPairs-cons R (f x) (map f xs) (All-map (R (f x)) f xs (pairs_head (λ y z. R (f y) (f z)) x xs h)) (pairs_map R f xs (pairs_tail (λ y z. R (f y) (f z)) x xs h))
 
 -- ---- row-major order
 
-before_less : (x y : ℕ) (xs ys : List ℕ) → x < y → Before (x ∷ xs) (y ∷ ys)
+pub before_less : (x y : ℕ) (xs ys : List ℕ) → x < y → Before (x ∷ xs) (y ∷ ys)
 before_less x y xs ys less =
     let test : nat_lt x y ≡ true = grind (arith, nat_tests) in
     ap (λ b. is_lt (ordering_then (cond b Less (cond (x == y) Equal Greater)) (slice_cmp nat_cmp xs ys))) test
 
-before_same : (x : ℕ) (xs ys : List ℕ) → Before xs ys → Before (x ∷ xs) (x ∷ ys)
+pub before_same : (x : ℕ) (xs ys : List ℕ) → Before xs ys → Before (x ∷ xs) (x ∷ ys)
 before_same x xs ys order =
     let less : nat_lt x x ≡ false = grind (arith, nat_tests) in
     let same : (x == x) ≡ true = grind (arith, nat_tests) in

@@ -10,3 +10,4 @@ pub mod PartCells
 pub mod PartsStand
 pub mod PartLent
 pub mod InBox
+pub mod MetFirsts

@@ -109,7 +109,7 @@ fn positive_product(sizes: &[u64]) -> u64
 }
 
 /// Whether each number of the index is below its size.
-fn is_inside(sizes: &[u64], index: &[u64]) -> bool
+pub(crate) fn is_inside(sizes: &[u64], index: &[u64]) -> bool
     ensures value { result ≡ inside sizes.now index.now }
     ensures inside { IsTrue result ↔ IsInside sizes.now index.now }
 {

@@ -3,6 +3,7 @@
 
 mod dims;
 mod loops;
+mod met;
 mod parts;
 mod runs;
 mod single_run;
@@ -10,6 +11,7 @@ mod slab;
 mod spans;
 
 pub use dims::{Dims, MAX_CELLS, MAX_RANK};
+pub use met::{MetBoxes, lost_boxes, written_boxes};
 pub use parts::{ChunkParts, Span};
 pub use runs::{CellRun, CellRuns};
 pub use single_run::one_run;

@@ -43,7 +43,7 @@ fn span_in(axis: &Axis, corner: u64, size: u64) -> Span
 }
 
 /// How many of the numbers that an axis selects are below one. They rise by their positions, so these are the first.
-fn numbers_below(axis: &Axis, x: u128) -> u128
+pub(crate) fn numbers_below(axis: &Axis, x: u128) -> u128
     requires { overlaps axis.now ≡ false }
     ensures { IsBelow axis.now x result }
 {

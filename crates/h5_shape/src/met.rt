@@ -1,0 +1,262 @@
+//! The boxes of a grid that an edit and a view both meet (File Format Specification 3.0, section III.A.1, chunked raw data).
+ghost use Rattle.std.specs.Prelude.{◌≡◌, ℕ, ◌^◌, ◌==◌, List, false, length, replicate};
+ghost use Rattle.std.specs.Iterator.{YieldsFirst, item_count};
+ghost use Rattle.std.specs.List.{AllByRecursion, list_any};
+ghost use Rattle.h5_model.specs.Views.Selection.{Within, overlaps};
+ghost use Rattle.h5_shape.specs.MetFirsts.{AreBoxParts, AreRanked, HasCorner, HasNextBox, IsTestOf, firsts_left, is_lost_at, is_reduced as is_reduced_to, is_written_at, loses_box, meets_along, meets_box, met_firsts, passes_box, reaches_past as reaches_past_of};
+ghost use Rattle.h5_shape.specs.PartCells.{part_corner};
+ghost use Rattle.h5_shape.specs.declared.parts.Span.{Span as SpanOfPart};
+
+use crate::dims::{Dims, MAX_RANK, is_inside};
+use crate::parts::{ChunkParts, Span};
+use crate::slab::Slab;
+use crate::spans::numbers_below;
+use h5_model::Axis;
+use std::alloc::Global;
+use std::marker::Model;
+
+/// What a box is to hold besides.
+#[derive(Clone, Copy)]
+enum MetTest<'a> {
+    /// An index that these axes select.
+    Selects(&'a [Axis]),
+    /// An index inside the sizes that is not inside those kept.
+    Loses { sizes: &'a [u64], kept: &'a [u64] },
+}
+
+/// The boxes of a grid that an edit and a view both meet, each by its first index, in row-major order, those that are left. It
+/// takes no memory.
+#[derive(Drop)]
+pub struct MetBoxes<'a> {
+    alloc: Global,
+    parts: ChunkParts<'a>,
+    grid: &'a [u64],
+    test: MetTest<'a>,
+}
+
+impl<'a> Model for MetBoxes<'a> {
+    ghost use Rattle.std.specs.Prelude.{List, ℕ};
+    ghost use Rattle.h5_shape.specs.MetFirsts.{AreTested, firsts_left};
+
+    ghost Value = { List (List ℕ) };
+
+    ghost view = { λ m. firsts_left m.test m.grid.now m.parts };
+
+    ghost invariant = { λ m. AreTested m.test m.grid.now m.parts };
+}
+
+/// The boxes that hold a cell of a write and a cell of a view, for any array that the write is within. Of the boxes that the
+/// write meets each is looked at once, in time by the number of dimensions.
+///
+/// That there are as many dimensions of each, and that no selected index of the write passes `u64::MAX`, are the caller's
+/// conditions.
+pub fn written_boxes<'a>(
+    alloc: Global,
+    grid: &'a Dims,
+    written: &'a Slab,
+    view: &'a Slab,
+) -> MetBoxes<'a>
+    requires grid { length grid.now ≡ length written.now }
+    requires view { length view.now ≡ length written.now }
+    requires top { Within (replicate (length written.now) (2 ^ 64)) written.now }
+    ensures { (sizes : List ℕ) → length sizes ≡ length written.now → Within sizes written.now
+        → result ≡ met_firsts sizes grid.now (is_written_at sizes written.now) view.now }
+{
+    MetBoxes {
+        alloc,
+        parts: parts_in(written, grid.sizes()),
+        grid: grid.sizes(),
+        test: MetTest::Selects(view.axes()),
+    }
+}
+
+/// The boxes that hold a cell of a view, inside the array or not, and a cell of the array that it loses where these sizes are
+/// kept. Of the boxes that the view meets each is looked at once, in time by the number of dimensions, and where no size is
+/// reduced none.
+///
+/// That there are as many dimensions of each, and that no selected index of the view passes `u64::MAX`, are the caller's
+/// conditions.
+pub fn lost_boxes<'a>(
+    alloc: Global,
+    sizes: &'a Dims,
+    kept: &'a Dims,
+    grid: &'a Dims,
+    view: &'a Slab,
+) -> MetBoxes<'a>
+    requires sizes { length sizes.now ≡ length view.now }
+    requires kept { length kept.now ≡ length view.now }
+    requires grid { length grid.now ≡ length view.now }
+    requires top { Within (replicate (length view.now) (2 ^ 64)) view.now }
+    ensures { result ≡ met_firsts sizes.now grid.now (is_lost_at sizes.now kept.now) view.now }
+{
+    let test = MetTest::Loses {
+        sizes: sizes.sizes(),
+        kept: kept.sizes(),
+    };
+    let grid = grid.sizes();
+    if !is_reduced(sizes.sizes(), kept.sizes()) {
+        return MetBoxes {
+            alloc,
+            parts: ChunkParts::none(view.axes(), grid),
+            grid,
+            test,
+        };
+    }
+    MetBoxes {
+        alloc,
+        parts: parts_in(view, grid),
+        grid,
+        test,
+    }
+}
+
+impl<'a> Iterator for MetBoxes<'a> {
+    type Item = Dims;
+
+    ghost next_gives = { YieldsFirst (λ left. left) };
+
+    ghost remaining = { item_count (λ left. left) };
+
+    fn next(&mut self) -> Option<Dims> {
+        let mut first = [0; MAX_RANK];
+        let rank = self.grid.len();
+        if !next_met(&mut self.parts, self.grid, self.test, &mut first[..rank]) {
+            return None;
+        }
+        Dims::new(self.alloc, &first[..rank])
+    }
+}
+
+/// The parts of a selection in boxes of these sizes. A box without cells holds none.
+fn parts_in<'a>(slab: &'a Slab, grid: &'a [u64]) -> ChunkParts<'a>
+    requires rank { length grid.now ≡ length slab.now }
+    requires top { Within (replicate (length slab.now) (2 ^ 64)) slab.now }
+    ensures { AreBoxParts slab.now grid.now result }
+{
+    if has_zero(grid) {
+        return ChunkParts::none(slab.axes(), grid);
+    }
+    slab.chunk_parts(grid)
+}
+
+/// Whether a size is 0.
+fn has_zero(sizes: &[u64]) -> bool
+    ensures { result ≡ list_any (λ d. d == 0) sizes.now }
+{
+    sizes.iter().any(|size| *size == 0)
+}
+
+/// Whether less than some size is kept.
+fn is_reduced(sizes: &[u64], kept: &[u64]) -> bool
+    ensures { result ≡ is_reduced_to sizes.now kept.now }
+{
+    let [size, sizes @ ..] = sizes else {
+        return false;
+    };
+    let [bound, kept @ ..] = kept else {
+        return false;
+    };
+    bound < size || is_reduced(sizes, kept)
+}
+
+/// Goes to the next part whose box passes the test, and writes its first index. Where there is none, says so.
+fn next_met(parts: &mut ChunkParts<'_>, grid: &[u64], test: MetTest<'_>, first: &mut [u64]) -> bool
+    requires rank { length first.old ≡ length grid.now }
+    requires test { IsTestOf test grid.now }
+    requires ranks { AreRanked grid.now parts.old }
+    ensures next { HasNextBox (firsts_left test.entry grid.now parts.old) result
+        (firsts_left test.entry grid.now parts.new) first.new }
+    ensures ranks { AreRanked grid.now parts.new }
+{
+    while next_corner(parts, first) {
+        if passes(test, grid, first) {
+            return true;
+        }
+    }
+    false
+}
+
+/// Writes the first index of the box of the next part. Where no part is left, says so.
+fn next_corner(parts: &mut ChunkParts<'_>, corner: &mut [u64]) -> bool
+    requires { AllByRecursion (λ (part : List SpanOfPart). length part ≡ length corner.old) parts.old }
+    ensures { HasCorner parts.old result parts.new corner.new }
+{
+    let Some(part) = parts.next_part() else {
+        return false;
+    };
+    write_corner(part, corner);
+    true
+}
+
+/// Writes the first index of a part's box.
+fn write_corner(part: &[Span], corner: &mut [u64])
+    requires { length part.now ≡ length corner.old }
+    ensures { corner.new ≡ part_corner part.now }
+{
+    for k in 0..corner.len() {
+        corner[k] = part[k].corner;
+    }
+}
+
+/// Whether the box with this first index passes.
+fn passes(test: MetTest<'_>, grid: &[u64], first: &[u64]) -> bool
+    requires { IsTestOf test grid.now }
+    ensures { result ≡ passes_box test.entry grid.now first.now }
+{
+    match test {
+        MetTest::Selects(axes) => meets(axes, grid, first),
+        MetTest::Loses { sizes, kept } => loses(sizes, kept, grid, first),
+    }
+}
+
+/// Whether the axes select an index of the box.
+fn meets(axes: &[Axis], grid: &[u64], first: &[u64]) -> bool
+    requires { list_any overlaps axes.now ≡ false }
+    ensures { result ≡ meets_box axes.now grid.now first.now }
+{
+    let [axis, axes @ ..] = axes else {
+        return true;
+    };
+    let [size, grid @ ..] = grid else {
+        return true;
+    };
+    let [at, first @ ..] = first else {
+        return true;
+    };
+    meets_size(axis, *at, *size) && meets(axes, grid, first)
+}
+
+/// Whether an axis selects one of so many numbers from a first one on.
+fn meets_size(axis: &Axis, first: u64, size: u64) -> bool
+    requires { overlaps axis.now ≡ false }
+    ensures { result ≡ meets_along axis.now first size }
+{
+    let end = u128::from(first) + u128::from(size);
+    numbers_below(axis, u128::from(first)) < numbers_below(axis, end)
+}
+
+/// Whether the box holds an index inside the sizes that is not inside those kept.
+fn loses(sizes: &[u64], kept: &[u64], grid: &[u64], first: &[u64]) -> bool
+    ensures { result ≡ loses_box sizes.now kept.now grid.now first.now }
+{
+    is_inside(sizes, first) && reaches_past(sizes, kept, grid, first)
+}
+
+/// Whether what lies inside the sizes of the box reaches past those kept in some dimension.
+fn reaches_past(sizes: &[u64], kept: &[u64], grid: &[u64], first: &[u64]) -> bool
+    ensures { result ≡ reaches_past_of sizes.now kept.now grid.now first.now }
+{
+    let [size, sizes @ ..] = sizes else {
+        return false;
+    };
+    let [bound, kept @ ..] = kept else {
+        return false;
+    };
+    let [length, grid @ ..] = grid else {
+        return false;
+    };
+    let [at, first @ ..] = first else {
+        return false;
+    };
+    *bound < at.saturating_add(*length).min(*size) || reaches_past(sizes, kept, grid, first)
+}
