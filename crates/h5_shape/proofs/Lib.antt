@@ -20,6 +20,7 @@ pub mod PartExamples
 pub mod AxisNumbers
 pub mod InBoxLaws
 pub mod InBoxCells
+pub mod Members
 pub mod RisingBoxes
 pub mod GridBoxes
 pub mod MetTests

@@ -2,6 +2,7 @@
 use Rattle.std.proofs.Common.{◌≡◌, ◌⊎◌, ℕ, zero, suc, ◌*◌, ◌<◌, ◌≤◌, inl, inr, List, [], ◌∷◌, length, get_or, map, refl, sym, ap, ap₂, ◌∙◌, subst, arith, Bool, true, false, cond, ◌&&◌, ◌||◌}
 use Rattle.std.specs.Prelude.{◌==◌, nat_lt}
 use Rattle.std.proofs.lemmas.Bool.Decides.{nat_tests}
+use Rattle.std.proofs.lemmas.List.{length-map}
 use Rattle.std.specs.List.{filter, list_any, range_with_len}
 use Rattle.h5_model.specs.Tree.Grid.{boxes_of, in_box, some_in_box}
 use Rattle.h5_model.specs.Tree.Places.{IsInside, cells, index_of, is_inside}
@@ -9,7 +10,7 @@ use Rattle.h5_model.specs.Views.Selection.{Slab, Selected, Within, is_selected}
 use Rattle.h5_model.specs.Views.Shown.{met_boxes}
 use Rattle.h5_model.proofs.SelectionLaws.{from_is_selected, to_is_selected}
 use Rattle.h5_model.proofs.WithinLaws.{both}
-use Rattle.h5_laws.proofs.Lists.{In, all_in, contains_in, from_map, in_contains, in_map}
+use Rattle.h5_shape.proofs.Members.{In, all_in, contains_in, from_map, in_contains, in_map}
 use Rattle.h5_shape.specs.declared.parts.Span.{Span}
 use Rattle.h5_shape.specs.MetFirsts.{AreBoxParts, AreRanked, first_of_box, firsts_left, is_lost_at, is_reduced, is_written_at, loses_box, meets_box, met_firsts, reaches_past}
 use Rattle.h5_shape.specs.declared.met.MetTest.{MetTest}
@@ -243,3 +244,9 @@ no_parts slab box parts flat none = record {
   parted = λ some. let empty = zero_cells box flat in absurd (omega (arith, some, empty));
   none = λ empty. none;
 }
+
+-- ---- for callers
+
+-- as many as the definition has
+pub length-met_firsts : (sizes box : List ℕ) (touched : List ℕ → Bool) (slab : Slab) → length (met_firsts sizes box touched slab) ≡ length (met_boxes sizes box touched slab)
+length-met_firsts sizes box touched slab = length-map (met_boxes sizes box touched slab) (first_of_box box)

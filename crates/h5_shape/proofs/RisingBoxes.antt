@@ -2,9 +2,8 @@
 use Rattle.std.proofs.Common.{◌≡◌, ℕ, suc, inl, inr, List, [], ◌∷◌, refl, sym, ap, ap₂, ◌∙◌, subst, arith, Bool, true, false, cond}
 use Rattle.std.specs.List.{AllPairs, filter}
 use Rattle.h5_model.specs.Format.Links.{Before}
-use Rattle.h5_model.proofs.TextOrder.{before_itself}
-use Rattle.h5_laws.proofs.Ascending.{before_trans}
-use Rattle.h5_laws.proofs.Lists.{In, contains_in}
+use Rattle.h5_model.proofs.TextOrder.{after_trans, before_itself, before_le}
+use Rattle.h5_shape.proofs.Members.{In, contains_in}
 
 -- each is before all behind it
 abbrev pub Rises : List (List ℕ) → Type 0
@@ -56,7 +55,7 @@ no_member (x ∷ xs) none = absurd (none x (inl refl))
 first_same : (x y : List ℕ) (xs ys : List (List ℕ)) → Rises (x ∷ xs) → Rises (y ∷ ys) → In x (y ∷ ys) → In y (x ∷ xs) → x ≡ y
 first_same x y xs ys h k (inl e) there = sym e
 first_same x y xs ys h k (inr at) (inl e) = e
-first_same x y xs ys h k (inr at) (inr there) = absurd (before_itself x (before_trans x y x (h.0 y there) (k.0 x at)))
+first_same x y xs ys h k (inr at) (inr there) = absurd (before_itself x (after_trans x y x (before_le x y (h.0 y there)) (k.0 x at)))
 
 others_in : (x y : List ℕ) (xs ys : List (List ℕ)) → Rises (x ∷ xs) → x ≡ y → ((z : List ℕ) → In z (x ∷ xs) → In z (y ∷ ys)) → (z : List ℕ) → In z xs → In z ys
 others_in x y xs ys h e to z at = elim (to z (inr at)) [

@@ -1,0 +1,39 @@
+-- Members of lists.
+use Rattle.std.proofs.Common.{◌≡◌, ◌⊎◌, ℕ, zero, suc, ◌+◌, ◌<◌, inl, inr, List, [], ◌∷◌, map, ap, refl, subst, arith}
+use Rattle.std.specs.List.{AllByRecursion, Contains, range_with_len}
+
+-- x is one of the list
+abbrev pub In : {X : Type 0} → X → List X → Type 0
+In x [] = ⊥
+In x (y ∷ ys) = (y ≡ x) ⊎ In x ys
+
+pub all_in : {X : Type 0} (P : X → Type 0) (xs : List X) → ((x : X) → In x xs → P x) → AllByRecursion P xs
+all_in P [] f = tt
+all_in P (y ∷ ys) f = (f y (inl refl), all_in P ys (λ x at. f x (inr at)))
+
+pub in_map : {X Y : Type 0} (f : X → Y) (x : X) (xs : List X) → In x xs → In (f x) (map f xs)
+in_map f x [] at = absurd at
+in_map f x (y ∷ ys) (inl e) = inl (ap f e)
+in_map f x (y ∷ ys) (inr at) = inr (in_map f x ys at)
+
+pub from_map : {X Y : Type 0} (f : X → Y) (y : Y) (xs : List X) → In y (map f xs) → (x : X) × In x xs × (f x ≡ y)
+from_map f y [] at = absurd at
+from_map f y (x ∷ xs) (inl e) = (x, inl refl, e)
+from_map f y (x ∷ xs) (inr at) = let rest = from_map f y xs at in (rest.0, inr rest.1, rest.2)
+
+pub in_contains : {X : Type 0} (x : X) (xs : List X) → Contains xs x → In x xs
+in_contains x [] (k, low, is) = absurd (omega (arith, low))
+in_contains x (y ∷ ys) (zero, low, is) = inl is
+in_contains x (y ∷ ys) (suc k, low, is) = inr (in_contains x ys (k, omega (arith, low), is))
+
+pub contains_in : {X : Type 0} (x : X) (xs : List X) → In x xs → Contains xs x
+contains_in x [] at = absurd at
+contains_in x (y ∷ ys) (inl e) = (0, omega arith, e)
+contains_in x (y ∷ ys) (inr at) = let rest = contains_in x ys at in (suc rest.0, omega (arith, rest.1), rest.2)
+
+pub in_range : (from n i : ℕ) → i < n → In (from + i) (range_with_len from n)
+in_range from zero i low = absurd (omega (arith, low))
+in_range from (suc n) zero low = inl (omega arith)
+in_range from (suc n) (suc i) low =
+    let over : from + 1 + i ≡ from + suc i = omega arith in
+    inr (subst (λ k. In k (range_with_len (from + 1) n)) over (in_range (from + 1) n i (omega (arith, low))))
