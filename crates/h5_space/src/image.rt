@@ -1,4 +1,4 @@
-ghost use Rattle.std.specs.Prelude.{◌≡◌, ℕ, ◌+◌, ◌≤◌, ◌^◌, ◌<◌, [], ◌++◌, IsSome, IfSome, ◌↔◌, length, IsTrue, IsOk, OnOk, OnErr, Err, max, replicate};
+ghost use Rattle.std.specs.Prelude.{◌≡◌, ℕ, ◌+◌, ◌≤◌, ◌^◌, ◌<◌, [], ◌++◌, IsSome, IfSome, ◌↔◌, length, IsTrue, IsOk, IfOk, OnOk, OnErr, Err, max, replicate};
 ghost use Rattle.std.specs.Borrow.{sem};
 ghost use Rattle.h5_bytes.specs.Bytes.{part, with_part};
 ghost use Rattle.h5_bytes.specs.Blocks.{holds, cover};
@@ -8,7 +8,7 @@ ghost use Rattle.h5_space.specs.Lending.{LendsPart};
 use crate::free_list::{cut, first_fit, put_back};
 use crate::superblock::MAXIMUM_IMAGE;
 use h5_bytes::Block;
-use std::alloc::Global;
+use std::alloc::{AllocError, Global};
 use std::marker::Model;
 
 /// Why room could not be reserved.
@@ -76,6 +76,19 @@ impl Image {
         } = self;
         drop(free);
         bytes
+    }
+
+    /// Another image with these bytes and free blocks, and with no room, or an error where it gets no
+    /// memory.
+    pub fn copy_of(&self, alloc: Global) -> Result<Image, AllocError>
+        ensures { IfOk result (λ x. x ≡ record self.now { room_bytes = 0; room_blocks = 0 }) }
+    {
+        Ok(Image {
+            bytes: Vec::from_slice(alloc, self.bytes.as_slice())?,
+            free: Vec::from_slice(alloc, self.free.as_slice())?,
+            room_bytes: 0,
+            room_blocks: 0,
+        })
     }
 
     /// Whether the `len` bytes from place `at` end by the end of the image. Takes no memory.
