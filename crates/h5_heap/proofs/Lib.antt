@@ -1,4 +1,7 @@
 pub mod FreeLaws
+pub mod ChainLaws
+pub mod RelistLaws
+pub mod ReleaseLaws
 pub mod TakenLaws
 pub mod NameLaws
 pub mod RefusedLaws

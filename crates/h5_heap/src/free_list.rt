@@ -13,10 +13,10 @@ use h5_space::{ClaimFault, Claims};
 use std::alloc::Global;
 
 /// The offset that ends the list.
-const END: u64 = 1;
+pub(crate) const END: u64 = 1;
 
 /// The least bytes of a free block: the next one's offset, and its own size.
-const LEAST_FREE: u64 = 16;
+pub(crate) const LEAST_FREE: u64 = 16;
 
 /// The free blocks of a segment, in the order of the list, and their bytes as claims below its end.
 #[derive(Drop)]

@@ -9,6 +9,11 @@ pub unheld : List Block → ℕ → ℕ
 unheld held zero = 0
 unheld held (suc n) = unheld held n + (1 - cover n held)
 
+pub unheld-le : (held : List Block) (n : ℕ) → unheld held n ≤ n
+unfolding unheld
+unheld-le held zero = omega arith
+unheld-le held (suc n) = omega (arith, unheld-le held n)
+
 -- how many of the bytes below n a block holds
 span : ℕ → ℕ → ℕ → ℕ
 span at len zero = 0

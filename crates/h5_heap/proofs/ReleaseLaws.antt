@@ -1,0 +1,69 @@
+-- Bytes that become free: the free blocks beside them are taken out of the list, and one block of all comes into it.
+use Rattle.std.proofs.Common.{◌≡◌, ℕ, ◌+◌, ◌-◌, ◌<◌, ◌≤◌, ◌⊎◌, inl, inr, List, [], ◌∷◌, None, length, refl, ◌∙◌, arith}
+use Rattle.std.specs.List.{find}
+use Rattle.h5_bytes.specs.Blocks.{block, holds, cover}
+use Rattle.h5_bytes.proofs.BlockLaws.{holds_join, holds_none}
+use Rattle.h5_heap.specs.Chain.{free_from, Relists}
+use Rattle.h5_heap.specs.Sought.{is_sought}
+use Rattle.h5_heap.specs.declared.chain.Sought.TheVariants.{BeginsAt, EndsAt}
+use Rattle.h5_heap.specs.Released.{IsJoinedLeft, IsJoinedRight, Releases}
+
+module _ (s t u : List ℕ) (f g h at end begin stop : ℕ) (filled : at < end)
+    (left : Relists s t f g (block begin (at - begin) ∷ []) []) (left_joined : IsJoinedLeft (free_from s f) at begin)
+    (right : Relists t u g h (block end (stop - end) ∷ []) []) (right_joined : IsJoinedRight (free_from t g) end stop (length t)) where
+  begin-le : begin ≤ at
+  begin-le = elim left_joined.joined [ inl far ↦ omega (arith, far) | inr near ↦ omega (arith, near.0) ]
+
+  stop-le : end ≤ stop
+  stop-le = elim right_joined.joined [ inl far ↦ omega (arith, far) | inr near ↦ omega (arith, near.0) ]
+
+  all_three : (p : ℕ) → holds p begin (stop - begin) ≡ holds p begin (at - begin) + (holds p at (end - at) + holds p end (stop - end))
+  all_three p =
+      let one : begin + (at - begin) ≡ at = omega (arith, begin-le) in
+      let two : at + (end - at) ≡ end = omega (arith, filled) in
+      let size : (at - begin) + ((end - at) + (stop - end)) ≡ stop - begin = omega (arith, begin-le, filled, stop-le) in
+      let first : holds p begin (stop - begin) ≡ holds p begin (at - begin) + holds p at ((end - at) + (stop - end))
+      = rw (size, one) at (holds_join p begin (at - begin) ((end - at) + (stop - end))) in
+      let second : holds p at ((end - at) + (stop - end)) ≡ holds p at (end - at) + holds p end (stop - end)
+      = rw two at (holds_join p at (end - at) (stop - end)) in
+      omega (arith, first, second)
+
+  pub released_apart : ((p : ℕ) → cover p (free_from s f) + holds p at (end - at) ≤ 1) → (p : ℕ) → cover p (free_from u h) + holds p begin (stop - begin) ≤ 1
+  released_apart apart p = omega (arith, apart p, all_three p, left.covered p, right.covered p)
+
+  pub released_linked : (v : List ℕ) (i : ℕ) → Relists u v h i [] (block begin (stop - begin) ∷ []) → Releases s v f i at (end - at)
+  released_linked v i linked = record {
+    chain = linked.chain;
+    freed = inl (λ p. omega (arith, linked.covered p, all_three p, left.covered p, right.covered p));
+    kept = λ p free given.
+        let none_t : cover p (free_from t g) ≡ 0 = omega (arith, left.covered p, free) in
+        let none_u : cover p (free_from u h) ≡ 0 = omega (arith, right.covered p, none_t) in
+        let none : holds p begin (stop - begin) + 0 ≡ 0 = omega (arith, all_three p, left.covered p, right.covered p, free, given) in
+        linked.kept p none_u none ∙ right.kept p none_t refl ∙ left.kept p free refl;
+    size = linked.size ∙ right.size ∙ left.size;
+  }
+
+  pub released_left : stop - begin < 16 → (begin ≡ at → (t ≡ s) × (g ≡ f)) → Releases s u f h at (end - at)
+  released_left short same = go left_joined.joined right_joined.joined where
+    go : (begin + 16 ≤ at) ⊎ ((begin ≡ at) × (find (is_sought (EndsAt at)) (free_from s f) ≡ None))
+        → (end + 16 ≤ stop) ⊎ ((stop ≡ end) × (find (is_sought (BeginsAt end)) (free_from t g) ≡ None)) → Releases s u f h at (end - at)
+    go (inl far) r = absurd (omega (arith, far, short, filled, stop-le))
+    go (inr near) (inl far) = absurd (omega (arith, far, short, filled, begin-le))
+    go (inr near) (inr beside) =
+        let as_before = same near.0 in
+        let there : at + (end - at) ≡ end = omega (arith, filled) in
+        let none : (p : ℕ) → holds p begin (at - begin) ≡ 0 = λ p. let e : at - begin ≡ 0 = omega (arith, near.0) in rw e (holds_none p begin) in
+        let none' : (p : ℕ) → holds p end (stop - end) ≡ 0 = λ p. let e : stop - end ≡ 0 = omega (arith, beside.0) in rw e (holds_none p end) in
+        let behind : find (is_sought (BeginsAt end)) (free_from s f) ≡ None
+        = rw (as_before.0, as_before.1) at beside.1 in
+        record {
+          chain = right.chain;
+          freed = inr (
+            record { short = omega (arith, short, near.0, beside.0); before = near.1; behind = rw there behind },
+            λ p. omega (arith, left.covered p, right.covered p, none p, none' p),
+          );
+          kept = λ p free given.
+              let none_t : cover p (free_from t g) ≡ 0 = omega (arith, left.covered p, free) in
+              right.kept p none_t refl ∙ left.kept p free refl;
+          size = right.size ∙ left.size;
+        }

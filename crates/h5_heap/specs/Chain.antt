@@ -1,0 +1,51 @@
+-- The list of free blocks in a heap's segment, followed from an offset on (File Format Specification 3.0, section III.D).
+use Rattle.std.specs.Prelude.{◌≡◌, ℕ, zero, suc, ◌+◌, ◌⊎◌, ◌==◌, if◌then◌else◌, List, [], ◌∷◌, ◌++◌, length}
+use Rattle.std.specs.List.{AllByRecursion}
+use Rattle.h5_bytes.specs.Bytes.{number_at, byte_at}
+use Rattle.h5_bytes.specs.Blocks.{block, cover, Separate, Inside}
+use Rattle.h5_bytes.specs.declared.Block.{Block}
+use Rattle.h5_model.specs.Format.Heap.{FreeFrom, IsFree}
+
+-- the free blocks from the one at this offset on, at most so many
+unfoldable pub chain : ℕ → List ℕ → ℕ → List Block
+chain zero segment next = []
+chain (suc n) segment next = if next == 1 then [] else block next (number_at segment (next + 8) 8) ∷ chain n segment (number_at segment next 8)
+
+-- all of them: there are fewer than bytes
+abbrev pub free_from : List ℕ → ℕ → List Block
+free_from segment first = chain (length segment) segment first
+
+-- these blocks are free, from this offset on
+pub record IsChain (segment : List ℕ) (first : ℕ) (free : List Block) : Type 0 where
+  pub listed : FreeFrom segment first free
+  pub each : AllByRecursion IsFree free
+  pub apart : Separate free
+  pub within : Inside (length segment) free
+
+abbrev pub HasChain : List ℕ → ℕ → Type 0
+HasChain segment first = IsChain segment first (free_from segment first)
+
+-- one of the blocks begins at this offset
+abbrev pub Stands : ℕ → List Block → Type 0
+Stands at [] = ⊥
+Stands at (b ∷ bs) = (b.at ≡ at) ⊎ Stands at bs
+
+-- the list has a block at this offset
+pub record ListsAt (segment : List ℕ) (first place : ℕ) : Type 0 where
+  pub front : List Block
+  pub back : List Block
+  pub split : free_from segment first ≡ front ++ block place (number_at segment (place + 8) 8) ∷ back
+
+-- the list has a block at the first offset, and behind it one at the second
+pub record LeadsTo (segment : List ℕ) (first place at : ℕ) : Type 0 where
+  pub front : List Block
+  pub back : List Block
+  pub split : free_from segment first ≡ front ++ block place (number_at segment (place + 8) 8) ∷ block at (number_at segment (at + 8) 8) ∷ back
+
+-- The list was edited: the bytes of the first blocks are free no more, and those of the second are free now. Bytes that were in no
+-- free block, and are not made free, have their values still.
+pub record Relists (old new : List ℕ) (first first' : ℕ) (taken given : List Block) : Type 0 where
+  pub chain : HasChain new first'
+  pub covered : (p : ℕ) → cover p (free_from new first') + cover p taken ≡ cover p (free_from old first) + cover p given
+  pub kept : (p : ℕ) → cover p (free_from old first) ≡ 0 → cover p given ≡ 0 → byte_at new p ≡ byte_at old p
+  pub size : length new ≡ length old

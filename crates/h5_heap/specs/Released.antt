@@ -1,0 +1,34 @@
+-- Bytes of a heap's segment that become free, joined with the free blocks beside them (File Format Specification 3.0, section III.D).
+use Rattle.std.specs.Prelude.{◌≡◌, ℕ, ◌+◌, ◌%◌, ◌≤◌, ◌<◌, ◌⊎◌, List, None, length}
+use Rattle.std.specs.List.{find}
+use Rattle.h5_bytes.specs.Bytes.{byte_at}
+use Rattle.h5_bytes.specs.Blocks.{holds, cover}
+use Rattle.h5_bytes.specs.declared.Block.{Block}
+use Rattle.h5_heap.specs.Chain.{HasChain, free_from}
+use Rattle.h5_heap.specs.Sought.{is_sought}
+use Rattle.h5_heap.specs.declared.chain.Sought.TheVariants.{BeginsAt, EndsAt}
+
+-- a free block from the second place on ends before the first, or there is none
+pub record IsJoinedLeft (free : List Block) (at begin : ℕ) : Type 0 where
+  pub aligned : begin % 8 ≡ 0
+  pub joined : (begin + 16 ≤ at) ⊎ ((begin ≡ at) × (find (is_sought (EndsAt at)) free ≡ None))
+
+-- a free block from the first place on ends at the second, or there is none
+pub record IsJoinedRight (free : List Block) (end stop size : ℕ) : Type 0 where
+  pub within : stop ≤ size
+  pub joined : (end + 16 ≤ stop) ⊎ ((stop ≡ end) × (find (is_sought (BeginsAt end)) free ≡ None))
+
+-- these bytes are in no free block and touch none, and there are too few for one
+pub record IsLeft (free : List Block) (at len : ℕ) : Type 0 where
+  pub short : len < 16
+  pub before : find (is_sought (EndsAt at)) free ≡ None
+  pub behind : find (is_sought (BeginsAt (at + len))) free ≡ None
+
+-- The len bytes from place at are free now too, or are too few without a neighbour. Bytes that were in no free block, and in none of
+-- these, have their values still.
+pub record Releases (old new : List ℕ) (first first' at len : ℕ) : Type 0 where
+  pub chain : HasChain new first'
+  pub freed : ((p : ℕ) → cover p (free_from new first') ≡ cover p (free_from old first) + holds p at len)
+      ⊎ (IsLeft (free_from old first) at len × ((p : ℕ) → cover p (free_from new first') ≡ cover p (free_from old first)))
+  pub kept : (p : ℕ) → cover p (free_from old first) ≡ 0 → holds p at len ≡ 0 → byte_at new p ≡ byte_at old p
+  pub size : length new ≡ length old

@@ -1,0 +1,195 @@
+//! The list of free blocks in a segment, followed without memory (File Format Specification 3.0, section III.D).
+
+ghost use Rattle.std.specs.Prelude.{◌≡◌, ◌-◌, ◌%◌, ℕ, ◌+◌, ◌≤◌, ◌↔◌, ◌^◌, ◌<◌, ◌≢◌, [], ◌∷◌, IfSome, length};
+ghost use Rattle.std.specs.List.{find};
+ghost use Rattle.h5_bytes.specs.Bytes.{number_at, with_field};
+ghost use Rattle.h5_bytes.specs.Blocks.{block, holds, cover};
+ghost use Rattle.h5_model.specs.Format.Heap.{IsFree};
+ghost use Rattle.h5_heap.specs.Chain.{HasChain, ListsAt, Stands, LeadsTo, Relists, free_from};
+ghost use Rattle.h5_heap.specs.Sought.{is_sought};
+ghost use Rattle.h5_heap.specs.Released.{IsJoinedLeft, IsJoinedRight, Releases};
+
+use crate::free_list::{END, LEAST_FREE};
+use h5_bytes::{Block, put_u64, u64_at};
+
+/// Which free block is looked for.
+#[derive(Clone, Copy)]
+pub enum Sought {
+    /// One with so many bytes or more.
+    AtLeast(u64),
+    /// The one that begins at this offset.
+    BeginsAt(u64),
+    /// The one that ends before this offset.
+    EndsAt(u64),
+}
+
+impl Sought {
+    /// Whether `block`, which ends in a segment, is such a block.
+    fn is(self, block: Block) -> bool
+        ensures { result ≡ is_sought self block }
+    {
+        match self {
+            Sought::AtLeast(len) => len <= block.len,
+            Sought::BeginsAt(at) => at == block.at,
+            Sought::EndsAt(end) => block.at <= end && end - block.at == block.len,
+        }
+    }
+}
+
+/// The first free block of the list from `first` on that is looked for.
+pub(crate) fn find_free(segment: &[u8], first: u64, sought: Sought) -> Option<Block>
+    requires { HasChain segment.now first }
+    ensures { result ≡ find (is_sought sought) (free_from segment.now first) }
+{
+    let mut next = first;
+    while next != END {
+        let block = Block {
+            at: next,
+            len: u64_at(segment, next as usize + 8),
+        };
+        if sought.is(block) {
+            return Some(block);
+        }
+        next = u64_at(segment, next as usize);
+    }
+    None
+}
+
+/// Takes the free block at `at` out of the list from `first` on, and gives the offset from which the list
+/// goes on then. That such a block is there is the caller's condition.
+pub(crate) fn unlink(segment: &mut [u8], first: u64, at: u64) -> u64
+    requires chain { HasChain segment.old first }
+    requires there { Stands at (free_from segment.old first) }
+    ensures { Relists segment.old segment.new first result (block at (number_at segment.old (at + 8) 8) ∷ []) [] }
+{
+    let next = u64_at(segment, at as usize);
+    if first == at {
+        return next;
+    }
+    let place = place_before(segment, first, at);
+    put_u64(segment, place as usize, next);
+    first
+}
+
+/// The offset of the free block that leads to the one at `at`, which is not the first.
+fn place_before(segment: &[u8], first: u64, at: u64) -> u64
+    requires chain { HasChain segment.now first }
+    requires later { first ≢ at }
+    requires there { Stands at (free_from segment.now first) }
+    ensures { LeadsTo segment.now first result at }
+{
+    let mut place = first;
+    let mut next = u64_at(segment, first as usize);
+    while next != at {
+        place = next;
+        next = u64_at(segment, place as usize);
+    }
+    place
+}
+
+/// Puts a block into the list from `first` on, behind the one with the greatest offset below it, and gives
+/// the offset from which the list goes on then.
+///
+/// That the block has a free block's form, lies in the segment and shares no byte with the free ones is the
+/// caller's condition.
+pub(crate) fn link(segment: &mut [u8], first: u64, block: Block) -> u64
+    requires chain { HasChain segment.old first }
+    requires free { IsFree block }
+    requires inside { block.at + block.len ≤ length segment.old }
+    requires apart { (p : ℕ) → cover p (free_from segment.old first) + holds p block.at block.len ≤ 1 }
+    ensures { Relists segment.old segment.new first result [] (block ∷ []) }
+{
+    match greatest_below(segment, first, block.at) {
+        Some(place) => {
+            let next = u64_at(segment, place as usize);
+            put_block(segment, block, next);
+            put_u64(segment, place as usize, block.at);
+            first
+        }
+        None => {
+            put_block(segment, block, first);
+            block.at
+        }
+    }
+}
+
+/// Writes what a free block begins with: the next one's offset, and its own size.
+fn put_block(segment: &mut [u8], block: Block, next: u64)
+    requires free { IsFree block }
+    requires inside { block.at + block.len ≤ length segment.old }
+    ensures { segment.new ≡ with_field (with_field segment.old block.at 8 next) (block.at + 8) 8 block.len }
+{
+    put_u64(segment, block.at as usize, next);
+    put_u64(segment, block.at as usize + 8, block.len);
+}
+
+/// The greatest offset below `at` of a block of the list from `first` on.
+fn greatest_below(segment: &[u8], first: u64, at: u64) -> Option<u64>
+    requires { HasChain segment.now first }
+    ensures { IfSome result (λ place. ListsAt segment.now first place) }
+{
+    let mut greatest = None;
+    let mut next = first;
+    while next != END {
+        let is_greater = match greatest {
+            Some(place) => place < next,
+            None => true,
+        };
+        if is_greater && next < at {
+            greatest = Some(next);
+        }
+        next = u64_at(segment, next as usize);
+    }
+    greatest
+}
+
+/// Takes the free block that ends before `at` out of the list from `first` on, and gives the offset from
+/// which the list goes on then, and where the free bytes before `at` begin.
+fn join_left(segment: &mut [u8], first: u64, at: u64) -> (u64, u64)
+    requires chain { HasChain segment.old first }
+    requires aligned { at % 8 ≡ 0 }
+    ensures relists { Relists segment.old segment.new first result.0 (block result.1 (at - result.1) ∷ []) [] }
+    ensures joined { IsJoinedLeft (free_from segment.old first) at result.1 }
+    ensures same { result.1 ≡ at → (segment.new ≡ segment.old) × (result.0 ≡ first) }
+{
+    match find_free(segment, first, Sought::EndsAt(at)) {
+        Some(block) => (unlink(segment, first, block.at), block.at),
+        None => (first, at),
+    }
+}
+
+/// Takes the free block that begins at `end` out of the list from `first` on, and gives the offset from which
+/// the list goes on then, and where the free bytes from `end` on end.
+fn join_right(segment: &mut [u8], first: u64, end: u64) -> (u64, u64)
+    requires chain { HasChain segment.old first }
+    requires inside { end ≤ length segment.old }
+    ensures relists { Relists segment.old segment.new first result.0 (block end (result.1 - end) ∷ []) [] }
+    ensures joined { IsJoinedRight (free_from segment.old first) end result.1 (length segment.old) }
+{
+    match find_free(segment, first, Sought::BeginsAt(end)) {
+        Some(block) => (unlink(segment, first, block.at), block.at + block.len),
+        None => (first, end),
+    }
+}
+
+/// Makes the bytes from `at` to `end` free, joined with their free neighbours, and gives the offset from
+/// which the list goes on then. Eight bytes without a neighbour stay unused.
+///
+/// That they begin at a multiple of 8, lie in the segment and share none with the free blocks is the
+/// caller's condition.
+pub(crate) fn release(segment: &mut [u8], first: u64, at: u64, end: u64) -> u64
+    requires chain { HasChain segment.old first }
+    requires aligned { at % 8 ≡ 0 }
+    requires filled { at < end }
+    requires inside { end ≤ length segment.old }
+    requires apart { (p : ℕ) → cover p (free_from segment.old first) + holds p at (end - at) ≤ 1 }
+    ensures { Releases segment.old segment.new first result at (end - at) }
+{
+    let (first, begin) = join_left(segment, first, at);
+    let (first, stop) = join_right(segment, first, end);
+    let len = stop - begin;
+    if len < LEAST_FREE {
+        return first;
+    }
+    link(segment, first, Block { at: begin, len })
+}
