@@ -78,7 +78,7 @@ goes_on segment first next (x ∷ xs) (y ∷ ys) leads each list =
     (on.0, ap₂ (λ (b : Block) (bs : List Block). b ∷ bs) same on.1, on.2)
 
 -- a list from the head is one from the offset that it stands for
-from_first : (segment : List ℕ) (head first : ℕ) (free : List Block) → StandsFor head first → IsFreeList segment head free → FreeFrom segment first free
+pub from_first : (segment : List ℕ) (head first : ℕ) (free : List Block) → StandsFor head first → IsFreeList segment head free → FreeFrom segment first free
 from_first segment head first free (inl none) list = by free list.each list.listed where
   by : (free : List Block) → AllByRecursion IsFree free → FreeFrom segment head free ⊎ ((head ≡ undefined) × (free ≡ [])) → FreeFrom segment first free
   by [] each (inl from) = absurd (let same : undefined ≡ 1 = sym none.0 ∙ from in omega arith)

@@ -2,6 +2,7 @@ pub mod FreeLaws
 pub mod ChainLaws
 pub mod RelistLaws
 pub mod ReleaseLaws
+pub mod EditedLaws
 pub mod TakenLaws
 pub mod NameLaws
 pub mod RefusedLaws

@@ -6,3 +6,4 @@ pub mod Writing
 pub mod Chain
 pub mod Sought
 pub mod Released
+pub mod Edited

@@ -14,7 +14,7 @@ use h5_space::{Claims, Image, claim, fault};
 static SIGNATURE: [u8; 4] = *b"HEAP";
 
 /// Bytes of a header.
-const HEADER: u64 = 32;
+pub(crate) const HEADER: u64 = 32;
 
 /// The least bytes of a segment: those of the empty name.
 const LEAST_SEGMENT: u64 = 8;

@@ -5,6 +5,7 @@
 #![tactic(auto)]
 
 mod chain;
+mod edit;
 mod free_list;
 mod header;
 mod heap;
@@ -12,6 +13,7 @@ mod names;
 mod text;
 mod write;
 
+pub use edit::free;
 pub use h5_bytes::text_from;
 pub use header::segment_at;
 pub use heap::{Heap, read_heap};
