@@ -1,12 +1,13 @@
 -- A write in one block leaves the blocks beside it.
-use Rattle.std.proofs.Common.{◌≡◌, ℕ, ◌+◌, ◌≤◌, inl, inr, List, [], ◌∷◌, length, refl, arith}
+use Rattle.std.proofs.Common.{◌≡◌, ℕ, ◌+◌, ◌≤◌, inl, inr, List, [], ◌∷◌, length, refl, ap, ◌∙◌, arith}
 use Rattle.std.proofs.lemmas.Bool.{cases_lt}
 use Rattle.h5_bytes.specs.Bytes.{with_part}
 use Rattle.h5_bytes.specs.Blocks.{block, holds, cover, Separate, Inside, Keeps}
 use Rattle.h5_bytes.specs.declared.Block.{Block}
+use Rattle.h5_bytes.proofs.PartLaws.{length-with_part}
 use Rattle.h5_bytes.proofs.BlockLaws.{holds_in, holds_past, holds-inner, cover_past}
 use Rattle.h5_space.specs.Space.{Space}
-use Rattle.h5_space.specs.Moves.{Moves}
+use Rattle.h5_space.specs.Moves.{Moves, Spends}
 use Rattle.h5_space.proofs.MovesLaws.{moves_write, moves_kept}
 
 pub kept_beside : (old w : List ℕ) (at : ℕ) (b : Block) (more : List Block) → b.at ≤ at → at + length w ≤ b.at + b.len → b.at + b.len ≤ length old
@@ -42,4 +43,14 @@ moves_covered old new w at blocks covered room bytes free =
       grown = m.grown;
       kept = λ p below used unused. m.kept p below (omega (arith, used, covered p)) unused;
       moved = λ p. omega (arith, m.moved p);
+    }
+
+-- a write spends nothing
+pub spends_write : (old new : Space) (w : List ℕ) (at : ℕ) → at + length w ≤ length old.bytes → new ≡ record old { bytes = with_part at w old.bytes } → Spends old new 0 0
+spends_write old new w at room is =
+    let long : length new.bytes ≡ length old.bytes = ap (λ (s : Space). length s.bytes) is ∙ length-with_part at w old.bytes room in
+    record {
+      grown = omega (arith, long);
+      bytes_left = omega (arith, ap (λ (s : Space). s.room_bytes) is);
+      blocks_left = omega (arith, ap (λ (s : Space). s.room_blocks) is);
     }

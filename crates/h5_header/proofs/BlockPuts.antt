@@ -483,6 +483,7 @@ module _ (old : List ℕ) (m : Listed) (is : IsStanding old m) (k : ℕ) (low : 
         place = b.at;
         named = c;
         may_move = may;
+        wide = omega (arith, body_long, wide);
         names = refl;
         before = said_before;
         after = said_after ∙ ap (λ (ys : List Message). messages_in old cut.front ++ c ∷ (named_four.middle ++ (ys ++ named_four.behind))) ws_are;

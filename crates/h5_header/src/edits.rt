@@ -2,7 +2,7 @@
 
 ghost use Rattle.std.specs.Prelude.{◌≡◌, ◌≢◌, ◌<◌, length};
 ghost use Rattle.h5_model.specs.Format.Messages.{prefix_at, reference_count};
-ghost use Rattle.h5_space.specs.Moves.{Moves};
+ghost use Rattle.h5_space.specs.Moves.{Moves, Spends};
 ghost use Rattle.h5_header.specs.Listed.{messages_in};
 ghost use Rattle.h5_header.specs.Standing.{IsStanding, kept_at, blanked, with_body};
 
@@ -35,8 +35,9 @@ impl Messages {
         ensures messages { messages_in image.new.bytes self.new.list ≡ blanked (messages_in image.old.bytes self.old.list) k }
         ensures header { self.new.header ≡ self.old.header }
         ensures blocks { self.new.blocks ≡ self.old.blocks }
+        ensures room { self.new.room ≡ self.old.room }
         ensures moves { Moves image.old image.new self.old.blocks self.new.blocks }
-        ensures room { (image.new.room_bytes ≡ image.old.room_bytes) × (image.new.room_blocks ≡ image.old.room_blocks) }
+        ensures spends { Spends image.old image.new 0 0 }
     {
         let message = self.list()[k];
         put_u16(image.part_at_mut(message.at - 8, 2), 0, 0);

@@ -3,7 +3,7 @@
 ghost use Rattle.std.specs.Prelude.{◌≡◌, ◌≢◌, ◌<◌, ◌≤◌, ◌+◌, ◌^◌, ◌%◌, ◌++◌, ◌==◌, ◌&&◌, nat_le, length, drop, position};
 ghost use Rattle.h5_bytes.specs.Numbers.{short, zeros};
 ghost use Rattle.h5_model.specs.Format.Plain.{message_bytes, messages_bytes};
-ghost use Rattle.h5_space.specs.Moves.{Moves};
+ghost use Rattle.h5_space.specs.Moves.{Moves, Spends};
 ghost use Rattle.h5_header.specs.Listed.{messages_in};
 ghost use Rattle.h5_header.specs.Standing.{IsStanding, kept_at, said_in};
 ghost use Rattle.h5_header.specs.Added.{IsPutInNil};
@@ -90,8 +90,7 @@ impl Messages {
         ensures header { self.new.header ≡ self.old.header }
         ensures blocks { self.new.blocks ≡ self.old.blocks }
         ensures moves { Moves image.old image.new self.old.blocks self.new.blocks }
-        ensures room_kept { (image.new.room_bytes ≡ image.old.room_bytes)
-            × (image.new.room_blocks ≡ image.old.room_blocks) }
+        ensures spends { Spends image.old image.new 0 0 }
         ensures room { self.new.room + 1 ≡ self.old.room }
     {
         let _bytes = image.bytes();

@@ -3,7 +3,7 @@ use Rattle.h5_bytes.specs.Bytes.{part, with_part, with_field, little_bytes}
 use Rattle.h5_bytes.proofs.PartLaws.{with_part-with_part}
 use Rattle.h5_space.specs.Lending.{with_bytes_at}
 use Rattle.h5_header.specs.Standing.{kept_at, nowhere}
-use Rattle.h5_header.proofs.BesideLaws.{moves_covered}
+use Rattle.h5_header.proofs.BesideLaws.{moves_covered, spends_write}
 use Rattle.h5_header.proofs.BlankLaws.{behind_head, body_inside, blank_covered, blank_messages, blank_standing}
 use Rattle.h5_header.proofs.header.Messages.blank.Goals as goal
 use Rattle.h5_header.proofs.header.Messages.blank.Goals.{After-list, After-set}
@@ -61,3 +61,9 @@ returns-clause-moves c =
     (moves_covered c.args.image.now (with_bytes_at c.args.image.now ((slice_index_or c.list.result.now c.args.k nowhere).at - 8) c.put_u16.new.bytes) (little_bytes 2 0) (head w) c.args.self.now.blocks
     (blank_covered c.args.image.now.bytes c.args.self.now c.requires.standing c.args.k c.requires.known c.requires.own)
     (omega (arith, two, room w)) (written w) refl)
+
+pub returns-clause-spends : goal.returns-clause-spends
+returns-clause-spends c =
+    let w = (goal.at.returns-clause-spends c).After-set in
+    spends_write c.args.image.now (with_bytes_at c.args.image.now ((slice_index_or c.list.result.now c.args.k nowhere).at - 8) c.put_u16.new.bytes) (little_bytes 2 0) (head w)
+    (omega (arith, two, room w)) (ap (λ (bs : List ℕ). record c.args.image.now { bytes = bs }) (written w))

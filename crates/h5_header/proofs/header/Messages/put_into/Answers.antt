@@ -1,10 +1,13 @@
 use Rattle.std.proofs.Common.{◌≡◌, ◌≢◌, ℕ, ◌+◌, ◌-◌, ◌%◌, ◌<◌, ◌≤◌, ◌++◌, List, length, take, drop, slice_index_or, refl, ap, ◌∙◌, arith, rules}
 use Rattle.h5_bytes.specs.Bytes.{part, with_part, with_field, little_bytes}
 use Rattle.h5_bytes.proofs.PartLaws.{with_part-with_part}
+use Rattle.h5_space.specs.Moves.{Spends}
+use Rattle.h5_space.proofs.MovesLaws.{spends_then}
 use Rattle.h5_model.specs.Format.Plain.{messages_bytes}
 use Rattle.h5_header.specs.Listed.{Listed}
 use Rattle.h5_header.specs.Standing.{kept_at, kept_with_nil, nowhere, said_in}
 use Rattle.h5_header.specs.declared.message.Message.{Message as Placed}
+use Rattle.h5_header.proofs.BesideLaws.{spends_write}
 use Rattle.h5_header.proofs.BlankLaws.{behind_head, body_inside, size_padded}
 use Rattle.h5_header.proofs.NilPuts.{header_inside, nil_added, nil_moves, nil_standing, one_long}
 use Rattle.h5_header.proofs.header.Messages.put_into.Goals as goal
@@ -138,3 +141,17 @@ returns-clause-moves c =
     c.args.body.now c.requires.padded c.requires.fits c.requires.total c.args.image.now (record c.args.image.now {
       bytes = with_part c.header.result c.put_u16.new.bytes (with_part ((slice_index_or c.list.result.now c.args.k nowhere).at - 8) c.write_in_nil.new.bytes c.args.image.now.bytes);
     }) refl (ap (λ (bs : List ℕ). record c.args.image.now { bytes = bs }) (written w)))
+
+pub returns-clause-spends : goal.returns-clause-spends
+returns-clause-spends c =
+    let w = (goal.at.returns-clause-spends c).After-put_u16 in
+    let s = c.args.image.now in
+    let one = wrote_in s.bytes (kept_at c.args.self.now.list c.args.k) c.args.kind c.args.body.now in
+    let long : length one ≡ length s.bytes = one_long s.bytes c.args.self.now c.requires.standing c.args.k c.requires.known c.requires.nil (small w) c.args.kind (omega (arith, c.ranges.kind.fits)) c.requires.own
+    c.args.body.now c.requires.padded c.requires.fits c.requires.total in
+    let first : Spends s (record s { bytes = one }) 0 0 = record { grown = omega (arith, long); bytes_left = omega arith; blocks_left = omega arith } in
+    let total : length (little_bytes 2 (length (kept w))) ≡ 2 = refl in
+    let second : Spends (record s { bytes = one }) (record s { bytes = with_part (c.args.self.now.header + 2) (little_bytes 2 (length (kept w))) one }) 0 0
+    = spends_write (record s { bytes = one }) (record s { bytes = with_part (c.args.self.now.header + 2) (little_bytes 2 (length (kept w))) one }) (little_bytes 2 (length (kept w)))
+    (c.args.self.now.header + 2) (omega (arith, room w, total)) refl in
+    rw (written w) (spends_then s (record s { bytes = one }) (record s { bytes = with_part (c.args.self.now.header + 2) (little_bytes 2 (length (kept w))) one }) 0 0 0 0 first second)
