@@ -2,3 +2,5 @@ pub mod FaultLaws
 pub mod EntryLaws
 pub mod OrderLaws
 pub mod EntryOrder
+pub mod StillLaws
+pub mod RemoveLaws

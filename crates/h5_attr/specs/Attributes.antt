@@ -1,6 +1,6 @@
 -- Attributes of an object by the messages of its header (File Format Specification 3.0, section IV.A.2.m).
-use Rattle.std.specs.Prelude.{ℕ, ◌^◌, nat_eq, nat_le, if◌then◌else◌, Option, Some, None, List, [], ◌∷◌, map}
-use Rattle.std.specs.Option.{option_or}
+use Rattle.std.specs.Prelude.{ℕ, ◌^◌, nat_eq, nat_le, Bool, false, if◌then◌else◌, Option, Some, None, List, [], ◌∷◌, map}
+use Rattle.std.specs.Option.{option_or, option_map_or}
 use Rattle.std.specs.Ordering.{nat_cmp, eq_by_cmp}
 use Rattle.std.specs.Cmp.Lexicographic.{slice_cmp, pointwise}
 use Rattle.std.specs.List.{filter, filter_map, find, IsDistinct}
@@ -32,6 +32,10 @@ HasNamesOnce ms = IsDistinct (eq_by_cmp (slice_cmp nat_cmp)) (attribute_names_in
 -- the first attribute of this name
 abbrev pub attribute_named : List ℕ → List Message → Option (List ℕ × Attribute)
 attribute_named name ms = find (λ a. pointwise nat_eq name a.0) (attributes_in ms)
+
+-- a message has the attribute of this name
+abbrev pub is_attribute_named : List ℕ → Message → Bool
+is_attribute_named name m = option_map_or (λ (a : List ℕ × Attribute). pointwise nat_eq name a.0) (attribute_in m) false
 
 -- the attributes by their names
 abbrev pub attributes_of : List Message → Attributes

@@ -1,14 +1,14 @@
 //! One attribute by its name (File Format Specification 3.0, section IV.A.2.m).
 
-ghost use Rattle.std.specs.Prelude.{◌≡◌, length, option_map};
+ghost use Rattle.std.specs.Prelude.{◌≡◌, ◌+◌, ◌≤◌, length, option_map, position};
 ghost use Rattle.std.specs.FinMap.{get as at_name};
 ghost use Rattle.h5_model.specs.Format.Reads.{HasAttributes};
 ghost use Rattle.h5_model.specs.Tree.Objects.{Attributes};
-ghost use Rattle.h5_header.specs.Listed.{messages_in, IsWithin};
-ghost use Rattle.h5_attr.specs.Attributes.{attribute_named};
+ghost use Rattle.h5_header.specs.Listed.{message_in, messages_in, IsWithin};
+ghost use Rattle.h5_attr.specs.Attributes.{attribute_named, is_attribute_named};
 
 use crate::message::attribute;
-use h5_header::Messages;
+use h5_header::{Message, Messages};
 use h5_msg::AttributeBody;
 use h5_space::Image;
 
@@ -32,4 +32,35 @@ pub fn get<'a>(image: &'a Image, messages: &Messages, name: &[u8]) -> Option<Att
         }
     }
     None
+}
+
+/// The place of the first message with the attribute of this name, or `None` where there is none. It takes
+/// no memory.
+///
+/// That the bodies lie in the image is the caller's condition.
+pub fn find_named(image: &Image, messages: &Messages, name: &[u8]) -> Option<usize>
+    requires { IsWithin (length image.now.bytes) messages.now.list }
+    ensures { result ≡ position (is_attribute_named name.now)
+        (messages_in image.now.bytes messages.now.list) }
+{
+    let bytes = image.bytes();
+    let mut k = 0;
+    for message in messages.list() {
+        if is_named(bytes, *message, name) {
+            return Some(k);
+        }
+        k += 1;
+    }
+    None
+}
+
+/// Whether a message has the attribute of this name.
+fn is_named(image: &[u8], message: Message, name: &[u8]) -> bool
+    requires { message.at + message.size ≤ length image.now }
+    ensures { result ≡ is_attribute_named name.now (message_in image.now message) }
+{
+    match attribute(image, message) {
+        Some(found) => name == found.name(),
+        None => false,
+    }
 }

@@ -4,13 +4,15 @@
 #![tactic(auto)]
 
 mod bodies;
+mod edit;
 mod find;
 mod message;
 mod names;
 mod order;
 
 pub use bodies::check_bodies;
-pub use find::get;
+pub use edit::remove_at;
+pub use find::{find_named, get};
 pub use h5_msg::AttributeBody as AttrRef;
 pub use names::{check_names, list};
 pub use order::sorted;

@@ -1,0 +1,57 @@
+-- A message that is no attribute any more: what the others say stays.
+use Rattle.std.proofs.Common.{◌≡◌, ℕ, ◌≤◌, ◌==◌, ◌+◌, Bool, true, false, T, cond, if◌then◌else◌, IsTrue, List, [], ◌∷◌, ◌++◌, Option, Some, option_map, refl, sym, ap, ◌∙◌, subst}
+use Rattle.std.specs.List.{AllByRecursion, filter, find}
+use Rattle.std.specs.Option.{option_and_then}
+use Rattle.std.proofs.lemmas.List.Elements.{filter-append}
+use Rattle.h5_model.specs.Format.Addresses.{symbol_table_of}
+use Rattle.h5_model.specs.Format.Datatype.{fixed_of}
+use Rattle.h5_model.specs.Format.Messages.{Message, count_of, first_body}
+use Rattle.h5_attr.specs.Still.{IsSaidStill}
+
+-- the same messages
+pub same_still : (ms : List Message) → IsSaidStill ms ms
+same_still ms = record {
+  others = λ p none. refl;
+  bodies = λ kind none. refl;
+  counts = λ kind none. refl;
+  types = λ p these all. all;
+  table = λ once. refl;
+  datatype = λ once. refl;
+}
+
+module _ (x y : Message) (was : x.kind ≡ 12) (now : y.kind ≡ 0) where
+  passed : (p : ℕ → Bool) (out : p 12 ≡ false) (none : p 0 ≡ false) (front back : List Message)
+      → filter (λ (m : Message). p m.kind) (front ++ y ∷ back) ≡ filter (λ (m : Message). p m.kind) (front ++ x ∷ back)
+  passed p out none [] back = rw (was, now, out, none) refl
+  passed p out none (f ∷ front) back = ap (λ (ys : List Message). if p f.kind then f ∷ ys else ys) (passed p out none front back)
+
+  body_of : (kind : ℕ) (out : (12 == kind) ≡ false) (none : (0 == kind) ≡ false) (front back : List Message)
+      → first_body kind (front ++ y ∷ back) ≡ first_body kind (front ++ x ∷ back)
+  body_of kind out none [] back = rw (was, now, out, none) refl
+  body_of kind out none (f ∷ front) back =
+      elim (f.kind == kind) as (λ b. option_map (λ (m : Message). m.body) (cond b (Some f) (find (λ (m : Message). m.kind == kind) (front ++ y ∷ back)))
+      ≡ option_map (λ (m : Message). m.body) (cond b (Some f) (find (λ (m : Message). m.kind == kind) (front ++ x ∷ back)))) [
+        | true ↦ refl
+        | false ↦ body_of kind out none front back
+      ]
+
+  counted : (kind : ℕ) (out : (12 == kind) ≡ false) (none : (0 == kind) ≡ false) (front back : List Message)
+      → count_of kind (front ++ y ∷ back) ≡ count_of kind (front ++ x ∷ back)
+  counted kind out none [] back = rw (was, now, out, none) refl
+  counted kind out none (f ∷ front) back = ap (λ n. (if f.kind == kind then 1 else 0) + n) (counted kind out none front back)
+
+  of_types : (p : ℕ → Bool) → IsTrue (p 0) → (front back : List Message) → AllByRecursion (λ (m : Message). IsTrue (p m.kind)) (front ++ x ∷ back)
+      → AllByRecursion (λ (m : Message). IsTrue (p m.kind)) (front ++ y ∷ back)
+  of_types p nil [] back all = (subst (λ (k : ℕ). IsTrue (p k)) (sym now) nil, all.1)
+  of_types p nil (f ∷ front) back all = (all.0, of_types p nil front back all.1)
+
+  -- a message that was an attribute is NIL
+  pub blank_still : (front back : List Message) → IsSaidStill (front ++ x ∷ back) (front ++ y ∷ back)
+  blank_still front back = record {
+    others = λ p none. passed p none.1.1.0 none.0 front back;
+    bodies = λ kind none. body_of kind none.1.1.0 none.0 front back;
+    counts = λ kind none. counted kind none.1.0 none.0 front back;
+    types = λ p these all. of_types p these.0 front back all;
+    table = λ once. ap (option_and_then symbol_table_of) (body_of 17 refl refl front back);
+    datatype = λ once. ap (option_and_then fixed_of) (body_of 3 refl refl front back);
+  }
