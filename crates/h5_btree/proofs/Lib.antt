@@ -16,6 +16,7 @@ pub mod OwnedLaws
 pub mod TreeReadings
 pub mod NodeEdits
 pub mod NodeMoves
+pub mod NodeHalves
 pub mod ClimbSteps
 pub mod DropSteps
 pub mod SplitSteps

@@ -78,12 +78,12 @@ number_moved old new a b n same =
 
 -- the body is as it was
 module _ (kind : Kind) (bytes new : List ℕ) (count : entries_in new ≡ entries_in bytes) (same : (a n : ℕ) → 24 ≤ a → part a n new ≡ part a n bytes) where
-  keys_stay : table (key_in kind new) (entries_in new + 1) ≡ table (key_in kind bytes) (entries_in bytes + 1)
+  pub keys_stay : table (key_in kind new) (entries_in new + 1) ≡ table (key_in kind bytes) (entries_in bytes + 1)
   keys_stay =
       table_same (key_in kind bytes) (key_in kind new) (entries_in new + 1) 0 (λ j low. same (key_place kind j) kind.key_length (omega arith))
       ∙ ap (λ (n : ℕ). table (key_in kind bytes) (n + 1)) count
 
-  children_stay : table (child_in kind new) (entries_in new) ≡ table (child_in kind bytes) (entries_in bytes)
+  pub children_stay : table (child_in kind new) (entries_in new) ≡ table (child_in kind bytes) (entries_in bytes)
   children_stay =
       table_same (child_in kind bytes) (child_in kind new) (entries_in new) 0 (λ j low.
       let at = key_place kind j + kind.key_length in number_moved bytes new at at 8 (same at 8 (omega arith)))

@@ -11,7 +11,7 @@ use Rattle.h5_bytes.proofs.TableLaws.{table_insert, table_remove}
 use Rattle.h5_model.specs.Format.Nodes.{Kind, IsNode, node_of, node_length, entries_in, key_in, key_place, child_in}
 use Rattle.h5_btree.proofs.NodeEdits.{place_next, place_before, place_within, key_fits, level_same, form_same, left_same, right_same, number_moved}
 
-length-copy_within : (xs : List ℕ) (from to dest : ℕ) → from ≤ to → to ≤ length xs → dest + (to - from) ≤ length xs → length (copy_within xs from to dest) ≡ length xs
+pub length-copy_within : (xs : List ℕ) (from to dest : ℕ) → from ≤ to → to ≤ length xs → dest + (to - from) ≤ length xs → length (copy_within xs from to dest) ≡ length xs
 length-copy_within xs from to dest a b c = search (rules, places)
 
 module _ (kind : Kind) (bytes key : List ℕ) (j child n : ℕ) (is : n ≡ entries_in bytes) (long : length bytes ≡ node_length kind) (form : IsNode kind bytes)

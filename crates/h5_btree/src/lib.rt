@@ -19,7 +19,10 @@ mod write;
 mod written;
 
 pub use descent::{ChildPlace, find_leaf, find_place};
-pub use edit::{insert_child, remove_child, set_child, set_key, set_left, set_right};
+pub use edit::{
+    copy_node, drop_children, insert_child, keep_children, remove_child, set_child, set_key,
+    set_left, set_level, set_right,
+};
 pub use kind::NodeKind;
 pub use name::SoughtName;
 pub use node::Node;

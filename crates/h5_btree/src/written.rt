@@ -1,12 +1,26 @@
 //! The bytes of a node that is edited (File Format Specification 3.0, section III.A.1).
 
-ghost use Rattle.std.specs.Prelude.{◌≡◌, ◌+◌, ◌*◌, ◌^◌, ◌<◌, ◌≤◌, length, slice_set};
+ghost use Rattle.std.specs.Prelude.{◌≡◌, ◌+◌, ◌*◌, ◌^◌, ◌<◌, ◌≤◌, drop, length, slice_set, take};
 ghost use Rattle.std.specs.List.{insert, remove};
 ghost use Rattle.h5_model.specs.Format.Nodes.{IsNode, entries_in, node_length, node_of};
 
 use crate::kind::NodeKind;
 use crate::node::{CHILD, place_of};
 use h5_bytes::{put_u16, put_u64, u16_at};
+
+/// Where the level stands.
+const LEVEL: usize = 5;
+
+/// Writes another level.
+pub(crate) fn put_level(kind: NodeKind, bytes: &mut [u8], level: u8)
+    requires long { length bytes.old ≡ node_length kind }
+    requires form { IsNode kind bytes.old }
+    ensures node { node_of kind bytes.new ≡ record (node_of kind bytes.old) { level = level } }
+    ensures form { IsNode kind bytes.new }
+    ensures long { length bytes.new ≡ length bytes.old }
+{
+    bytes[LEVEL] = level;
+}
 
 /// Names another neighbour to the left.
 pub(crate) fn put_left(kind: NodeKind, bytes: &mut [u8], left: u64)
@@ -100,4 +114,38 @@ pub(crate) fn take_child_out(kind: NodeKind, bytes: &mut [u8], j: usize)
     let end = place_of(kind, n) + kind.key_length();
     bytes.copy_within(place_of(kind, j + 1)..end, place_of(kind, j));
     put_u16(bytes, 6, (n - 1) as u16);
+}
+
+/// Keeps the first `n` children, and the keys around them.
+pub(crate) fn keep_front(kind: NodeKind, bytes: &mut [u8], n: usize)
+    requires long { length bytes.old ≡ node_length kind }
+    requires form { IsNode kind bytes.old }
+    requires place { n ≤ entries_in bytes.old }
+    requires few { n < 2 ^ 16 }
+    ensures node { node_of kind bytes.new ≡ record (node_of kind bytes.old) {
+      keys = take (n + 1) (node_of kind bytes.old).keys;
+      children = take n (node_of kind bytes.old).children;
+    } }
+    ensures form { IsNode kind bytes.new }
+    ensures long { length bytes.new ≡ length bytes.old }
+{
+    put_u16(bytes, 6, n as u16);
+}
+
+/// Drops the first `n` children, and the keys before them: those behind move to the front.
+pub(crate) fn drop_front(kind: NodeKind, bytes: &mut [u8], n: usize)
+    requires long { length bytes.old ≡ node_length kind }
+    requires form { IsNode kind bytes.old }
+    requires place { n ≤ entries_in bytes.old }
+    ensures node { node_of kind bytes.new ≡ record (node_of kind bytes.old) {
+      keys = drop n (node_of kind bytes.old).keys;
+      children = drop n (node_of kind bytes.old).children;
+    } }
+    ensures form { IsNode kind bytes.new }
+    ensures long { length bytes.new ≡ length bytes.old }
+{
+    let count = usize::from(u16_at(bytes, 6));
+    let end = place_of(kind, count) + kind.key_length();
+    bytes.copy_within(place_of(kind, n)..end, place_of(kind, 0));
+    put_u16(bytes, 6, (count - n) as u16);
 }
