@@ -1,15 +1,15 @@
 -- What a node's bytes say after another level was written, or after children at its front or its end went.
-use Rattle.std.proofs.Common.{◌≡◌, ◌⊎◌, inl, inr, ℕ, ◌+◌, ◌-◌, ◌*◌, ◌^◌, ◌<◌, ◌≤◌, List, [], ◌∷◌, length, take, drop, get_or, sym, ap, ◌∙◌, arith, rules}
+use Rattle.std.proofs.Common.{◌≡◌, ◌⊎◌, inl, inr, ℕ, ◌+◌, ◌-◌, ◌*◌, ◌^◌, ◌<◌, ◌≤◌, List, [], ◌∷◌, length, take, drop, sym, ap, ◌∙◌, arith, rules}
 use Rattle.std.specs.Prelude.{slice_set}
 use Rattle.std.specs.List.{copy_within}
-use Rattle.std.proofs.lemmas.List.{places, get_or-set_same, get_or-set_other, same_lists, length-set}
+use Rattle.std.proofs.lemmas.List.{places, get_or-set_same, get_or-set_other, same_lists}
 use Rattle.h5_bytes.specs.Bytes.{byte_at, little_bytes, number_at, part, with_field, with_part}
 use Rattle.h5_bytes.specs.Tables.{table}
 use Rattle.h5_bytes.proofs.PartLaws.{with_part_is, length-with_part, part-with_part_other, part-copy_within, part-copy_within_other}
 use Rattle.h5_bytes.proofs.FieldLaws.{number_at-with_field, number_at-with_part_other}
-use Rattle.h5_bytes.proofs.TableLaws.{table_same, table_take, table_drop}
+use Rattle.h5_bytes.proofs.TableLaws.{table_take, table_drop}
 use Rattle.h5_model.specs.Format.Nodes.{Kind, IsNode, node_of, node_length, entries_in, key_in, key_place, child_in}
-use Rattle.h5_btree.proofs.NodeEdits.{place_next, place_before, place_within, key_fits, level_same, form_same, left_same, right_same, number_moved, keys_stay, children_stay}
+use Rattle.h5_btree.proofs.NodeEdits.{place_before, place_within, key_fits, level_same, form_same, left_same, right_same, number_moved, keys_stay, children_stay}
 use Rattle.h5_btree.proofs.NodeMoves.{length-copy_within}
 
 -- ---- the level

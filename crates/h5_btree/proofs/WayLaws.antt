@@ -1,11 +1,12 @@
 -- One step on the way down a tree.
-use Rattle.std.proofs.Common.{◌≡◌, ◌≢◌, ℕ, zero, suc, ◌-◌, ◌<◌, Bool, List, length, get_or, slice_get, slice_index, Some, inl, inr, refl, sym, ap, subst, ◌∙◌, arith}
+use Rattle.std.proofs.Common.{◌≡◌, ◌≢◌, ℕ, zero, suc, ◌-◌, ◌<◌, Bool, List, [], ◌∷◌, ◌++◌, length, get_or, slice_get, slice_index, Some, inl, inr, refl, sym, ap, subst, ◌∙◌, arith}
 use Rattle.std.proofs.lemmas.Option.{get_or_from_slice_get, slice_get_within}
 use Rattle.h5_model.specs.Format.Rows.{Node, Reading, next_row}
 use Rattle.h5_model.specs.Format.Nodes.{Kind, node_at, reading_of}
 use Rattle.h5_btree.specs.Form.{MayStandAt}
-use Rattle.h5_btree.specs.Descent.{EndsAt, IsChildFor, IsInRow, IsStop, StopsDescent}
+use Rattle.h5_btree.specs.Descent.{EndsAt, IsChildFor, IsInRow, IsWayTo, IsStop, StopsDescent}
 use Rattle.h5_btree.specs.declared.read.NodeFault.{NodeFault}
+use Rattle.h5_btree.specs.declared.way.Step.{Step}
 use Rattle.h5_btree.proofs.DescentLaws.{stands_in_row, child_in_row}
 
 module _ (image : List ℕ) (kind : Kind) (at : ℕ) (node : Node) (is : node ≡ node_at image kind at) where
@@ -33,6 +34,19 @@ module _ (image : List ℕ) (kind : Kind) (behind : List ℕ → Bool) (at : ℕ
         chosen_there,
         subst (λ (n : ℕ). EndsAt (node_at image kind) behind level n last j) (same_child 0)
             (subst (λ (l : ℕ). EndsAt (node_at image kind) behind l child last j) below rest),
+      )
+
+  pub way_on : (level : ℕ) (below way : List Step) → level ≢ 0 → IsWayTo (node_at image kind) behind (level - 1) child below
+      → way ≡ below ++ record { node = at; place = i } ∷ [] → IsWayTo (node_at image kind) behind level at way
+  way_on zero below way some rest joined = absurd (some refl)
+  way_on (suc level) below way some rest joined =
+      let lower : suc level - 1 ≡ level = omega arith in (
+        i,
+        below,
+        chosen_there,
+        subst (λ (n : ℕ). IsWayTo (node_at image kind) behind level n below) (same_child 0)
+            (subst (λ (l : ℕ). IsWayTo (node_at image kind) behind l child below) lower rest),
+        joined,
       )
 
   pub stops_below : (level : ℕ) (fault : NodeFault) → level ≢ 0 → StopsDescent image kind behind (level - 1) child fault → StopsDescent image kind behind level at fault

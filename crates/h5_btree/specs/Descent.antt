@@ -1,11 +1,12 @@
 -- The way from a node of a B-tree down to a child at the bottom (File Format Specification 3.0, section III.A.1).
-use Rattle.std.specs.Prelude.{◌≡◌, ℕ, zero, suc, ◌+◌, ◌<◌, ◌≤◌, ◌⊎◌, Bool, true, false, List, [], length, slice_index, slice_index_or}
+use Rattle.std.specs.Prelude.{◌≡◌, ℕ, zero, suc, ◌+◌, ◌<◌, ◌≤◌, ◌⊎◌, Bool, true, false, List, [], ◌∷◌, ◌++◌, length, slice_index, slice_index_or}
 use Rattle.std.specs.List.{AllByRecursion, Contains}
 use Rattle.h5_bytes.specs.Blocks.{Inside}
 use Rattle.h5_model.specs.Format.Rows.{Node, Reading, AreRows}
 use Rattle.h5_model.specs.Format.Nodes.{Kind, IsNode, entries_in, node_at, node_bytes, reading_of, tree_blocks}
 use Rattle.h5_btree.specs.Form.{IsRefusedAt, MayBeRoot, MayStandAt}
 use Rattle.h5_btree.specs.declared.read.NodeFault.{NodeFault}
+use Rattle.h5_btree.specs.declared.way.Step.{Step}
 use Rattle.h5_btree.specs.declared.read.NodeFault.TheVariants.{NodeForm}
 
 -- What stands behind these keys stands below child i, if it stands below the node: it is behind the key before the child, and
@@ -20,6 +21,13 @@ abbrev pub EndsAt : Reading → (List ℕ → Bool) → ℕ → ℕ → Node →
 EndsAt V behind zero at node i = (node ≡ V at) × IsChildFor behind node i
 EndsAt V behind (suc level) at node i =
     (j : ℕ) × IsChildFor behind (V at) j × EndsAt V behind level (slice_index (V at).children j) node i
+
+-- the same by the steps of the way, from the node of level 0 up
+abbrev pub IsWayTo : Reading → (List ℕ → Bool) → ℕ → ℕ → List Step → Type 0
+IsWayTo V behind zero at way = (i : ℕ) × IsChildFor behind (V at) i × (way ≡ record { node = at; place = i } ∷ [])
+IsWayTo V behind (suc level) at way =
+    (i : ℕ) × (below : List Step) × IsChildFor behind (V at) i × IsWayTo V behind level (slice_index (V at).children i) below
+    × (way ≡ below ++ record { node = at; place = i } ∷ [])
 
 -- to what that child leads
 abbrev pub LeadsTo : Reading → (List ℕ → Bool) → ℕ → ℕ → ℕ → Type 0

@@ -30,5 +30,5 @@ pub use order::{Ordered, check_keys};
 pub use read::{NodeFault, read_node, read_node_at};
 pub use sought::{Sought, child_for};
 pub use walk::{Leaves, Tree, Trees, bottom_nodes, read_tree, tree_leaves, tree_node};
-pub use way::Step;
+pub use way::{Step, Way, find_way};
 pub use write::{Child, TreeKey, nodes_over, push_tree, root_level, rows_of};

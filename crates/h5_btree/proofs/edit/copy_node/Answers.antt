@@ -1,7 +1,6 @@
-use Rattle.std.proofs.Common.{◌≡◌, ℕ, List, length, refl, ap, ◌∙◌}
+use Rattle.std.proofs.Common.{ℕ, refl, ap, ◌∙◌}
 use Rattle.h5_bytes.specs.Bytes.{part}
 use Rattle.h5_bytes.proofs.PartLaws.{length-part}
-use Rattle.h5_space.specs.Space.{Space}
 use Rattle.h5_space.specs.Lending.{with_bytes_at}
 use Rattle.h5_model.specs.Format.Nodes.{node_bytes, node_length}
 use Rattle.h5_btree.proofs.NodeEdits.{rewritten}

@@ -1,4 +1,4 @@
-use Rattle.std.proofs.Common.{◌≡◌, ℕ, List, refl, ap, ◌∙◌, ◌+◌, take, drop}
+use Rattle.std.proofs.Common.{◌≡◌, ℕ, List, refl, ap, ◌∙◌, drop}
 use Rattle.h5_bytes.specs.Bytes.{part}
 use Rattle.h5_model.specs.Format.Nodes.{node_bytes, node_of}
 use Rattle.h5_btree.proofs.NodeEdits.{rewritten}

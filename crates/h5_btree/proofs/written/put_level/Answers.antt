@@ -1,5 +1,3 @@
-use Rattle.std.proofs.Common.{ap, ◌∙◌, sym, subst}
-use Rattle.h5_model.specs.Format.Nodes.{IsNode, node_of}
 use Rattle.h5_btree.proofs.NodeHalves.{level_says, level_form}
 use Rattle.h5_btree.proofs.written.put_level.Goals as goal
 
