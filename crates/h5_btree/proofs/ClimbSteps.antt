@@ -14,14 +14,15 @@ use Rattle.h5_space.specs.Space.{Space}
 use Rattle.h5_space.specs.Moves.{Moves}
 use Rattle.h5_space.specs.Whole.{IsApart}
 use Rattle.h5_space.proofs.MovesLaws.{moves_none, moves_then, moves_apart, part-same}
-use Rattle.h5_btree.specs.Climb.{IsNoNode, IsWay, LacksChild, Adds, Splits, RaisesRoot}
+use Rattle.h5_btree.specs.Climb.{IsNoNode, IsWay, Adds, Splits, RaisesRoot}
 use Rattle.h5_btree.specs.Rewritten.{IsRewritten}
+pub use Rattle.h5_btree.specs.Insertion.{IsClimbing, IsChildPut}
 use Rattle.h5_btree.specs.declared.way.Step.{Step}
 use Rattle.h5_btree.proofs.NodeLaws.{length-children}
 use Rattle.h5_btree.proofs.RowEdits.{level_here}
 use Rattle.h5_btree.proofs.ClimbLaws.{lacks_filled, lacks_up, lacks_raised, raised_below}
 use Rattle.h5_btree.proofs.WayRows.{leaves_here, insert_below}
-use Rattle.h5_btree.proofs.OwnedLaws.{total, lacks_total, whole_total, filled_total, up_total, raised_total, cover_total}
+use Rattle.h5_btree.proofs.OwnedLaws.{total, whole_total, filled_total, up_total, raised_total, cover_total}
 use Rattle.h5_btree.proofs.TreeReadings.{Listed, owned_of_level, owned_at, free_of_none, undefined_is_none, refills_in, has_tree_again}
 
 -- ---- blocks of the nodes of a tree
@@ -110,24 +111,7 @@ moves_within s t a big big' m less same = record {
   moved = λ x. omega (arith, m.moved x, same x);
 }
 
--- ---- before and after each step
-
--- The image t, which an insertion has made of s so far: the tree owned the nodes `owned`, and has these now; all of it is there but
--- one child of p.
-pub record IsClimbing (s t : Space) (kind : Kind) (root m p : ℕ) (way : List Step) (j child : ℕ) (list owned own : List ℕ) : Type 0 where
-  pub lacks : LacksChild (reading_of t.bytes kind own) m root p way j child list
-  pub counts : (w : ℕ → ℕ) → total w own ≡ lacks_total w (reading_of t.bytes kind own) m root p way j child list lacks
-  pub high : length way + m < 16
-  pub formed : AllByRecursion (λ at. IsNode kind (node_bytes t.bytes kind at)) own
-  pub filled : 1 ≤ length way + m → AllByRecursion (λ at. 1 ≤ entries_in (node_bytes t.bytes kind at)) own
-  pub apart : IsApart (tree_blocks kind own) t.free (length t.bytes)
-  pub short : length t.bytes < 2 ^ 64
-  pub moves : Moves s t (tree_blocks kind owned) (tree_blocks kind own)
-
--- what the insertion makes: the child stands at this place among those at the bottom
-pub record IsChildPut (s t : Space) (kind : Kind) (root level : ℕ) (list owned own : List ℕ) : Type 0 where
-  pub tree : HasTree t.bytes kind root level own list
-  pub moves : Moves s t (tree_blocks kind owned) (tree_blocks kind own)
+-- ---- the steps
 
 -- no node stands at the undefined address
 pub undefined_free : (s : Space) (kind : Kind) (owned : List ℕ) → IsApart (tree_blocks kind owned) s.free (length s.bytes) → length s.bytes < 2 ^ 64

@@ -13,14 +13,15 @@ use Rattle.h5_space.specs.Space.{Space}
 use Rattle.h5_space.specs.Moves.{Moves}
 use Rattle.h5_space.specs.Whole.{IsApart}
 use Rattle.h5_space.proofs.MovesLaws.{moves_none, moves_then, moves_apart}
-use Rattle.h5_btree.specs.Climb.{IsWay, IsOver, Drops, Unlinks, EmptiesRoot}
+use Rattle.h5_btree.specs.Climb.{IsWay, Drops, Unlinks, EmptiesRoot}
 use Rattle.h5_btree.specs.Rewritten.{IsRewritten}
+pub use Rattle.h5_btree.specs.Removal.{IsShrinking, IsChildTaken}
 use Rattle.h5_btree.specs.declared.way.Step.{Step}
 use Rattle.h5_btree.proofs.NodeLaws.{length-children}
 use Rattle.h5_btree.proofs.RowEdits.{level_here}
 use Rattle.h5_btree.proofs.DropLaws.{over_kept, over_up, over_emptied}
 use Rattle.h5_btree.proofs.WayRows.{leaves_here, remove_below}
-use Rattle.h5_btree.proofs.OwnedLaws.{total, over_total, whole_total, kept_total, over_up_total, emptied_total, cover_total}
+use Rattle.h5_btree.proofs.OwnedLaws.{total, whole_total, kept_total, over_up_total, emptied_total, cover_total}
 use Rattle.h5_btree.proofs.TreeReadings.{Listed, owned_of_level, owned_at, refills_in, has_tree_again}
 use Rattle.h5_btree.proofs.ClimbSteps.{all_from, at_or, covers, others_stay, moves_within, undefined_free}
 
@@ -48,24 +49,7 @@ listed-without p n (x ∷ xs) other is = go (x == p) (x == n) refl refl is (list
   go false true e f listed rest = rw f refl
   go false false e f listed rest = rw f (rest (rw f at listed))
 
--- ---- before and after each step
-
--- The image t, which a removal has made of s so far: the tree owned the nodes `owned`, and has these now; all of it is right but for
--- one child of p, which is too much.
-pub record IsShrinking (s t : Space) (kind : Kind) (root m p : ℕ) (way : List Step) (i : ℕ) (list owned own : List ℕ) : Type 0 where
-  pub over : IsOver (reading_of t.bytes kind own) m root p way i list
-  pub counts : (w : ℕ → ℕ) → total w own ≡ over_total w (reading_of t.bytes kind own) m root p way i list over
-  pub high : length way + m < 16
-  pub formed : AllByRecursion (λ at. IsNode kind (node_bytes t.bytes kind at)) own
-  pub filled : 1 ≤ length way + m → AllByRecursion (λ at. 1 ≤ entries_in (node_bytes t.bytes kind at)) own
-  pub apart : IsApart (tree_blocks kind own) t.free (length t.bytes)
-  pub short : length t.bytes < 2 ^ 64
-  pub moves : Moves s t (tree_blocks kind owned) (tree_blocks kind own)
-
--- what the removal makes: the child that stood at this place is not among those at the bottom
-pub record IsChildTaken (s t : Space) (kind : Kind) (root level : ℕ) (list owned own : List ℕ) : Type 0 where
-  pub tree : HasTree t.bytes kind root level own list
-  pub moves : Moves s t (tree_blocks kind owned) (tree_blocks kind own)
+-- ---- the steps
 
 -- it starts at a node of level 0
 pub shrink_start : (s : Space) (kind : Kind) (root level p i : ℕ) (way : List Step) (front back owned list : List ℕ) → HasTree s.bytes kind root level owned list

@@ -6,3 +6,6 @@ pub mod Order
 pub mod Rising
 pub mod Climb
 pub mod Rewritten
+pub mod Totals
+pub mod Removal
+pub mod Insertion
