@@ -1,5 +1,5 @@
 -- The way up of a removal in an image: what holds before and after each of its steps, and the tree at its end.
-use Rattle.std.proofs.Common.{◌≡◌, ◌≢◌, ℕ, suc, ◌+◌, ◌^◌, ◌<◌, ◌≤◌, List, [], ◌∷◌, ◌++◌, length, refl, sym, ap, ◌∙◌, subst, arith, append-nil, Bool, true, false, ◌==◌}
+use Rattle.std.proofs.Common.{◌≡◌, ◌≢◌, inl, inr, ℕ, suc, ◌+◌, ◌^◌, ◌<◌, ◌≤◌, List, [], ◌∷◌, ◌++◌, length, refl, sym, ap, ◌∙◌, subst, arith, append-nil, Bool, true, false, ◌==◌}
 use Rattle.std.specs.Prelude.{if◌then◌else◌}
 use Rattle.std.specs.List.{list_any, remove, AllByRecursion}
 use Rattle.std.proofs.lemmas.List.Edits.{length-remove}
@@ -15,14 +15,14 @@ use Rattle.h5_space.specs.Whole.{IsApart}
 use Rattle.h5_space.proofs.MovesLaws.{moves_none, moves_then, moves_apart}
 use Rattle.h5_btree.specs.Climb.{IsWay, Drops, Unlinks, EmptiesRoot}
 use Rattle.h5_btree.specs.Rewritten.{IsRewritten}
-pub use Rattle.h5_btree.specs.Removal.{IsShrinking, IsChildTaken}
+pub use Rattle.h5_btree.specs.Removal.{IsShrinking, IsChildTaken, LosesKey}
 use Rattle.h5_btree.specs.declared.way.Step.{Step}
 use Rattle.h5_btree.proofs.NodeLaws.{length-children}
 use Rattle.h5_btree.proofs.RowEdits.{level_here}
 use Rattle.h5_btree.proofs.DropLaws.{over_kept, over_up, over_emptied}
 use Rattle.h5_btree.proofs.WayRows.{leaves_here, remove_below}
 use Rattle.h5_btree.proofs.OwnedLaws.{total, whole_total, kept_total, over_up_total, emptied_total, cover_total}
-use Rattle.h5_btree.proofs.TreeReadings.{Listed, owned_of_level, owned_at, refills_in, has_tree_again}
+use Rattle.h5_btree.proofs.TreeReadings.{Listed, owned_of_level, owned_at, refills_in, has_tree_again, in_rows, levels_of}
 use Rattle.h5_btree.proofs.ClimbSteps.{all_from, at_or, covers, others_stay, moves_within, undefined_free}
 
 -- ---- the nodes of a tree without one of them
@@ -76,15 +76,17 @@ shrink_start s kind root level p i way front back owned list tree apart short w 
       apart = apart;
       short = short;
       moves = moves_none s (tree_blocks kind owned);
+      keys = all_from owned (λ n. (node_at s.bytes kind n).keys ≡ (node_at s.bytes kind n).keys) (λ n is. refl) owned (all_listed owned);
     }
 
 -- the node has other children, or it is the root and at level 0
-pub shrink_kept : (s t u : Space) (kind : Kind) (root m p : ℕ) (way : List Step) (i : ℕ) (list owned own : List ℕ) (keys : List (List ℕ))
+pub shrink_kept : (s t u : Space) (kind : Kind) (root m p : ℕ) (way : List Step) (i : ℕ) (list owned own : List ℕ)
     → IsShrinking s t kind root m p way i list owned own
     → (1 ≤ length way + m → 2 ≤ length (node_at t.bytes kind p).children)
-    → IsRewritten t u kind p (record (node_at t.bytes kind p) { keys = keys; children = remove (node_at t.bytes kind p).children i })
-    → IsChildTaken s u kind root (length way + m) list owned (nodes (reading_of u.bytes kind own) (length way + m) (root ∷ []))
-shrink_kept s t u kind root m p way i list owned own keys c more r =
+    → IsRewritten t u kind p (record (node_at t.bytes kind p) { keys = remove (node_at t.bytes kind p).keys i; children = remove (node_at t.bytes kind p).children i })
+    → IsChildTaken s u kind root (length way + m) p i list owned (nodes (reading_of u.bytes kind own) (length way + m) (root ∷ []))
+shrink_kept s t u kind root m p way i list owned own c more r =
+    let keys = remove (node_at t.bytes kind p).keys i in
     let f = node_at t.bytes kind in
     let g = node_at u.bytes kind in
     let V = reading_of t.bytes kind own in
@@ -120,6 +122,14 @@ shrink_kept s t u kind root m p way i list owned own keys c more r =
           (λ x. cover_total x kind (nodes W level (root ∷ []))
           ∙ kept_total (λ n. holds x n (node_length kind)) V W m root p way i list c.high out c.over drops
           ∙ sym (c.counts (λ n. holds x n (node_length kind))) ∙ sym (cover_total x kind own)));
+      keys = in_rows g own (λ n. LosesKey p i n (node_at s.bytes kind n) (node_at u.bytes kind n))
+          (all_from own (λ n. LosesKey p i n (node_at s.bytes kind n) (node_at u.bytes kind n)) (λ n is. at_or p n
+          (λ e. inl (e, subst (λ (k : ℕ). (node_at u.bytes kind k).keys ≡ remove (node_at s.bytes kind k).keys i) (sym e)
+          (ap (λ (k : Node). k.keys) r.says
+          ∙ ap (λ (ks : List (List ℕ)). remove ks i) (at_listed (λ k. (node_at t.bytes kind k).keys ≡ (node_at s.bytes kind k).keys) own p c.keys is_p))))
+          (λ other. inr (other, ap (λ (b : List ℕ). (node_of kind b).keys) (stay n is other)
+          ∙ at_listed (λ k. (node_at t.bytes kind k).keys ≡ (node_at s.bytes kind k).keys) own n c.keys is))) own (all_listed own))
+          (nodes W level (root ∷ [])) (levels_of W level (root ∷ []) (let h = c.high in omega (arith, h)) tree.0);
     }
 
 -- the node has no other child and goes: it is the one above that has a child too much
@@ -131,8 +141,9 @@ pub shrink_up : (s t u : Space) (kind : Kind) (root m p : ℕ) (step : Step) (wa
     → AllByRecursion (λ at. IsNode kind (node_bytes u.bytes kind at)) (without p own)
     → AllByRecursion (λ at. 1 ≤ entries_in (node_bytes u.bytes kind at)) (without p own)
     → length u.bytes < 2 ^ 64
+    → AllByRecursion (λ n. (node_at u.bytes kind n).keys ≡ (node_at s.bytes kind n).keys) (without p own)
     → IsShrinking s u kind root (suc m) step.node way step.place list owned (without p own)
-shrink_up s t u kind root m p step way i list owned own c one t' moves formed filled short =
+shrink_up s t u kind root m p step way i list owned own c one t' moves formed filled short keys =
     let V = reading_of t.bytes kind own in
     let W = reading_of u.bytes kind (without p own) in
     let out = undefined_free t kind own c.apart c.short in
@@ -154,15 +165,17 @@ shrink_up s t u kind root m p step way i list owned own c one t' moves formed fi
       apart = apart;
       short = short;
       moves = moves_then s t u (tree_blocks kind owned) (tree_blocks kind own) (tree_blocks kind (without p own)) c.moves moves;
+      keys = keys;
     }
 
 -- the root has no other child: it is at level 0, and the only node
-pub shrink_emptied : (s t u : Space) (kind : Kind) (root m i : ℕ) (list owned own : List ℕ) (keys : List (List ℕ))
+pub shrink_emptied : (s t u : Space) (kind : Kind) (root m i : ℕ) (list owned own : List ℕ)
     → IsShrinking s t kind root m root [] i list owned own
     → length (reading_of t.bytes kind own root).children ≡ 1
-    → IsRewritten t u kind root (record { level = 0; left = undefined; right = undefined; keys = keys; children = [] })
-    → IsChildTaken s u kind root 0 list owned (root ∷ []) × (list ≡ [])
-shrink_emptied s t u kind root m i list owned own keys c one r =
+    → IsRewritten t u kind root (record { level = 0; left = undefined; right = undefined; keys = remove (node_at t.bytes kind root).keys i; children = [] })
+    → IsChildTaken s u kind root 0 root i list owned (root ∷ []) × (list ≡ [])
+shrink_emptied s t u kind root m i list owned own c one r =
+    let keys = remove (node_at t.bytes kind root).keys i in
     let V = reading_of t.bytes kind own in
     let W = reading_of u.bytes kind (root ∷ []) in
     let out = undefined_free t kind own c.apart c.short in
@@ -182,6 +195,8 @@ shrink_emptied s t u kind root m i list owned own keys c one r =
             let b = c.counts w in
             let d = cover_total x kind own in
             omega (arith, a, b, d)));
+        keys = (inl (refl, ap (λ (k : Node). k.keys) r.says
+            ∙ ap (λ (ks : List (List ℕ)). remove ks i) (at_listed (λ k. (node_at t.bytes kind k).keys ≡ (node_at s.bytes kind k).keys) own root c.keys is_root)), tt);
       },
       done.1,
     )

@@ -160,14 +160,14 @@ all_join : (P : ℕ → Type 0) (xs ys : List ℕ) → AllByRecursion P xs → A
 all_join P [] ys a b = b
 all_join P (x ∷ xs) ys a b = (a.0, all_join P xs ys a.1 b)
 
-levels_of : (V : Reading) (level : ℕ) (row : List ℕ) → level < 16 → AreRows V level row → AllByRecursion (λ n. (V n).level < 16) (nodes V level row)
+pub levels_of : (V : Reading) (level : ℕ) (row : List ℕ) → level < 16 → AreRows V level row → AllByRecursion (λ n. (V n).level < 16) (nodes V level row)
 levels_of V zero row low are = levels_of_row V 0 undefined row low are
 levels_of V (suc level) row low are =
     all_join (λ n. (V n).level < 16) row (nodes V level (next_row V row)) (levels_of_row V (suc level) undefined row low are.0)
     (levels_of V level (next_row V row) (omega (arith, low)) are.1)
 
 -- what holds of each owned node holds of those that stand in rows
-in_rows : (f : ℕ → Node) (owned : List ℕ) (P : ℕ → Type 0) → AllByRecursion P owned → (xs : List ℕ) → AllByRecursion (λ n. (only blank f owned n).level < 16) xs → AllByRecursion P xs
+pub in_rows : (f : ℕ → Node) (owned : List ℕ) (P : ℕ → Type 0) → AllByRecursion P owned → (xs : List ℕ) → AllByRecursion (λ n. (only blank f owned n).level < 16) xs → AllByRecursion P xs
 in_rows f owned P all [] low = tt
 in_rows f owned P all (x ∷ xs) low = (at_listed P owned x all (owned_of_level f owned x low.0), in_rows f owned P all xs low.1)
 

@@ -162,8 +162,23 @@ module _ (t t₁ t₂ u : Space) (kind : Kind) (own : List ℕ) (p : ℕ) (apart
       let old = at_listed (λ k. 1 ≤ entries_in (node_bytes t.bytes kind k)) own r filled at in
       omega (arith, count (node_bytes t₂.bytes kind r), count (node_bytes t.bytes kind r), same, old))
 
+  -- and has its keys
+  pub unlink_keys : (n : ℕ) → Listed left n → (node_at u.bytes kind n).keys ≡ (node_at t.bytes kind n).keys
+  unlink_keys n listed =
+      let at = without_listed p n own listed in
+      let not_p = without_other t₂ u kind own p apart₂ is give_p n listed in
+      at_or l n
+      (λ e. subst (λ (k : ℕ). (node_at u.bytes kind k).keys ≡ (node_at t.bytes kind k).keys) (sym e)
+      (let here = subst (Listed own) e at in
+      ap (λ (b : List ℕ). (node_of kind b).keys) (left_bytes here) ∙ ap (λ (k : Node). k.keys) (write_left.written here).says))
+      (λ not_l. at_or r n
+      (λ e. subst (λ (k : ℕ). (node_at u.bytes kind k).keys ≡ (node_at t.bytes kind k).keys) (sym e)
+      (let here = subst (Listed own) e at in
+      ap (λ (b : List ℕ). (node_of kind b).keys) (right_bytes here) ∙ ap (λ (k : Node). k.keys) (write_right.written here).says))
+      (λ not_r. ap (λ (b : List ℕ). (node_of kind b).keys) (others n at not_p not_l not_r)))
+
 -- the neighbour to the left is another node or none; and it is not the neighbour to the right
-left_known : (t : Space) (kind : Kind) (own : List ℕ) (m p : ℕ) (front back : List ℕ) → m < 16 → IsNoNode (reading_of t.bytes kind own) undefined
+pub left_known : (t : Space) (kind : Kind) (own : List ℕ) (m p : ℕ) (front back : List ℕ) → m < 16 → IsNoNode (reading_of t.bytes kind own) undefined
     → IsRow (reading_of t.bytes kind own) m undefined (front ++ p ∷ back) → Listed own p
     → ((node_at t.bytes kind p).left ≡ p → p ≡ undefined) × ((node_at t.bytes kind p).left ≡ (node_at t.bytes kind p).right → (node_at t.bytes kind p).left ≡ undefined)
 left_known t kind own m p front back top out row is =
@@ -214,3 +229,8 @@ shrink_unlink s t t₁ t₂ u kind root m p step way i list owned own c one writ
     (unlink_formed t t₁ t₂ u kind own p c.apart is_p c.formed filled left_far right_far two write_left write_right give_p)
     (unlink_filled t t₁ t₂ u kind own p c.apart is_p c.formed filled left_far right_far two write_left write_right give_p)
     short
+    (all_from (without p own) (λ n. (node_at u.bytes kind n).keys ≡ (node_at s.bytes kind n).keys)
+    (λ n listed.
+    unlink_keys t t₁ t₂ u kind own p c.apart is_p c.formed filled left_far right_far two write_left write_right give_p n listed
+    ∙ at_listed (λ k. (node_at t.bytes kind k).keys ≡ (node_at s.bytes kind k).keys) own n c.keys (without_listed p n own listed))
+    (without p own) (all_listed (without p own)))
