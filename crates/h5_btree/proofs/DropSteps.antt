@@ -124,11 +124,17 @@ shrink_kept s t u kind root m p way i list owned own c more r =
           ∙ sym (c.counts (λ n. holds x n (node_length kind))) ∙ sym (cover_total x kind own)));
       keys = in_rows g own (λ n. LosesKey p i n (node_at s.bytes kind n) (node_at u.bytes kind n))
           (all_from own (λ n. LosesKey p i n (node_at s.bytes kind n) (node_at u.bytes kind n)) (λ n is. at_or p n
-          (λ e. inl (e, subst (λ (k : ℕ). (node_at u.bytes kind k).keys ≡ remove (node_at s.bytes kind k).keys i) (sym e)
-          (ap (λ (k : Node). k.keys) r.says
-          ∙ ap (λ (ks : List (List ℕ)). remove ks i) (at_listed (λ k. (node_at t.bytes kind k).keys ≡ (node_at s.bytes kind k).keys) own p c.keys is_p))))
-          (λ other. inr (other, ap (λ (b : List ℕ). (node_of kind b).keys) (stay n is other)
-          ∙ at_listed (λ k. (node_at t.bytes kind k).keys ≡ (node_at s.bytes kind k).keys) own n c.keys is))) own (all_listed own))
+          (λ e. inl (
+            e,
+            subst (λ (k : ℕ). (node_at u.bytes kind k).keys ≡ remove (node_at s.bytes kind k).keys i) (sym e)
+                (ap (λ (k : Node). k.keys) r.says
+                ∙ ap (λ (ks : List (List ℕ)). remove ks i) (at_listed (λ k. (node_at t.bytes kind k).keys ≡ (node_at s.bytes kind k).keys) own p c.keys is_p)),
+          ))
+          (λ other. inr (
+            other,
+            ap (λ (b : List ℕ). (node_of kind b).keys) (stay n is other)
+                ∙ at_listed (λ k. (node_at t.bytes kind k).keys ≡ (node_at s.bytes kind k).keys) own n c.keys is,
+          ))) own (all_listed own))
           (nodes W level (root ∷ [])) (levels_of W level (root ∷ []) (let h = c.high in omega (arith, h)) tree.0);
     }
 
@@ -195,8 +201,14 @@ shrink_emptied s t u kind root m i list owned own c one r =
             let b = c.counts w in
             let d = cover_total x kind own in
             omega (arith, a, b, d)));
-        keys = (inl (refl, ap (λ (k : Node). k.keys) r.says
-            ∙ ap (λ (ks : List (List ℕ)). remove ks i) (at_listed (λ k. (node_at t.bytes kind k).keys ≡ (node_at s.bytes kind k).keys) own root c.keys is_root)), tt);
+        keys = (
+          inl (
+            refl,
+            ap (λ (k : Node). k.keys) r.says
+                ∙ ap (λ (ks : List (List ℕ)). remove ks i) (at_listed (λ k. (node_at t.bytes kind k).keys ≡ (node_at s.bytes kind k).keys) own root c.keys is_root),
+          ),
+          tt,
+        );
       },
       done.1,
     )

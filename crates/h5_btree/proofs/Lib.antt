@@ -21,4 +21,6 @@ pub mod ClimbSteps
 pub mod DropSteps
 pub mod SplitSteps
 pub mod UnlinkSteps
+pub mod RewriteSteps
+pub mod RemovalSteps
 pub mod RaiseSteps
