@@ -22,5 +22,6 @@ pub mod DropSteps
 pub mod SplitSteps
 pub mod UnlinkSteps
 pub mod RewriteSteps
+pub mod WayInTree
 pub mod RemovalSteps
 pub mod RaiseSteps
