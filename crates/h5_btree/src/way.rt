@@ -95,7 +95,8 @@ pub fn find_way<S: Sought>(image: &[u8], root: u64, sought: &S) -> Result<Option
 /// The way up to a node that is to stand at this level, with children.
 fn way_from<S: Sought>(image: &[u8], at: u64, level: u8, sought: &S) -> Result<Way, NodeFault>
     requires low { level ≤ 15 }
-    ensures leads { IfOk result (IsWayTo (node_at image.now (S.tree_kind sought.now)) (S.behind sought.now) level at) }
+    ensures leads { IfOk result
+        (IsWayTo (node_at image.now (S.tree_kind sought.now)) (S.behind sought.now) level at) }
     ensures levels { IfOk result (λ way. length way ≡ level + 1) }
     ensures refused { IfErr result
         (StopsDescent image.now (S.tree_kind sought.now) (S.behind sought.now) level at) }
