@@ -4,3 +4,4 @@ pub mod OrderLaws
 pub mod EntryOrder
 pub mod StillLaws
 pub mod RemoveLaws
+pub mod AddedStill
