@@ -1,20 +1,23 @@
 -- A heap whose segment and head are written.
-use Rattle.std.proofs.Common.{◌≡◌, ◌≢◌, ℕ, ◌+◌, ◌^◌, ◌%◌, ◌<◌, ◌≤◌, ◌⊎◌, ◌==◌, Bool, true, false, cond, inl, inr, List, [], ◌∷◌, length, drop, refl, sym, ◌∙◌, ap, ap₂, subst, arith}
+use Rattle.std.proofs.Common.{◌≡◌, ◌≢◌, ℕ, ◌+◌, ◌^◌, ◌%◌, ◌<◌, ◌≤◌, ◌⊎◌, ◌==◌, Bool, true, false, cond, zero, suc, inl, inr, List, [], ◌∷◌, length, take, drop, refl, sym, ◌∙◌, ap, ap₂, subst, arith}
 use Rattle.std.proofs.lemmas.List.{get_or-take, get_or-drop}
 use Rattle.std.proofs.lemmas.Bool.Decides.{nat_tests}
 use Rattle.h5_bytes.specs.Bytes.{number_at, byte_at, part, with_part, with_field, little_bytes, undefined}
-use Rattle.h5_bytes.specs.Blocks.{block, Separate, Inside}
+use Rattle.h5_bytes.specs.Blocks.{block, holds, cover, Separate, Inside}
 use Rattle.h5_bytes.specs.declared.Block.{Block}
 use Rattle.h5_bytes.proofs.FieldLaws.{number_at-part, number_at-with_part_other, number_at-with_field}
 use Rattle.h5_bytes.proofs.PartLaws.{length-part, length-with_part, part-with_part_same, part-with_part_other, part-part}
-use Rattle.h5_bytes.proofs.BlockLaws.{apart_of}
+use Rattle.h5_bytes.proofs.BlockLaws.{apart_of, holds_in}
 use Rattle.h5_model.specs.Format.Heap.{IsHeap, heap_header, free_head, segment_size, segment_block, segment_of, heap_blocks}
 use Rattle.h5_space.specs.Space.{Space}
 use Rattle.h5_space.specs.Moves.{Moves}
 use Rattle.h5_space.specs.Lending.{with_bytes_at}
-use Rattle.h5_space.proofs.MovesLaws.{byte-with_part, moves_write, moves_then, moves_same, moves_beside}
+use Rattle.h5_space.proofs.MovesLaws.{part-same, byte-with_part, moves_write, moves_then, moves_same, moves_beside}
 use Rattle.h5_heap.specs.Chain.{free_from, IsChain, HasChain}
 use Rattle.h5_heap.specs.FreeList.{IsFreeList}
+use Rattle.h5_bytes.specs.Texts.{until_zero, text_at}
+use Rattle.h5_model.specs.Format.Heap.{span_of}
+use Rattle.h5_heap.specs.Spans.{IsSpan}
 use Rattle.h5_heap.specs.Released.{Releases}
 use Rattle.h5_heap.specs.Edited.{list_start, first_free, free_blocks, IsStandingHeap, HasReleased}
 use Rattle.h5_heap.proofs.FreeLaws.{StandsFor, from_first}
@@ -184,3 +187,33 @@ module _ (old : Space) (heap : ℕ) (s : IsStandingHeap old.bytes heap) (w : Lis
       (moves_same old one (block place len ∷ block heap 32 ∷ []) (block place len ∷ block heap 32 ∷ []) (heap_blocks old.bytes heap) (heap_blocks old.bytes heap)
       (λ p. omega arith) (λ p. omega arith) (moves_beside old one (block place len ∷ []) (block place len ∷ []) (block heap 32 ∷ []) first))
       (moves_beside one two (block heap 32 ∷ []) (block heap 32 ∷ []) (segment_block old.bytes heap ∷ []) second)
+
+-- ---- texts that stay
+
+until-same : (n : ℕ) (xs ys : List ℕ) → take n ys ≡ take n xs → length (until_zero xs) < n → until_zero ys ≡ until_zero xs
+until-same zero xs ys same short = absurd (omega (arith, short))
+until-same (suc n) [] [] same short = refl
+until-same (suc n) [] (y ∷ ys) same short = absurd (cc)
+until-same (suc n) (x ∷ xs) [] same short = absurd (cc)
+until-same (suc n) (x ∷ xs) (y ∷ ys) same short = go (x == 0) refl short (until-same n xs ys tails) where
+  heads : y ≡ x
+  heads = cc
+
+  tails : take n ys ≡ take n xs
+  tails = cc
+
+  go : (r : Bool) → (x == 0) ≡ r → length (cond r [] (x ∷ until_zero xs)) < suc n → (length (until_zero xs) < n → until_zero ys ≡ until_zero xs)
+      → cond (y == 0) [] (y ∷ until_zero ys) ≡ cond (x == 0) [] (x ∷ until_zero xs)
+  go true is low later = rw (heads, is) refl
+  go false is low later = rw (heads, is) (ap (λ (zs : List ℕ). x ∷ zs) (later (omega arith)))
+
+-- a text whose span shares no byte with the free blocks or with those that were freed is as before
+pub text_kept : (old new : List ℕ) (first first' at len offset : ℕ) → Releases old new first first' at len → IsSpan old offset
+    → ((p : ℕ) → cover p (free_from old first) + (holds p at len + holds p offset (span_of old offset).len) ≤ 1) → text_at new offset ≡ text_at old offset
+unfolding text_at part
+text_kept old new first first' at len offset released span apart =
+    let size = (span_of old offset).len in
+    let same : part offset size new ≡ part offset size old = part-same offset size old new span.within (omega (arith, released.size)) (λ p low high.
+    let here : holds p offset size ≡ 1 = holds_in p offset size low high in
+    released.kept p (omega (arith, apart p, here)) (omega (arith, apart p, here))) in
+    until-same size (drop offset old) (drop offset new) same (grind arith)
