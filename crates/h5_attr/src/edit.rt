@@ -23,7 +23,8 @@ pub fn remove_at(image: &mut Image, messages: &mut Messages, k: usize)
     requires standing { IsStanding image.old.bytes messages.old }
     ensures standing { IsStanding image.new.bytes messages.new }
     ensures removed { (name : List ℕ)
-        → is_attribute_named name (slice_index_or (messages_in image.old.bytes messages.old.list) k nothing) ≡ true
+        → is_attribute_named name
+        (slice_index_or (messages_in image.old.bytes messages.old.list) k nothing) ≡ true
         → (attributes : Attributes)
         → HasAttributes (messages_in image.old.bytes messages.old.list) attributes
         → HasAttributes (messages_in image.new.bytes messages.new.list) (without attributes name) }

@@ -16,10 +16,12 @@ impl Messages {
     pub fn set_links(&self, image: &mut Image, links: u32)
         requires standing { IsStanding image.old.bytes self.now }
         ensures standing { IsStanding image.new.bytes self.now }
-        ensures messages { messages_in image.new.bytes self.now.list ≡ messages_in image.old.bytes self.now.list }
+        ensures messages { messages_in image.new.bytes self.now.list
+            ≡ messages_in image.old.bytes self.now.list }
         ensures count { reference_count (prefix_at image.new.bytes self.now.header) ≡ links }
         ensures moves { Moves image.old image.new self.now.blocks self.now.blocks }
-        ensures room { (image.new.room_bytes ≡ image.old.room_bytes) × (image.new.room_blocks ≡ image.old.room_blocks) }
+        ensures room { (image.new.room_bytes ≡ image.old.room_bytes)
+            × (image.new.room_blocks ≡ image.old.room_blocks) }
     {
         put_u32(image.part_at_mut(self.header(), 16), 4, links);
     }
@@ -32,7 +34,8 @@ impl Messages {
         requires own { (kept_at self.old.list k).kind ≢ 16 }
         requires standing { IsStanding image.old.bytes self.old }
         ensures standing { IsStanding image.new.bytes self.new }
-        ensures messages { messages_in image.new.bytes self.new.list ≡ blanked (messages_in image.old.bytes self.old.list) k }
+        ensures messages { messages_in image.new.bytes self.new.list
+            ≡ blanked (messages_in image.old.bytes self.old.list) k }
         ensures header { self.new.header ≡ self.old.header }
         ensures blocks { self.new.blocks ≡ self.old.blocks }
         ensures room { self.new.room ≡ self.old.room }
@@ -61,9 +64,11 @@ impl Messages {
         requires size { length body.now ≡ (kept_at self.now.list k).size }
         requires standing { IsStanding image.old.bytes self.now }
         ensures standing { IsStanding image.new.bytes self.now }
-        ensures messages { messages_in image.new.bytes self.now.list ≡ with_body (messages_in image.old.bytes self.now.list) k body.now }
+        ensures messages { messages_in image.new.bytes self.now.list
+            ≡ with_body (messages_in image.old.bytes self.now.list) k body.now }
         ensures moves { Moves image.old image.new self.now.blocks self.now.blocks }
-        ensures room { (image.new.room_bytes ≡ image.old.room_bytes) × (image.new.room_blocks ≡ image.old.room_blocks) }
+        ensures room { (image.new.room_bytes ≡ image.old.room_bytes)
+            × (image.new.room_blocks ≡ image.old.room_blocks) }
     {
         let message = self.list()[k];
         image

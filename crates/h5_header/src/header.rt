@@ -115,7 +115,8 @@ impl Messages {
         requires small { (kept_at self.old.list k).at + (kept_at self.old.list k).size < 2 ^ 64 }
         requires room { 1 ≤ self.old.room }
         ensures { self.new ≡ record self.old {
-          list = take k self.old.list ++ (kept_with_nil kind size (kept_at self.old.list k) ++ drop (k + 1) self.old.list);
+          list = take k self.old.list
+              ++ (kept_with_nil kind size (kept_at self.old.list k) ++ drop (k + 1) self.old.list);
           room = self.old.room - 1;
         } }
     {

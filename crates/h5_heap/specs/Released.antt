@@ -19,7 +19,7 @@ pub record IsJoinedRight (free : List Block) (end stop size : ℕ) : Type 0 wher
   pub joined : (end + 16 ≤ stop) ⊎ ((stop ≡ end) × (find (is_sought (BeginsAt end)) free ≡ None))
 
 -- these bytes are in no free block and touch none, and there are too few for one
-pub record IsLeft (free : List Block) (at len : ℕ) : Type 0 where
+pub record IsLeftBeside (free : List Block) (at len : ℕ) : Type 0 where
   pub short : len < 16
   pub before : find (is_sought (EndsAt at)) free ≡ None
   pub behind : find (is_sought (BeginsAt (at + len))) free ≡ None
@@ -29,6 +29,6 @@ pub record IsLeft (free : List Block) (at len : ℕ) : Type 0 where
 pub record Releases (old new : List ℕ) (first first' at len : ℕ) : Type 0 where
   pub chain : HasChain new first'
   pub freed : ((p : ℕ) → cover p (free_from new first') ≡ cover p (free_from old first) + holds p at len)
-      ⊎ (IsLeft (free_from old first) at len × ((p : ℕ) → cover p (free_from new first') ≡ cover p (free_from old first)))
+      ⊎ (IsLeftBeside (free_from old first) at len × ((p : ℕ) → cover p (free_from new first') ≡ cover p (free_from old first)))
   pub kept : (p : ℕ) → cover p (free_from old first) ≡ 0 → holds p at len ≡ 0 → byte_at new p ≡ byte_at old p
   pub size : length new ≡ length old

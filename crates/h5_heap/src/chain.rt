@@ -60,7 +60,8 @@ pub(crate) fn find_free(segment: &[u8], first: u64, sought: Sought) -> Option<Bl
 pub(crate) fn unlink(segment: &mut [u8], first: u64, at: u64) -> u64
     requires chain { HasChain segment.old first }
     requires there { Stands at (free_from segment.old first) }
-    ensures { Relists segment.old segment.new first result (block at (number_at segment.old (at + 8) 8) ∷ []) [] }
+    ensures { Relists segment.old segment.new first result
+        (block at (number_at segment.old (at + 8) 8) ∷ []) [] }
 {
     let next = u64_at(segment, at as usize);
     if first == at {
@@ -148,7 +149,8 @@ fn greatest_below(segment: &[u8], first: u64, at: u64) -> Option<u64>
 fn join_left(segment: &mut [u8], first: u64, at: u64) -> (u64, u64)
     requires chain { HasChain segment.old first }
     requires aligned { at % 8 ≡ 0 }
-    ensures relists { Relists segment.old segment.new first result.0 (block result.1 (at - result.1) ∷ []) [] }
+    ensures relists { Relists segment.old segment.new first result.0
+        (block result.1 (at - result.1) ∷ []) [] }
     ensures joined { IsJoinedLeft (free_from segment.old first) at result.1 }
     ensures same { result.1 ≡ at → (segment.new ≡ segment.old) × (result.0 ≡ first) }
 {

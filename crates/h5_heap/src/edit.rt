@@ -27,9 +27,11 @@ pub fn free(image: &mut Image, heap: u64, offset: u64)
         + holds p offset (span_of (segment_of image.old.bytes heap) offset).len ≤ 1 }
     ensures freed { HasReleased image.old.bytes image.new.bytes heap offset
         (span_of (segment_of image.old.bytes heap) offset).len }
-    ensures moves { Moves image.old image.new (heap_blocks image.old.bytes heap) (heap_blocks image.old.bytes heap) }
+    ensures moves { Moves image.old image.new (heap_blocks image.old.bytes heap)
+        (heap_blocks image.old.bytes heap) }
     ensures free { image.new.free ≡ image.old.free }
-    ensures room { (image.new.room_bytes ≡ image.old.room_bytes) × (image.new.room_blocks ≡ image.old.room_blocks) }
+    ensures room { (image.new.room_bytes ≡ image.old.room_bytes)
+        × (image.new.room_blocks ≡ image.old.room_blocks) }
 {
     let (place, first) = segment_and_list(image, heap);
     let segment = image.part_at_mut(place.at, place.len);
