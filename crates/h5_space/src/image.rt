@@ -83,12 +83,10 @@ impl Image {
     pub fn copy_of(&self, alloc: Global) -> Result<Image, AllocError>
         ensures { IfOk result (λ x. x ≡ record self.now { room_bytes = 0; room_blocks = 0 }) }
     {
-        Ok(Image {
-            bytes: Vec::from_slice(alloc, self.bytes.as_slice())?,
-            free: Vec::from_slice(alloc, self.free.as_slice())?,
-            room_bytes: 0,
-            room_blocks: 0,
-        })
+        let free = Vec::from_slice(alloc, self.free.as_slice())?;
+        let mut copy = Image::new(alloc, Vec::from_slice(alloc, self.bytes.as_slice())?);
+        copy.free = free;
+        Ok(copy)
     }
 
     /// Whether the `len` bytes from place `at` end by the end of the image. Takes no memory.
