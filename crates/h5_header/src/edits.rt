@@ -41,6 +41,8 @@ impl Messages {
         ensures room { self.new.room ≡ self.old.room }
         ensures moves { Moves image.old image.new self.old.blocks self.new.blocks }
         ensures spends { Spends image.old image.new 0 0 }
+        ensures room_kept { (image.new.room_bytes ≡ image.old.room_bytes)
+            × (image.new.room_blocks ≡ image.old.room_blocks) }
     {
         let message = self.list()[k];
         put_u16(image.part_at_mut(message.at - 8, 2), 0, 0);

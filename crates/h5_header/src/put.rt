@@ -91,6 +91,8 @@ impl Messages {
         ensures blocks { self.new.blocks ≡ self.old.blocks }
         ensures moves { Moves image.old image.new self.old.blocks self.new.blocks }
         ensures spends { Spends image.old image.new 0 0 }
+        ensures room_kept { (image.new.room_bytes ≡ image.old.room_bytes)
+            × (image.new.room_blocks ≡ image.old.room_blocks) }
         ensures room { self.new.room + 1 ≡ self.old.room }
     {
         let _bytes = image.bytes();
