@@ -3,3 +3,8 @@ pub mod Opens
 pub mod Made
 pub mod GatherLaws
 pub mod ViewLaws
+pub mod Writes
+pub mod PartWritten
+pub mod PatchLaws
+pub mod KeptLaws
+mod Walks

@@ -29,6 +29,8 @@
 mod edits;
 mod file;
 mod gather;
+mod kept;
+mod patch;
 mod session;
 mod views;
 
@@ -42,4 +44,5 @@ pub use h5_model::{
     OpenFault, Spec, Store, ViewFault, ViewNo,
 };
 pub use h5_space::MAXIMUM_IMAGE;
+pub use kept::Kept;
 pub use session::{Session, Shown};

@@ -1,0 +1,171 @@
+-- Cells written one behind another.
+use Rattle.std.proofs.Common.{◌≡◌, ℕ, zero, suc, ◌+◌, ◌-◌, ◌*◌, ◌^◌, ◌<◌, ◌≤◌, ℤ, List, [], ◌∷◌, ◌++◌, length, take, drop, set, get_or, refl, sym, ap, ◌∙◌, subst, arith}
+use Rattle.std.proofs.lemmas.Grind.{flat_map-append}
+use Rattle.std.proofs.lemmas.List.{take_all}
+use Rattle.std.proofs.Math.Nat.{mul-le-mul_right}
+use Rattle.std.specs.List.{flat_map, range_with_len}
+use Rattle.h5_bytes.specs.Bytes.{with_part}
+use Rattle.h5_model.specs.declared.hyperslab.Axis.{Axis}
+use Rattle.h5_model.specs.Format.Fixed.{Fixed, bytes_of}
+use Rattle.h5_model.specs.Tree.Objects.{Dataset}
+use Rattle.h5_model.specs.Tree.Places.{cells}
+use Rattle.h5_model.specs.Views.Selection.{Slab}
+use Rattle.h5_shape.specs.PartCells.{selection_shape}
+use Rattle.h5_shape.specs.declared.parts.Span.{Span}
+use Rattle.h5_shape.specs.InBox.{AreSpans, IsSpan, number_along}
+use Rattle.h5_file.specs.Patched.{writes_in, with_writes}
+use Rattle.h5_shape.proofs.AxisNumbers.{few_cells}
+
+pub with_writes-append : (t : Fixed) (xs ys : List (ℕ × ℤ)) (bytes : List ℕ) → with_writes t (xs ++ ys) bytes ≡ with_writes t ys (with_writes t xs bytes)
+with_writes-append t [] ys bytes = refl
+with_writes-append t (x ∷ xs) ys bytes = with_writes-append t xs ys (with_part (x.0 * t.size) (bytes_of t x.1) bytes)
+
+-- ---- one position more
+
+range_next : (a n j : ℕ) → a + n ≡ j → range_with_len a (suc n) ≡ range_with_len a n ++ j ∷ []
+range_next a zero j is = ap (λ x. x ∷ []) (omega (arith, is))
+range_next a (suc n) j is = ap (λ xs. a ∷ xs) (range_next (a + 1) n j (omega (arith, is)))
+
+pub one_more : (t : Fixed) (g : ℕ → List (ℕ × ℤ)) (from at : ℕ) (old so_far new : List ℕ) → from ≤ at
+    → so_far ≡ with_writes t (flat_map g (range_with_len from (at - from))) old → new ≡ with_writes t (g at) so_far
+    → new ≡ with_writes t (flat_map g (range_with_len from (at + 1 - from))) old
+one_more t g from at old so_far new low before after =
+    let count : suc (at - from) ≡ at + 1 - from = omega (arith, low) in
+    let list : range_with_len from (at + 1 - from) ≡ range_with_len from (at - from) ++ at ∷ []
+    = ap (range_with_len from) (sym count) ∙ range_next from (at - from) at (omega (arith, low)) in
+    let parts : flat_map g (range_with_len from (at + 1 - from)) ≡ flat_map g (range_with_len from (at - from)) ++ g at
+    = ap (flat_map g) list ∙ flat_map-append g (range_with_len from (at - from)) (at ∷ []) ∙ ap (λ ys. flat_map g (range_with_len from (at - from)) ++ ys) (nil_end (g at)) in
+    after ∙ ap (with_writes t (g at)) before ∙ sym (with_writes-append t (flat_map g (range_with_len from (at - from))) (g at) old) ∙ ap (λ ws. with_writes t ws old) (sym parts)
+  where
+    nil_end : (ws : List (ℕ × ℤ)) → ws ++ [] ≡ ws
+    nil_end [] = refl
+    nil_end (w ∷ ws) = ap (λ xs. w ∷ xs) (nil_end ws)
+
+-- ---- the index so far
+
+front_next : (xs : List ℕ) (k v : ℕ) → k < length xs → take (suc k) (set xs k v) ≡ take k xs ++ v ∷ []
+front_next [] k v there = absurd (omega (arith, there))
+front_next (x ∷ xs) zero v there = refl
+front_next (x ∷ xs) (suc k) v there = ap (λ ys. x ∷ ys) (front_next xs k v (omega (arith, there)))
+
+pub front_more : (xs : List ℕ) (k v : ℕ) → k < length xs → take (k + 1) (set xs k v) ≡ take k xs ++ v ∷ []
+front_more xs k v there = let next : k + 1 ≡ suc k = omega arith in ap (λ n. take n (set xs k v)) next ∙ front_next xs k v there
+
+take_twice : (xs : List ℕ) (k : ℕ) → take k (take (suc k) xs) ≡ take k xs
+take_twice [] zero = refl
+take_twice [] (suc k) = refl
+take_twice (x ∷ xs) zero = refl
+take_twice (x ∷ xs) (suc k) = ap (λ ys. x ∷ ys) (take_twice xs k)
+
+front_same : (xs : List ℕ) (k v : ℕ) → take k (set xs k v) ≡ take k xs
+front_same [] zero v = refl
+front_same [] (suc k) v = refl
+front_same (x ∷ xs) zero v = refl
+front_same (x ∷ xs) (suc k) v = ap (λ ys. x ∷ ys) (front_same xs k v)
+
+pub front_back : (new now old : List ℕ) (k v : ℕ) → take (k + 1) new ≡ take (k + 1) (set now k v) → take k now ≡ take k old → take k new ≡ take k old
+front_back new now old k v is before =
+    let next : k + 1 ≡ suc k = omega arith in
+    let is' : take (suc k) new ≡ take (suc k) (set now k v) = subst (λ n. take n new ≡ take n (set now k v)) next is in
+    sym (take_twice new k) ∙ ap (take k) is' ∙ take_twice (set now k v) k ∙ front_same now k v ∙ before
+
+-- ---- the first axis and its span
+
+pub some_cells : (axes : Slab) (spans : List Span) → AreSpans axes spans → 0 < cells (selection_shape axes)
+some_cells [] spans are = omega arith
+some_cells (a ∷ rest) [] are = absurd are
+some_cells (a ∷ rest) (s ∷ ss) are =
+    let more : 1 ≤ cells (selection_shape rest) = some_cells rest ss are.1 in
+    let one : 1 ≤ a.count * a.block = omega (arith, are.0.some, are.0.inside) in
+    let all : 1 * cells (selection_shape rest) ≤ a.count * a.block * cells (selection_shape rest) = mul-le-mul_right (cells (selection_shape rest)) one in
+    omega (arith, more, all)
+
+module _ (axes : Slab) (spans : List Span) (a : Axis) (s : Span) (there : 1 ≤ length axes) (have : 1 ≤ length spans) (are : AreSpans axes spans) where
+  pub first_span : IsSpan (get_or axes 0 a) (get_or spans 0 s)
+  first_span = first axes spans there have are where
+    first : (axes : Slab) (spans : List Span) → 1 ≤ length axes → 1 ≤ length spans → AreSpans axes spans → IsSpan (get_or axes 0 a) (get_or spans 0 s)
+    first [] spans there have are = absurd (omega (arith, there))
+    first (x ∷ xs) [] there have are = absurd are
+    first (x ∷ xs) (y ∷ ys) there have are = are.0
+
+  pub rest_spans : AreSpans (drop 1 axes) (drop 1 spans)
+  rest_spans = rest axes spans there have are where
+    rest : (axes : Slab) (spans : List Span) → 1 ≤ length axes → 1 ≤ length spans → AreSpans axes spans → AreSpans (drop 1 axes) (drop 1 spans)
+    rest [] spans there have are = absurd (omega (arith, there))
+    rest (x ∷ xs) [] there have are = absurd are
+    rest (x ∷ xs) (y ∷ ys) there have are = are.1
+
+  abbrev width : ℕ
+  width = (get_or axes 0 a).count * (get_or axes 0 a).block
+
+  cells_are : cells (selection_shape axes) ≡ width * cells (selection_shape (drop 1 axes))
+  cells_are = all axes there where
+    all : (axes : Slab) → 1 ≤ length axes → cells (selection_shape axes) ≡ (get_or axes 0 a).count * (get_or axes 0 a).block * cells (selection_shape (drop 1 axes))
+    all [] there = absurd (omega (arith, there))
+    all (x ∷ xs) there = refl
+
+  pub width_low : width < 2 ^ 64
+  width_low =
+      let is = first_span in
+      let some : 0 < (get_or axes 0 a).count = counted (get_or axes 0 a).count (get_or axes 0 a).block (omega (arith, is.some, is.inside)) in
+      few_cells (get_or axes 0 a) is.apart is.top some where
+        counted : (n m : ℕ) → 0 < n * m → 0 < n
+        counted zero m some = absurd (omega (arith, some))
+        counted (suc n) m some = omega arith
+
+  module _ (place t size room : ℕ) (inside : t < width) (fits : (place + 1) * cells (selection_shape axes) * size ≤ room) where
+    pub room_left : (place * width + t + 1) * cells (selection_shape (drop 1 axes)) * size ≤ room
+    room_left =
+        let c = cells (selection_shape (drop 1 axes)) in
+        let grown : (place + 1) * cells (selection_shape axes) ≡ (place + 1) * width * c = ap (λ n. (place + 1) * n) cells_are ∙ omega arith in
+        let less : (place * width + t + 1) * c ≤ (place + 1) * width * c = mul-le-mul_right c (omega (arith, inside)) in
+        let bytes : (place * width + t + 1) * c * size ≤ (place + 1) * width * c * size = mul-le-mul_right size less in
+        let same : (place + 1) * cells (selection_shape axes) * size ≡ (place + 1) * width * c * size = ap (λ n. n * size) grown in
+        omega (arith, bytes, same, fits)
+
+    pub place_low : 1 ≤ size → place * width + t < room
+    place_low sized =
+        let c = cells (selection_shape (drop 1 axes)) in
+        let some : 1 ≤ c = some_cells (drop 1 axes) (drop 1 spans) rest_spans in
+        let p = place * width + t + 1 in
+        let more : p * 1 ≤ p * c = mul-le (p) some in
+        let all : p * c * 1 ≤ p * c * size = mul-le (p * c) sized in
+        omega (arith, more, all, room_left) where
+          mul-le : (n : ℕ) {x y : ℕ} → x ≤ y → n * x ≤ n * y
+          mul-le n {x} {y} h = let right : x * n ≤ y * n = mul-le-mul_right n h in omega (arith, right)
+
+  pub all_writes : (d : Dataset) (place : ℕ) (front : List ℕ) → writes_in d axes spans place front
+      ≡ flat_map (λ u. writes_in d (drop 1 axes) (drop 1 spans) (place * width + u) (front ++ number_along (get_or axes 0 a) u ∷ []))
+      (range_with_len (get_or spans 0 s).from (get_or spans 0 s).length)
+  all_writes d place front = all axes spans there have where
+    all : (axes : Slab) (spans : List Span) → 1 ≤ length axes → 1 ≤ length spans → writes_in d axes spans place front
+        ≡ flat_map (λ u. writes_in d (drop 1 axes) (drop 1 spans) (place * ((get_or axes 0 a).count * (get_or axes 0 a).block) + u) (front ++ number_along (get_or axes 0 a) u ∷ []))
+        (range_with_len (get_or spans 0 s).from (get_or spans 0 s).length)
+    all [] spans there have = absurd (omega (arith, there))
+    all (x ∷ xs) [] there have = absurd (omega (arith, have))
+    all (x ∷ xs) (y ∷ ys) there have = refl
+
+-- ---- what is left behind the first
+
+tail : {X : Type 0} (xs : List X) → take (length xs - 1) (drop 1 xs) ≡ drop 1 xs
+tail [] = refl
+tail (x ∷ xs) = let less : length (x ∷ xs) - 1 ≡ length xs = omega arith in ap (λ n. take n xs) less ∙ take_all (length xs) xs (omega arith)
+
+pub length-tail : {X : Type 0} (xs : List X) → length (take (length xs - 1) (drop 1 xs)) ≡ length xs - 1
+length-tail [] = refl
+length-tail (x ∷ xs) = ap length (tail (x ∷ xs)) ∙ omega arith
+
+module _ (axes : Slab) (spans : List Span) (a : Axis) (s : Span) (there : 1 ≤ length axes) (have : 1 ≤ length spans) (are : AreSpans axes spans) where
+  pub spans_left : AreSpans (take (length axes - 1) (drop 1 axes)) (take (length spans - 1) (drop 1 spans))
+  spans_left = rw (tail axes, tail spans) (rest_spans axes spans a s there have are)
+
+  pub room_behind : (place t size room : ℕ) → t < (get_or axes 0 a).count * (get_or axes 0 a).block → (place + 1) * cells (selection_shape axes) * size ≤ room
+      → (place * ((get_or axes 0 a).count * (get_or axes 0 a).block) + t + 1) * cells (selection_shape (take (length axes - 1) (drop 1 axes))) * size ≤ room
+  room_behind place t size room inside fits = rw (tail axes) (room_left axes spans a s there have are place t size room inside fits)
+
+  pub writes_behind : (d : Dataset) (place : ℕ) (front : List ℕ) → writes_in d axes spans place front
+      ≡ flat_map (λ u. writes_in d (take (length axes - 1) (drop 1 axes)) (take (length spans - 1) (drop 1 spans)) (place * ((get_or axes 0 a).count * (get_or axes 0 a).block) + u) (front ++ number_along (get_or axes 0 a) u ∷ []))
+      (range_with_len (get_or spans 0 s).from (get_or spans 0 s).length)
+  writes_behind d place front = all_writes axes spans a s there have are d place front
+      ∙ (λ i. flat_map (λ u. writes_in d (sym (tail axes) i) (sym (tail spans) i) (place * ((get_or axes 0 a).count * (get_or axes 0 a).block) + u) (front ++ number_along (get_or axes 0 a) u ∷ []))
+      (range_with_len (get_or spans 0 s).from (get_or spans 0 s).length))
