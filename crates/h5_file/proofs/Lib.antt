@@ -7,4 +7,6 @@ pub mod Writes
 pub mod PartWritten
 pub mod PatchLaws
 pub mod KeptLaws
+pub mod EditedArrays
+pub mod Refreshed
 mod Walks

@@ -1,7 +1,7 @@
 -- Kept cells of which some are set to an array's (File Format Specification 3.0, section III.A.1, chunked raw data; HDF5 dataspace
 -- reference, H5Sselect_hyperslab).
 use Rattle.std.specs.Prelude.{◌≡◌, ℕ, ◌+◌, ◌*◌, ◌≢◌, ℤ, List, [], ◌∷◌, ◌++◌, length}
-use Rattle.std.specs.List.{flat_map, range_with_len}
+use Rattle.std.specs.List.{AllByRecursion, Contains, flat_map, range_with_len}
 use Rattle.h5_bytes.specs.Bytes.{part, with_part}
 use Rattle.h5_model.specs.Edits.Applied.{cell_or_fill}
 use Rattle.h5_model.specs.Format.Fixed.{Fixed, bytes_of}
@@ -9,7 +9,7 @@ use Rattle.h5_model.specs.Tree.Grid.{corner_of}
 use Rattle.h5_model.specs.Tree.Objects.{Dataset}
 use Rattle.h5_model.specs.Tree.Places.{IsInside, place_of}
 use Rattle.h5_model.specs.Views.Selection.{Slab, selected_cells}
-use Rattle.h5_shape.specs.InBox.{number_along}
+use Rattle.h5_shape.specs.InBox.{IsCorner, number_along}
 use Rattle.h5_shape.specs.PartCells.{selection_shape, selected_index}
 use Rattle.h5_shape.specs.declared.parts.Span.{Span}
 
@@ -38,6 +38,18 @@ pub record IsPatched (d : Dataset) (slab : Slab) (corner box old new : List ℕ)
       → kept_cell slab d.fixed.size new at ≡ bytes_of d.fixed (cell_or_fill d (selected_index slab at))
   pub outside : (at : List ℕ) → IsInside (selection_shape slab) at → corner_of box (selected_index slab at) ≢ corner
       → kept_cell slab d.fixed.size new at ≡ kept_cell slab d.fixed.size old at
+
+-- the same of several boxes
+pub record ArePatched (d : Dataset) (slab : Slab) (corners : List (List ℕ)) (box old new : List ℕ) : Type 0 where
+  pub long : length new ≡ length old
+  pub inside : (at : List ℕ) → IsInside (selection_shape slab) at → Contains corners (corner_of box (selected_index slab at))
+      → kept_cell slab d.fixed.size new at ≡ bytes_of d.fixed (cell_or_fill d (selected_index slab at))
+  pub outside : (at : List ℕ) → IsInside (selection_shape slab) at → (Contains corners (corner_of box (selected_index slab at)) → ⊥)
+      → kept_cell slab d.fixed.size new at ≡ kept_cell slab d.fixed.size old at
+
+-- first indexes of boxes of a grid in as many dimensions as the selection has
+abbrev pub AreCorners : Slab → List ℕ → List (List ℕ) → Type 0
+AreCorners slab box corners = AllByRecursion (λ corner. (length corner ≡ length slab) × IsCorner box corner) corners
 
 -- each kept cell is the array's, the fill outside its sizes
 pub record AreKeptCells (d : Dataset) (slab : Slab) (bytes : List ℕ) : Type 0 where

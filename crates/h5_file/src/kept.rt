@@ -1,22 +1,22 @@
 //! Selected cells of an array as kept bytes.
 
-ghost use Rattle.std.specs.Prelude.{◌≡◌, ◌+◌, ◌*◌, ◌≤◌, IfOk, length};
+ghost use Rattle.std.specs.Prelude.{◌≡◌, ◌+◌, ◌*◌, ◌^◌, ◌<◌, ◌≤◌, IfOk, length};
 ghost use Rattle.h5_model.specs.Tree.Sound.{IsDataset};
 ghost use Rattle.h5_model.specs.Views.Selection.{selected_cells};
 ghost use Rattle.h5_model.specs.Views.Shown.{selected_values};
 ghost use Rattle.h5_model.specs.Format.Plain.{cells_bytes};
 ghost use Rattle.h5_edit.specs.Selected.{IsSlabOf};
 ghost use Rattle.h5_shape.specs.InBox.{AreApart, IsCorner};
-ghost use Rattle.h5_file.specs.Patched.{IsPatched};
+ghost use Rattle.h5_file.specs.Patched.{AreCorners, ArePatched, IsPatched};
 
 mod count;
 
 use crate::gather::gather;
 use crate::patch::patch_from;
 use count::Count;
-use h5_edit::{MAX_RANK, Slab, StoredArray};
+use h5_edit::{Dims, MAX_RANK, Slab, StoredArray};
 use h5_model::Axis;
-use h5_shape::{Span, spans_in};
+use h5_shape::{MetBoxes, Span, spans_in};
 use std::alloc::{AllocError, Global};
 use std::marker::Model;
 
@@ -83,6 +83,34 @@ impl Kept {
     {
         patch_bytes(array, slab, corner, sizes, &mut self.bytes);
         self.patches = self.patches.next();
+    }
+
+    /// Patches several boxes of the array's grid, and says how many.
+    ///
+    /// That the bytes are of this selection and of this array's type, and that these are boxes of its grid, are the caller's conditions.
+    pub fn patch_boxes(
+        &mut self,
+        array: &StoredArray<'_>,
+        slab: &Slab,
+        grid: &Dims,
+        boxes: MetBoxes<'_>,
+    ) -> u64
+        requires sound { IsDataset array.now }
+        requires rank { length slab.now ≡ length array.now.sizes }
+        requires apart { AreApart slab.now }
+        requires corners { AreCorners slab.now grid.now boxes }
+        requires few { length boxes < 2 ^ 64 }
+        requires room { length self.old.bytes ≡ selected_cells slab.now * array.now.fixed.size }
+        ensures count { result ≡ length boxes.entry }
+        ensures bytes { ArePatched array.now slab.now boxes.entry grid.now self.old.bytes self.new.bytes }
+        ensures patches { self.new.patches ≡ self.old.patches + length boxes.entry }
+    {
+        let mut count = 0;
+        for corner in boxes {
+            self.patch(array, slab, corner.sizes(), grid.sizes());
+            count += 1;
+        }
+        count
     }
 }
 

@@ -1,0 +1,201 @@
+-- Kept cells of which all boxes are patched that an edit and the selection both meet are the array's again.
+use Rattle.std.proofs.Common.{◌≡◌, ◌≢◌, ◌⊎◌, ℕ, suc, ◌+◌, ◌-◌, ◌*◌, ◌/◌, ◌<◌, ◌≤◌, ◌&&◌, inl, inr, Bool, true, false, cond, List, [], ◌∷◌, ◌++◌, length, refl, sym, ap, ◌∙◌, subst, arith}
+use Rattle.std.proofs.lemmas.Bool.{cases_order}
+use Rattle.std.proofs.Math.Nat.{mul-le-mul_left, mul-le-mul_right}
+use Rattle.std.proofs.lemmas.List.FromFn.{length-map-range_with_len}
+use Rattle.std.proofs.lemmas.Nat.{div-mul-add, div_below}
+use Rattle.std.specs.List.{Contains, filter}
+use Rattle.h5_model.specs.Edits.Applied.{cell_or_fill}
+use Rattle.h5_model.specs.Format.Fixed.{Fixed, bytes_of}
+use Rattle.h5_model.specs.Tree.Grid.{boxes_along, boxes_of, corner_of, grid_of, some_in_box}
+use Rattle.h5_model.specs.Tree.Objects.{Dataset}
+use Rattle.h5_model.specs.Tree.Places.{IsInside, cells, index_of, is_inside}
+use Rattle.h5_model.specs.Views.Selection.{Slab, is_selected, selected_cells}
+use Rattle.h5_model.specs.Views.Shown.{is_touched, met_boxes}
+use Rattle.h5_model.specs.declared.edits.Edit.{Edit}
+use Rattle.h5_model.specs.declared.edits.Edit.TheVariants.{CreateGroup, CreateDataset, HardLink, SoftLink, Unlink, SetAttr, RemoveAttr, Write, Resize}
+use Rattle.h5_model.proofs.SelectionLaws.{to_is_selected}
+use Rattle.h5_model.proofs.WithinLaws.{both}
+use Rattle.h5_shape.specs.InBox.{IsCorner}
+use Rattle.h5_shape.specs.MetFirsts.{met_firsts}
+use Rattle.h5_shape.specs.PartCells.{selection_shape, selected_index}
+use Rattle.h5_shape.proofs.GridBoxes.{factors}
+use Rattle.h5_shape.proofs.Members.{In, all_in, contains_in, in_contains}
+use Rattle.h5_shape.proofs.MetLaws.{held_met, met_held}
+use Rattle.h5_shape.proofs.PositionLaws.{position-selected}
+use Rattle.h5_file.specs.Patched.{AreCorners, AreKeptCells, ArePatched, IsPatched, kept_cell}
+use Rattle.h5_file.proofs.EditedArrays.{change_of, untouched_cell}
+
+-- ---- members
+
+pub same_or_not : (xs ys : List ℕ) → (xs ≡ ys) ⊎ (xs ≢ ys)
+same_or_not [] [] = inl refl
+same_or_not [] (y ∷ ys) = inr (λ e. let wrong : [] ≡ y ∷ ys = e in cc)
+same_or_not (x ∷ xs) [] = inr (λ e. let wrong : x ∷ xs ≡ [] = e in cc)
+same_or_not (x ∷ xs) (y ∷ ys) = elim (cases_order x y) [
+  | inl equal ↦ elim (same_or_not xs ys) [
+    | inl rest ↦ inl (λ i. equal i ∷ rest i)
+    | inr other ↦ inr (λ e. other (let tails : xs ≡ ys = let whole : x ∷ xs ≡ y ∷ ys = e in cc in tails))
+  ]
+  | inr other ↦ inr (λ e. let heads : x ≡ y = let whole : x ∷ xs ≡ y ∷ ys = e in cc in elim other [ inl less ↦ omega (arith, heads, less) | inr more ↦ omega (arith, heads, more) ])
+]
+
+pub in_or_not : (x : List ℕ) (xs : List (List ℕ)) → In x xs ⊎ (In x xs → ⊥)
+in_or_not x [] = inr (λ at. at)
+in_or_not x (y ∷ ys) = elim (same_or_not y x) [
+  | inl equal ↦ inl (inl equal)
+  | inr other ↦ elim (in_or_not x ys) [
+    | inl there ↦ inl (inr there)
+    | inr none ↦ inr (λ at. elim at [ inl equal ↦ other equal | inr there ↦ none there ])
+  ]
+]
+
+in_more : (x c : List ℕ) (done : List (List ℕ)) → In x (done ++ c ∷ []) → In x done ⊎ (c ≡ x)
+in_more x c [] (inl equal) = inr equal
+in_more x c [] (inr none) = absurd none
+in_more x c (d ∷ done) (inl equal) = inl (inl equal)
+in_more x c (d ∷ done) (inr there) = elim (in_more x c done there) [ inl before ↦ inl (inr before) | inr last ↦ inr last ]
+
+in_front : (x c : List ℕ) (done : List (List ℕ)) → In x done → In x (done ++ c ∷ [])
+in_front x c [] at = absurd at
+in_front x c (d ∷ done) (inl equal) = inl equal
+in_front x c (d ∷ done) (inr there) = inr (in_front x c done there)
+
+in_last : (c : List ℕ) (done : List (List ℕ)) → In c (done ++ c ∷ [])
+in_last c [] = inl refl
+in_last c (d ∷ done) = inr (in_last c done)
+
+-- ---- one box more
+
+module _ (d : Dataset) (slab : Slab) (box : List ℕ) where
+  pub none_patched : (bytes : List ℕ) → ArePatched d slab [] box bytes bytes
+  none_patched bytes = record {
+    long = refl;
+    inside = λ at inside there. absurd (in_contains (corner_of box (selected_index slab at)) [] there);
+    outside = λ at inside none. refl;
+  }
+
+  pub one_patched : (done : List (List ℕ)) (corner old mid new : List ℕ) → ArePatched d slab done box old mid → IsPatched d slab corner box mid new → ArePatched d slab (done ++ corner ∷ []) box old new
+  one_patched done corner old mid new before step = record {
+    long = step.long ∙ before.long;
+    inside = λ at inside there.
+        let c = corner_of box (selected_index slab at) in
+        elim (same_or_not c corner) [
+          | inl equal ↦ step.inside at inside equal
+          | inr other ↦ step.outside at inside other ∙ before.inside at inside (contains_in c done
+              (elim (in_more c corner done (in_contains c (done ++ corner ∷ []) there)) [ inl first ↦ first | inr last ↦ absurd (other (sym last)) ]))
+        ];
+    outside = λ at inside none.
+        let c = corner_of box (selected_index slab at) in
+        step.outside at inside (λ equal. none (subst (λ x. Contains (done ++ corner ∷ []) x) (sym equal) (contains_in corner (done ++ corner ∷ []) (in_last corner done))))
+        ∙ before.outside at inside (λ there. none (contains_in c (done ++ corner ∷ []) (in_front c corner done (in_contains c done there))));
+  }
+
+-- ---- an edit
+
+touched_inside : (edit : Edit) (sizes index : List ℕ) → is_touched edit sizes index ≡ true → is_inside sizes index ≡ true
+touched_inside (Write path hyper values) sizes index h = (both (is_inside sizes index) _ h).0
+touched_inside (Resize path dims) sizes index h = (both (is_inside sizes index) _ h).0
+touched_inside (CreateGroup path) sizes index h = let wrong : false ≡ true = h in absurd (cc)
+touched_inside (CreateDataset path spec) sizes index h = let wrong : false ≡ true = h in absurd (cc)
+touched_inside (HardLink target path) sizes index h = let wrong : false ≡ true = h in absurd (cc)
+touched_inside (SoftLink text path) sizes index h = let wrong : false ≡ true = h in absurd (cc)
+touched_inside (Unlink path) sizes index h = let wrong : false ≡ true = h in absurd (cc)
+touched_inside (SetAttr path attr) sizes index h = let wrong : false ≡ true = h in absurd (cc)
+touched_inside (RemoveAttr path name) sizes index h = let wrong : false ≡ true = h in absurd (cc)
+
+length-selected_index : (slab : Slab) (at : List ℕ) → IsInside (selection_shape slab) at → length (selected_index slab at) ≡ length slab
+length-selected_index [] [] inside = refl
+length-selected_index [] (t ∷ ts) inside = absurd inside
+length-selected_index (a ∷ rest) [] inside = absurd inside
+length-selected_index (a ∷ rest) (t ∷ ts) inside = ap suc (length-selected_index rest ts inside.1)
+
+-- whatever an array becomes, of the type that it had
+module _ (edit : Edit) (old new : Dataset) (slab : Slab) (box before after : List ℕ) (is : new ≡ change_of edit old) (type_is : new.fixed ≡ old.fixed)
+    (rank : length box ≡ length old.sizes) (axes : length slab ≡ length old.sizes) (some : 0 < cells box) (kept : AreKeptCells old slab before)
+    (patched : ArePatched new slab (met_firsts old.sizes box (is_touched edit old.sizes) slab) box before after) where
+  abbrev firsts : List (List ℕ)
+  firsts = met_firsts old.sizes box (is_touched edit old.sizes) slab
+
+  module _ (at : List ℕ) (inside : IsInside (selection_shape slab) at) where
+    abbrev index : List ℕ
+    index = selected_index slab at
+
+    held : is_touched edit old.sizes index ≡ true → In (corner_of box index) firsts
+    held touched =
+        let long : length index ≡ length box = length-selected_index slab at inside ∙ axes ∙ sym rank in
+        held_met old.sizes box (is_touched edit old.sizes) slab rank some (corner_of box index) (touched_inside edit old.sizes)
+        (record { index = index; long = long; corner = refl; passes = touched })
+        (record { index = index; long = long; corner = refl; passes = to_is_selected slab index (position-selected slab at inside) })
+
+    untouched : is_touched edit old.sizes index ≡ false → (In (corner_of box index) firsts → ⊥) → kept_cell slab new.fixed.size after at ≡ bytes_of new.fixed (cell_or_fill new index)
+    untouched other none =
+        let same : cell_or_fill old index ≡ cell_or_fill new index = sym (ap (λ (d : Dataset). cell_or_fill d index) is ∙ untouched_cell edit old index other) in
+        patched.outside at inside (λ there. none (in_contains (corner_of box index) firsts there))
+        ∙ ap (λ (t : Fixed). kept_cell slab t.size before at) type_is ∙ kept.each at inside
+        ∙ (λ i. bytes_of (sym type_is i) (same i))
+
+    value_after : kept_cell slab new.fixed.size after at ≡ bytes_of new.fixed (cell_or_fill new index)
+    value_after = elim (in_or_not (corner_of box index) firsts) [
+      | inl there ↦ patched.inside at inside (contains_in (corner_of box index) firsts there)
+      | inr none ↦ by_test (is_touched edit old.sizes index) refl none
+    ] where
+      by_test : (b : Bool) → is_touched edit old.sizes index ≡ b → (In (corner_of box index) firsts → ⊥) → kept_cell slab new.fixed.size after at ≡ bytes_of new.fixed (cell_or_fill new index)
+      by_test true touched none = absurd (none (held touched))
+      by_test false other none = untouched other none
+
+  pub kept_refreshed : AreKeptCells new slab after
+  kept_refreshed = record {
+    long = patched.long ∙ kept.long ∙ ap (λ (t : Fixed). selected_cells slab * t.size) (sym type_is);
+    each = value_after;
+  }
+
+-- ---- the boxes that are met are boxes of the grid, and few
+
+corner_is : (box index : List ℕ) → 0 < cells box → length index ≡ length box → IsCorner box (corner_of box index) × (length (corner_of box index) ≡ length box)
+corner_is [] index some long = (tt, refl)
+corner_is (b ∷ bs) [] some long = absurd (omega (arith, long))
+corner_is (b ∷ bs) (i ∷ is) some long =
+    let sizes = factors b (cells bs) some in
+    let more = corner_is bs is sizes.1 (omega (arith, long)) in
+    let none : i / b * b + 0 ≡ i / b * b = omega arith in
+    let back : i / b * b / b ≡ i / b = ap (λ n. n / b) (sym none) ∙ div-mul-add (i / b) b 0 sizes.0 in
+    (((sizes.0, ap (λ n. n * b) back), more.0), ap suc more.1)
+
+module _ (sizes box : List ℕ) (touched : List ℕ → Bool) (slab : Slab) (rank : length box ≡ length sizes) (some : 0 < cells box) where
+  pub corners_met : length slab ≡ length sizes → AreCorners slab box (met_firsts sizes box touched slab)
+  corners_met axes = all_in (λ corner. (length corner ≡ length slab) × IsCorner box corner) (met_firsts sizes box touched slab) (λ first at.
+      let held = (met_held sizes box touched slab rank some first at).0 in
+      let is = corner_is box held.index some held.long in
+      subst (λ (c : List ℕ). (length c ≡ length slab) × IsCorner box c) held.corner (is.1 ∙ rank ∙ sym axes, is.0))
+
+few_along : (d b : ℕ) → 0 < b → boxes_along d b ≤ d
+few_along d b some =
+    let rows : d * 1 ≤ d * b = mul-le-mul_left d some in
+    let low : d + b - 1 < (d + 1) * b = omega (arith, rows, some) in
+    let below : (d + b - 1) / b < d + 1 = div_below (d + b - 1) b (d + 1) some low in
+    omega (arith, below)
+
+few_boxes : (sizes box : List ℕ) → length box ≡ length sizes → 0 < cells box → cells (grid_of sizes box) ≤ cells sizes
+few_boxes [] [] rank some = omega arith
+few_boxes [] (b ∷ bs) rank some = absurd (omega (arith, rank))
+few_boxes (d ∷ ds) [] rank some = absurd (omega (arith, rank))
+few_boxes (d ∷ ds) (b ∷ bs) rank some =
+    let parts = factors b (cells bs) some in
+    let one : boxes_along d b * cells (grid_of ds bs) ≤ d * cells (grid_of ds bs) = mul-le-mul_right (cells (grid_of ds bs)) (few_along d b parts.0) in
+    let two : d * cells (grid_of ds bs) ≤ d * cells ds = mul-le-mul_left d (few_boxes ds bs (omega (arith, rank)) parts.1) in
+    omega (arith, one, two)
+
+fewer : {X : Type 0} (test : X → Bool) (xs : List X) → length (filter test xs) ≤ length xs
+fewer test [] = omega arith
+fewer test (x ∷ xs) = by_test (test x) (fewer test xs) where
+  by_test : (b : Bool) → length (filter test xs) ≤ length xs → length (cond b (x ∷ filter test xs) (filter test xs)) ≤ length (x ∷ xs)
+  by_test true less = omega (arith, less)
+  by_test false less = omega (arith, less)
+
+pub few_met : (sizes box : List ℕ) (touched : List ℕ → Bool) (slab : Slab) → length box ≡ length sizes → 0 < cells box → length (met_boxes sizes box touched slab) ≤ cells sizes
+unfolding met_boxes
+few_met sizes box touched slab rank some =
+    let all : length (boxes_of sizes box) ≡ cells (grid_of sizes box) = length-map-range_with_len (index_of (grid_of sizes box)) 0 (cells (grid_of sizes box)) in
+    let less = fewer (λ at. some_in_box box touched at && some_in_box box (is_selected slab) at) (boxes_of sizes box) in
+    omega (arith, less, all, few_boxes sizes box rank some)
