@@ -29,6 +29,8 @@ pub mod TouchedBlocks
 pub mod OneRemade
 pub mod SlotEdits
 pub mod ObjectMade
+pub mod StillTold
+pub mod AttributeOpened
 pub mod ChangedThen
 pub mod UntouchedKept
 pub mod PlacedLaws
