@@ -31,6 +31,7 @@ pub mod SlotEdits
 pub mod ObjectMade
 pub mod StillTold
 pub mod AttributeOpened
+pub mod AttributeEdits
 pub mod ChangedThen
 pub mod UntouchedKept
 pub mod PlacedLaws
