@@ -19,3 +19,12 @@ fn takes_and_gives_in_reserved_room(rt: HostRuntime) -> Result<(), Fail> {
     assert!(rt; image.into_bytes().len() == 24);
     Ok(())
 }
+
+#[test]
+fn copies_an_image(rt: HostRuntime) -> Result<(), Fail> {
+    let bytes = Vec::from_slice(rt.alloc(), &[7, 8, 9])?;
+    let image = Image::new(rt.alloc(), bytes);
+    let copy = image.copy_of(rt.alloc())?;
+    assert!(rt; copy.bytes() == [7, 8, 9].as_slice());
+    Ok(())
+}
