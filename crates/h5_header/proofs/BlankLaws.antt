@@ -8,14 +8,14 @@ use Rattle.h5_bytes.proofs.BlockLaws.{all_append, all_left, all_right, holds-inn
 use Rattle.h5_bytes.proofs.PartLaws.{length-part, length-with_part, part-with_part_other}
 use Rattle.h5_bytes.proofs.FieldLaws.{number_at-with_field, number_at-with_part_other}
 use Rattle.h5_space.proofs.MovesLaws.{byte-with_part}
-use Rattle.h5_model.specs.Format.Messages.{Message, IsMessage, HasMessages}
+use Rattle.h5_model.specs.Format.Messages.{Message, IsMessage, HasMessages, prefix_at, reference_count}
 use Rattle.h5_header.specs.Listed.{Listed, message_in, messages_in, IsWithin}
 use Rattle.h5_header.specs.Standing.{IsStanding, kept_at, nowhere, blanked, none}
 use Rattle.h5_header.specs.declared.message.Message.{Message as Placed}
 use Rattle.h5_header.proofs.MetLaws.{continuation_cases}
 use Rattle.h5_header.proofs.CutLaws.{IsCut, cut_by_place}
 use Rattle.h5_header.proofs.StretchLaws.{Follow, IsHeaded, message_long}
-use Rattle.h5_header.proofs.RewriteLaws.{same_messages, headed, message_rewritten, stretch_covered, front_stays, back_stays, same_length}
+use Rattle.h5_header.proofs.RewriteLaws.{same_messages, headed, message_rewritten, stretch_covered, prefix_stays, front_stays, back_stays, same_length}
 
 -- ---- a message whose type is written
 
@@ -158,3 +158,6 @@ module _ (old : List ℕ) (m : Listed) (is : IsStanding old m) (k : ℕ) (low : 
     stretch_covered old m is front (message_in old x) back cut_messages p,
     holds-inner p (x.at - 8) (length (little_bytes 2 0)) (x.at - 8) (8 + length (message_in old x).body) (omega arith) high,
   )
+
+  pub blank_count : reference_count (prefix_at new m.header) ≡ reference_count (prefix_at old m.header)
+  blank_count = ap reference_count (prefix_stays old m is front (message_in old x) back cut_messages (little_bytes 2 0) (x.at - 8) (omega arith) high)

@@ -15,21 +15,22 @@ use Rattle.h5_space.specs.Moves.{Moves}
 use Rattle.h5_space.specs.Space.{Space}
 use Rattle.h5_space.specs.Whole.{IsApart}
 use Rattle.h5_space.proofs.MovesLaws.{byte-with_part, moves_apart, moves_beside, moves_kept, moves_same, moves_then}
-use Rattle.h5_model.specs.Format.Messages.{Message, Fills, IsContinued, HasMessages, continuation, continuations, first_block, first_size, prefix_at, total_in}
+use Rattle.h5_model.specs.Format.Messages.{Message, Fills, IsContinued, HasMessages, continuation, continuations, first_block, first_size, prefix_at, reference_count, total_in}
 use Rattle.h5_model.specs.Format.Addresses.{continuation_of}
 use Rattle.h5_model.specs.Format.Plain.{messages_bytes}
+use Rattle.h5_model.proofs.Frames.{front-same}
 use Rattle.h5_model.proofs.PlainMessages.{IsPlain, messages_from, fills-plain, length-messages_from}
 use Rattle.h5_header.specs.Listed.{Listed, message_in, messages_in, IsWithin}
 use Rattle.h5_header.specs.Added.{IsPutInBlock}
 use Rattle.h5_header.specs.Standing.{IsStanding, kept_at, nowhere}
 use Rattle.h5_header.specs.declared.message.Message.{Message as Placed}
-use Rattle.h5_header.proofs.PrefixLaws.{first_size-is, total-is, version-is}
+use Rattle.h5_header.proofs.PrefixLaws.{first_size-is, reference_count-is, total-is, version-is}
 use Rattle.h5_header.proofs.MetLaws.{continuation_cases}
 use Rattle.h5_header.proofs.KeptLaws.{header-same, listed-same}
 use Rattle.h5_header.proofs.CutLaws.{IsCut, cut_by_place}
 use Rattle.h5_header.proofs.StretchLaws.{all_of, stretch, Follow, IsHeaded, follow_headed, follow_kept, follow_of, stretches_inside}
 use Rattle.h5_header.proofs.BesideLaws.{kept_beside, moves_covered}
-use Rattle.h5_header.proofs.BodyWrites.{behind_head, body_covered, body_inside, said_now, still_standing}
+use Rattle.h5_header.proofs.BodyWrites.{behind_head, body_covered, body_inside, said_now, still_standing, prefix_stays as body_prefix}
 use Rattle.h5_header.proofs.RewriteLaws.{first_inside, named_inside, same_messages, headed, laid_inside, beside, prefix_stays, front_stays, back_stays, stretch_covered}
 use Rattle.h5_header.proofs.BlankLaws.{kind_stands}
 use Rattle.h5_header.proofs.PlacedLaws.{placed, placed_back, placed_within, no_names, no_continuation, keeps_then}
@@ -52,6 +53,13 @@ standing_kept old new m grown is kept = record {
   within_more : (xs : List Placed) → IsWithin (length old) xs → IsWithin (length new) xs
   within_more [] low = tt
   within_more (x ∷ xs) low = (omega (arith, grown, low.0), within_more xs low.1)
+
+-- and its reference count stays
+pub count_kept : (old new : List ℕ) (m : Listed) → IsStanding old m → Keeps old new m.blocks
+    → reference_count (prefix_at new m.header) ≡ reference_count (prefix_at old m.header)
+count_kept old new m is kept =
+    let laid : Keeps old new (block m.header (16 + first_size (prefix_at old m.header)) ∷ continuations (messages_in old m.list)) = subst (Keeps old new) (is.has).laid kept in
+    ap reference_count (front-same old new m.header (16 + first_size (prefix_at old m.header)) 16 (omega arith) laid.0)
 
 -- ---- parts of lists that are the same
 
@@ -126,7 +134,7 @@ module _ (old : List ℕ) (m : Listed) (is : IsStanding old m) (k : ℕ) (low : 
   x_head : 8 ≤ x.at
   x_head = behind_head one m is_one cut.front x cut.back cut.whole
 
-  two_long : length two ≡ length old
+  pub two_long : length two ≡ length old
   two_long = length-with_part x.at name one (omega (arith, sixteen, wide, x_inside)) ∙ one_long
 
   pub is_two : IsStanding two m
@@ -161,7 +169,7 @@ module _ (old : List ℕ) (m : Listed) (is : IsStanding old m) (k : ℕ) (low : 
   two_bytes : length kind_bytes ≡ 2
   two_bytes = refl
 
-  three_long : length three ≡ length old
+  pub three_long : length three ≡ length old
   three_long = length-with_part at kind_bytes two (omega (arith, two_bytes, x_inside, x_head, two_long, one_long)) ∙ two_long
 
   high : at + length kind_bytes ≤ at + (8 + length (message_in two x).body)
@@ -190,13 +198,13 @@ module _ (old : List ℕ) (m : Listed) (is : IsStanding old m) (k : ℕ) (low : 
   abbrev pub four : List ℕ
   four = with_part (m.header + 2) coded three
 
-  header_room : m.header + 16 ≤ length old
+  pub header_room : m.header + 16 ≤ length old
   header_room = omega (arith, (laid_inside old m is).0)
 
   total_room : m.header + 2 + length coded ≤ length three
   total_room = omega (arith, coded_long, header_room, three_long)
 
-  four_long : length four ≡ length old
+  pub four_long : length four ≡ length old
   four_long = length-with_part (m.header + 2) coded three total_room ∙ three_long
 
   grown_four : length three ≤ length four
@@ -261,6 +269,12 @@ module _ (old : List ℕ) (m : Listed) (is : IsStanding old m) (k : ℕ) (low : 
   first_same : first_size (prefix_at four m.header) ≡ first_size (prefix_at two m.header)
   first_same = first_size-is four m.header ∙ number_at-with_part_other (m.header + 2) coded three (m.header + 8) 4 total_room (inr (omega (arith, coded_long)))
       ∙ sym (first_size-is three m.header) ∙ ap first_size prefix_three
+
+  pub count_four : reference_count (prefix_at four m.header) ≡ reference_count (prefix_at old m.header)
+  count_four = reference_count-is four m.header ∙ number_at-with_part_other (m.header + 2) coded three (m.header + 4) 4 total_room (inr (omega (arith, coded_long)))
+      ∙ sym (reference_count-is three m.header)
+      ∙ ap reference_count (prefix_three ∙ body_prefix one m is_one cut.front x cut.back cut.whole own name x.at (omega arith) (omega (arith, sixteen, wide)))
+      ∙ count_kept old one m is block_kept
 
   -- ---- the new block
 

@@ -23,7 +23,11 @@ pub mod NamedSplices
 pub mod NamedLaws
 pub mod AddedLaws
 pub mod MovedLaws
+pub mod MovableLaws
 pub mod BlockPuts
+pub mod BlockPlaces
+pub mod BlockKept
+pub mod BlockTaken
 pub mod FirstWritten
 pub mod CrossLaws
 pub mod RefusedLaws

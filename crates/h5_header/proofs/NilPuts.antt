@@ -9,7 +9,7 @@ use Rattle.h5_bytes.proofs.PartLaws.{length-part, length-with_part}
 use Rattle.h5_space.specs.Space.{Space}
 use Rattle.h5_space.specs.Moves.{Moves}
 use Rattle.h5_space.proofs.MovesLaws.{moves_then}
-use Rattle.h5_model.specs.Format.Messages.{Message}
+use Rattle.h5_model.specs.Format.Messages.{Message, prefix_at, reference_count}
 use Rattle.h5_model.specs.Format.Plain.{messages_bytes}
 use Rattle.h5_model.proofs.PlainMessages.{IsPlain, messages_from}
 use Rattle.h5_header.specs.Listed.{Listed, message_in, messages_in}
@@ -19,7 +19,7 @@ use Rattle.h5_header.specs.declared.message.Message.{Message as Placed}
 use Rattle.h5_header.proofs.BesideLaws.{moves_covered}
 use Rattle.h5_header.proofs.BlankLaws.{behind_head, body_inside, size_padded}
 use Rattle.h5_header.proofs.PlacedLaws.{placed}
-use Rattle.h5_header.proofs.PutLaws.{put_list, put_list_is, front, back, cut_messages, header_room, room, list_long, put_messages, put_standing, put_covered, total_covered}
+use Rattle.h5_header.proofs.PutLaws.{put_list, put_list_is, front, back, cut_messages, header_room, room, list_long, put_messages, put_standing, put_covered, put_count, total_covered}
 
 module _ (x : Placed) (bytes : List ℕ) (head : 8 ≤ x.at) (long : length bytes ≡ x.size + 8) (size_padded : x.size % 8 ≡ 0) (size_low : x.size < 65536)
     (kind : ℕ) (kind_low : kind < 65536) (own : kind ≢ 16) (body : List ℕ) (body_padded : length body % 8 ≡ 0) (fits : length body ≤ x.size) where
@@ -187,6 +187,9 @@ module _ (old : List ℕ) (m : Listed) (is : IsStanding old m) (k : ℕ) (low : 
         ∙ ap (λ (ws : List Message). front old m is k low no_name said plain long small ++ (ws ++ back old m is k low no_name said plain long small))
         (said_at x bytes nil_head bytes_long nil_padded size_low kind kind_low own body body_padded fits);
   }
+
+  pub nil_count : reference_count (prefix_at new m.header) ≡ reference_count (prefix_at old m.header)
+  nil_count = rw total_is (put_count old m is k low no_name said plain long small)
 
   -- only bytes of the header's blocks are written
   pub nil_moves : (s t : Space) → s.bytes ≡ old → t ≡ record s { bytes = new } → Moves s t m.blocks m.blocks

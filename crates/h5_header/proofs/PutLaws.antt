@@ -8,13 +8,13 @@ use Rattle.h5_bytes.proofs.BlockLaws.{holds-inner, cover-append, all_append, all
 use Rattle.h5_bytes.proofs.PartLaws.{length-part, length-with_part, part-with_part_same}
 use Rattle.h5_bytes.proofs.FieldLaws.{number_at-with_field, number_at-with_part_other}
 use Rattle.h5_space.proofs.MovesLaws.{byte-with_part}
-use Rattle.h5_model.specs.Format.Messages.{Message, Fills, HasMessages, continuation, continuations, first_size, prefix_at, total_in}
+use Rattle.h5_model.specs.Format.Messages.{Message, Fills, HasMessages, continuation, continuations, first_size, prefix_at, reference_count, total_in}
 use Rattle.h5_model.specs.Format.Plain.{messages_bytes}
 use Rattle.h5_model.proofs.PlainMessages.{IsPlain, messages_from, fills-plain, length-messages_from}
 use Rattle.h5_header.specs.Listed.{Listed, message_in, messages_in, IsWithin}
 use Rattle.h5_header.specs.Standing.{IsStanding, kept_at, nowhere}
 use Rattle.h5_header.specs.declared.message.Message.{Message as Placed}
-use Rattle.h5_header.proofs.PrefixLaws.{first_size-is, total-is, version-is}
+use Rattle.h5_header.proofs.PrefixLaws.{first_size-is, reference_count-is, total-is, version-is}
 use Rattle.h5_header.proofs.MetLaws.{continuation_cases}
 use Rattle.h5_header.proofs.CutLaws.{IsCut, back_is, cut_by_place, front_is}
 use Rattle.h5_header.proofs.StretchLaws.{stretch, Follow, IsHeaded, follow_of, follow_cover, follow_headed, follow_kept, headed_kept, stretches_inside}
@@ -184,6 +184,10 @@ module _ (old : List ℕ) (m : Listed) (is : IsStanding old m) (k : ℕ) (low : 
   first_same : first_size (prefix_at new m.header) ≡ first_size (prefix_at old m.header)
   first_same = first_size-is new m.header ∙ number_at-with_part_other (m.header + 2) coded one (m.header + 8) 4 total_room (inr (omega (arith, two))) ∙ sym (first_size-is one m.header)
       ∙ ap first_size prefix_one
+
+  pub put_count : reference_count (prefix_at new m.header) ≡ reference_count (prefix_at old m.header)
+  put_count = reference_count-is new m.header ∙ number_at-with_part_other (m.header + 2) coded one (m.header + 4) 4 total_room (inr (omega (arith, two)))
+      ∙ sym (reference_count-is one m.header) ∙ ap reference_count prefix_one
 
   after_long : length after ≡ total
   after_long = omega (

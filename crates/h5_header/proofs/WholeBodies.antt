@@ -5,12 +5,12 @@ use Rattle.std.proofs.Math.Seq.{set-append_seam}
 use Rattle.h5_bytes.specs.Bytes.{part, with_part}
 use Rattle.h5_bytes.specs.Blocks.{holds, cover}
 use Rattle.h5_bytes.proofs.PartLaws.{part-with_part_same}
-use Rattle.h5_model.specs.Format.Messages.{Message}
+use Rattle.h5_model.specs.Format.Messages.{Message, prefix_at, reference_count}
 use Rattle.h5_header.specs.Listed.{Listed, message_in, messages_in}
 use Rattle.h5_header.specs.Standing.{IsStanding, kept_at, nowhere, with_body, none}
 use Rattle.h5_header.specs.declared.message.Message.{Message as Placed}
 use Rattle.h5_header.proofs.CutLaws.{IsCut, cut_by_place}
-use Rattle.h5_header.proofs.BodyWrites.{body_inside, body_covered, said, said_now, still_standing}
+use Rattle.h5_header.proofs.BodyWrites.{body_inside, body_covered, prefix_stays, said, said_now, still_standing}
 
 module _ (old : List ℕ) (m : Listed) (is : IsStanding old m) (k : ℕ) (low : k < length m.list) (own : (kept_at m.list k).kind ≢ 16)
     (w : List ℕ) (long : length w ≡ (kept_at m.list k).size) where
@@ -45,3 +45,6 @@ module _ (old : List ℕ) (m : Listed) (is : IsStanding old m) (k : ℕ) (low : 
       now ∙ ap (λ (bs : List ℕ). front ++ record { kind = x.kind; at = x.at; body = bs } ∷ back) body ∙ sym this
       ∙ ap₂ (λ (ms : List Message) (n : ℕ). set ms n (record (message_in old x) { body = w })) (sym (said old m is cut.front x cut.back cut.whole)) (length-map cut.front (message_in old) ∙ cut.long)
       ∙ ap (λ (y : Message). set (messages_in old m.list) k (record y { body = w })) (sym at_k)
+
+  pub whole_count : reference_count (prefix_at new m.header) ≡ reference_count (prefix_at old m.header)
+  whole_count = ap reference_count (prefix_stays old m is cut.front x cut.back cut.whole own w x.at (omega arith) (omega (arith, long)))

@@ -2,6 +2,7 @@
 use Rattle.std.specs.Prelude.{◌≡◌, ◌≢◌, ℕ, ◌+◌, ◌%◌, ◌≤◌, ◌==◌, Bool, IsTrue, not, bit_and, List, [], ◌∷◌}
 use Rattle.std.specs.List.{list_any}
 use Rattle.h5_bytes.specs.Bytes.{byte_at}
+use Rattle.h5_model.specs.Format.MessageTypes.{nil_kind, dataspace_kind, datatype_kind, old_fill_value_kind, fill_value_kind, external_files_kind, data_layout_kind, filter_pipeline_kind, attribute_kind, comment_kind, old_modification_time_kind, continuation_kind, symbol_table_kind, modification_time_kind}
 use Rattle.h5_model.specs.Format.Reached.{kind_at, size_at}
 use Rattle.h5_model.specs.Faults.HeaderFaults.{IsMisfit, is_known, is_new_style}
 use Rattle.h5_model.specs.declared.open_fault.Cause.{Cause}
@@ -10,7 +11,8 @@ use Rattle.h5_header.specs.declared.message.Message.{Message}
 
 -- message types that a group, a dataset or either may have
 abbrev pub is_read : ℕ → Bool
-is_read kind = list_any (λ k. k == kind) (0 ∷ 1 ∷ 3 ∷ 4 ∷ 5 ∷ 8 ∷ 12 ∷ 13 ∷ 14 ∷ 16 ∷ 17 ∷ 18 ∷ [])
+is_read kind = list_any (λ k. k == kind) (nil_kind ∷ dataspace_kind ∷ datatype_kind ∷ old_fill_value_kind ∷ fill_value_kind ∷ data_layout_kind
+    ∷ attribute_kind ∷ comment_kind ∷ old_modification_time_kind ∷ continuation_kind ∷ symbol_table_kind ∷ modification_time_kind ∷ [])
 
 -- the message whose head begins at this place of the image, in a block that ends at `end`
 pub record IsHead (image : List ℕ) (at end : ℕ) (m : Message) : Type 0 where
@@ -20,14 +22,14 @@ pub record IsHead (image : List ℕ) (at end : ℕ) (m : Message) : Type 0 where
   pub whole : at + 8 + m.size ≤ end
   pub padded : m.size % 8 ≡ 0
   pub own : bit_and (byte_at image (at + 4)) 2 ≡ 0
-  pub continued : m.kind ≡ 16 → 16 ≤ m.size
+  pub continued : m.kind ≡ continuation_kind → 16 ≤ m.size
   pub read : IsTrue (is_read m.kind)
 
 -- messages of this type are refused, by this name
 abbrev pub KindBreach : ℕ → Cause → Type 0
 KindBreach kind UnknownMessage = IsTrue (not (is_known kind))
-KindBreach kind Filtered = IsTrue (kind == 11)
-KindBreach kind ExternalFiles = IsTrue (kind == 7)
+KindBreach kind Filtered = IsTrue (kind == filter_pipeline_kind)
+KindBreach kind ExternalFiles = IsTrue (kind == external_files_kind)
 KindBreach kind NewStyleGroup = IsTrue (is_new_style kind)
 KindBreach kind _ = ⊥
 

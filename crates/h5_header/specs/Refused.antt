@@ -4,6 +4,7 @@ use Rattle.std.specs.List.{AllByRecursion}
 use Rattle.h5_bytes.specs.Bytes.{number_at}
 use Rattle.h5_bytes.specs.Blocks.{block, cover, Inside}
 use Rattle.h5_bytes.specs.declared.Block.{Block}
+use Rattle.h5_model.specs.Format.MessageTypes.{continuation_kind}
 use Rattle.h5_model.specs.Format.Messages.{Message, HasMessages, prefix_at, first_size}
 use Rattle.h5_model.specs.Format.Reached.{FittingAt, kind_at, size_at}
 use Rattle.h5_model.specs.Faults.HeaderFaults.{HeaderBreach}
@@ -19,7 +20,7 @@ header_block image header = block header (16 + first_size (prefix_at image heade
 -- a Continuation message at this place of a header names the block; its address and length lie in the image
 pub record NamesBlock (image : List ℕ) (header at : ℕ) (b : Block) : Type 0 where
   pub fits : FittingAt image header at
-  pub kind : kind_at image at ≡ 16
+  pub kind : kind_at image at ≡ continuation_kind
   pub long : 16 ≤ size_at image at
   pub there : at + 24 ≤ length image
   pub named : b ≡ block (number_at image (at + 8) 8) (number_at image (at + 16) 8)

@@ -1,8 +1,10 @@
 //! The messages of an object header (File Format Specification 3.0, section IV.A.1.a).
 
 ghost use Rattle.std.specs.Prelude.{◌≡◌, ◌+◌, ◌<◌, ◌≤◌, Some, length, ◌++◌, ◌-◌, ◌^◌, max, take, drop, slice_get, slice_set, option_map, IfOk, IfErr, OnOk, OnErr, IsOk};
+ghost use Rattle.std.specs.List.{insert};
 ghost use Rattle.h5_bytes.specs.Blocks.{Separate};
 ghost use Rattle.h5_bytes.specs.Bytes.{byte_at};
+ghost use Rattle.h5_model.specs.Format.MessageTypes.{continuation_kind};
 ghost use Rattle.h5_model.specs.Format.Messages.{prefix_at, reference_count};
 ghost use Rattle.h5_header.specs.Listed.{messages_in, IsWithin};
 ghost use Rattle.h5_header.specs.Standing.{kept_at, kept_with_nil};
@@ -12,7 +14,7 @@ use crate::block::read_block;
 use crate::claims::{PREFIX, claim_prefix};
 use crate::message::Message;
 use h5_bytes::{Block, u32_at};
-use h5_model::message_type::NIL;
+use h5_model::message_type::{CONTINUATION, NIL};
 use h5_model::{Cause, OpenFault};
 use h5_space::{Claims, Image, claim, fault};
 use std::alloc::{AllocError, Global};
@@ -20,8 +22,8 @@ use std::marker::Model;
 
 /// The messages of an object header, in the order in which they stand in its blocks.
 ///
-/// It keeps where the messages stand, and no byte of the image. A message more is kept in room that was
-/// reserved, so that an edit can run out of memory only before its first change.
+/// It keeps where the messages stand, and no byte of the image. One more message is kept in room that was reserved.
+/// So an edit can run out of memory only before its first change.
 #[derive(Drop)]
 pub struct Messages {
     header: u64,
@@ -89,10 +91,12 @@ impl Messages {
         u32_at(image.bytes(), self.header as usize + 4)
     }
 
-    /// Makes room for one message more: for two messages and a block, which it may need. Takes no memory
-    /// where there is room already.
+    /// Makes room for one message more: for two more messages and one more block, which it may need. Takes no memory
+    /// if the room is there already.
     ///
-    /// `AllocError` where a growth is refused. Nothing changes then.
+    /// # Errors
+    ///
+    /// `AllocError` if memory is refused. Then nothing changes.
     pub fn reserve(&mut self) -> Result<(), AllocError>
         ensures ok { OnOk result (self.new ≡ record self.old { room = max self.old.room 1 }) }
         ensures err { OnErr result (self.new ≡ self.old) }
@@ -134,6 +138,41 @@ impl Messages {
             };
             let _ = self.list.insert(k + 1, rest);
         }
+        self.room -= 1;
+    }
+
+    /// Keeps a Continuation in the place of message `k`, two messages from place `at` of the list on, and
+    /// their block at place `named` of the blocks. Uses the room of one message. Takes no memory.
+    pub(crate) fn keep_in_block(
+        &mut self,
+        k: usize,
+        at: usize,
+        first: Message,
+        second: Message,
+        named: usize,
+        block: Block,
+    )
+        requires known { k < length self.old.list }
+        requires within { at ≤ length self.old.list }
+        requires among { named ≤ length self.old.blocks }
+        requires room { 1 ≤ self.old.room }
+        ensures { self.new ≡ record self.old {
+          list = insert (insert
+              (slice_set self.old.list k (record (kept_at self.old.list k) { kind = continuation_kind }))
+              at first) (at + 1) second;
+          blocks = insert self.old.blocks named block;
+          room = self.old.room - 1;
+        } }
+    {
+        let old = self.list[k];
+        self.list[k] = Message {
+            kind: CONTINUATION,
+            at: old.at,
+            size: old.size,
+        };
+        let _ = self.list.insert(at, first);
+        let _ = self.list.insert(at + 1, second);
+        let _ = self.blocks.insert(named, block);
         self.room -= 1;
     }
 

@@ -21,12 +21,15 @@ pub enum ObjectKind {
 }
 
 impl Messages {
-    /// What the object is by its messages: a group where one of them is a Symbol Table, else a dataset.
-    /// Takes no memory.
+    /// What the object is by its messages: a group if one of them is a Symbol Table, else a dataset. The names of
+    /// attributes are not compared. Takes no memory.
     ///
-    /// `MissingMessage` where there is no Symbol Table, and no Dataspace, no Datatype or no Data Layout.
-    /// Else `DuplicateMessage` where one of these or a Fill Value stands twice, or stands beside a Symbol
-    /// Table. Both are at the header. The names of attributes are not compared.
+    /// # Errors
+    ///
+    /// The first of these that holds, at the header:
+    ///
+    /// - `MissingMessage`: there is no Symbol Table, and no Dataspace, no Datatype or no Data Layout.
+    /// - `DuplicateMessage`: one of these, or a Fill Value, stands twice or beside a Symbol Table.
     pub fn object_kind(&self) -> Result<ObjectKind, OpenFault>
         ensures group { (image : List ℕ)
             → (result ≡ Ok ObjectKind.Group) ↔ IsOfGroup (messages_in image self.now.list) }

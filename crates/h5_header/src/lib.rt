@@ -4,7 +4,9 @@
 //! Places and sizes are in bytes.
 #![tactic(auto)]
 
+mod add;
 mod block;
+mod block_put;
 mod claims;
 mod edits;
 mod find;
@@ -14,6 +16,7 @@ mod message;
 mod put;
 mod read;
 
+pub use add::AddFault;
 pub use find::{find_body, find_message};
 pub use h5_space::claim;
 pub use header::Messages;

@@ -2,6 +2,7 @@
 
 ghost use Rattle.std.specs.Prelude.{◌≡◌, ◌+◌, ◌<◌, ◌≤◌, [], ◌∷◌, length, IfOk, IfErr, MatchOption, IsTrue};
 ghost use Rattle.std.specs.Option.{option_map_or};
+ghost use Rattle.h5_model.specs.Format.MessageTypes.{continuation_kind};
 ghost use Rattle.h5_model.specs.Format.Messages.{continuation};
 ghost use Rattle.h5_header.specs.Listed.{message_in};
 ghost use Rattle.h5_header.specs.Heads.{IsHead, HeadBreach, KindBreach, is_read};
@@ -32,7 +33,7 @@ impl Message {
     /// The block that it names, where it is a Continuation.
     pub fn named_block(self, image: &[u8]) -> Option<Block>
         requires inside { self.at + self.size ≤ length image.now }
-        requires continued { self.kind ≡ 16 → 16 ≤ self.size }
+        requires continued { self.kind ≡ continuation_kind → 16 ≤ self.size }
         ensures { option_map_or (λ b. b ∷ []) result [] ≡ continuation (message_in image.now self) }
     {
         if self.kind != CONTINUATION {

@@ -2,6 +2,8 @@
 
 ghost use Rattle.std.specs.Prelude.{◌≡◌, ◌≢◌, ◌<◌, ◌≤◌, ◌+◌, ◌^◌, ◌%◌, ◌++◌, ◌==◌, ◌&&◌, nat_le, length, drop, position};
 ghost use Rattle.h5_bytes.specs.Numbers.{short, zeros};
+ghost use Rattle.h5_model.specs.Format.Messages.{prefix_at, reference_count};
+ghost use Rattle.h5_model.specs.Format.MessageTypes.{nil_kind, continuation_kind};
 ghost use Rattle.h5_model.specs.Format.Plain.{message_bytes, messages_bytes};
 ghost use Rattle.h5_space.specs.Moves.{Moves, Spends};
 ghost use Rattle.h5_header.specs.Listed.{messages_in};
@@ -25,7 +27,7 @@ fn write_head(kind: u16, size: u16, head: &mut [u8])
 }
 
 /// Writes a message over bytes that it fills.
-fn write_message(kind: u16, body: &[u8], bytes: &mut [u8])
+pub(crate) fn write_message(kind: u16, body: &[u8], bytes: &mut [u8])
     requires room { length bytes.old ≡ 8 + length body.now }
     requires size { length body.now < 2 ^ 16 }
     ensures { bytes.new ≡ message_bytes (kind, body.now) }
@@ -63,24 +65,24 @@ fn write_in_nil(kind: u16, body: &[u8], bytes: &mut [u8])
 impl Messages {
     /// The first NIL message of `size` bytes or more. Takes no memory.
     pub fn find_nil(&self, size: u16) -> Option<usize>
-        ensures { result ≡ position (λ m. m.kind == 0 && nat_le size m.size) self.now.list }
+        ensures { result ≡ position (λ m. m.kind == nil_kind && nat_le size m.size) self.now.list }
     {
         self.list()
             .iter()
             .position(|m| m.kind == NIL && size <= m.size)
     }
 
-    /// Puts a message into NIL message `k`, which has its size or more: what that leaves stays NIL. Takes
-    /// no memory, and uses the room of one message.
+    /// Puts a message into NIL message `k`, which has its size or more. What that leaves stays NIL. Takes no memory,
+    /// and uses the room of one message.
     ///
-    /// That there is such a message, that the body has a multiple of 8 bytes and is no Continuation's,
-    /// that the total stays below 65536, and that there is room, are the caller's conditions.
+    /// These are the caller's conditions: there is such a message; the body has a multiple of 8 bytes and is no
+    /// Continuation's; the total of messages stays below 65536; and there is room.
     pub fn put_into(&mut self, image: &mut Image, k: usize, kind: u16, body: &[u8])
         requires known { k < length self.old.list }
-        requires nil { (kept_at self.old.list k).kind ≡ 0 }
+        requires nil { (kept_at self.old.list k).kind ≡ nil_kind }
         requires fits { length body.now ≤ (kept_at self.old.list k).size }
         requires padded { length body.now % 8 ≡ 0 }
-        requires own { kind ≢ 16 }
+        requires own { kind ≢ continuation_kind }
         requires total { length self.old.list < 65535 }
         requires room { 1 ≤ self.old.room }
         requires standing { IsStanding image.old.bytes self.old }
@@ -88,6 +90,8 @@ impl Messages {
         ensures added { IsPutInNil (messages_in image.old.bytes self.old.list)
             (messages_in image.new.bytes self.new.list) kind body.now }
         ensures header { self.new.header ≡ self.old.header }
+        ensures count { reference_count (prefix_at image.new.bytes self.new.header)
+            ≡ reference_count (prefix_at image.old.bytes self.old.header) }
         ensures blocks { self.new.blocks ≡ self.old.blocks }
         ensures moves { Moves image.old image.new self.old.blocks self.new.blocks }
         ensures spends { Spends image.old image.new 0 0 }

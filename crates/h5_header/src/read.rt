@@ -17,18 +17,28 @@ use std::alloc::Global;
 
 /// Reads the messages of the object header at `at`, and claims its blocks.
 ///
-/// The prefix has to lie in the image and be of version 1 before it is claimed with its first block of
-/// messages. A block that a Continuation names is claimed when its turn comes, after all messages of the
-/// blocks before it. Each message is judged by its size, then by its shared flag, then by its type. When
-/// all blocks are read their messages are counted.
+/// The prefix has to lie in the image and be of version 1; then it is claimed with its first block of messages. A
+/// block that a Continuation names is claimed when its turn comes, after all messages of the blocks before it. For
+/// each message its size is checked, then its shared flag, then its type. When all blocks are read, the messages are
+/// counted.
 ///
-/// Refusals: `Truncated` and `Overlap`, at the block that was to be claimed; `HeaderVersion`,
-/// `MessageSize`, `SharedMessage`, `UnknownMessage`, `Filtered`, `ExternalFiles`, `NewStyleGroup` and
-/// `MessageCount`, at the header; and `NoMemory`. After a refusal more or less of the header's blocks is
-/// claimed. The claims end where the image ends, which is the caller's condition.
+/// It takes memory for the messages that are there, whatever the header says of their number, and time for the bytes
+/// that are claimed. The claims end where the image ends, which is the caller's condition.
 ///
-/// Takes memory for the messages that are there, whatever the header says of their number, and time for
-/// the bytes that are claimed.
+/// # Errors
+///
+/// - `Truncated`, `Overlap`, at the block that was to be claimed: it passes the end, or shares a byte with a claimed
+///   block.
+/// - `HeaderVersion`, at the header: it is not of version 1.
+/// - `MessageSize`, at the header: the size of a message is no multiple of 8, does not fill its block, or is too
+///   short for a Continuation.
+/// - `SharedMessage`, at the header: a message is shared.
+/// - `UnknownMessage`, `Filtered`, `ExternalFiles`, `NewStyleGroup`, at the header: a message is of a type that is
+///   not read.
+/// - `MessageCount`, at the header: there are not as many messages as the header says.
+/// - `NoMemory`: memory is refused.
+///
+/// After a refusal it is left open which of the header's blocks are claimed.
 pub fn messages(
     alloc: Global,
     image: &Image,

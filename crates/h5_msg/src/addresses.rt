@@ -58,7 +58,11 @@ impl SymbolTable {
     }
 }
 
-/// Reads a Symbol Table message; `HeapForm` where it is short.
+/// Reads a Symbol Table message: the addresses of the B-tree and of the local heap of a group.
+///
+/// # Errors
+///
+/// `HeapForm` if the body is too short.
 #[tactic(auto, unfolding(h5_model::specs::Format::Addresses::symbol_table_of))]
 pub fn read_symbol_table(body: &[u8]) -> Result<SymbolTable, FormFault>
     ensures { result ≡ ok_or (symbol_table_of body.now) FormFault.HeapForm }
@@ -82,7 +86,11 @@ pub fn write_symbol_table(table: SymbolTable, bytes: &mut [u8])
     write_pair(table.tree, table.heap, bytes);
 }
 
-/// Reads a Continuation message, which names a block of messages; `MessageSize` where it is short.
+/// Reads a Continuation message: the block in which the header goes on.
+///
+/// # Errors
+///
+/// `MessageSize` if the body is too short.
 #[tactic(auto, unfolding(h5_model::specs::Format::Addresses::continuation_of))]
 pub fn read_continuation(body: &[u8]) -> Result<Block, FormFault>
     ensures { result ≡ ok_or (continuation_of body.now) FormFault.MessageSize }

@@ -107,7 +107,11 @@ fn bytes_from<'a>(fixed: &Fixed, body: &'a [u8], place: usize, count: u64) -> &'
     &body[place..place + count as usize * fixed.size()]
 }
 
-/// Reads an Attribute message; `AttributeForm` where it has another form.
+/// Reads an Attribute message.
+///
+/// # Errors
+///
+/// `AttributeForm` if it is not an attribute of a fixed-point type, in a form that docs/FORMAT.md lists.
 #[tactic(auto, unfolding(h5_model::specs::Format::AttributeBody::attribute_of))]
 pub fn read_attribute(body: &[u8]) -> Result<AttributeBody<'_>, FormFault>
     ensures { result ≡ ok_or (attribute_of body.now) FormFault.AttributeForm }
@@ -188,8 +192,8 @@ fn pad8(n: usize) -> usize
     (n + 7) / 8 * 8
 }
 
-/// How many bytes the body of an Attribute message has as it is written: of a name of so many bytes, and of so many
-/// values of a type in an array of so many dimensions.
+/// How many bytes the body of an Attribute message has as it is written: with a name of `name` bytes, `rank`
+/// dimensions, and `values` values of this type.
 pub fn attribute_length(name: usize, rank: usize, values: usize, fixed: &Fixed) -> usize
     requires name { name < 2 ^ 16 - 1 }
     requires rank { rank ≤ 32 }
@@ -223,7 +227,7 @@ pub fn write_attribute(name: &[u8], fixed: &Fixed, sizes: &[u64], values: &[i128
     padding.fill(0);
 }
 
-/// Writes an Attribute message whose values have these bytes, and zeros behind it.
+/// Writes an Attribute message whose values have these bytes as they are stored, and zeros behind it.
 pub fn write_stored_attribute(
     name: &[u8],
     fixed: &Fixed,

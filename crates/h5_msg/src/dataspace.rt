@@ -119,7 +119,11 @@ fn cells_from(body: &[u8], k: usize, count: usize) -> u64
     u64_at(body, SIZES + 8 * k).saturating_mul(cells_from(body, k + 1, count - 1))
 }
 
-/// Reads a Dataspace message; `DataspaceForm` where it has another form.
+/// Reads a Dataspace message: the current sizes and the maximum sizes.
+///
+/// # Errors
+///
+/// `DataspaceForm` if the message has another form than those that docs/FORMAT.md lists.
 #[tactic(auto, unfolding(h5_model::specs::Format::Extent::extent_of))]
 pub fn read_dataspace(body: &[u8]) -> Result<Dataspace<'_>, FormFault>
     ensures { result ≡ ok_or (extent_of body.now) FormFault.DataspaceForm }
@@ -170,7 +174,7 @@ fn is_maximum(body: &[u8], rank: usize, k: usize) -> bool
     u64_at(body, SIZES + 8 * k) <= u64_at(body, SIZES + 8 * rank + 8 * k)
 }
 
-/// Writes a Dataspace message without maxima, which are then the sizes, and zeros behind it.
+/// Writes a Dataspace message without maxima, and zeros behind it. The maxima are then the sizes.
 #[tactic(auto, using(crate::proofs::WordLaws::words_long))]
 pub fn write_dataspace(sizes: &[u64], bytes: &mut [u8])
     requires rank { length sizes.now ≤ 32 }

@@ -22,8 +22,11 @@ const HIGH_FIRST: u8 = 1;
 /// The class bit of a signed type.
 const SIGNED: u8 = 8;
 
-/// Reads a Datatype message; `DatatypeForm` where it is not that of a fixed-point type of 1, 2, 4 or 8 bytes at full
-/// precision.
+/// Reads a Datatype message.
+///
+/// # Errors
+///
+/// `DatatypeForm` if it is not that of a fixed-point type of 1, 2, 4 or 8 bytes at full precision.
 #[tactic(auto, unfolding(h5_model::specs::Format::Datatype::fixed_of))]
 pub fn read_datatype(body: &[u8]) -> Result<Fixed, FormFault>
     ensures { result ≡ ok_or (fixed_of body.now) FormFault.DatatypeForm }

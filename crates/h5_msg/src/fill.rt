@@ -34,8 +34,11 @@ pub fn old_fill_length(fixed: &Fixed) -> usize
     4 + fixed.size()
 }
 
-/// Reads a Fill Value message, version 2, of a dataset of this type: the value, or 0 where none is defined; `FillForm`
-/// where the message has another form.
+/// Reads a Fill Value message, version 2, of a dataset of this type: the value, or 0 if none is defined.
+///
+/// # Errors
+///
+/// `FillForm` if the message has another form.
 #[tactic(auto, unfolding(h5_model::specs::Format::Fill::fill_value))]
 pub fn read_fill(fixed: &Fixed, body: &[u8]) -> Result<i128, FormFault>
     ensures { result ≡ ok_or (fill_value fixed.now body.now) FormFault.FillForm }
@@ -50,8 +53,11 @@ pub fn read_fill(fixed: &Fixed, body: &[u8]) -> Result<i128, FormFault>
     }
 }
 
-/// Reads an old Fill Value message of a dataset of this type: the value, or 0 where its size is 0; `FillForm` where the
-/// message has another form.
+/// Reads an old Fill Value message of a dataset of this type: the value, or 0 if its size is 0.
+///
+/// # Errors
+///
+/// `FillForm` if the message has another form.
 #[tactic(auto, unfolding(h5_model::specs::Format::Fill::old_fill_value))]
 pub fn read_old_fill(fixed: &Fixed, body: &[u8]) -> Result<i128, FormFault>
     ensures { result ≡ ok_or (old_fill_value fixed.now body.now) FormFault.FillForm }

@@ -29,7 +29,7 @@ const COMPACT_DATA: usize = 4;
 /// How many bytes the body of a contiguous array's Data Layout message has as it is written.
 pub const CONTIGUOUS_LENGTH: usize = 18;
 
-/// How many bytes the body of a compact array's Data Layout message has as it is written, with so many bytes of data.
+/// How many bytes the body of a compact array's Data Layout message has as it is written, with `bytes` bytes of data.
 pub fn compact_length(bytes: usize) -> usize
     requires { bytes < 2 ^ 16 }
     ensures { result ≡ 4 + bytes }
@@ -54,7 +54,7 @@ enum SizesIn<'a> {
     Row(&'a [u32]),
 }
 
-/// Chunk sizes in elements, as a Data Layout message names them or as they were handed over.
+/// Chunk sizes in cells, as a Data Layout message has them, or as they were handed over.
 #[derive(Drop)]
 pub struct ChunkSizes<'a> {
     place: SizesIn<'a>,
@@ -166,7 +166,11 @@ fn bytes_needed(sizes: &[u64], size: usize) -> u128
     u128::from(*first).saturating_mul(bytes_needed(rest, size))
 }
 
-/// Reads a Data Layout message of an array of these sizes and this type; `LayoutForm` where it has another form.
+/// Reads a Data Layout message of a dataset of these sizes and this type.
+///
+/// # Errors
+///
+/// `LayoutForm` if the message has another form than those that docs/FORMAT.md lists.
 #[tactic(auto, unfolding(h5_model::specs::Format::Layout::layout_of))]
 pub fn read_layout<'a>(dims: &Dims, fixed: &Fixed, body: &'a [u8]) -> Result<Layout<'a>, FormFault>
     ensures { MatchResult result
@@ -272,8 +276,8 @@ pub fn write_compact_layout(data: &[u8], bytes: &mut [u8])
     padding.fill(0);
 }
 
-/// Writes the Data Layout message of a contiguous array whose block has this address, where there is one, and this
-/// length, and zeros behind it.
+/// Writes the Data Layout message of a contiguous array, and zeros behind it. `address` is that of its block, `None`
+/// where there is none; `len` is its length in bytes.
 pub fn write_contiguous_layout(address: Option<u64>, len: u64, bytes: &mut [u8])
     requires address { ForSome address (λ at. at < 2 ^ 64 - 1) }
     requires room { 18 ≤ length bytes.old }
@@ -288,8 +292,8 @@ pub fn write_contiguous_layout(address: Option<u64>, len: u64, bytes: &mut [u8])
     LittleEndian::write_u64(&mut behind[8..], len);
 }
 
-/// Writes the Data Layout message of a chunked array of this type, of these chunk sizes, whose B-tree has this address
-/// where there is one, and zeros behind it.
+/// Writes the Data Layout message of a chunked array of this type, and zeros behind it. `chunk` has the sizes of a
+/// chunk in cells; `tree` is the address of the chunks' B-tree, `None` where there is none.
 #[tactic(auto, using(crate::proofs::LayoutLaws::short_words_long))]
 pub fn write_chunked_layout(chunk: &[u32], tree: Option<u64>, fixed: &Fixed, bytes: &mut [u8])
     requires dimensions { 1 ≤ length chunk.now }

@@ -1,9 +1,9 @@
 //! Bodies of header messages: dataspace, datatype, fill value, data layout, attribute, symbol table and continuation
 //! (File Format Specification 3.0, section IV.A.2).
 //!
-//! Each reader takes a message's body, which may be followed by padding, and answers what it says or the fault of its
-//! kind. It takes no memory; what it answers borrows the body. Each writer fills the bytes it is given: the body in
-//! its written form, and zeros behind it.
+//! Each reader takes the body of a message, which may have padding behind it. It answers what the body says, or the
+//! fault of its kind. It takes no memory; what it answers borrows the body. Each writer fills the bytes that it is
+//! given: with the body in its written form, and zeros behind it.
 #![tactic(auto)]
 
 mod addresses;

@@ -21,10 +21,10 @@ pub enum ClaimFault {
     NoMemory,
 }
 
-/// The blocks that a walk has claimed below an end.
+/// The blocks that were claimed, all of them below an end. No two of them share a byte.
 ///
-/// What matters of them is which bytes they hold, so neighbours are kept as one block. A claim takes
-/// time logarithmic in their number, in whatever order they come.
+/// Only which bytes they hold counts, so neighbours are kept as one block. A claim takes time logarithmic in their
+/// number, in whatever order they come.
 #[derive(Drop)]
 pub struct Claims {
     end: u64,
@@ -45,7 +45,7 @@ impl Model for Claims {
 }
 
 impl Claims {
-    /// Nothing is claimed of the bytes below `end`. Takes no memory.
+    /// Claims of an image with `end` bytes, of which no byte is claimed. Takes no memory.
     pub fn new(alloc: Global, end: u64) -> Claims
         ensures { result ≡ record { end = end; held = [] } }
     {
@@ -55,11 +55,16 @@ impl Claims {
         }
     }
 
-    /// Claims the `len` bytes from place `at`.
+    /// Claims the `len` bytes from address `at`. A block of 0 bytes shares no byte with another one, and takes no
+    /// memory.
     ///
-    /// `Truncated` where they pass the end; else `Overlap` where one of them is claimed already; else
-    /// `NoMemory` where a growth is refused. A block of 0 bytes shares none, and takes no memory. A
-    /// refused claim changes nothing.
+    /// # Errors
+    ///
+    /// The first of these that holds. A refused claim changes nothing.
+    ///
+    /// - `Truncated`: the block passes the end.
+    /// - `Overlap`: one of its bytes is claimed already.
+    /// - `NoMemory`: memory is refused.
     pub fn claim(&mut self, at: u64, len: u64) -> Result<(), ClaimFault>
         ensures inside { OnOk result (at + len ≤ self.old.end) }
         ensures claimed { OnOk result ((p : ℕ)

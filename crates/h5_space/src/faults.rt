@@ -8,7 +8,15 @@ use crate::claims::{ClaimFault, Claims};
 use h5_bytes::Block;
 use h5_model::{Cause, OpenFault};
 
-/// Claims a block; a refusal has the block's address.
+/// Claims a block, as a step of opening a file.
+///
+/// # Errors
+///
+/// The fault has the address of the block, and one of these causes:
+///
+/// - `Truncated`: the block passes the end.
+/// - `Overlap`: one of its bytes is claimed already.
+/// - `NoMemory`: memory is refused.
 pub fn claim(claims: &mut Claims, block: Block) -> Result<(), OpenFault>
     ensures inside { OnOk result (block.at + block.len ≤ claims.old.end) }
     ensures claimed { OnOk result

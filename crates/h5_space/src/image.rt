@@ -22,8 +22,8 @@ pub enum SpaceFault {
 
 /// The bytes of a file, and which of them are free.
 ///
-/// A block is taken and given back in room that was reserved, so that a change of several steps can
-/// run out of memory only before its first one.
+/// A block is taken and given back within room that was reserved before. So a change of several steps can run out of
+/// memory only before its first step.
 #[derive(Drop)]
 pub struct Image {
     bytes: Vec<u8>,
@@ -78,8 +78,11 @@ impl Image {
         bytes
     }
 
-    /// Another image with these bytes and free blocks, and with no room, or an error where it gets no
-    /// memory.
+    /// Another image with the same bytes and the same free blocks. No room is reserved in it.
+    ///
+    /// # Errors
+    ///
+    /// `AllocError` if memory is refused.
     pub fn copy_of(&self, alloc: Global) -> Result<Image, AllocError>
         ensures { IfOk result (λ x. x ≡ record self.now { room_bytes = 0; room_blocks = 0 }) }
     {
@@ -122,12 +125,17 @@ impl Image {
         self.bytes.slice_mut(at as usize..(at + len) as usize)
     }
 
-    /// Makes room for `bytes` bytes to be taken, and for `blocks` calls of `take` and `give`.
+    /// Reserves room: for `bytes` bytes to be taken, and for `blocks` calls of `take` and `give`.
     ///
-    /// What an earlier call still covers counts: room becomes the larger of the two, and no memory
-    /// is taken where there is enough already. `ImageFull` where the image has more than 2147483648
-    /// bytes with those asked for, and else `NoMemory` where a growth is refused. A refusal changes
-    /// nothing.
+    /// Room that an earlier call reserved and that is not used up yet counts: the room is then the larger of the two.
+    /// No memory is taken where there is enough already.
+    ///
+    /// # Errors
+    ///
+    /// The first of these that holds. A refusal changes nothing.
+    ///
+    /// - `ImageFull`: the bytes of the image and those asked for are more than 2147483648 together.
+    /// - `NoMemory`: memory is refused.
     pub fn reserve(&mut self, bytes: u64, blocks: u64) -> Result<(), SpaceFault>
         ensures full { (result ≡ Err SpaceFault.ImageFull) ↔ (2 ^ 31 < length self.old.bytes + bytes) }
         ensures ok { OnOk result (self.new ≡ record self.old {
@@ -157,8 +165,7 @@ impl Image {
         Ok(())
     }
 
-    /// Copies the `len` bytes from place `from` to place `to`, where no other bytes change. The two may
-    /// share bytes.
+    /// Copies the `len` bytes from place `from` to place `to`. No other byte changes. The two places may share bytes.
     ///
     /// That both end by the end of the image is the caller's condition. Takes no memory.
     pub fn copy(&mut self, from: u64, len: u64, to: u64)
@@ -183,11 +190,11 @@ impl Image {
         }
     }
 
-    /// Takes a block of `len` bytes, and gives its place, which is the one that `place_for` gives.
+    /// Takes a block of `len` bytes, and gives its address, the one that `place_for` gives.
     ///
-    /// It comes out of a free block where one is as long, and keeps the bytes that it has there; else
-    /// it stands behind the old end, and is zero. Uses `len` bytes and one block of the room, whose
-    /// being there is the caller's condition. Takes no memory.
+    /// It is cut out of a free block where one is long enough, and keeps the bytes that it has there. Otherwise it
+    /// stands behind the old end, and is zero. It uses `len` bytes and one block of the reserved room; that these are
+    /// there is the caller's condition. Takes no memory.
     pub fn take(&mut self, len: u64) -> u64
         requires bytes { len ≤ self.old.room_bytes }
         requires blocks { 1 ≤ self.old.room_blocks }
@@ -216,8 +223,8 @@ impl Image {
 
     /// Makes the `len` bytes from place `at` free, joined with free neighbours. Their values stay.
     ///
-    /// That they lie in the image, that none of them is free, and that there is room for one block,
-    /// which this uses, are the caller's conditions. Takes no memory.
+    /// It uses one block of the reserved room. That it is there, that the bytes lie in the image, and that none of
+    /// them is free, are the caller's conditions. Takes no memory.
     pub fn give(&mut self, at: u64, len: u64)
         requires inside { at + len ≤ length self.old.bytes }
         requires held { (p : ℕ) → cover p self.old.free + holds p at len ≤ 1 }

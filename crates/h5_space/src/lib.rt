@@ -14,6 +14,6 @@ pub use claims::{ClaimFault, Claims};
 pub use faults::{claim, fault};
 pub use image::{Image, SpaceFault};
 pub use superblock::{
-    MAXIMUM_IMAGE, SUPERBLOCK, Superblock, end_of_file, internal_k, leaf_k, push_superblock,
-    root_header, superblock_fault,
+    CHUNK_K, MAXIMUM_IMAGE, SUPERBLOCK, Superblock, end_of_file, internal_k, leaf_k,
+    push_superblock, root_header, superblock_fault,
 };

@@ -2,6 +2,7 @@
 
 ghost use Rattle.std.specs.Prelude.{◌≡◌, ◌+◌, ◌≤◌, ◌++◌, length, MatchOption, OnOk, Some};
 ghost use Rattle.h5_bytes.specs.Bytes.{byte_at};
+ghost use Rattle.h5_model.specs.Format.PlainSuperblock.{plain_superblock_length};
 ghost use Rattle.h5_model.specs.Format.Superblock.{IsSuperblock, leaf_k as leaf_of, internal_k as internal_of, end_of_file as end_in, root_header as root_in};
 ghost use Rattle.h5_model.specs.Format.Plain.{superblock_bytes};
 ghost use Rattle.h5_model.specs.Faults.Breaches.{FieldBreach, SuperblockBreach};
@@ -12,6 +13,9 @@ use std::alloc::AllocError;
 
 /// Bytes of the superblock.
 pub const SUPERBLOCK: u64 = 96;
+
+/// K of the nodes of chunk trees, which a superblock of this version does not have.
+pub const CHUNK_K: u16 = 32;
 
 /// The most bytes of an image.
 pub const MAXIMUM_IMAGE: u64 = 2147483648;
@@ -63,7 +67,7 @@ fn broken(cause: Cause, at: usize) -> Option<OpenFault>
 
 /// The first version or size of addresses and lengths that is not one that is read.
 fn form_fault(bytes: &[u8]) -> Option<OpenFault>
-    requires { 96 ≤ length bytes.now }
+    requires { plain_superblock_length ≤ length bytes.now }
     ensures { MatchOption result
         ((byte_at bytes.now 8 ≡ 0) × (byte_at bytes.now 9 ≡ 0) × (byte_at bytes.now 10 ≡ 0)
         × (byte_at bytes.now 12 ≡ 0) × (byte_at bytes.now 13 ≡ 8) × (byte_at bytes.now 14 ≡ 8))
@@ -90,12 +94,21 @@ fn form_fault(bytes: &[u8]) -> Option<OpenFault>
     None
 }
 
-/// The first rule of the superblock that the bytes of a file break; `None` where they begin with one that is read.
+/// Checks the superblock with which the bytes of a file begin. `None` says that it is accepted. Takes no memory.
 ///
-/// `NotHdf5`, at 0, where the signature is not there; `Truncated`, at 0, where they are fewer than 96; then, at the field's place,
-/// `SuperblockVersion`, `FieldSizes` of other sizes than 8, `BaseAddress` other than 0, `Driver` where there is a driver information
-/// block, `KRange` of K values not from 1 to 32767, and for the end of file address `TooLarge` above 2147483648 and `Truncated`
-/// below 96 or past the bytes. Takes no memory.
+/// # Errors
+///
+/// `Some` with the first of these that holds, at the place of the field:
+///
+/// - `NotHdf5`, at 0: the signature is not there.
+/// - `Truncated`, at 0: the file has fewer than 96 bytes.
+/// - `SuperblockVersion`: a version is not the one of superblock version 0.
+/// - `FieldSizes`: addresses or lengths have not 8 bytes.
+/// - `BaseAddress`: the base address is not 0.
+/// - `Driver`: there is a driver information block.
+/// - `KRange`: K of symbol nodes, or K of nodes, is not from 1 to 32767.
+/// - `TooLarge`: the end of file address is above 2147483648.
+/// - `Truncated`: the end of file address is below 96, or past the end of the bytes.
 pub fn superblock_fault(bytes: &[u8]) -> Option<OpenFault>
     ensures { MatchOption result (IsSuperblock bytes.now) (λ fault.
         SuperblockBreach bytes.now fault.cause fault.address) }
@@ -168,7 +181,11 @@ pub fn root_header(bytes: &[u8]) -> u64
     u64_at(bytes, ROOT)
 }
 
-/// Appends a superblock with addresses and lengths of 8 bytes. The error says that memory was refused.
+/// Appends a superblock of version 0, with addresses and lengths of 8 bytes.
+///
+/// # Errors
+///
+/// `AllocError` if memory is refused.
 pub fn push_superblock(out: &mut Vec<u8>, fields: &Superblock) -> Result<(), AllocError>
     ensures { OnOk result
         (out.new.items ≡ out.old.items

@@ -8,12 +8,13 @@ use byteorder::{BigEndian, ByteOrder, LittleEndian};
 use h5_model::Fixed;
 use thiserror::Error;
 
-/// The value is not one of the type's.
+/// The value is not one of the type.
 #[derive(Clone, Copy, PartialEq, Eq, Debug, Error)]
 #[error("the value is outside the type")]
 pub struct ValueRange;
 
-/// The value that the bytes stand for, which are as many as the type's size.
+/// The value that the bytes stand for: two's complement or unsigned, in the byte order of the type. There are as many
+/// bytes as the type's size; that is the caller's condition.
 #[tactic(auto, using(crate::proofs::Values::fits_value_of))]
 pub fn decode(fixed: &Fixed, bytes: &[u8]) -> i128
     requires { length bytes.now ≡ fixed.now.size }
@@ -23,7 +24,7 @@ pub fn decode(fixed: &Fixed, bytes: &[u8]) -> i128
     read(fixed, bytes)
 }
 
-/// Whether the value is one of the type's.
+/// Whether the value is one of the type.
 pub fn fits(fixed: &Fixed, value: i128) -> bool
     ensures { result ≡ is_of_type fixed.now value }
 {
@@ -36,8 +37,12 @@ pub fn fits(fixed: &Fixed, value: i128) -> bool
     }
 }
 
-/// Writes the bytes of a value, which are as many as the type's size: two's complement or unsigned, in the type's order.
-/// A refused value leaves them.
+/// Writes the bytes of a value: two's complement or unsigned, in the byte order of the type. The slice has as many
+/// bytes as the type's size.
+///
+/// # Errors
+///
+/// `ValueRange` if the value is not one of the type's. The slice then keeps its bytes.
 #[tactic(auto, using(crate::proofs::Values::value_of_bytes))]
 pub fn encode(fixed: &Fixed, value: i128, bytes: &mut [u8]) -> Result<(), ValueRange>
     requires { length bytes.old ≡ fixed.now.size }

@@ -4,7 +4,7 @@ use Rattle.h5_bytes.proofs.PartLaws.{with_part-with_part}
 use Rattle.h5_space.specs.Lending.{with_bytes_at}
 use Rattle.h5_header.specs.Standing.{kept_at, nowhere}
 use Rattle.h5_header.proofs.BesideLaws.{moves_covered, spends_write}
-use Rattle.h5_header.proofs.BlankLaws.{behind_head, body_inside, blank_covered, blank_messages, blank_standing}
+use Rattle.h5_header.proofs.BlankLaws.{behind_head, body_inside, blank_count, blank_covered, blank_messages, blank_standing}
 use Rattle.h5_header.proofs.header.Messages.blank.Goals as goal
 use Rattle.h5_header.proofs.header.Messages.blank.Goals.{After-list, After-set}
 
@@ -53,6 +53,11 @@ pub returns-clause-messages : goal.returns-clause-messages
 returns-clause-messages c =
     let w = (goal.at.returns-clause-messages c).After-set in
     rw (written w, after w) (blank_messages c.args.image.now.bytes c.args.self.now c.requires.standing c.args.k c.requires.known c.requires.own)
+
+pub returns-clause-count : goal.returns-clause-count
+returns-clause-count c =
+    let w = (goal.at.returns-clause-count c).After-set in
+    rw (written w, after w) (blank_count c.args.image.now.bytes c.args.self.now c.requires.standing c.args.k c.requires.known c.requires.own)
 
 pub returns-clause-moves : goal.returns-clause-moves
 returns-clause-moves c =

@@ -9,7 +9,7 @@ use Rattle.h5_header.specs.Standing.{kept_at, kept_with_nil, nowhere, said_in}
 use Rattle.h5_header.specs.declared.message.Message.{Message as Placed}
 use Rattle.h5_header.proofs.BesideLaws.{spends_write}
 use Rattle.h5_header.proofs.BlankLaws.{behind_head, body_inside, size_padded}
-use Rattle.h5_header.proofs.NilPuts.{header_inside, nil_added, nil_moves, nil_standing, one_long}
+use Rattle.h5_header.proofs.NilPuts.{header_inside, nil_added, nil_count, nil_moves, nil_standing, one_long}
 use Rattle.h5_header.proofs.header.Messages.put_into.Goals as goal
 use Rattle.h5_header.proofs.header.Messages.put_into.Goals.{After-header, After-list, After-put_u16}
 
@@ -131,6 +131,13 @@ returns-clause-added c =
     let w = (goal.at.returns-clause-added c).After-put_u16 in
     rw (written w, c.keep_in.ensures)
     (nil_added c.args.image.now.bytes c.args.self.now c.requires.standing c.args.k c.requires.known c.requires.nil (small w) c.args.kind (omega (arith, c.ranges.kind.fits)) c.requires.own
+    c.args.body.now c.requires.padded c.requires.fits c.requires.total)
+
+pub returns-clause-count : goal.returns-clause-count
+returns-clause-count c =
+    let w = (goal.at.returns-clause-count c).After-put_u16 in
+    rw (written w, c.keep_in.ensures)
+    (nil_count c.args.image.now.bytes c.args.self.now c.requires.standing c.args.k c.requires.known c.requires.nil (small w) c.args.kind (omega (arith, c.ranges.kind.fits)) c.requires.own
     c.args.body.now c.requires.padded c.requires.fits c.requires.total)
 
 pub returns-clause-moves : goal.returns-clause-moves

@@ -3,7 +3,7 @@ use Rattle.h5_bytes.specs.Bytes.{with_part}
 use Rattle.h5_space.specs.Lending.{with_bytes_at}
 use Rattle.h5_header.specs.Standing.{kept_at, nowhere}
 use Rattle.h5_header.proofs.BesideLaws.{moves_covered}
-use Rattle.h5_header.proofs.WholeBodies.{whole_inside, whole_covered, whole_written, whole_standing}
+use Rattle.h5_header.proofs.WholeBodies.{whole_inside, whole_count, whole_covered, whole_written, whole_standing}
 use Rattle.h5_header.proofs.header.Messages.write_body.Goals as goal
 use Rattle.h5_header.proofs.header.Messages.write_body.Goals.{After-copy_from_slice}
 
@@ -20,6 +20,11 @@ pub returns-clause-messages : goal.returns-clause-messages
 returns-clause-messages c =
     let w = (goal.at.returns-clause-messages c).After-copy_from_slice in
     rw (written w) (whole_written c.args.image.now.bytes c.args.self.now c.requires.standing c.args.k c.requires.known c.requires.own c.args.body.now c.requires.size)
+
+pub returns-clause-count : goal.returns-clause-count
+returns-clause-count c =
+    let w = (goal.at.returns-clause-count c).After-copy_from_slice in
+    rw (written w) (whole_count c.args.image.now.bytes c.args.self.now c.requires.standing c.args.k c.requires.known c.requires.own c.args.body.now c.requires.size)
 
 pub returns-clause-moves : goal.returns-clause-moves
 returns-clause-moves c =
