@@ -5,3 +5,4 @@ pub mod EntryOrder
 pub mod StillLaws
 pub mod RemoveLaws
 pub mod AddedStill
+pub mod SetLaws

@@ -5,7 +5,7 @@ use Rattle.std.specs.Cmp.{eq_by_cmp_equiv}
 use Rattle.std.specs.Cmp.Lexicographic.{slice_cmp, nat_list_cmp_total, pointwise, same_text, texts_ties}
 use Rattle.std.specs.Option.{option_map_or}
 use Rattle.std.specs.List.{AllByRecursion, AllZip, filter, IsDistinct}
-use Rattle.std.specs.FinMap.{get, find as value_at, remove, from_entries, get-from_entries, get-remove, same_map, nat_cmp-IsAntisymmetric, slice_cmp-IsAntisymmetric}
+use Rattle.std.specs.FinMap.{find as value_at, remove, from_entries, get-from_entries, get-remove, same_map, nat_cmp-IsAntisymmetric, slice_cmp-IsAntisymmetric}
 use Rattle.std.proofs.lemmas.List.Elements.{filter-append}
 use Rattle.h5_model.specs.Format.AttributeBody.{attribute_of}
 use Rattle.h5_model.specs.Format.Messages.{Message}
@@ -14,13 +14,13 @@ use Rattle.h5_model.specs.Tree.Objects.{Attribute, Attributes}
 use Rattle.h5_model.specs.Tree.Places.{extent_cells}
 use Rattle.h5_attr.specs.Attributes.{is_attribute_named}
 
-abbrev Entry : Type 0
+abbrev pub Entry : Type 0
 Entry = List ℕ × Attribute
 
-abbrev Says : Message → Entry → Type 0
+abbrev pub Says : Message → Entry → Type 0
 Says m a = attribute_of m.body ≡ Some a
 
-abbrev same : List ℕ → List ℕ → Bool
+abbrev pub same : List ℕ → List ℕ → Bool
 same = eq_by_cmp (slice_cmp nat_cmp)
 
 -- a message has the attribute of a name
@@ -66,10 +66,10 @@ told_join [] back (e ∷ before) behind left right = absurd left
 told_join (f ∷ front) back [] behind left right = absurd left
 told_join (f ∷ front) back (e ∷ before) behind left right = (left.0, told_join front back before behind left.1 right)
 
-abbrev names : List Entry → List (List ℕ)
+abbrev pub names : List Entry → List (List ℕ)
 names es = map (λ (a : Entry). a.0) es
 
-abbrev Differs : List ℕ → List Entry → Type 0
+abbrev pub Differs : List ℕ → List Entry → Type 0
 Differs n es = AllByRecursion (λ (m : List ℕ). same n m ≡ false) (names es)
 
 differs_less : (n : List ℕ) (es : List Entry) (e : Entry) (more : List Entry) → Differs n (es ++ e ∷ more) → Differs n (es ++ more)
@@ -90,7 +90,7 @@ less_small P [] e more all = all.1
 less_small P (x ∷ es) e more all = (all.0, less_small P es e more all.1)
 
 -- no entry ties with a name that differs from all
-none_there : (n : List ℕ) (es : List Entry) → Differs n es → value_at (slice_cmp nat_cmp) n es ≡ None
+pub none_there : (n : List ℕ) (es : List Entry) → Differs n es → value_at (slice_cmp nat_cmp) n es ≡ None
 none_there n [] all = refl
 none_there n (e ∷ es) all = rw all.0 (none_there n es all.1)
 
@@ -99,7 +99,7 @@ skips : (q : List ℕ) (es : List Entry) (e : Entry) (more : List Entry) → sam
 skips q [] e more other = rw other refl
 skips q (x ∷ es) e more other = ap (cond (same q x.0) (Some x.1)) (skips q es e more other)
 
-turned : (m n : List ℕ) → same m n ≡ same n m
+pub turned : (m n : List ℕ) → same m n ≡ same n m
 turned m n = (eq_by_cmp_equiv nat_list_cmp_total).symm m n
 
 -- the name of one entry is no other's

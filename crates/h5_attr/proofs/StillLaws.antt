@@ -1,11 +1,11 @@
 -- A message that is no attribute any more: what the others say stays.
-use Rattle.std.proofs.Common.{◌≡◌, ℕ, ◌≤◌, ◌==◌, ◌+◌, Bool, true, false, T, cond, if◌then◌else◌, IsTrue, List, [], ◌∷◌, ◌++◌, Option, Some, option_map, refl, sym, ap, ◌∙◌, subst}
-use Rattle.std.specs.List.{AllByRecursion, filter, find}
+use Rattle.std.proofs.Common.{◌≡◌, ℕ, ◌≤◌, ◌==◌, ◌+◌, Bool, true, false, cond, if◌then◌else◌, IsTrue, ◌||◌, List, [], ◌∷◌, ◌++◌, Some, option_map, refl, sym, ap, ◌∙◌, subst}
+use Rattle.std.specs.List.{AllByRecursion, filter, find, list_any}
 use Rattle.std.specs.Option.{option_and_then}
-use Rattle.std.proofs.lemmas.List.Elements.{filter-append}
 use Rattle.h5_model.specs.Format.Addresses.{symbol_table_of}
 use Rattle.h5_model.specs.Format.Datatype.{fixed_of}
 use Rattle.h5_model.specs.Format.Messages.{Message, count_of, first_body}
+use Rattle.h5_header.specs.Added.{is_movable}
 use Rattle.h5_attr.specs.Still.{IsSaidStill}
 
 -- the same messages
@@ -17,6 +17,17 @@ same_still ms = record {
   types = λ p these all. all;
   table = λ once. refl;
   datatype = λ once. refl;
+}
+
+-- one edit behind another
+pub still_then : (ms next last : List Message) → IsSaidStill ms next → IsSaidStill next last → IsSaidStill ms last
+still_then ms next last first second = record {
+  others = λ p none. second.others p none ∙ first.others p none;
+  bodies = λ kind none. second.bodies kind none ∙ first.bodies kind none;
+  counts = λ kind none. second.counts kind none ∙ first.counts kind none;
+  types = λ p these all. second.types p these (first.types p these all);
+  table = λ once. second.table (subst (λ n. n ≤ 1) (sym (first.counts 17 (refl, (refl, (refl, tt))))) once) ∙ first.table once;
+  datatype = λ once. second.datatype (subst (λ n. n ≤ 1) (sym (first.counts 3 (refl, (refl, (refl, tt))))) once) ∙ first.datatype once;
 }
 
 module _ (x y : Message) (was : x.kind ≡ 12) (now : y.kind ≡ 0) where
@@ -44,6 +55,11 @@ module _ (x y : Message) (was : x.kind ≡ 12) (now : y.kind ≡ 0) where
       → AllByRecursion (λ (m : Message). IsTrue (p m.kind)) (front ++ y ∷ back)
   of_types p nil [] back all = (subst (λ (k : ℕ). IsTrue (p k)) (sym now) nil, all.1)
   of_types p nil (f ∷ front) back all = (all.0, of_types p nil front back all.1)
+
+  -- no message that may move is among them
+  pub blank_movable : (front back : List Message) → list_any is_movable (front ++ y ∷ back) ≡ list_any is_movable (front ++ x ∷ back)
+  blank_movable [] back = rw (was, now) refl
+  blank_movable (f ∷ front) back = ap (λ (b : Bool). is_movable f || b) (blank_movable front back)
 
   -- a message that was an attribute is NIL
   pub blank_still : (front back : List Message) → IsSaidStill (front ++ x ∷ back) (front ++ y ∷ back)

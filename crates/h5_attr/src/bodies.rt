@@ -13,14 +13,18 @@ use h5_model::{Cause, OpenFault};
 use h5_space::Image;
 use std::alloc::Global;
 
-/// Whether each attribute of a header can be read: it has the form, and its extent has at most 2^40 cells, sizes
-/// of 0 left out. It takes no memory.
+/// Checks that each attribute of a header can be read. Names are not compared; `check_names` does that. Takes no
+/// memory.
 ///
-/// The first attribute message that cannot decides: `AttributeForm` where it has another form, and else
-/// `TooLarge`, both at the header. Names are not compared; that is for `check_names`.
-///
-/// That the bodies lie in the image is the caller's condition; they do in the image from which the messages were
+/// That the bodies lie in the image is the caller's condition. They do in the image from which the messages were
 /// read.
+///
+/// # Errors
+///
+/// The first message of an attribute that cannot be read decides. The address is that of the header.
+///
+/// - `AttributeForm`: it has another form than an attribute has.
+/// - `TooLarge`: the product of its sizes, with sizes of 0 left out, is above 2^40.
 pub fn check_bodies(alloc: Global, image: &Image, messages: &Messages) -> Result<(), OpenFault>
     requires { IsWithin (length image.now.bytes) messages.now.list }
     ensures first { let ms = messages_in image.now.bytes messages.now.list in

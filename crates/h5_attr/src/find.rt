@@ -12,10 +12,10 @@ use h5_header::{Message, Messages};
 use h5_msg::AttributeBody;
 use h5_space::Image;
 
-/// The attribute of this name, or `None` where there is none. It takes no memory.
+/// The attribute with this name, or `None` if there is none. Takes no memory.
 ///
-/// Messages of attributes that have another form are passed over, and of two attributes with the name it is the
-/// first. That the bodies lie in the image is the caller's condition.
+/// Attributes that have another form are passed over. Of two attributes with this name it is the first. That the
+/// bodies lie in the image is the caller's condition.
 pub fn get<'a>(image: &'a Image, messages: &Messages, name: &[u8]) -> Option<AttributeBody<'a>>
     requires { IsWithin (length image.now.bytes) messages.now.list }
     ensures first { result ≡ attribute_named name.now (messages_in image.now.bytes messages.now.list) }
@@ -34,8 +34,7 @@ pub fn get<'a>(image: &'a Image, messages: &Messages, name: &[u8]) -> Option<Att
     None
 }
 
-/// The place of the first message with the attribute of this name, or `None` where there is none. It takes
-/// no memory.
+/// The index of the first message with an attribute of this name, or `None` if there is none. Takes no memory.
 ///
 /// That the bodies lie in the image is the caller's condition.
 pub fn find_named(image: &Image, messages: &Messages, name: &[u8]) -> Option<usize>

@@ -4,6 +4,7 @@
 #![tactic(auto)]
 
 mod bodies;
+mod body;
 mod edit;
 mod find;
 mod message;
@@ -11,7 +12,8 @@ mod names;
 mod order;
 
 pub use bodies::check_bodies;
-pub use edit::remove_at;
+pub use body::new_body;
+pub use edit::{remove_at, set};
 pub use find::{find_named, get};
 pub use h5_msg::AttributeBody as AttrRef;
 pub use names::{check_names, list};

@@ -17,14 +17,18 @@ use h5_model::{Cause, OpenFault};
 use h5_space::Image;
 use std::alloc::{AllocError, Global};
 
-/// Whether the names of a header's attributes differ.
+/// Checks that the names of a header's attributes differ. Attributes that have another form are passed over;
+/// `check_bodies` finds them. Takes memory for a reference to each name, and time to sort these.
 ///
-/// `DuplicateMessage` at the header where two attributes that have the form have one name, and else `NoMemory`
-/// where memory is refused. Messages of attributes that have another form are passed over; `check_bodies` finds
-/// them. Takes memory for a reference to each name, and time for a sort of these.
-///
-/// That the bodies lie in the image is the caller's condition; they do in the image from which the messages were
+/// That the bodies lie in the image is the caller's condition. They do in the image from which the messages were
 /// read.
+///
+/// # Errors
+///
+/// The address is that of the header.
+///
+/// - `DuplicateMessage`: two attributes have the same name.
+/// - `NoMemory`: memory is refused.
 pub fn check_names(alloc: Global, image: &Image, messages: &Messages) -> Result<(), OpenFault>
     requires { IsWithin (length image.now.bytes) messages.now.list }
     ensures once { OnOk result (HasNamesOnce (messages_in image.now.bytes messages.now.list)) }
@@ -51,10 +55,14 @@ pub fn check_names(alloc: Global, image: &Image, messages: &Messages) -> Result<
     Ok(())
 }
 
-/// The names of a header's attributes in the order of their bytes.
+/// The names of a header's attributes, in ascending order of their bytes.
 ///
-/// Messages of attributes that have another form are passed over. Takes memory for a reference to each name.
-/// That the bodies lie in the image is the caller's condition.
+/// Attributes that have another form are passed over. Takes memory for a reference to each name. That the bodies lie
+/// in the image is the caller's condition.
+///
+/// # Errors
+///
+/// `AllocError` if memory is refused.
 pub fn list<'a>(
     alloc: Global,
     image: &'a Image,

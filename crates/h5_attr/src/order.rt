@@ -13,10 +13,14 @@ use h5_msg::AttributeBody;
 use h5_space::Image;
 use std::alloc::{AllocError, Global};
 
-/// The attributes of a header in the order of the bytes of their names.
+/// The attributes of a header, in ascending order of the bytes of their names.
 ///
-/// Messages of attributes that have another form are passed over. Takes memory for a reference to each attribute.
-/// That the bodies lie in the image is the caller's condition.
+/// Attributes that have another form are passed over. Takes memory for a reference to each attribute. That the bodies
+/// lie in the image is the caller's condition.
+///
+/// # Errors
+///
+/// `AllocError` if memory is refused.
 pub fn sorted<'a>(
     alloc: Global,
     image: &'a Image,
