@@ -23,5 +23,17 @@ pub mod SplitSteps
 pub mod UnlinkSteps
 pub mod RewriteSteps
 pub mod WayInTree
+pub mod WaySteps
+pub mod HalfLists
+pub mod HeldKeys
+pub mod ClimbStands
+pub mod SplitWrites
+pub mod SplitCalls
+pub mod InsertionEnds
+pub mod FirstChild
+pub mod KeyedWays
+pub mod InsertionAlong
 pub mod RemovalSteps
+pub mod RemovalEnds
 pub mod RaiseSteps
+pub mod RaiseCalls

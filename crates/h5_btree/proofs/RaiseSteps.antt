@@ -66,7 +66,7 @@ module _ (t t₁ t₂ t₃ t₄ u : Space) (kind : Kind) (own : List ℕ) (root 
   is_root : Listed all root
   is_root = among_all root (among root is)
 
-  others : (n : ℕ) → Listed own n → n ≢ root → node_bytes u.bytes kind n ≡ node_bytes t.bytes kind n
+  pub others : (n : ℕ) → Listed own n → n ≢ root → node_bytes u.bytes kind n ≡ node_bytes t.bytes kind n
   others n at not_root =
       let here = among_all n (among n at) in
       written_others t₄ u kind all root _ apart₄ is_root write_root n here not_root
@@ -75,10 +75,10 @@ module _ (t t₁ t₂ t₃ t₄ u : Space) (kind : Kind) (own : List ℕ) (root 
       ∙ taken_others t₁ t₂ kind (q ∷ own) p apart₁ take_p n (among n at)
       ∙ taken_others t t₁ kind own q apart take_q n at
 
-  q_bytes : node_bytes u.bytes kind q ≡ node_bytes t₄.bytes kind q
+  pub q_bytes : node_bytes u.bytes kind q ≡ node_bytes t₄.bytes kind q
   q_bytes = written_others t₄ u kind all root _ apart₄ is_root write_root q (among_all q is_q) (λ e. new_q root is (sym e))
 
-  p_bytes : node_bytes u.bytes kind p ≡ node_bytes t₃.bytes kind p
+  pub p_bytes : node_bytes u.bytes kind p ≡ node_bytes t₃.bytes kind p
   p_bytes =
       written_others t₄ u kind all root _ apart₄ is_root write_root p is_p (λ e. new_p root (among root is) (sym e))
       ∙ written_others t₃ t₄ kind all q _ apart₃ (among_all q is_q) write_q p is_p (λ e. new_p q is_q (sym e))
@@ -120,7 +120,7 @@ module _ (t t₁ t₂ t₃ t₄ u : Space) (kind : Kind) (own : List ℕ) (root 
       (omega (arith, count (node_bytes t₄.bytes kind q), at_q, more)) (omega (arith, count (node_bytes t₃.bytes kind p), at_p, some))
 
 -- below a root of level 0 there is no other node, and else each node has a child
-others_filled : (s t : Space) (kind : Kind) (root m j child : ℕ) (list owned own : List ℕ) (c : IsClimbing s t kind root m root [] j child list owned own)
+pub others_filled : (s t : Space) (kind : Kind) (root m j child : ℕ) (list owned own : List ℕ) (c : IsClimbing s t kind root m root [] j child list owned own)
     → Listed own root → (n : ℕ) → Listed own n → n ≢ root → 1 ≤ entries_in (node_bytes t.bytes kind n)
 others_filled s t kind root zero j child list owned own c is n at other =
     let w : ℕ → ℕ = λ k. holds n k (node_length kind) in

@@ -1,28 +1,25 @@
 -- A removal on its way up, as the code goes: what it may read and write at a node, and what it has made then.
-use Rattle.std.proofs.Common.{◌≡◌, ◌≢◌, ◌⊎◌, inl, inr, get_or, ℕ, suc, ◌+◌, ◌^◌, ◌<◌, ◌≤◌, List, [], ◌∷◌, ◌++◌, length, drop, slice_index_or, refl, sym, ap, ◌∙◌, subst, arith}
-use Rattle.std.specs.List.{Contains, remove, AllByRecursion}
+use Rattle.std.proofs.Common.{◌≡◌, ◌≢◌, ◌⊎◌, inl, inr, get_or, ℕ, suc, ◌+◌, ◌^◌, ◌<◌, ◌≤◌, List, [], ◌∷◌, ◌++◌, length, refl, sym, ap, ◌∙◌, subst, arith}
 use Rattle.h5_bytes.specs.Bytes.{undefined}
 use Rattle.h5_bytes.specs.Blocks.{holds, cover}
 use Rattle.h5_bytes.proofs.BlockLaws.{holds-le}
 use Rattle.h5_model.specs.Format.Rows.{Node, IsRow}
-use Rattle.h5_model.specs.Format.Nodes.{Kind, IsNode, entries_in, node_at, node_block, node_bytes, node_length, node_of, reading_of, tree_blocks}
+use Rattle.h5_model.specs.Format.Nodes.{Kind, IsNode, entries_in, node_at, node_bytes, node_length, node_of, reading_of, tree_blocks}
 use Rattle.h5_model.proofs.RowLaws.{at_listed}
 use Rattle.h5_space.specs.Space.{Space}
 use Rattle.h5_space.specs.Whole.{IsApart}
-use Rattle.h5_space.specs.Moves.{Moves, Spends}
+use Rattle.h5_space.specs.Moves.{Spends}
 use Rattle.h5_btree.specs.Climb.{IsNoNode}
 use Rattle.h5_btree.specs.Rewritten.{IsRewritten}
-use Rattle.h5_btree.specs.Removal.{EndsInTree, HasShrunk, IsShrinking, IsChildTaken, IsTakenAlong}
+use Rattle.h5_btree.specs.Removal.{IsShrinking}
 use Rattle.h5_btree.specs.declared.way.Step.{Step}
 use Rattle.h5_btree.proofs.NodeLaws.{length-children}
-use Rattle.h5_btree.proofs.RowEdits.{last_of, level_here, left_here, right_here, front_last, front_level}
-use Rattle.h5_btree.proofs.DropLaws.{remove_alone}
+use Rattle.h5_btree.proofs.RowEdits.{last_of, level_here, left_here, front_last, front_level}
 use Rattle.h5_btree.proofs.TreeReadings.{Listed, owned_at, owned_of_level}
 use Rattle.h5_btree.proofs.ClimbSteps.{covers, inside_of_apart, undefined_free}
 use Rattle.h5_btree.proofs.SplitSteps.{right_known}
-use Rattle.h5_btree.proofs.DropSteps.{without, shrink_start, shrink_kept, shrink_emptied}
-use Rattle.h5_btree.proofs.UnlinkSteps.{MayBeWritten, maybe_apart, maybe_others, left_known, shrink_unlink}
-use Rattle.h5_btree.proofs.RewriteSteps.{rewritten_then, may_be_written, may_be_spends}
+use Rattle.h5_btree.proofs.UnlinkSteps.{MayBeWritten, maybe_apart, maybe_others, left_known}
+use Rattle.h5_btree.proofs.RewriteSteps.{may_be_written, may_be_spends}
 
 -- the neighbour to the left is a node of the tree, or there is none
 left_there : (t : Space) (kind : Kind) (own : List ℕ) (m p : ℕ) (front back : List ℕ) → m < 16 → IsNoNode (reading_of t.bytes kind own) undefined
@@ -44,10 +41,10 @@ left_there t kind own m p front back top out row is =
 
 -- what may be read and written at the node where a removal stands
 module _ (s t : Space) (kind : Kind) (root m p : ℕ) (way : List Step) (i : ℕ) (list owned own : List ℕ) (c : IsShrinking s t kind root m p way i list owned own) where
-  top : m < 16
+  pub top : m < 16
   top = let h = c.high in omega (arith, h)
 
-  out : IsNoNode (reading_of t.bytes kind own) undefined
+  pub out : IsNoNode (reading_of t.bytes kind own) undefined
   out = undefined_free t kind own c.apart c.short
 
   pub own_p : Listed own p
@@ -59,7 +56,7 @@ module _ (s t : Space) (kind : Kind) (root m p : ℕ) (way : List Step) (i : ℕ
   pub form_p : IsNode kind (node_bytes t.bytes kind p)
   form_p = at_listed (λ at. IsNode kind (node_bytes t.bytes kind at)) own p c.formed own_p
 
-  same_p : reading_of t.bytes kind own p ≡ node_at t.bytes kind p
+  pub same_p : reading_of t.bytes kind own p ≡ node_at t.bytes kind p
   same_p = owned_at (node_at t.bytes kind) own p own_p
 
   pub place_p : i < length (node_at t.bytes kind p).children
@@ -98,7 +95,7 @@ module _ (s t : Space) (kind : Kind) (root m p : ℕ) (way : List Step) (i : ℕ
 
     -- the neighbour to the left is written
     module _ (t₁ : Space) (w₁ : l ≢ undefined → IsRewritten t t₁ kind l (record (node_at t.bytes kind l) { right = r })) (n₁ : l ≡ undefined → t₁ ≡ t) where
-      first : MayBeWritten t t₁ kind own l (record (node_at t.bytes kind l) { right = r })
+      pub first : MayBeWritten t t₁ kind own l (record (node_at t.bytes kind l) { right = r })
       first = may_be_written t t₁ kind own l (record (node_at t.bytes kind l) { right = r }) c.apart c.short left_l w₁ n₁
 
       apart₁ : IsApart (tree_blocks kind own) t₁.free (length t₁.bytes)
@@ -124,7 +121,7 @@ module _ (s t : Space) (kind : Kind) (root m p : ℕ) (way : List Step) (i : ℕ
         w₂' : r ≢ undefined → IsRewritten t₁ t₂ kind r (record (node_at t.bytes kind r) { left = l })
         w₂' there = subst (λ (b : List ℕ). IsRewritten t₁ t₂ kind r (record (node_of kind b) { left = l })) (same_right there) (w₂ there)
 
-        second : MayBeWritten t₁ t₂ kind own r (record (node_at t.bytes kind r) { left = l })
+        pub second : MayBeWritten t₁ t₂ kind own r (record (node_at t.bytes kind r) { left = l })
         second = may_be_written t₁ t₂ kind own r (record (node_at t.bytes kind r) { left = l }) apart₁ short₁ right_r w₂' n₂
 
         pub spends₂ : Spends t₁ t₂ 0 0

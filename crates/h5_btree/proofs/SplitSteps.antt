@@ -129,10 +129,10 @@ module _ (t t₁ t₂ t₃ u : Space) (kind : Kind) (own : List ℕ) (p q j chil
       ∙ taken_others t t₁ kind own q apart take_q n listed
 
   -- p and q say what was written
-  p_bytes : node_bytes u.bytes kind p ≡ node_bytes t₃.bytes kind p
+  pub p_bytes : node_bytes u.bytes kind p ≡ node_bytes t₃.bytes kind p
   p_bytes = last_write.1 p (among p is) (λ e. far (sym e))
 
-  q_bytes : q ≢ r → node_bytes u.bytes kind q ≡ node_bytes t₂.bytes kind q
+  pub q_bytes : q ≢ r → node_bytes u.bytes kind q ≡ node_bytes t₂.bytes kind q
   q_bytes other =
       last_write.1 q is_q other ∙ written_others t₂ t₃ kind all p _ apart₂ (among p is) write_p q is_q (λ e. new p is (sym e))
 

@@ -89,7 +89,7 @@ module _ (V W : Reading) (same : KeepsRows V W) where
   next_row-keyed [] = refl
   next_row-keyed (n ∷ row) = rw ((same n).1, next_row-keyed row) refl
 
-  IsRow-keyed : (level left : ℕ) (row : List ℕ) → IsRow V level left row → IsRow W level left row
+  pub IsRow-keyed : (level left : ℕ) (row : List ℕ) → IsRow V level left row → IsRow W level left row
   IsRow-keyed level left [] is = tt
   IsRow-keyed level left (n ∷ row) is = rw (same n).1 (is.0, is.1, is.2, IsRow-keyed level n row is.3)
 

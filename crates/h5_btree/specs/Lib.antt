@@ -9,3 +9,4 @@ pub mod Rewritten
 pub mod Totals
 pub mod Removal
 pub mod Insertion
+pub mod Held

@@ -40,17 +40,14 @@ abbrev pub IsTakenAlong : Space → Space → Kind → ℕ → List Step → Lis
 IsTakenAlong s t kind root steps list owned =
     (step : Step) × (level : ℕ) × (own : List ℕ) × Contains steps step × IsChildTaken s t kind root level step.node step.place list owned own
 
--- a removal has come to the first of these steps
-pub record HasShrunk (t : Space) (kind : Kind) (steps : List Step) : Type 0 where
+-- a removal has come to this step, of those up to the root
+pub record HasShrunk (t : Space) (kind : Kind) (step : Step) (above : List Step) : Type 0 where
   pub start : Space
   pub root : ℕ
   pub level : ℕ
   pub list : List ℕ
   pub owned : List ℕ
   pub own : List ℕ
-  pub step : Step
-  pub above : List Step
-  pub steps_are : steps ≡ step ∷ above
   pub shrinks : IsShrinking start t kind root level step.node above step.place list owned own
 
 -- The way ends in the tree at this root, at the child with the number k of those at its bottom; the tree's nodes and the free blocks are

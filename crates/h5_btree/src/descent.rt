@@ -18,11 +18,13 @@ pub struct ChildPlace<'a> {
     pub child: usize,
 }
 
-/// The child of a node of level 0 below which something stands, if it stands in the tree; `None` where the tree has no
-/// children. Reads one node of each level, and takes no memory.
+/// The child of a node of level 0 below which the thing that is sought stands, if it stands in the tree; `Ok(None)`
+/// if the tree has no children. Reads one node of each level, and takes no memory. Other nodes are not looked at.
 ///
-/// `Truncated` or `NodeForm` where a node on the way passes the end or has another form, level or count of children
-/// than it can have there. Nodes beside the way are not looked at.
+/// # Errors
+///
+/// - `Truncated`: a node on the way passes the end.
+/// - `NodeForm`: a node on the way has another form, another level, or a count of children that cannot stand there.
 pub fn find_place<'a, S: Sought>(
     image: &'a [u8],
     root: u64,
@@ -50,7 +52,11 @@ pub fn find_place<'a, S: Sought>(
     Ok(Some(place))
 }
 
-/// What the child at the end of the way leads to; `None` where the tree has no children. It is refused as `find_place`.
+/// The address to which the child at the end of the way leads; `Ok(None)` if the tree has no children.
+///
+/// # Errors
+///
+/// Those of [`find_place`].
 pub fn find_leaf<S: Sought>(image: &[u8], root: u64, sought: &S) -> Result<Option<u64>, NodeFault>
     ensures empty { IfOk result (λ leaf. (leaf ≡ None)
         ↔ ((node_at image.now (S.tree_kind sought.now) root).children ≡ [])) }

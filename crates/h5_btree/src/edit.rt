@@ -1,6 +1,6 @@
 //! Nodes edited where they stand (File Format Specification 3.0, section III.A.1).
 //!
-//! Each call changes one node: its level, one of its keys, children or neighbours, or it puts children in or takes them
+//! Each call changes one node: its level, one of its keys, children or siblings, or it puts children in or takes them
 //! out. No other byte of the image changes, and no call takes memory.
 
 ghost use Rattle.std.specs.Prelude.{◌≡◌, ◌+◌, ◌*◌, ◌^◌, ◌<◌, ◌≤◌, drop, length, slice_set, take};
@@ -27,7 +27,7 @@ pub fn set_level(image: &mut Image, kind: NodeKind, at: u64, level: u8)
     put_level(kind, bytes, level);
 }
 
-/// Names another neighbour to the left.
+/// Writes the address of another left sibling.
 pub fn set_left(image: &mut Image, kind: NodeKind, at: u64, left: u64)
     requires inside { at + node_length kind ≤ length image.old.bytes }
     requires form { IsNode kind (node_bytes image.old.bytes kind at) }
@@ -39,7 +39,7 @@ pub fn set_left(image: &mut Image, kind: NodeKind, at: u64, left: u64)
     put_left(kind, bytes, left);
 }
 
-/// Names another neighbour to the right.
+/// Writes the address of another right sibling.
 pub fn set_right(image: &mut Image, kind: NodeKind, at: u64, right: u64)
     requires inside { at + node_length kind ≤ length image.old.bytes }
     requires form { IsNode kind (node_bytes image.old.bytes kind at) }
@@ -51,7 +51,7 @@ pub fn set_right(image: &mut Image, kind: NodeKind, at: u64, right: u64)
     put_right(kind, bytes, right);
 }
 
-/// Writes another key at place `i`.
+/// Writes the bytes of another key, at index `i`.
 pub fn set_key(image: &mut Image, kind: NodeKind, at: u64, i: usize, key: &[u8])
     requires inside { at + node_length kind ≤ length image.old.bytes }
     requires form { IsNode kind (node_bytes image.old.bytes kind at) }
@@ -65,7 +65,7 @@ pub fn set_key(image: &mut Image, kind: NodeKind, at: u64, i: usize, key: &[u8])
     put_key(kind, bytes, i, key);
 }
 
-/// Writes the address of another child at place `i`.
+/// Writes the address of another child, at index `i`.
 pub fn set_child(image: &mut Image, kind: NodeKind, at: u64, i: usize, child: u64)
     requires inside { at + node_length kind ≤ length image.old.bytes }
     requires form { IsNode kind (node_bytes image.old.bytes kind at) }
@@ -78,7 +78,7 @@ pub fn set_child(image: &mut Image, kind: NodeKind, at: u64, i: usize, child: u6
     put_child(kind, bytes, i, child);
 }
 
-/// Puts a child and a key in at place `j`, the key before the child: those from there on move one place.
+/// Puts a child in at index `j`, and a key before it. Those from there on move one place.
 pub fn insert_child(image: &mut Image, kind: NodeKind, at: u64, j: usize, key: &[u8], child: u64)
     requires inside { at + node_length kind ≤ length image.old.bytes }
     requires form { IsNode kind (node_bytes image.old.bytes kind at) }
@@ -95,7 +95,7 @@ pub fn insert_child(image: &mut Image, kind: NodeKind, at: u64, j: usize, key: &
     put_child_in(kind, bytes, j, key, child);
 }
 
-/// Takes child `j` out, and the key before it: those behind move one place.
+/// Takes child `j` out, and the key before it. Those behind move one place.
 pub fn remove_child(image: &mut Image, kind: NodeKind, at: u64, j: usize)
     requires inside { at + node_length kind ≤ length image.old.bytes }
     requires form { IsNode kind (node_bytes image.old.bytes kind at) }
@@ -138,7 +138,7 @@ pub fn drop_children(image: &mut Image, kind: NodeKind, at: u64, n: usize)
     drop_front(kind, bytes, n);
 }
 
-/// Copies a node to another block, of which it takes the place.
+/// Copies a node to another block, whose bytes are then those of the node.
 pub fn copy_node(image: &mut Image, kind: NodeKind, from: u64, to: u64)
     requires from { from + node_length kind ≤ length image.old.bytes }
     requires to { to + node_length kind ≤ length image.old.bytes }

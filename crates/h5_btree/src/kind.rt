@@ -5,7 +5,7 @@ ghost use Rattle.h5_model.specs.Format.Nodes.{chunk_kind, group_kind, node_lengt
 
 use std::marker::Model;
 
-/// What the trees of one kind have in common: the type of their nodes, the length of a key, and K.
+/// The kind of a B-tree: the type of its nodes, the length of a key in bytes, and K.
 #[derive(Clone, Copy, Debug, PartialEq, Eq)]
 pub struct NodeKind {
     type_byte: u8,

@@ -11,9 +11,10 @@ use crate::kind::NodeKind;
 use crate::sought::Sought;
 use h5_bytes::{text_from, u64_at};
 
-/// A name that is sought in a group's tree with this K, and the segment of the heap that has the names of its keys.
+/// A name that is sought in a group's tree with this K. `segment` is the segment of the heap that has the names of
+/// the keys.
 ///
-/// It stands behind a key whose name is before it, in the order of their bytes.
+/// The name stands behind a key whose name is before it, in the order of their bytes.
 #[derive(Clone, Copy)]
 pub struct SoughtName<'a> {
     pub k: u16,

@@ -20,7 +20,7 @@ pub(crate) const CHILD: usize = 8;
 /// The greatest level of a node.
 pub const MAX_LEVEL: u8 = 15;
 
-/// A node: its level, its neighbours, its children, and one key more than there are children.
+/// A node: its level, its siblings, its children, and one key more than there are children.
 #[derive(Drop)]
 pub struct Node<'a> {
     kind: NodeKind,
@@ -50,21 +50,22 @@ impl<'a> Node<'a> {
         Node { kind, bytes }
     }
 
-    /// How far above the leaves the node stands. Nodes of level 0 lead to what the tree is over.
+    /// How far above the leaves the node stands. The children of a node of level 0 are the leaves: symbol nodes or
+    /// chunks.
     pub fn level(&self) -> u8
         ensures { result ≡ self.now.level }
     {
         self.bytes[5]
     }
 
-    /// The address of the neighbour to the left, or the undefined address.
+    /// The address of the left sibling, or the undefined address.
     pub fn left(&self) -> u64
         ensures { result ≡ self.now.left }
     {
         u64_at(self.bytes, 8)
     }
 
-    /// The address of the neighbour to the right, or the undefined address.
+    /// The address of the right sibling, or the undefined address.
     pub fn right(&self) -> u64
         ensures { result ≡ self.now.right }
     {
@@ -86,7 +87,7 @@ impl<'a> Node<'a> {
         self.len() == 0
     }
 
-    /// The bytes of a key. Key i stands before child i, and the last key behind all children.
+    /// The bytes of key `i`. Key `i` stands before child `i`, and the last key behind all children.
     pub fn key(&self, i: usize) -> &'a [u8]
         requires { i < length self.now.keys }
         ensures { slice_get self.now.keys i ≡ Some result.now }
@@ -94,7 +95,7 @@ impl<'a> Node<'a> {
         key_at(self.kind, self.bytes, i)
     }
 
-    /// The heap offset of the name that a key of a group's tree stands for.
+    /// The offset in the heap of the name that key `i` stands for, in the tree of a group.
     pub fn key_offset(&self, i: usize) -> u64
         requires { i < length self.now.keys }
         ensures { result ≡ offset_in (slice_index_or self.now.keys i []) }
@@ -102,8 +103,8 @@ impl<'a> Node<'a> {
         u64_at(key_at(self.kind, self.bytes, i), 0)
     }
 
-    /// The name that a key of a group's tree stands for: the text at the key's offset in this heap segment, up to the first zero.
-    /// It is empty where the offset passes the end.
+    /// The name that key `i` stands for, in the tree of a group: the text at the key's offset in this heap segment,
+    /// up to the first zero. It is empty where the offset passes the end.
     pub fn key_name<'b>(&self, i: usize, segment: &'b [u8]) -> &'b [u8]
         requires { i < length self.now.keys }
         ensures { result.now ≡ key_name segment.now self.now i }
@@ -111,7 +112,7 @@ impl<'a> Node<'a> {
         text_from(segment, self.key_offset(i))
     }
 
-    /// The address of a child.
+    /// The address of child `i`.
     pub fn child(&self, i: usize) -> u64
         requires { i < length self.now.children }
         ensures { slice_get self.now.children i ≡ Some result }
@@ -119,7 +120,11 @@ impl<'a> Node<'a> {
         child_at(self.kind, self.bytes, i)
     }
 
-    /// `NodeForm` where the node cannot be the root of a tree: its level is above 15, or is above 0 and there is no child.
+    /// Checks that the node can be the root of a tree.
+    ///
+    /// # Errors
+    ///
+    /// `NodeForm` if its level is above 15, or if its level is above 0 and it has no child.
     pub fn check_root(&self) -> Result<(), NodeFault>
         ensures form { IsOk result ↔ MayBeRoot self.now }
         ensures fault { IfErr result (λ fault. fault ≡ NodeFault.NodeForm) }
@@ -130,8 +135,11 @@ impl<'a> Node<'a> {
         Ok(())
     }
 
-    /// `NodeForm` where the node cannot stand at this level of a tree below its root: its level is another, or there is no
-    /// child.
+    /// Checks that the node can stand at this level of a tree, below the root.
+    ///
+    /// # Errors
+    ///
+    /// `NodeForm` if its level is another, or if it has no child.
     pub fn check_level(&self, level: u8) -> Result<(), NodeFault>
         ensures form { IsOk result ↔ MayStandAt level self.now }
         ensures fault { IfErr result (λ fault. fault ≡ NodeFault.NodeForm) }

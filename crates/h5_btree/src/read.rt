@@ -23,10 +23,12 @@ pub enum NodeFault {
     Truncated,
 }
 
-/// Reads a node of this kind, whose bytes are as many as one has. Takes no memory.
+/// Reads a node of this kind. The slice has as many bytes as such a node; that is the caller's condition. The level
+/// and the keys may be any. Takes no memory.
 ///
-/// `NodeForm` where the signature or the type is another, or where there are more than 2K children. Its level and its
-/// keys may be any.
+/// # Errors
+///
+/// `NodeForm` if the signature or the type is another, or if there are more than 2K children.
 pub fn read_node(kind: NodeKind, bytes: &[u8]) -> Result<Node<'_>, NodeFault>
     requires { length bytes.now ≡ node_length kind }
     ensures node { IfOk result (λ node. node ≡ node_of kind bytes.now) }
@@ -45,7 +47,10 @@ pub fn read_node(kind: NodeKind, bytes: &[u8]) -> Result<Node<'_>, NodeFault>
 
 /// Reads the node of this kind at an address of an image. Takes no memory.
 ///
-/// `Truncated` where it passes the end, else `NodeForm` as `read_node`.
+/// # Errors
+///
+/// - `Truncated`: the node passes the end.
+/// - `NodeForm`: as of [`read_node`].
 pub fn read_node_at(image: &[u8], kind: NodeKind, at: u64) -> Result<Node<'_>, NodeFault>
     ensures node { IfOk result (λ node. node ≡ node_at image.now kind at) }
     ensures keys { IfOk result (λ node. AllByRecursion (λ key. length key ≡ kind.key_length) node.keys) }
@@ -58,6 +63,15 @@ pub fn read_node_at(image: &[u8], kind: NodeKind, at: u64) -> Result<Node<'_>, N
         return Err(NodeFault::Truncated);
     }
     read_node(kind, bytes_at(image, kind, at as usize))
+}
+
+/// The node of this kind at an address where one stands. Takes no memory.
+pub(crate) fn node_there(image: &[u8], kind: NodeKind, at: u64) -> Node<'_>
+    requires inside { at + node_length kind ≤ length image.now }
+    requires form { IsNode kind (node_bytes image.now kind at) }
+    ensures { result ≡ node_at image.now kind at }
+{
+    Node::new(kind, bytes_at(image, kind, at as usize))
 }
 
 /// The bytes of a node.

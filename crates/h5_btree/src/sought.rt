@@ -27,8 +27,8 @@ pub trait Sought {
         ensures { result ≡ behind self.now key.now };
 }
 
-/// The child of a node below which something stands, if it stands below the node. Asks at most as many keys as the
-/// count of children has binary digits.
+/// The child of a node below which the thing that is sought stands, if it stands below the node. Compares with at
+/// most as many keys as the count of children has binary digits.
 pub fn child_for<S: Sought>(node: &Node<'_>, sought: &S) -> usize
     requires filled { 1 ≤ length node.now.children }
     requires keys { AllByRecursion (λ key. length key ≡ (S.tree_kind sought.now).key_length) node.now.keys }

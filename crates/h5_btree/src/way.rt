@@ -1,16 +1,20 @@
 //! The way from a node of a tree up to its root (File Format Specification 3.0, section III.A.1).
 
-ghost use Rattle.std.specs.Prelude.{◌≡◌, ◌+◌, ◌<◌, ◌≤◌, ◌↔◌, ℕ, [], ◌∷◌, ◌++◌, List, None, IfErr, IfOk, IfSome, IsOk, length};
+ghost use Rattle.std.specs.Prelude.{◌≡◌, ◌+◌, ◌<◌, ◌≤◌, ◌↔◌, ℕ, [], ◌∷◌, ◌++◌, List, None, IfErr, IfOk, IfSome, IsOk, IsTrue, length};
 ghost use Rattle.h5_bytes.specs.Blocks.{Inside};
 ghost use Rattle.h5_model.specs.Format.Nodes.{HasTree, node_at, tree_blocks};
 ghost use Rattle.h5_btree.specs.Descent.{IsInRow, IsWayTo, StopsDescent, StopsFromRoot};
+ghost use Rattle.h5_btree.specs.Insertion.{IsFullWay};
+ghost use Rattle.h5_btree.specs.Removal.{EndsSomewhere};
 
+use crate::kind::NodeKind;
 use crate::node::MAX_LEVEL;
-use crate::read::{NodeFault, read_node_at};
+use crate::read::{NodeFault, node_there, read_node_at};
 use crate::sought::{Sought, child_for};
+use h5_space::Image;
 use std::marker::Model;
 
-/// A node on the way, and the place in it of what the way comes from.
+/// A node on the way, and the index in it of the child from which the way comes.
 #[derive(Clone, Copy, Debug)]
 pub struct Step {
     pub node: u64,
@@ -18,9 +22,10 @@ pub struct Step {
 }
 
 /// How many steps a way has at most: one for each level.
-const MOST_STEPS: usize = MAX_LEVEL as usize + 1;
+pub(crate) const MOST_STEPS: usize = MAX_LEVEL as usize + 1;
 
-/// The way from a node of level 0 up to the root, with a step for each level. It stands in the value itself.
+/// The way from a node of level 0 up to the root, with a step for each level. The steps stand in the value itself, so
+/// it takes no memory.
 #[derive(Drop)]
 pub struct Way {
     steps: [Step; MOST_STEPS],
@@ -68,10 +73,12 @@ impl Way {
     }
 }
 
-/// The way up from the child of a node of level 0 below which something stands, if it stands in the tree; `None` where
-/// the tree has no children. Reads one node of each level, and takes no memory.
+/// The way up to the root, from the child of a node of level 0 below which the thing that is sought stands, if it
+/// stands in the tree; `Ok(None)` if the tree has no children. Reads one node of each level, and takes no memory.
 ///
-/// It is refused as `find_place`.
+/// # Errors
+///
+/// Those of [`crate::find_place`].
 pub fn find_way<S: Sought>(image: &[u8], root: u64, sought: &S) -> Result<Option<Way>, NodeFault>
     ensures empty { IfOk result (λ way. (way ≡ None)
         ↔ ((node_at image.now (S.tree_kind sought.now) root).children ≡ [])) }
@@ -113,4 +120,19 @@ fn way_from<S: Sought>(image: &[u8], at: u64, level: u8, sought: &S) -> Result<W
     let mut way = way_from(image, node.child(place), level - 1, sought)?;
     way.push(step);
     Ok(way)
+}
+
+/// Whether each node on the way has as many children as it has room for, so that a child more raises the root.
+///
+/// That the way ends in a tree is the caller's condition.
+pub fn is_full_way(image: &Image, kind: NodeKind, way: &Way) -> bool
+    requires ends { EndsSomewhere image.now kind way.now }
+    ensures { IsTrue result ↔ IsFullWay image.now.bytes kind way.now }
+{
+    for step in way.steps() {
+        if node_there(image.bytes(), kind, step.node).len() < kind.capacity() {
+            return false;
+        }
+    }
+    true
 }

@@ -18,14 +18,23 @@ use h5_msg::SymbolTable;
 use h5_space::{Claims, Image};
 use std::alloc::Global;
 
-/// Reads the group of this B-tree and this heap, and claims its blocks.
-///
-/// Refusals, in this order: of the heap `Truncated`, `Overlap` and `HeapForm`; of the tree, depth first, `Truncated`, `Overlap` and
-/// `NodeForm`; `Sibling`, at a node; `HeapName` and `BadName`, at the heap's header; `NameOrder`, at a symbol node; `KeyOrder`, at a
-/// node. `NoMemory` where memory is refused; it is the only refusal of a group that stands there in blocks that can all be claimed.
-/// After a refusal more or less of the blocks is claimed.
+/// Reads the group with this B-tree and this local heap, and claims its blocks.
 ///
 /// The claims end where the image ends, and the image has its superblock: these are the caller's conditions.
+///
+/// # Errors
+///
+/// These are looked for in this order, each with the address at which it was found:
+///
+/// - of the heap: `Truncated`, `Overlap`, `HeapForm`;
+/// - of the B-tree and the symbol nodes, depth first: `Truncated`, `Overlap`, `NodeForm`; then `Sibling`, at a node;
+/// - `HeapName` and `BadName`, at the header of the heap: a name or a soft link's text is not in the heap, or a name
+///   is not allowed;
+/// - `NameOrder`, at a symbol node: the names do not ascend;
+/// - `KeyOrder`, at a node: the keys do not bound the names below them.
+///
+/// `NoMemory` comes where memory is refused. It is the only refusal of a group that is as the format says, in blocks
+/// that can all be claimed. After a refusal it is left open which of the blocks are claimed.
 pub fn read_group(
     alloc: Global,
     image: &Image,

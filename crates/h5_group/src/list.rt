@@ -18,9 +18,13 @@ use h5_snod::SymbolNode;
 use h5_space::Image;
 use std::alloc::{AllocError, Global};
 
-/// The links of the group, ascending by the bytes of their names.
+/// The links of the group, in ascending order of the bytes of their names.
 ///
-/// Takes memory for a reference to each, and for the addresses of the symbol nodes.
+/// Takes memory for a reference to each link, and for the addresses of the symbol nodes.
+///
+/// # Errors
+///
+/// `AllocError` if memory is refused.
 pub fn entries<'a>(
     alloc: Global,
     image: &'a Image,
@@ -53,9 +57,13 @@ fn push_links<'a>(
     Ok(())
 }
 
-/// The symbol nodes of the group, from left to right.
+/// The addresses of the symbol nodes of the group, from left to right.
 ///
-/// Goes down its tree row by row, and takes memory for a row and the one below it.
+/// Goes down the B-tree row by row, and takes memory for one row and the next.
+///
+/// # Errors
+///
+/// `AllocError` if memory is refused.
 pub fn symbol_nodes(
     alloc: Global,
     image: &Image,
@@ -67,7 +75,9 @@ pub fn symbol_nodes(
     tree_leaves(alloc, image, &SymbolNodes, table.tree())
 }
 
-/// How many entries the symbol node at `node` has, which is one of the group's. It takes no memory.
+/// How many entries the symbol node at the address `node` has. Takes no memory.
+///
+/// That it is a symbol node of the group is the caller's condition.
 pub fn links_at(image: &Image, table: SymbolTable, node: u64) -> usize
     requires group { IsGroupRead image.now.bytes table }
     requires node { Contains (symbol_nodes_told image.now.bytes table) node }
@@ -76,7 +86,9 @@ pub fn links_at(image: &Image, table: SymbolTable, node: u64) -> usize
     symbol_node(image, table, node).len()
 }
 
-/// The link of entry `i` of the symbol node at `node`, which is one of the group's. It takes no memory.
+/// The link in entry `i` of the symbol node at the address `node`. Takes no memory.
+///
+/// That it is a symbol node of the group, and has that entry, are the caller's conditions.
 pub fn link_at<'a>(image: &'a Image, table: SymbolTable, node: u64, i: usize) -> Link<'a, u64>
     requires group { IsGroupRead image.now.bytes table }
     requires node { Contains (symbol_nodes_told image.now.bytes table) node }

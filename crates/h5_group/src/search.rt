@@ -16,9 +16,9 @@ use h5_model::Link;
 use h5_msg::SymbolTable;
 use h5_space::{Image, internal_k};
 
-/// The link of this name, or `None` where the group has none.
+/// The link with this name, or `None` where the group has none.
 ///
-/// Goes down the group's tree by its keys, and searches in each node and in the symbol node by halves. It takes no memory.
+/// It goes down the B-tree by its keys, and searches each node and the symbol node by halves. Takes no memory.
 pub fn lookup<'a>(image: &'a Image, table: SymbolTable, name: &[u8]) -> Option<Link<'a, u64>>
     requires { IsGroupRead image.now.bytes table }
     ensures found { IfSome result (IsLinkNamed image.now.bytes table name.now) }

@@ -79,7 +79,7 @@ fewer_at segment next going c =
 
 -- ---- what is found along a chain
 
-free_from_end : (n : ℕ) (segment : List ℕ) → chain n segment 1 ≡ []
+pub free_from_end : (n : ℕ) (segment : List ℕ) → chain n segment 1 ≡ []
 unfolding chain
 free_from_end zero segment = refl
 free_from_end (suc n) segment = refl

@@ -6,11 +6,11 @@ use Rattle.h5_bytes.specs.Bytes.{number_at, byte_at, part, with_part, with_field
 use Rattle.h5_bytes.specs.Blocks.{block, holds, cover, Separate, Inside}
 use Rattle.h5_bytes.specs.declared.Block.{Block}
 use Rattle.h5_bytes.proofs.FieldLaws.{number_at-part, number_at-with_part_other, number_at-with_field}
-use Rattle.h5_bytes.proofs.PartLaws.{length-part, length-with_part, part-with_part_same, part-with_part_other, part-part}
-use Rattle.h5_bytes.proofs.BlockLaws.{apart_of, holds_in}
+use Rattle.h5_bytes.proofs.PartLaws.{length-part, length-with_part, part-with_part_same, part-with_part_other, part-part, with_part-with_part}
+use Rattle.h5_bytes.proofs.BlockLaws.{apart_of, holds_in, held}
 use Rattle.h5_model.specs.Format.Heap.{IsHeap, heap_header, free_head, segment_size, segment_block, segment_of, heap_blocks}
 use Rattle.h5_space.specs.Space.{Space}
-use Rattle.h5_space.specs.Moves.{Moves}
+use Rattle.h5_space.specs.Moves.{Moves, Spends}
 use Rattle.h5_space.specs.Lending.{with_bytes_at}
 use Rattle.h5_space.proofs.MovesLaws.{part-same, byte-with_part, moves_write, moves_then, moves_same, moves_beside}
 use Rattle.h5_heap.specs.Chain.{free_from, IsChain, HasChain}
@@ -19,6 +19,7 @@ use Rattle.h5_bytes.specs.Texts.{until_zero, text_at}
 use Rattle.h5_model.specs.Format.Heap.{span_of}
 use Rattle.h5_heap.specs.Spans.{IsSpan}
 use Rattle.h5_heap.specs.Released.{Releases}
+use Rattle.h5_heap.specs.Inserted.{InsertsText, HasInserted}
 use Rattle.h5_heap.specs.Edited.{list_start, first_free, free_blocks, IsStandingHeap, HasReleased}
 use Rattle.h5_heap.proofs.FreeLaws.{StandsFor, from_first}
 use Rattle.h5_heap.proofs.ChainLaws.{free_from_is}
@@ -41,7 +42,7 @@ chain_of_heap header segment free heap size =
       within = list.within;
     }
 
-segment_long : (image : List ℕ) (heap : ℕ) → Inside (length image) (heap_blocks image heap) → segment_size (heap_header image heap) ≡ length (segment_of image heap)
+pub segment_long : (image : List ℕ) (heap : ℕ) → Inside (length image) (heap_blocks image heap) → segment_size (heap_header image heap) ≡ length (segment_of image heap)
 segment_long image heap inside = sym (length-part (segment_block image heap).at (segment_block image heap).len image inside.1.0)
 
 -- a heap that was read stands
@@ -55,7 +56,7 @@ standing_heap image heap free inside apart form =
 pub standing_chain : (image : List ℕ) (heap : ℕ) → IsStandingHeap image heap → HasChain (segment_of image heap) (first_free image heap)
 standing_chain image heap s = chain_of_heap (heap_header image heap) (segment_of image heap) (free_blocks image heap) s.form (segment_long image heap s.inside)
 
-list_start_is : (segment : List ℕ) (n : ℕ) (free : List Block) → IsChain segment n free → list_start n ≡ n
+pub list_start_is : (segment : List ℕ) (n : ℕ) (free : List Block) → IsChain segment n free → list_start n ≡ n
 list_start_is segment n free chain = go free chain where
   no : (n ≡ undefined → ⊥) → list_start n ≡ n
   no other = elim (stands_for n) [ inl one ↦ absurd (other one.0) | inr two ↦ two.1 ]
@@ -66,7 +67,7 @@ list_start_is segment n free chain = go free chain where
       let even : n % 8 ≡ 0 = ap (λ (m : ℕ). m % 8) (sym c.listed.0) ∙ c.each.0.aligned in
       omega (arith, even, e)))
 
-byte_at-part : (k at len : ℕ) (bytes : List ℕ) → k < len → byte_at (part at len bytes) k ≡ byte_at bytes (at + k)
+pub byte_at-part : (k at len : ℕ) (bytes : List ℕ) → k < len → byte_at (part at len bytes) k ≡ byte_at bytes (at + k)
 unfolding part
 byte_at-part k at len bytes low = get_or-take len (drop at bytes) k 0 low ∙ get_or-drop at bytes k 0
 
@@ -129,6 +130,14 @@ module _ (image : List ℕ) (heap : ℕ) (s : IsStandingHeap image heap) (w : Li
       (elim far [ inl below ↦ inr (omega (arith, below)) | inr above ↦ inl (omega (arith, above)) ])
       ∙ part-with_part_same at len w image (sym long) room_w
 
+  -- the offset is written into the header's bytes, when the segment's are there
+  pub edited_bytes : (b : Block) → b ≡ segment_block image heap → (lent h : List ℕ) → lent ≡ part heap 32 (with_part b.at w image) → h ≡ with_field lent 16 8 n
+      → with_part heap h (with_part b.at w image) ≡ after_edit
+  edited_bytes b same lent h is put =
+      let there : with_part b.at w image ≡ half = ap (λ (x : Block). with_part x.at w image) same in
+      ap₂ (with_part heap) (put ∙ ap (λ (bs : List ℕ). with_field bs 16 8 n) (is ∙ ap (part heap 32) there)) there
+      ∙ with_part-with_part heap 32 16 (little_bytes 8 n) half (omega (arith, half_long, s.inside.0)) (omega arith)
+
   signed_kept : part 0 4 (heap_header after_edit heap) ≡ part 0 4 (heap_header image heap)
   signed_kept = part-part 0 4 heap 32 after_edit (omega arith) ∙ part_kept 0 4 (inl (omega arith)) (omega arith) ∙ sym (part-part 0 4 heap 32 image (omega arith))
 
@@ -163,7 +172,16 @@ module _ (image : List ℕ) (heap : ℕ) (s : IsStandingHeap image heap) (w : Li
 
     pub edited_released : (offset size : ℕ) → Releases (segment_of image heap) w (first_free image heap) n offset size
         → HasReleased image after_edit heap offset size
-    edited_released offset size released = record { standing = heap_edited; blocks = blocks_kept; released = rw (segment_is, first_is) released }
+    edited_released offset size released = record { standing = heap_edited; blocks = blocks_kept; head = head_is ∙ sym first_is; released = rw (segment_is, first_is) released }
+
+    pub edited_inserted : (text : List ℕ) (room offset : ℕ) → InsertsText (segment_of image heap) w (first_free image heap) n text room offset
+        → HasInserted image after_edit heap text room offset
+    edited_inserted text room offset inserted =
+        record { standing = heap_edited; head = head_is ∙ sym first_is; inserted = rw (segment_is, first_is) inserted; blocks = λ same. blocks_kept }
+
+-- an image of the same length and room
+pub spends_same : (old new : Space) → length new.bytes ≡ length old.bytes → new.room_bytes ≡ old.room_bytes → new.room_blocks ≡ old.room_blocks → Spends old new 0 0
+spends_same old new long bytes blocks = record { grown = omega (arith, long); bytes_left = omega (arith, bytes); blocks_left = omega (arith, blocks) }
 
 -- both writes move the heap's blocks alone
 module _ (old : Space) (heap : ℕ) (s : IsStandingHeap old.bytes heap) (w : List ℕ) (long : length w ≡ (segment_block old.bytes heap).len)
@@ -207,13 +225,34 @@ until-same (suc n) (x ∷ xs) (y ∷ ys) same short = go (x == 0) refl short (un
   go true is low later = rw (heads, is) refl
   go false is low later = rw (heads, is) (ap (λ (zs : List ℕ). x ∷ zs) (later (omega arith)))
 
+-- a text is as before where the bytes of its span are
+pub text_same : (old new : List ℕ) (offset : ℕ) → IsSpan old offset → length old ≤ length new
+    → ((p : ℕ) → holds p offset (span_of old offset).len ≡ 1 → byte_at new p ≡ byte_at old p) → text_at new offset ≡ text_at old offset
+unfolding text_at part
+text_same old new offset span grown kept =
+    let size = (span_of old offset).len in
+    let same : part offset size new ≡ part offset size old
+    = part-same offset size old new span.within grown (λ p low high. kept p (holds_in p offset size low high)) in
+    until-same size (drop offset old) (drop offset new) same (grind arith)
+
 -- a text whose span shares no byte with the free blocks or with those that were freed is as before
 pub text_kept : (old new : List ℕ) (first first' at len offset : ℕ) → Releases old new first first' at len → IsSpan old offset
     → ((p : ℕ) → cover p (free_from old first) + (holds p at len + holds p offset (span_of old offset).len) ≤ 1) → text_at new offset ≡ text_at old offset
-unfolding text_at part
 text_kept old new first first' at len offset released span apart =
-    let size = (span_of old offset).len in
-    let same : part offset size new ≡ part offset size old = part-same offset size old new span.within (omega (arith, released.size)) (λ p low high.
-    let here : holds p offset size ≡ 1 = holds_in p offset size low high in
-    released.kept p (omega (arith, apart p, here)) (omega (arith, apart p, here))) in
-    until-same size (drop offset old) (drop offset new) same (grind arith)
+    text_same old new offset span (omega (arith, released.size)) (λ p here. released.kept p (omega (arith, apart p, here)) (omega (arith, apart p, here)))
+
+-- and so is one that shares none with the free blocks, where a text comes in
+pub inserted_long : (old new : List ℕ) (first first' : ℕ) (text : List ℕ) (room at : ℕ) → InsertsText old new first first' text room at → length old ≤ length new
+inserted_long old new first first' text room at inserts = elim inserts.placed [
+  | inl front ↦ omega (arith, front.1)
+  | inr behind ↦ omega (arith, behind.long)
+]
+
+pub text_stays : (old new : List ℕ) (first first' : ℕ) (text : List ℕ) (room at offset : ℕ) → InsertsText old new first first' text room at → IsSpan old offset
+    → ((p : ℕ) → cover p (free_from old first) + holds p offset (span_of old offset).len ≤ 1) → text_at new offset ≡ text_at old offset
+text_stays old new first first' text room at offset inserts span apart =
+    text_same old new offset span (inserted_long old new first first' text room at inserts) (λ p here.
+    inserts.kept p (below p here) (omega (arith, apart p, here)))
+  where
+    below : (p : ℕ) → holds p offset (span_of old offset).len ≡ 1 → p < length old
+    below p here = let inner = held p offset (span_of old offset).len (omega (arith, here)) in omega (arith, inner.1, span.within)

@@ -1,10 +1,17 @@
 pub mod FreeLaws
 pub mod ChainLaws
 pub mod RelistLaws
+pub mod OrderLaws
+pub mod FrontLaws
 pub mod ReleaseLaws
 pub mod EditedLaws
+pub mod InsertLaws
+pub mod GrowLaws
+pub mod NeededLaws
 pub mod TakenLaws
 pub mod NameLaws
+pub mod InsertedNames
+pub mod ReleasedNames
 pub mod RefusedLaws
 pub mod BreachLaws
 pub mod WriteLaws

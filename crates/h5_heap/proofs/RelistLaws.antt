@@ -129,7 +129,7 @@ module _ (segment : List ℕ) (first : ℕ) (front rest : List Block) (y : Block
 -- a block is taken out of the list: the one before it leads to the one behind it
 module _ (segment : List ℕ) (first : ℕ) (front back : List Block) (y b : Block) (n : ℕ) (c : IsChain segment first (front ++ y ∷ b ∷ back))
     (low : n < 2 ^ 64) (is : n ≡ number_at segment b.at 8) where
-  unlinked : IsChain (with_field segment y.at 8 n) first (front ++ y ∷ back)
+  pub unlinked : IsChain (with_field segment y.at 8 n) first (front ++ y ∷ back)
   unlinked =
       let all = all_behind segment first front (y ∷ b ∷ back) c in
       let on = behind segment first front (y ∷ b ∷ back) c.listed in
@@ -352,13 +352,18 @@ module _ (segment : List ℕ) (first : ℕ) (b : Block) (n : ℕ) (c : HasChain 
           ∙ number_at-with_part_other b.at (little_bytes 8 n) segment y.at 8 (omega (arith, inside, free.room))
           (elim far [ inl below ↦ inl (omega (arith, below)) | inr above ↦ inr (omega (arith, above, free.room)) ])
 
-    pub relists_linked_behind : Relists segment (with_field (with_block segment b n low len_low free inside) y.at 8 b.at) first first [] (b ∷ [])
-    relists_linked_behind =
+    pub linked_list : IsChain (with_field (with_block segment b n low len_low free inside) y.at 8 b.at) first (front ++ y ∷ b ∷ rest)
+    linked_list =
         let long = with_block_long segment b n low len_low free inside in
         let same : number_at whole b.at 8 ≡ number_at whole y.at 8 = with_block_next segment b n low len_low free inside ∙ next ∙ sym next_kept in
         let inside' : b.at + b.len ≤ length whole = omega (arith, long, inside) in
         let far : (p : ℕ) → holds p b.at b.len + cover p (front ++ y ∷ rest) ≤ 1 = λ p. omega (arith, apart p, ap (cover p) split) in
-        let chain = linked_behind whole first front rest y b old_chain at_low free inside' far same (with_block_len segment b n low len_low free inside) in
+        linked_behind whole first front rest y b old_chain at_low free inside' far same (with_block_len segment b n low len_low free inside)
+
+    pub relists_linked_behind : Relists segment (with_field (with_block segment b n low len_low free inside) y.at 8 b.at) first first [] (b ∷ [])
+    relists_linked_behind =
+        let long = with_block_long segment b n low len_low free inside in
+        let chain = linked_list in
         record {
           chain = has_chain (with_field whole y.at 8 b.at) first (front ++ y ∷ b ∷ rest) chain;
           covered = λ p. omega (

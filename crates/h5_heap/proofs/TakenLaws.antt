@@ -28,7 +28,7 @@ contains_cases y xs x (zero, low, is) = inl (sym is)
 contains_cases y xs x (suc k, low, is) = inr (k, omega arith, is)
 
 -- an element comes in between others
-contains_between : (xs ys : List ℕ) (offset x : ℕ) → Contains (xs ++ offset ∷ ys) x ↔ ((x ≡ offset) ⊎ Contains (xs ++ ys) x)
+pub contains_between : (xs ys : List ℕ) (offset x : ℕ) → Contains (xs ++ offset ∷ ys) x ↔ ((x ≡ offset) ⊎ Contains (xs ++ ys) x)
 contains_between xs ys offset x = (
   λ there. elim (Contains-append_cases xs (offset ∷ ys) x there) [
     | inl front ↦ inr (Contains-append_left xs ys x front)

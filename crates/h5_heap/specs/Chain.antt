@@ -1,5 +1,5 @@
 -- The list of free blocks in a heap's segment, followed from an offset on (File Format Specification 3.0, section III.D).
-use Rattle.std.specs.Prelude.{◌≡◌, ℕ, zero, suc, ◌+◌, ◌⊎◌, ◌==◌, if◌then◌else◌, List, [], ◌∷◌, ◌++◌, length}
+use Rattle.std.specs.Prelude.{◌≡◌, ℕ, zero, suc, ◌+◌, ◌<◌, ◌≤◌, ◌⊎◌, ◌==◌, if◌then◌else◌, List, [], ◌∷◌, ◌++◌, Option, Some, None, length}
 use Rattle.std.specs.List.{AllByRecursion}
 use Rattle.h5_bytes.specs.Bytes.{number_at, byte_at}
 use Rattle.h5_bytes.specs.Blocks.{block, cover, Separate, Inside}
@@ -49,3 +49,33 @@ pub record Relists (old new : List ℕ) (first first' : ℕ) (taken given : List
   pub covered : (p : ℕ) → cover p (free_from new first') + cover p taken ≡ cover p (free_from old first) + cover p given
   pub kept : (p : ℕ) → cover p (free_from old first) ≡ 0 → cover p given ≡ 0 → byte_at new p ≡ byte_at old p
   pub size : length new ≡ length old
+
+-- ---- the list in its order
+
+-- each block begins before those behind it in the list
+abbrev pub Ascends : List Block → Type 0
+Ascends [] = Unit {0}
+Ascends (b ∷ bs) = AllByRecursion (λ c. b.at < c.at) bs × Ascends bs
+
+-- the blocks with one more, somewhere in the list
+pub record IsPutIn (b : Block) (old new : List Block) : Type 0 where
+  pub front : List Block
+  pub back : List Block
+  pub before : old ≡ front ++ back
+  pub after : new ≡ front ++ b ∷ back
+
+-- the blocks with one more: behind the one that begins at this place, or before all
+abbrev pub put_behind : Option ℕ → Block → List Block → List Block
+put_behind None b bs = b ∷ bs
+put_behind (Some place) b [] = b ∷ []
+put_behind (Some place) b (c ∷ bs) = c ∷ (if c.at == place then b ∷ bs else put_behind (Some place) b bs)
+
+-- the greatest offset below a place at which one of the blocks begins, if one does
+abbrev pub IsGreatestBelow : List Block → ℕ → Option ℕ → Type 0
+IsGreatestBelow free at None = AllByRecursion (λ b. at ≤ b.at) free
+IsGreatestBelow free at (Some place) = (place < at) × AllByRecursion (λ b. (b.at ≤ place) ⊎ (at ≤ b.at)) free
+
+-- where the list leads to the block at an offset: behind the block at this place, or from its beginning on
+abbrev pub IsLedFrom : List ℕ → ℕ → ℕ → Option ℕ → Type 0
+IsLedFrom segment first at None = first ≡ at
+IsLedFrom segment first at (Some place) = LeadsTo segment first place at

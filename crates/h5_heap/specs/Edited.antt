@@ -23,8 +23,9 @@ pub record IsStandingHeap (image : List ℕ) (heap : ℕ) : Type 0 where
   pub apart : Separate (heap_blocks image heap)
   pub form : IsHeap (heap_header image heap) (segment_of image heap) (free_blocks image heap)
 
--- it stands in the same blocks, and these bytes of its segment are free now
+-- it stands in the same blocks, and these bytes of its segment are free now; an empty list is told by 1
 pub record HasReleased (old new : List ℕ) (heap at len : ℕ) : Type 0 where
   pub standing : IsStandingHeap new heap
   pub blocks : heap_blocks new heap ≡ heap_blocks old heap
+  pub head : free_head (heap_header new heap) ≡ first_free new heap
   pub released : Releases (segment_of old heap) (segment_of new heap) (first_free old heap) (first_free new heap) at len

@@ -7,3 +7,4 @@ pub mod Chain
 pub mod Sought
 pub mod Released
 pub mod Edited
+pub mod Inserted

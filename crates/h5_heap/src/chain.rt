@@ -1,13 +1,17 @@
 //! The list of free blocks in a segment, followed without memory (File Format Specification 3.0, section III.D).
 
-ghost use Rattle.std.specs.Prelude.{◌≡◌, ◌-◌, ◌%◌, ℕ, ◌+◌, ◌≤◌, ◌↔◌, ◌^◌, ◌<◌, ◌≢◌, [], ◌∷◌, IfSome, length};
-ghost use Rattle.std.specs.List.{find};
+ghost use Rattle.std.specs.Prelude.{◌≡◌, ◌-◌, ◌%◌, ℕ, ◌+◌, ◌≤◌, ◌^◌, ◌<◌, ◌≢◌, [], ◌∷◌, Some, not, max, IfSome, length};
+ghost use Rattle.std.specs.Option.{option_map_or};
+ghost use Rattle.std.specs.List.{find, filter};
 ghost use Rattle.h5_bytes.specs.Bytes.{number_at, with_field};
 ghost use Rattle.h5_bytes.specs.Blocks.{block, holds, cover};
 ghost use Rattle.h5_model.specs.Format.Heap.{IsFree};
-ghost use Rattle.h5_heap.specs.Chain.{HasChain, ListsAt, Stands, LeadsTo, Relists, free_from};
+ghost use Rattle.h5_heap.specs.Chain.{HasChain, ListsAt, Stands, LeadsTo, IsLedFrom, Relists, free_from};
+ghost use Rattle.h5_heap.specs.Chain.{Ascends, IsPutIn, IsGreatestBelow, put_behind};
 ghost use Rattle.h5_heap.specs.Sought.{is_sought};
-ghost use Rattle.h5_heap.specs.Released.{IsJoinedLeft, IsJoinedRight, Releases};
+ghost use Rattle.h5_heap.specs.Released.{IsJoinedLeft, IsJoinedRight, Releases, begin_of, stop_of};
+ghost use Rattle.h5_heap.specs.Inserted.{IsFront, rest_of};
+ghost use Rattle.h5_heap.specs.declared.chain.Sought.TheVariants.{AtLeast, BeginsAt, EndsAt};
 
 use crate::free_list::{END, LEAST_FREE};
 use h5_bytes::{Block, put_u64, u64_at};
@@ -60,16 +64,47 @@ pub(crate) fn find_free(segment: &[u8], first: u64, sought: Sought) -> Option<Bl
 pub(crate) fn unlink(segment: &mut [u8], first: u64, at: u64) -> u64
     requires chain { HasChain segment.old first }
     requires there { Stands at (free_from segment.old first) }
-    ensures { Relists segment.old segment.new first result
+    ensures relists { Relists segment.old segment.new first result
         (block at (number_at segment.old (at + 8) 8) ∷ []) [] }
+    ensures listed { IsPutIn (block at (number_at segment.old (at + 8) 8))
+        (free_from segment.new result) (free_from segment.old first) }
+{
+    let place = led_from(segment, first, at);
+    unlink_behind(segment, first, place, at)
+}
+
+/// Takes the free block at `at` out of the list from `first` on, to which the one at `place` leads, or the
+/// list's beginning, and gives the offset from which the list goes on then.
+fn unlink_behind(segment: &mut [u8], first: u64, place: Option<u64>, at: u64) -> u64
+    requires chain { HasChain segment.old first }
+    requires there { Stands at (free_from segment.old first) }
+    requires led { IsLedFrom segment.old first at place }
+    ensures relists { Relists segment.old segment.new first result
+        (block at (number_at segment.old (at + 8) 8) ∷ []) [] }
+    ensures listed { free_from segment.old first
+        ≡ put_behind place (block at (number_at segment.old (at + 8) 8)) (free_from segment.new result) }
+    ensures still { IfSome place (λ p. ListsAt segment.new result p) }
 {
     let next = u64_at(segment, at as usize);
-    if first == at {
-        return next;
+    match place {
+        Some(place) => {
+            put_u64(segment, place as usize, next);
+            first
+        }
+        None => next,
     }
-    let place = place_before(segment, first, at);
-    put_u64(segment, place as usize, next);
-    first
+}
+
+/// The offset of the free block that leads to the one at `at`, or `None` where the list begins with it.
+fn led_from(segment: &[u8], first: u64, at: u64) -> Option<u64>
+    requires chain { HasChain segment.now first }
+    requires there { Stands at (free_from segment.now first) }
+    ensures { IsLedFrom segment.now first at result }
+{
+    if first == at {
+        return None;
+    }
+    Some(place_before(segment, first, at))
 }
 
 /// The offset of the free block that leads to the one at `at`, which is not the first.
@@ -98,9 +133,29 @@ pub(crate) fn link(segment: &mut [u8], first: u64, block: Block) -> u64
     requires free { IsFree block }
     requires inside { block.at + block.len ≤ length segment.old }
     requires apart { (p : ℕ) → cover p (free_from segment.old first) + holds p block.at block.len ≤ 1 }
-    ensures { Relists segment.old segment.new first result [] (block ∷ []) }
+    ensures relists { Relists segment.old segment.new first result [] (block ∷ []) }
+    ensures listed { IsPutIn block (free_from segment.old first) (free_from segment.new result) }
+    ensures ascending { Ascends (free_from segment.old first) → Ascends (free_from segment.new result) }
 {
-    match greatest_below(segment, first, block.at) {
+    let place = greatest_below(segment, first, block.at);
+    link_behind(segment, first, place, block)
+}
+
+/// Puts a block into the list from `first` on, behind the one at `place` or before all, and gives the offset
+/// from which the list goes on then.
+///
+/// That there is such a place, and of the block what `link` asks for, are the caller's conditions.
+fn link_behind(segment: &mut [u8], first: u64, place: Option<u64>, block: Block) -> u64
+    requires chain { HasChain segment.old first }
+    requires place { IfSome place (λ p. ListsAt segment.old first p) }
+    requires free { IsFree block }
+    requires inside { block.at + block.len ≤ length segment.old }
+    requires apart { (p : ℕ) → cover p (free_from segment.old first) + holds p block.at block.len ≤ 1 }
+    ensures relists { Relists segment.old segment.new first result [] (block ∷ []) }
+    ensures listed { free_from segment.new result
+        ≡ put_behind place block (free_from segment.old first) }
+{
+    match place {
         Some(place) => {
             let next = u64_at(segment, place as usize);
             put_block(segment, block, next);
@@ -127,21 +182,28 @@ fn put_block(segment: &mut [u8], block: Block, next: u64)
 /// The greatest offset below `at` of a block of the list from `first` on.
 fn greatest_below(segment: &[u8], first: u64, at: u64) -> Option<u64>
     requires { HasChain segment.now first }
-    ensures { IfSome result (λ place. ListsAt segment.now first place) }
+    ensures listed { IfSome result (λ place. ListsAt segment.now first place) }
+    ensures greatest { IsGreatestBelow (free_from segment.now first) at result }
 {
     let mut greatest = None;
     let mut next = first;
     while next != END {
-        let is_greater = match greatest {
-            Some(place) => place < next,
-            None => true,
-        };
-        if is_greater && next < at {
-            greatest = Some(next);
+        if next < at {
+            greatest = Some(greater_of(greatest, next));
         }
         next = u64_at(segment, next as usize);
     }
     greatest
+}
+
+/// The greater of an offset and the greatest so far.
+fn greater_of(greatest: Option<u64>, next: u64) -> u64
+    ensures { result ≡ option_map_or (λ place. max place next) greatest next }
+{
+    match greatest {
+        Some(place) => place.max(next),
+        None => next,
+    }
 }
 
 /// Takes the free block that ends before `at` out of the list from `first` on, and gives the offset from
@@ -152,6 +214,9 @@ fn join_left(segment: &mut [u8], first: u64, at: u64) -> (u64, u64)
     ensures relists { Relists segment.old segment.new first result.0
         (block result.1 (at - result.1) ∷ []) [] }
     ensures joined { IsJoinedLeft (free_from segment.old first) at result.1 }
+    ensures begin { result.1 ≡ begin_of (free_from segment.old first) at }
+    ensures rest { free_from segment.new result.0
+        ≡ filter (λ b. not (is_sought (EndsAt at) b)) (free_from segment.old first) }
     ensures same { result.1 ≡ at → (segment.new ≡ segment.old) × (result.0 ≡ first) }
 {
     match find_free(segment, first, Sought::EndsAt(at)) {
@@ -167,6 +232,9 @@ fn join_right(segment: &mut [u8], first: u64, end: u64) -> (u64, u64)
     requires inside { end ≤ length segment.old }
     ensures relists { Relists segment.old segment.new first result.0 (block end (result.1 - end) ∷ []) [] }
     ensures joined { IsJoinedRight (free_from segment.old first) end result.1 (length segment.old) }
+    ensures stop { result.1 ≡ stop_of (free_from segment.old first) end }
+    ensures rest { free_from segment.new result.0
+        ≡ filter (λ b. not (is_sought (BeginsAt end) b)) (free_from segment.old first) }
 {
     match find_free(segment, first, Sought::BeginsAt(end)) {
         Some(block) => (unlink(segment, first, block.at), block.at + block.len),
@@ -194,4 +262,27 @@ pub(crate) fn release(segment: &mut [u8], first: u64, at: u64, end: u64) -> u64
         return first;
     }
     link(segment, first, Block { at: begin, len })
+}
+
+/// Takes the first `len` bytes of a free block, the first of the list from `first` on that is long enough,
+/// and gives the offset from which the list goes on then. What is left of the block stays free in its place
+/// in the list, where it is enough for a free block.
+pub(crate) fn take_front(segment: &mut [u8], first: u64, block: Block, len: u64) -> u64
+    requires chain { HasChain segment.old first }
+    requires found { find (is_sought (AtLeast len)) (free_from segment.old first) ≡ Some block }
+    requires aligned { len % 8 ≡ 0 }
+    ensures relists { Relists segment.old segment.new first result (block ∷ []) (rest_of len block) }
+    ensures front { IsFront (free_from segment.old first) (free_from segment.new result) block.at len }
+    ensures ascending { Ascends (free_from segment.old first) → Ascends (free_from segment.new result) }
+{
+    let place = led_from(segment, first, block.at);
+    let first = unlink_behind(segment, first, place, block.at);
+    let rest = Block {
+        at: block.at + len,
+        len: block.len - len,
+    };
+    if rest.len < LEAST_FREE {
+        return first;
+    }
+    link_behind(segment, first, place, rest)
 }

@@ -15,11 +15,11 @@ use crate::text::span_len;
 use h5_bytes::{Block, UNDEF, put_u64, text_from, u64_at};
 use h5_space::Image;
 
-/// Frees the text at `offset` of the heap at `heap`: its bytes join the free blocks of the segment, and eight
-/// bytes without a free neighbour stay unused. Takes no memory.
+/// Frees the text at `offset` of the heap at `heap`: its bytes join the free blocks of the segment. Eight bytes
+/// without a free neighbour stay unused. Takes no memory.
 ///
-/// That the heap stands there, that the text lies in its segment and shares no byte with a free block, and
-/// that no link and no key names it any more, are the caller's conditions.
+/// These are the caller's conditions: the heap stands there, the text lies in its segment and shares no byte with a
+/// free block, and no link and no key names it any more.
 pub fn free(image: &mut Image, heap: u64, offset: u64)
     requires standing { IsStandingHeap image.old.bytes heap }
     requires span { IsSpan (segment_of image.old.bytes heap) offset }
@@ -41,7 +41,7 @@ pub fn free(image: &mut Image, heap: u64, offset: u64)
 }
 
 /// Where the segment of the heap at `heap` lies, and the offset from which its list of free blocks goes on.
-fn segment_and_list(image: &Image, heap: u64) -> (Block, u64)
+pub(crate) fn segment_and_list(image: &Image, heap: u64) -> (Block, u64)
     requires { heap + 32 ≤ length image.now.bytes }
     ensures segment { result.0 ≡ segment_block image.now.bytes heap }
     ensures first { result.1 ≡ first_free image.now.bytes heap }

@@ -42,13 +42,18 @@ impl Model for Heap {
 
 /// Reads the local heap at `at`, and claims its header and its segment.
 ///
-/// Refusals: `Truncated` and `Overlap`, at the header or the segment, whichever was to be claimed;
-/// `HeapForm`, at the header; and `NoMemory`. The header is of version 0, its segment has 8 bytes or more,
-/// and each block of its free list begins at a multiple of 8, has 16 bytes or more, lies in the segment
-/// and shares no byte with another. After a refusal more or less of the two blocks is claimed. The claims
-/// end where the image ends, which is the caller's condition.
+/// Takes memory for the free blocks that are there. The claims end where the image ends, which is the caller's
+/// condition.
 ///
-/// Takes memory for the free blocks that are there.
+/// # Errors
+///
+/// - `Truncated`, `Overlap`, at the header or the segment: it passes the end, or shares a byte with a claimed block.
+/// - `HeapForm`, at the header: the header is not of version 0; the segment has fewer than 8 bytes; or a block of the
+///   free list begins at no multiple of 8, has fewer than 16 bytes, is not in the segment, or shares a byte with
+///   another one.
+/// - `NoMemory`: memory is refused.
+///
+/// After a refusal it is left open which of the two blocks are claimed.
 pub fn read_heap(
     alloc: Global,
     image: &Image,

@@ -10,6 +10,7 @@ mod free_list;
 mod header;
 mod heap;
 mod names;
+mod put;
 mod text;
 mod write;
 
@@ -17,4 +18,5 @@ pub use edit::free;
 pub use h5_bytes::text_from;
 pub use header::segment_at;
 pub use heap::{Heap, read_heap};
+pub use put::{insert, insert_in_room, text_room};
 pub use write::{ObjectPlace, link_span, push_heap, push_text, segment_length, text_span};

@@ -21,8 +21,10 @@ const EMPTY_NAME: u64 = 8;
 impl Heap {
     /// The text at `offset` of the segment. Takes no memory.
     ///
-    /// `HeapName`, at the header, where it begins at no multiple of 8, or does not lie in the segment with
-    /// its zero and its padding.
+    /// # Errors
+    ///
+    /// `HeapName`, at the header, if the offset is no multiple of 8, or if the text with its zero and its padding is
+    /// not in the segment.
     pub fn name<'a>(&self, image: &'a Image, offset: u64) -> Result<&'a [u8], OpenFault>
         requires { self.now.segment.at + self.now.segment.len ≤ length image.now.bytes }
         ensures text { IfOk result (λ x. x.now ≡ text_at (segment_in image.now.bytes self.now) offset) }
@@ -37,11 +39,14 @@ impl Heap {
         }
     }
 
-    /// Takes the empty name, before any other: the first 8 bytes of the segment, of which the first is
-    /// zero.
+    /// Takes the empty name, before any other text: the first 8 bytes of the segment, of which the first is zero.
     ///
-    /// `HeapName`, at the header, where it is not zero or one of the 8 is in a free block; else `NoMemory`.
+    /// # Errors
+    ///
     /// A refusal changes nothing.
+    ///
+    /// - `HeapName`, at the header: the first byte is not zero, or one of the 8 bytes is in a free block.
+    /// - `NoMemory`: memory is refused.
     pub fn begin_names(&mut self, image: &Image) -> Result<(), OpenFault>
         requires { self.old.segment.at + self.old.segment.len ≤ length image.now.bytes }
         ensures zero { OnOk result (byte_at (segment_in image.now.bytes self.old) 0 ≡ 0) }
@@ -62,11 +67,13 @@ impl Heap {
         self.claim(0, EMPTY_NAME)
     }
 
-    /// The text at `offset`, which a link names; its bytes are the link's alone.
+    /// Takes the text at `offset`, which a link names. No other link may have one of its bytes.
     ///
-    /// `HeapName`, at the header, as of `name`, or where it shares a byte with the empty name, a free block,
-    /// or a text that was taken before: then nothing changes. Else `NoMemory`, after which its bytes may
-    /// be held.
+    /// # Errors
+    ///
+    /// - `HeapName`, at the header: as of [`Heap::name`]; or the text shares a byte with the empty name, a free
+    ///   block, or a text that was taken before. Then nothing changes.
+    /// - `NoMemory`: memory is refused. The bytes of the text may count as taken then.
     pub fn take<'a>(&mut self, image: &'a Image, offset: u64) -> Result<&'a [u8], OpenFault>
         requires { self.old.segment.at + self.old.segment.len ≤ length image.now.bytes }
         ensures text { IfOk result (λ x. x.now ≡ text_at (segment_in image.now.bytes self.old) offset) }
@@ -89,10 +96,12 @@ impl Heap {
         Ok(text)
     }
 
-    /// The text at `offset`, which the key of a B-tree names: the empty name, a text that was taken, or one
-    /// that shares no byte with any of these and is taken now.
+    /// The text at `offset`, which a key of a B-tree names: the empty name, a text that was taken, or one that shares
+    /// no byte with any of these and is taken now.
     ///
-    /// Refused as by `take`.
+    /// # Errors
+    ///
+    /// Those of [`Heap::take`].
     pub fn key<'a>(&mut self, image: &'a Image, offset: u64) -> Result<&'a [u8], OpenFault>
         requires { self.old.segment.at + self.old.segment.len ≤ length image.now.bytes }
         ensures text { IfOk result (λ x. x.now ≡ text_at (segment_in image.now.bytes self.old) offset) }

@@ -12,7 +12,7 @@ ghost use Rattle.h5_snod.specs.Raw.{raw_entries};
 use crate::node::{ENTRY, HEAD};
 use h5_bytes::{put_u16, u16_at};
 
-/// Puts an entry of 40 bytes at place `k`, before those that stood there. Takes no memory.
+/// Puts an entry of 40 bytes in as entry `k`, before those that stood from there on. Takes no memory.
 pub fn insert_at(node: &mut [u8], k: usize, entry: &[u8])
     requires place { k ≤ symbols_in node.old }
     requires room { 48 + 40 * symbols_in node.old ≤ length node.old }
@@ -30,7 +30,7 @@ pub fn insert_at(node: &mut [u8], k: usize, entry: &[u8])
     put_u16(node, 6, (n + 1) as u16);
 }
 
-/// Takes the entry at place `k` out. Takes no memory.
+/// Takes entry `k` out. Takes no memory.
 pub fn remove_at(node: &mut [u8], k: usize)
     requires place { k < symbols_in node.old }
     requires room { 8 + 40 * symbols_in node.old ≤ length node.old }
@@ -45,7 +45,7 @@ pub fn remove_at(node: &mut [u8], k: usize)
     put_u16(node, 6, (n - 1) as u16);
 }
 
-/// Leaves the first `k` entries alone. Takes no memory.
+/// Keeps the first `k` entries, and takes the others out. Takes no memory.
 pub fn keep_front(node: &mut [u8], k: usize)
     requires place { k ≤ symbols_in node.old }
     requires head { 8 ≤ length node.old }
@@ -72,7 +72,8 @@ pub fn drop_front(node: &mut [u8], k: usize)
     put_u16(node, 6, (n - k) as u16);
 }
 
-/// Makes of other bytes a symbol node of the entries from place `k` on, and leaves those before it. Takes no memory.
+/// Makes `other` a symbol node of the entries from `k` on, and keeps the entries before them in `node`. Takes no
+/// memory.
 pub fn split_into(node: &mut [u8], other: &mut [u8], k: usize)
     requires place { k ≤ symbols_in node.old }
     requires room { 8 + 40 * symbols_in node.old ≤ length node.old }

@@ -60,7 +60,7 @@ impl<'a> SymbolNode<'a> {
         self.len() == 0
     }
 
-    /// An entry, by its place in the node.
+    /// The entry with this index.
     pub fn entry(&self, k: usize) -> SymbolEntry
         requires { k < length self.now }
         ensures { option_map symbol_from (slice_get self.now k) ≡ Some result }
@@ -68,8 +68,8 @@ impl<'a> SymbolNode<'a> {
         read_entry(entry_bytes(self.bytes, k))
     }
 
-    /// The name of an entry, by its place in the node: the text at the entry's offset in this heap segment, up to the first zero.
-    /// It is empty where the offset passes the end.
+    /// The name of the entry with this index: the text at the entry's offset in this heap segment, up to the first
+    /// zero. It is empty where the offset passes the end.
     pub fn name<'b>(&self, k: usize, segment: &'b [u8]) -> &'b [u8]
         requires { k < length self.now }
         ensures { option_map (λ (e : Entry).
@@ -78,8 +78,12 @@ impl<'a> SymbolNode<'a> {
         entry_name(self.bytes, k, segment)
     }
 
-    /// Where the entry of this name stands, or else where one would stand. The names stand in this heap segment, in
-    /// ascending order of their bytes.
+    /// The index of the entry with this name. The names stand in this heap segment, in ascending order of their
+    /// bytes; that is the caller's condition.
+    ///
+    /// # Errors
+    ///
+    /// If no entry has this name: the index at which one would stand.
     pub fn find(&self, segment: &[u8], name: &[u8]) -> Result<usize, usize>
         requires { Ascend (map (link_of segment.now) self.now) }
         ensures found { IfOk result (λ k. slice_get (entry_names segment.now self.now) k ≡ Some name.now) }

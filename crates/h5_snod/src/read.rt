@@ -21,10 +21,13 @@ pub enum NodeFault {
     NodeForm,
 }
 
-/// Reads a symbol node with room for 2 `leaf` entries, whose bytes are as many as one has. Takes no memory.
+/// Reads a symbol node with room for 2 `leaf` entries. The slice has as many bytes as such a node. The order of the
+/// names is not looked at. Takes no memory.
 ///
-/// `NodeForm` where the signature or the version is another, where there are more than 2 `leaf` entries, or where one
-/// has a cache type above 2. The order of the names is not looked at.
+/// # Errors
+///
+/// `NodeForm` if the signature or the version is another, if there are more than 2 `leaf` entries, or if an entry has
+/// a cache type above 2.
 pub fn read_symbol_node(leaf: u16, bytes: &[u8]) -> Result<SymbolNode<'_>, NodeFault>
     requires { length bytes.now ≡ 8 + 80 * leaf }
     ensures node { IfOk result (λ node. node ≡ entries_of bytes.now) }
@@ -43,8 +46,9 @@ pub fn read_symbol_node(leaf: u16, bytes: &[u8]) -> Result<SymbolNode<'_>, NodeF
     Ok(SymbolNode::new(bytes))
 }
 
-/// The symbol node that these bytes are, which have the form of one with room for 2 `leaf` entries: nothing is looked at. Takes no
-/// memory.
+/// The symbol node that these bytes are, with room for 2 `leaf` entries. Nothing is checked. Takes no memory.
+///
+/// That they have the form of such a node is the caller's condition.
 pub fn known_symbol_node(leaf: u16, bytes: &[u8]) -> SymbolNode<'_>
     requires long { length bytes.now ≡ 8 + 80 * leaf }
     requires form { IsSymbolNode leaf bytes.now }

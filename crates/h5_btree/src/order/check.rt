@@ -14,11 +14,15 @@ use crate::walk::tree_node;
 use h5_model::{Cause, OpenFault};
 use h5_space::{Image, fault};
 
-/// Checks the order of the node of this level at this address, and of the nodes below it; `KeyOrder` at the first of
-/// these nodes, depth first, of which a key may not be the next one, or below a child of which something is not
-/// between the keys around it. It takes no memory.
+/// Checks the order of the keys of the node with this level and address, and of the nodes below it, and of what
+/// stands between the keys. Takes no memory.
 ///
 /// That a tree was read from this node down is the caller's condition.
+///
+/// # Errors
+///
+/// `KeyOrder`, at the first node, depth first, of which a key may not follow the one before it, or below a child of
+/// which something is not between the keys around that child.
 pub fn check_keys<O: Ordered>(image: &Image, over: &O, level: u8, at: u64) -> Result<(), OpenFault>
     requires superblock { IsSuperblock image.now.bytes }
     requires subtree { HasSubtree image.now.bytes (O.form over.now) (suc level) at }

@@ -26,10 +26,14 @@ pub trait Trees {
 
 /// What the trees of one form are over: symbol nodes, or chunks.
 pub trait Leaves: Trees {
-    /// Claims what child `i` of a node of level 0 leads to. The node stands at this address.
+    /// Claims what child `i` of a node of level 0 leads to. The node stands at the address `at`.
     ///
-    /// `ChunkKey` at the node where key `i` is none that the leaf may have; else, at the leaf, `Truncated` and
-    /// `Overlap` where it cannot be claimed, and `NodeForm` where it is not of its form; `NoMemory`.
+    /// # Errors
+    ///
+    /// - `ChunkKey`, at the node: key `i` is none that the leaf may have.
+    /// - `Truncated`, `Overlap`, at the leaf: it passes the end, or shares a byte with a claimed block.
+    /// - `NodeForm`, at the leaf: it has another form.
+    /// - `NoMemory`: memory is refused.
     fn claim_leaf(
         &self,
         image: &Image,

@@ -27,12 +27,22 @@ pub struct Tree {
 
 /// Reads the tree at this root, and claims its nodes and leaves, depth first.
 ///
-/// Refusals: `Truncated` and `Overlap`, at the block that cannot be claimed; `NodeForm`, at the node or leaf that is not
-/// of its form, or has another level or count of children than one can have there; `ChunkKey`, at the node of level 0
-/// that has the key; and when all are read `Sibling`, at the first node, row by row from the root down, that does not
-/// name its neighbours; `NoMemory`, the only one of a tree that stands there in blocks that can all be claimed. After a
-/// refusal more or less of the blocks is claimed. The claims end where the image ends, and the image has its superblock:
-/// these are the caller's conditions.
+/// The claims end where the image ends, and the image has its superblock: these are the caller's conditions.
+///
+/// # Errors
+///
+/// Each with the address at which it was found:
+///
+/// - `Truncated`, `Overlap`: a node or a leaf passes the end, or shares a byte with a claimed block.
+/// - `NodeForm`: a node or a leaf has another form; or a node has another level, or a count of children that cannot
+///   stand there.
+/// - `ChunkKey`, at the node of level 0: a key is none that its leaf may have.
+/// - `Sibling`, when all nodes are read: the first node, row by row from the root down, whose addresses of siblings
+///   are wrong.
+/// - `NoMemory`, at any time: memory is refused. It is the only refusal of a tree that is as the format says, in
+///   blocks that can all be claimed.
+///
+/// After a refusal it is left open which of the blocks are claimed.
 pub fn read_tree<L: Leaves>(
     alloc: Global,
     image: &Image,

@@ -98,9 +98,13 @@ fn right_of(row: &[u64], k: usize) -> u64
     UNDEF
 }
 
-/// The nodes of level 0 of a tree that was read before, from left to right.
+/// The addresses of the nodes of level 0 of a tree that was read, from left to right.
 ///
-/// Goes down from its root row by row, and takes memory for a row and the one below it.
+/// Goes down from the root row by row, and takes memory for one row and the next.
+///
+/// # Errors
+///
+/// `AllocError` if memory is refused.
 pub fn bottom_nodes<T: Trees>(
     alloc: Global,
     image: &Image,
@@ -123,7 +127,11 @@ pub fn bottom_nodes<T: Trees>(
     Ok(row)
 }
 
-/// The leaves of a tree that was read before, from left to right. Takes memory for a row and the one below it.
+/// The addresses of the leaves of a tree that was read, from left to right. Takes memory for one row and the next.
+///
+/// # Errors
+///
+/// `AllocError` if memory is refused.
 pub fn tree_leaves<T: Trees>(
     alloc: Global,
     image: &Image,

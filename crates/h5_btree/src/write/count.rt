@@ -5,7 +5,7 @@ ghost use Rattle.h5_btree.specs.Writing.Written.{level_over, root_level as level
 
 use crate::kind::NodeKind;
 
-/// How many lists of at most `most` take so many.
+/// How many nodes with room for `most` items take `count` items.
 pub fn rows_of(most: u64, count: u64) -> u64
     requires some { 1 ≤ most }
     requires most { most < 2 ^ 32 }
@@ -35,7 +35,7 @@ pub(crate) fn nodes_within(levels: u32, most: u64, children: u64) -> u64
     row + nodes_within(levels - 1, most, row)
 }
 
-/// How many nodes of this kind stand over so many children; one where there is none.
+/// How many nodes of this kind stand over so many children; one where there is no child.
 pub fn nodes_over(kind: &NodeKind, children: u64) -> u64
     requires some { 1 ≤ kind.now.k }
     requires few { children < 2 ^ 32 }

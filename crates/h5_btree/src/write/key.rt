@@ -10,7 +10,11 @@ pub trait TreeKey: Copy {
     /// Its bytes.
     ghost bytes: { Self → List ℕ };
 
-    /// Appends its bytes.
+    /// Appends the bytes of the key.
+    ///
+    /// # Errors
+    ///
+    /// `AllocError` if memory is refused.
     fn push_to(&self, out: &mut Vec<u8>) -> Result<(), AllocError>
         ensures { OnOk result (out.new.items ≡ out.old.items ++ bytes self.now) };
 }

@@ -44,10 +44,14 @@ fn push_rows<K: TreeKey>(
     push_row(out, kind, level, first, place, children)
 }
 
-/// The tree of this kind over these children, with its root at the place `at`; `first` is its first key.
+/// Appends the tree of this kind over these children, with its root at the address `at`. `first` is its first key;
+/// behind each child is the child's key.
 ///
-/// Takes memory for the nodes of two rows beside what it appends. An error is memory that was refused; how many bytes
-/// have been appended by then is not said.
+/// Takes memory for the nodes of two rows, besides what it appends.
+///
+/// # Errors
+///
+/// `AllocError` if memory is refused. How many of the bytes stand in `out` then is left open.
 pub fn push_tree<K: TreeKey>(
     alloc: Global,
     out: &mut Vec<u8>,

@@ -15,7 +15,7 @@ use h5_model::{Cause, OpenFault};
 use h5_snod::read_symbol_node;
 use h5_space::{Claims, Image, claim, fault, leaf_k};
 
-/// What the tree of a group is over.
+/// What the B-tree of a group leads to: symbol nodes.
 pub struct SymbolNodes;
 
 impl Trees for SymbolNodes {

@@ -17,14 +17,17 @@ use h5_model::OpenFault;
 use h5_msg::SymbolTable;
 use h5_space::Image;
 
-/// Checks that the names of a group ascend by their bytes, and stand between the keys of its tree, which do not fall. The segment is
-/// that of the group's heap; a name is the text at its offset, up to the first zero.
+/// Checks that the names of a group ascend by their bytes, and that they stand between the keys of its B-tree, which
+/// do not fall. `segment` is the data segment of the group's heap. A name is the text at its offset there, up to the
+/// first zero. Takes no memory.
 ///
-/// `NameOrder`, at the symbol node that holds the later name, for the first two names that do not ascend; then `KeyOrder`, at the
-/// first node, depth first, whose keys fall, or below a child of which a name is not above the key before the child or is above
-/// the key behind it. It takes no memory.
+/// That the tree was read, and lies in the image, are the caller's conditions.
 ///
-/// That the tree was read, and stands in the image, are the caller's conditions.
+/// # Errors
+///
+/// - `NameOrder`, at the symbol node with the later name: two names, one behind the other, do not ascend.
+/// - `KeyOrder`, at the first such node, depth first: the keys of the node fall, or a name below one of its children
+///   is not above the key before that child, or is above the key behind it. It comes only where the names ascend.
 pub fn check_order(
     image: &Image,
     segment: &[u8],

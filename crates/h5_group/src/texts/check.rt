@@ -19,14 +19,21 @@ use h5_model::{Cause, OpenFault};
 use h5_msg::SymbolTable;
 use h5_space::Image;
 
-/// Checks the names, soft link texts and keys of a group whose tree and heap were read. Their spans are taken from then on.
+/// Checks the names, the texts of soft links and the keys of a group whose B-tree and heap were read. Their bytes in
+/// the heap count as taken from then on.
 ///
-/// In this order: `HeapName`, where there is no empty name; then, entry by entry, `HeapName`, where there is no text where the
-/// name should be, `BadName`, and `HeapName` for the text of a soft link; then `HeapName`, where the spans of these, of the free
-/// blocks and of the empty name share a byte; then the same of the texts that keys name. All are at the heap's header.
-/// `NoMemory` where memory is refused.
+/// That the tree and the heap were read, and lie in the image, are the caller's conditions.
 ///
-/// That the tree and the heap were read, and stand in the image, are the caller's conditions.
+/// # Errors
+///
+/// All of these have the address of the heap's header. They are looked for in this order:
+///
+/// - `HeapName`: the heap has no empty name.
+/// - For each entry: `HeapName` if its name is not a text in the heap; `BadName` if the name is not allowed;
+///   `HeapName` if the text of a soft link is not in the heap.
+/// - `HeapName`: two of these texts share a byte, or one of them shares a byte with the empty name or a free block.
+/// - `HeapName`: the same for the texts that keys name.
+/// - `NoMemory`, at any time: memory is refused.
 pub fn check_texts(
     image: &Image,
     heap: &mut Heap,

@@ -12,10 +12,14 @@ use h5_heap::{ObjectPlace, push_heap};
 use h5_model::Link;
 use std::alloc::{AllocError, Global};
 
-/// The tree, the heap and the symbol nodes of these links, which lie so, as they stand from the address `at` on.
+/// Appends the B-tree, the heap and the symbol nodes of these links. They begin at the address `at`, and `places`
+/// says how they lie.
 ///
-/// Takes memory for a child of the tree for each symbol node beside what it appends. An error is memory that was refused; how many
-/// bytes have been appended by then is not said.
+/// Takes memory for a child of the tree for each symbol node, besides what it appends.
+///
+/// # Errors
+///
+/// `AllocError` if memory is refused. How many of the bytes stand in `out` then is left open.
 pub fn push_links(
     alloc: Global,
     out: &mut Vec<u8>,

@@ -18,7 +18,8 @@ pub enum GroupFault {
     TooDeep,
 }
 
-/// How the parts of a group's links lie behind the place where they begin.
+/// How many bytes the parts of a group's links have. They stand one behind another: the B-tree, the heap's header,
+/// its segment, and the symbol nodes.
 #[derive(Clone, Copy)]
 pub struct GroupPlaces {
     /// The bytes of the tree before the heap.
@@ -40,8 +41,12 @@ fn bytes_of(count: u64, size: u64) -> u64
     count * size
 }
 
-/// How the parts of these links lie. `TooLong` where they have more than 2147483648 bytes, and else `TooDeep` where the tree's root
-/// would have a level above 15.
+/// How the B-tree, the heap and the symbol nodes of these links lie when they are written new. Takes no memory.
+///
+/// # Errors
+///
+/// - `TooLong`: they have more than 2147483648 bytes together.
+/// - `TooDeep`, only where they are not too long: the root of the B-tree would have a level above 15.
 pub fn group_places(
     leaf: u16,
     internal: u16,

@@ -26,7 +26,7 @@ StandFrom segment at [] = Unit {0}
 StandFrom segment at (text ∷ texts) = (text_at segment at ≡ text) × StandFrom segment (at + text_span text) texts
 
 -- a text that was padded is what stands before the first zero
-until_padding : (text : List ℕ) (k : ℕ) (rest : List ℕ) → HasNoZero text → 1 ≤ k → until_zero ((text ++ zeros k) ++ rest) ≡ text
+pub until_padding : (text : List ℕ) (k : ℕ) (rest : List ℕ) → HasNoZero text → 1 ≤ k → until_zero ((text ++ zeros k) ++ rest) ≡ text
 until_padding [] zero rest free some = absurd (omega arith)
 until_padding [] (suc k) rest free some = refl
 until_padding (c ∷ cs) k rest free some =

@@ -13,8 +13,9 @@ use h5_model::{Link, LinkTo};
 use h5_space::MAXIMUM_IMAGE;
 use std::alloc::AllocError;
 
-/// How many bytes a link's texts occupy in the heap: its name, and a soft link's text. Those of a link that `segment_length` has
-/// counted are few enough.
+/// How many bytes the texts of a link take in the heap: its name, and the text of a soft link.
+///
+/// That `segment_length` has counted the link is the caller's condition.
 pub fn link_span(link: &Link<'_, ObjectPlace>) -> usize
     requires { span (name_and_leads link.now) < 2 ^ 64 }
     ensures { result ≡ span (name_and_leads link.now) }
@@ -100,7 +101,12 @@ fn push_texts(out: &mut Vec<u8>, links: &[Link<'_, ObjectPlace>]) -> Result<(), 
     Ok(())
 }
 
-/// The heap at the place `at`, with its segment of so many bytes behind its header. An error says that memory was refused.
+/// Appends the heap with the texts of these links: its header at the address `at`, and behind it its segment, of
+/// `size` bytes.
+///
+/// # Errors
+///
+/// `AllocError` if memory is refused. How many of the bytes stand in `out` then is left open.
 pub fn push_heap(
     out: &mut Vec<u8>,
     at: u64,

@@ -24,14 +24,18 @@ pub(crate) fn push_heap_header(
     Ok(())
 }
 
-/// What a text occupies in a heap, its zero with it.
+/// How many bytes a text takes in a heap, with its zero and its padding.
 pub fn text_span(text: &[u8]) -> usize
     ensures { result ≡ span text.now }
 {
     (text.len() + 8) / 8 * 8
 }
 
-/// A text in a heap, with its zero, padded.
+/// Appends a text as it stands in a heap, with its zero and its padding.
+///
+/// # Errors
+///
+/// `AllocError` if memory is refused.
 pub fn push_text(out: &mut Vec<u8>, text: &[u8]) -> Result<(), AllocError>
     ensures { OnOk result (out.new.items ≡ out.old.items ++ padded_text text.now) }
 {

@@ -1,12 +1,12 @@
 use Rattle.std.proofs.Common.{◌≡◌, ℕ, ◌+◌, ◌-◌, List, length, ◌∙◌, ap, arith}
-use Rattle.h5_bytes.specs.Bytes.{part, with_part, with_field, little_bytes}
+use Rattle.h5_bytes.specs.Bytes.{part, little_bytes}
 use Rattle.h5_bytes.specs.Texts.{text_at, pad8}
 use Rattle.h5_bytes.specs.declared.Block.{Block}
-use Rattle.h5_bytes.proofs.PartLaws.{length-with_part, with_part-with_part}
+use Rattle.h5_bytes.proofs.PartLaws.{length-with_part}
 use Rattle.h5_model.specs.Format.Heap.{segment_of, segment_block}
 use Rattle.h5_heap.specs.Edited.{first_free}
 use Rattle.h5_heap.specs.Released.{Releases}
-use Rattle.h5_heap.proofs.EditedLaws.{standing_chain, half_long, edited_released, edit_moves}
+use Rattle.h5_heap.proofs.EditedLaws.{standing_chain, half_long, edited_bytes, edited_released, edit_moves}
 use Rattle.h5_heap.proofs.edit.free.Goals as goal
 use Rattle.h5_heap.proofs.edit.free.Goals.{After-release-first, After-put_u64}
 
@@ -38,22 +38,15 @@ returns-clause-freed c =
     let n = c.release-first.result in
     let w = c.release-first.new.segment in
     let s = c.requires.standing in
-    let seg = c.segment_and_list-first.ensures.segment in
-    let half = with_part (segment_block image c.args.heap).at w image in
-    let long = half_long image c.args.heap s w n c.release-first.type_inv (new_long r) in
-    let there : with_part c.segment_and_list-first.result.0.at w image ≡ half = ap (λ (b : Block). with_part b.at w image) seg in
-    let put : c.put_u64.new.bytes ≡ with_field (part c.args.heap 32 half) 16 8 n
-    = c.put_u64.ensures ∙ ap (λ (bs : List ℕ). with_field bs 16 8 n) (c.part_at_mut.ensures.value ∙ ap (part c.args.heap 32) there) in
-    let written : with_part c.args.heap c.put_u64.new.bytes half ≡ with_field half (c.args.heap + 16) 8 n
-    = ap (λ (bs : List ℕ). with_part c.args.heap bs half) put
-    ∙ with_part-with_part c.args.heap 32 16 (little_bytes 8 n) half (omega (arith, long, s.inside.0)) (omega arith) in
+    let written = edited_bytes image c.args.heap s w n c.release-first.type_inv (new_long r) c.segment_and_list-first.result.0 c.segment_and_list-first.ensures.segment
+    c.part_at_mut.result.now c.put_u64.new.bytes c.part_at_mut.ensures.value c.put_u64.ensures in
     let span : c.span_len.result ≡ pad8 (length (text_at (segment_of image c.args.heap) c.args.offset) + 1)
     = c.span_len.ensures ∙ ap (λ (bs : List ℕ). pad8 (length bs + 1)) (c.text_from.ensures ∙ ap (λ (bs : List ℕ). text_at bs c.args.offset) (bytes_are r)) in
     let size : c.args.offset + c.span_len.result - c.args.offset ≡ pad8 (length (text_at (segment_of image c.args.heap) c.args.offset) + 1)
     = omega (arith, span) in
     let released : Releases (segment_of image c.args.heap) w (first_free image c.args.heap) n c.args.offset (pad8 (length (text_at (segment_of image c.args.heap) c.args.offset) + 1))
     = rw (bytes_are r, c.segment_and_list-first.ensures.first, size) at c.release-first.ensures in
-    rw (there, written) (edited_released image c.args.heap s w n c.release-first.type_inv (new_long r) released.chain c.args.offset
+    rw written (edited_released image c.args.heap s w n c.release-first.type_inv (new_long r) released.chain c.args.offset
     (pad8 (length (text_at (segment_of image c.args.heap) c.args.offset) + 1)) released)
 
 pub returns-clause-moves : goal.returns-clause-moves
