@@ -27,11 +27,15 @@ pub struct ChunkPlace<'a> {
     pub at: u64,
 }
 
-/// The stored chunks of a tree that hold a cell of an extent of these sizes, from left to right: those whose offsets are
-/// inside.
+/// The stored chunks that hold a cell of a dataset with these sizes: those whose offsets are all below the sizes.
+/// They come in the order of their offsets.
 ///
-/// Takes memory for each chunk that it gives, and for the addresses of the nodes of two rows. That the chunks were read
-/// is the caller's condition.
+/// Takes memory for each chunk that it gives, and for the addresses of the nodes of two rows of the tree. That the
+/// chunks were read is the caller's condition.
+///
+/// # Errors
+///
+/// `AllocError` if memory is refused.
 pub fn held_places<'a>(
     alloc: Global,
     image: &'a Image,

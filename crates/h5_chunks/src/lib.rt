@@ -1,7 +1,7 @@
-//! Chunks of datasets: the tree from their offsets to their addresses, read and claimed, and the way to the chunk at some
-//! offsets (File Format Specification 3.0, section III.A.1, node type 1).
+//! The chunks of datasets: the B-tree from their offsets to their addresses, read and claimed, and the way to the
+//! chunk at some offsets (File Format Specification 3.0, section III.A.1, node type 1).
 //!
-//! Offsets and chunk sizes are in elements, addresses and lengths in bytes. Nodes are read where they stand.
+//! Offsets and chunk sizes are in cells, addresses and lengths in bytes. Nodes are read where they stand.
 #![tactic(auto)]
 
 mod held;
@@ -13,6 +13,7 @@ mod search;
 mod shape;
 mod write;
 
+pub use h5_space::CHUNK_K;
 pub use held::{ChunkPlace, held_places};
 pub use key::OFFSETS;
 pub use offsets::is_key_before;

@@ -56,8 +56,8 @@ impl Offsets {
     }
 }
 
-/// Whether the chunk with one key is before that with the other, by the offsets of so many dimensions, compared one by one from
-/// the first on.
+/// Whether the chunk with one key is before the chunk with the other: their offsets in the first `rank` dimensions
+/// are compared one by one.
 pub fn is_key_before(rank: usize, key: &[u8], other: &[u8]) -> bool
     requires few { rank ≤ 32 }
     requires long { length key.now ≡ 8 + 8 * (rank + 1) }

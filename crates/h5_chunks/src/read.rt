@@ -16,16 +16,25 @@ use h5_model::OpenFault;
 use h5_space::{Claims, Image};
 use std::alloc::Global;
 
-/// Reads the chunks of this shape in the tree at this root, and claims its nodes and the chunks.
-///
-/// Refusals, in this order: depth first, `Truncated` and `Overlap` at the node or chunk that cannot be claimed, `NodeForm`
-/// at the node that is not of its form, or has another level or count of children than one can have there, and `ChunkKey`
-/// at the node of level 0 that has the key, before its chunk is claimed; `Sibling` at a node; `KeyOrder` at the node of
-/// level 0 with a chunk that is not above the one before it, and then at a node below a child of which a chunk is not
-/// between the keys. `NoMemory` where memory is refused; it is the only refusal of chunks that stand there in blocks that
-/// can all be claimed. After a refusal more or less of the blocks is claimed.
+/// Reads the chunks of this shape in the tree at this root, and claims the nodes of the tree and the chunks.
 ///
 /// The claims end where the image ends, and the image has its superblock: these are the caller's conditions.
+///
+/// # Errors
+///
+/// The tree is walked depth first. These are looked for in this order, each with the address at which it was found:
+///
+/// - `Truncated`, `Overlap`: a node or a chunk passes the end, or shares a byte with a claimed block.
+/// - `NodeForm`: a node has another form, another level, or a count of children that cannot stand there.
+/// - `ChunkKey`, at the node of level 0: a key is not that of a whole chunk. It is checked before the chunk is
+///   claimed.
+/// - `Sibling`: the addresses of a node's siblings are wrong.
+/// - `KeyOrder`, at the node of level 0: a chunk is not above the chunk before it. Then, at the node with the keys: a
+///   chunk below one of its children is not between the keys around that child.
+/// - `NoMemory`, at any time: memory is refused. It is the only refusal of a tree that is as the format says, in
+///   blocks that can all be claimed.
+///
+/// After a refusal it is left open which of the blocks are claimed.
 pub fn read_chunks(
     alloc: Global,
     image: &Image,

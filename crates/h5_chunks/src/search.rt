@@ -4,20 +4,21 @@ ghost use Rattle.std.specs.Prelude.{◌≡◌, ◌+◌, ◌*◌, ◌≤◌, ℕ,
 ghost use Rattle.std.specs.FinMap.{get};
 ghost use Rattle.std.specs.List.{AllByRecursion};
 ghost use Rattle.h5_model.specs.Format.Nodes.{chunk_kind};
+ghost use Rattle.h5_model.specs.Format.PlainSuperblock.{plain_chunk_k};
 ghost use Rattle.h5_chunks.specs.Read.{AreChunksRead};
 ghost use Rattle.h5_chunks.specs.Told.{chunks_told};
 ghost use Rattle.h5_chunks.specs.Way.{EndsForChunk, chunk_behind};
 
 use crate::offsets::key_order;
-use crate::shape::{CHUNK_K, ChunkShape};
+use crate::shape::ChunkShape;
 use h5_btree::{ChildPlace, NodeKind, Sought, find_place};
-use h5_space::Image;
+use h5_space::{CHUNK_K, Image};
 use std::marker::Model;
 
-/// The address of the chunk at these offsets, in elements, or `None` where it is not stored.
+/// The address of the chunk at these offsets, which are in cells; `None` where it is not stored.
 ///
-/// Goes down the tree by its keys, and searches in each node by halves. It takes no memory. That the chunks were read, and
-/// that there is an offset for each of the shape's sizes, are the caller's conditions.
+/// It goes down the tree by its keys, and searches each node by halves. Takes no memory. That the chunks were read,
+/// and that there is an offset for each size of a chunk, are the caller's conditions.
 pub fn chunk_at(image: &Image, shape: &ChunkShape<'_>, root: u64, offsets: &[u64]) -> Option<u64>
     requires chunks { AreChunksRead image.now.bytes shape.now root }
     requires rank { length offsets.now ≡ length shape.now.sizes }
@@ -82,7 +83,7 @@ impl<'a> SoughtChunk<'a> {
 }
 
 impl Sought for SoughtChunk<'_> {
-    ghost tree_kind = { λ s. chunk_kind 32 (length s) };
+    ghost tree_kind = { λ s. chunk_kind plain_chunk_k (length s) };
 
     ghost behind = { λ s key. chunk_behind s key };
 

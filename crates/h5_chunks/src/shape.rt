@@ -9,13 +9,10 @@ use crate::key::is_chunk_key;
 use h5_btree::{Leaves, Node, NodeKind, Trees};
 use h5_bytes::Block;
 use h5_model::{Cause, OpenFault};
-use h5_space::{Claims, Image, claim, fault};
+use h5_space::{CHUNK_K, Claims, Image, claim, fault};
 use std::marker::Model;
 
-/// K of the nodes of trees of chunks.
-pub(crate) const CHUNK_K: u16 = 32;
-
-/// The sizes of a dataset's chunks in elements, and how many bytes one chunk has.
+/// The sizes of a dataset's chunks in cells, and how many bytes one chunk has.
 #[derive(Drop)]
 pub struct ChunkShape<'a> {
     pub(crate) sizes: &'a [u64],
@@ -34,8 +31,8 @@ impl<'a> Model for ChunkShape<'a> {
 }
 
 impl<'a> ChunkShape<'a> {
-    /// The shape of chunks of these sizes, in elements, and of so many bytes. That there are at most 32 sizes, none of
-    /// which is 0, is the caller's condition.
+    /// Chunks of these sizes, in cells, and of `bytes` bytes each. That there are at most 32 sizes, none of which is
+    /// 0, is the caller's condition.
     pub fn new(sizes: &'a [u64], bytes: u64) -> Self
         requires { AreChunkSizes sizes.now }
         ensures sizes { result.sizes ≡ sizes.now }

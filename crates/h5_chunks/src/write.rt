@@ -11,7 +11,7 @@ use h5_btree::TreeKey;
 use h5_bytes::{push_bytes, push_middle, push_word, push_zeros, u64_at};
 use std::alloc::AllocError;
 
-/// A key of a tree of chunks as it is written, where it stands.
+/// A key of a tree of chunks, as it is written, lent where it stands.
 #[derive(Clone, Copy)]
 pub struct ChunkKey<'a> {
     /// Its bytes: how many the chunk has that it is of, no filter, the chunk's offsets, and 0 for the element.
@@ -26,7 +26,11 @@ impl TreeKey for ChunkKey<'_> {
     }
 }
 
-/// Appends the key of a chunk of so many bytes, below 2^32, at these offsets.
+/// Appends the key of a chunk of `bytes` bytes, below 2^32, at these offsets, which are counted in cells.
+///
+/// # Errors
+///
+/// `AllocError` if memory is refused.
 pub fn push_chunk_key(out: &mut Vec<u8>, bytes: u64, offsets: &[u64]) -> Result<(), AllocError>
     requires { bytes < 2 ^ 32 }
     ensures { OnOk result (out.new.items ≡ out.old.items ++ chunk_key (record {
@@ -50,9 +54,14 @@ fn push_offsets(out: &mut Vec<u8>, offsets: &[u64]) -> Result<(), AllocError>
     Ok(())
 }
 
-/// Appends the last key of a tree, which is of no chunk: that behind the last chunk, whose key and sizes these are.
+/// Appends the key that stands behind the last chunk of a tree and belongs to no chunk. `key` is the key of that last
+/// chunk, `sizes` are the sizes of a chunk.
 ///
 /// That the key is one of a chunk of these sizes, each below 2^32, is the caller's condition.
+///
+/// # Errors
+///
+/// `AllocError` if memory is refused.
 pub fn push_last_key(out: &mut Vec<u8>, key: &[u8], sizes: &[u64]) -> Result<(), AllocError>
     requires long { length key.now ≡ 8 + 8 * (length sizes.now + 1) }
     requires aligned { AllZip IsOffset sizes.now (offsets_in (length sizes.now) key.now) }

@@ -32,3 +32,4 @@ pub mod KeyBack
 pub mod MergedLaws
 pub mod MissingLaws
 pub mod HeldWith
+pub mod LentLaws

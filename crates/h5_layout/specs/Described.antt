@@ -1,5 +1,6 @@
 -- An array as the messages of its object header describe it (File Format Specification 3.0, section IV.A.2).
 use Rattle.std.specs.Prelude.{◌≡◌, ℕ, ◌^◌, ◌≤◌, ℤ, Option, Some, List, option_and_then}
+use Rattle.h5_model.specs.Format.MessageTypes.{dataspace_kind, datatype_kind, old_fill_value_kind, fill_value_kind, data_layout_kind}
 use Rattle.h5_model.specs.Format.Messages.{Message, count_of, first_body}
 use Rattle.h5_model.specs.Format.Fixed.{Fixed}
 use Rattle.h5_model.specs.Tree.Places.{extent_cells}
@@ -34,21 +35,21 @@ array_of t sizes maxima fill layout = record {
 pub record HasFill (messages : List Message) (t : Fixed) (fill : ℤ) : Type 0 where
   pub old_fill : Option ℤ
   pub new_fill : Option ℤ
-  pub old_filled : IsFill (old_fill_value t) (first_body 4 messages) old_fill
-  pub new_filled : IsFill (fill_value t) (first_body 5 messages) new_fill
+  pub old_filled : IsFill (old_fill_value t) (first_body old_fill_value_kind messages) old_fill
+  pub new_filled : IsFill (fill_value t) (first_body fill_value_kind messages) new_fill
   pub filled : fill ≡ chosen_fill new_fill old_fill
 
 -- The messages of a header describe this array.
 pub record HasArray (messages : List Message) (a : Described) : Type 0 where
-  pub one_space : count_of 1 messages ≡ 1
-  pub one_type : count_of 3 messages ≡ 1
-  pub one_layout : count_of 8 messages ≡ 1
-  pub old_fills : count_of 4 messages ≤ 1
-  pub fills : count_of 5 messages ≤ 1
-  pub space : option_and_then extent_of (first_body 1 messages) ≡ Some (record { sizes = a.sizes; maxima = a.maxima })
-  pub type : option_and_then fixed_of (first_body 3 messages) ≡ Some a.fixed
+  pub one_space : count_of dataspace_kind messages ≡ 1
+  pub one_type : count_of datatype_kind messages ≡ 1
+  pub one_layout : count_of data_layout_kind messages ≡ 1
+  pub old_fills : count_of old_fill_value_kind messages ≤ 1
+  pub fills : count_of fill_value_kind messages ≤ 1
+  pub space : option_and_then extent_of (first_body dataspace_kind messages) ≡ Some (record { sizes = a.sizes; maxima = a.maxima })
+  pub type : option_and_then fixed_of (first_body datatype_kind messages) ≡ Some a.fixed
   pub filled : HasFill messages a.fixed a.fill
-  pub laid_out : option_and_then (layout_of a.sizes a.fixed.size) (first_body 8 messages) ≡ Some a.layout
+  pub laid_out : option_and_then (layout_of a.sizes a.fixed.size) (first_body data_layout_kind messages) ≡ Some a.layout
   pub small : extent_cells a.sizes ≤ 2 ^ 40
   pub chunk_small : IsChunkSmall a.fixed a.layout
 

@@ -2,6 +2,7 @@
 -- IV.A.2).
 use Rattle.std.specs.Prelude.{ℕ, ◌*◌, ◌^◌, ◌||◌, Bool, false, nat_lt, is_none, if◌then◌else◌, ℤ, Option, Some, None, List}
 use Rattle.std.specs.Option.{option_map_or, option_or}
+use Rattle.h5_model.specs.Format.MessageTypes.{old_fill_value_kind, fill_value_kind}
 use Rattle.h5_model.specs.Format.Messages.{Message, first_body}
 use Rattle.h5_model.specs.Format.Fixed.{Fixed}
 use Rattle.h5_model.specs.Tree.Places.{cells, extent_cells}
@@ -29,7 +30,7 @@ is_bad value body = option_map_or (λ bytes. is_none (value bytes)) body false
 abbrev pub fill_breach : List Message → Option Fixed → Option Cause
 fill_breach ms None = None
 fill_breach ms (Some t) =
-    if is_bad (old_fill_value t) (first_body 4 ms) || is_bad (fill_value t) (first_body 5 ms)
+    if is_bad (old_fill_value t) (first_body old_fill_value_kind ms) || is_bad (fill_value t) (first_body fill_value_kind ms)
     then Some FillForm else None
 
 -- a chunk has more than 2^30 bytes

@@ -6,6 +6,7 @@ pub mod Described
 pub mod HeldChunks
 pub mod Judged
 pub mod Kept
+pub mod Lent
 pub mod Maxima
 pub mod Merged
 pub mod Missing

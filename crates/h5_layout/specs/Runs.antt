@@ -39,8 +39,12 @@ pub record IsPieceAt (all : CellsLeft) (place most : ℕ) (piece : Piece) (n : �
   pub whole : IsPiece all.fixed piece
   pub values : piece_values all.fixed all.fill piece ≡ (cells_left all (range_with_len place n)).values
 
--- the piece has the bytes of so many cells from a place on, which stand one behind the other in these bytes
+-- these are the bytes of so many cells from a place on, which stand one behind the other in others
+abbrev pub AreCellBytes : Fixed → List ℕ → ℕ → ℕ → List ℕ → Type 0
+AreCellBytes t bytes place n cells =
+    (length cells ≡ n * t.size) × (stored_values t cells ≡ map (value_in t bytes) (range_with_len place n))
+
+-- the piece has them
 abbrev pub IsWholePiece : Fixed → List ℕ → ℕ → ℕ → Piece → Type 0
-IsWholePiece t bytes place n (Bytes cells) =
-    (length cells.now ≡ n * t.size) × (stored_values t cells.now ≡ map (value_in t bytes) (range_with_len place n))
+IsWholePiece t bytes place n (Bytes cells) = AreCellBytes t bytes place n cells.now
 IsWholePiece t bytes place n (Fill cells) = ⊥

@@ -1,5 +1,6 @@
 -- The array that the messages of a dataset's header tell (File Format Specification 3.0, section IV.A.2).
 use Rattle.std.specs.Prelude.{ℤ, None, List, [], false, unwrap_or, option_and_then}
+use Rattle.h5_model.specs.Format.MessageTypes.{old_fill_value_kind, fill_value_kind}
 use Rattle.h5_model.specs.Format.Messages.{Message, first_body}
 use Rattle.h5_model.specs.Format.Fixed.{Fixed}
 use Rattle.h5_model.specs.Format.Extent.{Extent}
@@ -17,7 +18,7 @@ type_told ms = unwrap_or (type_among ms) (record { size = 1; signed = false; big
 
 -- the new Fill Value message decides, else the old one; with neither it is 0
 abbrev pub fill_told : List Message → Fixed → ℤ
-fill_told ms t = chosen_fill (option_and_then (fill_value t) (first_body 5 ms)) (option_and_then (old_fill_value t) (first_body 4 ms))
+fill_told ms t = chosen_fill (option_and_then (fill_value t) (first_body fill_value_kind ms)) (option_and_then (old_fill_value t) (first_body old_fill_value_kind ms))
 
 abbrev pub layout_told : List Message → Layout
 layout_told ms = unwrap_or (layout_among ms) (InBlock None)

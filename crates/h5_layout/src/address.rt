@@ -26,10 +26,10 @@ pub struct StoredRun {
     pub cells: u64,
 }
 
-/// Where the cells from a place on stand in the image, with at most so many, or `None` where the first of them stands in no
-/// block and in no chunk. Takes no memory.
+/// Where the cells from a place on stand in the image, one behind another: `most` cells at most. `None` where the
+/// first of them stands in no block and in no chunk. Takes no memory.
 ///
-/// That the data stand in the image, and that there are so many cells from the place on, are the caller's conditions.
+/// That the data stand in the image, and that there are `most` cells from the place on, are the caller's conditions.
 pub fn stored_from(image: &Image, array: &ArrayRef<'_>, place: u64, most: u64) -> Option<StoredRun>
     requires stored { AreDataRead image.now.bytes array.now.fixed array.now.layout }
     requires some { 0 < most }

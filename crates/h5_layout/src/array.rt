@@ -28,8 +28,8 @@ pub(crate) enum Maxima<'a> {
     Given(&'a [Option<u64>]),
 }
 
-/// An array: its type, sizes, maxima, fill value and layout, as the messages of its object header describe them, whose
-/// bodies it borrows, or as it is to be written.
+/// An array: its type, sizes, maxima, fill value and layout. Either the messages of its object header describe it,
+/// whose bodies it borrows; or it is to be written.
 #[derive(Drop)]
 pub struct ArrayRef<'a> {
     pub(crate) fixed: Fixed,
@@ -56,10 +56,10 @@ impl<'a> Model for ArrayRef<'a> {
 }
 
 impl<'a> ArrayRef<'a> {
-    /// An array of this type, these sizes and maxima, this fill value and this layout.
+    /// An array with this type, these sizes and maxima, this fill value and this layout.
     ///
-    /// That there is a maximum for each size, that the fill is a value of the type, and that the array is no larger than arrays
-    /// may be and has room where its layout names some, are the caller's conditions.
+    /// These are the caller's conditions: there is a maximum for each size; the fill is a value of the type; the
+    /// array is no larger than arrays may be; and its data, where the layout names some, have room for its cells.
     pub fn new(
         fixed: Fixed,
         dims: Dims,
@@ -126,7 +126,7 @@ impl<'a> ArrayRef<'a> {
         }
     }
 
-    /// The largest sizes, one for each dimension and `None` where one is unlimited, at the front of this room.
+    /// The largest sizes, one for each dimension, written to the front of `room`; `None` is unlimited.
     pub fn maxima<'b>(&self, room: &'b mut [Option<u64>; MAX_RANK]) -> &'b [Option<u64>]
         ensures { result.now ≡ self.now.maxima }
     {
@@ -179,11 +179,11 @@ impl<'a> ArrayRef<'a> {
         }
     }
 
-    /// The bytes of the cells of an array that is not chunked, one cell behind the other, each in as many bytes as the type has;
-    /// `None` where none is stored, so that each reads the fill.
+    /// The bytes of the cells of an array that is not chunked, one cell behind another, each in as many bytes as the
+    /// type has. `None` where no cell is stored; each reads the fill then.
     ///
-    /// That the array is not chunked, and that the block of its data, where it has one, lies in the image are the caller's
-    /// conditions.
+    /// That the array is not chunked, and that the block of its data, where it has one, lies in the image, are the
+    /// caller's conditions.
     pub fn stored(&self, image: &'a Image) -> Option<&'a [u8]>
         requires { IsUnchunked (length image.now.bytes) self.now.layout }
         ensures { MatchOption result (AreFilled (described_dataset image.now.bytes self.now empty)) (λ bytes.

@@ -6,13 +6,14 @@ ghost use Rattle.h5_model.specs.Format.Cells.{cell_of, value_in};
 ghost use Rattle.h5_model.specs.Tree.Places.{cells as cells_of, index_of};
 ghost use Rattle.h5_layout.specs.CellData.{HasCellRoom, value_of_cell};
 ghost use Rattle.h5_layout.specs.Data.{AreDataRead, dataset_told, stored_chunks};
-ghost use Rattle.h5_layout.specs.Runs.{IsPieceAt, IsWholePiece};
+ghost use Rattle.h5_layout.specs.Runs.{AreCellBytes, IsPieceAt, IsWholePiece};
 
 use crate::array::{ArrayRef, block_bytes};
 use crate::grid::ChunkGrid;
 use crate::pieces::Piece;
 use h5_model::Fixed;
 use h5_msg::Layout;
+use h5_shape::CellRun;
 use h5_space::Image;
 use std::marker::Model;
 
@@ -119,7 +120,19 @@ fn whole_piece<'a>(fixed: &Fixed, bytes: &'a [u8], place: u64, cells: u64) -> Pi
     requires room { (place + cells) * fixed.now.size ≤ length bytes.now }
     ensures { IsWholePiece fixed.now bytes.now place cells result }
 {
-    let start = place as usize * fixed.size();
-    let end = start + cells as usize * fixed.size();
-    Piece::Bytes(&bytes[start..end])
+    let run = CellRun {
+        place,
+        length: cells,
+    };
+    Piece::Bytes(run_bytes(fixed, bytes, &run))
+}
+
+/// The bytes of a run of cells.
+pub(crate) fn run_bytes<'a>(fixed: &Fixed, bytes: &'a [u8], run: &CellRun) -> &'a [u8]
+    requires { (run.now.place + run.now.length) * fixed.now.size ≤ length bytes.now }
+    ensures { AreCellBytes fixed.now bytes.now run.now.place run.now.length result.now }
+{
+    let start = run.place as usize * fixed.size();
+    let end = start + run.length as usize * fixed.size();
+    &bytes[start..end]
 }

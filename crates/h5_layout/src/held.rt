@@ -35,8 +35,8 @@ use h5_space::Image;
 use std::alloc::{AllocError, Global};
 use std::marker::Model;
 
-/// The stored chunks of an array that hold a cell of an extent, in the order of their offsets. A cell outside the sizes that
-/// the array has or is to have reads the fill.
+/// The stored chunks that hold a cell of an array, in the order of their offsets, as they are handed on to be
+/// written. The array has, or is to have, some sizes; a cell of a chunk outside these sizes reads the fill.
 #[derive(Drop)]
 pub struct HeldChunks<'a> {
     image: &'a Image,
@@ -77,11 +77,16 @@ impl<'a> Model for HeldChunks<'a> {
 }
 
 impl<'a> HeldChunks<'a> {
-    /// The stored chunks of an array in chunks that hold a cell of an extent of these sizes, as the array has them once it
-    /// has these sizes: a cell outside the old or the new sizes reads the fill.
+    /// The stored chunks that hold a cell of the array once it has these sizes. `array` is in chunks. A cell of such
+    /// a chunk reads the fill if it is outside the old or the new sizes.
     ///
-    /// Takes memory for the place of each chunk that it gives, twice while it runs, and for the addresses of the nodes of two
-    /// rows of their tree. That the data were read, and that the array is in chunks and has as many sizes, are the caller's conditions.
+    /// Takes memory for the place of each chunk that it gives, twice while it runs, and for the addresses of the
+    /// nodes of two rows of the tree. That the data were read, and that the array is in chunks and has as many
+    /// dimensions as `sizes`, are the caller's conditions.
+    ///
+    /// # Errors
+    ///
+    /// `AllocError` if memory is refused.
     pub fn new(
         alloc: Global,
         image: &'a Image,
@@ -98,11 +103,16 @@ impl<'a> HeldChunks<'a> {
         keep_chunks(alloc, image, array, sizes, &[])
     }
 
-    /// The stored chunks of an array in chunks that hold one of its cells, and new ones, in the order of their offsets. In a
-    /// new one each cell reads the fill; its key is lent from these.
+    /// The stored chunks that hold a cell of the array, and new ones, in the order of their offsets. Each cell of a
+    /// new chunk reads the fill. The keys of the new chunks are lent from `new`.
     ///
-    /// Takes memory as `new` does, and for the place of each new chunk. That the data were read, that the array is in chunks,
-    /// and that the new chunks are those that are missing of it for some selection, are the caller's conditions.
+    /// Takes memory as [`HeldChunks::new`] does, and for the place of each new chunk. That the data were read, that
+    /// the array is in chunks, and that the new chunks are those that a selection misses, are the caller's
+    /// conditions.
+    ///
+    /// # Errors
+    ///
+    /// `AllocError` if memory is refused.
     pub fn with_new(
         alloc: Global,
         image: &'a Image,
@@ -135,7 +145,7 @@ impl<'a> HeldChunks<'a> {
         self.places.is_empty()
     }
 
-    /// The sizes of a chunk in elements, at most 32, none of which is 0. Of each chunk there is an offset for each size.
+    /// The sizes of a chunk in cells, at most 32, none of which is 0. Each chunk has an offset for each of them.
     pub fn chunk(&self) -> &[u64]
         ensures sizes { result.now ≡ self.now.chunk }
         ensures sound { AreChunkSizes self.now.chunk }
@@ -164,7 +174,7 @@ impl<'a> HeldChunks<'a> {
         self.chunk_length
     }
 
-    /// The key of a chunk, as it stands in the tree.
+    /// The key of chunk `k`, as it stands in the tree.
     pub fn key(&self, k: usize) -> ChunkKey<'a>
         requires { k < length self.now.parts }
         ensures { (part : List ℕ × List ℤ) → slice_get self.now.parts k ≡ Some part
@@ -176,7 +186,11 @@ impl<'a> HeldChunks<'a> {
         written_key(self.places[k].key)
     }
 
-    /// Appends the key behind the last chunk, which is of no chunk.
+    /// Appends the key that stands behind the last chunk and belongs to no chunk.
+    ///
+    /// # Errors
+    ///
+    /// `AllocError` if memory is refused.
     pub fn push_last_key(&self, out: &mut Vec<u8>) -> Result<(), AllocError>
         requires { 1 ≤ length self.now.parts }
         ensures { (part : List ℕ × List ℤ) → slice_get self.now.parts (length self.now.parts - 1) ≡ Some part
@@ -188,7 +202,11 @@ impl<'a> HeldChunks<'a> {
         push_last_key(out, self.places[self.places.len() - 1].key, self.chunk())
     }
 
-    /// Appends the bytes of the cells of a chunk. Takes no memory but for what is appended.
+    /// Appends the bytes of the cells of chunk `k`. Takes no memory but for what is appended.
+    ///
+    /// # Errors
+    ///
+    /// `AllocError` if memory is refused.
     pub fn push_chunk(&self, out: &mut Vec<u8>, k: usize) -> Result<(), AllocError>
         requires { k < length self.now.parts }
         ensures { (part : List ℕ × List ℤ) → slice_get self.now.parts k ≡ Some part

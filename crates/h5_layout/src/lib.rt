@@ -1,7 +1,8 @@
-//! Arrays as the object headers of datasets describe them: type, sizes, maxima, fill value and layout, and their cells
-//! (File Format Specification 3.0, section IV.A.2).
+//! Arrays as the object headers of datasets describe them: type, sizes, maxima, fill value and layout, and their
+//! cells (File Format Specification 3.0, section IV.A.2).
 //!
-//! No call takes memory but those of `HeldChunks`. Places and lengths of data are in bytes, sizes of arrays and chunks in elements.
+//! Only `missing_chunks` and the calls of `HeldChunks` take memory. Places and lengths of data are in bytes, sizes of
+//! arrays and chunks in cells.
 #![tactic(auto)]
 
 mod address;

@@ -27,8 +27,8 @@ use h5_space::Image;
 use std::alloc::{AllocError, Global};
 use std::marker::Model;
 
-/// The chunks of an array that a selection meets and that are not stored, as keys of a tree of chunks, one behind another, in
-/// the order of their offsets.
+/// The chunks of an array that hold a selected cell and are not stored. They are kept as keys of a tree of chunks,
+/// one behind another, in the order of their offsets.
 #[derive(Drop)]
 pub struct NewChunks {
     rank: usize,
@@ -76,10 +76,14 @@ impl NewChunks {
     }
 }
 
-/// The chunks of an array in chunks that hold a selected cell and are not stored.
+/// The chunks of an array that hold a selected cell and are not stored. The array is in chunks.
 ///
-/// Takes memory for their keys. Each is looked for by one way down the tree. That the data were read, that the array is in
-/// chunks, and that the selection is within its sizes, are the caller's conditions.
+/// Takes memory for their keys. Each chunk is looked for by one way down the tree. That the data were read, that the
+/// array is in chunks, and that the selection is within its sizes, are the caller's conditions.
+///
+/// # Errors
+///
+/// `AllocError` if memory is refused.
 pub fn missing_chunks(
     alloc: Global,
     image: &Image,

@@ -9,7 +9,7 @@ use crate::cells::StoredCells;
 use h5_shape::{CellRun, CellRuns};
 use std::marker::Model;
 
-/// Some cells as they stand.
+/// A piece of the cells of an array, as they stand in the image.
 #[derive(Drop)]
 pub enum Piece<'a> {
     /// The bytes of cells, one behind the other, each in as many bytes as the type has.
@@ -21,7 +21,7 @@ pub enum Piece<'a> {
     },
 }
 
-/// The selected cells of an array that are left, piece by piece, in row-major order. No step takes memory.
+/// The selected cells of an array in pieces: those that are left, in row-major order. No step takes memory.
 #[derive(Drop)]
 pub struct Runs<'a> {
     cells: StoredCells<'a>,

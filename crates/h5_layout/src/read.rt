@@ -18,13 +18,20 @@ use h5_model::{Cause, Fixed, OpenFault};
 use h5_space::Image;
 use std::alloc::Global;
 
-/// The array that a dataset's messages describe. Takes no memory.
-///
-/// Refusals, at the header, in the order in which the messages are judged: `DataspaceForm`; `TooLarge` where the
-/// product of the sizes, those of 0 left out, is above 2^40; `DatatypeForm`; `FillForm`, of the old Fill Value message
-/// and then of the new; `LayoutForm`; `TooLarge` where a chunk has more than 2^30 bytes.
+/// The array that the messages of a dataset describe. Takes no memory.
 ///
 /// That the messages are those of a dataset and lie in the image are the caller's conditions.
+///
+/// # Errors
+///
+/// The first of these that holds, with the address of the object's header:
+///
+/// - `DataspaceForm`: the Dataspace message has another form.
+/// - `TooLarge`: the product of the sizes, with sizes of 0 left out, is above 2^40.
+/// - `DatatypeForm`: the Datatype message is not that of a whole-number type.
+/// - `FillForm`: the old Fill Value message, or then the new one, has another form.
+/// - `LayoutForm`: the Data Layout message has another form.
+/// - `TooLarge`: a chunk has more than 2^30 bytes.
 pub fn read_array<'a>(
     alloc: Global,
     image: &'a Image,

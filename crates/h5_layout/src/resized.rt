@@ -8,10 +8,11 @@ use crate::array::ArrayRef;
 use h5_shape::Dims;
 
 impl<'a> ArrayRef<'a> {
-    /// The array with these sizes, and the type, the maxima, the fill value and the layout that it has.
+    /// The array with these sizes, and with the type, the maxima, the fill value and the layout that it has. Whether
+    /// the sizes are within the maxima is not checked.
     ///
-    /// That it has as many dimensions, and is then no larger than arrays may be and has room where its layout names some, are the
-    /// caller's conditions; whether the sizes are within the maxima is not looked at.
+    /// These are the caller's conditions: there are as many sizes as before; the array is then no larger than arrays
+    /// may be; and its data, where the layout names some, have room for its cells.
     pub fn resized(self, dims: Dims) -> ArrayRef<'a>
         requires rank { length dims ≡ length self.sizes }
         requires sound { IsArray (array_of self.fixed dims self.maxima self.fill self.layout) }

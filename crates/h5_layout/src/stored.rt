@@ -1,17 +1,19 @@
 //! An array with the image in which its cells stand.
 
-ghost use Rattle.std.specs.Prelude.{◌≡◌, false, MatchOption, length};
+ghost use Rattle.std.specs.Prelude.{◌≡◌, ◌^◌, ◌≤◌, false, MatchOption, [], ◌∷◌, length};
 ghost use Rattle.h5_model.specs.Edits.Refusal.{is_chunked};
 ghost use Rattle.h5_model.specs.Tree.Objects.{Chunked};
-ghost use Rattle.h5_model.specs.Tree.Places.{IsInside};
+ghost use Rattle.h5_model.specs.Tree.Places.{IsInside, cells as cells_of};
 ghost use Rattle.h5_model.specs.Format.Reads.{storage_of};
 ghost use Rattle.h5_model.specs.Scripts.Reading.{cell_at};
-ghost use Rattle.h5_model.specs.Views.Selection.{Within};
-ghost use Rattle.h5_model.specs.Views.Shown.{is_in_line, selected_values};
+ghost use Rattle.h5_model.specs.Views.Selection.{Within, is_one_run, selection_of};
+ghost use Rattle.h5_model.specs.Views.Shown.{is_in_line, is_lent, selected_values};
+ghost use Rattle.h5_shape.specs.Runs.{cell_runs};
 ghost use Rattle.h5_layout.specs.Data.{AreDataRead, IsSoundDataset, dataset_told};
+ghost use Rattle.h5_layout.specs.Lent.{AreInLine, IsLent};
 
-use crate::array::ArrayRef;
-use crate::cells::StoredCells;
+use crate::array::{ArrayRef, block_bytes};
+use crate::cells::{StoredCells, run_bytes};
 use crate::pieces::{Piece, Runs};
 use h5_model::Fixed;
 use h5_msg::{Layout, value_at};
@@ -20,7 +22,7 @@ use h5_space::Image;
 use std::alloc::Global;
 use std::marker::Model;
 
-/// An array, and the image in which its cells stand, in whatever form.
+/// An array with the image in which its cells stand, in any layout.
 #[derive(Drop)]
 pub struct StoredArray<'a> {
     image: &'a Image,
@@ -96,7 +98,8 @@ impl<'a> StoredArray<'a> {
         self.array.fill()
     }
 
-    /// Whether its cells are stored one behind another: those of a compact array are, and those of a contiguous one that has storage.
+    /// Whether its cells are stored one behind another. Those of a compact array are, and those of a contiguous one
+    /// that has storage.
     pub fn stored(&self) -> bool
         ensures { result ≡ is_in_line self.now.storage }
     {
@@ -104,6 +107,33 @@ impl<'a> StoredArray<'a> {
             Layout::Compact(_) => true,
             Layout::Contiguous(block) => block.is_some() && self.array.cells() > 0,
             Layout::Chunked { .. } => false,
+        }
+    }
+
+    /// The bytes of the selected cells as they stand in the image: `Some` exactly where its cells are stored one behind
+    /// another, and the selected ones are one run. Takes no memory.
+    ///
+    /// That the selection has as many dimensions as the array, and is within its sizes, is the caller's condition.
+    pub fn lent(&self, slab: &Slab) -> Option<&'a [u8]>
+        requires rank { length slab.now ≡ length self.now.sizes }
+        requires within { Within self.now.sizes slab.now }
+        ensures { MatchOption result (is_lent self.now slab.now ≡ false) (λ bytes.
+            IsLent self.now slab.now bytes.now) }
+    {
+        let bytes = self.line()?;
+        let run = single_run(slab, self.array.dims())?;
+        Some(run_bytes(&self.array.fixed(), bytes, &run))
+    }
+
+    /// The bytes in which its cells stand one behind another.
+    fn line(&self) -> Option<&'a [u8]>
+        ensures { MatchOption result (is_in_line self.now.storage ≡ false) (λ bytes.
+            AreInLine self.now bytes.now) }
+    {
+        match self.array.layout() {
+            Layout::Compact(bytes) => Some(bytes),
+            Layout::Contiguous(block) => block_bytes(self.image, *block),
+            Layout::Chunked { .. } => None,
         }
     }
 
@@ -121,9 +151,9 @@ impl<'a> StoredArray<'a> {
         }
     }
 
-    /// The selected cells, piece by piece in row-major order. Takes no memory.
+    /// The selected cells, in pieces, in row-major order. Takes no memory.
     ///
-    /// That the selection is within the sizes, of as many dimensions, is the caller's condition.
+    /// That the selection is within the sizes is the caller's condition.
     pub fn runs(&self, slab: &Slab) -> Runs<'a>
         requires rank { length slab.now ≡ length self.now.sizes }
         requires within { Within self.now.sizes slab.now }
@@ -137,7 +167,7 @@ impl<'a> StoredArray<'a> {
         Runs::new(self.cells(), NO_CELL, Some(runs))
     }
 
-    /// All cells, piece by piece in row-major order. Takes no memory.
+    /// All cells, in pieces, in row-major order. Takes no memory.
     pub fn all(&self) -> Runs<'a>
         ensures { result ≡ record {
           fixed = self.now.fixed;
@@ -162,6 +192,22 @@ impl<'a> StoredArray<'a> {
     {
         StoredCells::new(self.image, &self.array)
     }
+}
+
+/// The run of the selected cells, where they are one.
+fn single_run(slab: &Slab, dims: &Dims) -> Option<CellRun>
+    requires rank { length dims.now ≡ length slab.now }
+    requires within { Within dims.now slab.now }
+    requires small { cells_of dims.now ≤ 2 ^ 40 }
+    ensures { MatchOption result (is_one_run dims.now slab.now ≡ false) (λ run.
+        cell_runs (selection_of dims.now slab.now) ≡ run ∷ []) }
+{
+    let mut runs = slab.runs(dims);
+    let run = runs.next()?;
+    if runs.next().is_some() {
+        return None;
+    }
+    Some(run)
 }
 
 /// The run of no cell.

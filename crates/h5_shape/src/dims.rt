@@ -9,10 +9,11 @@ use std::marker::Model;
 /// The largest number of dimensions.
 pub const MAX_RANK: usize = 32;
 
-/// The largest product of an array's sizes, those of 0 left out.
+/// The largest product of an array's sizes. Sizes of 0 are left out of the product.
 pub const MAX_CELLS: u64 = 1 << 40;
 
-/// The sizes of an array in elements, at most 32, which stand in the value itself. No size makes a scalar, of one cell.
+/// The sizes of an array, in cells, for at most 32 dimensions. They stand in the value itself, so it takes no memory.
+/// No size makes a scalar, with one cell.
 #[derive(Drop)]
 pub struct Dims {
     sizes: SmallVec<u64, 32>,
@@ -41,7 +42,7 @@ impl Dims {
         Some(Dims { sizes })
     }
 
-    /// The sizes, the one that runs slowest first.
+    /// The sizes, in cells, with the dimension that runs slowest first.
     pub fn sizes(&self) -> &[u64]
         ensures numbers { result.now ≡ self.now }
         ensures rank { length self.now ≤ 32 }
@@ -56,7 +57,7 @@ impl Dims {
         product(self.sizes())
     }
 
-    /// Whether the product of the sizes other than 0 is at most 2^40. Then there are at most so many cells.
+    /// Whether the product of the sizes other than 0 is at most 2^40. Then there are at most 2^40 cells.
     #[tactic(auto, using(crate::proofs::Products::cells_few))]
     pub fn is_small(&self) -> bool
         ensures product { result ≡ nat_le (extent_cells self.now) (2 ^ 40) }
@@ -65,7 +66,7 @@ impl Dims {
         positive_product(self.sizes()) <= MAX_CELLS
     }
 
-    /// Whether the index has as many numbers as there are sizes, each below its size.
+    /// Whether the index has one number for each dimension, each below the size.
     pub fn is_inside(&self, index: &[u64]) -> bool
         ensures value { result ≡ inside self.now index.now }
         ensures inside { IsTrue result ↔ IsInside self.now index.now }
@@ -73,7 +74,9 @@ impl Dims {
         is_inside(self.sizes(), index)
     }
 
-    /// The place of an index in row-major order.
+    /// The place of an index in row-major order: how many cells stand before it.
+    ///
+    /// That the index is inside, and that there are fewer than 2^64 cells, are the caller's conditions.
     pub fn place(&self, index: &[u64]) -> u64
         requires inside { IsInside self.now index.now }
         requires small { cells_of self.now < 2 ^ 64 }

@@ -24,8 +24,8 @@ enum MetTest<'a> {
     Loses { sizes: &'a [u64], kept: &'a [u64] },
 }
 
-/// The boxes of a grid that an edit and a view both meet, each by its first index, in row-major order, those that are left. It
-/// takes no memory.
+/// The boxes of a grid that an edit and a view both meet: those that are left, each by its first index, in row-major
+/// order. It takes no memory.
 #[derive(Drop)]
 pub struct MetBoxes<'a> {
     alloc: Global,
@@ -45,11 +45,11 @@ impl<'a> Model for MetBoxes<'a> {
     ghost invariant = { λ m. AreTested m.test m.grid.now m.parts };
 }
 
-/// The boxes that hold a cell of a write and a cell of a view, for any array that the write is within. Of the boxes that the
-/// write meets each is looked at once, in time by the number of dimensions.
+/// The boxes of the grid of chunks that hold a cell of a write and a cell of a view, for any array that the write is
+/// within.
 ///
-/// That there are as many dimensions of each, and that no selected index of the write passes `u64::MAX`, are the caller's
-/// conditions.
+/// Each box that the write meets is looked at once, in time by the number of dimensions. That there are as many
+/// dimensions of each, and that no selected index of the write passes `u64::MAX`, are the caller's conditions.
 pub fn written_boxes<'a>(
     alloc: Global,
     grid: &'a Dims,
@@ -70,12 +70,12 @@ pub fn written_boxes<'a>(
     }
 }
 
-/// The boxes that hold a cell of a view, inside the array or not, and a cell of the array that it loses where these sizes are
-/// kept. Of the boxes that the view meets each is looked at once, in time by the number of dimensions, and where no size is
-/// reduced none.
+/// The boxes of the grid of chunks that hold a cell of a view and a cell that the array loses when it gets the sizes
+/// `kept`. The cell of the view may be outside the array.
 ///
-/// That there are as many dimensions of each, and that no selected index of the view passes `u64::MAX`, are the caller's
-/// conditions.
+/// Each box that the view meets is looked at once, in time by the number of dimensions; no box where no size is
+/// reduced. That there are as many dimensions of each, and that no selected index of the view passes `u64::MAX`, are
+/// the caller's conditions.
 pub fn lost_boxes<'a>(
     alloc: Global,
     sizes: &'a Dims,

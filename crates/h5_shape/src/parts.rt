@@ -7,8 +7,8 @@ ghost use Rattle.h5_shape.specs.PartsStand.{GivesPart, IsAtPart, left_parts};
 use h5_model::Axis;
 use std::marker::Model;
 
-/// The selected numbers of one dimension that lie in one box of the grid, by their positions among all that its axis
-/// selects.
+/// The selected numbers of one dimension that lie in one box of the grid, by their positions among all selected
+/// numbers of that dimension.
 #[derive(Clone, Copy, PartialEq, Eq, Debug)]
 pub struct Span {
     /// The first index of the box.
@@ -37,7 +37,8 @@ enum Stage {
     Behind,
 }
 
-/// The boxes of a chunk grid that hold a selected cell, in row-major order, those that are left. It takes no memory.
+/// The boxes of a grid of chunks that hold a selected cell: those that are left, in row-major order. It takes no
+/// memory.
 #[derive(Drop)]
 pub struct ChunkParts<'a> {
     axes: &'a [Axis],

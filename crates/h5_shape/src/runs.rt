@@ -14,7 +14,8 @@ pub struct CellRun {
     pub length: u64,
 }
 
-/// The maximal runs of consecutive places of selected cells that are left, in row-major order. It takes no memory.
+/// The runs of consecutive places of the selected cells: those that are left, in row-major order. Each is as long as
+/// it can be. It takes no memory.
 #[derive(Drop)]
 pub struct CellRuns {
     nest: LoopNest,

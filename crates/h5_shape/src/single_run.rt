@@ -21,11 +21,10 @@ struct InnerRun {
     cells: u64,
 }
 
-/// The selected cells of an array of these sizes as one run of consecutive places in row-major order; `None` where the
-/// lists are no selection within the sizes, of as many dimensions, or select no cell, or cells that are no such run. It
-/// takes no memory.
+/// The selected cells of an array of these sizes as one run of consecutive places in row-major order.
 ///
-/// That there are at most 2^40 cells is the caller's condition.
+/// `None` where the lists are no selection within the sizes, where they select no cell, or where the selected cells
+/// are more than one run. Takes no memory. That there are at most 2^40 cells is the caller's condition.
 pub fn one_run(dims: &Dims, hyper: &Hyper) -> Option<CellRun>
     requires small { cells_of dims.now ≤ 2 ^ 40 }
     ensures run { IfSome result (IsOneRun dims.now hyper.now) }

@@ -29,8 +29,8 @@ pub enum SlabFault {
     BlocksOverlap,
 }
 
-/// A selection, with an axis for each dimension, at most 32, which stand in the value itself.
-/// Its strides are at least 1 and its blocks share no cell.
+/// A selection, with an axis for each of at most 32 dimensions. Strides are at least 1, and blocks share no cell. The
+/// axes stand in the value itself, so it takes no memory.
 #[derive(Drop)]
 pub struct Slab {
     axes: [Axis; 32],
@@ -52,7 +52,15 @@ impl Model for Slab {
 impl Slab {
     ghost use Rattle.h5_shape.specs.Slab.{IsSlab, slab_of};
 
-    /// The selection of these lists. It takes no memory.
+    /// The selection of these four lists. Takes no memory.
+    ///
+    /// # Errors
+    ///
+    /// The first of these that holds:
+    ///
+    /// - `RankMismatch`: the lists have different lengths, or more than 32 numbers.
+    /// - `StrideZero`: a stride is 0.
+    /// - `BlocksOverlap`: a stride is below its block, and there is more than one block.
     pub fn new(hyper: &Hyper) -> Result<Slab, SlabFault>
         ensures { result ≡ slab_of hyper.now }
     {
@@ -83,7 +91,8 @@ impl Slab {
         &self.axes[..self.rank]
     }
 
-    /// Whether every selected index is inside the sizes, of as many dimensions. A selection of no cell is inside any.
+    /// Whether every selected index is inside these sizes. A selection of no cell is inside any sizes of as many
+    /// dimensions.
     pub fn within(&self, dims: &Dims) -> bool
         requires rank { length dims.now ≡ length self.now }
         ensures value { result ≡ is_within_sizes dims.now self.now }
@@ -100,7 +109,10 @@ impl Slab {
         cells(self.axes())
     }
 
-    /// The selected cells as maximal runs of consecutive places, in row-major order. It takes no memory.
+    /// The selected cells as runs of consecutive places in row-major order, each as long as it can be. Takes no
+    /// memory.
+    ///
+    /// That the selection is within the sizes, and that these have at most 2^40 cells, are the caller's conditions.
     pub fn runs(&self, dims: &Dims) -> CellRuns
         requires rank { length dims.now ≡ length self.now }
         requires within { Within dims.now self.now }
@@ -117,7 +129,9 @@ impl Slab {
         CellRuns::new(nest, has_more)
     }
 
-    /// Whether there is a selected cell, and the selected cells stand at consecutive row-major places.
+    /// Whether there is a selected cell, and all selected cells stand at consecutive row-major places.
+    ///
+    /// That the selection is within the sizes, and that these have at most 2^40 cells, are the caller's conditions.
     pub fn one_run(&self, dims: &Dims) -> bool
         requires rank { length dims.now ≡ length self.now }
         requires within { Within dims.now self.now }
@@ -128,9 +142,12 @@ impl Slab {
         runs.next().is_some() && runs.next().is_none()
     }
 
-    /// The boxes of the grid of chunks of these sizes that hold a selected cell, and which of the selected cells each of
-    /// them holds, in row-major order. Boxes past an extent count as well. It takes no memory. That there are as many sizes
-    /// as dimensions, none of them 0, and that no selected index passes `u64::MAX`, are the caller's conditions.
+    /// The selection in parts: for each box of the grid of chunks that holds a selected cell, which of the selected
+    /// cells it holds, in row-major order of the boxes. `chunk` has the sizes of a chunk, in cells. Boxes past the
+    /// sizes of the array count too. Takes no memory.
+    ///
+    /// That there is a chunk size for each dimension, none of them 0, and that no selected index passes `u64::MAX`,
+    /// are the caller's conditions.
     pub fn chunk_parts<'a>(&'a self, chunk: &'a [u64]) -> ChunkParts<'a>
         requires rank { length chunk.now ≡ length self.now }
         requires sizes { EachIndex chunk.now (λ d. 1 ≤ slice_index chunk.now d) }

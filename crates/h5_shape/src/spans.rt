@@ -7,8 +7,9 @@ ghost use Rattle.h5_shape.specs.InBox.{AreApart, AreSpans, AreSpansIn, IsBelow, 
 use crate::parts::Span;
 use h5_model::Axis;
 
-/// Writes for each dimension from k on the positions of the selected numbers in the box with this first index and these sizes, and says
-/// whether there are some in each: whether the box holds a selected cell. It takes time by the number of dimensions alone.
+/// Writes, for each dimension from `k` on, which selected numbers lie in the box with this first index and these
+/// sizes. Answers whether there is one in each dimension: whether the box holds a selected cell. It takes time by the
+/// number of dimensions alone.
 pub fn spans_in(axes: &[Axis], corner: &[u64], chunk: &[u64], spans: &mut [Span], k: usize) -> bool
     requires spans { length spans.old ≡ length axes.now }
     requires corner { length corner.now ≡ length axes.now }
