@@ -41,7 +41,8 @@ use Rattle.h5_edit.proofs.Changes.{few_after}
 use Rattle.h5_repack.proofs.ImageLaws.PlainImages.{plain_reads, plain_ends}
 use Rattle.h5_edit.proofs.LowRead.{read_low}
 use Rattle.h5_edit.proofs.Numbered.{standing_map}
-use Rattle.h5_edit.proofs.Refusals.{by_memory, by_length, by_depth, deep_adds}
+use Rattle.h5_edit.proofs.TooDeep.{too_deep}
+use Rattle.h5_edit.proofs.Refusals.{by_memory, by_length, by_depth}
 use Rattle.h5_edit.proofs.StoredLaws.{length_with}
 
 -- ---- one tree, written
@@ -101,7 +102,7 @@ module _ {f : FileState} (sound : IsSound f) where
 
     module _ (low : AreBytes f.image) where
       plain_after : ArePlain after
-      plain_after = subst ArePlain fitting.gives (edited_plain f edit low sound fitting.typed fitting.accepted fitting.roomy)
+      plain_after = subst ArePlain fitting.gives (edited_plain f edit low sound fitting.anew fitting.typed fitting.accepted fitting.roomy)
 
       pub plain_change : IsPlainChange f.tree f.next change
       plain_change = record { there = fitting.there; plain = opened_plain f low sound; changed_plain = plain_after }
@@ -121,7 +122,7 @@ module _ {f : FileState} (sound : IsSound f) where
             (subst (λ (t : Tree). IsLongAnew f t (selecting_of f edit)) (sym fitting.gives) (length_after, length_with f after (selecting_of f edit) (stored_in new) chunks_after, long))
         refused TooDeep deep =
             let not_low : AreLow leaf internal (tree_after f edit) → ⊥ = λ lies. deep.3 (subst (AreLow leaf internal) fitting.gives lies deep.0 deep.1 deep.2) in
-            by_depth f edit fitting.anew fitting.accepted fitting.roomy not_low (deep_adds sound edit not_low)
+            by_depth f edit fitting.anew fitting.accepted fitting.roomy (too_deep sound edit fitting.accepted not_low)
         refused NoMemory no_memory = by_memory f edit fitting.anew
 
         -- ---- written

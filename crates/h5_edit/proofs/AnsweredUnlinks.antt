@@ -37,7 +37,8 @@ use Rattle.h5_edit.specs.StoredChunks.{AreStoredAfter}
 use Rattle.h5_edit.specs.declared.rules.unlink.Removal.{Removal}
 use Rattle.h5_edit.proofs.Answered.{k_there, read_as, short}
 use Rattle.h5_edit.proofs.FitLaws.EditedTrees.{edited_plain}
-use Rattle.h5_edit.proofs.Refusals.{by_depth, by_length, by_memory, by_rule, deep_adds}
+use Rattle.h5_edit.proofs.TooDeep.{too_deep}
+use Rattle.h5_edit.proofs.Refusals.{by_depth, by_length, by_memory, by_rule}
 use Rattle.h5_edit.proofs.RuleLaws.Removals.{link_beside}
 use Rattle.h5_edit.proofs.StoredLaws.{length_with}
 
@@ -92,7 +93,7 @@ module _ {f : FileState} (sound : IsSound f) (path : List ℕ) where
 
     module _ (low : AreBytes f.image) where
       plain_after : ArePlain after
-      plain_after = subst ArePlain gives (edited_plain f edit low sound tt is.allowed refl)
+      plain_after = subst ArePlain gives (edited_plain f edit low sound refl tt is.allowed refl)
 
       module _ (new : List (Option NewObject)) (are : AreObjects new after) (stored : AreStoredAfter f after None (stored_in new)) where
         pub left_to_write : IsTreeToWrite new after
@@ -105,7 +106,7 @@ module _ {f : FileState} (sound : IsSound f) (path : List ℕ) where
         refused TooLong long = by_length f edit refl is.allowed refl (subst (λ (t : Tree). IsLongAnew f t None) (sym gives) (length_after, length_with f after None (stored_in new) stored, long))
         refused TooDeep deep =
             let not_low : AreLow leaf internal (tree_after f edit) → ⊥ = λ lies. deep.3 (subst (AreLow leaf internal) gives lies deep.0 deep.1 deep.2) in
-            by_depth f edit refl is.allowed refl not_low (deep_adds sound edit not_low)
+            by_depth f edit refl is.allowed refl (too_deep sound edit is.allowed not_low)
         refused NoMemory no_memory = by_memory f edit refl
 
         made : (w : Written) → IsWritten leaf internal (stored_in new) after w → length w.headers.items ≡ length new → length new ≡ f.next

@@ -6,7 +6,7 @@ pub mod PlainArrays
 pub mod NewArrays
 pub mod ResizedArrays
 pub mod WrittenArrays
-pub mod ChangedAttributes
+pub mod NewAttributes
 pub mod OpenedTrees
 pub mod ChangedTrees
 pub mod EditedTrees

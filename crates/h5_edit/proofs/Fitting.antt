@@ -8,7 +8,7 @@ use Rattle.std.specs.Borrow.{Bor}
 use Rattle.std.specs.FinMap.{get, insert, remove, empty}
 use Rattle.std.specs.Option.{option_and_then, option_map_or}
 use Rattle.h5_edit.specs.Changed.Change.{with_link, changed}
-use Rattle.h5_edit.specs.declared.change.change.Change.TheVariants.{Link as Linked, SetAttr as Set, RemoveAttr as Remove, Resize as Sized}
+use Rattle.h5_edit.specs.declared.change.change.Change.TheVariants.{Link as Linked, Resize as Sized}
 use Rattle.h5_edit.specs.declared.change.change.Target.TheVariants as target
 use Rattle.h5_header.specs.Listed.{message_in, messages_in}
 use Rattle.h5_model.specs.Edits.Applied.{applied, linked, new_object, new_dataset, with_links, with_attributes, with_dataset, attribute_from, resized}
@@ -34,7 +34,7 @@ use Rattle.h5_query.specs.Opened.Sound.{IsSound, IsObjectOf}
 use Rattle.h5_query.specs.Opened.State.{FileState}
 use Rattle.h5_query.specs.OpenedObjectType.{OpenedObject}
 use Rattle.h5_query.proofs.OpenedLaws.Indexed.{header_there}
-use Rattle.h5_edit.specs.Carried.{is_message_total_full, is_total_full, IsTotalFull}
+use Rattle.h5_edit.specs.Carried.{total_at, is_total_full, IsTotalFull}
 use Rattle.h5_edit.specs.ExtentMaxima.{LacksMaxima, lacks_maxima}
 use Rattle.h5_edit.specs.Fits.Laws.{IsTyped}
 use Rattle.h5_edit.specs.Fitting.{IsFitting}
@@ -122,14 +122,14 @@ module _ (f : FileState) where
     named = refl;
   }
 
-  -- ---- attributes
+  -- ---- objects at a path
 
-  -- the object at a path is there, and has a header
+  -- the object is there, and has a header
   module _ (sound : IsSound f) (path : List ℕ) (number : ℕ) (at : object_at tree path ≡ Some number) where
-    stands : IsSome (get tree number)
+    pub stands : IsSome (get tree number)
     stands = object_stands tree path number (reads_sound f.image f.table tree (sound.placed, sound.reads)) at
 
-    header_stands : IsSome (get f.table number)
+    pub header_stands : IsSome (get f.table number)
     header_stands = go (get tree number) refl stands where
       go : (found : Option Object) → get tree number ≡ found → IsSome found → IsSome (get f.table number)
       go None is some = absurd (let never : false ≡ true = some in cc)
@@ -140,15 +140,18 @@ module _ (f : FileState) where
     object_found None none = let never : false ≡ true = rw none at header_stands in absurd (cc)
     object_found (Some o) of = refl
 
-  -- whether its header has no place for a message and a Continuation
+  -- how many messages its header has, and whether it has no place for another and a Continuation
   module _ (path : List ℕ) (number : ℕ) (o : OpenedObject) (at : object_at tree path ≡ Some number) (of : IsObjectOf f number o) where
-    total_at : is_total_full f path ≡ nat_lt 65535 (length o.messages.list + 2)
-    total_at =
-        let test = λ (header : ℕ). nat_lt 65535 (total_in (prefix_at f.image header) + 2) in
+    pub total_here : total_at f path ≡ length o.messages.list
+    total_here =
+        let said = λ (header : ℕ). total_in (prefix_at f.image header) in
         let total = (((of.kept).header).has).total in
-        ap (λ (found : Option ℕ). option_map_or test (option_and_then (get f.table) found) false) at
-        ∙ ap (λ (found : Option ℕ). option_map_or test found false) of.header
-        ∙ ap (λ n. nat_lt 65535 (n + 2)) (total ∙ length-map o.messages.list (message_in f.image))
+        ap (λ (found : Option ℕ). option_map_or said (option_and_then (get f.table) found) 0) at
+        ∙ ap (λ (found : Option ℕ). option_map_or said found 0) of.header
+        ∙ total ∙ length-map o.messages.list (message_in f.image)
+
+    total_full : is_total_full f path ≡ nat_lt 65535 (length o.messages.list + 2)
+    total_full = ap (λ n. nat_lt 65535 (n + 2)) total_here
 
     -- and whether it needs one for maxima
     pub sizes_total : (full : Bool) → (lacks_maxima (messages_in f.image o.messages.list) && nat_lt 65535 (length o.messages.list + 2)) ≡ full
@@ -158,46 +161,8 @@ module _ (f : FileState) where
         let header : option_and_then (get f.table) (object_at tree path) ≡ Some o.messages.header = ap (option_and_then (get f.table)) at ∙ of.header in (
           lacks_maxima ms,
           subst (λ (found : Option ℕ). LacksMaxima f.image found (lacks_maxima ms)) (sym header) (ms, o.messages.blocks, of.kept.header.has, refl),
-          ap (λ (b : Bool). lacks_maxima ms && b) total_at ∙ is,
+          ap (λ (b : Bool). lacks_maxima ms && b) total_full ∙ is,
         )
-
-  module _ (path : List ℕ) (attr : AttrSpec) (number : ℕ) (o : OpenedObject) (at : object_at tree path ≡ Some number) (of : IsObjectOf f number o) where
-    full_at : is_message_total_full f (SetAttr path attr) ≡ nat_lt 65535 (length o.messages.list + 2)
-    full_at = total_at path number o at of
-
-    pub full_here : 65535 < length o.messages.list + 2 → is_message_total_full f (SetAttr path attr) ≡ true
-    full_here many = full_at ∙ grind (arith, nat_tests)
-
-  pub set_attr_fits : {path : List ℕ} {number : ℕ} (attr : Bor AttrSpec) (o : OpenedObject) → IsFixed (attr.now).fixed → IsAt tree next path (SetAttr path attr.now) number
-      → IsObjectOf f number o → length o.messages.list + 2 ≤ 65535
-      → IsFitting f (SetAttr path attr.now) (Set number attr) (Some (record { 0 = number }))
-  unfolding applied changed
-  set_attr_fits {path = path} {number = number} attr o typed at of few = record {
-    typed = typed;
-    anew = refl;
-    met = refl;
-    accepted = at.allowed;
-    roomy = full_at path attr.now number o at.object of ∙ grind (arith, nat_tests);
-    gives = ap (λ o. option_map_or (λ n. with_object tree n (with_attributes (λ m. insert m (attr.now).name (attribute_from attr.now)))) o tree) at.object;
-    there = rw of.there refl;
-    counted = omega arith;
-    named = sym at.object;
-  }
-
-  pub remove_attr_fits : IsSound f → {path : List ℕ} {number : ℕ} (name : Bor (List ℕ)) → IsAt tree next path (RemoveAttr path name.now) number
-      → IsFitting f (RemoveAttr path name.now) (Remove number name) (Some (record { 0 = number }))
-  unfolding applied changed
-  remove_attr_fits sound {path = path} {number = number} name at = record {
-    typed = tt;
-    anew = refl;
-    met = refl;
-    accepted = at.allowed;
-    roomy = refl;
-    gives = ap (λ o. option_map_or (λ n. with_object tree n (with_attributes (λ m. remove m name.now))) o tree) at.object;
-    there = stands sound path number at.object;
-    counted = omega arith;
-    named = sym at.object;
-  }
 
   -- ---- sizes
 

@@ -30,3 +30,5 @@ pub mod StandingRuns
 pub mod SelectedRuns
 pub mod AnsweredStores
 pub mod OpenedAnew
+pub mod AttributeFacts
+pub mod TooDeep

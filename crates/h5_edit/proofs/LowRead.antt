@@ -22,7 +22,7 @@ use Rattle.h5_model.specs.Tree.Objects.{Tree, Object, Content, Group, Array, Dat
 use Rattle.h5_model.specs.Tree.Paths.{object_at}
 use Rattle.h5_model.specs.Views.Selection.{axes_of}
 use Rattle.h5_model.specs.declared.edits.Edit.{Edit}
-use Rattle.h5_model.specs.declared.edits.Edit.TheVariants.{Unlink, SetAttr, RemoveAttr, Write, Resize}
+use Rattle.h5_model.specs.declared.edits.Edit.TheVariants.{CreateGroup, CreateDataset, HardLink, SoftLink, Unlink, SetAttr, RemoveAttr, Write, Resize}
 use Rattle.h5_btree.specs.Writing.Written.{root_level}
 use Rattle.h5_laws.proofs.Lists.{In, in_all, from_map}
 use Rattle.h5_laws.proofs.Maps.{entry_of_get}
@@ -30,7 +30,6 @@ use Rattle.h5_laws.proofs.Objects.{content_cases}
 use Rattle.h5_laws.proofs.SoundLaws.Inserted.{same_number_or_other, number_here, number_other}
 use Rattle.h5_laws.proofs.SoundLaws.LinksThere.{group_of}
 use Rattle.h5_repack.specs.Image.Plain.{AreLow, IsLow}
-use Rattle.h5_edit.specs.Carried.{adds_link}
 use Rattle.h5_edit.proofs.FitLaws.ChangedTrees.{each_unlinked}
 use Rattle.h5_edit.proofs.Levels.{flat_few, only_few, rows_fit, root_level-mono, level_read}
 
@@ -87,18 +86,30 @@ read_low image table tree (placed, reads) = group_low image table tree placed re
 
 -- ---- edits that add no link
 
+-- the others add one to a group
+abbrev pub adds_link : Edit → Bool
+adds_link (CreateGroup path) = true
+adds_link (CreateDataset path spec) = true
+adds_link (HardLink target path) = true
+adds_link (SoftLink text path) = true
+adds_link _ = false
+
 module _ (leaf internal : ℕ) where
   abbrev links_at : Option Object → Option Links
   links_at = option_and_then (λ (p : Object). links_in p.content)
 
+  -- an object is put: its links are few enough
+  pub changed_low : (tree : Tree) (number : ℕ) (new : Object) → ((links : Links) → links_in new.content ≡ Some links → IsLow leaf internal links) → AreLow leaf internal tree
+      → AreLow leaf internal (insert tree number new)
+  changed_low tree number new own low n links is = elim (same_number_or_other n number) [
+    | inr other ↦ low n links (sym (ap links_at (number_other tree number new n other)) ∙ is)
+    | inl here ↦ own links (sym (ap links_at (number_here tree number new)) ∙ sym (ap (links_of (insert tree number new)) here) ∙ is)
+  ]
+
   put_low : (tree : Tree) (number : ℕ) (o new : Object) → get tree number ≡ Some o → links_in new.content ≡ links_in o.content → AreLow leaf internal tree
       → AreLow leaf internal (insert tree number new)
-  put_low tree number o new stands same low n links is = elim (same_number_or_other n number) [
-    | inr other ↦ low n links (sym (ap links_at (number_other tree number new n other)) ∙ is)
-    | inl here ↦
-        low number links
-        (ap links_at stands ∙ sym same ∙ sym (ap links_at (number_here tree number new)) ∙ sym (ap (links_of (insert tree number new)) here) ∙ is)
-  ]
+  put_low tree number o new stands same low =
+      changed_low tree number new (λ links is. low number links (ap links_at stands ∙ sym same ∙ is)) low
 
   pub kept_low : (tree : Tree) (path : List ℕ) (change : Object → Object) → ((o : Object) → links_in (change o).content ≡ links_in o.content) → AreLow leaf internal tree
       → AreLow leaf internal (with_object_at tree path change)

@@ -1,17 +1,29 @@
 -- How an edit is refused: by a rule of the tree, by what the image decides, or for want of memory.
-use Rattle.std.proofs.Common.{◌≡◌, ℕ, sym, ◌∙◌, Bool, true, false, Some, None, refl}
-use Rattle.h5_repack.specs.Image.Plain.{AreLow}
+use Rattle.std.proofs.Common.{◌≡◌, ℕ, ℤ, List, sym, ◌∙◌, Bool, true, false, Some, None, refl}
 use Rattle.h5_model.specs.Edits.Refusal.{refusal_of}
 use Rattle.h5_model.specs.Format.Superblock.{leaf_k, internal_k}
 use Rattle.h5_model.specs.declared.edits.Edit.{Edit}
+use Rattle.h5_model.specs.declared.edits.Edit.TheVariants.{CreateGroup, CreateDataset, HardLink, SoftLink, Unlink, SetAttr, RemoveAttr, Write, Resize}
+use Rattle.h5_model.specs.declared.hyperslab.Hyper.{Hyper}
 use Rattle.h5_model.specs.declared.edit_fault.EditFault.{EditFault}
 use Rattle.h5_model.specs.declared.edit_fault.EditFault.TheVariants as fault
-use Rattle.h5_query.specs.Opened.Sound.{IsSound}
 use Rattle.h5_query.specs.Opened.State.{FileState}
-use Rattle.h5_edit.specs.Carried.{adds_link, tree_after, GivenAs, IsGivenFor, IsLongAnew, IsMadeAnew, IsRefused, IsTotalFull}
+use Rattle.h5_edit.specs.Carried.{tree_after, GivenAs, IsGivenFor, IsGivenInPlace, IsLongAnew, IsMadeAnew, IsParentTooDeep, IsRefused, IsTotalFull}
 use Rattle.h5_edit.specs.Made.{IsAccepted}
 use Rattle.h5_edit.specs.StoredChunks.{selecting_of}
-use Rattle.h5_edit.proofs.LowRead.{read_low, edited_low}
+use Rattle.h5_edit.proofs.AttributeFacts.{facts_at}
+
+-- want of memory may be given of any edit in place
+memory_in_place : (f : FileState) (edit : Edit) → IsGivenInPlace f edit (Some fault.NoMemory)
+memory_in_place f (SetAttr path attr) = let facts = facts_at f path in (facts.0, facts.1, tt)
+memory_in_place f (RemoveAttr path name) = let facts = facts_at f path in (facts.0, facts.1, tt)
+memory_in_place f (CreateGroup path) = tt
+memory_in_place f (CreateDataset path spec) = tt
+memory_in_place f (HardLink target path) = tt
+memory_in_place f (SoftLink text path) = tt
+memory_in_place f (Unlink path) = tt
+memory_in_place f (Write path hyper values) = tt
+memory_in_place f (Resize path dims) = tt
 
 module _ (f : FileState) (edit : Edit) where
   -- the lowest rule that holds, whatever else is given
@@ -26,7 +38,7 @@ module _ (f : FileState) (edit : Edit) where
 
   memory_given : (anew : Bool) → GivenAs anew f edit (Some fault.NoMemory)
   memory_given true = tt
-  memory_given false = tt
+  memory_given false = memory_in_place f edit
 
   pub short_of_memory : (refusal_of f.tree f.next edit ≡ None → (anew : Bool) × IsMadeAnew f edit anew) → IsRefused f edit fault.NoMemory
   short_of_memory made = record {
@@ -57,23 +69,11 @@ module _ (f : FileState) (edit : Edit) where
     pub by_length : refusal_of f.tree f.next edit ≡ None → IsTotalFull f edit false → IsLongAnew f (tree_after f edit) (selecting_of f edit) → IsRefused f edit fault.ImageFull
     by_length h room long = record { given = Some fault.ImageFull; allowed = λ _. (true, anew, (room, long)); answer = rw h refl }
 
-    pub by_depth : refusal_of f.tree f.next edit ≡ None → IsTotalFull f edit false → (AreLow leaf internal (tree_after f edit) → ⊥) → adds_link edit ≡ true
-        → IsRefused f edit fault.TreeTooDeep
-    by_depth h room deep adds = record { given = Some fault.TreeTooDeep; allowed = λ _. (true, anew, (room, deep, adds)); answer = rw h refl }
+    pub by_depth : refusal_of f.tree f.next edit ≡ None → IsTotalFull f edit false → IsParentTooDeep f edit → IsRefused f edit fault.TreeTooDeep
+    by_depth h room deep = record { given = Some fault.TreeTooDeep; allowed = λ _. (true, anew, (room, deep)); answer = rw h refl }
 
 -- ---- in place
 
-pub given_in_place : (f : FileState) (edit : Edit) → IsMadeAnew f edit false → IsGivenFor f edit None
-given_in_place f edit in_place accepted = (false, in_place, tt)
-
--- ---- an edit of an opened image
-
--- the groups that were read are low, and stay so without a new link
-pub deep_adds : {f : FileState} → IsSound f → (edit : Edit) → (AreLow (leaf_k f.image) (internal_k f.image) (tree_after f edit) → ⊥) → adds_link edit ≡ true
-deep_adds {f = f} sound edit deep = by_test (adds_link edit) refl where
-  by_test : (b : Bool) → adds_link edit ≡ b → adds_link edit ≡ true
-  by_test true is = is
-  by_test false is =
-      let low = read_low f.image f.table f.tree (sound.placed, sound.reads) in
-      let superblock = sound.reads.holds.superblock in
-      absurd (deep (edited_low (leaf_k f.image) (internal_k f.image) superblock.leaf_low superblock.internal_low f.tree edit f.next is low))
+pub given_in_place : (f : FileState) (path : List ℕ) (hyper : Hyper) (values : List ℤ) → IsMadeAnew f (Write path hyper values) false
+    → IsGivenFor f (Write path hyper values) None
+given_in_place f path hyper values in_place accepted = (false, in_place, tt)

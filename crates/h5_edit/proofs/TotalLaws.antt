@@ -22,7 +22,7 @@ use Rattle.h5_query.specs.OpenedContentType.TheVariants as content
 use Rattle.h5_query.specs.OpenedObjectType.{OpenedObject}
 use Rattle.h5_query.specs.Told.{array_told}
 use Rattle.h5_query.specs.Opened.State.{FileState}
-use Rattle.h5_edit.specs.Carried.{is_message_total_full, is_total_full, IsTotalFull}
+use Rattle.h5_edit.specs.Carried.{is_total_full, IsTotalFull}
 use Rattle.h5_edit.specs.ExtentMaxima.{LacksMaxima, lacks_maxima}
 use Rattle.h5_edit.proofs.FitLaws.PlainBodies.{extent_long}
 
@@ -43,7 +43,7 @@ module _ (f : FileState) (sound : IsSound f) where
   total_told (Resize path dims) =
       let told = lacks_told (object_at f.tree path) (option_and_then (get f.table) (object_at f.tree path)) refl in
       (told.0 && is_total_full f path, (told.0, told.1, refl))
-  total_told edit = (is_message_total_full f edit, refl)
+  total_told edit = (false, refl)
 
 -- ---- it is a function of the image
 

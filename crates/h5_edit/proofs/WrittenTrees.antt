@@ -211,7 +211,7 @@ module _ (f : FileState) (sound : IsSound f) (path : List ℕ) (hyper : Hyper) (
   pub edited_in_place : lacks_cells f.image a (axes_of hyper) ≡ false → (now : FileState) → AreValuesWritten f number (selection_of d.sizes (axes_of hyper)) values now
       → IsEdited f wrote now e
   edited_in_place none now is = record {
-    accepted = record { accepted = at.allowed; given = given_in_place f wrote (number, a, at.object, there, none) };
+    accepted = record { accepted = at.allowed; given = given_in_place f path hyper values (number, a, at.object, there, none) };
     state = ap state_of is.changed ∙ ap (λ (t : Tree). state_of (record f { tree = t })) (tree_in_place f path hyper values number at.object a there d array none);
     sound = is.sound sound;
     whole = is.whole;

@@ -1,16 +1,18 @@
 -- Which edits write the image anew, what image and memory decide of an edit beside the rules of the tree, and when it is refused.
-use Rattle.std.specs.Prelude.{◌≡◌, ℕ, ◌^◌, ◌+◌, ◌≤◌, ◌<◌, ◌&&◌, Bool, true, false, IsTrue, nat_lt, Option, Some, None, List}
-use Rattle.std.specs.FinMap.{get}
+use Rattle.std.specs.Prelude.{◌≡◌, ℕ, ◌^◌, ◌+◌, ◌*◌, ◌≤◌, ◌<◌, ◌&&◌, Bool, true, false, nat_lt, Option, Some, None, List, [], ◌∷◌, length}
+use Rattle.std.specs.FinMap.{get, len}
 use Rattle.std.specs.Option.{option_map_or, option_and_then}
+use Rattle.h5_btree.specs.Writing.Written.{root_level}
 use Rattle.h5_model.specs.Edits.Applied.{applied}
-use Rattle.h5_model.specs.Edits.ImageAnswers.{chosen}
+use Rattle.h5_model.specs.Edits.ImageAnswers.{Facts, IsGiven, chosen}
 use Rattle.h5_model.specs.Format.Messages.{prefix_at, total_in}
-use Rattle.h5_model.specs.Tree.Paths.{object_at}
-use Rattle.h5_model.specs.Edits.Refusal.{refusal_of}
-use Rattle.h5_model.specs.Format.Superblock.{leaf_k, internal_k}
-use Rattle.h5_model.specs.Tree.Objects.{Tree}
+use Rattle.h5_model.specs.Format.PlainLength.{rows_of}
+use Rattle.h5_model.specs.Tree.Paths.{object_at, parent_at}
+use Rattle.h5_model.specs.Edits.Refusal.{new_path, refusal_of}
+use Rattle.h5_model.specs.Format.Superblock.{leaf_k, internal_k, chunk_k}
+use Rattle.h5_model.specs.Tree.Objects.{Tree, Links, links_of}
 use Rattle.h5_model.specs.declared.edits.Edit.{Edit}
-use Rattle.h5_model.specs.declared.edits.Edit.TheVariants.{CreateGroup, CreateDataset, HardLink, SoftLink, SetAttr, Write, Resize}
+use Rattle.h5_model.specs.declared.edits.Edit.TheVariants.{SetAttr, RemoveAttr, Write, Resize}
 use Rattle.h5_model.specs.declared.edit_fault.EditFault.{EditFault}
 use Rattle.h5_model.specs.declared.edit_fault.EditFault.TheVariants as fault
 use Rattle.h5_query.specs.Opened.State.{FileState}
@@ -21,28 +23,29 @@ use Rattle.h5_edit.specs.StoredChunks.{HasLengthAnew, Selecting, selecting_of}
 
 -- ---- which edits write the image anew
 
--- each but a write, and a write where storage is lacking: else the cells are written in place
+-- each but an edit of attributes and a write of cells that are stored: these are made in place
 abbrev pub IsMadeAnew : FileState → Edit → Bool → Type 0
 IsMadeAnew f (Write path hyper values) anew = LacksStorage f path hyper anew
+IsMadeAnew f (SetAttr path attr) anew = anew ≡ false
+IsMadeAnew f (RemoveAttr path name) anew = anew ≡ false
 IsMadeAnew f edit anew = anew ≡ true
 
 -- ---- what the image and memory decide, beside the rules of the tree
 
--- the header of the object at a path has no place for a message more, with which a Continuation may come: the total has two bytes
+-- how many messages the header of the object at a path has, as its prefix says
+abbrev pub total_at : FileState → List ℕ → ℕ
+total_at f path = option_map_or (λ header. total_in (prefix_at f.image header)) (option_and_then (get f.table) (object_at f.tree path)) 0
+
+-- it has no place for a message more, with which a Continuation may come: the total has two bytes
 abbrev pub is_total_full : FileState → List ℕ → Bool
-is_total_full f path =
-    option_map_or (λ header. nat_lt 65535 (total_in (prefix_at f.image header) + 2)) (option_and_then (get f.table) (object_at f.tree path)) false
+is_total_full f path = nat_lt 65535 (total_at f path + 2)
 
--- a new attribute needs a message
-abbrev pub is_message_total_full : FileState → Edit → Bool
-is_message_total_full f (SetAttr path attr) = is_total_full f path
-is_message_total_full f _ = false
-
--- whether an edit needs a message for which there is no place: so do other sizes, where the Dataspace message has no maxima
+-- Whether an edit that writes the image anew needs a message for which there is no place. Other sizes do, where the Dataspace message has
+-- no maxima.
 abbrev pub IsTotalFull : FileState → Edit → Bool → Type 0
 IsTotalFull f (Resize path dims) full =
     (lacks : Bool) × LacksMaxima f.image (option_and_then (get f.table) (object_at f.tree path)) lacks × ((lacks && is_total_full f path) ≡ full)
-IsTotalFull f edit full = is_message_total_full f edit ≡ full
+IsTotalFull f edit full = false ≡ full
 
 -- the image of the tree, written anew, has at most 2^31 bytes, or more
 abbrev pub IsShortAnew : FileState → Tree → Selecting → Type 0
@@ -55,36 +58,53 @@ IsLongAnew f tree met = (bytes : ℕ) × HasLengthAnew f tree met bytes × (2 ^ 
 abbrev pub tree_after : FileState → Edit → Tree
 tree_after f edit = applied f.tree edit f.next
 
--- the edits that add a link to a group
-abbrev pub adds_link : Edit → Bool
-adds_link (CreateGroup path) = true
-adds_link (CreateDataset path spec) = true
-adds_link (HardLink target path) = true
-adds_link (SoftLink text path) = true
-adds_link _ = false
+-- The group that takes the edit's new link has a tree of more than 16 levels with it.
+pub record IsParentTooDeep (f : FileState) (edit : Edit) : Type 0 where
+  pub path : List ℕ
+  pub adds : new_path edit ≡ path ∷ []
+  pub parent : ℕ
+  pub name : List ℕ
+  pub at : parent_at f.tree path ≡ Some (parent, name)
+  pub links : Links
+  pub are : links_of f.tree parent ≡ Some links
+  pub deep : 15 < root_level (internal_k f.image) (rows_of (2 * leaf_k f.image) (len links + 1))
 
--- Anew, HeaderFull comes first. Then ImageFull goes by the image of the tree that the edit gives, and TreeTooDeep, of an edit that adds
--- a link, by its groups' trees: either may be answered where both hold. No tree of chunks is too deep in an image that is not too long.
+-- Anew, HeaderFull comes first. Then ImageFull goes by the image of the tree that the edit gives, and TreeTooDeep by the tree of the group
+-- that takes the edit's new link: either may be answered where both hold. No tree of chunks is too deep in an image that is not too long.
 -- Memory may be short at any time.
 abbrev pub IsGivenAnew : FileState → Edit → Option EditFault → Type 0
 IsGivenAnew f edit None =
     IsTotalFull f edit false × IsShortAnew f (tree_after f edit) (selecting_of f edit) × AreLow (leaf_k f.image) (internal_k f.image) (tree_after f edit)
 IsGivenAnew f edit (Some fault.HeaderFull) = IsTotalFull f edit true
-IsGivenAnew f edit (Some fault.TreeTooDeep) =
-    IsTotalFull f edit false × (AreLow (leaf_k f.image) (internal_k f.image) (tree_after f edit) → ⊥) × IsTrue (adds_link edit)
+IsGivenAnew f edit (Some fault.TreeTooDeep) = IsTotalFull f edit false × IsParentTooDeep f edit
 IsGivenAnew f edit (Some fault.ImageFull) = IsTotalFull f edit false × IsLongAnew f (tree_after f edit) (selecting_of f edit)
 IsGivenAnew f edit (Some fault.NoMemory) = Unit {0}
 IsGivenAnew f edit _ = ⊥
 
--- In place, nothing but want of memory: the image keeps its length, and no message and no link is added.
-abbrev pub IsGivenInPlace : Option EditFault → Type 0
-IsGivenInPlace None = Unit {0}
-IsGivenInPlace (Some fault.NoMemory) = Unit {0}
-IsGivenInPlace _ = ⊥
+-- the facts of an edit of attributes are those of the image and of the header of the object at its path
+pub record AreFacts (f : FileState) (path : List ℕ) (facts : Facts) : Type 0 where
+  pub long : facts.length ≡ length f.image
+  pub total : facts.total ≡ total_at f path
+  pub leaf : (facts.room).leaf_k ≡ leaf_k f.image
+  pub internal : (facts.room).internal_k ≡ internal_k f.image
+  pub chunk : (facts.room).chunk_k ≡ chunk_k f.image
+
+-- they decide: HeaderFull by the total, and then ImageFull by the length and what the edit may add to it
+abbrev pub IsGivenByFacts : FileState → List ℕ → Edit → Option EditFault → Type 0
+IsGivenByFacts f path edit given = (facts : Facts) × AreFacts f path facts × IsGiven facts f.tree edit given
+
+-- In place an edit of attributes is given by facts. Cells that are stored are refused for want of memory alone: the image keeps its length,
+-- and no message is added.
+abbrev pub IsGivenInPlace : FileState → Edit → Option EditFault → Type 0
+IsGivenInPlace f (SetAttr path attr) given = IsGivenByFacts f path (SetAttr path attr) given
+IsGivenInPlace f (RemoveAttr path name) given = IsGivenByFacts f path (RemoveAttr path name) given
+IsGivenInPlace f edit None = Unit {0}
+IsGivenInPlace f edit (Some fault.NoMemory) = Unit {0}
+IsGivenInPlace f edit _ = ⊥
 
 abbrev pub GivenAs : Bool → FileState → Edit → Option EditFault → Type 0
 GivenAs true f edit given = IsGivenAnew f edit given
-GivenAs false f edit given = IsGivenInPlace given
+GivenAs false f edit given = IsGivenInPlace f edit given
 
 -- it counts where no rule of the tree refuses the edit
 abbrev pub IsGivenFor : FileState → Edit → Option EditFault → Type 0

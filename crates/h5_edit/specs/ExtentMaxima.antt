@@ -4,11 +4,12 @@ use Rattle.std.specs.Prelude.{◌≡◌, ℕ, Bool, false, not, Option, Some, No
 use Rattle.std.specs.Option.{option_map_or}
 use Rattle.h5_bytes.specs.declared.Block.{Block}
 use Rattle.h5_model.specs.Format.Extent.{has_maxima}
+use Rattle.h5_model.specs.Format.MessageTypes.{dataspace_kind}
 use Rattle.h5_model.specs.Format.Messages.{Message, HasMessages, first_body}
 
 -- the messages have a Dataspace message, which has no maxima
 abbrev pub lacks_maxima : List Message → Bool
-lacks_maxima messages = option_map_or (λ body. not (has_maxima body)) (first_body 1 messages) false
+lacks_maxima messages = option_map_or (λ body. not (has_maxima body)) (first_body dataspace_kind messages) false
 
 -- whether those of the header that stands there do, if one does
 abbrev pub LacksMaxima : List ℕ → Option ℕ → Bool → Type 0

@@ -9,7 +9,7 @@ use Rattle.h5_edit.specs.Fits.Laws.{IsTyped}
 use Rattle.h5_query.specs.Opened.State.{FileState, state_of}
 use Rattle.h5_edit.specs.Changed.Change.{IsChange, changed}
 use Rattle.h5_edit.specs.declared.change.change.Change.{Change}
-use Rattle.h5_edit.specs.declared.change.change.Change.TheVariants.{Link as Linked, SetAttr as Set, RemoveAttr as Remove, Resize as Sized, Store as Stores}
+use Rattle.h5_edit.specs.declared.change.change.Change.TheVariants.{Link as Linked, Resize as Sized, Store as Stores}
 use Rattle.h5_edit.specs.declared.change.change.Target.{Target}
 use Rattle.h5_edit.specs.declared.change.change.Target.TheVariants as target
 use Rattle.h5_edit.specs.Carried.{tree_after, IsMadeAnew, IsTotalFull}
@@ -25,8 +25,6 @@ made_by (target.Text text) = 0
 
 abbrev pub made_in : Change → ℕ
 made_in (Linked parent name target) = made_by target
-made_in (Set object attr) = 0
-made_in (Remove object name) = 0
 made_in (Sized object dims) = 0
 made_in (Stores object missing) = 0
 

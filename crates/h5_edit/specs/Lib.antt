@@ -21,3 +21,6 @@ pub use Rattle.h5_query.specs.declared.found.Found as FoundType
 pub use Rattle.h5_query.specs.Opened
 pub use Rattle.h5_query.specs.OpenedObjectType
 pub use Rattle.h5_query.specs.Renumbered
+pub use Rattle.h5_layout.specs.Lent
+pub use Rattle.h5_repack.specs.Bodies as RepackedBodies
+pub use Rattle.h5_repack.specs.Image.Plain as PlainTrees

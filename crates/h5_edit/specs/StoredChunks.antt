@@ -7,6 +7,7 @@ use Rattle.h5_layout.specs.HeldChunks.{AreStoredWith, held_chunks}
 use Rattle.h5_layout.specs.StoredAt.{HasStoredChunks}
 use Rattle.h5_model.specs.Format.Chunks.{Chunks}
 use Rattle.h5_model.specs.Format.PlainLength.{plain_length}
+use Rattle.h5_model.specs.Format.PlainSuperblock.{plain_chunk_k}
 use Rattle.h5_model.specs.Format.Superblock.{leaf_k, internal_k}
 use Rattle.h5_model.specs.Tree.Objects.{Tree, Object, Array, Dataset, Chunked, dataset_of}
 use Rattle.h5_model.specs.Tree.Paths.{object_at}
@@ -66,4 +67,4 @@ AreStoredAfter f tree met stored = (number : ℕ) → AreStoredAt f tree (select
 pub record HasLengthAnew (f : FileState) (tree : Tree) (met : Selecting) (bytes : ℕ) : Type 0 where
   pub stored : StoredIn
   pub chunks : AreStoredAfter f tree met stored
-  pub counted : bytes ≡ plain_length (leaf_k f.image) (internal_k f.image) 32 (counts_of stored) tree
+  pub counted : bytes ≡ plain_length (leaf_k f.image) (internal_k f.image) plain_chunk_k (counts_of stored) tree

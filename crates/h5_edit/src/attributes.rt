@@ -1,68 +1,64 @@
-//! Attributes set and removed (File Format Specification 3.0, section IV.A.2.m).
+//! Attributes set and removed where their object's header stands (File Format Specification 3.0, section IV.A.2.m).
 
-ghost use Rattle.std.specs.Prelude.{MatchResult};
+ghost use Rattle.std.specs.Prelude.{◌≡◌, MatchResult};
 ghost use Rattle.h5_model.specs.declared.edits.Edit.TheVariants.{SetAttr, RemoveAttr};
-ghost use Rattle.h5_query.specs.Opened.Sound.{IsSound};
 ghost use Rattle.h5_edit.specs.Carried.{IsRefused};
-ghost use Rattle.h5_edit.specs.Made.{IsEditMade};
+ghost use Rattle.h5_edit.specs.Edited.{IsEdited};
 
-use crate::anew::carry_out;
-use crate::change::Change;
-use crate::made::Made;
-use crate::rules::{MAX_MESSAGES, check_remove_attr, check_set_attr};
-use h5_model::{AttrSpec, EditFault, ObjectNo};
-use h5_query::Opened;
+use crate::rules::{check_remove_attr, check_set_attr};
+use h5_header::AddFault;
+use h5_model::{AttrSpec, EditFault, Edited, ObjectNo};
+use h5_query::{Opened, new_body};
 use std::alloc::Global;
 
-/// Adds an attribute to the object at the path, or puts it in place of the one of its name.
+/// Sets an attribute of the object at the path: adds it, or puts it in place of the attribute with the same name.
 ///
-/// Refused by the lowest number that holds: `BadPath`, `PathTooDeep`, `NoSuchParent`, `NotAGroup`, `NotFound`, `NameTooLong` above 1023
-/// bytes, `BadSpec` where the name is empty or has a zero byte, or the rank is above 32, `TooManyCells`, `ValueCount`, `ValueRange`,
-/// `AttributeTooLarge` where the message's body would pass 65528 bytes, `HeaderFull` where the header's total of messages plus 2 passes
-/// 65535, `ImageFull` where the image would pass 2147483648 bytes, `NoMemory`.
+/// Only the object's header changes, which keeps its address. Where no NIL message of it is large enough, a block is taken for the new
+/// message, and one that moves there.
+///
+/// # Errors
+///
+/// Those of [`check_set_attr`]; then the first of these that holds. A refusal changes nothing.
+///
+/// - `HeaderFull`: the header has 65534 messages or more.
+/// - `ImageFull`: the image, the body of the message and 32 bytes are more than 2147483648 bytes.
+/// - `NoMemory`: memory is refused. It may come in place of any other.
 pub fn set_attr(
     alloc: Global,
-    opened: &Opened,
+    opened: &mut Opened,
     path: &[u8],
     attr: &AttrSpec,
-) -> Result<Made, EditFault>
-    ensures edited { let f = opened.now in
-        MatchResult result (IsEditMade f (SetAttr path.now attr.now))
-        (IsRefused f (SetAttr path.now attr.now)) }
-    ensures sound { IsSound opened.now }
+) -> Result<Edited, EditFault>
+    ensures { MatchResult result (IsEdited opened.old (SetAttr path.now attr.now) opened.new) (λ e.
+        IsRefused opened.old (SetAttr path.now attr.now) e × (opened.new ≡ opened.old)) }
 {
     let number = check_set_attr(alloc, opened, path, attr)?;
-    let object = opened.object(number).unwrap();
-    // A Continuation may come with the message.
-    if object.messages.list().len() + 2 > MAX_MESSAGES {
-        return Err(EditFault::HeaderFull);
+    let body = new_body(alloc, attr)?;
+    match opened.set_attribute(number, &body) {
+        Ok(()) => Ok(Edited {
+            object: Some(ObjectNo(number)),
+            refreshed: 0,
+        }),
+        Err(AddFault::HeaderFull) => Err(EditFault::HeaderFull),
+        Err(AddFault::ImageFull) => Err(EditFault::ImageFull),
+        Err(AddFault::NoMemory) => Err(EditFault::NoMemory),
     }
-    let change = Change::SetAttr {
-        object: number,
-        attr,
-    };
-    carry_out(alloc, opened, &change, Some(ObjectNo(number)))
 }
 
-/// Removes the attribute of this name from the object at the path.
+/// Removes the attribute with this name from the object at the path. Its message becomes NIL, and the image keeps its length. Takes no
+/// memory.
 ///
-/// Refused by the lowest number that holds: `BadPath`, `PathTooDeep`, `NoSuchParent`, `NotAGroup`, `NotFound`, `NoSuchAttribute`, `ImageFull`
-/// where the image would pass 2147483648 bytes, `NoMemory`.
-pub fn remove_attr(
-    alloc: Global,
-    opened: &Opened,
-    path: &[u8],
-    name: &[u8],
-) -> Result<Made, EditFault>
-    ensures edited { let f = opened.now in
-        MatchResult result (IsEditMade f (RemoveAttr path.now name.now))
-        (IsRefused f (RemoveAttr path.now name.now)) }
-    ensures sound { IsSound opened.now }
+/// # Errors
+///
+/// Those of [`check_remove_attr`]. A refusal changes nothing.
+pub fn remove_attr(opened: &mut Opened, path: &[u8], name: &[u8]) -> Result<Edited, EditFault>
+    ensures { MatchResult result (IsEdited opened.old (RemoveAttr path.now name.now) opened.new) (λ e.
+        IsRefused opened.old (RemoveAttr path.now name.now) e × (opened.new ≡ opened.old)) }
 {
     let number = check_remove_attr(opened, path, name)?;
-    let change = Change::RemoveAttr {
-        object: number,
-        name,
-    };
-    carry_out(alloc, opened, &change, Some(ObjectNo(number)))
+    opened.remove_attribute(number, name);
+    Ok(Edited {
+        object: Some(ObjectNo(number)),
+        refreshed: 0,
+    })
 }

@@ -1,8 +1,8 @@
-//! Edits of an opened image: why one is refused, in the order of the refusals' numbers, and the image that an accepted one gives, written
-//! anew (File Format Specification 3.0, sections III.C and IV.A).
+//! Edits of an opened image: why one is refused, in the order of the refusals' numbers, and the image that an
+//! accepted one gives (File Format Specification 3.0, sections III.C and IV.A).
 //!
-//! Each call writes the whole image, however small the edit is, but `write` where the cells are stored. Where both `TreeTooDeep` and
-//! `ImageFull` hold, either is answered.
+//! Each call writes the whole image anew, however small the edit is. Only `write` of cells that are stored changes
+//! the image where they stand. Where both `TreeTooDeep` and `ImageFull` hold, either is answered.
 #![tactic(auto)]
 
 mod anew;

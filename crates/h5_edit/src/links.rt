@@ -17,11 +17,16 @@ use h5_model::{EditFault, ObjectNo, Spec};
 use h5_query::Opened;
 use std::alloc::Global;
 
-/// Makes an empty group at the path.
+/// Creates an empty group at the path.
 ///
-/// Refused by the lowest number that holds: `BadPath`, `PathTooDeep`, `IsRoot`, `NoSuchParent`, `NotAGroup`, `AlreadyThere`, `NameTooLong`,
-/// `TooManyObjects`, `TreeTooDeep` where the tree of the group that takes the link would have more than 16 levels, `ImageFull` where the
-/// image would pass 2147483648 bytes, `NoMemory`.
+/// # Errors
+///
+/// Those of [`check_create_group`]; then the first of these that holds. Where both `TreeTooDeep` and `ImageFull`
+/// hold, either is answered.
+///
+/// - `TreeTooDeep`: the B-tree of the group that gets the link would have more than 16 levels.
+/// - `ImageFull`: the image would have more than 2147483648 bytes.
+/// - `NoMemory`: memory is refused. It may come in place of any other.
 pub fn create_group(alloc: Global, opened: &Opened, path: &[u8]) -> Result<Made, EditFault>
     ensures edited { let f = opened.now in
         MatchResult result (IsEditMade f (CreateGroup path.now)) (IsRefused f (CreateGroup path.now)) }
@@ -33,11 +38,16 @@ pub fn create_group(alloc: Global, opened: &Opened, path: &[u8]) -> Result<Made,
     carry_out(alloc, opened, &change, Some(ObjectNo(next)))
 }
 
-/// Makes an array at the path, every cell of which is the fill.
+/// Creates an array at the path. Each of its cells has the value of the fill.
 ///
-/// Refused by the lowest number that holds: `BadPath`, `PathTooDeep`, `IsRoot`, `NoSuchParent`, `NotAGroup`, `AlreadyThere`,
-/// `NameTooLong`, `BadSpec`, `ChunkTooLarge`, `CompactTooLarge`, `TooManyCells`, `ValueRange`, `TooManyObjects`, `TreeTooDeep`,
-/// `ImageFull`, `NoMemory`.
+/// # Errors
+///
+/// Those of [`check_create_dataset`]; then the first of these that holds. Where both `TreeTooDeep` and `ImageFull`
+/// hold, either is answered.
+///
+/// - `TreeTooDeep`: the B-tree of the group that gets the link would have more than 16 levels.
+/// - `ImageFull`: the image would have more than 2147483648 bytes.
+/// - `NoMemory`: memory is refused. It may come in place of any other.
 pub fn create_dataset(
     alloc: Global,
     opened: &Opened,
@@ -57,10 +67,16 @@ pub fn create_dataset(
     carry_out(alloc, opened, &change, Some(ObjectNo(next)))
 }
 
-/// Makes a second name for the array at `target`.
+/// Gives the array at `target` a second name, `path`.
 ///
-/// Refused by the lowest number that holds: `BadPath`, `PathTooDeep`, `IsRoot`, `NoSuchParent`, `NotAGroup`, `NotFound`, `AlreadyThere`,
-/// `NameTooLong`, `GroupLink` where a group stands at `target`, `TooManyLinks`, `TreeTooDeep`, `ImageFull`, `NoMemory`.
+/// # Errors
+///
+/// Those of [`check_hard_link`]; then the first of these that holds. Where both `TreeTooDeep` and `ImageFull` hold,
+/// either is answered.
+///
+/// - `TreeTooDeep`: the B-tree of the group that gets the link would have more than 16 levels.
+/// - `ImageFull`: the image would have more than 2147483648 bytes.
+/// - `NoMemory`: memory is refused. It may come in place of any other.
 pub fn hard_link(
     alloc: Global,
     opened: &Opened,
@@ -79,10 +95,16 @@ pub fn hard_link(
     carry_out(alloc, opened, &change, Some(ObjectNo(number)))
 }
 
-/// Makes a soft link at the path, with this text, which is not followed.
+/// Makes a soft link at the path, with this text. A soft link is never followed.
 ///
-/// Refused by the lowest number that holds: `BadPath`, `PathTooDeep`, `IsRoot`, `NoSuchParent`, `NotAGroup`, `AlreadyThere`, `NameTooLong`,
-/// `TreeTooDeep`, `ImageFull`, `NoMemory`.
+/// # Errors
+///
+/// Those of [`check_soft_link`]; then the first of these that holds. Where both `TreeTooDeep` and `ImageFull` hold,
+/// either is answered.
+///
+/// - `TreeTooDeep`: the B-tree of the group that gets the link would have more than 16 levels.
+/// - `ImageFull`: the image would have more than 2147483648 bytes.
+/// - `NoMemory`: memory is refused. It may come in place of any other.
 pub fn soft_link(
     alloc: Global,
     opened: &Opened,

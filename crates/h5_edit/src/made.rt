@@ -6,8 +6,8 @@ ghost use Rattle.h5_edit.specs.Answers.{answer_to};
 use h5_model::{EditFault, ObjectNo};
 use h5_repack::{WriteFault, Written};
 
-/// The image that an edit gives, with the addresses of its objects' headers by their numbers, `None` for a number without an object,
-/// and the object that the edit makes or names.
+/// The image that an edit gives, with the addresses of its objects' headers by their numbers, `None` for a number
+/// without an object; and the object that the edit makes or names.
 #[derive(Drop)]
 pub struct Made {
     pub image: Vec<u8>,

@@ -15,7 +15,11 @@ use h5_query::Opened;
 use h5_space::Image;
 use std::alloc::{AllocError, Global};
 
-/// Opens an image that was written anew, and gives its objects the numbers of these headers. Fails where memory is refused.
+/// Opens an image that was written anew, and gives its objects the numbers of these headers.
+///
+/// # Errors
+///
+/// `AllocError` if memory is refused.
 pub fn open_made(
     alloc: Global,
     image: Vec<u8>,
@@ -32,7 +36,11 @@ pub fn open_made(
     Ok(opened)
 }
 
-/// Opens an image without free blocks that reads as a tree. Fails where memory is refused.
+/// Opens an image without free blocks that reads as a tree.
+///
+/// # Errors
+///
+/// `AllocError` if memory is refused.
 pub fn open_written(alloc: Global, image: Image) -> Result<Opened, AllocError>
     requires superblock { IsSuperblock image.bytes }
     requires whole { end_of_file image.bytes ≡ length image.bytes }

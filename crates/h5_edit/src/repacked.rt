@@ -12,10 +12,13 @@ use h5_query::Opened;
 use h5_repack::write_tree;
 use std::alloc::Global;
 
-/// Writes the image anew: its objects keep their numbers, and each byte is used. Of an array in chunks those are stored that were and that
-/// hold a cell.
+/// Writes the image anew: its objects keep their numbers, and each byte is used. Stored chunks that hold no cell of
+/// their array go.
 ///
-/// `ImageFull` where the image would pass 2147483648 bytes, `NoMemory` where memory is refused.
+/// # Errors
+///
+/// - `ImageFull`: the image would have more than 2147483648 bytes.
+/// - `NoMemory`: memory is refused.
 pub fn repack(alloc: Global, opened: &Opened) -> Result<Made, EditFault>
     ensures repacked { MatchResult result (IsRepackMade opened.now) (IsRepackRefused opened.now) }
     ensures sound { IsSound opened.now }

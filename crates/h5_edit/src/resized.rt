@@ -2,6 +2,7 @@
 
 ghost use Rattle.std.specs.Prelude.{◌≡◌, ◌+◌, ◌≤◌, ◌&&◌, ℕ, nat_lt, Some, List, length, MatchResult};
 ghost use Rattle.h5_header.specs.Listed.{messages_in, IsWithin};
+ghost use Rattle.h5_model.specs.Format.MessageTypes.{dataspace_kind};
 ghost use Rattle.h5_model.specs.Format.Messages.{first_body};
 ghost use Rattle.h5_model.specs.declared.edits.Edit.TheVariants.{Resize};
 ghost use Rattle.h5_query.specs.Opened.Sound.{IsSound};
@@ -26,12 +27,28 @@ const FLAGS: usize = 2;
 /// The flags of a Dataspace message that has maxima.
 const HAS_MAXIMA: u8 = 1;
 
-/// Gives an array in chunks other sizes, as many as it has: the cells stay whose index is inside the old and the new ones, the others that
-/// it then has are the fill. Cells outside the new sizes are gone for good.
+/// Gives the array in chunks at the path other sizes, in cells, one for each dimension. A cell that is inside the old
+/// and the new sizes keeps its value. The other cells that the array then has are the fill. Cells outside the new
+/// sizes are gone for good.
 ///
-/// Refused by the lowest number that holds: `BadPath`, `PathTooDeep`, `NoSuchParent`, `NotAGroup`, `NotFound`, `NotADataset` also where a
-/// soft link stands there, `RankMismatch`, `NotChunked`, `AboveMaximum`, `TooManyCells`, `HeaderFull` where the header's Dataspace message
-/// has no maxima and its total of messages plus 2 passes 65535, `ImageFull` where the image would pass 2147483648 bytes, `NoMemory`.
+/// # Errors
+///
+/// The first of these that holds; they come in the order of their numbers.
+///
+/// - `BadPath`: the bytes are no path.
+/// - `PathTooDeep`: the path has more than 64 names.
+/// - `NoSuchParent`: a name before the last one is missing.
+/// - `NotAGroup`: a name before the last one leads to no group.
+/// - `NotFound`: the last name is missing.
+/// - `NotADataset`: a group or a soft link stands there.
+/// - `RankMismatch`: there are not as many sizes as the array has.
+/// - `NotChunked`: the array is not in chunks.
+/// - `AboveMaximum`: a size is above its maximum.
+/// - `TooManyCells`: the product of the sizes, with sizes of 0 left out, is above 2^40.
+/// - `HeaderFull`: the Dataspace message of the array has no maxima, so it needs a new one, and the header has 65534
+///   messages or more.
+/// - `ImageFull`: the image would have more than 2147483648 bytes.
+/// - `NoMemory`: memory is refused. It may come in place of any other.
 pub fn resize(alloc: Global, opened: &Opened, path: &[u8], dims: &[u64]) -> Result<Made, EditFault>
     ensures edited { let f = opened.now in
         MatchResult result (IsEditMade f (Resize path.now dims.now))
@@ -54,7 +71,7 @@ pub fn resize(alloc: Global, opened: &Opened, path: &[u8], dims: &[u64]) -> Resu
 fn is_header_full(image: &Image, messages: &Messages) -> bool
     requires within { IsWithin (length image.now.bytes) messages.now.list }
     requires whole { let ms = messages_in image.now.bytes messages.now.list in
-        (body : List ℕ) → first_body 1 ms ≡ Some body → 3 ≤ length body }
+        (body : List ℕ) → first_body dataspace_kind ms ≡ Some body → 3 ≤ length body }
     ensures { let ms = messages_in image.now.bytes messages.now.list in
         result ≡ (extent.lacks_maxima ms && nat_lt 65535 (length messages.now.list + 2)) }
 {
@@ -65,7 +82,7 @@ fn is_header_full(image: &Image, messages: &Messages) -> bool
 fn lacks_maxima(image: &Image, messages: &Messages) -> bool
     requires within { IsWithin (length image.now.bytes) messages.now.list }
     requires whole { let ms = messages_in image.now.bytes messages.now.list in
-        (body : List ℕ) → first_body 1 ms ≡ Some body → 3 ≤ length body }
+        (body : List ℕ) → first_body dataspace_kind ms ≡ Some body → 3 ≤ length body }
     ensures { result ≡ extent.lacks_maxima (messages_in image.now.bytes messages.now.list) }
 {
     match find_body(image, messages, DATASPACE) {

@@ -15,10 +15,15 @@ use h5_query::Opened;
 use h5_repack::write_tree;
 use std::alloc::Global;
 
-/// Takes the link at the path away. An object without a link goes, and its number is not used again; the others keep theirs.
+/// Takes the link at the path away. If it was the last hard link to its object, the object goes too, and its number
+/// is not used again. All other objects keep their numbers.
 ///
-/// Refused by the lowest number that holds: `BadPath`, `PathTooDeep`, `IsRoot`, `NoSuchParent`, `NotAGroup`, `NotFound`, `GroupNotEmpty`
-/// where a group with links stands there, `ImageFull` where the image would pass 2147483648 bytes, `NoMemory`.
+/// # Errors
+///
+/// Those of [`check_unlink`]; then the first of these that holds.
+///
+/// - `ImageFull`: the image would have more than 2147483648 bytes.
+/// - `NoMemory`: memory is refused. It may come in place of any other.
 pub fn unlink(alloc: Global, opened: &Opened, path: &[u8]) -> Result<Made, EditFault>
     ensures edited { let f = opened.now in
         MatchResult result (IsEditMade f (Unlink path.now)) (IsRefused f (Unlink path.now)) }

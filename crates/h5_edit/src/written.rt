@@ -18,15 +18,32 @@ use h5_query::{Opened, described_of, slab_within};
 use h5_shape::CellRuns;
 use std::alloc::{AllocError, Global};
 
-/// Writes values into the selected cells of the array at the path, in row-major order.
+/// Writes values into the selected cells of the array at the path: one value for each cell, in row-major order.
 ///
-/// Where each selected cell is stored, the cells are written where they stand: no byte outside the array's blocks changes, no header
-/// moves, and the image keeps its length. Else the image is first written anew with the storage that is missing: the block of a
-/// contiguous array, or the chunks that hold a selected cell; their other cells are the fill.
+/// If all selected cells are stored, the cells are written where they stand: no byte outside the blocks of the array
+/// changes, no header moves, and the image keeps its length. Otherwise the image is first written anew with the
+/// storage that is missing: the block of a contiguous array, or the chunks that hold a selected cell. The other cells
+/// of that storage are the fill.
 ///
-/// Refused by the lowest number that holds: `BadPath`, `PathTooDeep`, `NoSuchParent`, `NotAGroup`, `NotFound`, `NotADataset` also where a
-/// soft link stands there, `RankMismatch`, `StrideZero`, `BlocksOverlap`, `OutOfExtent`, `ValueCount`, `ValueRange`, `ImageFull` where the
-/// image with that storage would pass 2147483648 bytes, `NoMemory`. A refusal changes nothing.
+/// # Errors
+///
+/// The first of these that holds; they come in the order of their numbers. A refusal changes nothing.
+///
+/// - `BadPath`: the bytes are no path.
+/// - `PathTooDeep`: the path has more than 64 names.
+/// - `NoSuchParent`: a name before the last one is missing.
+/// - `NotAGroup`: a name before the last one leads to no group.
+/// - `NotFound`: the last name is missing.
+/// - `NotADataset`: a group or a soft link stands there.
+/// - `RankMismatch`: a list has not one number for each dimension of the array.
+/// - `StrideZero`: a stride is 0.
+/// - `BlocksOverlap`: a stride is below its block, and there is more than one block.
+/// - `OutOfExtent`: a selected cell is outside the sizes.
+/// - `ValueCount`: there is not one value for each selected cell.
+/// - `ValueRange`: a value is not one of the type.
+/// - `ImageFull`: cells without storage are to be written, and the image with that storage would have more than
+///   2147483648 bytes.
+/// - `NoMemory`: memory is refused. It may come in place of any other.
 pub fn write(
     alloc: Global,
     opened: &mut Opened,

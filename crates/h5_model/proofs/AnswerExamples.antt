@@ -11,7 +11,7 @@ use Rattle.h5_model.specs.Edits.Touched.{touched_by}
 use Rattle.h5_model.specs.Views.Selection.{selection_of}
 use Rattle.h5_model.specs.Scripts.Sessions.{Session}
 use Rattle.h5_model.specs.Scripts.Lines.{Change, OpenView, Show, ListAll, Repack, Unread}
-use Rattle.h5_model.specs.Scripts.Answers.{Refused, Accepted, Told, gathered, patched, answer_of, outcomes_of, transcript_of}
+use Rattle.h5_model.specs.Scripts.Answers.{Refused, Accepted, Told, answer_of, outcomes_of, transcript_of}
 use Rattle.h5_model.specs.declared.edits.Edit.TheVariants.{CreateGroup, HardLink, SoftLink, Unlink, Write}
 use Rattle.h5_model.specs.declared.hyperslab.Hyper.{Hyper}
 use Rattle.h5_model.specs.declared.edit_fault.EditFault.TheVariants as fault
@@ -33,37 +33,37 @@ scalar = record { start = []; stride = []; count = []; block = [] }
 -- ---- what is given
 
 -- the numbers of views end
-no_view_number : (answer_of patched (nested 4294967295) (OpenView (codes "/g/h/x") scalar) None).text ≡ codes "fault 4 TooManyViews\n"
+no_view_number : (answer_of (nested 4294967295) (OpenView (codes "/g/h/x") scalar) None).text ≡ codes "fault 4 TooManyViews\n"
 unfolding names_of digits
 no_view_number = simp known
 
-last_view_number : (answer_of patched (nested 4294967294) (OpenView (codes "/g/h/x") scalar) None).text ≡ codes "view 4294967294\n"
+last_view_number : (answer_of (nested 4294967294) (OpenView (codes "/g/h/x") scalar) None).text ≡ codes "view 4294967294\n"
 unfolding names_of digits
 last_view_number = simp known
 
 -- want of memory, behind the other rules of a view, and before those of an edit
-view_without_memory : (answer_of patched (nested 0) (OpenView (codes "/g/h/x") scalar) (Some fault.NoMemory)).text ≡ codes "fault 5 NoMemory\n"
+view_without_memory : (answer_of (nested 0) (OpenView (codes "/g/h/x") scalar) (Some fault.NoMemory)).text ≡ codes "fault 5 NoMemory\n"
 unfolding names_of digits
 view_without_memory = simp known
 
-view_of_a_group : (answer_of patched (nested 0) (OpenView (codes "/g") scalar) (Some fault.NoMemory)).text ≡ codes "refused 9 NotADataset\n"
+view_of_a_group : (answer_of (nested 0) (OpenView (codes "/g") scalar) (Some fault.NoMemory)).text ≡ codes "refused 9 NotADataset\n"
 unfolding names_of digits
 view_of_a_group = simp known
 
-edit_without_memory : (answer_of patched (nested 0) (Change (CreateGroup (codes "/g"))) (Some fault.NoMemory)).text ≡ codes "refused 31 NoMemory\n"
+edit_without_memory : (answer_of (nested 0) (Change (CreateGroup (codes "/g"))) (Some fault.NoMemory)).text ≡ codes "refused 31 NoMemory\n"
 unfolding refusal_of names_of digits
 edit_without_memory = refl
 
 -- what else is given comes behind the rules of the tree
-edit_of_a_full_image : (answer_of patched (nested 0) (Change (CreateGroup (codes "/g"))) (Some fault.ImageFull)).text ≡ codes "refused 7 AlreadyThere\n"
+edit_of_a_full_image : (answer_of (nested 0) (Change (CreateGroup (codes "/g"))) (Some fault.ImageFull)).text ≡ codes "refused 7 AlreadyThere\n"
 unfolding refusal_of names_of digits
 edit_of_a_full_image = simp known
 
-list_without_memory : (answer_of patched (nested 0) ListAll (Some fault.NoMemory)).text ≡ codes "refused 31 NoMemory\n"
+list_without_memory : (answer_of (nested 0) ListAll (Some fault.NoMemory)).text ≡ codes "refused 31 NoMemory\n"
 unfolding digits
 list_without_memory = refl
 
-repack_of_a_full_image : (answer_of patched (nested 0) Repack (Some fault.ImageFull)).text ≡ codes "refused 30 ImageFull\n"
+repack_of_a_full_image : (answer_of (nested 0) Repack (Some fault.ImageFull)).text ≡ codes "refused 30 ImageFull\n"
 unfolding digits
 repack_of_a_full_image = refl
 
@@ -73,27 +73,23 @@ repack_of_a_full_image = refl
 abbrev viewed : Session
 viewed = record (nested 1) { views = from_sorted ((0, record { object = 3; slab = [] }) ∷ []) }
 
-lent_as_patched : (answer_of patched viewed (Show 0) None).text ≡ codes "lent 7\n"
+shown_as_lent : (answer_of viewed (Show 0) None).text ≡ codes "lent 7\n"
 unfolding selection_of bytes_of value_at raw_at digits
-lent_as_patched = simp known
-
-kept_as_gathered : (answer_of gathered viewed (Show 0) None).text ≡ codes "kept 7\n"
-unfolding selection_of bytes_of value_at raw_at digits
-kept_as_gathered = simp known
+shown_as_lent = simp known
 
 -- a script: the view is opened, its cell written, and what it then sees is shown
-seen_as_gathered : transcript_of gathered (nested 0) ((OpenView (codes "/g/h/x") scalar, None) ∷ (Change (Write (codes "/g/h/x") scalar (pos 9 ∷ [])), None) ∷ (Show 0, None) ∷ [])
-    ≡ codes "view 0\nok 0\nkept 9\n"
+seen : transcript_of (nested 0) ((OpenView (codes "/g/h/x") scalar, None) ∷ (Change (Write (codes "/g/h/x") scalar (pos 9 ∷ [])), None) ∷ (Show 0, None) ∷ [])
+    ≡ codes "view 0\nok 0\nlent 9\n"
 unfolding transcript_of refusal_of names_of applied selection_of bytes_of value_at raw_at digits
-seen_as_gathered = simp known
+seen = simp known
 
 -- ---- how lines count
 
-counted : outcomes_of patched new_file ((Change (CreateGroup (codes "/g")), None) ∷ (Change (CreateGroup (codes "/g")), None) ∷ []) ≡ Accepted ∷ Refused ∷ []
+counted : outcomes_of new_file ((Change (CreateGroup (codes "/g")), None) ∷ (Change (CreateGroup (codes "/g")), None) ∷ []) ≡ Accepted ∷ Refused ∷ []
 unfolding applied refusal_of names_of digits
 counted = simp known
 
-others_counted : outcomes_of patched (nested 0) ((Show 0, None) ∷ (ListAll, None) ∷ (Repack, None) ∷ (Unread, None) ∷ []) ≡ Refused ∷ Told ∷ Accepted ∷ Refused ∷ []
+others_counted : outcomes_of (nested 0) ((Show 0, None) ∷ (ListAll, None) ∷ (Repack, None) ∷ (Unread, None) ∷ []) ≡ Refused ∷ Told ∷ Accepted ∷ Refused ∷ []
 unfolding digits
 others_counted = simp known
 

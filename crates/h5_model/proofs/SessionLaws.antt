@@ -15,7 +15,7 @@ use Rattle.h5_model.specs.Scripts.Reading.{path_rules, selection_rules}
 use Rattle.h5_model.specs.Edits.ImageAnswers.{chosen}
 use Rattle.h5_model.specs.Views.ViewFaults.{view_fault_text}
 use Rattle.h5_model.specs.Scripts.Lines.{Command, Change, OpenView, Show, Close, ListAll, Dump, Repack, Unread}
-use Rattle.h5_model.specs.Scripts.Answers.{Telling, Given, Refused, Told, answered, edit_decided, view_decided, view_answer, show_told, told_unless, dumped, opened, has_many_views, answer_of, session_after}
+use Rattle.h5_model.specs.Scripts.Answers.{Given, Refused, Told, answered, edit_decided, view_decided, view_answer, show_told, told_unless, dumped, opened, has_many_views, answer_of, session_after}
 use Rattle.h5_model.specs.Views.Shown.{View, shows}
 use Rattle.h5_model.specs.Scripts.Sessions.{Session, new_session, IsState, IsView, IsSession}
 use Rattle.std.specs.Fmt.{decimal}
@@ -248,29 +248,29 @@ view_kept s path hyper given is = elim (first_holding (selection_rules (s.state)
     ] refl
 
 -- whatever a line asks for, it keeps a session
-pub IsSession-answer_of : (telling : Telling) (s : Session) (command : Command) (given : Given) → IsSession s → IsSession (answer_of telling s command given).session
-IsSession-answer_of telling s (Change edit) given is = elim (chosen (refusal_of (s.state).tree (s.state).next edit) given) as (λ o.
-    is_none (chosen (refusal_of (s.state).tree (s.state).next edit) given) ≡ is_none o → IsSession (edit_decided telling s edit o).session) [
+pub IsSession-answer_of : (s : Session) (command : Command) (given : Given) → IsSession s → IsSession (answer_of s command given).session
+IsSession-answer_of s (Change edit) given is = elim (chosen (refusal_of (s.state).tree (s.state).next edit) given) as (λ o.
+    is_none (chosen (refusal_of (s.state).tree (s.state).next edit) given) ≡ is_none o → IsSession (edit_decided s edit o).session) [
       | Some f ↦ λ _. is
       | None ↦ λ free. IsSession-accepted s edit (not_refused _ given free) is
     ] refl
-IsSession-answer_of telling s (OpenView path hyper) given is = view_kept s path hyper given is
-IsSession-answer_of telling s (Show number) given is = elim (shows (s.state).tree s.views number) as (λ shown. IsSession (show_told telling s number shown).session) [ Err f ↦ is | Ok shown ↦ is ]
-IsSession-answer_of telling s (Close number) given is = elim (contains_key s.views number) as (λ b. IsSession (cond b (answered Told (codes "closed\n") (record s { views = remove s.views number }))
+IsSession-answer_of s (OpenView path hyper) given is = view_kept s path hyper given is
+IsSession-answer_of s (Show number) given is = elim (shows (s.state).tree s.views number) as (λ shown. IsSession (show_told s number shown).session) [ Err f ↦ is | Ok shown ↦ is ]
+IsSession-answer_of s (Close number) given is = elim (contains_key s.views number) as (λ b. IsSession (cond b (answered Told (codes "closed\n") (record s { views = remove s.views number }))
     (answered Refused (view_fault_text view_fault.NoSuchView) s)).session) [ true ↦ less s number is | false ↦ is ]
-IsSession-answer_of telling s ListAll None is = is
-IsSession-answer_of telling s ListAll (Some f) is = is
-IsSession-answer_of telling s (Dump path) given is = elim (chosen (first_holding (path_rules (s.state).tree path)) given) as (λ o.
+IsSession-answer_of s ListAll None is = is
+IsSession-answer_of s ListAll (Some f) is = is
+IsSession-answer_of s (Dump path) given is = elim (chosen (first_holding (path_rules (s.state).tree path)) given) as (λ o.
     IsSession (told_unless o (dumped (s.state).tree path (located (s.state).tree path)) s).session) [ Some f ↦ is | None ↦ is ]
-IsSession-answer_of telling s Repack None is = is
-IsSession-answer_of telling s Repack (Some f) is = is
-IsSession-answer_of telling s Unread given is = is
+IsSession-answer_of s Repack None is = is
+IsSession-answer_of s Repack (Some f) is = is
+IsSession-answer_of s Unread given is = is
 
 -- and so do all lines of a script
-pub IsSession-session_after : (telling : Telling) (s : Session) (lines : List (Command × Given)) → IsSession s → IsSession (session_after telling s lines)
+pub IsSession-session_after : (s : Session) (lines : List (Command × Given)) → IsSession s → IsSession (session_after s lines)
 unfolding session_after
-IsSession-session_after telling s [] is = is
-IsSession-session_after telling s (line ∷ lines) is = IsSession-session_after telling (answer_of telling s line.0 line.1).session lines (IsSession-answer_of telling s line.0 line.1 is)
+IsSession-session_after s [] is = is
+IsSession-session_after s (line ∷ lines) is = IsSession-session_after (answer_of s line.0 line.1).session lines (IsSession-answer_of s line.0 line.1 is)
 
 -- as a session begins
 pub IsSession-new : (s : State) → IsState s → IsSession (new_session s)

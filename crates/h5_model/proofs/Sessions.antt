@@ -7,7 +7,7 @@ use Rattle.h5_model.specs.Tree.Objects.{Link, Object, Content, Group, Array, Dat
 use Rattle.h5_model.specs.Views.Shown.{View}
 use Rattle.h5_model.specs.Scripts.Sessions.{Session}
 use Rattle.h5_model.specs.Scripts.Lines.{line_asks, Command, Unread}
-use Rattle.h5_model.specs.Scripts.Answers.{Answer, patched, answer_of}
+use Rattle.h5_model.specs.Scripts.Answers.{Answer, answer_of}
 
 -- a session whose tree and views have these entries
 abbrev pub session_of : List (ℕ × Object) → ℕ → List (ℕ × View) → ℕ → Session
@@ -55,7 +55,7 @@ abbrev pub asked_by : List ℕ → Command
 asked_by line = unwrap_or (line_asks line) Unread
 
 abbrev pub answer : Session → List ℕ → Answer
-answer s line = answer_of patched s (asked_by line) None
+answer s line = answer_of s (asked_by line) None
 
 -- a line and its answer, and then the session is the last one; two lines, and three
 abbrev pub OneLine : Session → List ℕ → List ℕ → Session → Type 0

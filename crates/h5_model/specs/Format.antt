@@ -1,4 +1,6 @@
+pub mod PlainSuperblock
 pub mod Superblock
+pub mod MessageTypes
 pub mod Messages
 pub mod Datatype
 pub mod Extent

@@ -16,10 +16,15 @@ pub struct AttrSpec {
 }
 
 impl AttrSpec {
-    /// An attribute of this name, the bytes of which stand in the file as they are, with a value for each cell of these sizes, the last
-    /// size running fastest. No size makes a scalar, of one value.
+    /// An attribute with this name, type, sizes and values. The bytes of the name stand in the file as they are.
+    /// There is one value for each cell, in row-major order: the last size runs fastest. No size makes a scalar, with
+    /// one value.
     ///
-    /// Nothing is asked of these here: what is wrong with an attribute is told where it is set. Fails where memory is refused.
+    /// Nothing is checked here. What is wrong with an attribute is answered by the call that sets it.
+    ///
+    /// # Errors
+    ///
+    /// `AllocError` if memory is refused.
     pub fn new(
         alloc: Global,
         name: &[u8],

@@ -26,10 +26,15 @@ pub struct Spec {
 }
 
 impl Spec {
-    /// An array of this type and these sizes in cells, the last size running fastest, all in one block; each cell has the fill as its
-    /// value. It cannot be resized. No size makes a scalar, of one cell.
+    /// A dataset of this type and these sizes, counted in cells, with all cells in one block. The last size runs
+    /// fastest. Each cell has the value `fill` until it is written. The dataset cannot be resized. No size makes a
+    /// scalar, with one cell.
     ///
-    /// Nothing is asked of these here: what is wrong with an array is told where it is created. Fails where memory is refused.
+    /// Nothing is checked here. What is wrong with a dataset is answered by the call that creates it.
+    ///
+    /// # Errors
+    ///
+    /// `AllocError` if memory is refused.
     pub fn contiguous(
         alloc: Global,
         fixed: Fixed,
@@ -47,9 +52,12 @@ impl Spec {
         unresizable(alloc, fixed, dims, Store::Contiguous, fill)
     }
 
-    /// An array as [`Spec::contiguous`] has it, but with its cells in its header, where they may have 65524 bytes.
+    /// A dataset as [`Spec::contiguous`] makes it, but with its cells in its header. They may have 65524 bytes at
+    /// most.
     ///
-    /// Fails where memory is refused.
+    /// # Errors
+    ///
+    /// `AllocError` if memory is refused.
     pub fn compact(
         alloc: Global,
         fixed: Fixed,
@@ -67,10 +75,12 @@ impl Spec {
         unresizable(alloc, fixed, dims, Store::Compact, fill)
     }
 
-    /// An array as [`Spec::contiguous`] has it, but in chunks, each of so many cells along each size. It can be resized up to the
-    /// maxima, `None` being unlimited.
+    /// A dataset as [`Spec::contiguous`] makes it, but in chunks; `chunks` has the cells of a chunk along each
+    /// dimension. It can be resized up to the maxima, of which `None` means unlimited.
     ///
-    /// Fails where memory is refused.
+    /// # Errors
+    ///
+    /// `AllocError` if memory is refused.
     pub fn chunked(
         alloc: Global,
         fixed: Fixed,

@@ -24,9 +24,14 @@ pub struct Hyper {
 }
 
 impl Hyper {
-    /// The selection of these lists, each with one number of cells or blocks for each dimension, the one that runs slowest first.
+    /// The selection with these four lists. Each list has one number for each dimension, in cells or blocks, for the
+    /// dimension that runs slowest first.
     ///
-    /// Nothing is asked of the lists here: what is wrong with a selection is told where it is used. Fails where memory is refused.
+    /// Nothing is checked here. What is wrong with a selection is answered by the call that uses it.
+    ///
+    /// # Errors
+    ///
+    /// `AllocError` if memory is refused.
     pub fn new(
         alloc: Global,
         start: &[u64],

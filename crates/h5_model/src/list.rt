@@ -27,9 +27,11 @@ impl<T> Items<T> {
         Items { items }
     }
 
-    /// A list of the slice's items.
+    /// A list with the items of the slice.
     ///
-    /// Fails where memory is refused.
+    /// # Errors
+    ///
+    /// `AllocError` if memory is refused.
     pub fn from_slice(alloc: Global, items: &[T]) -> Result<Self, AllocError>
     where
         T: Copy,

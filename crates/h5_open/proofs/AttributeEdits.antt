@@ -1,22 +1,22 @@
 -- Steps of an edit of attributes in an opened image: room that is made, the end of file address that is written, and the slot that is
 -- changed.
-use Rattle.std.proofs.Common.{◌≡◌, ℕ, zero, suc, ◌+◌, ◌<◌, ◌≤◌, ◌==◌, ◌^◌, true, false, List, [], ◌∷◌, length, refl, sym, ap, ◌∙◌, subst, arith, Option, Some}
+use Rattle.std.proofs.Common.{◌≡◌, ℕ, zero, suc, ◌<◌, ◌≤◌, ◌==◌, ◌^◌, true, false, List, [], ◌∷◌, length, refl, sym, ap, ◌∙◌, subst, arith, Option, Some}
 use Rattle.std.specs.Prelude.{slice_get, slice_set}
 use Rattle.std.specs.BTreeMap.{BTreeMap}
 use Rattle.std.specs.List.{AllByRecursion}
 use Rattle.std.proofs.lemmas.Bool.Decides.{nat_tests}
+use Rattle.std.proofs.lemmas.Option.{same_Some}
 use Rattle.h5_bytes.specs.Bytes.{little_bytes, number_at, with_field}
 use Rattle.h5_bytes.specs.declared.Block.{Block}
 use Rattle.h5_bytes.proofs.FieldLaws.{number_at-with_field}
 use Rattle.h5_bytes.proofs.PartLaws.{length-with_part}
 use Rattle.h5_model.specs.Format.Reads.{Reads}
-use Rattle.h5_model.specs.Format.Superblock.{end_of_file}
+use Rattle.h5_model.specs.Format.Superblock.{end_of_file, end_field}
 use Rattle.h5_space.specs.Moves.{Moves}
 use Rattle.h5_space.specs.Space.{Space}
 use Rattle.h5_space.specs.Whole.{IsApart}
 use Rattle.h5_space.proofs.MovesLaws.{moves_write}
 use Rattle.h5_open.specs.declared.opened.object.OpenedObject.{OpenedObject}
-use Rattle.h5_open.specs.InPlace.{end_field}
 use Rattle.h5_open.specs.Opened.Kept.{IsObjectKept, IsOpened}
 use Rattle.h5_open.specs.Opened.Objects.{objects_of, opened_blocks, table_of, tree_of}
 
@@ -48,7 +48,7 @@ module _ (mid new : Space) (low : 48 ≤ length mid.bytes) (bytes : new.bytes �
       ∙ number_at-with_field mid.bytes 40 8 (length mid.bytes) (omega (arith, low)) (omega (arith, small))
       ∙ sym end_length
 
-  pub end_moves : new.free ≡ mid.free → Moves mid new (end_field ∷ []) (end_field ∷ [])
+  pub end_moves : new.free ≡ mid.free → Moves mid new (end_field mid.bytes ∷ []) (end_field new.bytes ∷ [])
   end_moves free = moves_write mid new 40 8 (little_bytes 8 (length mid.bytes)) refl (omega (arith, low)) bytes free
 
 -- ---- the slot
@@ -69,3 +69,9 @@ pub slot_length : (slots : List (Option OpenedObject)) (n : ℕ) (s : Option Ope
 slot_length [] n s = refl
 slot_length (x ∷ slots) zero s = refl
 slot_length (x ∷ slots) (suc n) s = let rest = slot_length slots n s in omega (arith, rest)
+
+-- a slot that is set to what it has
+pub slot_same : (slots : List (Option OpenedObject)) (n : ℕ) (s : Option OpenedObject) → slice_get slots n ≡ Some s → slice_set slots n s ≡ slots
+slot_same [] n s at = refl
+slot_same (x ∷ slots) zero s at = ap (λ (y : Option OpenedObject). y ∷ slots) (sym (same_Some x s at))
+slot_same (x ∷ slots) (suc n) s at = ap (λ (ys : List (Option OpenedObject)). x ∷ ys) (slot_same slots n s at)

@@ -1,6 +1,6 @@
 -- An opened image in which the attributes of one object were changed in its header: it is opened as it is now, and in the tree that object
 -- alone is another.
-use Rattle.std.proofs.Common.{◌≡◌, ℕ, ◌+◌, ◌≤◌, ◌==◌, ◌^◌, Bool, false, List, [], ◌∷◌, ◌++◌, length, refl, sym, ap, ◌∙◌, subst, arith, Option, Some}
+use Rattle.std.proofs.Common.{◌≡◌, ℕ, ◌+◌, ◌≤◌, ◌==◌, ◌^◌, false, List, [], ◌∷◌, ◌++◌, length, sym, ap, ◌∙◌, subst, arith, Option, Some}
 use Rattle.std.specs.Prelude.{slice_get}
 use Rattle.std.specs.Option.{option_flatten}
 use Rattle.std.specs.Ordering.{nat_cmp}
@@ -11,12 +11,11 @@ use Rattle.h5_bytes.specs.declared.Block.{Block}
 use Rattle.h5_bytes.proofs.BlockLaws.{all_so, cover-append, holds_join}
 use Rattle.h5_bytes.proofs.FieldLaws.{number_at-same}
 use Rattle.h5_model.specs.Edits.Applied.{with_attributes}
-use Rattle.h5_model.specs.Format.Addresses.{SymbolTable}
-use Rattle.h5_model.specs.Format.Messages.{Message, HasMessages, first_size, prefix_at, reference_count}
+use Rattle.h5_model.specs.Format.Messages.{Message, first_size, prefix_at, reference_count}
 use Rattle.h5_model.specs.Format.Reads.{HasAttributes}
-use Rattle.h5_model.specs.Format.Superblock.{leaf_k, internal_k, end_of_file}
+use Rattle.h5_model.specs.Format.Superblock.{leaf_k, internal_k, end_of_file, end_field}
 use Rattle.h5_model.specs.Format.Symbols.{Target}
-use Rattle.h5_model.specs.Tree.Objects.{Attributes, Tree, Content, Group, Array, Links, Object, with_object}
+use Rattle.h5_model.specs.Tree.Objects.{Attributes, Tree, Group, Array, with_object}
 use Rattle.h5_model.proofs.Frames.{front-same}
 use Rattle.h5_space.specs.Moves.{Moves}
 use Rattle.h5_space.specs.Space.{Space}
@@ -25,10 +24,10 @@ use Rattle.h5_space.proofs.MovesLaws.{moves_apart, moves_beside, moves_kept, mov
 use Rattle.h5_header.specs.Listed.{messages_in}
 use Rattle.h5_header.specs.Standing.{IsStanding}
 use Rattle.h5_header.proofs.KeptLaws.{header-same, listed-same}
-use Rattle.h5_attr.specs.Attributes.{HasNamesOnce, attributes_of}
+use Rattle.h5_attr.specs.Attributes.{attributes_of}
 use Rattle.h5_attr.specs.Still.{IsSaidStill}
 use Rattle.h5_attr.proofs.EntryLaws.{attributes-is, names_once}
-use Rattle.h5_group.specs.Told.{blocks_told, links_told}
+use Rattle.h5_group.specs.Told.{blocks_told}
 use Rattle.h5_group.proofs.ToldLaws.{blocks_told-same, links_told-same, told-same}
 use Rattle.h5_layout.specs.Data.{AreDataRead, data_blocks, dataset_told}
 use Rattle.h5_layout.specs.Described.{Described}
@@ -37,7 +36,6 @@ use Rattle.h5_open.specs.declared.opened.object.OpenedObject.{OpenedObject}
 use Rattle.h5_open.specs.declared.opened.object.OpenedContent.{OpenedContent}
 use Rattle.h5_open.specs.declared.opened.object.OpenedContent.TheVariants as content
 use Rattle.h5_open.specs.ChangedInPlace.{IsChangedInPlace}
-use Rattle.h5_open.specs.InPlace.{end_field}
 use Rattle.h5_open.specs.Opened.Kept.{IsContentKept, IsObjectKept, IsOpened}
 use Rattle.h5_open.specs.Opened.Objects.{content_blocks, content_in, header_of, links_by, object_blocks, object_in, table_of, tree_of}
 use Rattle.h5_open.specs.Opened.State.{opened_state}
@@ -61,7 +59,7 @@ pub record IsHeaderEdited (old mid new : Space) (slots slots' : List (Option Ope
   pub attributes : (before : Attributes) → HasAttributes (messages_in old.bytes p.messages.list) before → HasAttributes (messages_in mid.bytes p'.messages.list) (change before)
   pub counted : reference_count (prefix_at mid.bytes (header_of p)) ≡ reference_count (prefix_at old.bytes (header_of p))
   pub moves : Moves old mid p.messages.blocks p'.messages.blocks
-  pub ended : Moves mid new (end_field ∷ []) (end_field ∷ [])
+  pub ended : Moves mid new (end_field mid.bytes ∷ []) (end_field new.bytes ∷ [])
   pub end : end_of_file new.bytes ≡ length new.bytes
   pub small : length new.bytes ≤ 2 ^ 31
 
@@ -82,19 +80,19 @@ module _ (old mid new : Space) (slots slots' : List (Option OpenedObject)) (numb
   -- ---- what moves, and what stays beside it
 
   abbrev own : List Block
-  own = p.messages.blocks ++ end_field ∷ []
+  own = p.messages.blocks ++ end_field old.bytes ∷ []
 
   abbrev own' : List Block
-  own' = p'.messages.blocks ++ end_field ∷ []
+  own' = p'.messages.blocks ++ end_field new.bytes ∷ []
 
   first : Moves old mid own own'
-  first = moves_beside old mid p.messages.blocks p'.messages.blocks (end_field ∷ []) is.moves
+  first = moves_beside old mid p.messages.blocks p'.messages.blocks (end_field old.bytes ∷ []) is.moves
 
   second : Moves mid new own' own'
   second =
-      let turned : (q : ℕ) → cover q own' ≡ cover q (end_field ∷ p'.messages.blocks) = λ q. omega (arith, cover-append q p'.messages.blocks (end_field ∷ [])) in
-      moves_same mid new (end_field ∷ p'.messages.blocks) (end_field ∷ p'.messages.blocks) own' own' turned turned
-      (moves_beside mid new (end_field ∷ []) (end_field ∷ []) p'.messages.blocks is.ended)
+      let turned : (q : ℕ) → cover q own' ≡ cover q (end_field new.bytes ∷ p'.messages.blocks) = λ q. omega (arith, cover-append q p'.messages.blocks (end_field new.bytes ∷ [])) in
+      moves_same mid new (end_field mid.bytes ∷ p'.messages.blocks) (end_field new.bytes ∷ p'.messages.blocks) own' own' turned turned
+      (moves_beside mid new (end_field mid.bytes ∷ []) (end_field new.bytes ∷ []) p'.messages.blocks is.ended)
 
   both : Moves old new own own'
   both = moves_then old mid new own own' own' first second
@@ -106,7 +104,7 @@ module _ (old mid new : Space) (slots slots' : List (Option OpenedObject)) (numb
     one_cover q (object_blocks old.bytes) slots number p is.before,
     cover-append q p.messages.blocks rest,
     cover-append q own (block 0 40 ∷ rest),
-    cover-append q p.messages.blocks (end_field ∷ []),
+    cover-append q p.messages.blocks (end_field old.bytes ∷ []),
     holds_join q 0 40 56,
     holds_join q 40 8 48,
   )
@@ -129,13 +127,13 @@ module _ (old mid new : Space) (slots slots' : List (Option OpenedObject)) (numb
 
   -- ---- the header, when the end of file address is written
 
-  apart_mid : IsApart ((end_field ∷ []) ++ p'.messages.blocks) mid.free (length mid.bytes)
+  apart_mid : IsApart ((end_field mid.bytes ∷ []) ++ p'.messages.blocks) mid.free (length mid.bytes)
   apart_mid q =
-      let was : IsApart (p.messages.blocks ++ end_field ∷ []) old.free (length old.bytes) = λ r. omega (arith, apart r, cover-append r own (block 0 40 ∷ rest)) in
-      omega (arith, moves_apart old mid p.messages.blocks p'.messages.blocks (end_field ∷ []) is.moves was q, cover-append q p'.messages.blocks (end_field ∷ []))
+      let was : IsApart (p.messages.blocks ++ end_field old.bytes ∷ []) old.free (length old.bytes) = λ r. omega (arith, apart r, cover-append r own (block 0 40 ∷ rest)) in
+      omega (arith, moves_apart old mid p.messages.blocks p'.messages.blocks (end_field old.bytes ∷ []) is.moves was q, cover-append q p'.messages.blocks (end_field old.bytes ∷ []))
 
   header_stays : Keeps mid.bytes new.bytes p'.messages.blocks
-  header_stays = moves_kept mid new (end_field ∷ []) (end_field ∷ []) p'.messages.blocks is.ended apart_mid is.standing.inside
+  header_stays = moves_kept mid new (end_field mid.bytes ∷ []) (end_field new.bytes ∷ []) p'.messages.blocks is.ended apart_mid is.standing.inside
 
   list_stays : ms' ≡ messages_in mid.bytes p'.messages.list
   list_stays = listed-same mid.bytes new.bytes p'.messages is.standing.has is.standing.within header_stays
@@ -223,9 +221,9 @@ module _ (old mid new : Space) (slots slots' : List (Option OpenedObject)) (numb
     kept = kept_now;
     links = subst (AreLinksKept old.bytes new.bytes p.content) (sym is.content) (links_now p.content kept.content stays.1);
     counted = count_stays ∙ is.counted;
-    moves = moves_same old new (own ++ rest) (own' ++ rest) (end_field ∷ object_blocks old.bytes p) (end_field ∷ object_blocks new.bytes p')
-        (λ q. omega (arith, cover-append q own rest, cover-append q p.messages.blocks (end_field ∷ []), cover-append q p.messages.blocks rest))
-        (λ q. let are = ap (cover q) blocks_are in omega (arith, are, cover-append q own' rest, cover-append q p'.messages.blocks (end_field ∷ []), cover-append q p'.messages.blocks rest))
+    moves = moves_same old new (own ++ rest) (own' ++ rest) (end_field old.bytes ∷ object_blocks old.bytes p) (end_field new.bytes ∷ object_blocks new.bytes p')
+        (λ q. omega (arith, cover-append q own rest, cover-append q p.messages.blocks (end_field old.bytes ∷ []), cover-append q p.messages.blocks rest))
+        (λ q. let are = ap (cover q) blocks_are in omega (arith, are, cover-append q own' rest, cover-append q p'.messages.blocks (end_field new.bytes ∷ []), cover-append q p'.messages.blocks rest))
         (moves_beside old new own own' rest both);
     end = is.end;
     small = is.small;

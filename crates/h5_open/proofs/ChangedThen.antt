@@ -4,14 +4,15 @@ use Rattle.std.specs.Prelude.{Option}
 use Rattle.std.specs.FinMap.{get}
 use Rattle.std.specs.List.{flat_map}
 use Rattle.h5_bytes.specs.Bytes.{byte_at}
-use Rattle.h5_bytes.specs.Blocks.{cover, holds}
+use Rattle.h5_bytes.specs.Blocks.{cover}
 use Rattle.h5_bytes.proofs.BlockLaws.{cover-append}
 use Rattle.h5_model.specs.Format.Reads.{Placed, ReadsAs, all_blocks}
+use Rattle.h5_model.specs.Format.Superblock.{end_field}
 use Rattle.h5_model.specs.Tree.Objects.{Tree, Object}
 use Rattle.h5_laws.proofs.Objects.{in_tree, object_at}
 use Rattle.h5_laws.proofs.InPlace.OneBlocks.{one_placing}
 use Rattle.h5_open.specs.ChangedInPlace.{IsChangedInPlace, is_among}
-use Rattle.h5_open.specs.InPlace.{end_field, other_objects, touched_blocks}
+use Rattle.h5_open.specs.InPlace.{other_objects, touched_blocks}
 use Rattle.h5_open.specs.Opened.Sound.{IsSound}
 use Rattle.h5_open.specs.Opened.State.{FileState}
 use Rattle.h5_open.proofs.InPlaceLaws.{cover-split}
@@ -28,7 +29,7 @@ number_given f sound n h at =
 module _ (f g h : FileState) (t u : Tree) (m n : ℕ) (touched : List ℕ) (j k : ℕ) (sound : IsSound f) (first : IsChangedInPlace f g t m touched j) (second : IsChangedInPlace g h u n touched k) where
   -- what both leave of the bytes
   local_then : (placed : List Placed) → ReadsAs f.image f.table f.tree placed → (p : ℕ) → p < length f.image
-      → cover p (end_field ∷ touched_blocks (is_among touched) placed) ≡ 0 → 1 ≤ cover p (all_blocks f.image placed) → byte_at h.image p ≡ byte_at f.image p
+      → cover p (end_field f.image ∷ touched_blocks (is_among touched) placed) ≡ 0 → 1 ≤ cover p (all_blocks f.image placed) → byte_at h.image p ≡ byte_at f.image p
   local_then placed reads p low untouched used =
       let mid = first.sound.placed in
       let same = ap (λ (xs : List Placed). cover p (flat_map (λ (x : Placed). x.blocks) xs)) (first.others placed mid reads first.sound.reads) in

@@ -9,7 +9,7 @@ use Rattle.h5_bytes.specs.Blocks.{block, holds, cover, Inside, Keeps}
 use Rattle.h5_bytes.specs.declared.Block.{Block}
 use Rattle.h5_bytes.proofs.BlockLaws.{holds_in, holds_join, holds-le, holds_before, cover-append, all_append, all_so}
 use Rattle.h5_bytes.proofs.FieldLaws.{number_at-same}
-use Rattle.h5_model.specs.Format.Superblock.{IsSuperblock, leaf_k, internal_k, root_header}
+use Rattle.h5_model.specs.Format.Superblock.{IsSuperblock, leaf_k, internal_k, root_header, end_field}
 use Rattle.h5_model.specs.Format.Reads.{Placed, ReadsAs, all_blocks}
 use Rattle.h5_model.specs.Tree.Objects.{Tree}
 use Rattle.h5_laws.specs.InPlace.{IsUntouched, IsMade, IsStep}
@@ -21,7 +21,7 @@ use Rattle.h5_laws.proofs.InPlace.StillThere.{kept_each}
 use Rattle.h5_space.specs.Space.{Space}
 use Rattle.h5_space.specs.Whole.{IsApart, IsWhole}
 use Rattle.h5_space.proofs.MovesLaws.{moves_apart, moves_whole, moves_kept, moves_local_used}
-use Rattle.h5_open.specs.InPlace.{end_field, chosen_objects, other_objects, touched_blocks, IsLeft, IsRemade, IsInPlace}
+use Rattle.h5_open.specs.InPlace.{chosen_objects, other_objects, touched_blocks, IsLeft, IsRemade, IsInPlace}
 
 -- ---- the objects of some numbers, and the others
 
@@ -112,34 +112,34 @@ module _ (old new : Space) (table table' : FinMap nat_cmp ℕ) (tree tree' : Tre
   field-split : (p : ℕ) → holds p 0 96 ≡ holds p 40 8 + (holds p 0 40 + holds p 48 48)
   field-split p = omega (arith, holds_join p 0 40 56, holds_join p 40 8 48)
 
-  used : (p : ℕ) → cover p ((end_field ∷ touched_blocks touched placed) ++ others) ≡ cover p (all_blocks old.bytes placed)
+  used : (p : ℕ) → cover p ((end_field old.bytes ∷ touched_blocks touched placed) ++ others) ≡ cover p (all_blocks old.bytes placed)
   used p = omega (arith, field-split p, cover-split touched p placed, cover-append p (touched_blocks touched placed) others)
 
-  used' : (p : ℕ) → cover p ((end_field ∷ touched_blocks touched placed') ++ others) ≡ cover p (all_blocks new.bytes placed')
+  used' : (p : ℕ) → cover p ((end_field new.bytes ∷ touched_blocks touched placed') ++ others) ≡ cover p (all_blocks new.bytes placed')
   used' p =
       let same = ap (λ (xs : List Placed). cover p (blocks_of xs)) is.others in
       omega (arith, field-split p, cover-split touched p placed', cover-append p (touched_blocks touched placed') others, same)
 
-  apart_before : IsApart ((end_field ∷ touched_blocks touched placed) ++ others) old.free (length old.bytes)
+  apart_before : IsApart ((end_field old.bytes ∷ touched_blocks touched placed) ++ others) old.free (length old.bytes)
   apart_before p = omega (arith, apart p, used p)
 
   -- no free block meets one in use
   pub in_place_apart : IsApart (all_blocks new.bytes placed') new.free (length new.bytes)
   in_place_apart p =
-      let after = moves_apart old new (end_field ∷ touched_blocks touched placed) (end_field ∷ touched_blocks touched placed') others is.moves apart_before p in
+      let after = moves_apart old new (end_field old.bytes ∷ touched_blocks touched placed) (end_field new.bytes ∷ touched_blocks touched placed') others is.moves apart_before p in
       omega (arith, after, used' p)
 
   -- nothing leaks where nothing leaked
   pub in_place_whole : IsWhole (all_blocks old.bytes placed) old.free (length old.bytes) → IsWhole (all_blocks new.bytes placed') new.free (length new.bytes)
   in_place_whole whole p =
-      let before : IsWhole ((end_field ∷ touched_blocks touched placed) ++ others) old.free (length old.bytes) = λ q. omega (arith, whole q, used q) in
-      let after = moves_whole old new (end_field ∷ touched_blocks touched placed) (end_field ∷ touched_blocks touched placed') others is.moves before p in
+      let before : IsWhole ((end_field old.bytes ∷ touched_blocks touched placed) ++ others) old.free (length old.bytes) = λ q. omega (arith, whole q, used q) in
+      let after = moves_whole old new (end_field old.bytes ∷ touched_blocks touched placed) (end_field new.bytes ∷ touched_blocks touched placed') others is.moves before p in
       omega (arith, after, used' p)
 
   -- each byte that is not as before is of the end of file address, of an object that is touched, or was in no block
   pub in_place_local : (p : ℕ) → p < length old.bytes
-      → (byte_at new.bytes p ≡ byte_at old.bytes p) ⊎ ((1 ≤ cover p (end_field ∷ touched_blocks touched placed)) ⊎ (cover p (all_blocks old.bytes placed) ≡ 0))
-  in_place_local p low = elim (moves_local_used old new (end_field ∷ touched_blocks touched placed) (end_field ∷ touched_blocks touched placed') others is.moves apart_before p low) [
+      → (byte_at new.bytes p ≡ byte_at old.bytes p) ⊎ ((1 ≤ cover p (end_field old.bytes ∷ touched_blocks touched placed)) ⊎ (cover p (all_blocks old.bytes placed) ≡ 0))
+  in_place_local p low = elim (moves_local_used old new (end_field old.bytes ∷ touched_blocks touched placed) (end_field new.bytes ∷ touched_blocks touched placed') others is.moves apart_before p low) [
     | inl same ↦ inl same
     | inr (inl moved) ↦ inr (inl moved)
     | inr (inr free) ↦ inr (inr (sym (used p) ∙ free))
@@ -163,7 +163,7 @@ module _ (old new : Space) (table table' : FinMap nat_cmp ℕ) (tree tree' : Tre
   )
 
   pub keeps : Keeps old.bytes new.bytes others
-  keeps = moves_kept old new (end_field ∷ touched_blocks touched placed) (end_field ∷ touched_blocks touched placed') others is.moves apart_before inside_others
+  keeps = moves_kept old new (end_field old.bytes ∷ touched_blocks touched placed) (end_field new.bytes ∷ touched_blocks touched placed') others is.moves apart_before inside_others
 
   byte_stays : (p : ℕ) → p < 40 → byte_at new.bytes p ≡ byte_at old.bytes p
   byte_stays p low =

@@ -32,6 +32,8 @@ pub mod ObjectMade
 pub mod StillTold
 pub mod AttributeOpened
 pub mod AttributeEdits
+pub mod HeaderInPlace
+pub mod NamedAttribute
 pub mod ChangedThen
 pub mod UntouchedKept
 pub mod PlacedLaws

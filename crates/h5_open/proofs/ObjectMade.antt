@@ -8,11 +8,11 @@ use Rattle.std.proofs.lemmas.Option.{same_Some, slice_get_past, slice_get_within
 use Rattle.h5_bytes.specs.Blocks.{cover}
 use Rattle.h5_bytes.proofs.BlockLaws.{cover-append}
 use Rattle.h5_model.specs.Tree.Objects.{Tree}
+use Rattle.h5_model.specs.Format.Superblock.{end_field}
 use Rattle.h5_space.specs.Space.{Space}
 use Rattle.h5_space.proofs.MovesLaws.{moves_same}
 use Rattle.h5_open.specs.declared.opened.object.OpenedObject.{OpenedObject}
 use Rattle.h5_open.specs.ChangedInPlace.{is_among}
-use Rattle.h5_open.specs.InPlace.{end_field}
 use Rattle.h5_open.specs.Opened.Objects.{object_blocks, table_of}
 use Rattle.h5_open.specs.SlotsInPlace.{AreOnce, IsObjectMade, IsSlotsInPlace, IsTouchedObject, blocks_at}
 use Rattle.h5_open.proofs.PlacedLaws.Places.{place_before, place_next}
@@ -55,13 +55,13 @@ module _ (old new : Space) (slots : List (Option OpenedObject)) (tree tree' : Tr
       let other : (a == next) ≡ false = let l = low in grind (arith, nat_tests, l) in
       (ap (λ (b : Bool). b || false) other, (refl, tt))
 
-  before : (q : ℕ) → cover q (end_field ∷ flat_map (blocks_at old.bytes slots) (next ∷ a ∷ [])) ≡ cover q (end_field ∷ object_blocks old.bytes p)
+  before : (q : ℕ) → cover q (end_field old.bytes ∷ flat_map (blocks_at old.bytes slots) (next ∷ a ∷ [])) ≡ cover q (end_field old.bytes ∷ object_blocks old.bytes p)
   before q =
       let none = ap (λ (s : Option (Option OpenedObject)). cover q (option_map_or (object_blocks old.bytes) (option_flatten s) [])) (slice_get_past slots next (omega arith)) in
       let one = ap (λ (s : Option (Option OpenedObject)). cover q (option_map_or (object_blocks old.bytes) (option_flatten s) [])) is.group in
       omega (arith, none, one, cover-append q (blocks_at old.bytes slots next) (blocks_at old.bytes slots a ++ []), cover-append q (blocks_at old.bytes slots a) [])
 
-  after : (q : ℕ) → cover q (end_field ∷ flat_map (blocks_at new.bytes slots') (next ∷ a ∷ [])) ≡ cover q (end_field ∷ object_blocks new.bytes o ++ object_blocks new.bytes p)
+  after : (q : ℕ) → cover q (end_field new.bytes ∷ flat_map (blocks_at new.bytes slots') (next ∷ a ∷ [])) ≡ cover q (end_field new.bytes ∷ object_blocks new.bytes o ++ object_blocks new.bytes p)
   after q =
       let first = ap (λ (s : Option (Option OpenedObject)). cover q (option_map_or (object_blocks new.bytes) (option_flatten s) [])) at_next in
       let second = ap (λ (s : Option (Option OpenedObject)). cover q (option_map_or (object_blocks new.bytes) (option_flatten s) [])) at_group in
@@ -93,8 +93,8 @@ module _ (old new : Space) (slots : List (Option OpenedObject)) (tree tree' : Tr
   pub made_in_place : IsSlotsInPlace old new slots slots' tree tree' (is_among (next ∷ a ∷ []))
   made_in_place = record {
     moves = touched_moves old new slots slots' (next ∷ a ∷ []) once
-        (moves_same old new (end_field ∷ object_blocks old.bytes p) (end_field ∷ object_blocks new.bytes o ++ object_blocks new.bytes p)
-        (end_field ∷ flat_map (blocks_at old.bytes slots) (next ∷ a ∷ [])) (end_field ∷ flat_map (blocks_at new.bytes slots') (next ∷ a ∷ [])) before after is.moves);
+        (moves_same old new (end_field old.bytes ∷ object_blocks old.bytes p) (end_field new.bytes ∷ object_blocks new.bytes o ++ object_blocks new.bytes p)
+        (end_field old.bytes ∷ flat_map (blocks_at old.bytes slots) (next ∷ a ∷ [])) (end_field new.bytes ∷ flat_map (blocks_at new.bytes slots') (next ∷ a ∷ [])) before after is.moves);
     end = is.end;
     small = is.small;
     slots_moved = slots_pushed slots o (is_among (next ∷ a ∷ []))

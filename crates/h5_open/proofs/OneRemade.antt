@@ -16,6 +16,7 @@ use Rattle.h5_bytes.proofs.FieldLaws.{number_at-same}
 use Rattle.h5_model.specs.Format.Messages.{Message, prefix_at, reference_count}
 use Rattle.h5_model.specs.Format.Reads.{IsCounted}
 use Rattle.h5_model.specs.Format.Symbols.{Header}
+use Rattle.h5_model.specs.Format.Superblock.{end_field}
 use Rattle.h5_model.specs.Tree.Objects.{Tree, Object, Content, Group, Array, Links, hard_links, links_in, links_to, with_object}
 use Rattle.h5_header.specs.Listed.{messages_in}
 use Rattle.h5_group.specs.Told.{links_told}
@@ -31,7 +32,6 @@ use Rattle.h5_open.specs.declared.opened.object.OpenedObject.{OpenedObject}
 use Rattle.h5_open.specs.declared.opened.object.OpenedContent.{OpenedContent}
 use Rattle.h5_open.specs.declared.opened.object.OpenedContent.TheVariants as content
 use Rattle.h5_open.specs.ChangedInPlace.{AreSlotsMoved, IsChangedInPlace, is_among}
-use Rattle.h5_open.specs.InPlace.{end_field}
 use Rattle.h5_open.specs.Opened.Kept.{IsIndex, IsObjectKept, IsOpened}
 use Rattle.h5_open.specs.Opened.Objects.{content_in, content_links, header_of, links_by, object_blocks, object_in, objects_of, table_of, tree_of}
 use Rattle.h5_open.specs.Opened.Sound.{IsHeaderIn, IsObjectOf}
@@ -76,7 +76,7 @@ one_chosen m n (suc k) (Some o ∷ slots) p is at =
 
 -- its blocks
 one_slot_blocks : (image : List ℕ) (number : ℕ) (slots : List (Option OpenedObject)) (p : OpenedObject) → slice_get slots number ≡ Some (Some p) → (q : ℕ)
-    → cover q (end_field ∷ slot_blocks image (is_among (number ∷ [])) slots) ≡ cover q (end_field ∷ object_blocks image p)
+    → cover q (end_field image ∷ slot_blocks image (is_among (number ∷ [])) slots) ≡ cover q (end_field image ∷ object_blocks image p)
 one_slot_blocks image number slots p at q =
     let one = ap (λ (os : List OpenedObject). cover q (flat_map (object_blocks image) os)) (one_chosen number 0 number slots p (omega arith) at) in
     omega (arith, one, cover-append q (object_blocks image p) [])
@@ -197,8 +197,8 @@ module _ (old new : Space) (slots slots' : List (Option OpenedObject)) (numbers 
 
   one_in_place : IsSlotsInPlace old new slots slots' tree tree' (is_among touched)
   one_in_place = record {
-    moves = moves_same old new (end_field ∷ object_blocks old.bytes p) (end_field ∷ object_blocks new.bytes p')
-        (end_field ∷ slot_blocks old.bytes (is_among touched) slots) (end_field ∷ slot_blocks new.bytes (is_among touched) slots')
+    moves = moves_same old new (end_field old.bytes ∷ object_blocks old.bytes p) (end_field new.bytes ∷ object_blocks new.bytes p')
+        (end_field old.bytes ∷ slot_blocks old.bytes (is_among touched) slots) (end_field new.bytes ∷ slot_blocks new.bytes (is_among touched) slots')
         (one_slot_blocks old.bytes number slots p is.before) (one_slot_blocks new.bytes number slots' p' is.after) is.moves;
     end = is.end;
     small = is.small;
@@ -265,9 +265,9 @@ one_cover q f (Some x ∷ slots) (suc k) o at = omega (arith, one_cover q f slot
 
 module _ (old new : Space) (slots : List (Option OpenedObject)) (numbers : BTreeMap ℕ ℕ) (opened : IsOpened old slots numbers) (number : ℕ) (p : OpenedObject) (at : slice_get slots number ≡ Some (Some p))
     (own : List Block) (among : (q : ℕ) → cover q own ≤ cover q (object_blocks old.bytes p)) (moves : Moves old new own own) (long : length new.bytes ≡ length old.bytes) where
-  end_kept : Keeps old.bytes new.bytes (end_field ∷ [])
-  end_kept = moves_kept old new own own (end_field ∷ []) moves
-      (λ q. omega (arith, opened.apart q, among q, one_cover q (object_blocks old.bytes) slots number p at, cover-append q own (end_field ∷ []), holds-inner q 40 8 0 96 (omega arith) (omega arith)))
+  end_kept : Keeps old.bytes new.bytes (end_field old.bytes ∷ [])
+  end_kept = moves_kept old new own own (end_field old.bytes ∷ []) moves
+      (λ q. omega (arith, opened.apart q, among q, one_cover q (object_blocks old.bytes) slots number p at, cover-append q own (end_field old.bytes ∷ []), holds-inner q 40 8 0 96 (omega arith) (omega arith)))
       (omega (arith, opened.reads.1.holds.superblock.whole), tt)
 
   pub written_remade : IsObjectKept new.bytes p → AreLinksKept old.bytes new.bytes p.content p.content
@@ -282,8 +282,8 @@ module _ (old new : Space) (slots : List (Option OpenedObject)) (numbers : BTree
     kept = kept;
     links = links;
     counted = counted;
-    moves = wide_moves old new own (end_field ∷ object_blocks old.bytes p) (end_field ∷ object_blocks new.bytes p) (λ q. omega (arith, among q))
-        (λ q. ap (λ (bs : List Block). cover q (end_field ∷ bs)) blocks) moves;
+    moves = wide_moves old new own (end_field old.bytes ∷ object_blocks old.bytes p) (end_field new.bytes ∷ object_blocks new.bytes p) (λ q. omega (arith, among q))
+        (λ q. ap (λ (bs : List Block). cover q (end_field new.bytes ∷ bs)) blocks) moves;
     end = number_at-same old.bytes new.bytes 40 8 0 8 end_kept.0 (omega arith) ∙ opened.reads.1.holds.whole ∙ sym long;
     small = omega (arith, long, opened.reads.1.holds.whole, opened.reads.1.holds.superblock.small);
   }

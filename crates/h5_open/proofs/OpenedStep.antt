@@ -13,7 +13,7 @@ use Rattle.h5_bytes.specs.Bytes.{byte_at}
 use Rattle.h5_bytes.specs.Blocks.{cover, Keeps}
 use Rattle.h5_bytes.specs.declared.Block.{Block}
 use Rattle.h5_model.specs.Format.Reads.{Placed, IsPlaced, Reads, ReadsAs, HasObject, all_blocks}
-use Rattle.h5_model.specs.Format.Superblock.{leaf_k, internal_k}
+use Rattle.h5_model.specs.Format.Superblock.{leaf_k, internal_k, end_field}
 use Rattle.h5_model.specs.Tree.Objects.{Tree}
 use Rattle.h5_space.specs.Space.{Space}
 use Rattle.h5_space.specs.Whole.{IsApart}
@@ -25,7 +25,7 @@ use Rattle.h5_laws.proofs.InPlace.StillThere.{kept_each}
 use Rattle.h5_laws.proofs.SoundLaws.Read.{placed_at}
 use Rattle.h5_open.specs.declared.opened.object.OpenedObject.{OpenedObject}
 use Rattle.h5_open.specs.ChangedInPlace.{AreSlotsMoved, IsChangedInPlace, is_among}
-use Rattle.h5_open.specs.InPlace.{end_field, other_objects, touched_blocks, IsInPlace}
+use Rattle.h5_open.specs.InPlace.{other_objects, touched_blocks, IsInPlace}
 use Rattle.h5_open.specs.Opened.Kept.{IsIndex, IsOpened, IsObjectKept}
 use Rattle.h5_open.specs.Opened.Objects.{header_of, objects_of, object_blocks, object_in, table_of, tree_of}
 use Rattle.h5_open.specs.Opened.Sound.{IsSound, IsWholeFile}
@@ -179,10 +179,10 @@ module _ (old new : Space) (slots slots' : List (Option OpenedObject)) (numbers 
       ∙ ap (other_objects touched) (one_placing old.bytes table tree tree placed xs reads was)
 
   local_now : (xs : List Placed) → ReadsAs old.bytes table tree xs → (p : ℕ) → p < length old.bytes
-      → cover p (end_field ∷ touched_blocks touched xs) ≡ 0 → 1 ≤ cover p (all_blocks old.bytes xs) → byte_at new.bytes p ≡ byte_at old.bytes p
+      → cover p (end_field old.bytes ∷ touched_blocks touched xs) ≡ 0 → 1 ≤ cover p (all_blocks old.bytes xs) → byte_at new.bytes p ≡ byte_at old.bytes p
   local_now xs was p low untouched used =
       let one : xs ≡ placed = one_placing old.bytes table tree tree xs placed was reads in
-      let mine = ap (λ (zs : List Placed). cover p (end_field ∷ touched_blocks touched zs)) one in
+      let mine = ap (λ (zs : List Placed). cover p (end_field old.bytes ∷ touched_blocks touched zs)) one in
       let all = ap (λ (zs : List Placed). cover p (all_blocks old.bytes zs)) one in
       elim (in_place_local old new table table' tree tree' placed placed' touched reads apart_was is p low) [
         | inl same ↦ same

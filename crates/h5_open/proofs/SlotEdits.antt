@@ -12,12 +12,13 @@ use Rattle.h5_bytes.specs.Bytes.{byte_at}
 use Rattle.h5_bytes.specs.Blocks.{cover}
 use Rattle.h5_bytes.specs.declared.Block.{Block}
 use Rattle.h5_model.specs.Format.Reads.{Placed, ReadsAs, all_blocks}
+use Rattle.h5_model.specs.Format.Superblock.{end_field}
 use Rattle.h5_model.specs.Tree.Objects.{Tree, Object}
 use Rattle.h5_laws.proofs.Lists.{In}
 use Rattle.h5_laws.proofs.Objects.{in_tree}
 use Rattle.h5_open.specs.declared.opened.object.OpenedObject.{OpenedObject}
 use Rattle.h5_open.specs.ChangedInPlace.{AreSlotsMoved, IsChangedInPlace, is_among}
-use Rattle.h5_open.specs.InPlace.{end_field, touched_blocks}
+use Rattle.h5_open.specs.InPlace.{touched_blocks}
 use Rattle.h5_open.specs.Opened.Kept.{IsIndex}
 use Rattle.h5_open.specs.Opened.Objects.{header_of, table_of}
 use Rattle.h5_open.proofs.OpenedLaws.Entries.{get_table}
@@ -119,7 +120,7 @@ module _ (a b : ℕ → Bool) where
 
 -- so a number that is new need not be among those whose bytes may have changed
 pub local_given : (f g : FileState) (t : Tree) (n m : ℕ) (touched : List ℕ) (k : ℕ) → IsSound f → f.next ≤ m → IsChangedInPlace f g t n (m ∷ touched) k
-    → (placed : List Placed) → ReadsAs f.image f.table f.tree placed → (p : ℕ) → p < length f.image → cover p (end_field ∷ touched_blocks (is_among touched) placed) ≡ 0
+    → (placed : List Placed) → ReadsAs f.image f.table f.tree placed → (p : ℕ) → p < length f.image → cover p (end_field f.image ∷ touched_blocks (is_among touched) placed) ≡ 0
     → 1 ≤ cover p (all_blocks f.image placed) → byte_at g.image p ≡ byte_at f.image p
 local_given f g t n m touched k sound new is placed reads p low untouched used =
     let same : touched_blocks (is_among (m ∷ touched)) placed ≡ touched_blocks (is_among touched) placed
@@ -128,4 +129,4 @@ local_given f g t n m touched k sound new is placed reads p low untouched used =
     let given = sound.numbers.given x.number (subst (λ (o : Option Object). IsSome o) (sym there) refl) in
     let other : (m == x.number) ≡ false = grind (arith, nat_tests, given, new) in
     ap (λ (b : Bool). b || is_among touched x.number) other) in
-    is.local placed reads p low (ap (λ (bs : List Block). cover p (end_field ∷ bs)) same ∙ untouched) used
+    is.local placed reads p low (ap (λ (bs : List Block). cover p (end_field f.image ∷ bs)) same ∙ untouched) used

@@ -14,6 +14,7 @@ use Rattle.h5_bytes.specs.declared.Block.{Block}
 use Rattle.h5_bytes.proofs.BlockLaws.{all_append}
 use Rattle.h5_model.specs.Format.Messages.{Message}
 use Rattle.h5_model.specs.Format.Reads.{Placed, HasObject, ReadsAs}
+use Rattle.h5_model.specs.Format.Superblock.{end_field}
 use Rattle.h5_model.specs.Tree.Objects.{Tree, Object, Content, Group, Array, Link, Links, ToObject, Soft, link_in, links_in, links_of}
 use Rattle.h5_header.specs.Listed.{messages_in}
 use Rattle.h5_layout.specs.Told.{layout_told, type_told}
@@ -28,7 +29,7 @@ use Rattle.h5_open.specs.declared.opened.object.OpenedObject.{OpenedObject}
 use Rattle.h5_open.specs.declared.opened.object.OpenedContent.{OpenedContent}
 use Rattle.h5_open.specs.declared.opened.object.OpenedContent.TheVariants as content
 use Rattle.h5_open.specs.ChangedInPlace.{IsChangedInPlace, is_among}
-use Rattle.h5_open.specs.InPlace.{end_field, chosen_objects, other_objects, touched_blocks, IsInPlace, IsLeft, IsRemade}
+use Rattle.h5_open.specs.InPlace.{chosen_objects, other_objects, touched_blocks, IsInPlace, IsLeft, IsRemade}
 use Rattle.h5_open.specs.Opened.Kept.{IsContentKept, IsIndex, IsObjectKept, IsOpened}
 use Rattle.h5_open.specs.Opened.Objects.{content_blocks, header_of, object_blocks, object_in, table_of, tree_of}
 use Rattle.h5_open.specs.Opened.State.{opened_state}
@@ -217,10 +218,10 @@ module _ (old new : Space) (slots slots' : List (Option OpenedObject)) (numbers 
 
   pub slots_in_place : IsInPlace old new table table' tree tree' opened.reads.0 placed' touched
   slots_in_place = record {
-    moves = moves_same old new (end_field ∷ slot_blocks old.bytes touched slots) (end_field ∷ slot_blocks new.bytes touched slots')
-        (end_field ∷ touched_blocks touched opened.reads.0) (end_field ∷ touched_blocks touched placed')
-        (λ p. ap (λ (bs : List Block). cover p (end_field ∷ bs)) (ap (touched_blocks touched) placed_is ∙ told_touched touched old.bytes new.bytes table tree' 0 slots))
-        (λ p. ap (λ (bs : List Block). cover p (end_field ∷ bs)) (step_touched touched old.bytes new.bytes table tree' 0 slots')) is.moves;
+    moves = moves_same old new (end_field old.bytes ∷ slot_blocks old.bytes touched slots) (end_field new.bytes ∷ slot_blocks new.bytes touched slots')
+        (end_field old.bytes ∷ touched_blocks touched opened.reads.0) (end_field new.bytes ∷ touched_blocks touched placed')
+        (λ p. ap (λ (bs : List Block). cover p (end_field old.bytes ∷ bs)) (ap (touched_blocks touched) placed_is ∙ told_touched touched old.bytes new.bytes table tree' 0 slots))
+        (λ p. ap (λ (bs : List Block). cover p (end_field new.bytes ∷ bs)) (step_touched touched old.bytes new.bytes table tree' 0 slots')) is.moves;
     end = is.end;
     small = is.small;
     root = root_stays;

@@ -1,23 +1,21 @@
 -- Messages that say what others said, attributes aside: they are those of the same group or array, with the same kept messages.
-use Rattle.std.proofs.Common.{◌≡◌, ℕ, ◌≤◌, ◌==◌, ◌||◌, Bool, true, false, IsTrue, Option, Some, List, [], ◌∷◌, map, length, refl, sym, ap, ap₂, ◌∙◌, subst, arith, ℤ}
-use Rattle.std.specs.Prelude.{option_and_then, unwrap_or}
+use Rattle.std.proofs.Common.{◌≡◌, ℕ, ◌==◌, ◌||◌, Bool, false, IsTrue, Option, Some, List, [], ◌∷◌, map, refl, sym, ap, ◌∙◌, subst, arith}
+use Rattle.std.specs.Prelude.{option_and_then}
 use Rattle.std.specs.List.{AllByRecursion, filter}
 use Rattle.h5_model.specs.Format.Addresses.{SymbolTable, symbol_table_of}
-use Rattle.h5_model.specs.Format.Datatype.{fixed_of}
-use Rattle.h5_model.specs.Format.Extent.{Extent, extent_of}
+use Rattle.h5_model.specs.Format.Extent.{extent_of}
 use Rattle.h5_model.specs.Format.Fill.{fill_value, old_fill_value}
-use Rattle.h5_model.specs.Format.Fixed.{Fixed}
-use Rattle.h5_model.specs.Format.Layout.{Layout, layout_of}
+use Rattle.h5_model.specs.Format.Layout.{layout_of}
 use Rattle.h5_model.specs.Format.Messages.{Message, count_of, first_body}
 use Rattle.h5_model.specs.Format.Reads.{HasAttributes, IsFill, is_kept, kept_of}
 use Rattle.h5_model.specs.Tree.Objects.{Attributes}
 use Rattle.h5_header.specs.Heads.{is_read}
 use Rattle.h5_header.specs.Kinds.{IsOfDataset, IsOfGroup}
-use Rattle.h5_header.specs.Listed.{message_in, messages_in}
+use Rattle.h5_header.specs.Listed.{messages_in}
 use Rattle.h5_header.specs.declared.message.Message.{Message as Placed}
-use Rattle.h5_attr.specs.Attributes.{HasNamesOnce, attributes_of}
+use Rattle.h5_attr.specs.Attributes.{attributes_of}
 use Rattle.h5_attr.specs.Still.{IsSaidStill}
-use Rattle.h5_attr.proofs.EntryLaws.{attributes-is, names_once}
+use Rattle.h5_attr.proofs.EntryLaws.{attributes-is}
 use Rattle.h5_layout.specs.Described.{Described, HasArray}
 use Rattle.h5_layout.specs.Told.{array_told}
 use Rattle.h5_layout.proofs.ToldLaws.{told}

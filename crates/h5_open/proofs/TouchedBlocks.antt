@@ -6,12 +6,12 @@ use Rattle.std.specs.List.{flat_map}
 use Rattle.std.proofs.lemmas.Bool.Decides.{nat_tests}
 use Rattle.h5_bytes.specs.Blocks.{cover}
 use Rattle.h5_bytes.proofs.BlockLaws.{cover-append}
+use Rattle.h5_model.specs.Format.Superblock.{end_field}
 use Rattle.h5_space.specs.Space.{Space}
 use Rattle.h5_space.specs.Moves.{Moves}
 use Rattle.h5_space.proofs.MovesLaws.{moves_same}
 use Rattle.h5_open.specs.declared.opened.object.OpenedObject.{OpenedObject}
 use Rattle.h5_open.specs.ChangedInPlace.{is_among}
-use Rattle.h5_open.specs.InPlace.{end_field}
 use Rattle.h5_open.specs.Opened.Objects.{object_blocks}
 use Rattle.h5_open.specs.SlotsInPlace.{AreOnce, blocks_at, chosen_slots, slot_blocks}
 
@@ -75,9 +75,9 @@ module _ (image : List ℕ) (q : ℕ) where
 
 -- what an edit moves, by a list of numbers of which none stands twice
 pub touched_moves : (old new : Space) (slots slots' : List (Option OpenedObject)) (numbers : List ℕ) → AreOnce numbers
-    → Moves old new (end_field ∷ flat_map (blocks_at old.bytes slots) numbers) (end_field ∷ flat_map (blocks_at new.bytes slots') numbers)
-    → Moves old new (end_field ∷ slot_blocks old.bytes (is_among numbers) slots) (end_field ∷ slot_blocks new.bytes (is_among numbers) slots')
+    → Moves old new (end_field old.bytes ∷ flat_map (blocks_at old.bytes slots) numbers) (end_field new.bytes ∷ flat_map (blocks_at new.bytes slots') numbers)
+    → Moves old new (end_field old.bytes ∷ slot_blocks old.bytes (is_among numbers) slots) (end_field new.bytes ∷ slot_blocks new.bytes (is_among numbers) slots')
 touched_moves old new slots slots' numbers once moves =
-    moves_same old new (end_field ∷ flat_map (blocks_at old.bytes slots) numbers) (end_field ∷ flat_map (blocks_at new.bytes slots') numbers)
-    (end_field ∷ slot_blocks old.bytes (is_among numbers) slots) (end_field ∷ slot_blocks new.bytes (is_among numbers) slots')
+    moves_same old new (end_field old.bytes ∷ flat_map (blocks_at old.bytes slots) numbers) (end_field new.bytes ∷ flat_map (blocks_at new.bytes slots') numbers)
+    (end_field old.bytes ∷ slot_blocks old.bytes (is_among numbers) slots) (end_field new.bytes ∷ slot_blocks new.bytes (is_among numbers) slots')
     (λ q. omega (arith, touched_cover old.bytes q numbers slots once)) (λ q. omega (arith, touched_cover new.bytes q numbers slots' once)) moves

@@ -7,10 +7,10 @@ use Rattle.std.specs.FinMap.{get}
 use Rattle.h5_bytes.specs.Bytes.{byte_at}
 use Rattle.h5_bytes.specs.Blocks.{cover}
 use Rattle.h5_model.specs.Format.Reads.{Placed, ReadsAs, all_blocks}
-use Rattle.h5_model.specs.Format.Superblock.{leaf_k, internal_k, chunk_k}
+use Rattle.h5_model.specs.Format.Superblock.{leaf_k, internal_k, chunk_k, end_field}
 use Rattle.h5_model.specs.Tree.Objects.{Tree}
 use Rattle.h5_open.specs.declared.opened.object.OpenedObject.{OpenedObject}
-use Rattle.h5_open.specs.InPlace.{end_field, other_objects, touched_blocks}
+use Rattle.h5_open.specs.InPlace.{other_objects, touched_blocks}
 use Rattle.h5_open.specs.Opened.Objects.{header_of}
 use Rattle.h5_open.specs.Opened.Sound.{IsSound, IsWholeFile}
 use Rattle.h5_open.specs.Opened.State.{FileState}
@@ -35,7 +35,7 @@ pub record IsChangedInPlace (old new : FileState) (tree' : Tree) (next' : ℕ) (
   pub others : (placed placed' : List Placed) → ReadsAs old.image old.table old.tree placed → ReadsAs new.image new.table new.tree placed'
       → other_objects (is_among touched) placed' ≡ other_objects (is_among touched) placed
   pub local : (placed : List Placed) → ReadsAs old.image old.table old.tree placed → (p : ℕ) → p < length old.image
-      → cover p (end_field ∷ touched_blocks (is_among touched) placed) ≡ 0 → 1 ≤ cover p (all_blocks old.image placed)
+      → cover p (end_field old.image ∷ touched_blocks (is_among touched) placed) ≡ 0 → 1 ≤ cover p (all_blocks old.image placed)
       → byte_at new.image p ≡ byte_at old.image p
   pub grown : (length old.image ≤ length new.image) × (length new.image ≤ length old.image + bytes)
 

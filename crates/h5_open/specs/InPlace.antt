@@ -4,18 +4,14 @@ use Rattle.std.specs.Prelude.{◌≡◌, ℕ, ◌^◌, ◌≤◌, Bool, not, Lis
 use Rattle.std.specs.Ordering.{nat_cmp}
 use Rattle.std.specs.FinMap.{FinMap, get, entries}
 use Rattle.std.specs.List.{AllByRecursion, filter, flat_map}
-use Rattle.h5_bytes.specs.Blocks.{block, Inside}
+use Rattle.h5_bytes.specs.Blocks.{Inside}
 use Rattle.h5_bytes.specs.declared.Block.{Block}
-use Rattle.h5_model.specs.Format.Superblock.{end_of_file}
+use Rattle.h5_model.specs.Format.Superblock.{end_of_file, end_field}
 use Rattle.h5_model.specs.Format.Reads.{Placed}
 use Rattle.h5_model.specs.Tree.Objects.{Tree, hard_links}
 use Rattle.h5_space.specs.Space.{Space}
 use Rattle.h5_space.specs.Moves.{Moves}
 use Rattle.h5_laws.specs.InPlace.{AreStillThere, IsMade}
-
--- the field of the end of file address
-abbrev pub end_field : Block
-end_field = block 40 8
 
 -- the objects with these numbers, and the others
 abbrev pub chosen_objects : (ℕ → Bool) → List Placed → List Placed
@@ -40,7 +36,7 @@ pub record IsRemade (new : List ℕ) (table' : FinMap nat_cmp ℕ) (tree' : Tree
 -- The edit moves the blocks of the objects with these numbers, and the end of file address; the image ends where that says. The new
 -- table and tree are of the objects that were not touched, and of those that were, made anew.
 pub record IsInPlace (old new : Space) (table table' : FinMap nat_cmp ℕ) (tree tree' : Tree) (placed placed' : List Placed) (touched : ℕ → Bool) : Type 0 where
-  pub moves : Moves old new (end_field ∷ touched_blocks touched placed) (end_field ∷ touched_blocks touched placed')
+  pub moves : Moves old new (end_field old.bytes ∷ touched_blocks touched placed) (end_field new.bytes ∷ touched_blocks touched placed')
   pub end : end_of_file new.bytes ≡ length new.bytes
   pub small : length new.bytes ≤ 2 ^ 31
   pub root : get table' 0 ≡ get table 0

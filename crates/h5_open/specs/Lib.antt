@@ -9,6 +9,7 @@ pub mod InPlace
 pub mod ChangedInPlace
 pub mod SlotsInPlace
 pub mod Written
+pub mod Attributed
 pub use Rattle.h5_layout.specs.Data
 pub use Rattle.h5_layout.specs.Pieces
 pub use Rattle.h5_layout.specs.Stored

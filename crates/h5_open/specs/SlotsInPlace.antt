@@ -7,7 +7,7 @@ use Rattle.std.specs.FinMap.{FinMap, get}
 use Rattle.std.specs.List.{flat_map}
 use Rattle.h5_bytes.specs.declared.Block.{Block}
 use Rattle.h5_model.specs.Format.Messages.{prefix_at, reference_count}
-use Rattle.h5_model.specs.Format.Superblock.{end_of_file}
+use Rattle.h5_model.specs.Format.Superblock.{end_of_file, end_field}
 use Rattle.h5_model.specs.Format.Reads.{HasObject}
 use Rattle.h5_model.specs.Tree.Objects.{Object, Tree, hard_links}
 use Rattle.h5_space.specs.Space.{Space}
@@ -17,7 +17,6 @@ use Rattle.h5_open.specs.declared.opened.object.OpenedObject.{OpenedObject}
 use Rattle.h5_open.specs.declared.opened.object.OpenedContent.{OpenedContent}
 use Rattle.h5_open.specs.declared.opened.object.OpenedContent.TheVariants as content
 use Rattle.h5_open.specs.ChangedInPlace.{AreSlotsMoved, is_among}
-use Rattle.h5_open.specs.InPlace.{end_field}
 use Rattle.h5_open.specs.Opened.Kept.{IsObjectKept}
 use Rattle.h5_open.specs.Opened.Objects.{header_of, object_blocks, table_of}
 
@@ -44,7 +43,7 @@ pub record IsTouchedObject (new : List ℕ) (table' : FinMap nat_cmp ℕ) (tree'
 -- The edit moves the blocks of the objects that it touches, and the end of file address; the image ends where that says. The others are
 -- in the new tree what they were, with as many links to them; and a number whose slot is empty now is none of the new tree.
 pub record IsSlotsInPlace (old new : Space) (slots slots' : List (Option OpenedObject)) (tree tree' : Tree) (touched : ℕ → Bool) : Type 0 where
-  pub moves : Moves old new (end_field ∷ slot_blocks old.bytes touched slots) (end_field ∷ slot_blocks new.bytes touched slots')
+  pub moves : Moves old new (end_field old.bytes ∷ slot_blocks old.bytes touched slots) (end_field new.bytes ∷ slot_blocks new.bytes touched slots')
   pub end : end_of_file new.bytes ≡ length new.bytes
   pub small : length new.bytes ≤ 2 ^ 31
   pub slots_moved : AreSlotsMoved slots slots' touched
@@ -71,7 +70,7 @@ pub record IsOneRemade (old new : Space) (slots slots' : List (Option OpenedObje
   pub kept : IsObjectKept new.bytes p'
   pub links : AreLinksKept old.bytes new.bytes p.content p'.content
   pub counted : reference_count (prefix_at new.bytes (header_of p)) ≡ reference_count (prefix_at old.bytes (header_of p))
-  pub moves : Moves old new (end_field ∷ object_blocks old.bytes p) (end_field ∷ object_blocks new.bytes p')
+  pub moves : Moves old new (end_field old.bytes ∷ object_blocks old.bytes p) (end_field new.bytes ∷ object_blocks new.bytes p')
   pub end : end_of_file new.bytes ≡ length new.bytes
   pub small : length new.bytes ≤ 2 ^ 31
 
@@ -93,6 +92,6 @@ pub record IsObjectMade (old new : Space) (slots : List (Option OpenedObject)) (
   pub counts : (n : ℕ) → (length slots == n) ≡ false → (a == n) ≡ false → hard_links tree' n ≡ hard_links tree n
   pub remade : IsTouchedObject new.bytes (table_of (slots ++ Some o ∷ [])) tree' a p
   pub made : IsTouchedObject new.bytes (table_of (slots ++ Some o ∷ [])) tree' (length slots) o
-  pub moves : Moves old new (end_field ∷ object_blocks old.bytes p) (end_field ∷ object_blocks new.bytes o ++ object_blocks new.bytes p)
+  pub moves : Moves old new (end_field old.bytes ∷ object_blocks old.bytes p) (end_field new.bytes ∷ object_blocks new.bytes o ++ object_blocks new.bytes p)
   pub end : end_of_file new.bytes ≡ length new.bytes
   pub small : length new.bytes ≤ 2 ^ 31

@@ -5,6 +5,7 @@ ghost use Rattle.h5_attr.specs.Attributes.{HasNamesOnce};
 ghost use Rattle.h5_header.specs.Kinds.{IsOfGroup, IsOfDataset};
 ghost use Rattle.h5_header.specs.Listed.{messages_in, IsWithin};
 ghost use Rattle.h5_layout.specs.Told.{array_told};
+ghost use Rattle.h5_model.specs.Format.MessageTypes.{symbol_table_kind};
 ghost use Rattle.h5_model.specs.Format.Messages.{count_of};
 ghost use Rattle.h5_open.specs.Opened.Judged.{IsGroupList, IsArrayList, IsKindBreach, IsBodiesBreach};
 
@@ -47,8 +48,9 @@ pub(crate) fn judge_kind(
 #[tactic(auto, using(crate::proofs::JudgeLaws::some_counted))]
 fn has_table(image: &Image, messages: &Messages) -> bool
     requires { IsWithin (length image.now.bytes) messages.now.list }
-    ensures { MatchBool result (1 ≤ count_of 17 (messages_in image.now.bytes messages.now.list))
-        (count_of 17 (messages_in image.now.bytes messages.now.list) ≡ 0) }
+    ensures { MatchBool result
+        (1 ≤ count_of symbol_table_kind (messages_in image.now.bytes messages.now.list))
+        (count_of symbol_table_kind (messages_in image.now.bytes messages.now.list) ≡ 0) }
 {
     find_body(image, messages, SYMBOL_TABLE).is_some()
 }

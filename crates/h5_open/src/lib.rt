@@ -10,7 +10,7 @@ mod object;
 mod opened;
 mod steps;
 
-pub use h5_attr::{AttrRef, get, list, sorted};
+pub use h5_attr::{AttrRef, get, list, new_body, sorted};
 pub use h5_group::{SymbolTable, entries, lookup};
 pub use h5_layout::{ArrayRef, Dims, Layout, MAX_RANK, Piece, Runs, StoredArray, known_array};
 pub use opened::{Opened, OpenedContent, OpenedObject, StandingCells};

@@ -1,5 +1,7 @@
 //! An opened image as one value: its bytes, and the tree that they read as (File Format Specification 3.0, sections II.A, III and
 //! IV.A).
+mod attributes;
+mod end;
 mod object;
 mod write;
 
@@ -49,15 +51,22 @@ impl Model for Opened {
 impl Opened {
     /// Opens an image: reads the root, and all objects to which links lead from there.
     ///
-    /// Refused is, at the address of the block that breaks a rule, the first breach that is met, depth first and by the names of
-    /// links: of an object's header, then of its group's heap, tree, symbol nodes and names, or of its array's block or chunks; `TooDeep`
-    /// at a symbol node with a link 65 links below the root; `GroupLinkedTwice` at the header of a group to which a second link leads;
-    /// and when all objects are read, of the headers' reference counts, by the objects' numbers. `NoMemory` where memory is refused,
-    /// and that alone of an image that reads as a tree. A refusal gives the image back.
+    /// Each block is looked at once. Memory is taken for the messages that stand in claimed blocks, for the nodes and
+    /// leaves of one tree at a time, and for a reference to each link of the groups on the way from the root. That
+    /// the image begins with a superblock, ends where that says, and has no free block, are the caller's conditions.
     ///
-    /// That the image begins with a superblock, ends where that says, and has no free block, are the caller's conditions. Each block is
-    /// looked at once; memory is taken for the messages that stand in claimed blocks, for the nodes and leaves of the tree that is read,
-    /// and for a reference to each link of the groups on the way from the root.
+    /// # Errors
+    ///
+    /// The first rule that is found broken, depth first and by the names of links, with the address of the block that
+    /// breaks it. The image is given back.
+    ///
+    /// - Of each object: what is wrong with its header, and then with the heap, the B-tree, the symbol nodes and the
+    ///   names of a group, or with the block or the chunks of an array.
+    /// - `TooDeep`, at a symbol node: it has a link 65 names below the root.
+    /// - `GroupLinkedTwice`, at the header of a group: a second link leads to it.
+    /// - When all objects are read, by their numbers: a reference count in a header that is not the count of its
+    ///   links (`LinkCount`), or more than 65535 links (`TooLarge`).
+    /// - `NoMemory`, at any time: memory is refused. An image that reads as a tree is refused by this alone.
     pub fn open(alloc: Global, image: Image) -> Result<Opened, (OpenFault, Image)>
         requires superblock { IsSuperblock image.bytes }
         requires whole { end_of_file image.bytes ≡ length image.bytes }
@@ -128,12 +137,16 @@ impl Opened {
         self.index.numbers.get(&header).copied()
     }
 
-    /// Gives each object the number that its header's address has among `headers`. A number for which there is no address has no object,
-    /// and is not given out again.
+    /// Gives each object a number: the index at which the address of its header stands in `headers`. An index without
+    /// an address is a number without an object, and is not given out again. The image is not read again.
     ///
-    /// That the image reads as a tree whose objects have their headers at these addresses is the caller's condition, and so are that there
-    /// is an address or none for each number that was given out, and that numbers have 32 bits; the image itself is not read again. Takes
-    /// memory for a slot of each number that was not given out before; where that is refused, nothing is changed.
+    /// These are the caller's conditions: the image reads as a tree whose objects have their headers at these
+    /// addresses; the list has a place for each number that was given out; and numbers have 32 bits. Takes memory for
+    /// a slot for each number that is new.
+    ///
+    /// # Errors
+    ///
+    /// `AllocError` if memory is refused. Then nothing changes.
     pub fn renumber(&mut self, headers: &[Option<u64>]) -> Result<(), AllocError>
         requires read { IsReadAt self.old.image headers.now }
         requires given { self.old.next ≤ length headers.now }

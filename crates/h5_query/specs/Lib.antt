@@ -21,3 +21,4 @@ pub use Rattle.h5_open.specs.Data
 pub use Rattle.h5_open.specs.Pieces
 pub use Rattle.h5_open.specs.GroupTold
 pub use Rattle.h5_open.specs.Attributes
+pub use Rattle.h5_open.specs.Attributed

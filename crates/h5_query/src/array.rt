@@ -18,9 +18,12 @@ use h5_open::{ArrayRef, Opened, OpenedContent, StoredArray, known_array};
 use h5_space::Image;
 use std::alloc::Global;
 
-/// The array at the path, with its number.
+/// The array at the path, with its number. Takes no memory.
 ///
-/// Refused as [`crate::look`] is, and as `NotADataset` where no array stands there. It takes no memory.
+/// # Errors
+///
+/// Those of [`crate::look`]; then `NotADataset` if no array stands at the path. Where several hold, the one with the
+/// lowest number.
 pub fn array_at<'a>(
     alloc: Global,
     opened: &'a Opened,
@@ -37,9 +40,11 @@ pub fn array_at<'a>(
     Ok((number, StoredArray::new(image, array)))
 }
 
-/// The number of the array at the path.
+/// The number of the array at the path. Takes no memory.
 ///
-/// Refused as [`array_at`] is. It takes no memory.
+/// # Errors
+///
+/// Those of [`array_at`].
 pub fn array_number(opened: &Opened, path: &[u8]) -> Result<u32, EditFault>
     ensures { let tree = opened.now.tree in
         MatchResult result (λ number. (d : Dataset) × IsArrayAt tree path.now (number, d)) (λ e.
@@ -54,7 +59,7 @@ pub fn array_number(opened: &Opened, path: &[u8]) -> Result<u32, EditFault>
     }
 }
 
-/// The array of this number as its header describes it. Its data were read. It takes no memory.
+/// The array with this number, as its header describes it. Its data stand in the image. Takes no memory.
 ///
 /// That an array has the number is the caller's condition.
 pub fn described_of<'a>(alloc: Global, opened: &'a Opened, number: u32) -> ArrayRef<'a>
@@ -66,7 +71,7 @@ pub fn described_of<'a>(alloc: Global, opened: &'a Opened, number: u32) -> Array
     known_array(alloc, opened.image(), &object.messages)
 }
 
-/// The array of this number, or `None` where no array has it. It takes no memory.
+/// The array with this number, or `None` where no array has it. Takes no memory.
 pub fn array_of<'a>(alloc: Global, opened: &'a Opened, number: ObjectNo) -> Option<StoredArray<'a>>
     ensures { let tree = opened.now.tree in
         MatchOption result (IsNoDataset tree number.0) (λ array. dataset_of tree number.0 ≡ Some array) }

@@ -13,9 +13,11 @@ use h5_model::EditFault;
 use h5_open::{AttrRef, Opened, get, list, sorted};
 use std::alloc::Global;
 
-/// The names of the attributes of the object at the path, ascending by their bytes.
+/// The names of the attributes of the object at the path, in ascending order of their bytes.
 ///
-/// Refused as [`crate::look`] is, and as `NoMemory`.
+/// # Errors
+///
+/// Those of [`crate::look`]; `NotFound` if a soft link stands at the path; `NoMemory` if memory is refused.
 pub fn names_of_attributes<'a>(
     alloc: Global,
     opened: &'a Opened,
@@ -31,9 +33,11 @@ pub fn names_of_attributes<'a>(
     }
 }
 
-/// The attributes of the object at the path, ascending by the bytes of their names.
+/// The attributes of the object at the path, in ascending order of the bytes of their names.
 ///
-/// Refused as [`crate::look`] is, and as `NoMemory`.
+/// # Errors
+///
+/// Those of [`names_of_attributes`].
 pub fn attributes_at<'a>(
     alloc: Global,
     opened: &'a Opened,
@@ -48,9 +52,11 @@ pub fn attributes_at<'a>(
     }
 }
 
-/// The attribute of this name of the object at the path.
+/// The attribute with this name of the object at the path. Takes no memory.
 ///
-/// Refused as [`crate::look`] is, and as `NoSuchAttribute` where the object has none of this name. It takes no memory.
+/// # Errors
+///
+/// Those of [`crate::number_at`]; then `NoSuchAttribute` if the object has no attribute with this name.
 pub fn one_attribute<'a>(
     opened: &'a Opened,
     path: &[u8],

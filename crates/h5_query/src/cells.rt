@@ -10,10 +10,13 @@ use h5_model::EditFault;
 use h5_open::Opened;
 use std::alloc::Global;
 
-/// The value of the cell at an index of the array at the path.
+/// The value of one cell of the array at the path. The index has one number for each dimension, counted in cells.
+/// Takes no memory.
 ///
-/// Refused as [`crate::look`] is, as `NotADataset` where no array stands there, as `RankMismatch` where the index has not one number
-/// for each size, and as `OutOfExtent` where one of them is not below its size. It takes no memory.
+/// # Errors
+///
+/// Those of [`crate::array_at`]; then `RankMismatch` if the index has not one number for each dimension; then
+/// `OutOfExtent` if a number is not below the size of its dimension.
 pub fn one_cell(
     alloc: Global,
     opened: &Opened,

@@ -27,9 +27,11 @@ pub enum Found<'a> {
     Soft(&'a [u8]),
 }
 
-/// What stands at the path. A soft link is not followed.
+/// What stands at the path. A soft link is not followed. Takes memory for a reference to each attribute.
 ///
-/// Refused as [`crate::look`] is, and as `NoMemory`. Takes memory for a reference to each attribute.
+/// # Errors
+///
+/// Those of [`crate::look`], and `NoMemory` if memory is refused.
 pub fn found_at<'a>(alloc: Global, opened: &'a Opened, path: &[u8]) -> Result<Found<'a>, EditFault>
     ensures { let tree = opened.now.tree in
         MatchResult result (HasFound tree path.now) (IsUnfound tree path.now) }

@@ -10,9 +10,14 @@ use h5_model::{Link, LinkTo, ObjectNo};
 use h5_open::{Opened, OpenedContent, entries};
 use std::alloc::{AllocError, Global};
 
-/// The links of the group of this number, ascending by the bytes of their names, or `None` where no group has it.
+/// The links of the group with this number, in ascending order of the bytes of their names; `Ok(None)` if no group
+/// has it.
 ///
 /// Takes memory for a reference to each link.
+///
+/// # Errors
+///
+/// `AllocError` if memory is refused.
 pub fn links_of<'a>(
     alloc: Global,
     opened: &'a Opened,
@@ -32,9 +37,13 @@ pub fn links_of<'a>(
     Ok(Some(tree_links(alloc, opened, &found)?))
 }
 
-/// The links with the numbers of the objects to which they lead.
+/// These links, with the number of the object to which each hard link leads in place of its address.
 ///
 /// Takes memory for a reference to each link.
+///
+/// # Errors
+///
+/// `AllocError` if memory is refused.
 pub fn tree_links<'a>(
     alloc: Global,
     opened: &Opened,

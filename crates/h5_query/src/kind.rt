@@ -3,7 +3,7 @@
 use h5_model::Fixed;
 use h5_open::Dims;
 
-/// How a dataset's cells are stored; of chunks their sizes.
+/// How the cells of a dataset are stored. Chunks come with their sizes, in cells.
 #[derive(Drop)]
 pub enum StoreKind {
     Compact,

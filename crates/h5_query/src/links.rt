@@ -22,7 +22,11 @@ use std::alloc::{AllocError, Global};
 /// How a maximum that is unlimited is shown.
 const UNLIMITED: u64 = u64::MAX;
 
-/// What the link at the path leads to. Refused as [`crate::look`] is. It takes no memory.
+/// What the link at the path leads to. Takes no memory.
+///
+/// # Errors
+///
+/// Those of [`crate::look`].
 pub fn kind_at<'a>(alloc: Global, opened: &'a Opened, path: &[u8]) -> Result<Kind<'a>, EditFault>
     ensures { let tree = opened.now.tree in
         MatchResult result (HasKind tree path.now) (λ e. first_holding (path_rules tree path.now) ≡ Some e) }
@@ -73,7 +77,7 @@ fn write_maxima(array: &ArrayRef<'_>, shown: &mut [u64])
     }
 }
 
-/// How the cells of an array are stored; of chunks their sizes. It takes no memory.
+/// How the cells of an array are stored. Chunks come with their sizes, in cells. Takes no memory.
 pub fn store_of(alloc: Global, array: &StoredArray<'_>) -> StoreKind
     ensures { IsStored array.now.storage result }
 {
@@ -91,9 +95,11 @@ fn store_kind(alloc: Global, layout: &Layout<'_>) -> StoreKind
     }
 }
 
-/// The names in the group at the path, ascending by their bytes.
+/// The names in the group at the path, in ascending order of their bytes.
 ///
-/// Refused as [`crate::look`] is, also as `NotAGroup` where no group stands there, and as `NoMemory`.
+/// # Errors
+///
+/// Those of [`crate::look`]; `NotAGroup` if no group stands at the path; `NoMemory` if memory is refused.
 pub fn names_at<'a>(
     alloc: Global,
     opened: &'a Opened,

@@ -22,7 +22,7 @@ pub enum Place<'a> {
     Soft(&'a [u8]),
 }
 
-/// What a path leads to, of which the last name may be missing.
+/// What a path leads to. Its last name may be missing.
 #[derive(Clone, Copy)]
 pub enum Spot<'a, 'p> {
     /// The path has no name.
@@ -40,8 +40,16 @@ pub enum Spot<'a, 'p> {
     },
 }
 
-/// Looks a path up whose last name may be missing, or says by the lowest number why no group stands before that name: `BadPath`,
-/// `PathTooDeep`, `NoSuchParent` or `NotAGroup`. A soft link is not followed. It takes no memory.
+/// Looks a path up. Its last name may be missing. A soft link is not followed. Takes no memory.
+///
+/// # Errors
+///
+/// Why no group stands before the last name. The one with the lowest number that holds:
+///
+/// - `BadPath`: the bytes are no path.
+/// - `PathTooDeep`: the path has more than 64 names.
+/// - `NoSuchParent`: a name before the last one is missing.
+/// - `NotAGroup`: a name before the last one leads to no group.
 pub fn look_up<'a, 'p>(opened: &'a Opened, path: &'p [u8]) -> Result<Spot<'a, 'p>, EditFault>
     ensures { let tree = opened.now.tree in
         MatchResult result (IsSpotOf opened.now path.now) (IsNoSpot tree path.now) }
@@ -54,8 +62,12 @@ pub fn look_up<'a, 'p>(opened: &'a Opened, path: &'p [u8]) -> Result<Spot<'a, 'p
     }
 }
 
-/// Looks a path up, or says by the lowest number why nothing stands there: `BadPath`, `PathTooDeep`, `NoSuchParent`, `NotAGroup` or
-/// `NotFound`. A soft link is not followed. It takes no memory.
+/// Looks a path up. A soft link is not followed. Takes no memory.
+///
+/// # Errors
+///
+/// Those of [`look_up`], and `NotFound` if the last name is missing. Where several hold, the one with the lowest
+/// number.
 pub fn look<'a>(opened: &'a Opened, path: &[u8]) -> Result<Place<'a>, EditFault>
     ensures { let tree = opened.now.tree in
         MatchResult result (IsPathPlace opened.now path.now) (IsNowhere tree path.now) }
@@ -67,9 +79,11 @@ pub fn look<'a>(opened: &'a Opened, path: &[u8]) -> Result<Place<'a>, EditFault>
     }
 }
 
-/// The number of the object at the path.
+/// The number of the object at the path. Takes no memory.
 ///
-/// Refused as [`look`] is, also as `NotFound` where a soft link stands there. It takes no memory.
+/// # Errors
+///
+/// Those of [`look`], and `NotFound` if a soft link stands at the path.
 pub fn number_at(opened: &Opened, path: &[u8]) -> Result<ObjectNo, EditFault>
     ensures { let tree = opened.now.tree in
         MatchResult result (λ number. IsNumber tree path.now number.0) (IsNoObject tree path.now) }

@@ -12,9 +12,12 @@ use h5_open::{Dims, Opened, Runs, StoredArray};
 use h5_shape::{Slab, SlabFault};
 use std::alloc::Global;
 
-/// The selected cells of the array at the path, as they stand in the image.
+/// The selected cells of the array at the path, as runs: pieces of consecutive cells, lent as they stand in the
+/// image. Neither the call nor a step of the runs takes memory.
 ///
-/// Refused as [`array_at`] is, and as [`slab_within`] is. Neither the call nor a step of the runs takes memory.
+/// # Errors
+///
+/// Those of [`crate::array_at`], then those of [`slab_within`].
 pub fn runs_at<'a>(
     alloc: Global,
     opened: &'a Opened,
@@ -29,9 +32,12 @@ pub fn runs_at<'a>(
     Ok(array.runs(&slab))
 }
 
-/// The array at the path with its number, and the selection of the lists, which is within its sizes.
+/// The array at the path with its number, and the selection of the four lists, which is within its sizes. Takes no
+/// memory.
 ///
-/// Refused as [`array_at`] is, and as [`slab_within`] is. It takes no memory.
+/// # Errors
+///
+/// Those of [`crate::array_at`], then those of [`slab_within`].
 pub fn selected_at<'a>(
     alloc: Global,
     opened: &'a Opened,
@@ -47,8 +53,16 @@ pub fn selected_at<'a>(
     Ok((number, array, slab))
 }
 
-/// The selection of the lists, or the lowest number of why it is none of an array of these sizes: `RankMismatch`, `StrideZero`,
-/// `BlocksOverlap` or `OutOfExtent`.
+/// The selection of the four lists, in an array of these sizes. Takes no memory.
+///
+/// # Errors
+///
+/// The one with the lowest number that holds:
+///
+/// - `RankMismatch`: a list has not one number for each dimension.
+/// - `StrideZero`: a stride is 0.
+/// - `BlocksOverlap`: a stride is below its block, and there is more than one block.
+/// - `OutOfExtent`: a selected cell is outside the sizes.
 pub fn slab_within(dims: &Dims, hyper: &Hyper) -> Result<Slab, EditFault>
     ensures rules { let rules = hyper_rules dims.now hyper.now in
         MatchResult result (λ slab. (first_holding rules ≡ None) × (slab ≡ axes_of hyper.now)) (λ e.

@@ -4,8 +4,10 @@ use Rattle.std.specs.FinMap.{entries}
 use Rattle.std.specs.List.{AllZip}
 use Rattle.std.specs.Option.{option_flatten, option_map_or}
 use Rattle.h5_model.specs.Format.Bodies.{pair_bytes}
+use Rattle.h5_model.specs.Format.MessageTypes.{symbol_table_kind}
 use Rattle.h5_model.specs.Format.Plain.{header_bytes, superblock_bytes}
 use Rattle.h5_model.specs.Format.PlainLength.{data_bytes}
+use Rattle.h5_model.specs.Format.PlainSuperblock.{plain_superblock_length, plain_chunk_k}
 use Rattle.h5_model.specs.Format.Sizes.{header_size}
 use Rattle.h5_model.specs.Tree.Objects.{Object, Content, Group, Array, Dataset, Link, Links, ToObject, Soft}
 use Rattle.h5_repack.specs.Bodies.Bodies.{others_of, array_messages}
@@ -82,7 +84,7 @@ pub record IsLowSize (s : Size) : Type 0 where
 -- a group's links lie so wherever their objects stand, and an array with so many stored chunks has these data
 abbrev pub IsExtent : ℕ → ℕ → ℕ → Content → Extent → Type 0
 IsExtent leaf internal count (Group links) (extent.Links p) = (ls : List (List ℕ × Leads)) → AllZip laws.IsLinkWritten (entries links) ls → ArePlaces leaf internal ls p
-IsExtent leaf internal count (Array d) (extent.Data n) = n ≡ data_bytes 32 count d
+IsExtent leaf internal count (Array d) (extent.Data n) = n ≡ data_bytes plain_chunk_k count d
 IsExtent leaf internal count _ _ = ⊥
 
 -- how many bytes an object has with its stored chunks
@@ -131,12 +133,12 @@ headers_of lengths at [] headers = headers
 headers_of lengths at (number ∷ order) headers = headers_of lengths (at + lengths number) order (slice_set headers number (Some at))
 
 pub record AreHeaders (sizes : List Size) (order : List ℕ) (p : Placed) : Type 0 where
-  pub end_is : p.end ≡ end_of (length_by_number sizes) 96 order
-  pub headers_are : p.headers.items ≡ headers_of (length_by_number sizes) 96 order (replicate (length sizes) None)
+  pub end_is : p.end ≡ end_of (length_by_number sizes) plain_superblock_length order
+  pub headers_are : p.headers.items ≡ headers_of (length_by_number sizes) plain_superblock_length order (replicate (length sizes) None)
   pub few : p.end ≤ 2 ^ 31
 
 abbrev pub IsUnplaced : List Size → List ℕ → WriteFault → Type 0
-IsUnplaced sizes order TooLong = 2 ^ 31 < end_of (length_by_number sizes) 96 order
+IsUnplaced sizes order TooLong = 2 ^ 31 < end_of (length_by_number sizes) plain_superblock_length order
 IsUnplaced sizes order TooDeep = ⊥
 IsUnplaced sizes order NoMemory = Unit {0}
 
@@ -183,7 +185,7 @@ array_at place count o d =
 -- the bytes of an object whose header stands there and to which so many links lead
 abbrev pub content_at : Layout → ℕ → ℕ → StoredObject → Content → List ℕ
 content_at l header count o (Group links) =
-    header_bytes 1 ((17, pair_bytes (content_place o.object header) (group_heap_place l.leaf l.internal o.object links header)) ∷ others_of o.object)
+    header_bytes 1 ((symbol_table_kind, pair_bytes (content_place o.object header) (group_heap_place l.leaf l.internal o.object links header)) ∷ others_of o.object)
     ++ links_bytes l.leaf l.internal (content_place o.object header) (map (written_at l) (entries links))
 content_at l header count o (Array d) = array_at (content_place o.object header) count o d
 
@@ -196,4 +198,5 @@ numbered_at l counts listed number =
 
 -- the superblock before objects whose root has this size
 abbrev pub front_at : Layout → Size → ℕ → List ℕ
-front_at l root end = superblock_bytes l.leaf l.internal end 96 (96 + root.header) (heap_behind (96 + root.header) root.extent)
+front_at l root end = superblock_bytes l.leaf l.internal end plain_superblock_length (plain_superblock_length + root.header)
+    (heap_behind (plain_superblock_length + root.header) root.extent)

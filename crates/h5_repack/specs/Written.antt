@@ -3,6 +3,7 @@ use Rattle.std.specs.Prelude.{◌≡◌, ℕ, ◌^◌, ◌<◌, ◌≤◌, Optio
 use Rattle.std.specs.FinMap.{get}
 use Rattle.std.specs.Option.{option_flatten}
 use Rattle.h5_model.specs.Format.PlainLength.{plain_length}
+use Rattle.h5_model.specs.Format.PlainSuperblock.{plain_chunk_k}
 use Rattle.h5_model.specs.Format.Superblock.{AreK}
 use Rattle.h5_model.specs.Tree.Objects.{Tree, Object, Dataset, Chunked, Links, dataset_of, links_of}
 use Rattle.h5_laws.specs.Trees.Sound.{IsSoundTree}
@@ -40,6 +41,6 @@ WrittenStored = (leaf internal : ℕ) (stored : StoredIn) (tree : Tree) (w : Wri
 
 -- the image would be too long; or a group's tree too deep; or memory was refused
 abbrev pub IsUnwritten : ℕ → ℕ → StoredIn → Tree → WriteFault → Type 0
-IsUnwritten leaf internal stored tree TooLong = 2 ^ 31 < plain_length leaf internal 32 (counts_of stored) tree
+IsUnwritten leaf internal stored tree TooLong = 2 ^ 31 < plain_length leaf internal plain_chunk_k (counts_of stored) tree
 IsUnwritten leaf internal stored tree TooDeep = (number : ℕ) × (links : Links) × (links_of tree number ≡ Some links) × (IsLow leaf internal links → ⊥)
 IsUnwritten leaf internal stored tree NoMemory = Unit {0}

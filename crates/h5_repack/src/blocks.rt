@@ -1,7 +1,7 @@
-//! The blocks of the plain layout, each appended behind the bytes that stand there: the headers of objects and the data of
-//! arrays (File Format Specification 3.0, sections III.A.1 and IV.A).
+//! The blocks of the plain layout, each appended behind the bytes that stand there: the headers of objects and the
+//! data of arrays (File Format Specification 3.0, sections III.A.1 and IV.A).
 //!
-//! Addresses are handed in. Where memory is refused, how many bytes have been appended is not said.
+//! Addresses are handed in. Where memory is refused, it is left open how many bytes were appended.
 mod attribute;
 mod cells;
 mod chunks;

@@ -27,7 +27,8 @@ pub enum WriteFault {
     NoMemory,
 }
 
-/// An image, and where the header of each object stands in it, by the objects' numbers: `None` for a number without an object.
+/// An image, and where the header of each object stands in it: `headers[k]` is the address for object k, `None` for a
+/// number without an object.
 #[derive(Drop)]
 pub struct Written {
     pub image: Vec<u8>,
@@ -91,11 +92,20 @@ fn image_of(
     Ok(image)
 }
 
-/// The plain image of the tree of these objects, each in the slot of its number, with these K values of symbol nodes and of nodes. An
-/// empty slot leaves nothing in the image: its number has no object.
+/// The plain image of the tree of these objects: the whole file written new, without gaps. `objects[k]` is the object
+/// with number k; an empty slot is a number without an object, and leaves nothing in the image. `leaf` is K of symbol
+/// nodes, `internal` K of nodes.
 ///
-/// Takes memory for a few numbers of each slot, and for the links of one group or a few numbers of each stored chunk of one array,
-/// beside the image. Where there is more than one fault, any of them may be the answer.
+/// Besides the image it takes memory for a few numbers for each slot; and for the links of one group, or a few
+/// numbers for each stored chunk of one array, at a time.
+///
+/// # Errors
+///
+/// Where several hold, any of them may be the answer.
+///
+/// - `TooLong`: the image would have more than 2147483648 bytes.
+/// - `TooDeep`: the B-tree of a group would have its root above level 15.
+/// - `NoMemory`: memory is refused.
 pub fn write_tree(
     alloc: Global,
     leaf: u16,

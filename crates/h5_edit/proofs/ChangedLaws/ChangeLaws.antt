@@ -27,7 +27,7 @@ use Rattle.h5_edit.specs.Changed.Change.{IsPlainChange, changed, with_link, with
 use Rattle.h5_edit.specs.Changed.Edited.{IsEditOf, IsEditable, IsFresh, edit_at, edited, edited_by, new_link, new_objects, new_target}
 use Rattle.h5_edit.specs.Changed.Sizes.{CanHave, CanStore, IsLacking, IsResizable, stored_all}
 use Rattle.h5_edit.specs.declared.change.change.Change.{Change}
-use Rattle.h5_edit.specs.declared.change.change.Change.TheVariants.{Link as Linked, SetAttr as Set, RemoveAttr as Remove, Resize as Sized, Store as Stores}
+use Rattle.h5_edit.specs.declared.change.change.Change.TheVariants.{Link as Linked, Resize as Sized, Store as Stores}
 use Rattle.h5_edit.specs.declared.change.change.Target.{Target}
 use Rattle.h5_edit.specs.declared.change.change.Target.TheVariants as target
 use Rattle.h5_edit.specs.declared.change.edit.ObjectEdit.{ObjectEdit}
@@ -40,14 +40,6 @@ use Rattle.h5_edit.proofs.ChangedLaws.NumberedLaws.{at_place, at_places, at_plac
 linked_same : (tree : Tree) (place parent : ℕ) (n m : List ℕ) (a b : Link) → place ≡ parent → n ≡ m → a ≡ b
     → with_object tree parent (with_links (λ links. insert links m b)) ≡ with_object tree place (with_links (λ links. insert links n a))
 linked_same tree place parent n m a b p q r = λ i. with_object tree (sym p i) (with_links (λ links. insert links (sym q i) (sym r i)))
-
-set_same : (tree : Tree) (place object : ℕ) (a b : AttrSpec) → place ≡ object → a ≡ b
-    → with_object tree object (with_attributes (λ m. insert m b.name (attribute_from b))) ≡ with_object tree place (with_attributes (λ m. insert m a.name (attribute_from a)))
-set_same tree place object a b p q = λ i. with_object tree (sym p i) (with_attributes (λ m. insert m (sym q i).name (attribute_from (sym q i))))
-
-removed_same : (tree : Tree) (place object : ℕ) (n m : List ℕ) → place ≡ object → n ≡ m
-    → with_object tree object (with_attributes (λ es. remove es m)) ≡ with_object tree place (with_attributes (λ es. remove es n))
-removed_same tree place object n m p q = λ i. with_object tree (sym p i) (with_attributes (λ es. remove es (sym q i)))
 
 sized_same : (tree : Tree) (place object : ℕ) (n m : List ℕ) → place ≡ object → n ≡ m
     → with_object tree object (with_dataset (resized m)) ≡ with_object tree place (with_dataset (resized n))
@@ -69,28 +61,12 @@ unfolding changed
 changed_is tree (Linked parent name t) number place (edit.Link l) (p, q, r) =
     target_is tree parent number name.now t
     ∙ ap (λ x. with_new x number (new_target t)) (linked_same tree place parent l.name.now name.now (tree_target l.to) (new_link t number) p q r)
-changed_is tree (Linked parent name t) number place (edit.SetAttr a) is = absurd is
-changed_is tree (Linked parent name t) number place (edit.RemoveAttr n) is = absurd is
 changed_is tree (Linked parent name t) number place (edit.Resize n) is = absurd is
 changed_is tree (Linked parent name t) number place (edit.Store m) is = absurd is
-changed_is tree (Set object attr) number place (edit.Link l) is = absurd is
-changed_is tree (Set object attr) number place (edit.SetAttr a) (p, q) = set_same tree place object a.now attr.now p q
-changed_is tree (Set object attr) number place (edit.RemoveAttr n) is = absurd is
-changed_is tree (Set object attr) number place (edit.Resize n) is = absurd is
-changed_is tree (Set object attr) number place (edit.Store m) is = absurd is
-changed_is tree (Remove object name) number place (edit.Link l) is = absurd is
-changed_is tree (Remove object name) number place (edit.SetAttr a) is = absurd is
-changed_is tree (Remove object name) number place (edit.RemoveAttr n) (p, q) = removed_same tree place object n.now name.now p q
-changed_is tree (Remove object name) number place (edit.Resize n) is = absurd is
-changed_is tree (Remove object name) number place (edit.Store m) is = absurd is
 changed_is tree (Sized object dims) number place (edit.Link l) is = absurd is
-changed_is tree (Sized object dims) number place (edit.SetAttr a) is = absurd is
-changed_is tree (Sized object dims) number place (edit.RemoveAttr n) is = absurd is
 changed_is tree (Sized object dims) number place (edit.Resize n) (p, q) = sized_same tree place object n.now dims.now p q
 changed_is tree (Sized object dims) number place (edit.Store m) is = absurd is
 changed_is tree (Stores object missing) number place (edit.Link l) is = absurd is
-changed_is tree (Stores object missing) number place (edit.SetAttr a) is = absurd is
-changed_is tree (Stores object missing) number place (edit.RemoveAttr n) is = absurd is
 changed_is tree (Stores object missing) number place (edit.Resize n) is = absurd is
 changed_is tree (Stores object missing) number place (edit.Store m) (p, q) = stored_same tree place object p
 
@@ -110,8 +86,6 @@ more_numbered tree slots numbered number (target.Text text) is k = numbered k �
 new_numbered : (change : Change) (tree : Tree) (slots : List (Option Object)) → AreNumbered tree slots → (number : ℕ) → number ≡ length slots
     → AreNumbered (with_new tree number (new_objects change)) (slots ++ filled_slots (new_objects change))
 new_numbered (Linked parent name t) tree slots numbered number is k = more_numbered tree slots numbered number t is k
-new_numbered (Set object attr) tree slots numbered number is k = numbered k ∙ sym (ap (λ (xs : List (Option Object)). option_flatten (slice_get xs k)) (append-nil slots))
-new_numbered (Remove object name) tree slots numbered number is k = numbered k ∙ sym (ap (λ (xs : List (Option Object)). option_flatten (slice_get xs k)) (append-nil slots))
 new_numbered (Sized object dims) tree slots numbered number is k = numbered k ∙ sym (ap (λ (xs : List (Option Object)). option_flatten (slice_get xs k)) (append-nil slots))
 new_numbered (Stores object missing) tree slots numbered number is k = numbered k ∙ sym (ap (λ (xs : List (Option Object)). option_flatten (slice_get xs k)) (append-nil slots))
 
@@ -148,36 +122,14 @@ module _ (tree : Tree) (number : ℕ) where
   editable (Linked parent name t) plain place (edit.Link l) (p, q, r) o found =
       let here : get tree parent ≡ Some o = ap (get tree) (sym p) ∙ found in
       fresh_content o.content plain.there.0 name.now l.name.now (sym (ap (option_and_then (λ (x : Object). links_in x.content)) here) ∙ plain.there.1) plain.there.2 q
-  editable (Linked parent name t) plain place (edit.SetAttr a) is o found = absurd is
-  editable (Linked parent name t) plain place (edit.RemoveAttr n) is o found = absurd is
   editable (Linked parent name t) plain place (edit.Resize n) is o found = absurd is
   editable (Linked parent name t) plain place (edit.Store m) is o found = absurd is
-  editable (Set object attr) plain place (edit.Link l) is o found = absurd is
-  editable (Set object attr) plain place (edit.SetAttr a) is o found =
-      let after : Object = edited (edit.SetAttr a) o in
-      let there : get (changed tree (Set object attr) number) place ≡ Some after
-      = ap (λ x. get x place) (changed_is tree (Set object attr) number place (edit.SetAttr a) is) ∙ get_changed tree place (edited (edit.SetAttr a)) o found in
-      put_has IsPlainAttribute (a.now).name (attribute_from a.now) (entries o.attributes)
-      (subst (AllByRecursion IsPlainAttribute) (entries-insert nat_list_cmp_total o.attributes (a.now).name (attribute_from a.now))
-      ((plain.changed_plain place after there).others).attributes)
-  editable (Set object attr) plain place (edit.RemoveAttr n) is o found = absurd is
-  editable (Set object attr) plain place (edit.Resize n) is o found = absurd is
-  editable (Set object attr) plain place (edit.Store m) is o found = absurd is
-  editable (Remove object name) plain place (edit.Link l) is o found = absurd is
-  editable (Remove object name) plain place (edit.SetAttr a) is o found = absurd is
-  editable (Remove object name) plain place (edit.RemoveAttr n) is o found = tt
-  editable (Remove object name) plain place (edit.Resize n) is o found = absurd is
-  editable (Remove object name) plain place (edit.Store m) is o found = absurd is
   editable (Sized object dims) plain place (edit.Link l) is o found = absurd is
-  editable (Sized object dims) plain place (edit.SetAttr a) is o found = absurd is
-  editable (Sized object dims) plain place (edit.RemoveAttr n) is o found = absurd is
   editable (Sized object dims) plain place (edit.Resize n) (p, q) o found =
       let here : get tree object ≡ Some o = ap (get tree) (sym p) ∙ found in
       sized_content o.content plain.there.0 dims.now n.now (sym (ap (option_and_then (λ (x : Object). dataset_in x.content)) here) ∙ plain.there.1) plain.there.2 q
   editable (Sized object dims) plain place (edit.Store m) is o found = absurd is
   editable (Stores object missing) plain place (edit.Link l) is o found = absurd is
-  editable (Stores object missing) plain place (edit.SetAttr a) is o found = absurd is
-  editable (Stores object missing) plain place (edit.RemoveAttr n) is o found = absurd is
   editable (Stores object missing) plain place (edit.Resize n) is o found = absurd is
   editable (Stores object missing) plain place (edit.Store m) (p, q) o found =
       let here : get tree object ≡ Some o = ap (get tree) (sym p) ∙ found in
@@ -202,8 +154,6 @@ module _ (tree : Tree) (number : ℕ) where
   -- what the change adds can be written
   pub new_plain : (change : Change) (plain : IsPlainChange tree number change) → AllByRecursion IsPlain (new_objects change)
   new_plain (Linked parent name t) plain = plain_linked parent name t plain.changed_plain
-  new_plain (Set object attr) plain = tt
-  new_plain (Remove object name) plain = tt
   new_plain (Sized object dims) plain = tt
   new_plain (Stores object missing) plain = tt
 
@@ -304,8 +254,6 @@ made_counted (target.Text text) = refl
 
 new_counted : (change : Change) → length (new_objects change) ≡ made_in change
 new_counted (Linked parent name t) = made_counted t
-new_counted (Set object attr) = refl
-new_counted (Remove object name) = refl
 new_counted (Sized object dims) = refl
 new_counted (Stores object missing) = refl
 

@@ -1,7 +1,6 @@
 -- Names in their places: the entries of a map by names with one more, or one less.
 use Rattle.std.proofs.Common.{◌≡◌, ℕ, ◌+◌, ◌<◌, ◌≤◌, List, ◌∷◌, ◌++◌, length, take, drop, get_or, refl, sym, ap, ◌∙◌, arith, Bool, true, false}
 use Rattle.std.proofs.lemmas.List.{drop_more, drop_all}
-use Rattle.std.proofs.lemmas.List.Sums.{length-filter, count_by-le-length}
 use Rattle.std.specs.Prelude.{T, not}
 use Rattle.std.specs.Ordering.{nat_cmp, eq_by_cmp}
 use Rattle.std.specs.Cmp.Lexicographic.{slice_cmp, nat_list_cmp_total}
@@ -11,8 +10,7 @@ use Rattle.std.specs.List.{filter}
 use Rattle.std.specs.FinMap.{FinMap, entries, insert, remove, put, is_sorted, from_sorted, entries_sorted, entries-insert, entries-from_sorted, same_entries_map, nat_cmp-IsAntisymmetric, slice_cmp-IsAntisymmetric}
 use Rattle.std.specs.FinMap.Entries.{by_order, is_sorted-where_key}
 use Rattle.h5_model.proofs.MapSteps.{remove_by_name, entries_by_name}
-use Rattle.h5_model.specs.Tree.Objects.{Attribute, Attributes}
-use Rattle.h5_edit.specs.Changed.Appended.{IsPlaceOf, NamedAttributes, without}
+use Rattle.h5_edit.specs.Changed.Appended.{IsPlaceOf}
 
 abbrev order : List ℕ → List ℕ → Ordering
 order = slice_cmp nat_cmp
@@ -42,25 +40,6 @@ module _ {X : Type 0} (name : List ℕ) (es : List (List ℕ × X)) (at : ℕ) (
           ∙ ap (λ more. (name, a) ∷ more) (sym (drop_more es at d low)));
     }
 
-    pub place_here : order name (get_or es at d).0 ≡ Equal → IsPlaceOf name es at (at + 1)
-    place_here is =
-        let same : name ≡ (get_or es at d).0 = slice_cmp-IsAntisymmetric nat_cmp-IsAntisymmetric name (get_or es at d).0 is in
-        record {
-          rising = omega arith;
-          within = omega arith;
-          placed = λ a. below a ∙ ap (λ more. take at es ++ more) (here a
-              ∙ ap (λ r. by_order r ((name, a) ∷ get_or es at d ∷ drop (at + 1) es) (((get_or es at d).0, a) ∷ drop (at + 1) es) (get_or es at d ∷ with name a (drop (at + 1) es))) is
-              ∙ ap (λ n. (n, a) ∷ drop (at + 1) es) (sym same));
-        }
-
-pub place_end : {X : Type 0} (name : List ℕ) (es : List (List ℕ × X)) (at : ℕ) → StandBelow name es at → at ≡ length es → IsPlaceOf name es at at
-place_end {X = X} name es at below is = record {
-  rising = omega arith;
-  within = omega arith;
-  placed = λ a. below a ∙ ap (λ (more : List (List ℕ × X)). take at es ++ with name a more) (drop_all at es (omega (arith, is)))
-      ∙ ap (λ (more : List (List ℕ × X)). take at es ++ ((name, a) ∷ more)) (sym (drop_all at es (omega (arith, is))));
-}
-
 -- ---- the entries of attributes with one more, and with one less
 
 by_entries : {X : Type 0} (m : FinMap (slice_cmp nat_cmp) X) → m ≡ from_sorted (entries m)
@@ -79,14 +58,3 @@ entries-less {X = X} m name =
     let still : is_sorted (slice_cmp nat_cmp) left ≡ true
     = is_true _ (is_sorted-where_key (slice_cmp nat_cmp) (λ x. not (eq_by_cmp (slice_cmp nat_cmp) name x)) (entries m) (entries_sorted m)) in
     ap (λ (n : FinMap (slice_cmp nat_cmp) X). entries (remove n name)) (by_entries m) ∙ ap entries (remove_by_name (entries m) name sorted) ∙ entries_by_name left still
-
-pub entries-removed : (m : Attributes) (name : List ℕ) → entries (remove m name) ≡ without name (entries m)
-entries-removed m name = entries-less m name
-
-pub entries-set : (m : Attributes) (name : List ℕ) (a : Attribute) → entries (insert m name a) ≡ put (slice_cmp nat_cmp) name a (entries m)
-entries-set m name a = entries-insert nat_list_cmp_total m name a
-
-pub length-without : (name : List ℕ) (es : NamedAttributes) → length (without name es) ≤ length es
-length-without name es =
-    let other : List ℕ × Attribute → Bool = λ e. not (eq_by_cmp (slice_cmp nat_cmp) name e.0) in
-    omega (arith, length-filter other es, count_by-le-length other es)

@@ -16,7 +16,7 @@ use Rattle.h5_edit.specs.Changed.Edited.{IsEditOf}
 use Rattle.h5_edit.specs.Changed.Missing.{IsMetAt, IsMetBy, IsMetIn, IsMissing}
 use Rattle.h5_edit.specs.StoredChunks.{Selecting}
 use Rattle.h5_edit.specs.declared.change.change.Change.{Change}
-use Rattle.h5_edit.specs.declared.change.change.Change.TheVariants.{Link as Linked, SetAttr as Set, RemoveAttr as Remove, Resize as Sized, Store as Stores}
+use Rattle.h5_edit.specs.declared.change.change.Change.TheVariants.{Link as Linked, Resize as Sized, Store as Stores}
 use Rattle.h5_edit.specs.declared.change.edit.ObjectEdit.{ObjectEdit}
 use Rattle.h5_edit.specs.declared.change.edit.ObjectEdit.TheVariants as edit
 use Rattle.h5_edit.specs.declared.change.missing.Missing.{Missing}
@@ -31,28 +31,12 @@ module _ (f : FileState) where
 
   pub met_of : (change : Change) (number place : ℕ) (e : ObjectEdit) → IsEditOf change number place e → (met : Selecting) → IsMetIn f change met → IsFor place e met
   met_of (Linked parent name t) number place (edit.Link l) of met is = for_none place (edit.Link l) (λ a there. refl) met is
-  met_of (Linked parent name t) number place (edit.SetAttr a) of met is = absurd of
-  met_of (Linked parent name t) number place (edit.RemoveAttr n) of met is = absurd of
   met_of (Linked parent name t) number place (edit.Resize n) of met is = absurd of
   met_of (Linked parent name t) number place (edit.Store m) of met is = absurd of
-  met_of (Set object attr) number place (edit.Link l) of met is = absurd of
-  met_of (Set object attr) number place (edit.SetAttr a) of met is = for_none place (edit.SetAttr a) (λ b there. refl) met is
-  met_of (Set object attr) number place (edit.RemoveAttr n) of met is = absurd of
-  met_of (Set object attr) number place (edit.Resize n) of met is = absurd of
-  met_of (Set object attr) number place (edit.Store m) of met is = absurd of
-  met_of (Remove object name) number place (edit.Link l) of met is = absurd of
-  met_of (Remove object name) number place (edit.SetAttr a) of met is = absurd of
-  met_of (Remove object name) number place (edit.RemoveAttr n) of met is = for_none place (edit.RemoveAttr n) (λ a there. refl) met is
-  met_of (Remove object name) number place (edit.Resize n) of met is = absurd of
-  met_of (Remove object name) number place (edit.Store m) of met is = absurd of
   met_of (Sized object dims) number place (edit.Link l) of met is = absurd of
-  met_of (Sized object dims) number place (edit.SetAttr a) of met is = absurd of
-  met_of (Sized object dims) number place (edit.RemoveAttr n) of met is = absurd of
   met_of (Sized object dims) number place (edit.Resize n) of met is = for_none place (edit.Resize n) (λ a there. refl) met is
   met_of (Sized object dims) number place (edit.Store m) of met is = absurd of
   met_of (Stores object missing) number place (edit.Link l) of met is = absurd of
-  met_of (Stores object missing) number place (edit.SetAttr a) of met is = absurd of
-  met_of (Stores object missing) number place (edit.RemoveAttr n) of met is = absurd of
   met_of (Stores object missing) number place (edit.Resize n) of met is = absurd of
   met_of (Stores object missing) number place (edit.Store m) (p, q) (Some (other, slab)) (r, s) = (
     Some slab,

@@ -66,8 +66,6 @@ array_content change o (Array e) d is = let same : e ≡ d = cc in ap (λ (x : D
 pub content_after : (e : Option ObjectEdit) (o : Object) (d : Dataset) → o.content ≡ Array d → (edited_by e o).content ≡ Array (array_after e d)
 content_after None o d is = is
 content_after (Some (edit.Link l)) o d is = links_content (λ links. insert links l.name.now (tree_target l.to)) o o.content d is
-content_after (Some (edit.SetAttr attr)) o d is = is
-content_after (Some (edit.RemoveAttr name)) o d is = is
 content_after (Some (edit.Resize dims)) o d is = array_content (resized dims.now) o o.content d is
 content_after (Some (edit.Store missing)) o d is = array_content stored_all o o.content d is
 
@@ -87,8 +85,6 @@ group_array (Array e) links d is array = cc
 group_after : (e : Option ObjectEdit) (o : Object) (links : Links) (d : Dataset) → o.content ≡ Group links → (edited_by e o).content ≡ Array d → ⊥
 group_after None o links d is array = group_array o.content links d is array
 group_after (Some (edit.Link l)) o links d is array = group_linked (λ ls. insert ls l.name.now (tree_target l.to)) o o.content links d is array
-group_after (Some (edit.SetAttr attr)) o links d is array = group_array o.content links d is array
-group_after (Some (edit.RemoveAttr name)) o links d is array = group_array o.content links d is array
 group_after (Some (edit.Resize dims)) o links d is array = group_changed (resized dims.now) o o.content links d is array
 group_after (Some (edit.Store missing)) o links d is array = group_changed stored_all o o.content links d is array
 

@@ -1,33 +1,27 @@
 -- The plain layout can hold each object of the tree that an accepted edit of an opened image gives (File Format Specification 3.0,
 -- sections III and IV.A).
-use Rattle.std.proofs.Common.{◌≡◌, ℕ, ◌+◌, ◌≤◌, List, length, false, Option, Some, sym, ap, ◌∙◌, subst, arith}
-use Rattle.std.specs.Prelude.{nat_lt}
+use Rattle.std.proofs.Common.{◌≡◌, ℕ, ◌+◌, ◌≤◌, List, length, true, false, Option, Some, sym, ap, ◌∙◌, subst, arith}
 use Rattle.std.specs.FinMap.{get, insert, remove, empty}
-use Rattle.std.specs.Option.{option_and_then, option_map_or}
-use Rattle.std.proofs.lemmas.Bool.Decides.{nat_tests}
+use Rattle.std.specs.Option.{option_and_then}
 use Rattle.std.proofs.lemmas.Option.{same_Some}
-use Rattle.h5_model.specs.Edits.Applied.{applied, linked, with_attributes, with_dataset, with_links, with_object_at, new_object, new_dataset, attribute_from, resized, written}
-use Rattle.h5_model.specs.Format.Messages.{prefix_at, total_in}
+use Rattle.h5_model.specs.Edits.Applied.{applied, linked, with_dataset, with_links, new_object, new_dataset, resized, written}
 use Rattle.h5_model.specs.Tree.Paths.{dataset_at, object_at}
 use Rattle.h5_model.specs.Tree.Sound.{AreOf}
 use Rattle.h5_model.specs.Views.Selection.{axes_of}
 use Rattle.h5_model.proofs.RefusalLaws.{accepted_write}
 use Rattle.h5_model.specs.Tree.Objects.{Object, Content, Group, Array, Dataset, Links, ToObject, Soft, dataset_in, dataset_of}
-use Rattle.h5_model.specs.declared.attribute.AttrSpec.{AttrSpec}
 use Rattle.h5_model.specs.declared.edits.Edit.TheVariants.{CreateGroup, CreateDataset, HardLink, SoftLink, Unlink, SetAttr, RemoveAttr, Write, Resize}
 use Rattle.h5_repack.specs.Image.Plain.{IsPlain, IsPlainContent, ArePlain}
 use Rattle.h5_repack.specs.Bodies.Bodies.{others_of}
-use Rattle.h5_repack.specs.Bodies.Sound.{IsPlainArray, IsPlainAttribute}
+use Rattle.h5_repack.specs.Bodies.Sound.{IsPlainArray}
 use Rattle.h5_query.specs.Opened.Sound.{IsSound}
 use Rattle.h5_query.specs.Opened.State.{FileState}
-use Rattle.h5_edit.specs.Carried.{is_message_total_full}
 use Rattle.h5_edit.specs.Fits.Laws.{AreBytes, EditedPlain}
-use Rattle.h5_edit.proofs.FitLaws.ChangedAttributes.{with_set, plain_set, few_set, with_removed, plain_removed, few_removed_others, accepted_attribute}
 use Rattle.h5_edit.proofs.FitLaws.ChangedTrees.{each_put, each_at, each_linked, each_linked_to, each_unlinked}
 use Rattle.h5_edit.proofs.FitLaws.NewArrays.{plain_new_array, accepted_spec}
 use Rattle.h5_edit.proofs.FitLaws.ResizedArrays.{accepted_sizes, plain_sized}
 use Rattle.h5_edit.proofs.FitLaws.WrittenArrays.{plain_cells, values_are}
-use Rattle.h5_edit.proofs.FitLaws.OpenedTrees.{IsRead, object_read, plain_content, plain_read, opened_plain}
+use Rattle.h5_edit.proofs.FitLaws.OpenedTrees.{opened_plain}
 use Rattle.h5_edit.proofs.FitLaws.PlainObjects.{plain_new, no_others}
 
 -- ---- a new object
@@ -58,59 +52,6 @@ plain_links change o plain = record {
 plain_linked : (change : Links → Links) (number : ℕ) (o : Object) → IsPlain o → IsPlain (with_links change o)
 plain_linked change number o plain = plain_links change o plain
 
--- ---- an attribute less
-
--- beside fewer others
-fewer_others : (d : Dataset) (n m : ℕ) → m ≤ n → IsPlainArray d n → IsPlainArray d m
-fewer_others d n m less plain = record {
-  ranked = plain.ranked;
-  bounded = plain.bounded;
-  few = plain.few;
-  fixed = plain.fixed;
-  sound = plain.sound;
-  stored = plain.stored;
-  unwritten = λ many. plain.unwritten (omega (arith, many, less));
-}
-
-fewer_beside : (c : Content) (n m : ℕ) → m ≤ n → IsPlainContent n c → IsPlainContent m c
-fewer_beside (Group links) n m less plain = omega (arith, less, plain)
-fewer_beside (Array d) n m less plain = let few = plain.1 in (fewer_others d n m less plain.0, omega (arith, less, few))
-
-plain_without : (o : Object) (name : List ℕ) → IsPlain o → IsPlain (with_removed o name)
-plain_without o name plain = record {
-  others = plain_removed o name plain.others;
-  content = fewer_beside o.content (length (others_of o)) (length (others_of (with_removed o name))) (few_removed_others o name) plain.content;
-}
-
--- ---- an attribute more
-
-module _ (f : FileState) (low : AreBytes f.image) (sound : IsSound f) where
-  module _ (path : List ℕ) (a : AttrSpec) (is : IsPlainAttribute (a.name, attribute_from a)) (roomy : is_message_total_full f (SetAttr path a) ≡ false) where
-    module _ (number : ℕ) (o : Object) (at : object_at f.tree path ≡ Some number) (there : get f.tree number ≡ Some o) where
-      abbrev r : IsRead f sound number o there
-      r = object_read f sound number o there
-
-      -- the header has room for one more, and for a Continuation
-      room_at : length r.has.messages + 2 ≤ 65535
-      room_at =
-          let test = λ (found : Option ℕ). option_map_or (λ header. nat_lt 65535 (total_in (prefix_at f.image header) + 2)) found false in
-          let room : nat_lt 65535 (total_in (prefix_at f.image r.header) + 2) ≡ false
-          = sym (ap (λ (found : Option ℕ). test (option_and_then (get f.table) found)) at ∙ ap test r.listed) ∙ roomy in
-          let total = ((r.has).listed).total in
-          let few : total_in (prefix_at f.image r.header) + 2 ≤ 65535 = grind (arith, nat_tests, room) in
-          omega (arith, total, few)
-
-      plain_with : IsPlain (with_set o a.name (attribute_from a))
-      plain_with =
-          let more = few_set o a.name (attribute_from a) in
-          record {
-            others = plain_set o a.name (attribute_from a) (plain_read f.image low f.table r.header o r.blocks r.has).others is;
-            content = plain_content f.image low f.table r.header o r.blocks r.has (length (others_of (with_set o a.name (attribute_from a)))) (omega (arith, more, room_at));
-          }
-
-    plain_attribute_set : ArePlain (with_object_at f.tree path (with_attributes (λ m. insert m a.name (attribute_from a))))
-    plain_attribute_set = each_at (λ n. IsPlain) f.tree path (λ o. with_set o a.name (attribute_from a)) (opened_plain f low sound) plain_with
-
 -- ---- other sizes
 
 -- the array of the object at a path
@@ -123,31 +64,28 @@ array_at f number o d path at there is =
 
 pub edited_plain : EditedPlain
 unfolding applied
-edited_plain f (CreateGroup path) low sound typed accepted roomy =
+edited_plain f (CreateGroup path) low sound anew typed accepted roomy =
     each_put (λ n. IsPlain) (linked f.tree path (ToObject f.next)) f.next (new_object (Group empty))
     (each_linked (λ n. IsPlain) plain_linked f.tree path (ToObject f.next) (opened_plain f low sound)) new_group
-edited_plain f (CreateDataset path spec) low sound typed accepted roomy =
+edited_plain f (CreateDataset path spec) low sound anew typed accepted roomy =
     let formed = accepted_spec f.tree f.next path spec accepted in
     each_put (λ n. IsPlain) (linked f.tree path (ToObject f.next)) f.next (new_object (Array (new_dataset spec)))
     (each_linked (λ n. IsPlain) plain_linked f.tree path (ToObject f.next) (opened_plain f low sound))
     (new_array (new_dataset spec) (λ n few. plain_new_array spec formed n typed.0 typed.1 few))
-edited_plain f (HardLink target path) low sound typed accepted roomy = each_linked_to (λ n. IsPlain) plain_linked f.tree target path (opened_plain f low sound)
-edited_plain f (SoftLink text path) low sound typed accepted roomy = each_linked (λ n. IsPlain) plain_linked f.tree path (Soft text) (opened_plain f low sound)
-edited_plain f (Unlink path) low sound typed accepted roomy =
+edited_plain f (HardLink target path) low sound anew typed accepted roomy = each_linked_to (λ n. IsPlain) plain_linked f.tree target path (opened_plain f low sound)
+edited_plain f (SoftLink text path) low sound anew typed accepted roomy = each_linked (λ n. IsPlain) plain_linked f.tree path (Soft text) (opened_plain f low sound)
+edited_plain f (Unlink path) low sound anew typed accepted roomy =
     each_unlinked (λ n. IsPlain) (λ name number o plain. plain_links (λ links. remove links name) o plain) f.tree path (opened_plain f low sound)
-edited_plain f (SetAttr path attr) low sound typed accepted roomy =
-    plain_attribute_set f low sound path attr (accepted_attribute f.tree f.next path attr typed accepted) roomy
-edited_plain f (RemoveAttr path name) low sound typed accepted roomy =
-    let each = opened_plain f low sound in
-    each_at (λ n. IsPlain) f.tree path (λ o. with_removed o name) each (λ number o at there. plain_without o name (each number o there))
-edited_plain f (Write path hyper values) low sound typed accepted roomy =
+edited_plain f (SetAttr path attr) low sound anew typed accepted roomy = absurd (let never : true ≡ false = anew in cc)
+edited_plain f (RemoveAttr path name) low sound anew typed accepted roomy = absurd (let never : true ≡ false = anew in cc)
+edited_plain f (Write path hyper values) low sound anew typed accepted roomy =
     let each = opened_plain f low sound in
     let wrote = accepted_write f.tree f.next path hyper values accepted in
     each_at (λ n. IsPlain) f.tree path (with_dataset (written (axes_of hyper) values)) each (λ number o at there.
     plain_cells (axes_of hyper) values o (each number o there) (λ d is.
     let same : wrote.0 ≡ d = same_Some wrote.0 d (sym wrote.1 ∙ array_at f number o d path at there is) in
     subst (λ (x : Dataset). AreOf x.fixed values) same (values_are (wrote.0).fixed values wrote.2.fitting)))
-edited_plain f (Resize path dims) low sound typed accepted roomy =
+edited_plain f (Resize path dims) low sound anew typed accepted roomy =
     let each = opened_plain f low sound in
     each_at (λ n. IsPlain) f.tree path (with_dataset (resized dims)) each (λ number o at there.
     plain_sized dims o (each number o there) (λ d is. accepted_sizes f.tree f.next path dims d accepted (array_at f number o d path at there is)))

@@ -55,35 +55,6 @@ all_filter P p (x ∷ xs) all = elim (p x) as (λ b. AllByRecursion P (cond b (x
 pub length_filter : {X : Type 0} (p : X → Bool) (x : X) (xs : List X) → length (filter p (x ∷ xs)) ≡ cond (p x) 1 0 + length (filter p xs)
 length_filter p x xs = elim (p x) as (λ b. length (cond b (x ∷ filter p xs) (filter p xs)) ≡ cond b 1 0 + length (filter p xs)) [ true ↦ omega arith | false ↦ omega arith ]
 
-few_filter : {X : Type 0} (p : X → Bool) (xs : List X) → length (filter p xs) ≤ length xs
-few_filter p [] = omega arith
-few_filter p (x ∷ xs) = elim (p x) as (λ b. length (cond b (x ∷ filter p xs) (filter p xs)) ≤ length (x ∷ xs)) [
-  | true ↦ omega (arith, few_filter p xs)
-  | false ↦ omega (arith, few_filter p xs)
-]
-
--- ---- an entry that is removed
-
-as_true : (b : Bool) → T b → b ≡ true
-as_true true t = refl
-as_true false t = absurd t
-
-module _ {X : Type 0} (m : FinMap by_name X) (name : List ℕ) where
-  entries-remove : entries (remove m name) ≡ where_key by_name (λ x. not (eq_by_cmp by_name name x)) (entries m)
-  entries-remove =
-      let sorted : T (is_sorted by_name (entries m)) = entries_sorted m in
-      let same : from_sorted (entries m) ≡ m = same_entries_map _ _ (entries-from_sorted by_name (entries m) sorted) in
-      ap (λ x. entries (remove x name)) (sym same) ∙ ap entries (remove_by_name (entries m) name (as_true _ sorted))
-      ∙ entries_by_name (where_key by_name (λ x. not (eq_by_cmp by_name name x)) (entries m)) (as_true _ (is_sorted-where_key by_name (λ x. not (eq_by_cmp by_name name x)) (entries m) sorted))
-
-  -- each entry is an old one
-  pub all_removed : (P : List ℕ × X → Type 0) → AllByRecursion P (entries m) → AllByRecursion P (entries (remove m name))
-  all_removed P all = subst (AllByRecursion P) (sym entries-remove) (all_filter P _ (entries m) all)
-
-  -- there are no more
-  pub few_removed : length (entries (remove m name)) ≤ length (entries m)
-  few_removed = omega (arith, ap length entries-remove, few_filter (λ (e : List ℕ × X). not (eq_by_cmp by_name name e.0)) (entries m))
-
 -- ---- entries of a list
 
 pub all_entries : {X : Type 0} (P : List ℕ × X → Type 0) (es : List (List ℕ × X)) → AllByRecursion P es → AllByRecursion P (entries (from_entries {R = by_name} es))

@@ -1,19 +1,16 @@
 -- Messages that are appended to those that are to be written behind an object's content (File Format Specification 3.0, section
 -- IV.A.2).
-use Rattle.std.specs.Prelude.{◌≡◌, ℕ, ◌+◌, ◌≤◌, Option, Some, None, List, ◌++◌, map, length, not, take, drop, ◌∷◌}
+use Rattle.std.specs.Prelude.{◌≡◌, ℕ, ◌+◌, ◌≤◌, List, ◌++◌, map, length, take, drop, ◌∷◌}
 use Rattle.std.specs.List.{filter}
-use Rattle.std.specs.Ordering.{nat_cmp, eq_by_cmp}
+use Rattle.std.specs.Ordering.{nat_cmp}
 use Rattle.std.specs.Cmp.Lexicographic.{slice_cmp}
 use Rattle.std.specs.FinMap.{put}
-use Rattle.h5_model.specs.Edits.Applied.{attribute_from}
 use Rattle.h5_model.specs.Format.Messages.{Message}
 use Rattle.h5_model.specs.Format.Reads.{is_kept, kept_of}
 use Rattle.h5_model.specs.Tree.Objects.{Attribute, Kept}
 use Rattle.h5_repack.specs.Bodies.Bodies.{kept_message, attribute_message}
 use Rattle.h5_repack.specs.Blocks.Others.{OthersBytes}
 use Rattle.h5_repack.specs.Blocks.Written.{AreOthers}
-use Rattle.h5_edit.specs.declared.change.edit.ObjectEdit.{ObjectEdit}
-use Rattle.h5_edit.specs.declared.change.edit.ObjectEdit.TheVariants as edit
 
 -- these messages were appended
 abbrev pub Appends : OthersBytes → OthersBytes → List (ℕ × List ℕ) → Type 0
@@ -38,22 +35,6 @@ NamedAttributes = List (List ℕ × Attribute)
 
 abbrev pub attribute_messages : NamedAttributes → List (ℕ × List ℕ)
 attribute_messages es = map attribute_message es
-
--- without the attribute of this name
-abbrev pub without : List ℕ → NamedAttributes → NamedAttributes
-without name es = filter (λ (e : List ℕ × Attribute). not (eq_by_cmp (slice_cmp nat_cmp) name e.0)) es
-
--- ascending attributes with an edit among them
-abbrev pub merged : ObjectEdit → NamedAttributes → NamedAttributes
-merged (edit.Link l) es = es
-merged (edit.SetAttr a) es = put (slice_cmp nat_cmp) (a.now).name (attribute_from a.now) es
-merged (edit.RemoveAttr name) es = without name.now es
-merged (edit.Resize dims) es = es
-merged (edit.Store missing) es = es
-
-abbrev pub merged_by : Option ObjectEdit → NamedAttributes → NamedAttributes
-merged_by None es = es
-merged_by (Some e) es = merged e es
 
 -- Where a name has its place among ascending ones: so many stand before it, and from another place on they stand behind it.
 pub record IsPlaceOf {X : Type 0} (name : List ℕ) (es : List (List ℕ × X)) (before behind : ℕ) : Type 0 where

@@ -6,7 +6,7 @@ use Rattle.h5_model.specs.Tree.Objects.{Tree, Dataset, Link, Links, ToObject, So
 use Rattle.h5_repack.specs.Image.Plain.{ArePlain}
 use Rattle.h5_edit.specs.Changed.Sizes.{IsLacking, IsResizable, stored_all}
 use Rattle.h5_edit.specs.declared.change.change.Change.{Change}
-use Rattle.h5_edit.specs.declared.change.change.Change.TheVariants.{Link as Linked, SetAttr as Set, RemoveAttr as Remove, Resize as Sized, Store as Stores}
+use Rattle.h5_edit.specs.declared.change.change.Change.TheVariants.{Link as Linked, Resize as Sized, Store as Stores}
 use Rattle.h5_edit.specs.declared.change.change.Target.{Target}
 use Rattle.h5_edit.specs.declared.change.change.Target.TheVariants as target
 
@@ -21,8 +21,6 @@ with_target tree parent name (target.Text text) number = with_link tree parent n
 
 unfoldable pub changed : Tree → Change → ℕ → Tree
 changed tree (Linked parent name target) number = with_target tree parent name.now target number
-changed tree (Set object attr) number = with_object tree object (with_attributes (λ m. insert m (attr.now).name (attribute_from attr.now)))
-changed tree (Remove object name) number = with_object tree object (with_attributes (λ m. remove m name.now))
 changed tree (Sized object dims) number = with_object tree object (with_dataset (resized dims.now))
 changed tree (Stores object missing) number = with_object tree object (with_dataset stored_all)
 
@@ -30,8 +28,6 @@ changed tree (Stores object missing) number = with_object tree object (with_data
 -- lacks storage
 abbrev pub IsChange : Tree → Change → Type 0
 IsChange tree (Linked parent name target) = (links : Links) × (links_of tree parent ≡ Some links) × (get links name.now ≡ None)
-IsChange tree (Set object attr) = IsSome (get tree object)
-IsChange tree (Remove object name) = IsSome (get tree object)
 IsChange tree (Sized object dims) = (d : Dataset) × (dataset_of tree object ≡ Some d) × IsResizable dims.now d
 IsChange tree (Stores object missing) = (d : Dataset) × (dataset_of tree object ≡ Some d) × IsLacking d.storage
 

@@ -9,7 +9,7 @@ use Rattle.h5_model.specs.declared.link.Link.{Link as LinkOf}
 use Rattle.h5_repack.specs.Bodies.Sound.{IsPlainAttribute}
 use Rattle.h5_edit.specs.Changed.Sizes.{CanHave, CanStore, stored_all}
 use Rattle.h5_edit.specs.declared.change.change.Change.{Change}
-use Rattle.h5_edit.specs.declared.change.change.Change.TheVariants.{Link as Linked, SetAttr as Set, RemoveAttr as Remove, Resize as Sized, Store as Stores}
+use Rattle.h5_edit.specs.declared.change.change.Change.TheVariants.{Link as Linked, Resize as Sized, Store as Stores}
 use Rattle.h5_edit.specs.declared.change.change.Target.{Target}
 use Rattle.h5_edit.specs.declared.change.change.Target.TheVariants as target
 use Rattle.h5_edit.specs.declared.change.edit.ObjectEdit.{ObjectEdit}
@@ -20,8 +20,6 @@ use Rattle.h5_edit.specs.declared.change.edit.ObjectEdit.TheVariants as edit
 -- the link that an edit adds
 abbrev pub added_link : Option ObjectEdit → Option (LinkOf ObjectNo)
 added_link (Some (edit.Link l)) = Some l
-added_link (Some (edit.SetAttr attr)) = None
-added_link (Some (edit.RemoveAttr name)) = None
 added_link (Some (edit.Resize dims)) = None
 added_link (Some (edit.Store missing)) = None
 added_link None = None
@@ -33,8 +31,6 @@ links_with None links = links
 
 abbrev pub edited : ObjectEdit → Object → Object
 edited (edit.Link l) = with_links (λ links. insert links l.name.now (tree_target l.to))
-edited (edit.SetAttr attr) = with_attributes (λ m. insert m (attr.now).name (attribute_from attr.now))
-edited (edit.RemoveAttr name) = with_attributes (λ m. remove m name.now)
 edited (edit.Resize dims) = with_dataset (resized dims.now)
 edited (edit.Store missing) = with_dataset stored_all
 
@@ -58,18 +54,8 @@ IsFreshIn None links = Unit {0}
 -- the edit can be made of the object, and be written
 abbrev pub IsEditable : Object → ObjectEdit → Type 0
 IsEditable o (edit.Link l) = IsFresh l.name.now o.content
-IsEditable o (edit.SetAttr attr) = IsPlainAttribute ((attr.now).name, attribute_from attr.now)
-IsEditable o (edit.RemoveAttr name) = Unit {0}
 IsEditable o (edit.Resize dims) = CanHave dims.now o.content
 IsEditable o (edit.Store missing) = CanStore o.content
-
--- a new attribute can be written
-abbrev pub IsPlainEdit : ObjectEdit → Type 0
-IsPlainEdit (edit.Link l) = Unit {0}
-IsPlainEdit (edit.SetAttr attr) = IsPlainAttribute ((attr.now).name, attribute_from attr.now)
-IsPlainEdit (edit.RemoveAttr name) = Unit {0}
-IsPlainEdit (edit.Resize dims) = Unit {0}
-IsPlainEdit (edit.Store missing) = Unit {0}
 
 -- ---- changes
 
@@ -83,8 +69,6 @@ new_link (target.Text text) number = Soft text.now
 -- the change edits the object of this number so
 abbrev pub IsEditOf : Change → ℕ → ℕ → ObjectEdit → Type 0
 IsEditOf (Linked parent name target) number place (edit.Link l) = (place ≡ parent) × (l.name.now ≡ name.now) × (tree_target l.to ≡ new_link target number)
-IsEditOf (Set object attr) number place (edit.SetAttr other) = (place ≡ object) × (other.now ≡ attr.now)
-IsEditOf (Remove object name) number place (edit.RemoveAttr other) = (place ≡ object) × (other.now ≡ name.now)
 IsEditOf (Sized object dims) number place (edit.Resize other) = (place ≡ object) × (other.now ≡ dims.now)
 IsEditOf (Stores object missing) number place (edit.Store other) = (place ≡ object) × (other.now ≡ missing.now)
 IsEditOf _ _ _ _ = ⊥
@@ -98,7 +82,5 @@ new_target (target.Text text) = []
 
 abbrev pub new_objects : Change → List Object
 new_objects (Linked parent name target) = new_target target
-new_objects (Set object attr) = []
-new_objects (Remove object name) = []
 new_objects (Sized object dims) = []
 new_objects (Stores object missing) = []

@@ -42,8 +42,6 @@ stored_all d = record d { storage = stored_storage d.sizes d.storage }
 abbrev pub array_after : Option ObjectEdit → Dataset → Dataset
 array_after (Some (edit.Resize dims)) d = resized dims.now d
 array_after (Some (edit.Link l)) d = d
-array_after (Some (edit.SetAttr attr)) d = d
-array_after (Some (edit.RemoveAttr name)) d = d
 array_after (Some (edit.Store missing)) d = stored_all d
 array_after None d = d
 

@@ -1,15 +1,15 @@
 -- Which trees the plain layout can hold: those of opened images, and those that accepted edits give.
-use Rattle.std.specs.Prelude.{◌≡◌, ℕ, ◌<◌, false, None, List, slice_index}
+use Rattle.std.specs.Prelude.{true, ◌≡◌, ℕ, ◌<◌, false, None, List, slice_index}
 use Rattle.std.specs.List.{AllZip}
 use Rattle.h5_model.specs.Format.Fixed.{IsFixed}
 use Rattle.h5_model.specs.Edits.Refusal.{refusal_of}
 use Rattle.h5_model.specs.declared.edits.Edit.{Edit}
-use Rattle.h5_model.specs.declared.edits.Edit.TheVariants.{CreateDataset, SetAttr}
+use Rattle.h5_model.specs.declared.edits.Edit.TheVariants.{CreateDataset}
 use Rattle.h5_query.specs.Opened.Sound.{IsSound}
 use Rattle.h5_query.specs.Opened.State.{FileState}
 use Rattle.h5_repack.specs.Bodies.Sound.{IsBound}
 use Rattle.h5_repack.specs.Image.Plain.{ArePlain}
-use Rattle.h5_edit.specs.Carried.{tree_after, IsTotalFull}
+use Rattle.h5_edit.specs.Carried.{IsMadeAnew, tree_after, IsTotalFull}
 
 -- ---- opened images
 
@@ -22,12 +22,11 @@ OpenedPlain = (f : FileState) → AreBytes f.image → IsSound f → ArePlain f.
 
 -- ---- edits
 
--- a new array, and a new attribute, has a fixed-point type; the array's maxima are not below its sizes, and can be told from none
+-- a new array has a fixed-point type; its maxima are not below its sizes, and can be told from none
 abbrev pub IsTyped : Edit → Type 0
 IsTyped (CreateDataset path spec) = IsFixed spec.fixed × AllZip IsBound spec.dims spec.maxima
-IsTyped (SetAttr path attr) = IsFixed attr.fixed
 IsTyped _ = Unit {0}
 
 abbrev pub EditedPlain : Type 0
-EditedPlain = (f : FileState) (edit : Edit) → AreBytes f.image → IsSound f → IsTyped edit
+EditedPlain = (f : FileState) (edit : Edit) → AreBytes f.image → IsSound f → IsMadeAnew f edit true → IsTyped edit
     → refusal_of f.tree f.next edit ≡ None → IsTotalFull f edit false → ArePlain (tree_after f edit)

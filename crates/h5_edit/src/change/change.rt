@@ -1,7 +1,7 @@
 //! Changes of an opened image.
 
 use crate::change::missing::Missing;
-use h5_model::{AttrSpec, Spec};
+use h5_model::Spec;
 
 /// Where a new link leads.
 #[derive(Clone, Copy)]
@@ -24,16 +24,6 @@ pub enum Change<'a> {
         parent: u32,
         name: &'a [u8],
         target: Target<'a>,
-    },
-    /// An attribute of the object of this number is added, or takes the place of the one of its name.
-    SetAttr {
-        object: u32,
-        attr: &'a AttrSpec,
-    },
-    /// The attribute of this name is left out of the object of this number.
-    RemoveAttr {
-        object: u32,
-        name: &'a [u8],
     },
     /// The array of this number has these sizes: of its cells those stay whose index is inside both, and the others are the fill.
     Resize {

@@ -7,17 +7,13 @@ ghost use Rattle.h5_edit.specs.Changed.Edited as edited;
 
 use crate::change::change::{Change, Target};
 use crate::change::missing::Missing;
-use h5_model::{AttrSpec, Link, LinkTo, ObjectNo};
+use h5_model::{Link, LinkTo, ObjectNo};
 
 /// What a change makes of one object.
 #[derive(Clone, Copy)]
 pub(crate) enum ObjectEdit<'a> {
     /// The group has this link more.
     Link(Link<'a, ObjectNo>),
-    /// The attribute is added, or takes the place of the one of its name.
-    SetAttr(&'a AttrSpec),
-    /// The attribute of this name is left out.
-    RemoveAttr(&'a [u8]),
     /// The array has these sizes.
     Resize(&'a [u64]),
     /// This storage of the array is made.
@@ -37,8 +33,6 @@ pub(crate) fn edit_of<'a>(change: &Change<'a>, next: u32) -> (u32, ObjectEdit<'a
             let to = link_target(target, next);
             (parent, ObjectEdit::Link(Link { name, to }))
         }
-        Change::SetAttr { object, attr } => (object, ObjectEdit::SetAttr(attr)),
-        Change::RemoveAttr { object, name } => (object, ObjectEdit::RemoveAttr(name)),
         Change::Resize { object, dims } => (object, ObjectEdit::Resize(dims)),
         Change::Store { object, missing } => (object, ObjectEdit::Store(missing)),
     }
@@ -72,12 +66,6 @@ pub(crate) fn link_in(edit: Option<ObjectEdit<'_>>) -> Option<Link<'_, ObjectNo>
 {
     match edit {
         Some(ObjectEdit::Link(link)) => Some(link),
-        Some(
-            ObjectEdit::SetAttr(_)
-            | ObjectEdit::RemoveAttr(_)
-            | ObjectEdit::Resize(_)
-            | ObjectEdit::Store(_),
-        )
-        | None => None,
+        Some(ObjectEdit::Resize(_) | ObjectEdit::Store(_)) | None => None,
     }
 }

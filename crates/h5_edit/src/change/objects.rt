@@ -136,7 +136,7 @@ fn edited_object<'a>(
         object.now.messages.header (content_chunks x.content)) }
 {
     let image = opened.image();
-    let others = others_in(alloc, image, &object.messages, edit)?;
+    let others = others_in(alloc, image, &object.messages)?;
     let content = match &object.content {
         OpenedContent::Group(table) => {
             NewContent::Group(links_in(alloc, opened, *table, link_in(edit))?)

@@ -17,10 +17,25 @@ use std::alloc::Global;
 
 /// Where a new array is to stand.
 ///
-/// Refused by the lowest number that holds: `BadPath`, `PathTooDeep`, `IsRoot`, `NoSuchParent`, `NotAGroup`, `AlreadyThere`,
-/// `NameTooLong` above 1023 bytes, `BadSpec` where there are more than 32 sizes, or the maxima or the chunk sizes do not go with them,
-/// `ChunkTooLarge` where a chunk would have more than 2^30 bytes, `CompactTooLarge` where compact cells would have more than 65524,
-/// `TooManyCells`, `ValueRange`, `TooManyObjects`.
+/// # Errors
+///
+/// Where several hold, the one with the lowest number:
+///
+/// - `BadPath`: the bytes are no path.
+/// - `PathTooDeep`: the path has more than 64 names.
+/// - `IsRoot`: the path is `/`.
+/// - `NoSuchParent`: a name before the last one is missing.
+/// - `NotAGroup`: a name before the last one leads to no group.
+/// - `AlreadyThere`: the group has a link of the last name already.
+/// - `NameTooLong`: the last name has more than 1023 bytes.
+/// - `BadSpec`: there are more than 32 sizes; there is not one maximum for each size; a maximum is below its size, or
+///   another than the size where the array is not in chunks; or there is not one chunk size for each size, a chunk
+///   size is 0, or one is above its maximum.
+/// - `ChunkTooLarge`: a chunk would have more than 1073741824 bytes.
+/// - `CompactTooLarge`: the cells of a compact array would have more than 65524 bytes.
+/// - `TooManyCells`: the product of the sizes, with sizes of 0 left out, is above 2^40.
+/// - `ValueRange`: the fill is not a value of the type.
+/// - `TooManyObjects`: no object number is left.
 pub fn check_create_dataset<'a>(
     alloc: Global,
     opened: &Opened,

@@ -18,11 +18,23 @@ use h5_model::{AttrSpec, EditFault};
 use h5_query::{Dims, Opened, get};
 use std::alloc::Global;
 
-/// The number of the object whose attribute is to be set.
+/// The number of the object whose attribute is to be set. Takes no memory.
 ///
-/// Refused by the lowest number that holds: `BadPath`, `PathTooDeep`, `NoSuchParent`, `NotAGroup`, `NotFound` also where a soft link stands
-/// there, `NameTooLong` above 1023 bytes, `BadSpec` where the name is empty or has a zero byte, or the rank is above 32, `TooManyCells`,
-/// `ValueCount`, `ValueRange`, `AttributeTooLarge` where the message's body would pass 65528 bytes. It takes no memory.
+/// # Errors
+///
+/// Where several hold, the one with the lowest number:
+///
+/// - `BadPath`: the bytes are no path.
+/// - `PathTooDeep`: the path has more than 64 names.
+/// - `NoSuchParent`: a name before the last one is missing.
+/// - `NotAGroup`: a name before the last one leads to no group.
+/// - `NotFound`: the last name is missing, or a soft link stands there.
+/// - `NameTooLong`: the attribute's name has more than 1023 bytes.
+/// - `BadSpec`: the attribute's name is empty or has a zero byte, or there are more than 32 sizes.
+/// - `TooManyCells`: the product of the sizes, with sizes of 0 left out, is above 2^40.
+/// - `ValueCount`: there is not one value for each cell.
+/// - `ValueRange`: a value is not one of the type.
+/// - `AttributeTooLarge`: the body of the message would have more than 65528 bytes.
 pub fn check_set_attr(
     alloc: Global,
     opened: &Opened,
@@ -41,10 +53,18 @@ pub fn check_set_attr(
     Ok(object.number)
 }
 
-/// The number of the object whose attribute of this name is to be removed.
+/// The number of the object whose attribute with this name is to be removed.
 ///
-/// Refused by the lowest number that holds: `BadPath`, `PathTooDeep`, `NoSuchParent`, `NotAGroup`, `NotFound` also where a soft link stands
-/// there, `NoSuchAttribute`.
+/// # Errors
+///
+/// Where several hold, the one with the lowest number:
+///
+/// - `BadPath`: the bytes are no path.
+/// - `PathTooDeep`: the path has more than 64 names.
+/// - `NoSuchParent`: a name before the last one is missing.
+/// - `NotAGroup`: a name before the last one leads to no group.
+/// - `NotFound`: the last name is missing, or a soft link stands there.
+/// - `NoSuchAttribute`: the object has no attribute with this name.
 pub fn check_remove_attr(opened: &Opened, path: &[u8], name: &[u8]) -> Result<u32, EditFault>
     ensures at { let tree = opened.now.tree in
         let next = opened.now.next in

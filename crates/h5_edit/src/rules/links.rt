@@ -15,8 +15,18 @@ use h5_query::{Opened, OpenedContent, OpenedObject};
 
 /// Where a new group at the path is to stand.
 ///
-/// Refused by the lowest number that holds: `BadPath`, `PathTooDeep`, `IsRoot`, `NoSuchParent`, `NotAGroup`, `AlreadyThere`,
-/// `NameTooLong` above 1023 bytes, `TooManyObjects`.
+/// # Errors
+///
+/// Where several hold, the one with the lowest number:
+///
+/// - `BadPath`: the bytes are no path.
+/// - `PathTooDeep`: the path has more than 64 names.
+/// - `IsRoot`: the path is `/`.
+/// - `NoSuchParent`: a name before the last one is missing.
+/// - `NotAGroup`: a name before the last one leads to no group.
+/// - `AlreadyThere`: the group has a link of the last name already.
+/// - `NameTooLong`: the last name has more than 1023 bytes.
+/// - `TooManyObjects`: no object number is left.
 pub fn check_create_group<'a>(opened: &Opened, path: &'a [u8]) -> Result<NewPlace<'a>, EditFault>
     ensures { let tree = opened.now.tree in
         let next = opened.now.next in
@@ -30,11 +40,22 @@ pub fn check_create_group<'a>(opened: &Opened, path: &'a [u8]) -> Result<NewPlac
     Ok(place)
 }
 
-/// The object to which a new hard link at the path is to lead, and where the link is to stand.
+/// The number of the object to which a new hard link at `path` is to lead, and where the link is to stand.
 ///
-/// Refused by the lowest number that holds, of either path: `BadPath`, `PathTooDeep`, `IsRoot`, `NoSuchParent`, `NotAGroup`, `NotFound`
-/// where nothing or a soft link stands at `target`, `AlreadyThere`, `NameTooLong` above 1023 bytes, `GroupLink`, `TooManyLinks` where
-/// 65535 hard links lead to the target.
+/// # Errors
+///
+/// Where several hold, the one with the lowest number:
+///
+/// - `BadPath`: the bytes of one of the paths are no path.
+/// - `PathTooDeep`: a path has more than 64 names.
+/// - `IsRoot`: `path` is `/`.
+/// - `NoSuchParent`: a name before the last one of a path is missing.
+/// - `NotAGroup`: a name before the last one of a path leads to no group.
+/// - `NotFound`: nothing stands at `target`, or a soft link.
+/// - `AlreadyThere`: the group has a link of the last name already.
+/// - `NameTooLong`: the last name of `path` has more than 1023 bytes.
+/// - `GroupLink`: a group stands at `target`.
+/// - `TooManyLinks`: 65535 hard links lead to the array already.
 pub fn check_hard_link<'a>(
     opened: &Opened,
     target: &[u8],
@@ -76,8 +97,17 @@ fn check_target(opened: &Opened, number: u32, object: &OpenedObject) -> Result<(
 
 /// Where a new soft link with this text is to stand.
 ///
-/// Refused by the lowest number that holds: `BadPath` also where the text is empty or has a zero byte, `PathTooDeep`, `IsRoot`,
-/// `NoSuchParent`, `NotAGroup`, `AlreadyThere`, `NameTooLong` where the name or the text has more than 1023 bytes.
+/// # Errors
+///
+/// Where several hold, the one with the lowest number:
+///
+/// - `BadPath`: the bytes are no path; or the text is empty, or has a zero byte.
+/// - `PathTooDeep`: the path has more than 64 names.
+/// - `IsRoot`: the path is `/`.
+/// - `NoSuchParent`: a name before the last one is missing.
+/// - `NotAGroup`: a name before the last one leads to no group.
+/// - `AlreadyThere`: the group has a link of the last name already.
+/// - `NameTooLong`: the last name, or the text, has more than 1023 bytes.
 pub fn check_soft_link<'a>(
     opened: &Opened,
     text: &[u8],

@@ -23,10 +23,21 @@ pub struct Removal<'a> {
     pub gone: Option<u32>,
 }
 
-/// What an unlink of the path takes away.
+/// What an unlink of the path takes away. If a group stands there, it takes memory for a reference to each of its
+/// links.
 ///
-/// Refused by the lowest number that holds: `BadPath`, `PathTooDeep`, `IsRoot`, `NoSuchParent`, `NotAGroup`, `NotFound`, `GroupNotEmpty`
-/// where a group with links stands there. Only of a group it takes memory, for a reference to each link: `NoMemory`.
+/// # Errors
+///
+/// Where several hold, the one with the lowest number:
+///
+/// - `BadPath`: the bytes are no path.
+/// - `PathTooDeep`: the path has more than 64 names.
+/// - `IsRoot`: the path is `/`.
+/// - `NoSuchParent`: a name before the last one is missing.
+/// - `NotAGroup`: a name before the last one leads to no group.
+/// - `NotFound`: the last name is missing.
+/// - `GroupNotEmpty`: a group with links stands there.
+/// - `NoMemory`: memory is refused.
 pub fn check_unlink<'a>(
     alloc: Global,
     opened: &Opened,

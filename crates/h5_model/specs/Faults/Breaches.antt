@@ -7,7 +7,8 @@ use Rattle.std.specs.FinMap.{FinMap}
 use Rattle.h5_bytes.specs.Bytes.{number_at, byte_at, part, undefined}
 use Rattle.h5_bytes.specs.Blocks.{cover}
 use Rattle.h5_bytes.specs.declared.Block.{Block}
-use Rattle.h5_model.specs.Format.Superblock.{signature, superblock_length, end_of_file, leaf_k, internal_k}
+use Rattle.h5_model.specs.Format.Superblock.{signature, superblock_length, end_field, end_of_file, leaf_k, internal_k}
+use Rattle.h5_model.specs.Format.MessageTypes.{symbol_table_kind}
 use Rattle.h5_model.specs.Format.Messages.{Message, count_of, prefix_at, reference_count}
 use Rattle.h5_model.specs.Format.Nodes.{group_kind}
 use Rattle.h5_model.specs.Format.Heap.{heap_header, segment_of, IsHeap}
@@ -24,13 +25,13 @@ use Rattle.h5_model.specs.declared.open_fault.Cause.TheVariants.{NotHdf5, Trunca
 
 -- a field breaks its rule
 abbrev pub FieldBreach : List ℕ → Cause → ℕ → Type 0
-FieldBreach bytes Truncated at = (at ≡ 40) × ((end_of_file bytes < superblock_length bytes) ⊎ (length bytes < end_of_file bytes))
+FieldBreach bytes Truncated at = (at ≡ (end_field bytes).at) × ((end_of_file bytes < superblock_length bytes) ⊎ (length bytes < end_of_file bytes))
 FieldBreach bytes SuperblockVersion at = IsTrue (list_any (λ p. p == at) (8 ∷ 9 ∷ 10 ∷ 12 ∷ [])) × (byte_at bytes at ≢ 0)
 FieldBreach bytes FieldSizes at = IsTrue (list_any (λ p. p == at) (13 ∷ 14 ∷ [])) × (byte_at bytes at ≢ 8)
 FieldBreach bytes BaseAddress at = (at ≡ 24) × (number_at bytes 24 8 ≢ 0)
 FieldBreach bytes Driver at = (at ≡ 48) × (number_at bytes 48 8 ≢ undefined)
 FieldBreach bytes KRange at = IsTrue (list_any (λ p. p == at) (16 ∷ 18 ∷ [])) × ((number_at bytes at 2 ≡ 0) ⊎ (32767 < number_at bytes at 2))
-FieldBreach bytes TooLarge at = (at ≡ 40) × (2 ^ 31 < end_of_file bytes)
+FieldBreach bytes TooLarge at = (at ≡ (end_field bytes).at) × (2 ^ 31 < end_of_file bytes)
 FieldBreach bytes _ at = ⊥
 
 -- the signature, or the whole superblock, is not there
@@ -80,12 +81,12 @@ IsOverlap image x = (1 ≤ length_of image x)
 
 -- two links name the header of a group
 abbrev pub IsLinkedTwice : List ℕ → Named → Type 0
-IsLinkedTwice image x = IsTrue (is_header x.role) × SomeMessage image x.at (λ kind. kind == 17)
+IsLinkedTwice image x = IsTrue (is_header x.role) × SomeMessage image x.at (λ kind. kind == symbol_table_kind)
     × ((y : Named) × Reached image y × (y.field ≢ x.field) × (y.at ≡ x.at) × IsTrue (is_header y.role))
 
 -- the root's header has no Symbol Table message
 abbrev pub IsNoRoot : List ℕ → Named → Type 0
-IsNoRoot image x = (x.depth ≡ 0) × IsTrue (is_header x.role) × ((ms : List Message) × AllMessages image x.at ms × (count_of 17 ms ≡ 0))
+IsNoRoot image x = (x.depth ≡ 0) × IsTrue (is_header x.role) × ((ms : List Message) × AllMessages image x.at ms × (count_of symbol_table_kind ms ≡ 0))
 
 -- fields that name this header, each once
 pub record AreLinkFields (image : List ℕ) (header : ℕ) (fields : List ℕ) : Type 0 where

@@ -6,6 +6,7 @@ use Rattle.h5_bytes.specs.Bytes.{number_at, byte_at, part}
 use Rattle.h5_bytes.specs.Blocks.{block}
 use Rattle.h5_bytes.specs.declared.Block.{Block}
 use Rattle.h5_model.specs.Format.Addresses.{continuation_of}
+use Rattle.h5_model.specs.Format.MessageTypes.{continuation_kind}
 
 -- a message: its type, where its body stands in the image, and the body
 pub record Message : Type 0 where
@@ -29,7 +30,7 @@ Fills block_at bytes at (m ∷ ms) = IsMessage block_at bytes at m × Fills bloc
 
 -- the block that a Continuation message names; other messages name none
 abbrev pub continuation : Message → List Block
-continuation m = if m.kind == 16 then option_map_or (λ b. b ∷ []) (continuation_of m.body) [] else []
+continuation m = if m.kind == continuation_kind then option_map_or (λ b. b ∷ []) (continuation_of m.body) [] else []
 
 abbrev pub continuations : List Message → List Block
 continuations ms = flat_map continuation ms
@@ -62,7 +63,7 @@ first_block image header = block (header + 16) (first_size (prefix_at image head
 
 -- a Continuation names a block
 abbrev pub IsContinued : Message → Type 0
-IsContinued m = m.kind ≡ 16 → IsSome (continuation_of m.body)
+IsContinued m = m.kind ≡ continuation_kind → IsSome (continuation_of m.body)
 
 -- The object header at this place has these messages, in these blocks. Its prefix lies with the first block.
 pub record HasMessages (image : List ℕ) (header : ℕ) (messages : List Message) (blocks : List Block) : Type 0 where

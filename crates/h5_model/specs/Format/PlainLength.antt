@@ -4,6 +4,7 @@ use Rattle.std.specs.Prelude.{ℕ, zero, suc, ◌+◌, ◌-◌, ◌*◌, ◌/◌
 use Rattle.std.specs.FinMap.{entries, len}
 use Rattle.h5_model.specs.Tree.Places.{cells}
 use Rattle.h5_model.specs.Tree.Objects.{Tree, Link, ToObject, Soft, Links, Content, Group, Array, Dataset, Storage, Compact, Contiguous, Chunked}
+use Rattle.h5_model.specs.Format.PlainSuperblock.{plain_superblock_length}
 use Rattle.h5_model.specs.Format.Sizes.{group_node, chunk_node, symbol_node, text_span, header_size}
 
 -- how many rows of at most m take n
@@ -48,4 +49,4 @@ content_bytes leaf_k internal_k chunk_k stored (Array d) = data_bytes chunk_k st
 
 unfoldable pub plain_length : ℕ → ℕ → ℕ → (ℕ → ℕ) → Tree → ℕ
 plain_length leaf_k internal_k chunk_k stored tree =
-    96 + sum_by (λ e. header_size e.1 + content_bytes leaf_k internal_k chunk_k (stored e.0) (e.1).content) (entries tree)
+    plain_superblock_length + sum_by (λ e. header_size e.1 + content_bytes leaf_k internal_k chunk_k (stored e.0) (e.1).content) (entries tree)

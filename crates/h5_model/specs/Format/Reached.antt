@@ -6,6 +6,7 @@ use Rattle.h5_bytes.specs.Bytes.{number_at, part}
 use Rattle.h5_bytes.specs.Blocks.{block, Inside}
 use Rattle.h5_bytes.specs.declared.Block.{Block}
 use Rattle.h5_model.specs.Format.Superblock.{superblock_length, leaf_k, internal_k, chunk_k, root_header}
+use Rattle.h5_model.specs.Format.MessageTypes.{dataspace_kind, datatype_kind, data_layout_kind, continuation_kind, symbol_table_kind}
 use Rattle.h5_model.specs.Format.Messages.{Message, FillBlocks, continuations, prefix_at, first_size, first_block, first_body}
 use Rattle.h5_model.specs.Format.Nodes.{Kind, group_kind, chunk_kind, node_bytes, node_length, entries_in, key_place, child_in, node_at}
 use Rattle.h5_model.specs.Format.Symbols.{Entry, symbol_bytes, symbols_in, entry_of}
@@ -52,13 +53,13 @@ AllMessages image header messages = (parts : List (List Message))
 
 -- what the messages say of sizes, of the type, and of the layout
 abbrev pub extent_among : List Message → Option Extent
-extent_among messages = option_and_then extent_of (first_body 1 messages)
+extent_among messages = option_and_then extent_of (first_body dataspace_kind messages)
 
 abbrev pub type_among : List Message → Option Fixed
-type_among messages = option_and_then fixed_of (first_body 3 messages)
+type_among messages = option_and_then fixed_of (first_body datatype_kind messages)
 
 abbrev pub layout_by : List Message → Extent → Fixed → Option Layout
-layout_by messages extent t = option_and_then (layout_of extent.sizes t.size) (first_body 8 messages)
+layout_by messages extent t = option_and_then (layout_of extent.sizes t.size) (first_body data_layout_kind messages)
 
 abbrev pub layout_among : List Message → Option Layout
 layout_among messages = option_and_then (λ extent. option_and_then (layout_by messages extent) (type_among messages)) (extent_among messages)
@@ -110,14 +111,14 @@ chunk_root image shape root = ChunkNode shape root (level_at image (shape_kind i
 -- a Continuation at this place names a block of messages; a Symbol Table names a tree and a heap
 abbrev pub FromMessage : List ℕ → ℕ → ℕ → ℕ → Named → Type 0
 FromMessage image header depth at y =
-    ((kind_at image at ≡ 16) × (y ≡ named (at + 8) (Continuation header) (number_at image (at + 8) 8) depth))
-    ⊎ (((kind_at image at ≡ 17) × (y ≡ named (at + 8) (group_root image (number_at image (at + 8) 8) (number_at image (at + 16) 8)) (number_at image (at + 8) 8) depth))
-    ⊎ ((kind_at image at ≡ 17) × (y ≡ named (at + 16) (HeapHeader (number_at image (at + 8) 8)) (number_at image (at + 16) 8) depth)))
+    ((kind_at image at ≡ continuation_kind) × (y ≡ named (at + 8) (Continuation header) (number_at image (at + 8) 8) depth))
+    ⊎ (((kind_at image at ≡ symbol_table_kind) × (y ≡ named (at + 8) (group_root image (number_at image (at + 8) 8) (number_at image (at + 16) 8)) (number_at image (at + 8) 8) depth))
+    ⊎ ((kind_at image at ≡ symbol_table_kind) × (y ≡ named (at + 16) (HeapHeader (number_at image (at + 8) 8)) (number_at image (at + 16) 8) depth)))
 
 -- a Data Layout message names a block of data, or a tree of chunks; the undefined address names none
 abbrev pub FromLayout : List ℕ → List Message → ℕ → Named → Type 0
 FromLayout image messages depth y = (m : Message) × (t : Fixed) × (layout : Layout)
-    × (find (λ x. x.kind == 8) messages ≡ Some m) × (type_among messages ≡ Some t)
+    × (find (λ x. x.kind == data_layout_kind) messages ≡ Some m) × (type_among messages ≡ Some t)
     × (layout_among messages ≡ Some layout) × Gives m t layout where
       Gives : Message → Fixed → Layout → Type 0
       Gives m t (InBlock (Some b)) = y ≡ named (m.at + 2) Data b.at depth

@@ -8,6 +8,7 @@ use Rattle.std.specs.List.{flat_map, filter, AllByRecursion, AllZip, IsDistinct}
 use Rattle.h5_bytes.specs.Blocks.{block, Separate, Inside}
 use Rattle.h5_bytes.specs.declared.Block.{Block}
 use Rattle.h5_model.specs.Format.Superblock.{IsSuperblock, superblock_length, leaf_k, internal_k, chunk_k, end_of_file, root_header}
+use Rattle.h5_model.specs.Format.MessageTypes.{nil_kind, dataspace_kind, datatype_kind, old_fill_value_kind, fill_value_kind, data_layout_kind, attribute_kind, comment_kind, old_modification_time_kind, continuation_kind, symbol_table_kind, modification_time_kind}
 use Rattle.h5_model.specs.Format.Messages.{Message, HasMessages, count_of, first_body, prefix_at, reference_count}
 use Rattle.h5_model.specs.Format.Addresses.{SymbolTable, symbol_table_of}
 use Rattle.h5_model.specs.Format.Symbols.{Target, Header, Text}
@@ -27,17 +28,17 @@ use Rattle.h5_model.specs.Tree.Objects.{Tree, Object, Content, Group, Array, Dat
 
 -- Comment and the two Modification Times are kept as they stand
 abbrev pub is_kept : Message → Bool
-is_kept m = (m.kind == 13 || m.kind == 14) || m.kind == 18
+is_kept m = (m.kind == comment_kind || m.kind == old_modification_time_kind) || m.kind == modification_time_kind
 
 abbrev pub kept_of : Message → Kept
 kept_of m = record { kind = m.kind; body = m.body }
 
 abbrev pub is_attribute_message : Message → Bool
-is_attribute_message m = m.kind == 12
+is_attribute_message m = m.kind == attribute_kind
 
 -- NIL, Continuation, Attribute and kept messages
 abbrev pub is_common : Message → Bool
-is_common m = (m.kind == 0 || m.kind == 16) || (is_attribute_message m || is_kept m)
+is_common m = (m.kind == nil_kind || m.kind == continuation_kind) || (is_attribute_message m || is_kept m)
 
 -- The attribute messages are these, of different names.
 pub record HasAttributes (messages : List Message) (attributes : Attributes) : Type 0 where
@@ -51,14 +52,14 @@ pub record HasAttributes (messages : List Message) (attributes : Attributes) : T
 
 -- what a group's header may hold
 abbrev pub InGroup : Message → Type 0
-InGroup m = IsTrue (m.kind == 17 || is_common m)
+InGroup m = IsTrue (m.kind == symbol_table_kind || is_common m)
 
 -- The messages of a header are those of a group with these links.
 pub record HasGroup (image : List ℕ) (messages : List Message) (links : List (List ℕ × Target)) (blocks : List Block) : Type 0 where
   pub known : AllByRecursion InGroup messages
-  pub once : count_of 17 messages ≡ 1
+  pub once : count_of symbol_table_kind messages ≡ 1
   pub symbol_table : SymbolTable
-  pub chosen : option_and_then symbol_table_of (first_body 17 messages) ≡ Some symbol_table
+  pub chosen : option_and_then symbol_table_of (first_body symbol_table_kind messages) ≡ Some symbol_table
   pub linked : HasLinks image (leaf_k image) (internal_k image) symbol_table.tree symbol_table.heap links blocks
 
 -- a link of the tree is the one that the file has, where the table says which object stands at which header
@@ -72,7 +73,8 @@ IsSame table (name, Soft text) (name', Text text') = (name ≡ name') × (text �
 
 -- what a dataset's header may hold
 abbrev pub InDataset : Message → Type 0
-InDataset m = IsTrue (((m.kind == 1 || m.kind == 3) || (m.kind == 4 || m.kind == 5)) || (m.kind == 8 || is_common m))
+InDataset m = IsTrue (((m.kind == dataspace_kind || m.kind == datatype_kind) || (m.kind == old_fill_value_kind || m.kind == fill_value_kind))
+    || (m.kind == data_layout_kind || is_common m))
 
 -- the value of a fill message that there need not be
 abbrev pub IsFill : (List ℕ → Option ℤ) → Option (List ℕ) → Option ℤ → Type 0
@@ -101,20 +103,20 @@ HasData image t (InChunks chunk_sizes (Some root)) chunks blocks = HasChunks ima
 -- The messages of a header are those of this dataset.
 pub record HasDataset (image : List ℕ) (messages : List Message) (d : Dataset) (blocks : List Block) : Type 0 where
   pub known : AllByRecursion InDataset messages
-  pub one_space : count_of 1 messages ≡ 1
-  pub one_type : count_of 3 messages ≡ 1
-  pub one_layout : count_of 8 messages ≡ 1
-  pub old_fills : count_of 4 messages ≤ 1
-  pub fills : count_of 5 messages ≤ 1
-  pub space : option_and_then extent_of (first_body 1 messages) ≡ Some (record { sizes = d.sizes; maxima = d.maxima })
-  pub type : option_and_then fixed_of (first_body 3 messages) ≡ Some d.fixed
+  pub one_space : count_of dataspace_kind messages ≡ 1
+  pub one_type : count_of datatype_kind messages ≡ 1
+  pub one_layout : count_of data_layout_kind messages ≡ 1
+  pub old_fills : count_of old_fill_value_kind messages ≤ 1
+  pub fills : count_of fill_value_kind messages ≤ 1
+  pub space : option_and_then extent_of (first_body dataspace_kind messages) ≡ Some (record { sizes = d.sizes; maxima = d.maxima })
+  pub type : option_and_then fixed_of (first_body datatype_kind messages) ≡ Some d.fixed
   pub old_fill : Option ℤ
   pub new_fill : Option ℤ
-  pub old_filled : IsFill (old_fill_value d.fixed) (first_body 4 messages) old_fill
-  pub new_filled : IsFill (fill_value d.fixed) (first_body 5 messages) new_fill
+  pub old_filled : IsFill (old_fill_value d.fixed) (first_body old_fill_value_kind messages) old_fill
+  pub new_filled : IsFill (fill_value d.fixed) (first_body fill_value_kind messages) new_fill
   pub filled : d.fill ≡ chosen_fill new_fill old_fill
   pub layout : Layout
-  pub laid_out : option_and_then (layout_of d.sizes d.fixed.size) (first_body 8 messages) ≡ Some layout
+  pub laid_out : option_and_then (layout_of d.sizes d.fixed.size) (first_body data_layout_kind messages) ≡ Some layout
   pub storage : d.storage ≡ storage_of d.sizes layout
   pub small : extent_cells d.sizes ≤ 2 ^ 40
   pub chunk_small : IsChunkSmall d.fixed layout

@@ -13,7 +13,7 @@ use Rattle.h5_model.specs.Edits.EditFaults.{refused_text}
 use Rattle.h5_model.specs.Views.ViewFaults.{view_fault_text}
 use Rattle.h5_model.specs.Edits.Refusal.{refusal_of, first_holding}
 use Rattle.h5_model.specs.Scripts.Reading.{path_rules, selection_rules}
-use Rattle.h5_model.specs.Views.Shown.{View, Views, Shown, shows, is_lent, refreshed_of}
+use Rattle.h5_model.specs.Views.Shown.{View, Shown, shows, is_lent, refreshed_of}
 use Rattle.h5_model.specs.Scripts.Sessions.{Session}
 use Rattle.h5_model.specs.Edits.ImageAnswers.{chosen}
 use Rattle.h5_model.specs.Scripts.Text.{line_of, escaped, list_text, dump_text, values_text}
@@ -25,23 +25,10 @@ use Rattle.h5_model.specs.declared.edit_fault.EditFault.TheVariants as fault
 use Rattle.h5_model.specs.declared.view_fault.ViewFault.{ViewFault}
 use Rattle.h5_model.specs.declared.view_fault.ViewFault.TheVariants as view_fault
 
--- What answers tell of the way in which views are kept: how many chunks an edit of the old tree to the new one refreshed in them, and
--- whether what a view shows is lent from the image.
-pub record Telling : Type 0 where
-  pub refreshed : Tree → Tree → Views → Edit → ℕ
-  pub lent : Tree → Option View → Bool
-
+-- whether what a view shows is lent from the image
 abbrev pub view_is_lent : Tree → Option View → Bool
 view_is_lent tree None = false
 view_is_lent tree (Some view) = option_map_or (λ d. is_lent d view.slab) (dataset_of tree view.object) false
-
--- views are lent from the image where they can be, and of the others the chunks that an edit meets are refreshed
-abbrev pub patched : Telling
-patched = record { refreshed = refreshed_of; lent = view_is_lent }
-
--- each view is gathered anew from its whole selection after each edit: no chunk is refreshed by itself, and none is lent
-abbrev pub gathered : Telling
-gathered = record { refreshed = λ old new views edit. 0; lent = λ tree view. false }
 
 -- what the rules of the tree leave open: a refusal for the image or for memory
 abbrev pub Given : Type 0
@@ -62,14 +49,14 @@ abbrev pub answered : Outcome → List ℕ → Session → Answer
 answered outcome text s = record { text = text; session = s; outcome = outcome }
 
 -- an edit's answer: its refusal, else how many chunks were refreshed
-abbrev pub edit_decided : Telling → Session → Edit → Option EditFault → Answer
-edit_decided telling s edit (Some f) = answered Refused (refused_text f) s
-edit_decided telling s edit None =
-    answered Accepted (codes "ok " ++ decimal (telling.refreshed (s.state).tree (state_after s.state edit).tree s.views edit) ++ codes "\n")
+abbrev pub edit_decided : Session → Edit → Option EditFault → Answer
+edit_decided s edit (Some f) = answered Refused (refused_text f) s
+edit_decided s edit None =
+    answered Accepted (codes "ok " ++ decimal (refreshed_of (s.state).tree (state_after s.state edit).tree s.views edit) ++ codes "\n")
     (record s { state = state_after s.state edit })
 
-abbrev pub edit_answer : Telling → Session → Edit → Given → Answer
-edit_answer telling s edit given = edit_decided telling s edit (chosen (refusal_of (s.state).tree (s.state).next edit) given)
+abbrev pub edit_answer : Session → Edit → Given → Answer
+edit_answer s edit given = edit_decided s edit (chosen (refusal_of (s.state).tree (s.state).next edit) given)
 
 abbrev pub opened : Session → ℕ → Hyper → Session
 opened s number hyper = record s {
@@ -118,13 +105,13 @@ abbrev pub shown_text : Bool → Shown → List ℕ
 shown_text lent shown =
     (if lent then codes "lent" else codes "kept") ++ values_text (stored_values shown.fixed shown.bytes) ++ codes "\n"
 
-abbrev pub show_told : Telling → Session → ℕ → Result Shown ViewFault → Answer
-show_told telling s number (Err f) = answered Refused (view_fault_text f) s
-show_told telling s number (Ok shown) =
-    answered Told (shown_text (telling.lent (s.state).tree (get s.views number)) shown) s
+abbrev pub show_told : Session → ℕ → Result Shown ViewFault → Answer
+show_told s number (Err f) = answered Refused (view_fault_text f) s
+show_told s number (Ok shown) =
+    answered Told (shown_text (view_is_lent (s.state).tree (get s.views number)) shown) s
 
-abbrev pub show_answer : Telling → Session → ℕ → Answer
-show_answer telling s number = show_told telling s number (shows (s.state).tree s.views number)
+abbrev pub show_answer : Session → ℕ → Answer
+show_answer s number = show_told s number (shows (s.state).tree s.views number)
 
 abbrev pub close_answer : Session → ℕ → Answer
 close_answer s number =
@@ -136,32 +123,32 @@ repack_answer s (Some f) = answered Refused (refused_text f) s
 repack_answer s None = answered Accepted (codes "ok 0\n") s
 
 -- what a line answers, and the session after it
-abbrev pub answer_of : Telling → Session → Command → Given → Answer
-answer_of telling s (Change edit) given = edit_answer telling s edit given
-answer_of telling s (OpenView path hyper) given = view_answer s path hyper given
-answer_of telling s (Show number) given = show_answer telling s number
-answer_of telling s (Close number) given = close_answer s number
-answer_of telling s ListAll given = told_unless given (list_text (s.state).tree) s
-answer_of telling s (Dump path) given = dump_answer s path given
-answer_of telling s Repack given = repack_answer s given
-answer_of telling s Unread given = answered Refused (codes "bad line\n") s
+abbrev pub answer_of : Session → Command → Given → Answer
+answer_of s (Change edit) given = edit_answer s edit given
+answer_of s (OpenView path hyper) given = view_answer s path hyper given
+answer_of s (Show number) given = show_answer s number
+answer_of s (Close number) given = close_answer s number
+answer_of s ListAll given = told_unless given (list_text (s.state).tree) s
+answer_of s (Dump path) given = dump_answer s path given
+answer_of s Repack given = repack_answer s given
+answer_of s Unread given = answered Refused (codes "bad line\n") s
 
 -- the text of all lines' answers
-unfoldable pub transcript_of : Telling → Session → List (Command × Given) → List ℕ
-transcript_of telling s [] = []
-transcript_of telling s (line ∷ lines) =
-    (answer_of telling s line.0 line.1).text ++ transcript_of telling (answer_of telling s line.0 line.1).session lines
+unfoldable pub transcript_of : Session → List (Command × Given) → List ℕ
+transcript_of s [] = []
+transcript_of s (line ∷ lines) =
+    (answer_of s line.0 line.1).text ++ transcript_of (answer_of s line.0 line.1).session lines
 
 -- the session after the lines
-unfoldable pub session_after : Telling → Session → List (Command × Given) → Session
-session_after telling s [] = s
-session_after telling s (line ∷ lines) = session_after telling (answer_of telling s line.0 line.1).session lines
+unfoldable pub session_after : Session → List (Command × Given) → Session
+session_after s [] = s
+session_after s (line ∷ lines) = session_after (answer_of s line.0 line.1).session lines
 
 -- the outcomes of the lines
-abbrev pub outcomes_of : Telling → Session → List (Command × Given) → List Outcome
-outcomes_of telling s [] = []
-outcomes_of telling s (line ∷ lines) =
-    (answer_of telling s line.0 line.1).outcome ∷ outcomes_of telling (answer_of telling s line.0 line.1).session lines
+abbrev pub outcomes_of : Session → List (Command × Given) → List Outcome
+outcomes_of s [] = []
+outcomes_of s (line ∷ lines) =
+    (answer_of s line.0 line.1).outcome ∷ outcomes_of (answer_of s line.0 line.1).session lines
 
 abbrev pub is_refused : Outcome → Bool
 is_refused Refused = true

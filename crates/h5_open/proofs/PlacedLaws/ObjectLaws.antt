@@ -6,7 +6,6 @@ use Rattle.std.specs.FinMap.{get}
 use Rattle.h5_model.specs.Format.Symbols.{Header}
 use Rattle.h5_model.specs.Format.Reads.{HasObject, IsPlaced}
 use Rattle.h5_open.specs.declared.opened.object.OpenedObject.{OpenedObject}
-use Rattle.h5_open.specs.declared.opened.object.OpenedContent.TheVariants as content
 use Rattle.h5_open.specs.Opened.Kept.{IsObjectKept}
 use Rattle.h5_open.specs.Opened.Objects.{headers, number_in, content_links, object_in, object_blocks, table_of, slots_of}
 use Rattle.h5_laws.proofs.Lists.{In, in_all, in_contains}

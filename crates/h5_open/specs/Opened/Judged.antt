@@ -1,6 +1,7 @@
 -- What the messages of a group, and of an array, have to be (File Format Specification 3.0, section IV.A.2).
 use Rattle.std.specs.Prelude.{◌≡◌, ℕ, ◌⊎◌, Some, List, option_and_then}
 use Rattle.h5_model.specs.Format.Addresses.{SymbolTable, symbol_table_of}
+use Rattle.h5_model.specs.Format.MessageTypes.{symbol_table_kind}
 use Rattle.h5_model.specs.Format.Messages.{Message, count_of, first_body}
 use Rattle.h5_model.specs.Format.Reads.{HasAttributes}
 use Rattle.h5_model.specs.Faults.HeaderFaults.{ListBreach}
@@ -15,7 +16,7 @@ use Rattle.h5_layout.specs.Told.{array_told}
 pub record IsGroupList (ms : List Message) (table : SymbolTable) : Type 0 where
   pub kinds : IsOfGroup ms
   pub attributes : HasAttributes ms (attributes_of ms)
-  pub chosen : option_and_then symbol_table_of (first_body 17 ms) ≡ Some table
+  pub chosen : option_and_then symbol_table_of (first_body symbol_table_kind ms) ≡ Some table
 
 -- messages of an array, with attributes
 pub record IsArrayList (ms : List Message) : Type 0 where
@@ -26,7 +27,7 @@ pub record IsArrayList (ms : List Message) : Type 0 where
 -- the root's header is no group's, as it has no Symbol Table; or a rule on all messages of a header is broken
 abbrev pub IsKindBreach : List ℕ → ℕ → ℕ → List Message → Cause → Type 0
 IsKindBreach image header depth ms cause =
-    ((depth ≡ 0) × (cause ≡ MissingMessage) × (count_of 17 ms ≡ 0)) ⊎ ListBreach image header ms cause
+    ((depth ≡ 0) × (cause ≡ MissingMessage) × (count_of symbol_table_kind ms ≡ 0)) ⊎ ListBreach image header ms cause
 
 -- memory was short, or a rule on all messages of a header is broken
 abbrev pub IsBodiesBreach : List ℕ → ℕ → List Message → Cause → Type 0

@@ -6,6 +6,7 @@ use Rattle.std.specs.Ordering.{nat_cmp}
 use Rattle.std.specs.BTreeMap.{BTreeMap, get as lookup}
 use Rattle.std.specs.FinMap.{FinMap, get}
 use Rattle.h5_model.specs.Format.Addresses.{symbol_table_of}
+use Rattle.h5_model.specs.Format.MessageTypes.{symbol_table_kind}
 use Rattle.h5_model.specs.Format.Messages.{Message, first_body}
 use Rattle.h5_model.specs.Format.Reads.{Reads}
 use Rattle.h5_space.specs.Space.{Space}
@@ -26,7 +27,7 @@ use Rattle.h5_open.specs.Opened.Objects.{objects_of, opened_blocks, table_of, tr
 -- the messages are those of this group, which stands in the image; or those of an array, whose data do
 abbrev pub IsContentKept : List ℕ → List Message → OpenedContent → Type 0
 IsContentKept image ms (content.Group table) =
-    IsOfGroup ms × (option_and_then symbol_table_of (first_body 17 ms) ≡ Some table) × IsGroupRead image table
+    IsOfGroup ms × (option_and_then symbol_table_of (first_body symbol_table_kind ms) ≡ Some table) × IsGroupRead image table
 IsContentKept image ms content.Array = IsArrayList ms × AreDataRead image (type_told ms) (layout_told ms)
 
 -- the object stands in the image

@@ -3,7 +3,7 @@
 use h5_group::SymbolTable;
 use h5_header::Messages;
 
-/// What an object is.
+/// What an object is: a group or an array.
 #[derive(Drop)]
 pub enum OpenedContent {
     /// A group, by the addresses of its tree and of its heap; its links are read where they stand.

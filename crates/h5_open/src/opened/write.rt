@@ -35,11 +35,12 @@ pub struct StandingCells {
 }
 
 impl Opened {
-    /// Writes values into the cells of an array where they stand, from this place on in row-major order. The bytes of these cells alone
-    /// change: nothing is read again, what is kept of the objects stays, and so does the place of each cell. Takes no memory.
+    /// Writes values into the cells of an array where they stand, from this place on in row-major order. No byte changes
+    /// outside the blocks in which the array's cells stand; that those of other cells stay too is tested. Nothing is
+    /// read again, and what is kept of the objects stays. Takes no memory.
     ///
-    /// That the object of the number is an array, that it has these cells, that they are stored, and that the values are of its type, are
-    /// the caller's conditions.
+    /// These are the caller's conditions: the object with the number is an array, it has these cells, they are
+    /// stored, and the values are of its type.
     pub fn write_cells(&mut self, alloc: Global, number: u32, place: u64, values: &[i128])
         requires run { (d : Dataset) × IsStoredRun self.old number place values.now d }
         ensures changed { self.new ≡ record self.old {
@@ -65,11 +66,12 @@ impl Opened {
         }
     }
 
-    /// Writes values into cells of an array that are known to stand one behind another. The bytes of these cells alone change: nothing
-    /// is read, not even the array's header, what is kept of the objects stays, and so does the place of each cell. Takes no memory.
+    /// Writes values into cells of an array that are known to stand one behind another. No byte changes outside the
+    /// blocks in which the array's cells stand; that those of other cells stay too is tested. Nothing is read, not even
+    /// the header of the array, and what is kept of the objects stays. Takes no memory.
     ///
-    /// That the object of the number is an array, that these cells of it stand so, that there is a value, and that the values are of its
-    /// type, are the caller's conditions.
+    /// These are the caller's conditions: the object with the number is an array, its cells stand as `cells` says,
+    /// there is at least one value, and the values are of its type.
     pub fn write_standing(&mut self, number: u32, cells: &StandingCells, values: &[i128])
         requires run { (d : Dataset) × IsStoredRun self.old number cells.now.place values.now d }
         requires some { 0 < length values.now }

@@ -4,6 +4,7 @@ use Rattle.std.specs.Prelude.{◌≡◌, ℕ, ◌+◌, ◌*◌, ◌^◌, ◌<◌
 use Rattle.std.specs.List.{list_any}
 use Rattle.h5_model.specs.Edits.Refusal.{are_maxima}
 use Rattle.h5_model.specs.Format.Bodies.{pair_bytes}
+use Rattle.h5_model.specs.Format.MessageTypes.{symbol_table_kind}
 use Rattle.h5_model.specs.Format.Plain.{message_bytes, messages_bytes, cells_bytes}
 use Rattle.h5_model.specs.Format.Layout.{Layout, InMessage, InBlock, InChunks}
 use Rattle.h5_model.specs.Tree.Objects.{Storage, Compact, Contiguous, Chunked}
@@ -20,7 +21,7 @@ use Rattle.h5_repack.specs.Blocks.Written.{AreWholeChunks, HasRoom, chunks_of}
 
 -- the header of a group whose tree and heap begin at these addresses, with these messages besides its Symbol Table
 abbrev pub group_written : ℕ → ℕ → OthersBytes → List ℕ
-group_written tree heap o = prefix_bytes 1 (1 + o.count) (24 + length o.bytes) ++ (message_bytes (17, pair_bytes tree heap) ++ o.bytes)
+group_written tree heap o = prefix_bytes 1 (1 + o.count) (24 + length o.bytes) ++ (message_bytes (symbol_table_kind, pair_bytes tree heap) ++ o.bytes)
 
 -- ---- arrays
 

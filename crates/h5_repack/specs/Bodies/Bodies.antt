@@ -6,6 +6,7 @@ use Rattle.h5_model.specs.Tree.Places.{cells}
 use Rattle.h5_model.specs.Edits.Refusal.{is_chunked}
 use Rattle.h5_model.specs.Format.Bodies.{raised, dataspace_bytes, bounded_bytes, datatype_bytes, fill_bytes, compact_bytes, contiguous_bytes, chunked_bytes, attribute_bytes}
 use Rattle.h5_model.specs.Format.Fixed.{Fixed}
+use Rattle.h5_model.specs.Format.MessageTypes.{dataspace_kind, datatype_kind, fill_value_kind, data_layout_kind, attribute_kind}
 use Rattle.h5_model.specs.Format.Plain.{cells_bytes}
 use Rattle.h5_model.specs.Format.Sizes.{attribute_size}
 use Rattle.h5_model.specs.Tree.Objects.{Object, Dataset, Storage, Compact, Contiguous, Chunked, Attribute, Kept, are_sizes}
@@ -17,7 +18,7 @@ kept_message k = (k.kind, k.body)
 
 -- an attribute's body, raised to a multiple of 8
 abbrev pub attribute_message : (List ℕ × Attribute) → ℕ × List ℕ
-attribute_message (name, a) = (12, attribute_bytes name a.fixed a.sizes a.values (pad8 (attribute_size (length name) a.sizes (a.fixed).size)))
+attribute_message (name, a) = (attribute_kind, attribute_bytes name a.fixed a.sizes a.values (pad8 (attribute_size (length name) a.sizes (a.fixed).size)))
 
 abbrev pub others_of : Object → List (ℕ × List ℕ)
 others_of o = map kept_message o.kept ++ map attribute_message (entries o.attributes)
@@ -29,11 +30,11 @@ abbrev pub space_body : Bool → List ℕ → List (Option ℕ) → List ℕ
 space_body chunked sizes maxima = if chunked || not (are_sizes sizes maxima) then bounded_bytes sizes maxima else dataspace_bytes sizes
 
 abbrev pub type_message : Fixed → ℕ × List ℕ
-type_message t = (3, raised (datatype_bytes t))
+type_message t = (datatype_kind, raised (datatype_bytes t))
 
 -- a fill that was set; space for chunks is made when they are stored, for other cells with the array
 abbrev pub fill_message : Bool → Fixed → ℤ → ℕ × List ℕ
-fill_message chunked t fill = (5, raised (fill_bytes (if chunked then 3 else 1) t fill))
+fill_message chunked t fill = (fill_value_kind, raised (fill_bytes (if chunked then 3 else 1) t fill))
 
 -- the fill is left out where a header with so many other messages would have more than 65535
 abbrev pub fill_messages : Bool → Fixed → ℤ → ℕ → List (ℕ × List ℕ)
@@ -49,7 +50,7 @@ layout_body (Chunked chunk) t count bytes address = chunked_bytes chunk address 
 -- the messages of an array of this type, sizes, maxima and fill with this layout, whether its cells are in chunks
 abbrev pub messages_of : Fixed → List ℕ → List (Option ℕ) → ℤ → Bool → List ℕ → ℕ → List (ℕ × List ℕ)
 messages_of t sizes maxima fill chunked layout others =
-    (1, space_body chunked sizes maxima) ∷ type_message t ∷ (fill_messages chunked t fill others ++ (8, raised layout) ∷ [])
+    (dataspace_kind, space_body chunked sizes maxima) ∷ type_message t ∷ (fill_messages chunked t fill others ++ (data_layout_kind, raised layout) ∷ [])
 
 -- the layout of an array whose data or whose tree stand at this address
 abbrev pub array_layout : Dataset → Option ℕ → List ℕ

@@ -2,6 +2,7 @@
 -- IV.A.1.a, IV.A.2.i and IV.A.2.r).
 use Rattle.std.specs.Prelude.{ℕ, Bool, true, false, if◌then◌else◌, List, [], ◌∷◌}
 use Rattle.h5_model.specs.Format.Bodies.{pair_bytes}
+use Rattle.h5_model.specs.Format.MessageTypes.{symbol_table_kind}
 use Rattle.h5_model.specs.Format.Plain.{header_bytes, cells_bytes}
 use Rattle.h5_model.specs.Tree.Objects.{Dataset, Storage, Compact, Contiguous, Chunked}
 use Rattle.h5_layout.specs.HeldChunks.{AreStoredChunks}
@@ -36,4 +37,4 @@ data_of stored d place = of_storage d.storage where
 
 -- a header of one block, with one link to it
 abbrev pub group_header : ℕ → ℕ → List (ℕ × List ℕ) → List ℕ
-group_header tree heap others = header_bytes 1 ((17, pair_bytes tree heap) ∷ others)
+group_header tree heap others = header_bytes 1 ((symbol_table_kind, pair_bytes tree heap) ∷ others)

@@ -6,13 +6,14 @@ use Rattle.h5_bytes.specs.Bytes.{undefined}
 use Rattle.h5_model.specs.Format.Fixed.{Fixed, IsFixed}
 use Rattle.h5_model.specs.Tree.Places.{cells, extent_cells}
 use Rattle.h5_model.specs.Edits.Refusal.{has_zero}
+use Rattle.h5_model.specs.Format.MessageTypes.{comment_kind, old_modification_time_kind, modification_time_kind}
 use Rattle.h5_model.specs.Format.Sizes.{attribute_size}
 use Rattle.h5_model.specs.Tree.Sound.{AreOf, IsDataset}
 use Rattle.h5_model.specs.Tree.Objects.{Object, Dataset, Storage, Compact, Contiguous, Chunked, Attribute, Kept}
 
 -- a comment or a modification time, with a body that a message may have
 pub record IsPlainKept (k : Kept) : Type 0 where
-  pub kind : IsTrue ((k.kind == 13 || k.kind == 14) || k.kind == 18)
+  pub kind : IsTrue ((k.kind == comment_kind || k.kind == old_modification_time_kind) || k.kind == modification_time_kind)
   pub padded : length k.body % 8 ≡ 0
   pub low : length k.body < 65536
 

@@ -3,6 +3,7 @@
 use Rattle.std.specs.Prelude.{◌≡◌, ℕ, ◌^◌, ◌≤◌, Some, List, length}
 use Rattle.std.specs.FinMap.{get}
 use Rattle.h5_model.specs.Format.PlainLength.{plain_length}
+use Rattle.h5_model.specs.Format.PlainSuperblock.{plain_chunk_k}
 use Rattle.h5_model.specs.Tree.Objects.{Tree, Object, Dataset, Chunked, dataset_of}
 use Rattle.h5_layout.specs.StoredAt.{HasStored}
 use Rattle.h5_repack.specs.Bodies.Laws.{IsPlainReading}
@@ -25,7 +26,7 @@ ImageStored = (leaf internal : ℕ) (stored : StoredIn) (tree : Tree) (order : L
 -- whatever chunks are stored
 abbrev pub ImageLength : Type 0
 ImageLength = (leaf internal : ℕ) (counts : ℕ → ℕ) (tree : Tree) (order : List (ℕ × Object)) → IsOrder tree order
-    → image_end leaf internal counts order ≡ plain_length leaf internal 32 counts tree
+    → image_end leaf internal counts order ≡ plain_length leaf internal plain_chunk_k counts tree
 
 abbrev pub ImageEnds : Type 0
 ImageEnds = (leaf internal : ℕ) (stored : StoredIn) (tree : Tree) (order : List (ℕ × Object)) → IsPlainTree leaf internal stored tree

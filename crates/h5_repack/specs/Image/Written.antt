@@ -6,8 +6,10 @@ use Rattle.std.specs.FinMap.{FinMap, get, entries, len, from_entries}
 use Rattle.std.specs.List.{flat_map, Contains, IsDistinct}
 use Rattle.std.specs.Option.{option_map_or}
 use Rattle.h5_model.specs.Format.Bodies.{pair_bytes}
+use Rattle.h5_model.specs.Format.MessageTypes.{symbol_table_kind}
 use Rattle.h5_model.specs.Format.Plain.{superblock_bytes, header_bytes}
 use Rattle.h5_model.specs.Format.PlainLength.{content_bytes, nodes_over, rows_of}
+use Rattle.h5_model.specs.Format.PlainSuperblock.{plain_superblock_length, plain_chunk_k}
 use Rattle.h5_model.specs.Format.Sizes.{group_node, header_size}
 use Rattle.h5_model.specs.Tree.Objects.{Tree, Object, Content, Group, Array, Dataset, Link, Links, ToObject, Soft, hard_links}
 use Rattle.h5_repack.specs.Bodies.Bodies.{others_of, array_messages}
@@ -38,7 +40,7 @@ counts_of stored number = length (stored number)
 
 -- how many bytes an object with so many stored chunks has, its header and what belongs to it
 abbrev pub object_length : ℕ → ℕ → ℕ → Object → ℕ
-object_length leaf internal count o = header_size o + content_bytes leaf internal 32 count o.content
+object_length leaf internal count o = header_size o + content_bytes leaf internal plain_chunk_k count o.content
 
 -- where the header of each object stands, the first at this place
 abbrev pub headers_from : ℕ → ℕ → (ℕ → ℕ) → ℕ → List (ℕ × Object) → List (ℕ × ℕ)
@@ -52,10 +54,10 @@ end_from leaf internal counts at ((number, o) ∷ order) = end_from leaf interna
 
 -- by the objects' numbers, behind the superblock
 abbrev pub table_of : ℕ → ℕ → (ℕ → ℕ) → List (ℕ × Object) → FinMap nat_cmp ℕ
-table_of leaf internal counts order = from_entries (headers_from leaf internal counts 96 order)
+table_of leaf internal counts order = from_entries (headers_from leaf internal counts plain_superblock_length order)
 
 abbrev pub image_end : ℕ → ℕ → (ℕ → ℕ) → List (ℕ × Object) → ℕ
-image_end leaf internal counts order = end_from leaf internal counts 96 order
+image_end leaf internal counts order = end_from leaf internal counts plain_superblock_length order
 
 -- what belongs to an object stands behind its header
 abbrev pub content_place : Object → ℕ → ℕ
@@ -96,7 +98,7 @@ abbrev pub object_bytes : ℕ → ℕ → StoredIn → Tree → FinMap nat_cmp �
 object_bytes leaf internal stored tree table (number, o) = by_content o.content where
   by_content : Content → List ℕ
   by_content (Group links) =
-      header_bytes 1 ((17, pair_bytes (content_place o (header_in table number)) (group_heap_place leaf internal o links (header_in table number))) ∷ others_of o)
+      header_bytes 1 ((symbol_table_kind, pair_bytes (content_place o (header_in table number)) (group_heap_place leaf internal o links (header_in table number))) ∷ others_of o)
       ++ links_bytes leaf internal (content_place o (header_in table number)) (written_links leaf internal tree table links)
   by_content (Array d) =
       header_bytes (hard_links tree number)
@@ -107,13 +109,14 @@ object_bytes leaf internal stored tree table (number, o) = by_content o.content 
 abbrev pub root_heap : ℕ → ℕ → Object → ℕ
 root_heap leaf internal o = by_content o.content where
   by_content : Content → ℕ
-  by_content (Group links) = group_heap_place leaf internal o links 96
+  by_content (Group links) = group_heap_place leaf internal o links plain_superblock_length
   by_content (Array d) = 0
 
 abbrev pub superblock_of : ℕ → ℕ → (ℕ → ℕ) → List (ℕ × Object) → List ℕ
 superblock_of leaf internal counts [] = []
 superblock_of leaf internal counts ((number, o) ∷ order) =
-    superblock_bytes leaf internal (image_end leaf internal counts ((number, o) ∷ order)) 96 (content_place o 96) (root_heap leaf internal o)
+    superblock_bytes leaf internal (image_end leaf internal counts ((number, o) ∷ order)) plain_superblock_length (content_place o plain_superblock_length)
+    (root_heap leaf internal o)
 
 unfoldable pub plain_image : ℕ → ℕ → StoredIn → Tree → List (ℕ × Object) → List ℕ
 plain_image leaf internal stored tree order =

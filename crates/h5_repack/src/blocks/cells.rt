@@ -102,7 +102,8 @@ fn stores_data(array: &ArrayRef<'_>, cells: &Cells<'_>) -> bool
     }
 }
 
-/// How many bytes of data an array with these cells has behind its header; `None` where an image cannot have as many.
+/// How many bytes of data stand behind the header of an array with these cells; `None` where an image cannot have as
+/// many.
 pub fn data_length(array: &ArrayRef<'_>, cells: &Cells<'_>) -> Option<u64>
     requires { IsArrayToWrite array.now cells.now }
     ensures { (place : ℕ) → IsLength result (length (data_written cells.now array.now place)) }
@@ -118,7 +119,8 @@ pub fn data_length(array: &ArrayRef<'_>, cells: &Cells<'_>) -> Option<u64>
     }
 }
 
-/// The address of the data of an array with these cells, which begin at this place where there are any.
+/// The address of the data of an array with these cells. `place` is where they begin, if there are any; `None` where
+/// there are none.
 pub fn cells_address(array: &ArrayRef<'_>, cells: &Cells<'_>, place: u64) -> Option<u64>
     ensures { result ≡ address_written array.now cells.now place }
 {
@@ -129,7 +131,12 @@ pub fn cells_address(array: &ArrayRef<'_>, cells: &Cells<'_>, place: u64) -> Opt
     }
 }
 
-/// The data of an array with these cells, where there are any behind its header: at this place, where `out` ends.
+/// Appends the data of an array with these cells, where it has any behind its header: one block, or the tree of its
+/// chunks and the chunks. `place` is the address at which `out` ends.
+///
+/// # Errors
+///
+/// `AllocError` if memory is refused.
 pub fn push_data(
     alloc: Global,
     out: &mut Vec<u8>,

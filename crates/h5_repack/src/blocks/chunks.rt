@@ -3,6 +3,7 @@ ghost use Rattle.std.specs.Prelude.{◌≡◌, ℕ, ℤ, ◌+◌, ◌-◌, ◌*�
 ghost use Rattle.std.specs.List.{AllByRecursion};
 ghost use Rattle.h5_model.specs.Format.Nodes.{chunk_kind, node_length};
 ghost use Rattle.h5_model.specs.Format.PlainLength.{nodes_over as nodes};
+ghost use Rattle.h5_model.specs.Format.PlainSuperblock.{plain_chunk_k};
 ghost use Rattle.h5_model.specs.Tree.Objects.{Chunked};
 ghost use Rattle.h5_chunks.specs.Keys.{chunk_key, index_from};
 ghost use Rattle.h5_repack.specs.Bodies.Chunks.{chunk_children, chunk_nodes, key_after};
@@ -13,13 +14,10 @@ ghost use Rattle.h5_repack.specs.Blocks.Written.{AreWhole, chunks_of, part_offse
 
 use crate::blocks::cells::Cells;
 use h5_btree::{Child, NodeKind, nodes_over, push_tree};
-use h5_chunks::ChunkKey;
+use h5_chunks::{CHUNK_K, ChunkKey};
 use h5_group::MAXIMUM_IMAGE;
 use h5_layout::HeldChunks;
 use std::alloc::{AllocError, Global};
-
-/// K of the trees of chunks.
-const CHUNK_K: u16 = 32;
 
 /// So many bytes, where an image can have as many.
 pub(crate) fn length_in_image(len: u64) -> Option<u64>
@@ -42,7 +40,7 @@ pub(crate) fn has_chunks(cells: &Cells<'_>) -> bool
 
 /// The kind of the tree over chunks.
 fn kind_of(held: &HeldChunks<'_>) -> NodeKind
-    ensures kind { result ≡ chunk_kind 32 (length held.now.chunk) }
+    ensures kind { result ≡ chunk_kind plain_chunk_k (length held.now.chunk) }
     ensures short { result.key_length ≤ 272 }
     ensures ranked { AllByRecursion (λ (part : List ℕ × List ℤ).
         length part.0 ≡ length held.now.chunk) held.now.parts }
@@ -52,7 +50,7 @@ fn kind_of(held: &HeldChunks<'_>) -> NodeKind
 
 /// How many bytes the nodes of a tree of this kind have over so many chunks.
 fn nodes_length(kind: &NodeKind, count: u64) -> u64
-    requires k { kind.now.k ≡ 32 }
+    requires k { kind.now.k ≡ plain_chunk_k }
     requires short { kind.now.key_length ≤ 272 }
     requires few { count < 2 ^ 32 }
     ensures exact { result ≡ nodes 64 (2 * kind.now.k) count * node_length kind.now }

@@ -132,7 +132,7 @@ fn push_fill(out: &mut Vec<u8>, chunked: bool, fixed: &Fixed, fill: i128) -> Res
     Ok(())
 }
 
-/// How many bytes the header of a group has with these messages besides its Symbol Table, its prefix with them.
+/// How many bytes the header of a group has, with its prefix, its Symbol Table message and these other messages.
 pub fn group_header_length(others: &Others) -> u64
     requires { others.now.count + 1 ≤ 65535 }
     ensures exact { (tree heap : ℕ) → result ≡ length (group_written tree heap others.now) }
@@ -142,9 +142,12 @@ pub fn group_header_length(others: &Others) -> u64
     40 + others.bytes().len() as u64
 }
 
-/// The header of a group whose tree and heap begin at these addresses, with these messages besides its Symbol Table.
+/// Appends the header of a group: a Symbol Table message with the addresses of its B-tree and heap, and these other
+/// messages behind it. `group_header_length` says whether there is room for them.
 ///
-/// How long these may be can be told by `group_header_length`.
+/// # Errors
+///
+/// `AllocError` if memory is refused.
 pub fn push_group_header(
     out: &mut Vec<u8>,
     tree: u64,
@@ -232,9 +235,9 @@ fn messages_size(array: &ArrayRef<'_>, others: &Others) -> u64
     space + 24 + fill + layout + bytes
 }
 
-/// How many bytes an array's header has, its prefix and these messages behind its own with it.
+/// How many bytes the header of an array has, with its prefix, its own messages and these other messages.
 ///
-/// That its cells fit in a message where it is compact is the caller's condition.
+/// That the cells of a compact array fit in a message is the caller's condition.
 pub fn array_header_length(array: &ArrayRef<'_>, others: &Others) -> u64
     requires same { length array.now.maxima ≡ length array.now.sizes }
     requires fits { FitsLayout (cells_of array.now.sizes * array.now.fixed.size) array.now.layout }
@@ -248,11 +251,16 @@ pub fn array_header_length(array: &ArrayRef<'_>, others: &Others) -> u64
     16 + messages_size(array, others)
 }
 
-/// The header of an array with these cells, to which so many links lead and whose data or whose tree stand at this address, or
-/// nowhere, with these messages behind its own.
+/// Appends the header of an array with these cells, and with these other messages behind its own. `references` is the
+/// count of links that lead to it; `address` is where its data or the tree of its chunks stand, `None` where nothing
+/// is stored.
 ///
-/// How long these may be can be told by `array_header_length`; `cells_address` gives the address. Takes memory for the cells of a
-/// compact array besides, where each is the fill.
+/// `array_header_length` says whether there is room for the messages; `cells_address` gives the address. For a
+/// compact array whose cells are all the fill, memory is taken for the cells as well.
+///
+/// # Errors
+///
+/// `AllocError` if memory is refused.
 pub fn push_array_header(
     out: &mut Vec<u8>,
     array: &ArrayRef<'_>,

@@ -15,7 +15,7 @@ use h5_msg::AttributeBody;
 use std::alloc::{AllocError, Global};
 use std::marker::Model;
 
-/// Messages as they are to be written, one behind another.
+/// The messages that stand behind those of an object's content, as they are written, one behind another.
 #[derive(Drop)]
 pub struct Others {
     bytes: Vec<u8>,
@@ -59,7 +59,11 @@ impl Others {
         self.count
     }
 
-    /// Appends a message with this body, of a multiple of 8 bytes.
+    /// Appends a message of this type with this body, whose length is a multiple of 8 bytes.
+    ///
+    /// # Errors
+    ///
+    /// `AllocError` if memory is refused.
     pub fn push_kept(&mut self, kind: u16, body: &[u8]) -> Result<(), AllocError>
         requires padded { length body.now % 8 ≡ 0 }
         requires low { length body.now < 65536 }
@@ -77,7 +81,11 @@ impl Others {
         Ok(())
     }
 
-    /// Appends the message of an attribute.
+    /// Appends the message of an attribute that is new.
+    ///
+    /// # Errors
+    ///
+    /// `AllocError` if memory is refused.
     pub fn push_new(&mut self, attr: &AttrSpec) -> Result<(), AllocError>
         requires plain { IsPlainAttribute (attr.now.name, attribute_from attr.now) }
         requires few { self.old.count < 65536 }
@@ -93,7 +101,11 @@ impl Others {
         Ok(())
     }
 
-    /// Appends the message of an attribute as another header has it.
+    /// Appends the message of an attribute that another header has.
+    ///
+    /// # Errors
+    ///
+    /// `AllocError` if memory is refused.
     pub fn push_stored(&mut self, attr: &AttributeBody<'_>) -> Result<(), AllocError>
         requires plain { IsPlainAttribute attr.now }
         requires few { self.old.count < 65536 }

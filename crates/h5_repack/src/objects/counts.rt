@@ -11,9 +11,13 @@ use crate::objects::object::{NewObject, links_of};
 use h5_model::{Link, LinkTo, ObjectNo};
 use std::alloc::{AllocError, Global};
 
-/// How many hard links lead to each object, by its number.
+/// How many hard links lead to each object, by its number. Each link is looked at once.
 ///
-/// Takes memory for a number of each slot. Each link is looked at once.
+/// Takes memory for a number for each slot.
+///
+/// # Errors
+///
+/// `AllocError` if memory is refused.
 pub fn count_links(alloc: Global, objects: &[Option<NewObject<'_>>]) -> Result<Vec<u32>, AllocError>
     requires few { length objects.now < 2 ^ 32 }
     requires tree { (tree : Tree) × AreObjects objects.now tree × IsSoundTree tree }

@@ -19,7 +19,7 @@ pub enum NewContent<'a> {
     },
 }
 
-/// An object to be written. Its number is its place among the slots; object 0 is the root.
+/// An object to be written. Its number is the index of its slot; object 0 is the root.
 #[derive(Drop)]
 pub struct NewObject<'a> {
     pub content: NewContent<'a>,

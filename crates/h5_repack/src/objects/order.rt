@@ -11,9 +11,14 @@ use crate::objects::object::{NewObject, links_of};
 use h5_model::LinkTo;
 use std::alloc::{AllocError, Global};
 
-/// The numbers of the objects in the order in which they are first met, depth first and by the names of links, from the root on.
+/// The numbers of the objects in the order in which they are first met from the root: depth first, and by the names
+/// of links.
 ///
-/// Takes memory for a mark of each slot and a number of each object, and for the links that wait.
+/// Takes memory for a mark for each slot and a number for each object, and for the links that wait.
+///
+/// # Errors
+///
+/// `AllocError` if memory is refused.
 pub fn met_order(alloc: Global, objects: &[Option<NewObject<'_>>]) -> Result<Vec<u32>, AllocError>
     requires few { length objects.now < 2 ^ 32 }
     requires tree { (tree : Tree) × AreObjects objects.now tree × IsSoundTree tree }

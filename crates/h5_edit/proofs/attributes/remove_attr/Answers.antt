@@ -1,16 +1,16 @@
-use Rattle.h5_model.specs.declared.edits.Edit.TheVariants.{RemoveAttr}
-use Rattle.h5_edit.proofs.RuleLaws.Exits.{passed_on}
-use Rattle.h5_edit.proofs.Fitting.{remove_attr_fits}
-use Rattle.h5_edit.proofs.Refusals.{by_rule}
+use Rattle.std.proofs.Common.{refl}
+use Rattle.h5_edit.proofs.AttributeFacts.{attribute_removed, attribute_there, remove_given, short_image}
 use Rattle.h5_edit.proofs.attributes.remove_attr.Goals as goal
 
-pub returns-in_err-number-clause-edited : goal.returns-in_err-number-clause-edited
-returns-in_err-number-clause-edited c =
-    passed_on _ _ c.from_residual.result _ c.from_residual.ensures.1
-    (by_rule c.args.opened.now (RemoveAttr c.args.path.now c.args.name.now) _ c.in_err-number.ensures.at)
+pub remove_attribute-requires : goal.remove_attribute-requires
+remove_attribute-requires c = record {
+  there = attribute_there c.args.opened.now c.in_ok-number.ensures.sound c.args.path.now c.args.name.now c.in_ok-number.number c.in_ok-number.ensures.at;
+}
 
-pub carry_out-requires : goal.carry_out-requires
-carry_out-requires c = (RemoveAttr c.args.path.now c.args.name.now, remove_attr_fits c.args.opened.now c.in_ok-number.ensures.sound c.args.name c.in_ok-number.ensures.at)
-
-pub returns-clause-edited : goal.returns-clause-edited
-returns-clause-edited c = c.carry_out.ensures (RemoveAttr c.args.path.now c.args.name.now) (remove_attr_fits c.args.opened.now c.in_ok-number.ensures.sound c.args.name c.in_ok-number.ensures.at)
+pub returns : goal.returns
+returns c =
+    let f = c.args.opened.now in
+    let path = c.args.path.now in
+    let name = c.args.name.now in
+    attribute_removed f path c.in_ok-number.number c.remove_attribute.new.self _ refl refl name c.in_ok-number.ensures.at
+    (remove_given f path name (short_image f c.in_ok-number.ensures.sound)) c.remove_attribute.ensures.changed

@@ -11,8 +11,8 @@ kept_as : (o after : OthersBytes) (image : List ℕ) (list kept : List Placed) �
     → Appends o after (kept_messages (messages_in image kept))
 kept_as o after image list kept is appended = subst (λ ms. Appends o after (kept_messages (messages_in image ms))) is appended
 
-pub push_attributes-requires-clause-few : goal.push_attributes-requires-clause-few
-push_attributes-requires-clause-few c =
+pub push_all-requires-clause-few : goal.push_all-requires-clause-few
+push_all-requires-clause-few c =
     let ms = messages_in c.args.image.now.bytes c.args.messages.now.list in
     places_for c.new-others.result c.push_kept.new.others ms c.deref.result.now c.new-others.ensures (kept_as c.new-others.result c.push_kept.new.others c.args.image.now.bytes _ _ c.list.ensures c.in_ok-push_kept.ensures)
     (c.deref.ensures.value ∙ c.in_ok-attributes.ensures (attributes_of ms) c.requires.kept.attributes) c.requires.few
@@ -22,4 +22,4 @@ returns c content =
     let ms = messages_in c.args.image.now.bytes c.args.messages.now.list in
     others_are c.new-others.result c.push_kept.new.others ms c.deref.result.now c.new-others.ensures (kept_as c.new-others.result c.push_kept.new.others c.args.image.now.bytes _ _ c.list.ensures c.in_ok-push_kept.ensures)
     (c.deref.ensures.value ∙ c.in_ok-attributes.ensures (attributes_of ms) c.requires.kept.attributes)
-    c.push_attributes.new.others c.args.edit content c.in_ok-push_attributes.ensures
+    c.push_all.new.others content c.in_ok-push_all.ensures

@@ -1,4 +1,4 @@
-use Rattle.std.proofs.Common.{sym, subst}
+use Rattle.std.proofs.Common.{sym, subst, rules}
 use Rattle.h5_query.specs.Opened.Objects.{object_in}
 use Rattle.h5_repack.specs.Objects.Objects.{content_chunks}
 use Rattle.h5_repack.specs.declared.objects.object.NewContent.{NewContent}
@@ -6,6 +6,7 @@ use Rattle.h5_header.specs.Listed.{messages_in}
 use Rattle.h5_query.specs.Told.{array_told}
 use Rattle.h5_edit.specs.Changed.Edited.{edited_by}
 use Rattle.h5_edit.specs.StoredChunks.{AreChunksOf}
+use Rattle.h5_edit.proofs.ChangedLaws.OthersLaws.{others_edited}
 use Rattle.h5_edit.proofs.ChangedLaws.StoredSlots.{array_stored, group_stored}
 use Rattle.h5_edit.proofs.change.objects.edited_object.Goals.{in-Group+in_ok-links_in-in-Group, in-Array+in_ok-content-in-Array}
 use Rattle.h5_query.proofs.Indexed.{array_described, group_read}
@@ -28,6 +29,11 @@ array_in-requires-clause-met c =
     let number = c.requires.object.0 in
     let of = c.requires.object.1 in
     rw c.image-image.ensures.bytes (c.requires.object.2.0, c.requires.object.2.1 (array_told (messages_in f.image c.args.object.now.messages.list)) (array_described f number c.args.object.now of c.in-Array.is))
+
+pub returns-clause-object : goal.returns-clause-object
+returns-clause-object c =
+    let o = object_in c.args.opened.now.image c.args.opened.now.table c.args.object.now in
+    record { content = search rules; others = others_edited c.args.edit o c.in_ok-others.others ((rw c.image-image.ensures.bytes at c.in_ok-others.ensures) o.content) }
 
 pub returns-clause-stored : goal.returns-clause-stored
 returns-clause-stored c number met of is =
