@@ -114,7 +114,7 @@ module _ (tree : Tree) (change : Dataset → Dataset) where
     by_test false (Group links) = refl
     by_test false (Array d) = refl
 
-  array_there : (n m : ℕ) → dataset_of (with_object tree n (with_dataset change)) m ≡ option_map (λ d. cond (m == n) (change d) d) (dataset_of tree m)
+  pub array_there : (n m : ℕ) → dataset_of (with_object tree n (with_dataset change)) m ≡ option_map (λ d. cond (m == n) (change d) d) (dataset_of tree m)
   array_there n m = ap array_in (get-with_object tree n (with_dataset change) m) ∙ array_slot m n (get tree m)
 
 -- ---- any edit
@@ -198,7 +198,7 @@ selected_all : (sizes : List ℕ) (slab : Slab) → AllByRecursion (λ place. is
 unfolding selection_of
 selected_all sizes slab = passes_all (λ place. is_selected slab (index_of sizes place)) (range_with_len 0 (cells sizes))
 
-is_inside_sound : (sizes index : List ℕ) → is_inside sizes index ≡ true → IsInside sizes index
+pub is_inside_sound : (sizes index : List ℕ) → is_inside sizes index ≡ true → IsInside sizes index
 is_inside_sound [] [] is = tt
 is_inside_sound [] (i ∷ is) wrong = absurd (let none : false ≡ true = wrong in cc)
 is_inside_sound (d ∷ ds) [] wrong = absurd (let none : false ≡ true = wrong in cc)

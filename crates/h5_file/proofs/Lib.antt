@@ -2,6 +2,10 @@ pub mod Sounds
 pub mod Opens
 pub mod Made
 pub mod GatherLaws
+pub mod ArrayFacts
+pub mod SlabLaws
+pub mod FollowLaws
+pub mod ShowLaws
 pub mod ViewLaws
 pub mod Writes
 pub mod PartWritten
@@ -9,4 +13,8 @@ pub mod PatchLaws
 pub mod KeptLaws
 pub mod EditedArrays
 pub mod Refreshed
+pub mod AcceptedEdits
+pub mod FollowedCells
+pub mod EditedViews
+pub mod SessionEdits
 mod Walks

@@ -93,7 +93,7 @@ module _ (d : Dataset) (slab : Slab) (box : List ℕ) where
 
 -- ---- an edit
 
-touched_inside : (edit : Edit) (sizes index : List ℕ) → is_touched edit sizes index ≡ true → is_inside sizes index ≡ true
+pub touched_inside : (edit : Edit) (sizes index : List ℕ) → is_touched edit sizes index ≡ true → is_inside sizes index ≡ true
 touched_inside (Write path hyper values) sizes index h = (both (is_inside sizes index) _ h).0
 touched_inside (Resize path dims) sizes index h = (both (is_inside sizes index) _ h).0
 touched_inside (CreateGroup path) sizes index h = let wrong : false ≡ true = h in absurd (cc)

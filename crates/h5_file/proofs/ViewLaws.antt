@@ -1,9 +1,9 @@
 -- Views as they are held: by their numbers, and through edits of the file.
-use Rattle.std.proofs.Common.{◌≡◌, ℕ, zero, suc, ◌+◌, ◌*◌, ◌<◌, ◌≤◌, Bool, true, false, List, [], ◌∷◌, ◌++◌, map, length, get_or, set, refl, sym, ap, ◌∙◌, subst, inl, inr, Option, Some, None, is_some, Result, Ok, Err, arith, drop, take, append-nil, length-append, nat_le}
+use Rattle.std.proofs.Common.{◌≡◌, ℕ, zero, suc, ◌+◌, ◌*◌, ◌^◌, ◌<◌, ◌≤◌, Bool, true, false, cond, List, [], ◌∷◌, ◌++◌, map, length, get_or, refl, sym, ap, ◌∙◌, subst, inl, inr, Option, Some, None, is_some, Result, Ok, Err, arith, drop, take, append-nil, length-append, nat_le}
 use Rattle.std.proofs.lemmas.Bool.{cases_lt}
 use Rattle.std.proofs.lemmas.Bool.Decides.{nat_tests}
 use Rattle.std.proofs.lemmas.List.{length-map, drop_all, take_all}
-use Rattle.std.specs.Prelude.{MatchOption, IsSome, ◌||◌}
+use Rattle.std.specs.Prelude.{MatchOption, IfSome, IsSome, ◌||◌}
 use Rattle.std.specs.Option.{option_and_then, option_map_or}
 use Rattle.std.specs.FinMap.{contains_key, get, insert, remove, len}
 use Rattle.std.specs.List.{AllByRecursion}
@@ -16,27 +16,33 @@ use Rattle.h5_laws.proofs.RisingMaps.{searched, rise_push, rise_remove, get_at, 
 use Rattle.h5_laws.proofs.TypesKept.{size-accepted}
 use Rattle.h5_model.specs.Edits.Applied.{State, state_after}
 use Rattle.h5_model.specs.Edits.Refusal.{refusal_of}
-use Rattle.h5_model.specs.Format.Plain.{cells_bytes}
 use Rattle.h5_model.specs.Scripts.Answers.{has_many_views}
 use Rattle.h5_model.specs.Scripts.Sessions.{IsView, IsSession}
-use Rattle.h5_model.specs.Tree.Objects.{Object, Dataset, dataset_in, dataset_of}
-use Rattle.h5_model.specs.Views.Selection.{Slab, selected_cells, selection_of}
-use Rattle.h5_model.specs.Views.Shown.{View, selected_values, shown_of, shows}
+use Rattle.h5_model.specs.Tree.Objects.{Tree, Object, Dataset, dataset_in, dataset_of}
+use Rattle.h5_model.specs.Tree.Places.{cells}
+use Rattle.h5_model.specs.Views.Selection.{Slab, selected_cells, selects_none}
+use Rattle.h5_model.specs.Views.Shown.{View, is_lent, shown_of, shows}
 use Rattle.h5_model.specs.declared.edits.Edit.{Edit}
 use Rattle.h5_model.specs.declared.hyperslab.Hyper.{Hyper}
 use Rattle.h5_model.specs.declared.view_fault.ViewFault.{ViewFault}
 use Rattle.h5_model.specs.declared.view_fault.ViewFault.TheVariants as fault
-use Rattle.h5_model.proofs.PlainValues.{length-cells_bytes}
 use Rattle.h5_model.proofs.SessionLaws.{IsView-accepted}
 use Rattle.h5_edit.specs.Opened.Sound.{IsSound}
 use Rattle.h5_edit.specs.Opened.State.{FileState, state_of}
 use Rattle.h5_edit.specs.Selected.{IsSelectedAt}
-use Rattle.h5_file.specs.OpenViews.{AreNumbered, AreViewsKept, IsViewAt, IsViewFit, IsViewGathered, numbered_view, session_state, view_of, views_of}
-use Rattle.h5_file.specs.Session.{IsViewClosed, IsViewOf, IsViewOpened, IsViewRefused, IsViewRefusedBy, session_of}
+use Rattle.h5_shape.specs.InBox.{AreApart}
+use Rattle.h5_shape.specs.Slab.{IsSlab}
+use Rattle.h5_file.specs.OpenViews.{AreNumbered, AreViewsKept, HasKeptLength, IsKeptOf, IsViewAt, IsViewFit, IsViewShown, numbered_view, patches_in, patches_of, session_state, view_of, views_of}
+use Rattle.h5_file.specs.Patched.{KeptState}
+use Rattle.h5_file.specs.Session.{IsViewClosed, IsViewOf, IsViewOpened, IsViewRefused, IsViewRefusedBy, patches_at_first, session_of}
+use Rattle.h5_file.proofs.SlabLaws.{apart_within}
 use Rattle.h5_file.specs.declared.views.KeptView.{KeptView}
 
-abbrev number_of : KeptView → ℕ
+abbrev pub number_of : KeptView → ℕ
 number_of v = v.number
+
+abbrev pub held_patches : KeptView → Option ℕ
+held_patches v = patches_in v.kept
 
 -- ---- all of a list
 
@@ -78,9 +84,15 @@ module _ (views : List KeptView) (end number at : ℕ) (rise : AreNumbered views
   pub views_left : views_of (list.remove views at) ≡ remove (views_of views) number
   views_left = map_remove number_of view_of views 0 end at d number rise is.below (is.number_is d)
 
+  pub patches_left : patches_of (list.remove views at) ≡ remove (patches_of views) number
+  patches_left = map_remove number_of held_patches views 0 end at d number rise is.below (is.number_is d)
+
 -- one view more
 pub views_more : (views : List KeptView) (end : ℕ) (v : KeptView) → AreNumbered views end → end ≡ v.number → views_of (views ++ v ∷ []) ≡ insert (views_of views) v.number (view_of v)
 views_more views end v rise is = map_push number_of view_of views 0 end v rise (omega (arith, is))
+
+pub patches_more : (views : List KeptView) (end : ℕ) (v : KeptView) → AreNumbered views end → end ≡ v.number → patches_of (views ++ v ∷ []) ≡ insert (patches_of views) v.number (held_patches v)
+patches_more views end v rise is = map_push number_of held_patches views 0 end v rise (omega (arith, is))
 
 pub numbered_more : (views : List KeptView) (end : ℕ) (v : KeptView) → AreNumbered views end → end ≡ v.number → AreNumbered (views ++ v ∷ []) (end + 1)
 numbered_more views end v rise is = rise_push number_of views 0 end v (end + 1) rise (omega (arith, is)) (omega (arith, is))
@@ -110,6 +122,10 @@ session_sound file views next sound kept = record {
 
 -- ---- edits
 
+pub room_same : (old new : Dataset) (slab : Slab) → new.fixed.size ≡ old.fixed.size → (kept : Option KeptState) → HasKeptLength old slab kept → HasKeptLength new slab kept
+room_same old new slab same None room = tt
+room_same old new slab same (Some k) room = room ∙ ap (λ n. selected_cells slab * n) (sym same)
+
 fit_edited : (s : State) (edit : Edit) → refusal_of s.tree s.next edit ≡ None → (v : KeptView) → IsViewFit s.tree s.next v
     → IsViewFit (state_after s edit).tree (state_after s edit).next v
 fit_edited s edit accepted v fit =
@@ -117,9 +133,10 @@ fit_edited s edit accepted v fit =
     record {
       given = seen.given;
       ranked = seen.ranked;
+      apart = fit.apart;
       room = λ d there.
           let old = size-accepted s edit v.object fit.given d there in
-          fit.room old.0 old.1 ∙ ap (λ n. selected_cells v.slab * n) (sym old.2);
+          room_same old.0 d v.slab old.2 v.kept (fit.room old.0 old.1);
     }
 
 -- an accepted edit leaves the views room for their cells
@@ -146,40 +163,49 @@ module _ (file : FileState) (views : List KeptView) (next : ℕ) (kept : AreView
   room_left : (nat_le 1024 (length views) || nat_le 4294967295 next) ≡ false
   room_left = sym is ∙ free
 
-  pub kept_more : IsViewFit file.tree file.next v → IsViewGathered file.tree v → AreViewsKept file new (next + 1)
-  kept_more fit gathered = subst (λ (vs : List KeptView). AreViewsKept file vs (next + 1)) (sym more) (record {
+  pub kept_more : IsViewFit file.tree file.next v → IsViewShown file.tree v → AreViewsKept file new (next + 1)
+  kept_more fit shown = subst (λ (vs : List KeptView). AreViewsKept file vs (next + 1)) (sym more) (record {
     numbered = numbered_more views next v kept.numbered (sym number);
     low = let left = room_left in grind (arith, nat_tests);
     few = let left = room_left in let low : length views < 1024 = grind (arith, nat_tests) in omega (arith, low, length-append views (v ∷ []));
     fit = all_push (IsViewFit file.tree file.next) views v kept.fit fit;
-    gathered = all_push (IsViewGathered file.tree) views v kept.gathered gathered;
+    shown = all_push (IsViewShown file.tree) views v kept.shown shown;
   })
 
-  pub opened_more : (path : List ℕ) (hyper : Hyper) → IsViewOf file.tree path hyper (view_of v)
+  pub opened_more : (path : List ℕ) (hyper : Hyper) → IsViewOf file.tree path hyper (view_of v) → held_patches v ≡ patches_at_first file.tree (view_of v)
       → IsViewOpened (session_state file views next) path hyper next (session_state file new (next + 1))
-  opened_more path hyper of =
+  opened_more path hyper of first =
       let all : views_of new ≡ insert (views_of views) next (view_of v)
       = ap views_of more ∙ views_more views next v kept.numbered (sym number) ∙ ap (λ n. insert (views_of views) n (view_of v)) number in
+      let times : patches_of new ≡ insert (patches_of views) next (patches_at_first file.tree (view_of v))
+      = ap patches_of more ∙ patches_more views next v kept.numbered (sym number) ∙ (λ i. insert (patches_of views) (number i) (first i)) in
       record {
         few = sym (full_is file views next full kept.numbered is) ∙ free;
         number_is = refl;
         view = view_of v;
         view_is = of;
-        after_is = λ i. record { file = file; views = all i; next_view = next + 1 };
+        after_is = λ i. record { file = file; views = all i; next_view = next + 1; patches = times i };
       }
 
--- a view of selected cells has room for just these
+pub selected_array : (file : FileState) (path : List ℕ) (hyper : Hyper) (number : ℕ) (d : Dataset) (slab : Slab) → IsSelectedAt file.tree path hyper (number, d, slab)
+    → dataset_of file.tree number ≡ Some d
+selected_array file path hyper number d slab at = sym (ap (option_and_then (dataset_of file.tree)) at.number) ∙ at.found
+
+pub room_of : (d : Dataset) (slab : Slab) (kept : Option KeptState) → IsKeptOf d slab kept → HasKeptLength d slab kept
+room_of d slab None is = tt
+room_of d slab (Some k) is = is.1.long
+
+-- a view of selected cells
 pub fit_opened : (file : FileState) (path : List ℕ) (hyper : Hyper) (number : ℕ) (d : Dataset) (slab : Slab) → IsSound file → IsSelectedAt file.tree path hyper (number, d, slab)
-    → (v : KeptView) → v.object ≡ number → v.slab ≡ slab → v.kept.items ≡ cells_bytes d.fixed (selected_values d slab) → IsViewFit file.tree file.next v
-fit_opened file path hyper number d slab sound at v object axes kept =
-    let there : dataset_of file.tree number ≡ Some d = sym (ap (option_and_then (dataset_of file.tree)) at.number) ∙ at.found in
+    → IsSlab slab → cells d.sizes ≤ 2 ^ 40 → (v : KeptView) → v.object ≡ number → v.slab ≡ slab → IsKeptOf d slab v.kept → IsViewFit file.tree file.next v
+fit_opened file path hyper number d slab sound at lists few v object axes kept =
+    let there = selected_array file path hyper number d slab at in
     let same = λ (e : Dataset) (is : dataset_of file.tree v.object ≡ Some e). some_same e d (sym is ∙ ap (dataset_of file.tree) object ∙ there) in
-    let long : length v.kept.items ≡ selected_cells slab * d.fixed.size
-    = ap length kept ∙ length-cells_bytes d.fixed (selected_values d slab) ∙ ap (λ n. n * d.fixed.size) (length-map (selection_of d.sizes slab) _ ∙ at.slab.counted) in
     record {
       given = subst (λ n. n < file.next) (sym object) (sound.numbers.given number (stands number d there));
       ranked = λ e is. ap length axes ∙ at.slab.rank ∙ ap (λ (x : Dataset). length x.sizes) (sym (same e is));
-      room = λ e is. long ∙ (λ i. selected_cells (sym axes i) * (sym (same e is) i).fixed.size);
+      apart = subst (λ (s : Slab). selects_none s ≡ false → AreApart s) (sym axes) (λ some. apart_within d.sizes slab (sym at.slab.rank) at.slab.within lists.apart few some);
+      room = λ e is. subst (λ (X : Type 0). X) (λ i. HasKeptLength (sym (same e is) i) (sym axes i) v.kept) (room_of d slab v.kept kept);
     } where
       some_same : (e d : Dataset) → Some e ≡ Some d → e ≡ d
       some_same e d is = cc
@@ -189,6 +215,14 @@ fit_opened file path hyper number d slab sound at v object axes kept =
         | None ↦ λ no. absurd (let never : None ≡ Some d = no in cc)
         | Some o ↦ λ _. refl
       ] is
+
+-- what it keeps was never patched
+pub first_kept : (tree : Tree) (object : ℕ) (slab : Slab) (d : Dataset) → dataset_of tree object ≡ Some d → (kept : Option KeptState) → IsKeptOf d slab kept → IfSome kept (λ k. k.patches ≡ 0)
+    → patches_in kept ≡ patches_at_first tree (record { object = object; slab = slab })
+first_kept tree object slab d there None is first =
+    sym (ap (λ b. cond b None (Some 0)) (ap (λ (o : Option Dataset). option_map_or (λ d. is_lent d slab) o false) there ∙ is))
+first_kept tree object slab d there (Some k) is first =
+    ap (λ n. Some n) first ∙ sym (ap (λ b. cond b None (Some 0)) (ap (λ (o : Option Dataset). option_map_or (λ d. is_lent d slab) o false) there ∙ is.0))
 
 -- ---- closing
 
@@ -204,16 +238,17 @@ kept_left file views next at new kept is = subst (λ (vs : List KeptView). AreVi
   low = kept.low;
   few = omega (arith, shorter views at, kept.few);
   fit = all_remove (IsViewFit file.tree file.next) views at kept.fit;
-  gathered = all_remove (IsViewGathered file.tree) views at kept.gathered;
+  shown = all_remove (IsViewShown file.tree) views at kept.shown;
 })
 
 pub closed_left : (file : FileState) (views : List KeptView) (next number at : ℕ) (new : List KeptView) (d : KeptView) → AreViewsKept file views next → IsViewAt views number at
     → new ≡ list.remove views at → IsViewClosed (session_state file views next) number (session_state file new next)
 closed_left file views next number at new d kept there is =
     let all : views_of new ≡ remove (views_of views) number = ap views_of is ∙ views_left views next number at kept.numbered there d in
+    let times : patches_of new ≡ remove (patches_of views) number = ap patches_of is ∙ patches_left views next number at kept.numbered there d in
     record {
       open_before = ap is_some (view_there views next number at kept.numbered there d);
-      after_is = λ i. record { file = file; views = all i; next_view = next };
+      after_is = λ i. record { file = file; views = all i; next_view = next; patches = times i };
     }
 
 -- ---- showing
@@ -223,7 +258,11 @@ pub shown_as : (file : FileState) (views : List KeptView) (next number at : ℕ)
 shown_as file views next number at v kept there is =
     sym (ap (λ (o : Option View). option_map_or (shown_of file.tree) o (Err fault.NoSuchView)) (view_there views next number at kept.numbered there v ∙ ap (λ (x : KeptView). Some (view_of x)) (sym is)))
 
--- ---- gathered again
+pub lent_as : (file : FileState) (views : List KeptView) (next number at : ℕ) (v : KeptView) → AreViewsKept file views next → IsViewAt views number at → v ≡ get_or views at v
+    → Some (view_of v) ≡ get (views_of views) number
+lent_as file views next number at v kept there is = ap (λ (x : KeptView). Some (view_of x)) is ∙ sym (view_there views next number at kept.numbered there v)
+
+-- ---- after an edit
 
 rise_same : (xs ys : List KeptView) (low end : ℕ) → map numbered_view ys ≡ map numbered_view xs → RiseWithin number_of low xs end → RiseWithin number_of low ys end
 rise_same [] [] low end is rise = rise
@@ -244,33 +283,11 @@ all_back n new old long count =
     ap (take n) (ap (λ xs. new ++ xs) (drop_all (length new) old (omega (arith, long))) ∙ append-nil new) ∙ take_all n new (omega (arith, long, count))
 
 pub kept_again : (before after : FileState) (views new : List KeptView) (next : ℕ) → AreViewsKept before views next → map numbered_view new ≡ map numbered_view views
-    → AllByRecursion (IsViewFit after.tree after.next) new → AllByRecursion (IsViewGathered after.tree) new → AreViewsKept after new next
-kept_again before after views new next kept same fit gathered = record {
+    → AllByRecursion (IsViewFit after.tree after.next) new → AllByRecursion (IsViewShown after.tree) new → AreViewsKept after new next
+kept_again before after views new next kept same fit shown = record {
   numbered = rise_same views new 0 next same kept.numbered;
   low = kept.low;
   few = omega (arith, kept.few, same_long views new same);
   fit = fit;
-  gathered = gathered;
+  shown = shown;
 }
-
--- ---- one view after the other
-
-module _ (P : KeptView → Type 0) where
-  first_more : (xs : List KeptView) (k : ℕ) (x : KeptView) → k < length xs → AllByRecursion P (take k xs) → P x → AllByRecursion P (take (suc k) (set xs k x))
-  first_more [] k x there all one = absurd (omega arith)
-  first_more (y ∷ xs) zero x there all one = (one, tt)
-  first_more (y ∷ xs) (suc k) x there all one = (all.0, first_more xs k x (omega arith) all.1 one)
-
-  pub all_first : (xs : List KeptView) (k : ℕ) (x : KeptView) → k < length xs → AllByRecursion P (take k xs) → P x → AllByRecursion P (take (k + 1) (set xs k x))
-  all_first xs k x there all one =
-      let next : suc k ≡ k + 1 = omega arith in subst (λ (n : ℕ). AllByRecursion P (take n (set xs k x))) next (first_more xs k x there all one)
-
-  pub all_set : (xs : List KeptView) (k : ℕ) (x : KeptView) → AllByRecursion P xs → P x → AllByRecursion P (set xs k x)
-  all_set [] k x all one = tt
-  all_set (y ∷ xs) zero x all one = (one, all.1)
-  all_set (y ∷ xs) (suc k) x all one = (all.0, all_set xs k x all.1 one)
-
-pub map_set : (xs : List KeptView) (k : ℕ) (x d : KeptView) → k < length xs → numbered_view x ≡ numbered_view (get_or xs k d) → map numbered_view (set xs k x) ≡ map numbered_view xs
-map_set [] k x d there is = refl
-map_set (y ∷ xs) zero x d there is = ap (λ n. n ∷ map numbered_view xs) is
-map_set (y ∷ xs) (suc k) x d there is = ap (λ ns. numbered_view y ∷ ns) (map_set xs k x d (omega arith) is)

@@ -15,3 +15,4 @@ pub use Rattle.h5_edit.specs.Selected
 pub use Rattle.h5_edit.specs.FoundType
 pub use Rattle.h5_edit.specs.Opened
 pub mod Patched
+pub mod Touched

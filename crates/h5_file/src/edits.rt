@@ -1,4 +1,5 @@
-//! Edits of a file. Each writes the image anew, but a write of cells that are stored.
+//! Edits of a file. Attributes are set and removed, and cells that are stored are written, where they stand; each other edit writes the
+//! image anew.
 
 ghost use Rattle.std.specs.Prelude.{◌≡◌, ℕ, IfOk, OnErr, MatchResult};
 ghost use Rattle.h5_model.specs.declared.edits.Edit.{Edit as TheEdit};
@@ -19,9 +20,12 @@ use h5_model::{AttrSpec, Edit, EditFault, Edited, Hyper, Spec};
 use std::alloc::AllocError;
 
 impl File {
-    /// Carries an edit out: the image is then that of the tree that the edit gives.
+    /// Carries an edit out. The image is then that of the tree that the edit gives.
     ///
-    /// Refused as the call of its own is. Where both `TreeTooDeep` and `ImageFull` hold, either is answered. A refusal changes nothing.
+    /// # Errors
+    ///
+    /// Those of the call for this kind of edit: those of [`File::create_group`] for `Edit::CreateGroup`, and so on. A
+    /// refusal changes nothing.
     pub fn edit(&mut self, edit: &Edit) -> Result<Edited, EditFault>
         ensures edited { MatchResult result (IsEdited self.old edit.now self.new) (λ e.
             IsRefused self.old edit.now e × (self.new ≡ self.old)) }
@@ -45,9 +49,22 @@ impl File {
 
     /// Creates an empty group at the path.
     ///
-    /// Refused by the lowest number that holds: `BadPath`, `PathTooDeep`, `IsRoot`, `NoSuchParent`, `NotAGroup`, `AlreadyThere`,
-    /// `NameTooLong` above 1023 bytes, `TooManyObjects`, `TreeTooDeep` where the tree of the group that takes the link would have more
-    /// than 16 levels, `ImageFull` where the image would pass 2147483648 bytes, `NoMemory`. A refusal changes nothing.
+    /// # Errors
+    ///
+    /// The first of these that holds; they come in the order of their numbers. Where both `TreeTooDeep` and
+    /// `ImageFull` hold, either is answered. A refusal changes nothing.
+    ///
+    /// - `BadPath`: the bytes are no path.
+    /// - `PathTooDeep`: the path has more than 64 names.
+    /// - `IsRoot`: the path is `/`.
+    /// - `NoSuchParent`: a name before the last one is missing.
+    /// - `NotAGroup`: a name before the last one leads to no group.
+    /// - `AlreadyThere`: the group has a link of the last name already.
+    /// - `NameTooLong`: the last name has more than 1023 bytes.
+    /// - `TooManyObjects`: no object number is left.
+    /// - `TreeTooDeep`: the B-tree of the group that gets the link would have more than 16 levels.
+    /// - `ImageFull`: the image would have more than 2147483648 bytes.
+    /// - `NoMemory`: memory is refused. It may come in place of any other.
     pub fn create_group(&mut self, path: &[u8]) -> Result<Edited, EditFault>
         ensures edited { MatchResult result (IsEdited self.old (CreateGroup path.now) self.new)
             (λ e. IsRefused self.old (CreateGroup path.now) e × (self.new ≡ self.old)) }
@@ -56,13 +73,31 @@ impl File {
         self.take(made)
     }
 
-    /// Creates an array at the path, every cell of which is the fill.
+    /// Creates an array at the path. Each of its cells has the value of the fill.
     ///
-    /// It is refused by the lowest number that holds: `BadPath`, `PathTooDeep`, `IsRoot`, `NoSuchParent`, `NotAGroup`, `AlreadyThere`,
-    /// `NameTooLong` above 1023 bytes, `BadSpec` where the rank is above 32, a maximum is below its size or, of an array that is not in
-    /// chunks, another, or the chunk has another rank, a size of 0 or one above a maximum, `ChunkTooLarge` above 1073741824 bytes,
-    /// `CompactTooLarge` above 65524 bytes, `TooManyCells`, `ValueRange`, `TooManyObjects`, `TreeTooDeep`, `ImageFull`, `NoMemory`. A
-    /// refusal changes nothing.
+    /// # Errors
+    ///
+    /// The first of these that holds; they come in the order of their numbers. Where both `TreeTooDeep` and
+    /// `ImageFull` hold, either is answered. A refusal changes nothing.
+    ///
+    /// - `BadPath`: the bytes are no path.
+    /// - `PathTooDeep`: the path has more than 64 names.
+    /// - `IsRoot`: the path is `/`.
+    /// - `NoSuchParent`: a name before the last one is missing.
+    /// - `NotAGroup`: a name before the last one leads to no group.
+    /// - `AlreadyThere`: the group has a link of the last name already.
+    /// - `NameTooLong`: the last name has more than 1023 bytes.
+    /// - `BadSpec`: there are more than 32 sizes; there is not one maximum for each size; a maximum is below its
+    ///   size, or another than the size where the array is not in chunks; or there is not one chunk size for each
+    ///   size, a chunk size is 0, or one is above its maximum.
+    /// - `ChunkTooLarge`: a chunk would have more than 1073741824 bytes.
+    /// - `CompactTooLarge`: the cells of a compact array would have more than 65524 bytes.
+    /// - `TooManyCells`: the product of the sizes, with sizes of 0 left out, is above 2^40.
+    /// - `ValueRange`: the fill is not a value of the type.
+    /// - `TooManyObjects`: no object number is left.
+    /// - `TreeTooDeep`: the B-tree of the group that gets the link would have more than 16 levels.
+    /// - `ImageFull`: the image would have more than 2147483648 bytes.
+    /// - `NoMemory`: memory is refused. It may come in place of any other.
     pub fn create_dataset(&mut self, path: &[u8], spec: &Spec) -> Result<Edited, EditFault>
         ensures edited { MatchResult result (IsEdited self.old (CreateDataset path.now spec.now) self.new)
             (λ e. IsRefused self.old (CreateDataset path.now spec.now) e × (self.new ≡ self.old)) }
@@ -73,9 +108,24 @@ impl File {
 
     /// Gives the array at `target` a second name, `path`.
     ///
-    /// Refused by the lowest number that holds, of either path: `BadPath`, `PathTooDeep`, `IsRoot`, `NoSuchParent`, `NotAGroup`, `NotFound`
-    /// where nothing or a soft link stands at `target`, `AlreadyThere`, `NameTooLong` above 1023 bytes, `GroupLink` where a group stands
-    /// at `target`, `TooManyLinks` above 65535, `TreeTooDeep`, `ImageFull`, `NoMemory`. A refusal changes nothing.
+    /// # Errors
+    ///
+    /// The first of these that holds; they come in the order of their numbers. Where both `TreeTooDeep` and
+    /// `ImageFull` hold, either is answered. A refusal changes nothing.
+    ///
+    /// - `BadPath`: the bytes of one of the paths are no path.
+    /// - `PathTooDeep`: a path has more than 64 names.
+    /// - `IsRoot`: `path` is `/`.
+    /// - `NoSuchParent`: a name before the last one of a path is missing.
+    /// - `NotAGroup`: a name before the last one of a path leads to no group.
+    /// - `NotFound`: nothing stands at `target`, or a soft link.
+    /// - `AlreadyThere`: the group has a link of the last name already.
+    /// - `NameTooLong`: the last name of `path` has more than 1023 bytes.
+    /// - `GroupLink`: a group stands at `target`.
+    /// - `TooManyLinks`: 65535 hard links lead to the array already.
+    /// - `TreeTooDeep`: the B-tree of the group that gets the link would have more than 16 levels.
+    /// - `ImageFull`: the image would have more than 2147483648 bytes.
+    /// - `NoMemory`: memory is refused. It may come in place of any other.
     pub fn hard_link(&mut self, target: &[u8], path: &[u8]) -> Result<Edited, EditFault>
         ensures edited { MatchResult result (IsEdited self.old (HardLink target.now path.now) self.new)
             (λ e. IsRefused self.old (HardLink target.now path.now) e × (self.new ≡ self.old)) }
@@ -84,11 +134,23 @@ impl File {
         self.take(made)
     }
 
-    /// Makes a soft link at the path, with this text, which is not followed.
+    /// Makes a soft link at the path, with this text. A soft link is never followed.
     ///
-    /// Refused by the lowest number that holds: `BadPath` also where the text is empty or has a zero byte, `PathTooDeep`, `IsRoot`,
-    /// `NoSuchParent`, `NotAGroup`, `AlreadyThere`, `NameTooLong` where the name or the text has more than 1023 bytes, `TreeTooDeep`,
-    /// `ImageFull`, `NoMemory`. A refusal changes nothing.
+    /// # Errors
+    ///
+    /// The first of these that holds; they come in the order of their numbers. Where both `TreeTooDeep` and
+    /// `ImageFull` hold, either is answered. A refusal changes nothing.
+    ///
+    /// - `BadPath`: the bytes are no path; or the text is empty, or has a zero byte.
+    /// - `PathTooDeep`: the path has more than 64 names.
+    /// - `IsRoot`: the path is `/`.
+    /// - `NoSuchParent`: a name before the last one is missing.
+    /// - `NotAGroup`: a name before the last one leads to no group.
+    /// - `AlreadyThere`: the group has a link of the last name already.
+    /// - `NameTooLong`: the last name, or the text, has more than 1023 bytes.
+    /// - `TreeTooDeep`: the B-tree of the group that gets the link would have more than 16 levels.
+    /// - `ImageFull`: the image would have more than 2147483648 bytes.
+    /// - `NoMemory`: memory is refused. It may come in place of any other.
     pub fn soft_link(&mut self, text: &[u8], path: &[u8]) -> Result<Edited, EditFault>
         ensures edited { MatchResult result (IsEdited self.old (SoftLink text.now path.now) self.new)
             (λ e. IsRefused self.old (SoftLink text.now path.now) e × (self.new ≡ self.old)) }
@@ -97,11 +159,22 @@ impl File {
         self.take(made)
     }
 
-    /// Takes the link at the path away. An object without a link goes, and its number is not used again; the others keep theirs.
+    /// Takes the link at the path away. If it was the last hard link to its object, the object goes too, and its
+    /// number is not used again. All other objects keep their numbers.
     ///
-    /// Refused by the lowest number that holds: `BadPath`, `PathTooDeep`, `IsRoot`, `NoSuchParent`, `NotAGroup`, `NotFound`,
-    /// `GroupNotEmpty` where a group with links stands there, `ImageFull` where the image would pass 2147483648 bytes, `NoMemory`. A
-    /// refusal changes nothing.
+    /// # Errors
+    ///
+    /// The first of these that holds; they come in the order of their numbers. A refusal changes nothing.
+    ///
+    /// - `BadPath`: the bytes are no path.
+    /// - `PathTooDeep`: the path has more than 64 names.
+    /// - `IsRoot`: the path is `/`.
+    /// - `NoSuchParent`: a name before the last one is missing.
+    /// - `NotAGroup`: a name before the last one leads to no group.
+    /// - `NotFound`: the last name is missing.
+    /// - `GroupNotEmpty`: a group with links stands there.
+    /// - `ImageFull`: the image would have more than 2147483648 bytes.
+    /// - `NoMemory`: memory is refused. It may come in place of any other.
     pub fn unlink(&mut self, path: &[u8]) -> Result<Edited, EditFault>
         ensures edited { MatchResult result (IsEdited self.old (Unlink path.now) self.new)
             (λ e. IsRefused self.old (Unlink path.now) e × (self.new ≡ self.old)) }
@@ -110,39 +183,78 @@ impl File {
         self.take(made)
     }
 
-    /// Adds an attribute to the object at the path, or puts it in place of the one of its name.
+    /// Sets an attribute of the object at the path: adds it, or puts it in place of the attribute with the same name.
     ///
-    /// Refused by the lowest number that holds: `BadPath`, `PathTooDeep`, `NoSuchParent`, `NotAGroup`, `NotFound`, `NameTooLong` above 1023
-    /// bytes, `BadSpec` where the name is empty or has a zero byte, or the rank is above 32, `TooManyCells`, `ValueCount`, `ValueRange`,
-    /// `AttributeTooLarge` where the message's body would pass 65528 bytes, `HeaderFull` where the header's total of messages plus 2
-    /// passes 65535, `ImageFull` where the image would pass 2147483648 bytes, `NoMemory`. A refusal changes nothing.
+    /// Only the object's header changes, which keeps its address. Where no NIL message of it is large enough, a block is
+    /// taken for the new message, and one that moves there.
+    ///
+    /// # Errors
+    ///
+    /// The first of these that holds; they come in the order of their numbers. A refusal changes nothing.
+    ///
+    /// - `BadPath`: the bytes are no path.
+    /// - `PathTooDeep`: the path has more than 64 names.
+    /// - `NoSuchParent`: a name before the last one is missing.
+    /// - `NotAGroup`: a name before the last one leads to no group.
+    /// - `NotFound`: the last name is missing, or a soft link stands there.
+    /// - `NameTooLong`: the attribute's name has more than 1023 bytes.
+    /// - `BadSpec`: the attribute's name is empty or has a zero byte, or there are more than 32 sizes.
+    /// - `TooManyCells`: the product of the sizes, with sizes of 0 left out, is above 2^40.
+    /// - `ValueCount`: there is not one value for each cell.
+    /// - `ValueRange`: a value is not one of the type.
+    /// - `AttributeTooLarge`: the body of the message would have more than 65528 bytes.
+    /// - `HeaderFull`: the header has 65534 messages or more.
+    /// - `ImageFull`: the image, the body of the message and 32 bytes are more than 2147483648 bytes.
+    /// - `NoMemory`: memory is refused. It may come in place of any other.
     pub fn set_attr(&mut self, path: &[u8], attr: &AttrSpec) -> Result<Edited, EditFault>
         ensures edited { MatchResult result (IsEdited self.old (SetAttr path.now attr.now) self.new)
             (λ e. IsRefused self.old (SetAttr path.now attr.now) e × (self.new ≡ self.old)) }
     {
-        let made = set_attr(self.alloc, &self.opened, path, attr)?;
-        self.take(made)
+        set_attr(self.alloc, &mut self.opened, path, attr)
     }
 
-    /// Removes the attribute of this name from the object at the path.
+    /// Removes the attribute with this name from the object at the path. Its message becomes NIL, and the image keeps
+    /// its length. Takes no memory.
     ///
-    /// Refused by the lowest number that holds: `BadPath`, `PathTooDeep`, `NoSuchParent`, `NotAGroup`, `NotFound`, `NoSuchAttribute`,
-    /// `ImageFull` where the image would pass 2147483648 bytes, `NoMemory`. A refusal changes nothing.
+    /// # Errors
+    ///
+    /// The first of these that holds; they come in the order of their numbers. A refusal changes nothing.
+    ///
+    /// - `BadPath`: the bytes are no path.
+    /// - `PathTooDeep`: the path has more than 64 names.
+    /// - `NoSuchParent`: a name before the last one is missing.
+    /// - `NotAGroup`: a name before the last one leads to no group.
+    /// - `NotFound`: the last name is missing, or a soft link stands there.
+    /// - `NoSuchAttribute`: the object has no attribute with this name.
     pub fn remove_attr(&mut self, path: &[u8], name: &[u8]) -> Result<Edited, EditFault>
         ensures edited { MatchResult result (IsEdited self.old (RemoveAttr path.now name.now) self.new)
             (λ e. IsRefused self.old (RemoveAttr path.now name.now) e × (self.new ≡ self.old)) }
     {
-        let made = remove_attr(self.alloc, &self.opened, path, name)?;
-        self.take(made)
+        remove_attr(&mut self.opened, path, name)
     }
 
-    /// Gives the array in chunks at the path other sizes, as many as it has: the cells stay whose index is inside the old and the new ones,
-    /// the others that it then has are the fill. Cells outside the new sizes are gone for good.
+    /// Gives the array in chunks at the path other sizes, in cells, one for each dimension. A cell that is inside the
+    /// old and the new sizes keeps its value. The other cells that the array then has are the fill. Cells outside the
+    /// new sizes are gone for good.
     ///
-    /// Refused by the lowest number that holds: `BadPath`, `PathTooDeep`, `NoSuchParent`, `NotAGroup`, `NotFound`, `NotADataset` also where
-    /// a soft link stands there, `RankMismatch`, `NotChunked`, `AboveMaximum`, `TooManyCells`, `HeaderFull` where the header's Dataspace
-    /// message has no maxima and its total of messages plus 2 passes 65535, `ImageFull` where the image would pass 2147483648 bytes,
-    /// `NoMemory`. A refusal changes nothing.
+    /// # Errors
+    ///
+    /// The first of these that holds; they come in the order of their numbers. A refusal changes nothing.
+    ///
+    /// - `BadPath`: the bytes are no path.
+    /// - `PathTooDeep`: the path has more than 64 names.
+    /// - `NoSuchParent`: a name before the last one is missing.
+    /// - `NotAGroup`: a name before the last one leads to no group.
+    /// - `NotFound`: the last name is missing.
+    /// - `NotADataset`: a group or a soft link stands there.
+    /// - `RankMismatch`: there are not as many sizes as the array has.
+    /// - `NotChunked`: the array is not in chunks.
+    /// - `AboveMaximum`: a size is above its maximum.
+    /// - `TooManyCells`: the product of the sizes, with sizes of 0 left out, is above 2^40.
+    /// - `HeaderFull`: the Dataspace message of the array has no maxima, so it needs a new one, and the header has
+    ///   65534 messages or more.
+    /// - `ImageFull`: the image would have more than 2147483648 bytes.
+    /// - `NoMemory`: memory is refused. It may come in place of any other.
     pub fn resize(&mut self, path: &[u8], dims: &[u64]) -> Result<Edited, EditFault>
         ensures edited { MatchResult result (IsEdited self.old (Resize path.now dims.now) self.new)
             (λ e. IsRefused self.old (Resize path.now dims.now) e × (self.new ≡ self.old)) }
@@ -151,15 +263,32 @@ impl File {
         self.take(made)
     }
 
-    /// Writes values into the selected cells of the array at the path, in row-major order.
+    /// Writes values into the selected cells of the array at the path: one value for each cell, in row-major order.
     ///
-    /// Where each selected cell is stored, the cells are written where they stand: no byte outside the array's blocks changes, no header
-    /// moves, and the image keeps its length. Else the image is first written anew with the storage that is missing: the block of a
-    /// contiguous array, or the chunks that hold a selected cell; their other cells are the fill.
+    /// If all selected cells are stored, the cells are written where they stand: no byte outside the blocks of the
+    /// array changes, no header moves, and the image keeps its length. Otherwise the image is first written anew with
+    /// the storage that is missing: the block of a contiguous array, or the chunks that hold a selected cell. The
+    /// other cells of that storage are the fill.
     ///
-    /// Refused by the lowest number that holds: `BadPath`, `PathTooDeep`, `NoSuchParent`, `NotAGroup`, `NotFound`, `NotADataset` also where
-    /// a soft link stands there, `RankMismatch`, `StrideZero`, `BlocksOverlap`, `OutOfExtent`, `ValueCount`, `ValueRange`, `ImageFull` where
-    /// the image with that storage would pass 2147483648 bytes, `NoMemory`. A refusal changes nothing.
+    /// # Errors
+    ///
+    /// The first of these that holds; they come in the order of their numbers. A refusal changes nothing.
+    ///
+    /// - `BadPath`: the bytes are no path.
+    /// - `PathTooDeep`: the path has more than 64 names.
+    /// - `NoSuchParent`: a name before the last one is missing.
+    /// - `NotAGroup`: a name before the last one leads to no group.
+    /// - `NotFound`: the last name is missing.
+    /// - `NotADataset`: a group or a soft link stands there.
+    /// - `RankMismatch`: a list has not one number for each dimension of the array.
+    /// - `StrideZero`: a stride is 0.
+    /// - `BlocksOverlap`: a stride is below its block, and there is more than one block.
+    /// - `OutOfExtent`: a selected cell is outside the sizes.
+    /// - `ValueCount`: there is not one value for each selected cell.
+    /// - `ValueRange`: a value is not one of the type.
+    /// - `ImageFull`: cells without storage are to be written, and the image with that storage would have more than
+    ///   2147483648 bytes.
+    /// - `NoMemory`: memory is refused. It may come in place of any other.
     pub fn write(
         &mut self,
         path: &[u8],
@@ -172,11 +301,15 @@ impl File {
         write(self.alloc, &mut self.opened, path, hyper, values)
     }
 
-    /// Writes the image anew without the room that nothing uses, each block behind the one before it. The tree, and the numbers of its
-    /// objects, stay as they are; stored chunks that hold no cell of their array go.
+    /// Writes the image anew, without bytes that nothing uses: each block stands behind the one before it. The tree
+    /// and the numbers of its objects stay. Stored chunks that hold no cell of their array go.
     ///
-    /// Refused as `ImageFull` where that image would pass 2147483648 bytes, and else for want of memory alone, as `NoMemory`. A refusal
-    /// changes nothing.
+    /// # Errors
+    ///
+    /// A refusal changes nothing.
+    ///
+    /// - `ImageFull`: the image written anew would have more than 2147483648 bytes.
+    /// - `NoMemory`: memory is refused.
     pub fn repack(&mut self) -> Result<(), EditFault>
         ensures { MatchResult result (λ _. IsRepacked self.old self.new) (λ e.
             IsRepackRefused self.old e × (self.new ≡ self.old)) }

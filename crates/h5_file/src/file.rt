@@ -9,6 +9,7 @@ ghost use Rattle.h5_model.specs.Format.Superblock.{IsSuperblock, end_of_file};
 ghost use Rattle.std.specs.FinMap.{len};
 ghost use Rattle.h5_edit.specs.Opened.Refused.{IsOpenRefusedAt, ReadsSome};
 ghost use Rattle.h5_edit.specs.Opened.Sound.{IsSound, IsWholeFile};
+ghost use Rattle.h5_edit.specs.Fits.Laws.{AreBytes};
 ghost use Rattle.h5_edit.specs.Listed.{IsNoGroup, AreGroupLinks};
 ghost use Rattle.h5_edit.specs.Look.{HasKind, HasLinksNamed, HasCell, HasAttribute, HasAttributeNames, HasAttributesOf, IsListRefused, IsNoDataset, IsUnlisted};
 ghost use Rattle.h5_edit.specs.Found.{HasFound, IsUnfound};
@@ -28,10 +29,10 @@ use h5_space::{Image, end_of_file, superblock_fault};
 use std::alloc::{AllocError, Global};
 use std::marker::Model;
 
-/// A file: the bytes of its image, and the messages of the objects that stand in it.
+/// A file: the bytes of its image, and what is kept of the objects in it.
 ///
-/// Callers see the bytes, the free blocks, the header address of each object, the next object
-/// number, and the tree of objects and links that the bytes read as.
+/// Contracts see the bytes, the free blocks, the address of each object's header, the next object number, and the
+/// tree that the bytes read as.
 #[derive(Drop)]
 pub struct File {
     pub(crate) opened: Opened,
@@ -49,9 +50,11 @@ impl Model for File {
 }
 
 impl File {
-    /// A file with an empty root group, of 800 bytes.
+    /// A file with an empty root group: 800 bytes.
     ///
-    /// Fails where memory is refused.
+    /// # Errors
+    ///
+    /// `AllocError` if memory is refused.
     pub fn create(alloc: Global) -> Result<File, AllocError>
         ensures created { IfOk result (λ f. f ≡ created_state) }
         ensures sound { IfOk result IsSound }
@@ -62,14 +65,15 @@ impl File {
         Ok(File { opened, alloc })
     }
 
-    /// The file that these bytes are, up to their end of file address; bytes past it are dropped.
+    /// The file that these bytes are, up to their end of file address. Bytes behind that are dropped.
     ///
-    /// A refusal names the first broken rule of the superblock (File Format Specification 3.0,
-    /// section II.A), and else the first that is met on the walk from there, and where it stands;
-    /// it gives the bytes back whole. Bytes that are a tree are refused as [`Cause::NoMemory`] alone.
+    /// Each block is looked at once. If bytes follow the end of file address, the bytes before it are copied first.
     ///
-    /// Each block is looked at once. Where bytes follow the end of file address, those before it are
-    /// copied first.
+    /// # Errors
+    ///
+    /// The fault says which rule of docs/FORMAT.md is broken, and at which address: the first broken rule of the
+    /// superblock (File Format Specification 3.0, section II.A), or else the first one on the way from there. Bytes
+    /// that are a tree are refused as [`Cause::NoMemory`] alone. The bytes are given back whole.
     pub fn open(alloc: Global, bytes: Vec<u8>) -> Result<File, (OpenFault, Vec<u8>)>
         ensures image { IfOk result (λ f. (f.image ≡ cut bytes.items) × (f.free ≡ [])) }
         ensures sound { IfOk result IsSound }
@@ -97,11 +101,13 @@ impl File {
     pub fn image(&self) -> &[u8]
         ensures bytes { result.now ≡ self.now.image }
         ensures sound { IsSound self.now }
+        ensures low { AreBytes self.now.image }
     {
-        self.opened.image().bytes()
+        let bytes = self.opened.image().bytes();
+        bytes
     }
 
-    /// The bytes of the file, with the file given up.
+    /// The bytes of the file; the file is given up.
     pub fn into_image(self) -> Vec<u8>
         ensures bytes { result.items ≡ self.image }
         ensures sound { IsSound self }
@@ -109,10 +115,18 @@ impl File {
         self.opened.into_image().into_bytes()
     }
 
-    /// What the link at the path leads to.
+    /// What the link at the path leads to. The path is `/`, or it has a `/` before each of up to 64 names. Takes no
+    /// memory.
     ///
-    /// The path is `/`, or `/` before each of up to 64 names. Refused as `BadPath`, `PathTooDeep`,
-    /// `NoSuchParent`, `NotAGroup` or `NotFound`, the lowest number that holds. It takes no memory.
+    /// # Errors
+    ///
+    /// Where several hold, the one with the lowest number:
+    ///
+    /// - `BadPath`: the bytes are no path.
+    /// - `PathTooDeep`: the path has more than 64 names.
+    /// - `NoSuchParent`: a name before the last one is missing.
+    /// - `NotAGroup`: a name before the last one leads to no group.
+    /// - `NotFound`: the last name is missing.
     pub fn kind(&self, path: &[u8]) -> Result<Kind<'_>, EditFault>
         ensures { MatchResult result (HasKind self.now.tree path.now) (λ e.
             first_holding (path_rules self.now.tree path.now) ≡ Some e) }
@@ -120,19 +134,23 @@ impl File {
         kind_at(self.alloc, &self.opened, path)
     }
 
-    /// What stands at the path, with all that it holds. A soft link is not followed.
+    /// What stands at the path, with all that it holds. A soft link is not followed. Takes memory for a reference to
+    /// each attribute.
     ///
-    /// Refused as [`File::kind`] is, and as `NoMemory`. Takes memory for a reference to each attribute.
+    /// # Errors
+    ///
+    /// Those of [`File::kind`], and `NoMemory` if memory is refused.
     pub fn find(&self, path: &[u8]) -> Result<Found<'_>, EditFault>
         ensures { MatchResult result (HasFound self.now.tree path.now) (IsUnfound self.now.tree path.now) }
     {
         found_at(self.alloc, &self.opened, path)
     }
 
-    /// The names in the group at the path, ascending by their bytes.
+    /// The names in the group at the path, in ascending order of their bytes.
     ///
-    /// Refused as [`File::kind`] is, also as `NotAGroup` where no group stands there, and as
-    /// `NoMemory`.
+    /// # Errors
+    ///
+    /// Those of [`File::kind`]; `NotAGroup` if no group stands at the path; `NoMemory` if memory is refused.
     pub fn list(&self, path: &[u8]) -> Result<Vec<&[u8]>, EditFault>
         ensures { MatchResult result (λ names.
             HasLinksNamed self.now.tree path.now (map (λ name. name.now) names.items))
@@ -141,9 +159,11 @@ impl File {
         names_at(self.alloc, &self.opened, path)
     }
 
-    /// The names of the attributes of the object at the path, ascending by their bytes.
+    /// The names of the attributes of the object at the path, in ascending order of their bytes.
     ///
-    /// Refused as [`File::kind`] is, and as `NoMemory`.
+    /// # Errors
+    ///
+    /// Those of [`File::kind`]; `NotFound` if a soft link stands at the path; `NoMemory` if memory is refused.
     pub fn attrs(&self, path: &[u8]) -> Result<Vec<&[u8]>, EditFault>
         ensures { MatchResult result (λ names.
             HasAttributeNames self.now.tree path.now (map (λ name. name.now) names.items))
@@ -152,9 +172,11 @@ impl File {
         names_of_attributes(self.alloc, &self.opened, path)
     }
 
-    /// The attributes of the object at the path, ascending by the bytes of their names.
+    /// The attributes of the object at the path, in ascending order of the bytes of their names.
     ///
-    /// Refused as [`File::attrs`] is.
+    /// # Errors
+    ///
+    /// Those of [`File::attrs`].
     pub fn attributes(&self, path: &[u8]) -> Result<Vec<AttrRef<'_>>, EditFault>
         ensures { MatchResult result (λ list.
             HasAttributesOf self.now.tree path.now list.items) (IsUnlisted self.now.tree path.now) }
@@ -162,10 +184,12 @@ impl File {
         attributes_at(self.alloc, &self.opened, path)
     }
 
-    /// The attribute of this name of the object at the path.
+    /// The attribute with this name of the object at the path. Takes no memory.
     ///
-    /// Refused as [`File::kind`] is, and as `NoSuchAttribute` where the object has none of this name.
-    /// It takes no memory.
+    /// # Errors
+    ///
+    /// Those of [`File::kind`]; `NotFound` if a soft link stands at the path; then `NoSuchAttribute` if the object
+    /// has no attribute with this name.
     pub fn get_attr(&self, path: &[u8], name: &[u8]) -> Result<AttrRef<'_>, EditFault>
         ensures { MatchResult result (HasAttribute self.now.tree path.now name.now) (λ e.
             first_holding (attribute_rules self.now.tree path.now name.now) ≡ Some e) }
@@ -173,11 +197,16 @@ impl File {
         one_attribute(&self.opened, path, name)
     }
 
-    /// The value of the cell at an index of the array at the path.
+    /// The value of one cell of the array at the path. The index has one number for each dimension, in cells. Takes
+    /// no memory.
     ///
-    /// Refused as [`File::kind`] is, as `NotADataset` where no array stands there, as `RankMismatch`
-    /// where the index has not one number for each size, and as `OutOfExtent` where one of them is
-    /// not below its size. It takes no memory.
+    /// # Errors
+    ///
+    /// Those of [`File::kind`]; then the first of these that holds:
+    ///
+    /// - `NotADataset`: no array stands at the path.
+    /// - `RankMismatch`: the index has not one number for each dimension.
+    /// - `OutOfExtent`: a number is not below the size of its dimension.
     pub fn cell(&self, path: &[u8], index: &[u64]) -> Result<i128, EditFault>
         ensures { MatchResult result (HasCell self.now.tree path.now index.now) (λ e.
             first_holding (cell_rules self.now.tree path.now index.now) ≡ Some e) }
@@ -185,11 +214,18 @@ impl File {
         one_cell(self.alloc, &self.opened, path, index)
     }
 
-    /// The selected cells of the array at the path, piece by piece in row-major order, as they stand in the image. The selection is
-    /// the hyperslab of four lists, with a number for each dimension.
+    /// The selected cells of the array at the path, in pieces, in row-major order, as they stand in the image. The
+    /// selection has four lists, with one number for each dimension. Neither the call nor a step takes memory.
     ///
-    /// Refused as [`File::kind`] is, as `NotADataset` where no array stands there, and by the lowest number that holds of `RankMismatch`,
-    /// `StrideZero`, `BlocksOverlap`, and `OutOfExtent` where a selected cell is outside. Neither the call nor a step takes memory.
+    /// # Errors
+    ///
+    /// Those of [`File::kind`]; then the first of these that holds:
+    ///
+    /// - `NotADataset`: no array stands at the path.
+    /// - `RankMismatch`: a list has not one number for each dimension.
+    /// - `StrideZero`: a stride is 0.
+    /// - `BlocksOverlap`: a stride is below its block, and there is more than one block.
+    /// - `OutOfExtent`: a selected cell is outside the sizes.
     pub fn runs(&self, path: &[u8], hyper: &Hyper) -> Result<Runs<'_>, EditFault>
         ensures { MatchResult result (HasRuns self.now.tree path.now hyper.now) (λ e.
             first_holding (selection_rules self.now.tree path.now hyper.now) ≡ Some e) }
@@ -197,9 +233,11 @@ impl File {
         runs_at(self.alloc, &self.opened, path, hyper)
     }
 
-    /// The number of the object at the path. It stays the object's while the file is open.
+    /// The number of the object at the path. The object keeps it while the file is open. Takes no memory.
     ///
-    /// Refused as [`File::kind`] is, also as `NotFound` where a soft link stands there. It takes no memory.
+    /// # Errors
+    ///
+    /// Those of [`File::kind`], and `NotFound` if a soft link stands at the path.
     pub fn object_number(&self, path: &[u8]) -> Result<ObjectNo, EditFault>
         ensures { MatchResult result (λ number.
             IsNumber self.now.tree path.now number.0) (IsNoObject self.now.tree path.now) }
@@ -207,9 +245,11 @@ impl File {
         number_at(&self.opened, path)
     }
 
-    /// The number of the array at the path. It stays the array's while the file is open.
+    /// The number of the array at the path. The array keeps it while the file is open. Takes no memory.
     ///
-    /// Refused as [`File::kind`] is, and as `NotADataset` where no array stands there. It takes no memory.
+    /// # Errors
+    ///
+    /// Those of [`File::kind`], and `NotADataset` if no array stands at the path.
     pub fn number(&self, path: &[u8]) -> Result<ObjectNo, EditFault>
         ensures { MatchResult result (λ number.
             IsArrayNumber self.now.tree path.now number.0) (λ e.
@@ -219,9 +259,14 @@ impl File {
         Ok(ObjectNo(number))
     }
 
-    /// The links of the group of this number, ascending by the bytes of their names, or `None` where no group has it.
+    /// The links of the group with this number, in ascending order of the bytes of their names; `Ok(None)` if no
+    /// group has the number.
     ///
     /// Takes memory for a reference to each link.
+    ///
+    /// # Errors
+    ///
+    /// `AllocError` if memory is refused.
     pub fn links(&self, number: ObjectNo) -> Result<Option<Vec<Link<'_, ObjectNo>>>, AllocError>
         ensures { IfOk result (λ found.
             MatchOption found (IsNoGroup self.now.tree number.0) (λ links.
@@ -230,7 +275,7 @@ impl File {
         links_of(self.alloc, &self.opened, number)
     }
 
-    /// The array of this number, or `None` where no array has it. It takes no memory.
+    /// The array with this number, or `None` if no array has it. Takes no memory.
     pub fn array(&self, number: ObjectNo) -> Option<StoredArray<'_>>
         ensures { MatchOption result (IsNoDataset self.now.tree number.0) (λ array.
             dataset_of self.now.tree number.0 ≡ Some array) }

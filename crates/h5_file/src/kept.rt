@@ -43,9 +43,14 @@ const NO_SPAN: Span = Span {
 };
 
 impl Kept {
-    /// Keeps the selected cells of an array, in row-major order, each as its bytes. It takes memory for these, and no more.
+    /// Keeps the bytes of the selected cells of an array, in row-major order. Takes memory for these bytes, and no
+    /// more.
     ///
-    /// That the selection is within the array's sizes, of as many dimensions, is the caller's condition.
+    /// That the selection is within the sizes of the array is the caller's condition.
+    ///
+    /// # Errors
+    ///
+    /// `AllocError` if memory is refused.
     pub fn gather(alloc: Global, array: &StoredArray<'_>, slab: &Slab) -> Result<Kept, AllocError>
         requires { IsSlabOf array.now.sizes slab.now }
         ensures { IfOk result (λ kept. (kept.patches ≡ 0)
@@ -67,10 +72,12 @@ impl Kept {
         &self.bytes
     }
 
-    /// Sets the kept cells of a selection in one box of the array's grid, by its first index and its sizes, to the array's, the fill outside
-    /// its sizes. Every other byte stays. It takes no memory, and time by the cells in the box alone.
+    /// Sets the kept cells in one box of the array's grid to the array's cells, and to the fill outside its sizes.
+    /// `corner` is the first index of the box, `sizes` are its sizes. Every other kept byte stays. It takes no
+    /// memory, and time by the cells in the box alone.
     ///
-    /// That the bytes are of this selection and of this array's type, and that this is a box of its grid, are the caller's conditions.
+    /// That the kept bytes are of this selection and of this array's type, and that this is a box of its grid, are
+    /// the caller's conditions.
     pub fn patch(&mut self, array: &StoredArray<'_>, slab: &Slab, corner: &[u64], sizes: &[u64])
         requires sound { IsDataset array.now }
         requires rank { length slab.now ≡ length array.now.sizes }
@@ -85,9 +92,10 @@ impl Kept {
         self.patches = self.patches.next();
     }
 
-    /// Patches several boxes of the array's grid, and says how many.
+    /// Patches several boxes of the array's grid, and answers how many they were.
     ///
-    /// That the bytes are of this selection and of this array's type, and that these are boxes of its grid, are the caller's conditions.
+    /// That the kept bytes are of this selection and of this array's type, and that these are boxes of its grid, are
+    /// the caller's conditions.
     pub fn patch_boxes(
         &mut self,
         array: &StoredArray<'_>,

@@ -32,6 +32,7 @@ mod gather;
 mod kept;
 mod patch;
 mod session;
+mod touched;
 mod views;
 
 pub use file::File;

@@ -1,6 +1,8 @@
 //! A session: a file, and the views that are open on its arrays.
 
-ghost use Rattle.std.specs.Prelude.{◌≡◌, ◌||◌, true, false, nat_le, length, Ok, Err, IfOk, MatchResult};
+ghost use Rattle.std.specs.Prelude.{◌≡◌, ◌||◌, nat_le, length, Ok, Err, IfOk, MatchResult};
+ghost use Rattle.std.specs.FinMap.{get};
+ghost use Rattle.h5_model.specs.Scripts.Answers.{view_is_lent};
 ghost use Rattle.h5_model.specs.Scripts.Sessions.{IsSession};
 ghost use Rattle.h5_model.specs.Views.Shown.{shows};
 ghost use Rattle.h5_edit.specs.Carried.{IsRefused};
@@ -9,7 +11,8 @@ ghost use Rattle.h5_edit.specs.Repacked.{IsRepackRefused};
 ghost use Rattle.h5_file.specs.Session.{IsSessionEdited, IsSessionRepacked, IsViewClosed, IsViewNotOpen, IsViewOpened, IsViewRefused, session_of, without_views};
 
 use crate::file::File;
-use crate::views::{KeptView, gather_all, place_of, push_view};
+use crate::touched::Touched;
+use crate::views::{KeptView, follow_all, place_of, push_view};
 use h5_model::{Edit, EditFault, Edited, Fixed, Hyper, ViewFault, ViewNo};
 use std::marker::Model;
 
@@ -23,14 +26,15 @@ pub struct Shown<'a> {
     pub fixed: Fixed,
     /// The bytes of the selected cells, in row-major order, each in as many bytes as the type has.
     pub bytes: &'a [u8],
-    /// Whether these bytes are lent from the image. In this version they are kept beside it.
+    /// Whether these bytes are lent from the image. They are where the array is compact, or contiguous with storage, and
+    /// the cells are one run in it. Any other view keeps its bytes beside the image.
     pub lent: bool,
 }
 
-/// A file with the views that are open on it. A view goes by the number of an array, not by its path, and shows what its selection gives
-/// of the array as it is, after any edits.
+/// A file with the views that are open on it. A view goes by the number of an array, not by its path. It shows the
+/// selected cells of the array as it is now, after any edits.
 ///
-/// Callers see the file, the open views by their numbers, and the number that the next view takes.
+/// Contracts see the file, the open views by their numbers, and the number that the next view takes.
 #[derive(Drop)]
 pub struct Session {
     file: File,
@@ -55,7 +59,7 @@ impl Model for Session {
 }
 
 impl Session {
-    /// A session of this file, without views. It takes no memory.
+    /// A session of this file, without views. Takes no memory.
     pub fn new(file: File) -> Session
         ensures { result ≡ without_views file }
     {
@@ -76,7 +80,7 @@ impl Session {
         &self.file
     }
 
-    /// The bytes of the file, with the session given up.
+    /// The bytes of the file; the session is given up.
     pub fn into_image(self) -> Vec<u8>
         ensures bytes { result.items ≡ self.file.image }
         ensures sound { IsSound self.file }
@@ -84,11 +88,16 @@ impl Session {
         self.file.into_image()
     }
 
-    /// Opens a view of the array at the path: the selected cells of the hyperslab of four lists. It takes memory for their bytes, which the
-    /// view keeps until it is closed.
+    /// Opens a view of the selected cells of the array at the path. Where they are not lent from the image, it takes
+    /// memory for their bytes, which the view keeps until it is closed.
     ///
-    /// Refused as `Path` with the refusal of [`File::runs`], else as `TooManyViews` where 1024 views are open or the numbers of views are
-    /// used up, else as `NoMemory`. A refusal changes nothing, and uses no number.
+    /// # Errors
+    ///
+    /// The first of these that holds. A refusal changes nothing, and uses no number.
+    ///
+    /// - `Path`: the path or the selection is refused, as by [`File::runs`].
+    /// - `TooManyViews`: 1024 views are open, or no number of a view is left.
+    /// - `NoMemory`: memory is refused.
     pub fn open_view(&mut self, path: &[u8], hyper: &Hyper) -> Result<ViewNo, ViewFault>
         ensures { MatchResult result (λ number.
             IsViewOpened self.old path.now hyper.now number.0 self.new) (λ e.
@@ -104,7 +113,9 @@ impl Session {
 
     /// Closes a view.
     ///
-    /// Refused as `NoSuchView` where no open view has this number; then nothing changes.
+    /// # Errors
+    ///
+    /// `NoSuchView` if no open view has this number. Then nothing changes.
     pub fn close_view(&mut self, number: ViewNo) -> Result<(), ViewFault>
         ensures { MatchResult result (λ _. IsViewClosed self.old number.0 self.new) (λ e.
             IsViewNotOpen self.old number.0 e × (self.new ≡ self.old)) }
@@ -116,14 +127,19 @@ impl Session {
         Ok(())
     }
 
-    /// What a view shows: the selected cells of its array as it now is, as stored bytes. It takes no memory.
+    /// What a view shows: the selected cells of its array as it is now, as the bytes in which they are stored. Takes
+    /// no memory.
     ///
-    /// Refused as `NoSuchView` where no open view has this number, as `Gone` once the array was deleted, and as `OutsideNow` while a selected
-    /// cell lies outside the array's extent.
+    /// # Errors
+    ///
+    /// - `NoSuchView`: no open view has this number.
+    /// - `Gone`: the array was deleted.
+    /// - `OutsideNow`: a selected cell is outside the sizes of the array for now.
     pub fn show(&self, number: ViewNo) -> Result<Shown<'_>, ViewFault>
         ensures shown { let showing = shows self.now.file.tree self.now.views number.0 in MatchResult result
             (λ s. showing ≡ Ok (record { fixed = s.fixed; bytes = s.bytes.now })) (λ e. showing ≡ Err e) }
-        ensures kept { IfOk result (λ s. s.lent ≡ false) }
+        ensures lent { IfOk result (λ s.
+            s.lent ≡ view_is_lent self.now.file.tree (get self.now.views number.0)) }
     {
         let Some(at) = place_of(&self.views, number.0) else {
             return Err(ViewFault::NoSuchView);
@@ -132,21 +148,40 @@ impl Session {
         view.show(&self.file)
     }
 
-    /// Carries an edit out, and gathers the cells of all views again, for which it takes no memory.
+    /// Carries an edit out. The open views of the array that it writes or resizes follow: in each view that keeps bytes,
+    /// the cells in each chunk that the edit and the view both meet are set to the array's. `refreshed` is how many chunks
+    /// these are, over all views; an array without chunks is one chunk. A view whose cells can be lent now keeps none of
+    /// them any more.
     ///
-    /// Refused as [`File::edit`] is. A refusal changes nothing.
+    /// Views take no memory for it, and views of other arrays no time beyond a look at their numbers.
+    ///
+    /// # Errors
+    ///
+    /// Those of [`File::edit`]. A refusal changes nothing.
     pub fn edit(&mut self, edit: &Edit) -> Result<Edited, EditFault>
         ensures edited { MatchResult result (IsSessionEdited self.old edit.now self.new) (λ e.
             IsRefused self.old.file edit.now e × (self.new ≡ self.old)) }
     {
+        let touched = Touched::of(&self.file, edit);
         let edited = self.file.edit(edit)?;
-        gather_all(&self.file, &mut self.views);
-        Ok(edited)
+        let Some(touched) = touched else {
+            return Ok(edited);
+        };
+        let Some(number) = edited.object else {
+            return Ok(edited);
+        };
+        let refreshed = follow_all(&self.file, &mut self.views, number, &touched);
+        Ok(Edited {
+            object: edited.object,
+            refreshed,
+        })
     }
 
-    /// Writes the image anew without the room that nothing uses. What views show stays.
+    /// Writes the image anew, without bytes that nothing uses. What views show stays.
     ///
-    /// Refused as [`File::repack`] is. A refusal changes nothing.
+    /// # Errors
+    ///
+    /// Those of [`File::repack`]. A refusal changes nothing.
     pub fn repack(&mut self) -> Result<(), EditFault>
         ensures { MatchResult result (λ _. IsSessionRepacked self.old self.new) (λ e.
             IsRepackRefused self.old.file e × (self.new ≡ self.old)) }

@@ -1,18 +1,26 @@
 //! The views that are open on a file, each with the bytes of its selected cells.
 
-ghost use Rattle.std.specs.Prelude.{◌≡◌, ℕ, IfOk, IfErr, MatchOption, MatchResult, OnOk, OnErr, Ok, Err, ◌∷◌, ◌++◌, [], false, map};
+ghost use Rattle.std.specs.Prelude.{◌≡◌, ◌^◌, ◌≤◌, ℕ, IfOk, IfErr, IfSome, MatchOption, MatchResult, OnOk, OnErr, Ok, Err, Some, ◌∷◌, ◌++◌, [], false, length};
 ghost use Rattle.std.specs.FinMap.{contains_key};
-ghost use Rattle.std.specs.List.{AllByRecursion};
-ghost use Rattle.h5_model.specs.Format.Plain.{cells_bytes};
-ghost use Rattle.h5_model.specs.Views.Shown.{selected_values, shown_of};
+ghost use Rattle.std.specs.List.{AllByRecursion, list_any};
+ghost use Rattle.h5_model.specs.Scripts.Answers.{view_is_lent};
+ghost use Rattle.h5_model.specs.Edits.Refusal.{is_chunked};
+ghost use Rattle.h5_model.specs.Tree.Objects.{Chunked, Dataset, dataset_of};
+ghost use Rattle.h5_model.specs.Tree.Places.{cells as cells_of};
+ghost use Rattle.h5_model.specs.Tree.Sound.{IsDataset};
+ghost use Rattle.h5_model.specs.Views.Selection.{overlaps, selects_none};
+ghost use Rattle.h5_model.specs.Views.Shown.{box_of, is_lent as can_lend, shown_of};
 ghost use Rattle.h5_edit.specs.Selected.{IsSlabOf};
-ghost use Rattle.h5_file.specs.Session.{IsViewOf, IsViewRefusedBy};
-ghost use Rattle.h5_file.specs.OpenViews.{AreNumbered, IsViewAt, IsViewFit, IsViewGathered, numbered_view, view_of, views_of};
+ghost use Rattle.h5_shape.specs.InBox.{AreApart};
+ghost use Rattle.h5_file.specs.Session.{IsViewOf, IsViewRefusedBy, patches_at_first};
+ghost use Rattle.h5_file.specs.OpenViews.{AreNumbered, AreViewsFollowed, AreViewsReady, HasKeptLength, IsKeptAfter, IsKeptOf, IsMetPatched, IsViewAt, IsViewFit, IsViewFollowed, IsViewReady, IsViewShown, patches_in, numbered_view, view_of, views_of};
+ghost use Rattle.h5_file.specs.Touched.{HasBoxes, IsArrayLeft, IsTouchOf, sizes_before};
 
 use crate::file::File;
-use crate::gather::gather;
+use crate::kept::Kept;
 use crate::session::Shown;
-use h5_edit::{Slab, StoredArray, selected_at};
+use crate::touched::Touched;
+use h5_edit::{Dims, Slab, StoredArray, selected_at};
 use h5_model::{Hyper, ObjectNo, ViewFault};
 use std::alloc::{AllocError, Global};
 
@@ -24,15 +32,15 @@ pub(crate) struct KeptView {
     /// The number of the object of which it selects cells.
     pub(crate) object: u32,
     pub(crate) slab: Slab,
-    /// The bytes of the selected cells, in row-major order, as they last stood all in the array's extent.
-    pub(crate) kept: Vec<u8>,
+    /// The selected cells as the array has them, the fill for those outside its sizes; `None` where they are lent from the image.
+    pub(crate) kept: Option<Kept>,
 }
 
 impl KeptView {
     /// A view, of this number, of the selected cells of the array at the path.
     ///
     /// Refused as `Path` with the refusal of [`File::runs`], else as `TooManyViews` where no more views may be open, else as `NoMemory`. It
-    /// takes memory for the bytes of the cells, and no more.
+    /// takes memory for the bytes of cells that are not lent, and no more.
     pub(crate) fn open(
         file: &File,
         path: &[u8],
@@ -43,7 +51,9 @@ impl KeptView {
         ensures opened { IfOk result (λ v. (is_full ≡ false) × (v.number ≡ number)
             × IsViewOf file.now.tree path.now hyper.now (view_of v)) }
         ensures fit { IfOk result (IsViewFit file.now.tree file.now.next) }
-        ensures gathered { IfOk result (IsViewGathered file.now.tree) }
+        ensures shown { IfOk result (IsViewShown file.now.tree) }
+        ensures first { IfOk result (λ v.
+            patches_in v.kept ≡ patches_at_first file.now.tree (view_of v)) }
         ensures refused { IfErr result (IsViewRefusedBy file.now.tree path.now hyper.now is_full) }
     {
         let (object, array, slab) = match selected_at(file.alloc, &file.opened, path, hyper) {
@@ -53,9 +63,10 @@ impl KeptView {
         if is_full {
             return Err(ViewFault::TooManyViews);
         }
-        // Its objects have numbers that were given out.
+        // Its objects have numbers that were given out, its arrays few cells, and blocks of the selection share none.
         let _image = file.image();
-        let kept = gathered(file.alloc, &array, &slab)?;
+        let _axes = slab.axes();
+        let kept = kept_cells(file.alloc, &array, &slab)?;
         Ok(KeptView {
             number,
             object,
@@ -64,41 +75,119 @@ impl KeptView {
         })
     }
 
-    /// What the view shows of a file in which it was gathered. It takes no memory.
-    pub(crate) fn show(&self, file: &File) -> Result<Shown<'_>, ViewFault>
+    /// What the view shows. It takes no memory.
+    pub(crate) fn show<'a>(&'a self, file: &'a File) -> Result<Shown<'a>, ViewFault>
         requires fit { IsViewFit file.now.tree file.now.next self.now }
-        requires gathered { IsViewGathered file.now.tree self.now }
+        requires shown { IsViewShown file.now.tree self.now }
         ensures shown { let showing = shown_of file.now.tree (view_of self.now) in MatchResult result
             (λ s. showing ≡ Ok (record { fixed = s.fixed; bytes = s.bytes.now })) (λ e. showing ≡ Err e) }
-        ensures kept { IfOk result (λ s. s.lent ≡ false) }
+        ensures lent { IfOk result (λ s.
+            s.lent ≡ view_is_lent file.now.tree (Some (view_of self.now))) }
     {
         let Some(array) = file.array(ObjectNo(self.object)) else {
             return Err(ViewFault::Gone);
         };
-        let told = array.array();
-        if !self.slab.within(told.dims()) {
+        if !self.slab.within(array.dims()) {
             return Err(ViewFault::OutsideNow);
         }
-        Ok(Shown {
-            fixed: told.fixed(),
-            bytes: &self.kept,
-            lent: false,
-        })
+        // Its blocks share no cell.
+        let _axes = self.slab.axes();
+        let fixed = array.fixed();
+        match &self.kept {
+            Some(kept) => Ok(Shown {
+                fixed,
+                bytes: kept.bytes(),
+                lent: false,
+            }),
+            None => {
+                let bytes = array.lent(&self.slab).unwrap();
+                Ok(Shown {
+                    fixed,
+                    bytes,
+                    lent: true,
+                })
+            }
+        }
+    }
+
+    /// Follows its array, of which cells were touched: of the kept cells those in each box that is met are set to the array's. Says how many
+    /// boxes these are. Where the cells can be lent by now, none is kept any more.
+    fn follow(
+        &mut self,
+        alloc: Global,
+        array: &StoredArray<'_>,
+        grid: &Dims,
+        touched: &Touched,
+    ) -> u64
+        requires array { IsArrayLeft array.now touched.now grid.now }
+        requires rank { length self.old.slab ≡ length array.now.sizes }
+        requires apart { selects_none self.old.slab ≡ false → AreApart self.old.slab }
+        requires room { HasKeptLength array.now self.old.slab self.old.kept }
+        ensures same { numbered_view self.new ≡ numbered_view self.old }
+        ensures kept { IsKeptAfter array.now touched.now self.old.slab self.old.kept result self.new.kept }
+        ensures few { result ≤ 2 ^ 40 }
+    {
+        let Some(kept) = &mut self.kept else {
+            return 0;
+        };
+        if is_lent(array, &self.slab) {
+            self.kept = None;
+            return 0;
+        }
+        patch_met(kept, alloc, array, &self.slab, grid, touched)
     }
 }
 
-/// The bytes of the selected cells of an array, in row-major order. It takes memory for these, and no more.
+/// The selected cells of an array, where they are not lent. It takes memory for these, and no more.
 ///
 /// That the selection is within the array's sizes, of as many dimensions, is the caller's condition.
-fn gathered(alloc: Global, array: &StoredArray<'_>, slab: &Slab) -> Result<Vec<u8>, AllocError>
-    requires { IsSlabOf array.now.sizes slab.now }
-    ensures { IfOk result (λ kept.
-        kept.items ≡ cells_bytes array.now.fixed (selected_values array.now slab.now)) }
+fn kept_cells(
+    alloc: Global,
+    array: &StoredArray<'_>,
+    slab: &Slab,
+) -> Result<Option<Kept>, AllocError>
+    requires within { IsSlabOf array.now.sizes slab.now }
+    requires apart { list_any overlaps slab.now ≡ false }
+    ensures kept { IfOk result (IsKeptOf array.now slab.now) }
+    ensures first { IfOk result (λ kept. IfSome kept (λ k. k.patches ≡ 0)) }
 {
-    let size = array.array().fixed().size();
-    let mut kept = vec![in alloc; 0u8; slab.cells() as usize * size]?;
-    gather(array, slab, &mut kept);
-    Ok(kept)
+    if array.lent(slab).is_some() {
+        return Ok(None);
+    }
+    Ok(Some(Kept::gather(alloc, array, slab)?))
+}
+
+/// Whether the selected cells are lent from the image.
+fn is_lent(array: &StoredArray<'_>, slab: &Slab) -> bool
+    requires { length slab.now ≡ length array.now.sizes }
+    ensures { result ≡ can_lend array.now slab.now }
+{
+    if !array.stored() || !slab.within(array.dims()) {
+        return false;
+    }
+    array.lent(slab).is_some()
+}
+
+/// Sets the kept cells in each box that is met to the array's, and says how many boxes these are.
+fn patch_met(
+    kept: &mut Kept,
+    alloc: Global,
+    array: &StoredArray<'_>,
+    slab: &Slab,
+    grid: &Dims,
+    touched: &Touched,
+) -> u64
+    requires array { IsArrayLeft array.now touched.now grid.now }
+    requires rank { length slab.now ≡ length array.now.sizes }
+    requires apart { selects_none slab.now ≡ false → AreApart slab.now }
+    requires room { HasKeptLength array.now slab.now (Some kept.old) }
+    ensures met { IsMetPatched array.now touched.now slab.now kept.old result kept.new }
+    ensures few { result ≤ 2 ^ 40 }
+{
+    if slab.cells() == 0 {
+        return 0;
+    }
+    kept.patch_boxes(array, slab, grid, touched.boxes(alloc, grid, slab))
 }
 
 /// Where the view of this number is held, found by halving: their numbers rise.
@@ -110,31 +199,85 @@ pub(crate) fn place_of(views: &[KeptView], number: u32) -> Option<usize>
     views.binary_search_by_key(&number, |view| view.number).ok()
 }
 
-/// Gathers the views again, each of whose arrays is in the file and has all its selected cells. It takes no memory.
-pub(crate) fn gather_all(file: &File, views: &mut [KeptView])
-    requires { AllByRecursion (IsViewFit file.now.tree file.now.next) views.old }
-    ensures same { map numbered_view views.new ≡ map numbered_view views.old }
-    ensures fit { AllByRecursion (IsViewFit file.now.tree file.now.next) views.new }
-    ensures gathered { AllByRecursion (IsViewGathered file.now.tree) views.new }
+/// Lets the views of the array of this number follow it, of which cells were touched, and says how many boxes were patched in all. Any
+/// other view stays.
+pub(crate) fn follow_all(
+    file: &File,
+    views: &mut [KeptView],
+    number: ObjectNo,
+    touched: &Touched,
+) -> u64
+    requires fit { AllByRecursion (IsViewFit file.now.tree file.now.next) views.old }
+    requires few { length views.old ≤ 1024 }
+    requires touch { (d : Dataset) → dataset_of file.now.tree number.0 ≡ Some d
+        → IsTouchOf d touched.now
+        × (cells_of d.sizes ≤ 2 ^ 40 → cells_of (sizes_before d touched.now) ≤ 2 ^ 40) }
+    ensures followed { (d : Dataset) → dataset_of file.now.tree number.0 ≡ Some d
+        → AreViewsFollowed number.0 d touched.now views.old result views.new }
+    ensures sound { (d : Dataset) → dataset_of file.now.tree number.0 ≡ Some d
+        → IsDataset d × HasBoxes d }
 {
-    for view in views.iter_mut() {
-        gather_view(file, view);
+    // Its arrays are sound.
+    let _image = file.image();
+    let Some(array) = file.array(number) else {
+        return 0;
+    };
+    let chunk = array.chunk(file.alloc);
+    let grid = box_sizes(&array, &chunk);
+    follow_each(views, number, file.alloc, &array, grid, touched)
+}
+
+/// The sizes of a box of the array's grid, where this tells the sizes of its chunks. An array without chunks is one box.
+fn box_sizes<'a>(array: &'a StoredArray<'_>, chunk: &'a Option<Dims>) -> &'a Dims
+    requires { MatchOption chunk.now (is_chunked array.now.storage ≡ false) (λ sizes.
+        array.now.storage ≡ Chunked sizes) }
+    ensures { result.now ≡ box_of array.now }
+{
+    match chunk {
+        Some(sizes) => sizes,
+        None => array.dims(),
     }
 }
 
-/// Gathers a view again, where its array is in the file and has all its selected cells.
-fn gather_view(file: &File, view: &mut KeptView)
-    requires { IsViewFit file.now.tree file.now.next view.old }
-    ensures same { numbered_view view.new ≡ numbered_view view.old }
-    ensures fit { IsViewFit file.now.tree file.now.next view.new }
-    ensures gathered { IsViewGathered file.now.tree view.new }
+/// Lets each view follow the array, where it is one of this, and says how many boxes were patched in all.
+fn follow_each(
+    views: &mut [KeptView],
+    number: ObjectNo,
+    alloc: Global,
+    array: &StoredArray<'_>,
+    grid: &Dims,
+    touched: &Touched,
+) -> u64
+    requires array { IsArrayLeft array.now touched.now grid.now }
+    requires fit { AreViewsReady number.0 array.now views.old }
+    requires few { length views.old ≤ 1024 }
+    ensures { AreViewsFollowed number.0 array.now touched.now views.old result views.new }
 {
-    let Some(array) = file.array(ObjectNo(view.object)) else {
-        return;
-    };
-    if view.slab.within(array.array().dims()) {
-        gather(&array, &view.slab, &mut view.kept);
+    let mut count = 0;
+    for view in views.iter_mut() {
+        count += follow_one(view, number, alloc, array, grid, touched);
     }
+    count
+}
+
+/// Lets a view follow the array, where it is one of this.
+fn follow_one(
+    view: &mut KeptView,
+    number: ObjectNo,
+    alloc: Global,
+    array: &StoredArray<'_>,
+    grid: &Dims,
+    touched: &Touched,
+) -> u64
+    requires array { IsArrayLeft array.now touched.now grid.now }
+    requires fit { view.old.object ≡ number.0 → IsViewReady array.now view.old }
+    ensures followed { IsViewFollowed number.0 array.now touched.now view.old result view.new }
+    ensures few { result ≤ 2 ^ 40 }
+{
+    if view.object != number.0 {
+        return 0;
+    }
+    view.follow(alloc, array, grid, touched)
 }
 
 /// Holds one view more, behind the others.

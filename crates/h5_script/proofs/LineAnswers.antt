@@ -7,7 +7,7 @@ use Rattle.h5_dump.specs.Dumped.{IsUndumped}
 use Rattle.h5_dump.specs.declared.fault.DumpFault.TheVariants as dump
 use Rattle.std.specs.declared.alloc.AllocError.{AllocError}
 use Rattle.std.specs.Fmt.{decimal, digits}
-use Rattle.h5_model.specs.Edits.Applied.{State}
+use Rattle.h5_model.specs.Edits.Applied.{State, state_after}
 use Rattle.h5_model.specs.Edits.EditFaults.{refused_text}
 use Rattle.h5_model.specs.Scripts.Lines.{Command, Change, ListAll, Dump, Repack, Unread}
 use Rattle.h5_model.specs.Scripts.Sessions.{Session}
@@ -16,12 +16,13 @@ use Rattle.h5_model.specs.Scripts.Reading.{path_rules}
 use Rattle.h5_model.specs.Edits.Refusal.{first_holding}
 use Rattle.h5_model.specs.Scripts.Answers.{dumped}
 use Rattle.h5_model.specs.Scripts.Text.{list_text}
-use Rattle.h5_model.specs.Views.Shown.{Views}
+use Rattle.h5_model.specs.Views.Shown.{Views, refreshed_of}
 use Rattle.h5_model.specs.declared.edits.Edit.{Edit}
 use Rattle.h5_model.specs.declared.edits.Edited.{Edited}
 use Rattle.h5_model.specs.declared.edit_fault.EditFault.{EditFault}
 use Rattle.h5_model.specs.declared.edit_fault.EditFault.TheVariants as fault
 use Rattle.h5_dump.specs.Carried.{IsRefused}
+use Rattle.h5_dump.specs.Opened.State.{state_of}
 use Rattle.h5_dump.specs.Repacked.{IsRepackRefused}
 use Rattle.h5_dump.specs.Session.{SessionState, IsSessionEdited, IsSessionRepacked}
 use Rattle.h5_script.specs.Answered.{answer_at, IsAnswered, IsUntold}
@@ -84,10 +85,11 @@ edit_accepted before after edit e is = record {
   run = record {
     allowed = is.file.accepted.given;
     session_is = same_views _ _ before.views after.views before.next_view after.next_view is.file.state is.views is.next_view ∙ rw is.file.accepted.accepted refl;
-    left = rw is.file.accepted.accepted (e, is.file);
+    left = rw is.file.accepted.accepted (record e { refreshed = 0 }, is.file);
   };
-  text_is = ap (λ n. codes "ok " ++ (decimal n ++ codes "\n")) is.file.refreshed ∙ rw is.file.accepted.accepted
-      (sym (append_assoc (codes "ok ") (decimal 0) (codes "\n")));
+  text_is = ap (λ n. codes "ok " ++ (decimal n ++ codes "\n")) (is.refreshed ∙ ap (λ (s : State). refreshed_of before.file.tree s.tree before.views edit) is.file.state)
+      ∙ rw is.file.accepted.accepted
+      (sym (append_assoc (codes "ok ") (decimal (refreshed_of before.file.tree (state_after (state_of before.file) edit).tree before.views edit)) (codes "\n")));
   outcome_is = rw is.file.accepted.accepted refl;
 }
 

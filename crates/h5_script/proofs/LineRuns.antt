@@ -6,7 +6,7 @@ use Rattle.std.specs.Option.{option_map_or}
 use Rattle.h5_model.specs.Scripts.Lines.{Command, line_asks}
 use Rattle.h5_script.specs.Pieces.{commands_of_line}
 use Rattle.h5_script.proofs.RunLaws.{has_begun_one, has_counted_none}
-use Rattle.h5_model.specs.Scripts.Answers.{Given, gathered, is_accepted, is_refused, session_after, transcript_of}
+use Rattle.h5_model.specs.Scripts.Answers.{Given, is_accepted, is_refused, session_after, transcript_of}
 use Rattle.h5_model.specs.Scripts.Answers as script
 use Rattle.h5_script.specs.Answered.{Line, answer_at, outcome_of, IsAnswered, IsRunIn, IsTold, IsUntold}
 use Rattle.h5_script.specs.Runs.{asked_in, AreRun, HasRun, HasCounted, HasBegun, IsRunCut, RunsTo, Tells, run_fault}
@@ -27,7 +27,7 @@ line_with command given after = record { command = command; given = given; after
 abbrev Known : Type 0
 Known = Option (List ℕ)
 
-one_text : (s : SessionState) (line : Line) → (answer_at s line.command line.given).text ≡ transcript_of gathered (session_of s) (asked_in (line ∷ []))
+one_text : (s : SessionState) (line : Line) → (answer_at s line.command line.given).text ≡ transcript_of (session_of s) (asked_in (line ∷ []))
 unfolding transcript_of answer_at
 one_text s line = sym (append-nil (answer_at s line.command line.given).text)
 

@@ -7,7 +7,7 @@ use Rattle.std.proofs.lemmas.List.Sums.{sum_by-append}
 use Rattle.h5_dump.specs.Session.{SessionState, session_of}
 use Rattle.h5_model.specs.Scripts.Lines.{Command}
 use Rattle.h5_model.specs.Scripts.Sessions.{Session}
-use Rattle.h5_model.specs.Scripts.Answers.{Outcome, gathered, is_accepted, is_refused, outcomes_of, session_after, transcript_of}
+use Rattle.h5_model.specs.Scripts.Answers.{Outcome, is_accepted, is_refused, outcomes_of, session_after, transcript_of}
 use Rattle.h5_model.proofs.ScriptLaws.{outcomes_of-append, session_after-append, transcript_of-append}
 use Rattle.h5_script.specs.Answered.{Line}
 use Rattle.h5_script.specs.Runs.{commands_in, asked_in, AreRun, HasRun, HasCounted, HasBegun, IsPartlyTold}
@@ -35,33 +35,33 @@ unfolding AreRun session_after transcript_of
 has_run_none s known = record { lines = []; asked_are = refl; each = refl; session_is = refl; written = appends_none known }
 
 -- lines behind lines, the first of which led to this session
-module _ (s m : SessionState) (first others : List Line) (is : session_of m ≡ session_after gathered (session_of s) (asked_in first)) where
-  session_more : session_after gathered (session_of m) (asked_in others) ≡ session_after gathered (session_of s) (asked_in (first ++ others))
+module _ (s m : SessionState) (first others : List Line) (is : session_of m ≡ session_after (session_of s) (asked_in first)) where
+  session_more : session_after (session_of m) (asked_in others) ≡ session_after (session_of s) (asked_in (first ++ others))
   session_more =
-      ap (λ (q : Session). session_after gathered q (asked_in others)) is ∙ sym (session_after-append gathered (session_of s) (asked_in first) (asked_in others))
-      ∙ ap (session_after gathered (session_of s)) (sym (asked_in-append first others))
+      ap (λ (q : Session). session_after q (asked_in others)) is ∙ sym (session_after-append (session_of s) (asked_in first) (asked_in others))
+      ∙ ap (session_after (session_of s)) (sym (asked_in-append first others))
 
-  text_more : transcript_of gathered (session_of s) (asked_in first) ++ transcript_of gathered (session_of m) (asked_in others)
-      ≡ transcript_of gathered (session_of s) (asked_in (first ++ others))
+  text_more : transcript_of (session_of s) (asked_in first) ++ transcript_of (session_of m) (asked_in others)
+      ≡ transcript_of (session_of s) (asked_in (first ++ others))
   text_more =
-      ap (λ (q : Session). transcript_of gathered (session_of s) (asked_in first) ++ transcript_of gathered q (asked_in others)) is
-      ∙ sym (transcript_of-append gathered (session_of s) (asked_in first) (asked_in others))
-      ∙ ap (transcript_of gathered (session_of s)) (sym (asked_in-append first others))
+      ap (λ (q : Session). transcript_of (session_of s) (asked_in first) ++ transcript_of q (asked_in others)) is
+      ∙ sym (transcript_of-append (session_of s) (asked_in first) (asked_in others))
+      ∙ ap (transcript_of (session_of s)) (sym (asked_in-append first others))
 
-  outcomes_more : outcomes_of gathered (session_of s) (asked_in (first ++ others))
-      ≡ outcomes_of gathered (session_of s) (asked_in first) ++ outcomes_of gathered (session_of m) (asked_in others)
+  outcomes_more : outcomes_of (session_of s) (asked_in (first ++ others))
+      ≡ outcomes_of (session_of s) (asked_in first) ++ outcomes_of (session_of m) (asked_in others)
   outcomes_more =
-      ap (outcomes_of gathered (session_of s)) (asked_in-append first others)
-      ∙ outcomes_of-append gathered (session_of s) (asked_in first) (asked_in others)
-      ∙ sym (ap (λ (q : Session). outcomes_of gathered (session_of s) (asked_in first) ++ outcomes_of gathered q (asked_in others)) is)
+      ap (outcomes_of (session_of s)) (asked_in-append first others)
+      ∙ outcomes_of-append (session_of s) (asked_in first) (asked_in others)
+      ∙ sym (ap (λ (q : Session). outcomes_of (session_of s) (asked_in first) ++ outcomes_of q (asked_in others)) is)
 
-  counts_more : (p : Outcome → Bool) (a b c : ℕ) → b ≡ a + count_by p (outcomes_of gathered (session_of s) (asked_in first))
-      → c ≡ b + count_by p (outcomes_of gathered (session_of m) (asked_in others)) → c ≡ a + count_by p (outcomes_of gathered (session_of s) (asked_in (first ++ others)))
+  counts_more : (p : Outcome → Bool) (a b c : ℕ) → b ≡ a + count_by p (outcomes_of (session_of s) (asked_in first))
+      → c ≡ b + count_by p (outcomes_of (session_of m) (asked_in others)) → c ≡ a + count_by p (outcomes_of (session_of s) (asked_in (first ++ others)))
   counts_more p a b c one two =
-      let all : count_by p (outcomes_of gathered (session_of s) (asked_in (first ++ others)))
-      ≡ count_by p (outcomes_of gathered (session_of s) (asked_in first)) + count_by p (outcomes_of gathered (session_of m) (asked_in others))
+      let all : count_by p (outcomes_of (session_of s) (asked_in (first ++ others)))
+      ≡ count_by p (outcomes_of (session_of s) (asked_in first)) + count_by p (outcomes_of (session_of m) (asked_in others))
       = ap (count_by p) outcomes_more
-      ∙ sum_by-append _ (outcomes_of gathered (session_of s) (asked_in first)) (outcomes_of gathered (session_of m) (asked_in others)) in
+      ∙ sum_by-append _ (outcomes_of (session_of s) (asked_in first)) (outcomes_of (session_of m) (asked_in others)) in
       omega (arith, all, one, two)
 
 pub has_run_more : (asked more : List Command) (s m t : SessionState) (old mid new : Known) → HasRun asked s m old mid → HasRun more m t mid new → HasRun (asked ++ more) s t old new

@@ -1,11 +1,11 @@
 -- What lines of views answer.
 use Rattle.std.proofs.Common.{◌≡◌, ℕ, ◌+◌, Bool, true, false, Option, Some, None, List, ◌++◌, codes, refl, sym, ap, ◌∙◌, subst, append_assoc}
 use Rattle.std.specs.Prelude.{is_none, Ok, Err}
-use Rattle.std.specs.FinMap.{insert}
+use Rattle.std.specs.FinMap.{get, insert}
 use Rattle.std.specs.Fmt.{decimal}
 use Rattle.std.specs.Option.{option_and_then}
 use Rattle.h5_model.specs.Edits.Refusal.{first_holding, is_here}
-use Rattle.h5_model.specs.Scripts.Answers.{has_many_views, shown_text}
+use Rattle.h5_model.specs.Scripts.Answers.{has_many_views, shown_text, view_is_lent}
 use Rattle.h5_model.specs.Scripts.Lines.{OpenView, Show, Close}
 use Rattle.h5_model.specs.Scripts.Reading.{selection_rules}
 use Rattle.h5_model.specs.Tree.Objects.{Tree, Dataset, dataset_of}
@@ -118,13 +118,13 @@ view_refused before after path hyper f is stays =
 
 -- ---- `show`
 
-pub view_shown : (s : SessionState) (number : ℕ) (lent : Bool) (shown : Shown) → shows s.file.tree s.views number ≡ Ok shown → lent ≡ false
+pub view_shown : (s : SessionState) (number : ℕ) (lent : Bool) (shown : Shown) → shows s.file.tree s.views number ≡ Ok shown → lent ≡ view_is_lent s.file.tree (get s.views number)
     → IsAnswered s (Show number) s (shown_text lent shown) Told
 unfolding answer_at IsGivenAt
-view_shown s number lent shown is kept = record {
+view_shown s number lent shown is told = record {
   given = None;
   run = record { allowed = refl; session_is = rw is refl; left = rw is refl };
-  text_is = ap (λ b. shown_text b shown) kept ∙ rw is refl;
+  text_is = ap (λ b. shown_text b shown) told ∙ rw is refl;
   outcome_is = rw is refl;
 }
 

@@ -2,7 +2,7 @@
 use Rattle.std.specs.Prelude.{◌≡◌, ℕ, Option, List}
 use Rattle.std.specs.Io.KnownBytes.{Appends}
 use Rattle.h5_model.specs.Scripts.Lines.{Command, Change, Repack}
-use Rattle.h5_model.specs.Scripts.Answers.{Given, Answer, answer_of, gathered}
+use Rattle.h5_model.specs.Scripts.Answers.{Given, Answer, answer_of}
 use Rattle.h5_model.specs.Scripts.Answers as script
 use Rattle.h5_model.specs.declared.edits.Edited.{Edited}
 use Rattle.h5_dump.specs.Opened.State.{FileState}
@@ -26,7 +26,7 @@ pub record Line : Type 0 where
 
 -- what a command answers in this session
 unfoldable pub answer_at : SessionState → Command → Given → Answer
-answer_at s command given = answer_of gathered (session_of s) command given
+answer_at s command given = answer_of (session_of s) command given
 
 -- an edit that is accepted makes of the file what it gives, and `repack` writes it anew; any other line leaves the file as it is, each byte
 -- of it

@@ -3,7 +3,7 @@ use Rattle.std.specs.Prelude.{◌≡◌, ◌⊎◌, ℕ, ◌+◌, Option, List, 
 use Rattle.std.specs.List.{count_by}
 use Rattle.std.specs.Io.KnownBytes.{Appends, Keeps}
 use Rattle.h5_model.specs.Scripts.Lines.{Command}
-use Rattle.h5_model.specs.Scripts.Answers.{Given, gathered, is_accepted, is_refused, outcomes_of, session_after, transcript_of}
+use Rattle.h5_model.specs.Scripts.Answers.{Given, is_accepted, is_refused, outcomes_of, session_after, transcript_of}
 use Rattle.h5_dump.specs.Session.{SessionState, session_of}
 use Rattle.h5_script.specs.Answered.{Line, answer_at, IsRunIn, IsTold}
 use Rattle.h5_text.specs.Printed.{WritesSome}
@@ -33,14 +33,14 @@ pub record HasRun (asked : List Command) (before after : SessionState) (old new 
   pub lines : List Line
   pub asked_are : commands_in lines ≡ asked
   pub each : AreRun before lines after
-  pub session_is : session_of after ≡ session_after gathered (session_of before) (asked_in lines)
-  pub written : Appends old new (transcript_of gathered (session_of before) (asked_in lines))
+  pub session_is : session_of after ≡ session_after (session_of before) (asked_in lines)
+  pub written : Appends old new (transcript_of (session_of before) (asked_in lines))
 
 -- and their outcomes were counted
 pub record HasCounted (asked : List Command) (before after : SessionState) (old new : Option (List ℕ)) (counted counts : Ran) : Type 0 where
   pub run : HasRun asked before after old new
-  pub refused : counts.refused ≡ counted.refused + count_by is_refused (outcomes_of gathered (session_of before) (asked_in run.lines))
-  pub edits : counts.edits ≡ counted.edits + count_by is_accepted (outcomes_of gathered (session_of before) (asked_in run.lines))
+  pub refused : counts.refused ≡ counted.refused + count_by is_refused (outcomes_of (session_of before) (asked_in run.lines))
+  pub edits : counts.edits ≡ counted.edits + count_by is_accepted (outcomes_of (session_of before) (asked_in run.lines))
 
 -- none of these commands was run, and nothing was written
 abbrev pub IsRunUntouched : SessionState → SessionState → Option (List ℕ) → Option (List ℕ) → Type 0

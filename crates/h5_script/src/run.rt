@@ -1,4 +1,4 @@
-//! A whole script.
+//! A whole script, run line by line.
 
 ghost use Rattle.std.specs.Prelude.{◌<◌, MatchResult, length};
 ghost use Rattle.h5_dump.specs.Opened.Sound.{IsSound};
@@ -59,12 +59,20 @@ fn run_pieces<R: Read, W: Write>(
     Err(RunFault::ScriptTooLong)
 }
 
-/// Runs a script to its end, and answers how its lines count.
+/// Runs a script to its end, and answers how its lines count: how many were refused or bad, and how many edits were
+/// accepted.
 ///
-/// Lines run as they come, and each answer is written before the next line is run. The script may
-/// have 16777216 bytes; of a longer one the lines are run that end within so many. A read or a write
-/// that fails is never tried again; where it fails, or memory is refused, the session stays as the lines
-/// so far have left it.
+/// Lines run as they come, and each answer is written before the next line is run. The script may have 16777216
+/// bytes.
+///
+/// # Errors
+///
+/// The session stays as the lines so far have left it. No read and no write is tried again.
+///
+/// - `ScriptRead`: a read failed.
+/// - `ScriptTooLong`: the script has more than 16777216 bytes. The lines that end within these bytes were run.
+/// - `ScriptWrite`: a write failed.
+/// - `NoMemory`: memory is refused.
 pub fn run_script<R: Read, W: Write>(
     alloc: Global,
     session: &mut Session,
@@ -76,8 +84,10 @@ pub fn run_script<R: Read, W: Write>(
         (W.contents output.old) (W.contents output.new))
         (IsStopped session.old session.new (R.remaining input.old) (R.remaining input.new)
         (W.contents output.old) (W.contents output.new)) }
-    ensures sound { IsSound session.old.file → IsSound session.new.file }
+    ensures sound { IsSound session.new.file }
 {
+    // What a session holds is sound.
+    let _image = session.file().image();
     let mut piece = vec![in alloc; 0u8; PIECE]?;
     run_pieces(alloc, session, input, output, &mut piece)
 }

@@ -108,7 +108,7 @@ fn shows_views_of_an_array_that_changes(rt: HostRuntime) -> Result<(), Fail> {
     let mut output = Vec::new(rt.alloc());
     let ran = run_script(rt.alloc(), &mut session, &mut input, &mut output)?;
     let told =
-        b"ok 0\nview 0\nkept 7 7\nok 0\nfault 3 OutsideNow\nok 0\nfault 2 Gone\nclosed\nfault 1 NoSuchView\n";
+        b"ok 0\nview 0\nkept 7 7\nok 1\nfault 3 OutsideNow\nok 0\nfault 2 Gone\nclosed\nfault 1 NoSuchView\n";
     assert!(rt; ran.refused == 3 && ran.edits == 3);
     assert!(rt; output.as_slice() == told.as_slice());
     Ok(())

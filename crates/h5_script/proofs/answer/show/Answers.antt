@@ -20,7 +20,7 @@ returns-in_err-write_shown-in-Ok g c =
     let shown : Shown = record { fixed = c.in-Ok.shown.fixed; bytes = c.in-Ok.shown.bytes.now } in
     tells_cut c.from_residual.result session session (Show c.args.number) (shown_text lent shown) Told (g.W.Write.contents c.args.output.now) (g.W.Write.contents c.write_shown.new.output)
     c.in_err-write_shown-in-Ok.field-0.0 c.from_residual.ensures.1
-    (view_shown session c.args.number lent shown c.in-Ok.ensures.shown c.in-Ok.ensures.kept)
+    (view_shown session c.args.number lent shown c.in-Ok.ensures.shown c.in-Ok.ensures.lent)
     (subst (λ (held : List ℕ). WritesSome (g.W.Write.contents c.args.output.now) (g.W.Write.contents c.write_shown.new.output) (held ++ shown_text lent shown))
     c.requires c.in_err-write_shown-in-Ok.ensures)
 
@@ -31,7 +31,7 @@ returns-in_ok-write_shown-in-Ok g c =
     let shown : Shown = record { fixed = c.in-Ok.shown.fixed; bytes = c.in-Ok.shown.bytes.now } in
     record {
       text = shown_text lent shown;
-      answered = view_shown session c.args.number lent shown c.in-Ok.ensures.shown c.in-Ok.ensures.kept;
+      answered = view_shown session c.args.number lent shown c.in-Ok.ensures.shown c.in-Ok.ensures.lent;
       written = subst (λ (held : List ℕ). Appends (g.W.Write.contents c.args.output.now) (g.W.Write.contents c.write_shown.new.output) (held ++ shown_text lent shown))
           c.requires c.in_ok-write_shown-in-Ok.ensures;
     }

@@ -12,4 +12,4 @@ returns-in_err-piece-clause-run g c =
 pub returns-clause-sound : goal.returns-clause-sound
 returns-clause-sound g c =
     run_sound c.run_pieces.result c.args.session.now c.run_pieces.new.session (g.R.Read.remaining c.args.input.now) (g.R.Read.remaining c.run_pieces.new.input)
-    (g.W.Write.contents c.args.output.now) (g.W.Write.contents c.run_pieces.new.output) c.run_pieces.ensures
+    (g.W.Write.contents c.args.output.now) (g.W.Write.contents c.run_pieces.new.output) c.run_pieces.ensures (rw c.file.ensures.file at c.image-image.ensures.sound)

@@ -38,7 +38,7 @@ invariant_of-self-2 c =
     let many = c.has_many-is_full.ensures ∙ ap (λ (vs : List KeptView). nat_le 1024 (length vs) || nat_le 4294967295 s.next) c.deref.ensures.value in
     let of = c.in_ok-view.ensures in
     kept_more s.file s.views.items s.next c.self.invariant c.in_ok-view.view c.has_many-is_full.result many of.opened.0 c.push_view.new.views.items
-    c.in_ok-push_view.ensures.ok of.opened.1 of.fit of.gathered
+    c.in_ok-push_view.ensures.ok of.opened.1 of.fit of.shown
 
 pub returns : goal.returns
 returns c =
@@ -47,4 +47,4 @@ returns c =
     let opened = c.in_ok-view.ensures.opened in
     subst (λ (v : SessionState). IsViewOpened v c.args.path.now c.args.hyper.now s.next (session_state s.file c.push_view.new.views.items (s.next + 1))) c.self.view_is
     (opened_more s.file s.views.items s.next c.self.invariant c.in_ok-view.view c.has_many-is_full.result many opened.0 c.push_view.new.views.items
-    c.in_ok-push_view.ensures.ok opened.1 c.args.path.now c.args.hyper.now opened.2)
+    c.in_ok-push_view.ensures.ok opened.1 c.args.path.now c.args.hyper.now opened.2 c.in_ok-view.ensures.first)
