@@ -8,10 +8,10 @@ from functools import partial
 from . import today
 from .drawn_images import linked_image
 from .stored_cells import with_cells
-from .support import STAGE, InFolder, empty_image, h5i
+from .support import InFolder, empty_image, h5i
 
 # pylint: disable=wrong-import-order
-from h5oracle.model import Dataset, Flat, Resize, Tree, Write, new_boxes, object_at, refusal, same_tree  # noqa: E402
+from h5oracle.model import Dataset, Flat, RemoveAttr, Resize, SetAttr, Tree, Write, new_boxes, object_at, refusal, same_tree  # noqa: E402
 from h5oracle.script import BadLine, edit_of  # noqa: E402
 from h5oracle.values import TYPES, product  # noqa: E402
 from randscript import Maker  # noqa: E402
@@ -39,8 +39,9 @@ class Drawn:
     script: bytes
     answers: bytes
     tree: Tree
-    # The file behind it: the plain image where one was written anew, else the old one but for cells.
-    after: bytes
+    # The file behind it: the plain image where one was written anew, else the old one but for cells; None where attributes were edited
+    # in place since.
+    after: bytes | None
     anew: bool
     edits: int
 
@@ -55,8 +56,8 @@ class LineMaker(Maker):
     def __init__(self, rng, image, kinds):
         super().__init__(rng, today.session_of(image))
         self.kinds, self.image = kinds, image
-        # The image was written anew.
-        self.anew = False
+        # The image was written anew, and attributes were set or removed in place since.
+        self.anew = self.set = False
 
     def line(self):
         """The next line, which is also run: the line, its answer, and whether an edit was accepted."""
@@ -64,16 +65,21 @@ class LineMaker(Maker):
         line = getattr(self, "make_" + kind)()
         line = line.encode("ascii") if isinstance(line, str) else line
         edit = self.accepted_edit(line)
-        in_place = isinstance(edit, Write) and self.is_in_place(edit)
+        in_place = isinstance(edit, (SetAttr, RemoveAttr)) or isinstance(edit, Write) and self.is_in_place(edit)
         text, edited = today.answers(self.session, line + b"\n")
+        if edited and not isinstance(edit, Write):
+            self.set = in_place
         if edited and not in_place:
+            self.set = False
             if isinstance(edit, Resize) and not self.anew:
                 self.keep_chunks(object_at(self.session.tree, edit.path))
             self.anew = True
         return line, (text, edited)
 
     def after(self):
-        """The image behind the lines so far, where an edit was accepted."""
+        """The image behind the lines so far, where an edit was accepted, and `None` where attributes were edited in place."""
+        if self.set:
+            return None
         return self.session.image() if self.anew else with_cells(self.image, self.session.tree)
 
     def accepted_edit(self, line):
@@ -82,7 +88,7 @@ class LineMaker(Maker):
             edit = edit_of(line.split(b" "))
         except BadLine:
             return None
-        return None if edit is None or refusal(self.session.tree, self.session.given, edit, STAGE) else edit
+        return None if edit is None or refusal(self.session.tree, self.session.given, edit, today.STAGE) else edit
 
     def is_in_place(self, edit):
         """Whether all cells that the edit writes are stored."""
@@ -146,7 +152,7 @@ class DrawnScripts(InFolder):
         path = self.written("e.h5", one.image)
         self.assertEqual(h5i("run", path, script=one.script), (today.status_of(one.answers), one.answers, b""))
         after = self.read(path)
-        self.assertTrue(after == one.after)
+        self.assertTrue(one.after in (None, after))
         reading, refusal = today.opened(after)
         self.assertIsNone(refusal)
         self.assertIsNone(same_tree(reading.tree, one.tree))

@@ -52,14 +52,14 @@ def h5i(*words, **options):
     return run_command(PROGRAM, *words, **options)
 
 
-# The reference as the program is: all lines of scripts are taken, an edit is never refused for what edits in place would need, views
-# are gathered anew, and the later forms are not read.
-STAGE = 7
+# The reference as the program is: all lines of scripts are taken, attributes are edited in place and other edits never refused for what
+# they would need there, views are lent or patched, and the later forms are not read.
+STAGE = "8+11"
 
 
 def reference(*words, **options):
     """Runs the reference implementation, as it is at this stage."""
-    return run_command(sys.executable, REFERENCE, "--stage", str(STAGE), *words, **options)
+    return run_command(sys.executable, REFERENCE, "--stage", STAGE, *words, **options)
 
 
 def library(code, *words):

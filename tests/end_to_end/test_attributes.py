@@ -76,14 +76,14 @@ class AsTheReference(InFolder):
     """Scripts that the program and the reference answer alike, with images that are the same tree."""
 
     def assert_run(self, path, script):
-        """The answers are the reference's, and so is the image; it has the plain layout where it was written."""
+        """The answers are the reference's, and so is the tree; the image has the plain layout where it was written anew."""
         before = self.read(path)
         session = today.session_of(before)
         wanted, edited = today.answers(session, script)
         self.assertEqual(h5i("run", path, script=script), (today.status_of(wanted), wanted, b""))
         after = self.read(path)
         if edited:
-            self.assertEqual(after, session.image())
+            self.assertIsNone(today.unlike(after, before, script))
         else:
             self.assertEqual(after, before)
         return wanted
@@ -101,7 +101,7 @@ class Answers(AsTheReference):
     def test_one_attribute(self):
         path = self.new()
         self.assertEqual(self.assert_run(path, NOTE), b"ok 0\n")
-        self.assertEqual(len(self.read(path)), 864)
+        self.assertEqual(len(self.read(path)), 888)
         text = b"/ group\n@note u8 {2} 1 2\n"
         self.assertEqual(h5i("dump", path, "/"), (0, text, b""))
         self.assertEqual(h5i("run", path, script=b"dump /\n"), (0, text, b""))
@@ -123,7 +123,7 @@ class Answers(AsTheReference):
         })
         self.assertEqual(self.assert_run(path, b"unattr / note\ndump /\n"),
                          b"refused 25 NoSuchAttribute\n/ group\n@also u8 {} 7\n@none u64le {0}\n")
-        self.assert_run(path, b"unattr / also\nunattr / none\n")
+        self.assert_run(path, b"unattr / also\nunattr / none\nrepack\n")
         self.assertEqual(self.read(path), empty_image())
 
     def test_refusals(self):
@@ -201,7 +201,7 @@ class Answers(AsTheReference):
         self.assert_run(path, NOTE)
         self.assertEqual(self.assert_run(path, ARRAY + b"dump /\nls\n"),
                          b"ok 0\n/ group\n@note u8 {2} 1 2\n/ group\n/d dataset i32le {3}\n")
-        self.assert_run(path, b"unattr / note\n")
+        self.assert_run(path, b"unattr / note\nrepack\n")
         self.assertEqual(self.read(path), self.read(self.with_array(name="other.h5")))
 
     def test_escapes_and_order(self):
@@ -262,14 +262,16 @@ class Foreign(AsTheReference):
 
     def test_a_full_header_keeps_its_comments(self):
         path = self.written("full.h5", with_messages(empty_image(), [message(0x0D, b"")] * 65532))
-        self.assertEqual(self.assert_run(path, NOTE + b"attr / b u8 - 1\nattr / note u8 - 1\nunattr / note\nattr / b u8 - 1\n"),
-                         b"ok 0\nrefused 28 HeaderFull\nrefused 28 HeaderFull\nok 0\nok 0\n")
+        full = b"refused 28 HeaderFull\n"
+        for line, answer in ((NOTE, b"ok 0\n"), (b"attr / b u8 - 1\n", full), (b"attr / note u8 - 1\n", full),
+                             (b"unattr / note\n", b"ok 0\n"), (b"attr / b u8 - 1\n", full)):
+            self.assertEqual(self.assert_run(path, line), answer)
 
     def test_a_replaced_attribute_wants_room_too(self):
         note = message(0x0C, attribute_body(Attr(b"note", TYPES["u8"], (), (1,))))
         path = self.written("full.h5", with_messages(empty_image(), [note] + [message(0, b"")] * 65532))
         self.assertEqual(self.assert_run(path, b"attr / note u8 - 2\ndump /\nunattr / notes\nunattr / note\n" + NOTE),
-                         b"refused 28 HeaderFull\n/ group\n@note u8 {} 1\nrefused 25 NoSuchAttribute\nok 0\nok 0\n")
+                         b"refused 28 HeaderFull\n/ group\n@note u8 {} 1\nrefused 25 NoSuchAttribute\nok 0\nrefused 28 HeaderFull\n")
 
     def test_other_k_values_stay(self):
         tree = Tree.root_alone()
@@ -322,18 +324,20 @@ class Foreign(AsTheReference):
         def limited():
             resource.setrlimit(resource.RLIMIT_AS, (limit, limit))
 
-        done = subprocess.run([PROGRAM, "run", path], input=NOTE + b"dump /\n", preexec_fn=limited, capture_output=True, check=False)
+        done = subprocess.run([PROGRAM, "run", path], input=b"group /g\ndump /\n", preexec_fn=limited, capture_output=True, check=False)
         self.assertEqual((done.returncode, done.stdout, done.stderr), (1, b"refused 31 NoMemory\n/ group\n", b""))
         self.assertEqual(self.stamp(path), before)
 
     def test_bytes_past_the_end_of_file_are_dropped(self):
         path = self.written("long.h5", empty_image() + b"more")
         self.assert_run(path, NOTE)
-        self.assertEqual(len(self.read(path)), 864)
+        self.assertEqual(len(self.read(path)), 888)
 
     def test_passed_over_bytes_are_written_as_zero(self):
         path = self.written("flags.h5", patched(empty_image(), 20, "ffffffff"))
         self.assert_run(path, NOTE)
+        self.assertEqual(self.read(path)[20:24], b"\xff" * 4)
+        self.assert_run(path, b"repack\n")
         self.assertEqual(self.read(path)[20:24], bytes(4))
 
 

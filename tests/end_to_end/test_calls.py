@@ -24,11 +24,11 @@ CALLS = {kind: often for kind, often in VIEWS.items() if kind not in NO_CALLS}
 
 def called(session, line, text):
     """What the call of a line gives, by the answer of the reference, whose session is as that line has left it."""
-    if line.startswith(b"show ") and text.startswith(b"kept"):
+    if line.startswith(b"show ") and text.startswith((b"kept", b"lent")):
         number = int(line[5:])
         fixed = session.tree.objects[session.views[number][0]].fixed
         _, _, values = session.show(number)
-        return f"kept {fixed.size} " + b"".join(fixed.encode(value) for value in values).hex()
+        return f"{text[:4].decode('ascii')} {fixed.size} " + b"".join(fixed.encode(value) for value in values).hex()
     words = text.decode("ascii").split()
     # Of a refusal the name is left out.
     return " ".join(words[:2])
@@ -45,7 +45,9 @@ def asked(seed, word, kinds):
         if text != b"bad line\n":
             lines.append(line.decode("ascii"))
             wanted.append(called(maker.session, line, text))
-    return lines + ["image"], wanted + [hashlib.sha256(maker.after()).hexdigest()]
+    after = maker.after()
+    # Of a file whose attributes were edited in place the layout is not the reference's.
+    return lines + ["image"], wanted + [None if after is None else hashlib.sha256(after).hexdigest()]
 
 
 def shown_lines(heading):
@@ -84,7 +86,7 @@ class Calls(Tried):
         for lines, wanted in drawn:
             for line, right, made in zip(lines[1:], wanted, found):
                 with self.subTest(line=line):
-                    self.assertEqual(made, right)
-                kept += right.startswith("kept")
+                    self.assertIn(right, (None, made))
+                kept += right is not None and right.startswith("kept")
             found = found[len(wanted):]
         self.assertGreater(kept, LINES // 20 * len(SEEDS))

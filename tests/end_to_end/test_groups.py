@@ -161,5 +161,5 @@ class Groups(InFolder):
                 wanted, _ = today.answers(session, script)
                 path = self.written("e.h5", image)
                 self.assert_run(path, script, wanted, today.status_of(wanted))
-                self.assertEqual(self.read(path), session.image())
+                self.assertIsNone(today.unlike(self.read(path), image, script))
                 self.assertEqual(reading.tree.objects.keys() - session.tree.objects.keys(), set())

@@ -7,6 +7,8 @@ from .support import TOP
 from .tried import Tried
 
 MISUSE = os.path.join(TOP, "tests", "misuse")
+# The library that a program uses.
+LIBRARY = re.compile(r"^use (h5_\w+)::", re.MULTILINE)
 # Behind the line that must be refused stands the name of its error.
 REFUSED = re.compile(r" // refused: ([a-z0-9-]+)$")
 ERROR = re.compile(r"^src/main\.rt:(\d+):\d+: error\[([a-z0-9-]+)\]", re.MULTILINE)
@@ -25,18 +27,20 @@ class Misuse(Tried):
     """Programs that hold what the library lends them for too long."""
 
     def test_there_are_some(self):
-        self.assertEqual(len(programs()), 3)
+        self.assertEqual(len(programs()), 5)
 
     def test_each_is_refused_at_its_line(self):
         for name, lines in programs().items():
             with self.subTest(name=name):
                 wanted = [(str(at), found[1]) for at, line in enumerate(lines, 1) if (found := REFUSED.search(line))]
                 self.assertEqual(len(wanted), 1)
-                status, _, said = self.tried("".join(lines), "h5_file")
+                text = "".join(lines)
+                status, _, said = self.tried(text, LIBRARY.search(text)[1])
                 self.assertEqual((status, ERROR.findall(said)), (1, wanted), said)
 
     def test_without_that_line_each_runs(self):
         for name, lines in programs().items():
             with self.subTest(name=name):
-                status, _, said = self.tried("".join(line for line in lines if not REFUSED.search(line)), "h5_file")
+                text = "".join(line for line in lines if not REFUSED.search(line))
+                status, _, said = self.tried(text, LIBRARY.search(text)[1])
                 self.assertEqual((status, ERROR.findall(said)), (0, []), said)

@@ -70,14 +70,14 @@ class RandomScripts(InFolder):
     """Scripts, mostly on a file that is empty at first."""
 
     def assert_runs(self, image, script):
-        """The program's answers and file are the reference's."""
+        """The program's answers are the reference's, and so is its file, or the tree of one that was not written anew."""
         session = today.session_of(image)
         wanted, edited = today.answers(session, script)
         path = self.written("e.h5", image)
         before = self.stamp(path)
         self.assertEqual(h5i("run", path, script=script), (today.status_of(wanted), wanted, b""))
         if edited:
-            self.assertEqual(self.read(path), session.image())
+            self.assertIsNone(today.unlike(self.read(path), image, script))
         else:
             self.assertEqual(self.stamp(path), before)
         return self.read(path)

@@ -1,4 +1,4 @@
-"""Views: what they show after each edit, and how they are refused. All are kept, and none counts in the `ok` of an edit yet."""
+"""Views: what they show after each edit, which are lent from the file, how many chunks an edit refreshes in them, and how they are refused."""
 
 from . import today
 from .support import h5i, patched
@@ -20,7 +20,7 @@ class Shown(Transcripts):
             > show 0
             kept 20
             > resize /c 1,1
-            ok 0
+            ok 1
             > show 0
             fault 3 OutsideNow
             > resize /c 5,4
@@ -37,6 +37,28 @@ class Shown(Transcripts):
             """)
         self.assertEqual(chunks_of(self.read(path)), {(0, 0): "010000000000"})
 
+    def test_chunks_that_are_met(self):
+        self.assert_transcript(self.accepted(ALL_EDGES), """
+            > view /c 0,0 1,1 5,4 1,1
+            view 0
+            > view /c 0,0 2,2 3,2 1,1
+            view 1
+            > write /c 2,0 1,1 1,4 1,1 51,52,53,54
+            ok 3
+            > write /c 1,0 1,1 1,4 1,1 9,9,9,9
+            ok 3
+            > show 1
+            kept 1 3 51 53 17 19
+            > resize /c 5,3
+            ok 3
+            > show 0
+            fault 3 OutsideNow
+            > resize /c 5,4
+            ok 0
+            > show 0
+            kept 1 2 3 0 9 9 9 0 51 52 53 0 13 14 15 0 17 18 19 0
+            """)
+
     def test_runs_of_two_cells(self):
         self.assert_transcript(self.new(), """
             > dataset /r i16le 8 contiguous
@@ -48,11 +70,11 @@ class Shown(Transcripts):
             > show 0
             kept 1 2 4 5
             > write /r 4 1 1 1 40
-            ok 0
+            ok 1
             > show 0
             kept 1 2 40 5
             > write /r 3 1 1 1 9
-            ok 0
+            ok 1
             > show 0
             kept 1 2 40 5
             > view /r 0 1 2 2
@@ -62,7 +84,7 @@ class Shown(Transcripts):
             > view /r 0 1 1 2
             view 1
             > show 1
-            kept 0 1
+            lent 0 1
             """)
 
     def test_a_view_goes_by_the_object(self):
@@ -76,7 +98,7 @@ class Shown(Transcripts):
             > unlink /a
             ok 0
             > write /b 0 1 3 1 5,6,7
-            ok 0
+            ok 1
             > show 0
             kept 5 7
             > dataset /a u8 3 contiguous fill=9
@@ -131,7 +153,7 @@ class Shown(Transcripts):
             > show 1
             kept
             > show 2
-            kept -9223372036854775808
+            lent -9223372036854775808
             """)
         self.assertIn(bytes.fromhex("8000000000000000"), self.read(path))
 
@@ -146,7 +168,7 @@ class Shown(Transcripts):
             > write /d 1 1 1 1 5
             ok 0
             > show 0
-            kept 0 5 0
+            lent 0 5 0
             """)
 
     def test_outside_and_back(self):
@@ -160,11 +182,11 @@ class Shown(Transcripts):
             > view /c 5,0 1,1 0,1 1,1
             view 2
             > write /c 0,0 1,1 1,4 1,1 1,2,3,4
-            ok 0
+            ok 3
             > show 0
             kept 1 2 3 4 -1 -1 -1 -1 -1 -1 -1 -1
             > resize /c 4,9
-            ok 0
+            ok 2
             > show 0
             fault 3 OutsideNow
             > show 1
@@ -176,11 +198,11 @@ class Shown(Transcripts):
             > show 0
             kept 1 2 3 4 -1 -1 -1 -1 -1 -1 -1 -1
             > resize /c 5,1
-            ok 0
+            ok 7
             > show 1
             fault 3 OutsideNow
             > resize /c 0,0
-            ok 0
+            ok 4
             > show 2
             kept
             > resize /c 9,9
@@ -200,20 +222,20 @@ class Shown(Transcripts):
             > view /c 1,1 2,2 2,2 1,1
             view 1
             > write /c 1,2 2,1 2,1 1,2 1,2,3,4
-            ok 0
+            ok 8
             > show 0
             kept 7 7 7 7 7 7 1 2 7 7 7 7 7 7 3 4 7 7 7 7
             > show 1
             kept 7 2 7 4
             > write /c 4,0 1,1 1,1 1,1 65535
-            ok 0
+            ok 1
             > show 0
             kept 7 7 7 7 7 7 1 2 7 7 7 7 7 7 3 4 65535 7 7 7
             """)
 
     def test_edits_of_other_objects(self):
         lines = ["dataset /d i8 4 compact fill=-3", "write /d 1 1 2 1 1,2"]
-        shown = "kept -3 1 2 -3"
+        shown = "lent -3 1 2 -3"
         others = ["group /g", "dataset /g/e u8 2 contiguous", "link /d /e", "soft t /s", "attr /d a u8 - 1", "unattr /d a", "attr / n u8 2 1,2",
                   "write /g/e 0 1 2 1 1,2", "unlink /e", "unlink /g/e", "unlink /g", "dataset /c u8 1/inf chunked:3", "write /c 0 1 1 1 1", "resize /c 9",
                   "repack"]
@@ -237,7 +259,7 @@ class Shown(Transcripts):
                 for sign, least, most in (("i", -(1 << bits - 1), (1 << bits - 1) - 1), ("u", 0, (1 << bits) - 1)):
                     name = f"{sign}{bits}{order if bits > 8 else ''}"
                     script = [f"dataset /d {name} 2,2 chunked:1,2 fill={most}", "view /d 0,0 1,1 2,2 1,1", f"write /d 0,1 1,1 2,1 1,1 {least},1", "show 0"]
-                    answers = ["ok 0", "view 0", "ok 0", f"kept {most} {least} {most} 1"]
+                    answers = ["ok 0", "view 0", "ok 2", f"kept {most} {least} {most} 1"]
                     with self.subTest(name=name):
                         self.assertEqual(h5i("run", self.new(), script=today.printed(script)), (0, today.printed(answers), b""))
 
@@ -248,7 +270,7 @@ class Shown(Transcripts):
             > view /d 0 1 3 1
             view 0
             > show 0
-            kept 1 -1 2147483647
+            lent 1 -1 2147483647
             > close 0
             closed
             """)
@@ -301,9 +323,9 @@ class Refused(Transcripts):
             > view /d 0 1 1 1
             view 1
             > show 0
-            kept 2147483647
+            lent 2147483647
             > show 1
-            kept 1
+            lent 1
             """)
 
     def test_as_many_views_as_may_be_open(self):
@@ -312,6 +334,6 @@ class Refused(Transcripts):
                   "view /d 1 1 1 1", "view /d 0 1 1 1", "show 5", "show 1024", "show 1023", "write /d 0 1 3 1 8,9,10", "show 1024", "show 0", "close 0",
                   "close 1024", "view /d 2 1 1 1", "show 1025", "show 1024", "show 0"]
         answers = ["ok 0", "ok 0", *(f"view {k}" for k in range(MOST_VIEWS)), "fault 4 TooManyViews", "refused 6 NotFound", "refused 16 OutOfExtent", "closed",
-                   "fault 1 NoSuchView", "fault 1 NoSuchView", "view 1024", "fault 4 TooManyViews", "fault 1 NoSuchView", "kept 6", "kept 5", "ok 0", "kept 9",
-                   "kept 8", "closed", "closed", "view 1025", "kept 10", "fault 1 NoSuchView", "fault 1 NoSuchView"]
+                   "fault 1 NoSuchView", "fault 1 NoSuchView", "view 1024", "fault 4 TooManyViews", "fault 1 NoSuchView", "lent 6", "lent 5", "ok 0", "lent 9",
+                   "lent 8", "closed", "closed", "view 1025", "lent 10", "fault 1 NoSuchView", "fault 1 NoSuchView"]
         self.assertEqual(h5i("run", self.new(), script=today.printed(script)), (1, today.printed(answers), b""))

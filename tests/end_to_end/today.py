@@ -1,22 +1,24 @@
 """The reference implementation, held to what the program carries today.
 
 Which images are opened, what is listed and dumped of them, and what is answered to scripts is the reference's own answer, at the
-stage at which views are gathered anew and the later forms are not read.
+stage at which attributes are edited in place, views are lent or patched, and the later forms are not read.
 """
 
 import os
 import sys
 
-from .support import REFERENCE, STAGE
+from . import support
 
-sys.path.insert(0, os.path.dirname(REFERENCE))
+sys.path.insert(0, os.path.dirname(support.REFERENCE))
 
 # pylint: disable=wrong-import-position
-from h5oracle import reader  # noqa: E402
+from h5oracle import judge, reader  # noqa: E402
 from h5oracle.script import attr_line, dump_lines, ls_lines, run_script, unescape  # noqa: E402, F401
+from h5oracle.model import same_tree  # noqa: E402
 from h5oracle.session import Session  # noqa: E402
-from h5oracle.values import OpenFault  # noqa: E402
+from h5oracle.values import OpenFault, Stage  # noqa: E402
 
+STAGE = Stage.read(support.STAGE)
 # How lines begin that count as refused.
 REFUSED = (b"bad line", b"refused ", b"fault ")
 
@@ -27,6 +29,11 @@ def opened(data):
         return reader.open_image(data, STAGE), None
     except OpenFault as fault:
         return None, str(fault)
+
+
+def wrong_with(before, after, line):
+    """What is wrong with an edit in place by a line of a script: nothing where its list is empty."""
+    return judge.step(before, after, line, STAGE)
 
 
 def printed(lines):
@@ -53,6 +60,31 @@ def answers(session, script):
     """The answers to a script, and whether an edit, or `repack`, was accepted."""
     run = run_script(session, script)
     return run.output(), run.edits > 0
+
+
+def plain_after(image, script):
+    """The plain image behind a script that edits this one, or `None` where the file may have another layout: attributes are set and
+    removed where they stand, and so are cells that are stored.
+    """
+    session = session_of(image)
+    plain = image == session.image()
+    for line in script.split(b"\n"):
+        if answers(session, line + b"\n")[1] and not line.startswith(b"write "):
+            plain = not line.startswith((b"attr ", b"unattr "))
+    return session.image() if plain else None
+
+
+def unlike(after, image, script):
+    """What is wrong with the file behind a script that edits an image: `None` where it is plain and has these bytes, or where it has another
+    layout and holds the tree that the reference gives.
+    """
+    wanted = plain_after(image, script)
+    if wanted is not None:
+        return None if after == wanted else "other bytes"
+    session = session_of(image)
+    answers(session, script)
+    reading, refused = opened(after)
+    return refused or same_tree(reading.tree, session.tree)
 
 
 def session_of(image):

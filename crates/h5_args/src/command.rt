@@ -80,6 +80,10 @@ fn bare<'a>(alloc: Global) -> Command<'a>
 }
 
 /// The command `h5i`, with the line that its help has for each subcommand.
+///
+/// # Errors
+///
+/// `AllocError` if memory is refused.
 pub fn h5i<'a>(alloc: Global) -> Result<Command<'a>, AllocError>
     ensures { IfOk result (λ c. app_of c ≡ h5i_app) }
 {

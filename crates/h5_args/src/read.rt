@@ -52,7 +52,13 @@ fn fault_of(alloc: Global, error: &Error) -> OrderFault
     }
 }
 
-/// What the words, the program's name first, ask for.
+/// What the words ask for. The first word is the program's name.
+///
+/// # Errors
+///
+/// - `Help`: the words ask for help or the version; it has clap's text.
+/// - `Wrong`: the command does not take the words; it has clap's text of what is wrong.
+/// - `NoMemory`: memory is refused. Words that the command takes are refused by this alone.
 pub fn order<'a, S: AsStr>(alloc: Global, words: &'a [S]) -> Result<Order<'a>, OrderFault>
     ensures order { IfOk result (λ o.
         Some (wanted_by_order o) ≡ wanted_by_words (map S.text words.entry.now)) }

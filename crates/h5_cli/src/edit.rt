@@ -81,8 +81,17 @@ pub(crate) fn run_over<I: Read, O: Write>(
     Ok((status_of(ran), changed_by(ran, session)))
 }
 
-/// Runs a script on the file of this name, and writes the file back where the script ran to its end
-/// and an edit, or `repack`, was accepted.
+/// Runs a script from `input` on the file of this name. The file is written back where the script ran to its end and
+/// an edit, or `repack`, was accepted.
+///
+/// # Errors
+///
+/// The status says how the run ended. Where several hold, the one with the highest code:
+///
+/// - `CommandRefused`: a line was refused or bad.
+/// - `ImageRefused`: the bytes of the file are refused. No line was run.
+/// - `StreamFailed`: the file or a stream could not be read or written.
+/// - `NoMemory`: memory was refused.
 pub fn run<R: Files, I: Read, O: Write, E: Write>(
     rt: &R,
     alloc: Global,

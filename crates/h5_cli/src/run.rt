@@ -72,15 +72,21 @@ fn obey<R: Files, S: AsStr, I: Read, O: Write, E: Write>(
     }
 }
 
-/// The whole run of the program on these words, its own name first, and its status, 0 to 5.
+/// The whole run of the program on these words, of which the first is its own name. Answers the status, 0 to 5.
 ///
-/// Files are read and written through `rt`. Answers are printed on `output`, and what went wrong
-/// on `errors`; a script is read from `input`. `new` writes its file whole; `run` writes it whole
-/// where the script ran to its end and an edit was accepted, and leaves it as it was otherwise.
+/// Files are read and written through `rt`. Answers are printed on `output`, and what went wrong on `errors`; a
+/// script is read from `input`. `new` writes its file whole. `run` writes it whole where the script ran to its end
+/// and an edit, or `repack`, was accepted, and otherwise leaves it as it was.
 ///
-/// The status is 0 where the order is done, 1 where a command was refused or bad, 2 where the words
-/// are no order, 3 where the image is refused, 4 where a file or a stream could not be read or
-/// written, and 5 where memory was refused; where several hold, the highest.
+/// # Errors
+///
+/// The status says how the run ended. Where several hold, it is the highest.
+///
+/// - 1: a line of a script, or the path of `dump`, was refused, or a line was bad.
+/// - 2: the words are wrong.
+/// - 3: the bytes of the file are refused.
+/// - 4: a file or a stream could not be read or written.
+/// - 5: memory was refused.
 #[tactic(auto, using(crate::proofs::EndLaws::never_wrong, crate::proofs::EndLaws::wrong_code))]
 pub fn program<R: Files, S: AsStr, I: Read, O: Write, E: Write>(
     rt: &R,

@@ -34,8 +34,12 @@ fn escape_from(bytes: &[u8]) -> Option<u8>
     Some(16 * hex_from(*high)? + hex_from(*low)?)
 }
 
-/// The bytes that a word stands for. `None` where a byte may not stand as it is, or an escape is
-/// wrong.
+/// The bytes that a word of a script stands for. `Ok(None)` says that a byte may not stand in it as it is, or that an
+/// escape is wrong.
+///
+/// # Errors
+///
+/// `AllocError` if memory is refused.
 pub fn unescaped(alloc: Global, word: &[u8]) -> Result<Option<Items<u8>>, AllocError>
     ensures { IfOk result (λ bytes. bytes ≡ unescaped_read word.now) }
 {

@@ -10,11 +10,15 @@ use crate::forms::{of_five, of_four, of_no_argument, of_one, of_six, of_two};
 use crate::words::cut;
 use std::alloc::{AllocError, Global};
 
-/// The most bytes of a line, its end left out.
+/// The most bytes of a line, without its line feed.
 pub const MAX_LINE: usize = 1 << 20;
 
-/// What a line of a script asks for, the line without its end; `None` of an empty line and of one
-/// that begins with `#`.
+/// What a line of a script asks for; the line comes without its line feed. `Ok(None)` says that nothing is asked: the
+/// line is empty, or begins with `#`.
+///
+/// # Errors
+///
+/// `AllocError` if memory is refused.
 #[tactic(auto, unfolding(h5_model::specs::Scripts::Lines::line_asks))]
 pub fn read_line(alloc: Global, line: &[u8]) -> Result<Option<Command>, AllocError>
     ensures { Asks result (line_asks line.now) }

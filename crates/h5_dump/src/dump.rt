@@ -23,11 +23,17 @@ use h5_text::{
 use std::alloc::{AllocError, Global};
 use std::io::Write;
 
-/// Writes what is dumped of what stands at the path. A soft link is not followed.
+/// Writes the dump of what stands at the path. A soft link is not followed.
 ///
-/// The text is made in the buffer, in place of what was there. Cells are written as they are read, some thousands at once, so their number
-/// takes no memory; there is a reference to each attribute of an object. Refused as [`File::find`] is, and as `NoMemory`: nothing is
-/// written then. Behind a beginning that was written, a dump is cut off where the writer fails or memory is refused.
+/// The text is made in the buffer, in place of what was there. Cells are written as they are read, some thousands at
+/// once, so the memory that is taken does not grow with their number. It takes a reference to each attribute of the
+/// object.
+///
+/// # Errors
+///
+/// - `Refused`: the path is refused as [`File::find`] refuses it, or memory is refused before the first write.
+///   Nothing was written.
+/// - `Cut`: the writer failed, or memory was refused, behind a beginning of the dump that was written.
 pub fn write_dump<W: Write>(
     alloc: Global,
     text: &mut Vec<u8>,

@@ -17,9 +17,13 @@ use h5_text::{
 };
 use std::alloc::{AllocError, Global};
 
-/// Appends the list of a file.
+/// Appends the list of what the file holds.
 ///
-/// Takes memory for the links of the groups on the way to a line, and for its path.
+/// Takes memory for the links of the groups on the way to a line, and for the path of the line.
+///
+/// # Errors
+///
+/// `AllocError` if memory is refused. `text` then still begins with its old bytes.
 pub fn push_list(alloc: Global, text: &mut Vec<u8>, file: &File) -> Result<(), AllocError>
     ensures { Appends result text.old.items text.new.items (list_text file.now.tree) }
 {

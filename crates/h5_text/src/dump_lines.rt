@@ -1,5 +1,5 @@
-//! The lines that `dump` writes of a dataset and of an attribute, as far as their values. A buffer that is refused memory keeps what it
-//! held.
+//! The lines that `dump` writes of a dataset and of an attribute, up to their values. Where memory is refused, a
+//! buffer still begins with what it held.
 ghost use Rattle.std.specs.Prelude.{◌++◌};
 ghost use Rattle.h5_model.specs.Scripts.Text.{dataset_text};
 ghost use Rattle.h5_text.specs.Appends.{Appends};
@@ -20,7 +20,13 @@ fn push_detail(out: &mut Vec<u8>, array: &ArrayText<'_, '_>) -> Result<(), Alloc
     push_value(out, array.fill)
 }
 
-/// Appends the first line of what is dumped of a dataset, which also tells how the cells are stored, and the fill.
+/// Appends the first line of the dump of an array: its path, type, sizes and maxima, how its cells are stored, and
+/// the fill.
+///
+/// # Errors
+///
+/// `AllocError` if memory is refused. `out` then still begins with its old bytes; a part of the text may stand behind
+/// them.
 pub fn push_dump_line(
     out: &mut Vec<u8>,
     path: PathText<'_>,
@@ -36,7 +42,12 @@ pub fn push_dump_line(
     push_text(out, b"\n")
 }
 
-/// Appends the line of an attribute as far as its values, which follow with a space before each.
+/// Appends the line of an attribute up to its values. The values follow, with a space before each.
+///
+/// # Errors
+///
+/// `AllocError` if memory is refused. `out` then still begins with its old bytes; a part of the text may stand behind
+/// them.
 pub fn push_attribute_head(
     out: &mut Vec<u8>,
     name: &[u8],

@@ -1,4 +1,5 @@
-//! The lines that `ls` writes of an object. As with other texts, a buffer that is refused memory keeps what it held.
+//! The lines that `ls` writes of an object. As with other texts, a buffer still begins with what it held where memory
+//! is refused.
 ghost use Rattle.std.specs.Prelude.{◌++◌, codes};
 ghost use Rattle.h5_model.specs.Scripts.Text.{content_text, escaped, line_of};
 ghost use Rattle.h5_model.specs.Tree.Objects.{Array};
@@ -9,7 +10,7 @@ use crate::texts::{Layout, push_escaped, push_extent, push_text, push_type};
 use h5_model::Fixed;
 use std::alloc::AllocError;
 
-/// The path at the head of a line.
+/// The path with which a line begins.
 #[derive(Clone, Copy, PartialEq, Eq, Debug)]
 pub enum PathText<'a> {
     /// A path of any bytes, which is escaped.
@@ -37,7 +38,8 @@ impl PathText<'_> {
     }
 }
 
-/// What lines tell of a dataset: its type, its sizes with as many maxima (`None` is unlimited), how its cells are stored, and its fill.
+/// What lines tell of a dataset: its type, its sizes, as many maxima (`None` is unlimited), how its cells are stored,
+/// and its fill.
 #[derive(Clone, Copy)]
 pub struct ArrayText<'a, 'l> {
     pub fixed: Fixed,
@@ -47,7 +49,12 @@ pub struct ArrayText<'a, 'l> {
     pub fill: i128,
 }
 
-/// Appends the line of a group.
+/// Appends the line of a group in a listing.
+///
+/// # Errors
+///
+/// `AllocError` if memory is refused. `out` then still begins with its old bytes; a part of the text may stand behind
+/// them.
 pub fn push_group_line(out: &mut Vec<u8>, path: PathText<'_>) -> Result<(), AllocError>
     ensures { Appends result out.old.items out.new.items (line_of (path_text path.entry) (codes "group")) }
 {
@@ -55,7 +62,12 @@ pub fn push_group_line(out: &mut Vec<u8>, path: PathText<'_>) -> Result<(), Allo
     push_text(out, b" group\n")
 }
 
-/// Appends the line of a soft link, which has this text of any bytes.
+/// Appends the line of a soft link in a listing. `text` is the text of the link, of any bytes.
+///
+/// # Errors
+///
+/// `AllocError` if memory is refused. `out` then still begins with its old bytes; a part of the text may stand behind
+/// them.
 pub fn push_soft_line(out: &mut Vec<u8>, path: PathText<'_>, text: &[u8]) -> Result<(), AllocError>
     ensures { Appends result out.old.items out.new.items
         (line_of (path_text path.entry) (codes "soft " ++ escaped text.now)) }
@@ -76,7 +88,12 @@ pub(crate) fn push_content(out: &mut Vec<u8>, array: &ArrayText<'_, '_>) -> Resu
     push_extent(out, array.sizes, array.maxima)
 }
 
-/// Appends the line of a dataset in a list.
+/// Appends the line of an array in a listing.
+///
+/// # Errors
+///
+/// `AllocError` if memory is refused. `out` then still begins with its old bytes; a part of the text may stand behind
+/// them.
 pub fn push_array_line(
     out: &mut Vec<u8>,
     path: PathText<'_>,

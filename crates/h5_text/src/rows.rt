@@ -10,7 +10,7 @@ use h5_model::Fixed;
 use h5_types::decode;
 use std::alloc::AllocError;
 
-/// Rows of `width` cells, of which the next cell stands in this column.
+/// Rows of `width` cells, and the column in which the next cell stands.
 #[derive(Clone, Copy, PartialEq, Eq, Debug)]
 pub struct Rows {
     pub width: u64,
@@ -19,7 +19,7 @@ pub struct Rows {
 }
 
 impl Rows {
-    /// Rows of so many cells, from the first cell on.
+    /// Rows of `width` cells each, from the first cell on.
     pub fn new(width: u64) -> Rows
         requires { 0 < width }
         ensures width { result.width ≡ width }
@@ -28,7 +28,12 @@ impl Rows {
         Rows { width, column: 0 }
     }
 
-    /// Appends the next cell. Refused memory leaves the column.
+    /// Appends the next cell.
+    ///
+    /// # Errors
+    ///
+    /// `AllocError` if memory is refused. `out` then still begins with its old bytes; a part of the text may stand
+    /// behind them. The column stays as it was.
     pub fn push(&mut self, out: &mut Vec<u8>, value: i128) -> Result<(), AllocError>
         ensures text { Appends result out.old.items out.new.items
             (cell_text self.old.width self.old.column value) }
@@ -43,7 +48,13 @@ impl Rows {
         Ok(())
     }
 
-    /// Appends the next cells, which are stored bytes of the type.
+    /// Appends the next cells. `bytes` are their values as they are stored: as many bytes for each cell as the type's
+    /// size.
+    ///
+    /// # Errors
+    ///
+    /// `AllocError` if memory is refused. `out` then still begins with its old bytes; a part of the text may stand
+    /// behind them. The column is left open.
     pub fn push_stored(
         &mut self,
         out: &mut Vec<u8>,
@@ -64,7 +75,12 @@ impl Rows {
         Ok(())
     }
 
-    /// Appends the next cells, so many of one value.
+    /// Appends the next `count` cells, which all have this value.
+    ///
+    /// # Errors
+    ///
+    /// `AllocError` if memory is refused. `out` then still begins with its old bytes; a part of the text may stand
+    /// behind them. The column is left open.
     pub fn push_repeated(
         &mut self,
         out: &mut Vec<u8>,
@@ -84,7 +100,12 @@ impl Rows {
     }
 }
 
-/// Appends values in rows of so many, of which the last is whole.
+/// Appends values in rows of `width` values. The last row is whole, too.
+///
+/// # Errors
+///
+/// `AllocError` if memory is refused. `out` then still begins with its old bytes; a part of the text may stand behind
+/// them.
 pub fn push_rows(out: &mut Vec<u8>, width: u64, values: &[i128]) -> Result<(), AllocError>
     requires width { 0 < width }
     requires whole { length values.now % width ≡ 0 }

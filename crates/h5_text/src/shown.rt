@@ -14,11 +14,18 @@ use std::io::Write;
 /// The most values that are put into the buffer before it is written.
 const AT_ONCE: usize = 4096;
 
-/// Writes what the buffer holds, and the answer to `show` behind it: `lent` or `kept`, and the values of stored bytes of the type, a
-/// space before each.
+/// Writes what the buffer holds, and behind it the answer to `show`: `lent` or `kept`, and the values, with a space
+/// before each. `bytes` are the values as they are stored.
 ///
-/// Values are written as they are read, some thousands at once, so their number takes no memory. Behind a beginning that was written,
-/// the answer is cut off where the writer fails or memory is refused.
+/// Values are written as they are read, some thousands at once, so the memory that is taken does not grow with their
+/// number.
+///
+/// # Errors
+///
+/// A beginning of the answer may have been written.
+///
+/// - `WriteFailed`: the writer failed, or took no byte.
+/// - `NoMemory`: memory is refused.
 pub fn write_shown<W: Write>(
     text: &mut Vec<u8>,
     lent: bool,

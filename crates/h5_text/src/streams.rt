@@ -1,4 +1,4 @@
-//! Texts that are written, in writes none of which is tried again.
+//! Texts that are written to a stream. No write is tried again.
 
 ghost use Rattle.std.specs.Prelude.{◌≡◌, ◌≤◌, [], MatchResult, OnOk, length};
 ghost use Rattle.std.specs.Io.KnownBytes.{Appends, Keeps};
@@ -30,7 +30,11 @@ impl From<AllocError> for PrintFault {
 /// The most bytes that a buffer keeps back.
 const KEPT: usize = 65536;
 
-/// Writes a text, in as many writes as it takes. An error ends it, and so does a write of no byte.
+/// Writes a text, in as many writes as it takes. No write is tried again.
+///
+/// # Errors
+///
+/// `WriteFailed` if the writer fails or takes no byte. A beginning of the text was written then.
 pub fn write_text<W: Write>(output: &mut W, text: &[u8]) -> Result<(), PrintFault>
     ensures { MatchResult result (λ _. Appends (W.contents output.old) (W.contents output.new) text.now)
         (λ e. (e ≡ WriteFailed) × WritesSome (W.contents output.old) (W.contents output.new) text.now) }
@@ -46,7 +50,11 @@ pub fn write_text<W: Write>(output: &mut W, text: &[u8]) -> Result<(), PrintFaul
     Ok(())
 }
 
-/// Writes what is held back.
+/// Flushes the writer: what it holds back is written.
+///
+/// # Errors
+///
+/// `WriteFailed` if the writer fails.
 pub fn flush<W: Write>(output: &mut W) -> Result<(), PrintFault>
     ensures { MatchResult result (λ _. Keeps (W.contents output.old) (W.contents output.new))
         (λ e. (e ≡ WriteFailed) × Keeps (W.contents output.old) (W.contents output.new)) }
@@ -57,7 +65,11 @@ pub fn flush<W: Write>(output: &mut W) -> Result<(), PrintFault>
     }
 }
 
-/// Writes what a buffer holds, and empties it, where it holds more than 65536 bytes.
+/// Writes what a buffer holds, and empties it, if it holds more than 65536 bytes. Else nothing is done.
+///
+/// # Errors
+///
+/// `WriteFailed` if the writer fails or takes no byte. A beginning of what the buffer held was written then.
 pub fn write_full<W: Write>(output: &mut W, held: &mut Vec<u8>) -> Result<(), PrintFault>
     ensures printed { Prints result (W.contents output.old) (W.contents output.new) held.old.items
         held.new.items [] }

@@ -15,6 +15,11 @@ use itoa::Buffer;
 use std::alloc::AllocError;
 
 /// Appends the bytes.
+///
+/// # Errors
+///
+/// `AllocError` if memory is refused. `out` then still begins with its old bytes; a part of the text may stand behind
+/// them.
 pub fn push_text(out: &mut Vec<u8>, text: &[u8]) -> Result<(), AllocError>
     ensures { Appends result out.old.items out.new.items text.now }
 {
@@ -69,7 +74,12 @@ fn push_byte(out: &mut Vec<u8>, byte: u8) -> Result<(), AllocError>
     )
 }
 
-/// Appends a name or a text; bytes that are not printable, spaces and backslashes are escaped.
+/// Appends a name or a text. Bytes that are not printable, spaces and backslashes are escaped.
+///
+/// # Errors
+///
+/// `AllocError` if memory is refused. `out` then still begins with its old bytes; a part of the text may stand behind
+/// them.
 pub fn push_escaped(out: &mut Vec<u8>, bytes: &[u8]) -> Result<(), AllocError>
     ensures { Appends result out.old.items out.new.items (escaped_text bytes.now) }
 {
@@ -79,7 +89,12 @@ pub fn push_escaped(out: &mut Vec<u8>, bytes: &[u8]) -> Result<(), AllocError>
     Ok(())
 }
 
-/// Appends a type.
+/// Appends the name of a type, such as `u8`.
+///
+/// # Errors
+///
+/// `AllocError` if memory is refused. `out` then still begins with its old bytes; a part of the text may stand behind
+/// them.
 pub fn push_type(out: &mut Vec<u8>, fixed: &Fixed) -> Result<(), AllocError>
     ensures { Appends result out.old.items out.new.items (type_text fixed.now) }
 {
@@ -92,6 +107,11 @@ pub fn push_type(out: &mut Vec<u8>, fixed: &Fixed) -> Result<(), AllocError>
 }
 
 /// Appends a list of sizes.
+///
+/// # Errors
+///
+/// `AllocError` if memory is refused. `out` then still begins with its old bytes; a part of the text may stand behind
+/// them.
 pub fn push_sizes(out: &mut Vec<u8>, sizes: &[u64]) -> Result<(), AllocError>
     ensures { Appends result out.old.items out.new.items (sizes_text sizes.now) }
 {
@@ -139,7 +159,12 @@ pub(crate) fn push_extent(
     push_text(out, b"}")
 }
 
-/// Appends the answer to a refused line.
+/// Appends the answer to a refused line: `refused`, the number and the name.
+///
+/// # Errors
+///
+/// `AllocError` if memory is refused. `out` then still begins with its old bytes; a part of the text may stand behind
+/// them.
 pub fn push_refused(out: &mut Vec<u8>, fault: EditFault) -> Result<(), AllocError>
     ensures { Appends result out.old.items out.new.items (refused_text fault) }
 {
@@ -150,7 +175,12 @@ pub fn push_refused(out: &mut Vec<u8>, fault: EditFault) -> Result<(), AllocErro
     push_text(out, b"\n")
 }
 
-/// Appends the answer to a line that a view refuses; a refused path is told as an edit's.
+/// Appends the answer to a line that asks for a view and is refused. A refused path is answered as for an edit.
+///
+/// # Errors
+///
+/// `AllocError` if memory is refused. `out` then still begins with its old bytes; a part of the text may stand behind
+/// them.
 pub fn push_view_fault(out: &mut Vec<u8>, fault: ViewFault) -> Result<(), AllocError>
     ensures { Appends result out.old.items out.new.items (view_fault_text fault) }
 {
@@ -165,6 +195,11 @@ pub fn push_view_fault(out: &mut Vec<u8>, fault: ViewFault) -> Result<(), AllocE
 }
 
 /// Appends a space and a value.
+///
+/// # Errors
+///
+/// `AllocError` if memory is refused. `out` then still begins with its old bytes; a part of the text may stand behind
+/// them.
 pub fn push_spaced_value(out: &mut Vec<u8>, value: i128) -> Result<(), AllocError>
     ensures { Appends result out.old.items out.new.items (codes " " ++ signed_decimal value) }
 {
@@ -172,7 +207,12 @@ pub fn push_spaced_value(out: &mut Vec<u8>, value: i128) -> Result<(), AllocErro
     push_value(out, value)
 }
 
-/// Appends the values of an attribute, a space before each.
+/// Appends the values of an attribute, with a space before each.
+///
+/// # Errors
+///
+/// `AllocError` if memory is refused. `out` then still begins with its old bytes; a part of the text may stand behind
+/// them.
 pub fn push_values(out: &mut Vec<u8>, values: &[i128]) -> Result<(), AllocError>
     ensures { Appends result out.old.items out.new.items (values_text values.now) }
 {
@@ -182,7 +222,13 @@ pub fn push_values(out: &mut Vec<u8>, values: &[i128]) -> Result<(), AllocError>
     Ok(())
 }
 
-/// Appends the values of stored bytes of the type, a space before each.
+/// Appends values, with a space before each. `bytes` are the values as they are stored: as many bytes for each as the
+/// type's size.
+///
+/// # Errors
+///
+/// `AllocError` if memory is refused. `out` then still begins with its old bytes; a part of the text may stand behind
+/// them.
 pub fn push_stored_values(out: &mut Vec<u8>, fixed: &Fixed, bytes: &[u8]) -> Result<(), AllocError>
     ensures { Appends result out.old.items out.new.items
         (values_text (stored_values fixed.now bytes.now)) }
@@ -195,7 +241,7 @@ pub fn push_stored_values(out: &mut Vec<u8>, fixed: &Fixed, bytes: &[u8]) -> Res
     Ok(())
 }
 
-/// How a dataset's cells are stored; of chunks their sizes.
+/// How the cells of a dataset are stored. Chunks come with their sizes, in cells.
 #[derive(Clone, Copy, PartialEq, Eq, Debug)]
 pub enum Layout<'a> {
     Compact,
@@ -221,7 +267,12 @@ impl Layout<'_> {
     }
 }
 
-/// Appends the answer to an accepted edit: how many chunks were refreshed.
+/// Appends the answer to an accepted edit: `ok`, and how many chunks of views were refreshed.
+///
+/// # Errors
+///
+/// `AllocError` if memory is refused. `out` then still begins with its old bytes; a part of the text may stand behind
+/// them.
 pub fn push_accepted(out: &mut Vec<u8>, refreshed: u64) -> Result<(), AllocError>
     ensures { Appends result out.old.items out.new.items
         (codes "ok " ++ (decimal refreshed ++ codes "\n")) }
@@ -231,7 +282,12 @@ pub fn push_accepted(out: &mut Vec<u8>, refreshed: u64) -> Result<(), AllocError
     push_text(out, b"\n")
 }
 
-/// Appends the answer to a view that was opened: its number.
+/// Appends the answer to a view that was opened: `view`, and its number.
+///
+/// # Errors
+///
+/// `AllocError` if memory is refused. `out` then still begins with its old bytes; a part of the text may stand behind
+/// them.
 pub fn push_opened(out: &mut Vec<u8>, number: u32) -> Result<(), AllocError>
     ensures { Appends result out.old.items out.new.items
         (codes "view " ++ (decimal number ++ codes "\n")) }

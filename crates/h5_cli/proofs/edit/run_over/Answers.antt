@@ -1,5 +1,4 @@
-use Rattle.std.proofs.Common.{subst, sym}
-use Rattle.h5_script.specs.Opened.Sound.{IsSound}
+use Rattle.std.proofs.Common.{subst}
 use Rattle.h5_script.specs.Script.{IsDone}
 use Rattle.h5_script.specs.Session.{SessionState}
 use Rattle.h5_cli.proofs.edit.run_over.Goals as goal
@@ -10,7 +9,7 @@ returns g c = record {
   ran = c.in_ok-ran.ran;
   done = subst (λ (s : SessionState). IsDone s c.run_script.new.session (g.I.Read.remaining c.args.input.now) (g.I.Read.remaining c.run_script.new.input)
       (g.O.Write.contents c.args.output.now) (g.O.Write.contents c.run_script.new.output) c.in_ok-ran.ran) c.new-session.ensures c.in_ok-ran.ensures.run;
-  sound = λ sound. c.in_ok-ran.ensures.sound (subst (λ (s : SessionState). IsSound s.file) (sym c.new-session.ensures) sound);
+  sound = λ _. c.in_ok-ran.ensures.sound;
   status_is = c.status_of.ensures;
   changed_is = c.changed_by.ensures;
 }
