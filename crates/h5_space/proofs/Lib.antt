@@ -8,3 +8,8 @@ pub mod MovesLaws
 pub mod IslandLaws
 pub mod Unheld
 pub mod Signed
+pub mod Steps
+pub mod OptionSteps
+pub mod PairSteps
+pub mod AroundLaws
+pub mod RangeLaws

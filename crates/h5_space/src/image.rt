@@ -1,9 +1,9 @@
-ghost use Rattle.std.specs.Prelude.{◌≡◌, ℕ, ◌+◌, ◌≤◌, ◌^◌, ◌<◌, [], ◌++◌, IsSome, IfSome, ◌↔◌, length, IsTrue, IsOk, IfOk, OnOk, OnErr, Err, max, replicate};
-ghost use Rattle.std.specs.Borrow.{sem};
+ghost use Rattle.std.specs.Prelude.{◌≡◌, ℕ, ◌+◌, ◌≤◌, ◌^◌, ◌<◌, [], take, drop, ◌++◌, IsSome, IfSome, ◌↔◌, length, IsTrue, IsOk, IfOk, OnOk, OnErr, Err, max, replicate};
+ghost use Rattle.std.specs.Borrow.{sem, LendsBoth, Array, u8};
 ghost use Rattle.h5_bytes.specs.Bytes.{part, with_part};
 ghost use Rattle.h5_bytes.specs.Blocks.{holds, cover};
 ghost use Rattle.h5_space.specs.Space.{IsSpaced, growth, next_place};
-ghost use Rattle.h5_space.specs.Lending.{LendsPart};
+ghost use Rattle.h5_space.specs.Lending.{gap, StandApart, LendsPart, LendsPartIf, LendsAround, LendsTwoPartsIf};
 
 use crate::free_list::{cut, first_fit, put_back};
 use crate::superblock::MAXIMUM_IMAGE;
@@ -125,6 +125,68 @@ impl Image {
         self.bytes.slice_mut(at as usize..(at + len) as usize)
     }
 
+    /// The `len` bytes from place `at`, for writing, or `None` where they pass the end: what is written changes these
+    /// bytes alone. Takes no memory.
+    pub fn part_mut(&mut self, at: u64, len: u64) -> Option<&mut [u8]>
+        ensures* lends { sem 𝓛 (LendsPartIf self.entry at result) }
+        ensures inside { IsSome result ↔ (at + len ≤ length self.old.bytes) }
+        ensures value { IfSome result (λ x. x.now ≡ part at len self.old.bytes) }
+        ensures size { IfSome result (λ x. length x.now ≡ len) }
+    {
+        if !self.has(at, len) {
+            return None;
+        }
+        Some(self.part_at_mut(at, len))
+    }
+
+    /// Whether two blocks end by the end of the image and share no byte.
+    fn has_apart(&self, at: u64, len: u64, other: u64, size: u64) -> bool
+        ensures fits { length self.now.bytes < 2 ^ 64 }
+        ensures apart { IsTrue result ↔ StandApart at len other size (length self.now.bytes) }
+    {
+        let end = self.bytes.len() as u64;
+        if at > end || len > end - at || other > end || size > end - other {
+            return false;
+        }
+        share_none(at, len, other, size)
+    }
+
+    /// The `first` bytes from place `at`, and the `second` bytes that stand `gap` bytes behind them, for writing.
+    fn around_mut(&mut self, at: u64, first: u64, gap: u64, second: u64) -> (&mut [u8], &mut [u8])
+        requires inside { at + (first + (gap + second)) ≤ length self.old.bytes }
+        requires fits { first + (gap + second) < 2 ^ 64 }
+        ensures* lends { sem 𝓛 (LendsAround self.entry at first gap result) }
+        ensures first { result.0.now ≡ part at first self.old.bytes }
+        ensures second { result.1.now ≡ part (at + first + gap) second self.old.bytes }
+    {
+        let range = self.part_at_mut(at, first + gap + second);
+        let (front, rest) = halves(range, first as usize);
+        let (_, back) = halves(rest, gap as usize);
+        (front, back)
+    }
+
+    /// The bytes of two blocks, for writing, in the order asked for, whichever stands first in the image: what is
+    /// written changes these bytes alone. `None` where one of them passes the end, or the two share a byte. An empty
+    /// block shares none. Takes no memory.
+    pub fn two_parts_mut(&mut self, first: Block, second: Block) -> Option<(&mut [u8], &mut [u8])>
+        ensures* lends { sem 𝓛 (LendsTwoPartsIf self.entry first second result) }
+        ensures apart { IsSome result
+            ↔ StandApart first.at first.len second.at second.len (length self.old.bytes) }
+        ensures first { IfSome result (λ r. r.0.now ≡ part first.at first.len self.old.bytes) }
+        ensures second { IfSome result (λ r. r.1.now ≡ part second.at second.len self.old.bytes) }
+    {
+        if !self.has_apart(first.at, first.len, second.at, second.len) {
+            return None;
+        }
+        let gap = gap_between(first.at, first.len, second.at, second.len);
+        if first.at <= second.at {
+            Some(self.around_mut(first.at, first.len, gap, second.len))
+        } else {
+            let (back, front) = self.around_mut(second.at, second.len, gap, first.len);
+            Some((front, back))
+        }
+    }
+
     /// Reserves room: for `bytes` bytes to be taken, and for `blocks` calls of `take` and `give`.
     ///
     /// Room that an earlier call reserved and that is not used up yet counts: the room is then the larger of the two.
@@ -241,4 +303,43 @@ impl Image {
             put_back(&mut self.free, end, at, len);
         }
     }
+}
+
+/// Whether two blocks share no byte. An empty block shares none.
+fn share_none(at: u64, len: u64, other: u64, size: u64) -> bool
+    requires first { at + len < 2 ^ 64 }
+    requires second { other + size < 2 ^ 64 }
+    ensures { IsTrue result ↔ ((p : ℕ) → holds p at len + holds p other size ≤ 1) }
+{
+    if len == 0 || size == 0 {
+        return true;
+    }
+    if at <= other {
+        at + len <= other
+    } else {
+        other + size <= at
+    }
+}
+
+/// How many bytes stand between two blocks that share none.
+fn gap_between(at: u64, len: u64, other: u64, size: u64) -> u64
+    requires first { at + len < 2 ^ 64 }
+    requires second { other + size < 2 ^ 64 }
+    ensures { result ≡ gap at len other size }
+{
+    if at <= other {
+        other.saturating_sub(at + len)
+    } else {
+        at.saturating_sub(other + size)
+    }
+}
+
+/// The first `len` bytes and those behind them, for writing.
+fn halves(bytes: &mut [u8], len: usize) -> (&mut [u8], &mut [u8])
+    requires { len ≤ length bytes.old }
+    ensures* lends { sem 𝓛 (LendsBoth (Array u8 0) (Array u8 0) (Array u8 0) bytes.entry result ◌++◌) }
+    ensures front { result.0.now ≡ take len bytes.old }
+    ensures back { result.1.now ≡ drop len bytes.old }
+{
+    bytes.split_at_mut(len)
 }

@@ -1,5 +1,6 @@
 //! That calls succeed where there is memory: no clause can say it.
 
+use h5_bytes::Block;
 use h5_space::Image;
 use std::test::Fail;
 
@@ -26,5 +27,51 @@ fn copies_an_image(rt: HostRuntime) -> Result<(), Fail> {
     let image = Image::new(rt.alloc(), bytes);
     let copy = image.copy_of(rt.alloc())?;
     assert!(rt; copy.bytes() == [7, 8, 9].as_slice());
+    Ok(())
+}
+
+#[test]
+fn lends_a_part_where_it_is_in_the_image(rt: HostRuntime) -> Result<(), Fail> {
+    let bytes = Vec::from_slice(rt.alloc(), &[7; 8])?;
+    let mut image = Image::new(rt.alloc(), bytes);
+    assert!(rt; image.part_mut(6, 3).is_none());
+    assert!(rt; image.part_mut(u64::MAX, 2).is_none());
+    if let Some(last) = image.part_mut(6, 2) {
+        last.fill(9);
+    }
+    assert!(rt; image.bytes() == [7, 7, 7, 7, 7, 7, 9, 9].as_slice());
+    Ok(())
+}
+
+// Two blocks, and the image after the first was filled with 1 and the second with 2, or the image as it was.
+static TWO_PARTS: [((u64, u64), (u64, u64), [u8; 8]); 9] = [
+    ((0, 2), (6, 2), [1, 1, 7, 7, 7, 7, 2, 2]),
+    ((6, 2), (0, 2), [2, 2, 7, 7, 7, 7, 1, 1]),
+    ((2, 2), (4, 3), [7, 7, 1, 1, 2, 2, 2, 7]),
+    ((4, 4), (0, 4), [2, 2, 2, 2, 1, 1, 1, 1]),
+    ((0, 8), (3, 0), [1, 1, 1, 1, 1, 1, 1, 1]),
+    ((3, 0), (0, 8), [2, 2, 2, 2, 2, 2, 2, 2]),
+    ((0, 4), (3, 2), [7, 7, 7, 7, 7, 7, 7, 7]),
+    ((2, 2), (2, 2), [7, 7, 7, 7, 7, 7, 7, 7]),
+    ((0, 2), (6, 3), [7, 7, 7, 7, 7, 7, 7, 7]),
+];
+
+#[test]
+fn lends_two_parts_that_share_no_byte(rt: HostRuntime) -> Result<(), Fail> {
+    for k in 0..TWO_PARTS.len() {
+        let ((at, len), (other, size), after) = TWO_PARTS[k];
+        let bytes = Vec::from_slice(rt.alloc(), &[7; 8])?;
+        let mut image = Image::new(rt.alloc(), bytes);
+        let first = Block { at, len };
+        let second = Block {
+            at: other,
+            len: size,
+        };
+        if let Some((one, two)) = image.two_parts_mut(first, second) {
+            one.fill(1);
+            two.fill(2);
+        }
+        assert!(rt; image.bytes() == after.as_slice(), "row {k}");
+    }
     Ok(())
 }
