@@ -25,3 +25,4 @@ pub mod RisingBoxes
 pub mod GridBoxes
 pub mod MetTests
 pub mod MetLaws
+pub mod BesideLaws

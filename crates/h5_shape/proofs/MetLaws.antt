@@ -12,8 +12,7 @@ use Rattle.h5_model.proofs.SelectionLaws.{from_is_selected, to_is_selected}
 use Rattle.h5_model.proofs.WithinLaws.{both}
 use Rattle.h5_shape.proofs.Members.{In, all_in, contains_in, from_map, in_contains, in_map}
 use Rattle.h5_shape.specs.declared.parts.Span.{Span}
-use Rattle.h5_shape.specs.MetFirsts.{AreBoxParts, AreRanked, first_of_box, firsts_left, is_lost_at, is_reduced, is_written_at, loses_box, meets_box, met_firsts, reaches_past}
-use Rattle.h5_shape.specs.declared.met.MetTest.{MetTest}
+use Rattle.h5_shape.specs.MetFirsts.{AreRanked, first_of_box, is_lost_at, is_reduced, is_written_at, loses_box, meets_box, met_firsts, reaches_past}
 use Rattle.h5_shape.specs.PartCells.{AreParted, HoldsCell, part_corner, selection_shape}
 use Rattle.h5_shape.proofs.CornerLaws.{corner-met}
 use Rattle.h5_shape.proofs.GridBoxes.{IsHeldIn, box_among, box_long, boxes_rise, held_some, product, some_held}
@@ -108,71 +107,56 @@ module _ (slab : Slab) (box : List ℕ) (parts : List (List Span)) (rank : lengt
 is_first : (box first : List ℕ) (test : List ℕ → Bool) → IsHeldIn box first test → IsFirst box first
 is_first box first test held = (held.index, held.long, held.corner)
 
-no_left : (test : MetTest) (box : List ℕ) (parts : List (List Span)) → parts ≡ [] → firsts_left test box parts ≡ []
-no_left test box parts none = ap (λ (ps : List (List Span)). firsts_left test box ps) none
-
 -- ---- a write
 
 pub written_met : (sizes box : List ℕ) (written view : Slab) (parts : List (List Span)) → length sizes ≡ length written → length box ≡ length written → length view ≡ length written
-    → Within sizes written → AreBoxParts written box parts → filter (meets_box view box) (map part_corner parts) ≡ met_firsts sizes box (is_written_at sizes written) view
-written_met sizes box written view parts wide rank same within are = by_size (cells box) refl where
-  by_size : (n : ℕ) → cells box ≡ n → filter (meets_box view box) (map part_corner parts) ≡ met_firsts sizes box (is_written_at sizes written) view
-  by_size zero none =
-      ap (λ (ps : List (List Span)). filter (meets_box view box) (map part_corner ps)) (are.none none) ∙ sym (none_met sizes box (is_written_at sizes written) view none)
-  by_size (suc n) is =
-      let some : 0 < cells box = omega (arith, is) in
-      let parted = are.parted some in
-      let corners = map part_corner parts in
-      all_met sizes box (is_written_at sizes written) view (rank ∙ sym wide) some (filter (meets_box view box) corners)
-      (λ index touched. (both (is_inside sizes index) (is_selected written index) touched).0)
-      (filter_rises (meets_box view box) corners (corners_rise written box parts rank parted))
-      (λ first at.
-      let there = filter_in (meets_box view box) first corners at in
-      let held = corner_held written box parts rank parted first there.0 in (
-        record {
-          index = held.index;
-          long = held.long;
-          corner = held.corner;
-          passes = ap₂ (λ (p q : Bool). p && q) (inside_test sizes held.index (within held.index (from_is_selected written held.index held.passes))) held.passes;
-        },
-        meets_held view box first (rank ∙ sym same) some (is_first box first (is_selected written) held) there.1,
-      ))
-      (λ first edit seen.
-      let split = both (is_inside sizes edit.index) (is_selected written edit.index) edit.passes in
-      in_filter (meets_box view box) first corners
-      (held_corner written box parts rank parted first (record { index = edit.index; long = edit.long; corner = edit.corner; passes = split.1 }))
-      (held_meets view box first (rank ∙ sym same) some seen))
+    → Within sizes written → 0 < cells box → AreParted written box parts → filter (meets_box view box) (map part_corner parts) ≡ met_firsts sizes box (is_written_at sizes written) view
+written_met sizes box written view parts wide rank same within some parted =
+    let corners = map part_corner parts in
+    all_met sizes box (is_written_at sizes written) view (rank ∙ sym wide) some (filter (meets_box view box) corners)
+    (λ index touched. (both (is_inside sizes index) (is_selected written index) touched).0)
+    (filter_rises (meets_box view box) corners (corners_rise written box parts rank parted))
+    (λ first at.
+    let there = filter_in (meets_box view box) first corners at in
+    let held = corner_held written box parts rank parted first there.0 in (
+      record {
+        index = held.index;
+        long = held.long;
+        corner = held.corner;
+        passes = ap₂ (λ (p q : Bool). p && q) (inside_test sizes held.index (within held.index (from_is_selected written held.index held.passes))) held.passes;
+      },
+      meets_held view box first (rank ∙ sym same) some (is_first box first (is_selected written) held) there.1,
+    ))
+    (λ first edit seen.
+    let split = both (is_inside sizes edit.index) (is_selected written edit.index) edit.passes in
+    in_filter (meets_box view box) first corners
+    (held_corner written box parts rank parted first (record { index = edit.index; long = edit.long; corner = edit.corner; passes = split.1 }))
+    (held_meets view box first (rank ∙ sym same) some seen))
 
 -- ---- a resize
 
 pub lost_met : (sizes kept box : List ℕ) (view : Slab) (parts : List (List Span)) → length sizes ≡ length view → length kept ≡ length view → length box ≡ length view
-    → AreBoxParts view box parts → filter (loses_box sizes kept box) (map part_corner parts) ≡ met_firsts sizes box (is_lost_at sizes kept) view
-lost_met sizes kept box view parts wide as_many rank are = by_size (cells box) refl where
-  by_size : (n : ℕ) → cells box ≡ n → filter (loses_box sizes kept box) (map part_corner parts) ≡ met_firsts sizes box (is_lost_at sizes kept) view
-  by_size zero none =
-      ap (λ (ps : List (List Span)). filter (loses_box sizes kept box) (map part_corner ps)) (are.none none) ∙ sym (none_met sizes box (is_lost_at sizes kept) view none)
-  by_size (suc n) is =
-      let some : 0 < cells box = omega (arith, is) in
-      let parted = are.parted some in
-      let corners = map part_corner parts in
-      all_met sizes box (is_lost_at sizes kept) view (rank ∙ sym wide) some (filter (loses_box sizes kept box) corners)
-      (λ index touched. (both (is_inside sizes index) _ touched).0)
-      (filter_rises (loses_box sizes kept box) corners (corners_rise view box parts rank parted))
-      (λ first at.
-      let there = filter_in (loses_box sizes kept box) first corners at in
-      let held = corner_held view box parts rank parted first there.0 in
-      (loses_held sizes kept box first (rank ∙ sym wide) (as_many ∙ sym wide) some (is_first box first (is_selected view) held) there.1, held))
-      (λ first edit seen. in_filter (loses_box sizes kept box) first corners (held_corner view box parts rank parted first seen)
-      (held_loses sizes kept box first (rank ∙ sym wide) (as_many ∙ sym wide) some edit))
+    → 0 < cells box → AreParted view box parts → filter (loses_box sizes kept box) (map part_corner parts) ≡ met_firsts sizes box (is_lost_at sizes kept) view
+lost_met sizes kept box view parts wide as_many rank some parted =
+    let corners = map part_corner parts in
+    all_met sizes box (is_lost_at sizes kept) view (rank ∙ sym wide) some (filter (loses_box sizes kept box) corners)
+    (λ index touched. (both (is_inside sizes index) _ touched).0)
+    (filter_rises (loses_box sizes kept box) corners (corners_rise view box parts rank parted))
+    (λ first at.
+    let there = filter_in (loses_box sizes kept box) first corners at in
+    let held = corner_held view box parts rank parted first there.0 in
+    (loses_held sizes kept box first (rank ∙ sym wide) (as_many ∙ sym wide) some (is_first box first (is_selected view) held) there.1, held))
+    (λ first edit seen. in_filter (loses_box sizes kept box) first corners (held_corner view box parts rank parted first seen)
+    (held_loses sizes kept box first (rank ∙ sym wide) (as_many ∙ sym wide) some edit))
+
+pub no_member : {X : Type 0} (xs : List X) → ((x : X) → In x xs → ⊥) → xs ≡ []
+no_member [] never = refl
+no_member (x ∷ xs) never = absurd (never x (inl refl))
 
 -- where no size is reduced no box is met
 pub none_lost : (sizes kept box : List ℕ) (view : Slab) → length sizes ≡ length view → length kept ≡ length view → length box ≡ length view
     → is_reduced sizes kept ≡ false → met_firsts sizes box (is_lost_at sizes kept) view ≡ []
 none_lost sizes kept box view wide as_many rank none = by_size (cells box) refl where
-  no_member : (firsts : List (List ℕ)) → ((first : List ℕ) → In first firsts → ⊥) → firsts ≡ []
-  no_member [] never = refl
-  no_member (f ∷ fs) never = absurd (never f (inl refl))
-
   by_size : (n : ℕ) → cells box ≡ n → met_firsts sizes box (is_lost_at sizes kept) view ≡ []
   by_size zero empty = none_met sizes box (is_lost_at sizes kept) view empty
   by_size (suc n) is =
@@ -230,20 +214,6 @@ parts_long slab box parts rank h = all_in (λ (part : List Span). length part �
     let some = h.some there.0 part there.1 in
     let inside = (h.cells there.0 part there.1 some.0 some.1).0 in
     ap (λ (p : List Span). length p) (sym there.2) ∙ long_part _ some.0 some.1 ∙ long_position slab some.0 inside ∙ sym rank)
-
-pub all_parts : (slab : Slab) (box : List ℕ) (parts : List (List Span)) → length box ≡ length slab → list_any (λ d. d == 0) box ≡ false → AreParted slab box parts → AreBoxParts slab box parts
-all_parts slab box parts rank sized parted = record {
-  ranks = parts_long slab box parts rank parted;
-  parted = λ some. parted;
-  none = λ none. let some = (some_cells box sized).0 in absurd (omega (arith, some, none));
-}
-
-pub no_parts : (slab : Slab) (box : List ℕ) (parts : List (List Span)) → list_any (λ d. d == 0) box ≡ true → parts ≡ [] → AreBoxParts slab box parts
-no_parts slab box parts flat none = record {
-  ranks = subst (AreRanked box) (sym none) tt;
-  parted = λ some. let empty = zero_cells box flat in absurd (omega (arith, some, empty));
-  none = λ empty. none;
-}
 
 -- ---- for callers
 

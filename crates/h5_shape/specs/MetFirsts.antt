@@ -1,9 +1,9 @@
 -- The boxes of a grid that an edit and a view both meet, by their first indexes (File Format Specification 3.0, section III.A.1, chunked
 -- raw data).
-use Rattle.std.specs.Prelude.{◌≡◌, ℕ, ◌+◌, ◌*◌, ◌<◌, ◌&&◌, ◌||◌, Bool, true, false, not, nat_lt, min, ◌≤◌, List, [], ◌∷◌, length, map}
+use Rattle.std.specs.Prelude.{◌≡◌, ◌≢◌, ℕ, ◌+◌, ◌-◌, ◌*◌, ◌/◌, ◌⊎◌, ◌&&◌, ◌||◌, Bool, true, false, not, nat_lt, min, ◌≤◌, List, [], ◌∷◌, length, map}
 use Rattle.std.specs.List.{AllByRecursion, filter, list_any, range_with_len}
 use Rattle.h5_model.specs.declared.hyperslab.Axis.{Axis}
-use Rattle.h5_model.specs.Tree.Places.{cells, is_inside}
+use Rattle.h5_model.specs.Tree.Places.{is_inside}
 use Rattle.h5_model.specs.Views.Selection.{Slab, is_selected, is_selected_along, overlaps}
 use Rattle.h5_model.specs.Views.Shown.{met_boxes}
 use Rattle.h5_shape.specs.PartCells.{AreParted, part_corner}
@@ -55,6 +55,21 @@ abbrev pub is_reduced : List ℕ → List ℕ → Bool
 is_reduced (d ∷ ds) (k ∷ ks) = nat_lt k d || is_reduced ds ks
 is_reduced _ _ = false
 
+-- ---- selections that share no box
+
+-- the last number of an axis that has one
+abbrev pub last_along : Axis → ℕ
+last_along a = a.start + (a.count - 1) * a.stride + (a.block - 1)
+
+-- no box of this size along an axis holds a number of both
+abbrev pub ShareNoBox : ℕ → Axis → Axis → Type 0
+ShareNoBox size a b = (x y : ℕ) → is_selected_along a x ≡ true → is_selected_along b y ≡ true → x / size ≢ y / size
+
+-- so it is in some dimension
+abbrev pub LieBeside : List ℕ → Slab → Slab → Type 0
+LieBeside (size ∷ sizes) (a ∷ one) (b ∷ other) = ShareNoBox size a b ⊎ LieBeside sizes one other
+LieBeside _ _ _ = ⊥
+
 -- ---- boxes that are left
 
 -- the box passes a test
@@ -81,11 +96,9 @@ pub record AreTested (test : MetTest) (grid : List ℕ) (parts : List (List Span
   pub test_of : IsTestOf test grid
   pub ranks : AreRanked grid parts
 
--- the parts of a selection in boxes of these sizes, none where one of them is 0
-pub record AreBoxParts (slab : Slab) (grid : List ℕ) (parts : List (List Span)) : Type 0 where
-  pub ranks : AreRanked grid parts
-  pub parted : 0 < cells grid → AreParted slab grid parts
-  pub none : cells grid ≡ 0 → parts ≡ []
+-- the first indexes of those boxes of a selection's parts that pass
+abbrev pub AreTestedOf : Slab → List ℕ → MetTest → List (List ℕ) → Type 0
+AreTestedOf slab grid test firsts = (parts : List (List Span)) × AreParted slab grid parts × (firsts ≡ firsts_left test grid parts)
 
 -- the first part's corner is given and the others are left, or there is none
 abbrev pub HasCorner : List (List Span) → Bool → List (List Span) → List ℕ → Type 0

@@ -1,9 +1,9 @@
 //! The boxes of a grid that an edit and a view both meet (File Format Specification 3.0, section III.A.1, chunked raw data).
-ghost use Rattle.std.specs.Prelude.{◌≡◌, ℕ, ◌^◌, ◌==◌, List, false, length, replicate};
+ghost use Rattle.std.specs.Prelude.{◌≡◌, ℕ, ◌^◌, ◌-◌, ◌%◌, ◌<◌, ◌≤◌, ◌==◌, IsTrue, List, MatchOption, [], false, length, min, replicate};
 ghost use Rattle.std.specs.Iterator.{YieldsFirst, item_count};
 ghost use Rattle.std.specs.List.{AllByRecursion, list_any};
 ghost use Rattle.h5_model.specs.Views.Selection.{Within, overlaps};
-ghost use Rattle.h5_shape.specs.MetFirsts.{AreBoxParts, AreRanked, HasCorner, HasNextBox, IsTestOf, firsts_left, is_lost_at, is_reduced as is_reduced_to, is_written_at, loses_box, meets_along, meets_box, met_firsts, passes_box, reaches_past as reaches_past_of};
+ghost use Rattle.h5_shape.specs.MetFirsts.{AreRanked, AreTestedOf, HasCorner, HasNextBox, IsTestOf, LieBeside, ShareNoBox, firsts_left, is_lost_at, is_reduced as is_reduced_to, is_written_at, last_along, loses_box, meets_along, meets_box, met_firsts, passes_box, reaches_past as reaches_past_of};
 ghost use Rattle.h5_shape.specs.PartCells.{part_corner};
 ghost use Rattle.h5_shape.specs.declared.parts.Span.{Span as SpanOfPart};
 
@@ -46,7 +46,8 @@ impl<'a> Model for MetBoxes<'a> {
 }
 
 /// The boxes of the grid of chunks that hold a cell of a write and a cell of a view, for any array that the write is
-/// within.
+/// within. `None`, in time by the number of dimensions, where in some dimension one selection ends before the box in
+/// which the other one begins: then no box is met.
 ///
 /// Each box that the write meets is looked at once, in time by the number of dimensions. That there are as many
 /// dimensions of each, and that no selected index of the write passes `u64::MAX`, are the caller's conditions.
@@ -55,56 +56,75 @@ pub fn written_boxes<'a>(
     grid: &'a Dims,
     written: &'a Slab,
     view: &'a Slab,
-) -> MetBoxes<'a>
+) -> Option<MetBoxes<'a>>
     requires grid { length grid.now ≡ length written.now }
     requires view { length view.now ≡ length written.now }
     requires top { Within (replicate (length written.now) (2 ^ 64)) written.now }
     ensures { (sizes : List ℕ) → length sizes ≡ length written.now → Within sizes written.now
-        → result ≡ met_firsts sizes grid.now (is_written_at sizes written.now) view.now }
+        → let met = met_firsts sizes grid.now (is_written_at sizes written.now) view.now in
+        MatchOption result (met ≡ []) (λ boxes. boxes ≡ met) }
 {
-    MetBoxes {
-        alloc,
-        parts: parts_in(written, grid.sizes()),
-        grid: grid.sizes(),
-        test: MetTest::Selects(view.axes()),
+    let grid = grid.sizes();
+    if has_zero(grid) {
+        return None;
     }
+    if lie_beside(grid, written.axes(), view.axes()) {
+        return None;
+    }
+    let test = MetTest::Selects(view.axes());
+    Some(tested_boxes(alloc, written, grid, test))
 }
 
 /// The boxes of the grid of chunks that hold a cell of a view and a cell that the array loses when it gets the sizes
-/// `kept`. The cell of the view may be outside the array.
+/// `kept`. The cell of the view may be outside the array. `None` where no size is reduced: then no box is met.
 ///
-/// Each box that the view meets is looked at once, in time by the number of dimensions; no box where no size is
-/// reduced. That there are as many dimensions of each, and that no selected index of the view passes `u64::MAX`, are
-/// the caller's conditions.
+/// Each box that the view meets is looked at once, in time by the number of dimensions. That there are as many
+/// dimensions of each, and that no selected index of the view passes `u64::MAX`, are the caller's conditions.
 pub fn lost_boxes<'a>(
     alloc: Global,
     sizes: &'a Dims,
     kept: &'a Dims,
     grid: &'a Dims,
     view: &'a Slab,
-) -> MetBoxes<'a>
+) -> Option<MetBoxes<'a>>
     requires sizes { length sizes.now ≡ length view.now }
     requires kept { length kept.now ≡ length view.now }
     requires grid { length grid.now ≡ length view.now }
     requires top { Within (replicate (length view.now) (2 ^ 64)) view.now }
-    ensures { result ≡ met_firsts sizes.now grid.now (is_lost_at sizes.now kept.now) view.now }
+    ensures { let met = met_firsts sizes.now grid.now (is_lost_at sizes.now kept.now) view.now in
+        MatchOption result (met ≡ []) (λ boxes. boxes ≡ met) }
 {
+    let grid = grid.sizes();
+    if has_zero(grid) {
+        return None;
+    }
+    if !is_reduced(sizes.sizes(), kept.sizes()) {
+        return None;
+    }
     let test = MetTest::Loses {
         sizes: sizes.sizes(),
         kept: kept.sizes(),
     };
-    let grid = grid.sizes();
-    if !is_reduced(sizes.sizes(), kept.sizes()) {
-        return MetBoxes {
-            alloc,
-            parts: ChunkParts::none(view.axes(), grid),
-            grid,
-            test,
-        };
-    }
+    Some(tested_boxes(alloc, view, grid, test))
+}
+
+/// The boxes of these sizes, none of them 0, that hold a selected index and pass a test.
+fn tested_boxes<'a>(
+    alloc: Global,
+    slab: &'a Slab,
+    grid: &'a [u64],
+    test: MetTest<'a>,
+) -> MetBoxes<'a>
+    requires few { length grid.now ≤ 32 }
+    requires sized { list_any (λ d. d == 0) grid.now ≡ false }
+    requires rank { length grid.now ≡ length slab.now }
+    requires top { Within (replicate (length slab.now) (2 ^ 64)) slab.now }
+    requires test { IsTestOf test grid.now }
+    ensures { AreTestedOf slab.now grid.now test.entry result }
+{
     MetBoxes {
         alloc,
-        parts: parts_in(view, grid),
+        parts: slab.chunk_parts(grid),
         grid,
         test,
     }
@@ -127,18 +147,6 @@ impl<'a> Iterator for MetBoxes<'a> {
     }
 }
 
-/// The parts of a selection in boxes of these sizes. A box without cells holds none.
-fn parts_in<'a>(slab: &'a Slab, grid: &'a [u64]) -> ChunkParts<'a>
-    requires rank { length grid.now ≡ length slab.now }
-    requires top { Within (replicate (length slab.now) (2 ^ 64)) slab.now }
-    ensures { AreBoxParts slab.now grid.now result }
-{
-    if has_zero(grid) {
-        return ChunkParts::none(slab.axes(), grid);
-    }
-    slab.chunk_parts(grid)
-}
-
 /// Whether a size is 0.
 fn has_zero(sizes: &[u64]) -> bool
     ensures { result ≡ list_any (λ d. d == 0) sizes.now }
@@ -157,6 +165,52 @@ fn is_reduced(sizes: &[u64], kept: &[u64]) -> bool
         return false;
     };
     bound < size || is_reduced(sizes, kept)
+}
+
+/// Whether in some dimension one selection ends before the box in which the other one begins.
+fn lie_beside(grid: &[u64], one: &[Axis], other: &[Axis]) -> bool
+    requires { list_any (λ d. d == 0) grid.now ≡ false }
+    ensures { IsTrue result → LieBeside grid.now one.now other.now }
+{
+    let [size, grid @ ..] = grid else {
+        return false;
+    };
+    let [axis, one @ ..] = one else {
+        return false;
+    };
+    let [beside, other @ ..] = other else {
+        return false;
+    };
+    are_boxes_apart(*size, axis, beside) || lie_beside(grid, one, other)
+}
+
+/// Whether the axis that starts first ends before the box in which the other one starts.
+fn are_boxes_apart(size: u64, one: &Axis, other: &Axis) -> bool
+    requires { 0 < size }
+    ensures { IsTrue result → ShareNoBox size one.now other.now }
+{
+    if one.start > other.start {
+        return ends_before_box(other, size, one.start);
+    }
+    ends_before_box(one, size, other.start)
+}
+
+/// Whether an axis ends before the box in which a number stands.
+fn ends_before_box(axis: &Axis, size: u64, number: u64) -> bool
+    requires { 0 < size }
+    ensures { IsTrue result → last_along axis.now < number - number % size }
+{
+    last(axis) < number - number % size
+}
+
+/// The last number of an axis that has one, or `u64::MAX` where it is greater.
+fn last(axis: &Axis) -> u64
+    ensures { result ≡ min (last_along axis.now) (2 ^ 64 - 1) }
+{
+    let further = axis.count.saturating_sub(1).saturating_mul(axis.stride);
+    axis.start
+        .saturating_add(further)
+        .saturating_add(axis.block.saturating_sub(1))
 }
 
 /// Goes to the next part whose box passes the test, and writes its first index. Where there is none, says so.
