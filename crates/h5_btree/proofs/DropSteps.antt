@@ -15,11 +15,12 @@ use Rattle.h5_space.specs.Whole.{IsApart}
 use Rattle.h5_space.proofs.MovesLaws.{moves_none, moves_then, moves_apart}
 use Rattle.h5_btree.specs.Climb.{IsWay, Drops, Unlinks, EmptiesRoot}
 use Rattle.h5_btree.specs.Rewritten.{IsRewritten}
-pub use Rattle.h5_btree.specs.Removal.{IsShrinking, IsChildTaken, LosesKey}
+use Rattle.h5_btree.specs.Insertion.{KeepsEntries}
+pub use Rattle.h5_btree.specs.Removal.{IsShrinking, IsChildTaken, LosesChild}
 use Rattle.h5_btree.specs.declared.way.Step.{Step}
 use Rattle.h5_btree.proofs.NodeLaws.{length-children}
 use Rattle.h5_btree.proofs.RowEdits.{level_here}
-use Rattle.h5_btree.proofs.DropLaws.{over_kept, over_up, over_emptied}
+use Rattle.h5_btree.proofs.DropLaws.{over_kept, over_up, over_emptied, remove_alone}
 use Rattle.h5_btree.proofs.WayRows.{leaves_here, remove_below}
 use Rattle.h5_btree.proofs.OwnedLaws.{total, whole_total, kept_total, over_up_total, emptied_total, cover_total}
 use Rattle.h5_btree.proofs.TreeReadings.{Listed, owned_of_level, owned_at, refills_in, has_tree_again, in_rows, levels_of}
@@ -76,13 +77,13 @@ shrink_start s kind root level p i way front back owned list tree apart short w 
       apart = apart;
       short = short;
       moves = moves_none s (tree_blocks kind owned);
-      keys = all_from owned (λ n. (node_at s.bytes kind n).keys ≡ (node_at s.bytes kind n).keys) (λ n is. refl) owned (all_listed owned);
+      entries = all_from owned (KeepsEntries s.bytes s.bytes kind) (λ n is. (refl, refl, refl)) owned (all_listed owned);
     }
 
--- the node has other children, or it is the root and at level 0
+-- the node has other children
 pub shrink_kept : (s t u : Space) (kind : Kind) (root m p : ℕ) (way : List Step) (i : ℕ) (list owned own : List ℕ)
     → IsShrinking s t kind root m p way i list owned own
-    → (1 ≤ length way + m → 2 ≤ length (node_at t.bytes kind p).children)
+    → 2 ≤ length (node_at t.bytes kind p).children
     → IsRewritten t u kind p (record (node_at t.bytes kind p) { keys = remove (node_at t.bytes kind p).keys i; children = remove (node_at t.bytes kind p).children i })
     → IsChildTaken s u kind root (length way + m) p i list owned (nodes (reading_of u.bytes kind own) (length way + m) (root ∷ []))
 shrink_kept s t u kind root m p way i list owned own c more r =
@@ -102,18 +103,21 @@ shrink_kept s t u kind root m p way i list owned own c more r =
     (r.says ∙ ap (λ (n : Node). record (f p) { keys = keys; children = remove n.children i }) (sym same))
     (λ n is other. (is, ap (node_of kind) (stay n is other))) in
     let tree = over_kept V W m root p way i list c.high out c.over drops in
-    let some : 1 ≤ level → 1 ≤ entries_in (node_bytes u.bytes kind p) = λ above.
+    let some : 1 ≤ entries_in (node_bytes u.bytes kind p) =
     let l = length-children kind (node_bytes u.bytes kind p) (g p) refl in
     let d : length (g p).children ≡ length (remove (f p).children i) = ap (λ (n : Node). length n.children) r.says in
     let place : i < length (f p).children = subst (λ (n : Node). i < length n.children) same c.over.place in
-    omega (arith, l, d, length-remove (f p).children i place, more above) in
+    omega (arith, l, d, length-remove (f p).children i place, more) in
+    let before : (n : ℕ) → Listed own n → KeepsEntries s.bytes t.bytes kind n = λ n is. at_listed (KeepsEntries s.bytes t.bytes kind) own n c.entries is in
+    let at_root = root_level W level root tree.0 in
+    let is_root : Listed own root = owned_of_level g own root (let h = c.high in omega (arith, at_root, h)) in
     record {
       tree = has_tree_again u.bytes kind root level own list (let h = c.high in omega (arith, h)) tree
           (all_from own (λ at. IsNode kind (node_bytes u.bytes kind at)) (λ n is. at_or p n
           (λ e. subst (λ (k : ℕ). IsNode kind (node_bytes u.bytes kind k)) (sym e) r.form)
           (λ other. subst (IsNode kind) (sym (stay n is other)) (at_listed (λ at. IsNode kind (node_bytes t.bytes kind at)) own n c.formed is))) own (all_listed own))
           (λ above. all_from own (λ at. 1 ≤ entries_in (node_bytes u.bytes kind at)) (λ n is. at_or p n
-          (λ e. subst (λ (k : ℕ). 1 ≤ entries_in (node_bytes u.bytes kind k)) (sym e) (some above))
+          (λ e. subst (λ (k : ℕ). 1 ≤ entries_in (node_bytes u.bytes kind k)) (sym e) some)
           (λ other. subst (λ (b : List ℕ). 1 ≤ entries_in b) (sym (stay n is other)) (at_listed (λ at. 1 ≤ entries_in (node_bytes t.bytes kind at)) own n (c.filled above) is)))
           own (all_listed own));
       moves = moves_then s t u (tree_blocks kind owned) (tree_blocks kind own) (tree_blocks kind (nodes W level (root ∷ []))) c.moves
@@ -122,20 +126,27 @@ shrink_kept s t u kind root m p way i list owned own c more r =
           (λ x. cover_total x kind (nodes W level (root ∷ []))
           ∙ kept_total (λ n. holds x n (node_length kind)) V W m root p way i list c.high out c.over drops
           ∙ sym (c.counts (λ n. holds x n (node_length kind))) ∙ sym (cover_total x kind own)));
-      keys = in_rows g own (λ n. LosesKey p i n (node_at s.bytes kind n) (node_at u.bytes kind n))
-          (all_from own (λ n. LosesKey p i n (node_at s.bytes kind n) (node_at u.bytes kind n)) (λ n is. at_or p n
-          (λ e. inl (
-            e,
-            subst (λ (k : ℕ). (node_at u.bytes kind k).keys ≡ remove (node_at s.bytes kind k).keys i) (sym e)
-                (ap (λ (k : Node). k.keys) r.says
-                ∙ ap (λ (ks : List (List ℕ)). remove ks i) (at_listed (λ k. (node_at t.bytes kind k).keys ≡ (node_at s.bytes kind k).keys) own p c.keys is_p)),
-          ))
+      entries = in_rows g own (λ n. LosesChild p i n (node_at s.bytes kind n) (node_at u.bytes kind n))
+          (all_from own (λ n. LosesChild p i n (node_at s.bytes kind n) (node_at u.bytes kind n)) (λ n is. at_or p n
+          (λ e. subst (λ (k : ℕ). LosesChild p i k (node_at s.bytes kind k) (node_at u.bytes kind k)) (sym e) (inl (
+            refl,
+            ap (λ (k : Node). k.keys) r.says ∙ ap (λ (ks : List (List ℕ)). remove ks i) (before p is_p).0,
+            ap (λ (k : Node). k.children) r.says ∙ ap (λ (ks : List ℕ). remove ks i) (before p is_p).1,
+          )))
           (λ other. inr (
             other,
-            ap (λ (b : List ℕ). (node_of kind b).keys) (stay n is other)
-                ∙ at_listed (λ k. (node_at t.bytes kind k).keys ≡ (node_at s.bytes kind k).keys) own n c.keys is,
+            ap (λ (b : List ℕ). (node_of kind b).keys) (stay n is other) ∙ (before n is).0,
+            ap (λ (b : List ℕ). (node_of kind b).children) (stay n is other) ∙ (before n is).1,
           ))) own (all_listed own))
           (nodes W level (root ∷ [])) (levels_of W level (root ∷ []) (let h = c.high in omega (arith, h)) tree.0);
+      stops = inl (
+        subst (λ (n : ℕ). 2 ≤ n) (ap (λ (xs : List ℕ). length xs) (before p is_p).1) more,
+        sym at_root ∙ ap (λ (n : Node). n.level) (owned_at g own root is_root)
+            ∙ at_or p root
+            (λ e. subst (λ (k : ℕ). (g k).level ≡ (f k).level) (sym e) (ap (λ (n : Node). n.level) r.says))
+            (λ other. ap (λ (b : List ℕ). (node_of kind b).level) (stay root is_root other))
+            ∙ (before root is_root).2,
+      );
     }
 
 -- the node has no other child and goes: it is the one above that has a child too much
@@ -147,9 +158,9 @@ pub shrink_up : (s t u : Space) (kind : Kind) (root m p : ℕ) (step : Step) (wa
     → AllByRecursion (λ at. IsNode kind (node_bytes u.bytes kind at)) (without p own)
     → AllByRecursion (λ at. 1 ≤ entries_in (node_bytes u.bytes kind at)) (without p own)
     → length u.bytes < 2 ^ 64
-    → AllByRecursion (λ n. (node_at u.bytes kind n).keys ≡ (node_at s.bytes kind n).keys) (without p own)
+    → AllByRecursion (KeepsEntries s.bytes u.bytes kind) (without p own)
     → IsShrinking s u kind root (suc m) step.node way step.place list owned (without p own)
-shrink_up s t u kind root m p step way i list owned own c one t' moves formed filled short keys =
+shrink_up s t u kind root m p step way i list owned own c one t' moves formed filled short entries =
     let V = reading_of t.bytes kind own in
     let W = reading_of u.bytes kind (without p own) in
     let out = undefined_free t kind own c.apart c.short in
@@ -171,7 +182,7 @@ shrink_up s t u kind root m p step way i list owned own c one t' moves formed fi
       apart = apart;
       short = short;
       moves = moves_then s t u (tree_blocks kind owned) (tree_blocks kind own) (tree_blocks kind (without p own)) c.moves moves;
-      keys = keys;
+      entries = entries;
     }
 
 -- the root has no other child: it is at level 0, and the only node
@@ -189,7 +200,8 @@ shrink_emptied s t u kind root m i list owned own c one r =
     let is_root : Listed own root = owned_of_level (node_at t.bytes kind) own root (omega (arith, level_here V m root c.over.front c.over.back top out c.over.row, top)) in
     let mine : Listed (root ∷ []) root = (all_listed (root ∷ [])).0 in
     let empties : EmptiesRoot W root = record { keys = keys; node = owned_at (node_at u.bytes kind) (root ∷ []) root mine ∙ r.says } in
-    let done = over_emptied V W m root i list c.over one empties in (
+    let done = over_emptied V W m root i list c.over one empties in
+    let before : KeepsEntries s.bytes t.bytes kind root = at_listed (KeepsEntries s.bytes t.bytes kind) own root c.entries is_root in (
       record {
         tree = has_tree_again u.bytes kind root 0 (root ∷ []) list (omega arith) done.0 (r.form, tt) (λ above. absurd (omega (arith, above)));
         moves = moves_then s t u (tree_blocks kind owned) (tree_blocks kind own) (tree_blocks kind (root ∷ [])) c.moves
@@ -201,13 +213,19 @@ shrink_emptied s t u kind root m i list owned own c one r =
             let b = c.counts w in
             let d = cover_total x kind own in
             omega (arith, a, b, d)));
-        keys = (
+        entries = (
           inl (
             refl,
-            ap (λ (k : Node). k.keys) r.says
-                ∙ ap (λ (ks : List (List ℕ)). remove ks i) (at_listed (λ k. (node_at t.bytes kind k).keys ≡ (node_at s.bytes kind k).keys) own root c.keys is_root),
+            ap (λ (k : Node). k.keys) r.says ∙ ap (λ (ks : List (List ℕ)). remove ks i) before.0,
+            ap (λ (k : Node). k.children) r.says ∙ sym (remove_alone (V root).children i one c.over.place)
+                ∙ ap (λ (n : Node). remove n.children i) (owned_at (node_at t.bytes kind) own root is_root) ∙ ap (λ (ks : List ℕ). remove ks i) before.1,
           ),
           tt,
+        );
+        stops = inr (
+          ap (λ (xs : List ℕ). length xs) (sym before.1) ∙ ap (λ (n : Node). length n.children) (sym (owned_at (node_at t.bytes kind) own root is_root)) ∙ one,
+          refl,
+          refl,
         );
       },
       done.1,

@@ -1,19 +1,16 @@
 -- The first child of a tree.
-use Rattle.std.proofs.Common.{◌≡◌, ℕ, suc, ◌+◌, ◌^◌, ◌<◌, ◌≤◌, List, [], ◌∷◌, ◌++◌, length, refl, sym, ap, ◌∙◌, subst, arith, append-nil}
+use Rattle.std.proofs.Common.{◌≡◌, ℕ, ◌+◌, ◌≤◌, List, [], ◌∷◌, length, refl, sym, ap, ◌∙◌, arith, append-nil}
 use Rattle.std.specs.Prelude.{slice_set}
 use Rattle.std.specs.List.{insert}
-use Rattle.std.proofs.lemmas.List.{nil_from_length}
-use Rattle.h5_bytes.specs.Bytes.{undefined}
-use Rattle.h5_model.specs.Format.Rows.{Node, next_row}
+use Rattle.h5_model.specs.Format.Rows.{Node}
 use Rattle.h5_model.specs.Format.Nodes.{Kind, IsNode, entries_in, node_at, node_bytes, node_length, reading_of}
 use Rattle.h5_space.specs.Space.{Space}
-use Rattle.h5_btree.specs.Climb.{IsWay}
 use Rattle.h5_btree.specs.Rewritten.{IsRewritten}
 use Rattle.h5_btree.specs.Insertion.{IsChildPut, IsClimbing, IsEmptyTree}
 use Rattle.h5_btree.proofs.NodeLaws.{length-children, length-keys}
 use Rattle.h5_btree.proofs.ClimbSteps.{climb_start, climb_filled}
 use Rattle.h5_btree.proofs.ClimbStands.{inside_p, form_p, same_p}
-use Rattle.h5_btree.proofs.RewriteSteps.{rewritten_as, rewritten_then}
+use Rattle.h5_btree.proofs.RewriteSteps.{rewritten_as}
 
 module _ (s : Space) (kind : Kind) (root child : ℕ) (owned : List ℕ) (e : IsEmptyTree s kind root owned) where
   first_climbs : IsClimbing s s kind root 0 root [] 0 child (child ∷ []) owned owned

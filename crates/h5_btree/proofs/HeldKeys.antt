@@ -1,14 +1,12 @@
 -- Keys that are held along a way: how long they are, and where they stand.
-use Rattle.std.proofs.Common.{◌≡◌, ℕ, zero, suc, ◌+◌, ◌*◌, ◌<◌, ◌≤◌, List, [], ◌∷◌, ◌++◌, length, take, drop, get_or, Bool, true, false, refl, sym, ap, ◌∙◌, subst, arith}
+use Rattle.std.proofs.Common.{◌≡◌, ℕ, zero, suc, ◌<◌, ◌≤◌, List, [], ◌∷◌, length, Bool, true, false, arith}
 use Rattle.std.specs.Prelude.{if◌then◌else◌, slice_index_or}
 use Rattle.std.specs.List.{AllByRecursion, insert}
 use Rattle.std.proofs.lemmas.List.Edits.{length-insert}
 use Rattle.h5_bytes.proofs.PartLaws.{length-part}
-use Rattle.h5_model.specs.Format.Rows.{Node}
-use Rattle.h5_model.specs.Format.Nodes.{Kind, IsNode, entries_in, node_at, node_bytes, node_length}
+use Rattle.h5_model.specs.Format.Nodes.{Kind, entries_in, node_at, node_bytes, node_length}
 use Rattle.h5_space.specs.Space.{Space}
-use Rattle.h5_btree.specs.Held.{AreHeldKeys, IsNodeThere, IsStepThere, held_key, key_between}
-use Rattle.h5_btree.specs.Insertion.{left_count}
+use Rattle.h5_btree.specs.Held.{IsNodeThere, IsStepThere, held_key}
 use Rattle.h5_btree.specs.Removal.{EndsInTree}
 use Rattle.h5_btree.specs.declared.way.Step.{Step}
 use Rattle.h5_laws.proofs.KeyInserts.{all_both}

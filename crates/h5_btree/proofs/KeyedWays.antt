@@ -1,18 +1,18 @@
 -- Where keys alone are others, a way ends in the same tree.
-use Rattle.std.proofs.Common.{◌≡◌, ◌≢◌, ℕ, zero, suc, ◌+◌, ◌^◌, ◌<◌, ◌≤◌, List, [], ◌∷◌, ◌++◌, length, take, drop, slice_index, Bool, true, false, refl, sym, ap, ◌∙◌, subst, arith, ◌==◌}
+use Rattle.std.proofs.Common.{◌≡◌, ◌≢◌, ℕ, suc, ◌+◌, ◌<◌, ◌≤◌, List, [], ◌∷◌, ◌++◌, length, take, drop, slice_index, Bool, true, false, refl, sym, ap, ◌∙◌, subst, arith, ◌==◌}
 use Rattle.std.specs.Prelude.{if◌then◌else◌}
-use Rattle.std.specs.List.{AllByRecursion, list_any}
+use Rattle.std.specs.List.{list_any}
 use Rattle.h5_bytes.specs.Bytes.{undefined}
-use Rattle.h5_model.specs.Format.Rows.{Node, Reading, blank, next_row, IsRow, nodes, leaves}
-use Rattle.h5_model.specs.Format.Nodes.{Kind, IsNode, HasTree, entries_in, node_at, node_bytes, node_of, reading_of, tree_blocks}
+use Rattle.h5_model.specs.Format.Rows.{Node, Reading, blank, next_row}
+use Rattle.h5_model.specs.Format.Nodes.{Kind, IsNode, entries_in, node_at, node_bytes, node_of, reading_of}
 use Rattle.h5_model.proofs.RowLaws.{all_listed, at_listed}
 use Rattle.h5_space.specs.Space.{Space}
-use Rattle.h5_btree.specs.Climb.{IsBelow, IsWay, KeepsRows}
+use Rattle.h5_btree.specs.Climb.{IsWay, KeepsRows}
 use Rattle.h5_btree.specs.Rewritten.{IsRewritten}
 use Rattle.h5_btree.specs.Removal.{EndsInTree}
 use Rattle.h5_btree.specs.declared.way.Step.{Step}
 use Rattle.h5_btree.proofs.NodeLaws.{length-children}
-use Rattle.h5_btree.proofs.TreeReadings.{Listed, owned_at}
+use Rattle.h5_btree.proofs.TreeReadings.{Listed}
 use Rattle.h5_btree.proofs.WayRows.{next_row-keyed, IsRow-keyed, AreRows-keyed, leaves-keyed, nodes-keyed}
 use Rattle.h5_btree.proofs.ClimbSteps.{all_from, at_or}
 use Rattle.h5_btree.proofs.SplitSteps.{written_apart, written_others}

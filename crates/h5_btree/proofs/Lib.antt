@@ -32,8 +32,17 @@ pub mod SplitCalls
 pub mod InsertionEnds
 pub mod FirstChild
 pub mod KeyedWays
+pub mod WideningLaws
 pub mod InsertionAlong
 pub mod RemovalSteps
 pub mod RemovalEnds
 pub mod RaiseSteps
 pub mod RaiseCalls
+pub mod KeyedTrees
+pub mod KeyedOwn
+pub mod KeyedGone
+pub mod KeyedTakes
+pub mod KeyedGrown
+pub mod KeyedClimb
+pub mod KeyedHolds
+pub mod KeyedPuts

@@ -57,10 +57,16 @@ child_room long most i low =
     omega arith
 
 -- a node's length is small
-pub small_length : (long most : ℕ) → long ≤ 272 → most ≤ 131070 → most * (long + 8) ≤ 131070 * 280
+pub small_length : (long most : ℕ) → long ≤ 272 → most ≤ 65534 → most * (long + 8) ≤ 65534 * 280
 small_length long most low few =
-    let rows : most * (long + 8) ≤ 131070 * (long + 8) = mul-le-mul_right (long + 8) few in
+    let rows : most * (long + 8) ≤ 65534 * (long + 8) = mul-le-mul_right (long + 8) few in
     omega arith
+
+-- a node is no shorter than it has children at most
+pub capacity_low : (kind : Kind) → 2 * kind.k ≤ node_length kind
+capacity_low kind =
+    let rows : 1 * (2 * kind.k) ≤ (kind.key_length + 8) * (2 * kind.k) = mul-le-mul_right (2 * kind.k) (omega arith) in
+    omega (arith, rows)
 
 -- a key that there is room for
 key_room : (long most i : ℕ) → i ≤ most → 24 + i * (long + 8) + long ≤ 24 + long + most * (long + 8)

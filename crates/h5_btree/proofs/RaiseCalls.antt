@@ -210,4 +210,4 @@ module _ (s t t₁ t₂ t₃ t₄ u : Space) (kind : Kind) (root m j child p q :
   others_keep n listed not_root =
       let same = others t t₁ t₂ t₃ t₄ u kind own root j child p q xs ys (x ∷ y ∷ z ∷ []) keys_p keys_q c.apart is c.formed (others_filled s t kind root m j child list owned own c is)
       take_q take_p wp wq wr joined some more n listed not_root in
-      (ap (λ (b : List ℕ). (node_of kind b).keys) same, ap (λ (b : List ℕ). (node_of kind b).children) same)
+      (ap (λ (b : List ℕ). (node_of kind b).keys) same, ap (λ (b : List ℕ). (node_of kind b).children) same, ap (λ (b : List ℕ). (node_of kind b).level) same)

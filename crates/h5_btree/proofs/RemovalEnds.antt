@@ -7,6 +7,8 @@ use Rattle.h5_model.specs.Format.Rows.{Node, first_or_undefined}
 use Rattle.h5_model.specs.Format.Nodes.{Kind, node_at, node_length, reading_of, tree_blocks}
 use Rattle.h5_space.specs.Space.{Space}
 use Rattle.h5_space.proofs.MovesLaws.{moves_give}
+use Rattle.h5_model.proofs.RowLaws.{at_listed}
+use Rattle.h5_btree.specs.Insertion.{KeepsEntries}
 use Rattle.h5_btree.specs.Rewritten.{IsRewritten}
 use Rattle.h5_btree.specs.Removal.{IsShrinking, IsChildTaken, IsTakenAlong}
 use Rattle.h5_btree.specs.declared.way.Step.{Step}
@@ -15,18 +17,25 @@ use Rattle.h5_btree.proofs.DropLaws.{remove_alone}
 use Rattle.h5_btree.proofs.DropSteps.{without, shrink_kept, shrink_emptied}
 use Rattle.h5_btree.proofs.UnlinkSteps.{MayBeWritten, shrink_unlink}
 use Rattle.h5_btree.proofs.WaySteps.{roomy, moves_roomy}
-use Rattle.h5_btree.proofs.RemovalSteps.{top, out, same_p, place_p, first, second, spends₁, spends₂}
+use Rattle.h5_btree.proofs.RemovalSteps.{top, out, own_p, same_p, place_p, first, second, spends₁, spends₂}
 
 taken_here : (s u : Space) (kind : Kind) (root level : ℕ) (step : Step) (above : List Step) (list owned own : List ℕ)
     → IsChildTaken s u kind root level step.node step.place list owned own → IsTakenAlong s u kind root (step ∷ above) list owned
-taken_here s u kind root level step above list owned own done = (step, level, own, (0, omega arith, refl), done)
+taken_here s u kind root level step above list owned own done = ([], step, above, level, own, refl, tt, done)
 
 -- it stopped at a step above
-pub taken_above : (s u : Space) (kind : Kind) (root : ℕ) (step : Step) (above : List Step) (list owned : List ℕ)
+pub taken_above : (s u : Space) (kind : Kind) (root : ℕ) (step : Step) (above : List Step) (list owned : List ℕ) → length (node_at s.bytes kind step.node).children ≡ 1
     → IsTakenAlong s u kind root above list owned → IsTakenAlong s u kind root (step ∷ above) list owned
-taken_above s u kind root step above list owned t =
-    let low = (t.3).1 in
-    (t.0, t.1, t.2, (suc (t.3).0, omega (arith, low), (t.3).2), t.4)
+taken_above s u kind root step above list owned one t =
+    (step ∷ t.0, t.1, t.2, t.3, t.4, ap (λ (ws : List Step). step ∷ ws) t.5, (one, t.6), t.7)
+
+-- a node that has one child had one
+pub one_before : (s t : Space) (kind : Kind) (root m : ℕ) (step : Step) (above : List Step) (list owned own : List ℕ)
+    → IsShrinking s t kind root m step.node above step.place list owned own → length (node_at t.bytes kind step.node).children ≡ 1
+    → length (node_at s.bytes kind step.node).children ≡ 1
+one_before s t kind root m step above list owned own c one =
+    let same = at_listed (KeepsEntries s.bytes t.bytes kind) own step.node c.entries (own_p s t kind root m step.node above step.place list owned own c) in
+    ap (λ (xs : List ℕ). length xs) (sym same.1) ∙ one
 
 -- the node had another child
 pub taken_kept : (s t u : Space) (kind : Kind) (root m : ℕ) (step : Step) (above : List Step) (list owned own : List ℕ)
@@ -35,7 +44,7 @@ pub taken_kept : (s t u : Space) (kind : Kind) (root m : ℕ) (step : Step) (abo
     (record (node_at t.bytes kind step.node) { keys = remove (node_at t.bytes kind step.node).keys step.place; children = remove (node_at t.bytes kind step.node).children step.place })
     → IsTakenAlong s u kind root (step ∷ above) list owned
 taken_kept s t u kind root m step above list owned own c more r =
-    taken_here s u kind root _ step above list owned _ (shrink_kept s t u kind root m step.node above step.place list owned own c (λ _. omega (arith, more)) r)
+    taken_here s u kind root _ step above list owned _ (shrink_kept s t u kind root m step.node above step.place list owned own c (omega (arith, more)) r)
 
 -- the root had no other child
 emptied : (s t u : Space) (kind : Kind) (root m i : ℕ) (list owned own : List ℕ) → IsShrinking s t kind root m root [] i list owned own
@@ -113,9 +122,13 @@ taken_roomy s u bytes blocks kind root way list owned t = (
   t.1,
   t.2,
   t.3,
+  t.4,
+  t.5,
+  t.6,
   record {
-    tree = (t.4).tree;
-    moves = moves_roomy s u bytes blocks (tree_blocks kind owned) (tree_blocks kind t.2) (t.4).moves;
-    keys = (t.4).keys;
+    tree = (t.7).tree;
+    moves = moves_roomy s u bytes blocks (tree_blocks kind owned) (tree_blocks kind t.4) (t.7).moves;
+    entries = (t.7).entries;
+    stops = (t.7).stops;
   },
 )

@@ -61,11 +61,11 @@ module _ (s t t₁ t₂ t₃ u : Space) (kind : Kind) (root m p : ℕ) (step : S
     λ not_p. at_or next n
         (λ e. subst (KeepsEntries t.bytes u.bytes kind) (sym e) (
         let w = write_next (subst (Listed own) e listed) in
-        (ap (λ (k : Node). k.keys) w.says, ap (λ (k : Node). k.children) w.says)
+        (ap (λ (k : Node). k.keys) w.says, ap (λ (k : Node). k.children) w.says, ap (λ (k : Node). k.level) w.says)
         ))
         (λ not_next.
         let same = split_others t t₁ t₂ t₃ u kind own p q j child xs ys keys keys_q c.apart is c.formed filled far taken write_q write_p write_next no_next joined some more n listed not_p not_next in
-        (ap (λ (b : List ℕ). (node_of kind b).keys) same, ap (λ (b : List ℕ). (node_of kind b).children) same)),
+        (ap (λ (b : List ℕ). (node_of kind b).keys) same, ap (λ (b : List ℕ). (node_of kind b).children) same, ap (λ (b : List ℕ). (node_of kind b).level) same)),
   )
 
   pub left_says : node_at u.bytes kind p ≡ record (node_at t.bytes kind p) { right = q; keys = keys; children = xs }

@@ -13,6 +13,7 @@ use Rattle.h5_space.specs.Moves.{Moves}
 use Rattle.h5_space.specs.Whole.{IsApart}
 use Rattle.h5_space.proofs.MovesLaws.{moves_none, moves_then, part-same}
 use Rattle.h5_btree.specs.Climb.{IsNoNode, Unlinks}
+use Rattle.h5_btree.specs.Insertion.{KeepsEntries}
 use Rattle.h5_btree.specs.Rewritten.{IsRewritten}
 use Rattle.h5_btree.specs.declared.way.Step.{Step}
 use Rattle.h5_btree.proofs.NodeLaws.{length-children}
@@ -22,6 +23,7 @@ use Rattle.h5_btree.proofs.TreeReadings.{Listed, owned_at, owned_of_level, unlin
 use Rattle.h5_btree.proofs.ClimbSteps.{all_from, at_or, covers, covers_two, inside_of_apart, undefined_free}
 use Rattle.h5_btree.proofs.SplitSteps.{right_known, apart_then, written_moves, written_others}
 use Rattle.h5_btree.proofs.DropSteps.{IsShrinking, without, total-without, listed-without, shrink_up}
+use Rattle.h5_btree.proofs.InsertionAlong.{keeps_then, keeps_bytes}
 
 -- a node is written, where it is one of the tree's
 pub record MayBeWritten (t u : Space) (kind : Kind) (own : List ℕ) (n : ℕ) (node : Node) : Type 0 where
@@ -162,20 +164,24 @@ module _ (t t₁ t₂ u : Space) (kind : Kind) (own : List ℕ) (p : ℕ) (apart
       let old = at_listed (λ k. 1 ≤ entries_in (node_bytes t.bytes kind k)) own r filled at in
       omega (arith, count (node_bytes t₂.bytes kind r), count (node_bytes t.bytes kind r), same, old))
 
-  -- and has its keys
-  pub unlink_keys : (n : ℕ) → Listed left n → (node_at u.bytes kind n).keys ≡ (node_at t.bytes kind n).keys
-  unlink_keys n listed =
+  -- and has its keys and children
+  pub unlink_keeps : (n : ℕ) → Listed left n → KeepsEntries t.bytes u.bytes kind n
+  unlink_keeps n listed =
       let at = without_listed p n own listed in
       let not_p = without_other t₂ u kind own p apart₂ is give_p n listed in
       at_or l n
-      (λ e. subst (λ (k : ℕ). (node_at u.bytes kind k).keys ≡ (node_at t.bytes kind k).keys) (sym e)
+      (λ e. subst (KeepsEntries t.bytes u.bytes kind) (sym e)
       (let here = subst (Listed own) e at in
-      ap (λ (b : List ℕ). (node_of kind b).keys) (left_bytes here) ∙ ap (λ (k : Node). k.keys) (write_left.written here).says))
+      let w = write_left.written here in
+      keeps_then t.bytes t₁.bytes u.bytes kind l (ap (λ (k : Node). k.keys) w.says, ap (λ (k : Node). k.children) w.says, ap (λ (k : Node). k.level) w.says)
+      (keeps_bytes t₁.bytes u.bytes kind l (left_bytes here))))
       (λ not_l. at_or r n
-      (λ e. subst (λ (k : ℕ). (node_at u.bytes kind k).keys ≡ (node_at t.bytes kind k).keys) (sym e)
+      (λ e. subst (KeepsEntries t.bytes u.bytes kind) (sym e)
       (let here = subst (Listed own) e at in
-      ap (λ (b : List ℕ). (node_of kind b).keys) (right_bytes here) ∙ ap (λ (k : Node). k.keys) (write_right.written here).says))
-      (λ not_r. ap (λ (b : List ℕ). (node_of kind b).keys) (others n at not_p not_l not_r)))
+      let w = write_right.written here in
+      keeps_then t.bytes t₂.bytes u.bytes kind r (ap (λ (k : Node). k.keys) w.says, ap (λ (k : Node). k.children) w.says, ap (λ (k : Node). k.level) w.says)
+      (keeps_bytes t₂.bytes u.bytes kind r (right_bytes here))))
+      (λ not_r. keeps_bytes t.bytes u.bytes kind n (others n at not_p not_l not_r)))
 
 -- the neighbour to the left is another node or none; and it is not the neighbour to the right
 pub left_known : (t : Space) (kind : Kind) (own : List ℕ) (m p : ℕ) (front back : List ℕ) → m < 16 → IsNoNode (reading_of t.bytes kind own) undefined
@@ -229,8 +235,8 @@ shrink_unlink s t t₁ t₂ u kind root m p step way i list owned own c one writ
     (unlink_formed t t₁ t₂ u kind own p c.apart is_p c.formed filled left_far right_far two write_left write_right give_p)
     (unlink_filled t t₁ t₂ u kind own p c.apart is_p c.formed filled left_far right_far two write_left write_right give_p)
     short
-    (all_from (without p own) (λ n. (node_at u.bytes kind n).keys ≡ (node_at s.bytes kind n).keys)
+    (all_from (without p own) (KeepsEntries s.bytes u.bytes kind)
     (λ n listed.
-    unlink_keys t t₁ t₂ u kind own p c.apart is_p c.formed filled left_far right_far two write_left write_right give_p n listed
-    ∙ at_listed (λ k. (node_at t.bytes kind k).keys ≡ (node_at s.bytes kind k).keys) own n c.keys (without_listed p n own listed))
+    keeps_then s.bytes t.bytes u.bytes kind n (at_listed (KeepsEntries s.bytes t.bytes kind) own n c.entries (without_listed p n own listed))
+    (unlink_keeps t t₁ t₂ u kind own p c.apart is_p c.formed filled left_far right_far two write_left write_right give_p n listed))
     (without p own) (all_listed (without p own)))

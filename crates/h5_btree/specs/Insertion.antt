@@ -25,10 +25,11 @@ pub record IsClimbing (s t : Space) (kind : Kind) (root m p : ℕ) (way : List S
 abbrev pub Owns : List ℕ → ℕ → Type 0
 Owns own n = list_any (λ m. m == n) own ≡ true
 
--- a node has its keys and its children still
+-- a node has its keys, its children and its level still
 abbrev pub KeepsEntries : List ℕ → List ℕ → Kind → ℕ → Type 0
 KeepsEntries old new kind n =
     ((node_at new kind n).keys ≡ (node_at old kind n).keys) × ((node_at new kind n).children ≡ (node_at old kind n).children)
+    × ((node_at new kind n).level ≡ (node_at old kind n).level)
 
 -- how many children the left half of a full node has, where one more comes in at place j: the half that it comes into has K of them, or the
 -- left one has one more than the right
@@ -85,22 +86,26 @@ pub record HasRisen (old new : List ℕ) (kind : Kind) (root j : ℕ) (key : Lis
   pub keys : (node_at new kind root).keys ≡ slice_index_or (node_at new kind l).keys 0 [] ∷ slice_index_or (node_at new kind r).keys 0 []
       ∷ slice_index_or (node_at new kind r).keys (length (node_at new kind r).children) [] ∷ []
   pub children : (node_at new kind root).children ≡ l ∷ r ∷ []
+  pub level : (node_at new kind root).level ≡ suc (node_at old kind root).level
 
 -- there is room in the node p, and a child and the key before it have come in at place j
 pub record HasComeIn (old new : List ℕ) (kind : Kind) (p j : ℕ) (key : List ℕ) (child : ℕ) : Type 0 where
   pub roomy : length (node_at old kind p).children < 2 * kind.k
   pub keys : (node_at new kind p).keys ≡ insert (node_at old kind p).keys j key
   pub children : (node_at new kind p).children ≡ insert (node_at old kind p).children j child
+  pub level : (node_at new kind p).level ≡ (node_at old kind p).level
 
 -- What an insertion at the node p, below this way, makes of the nodes on it, where `keys` has the key for each level: the child and its key
--- come in, or the node is full, and is cut in two, so that the new half comes in above, behind the old one; or the root is raised.
+-- come in, and the nodes above have theirs still; or the node is full, and is cut in two, so that the new half comes in above, behind the
+-- old one; or the root is raised.
 abbrev pub IsPutAlong : List ℕ → List ℕ → Kind → ℕ → List Step → ℕ → List ℕ → ℕ → Type 0
 IsPutAlong old new kind p [] j keys child =
     HasComeIn old new kind p j (take kind.key_length keys) child
     ⊎ ((length (node_at old kind p).children ≡ 2 * kind.k)
     × ((l : ℕ) × (r : ℕ) × HasRisen old new kind p j (take kind.key_length keys) child l r))
 IsPutAlong old new kind p (next ∷ above) j keys child =
-    HasComeIn old new kind p j (take kind.key_length keys) child
+    (HasComeIn old new kind p j (take kind.key_length keys) child
+    × AllByRecursion (λ (step : Step). KeepsEntries old new kind step.node) (next ∷ above))
     ⊎ ((length (node_at old kind p).children ≡ 2 * kind.k)
     × ((q : ℕ) × HasHalves old new kind p j (take kind.key_length keys) child q
     × IsPutAlong old new kind next.node above (next.place + 1) (drop kind.key_length keys) q))

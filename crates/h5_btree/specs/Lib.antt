@@ -10,3 +10,5 @@ pub mod Totals
 pub mod Removal
 pub mod Insertion
 pub mod Held
+pub mod Widened
+pub mod Keyed

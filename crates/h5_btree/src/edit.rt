@@ -84,7 +84,6 @@ pub fn insert_child(image: &mut Image, kind: NodeKind, at: u64, j: usize, key: &
     requires form { IsNode kind (node_bytes image.old.bytes kind at) }
     requires place { j ≤ entries_in (node_bytes image.old.bytes kind at) }
     requires room { entries_in (node_bytes image.old.bytes kind at) < 2 * kind.k }
-    requires few { entries_in (node_bytes image.old.bytes kind at) + 1 < 2 ^ 16 }
     requires width { length key.now ≡ kind.key_length }
     ensures { IsRewritten image.old image.new kind at (record (node_at image.old.bytes kind at) {
       keys = insert (node_at image.old.bytes kind at).keys j key.now;
@@ -114,7 +113,6 @@ pub fn keep_children(image: &mut Image, kind: NodeKind, at: u64, n: usize)
     requires inside { at + node_length kind ≤ length image.old.bytes }
     requires form { IsNode kind (node_bytes image.old.bytes kind at) }
     requires place { n ≤ entries_in (node_bytes image.old.bytes kind at) }
-    requires few { n < 2 ^ 16 }
     ensures { IsRewritten image.old image.new kind at (record (node_at image.old.bytes kind at) {
       keys = take (n + 1) (node_at image.old.bytes kind at).keys;
       children = take n (node_at image.old.bytes kind at).children;

@@ -23,7 +23,6 @@ pub(crate) fn keep_left(
     requires form { IsNode kind (node_bytes image.old.bytes kind at) }
     requires some { 1 ≤ n }
     requires most { n ≤ entries_in (node_bytes image.old.bytes kind at) }
-    requires few { n < 2 ^ 16 }
     requires place { j ≤ entries_in (node_bytes image.old.bytes kind at) }
     requires width { length key.now ≡ kind.key_length }
     ensures { IsRewritten image.old image.new kind at (record (node_at image.old.bytes kind at) {
@@ -56,7 +55,6 @@ pub(crate) fn keep_right(
     requires form { IsNode kind (node_bytes image.old.bytes kind at) }
     requires some { 1 ≤ n }
     requires most { n ≤ entries_in (node_bytes image.old.bytes kind at) }
-    requires few { entries_in (node_bytes image.old.bytes kind at) < 2 ^ 16 }
     requires place { j ≤ entries_in (node_bytes image.old.bytes kind at) }
     requires width { length key.now ≡ kind.key_length }
     ensures { IsRewritten image.old image.new kind at (record (node_at image.old.bytes kind at) {

@@ -42,7 +42,6 @@ pub fn hold_keys<F: Follows>(
     keys: &mut [u8],
 )
     requires ends { EndsSomewhere image.now kind way.now }
-    requires few { 2 * kind.k < 2 ^ 16 }
     requires keys { length way.now * kind.key_length ≤ length keys.old }
     ensures first { take kind.key_length keys.new ≡ take kind.key_length keys.old }
     ensures held { (step : Step) (above : List Step) → way.now ≡ step ∷ above

@@ -27,7 +27,6 @@ use h5_space::{Image, SpaceFault};
 pub fn put_at(image: &mut Image, kind: NodeKind, way: &Way, behind: bool, keys: &[u8], child: u64)
     requires ends { EndsSomewhere image.old kind way.now }
     requires low { IsFullWay image.old.bytes kind way.now → length way.now < 16 }
-    requires few { 2 * kind.k < 2 ^ 16 }
     requires keys { length way.now * kind.key_length ≤ length keys.now }
     requires bytes { (length way.now + 1) * node_length kind ≤ image.old.room_bytes }
     requires blocks { length way.now + 1 ≤ image.old.room_blocks }
@@ -78,7 +77,6 @@ pub fn insert_at(
     child: u64,
 ) -> Result<(), InsertFault>
     requires ends { EndsSomewhere image.old kind way.now }
-    requires few { 2 * kind.k < 2 ^ 16 }
     requires keys { length way.now * kind.key_length ≤ length keys.now }
     ensures put { OnOk result ((root level k : ℕ) (owned list : List ℕ)
         → EndsInTree image.old kind root level way.now owned list k
@@ -145,7 +143,6 @@ fn climb(
 )
     requires climbs { HasClimbed image.old kind node above.now j child }
     requires some { 1 ≤ kind.k }
-    requires few { 2 * kind.k < 2 ^ 16 }
     requires keys { (length above.now + 1) * kind.key_length ≤ length keys.now }
     requires bytes { (length above.now + 2) * node_length kind ≤ image.old.room_bytes }
     requires blocks { length above.now + 2 ≤ image.old.room_blocks }

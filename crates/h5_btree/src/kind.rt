@@ -5,7 +5,7 @@ ghost use Rattle.h5_model.specs.Format.Nodes.{chunk_kind, group_kind, node_lengt
 
 use std::marker::Model;
 
-/// The kind of a B-tree: the type of its nodes, the length of a key in bytes, and K.
+/// The kind of a B-tree: the type of its nodes, the length of a key in bytes, and K, which is at most 32767.
 #[derive(Clone, Copy, Debug, PartialEq, Eq)]
 pub struct NodeKind {
     type_byte: u8,
@@ -21,14 +21,16 @@ impl Model for NodeKind {
 
     ghost view = { λ a. record { type_byte = a.type_byte; key_length = a.key_length; k = a.k } };
 
-    ghost invariant = { λ a. (8 ≤ a.key_length) × (a.key_length ≤ 272) };
+    ghost invariant = { λ a. (8 ≤ a.key_length) × (a.key_length ≤ 272) × (a.k ≤ 32767) };
 
     ghost inverse = { λ d. record { type_byte = d.type_byte; key_length = d.key_length; k = d.k } };
 }
 
 impl NodeKind {
-    /// The tree of a group. A key is the offset of a name in the group's heap.
+    /// The tree of a group. A key is the offset of a name in the group's heap. That K is at most 32767 is the caller's
+    /// condition.
     pub fn group(k: u16) -> Self
+        requires { k ≤ 32767 }
         ensures { result ≡ group_kind k }
     {
         NodeKind {
@@ -39,9 +41,10 @@ impl NodeKind {
     }
 
     /// The tree of a dataset's chunks. A key has a size, a filter mask, and an offset for each dimension and for the
-    /// element.
+    /// element. That K is at most 32767, and that there are at most 32 dimensions, is the caller's condition.
     pub fn chunks(k: u16, rank: usize) -> Self
-        requires { rank ≤ 32 }
+        requires k { k ≤ 32767 }
+        requires rank { rank ≤ 32 }
         ensures { result ≡ chunk_kind k rank }
     {
         NodeKind {
@@ -70,14 +73,15 @@ impl NodeKind {
     /// How many children a node has room for.
     pub fn capacity(&self) -> usize
         ensures capacity { result ≡ 2 * self.now.k }
-        ensures most { result ≤ 131070 }
+        ensures most { result ≤ 65534 }
     {
         2 * usize::from(self.k)
     }
 
     /// How many bytes a node has.
     pub fn node_length(&self) -> usize
-        ensures { result ≡ length_of self.now }
+        ensures length { result ≡ length_of self.now }
+        ensures few { self.now.k ≤ 32767 }
     {
         24 + self.key_length() + self.capacity() * (self.key_length() + 8)
     }

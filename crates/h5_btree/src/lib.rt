@@ -24,6 +24,7 @@ mod sought;
 mod split;
 mod walk;
 mod way;
+mod widening;
 mod write;
 mod written;
 
@@ -44,4 +45,5 @@ pub use removal::{remove_at, take_from};
 pub use sought::{Sought, child_for};
 pub use walk::{Leaves, Tree, Trees, bottom_nodes, read_tree, tree_leaves, tree_node};
 pub use way::{Step, Way, find_way, is_full_way};
+pub use widening::{End, Ends, ends_to_widen, widen};
 pub use write::{Child, TreeKey, nodes_over, push_tree, root_level, rows_of};

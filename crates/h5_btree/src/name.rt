@@ -1,6 +1,7 @@
 //! A name that is sought in the tree of a group, whose keys are offsets of names in a heap (File Format Specification
 //! 3.0, section III.A.1).
 
+ghost use Rattle.std.specs.Prelude.{◌≤◌};
 ghost use Rattle.std.specs.Ordering.{is_lt, nat_cmp};
 ghost use Rattle.std.specs.Cmp.Lexicographic.{slice_cmp};
 ghost use Rattle.h5_bytes.specs.Texts.{text_at};
@@ -11,7 +12,7 @@ use crate::kind::NodeKind;
 use crate::sought::Sought;
 use h5_bytes::{text_from, u64_at};
 
-/// A name that is sought in a group's tree with this K. `segment` is the segment of the heap that has the names of
+/// A name that is sought in a group's tree with this K, which is at most 32767. `segment` is the segment of the heap that has the names of
 /// the keys.
 ///
 /// The name stands behind a key whose name is before it, in the order of their bytes.
@@ -20,6 +21,7 @@ pub struct SoughtName<'a> {
     pub k: u16,
     pub segment: &'a [u8],
     pub name: &'a [u8],
+    ghost few: { k ≤ 32767 },
 }
 
 impl Sought for SoughtName<'_> {

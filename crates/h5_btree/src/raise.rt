@@ -56,7 +56,6 @@ pub(crate) fn raise(image: &mut Image, kind: NodeKind, root: u64, j: usize, key:
     requires climbs { MayRaise image.old kind root j child }
     requires full { entries_in (node_bytes image.old.bytes kind root) ≡ 2 * kind.k }
     requires some { 1 ≤ kind.k }
-    requires few { 2 * kind.k < 2 ^ 16 }
     requires width { length key.now ≡ kind.key_length }
     requires bytes { 2 * node_length kind ≤ image.old.room_bytes }
     requires blocks { 2 ≤ image.old.room_blocks }

@@ -34,7 +34,6 @@ pub(crate) fn split(
 ) -> u64
     requires climbs { MaySplit image.old kind at j child }
     requires full { entries_in (node_bytes image.old.bytes kind at) ≡ 2 * kind.k }
-    requires few { 2 * kind.k < 2 ^ 16 }
     requires width { length key.now ≡ kind.key_length }
     requires bytes { node_length kind ≤ image.old.room_bytes }
     requires blocks { 1 ≤ image.old.room_blocks }

@@ -116,9 +116,11 @@ module _ (image : List ℕ) (table : SymbolTable) (owned symbol_nodes : List ℕ
     told = subst (HasLinks image (leaf_k image) (internal_k image) table.tree table.heap (links_told image table)) blocks_are
         (subst (λ (ls : List (List ℕ × Target)). HasLinks image (leaf_k image) (internal_k image) table.tree table.heap ls blocks) (links_are_told image table links blocks linked) linked)
 
-    pub group_read : Inside (length image) (group_nodes_blocks image owned symbol_nodes) → Inside (length image) (heap_blocks image table.heap) → IsGroupRead image table
-    group_read trees inside = record {
+    pub group_read : Inside (length image) (group_nodes_blocks image owned symbol_nodes) → Inside (length image) (heap_blocks image table.heap) → internal_k image ≤ 32767
+        → IsGroupRead image table
+    group_read trees inside few = record {
       linked = told;
       inside = subst (Inside (length image)) blocks_are
           (all_append (λ (b : Block). b.at + b.len ≤ length image) (group_nodes_blocks image owned symbol_nodes) (heap_blocks image table.heap) trees inside);
+      few = few;
     }

@@ -16,6 +16,8 @@ use Rattle.h5_model.specs.declared.link.LinkTo.TheVariants as target
 pub record IsGroupRead (image : List ℕ) (table : SymbolTable) : Type 0 where
   pub linked : HasLinks image (leaf_k image) (internal_k image) table.tree table.heap (links_told image table) (blocks_told image table)
   pub inside : Inside (length image) (blocks_told image table)
+  -- K is one that a tree of groups may have
+  pub few : internal_k image ≤ 32767
 
 -- A group stands at this tree and heap, in blocks that lie in the image and share no byte with each other or with what was claimed.
 pub record IsGroupReadable (image : List ℕ) (table : SymbolTable) (held : List Block) : Type 0 where

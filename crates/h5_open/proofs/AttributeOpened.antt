@@ -167,6 +167,7 @@ module _ (old mid new : Space) (slots slots' : List (Option OpenedObject)) (numb
     record {
       linked = told-same old.bytes new.bytes leaf internal table held.2.linked keeps;
       inside = subst (Inside (length new.bytes)) (sym (blocks_told-same old.bytes new.bytes leaf internal table held.2.linked keeps)) (inside_still (blocks_told old.bytes table) held.2.inside);
+      few = rw internal held.2.few;
     },
   )
   content_now content.Array held keeps = (

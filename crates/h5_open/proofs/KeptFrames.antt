@@ -56,6 +56,7 @@ module _ (old new : List ℕ) (leaf : leaf_k new ≡ leaf_k old) (internal : int
           record {
             linked = told-same old new leaf internal table held.2.linked keeps;
             inside = subst (Inside (length new)) (sym same) (inside_still (blocks_told old table) held.2.inside);
+            few = rw internal held.2.few;
           },
         )
     content_of content.Array held keeps = (held.0, data_read-same old new grown (type_told ms) (layout_told ms) held.1 keeps)

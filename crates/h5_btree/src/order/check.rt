@@ -23,6 +23,7 @@ use h5_space::{Image, fault};
 ///
 /// `KeyOrder`, at the first node, depth first, of which a key may not follow the one before it, or below a child of
 /// which something is not between the keys around that child.
+#[tactic(auto, using(crate::proofs::WalkLaws::FormLaws::kind_few))]
 pub fn check_keys<O: Ordered>(image: &Image, over: &O, level: u8, at: u64) -> Result<(), OpenFault>
     requires superblock { IsSuperblock image.now.bytes }
     requires subtree { HasSubtree image.now.bytes (O.form over.now) (suc level) at }
@@ -74,6 +75,7 @@ fn is_ordered<O: Ordered>(image: &Image, over: &O, node: &Node) -> bool
 }
 
 /// Whether what stands below the node of this level at this address is between two keys.
+#[tactic(auto, using(crate::proofs::WalkLaws::FormLaws::kind_few))]
 fn are_between<O: Ordered>(
     image: &Image,
     over: &O,

@@ -93,7 +93,7 @@ pub(crate) fn claim_inner<'a, T: Trees>(
 }
 
 /// Claims a node, of any level.
-#[tactic(auto, using(crate::proofs::WalkLaws::NodeFaults::unclaimed_for))]
+#[tactic(auto, using(crate::proofs::WalkLaws::NodeFaults::unclaimed_for, crate::proofs::WalkLaws::FormLaws::kind_few))]
 fn claim_node<'a, T: Trees>(
     image: &'a Image,
     claims: &mut Claims,

@@ -23,6 +23,7 @@ use std::alloc::{AllocError, Global};
 /// Lists the rows of a tree that was claimed, from its root, of this level, down to the leaves.
 ///
 /// `Sibling` at the first node that does not name its neighbours; `NoMemory`, at the root.
+#[tactic(auto, using(crate::proofs::WalkLaws::FormLaws::kind_few))]
 pub(crate) fn read_rows<T: Trees>(
     alloc: Global,
     image: &Image,
@@ -64,6 +65,7 @@ pub(crate) fn read_rows<T: Trees>(
 }
 
 /// `Sibling` at the first node of a row that does not name its neighbours.
+#[tactic(auto, using(crate::proofs::WalkLaws::FormLaws::kind_few))]
 fn check_siblings<T: Trees>(image: &Image, over: &T, row: &[u64]) -> Result<(), OpenFault>
     requires superblock { IsSuperblock image.now.bytes }
     requires stand { (level : ℕ)
@@ -112,6 +114,7 @@ pub fn bottom_nodes<T: Trees>(
     root: u64,
 ) -> Result<Vec<u64>, AllocError>
     requires long { 20 ≤ length image.now.bytes }
+    requires few { (kind_of image.now.bytes (T.form over.now)).k ≤ 32767 }
     requires there { IsTreeAt image.now.bytes (T.form over.now) root }
     ensures bottom { IfOk result (λ row. row.items ≡ bottom_at image.now.bytes (T.form over.now) root) }
     ensures stand { IfOk result (λ row.
@@ -139,6 +142,7 @@ pub fn tree_leaves<T: Trees>(
     root: u64,
 ) -> Result<Vec<u64>, AllocError>
     requires long { 20 ≤ length image.now.bytes }
+    requires few { (kind_of image.now.bytes (T.form over.now)).k ≤ 32767 }
     requires there { IsTreeAt image.now.bytes (T.form over.now) root }
     ensures { IfOk result (λ found. found.items ≡ leaves_at image.now.bytes (T.form over.now) root) }
 {
@@ -154,6 +158,7 @@ fn children_of<T: Trees>(
     row: &[u64],
 ) -> Result<Vec<u64>, AllocError>
     requires long { 20 ≤ length image.now.bytes }
+    requires few { (kind_of image.now.bytes (T.form over.now)).k ≤ 32767 }
     requires stand { (level : ℕ)
         × AllByRecursion (IsStanding image.now.bytes (T.form over.now) level) row.now }
     ensures { IfOk result (λ next.

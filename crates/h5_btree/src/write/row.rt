@@ -54,7 +54,6 @@ pub(crate) fn push_row<K: TreeKey>(
     children: &[Child<K>],
 ) -> Result<(), AllocError>
     requires low { 1 ≤ kind.now.k }
-    requires high { kind.now.k ≤ 32767 }
     requires some { 1 ≤ length children.now }
     requires first { FitsKind kind.now K.bytes first }
     requires keys { AllFit kind.now K.bytes children.now }

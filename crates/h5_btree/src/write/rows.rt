@@ -23,7 +23,6 @@ fn push_rows<K: TreeKey>(
     children: &[Child<K>],
 ) -> Result<(), AllocError>
     requires low { 1 ≤ kind.now.k }
-    requires high { kind.now.k ≤ 32767 }
     requires few { length children.now < 2 ^ 32 }
     requires level { level + levels_from kind.now.k level (length children.now) ≤ 15 }
     requires first { FitsKind kind.now K.bytes first }
@@ -61,7 +60,6 @@ pub fn push_tree<K: TreeKey>(
     children: &[Child<K>],
 ) -> Result<(), AllocError>
     requires low { 1 ≤ kind.now.k }
-    requires high { kind.now.k ≤ 32767 }
     requires few { length children.now < 2 ^ 32 }
     requires level { root_level kind.now.k (length children.now) ≤ 15 }
     requires first { FitsKind kind.now K.bytes first }

@@ -24,13 +24,6 @@ insert_child-requires-clause-room c =
     let long = length-take (c.args.n - 1) (node_at c.args.image.now.bytes c.args.kind c.args.at).children in
     omega (arith, count, left, long, c.requires.form.roomy)
 
-pub insert_child-requires-clause-few : goal.insert_child-requires-clause-few
-insert_child-requires-clause-few c =
-    let count = length-children c.args.kind (node_bytes c.args.image.now.bytes c.args.kind c.args.at) (node_at c.args.image.now.bytes c.args.kind c.args.at) refl in
-    let left = rewritten_count c.args.image.now c.keep_children.new.image c.args.kind c.args.at _ c.keep_children.ensures in
-    let long = length-take (c.args.n - 1) (node_at c.args.image.now.bytes c.args.kind c.args.at).children in
-    omega (arith, count, left, long, c.requires.form.roomy)
-
 pub set_key-requires-clause-place : goal.set_key-requires-clause-place
 set_key-requires-clause-place c =
     let count = length-children c.args.kind (node_bytes c.args.image.now.bytes c.args.kind c.args.at) (node_at c.args.image.now.bytes c.args.kind c.args.at) refl in

@@ -23,13 +23,6 @@ insert_child-requires-clause-room c =
     let long = length-drop c.args.n (node_at c.args.image.now.bytes c.args.kind c.args.at).children in
     omega (arith, count, left, long, c.requires.form.roomy)
 
-pub insert_child-requires-clause-few : goal.insert_child-requires-clause-few
-insert_child-requires-clause-few c =
-    let count = length-children c.args.kind (node_bytes c.args.image.now.bytes c.args.kind c.args.at) (node_at c.args.image.now.bytes c.args.kind c.args.at) refl in
-    let left = rewritten_count c.args.image.now c.drop_children-2.new.image c.args.kind c.args.at _ c.drop_children-2.ensures in
-    let long = length-drop c.args.n (node_at c.args.image.now.bytes c.args.kind c.args.at).children in
-    omega (arith, count, left, long, c.requires.form.roomy)
-
 pub returns-then-j-n : goal.returns-then-j-n
 returns-then-j-n c =
     let old : Node = node_at c.args.image.now.bytes c.args.kind c.args.at in

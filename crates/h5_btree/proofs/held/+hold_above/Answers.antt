@@ -1,10 +1,10 @@
-use Rattle.std.proofs.Common.{◌≡◌, ℕ, suc, ◌+◌, ◌-◌, ◌*◌, ◌<◌, ◌≤◌, List, [], ◌∷◌, ◌++◌, length, take, drop, Some, refl, sym, ap, ◌∙◌, subst, arith}
+use Rattle.std.proofs.Common.{◌≡◌, ℕ, suc, ◌+◌, ◌*◌, ◌≤◌, List, [], ◌++◌, length, take, drop, Some, refl, sym, ap, ◌∙◌, subst, arith}
 use Rattle.std.specs.Prelude.{slice_get, slice_index_or}
 use Rattle.std.specs.List.{AllByRecursion, insert}
 use Rattle.std.proofs.lemmas.List.{length-take, take_at, drop_at}
 use Rattle.std.proofs.lemmas.Option.{get_or_from_slice_get}
 use Rattle.h5_model.specs.Format.Rows.{Node}
-use Rattle.h5_model.specs.Format.Nodes.{entries_in, node_at, node_bytes}
+use Rattle.h5_model.specs.Format.Nodes.{node_at, node_bytes}
 use Rattle.h5_btree.specs.Held.{AreHeldKeys, IsStepThere, held_key, key_between}
 use Rattle.h5_btree.specs.Insertion.{left_count}
 use Rattle.h5_btree.specs.declared.way.Step.{Step}

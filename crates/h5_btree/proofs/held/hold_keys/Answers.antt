@@ -1,8 +1,7 @@
-use Rattle.std.proofs.Common.{◌≡◌, ℕ, ◌+◌, ◌*◌, ◌<◌, ◌≤◌, List, ◌∷◌, sym, ◌∙◌, subst, arith}
+use Rattle.std.proofs.Common.{sym, ◌∙◌, subst, arith}
 use Rattle.std.specs.List.{AllByRecursion}
-use Rattle.h5_model.specs.Format.Nodes.{entries_in, node_bytes}
 use Rattle.h5_btree.specs.Held.{IsStepThere}
-use Rattle.h5_btree.specs.declared.way.Step.{Step}
+use Rattle.h5_btree.proofs.NodeLaws.{capacity_low}
 use Rattle.h5_btree.proofs.HeldKeys.{way_steps}
 use Rattle.h5_btree.proofs.held.hold_keys.Goals as goal
 use Rattle.h5_btree.proofs.held.hold_keys.Goals.{then-behind, else-behind}
@@ -14,7 +13,9 @@ overflow_add-place g c =
     (way_steps c.args.image.now c.args.kind e.0 e.1 c.args.way.now e.2 e.3 e.4 e.5) in
     let place = all.0.1 in
     let roomy = all.0.0.1.roomy in
-    omega (arith, place, roomy, c.requires.few)
+    let inside = all.0.0.0 in
+    let short = (e.5).short in
+    omega (arith, place, roomy, inside, short, capacity_low c.args.kind)
 
 pub hold_above-requires-clause-node : goal.hold_above-requires-clause-node
 hold_above-requires-clause-node g c =

@@ -9,7 +9,7 @@ use Rattle.h5_btree.proofs.NodeLaws.{length-children}
 use Rattle.h5_btree.proofs.ClimbStands.{own_p, inside_p, form_p, entry_p}
 use Rattle.h5_btree.proofs.WaySteps.{all_map}
 use Rattle.h5_btree.proofs.InsertionEnds.{put_filled, at_root, put_back, may_raise, root_low, one_level, next_low, keys_left, bytes_left, short_left}
-use Rattle.h5_btree.proofs.InsertionAlong.{keeps_then, full_before, owns_more, owns_new, above_apart, filled_others, comes_in, written_in, risen, halves_stay, along_before, stays}
+use Rattle.h5_btree.proofs.InsertionAlong.{keeps_then, full_before, owns_more, owns_new, above_apart, above_keep, filled_others, comes_in, written_in, risen, halves_stay, along_before, stays}
 use Rattle.h5_btree.proofs.insertion.+climb.Goals as goal
 
 pub node_there-requires-clause-inside : goal.node_there-requires-clause-inside
@@ -44,14 +44,6 @@ insert_child-requires-clause-room t c =
     let read = c.len.ensures.children ∙ ap (λ (n : Node). length n.children) is in
     let count = length-children c.args.kind (node_bytes c.args.image.now.bytes c.args.kind c.args.node) (node_at c.args.image.now.bytes c.args.kind c.args.node) refl in
     omega (arith, read, count, c.capacity.ensures.capacity, c.if-len-capacity.true)
-
-pub insert_child-requires-clause-few : goal.insert_child-requires-clause-few
-insert_child-requires-clause-few t c =
-    let is : c.node_there.result ≡ node_at c.args.image.now.bytes c.args.kind c.args.node
-    = c.node_there.ensures ∙ ap (λ (b : List ℕ). node_at b c.args.kind c.args.node) c.bytes.ensures in
-    let read = c.len.ensures.children ∙ ap (λ (n : Node). length n.children) is in
-    let count = length-children c.args.kind (node_bytes c.args.image.now.bytes c.args.kind c.args.node) (node_at c.args.image.now.bytes c.args.kind c.args.node) refl in
-    omega (arith, read, count, c.capacity.ensures.capacity, c.if-len-capacity.true, c.requires.few)
 
 pub returns-then-len-capacity-clause-put : goal.returns-then-len-capacity-clause-put
 returns-then-len-capacity-clause-put t c = λ start root m list owned own s.
@@ -120,7 +112,7 @@ overflow_add-next t c =
     let h = c.requires.climbs in
     let low = next_low h.start c.args.image.now c.args.kind h.root h.level c.args.node c.in-Some.next.now c.in-Some.higher.now c.args.j c.args.child h.list h.owned h.own
     (subst (λ (ws : List Step). IsClimbing h.start c.args.image.now c.args.kind h.root h.level c.args.node ws c.args.j c.args.child h.list h.owned h.own) c.in-Some.ensures.cases.0 h.climbs) in
-    omega (arith, low, c.requires.few)
+    omega (arith, low, c.capacity.ensures.capacity, c.capacity.ensures.most)
 
 pub climb-requires : goal.climb-requires
 climb-requires t c =
@@ -161,16 +153,13 @@ climb-requires t c =
         (
           c.requires.some,
           (
-            c.requires.few,
+            keys_left (length c.in-Some.higher.now) c.args.kind.key_length (length c.args.keys.now) (length c.split_at.result.0.now) (length c.split_at.result.1.now) long
+                (omega (arith, c.split_at.ensures.front_len, c.key_length.ensures.length)) (omega (arith, c.split_at.ensures.front_len, c.split_at.ensures.back_len, c.key_length.ensures.length, c.requires.keys)),
             (
-              keys_left (length c.in-Some.higher.now) c.args.kind.key_length (length c.args.keys.now) (length c.split_at.result.0.now) (length c.split_at.result.1.now) long
-                  (omega (arith, c.split_at.ensures.front_len, c.key_length.ensures.length)) (omega (arith, c.split_at.ensures.front_len, c.split_at.ensures.back_len, c.key_length.ensures.length, c.requires.keys)),
+              bytes_left (length c.in-Some.higher.now) (node_length c.args.kind) c.args.image.now.room_bytes c.split-new.new.image.room_bytes bytes c.split-new.ensures.spends.bytes_left,
               (
-                bytes_left (length c.in-Some.higher.now) (node_length c.args.kind) c.args.image.now.room_bytes c.split-new.new.image.room_bytes bytes c.split-new.ensures.spends.bytes_left,
-                (
-                  search rules,
-                  short_left (length c.in-Some.higher.now) (node_length c.args.kind) (length c.args.image.now.bytes) (length c.split-new.new.image.bytes) (2 ^ 64) short c.split-new.ensures.spends.grown,
-                ),
+                search rules,
+                short_left (length c.in-Some.higher.now) (node_length c.args.kind) (length c.args.image.now.bytes) (length c.split-new.new.image.bytes) (2 ^ 64) short c.split-new.ensures.spends.grown,
               ),
             ),
           ),
@@ -188,6 +177,7 @@ returns-clause-put t c = λ start root m list owned own s.
 
 pub returns-then-len-capacity-clause-along : goal.returns-then-len-capacity-clause-along
 returns-then-len-capacity-clause-along t c =
+    let h = c.requires.climbs in
     let is : c.node_there.result ≡ node_at c.args.image.now.bytes c.args.kind c.args.node
     = c.node_there.ensures ∙ ap (λ (b : List ℕ). node_at b c.args.kind c.args.node) c.bytes.ensures in
     let read = c.len.ensures.children ∙ ap (λ (n : Node). length n.children) is in
@@ -197,6 +187,7 @@ returns-then-len-capacity-clause-along t c =
     comes_in c.args.image.now.bytes c.insert_child.new.image.bytes c.args.kind c.args.node c.args.above.now c.args.j c.args.keys.now c.args.child
     (written_in c.args.image.now c.insert_child.new.image c.args.kind c.args.node c.args.j c.split_at.result.0.now c.args.keys.now c.args.child
     (omega (arith, read, c.capacity.ensures.capacity, c.if-len-capacity.true)) first c.insert_child.ensures)
+    (above_keep h.start c.args.image.now c.insert_child.new.image c.args.kind h.root h.level c.args.node c.args.above.now c.args.j c.args.child h.list h.owned h.own _ h.climbs c.insert_child.ensures)
 
 pub returns-then-len-capacity-clause-others : goal.returns-then-len-capacity-clause-others
 returns-then-len-capacity-clause-others t c = λ start root m list owned own s n listed other above.

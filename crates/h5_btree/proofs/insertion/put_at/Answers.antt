@@ -3,6 +3,8 @@ use Rattle.std.specs.Prelude.{if◌then◌else◌}
 use Rattle.std.specs.List.{AllByRecursion, insert}
 use Rattle.h5_btree.specs.Insertion.{IsClimbing, IsFullWay, IsPutAlong}
 use Rattle.h5_btree.specs.declared.way.Step.{Step}
+use Rattle.h5_btree.proofs.NodeLaws.{capacity_low}
+use Rattle.h5_btree.proofs.WaySteps.{IsStep, way_there}
 use Rattle.h5_btree.proofs.InsertionEnds.{begins_at, place_few}
 use Rattle.h5_btree.proofs.insertion.put_at.Goals as goal
 use Rattle.h5_btree.proofs.insertion.put_at.Goals.{Joined-behind, then-behind, else-behind}
@@ -12,7 +14,10 @@ overflow_add-place c =
     let e = c.requires.ends in
     let cut = sym c.steps.ensures.steps ∙ c.in-Some.ensures.cases.0 in
     let low = place_few c.args.image.now c.args.kind e.0 e.1 c.args.way.now e.2 e.3 e.4 e.5 c.args.child c.in-Some.step.now c.in-Some.above.now cut in
-    omega (arith, low, c.requires.few)
+    let all = subst (AllByRecursion (IsStep c.args.image.now c.args.kind)) cut (way_there c.args.image.now c.args.kind e.0 e.1 c.args.way.now e.2 e.3 e.4 e.5) in
+    let inside = all.0.0 in
+    let short = (e.5).short in
+    omega (arith, low, inside, short, capacity_low c.args.kind)
 
 pub climb-requires-clause-some : goal.climb-requires-clause-some
 climb-requires-clause-some c =

@@ -1,9 +1,9 @@
-use Rattle.std.proofs.Common.{◌≡◌, ℕ, ◌+◌, ◌*◌, ◌<◌, ◌≤◌, List, [], ◌∷◌, length, refl, sym, ap, ◌∙◌, subst, arith}
+use Rattle.std.proofs.Common.{ℕ, List, [], ◌∷◌, length, ap, ◌∙◌, subst, arith}
 use Rattle.std.specs.Prelude.{slice_set}
 use Rattle.std.specs.List.{insert}
 use Rattle.std.proofs.lemmas.List.Edits.{length-insert}
 use Rattle.h5_model.specs.Format.Rows.{Node}
-use Rattle.h5_model.specs.Format.Nodes.{entries_in, node_at, node_bytes}
+use Rattle.h5_model.specs.Format.Nodes.{node_at}
 use Rattle.h5_btree.specs.Rewritten.{IsRewritten}
 use Rattle.h5_btree.proofs.RewriteSteps.{rewritten_as, rewritten_count, rewritten_then}
 use Rattle.h5_btree.proofs.FirstChild.{first_inside, first_form, first_none, first_entries, first_keys, put_first_is, two_keys}
@@ -21,12 +21,6 @@ insert_child-requires-clause-room c =
     let e = c.requires.empty in
     let none = first_entries c.args.image.now c.args.kind c.args.root c.args.child e.0 e.1 in
     omega (arith, none, c.requires.some)
-
-pub insert_child-requires-clause-few : goal.insert_child-requires-clause-few
-insert_child-requires-clause-few c =
-    let e = c.requires.empty in
-    let none = first_entries c.args.image.now c.args.kind c.args.root c.args.child e.0 e.1 in
-    omega (arith, none)
 
 pub set_key-requires-clause-place : goal.set_key-requires-clause-place
 set_key-requires-clause-place c =

@@ -16,24 +16,24 @@ use Rattle.h5_btree.proofs.raise.raise.Goals as goal
 pub copy_node-requires-clause-from : goal.copy_node-requires-clause-from
 copy_node-requires-clause-from c =
     let h = c.requires.climbs in
-    let take_q = moves_taken c.args.image.now c.take-right.new.self c.args.kind c.take-right.result c.node_length.result _ c.node_length.ensures c.take-right.ensures.bytes c.take-right.ensures.taken in
-    let take_p = moves_taken c.take-right.new.self c.take-left.new.self c.args.kind c.take-left.result c.node_length-2.result _ c.node_length-2.ensures c.take-left.ensures.bytes c.take-left.ensures.taken in
+    let take_q = moves_taken c.args.image.now c.take-right.new.self c.args.kind c.take-right.result c.node_length.result _ c.node_length.ensures.length c.take-right.ensures.bytes c.take-right.ensures.taken in
+    let take_p = moves_taken c.take-right.new.self c.take-left.new.self c.args.kind c.take-left.result c.node_length-2.result _ c.node_length-2.ensures.length c.take-left.ensures.bytes c.take-left.ensures.taken in
     let old : Node = node_at c.args.image.now.bytes c.args.kind c.args.root in
     root_inside₂ h.start c.args.image.now c.take-right.new.self c.take-left.new.self c.args.kind c.args.root h.level c.args.j c.args.child h.list h.owned h.own h.climbs c.take-right.result c.take-left.result take_q take_p
 
 pub copy_node-requires-clause-form : goal.copy_node-requires-clause-form
 copy_node-requires-clause-form c =
     let h = c.requires.climbs in
-    let take_q = moves_taken c.args.image.now c.take-right.new.self c.args.kind c.take-right.result c.node_length.result _ c.node_length.ensures c.take-right.ensures.bytes c.take-right.ensures.taken in
-    let take_p = moves_taken c.take-right.new.self c.take-left.new.self c.args.kind c.take-left.result c.node_length-2.result _ c.node_length-2.ensures c.take-left.ensures.bytes c.take-left.ensures.taken in
+    let take_q = moves_taken c.args.image.now c.take-right.new.self c.args.kind c.take-right.result c.node_length.result _ c.node_length.ensures.length c.take-right.ensures.bytes c.take-right.ensures.taken in
+    let take_p = moves_taken c.take-right.new.self c.take-left.new.self c.args.kind c.take-left.result c.node_length-2.result _ c.node_length-2.ensures.length c.take-left.ensures.bytes c.take-left.ensures.taken in
     let old : Node = node_at c.args.image.now.bytes c.args.kind c.args.root in
     root_form₂ h.start c.args.image.now c.take-right.new.self c.take-left.new.self c.args.kind c.args.root h.level c.args.j c.args.child h.list h.owned h.own h.climbs c.take-right.result c.take-left.result take_q take_p
 
 pub keep_left-requires-clause-most : goal.keep_left-requires-clause-most
 keep_left-requires-clause-most c =
     let h = c.requires.climbs in
-    let take_q = moves_taken c.args.image.now c.take-right.new.self c.args.kind c.take-right.result c.node_length.result _ c.node_length.ensures c.take-right.ensures.bytes c.take-right.ensures.taken in
-    let take_p = moves_taken c.take-right.new.self c.take-left.new.self c.args.kind c.take-left.result c.node_length-2.result _ c.node_length-2.ensures c.take-left.ensures.bytes c.take-left.ensures.taken in
+    let take_q = moves_taken c.args.image.now c.take-right.new.self c.args.kind c.take-right.result c.node_length.result _ c.node_length.ensures.length c.take-right.ensures.bytes c.take-right.ensures.taken in
+    let take_p = moves_taken c.take-right.new.self c.take-left.new.self c.args.kind c.take-left.result c.node_length-2.result _ c.node_length-2.ensures.length c.take-left.ensures.bytes c.take-left.ensures.taken in
     let old : Node = node_at c.args.image.now.bytes c.args.kind c.args.root in
     let copied = subst (λ (b : List ℕ). IsRewritten c.take-left.new.self c.copy_node.new.image c.args.kind c.take-left.result (node_of c.args.kind b)) (root_bytes₂ h.start c.args.image.now c.take-right.new.self c.take-left.new.self c.args.kind c.args.root h.level c.args.j c.args.child h.list h.owned h.own h.climbs c.take-right.result c.take-left.result take_q take_p) c.copy_node.ensures in
     let count = length-children c.args.kind (node_bytes c.args.image.now.bytes c.args.kind c.args.root) old refl in
@@ -45,8 +45,8 @@ keep_left-requires-clause-most c =
 pub keep_left-requires-clause-place : goal.keep_left-requires-clause-place
 keep_left-requires-clause-place c =
     let h = c.requires.climbs in
-    let take_q = moves_taken c.args.image.now c.take-right.new.self c.args.kind c.take-right.result c.node_length.result _ c.node_length.ensures c.take-right.ensures.bytes c.take-right.ensures.taken in
-    let take_p = moves_taken c.take-right.new.self c.take-left.new.self c.args.kind c.take-left.result c.node_length-2.result _ c.node_length-2.ensures c.take-left.ensures.bytes c.take-left.ensures.taken in
+    let take_q = moves_taken c.args.image.now c.take-right.new.self c.args.kind c.take-right.result c.node_length.result _ c.node_length.ensures.length c.take-right.ensures.bytes c.take-right.ensures.taken in
+    let take_p = moves_taken c.take-right.new.self c.take-left.new.self c.args.kind c.take-left.result c.node_length-2.result _ c.node_length-2.ensures.length c.take-left.ensures.bytes c.take-left.ensures.taken in
     let old : Node = node_at c.args.image.now.bytes c.args.kind c.args.root in
     let copied = subst (λ (b : List ℕ). IsRewritten c.take-left.new.self c.copy_node.new.image c.args.kind c.take-left.result (node_of c.args.kind b)) (root_bytes₂ h.start c.args.image.now c.take-right.new.self c.take-left.new.self c.args.kind c.args.root h.level c.args.j c.args.child h.list h.owned h.own h.climbs c.take-right.result c.take-left.result take_q take_p) c.copy_node.ensures in
     let count = length-children c.args.kind (node_bytes c.args.image.now.bytes c.args.kind c.args.root) old refl in
@@ -58,8 +58,8 @@ keep_left-requires-clause-place c =
 pub copy_node-requires-2-clause-from : goal.copy_node-requires-2-clause-from
 copy_node-requires-2-clause-from c =
     let h = c.requires.climbs in
-    let take_q = moves_taken c.args.image.now c.take-right.new.self c.args.kind c.take-right.result c.node_length.result _ c.node_length.ensures c.take-right.ensures.bytes c.take-right.ensures.taken in
-    let take_p = moves_taken c.take-right.new.self c.take-left.new.self c.args.kind c.take-left.result c.node_length-2.result _ c.node_length-2.ensures c.take-left.ensures.bytes c.take-left.ensures.taken in
+    let take_q = moves_taken c.args.image.now c.take-right.new.self c.args.kind c.take-right.result c.node_length.result _ c.node_length.ensures.length c.take-right.ensures.bytes c.take-right.ensures.taken in
+    let take_p = moves_taken c.take-right.new.self c.take-left.new.self c.args.kind c.take-left.result c.node_length-2.result _ c.node_length-2.ensures.length c.take-left.ensures.bytes c.take-left.ensures.taken in
     let old : Node = node_at c.args.image.now.bytes c.args.kind c.args.root in
     let copied = subst (λ (b : List ℕ). IsRewritten c.take-left.new.self c.copy_node.new.image c.args.kind c.take-left.result (node_of c.args.kind b)) (root_bytes₂ h.start c.args.image.now c.take-right.new.self c.take-left.new.self c.args.kind c.args.root h.level c.args.j c.args.child h.list h.owned h.own h.climbs c.take-right.result c.take-left.result take_q take_p) c.copy_node.ensures in
     let left = left_written c.copy_node.new.image c.keep_left.new.image c.set_right.new.image c.args.kind c.take-left.result c.take-right.result c.args.j c.args.child c.left_count-n.result
@@ -70,8 +70,8 @@ copy_node-requires-2-clause-from c =
 pub copy_node-requires-2-clause-form : goal.copy_node-requires-2-clause-form
 copy_node-requires-2-clause-form c =
     let h = c.requires.climbs in
-    let take_q = moves_taken c.args.image.now c.take-right.new.self c.args.kind c.take-right.result c.node_length.result _ c.node_length.ensures c.take-right.ensures.bytes c.take-right.ensures.taken in
-    let take_p = moves_taken c.take-right.new.self c.take-left.new.self c.args.kind c.take-left.result c.node_length-2.result _ c.node_length-2.ensures c.take-left.ensures.bytes c.take-left.ensures.taken in
+    let take_q = moves_taken c.args.image.now c.take-right.new.self c.args.kind c.take-right.result c.node_length.result _ c.node_length.ensures.length c.take-right.ensures.bytes c.take-right.ensures.taken in
+    let take_p = moves_taken c.take-right.new.self c.take-left.new.self c.args.kind c.take-left.result c.node_length-2.result _ c.node_length-2.ensures.length c.take-left.ensures.bytes c.take-left.ensures.taken in
     let old : Node = node_at c.args.image.now.bytes c.args.kind c.args.root in
     let copied = subst (λ (b : List ℕ). IsRewritten c.take-left.new.self c.copy_node.new.image c.args.kind c.take-left.result (node_of c.args.kind b)) (root_bytes₂ h.start c.args.image.now c.take-right.new.self c.take-left.new.self c.args.kind c.args.root h.level c.args.j c.args.child h.list h.owned h.own h.climbs c.take-right.result c.take-left.result take_q take_p) c.copy_node.ensures in
     let left = left_written c.copy_node.new.image c.keep_left.new.image c.set_right.new.image c.args.kind c.take-left.result c.take-right.result c.args.j c.args.child c.left_count-n.result
@@ -82,8 +82,8 @@ copy_node-requires-2-clause-form c =
 pub keep_right-requires-clause-most : goal.keep_right-requires-clause-most
 keep_right-requires-clause-most c =
     let h = c.requires.climbs in
-    let take_q = moves_taken c.args.image.now c.take-right.new.self c.args.kind c.take-right.result c.node_length.result _ c.node_length.ensures c.take-right.ensures.bytes c.take-right.ensures.taken in
-    let take_p = moves_taken c.take-right.new.self c.take-left.new.self c.args.kind c.take-left.result c.node_length-2.result _ c.node_length-2.ensures c.take-left.ensures.bytes c.take-left.ensures.taken in
+    let take_q = moves_taken c.args.image.now c.take-right.new.self c.args.kind c.take-right.result c.node_length.result _ c.node_length.ensures.length c.take-right.ensures.bytes c.take-right.ensures.taken in
+    let take_p = moves_taken c.take-right.new.self c.take-left.new.self c.args.kind c.take-left.result c.node_length-2.result _ c.node_length-2.ensures.length c.take-left.ensures.bytes c.take-left.ensures.taken in
     let old : Node = node_at c.args.image.now.bytes c.args.kind c.args.root in
     let copied = subst (λ (b : List ℕ). IsRewritten c.take-left.new.self c.copy_node.new.image c.args.kind c.take-left.result (node_of c.args.kind b)) (root_bytes₂ h.start c.args.image.now c.take-right.new.self c.take-left.new.self c.args.kind c.args.root h.level c.args.j c.args.child h.list h.owned h.own h.climbs c.take-right.result c.take-left.result take_q take_p) c.copy_node.ensures in
     let left = left_written c.copy_node.new.image c.keep_left.new.image c.set_right.new.image c.args.kind c.take-left.result c.take-right.result c.args.j c.args.child c.left_count-n.result
@@ -99,8 +99,8 @@ keep_right-requires-clause-most c =
 pub keep_right-requires-clause-place : goal.keep_right-requires-clause-place
 keep_right-requires-clause-place c =
     let h = c.requires.climbs in
-    let take_q = moves_taken c.args.image.now c.take-right.new.self c.args.kind c.take-right.result c.node_length.result _ c.node_length.ensures c.take-right.ensures.bytes c.take-right.ensures.taken in
-    let take_p = moves_taken c.take-right.new.self c.take-left.new.self c.args.kind c.take-left.result c.node_length-2.result _ c.node_length-2.ensures c.take-left.ensures.bytes c.take-left.ensures.taken in
+    let take_q = moves_taken c.args.image.now c.take-right.new.self c.args.kind c.take-right.result c.node_length.result _ c.node_length.ensures.length c.take-right.ensures.bytes c.take-right.ensures.taken in
+    let take_p = moves_taken c.take-right.new.self c.take-left.new.self c.args.kind c.take-left.result c.node_length-2.result _ c.node_length-2.ensures.length c.take-left.ensures.bytes c.take-left.ensures.taken in
     let old : Node = node_at c.args.image.now.bytes c.args.kind c.args.root in
     let copied = subst (λ (b : List ℕ). IsRewritten c.take-left.new.self c.copy_node.new.image c.args.kind c.take-left.result (node_of c.args.kind b)) (root_bytes₂ h.start c.args.image.now c.take-right.new.self c.take-left.new.self c.args.kind c.args.root h.level c.args.j c.args.child h.list h.owned h.own h.climbs c.take-right.result c.take-left.result take_q take_p) c.copy_node.ensures in
     let left = left_written c.copy_node.new.image c.keep_left.new.image c.set_right.new.image c.args.kind c.take-left.result c.take-right.result c.args.j c.args.child c.left_count-n.result
@@ -116,8 +116,8 @@ keep_right-requires-clause-place c =
 pub stand_over-requires-clause-root : goal.stand_over-requires-clause-root
 stand_over-requires-clause-root c =
     let h = c.requires.climbs in
-    let take_q = moves_taken c.args.image.now c.take-right.new.self c.args.kind c.take-right.result c.node_length.result _ c.node_length.ensures c.take-right.ensures.bytes c.take-right.ensures.taken in
-    let take_p = moves_taken c.take-right.new.self c.take-left.new.self c.args.kind c.take-left.result c.node_length-2.result _ c.node_length-2.ensures c.take-left.ensures.bytes c.take-left.ensures.taken in
+    let take_q = moves_taken c.args.image.now c.take-right.new.self c.args.kind c.take-right.result c.node_length.result _ c.node_length.ensures.length c.take-right.ensures.bytes c.take-right.ensures.taken in
+    let take_p = moves_taken c.take-right.new.self c.take-left.new.self c.args.kind c.take-left.result c.node_length-2.result _ c.node_length-2.ensures.length c.take-left.ensures.bytes c.take-left.ensures.taken in
     let old : Node = node_at c.args.image.now.bytes c.args.kind c.args.root in
     let copied = subst (λ (b : List ℕ). IsRewritten c.take-left.new.self c.copy_node.new.image c.args.kind c.take-left.result (node_of c.args.kind b)) (root_bytes₂ h.start c.args.image.now c.take-right.new.self c.take-left.new.self c.args.kind c.args.root h.level c.args.j c.args.child h.list h.owned h.own h.climbs c.take-right.result c.take-left.result take_q take_p) c.copy_node.ensures in
     let left = left_written c.copy_node.new.image c.keep_left.new.image c.set_right.new.image c.args.kind c.take-left.result c.take-right.result c.args.j c.args.child c.left_count-n.result
@@ -131,8 +131,8 @@ stand_over-requires-clause-root c =
 pub stand_over-requires-clause-root_form : goal.stand_over-requires-clause-root_form
 stand_over-requires-clause-root_form c =
     let h = c.requires.climbs in
-    let take_q = moves_taken c.args.image.now c.take-right.new.self c.args.kind c.take-right.result c.node_length.result _ c.node_length.ensures c.take-right.ensures.bytes c.take-right.ensures.taken in
-    let take_p = moves_taken c.take-right.new.self c.take-left.new.self c.args.kind c.take-left.result c.node_length-2.result _ c.node_length-2.ensures c.take-left.ensures.bytes c.take-left.ensures.taken in
+    let take_q = moves_taken c.args.image.now c.take-right.new.self c.args.kind c.take-right.result c.node_length.result _ c.node_length.ensures.length c.take-right.ensures.bytes c.take-right.ensures.taken in
+    let take_p = moves_taken c.take-right.new.self c.take-left.new.self c.args.kind c.take-left.result c.node_length-2.result _ c.node_length-2.ensures.length c.take-left.ensures.bytes c.take-left.ensures.taken in
     let old : Node = node_at c.args.image.now.bytes c.args.kind c.args.root in
     let copied = subst (λ (b : List ℕ). IsRewritten c.take-left.new.self c.copy_node.new.image c.args.kind c.take-left.result (node_of c.args.kind b)) (root_bytes₂ h.start c.args.image.now c.take-right.new.self c.take-left.new.self c.args.kind c.args.root h.level c.args.j c.args.child h.list h.owned h.own h.climbs c.take-right.result c.take-left.result take_q take_p) c.copy_node.ensures in
     let left = left_written c.copy_node.new.image c.keep_left.new.image c.set_right.new.image c.args.kind c.take-left.result c.take-right.result c.args.j c.args.child c.left_count-n.result
@@ -146,8 +146,8 @@ stand_over-requires-clause-root_form c =
 pub stand_over-requires-clause-some : goal.stand_over-requires-clause-some
 stand_over-requires-clause-some c =
     let h = c.requires.climbs in
-    let take_q = moves_taken c.args.image.now c.take-right.new.self c.args.kind c.take-right.result c.node_length.result _ c.node_length.ensures c.take-right.ensures.bytes c.take-right.ensures.taken in
-    let take_p = moves_taken c.take-right.new.self c.take-left.new.self c.args.kind c.take-left.result c.node_length-2.result _ c.node_length-2.ensures c.take-left.ensures.bytes c.take-left.ensures.taken in
+    let take_q = moves_taken c.args.image.now c.take-right.new.self c.args.kind c.take-right.result c.node_length.result _ c.node_length.ensures.length c.take-right.ensures.bytes c.take-right.ensures.taken in
+    let take_p = moves_taken c.take-right.new.self c.take-left.new.self c.args.kind c.take-left.result c.node_length-2.result _ c.node_length-2.ensures.length c.take-left.ensures.bytes c.take-left.ensures.taken in
     let old : Node = node_at c.args.image.now.bytes c.args.kind c.args.root in
     let copied = subst (λ (b : List ℕ). IsRewritten c.take-left.new.self c.copy_node.new.image c.args.kind c.take-left.result (node_of c.args.kind b)) (root_bytes₂ h.start c.args.image.now c.take-right.new.self c.take-left.new.self c.args.kind c.args.root h.level c.args.j c.args.child h.list h.owned h.own h.climbs c.take-right.result c.take-left.result take_q take_p) c.copy_node.ensures in
     let left = left_written c.copy_node.new.image c.keep_left.new.image c.set_right.new.image c.args.kind c.take-left.result c.take-right.result c.args.j c.args.child c.left_count-n.result
@@ -162,8 +162,8 @@ stand_over-requires-clause-some c =
 pub stand_over-requires-clause-low : goal.stand_over-requires-clause-low
 stand_over-requires-clause-low c =
     let h = c.requires.climbs in
-    let take_q = moves_taken c.args.image.now c.take-right.new.self c.args.kind c.take-right.result c.node_length.result _ c.node_length.ensures c.take-right.ensures.bytes c.take-right.ensures.taken in
-    let take_p = moves_taken c.take-right.new.self c.take-left.new.self c.args.kind c.take-left.result c.node_length-2.result _ c.node_length-2.ensures c.take-left.ensures.bytes c.take-left.ensures.taken in
+    let take_q = moves_taken c.args.image.now c.take-right.new.self c.args.kind c.take-right.result c.node_length.result _ c.node_length.ensures.length c.take-right.ensures.bytes c.take-right.ensures.taken in
+    let take_p = moves_taken c.take-right.new.self c.take-left.new.self c.args.kind c.take-left.result c.node_length-2.result _ c.node_length-2.ensures.length c.take-left.ensures.bytes c.take-left.ensures.taken in
     let old : Node = node_at c.args.image.now.bytes c.args.kind c.args.root in
     let copied = subst (λ (b : List ℕ). IsRewritten c.take-left.new.self c.copy_node.new.image c.args.kind c.take-left.result (node_of c.args.kind b)) (root_bytes₂ h.start c.args.image.now c.take-right.new.self c.take-left.new.self c.args.kind c.args.root h.level c.args.j c.args.child h.list h.owned h.own h.climbs c.take-right.result c.take-left.result take_q take_p) c.copy_node.ensures in
     let left = left_written c.copy_node.new.image c.keep_left.new.image c.set_right.new.image c.args.kind c.take-left.result c.take-right.result c.args.j c.args.child c.left_count-n.result
@@ -178,8 +178,8 @@ stand_over-requires-clause-low c =
 pub stand_over-requires-clause-left_form : goal.stand_over-requires-clause-left_form
 stand_over-requires-clause-left_form c =
     let h = c.requires.climbs in
-    let take_q = moves_taken c.args.image.now c.take-right.new.self c.args.kind c.take-right.result c.node_length.result _ c.node_length.ensures c.take-right.ensures.bytes c.take-right.ensures.taken in
-    let take_p = moves_taken c.take-right.new.self c.take-left.new.self c.args.kind c.take-left.result c.node_length-2.result _ c.node_length-2.ensures c.take-left.ensures.bytes c.take-left.ensures.taken in
+    let take_q = moves_taken c.args.image.now c.take-right.new.self c.args.kind c.take-right.result c.node_length.result _ c.node_length.ensures.length c.take-right.ensures.bytes c.take-right.ensures.taken in
+    let take_p = moves_taken c.take-right.new.self c.take-left.new.self c.args.kind c.take-left.result c.node_length-2.result _ c.node_length-2.ensures.length c.take-left.ensures.bytes c.take-left.ensures.taken in
     let old : Node = node_at c.args.image.now.bytes c.args.kind c.args.root in
     let copied = subst (λ (b : List ℕ). IsRewritten c.take-left.new.self c.copy_node.new.image c.args.kind c.take-left.result (node_of c.args.kind b)) (root_bytes₂ h.start c.args.image.now c.take-right.new.self c.take-left.new.self c.args.kind c.args.root h.level c.args.j c.args.child h.list h.owned h.own h.climbs c.take-right.result c.take-left.result take_q take_p) c.copy_node.ensures in
     let left = left_written c.copy_node.new.image c.keep_left.new.image c.set_right.new.image c.args.kind c.take-left.result c.take-right.result c.args.j c.args.child c.left_count-n.result
@@ -193,8 +193,8 @@ stand_over-requires-clause-left_form c =
 pub returns-clause-put : goal.returns-clause-put
 returns-clause-put c = λ s0 m list owned own s low.
     let h = c.requires.climbs in
-    let take_q = moves_taken c.args.image.now c.take-right.new.self c.args.kind c.take-right.result c.node_length.result _ c.node_length.ensures c.take-right.ensures.bytes c.take-right.ensures.taken in
-    let take_p = moves_taken c.take-right.new.self c.take-left.new.self c.args.kind c.take-left.result c.node_length-2.result _ c.node_length-2.ensures c.take-left.ensures.bytes c.take-left.ensures.taken in
+    let take_q = moves_taken c.args.image.now c.take-right.new.self c.args.kind c.take-right.result c.node_length.result _ c.node_length.ensures.length c.take-right.ensures.bytes c.take-right.ensures.taken in
+    let take_p = moves_taken c.take-right.new.self c.take-left.new.self c.args.kind c.take-left.result c.node_length-2.result _ c.node_length-2.ensures.length c.take-left.ensures.bytes c.take-left.ensures.taken in
     let old : Node = node_at c.args.image.now.bytes c.args.kind c.args.root in
     let copied = subst (λ (b : List ℕ). IsRewritten c.take-left.new.self c.copy_node.new.image c.args.kind c.take-left.result (node_of c.args.kind b)) (root_bytes₂ h.start c.args.image.now c.take-right.new.self c.take-left.new.self c.args.kind c.args.root h.level c.args.j c.args.child h.list h.owned h.own h.climbs c.take-right.result c.take-left.result take_q take_p) c.copy_node.ensures in
     let left = left_written c.copy_node.new.image c.keep_left.new.image c.set_right.new.image c.args.kind c.take-left.result c.take-right.result c.args.j c.args.child c.left_count-n.result
@@ -225,8 +225,8 @@ returns-clause-put c = λ s0 m list owned own s low.
 pub returns-clause-others : goal.returns-clause-others
 returns-clause-others c = λ s0 m list owned own s n listed not_root.
     let h = c.requires.climbs in
-    let take_q = moves_taken c.args.image.now c.take-right.new.self c.args.kind c.take-right.result c.node_length.result _ c.node_length.ensures c.take-right.ensures.bytes c.take-right.ensures.taken in
-    let take_p = moves_taken c.take-right.new.self c.take-left.new.self c.args.kind c.take-left.result c.node_length-2.result _ c.node_length-2.ensures c.take-left.ensures.bytes c.take-left.ensures.taken in
+    let take_q = moves_taken c.args.image.now c.take-right.new.self c.args.kind c.take-right.result c.node_length.result _ c.node_length.ensures.length c.take-right.ensures.bytes c.take-right.ensures.taken in
+    let take_p = moves_taken c.take-right.new.self c.take-left.new.self c.args.kind c.take-left.result c.node_length-2.result _ c.node_length-2.ensures.length c.take-left.ensures.bytes c.take-left.ensures.taken in
     let old : Node = node_at c.args.image.now.bytes c.args.kind c.args.root in
     let copied = subst (λ (b : List ℕ). IsRewritten c.take-left.new.self c.copy_node.new.image c.args.kind c.take-left.result (node_of c.args.kind b)) (root_bytes₂ h.start c.args.image.now c.take-right.new.self c.take-left.new.self c.args.kind c.args.root h.level c.args.j c.args.child h.list h.owned h.own h.climbs c.take-right.result c.take-left.result take_q take_p) c.copy_node.ensures in
     let left = left_written c.copy_node.new.image c.keep_left.new.image c.set_right.new.image c.args.kind c.take-left.result c.take-right.result c.args.j c.args.child c.left_count-n.result
@@ -257,8 +257,8 @@ returns-clause-others c = λ s0 m list owned own s n listed not_root.
 pub returns-clause-raised : goal.returns-clause-raised
 returns-clause-raised c =
     let h = c.requires.climbs in
-    let take_q = moves_taken c.args.image.now c.take-right.new.self c.args.kind c.take-right.result c.node_length.result _ c.node_length.ensures c.take-right.ensures.bytes c.take-right.ensures.taken in
-    let take_p = moves_taken c.take-right.new.self c.take-left.new.self c.args.kind c.take-left.result c.node_length-2.result _ c.node_length-2.ensures c.take-left.ensures.bytes c.take-left.ensures.taken in
+    let take_q = moves_taken c.args.image.now c.take-right.new.self c.args.kind c.take-right.result c.node_length.result _ c.node_length.ensures.length c.take-right.ensures.bytes c.take-right.ensures.taken in
+    let take_p = moves_taken c.take-right.new.self c.take-left.new.self c.args.kind c.take-left.result c.node_length-2.result _ c.node_length-2.ensures.length c.take-left.ensures.bytes c.take-left.ensures.taken in
     let old : Node = node_at c.args.image.now.bytes c.args.kind c.args.root in
     let copied = subst (λ (b : List ℕ). IsRewritten c.take-left.new.self c.copy_node.new.image c.args.kind c.take-left.result (node_of c.args.kind b)) (root_bytes₂ h.start c.args.image.now c.take-right.new.self c.take-left.new.self c.args.kind c.args.root h.level c.args.j c.args.child h.list h.owned h.own h.climbs c.take-right.result c.take-left.result take_q take_p) c.copy_node.ensures in
     let left = left_written c.copy_node.new.image c.keep_left.new.image c.set_right.new.image c.args.kind c.take-left.result c.take-right.result c.args.j c.args.child c.left_count-n.result

@@ -8,7 +8,7 @@ use Rattle.h5_btree.specs.Removal.{IsShrinking, IsTakenAlong}
 use Rattle.h5_btree.specs.declared.way.Step.{Step}
 use Rattle.h5_btree.proofs.RemovalSteps.{inside_p, form_p, entry_p, place_p, inside_left, form_left, inside_right, form_right, give_inside, give_held}
 use Rattle.h5_btree.proofs.DropSteps.{without}
-use Rattle.h5_btree.proofs.RemovalEnds.{taken_above, taken_kept, taken_emptied, goes_on}
+use Rattle.h5_btree.proofs.RemovalEnds.{taken_above, taken_kept, taken_emptied, one_before, goes_on}
 use Rattle.h5_btree.proofs.removal.+take_along.Goals as goal
 use Rattle.h5_btree.proofs.removal.+take_along.Goals.{After-give}
 
@@ -117,7 +117,7 @@ give-requires-clause-inside t c =
     = c.node_there-node.ensures ∙ ap (λ (b : List ℕ). node_at b c.args.kind c.args.step.node) c.bytes.ensures in
     let el = c.left-left.ensures ∙ ap (λ (n : Node). n.left) is in
     let er = c.right-right.ensures ∙ ap (λ (n : Node). n.right) is in
-    rw c.node_length.ensures (give_inside h.start c.args.image.now c.args.kind h.root h.level c.args.step.node c.args.above.now c.args.step.place h.list h.owned h.own h.shrinks _ _ el er
+    rw c.node_length.ensures.length (give_inside h.start c.args.image.now c.args.kind h.root h.level c.args.step.node c.args.above.now c.args.step.place h.list h.owned h.own h.shrinks _ _ el er
     c.name_right.new.image c.name_right.ensures.written c.name_right.ensures.none c.name_left.new.image c.name_left.ensures.written c.name_left.ensures.none)
 
 pub give-requires-clause-held : goal.give-requires-clause-held
@@ -127,7 +127,7 @@ give-requires-clause-held t c =
     = c.node_there-node.ensures ∙ ap (λ (b : List ℕ). node_at b c.args.kind c.args.step.node) c.bytes.ensures in
     let el = c.left-left.ensures ∙ ap (λ (n : Node). n.left) is in
     let er = c.right-right.ensures ∙ ap (λ (n : Node). n.right) is in
-    rw c.node_length.ensures (give_held h.start c.args.image.now c.args.kind h.root h.level c.args.step.node c.args.above.now c.args.step.place h.list h.owned h.own h.shrinks _ _ el er
+    rw c.node_length.ensures.length (give_held h.start c.args.image.now c.args.kind h.root h.level c.args.step.node c.args.above.now c.args.step.place h.list h.owned h.own h.shrinks _ _ el er
     c.name_right.new.image c.name_right.ensures.written c.name_right.ensures.none c.name_left.new.image c.name_left.ensures.written c.name_left.ensures.none)
 
 -- what it has made when it goes on
@@ -145,7 +145,7 @@ shrinks_on t c start root m list owned own s =
     (subst (λ (ws : List Step). IsShrinking start c.args.image.now c.args.kind root m c.args.step.node ws c.args.step.place list owned own) c.in-Some.ensures.cases.0 s)
     (omega (arith, c.len.ensures.children, c.if-len-gt1.false, few, some)) _ _ el er
     c.name_right.ensures.written c.name_right.ensures.none c.name_left.ensures.written c.name_left.ensures.none c.give.ensures.bytes
-    (λ x. c.give.ensures.given x ∙ ap (λ (n : ℕ). cover x c.name_left.new.image.free + holds x c.args.step.node n) c.node_length.ensures)
+    (λ x. c.give.ensures.given x ∙ ap (λ (n : ℕ). cover x c.name_left.new.image.free + holds x c.args.step.node n) c.node_length.ensures.length)
 
 pub take_along-requires : goal.take_along-requires
 take_along-requires t c =
@@ -167,6 +167,11 @@ take_along-requires t c =
 
 pub returns-clause-taken : goal.returns-clause-taken
 returns-clause-taken t c = λ start root m list owned own s.
+    let is : c.node_there-node.result ≡ node_at c.args.image.now.bytes c.args.kind c.args.step.node
+    = c.node_there-node.ensures ∙ ap (λ (b : List ℕ). node_at b c.args.kind c.args.step.node) c.bytes.ensures in
+    let few = ap (λ (n : Node). length n.children) is in
+    let some = place_p start c.args.image.now c.args.kind root m c.args.step.node c.args.above.now c.args.step.place list owned own s in
     let more = c.take_along.ensures.taken start root (suc m) list owned (without c.args.step.node own) (shrinks_on t (goal.at.returns-clause-taken t c).After-give start root m list owned own s) in
     subst (λ (ws : List Step). IsTakenAlong start c.take_along.new.image c.args.kind root (c.args.step ∷ ws) list owned) (sym c.in-Some.ensures.cases.0)
-    (taken_above start c.take_along.new.image c.args.kind root c.args.step (c.in-Some.next.now ∷ c.in-Some.higher.now) list owned more)
+    (taken_above start c.take_along.new.image c.args.kind root c.args.step (c.in-Some.next.now ∷ c.in-Some.higher.now) list owned
+    (one_before start c.args.image.now c.args.kind root m c.args.step c.args.above.now list owned own s (omega (arith, c.len.ensures.children, c.if-len-gt1.false, few, some))) more)

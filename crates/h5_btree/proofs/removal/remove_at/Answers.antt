@@ -29,7 +29,7 @@ pub returns-clause-long : goal.returns-clause-long
 returns-clause-long c =
     let e = c.requires.ends in
     let t = taken (goal.at.returns-clause-long c).After-take_from e.0 e.1 e.4 e.2 e.3 e.5 in
-    let low = ((t.4).moves).grown in
+    let low = ((t.7).moves).grown in
     let high = c.take_from.ensures.spends.grown in
     let same = ap (λ (s : Space). length s.bytes) c.in_ok-reserve.ensures.ok in
     omega (arith, low, high, same)

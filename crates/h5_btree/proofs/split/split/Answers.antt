@@ -32,19 +32,19 @@ node_there-requires-clause-form c =
 pub copy_node-requires-clause-from : goal.copy_node-requires-clause-from
 copy_node-requires-clause-from c =
     let h = c.requires.climbs in
-    let taken = moves_taken c.args.image.now c.take-new.new.self c.args.kind c.take-new.result c.node_length.result _ c.node_length.ensures c.take-new.ensures.bytes c.take-new.ensures.taken in
+    let taken = moves_taken c.args.image.now c.take-new.new.self c.args.kind c.take-new.result c.node_length.result _ c.node_length.ensures.length c.take-new.ensures.bytes c.take-new.ensures.taken in
     inside₁ h.start c.args.image.now c.args.kind h.root h.level c.args.at (h.next ∷ h.above) c.args.j c.args.child h.list h.owned h.own h.climbs c.take-new.new.self c.take-new.result taken
 
 pub copy_node-requires-clause-form : goal.copy_node-requires-clause-form
 copy_node-requires-clause-form c =
     let h = c.requires.climbs in
-    let taken = moves_taken c.args.image.now c.take-new.new.self c.args.kind c.take-new.result c.node_length.result _ c.node_length.ensures c.take-new.ensures.bytes c.take-new.ensures.taken in
+    let taken = moves_taken c.args.image.now c.take-new.new.self c.args.kind c.take-new.result c.node_length.result _ c.node_length.ensures.length c.take-new.ensures.bytes c.take-new.ensures.taken in
     form₁ h.start c.args.image.now c.args.kind h.root h.level c.args.at (h.next ∷ h.above) c.args.j c.args.child h.list h.owned h.own h.climbs c.take-new.new.self c.take-new.result taken
 
 pub keep_right-requires-clause-most : goal.keep_right-requires-clause-most
 keep_right-requires-clause-most c =
     let h = c.requires.climbs in
-    let taken = moves_taken c.args.image.now c.take-new.new.self c.args.kind c.take-new.result c.node_length.result _ c.node_length.ensures c.take-new.ensures.bytes c.take-new.ensures.taken in
+    let taken = moves_taken c.args.image.now c.take-new.new.self c.args.kind c.take-new.result c.node_length.result _ c.node_length.ensures.length c.take-new.ensures.bytes c.take-new.ensures.taken in
     let same = bytes₁ h.start c.args.image.now c.args.kind h.root h.level c.args.at (h.next ∷ h.above) c.args.j c.args.child h.list h.owned h.own h.climbs c.take-new.new.self c.take-new.result taken in
     let copied = subst (λ (b : List ℕ). IsRewritten c.take-new.new.self c.copy_node.new.image c.args.kind c.take-new.result (node_of c.args.kind b)) same c.copy_node.ensures in
     let old : Node = node_at c.args.image.now.bytes c.args.kind c.args.at in
@@ -58,7 +58,7 @@ keep_right-requires-clause-most c =
 pub keep_right-requires-clause-place : goal.keep_right-requires-clause-place
 keep_right-requires-clause-place c =
     let h = c.requires.climbs in
-    let taken = moves_taken c.args.image.now c.take-new.new.self c.args.kind c.take-new.result c.node_length.result _ c.node_length.ensures c.take-new.ensures.bytes c.take-new.ensures.taken in
+    let taken = moves_taken c.args.image.now c.take-new.new.self c.args.kind c.take-new.result c.node_length.result _ c.node_length.ensures.length c.take-new.ensures.bytes c.take-new.ensures.taken in
     let same = bytes₁ h.start c.args.image.now c.args.kind h.root h.level c.args.at (h.next ∷ h.above) c.args.j c.args.child h.list h.owned h.own h.climbs c.take-new.new.self c.take-new.result taken in
     let copied = subst (λ (b : List ℕ). IsRewritten c.take-new.new.self c.copy_node.new.image c.args.kind c.take-new.result (node_of c.args.kind b)) same c.copy_node.ensures in
     let old : Node = node_at c.args.image.now.bytes c.args.kind c.args.at in
@@ -72,7 +72,7 @@ keep_right-requires-clause-place c =
 pub keep_left-requires-clause-inside : goal.keep_left-requires-clause-inside
 keep_left-requires-clause-inside c =
     let h = c.requires.climbs in
-    let taken = moves_taken c.args.image.now c.take-new.new.self c.args.kind c.take-new.result c.node_length.result _ c.node_length.ensures c.take-new.ensures.bytes c.take-new.ensures.taken in
+    let taken = moves_taken c.args.image.now c.take-new.new.self c.args.kind c.take-new.result c.node_length.result _ c.node_length.ensures.length c.take-new.ensures.bytes c.take-new.ensures.taken in
     let same = bytes₁ h.start c.args.image.now c.args.kind h.root h.level c.args.at (h.next ∷ h.above) c.args.j c.args.child h.list h.owned h.own h.climbs c.take-new.new.self c.take-new.result taken in
     let copied = subst (λ (b : List ℕ). IsRewritten c.take-new.new.self c.copy_node.new.image c.args.kind c.take-new.result (node_of c.args.kind b)) same c.copy_node.ensures in
     let write_q = right_written c.take-new.new.self c.copy_node.new.image c.keep_right.new.image c.set_left.new.image c.args.kind c.take-new.result c.args.at c.args.j c.args.child
@@ -82,7 +82,7 @@ keep_left-requires-clause-inside c =
 pub keep_left-requires-clause-form : goal.keep_left-requires-clause-form
 keep_left-requires-clause-form c =
     let h = c.requires.climbs in
-    let taken = moves_taken c.args.image.now c.take-new.new.self c.args.kind c.take-new.result c.node_length.result _ c.node_length.ensures c.take-new.ensures.bytes c.take-new.ensures.taken in
+    let taken = moves_taken c.args.image.now c.take-new.new.self c.args.kind c.take-new.result c.node_length.result _ c.node_length.ensures.length c.take-new.ensures.bytes c.take-new.ensures.taken in
     let same = bytes₁ h.start c.args.image.now c.args.kind h.root h.level c.args.at (h.next ∷ h.above) c.args.j c.args.child h.list h.owned h.own h.climbs c.take-new.new.self c.take-new.result taken in
     let copied = subst (λ (b : List ℕ). IsRewritten c.take-new.new.self c.copy_node.new.image c.args.kind c.take-new.result (node_of c.args.kind b)) same c.copy_node.ensures in
     let write_q = right_written c.take-new.new.self c.copy_node.new.image c.keep_right.new.image c.set_left.new.image c.args.kind c.take-new.result c.args.at c.args.j c.args.child
@@ -92,7 +92,7 @@ keep_left-requires-clause-form c =
 pub keep_left-requires-clause-most : goal.keep_left-requires-clause-most
 keep_left-requires-clause-most c =
     let h = c.requires.climbs in
-    let taken = moves_taken c.args.image.now c.take-new.new.self c.args.kind c.take-new.result c.node_length.result _ c.node_length.ensures c.take-new.ensures.bytes c.take-new.ensures.taken in
+    let taken = moves_taken c.args.image.now c.take-new.new.self c.args.kind c.take-new.result c.node_length.result _ c.node_length.ensures.length c.take-new.ensures.bytes c.take-new.ensures.taken in
     let same = bytes₁ h.start c.args.image.now c.args.kind h.root h.level c.args.at (h.next ∷ h.above) c.args.j c.args.child h.list h.owned h.own h.climbs c.take-new.new.self c.take-new.result taken in
     let copied = subst (λ (b : List ℕ). IsRewritten c.take-new.new.self c.copy_node.new.image c.args.kind c.take-new.result (node_of c.args.kind b)) same c.copy_node.ensures in
     let write_q = right_written c.take-new.new.self c.copy_node.new.image c.keep_right.new.image c.set_left.new.image c.args.kind c.take-new.result c.args.at c.args.j c.args.child
@@ -108,7 +108,7 @@ keep_left-requires-clause-most c =
 pub keep_left-requires-clause-place : goal.keep_left-requires-clause-place
 keep_left-requires-clause-place c =
     let h = c.requires.climbs in
-    let taken = moves_taken c.args.image.now c.take-new.new.self c.args.kind c.take-new.result c.node_length.result _ c.node_length.ensures c.take-new.ensures.bytes c.take-new.ensures.taken in
+    let taken = moves_taken c.args.image.now c.take-new.new.self c.args.kind c.take-new.result c.node_length.result _ c.node_length.ensures.length c.take-new.ensures.bytes c.take-new.ensures.taken in
     let same = bytes₁ h.start c.args.image.now c.args.kind h.root h.level c.args.at (h.next ∷ h.above) c.args.j c.args.child h.list h.owned h.own h.climbs c.take-new.new.self c.take-new.result taken in
     let copied = subst (λ (b : List ℕ). IsRewritten c.take-new.new.self c.copy_node.new.image c.args.kind c.take-new.result (node_of c.args.kind b)) same c.copy_node.ensures in
     let write_q = right_written c.take-new.new.self c.copy_node.new.image c.keep_right.new.image c.set_left.new.image c.args.kind c.take-new.result c.args.at c.args.j c.args.child
@@ -124,7 +124,7 @@ keep_left-requires-clause-place c =
 pub set_right-requires-clause-inside : goal.set_right-requires-clause-inside
 set_right-requires-clause-inside c =
     let h = c.requires.climbs in
-    let taken = moves_taken c.args.image.now c.take-new.new.self c.args.kind c.take-new.result c.node_length.result _ c.node_length.ensures c.take-new.ensures.bytes c.take-new.ensures.taken in
+    let taken = moves_taken c.args.image.now c.take-new.new.self c.args.kind c.take-new.result c.node_length.result _ c.node_length.ensures.length c.take-new.ensures.bytes c.take-new.ensures.taken in
     let same = bytes₁ h.start c.args.image.now c.args.kind h.root h.level c.args.at (h.next ∷ h.above) c.args.j c.args.child h.list h.owned h.own h.climbs c.take-new.new.self c.take-new.result taken in
     let copied = subst (λ (b : List ℕ). IsRewritten c.take-new.new.self c.copy_node.new.image c.args.kind c.take-new.result (node_of c.args.kind b)) same c.copy_node.ensures in
     let write_q = right_written c.take-new.new.self c.copy_node.new.image c.keep_right.new.image c.set_left.new.image c.args.kind c.take-new.result c.args.at c.args.j c.args.child
@@ -135,7 +135,7 @@ set_right-requires-clause-inside c =
 pub name_left-requires-clause-inside : goal.name_left-requires-clause-inside
 name_left-requires-clause-inside c =
     let h = c.requires.climbs in
-    let taken = moves_taken c.args.image.now c.take-new.new.self c.args.kind c.take-new.result c.node_length.result _ c.node_length.ensures c.take-new.ensures.bytes c.take-new.ensures.taken in
+    let taken = moves_taken c.args.image.now c.take-new.new.self c.args.kind c.take-new.result c.node_length.result _ c.node_length.ensures.length c.take-new.ensures.bytes c.take-new.ensures.taken in
     let same = bytes₁ h.start c.args.image.now c.args.kind h.root h.level c.args.at (h.next ∷ h.above) c.args.j c.args.child h.list h.owned h.own h.climbs c.take-new.new.self c.take-new.result taken in
     let copied = subst (λ (b : List ℕ). IsRewritten c.take-new.new.self c.copy_node.new.image c.args.kind c.take-new.result (node_of c.args.kind b)) same c.copy_node.ensures in
     let write_q = right_written c.take-new.new.self c.copy_node.new.image c.keep_right.new.image c.set_left.new.image c.args.kind c.take-new.result c.args.at c.args.j c.args.child
@@ -150,7 +150,7 @@ name_left-requires-clause-inside c =
 pub name_left-requires-clause-form : goal.name_left-requires-clause-form
 name_left-requires-clause-form c =
     let h = c.requires.climbs in
-    let taken = moves_taken c.args.image.now c.take-new.new.self c.args.kind c.take-new.result c.node_length.result _ c.node_length.ensures c.take-new.ensures.bytes c.take-new.ensures.taken in
+    let taken = moves_taken c.args.image.now c.take-new.new.self c.args.kind c.take-new.result c.node_length.result _ c.node_length.ensures.length c.take-new.ensures.bytes c.take-new.ensures.taken in
     let same = bytes₁ h.start c.args.image.now c.args.kind h.root h.level c.args.at (h.next ∷ h.above) c.args.j c.args.child h.list h.owned h.own h.climbs c.take-new.new.self c.take-new.result taken in
     let copied = subst (λ (b : List ℕ). IsRewritten c.take-new.new.self c.copy_node.new.image c.args.kind c.take-new.result (node_of c.args.kind b)) same c.copy_node.ensures in
     let write_q = right_written c.take-new.new.self c.copy_node.new.image c.keep_right.new.image c.set_left.new.image c.args.kind c.take-new.result c.args.at c.args.j c.args.child
@@ -167,7 +167,7 @@ spent c =
     let last : Spends c.set_right.new.image c.name_left.new.image 0 0 = at_or undefined c.right-next.result
     (λ none. subst (λ (s : Space). Spends c.set_right.new.image s 0 0) (sym (c.name_left.ensures.none none)) (spends_none c.set_right.new.image))
     (λ there. (c.name_left.ensures.written there).spends) in
-    let first = subst (λ (n : ℕ). Spends c.args.image.now c.take-new.new.self n 1) c.node_length.ensures
+    let first = subst (λ (n : ℕ). Spends c.args.image.now c.take-new.new.self n 1) c.node_length.ensures.length
     (spends_take c.args.image.now c.take-new.new.self c.node_length.result c.take-new.ensures.bytes c.take-new.ensures.room_bytes c.take-new.ensures.room_blocks) in
     let copied = spends_still c.args.image.now c.take-new.new.self c.copy_node.new.image (node_length c.args.kind) 1 first c.copy_node.ensures.spends in
     let kept = spends_still c.args.image.now c.copy_node.new.image c.keep_right.new.image (node_length c.args.kind) 1 copied c.keep_right.ensures.spends in
@@ -182,7 +182,7 @@ returns-clause-spends c = spent (goal.at.returns-clause-spends c).After-name_lef
 pub returns-clause-on : goal.returns-clause-on
 returns-clause-on c = λ s0 root m next above list owned own s.
     let h = c.requires.climbs in
-    let taken = moves_taken c.args.image.now c.take-new.new.self c.args.kind c.take-new.result c.node_length.result _ c.node_length.ensures c.take-new.ensures.bytes c.take-new.ensures.taken in
+    let taken = moves_taken c.args.image.now c.take-new.new.self c.args.kind c.take-new.result c.node_length.result _ c.node_length.ensures.length c.take-new.ensures.bytes c.take-new.ensures.taken in
     let same = bytes₁ h.start c.args.image.now c.args.kind h.root h.level c.args.at (h.next ∷ h.above) c.args.j c.args.child h.list h.owned h.own h.climbs c.take-new.new.self c.take-new.result taken in
     let copied = subst (λ (b : List ℕ). IsRewritten c.take-new.new.self c.copy_node.new.image c.args.kind c.take-new.result (node_of c.args.kind b)) same c.copy_node.ensures in
     let old : Node = node_at c.args.image.now.bytes c.args.kind c.args.at in
@@ -209,7 +209,7 @@ returns-clause-on c = λ s0 root m next above list owned own s.
 pub returns-clause-others : goal.returns-clause-others
 returns-clause-others c = λ s0 root m next above list owned own s n listed.
     let h = c.requires.climbs in
-    let taken = moves_taken c.args.image.now c.take-new.new.self c.args.kind c.take-new.result c.node_length.result _ c.node_length.ensures c.take-new.ensures.bytes c.take-new.ensures.taken in
+    let taken = moves_taken c.args.image.now c.take-new.new.self c.args.kind c.take-new.result c.node_length.result _ c.node_length.ensures.length c.take-new.ensures.bytes c.take-new.ensures.taken in
     let same = bytes₁ h.start c.args.image.now c.args.kind h.root h.level c.args.at (h.next ∷ h.above) c.args.j c.args.child h.list h.owned h.own h.climbs c.take-new.new.self c.take-new.result taken in
     let copied = subst (λ (b : List ℕ). IsRewritten c.take-new.new.self c.copy_node.new.image c.args.kind c.take-new.result (node_of c.args.kind b)) same c.copy_node.ensures in
     let old : Node = node_at c.args.image.now.bytes c.args.kind c.args.at in
@@ -243,7 +243,7 @@ returns-clause-halves c =
     let owned = h.owned in
     let own = h.own in
     let s = h.climbs in
-    let taken = moves_taken c.args.image.now c.take-new.new.self c.args.kind c.take-new.result c.node_length.result _ c.node_length.ensures c.take-new.ensures.bytes c.take-new.ensures.taken in
+    let taken = moves_taken c.args.image.now c.take-new.new.self c.args.kind c.take-new.result c.node_length.result _ c.node_length.ensures.length c.take-new.ensures.bytes c.take-new.ensures.taken in
     let same = bytes₁ h.start c.args.image.now c.args.kind h.root h.level c.args.at (h.next ∷ h.above) c.args.j c.args.child h.list h.owned h.own h.climbs c.take-new.new.self c.take-new.result taken in
     let copied = subst (λ (b : List ℕ). IsRewritten c.take-new.new.self c.copy_node.new.image c.args.kind c.take-new.result (node_of c.args.kind b)) same c.copy_node.ensures in
     let old : Node = node_at c.args.image.now.bytes c.args.kind c.args.at in
@@ -269,5 +269,5 @@ returns-clause-halves c =
           c.left_count-left.ensures (left_says s0 c.args.image.now c.take-new.new.self c.set_left.new.image c.set_right.new.image c.name_left.new.image c.args.kind root m c.args.at next above c.args.j c.args.child list owned own s c.take-new.result (take c.left_count-left.result (insert old.children c.args.j c.args.child)) (drop c.left_count-left.result (insert old.children c.args.j c.args.child)) (take (c.left_count-left.result + 1) (insert old.keys c.args.j c.args.key.now)) (drop c.left_count-left.result (insert old.keys c.args.j c.args.key.now)) taken write_q write_p c.right-next.result er c.name_left.ensures.written c.name_left.ensures.none joined some more);
       right = subst (λ (n : ℕ). node_at c.name_left.new.image.bytes c.args.kind c.take-new.result ≡ record old { left = c.args.at; keys = drop n (insert old.keys c.args.j c.args.key.now); children = drop n (insert old.children c.args.j c.args.child) })
           c.left_count-left.ensures (right_says s0 c.args.image.now c.take-new.new.self c.set_left.new.image c.set_right.new.image c.name_left.new.image c.args.kind root m c.args.at next above c.args.j c.args.child list owned own s c.take-new.result (take c.left_count-left.result (insert old.children c.args.j c.args.child)) (drop c.left_count-left.result (insert old.children c.args.j c.args.child)) (take (c.left_count-left.result + 1) (insert old.keys c.args.j c.args.key.now)) (drop c.left_count-left.result (insert old.keys c.args.j c.args.key.now)) taken write_q write_p c.right-next.result er c.name_left.ensures.written c.name_left.ensures.none joined some more
-          (omega (arith, grown, c.node_length.ensures, c.requires.short)));
+          (omega (arith, grown, c.node_length.ensures.length, c.requires.short)));
     }

@@ -14,6 +14,9 @@ use Rattle.h5_group.proofs.search.node_of.Goals.{After-unwrap}
 pub internal_k-requires : goal.internal_k-requires
 internal_k-requires c = omega (arith, ap length c.bytes-bytes.ensures, (heap_there c.args.image.now.bytes c.args.table c.requires.group).0)
 
+pub invariant_of-sought : goal.invariant_of-sought
+invariant_of-sought c = record { few = rw (← c.bytes-bytes.ensures, ← c.internal_k.ensures) at (c.requires.group).few }
+
 pub unwrap-requires : goal.unwrap-requires
 unwrap-requires c =
     let linked = (c.requires.group).linked in
@@ -26,7 +29,11 @@ unwrap-requires c =
 leads : (c : After-unwrap) → IfSome c.unwrap.result (LeadsTo (node_at c.args.image.now.bytes (kind_in c.args.image.now.bytes))
     (name_behind (segment_of c.args.image.now.bytes c.args.table.heap) c.args.name.now)
     (node_at c.args.image.now.bytes (kind_in c.args.image.now.bytes) c.args.table.tree).level c.args.table.tree)
-leads c = rw (c.internal_k.ensures, c.bytes-bytes.ensures, c.tree.ensures, c.requires.segment) at (rw c.unwrap.ensures at c.find_leaf.ensures.leads)
+leads c =
+    let found : IfSome c.unwrap.result (LeadsTo (node_at c.bytes-bytes.result.now (group_kind c.internal_k.result)) (name_behind c.args.segment.now c.args.name.now)
+    (node_at c.bytes-bytes.result.now (group_kind c.internal_k.result) c.tree.result).level c.tree.result)
+    = rw c.unwrap.ensures at c.find_leaf.ensures.leads in
+    rw (c.internal_k.ensures, c.bytes-bytes.ensures, c.tree.ensures, c.requires.segment) at found
 
 pub returns-clause-one : goal.returns-clause-one
 returns-clause-one c = one_listed c.args.image.now.bytes c.args.table c.requires.group c.args.name.now c.unwrap.result (leads c)

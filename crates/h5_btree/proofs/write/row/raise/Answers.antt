@@ -14,7 +14,7 @@ pub overflow_add-place : goal.overflow_add-place
 overflow_add-place g c =
     let some : 1 ≤ length c.loop-rest.rest.now = some_left (length c.loop-rest.rest.now) c.loop-rest-test.ensures in
     let room = rest_room (2 * c.args.kind.now.k) (node_length c.args.kind.now) c.loop-rest.place c.loop-rest.rest.now (omega (arith, c.requires.low)) some c.loop-rest.invariant.room in
-    omega (arith, room.0, c.node_length.ensures)
+    omega (arith, room.0, c.node_length.ensures.length)
 
 pub loop-rest-preserved : goal.loop-rest-preserved
 loop-rest-preserved g c =
@@ -25,6 +25,6 @@ loop-rest-preserved g c =
     record {
       written = raised_step c.args.kind.now c.requires.low c.loop-rest.place c.loop-rest.before c.node_length.result c.last_below-before.result c.loop-rest.row.items
           c.push.new.self.items c.loop-rest.rest.now c.split_node.result.0.now c.split_node.result.1.now _ some node others
-          c.last_below-before.ensures c.node_length.ensures c.in_ok-push.ensures.items c.loop-rest.invariant.written;
-      room = rw (c.node_length.ensures, others) room.1;
+          c.last_below-before.ensures c.node_length.ensures.length c.in_ok-push.ensures.items c.loop-rest.invariant.written;
+      room = rw (c.node_length.ensures.length, others) room.1;
     }

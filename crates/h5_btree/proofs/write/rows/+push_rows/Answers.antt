@@ -16,7 +16,7 @@ overflow_mul-place g t c =
     let many : 2 * c.args.kind.now.k < length c.args.children.now = omega (arith, c.if-count-most.false, c.capacity-most.ensures.capacity) in
     let there = place_is c.args.kind.now c.args.level c.args.at (length c.args.children.now) c.capacity-most.result c.from.result c.rows_of.result
     c.nodes_within-above.result c.node_length.result c.capacity-most.ensures.capacity c.from.ensures c.rows_of.ensures.exact c.nodes_within-above.ensures.exact
-    c.node_length.ensures in
+    c.node_length.ensures.length in
     omega (
       arith,
       place_fits _ _ _ _ there (row_room c.args.kind.now g.K.TreeKey.bytes c.args.first c.args.level c.args.at c.args.children.now low c.requires.low
@@ -29,7 +29,7 @@ overflow_add-place g t c =
     let many : 2 * c.args.kind.now.k < length c.args.children.now = omega (arith, c.if-count-most.false, c.capacity-most.ensures.capacity) in
     let there = place_is c.args.kind.now c.args.level c.args.at (length c.args.children.now) c.capacity-most.result c.from.result c.rows_of.result
     c.nodes_within-above.result c.node_length.result c.capacity-most.ensures.capacity c.from.ensures c.rows_of.ensures.exact c.nodes_within-above.ensures.exact
-    c.node_length.ensures in
+    c.node_length.ensures.length in
     omega (
       arith,
       place_fits _ _ _ _ there (row_room c.args.kind.now g.K.TreeKey.bytes c.args.first c.args.level c.args.at c.args.children.now low c.requires.low
@@ -42,7 +42,7 @@ raise-requires-clause-room g t c =
     let many : 2 * c.args.kind.now.k < length c.args.children.now = omega (arith, c.if-count-most.false, c.capacity-most.ensures.capacity) in
     let there = place_is c.args.kind.now c.args.level c.args.at (length c.args.children.now) c.capacity-most.result c.from.result c.rows_of.result
     c.nodes_within-above.result c.node_length.result c.capacity-most.ensures.capacity c.from.ensures c.rows_of.ensures.exact c.nodes_within-above.ensures.exact
-    c.node_length.ensures in
+    c.node_length.ensures.length in
     rw there (row_room c.args.kind.now g.K.TreeKey.bytes c.args.first c.args.level c.args.at c.args.children.now low c.requires.low
     c.requires.first c.requires.keys many c.requires.room)
 
@@ -54,7 +54,7 @@ push_rows-requires g t c κs within =
     let many : 2 * kind.k < length c.args.children.now = omega (arith, c.if-count-most.false, c.capacity-most.ensures.capacity) in
     let there = place_is kind c.args.level c.args.at (length c.args.children.now) c.capacity-most.result c.from.result c.rows_of.result
     c.nodes_within-above.result c.node_length.result c.capacity-most.ensures.capacity c.from.ensures c.rows_of.ensures.exact c.nodes_within-above.ensures.exact
-    c.node_length.ensures in
+    c.node_length.ensures.length in
     let row = c.deref.ensures.value ∙ c.in_ok-row.ensures ∙ ap (λ p. as_children kind p c.args.first (chunks (2 * kind.k) c.args.children.now)) there in (
       search rules,
       (
@@ -62,17 +62,14 @@ push_rows-requires g t c κs within =
         (
           c.requires.low,
           (
-            c.requires.high,
+            rw row (above_few kind bytes c.args.first c.args.level c.args.at c.args.children.now low c.requires.low c.requires.first c.requires.keys many c.requires.few),
             (
-              rw row (above_few kind bytes c.args.first c.args.level c.args.at c.args.children.now low c.requires.low c.requires.first c.requires.keys many c.requires.few),
+              rw row (above_low kind bytes c.args.first c.args.level c.args.at c.args.children.now low c.requires.low c.requires.first c.requires.keys many c.requires.level),
               (
-                rw row (above_low kind bytes c.args.first c.args.level c.args.at c.args.children.now low c.requires.low c.requires.first c.requires.keys many c.requires.level),
+                c.requires.first,
                 (
-                  c.requires.first,
-                  (
-                    rw row (above_fit kind bytes c.args.first c.args.level c.args.at c.args.children.now low c.requires.low c.requires.first c.requires.keys many),
-                    rw row (above_room kind bytes c.args.first c.args.level c.args.at c.args.children.now low c.requires.low c.requires.first c.requires.keys many c.requires.room),
-                  ),
+                  rw row (above_fit kind bytes c.args.first c.args.level c.args.at c.args.children.now low c.requires.low c.requires.first c.requires.keys many),
+                  rw row (above_room kind bytes c.args.first c.args.level c.args.at c.args.children.now low c.requires.low c.requires.first c.requires.keys many c.requires.room),
                 ),
               ),
             ),
@@ -87,7 +84,7 @@ push_row-requires-clause-room g t c =
     let many : 2 * c.args.kind.now.k < length c.args.children.now = omega (arith, c.if-count-most.false, c.capacity-most.ensures.capacity) in
     let there = place_is c.args.kind.now c.args.level c.args.at (length c.args.children.now) c.capacity-most.result c.from.result c.rows_of.result
     c.nodes_within-above.result c.node_length.result c.capacity-most.ensures.capacity c.from.ensures c.rows_of.ensures.exact c.nodes_within-above.ensures.exact
-    c.node_length.ensures in
+    c.node_length.ensures.length in
     rw there (row_room c.args.kind.now g.K.TreeKey.bytes c.args.first c.args.level c.args.at c.args.children.now low c.requires.low
     c.requires.first c.requires.keys many c.requires.room)
 
@@ -99,7 +96,7 @@ returns g t c =
     let many : 2 * kind.k < length c.args.children.now = omega (arith, c.if-count-most.false, c.capacity-most.ensures.capacity) in
     let there = place_is kind c.args.level c.args.at (length c.args.children.now) c.capacity-most.result c.from.result c.rows_of.result
     c.nodes_within-above.result c.node_length.result c.capacity-most.ensures.capacity c.from.ensures c.rows_of.ensures.exact c.nodes_within-above.ensures.exact
-    c.node_length.ensures in
+    c.node_length.ensures.length in
     let row = c.deref.ensures.value ∙ c.in_ok-row.ensures ∙ ap (λ p. as_children kind p c.args.first (chunks (2 * kind.k) c.args.children.now)) there in
     let whole = row_behind kind bytes c.args.first c.args.level c.args.at c.args.children.now low c.requires.low c.requires.first c.requires.keys many
     (c.args.at + c.nodes_within-above.result * c.node_length.result) c.deref.result.now c.args.out.now.items c.push_rows.new.out.items there row c.in_ok-push_rows.ensures in

@@ -16,13 +16,13 @@ bytes_of-requires-clause-count c = omega (arith, c.rows_of-nodes.ensures.few, li
 pub returns-then-length-gt-MAXIMUM_IMAGE : goal.returns-then-length-gt-MAXIMUM_IMAGE
 returns-then-length-gt-MAXIMUM_IMAGE c =
     let all = counted _ _ _ _ _ _ _ _ _ _ c.group-kind.result c.args.links.now c.from.ensures c.rows_of-nodes.ensures.exact c.group-kind.ensures
-    c.nodes_over.ensures.exact c.node_length.ensures c.bytes_of-tree.ensures.exact c.in-Some.ensures.0 c.from-2.ensures c.bytes_of.ensures.exact in
+    c.nodes_over.ensures.exact c.node_length.ensures.length c.bytes_of-tree.ensures.exact c.in-Some.ensures.0 c.from-2.ensures c.bytes_of.ensures.exact in
     subst (λ n. 2 ^ 31 < n) all.whole_is c.if-length-gt-MAXIMUM_IMAGE.true
 
 pub returns-then-root_level-gt15 : goal.returns-then-root_level-gt15
 returns-then-root_level-gt15 c =
     let all = counted _ _ _ _ _ _ _ _ _ _ c.group-kind.result c.args.links.now c.from.ensures c.rows_of-nodes.ensures.exact c.group-kind.ensures
-    c.nodes_over.ensures.exact c.node_length.ensures c.bytes_of-tree.ensures.exact c.in-Some.ensures.0 c.from-2.ensures c.bytes_of.ensures.exact in
+    c.nodes_over.ensures.exact c.node_length.ensures.length c.bytes_of-tree.ensures.exact c.in-Some.ensures.0 c.from-2.ensures c.bytes_of.ensures.exact in
     let level = c.root_level.ensures ∙ ap (λ (kind : Kind). root_level kind.k c.rows_of-nodes.result) c.group-kind.ensures in (
       subst (λ n. n ≤ 2 ^ 31) all.whole_is c.if-length-gt-MAXIMUM_IMAGE.false,
       subst (λ n. 15 < root_level c.args.internal n) all.nodes_are (subst (λ n. 15 < n) level c.if-root_level-gt15.true),
@@ -31,7 +31,7 @@ returns-then-root_level-gt15 c =
 pub returns : goal.returns
 returns c =
     let all = counted _ _ _ _ _ _ _ _ _ _ c.group-kind.result c.args.links.now c.from.ensures c.rows_of-nodes.ensures.exact c.group-kind.ensures
-    c.nodes_over.ensures.exact c.node_length.ensures c.bytes_of-tree.ensures.exact c.in-Some.ensures.0 c.from-2.ensures c.bytes_of.ensures.exact in
+    c.nodes_over.ensures.exact c.node_length.ensures.length c.bytes_of-tree.ensures.exact c.in-Some.ensures.0 c.from-2.ensures c.bytes_of.ensures.exact in
     let level = c.root_level.ensures ∙ ap (λ (kind : Kind). root_level kind.k c.rows_of-nodes.result) c.group-kind.ensures in
     record {
       tree = all.tree_is;
