@@ -74,13 +74,13 @@ class Calls(Tried):
         with open(PROGRAM, encoding="utf-8") as file:
             program = file.read()
         lines_of_readme = "\n".join(shown_lines("The library"))
-        self.assertIn("fn shown", lines_of_readme)
+        self.assertIn("fn odd_cells", lines_of_readme)
         self.assertIn(f"\n{lines_of_readme}\n", program)
         given = "readme\n" + "".join(line + "\n" for lines, _ in drawn for line in lines)
         status, output, said = self.tried(program, LIBRARIES, given.encode("ascii"))
         self.assertEqual(status, 0, said)
         first, *found = output.decode("ascii").splitlines()
-        self.assertEqual(first, "0500000006000000")
+        self.assertEqual(first, "5 6 of -7 5 -7 6")
         self.assertEqual(len(found), sum(len(wanted) for _, wanted in drawn))
         kept = 0
         for lines, wanted in drawn:

@@ -36,7 +36,7 @@ pub(crate) fn opened<R: Files, E: Write>(
     };
     match File::open(alloc, bytes) {
         Ok(opened) => Ok(opened),
-        Err((fault, _bytes)) => Err(refused(fault, errors)),
+        Err(error) => Err(refused(error.fault, errors)),
     }
 }
 

@@ -74,14 +74,16 @@ module _ (d : Dataset) (sound : IsDataset d) where
             let less = few_met (sizes_before d touched) (box_of d) (is_touched_in touched (sizes_before d touched)) slab box_rank (omega (arith, is)) in
             omega (arith, all, less, few)
 
+      -- where no box is met nothing is patched
+      pub nothing_patched : (k : KeptState) → met_with d touched slab ≡ [] → IsMetPatched d touched slab k 0 k
+      nothing_patched k nothing = record {
+        counted = sym (ap length nothing);
+        patches = omega arith;
+        bytes = rw nothing (none_patched d slab (box_of d) k.bytes);
+      }
+
       pub empty_patched : (k : KeptState) → selects_none slab ≡ true → IsMetPatched d touched slab k 0 k
-      empty_patched k none =
-          let nothing = empty_met (sizes_before d touched) (box_of d) (is_touched_in touched (sizes_before d touched)) slab box_rank none in
-          record {
-            counted = sym (ap length nothing);
-            patches = omega arith;
-            bytes = rw nothing (none_patched d slab (box_of d) k.bytes);
-          }
+      empty_patched k none = nothing_patched k (empty_met (sizes_before d touched) (box_of d) (is_touched_in touched (sizes_before d touched)) slab box_rank none)
 
 -- ---- the grid
 

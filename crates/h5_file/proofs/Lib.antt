@@ -17,4 +17,6 @@ pub mod AcceptedEdits
 pub mod FollowedCells
 pub mod EditedViews
 pub mod SessionEdits
+pub mod UntouchedViews
+pub mod FollowedEdits
 mod Walks

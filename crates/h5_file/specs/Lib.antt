@@ -1,9 +1,10 @@
 pub mod State
 pub mod Opening
 pub mod Anew
-pub mod ArrayNumber
+pub mod DatasetAt
 pub mod Session
 pub mod OpenViews
+pub mod Following
 pub use Rattle.h5_edit.specs.Edited
 pub use Rattle.h5_edit.specs.Carried
 pub use Rattle.h5_edit.specs.Repacked

@@ -16,9 +16,10 @@ ghost use Rattle.h5_edit.specs.Found.{HasFound, IsUnfound};
 ghost use Rattle.h5_edit.specs.Place.{IsNumber, IsNoObject};
 ghost use Rattle.h5_edit.specs.Selected.{HasRuns};
 ghost use Rattle.h5_file.specs.State.{created_state};
-ghost use Rattle.h5_file.specs.ArrayNumber.{IsArrayNumber};
+ghost use Rattle.h5_file.specs.DatasetAt.{IsDatasetAt};
 ghost use Rattle.h5_file.specs.Opening.{IsReadable, Refused};
 
+use crate::open_error::OpenError;
 use h5_edit::{
     AttrRef, Found, Kind, Opened, Runs, StoredArray, array_at, array_of, attributes_at,
     empty_image, found_at, kind_at, links_of, names_at, names_of_attributes, number_at,
@@ -73,19 +74,19 @@ impl File {
     ///
     /// The fault says which rule of docs/FORMAT.md is broken, and at which address: the first broken rule of the
     /// superblock (File Format Specification 3.0, section II.A), or else the first one on the way from there. Bytes
-    /// that are a tree are refused as [`Cause::NoMemory`] alone. The bytes are given back whole.
-    pub fn open(alloc: Global, bytes: Vec<u8>) -> Result<File, (OpenFault, Vec<u8>)>
+    /// that are a tree are refused as [`Cause::NoMemory`] alone. [`OpenError`] gives the bytes back whole.
+    pub fn open(alloc: Global, bytes: Vec<u8>) -> Result<File, OpenError>
         ensures image { IfOk result (λ f. (f.image ≡ cut bytes.items) × (f.free ≡ [])) }
         ensures sound { IfOk result IsSound }
-        ensures refused { IfErr result (λ e. Refused bytes.items e.0) }
+        ensures refused { IfErr result (λ e. Refused bytes.items e.fault) }
         // Bytes that are a tree are refused for want of memory alone.
-        ensures only { IfErr result (λ e. IsReadable bytes.items → e.0.cause ≡ Cause.NoMemory) }
+        ensures only { IfErr result (λ e. IsReadable bytes.items → e.fault.cause ≡ Cause.NoMemory) }
         // No number was used up before.
         ensures numbers { IfOk result (λ f. f.next ≡ len f.tree) }
-        ensures back { IfErr result (λ e. e.1.items ≡ bytes.items) }
+        ensures back { IfErr result (λ e. e.bytes.items ≡ bytes.items) }
     {
         if let Some(fault) = superblock_fault(&bytes) {
-            return Err((fault, bytes));
+            return Err(OpenError { fault, bytes });
         }
         let end = end_of_file(&bytes) as usize;
         if end < bytes.len() {
@@ -93,7 +94,10 @@ impl File {
         }
         match Opened::open(alloc, Image::new(alloc, bytes)) {
             Ok(opened) => Ok(File { opened, alloc }),
-            Err((fault, image)) => Err((fault, image.into_bytes())),
+            Err((fault, image)) => Err(OpenError {
+                fault,
+                bytes: image.into_bytes(),
+            }),
         }
     }
 
@@ -233,30 +237,29 @@ impl File {
         runs_at(self.alloc, &self.opened, path, hyper)
     }
 
+    /// The array at the path. Takes no memory.
+    ///
+    /// # Errors
+    ///
+    /// Those of [`File::kind`], and `NotADataset` if no array stands at the path.
+    pub fn dataset(&self, path: &[u8]) -> Result<StoredArray<'_>, EditFault>
+        ensures { MatchResult result (IsDatasetAt self.now.tree path.now) (λ e.
+            first_holding (dataset_rules self.now.tree path.now) ≡ Some e) }
+    {
+        let (_number, array) = array_at(self.alloc, &self.opened, path)?;
+        Ok(array)
+    }
+
     /// The number of the object at the path. The object keeps it while the file is open. Takes no memory.
     ///
     /// # Errors
     ///
     /// Those of [`File::kind`], and `NotFound` if a soft link stands at the path.
-    pub fn object_number(&self, path: &[u8]) -> Result<ObjectNo, EditFault>
+    pub fn number(&self, path: &[u8]) -> Result<ObjectNo, EditFault>
         ensures { MatchResult result (λ number.
             IsNumber self.now.tree path.now number.0) (IsNoObject self.now.tree path.now) }
     {
         number_at(&self.opened, path)
-    }
-
-    /// The number of the array at the path. The array keeps it while the file is open. Takes no memory.
-    ///
-    /// # Errors
-    ///
-    /// Those of [`File::kind`], and `NotADataset` if no array stands at the path.
-    pub fn number(&self, path: &[u8]) -> Result<ObjectNo, EditFault>
-        ensures { MatchResult result (λ number.
-            IsArrayNumber self.now.tree path.now number.0) (λ e.
-            first_holding (dataset_rules self.now.tree path.now) ≡ Some e) }
-    {
-        let (number, _array) = array_at(self.alloc, &self.opened, path)?;
-        Ok(ObjectNo(number))
     }
 
     /// The links of the group with this number, in ascending order of the bytes of their names; `Ok(None)` if no
@@ -285,21 +288,24 @@ impl File {
 }
 
 /// The file of the first bytes, up to their end of file address.
-fn open_front(alloc: Global, bytes: Vec<u8>, end: usize) -> Result<File, (OpenFault, Vec<u8>)>
+fn open_front(alloc: Global, bytes: Vec<u8>, end: usize) -> Result<File, OpenError>
     requires superblock { IsSuperblock bytes.items }
     requires end { end ≡ end_of_file bytes.items }
     ensures image { IfOk result (λ f. (f.image ≡ cut bytes.items) × (f.free ≡ [])) }
     ensures sound { IfOk result IsSound }
     ensures numbers { IfOk result (λ f. f.next ≡ len f.tree) }
-    ensures refused { IfErr result (λ e. IsOpenRefusedAt (cut bytes.items) e.0.cause e.0.address) }
-    ensures only { IfErr result (λ e. ReadsSome (cut bytes.items) → e.0.cause ≡ Cause.NoMemory) }
-    ensures back { IfErr result (λ e. e.1.items ≡ bytes.items) }
+    ensures refused { IfErr result (λ e. IsOpenRefusedAt (cut bytes.items) e.fault.cause e.fault.address) }
+    ensures only { IfErr result (λ e. ReadsSome (cut bytes.items) → e.fault.cause ≡ Cause.NoMemory) }
+    ensures back { IfErr result (λ e. e.bytes.items ≡ bytes.items) }
 {
     let Ok(front) = Vec::from_slice(alloc, &bytes[..end]) else {
-        return Err((OpenFault::from(AllocError), bytes));
+        return Err(OpenError {
+            fault: OpenFault::from(AllocError),
+            bytes,
+        });
     };
     match Opened::open(alloc, Image::new(alloc, front)) {
         Ok(opened) => Ok(File { opened, alloc }),
-        Err((fault, _front)) => Err((fault, bytes)),
+        Err((fault, _front)) => Err(OpenError { fault, bytes }),
     }
 }

@@ -1,19 +1,28 @@
 //! Files of integer arrays in memory: an image of bytes, and the objects that stand in it.
 //!
 //! ```
-//! use h5_file::{AttrSpec, EditFault, File, Fixed, Spec};
+//! use h5_file::{Fixed, Hyper, Session, Spec};
 //!
-//! /// The image of a file that has the array `/run/times`, and the array's last cell.
-//! fn times(alloc: Global) -> Result<(Vec<u8>, i128), EditFault> {
-//!     let mut file = File::create(alloc)?;
-//!     file.create_group(b"/run")?;
-//!     let spec = Spec::contiguous(alloc, Fixed::I32_LE, &[3], -7)?;
-//!     file.create_dataset(b"/run/times", &spec)?;
-//!     let unit = AttrSpec::new(alloc, b"unit", Fixed::U8, &[2], &[109, 115])?;
-//!     file.set_attr(b"/run/times", &unit)?;
-//!     let last = file.cell(b"/run/times", &[2])?;
-//!     Ok((file.into_image(), last))
+//! /// The image of a file with the array `/d`, of which the odd cells were written, and the last of them.
+//! fn odd_cells(alloc: Global) -> anyhow::Result<(Vec<u8>, i128)> {
+//!     let mut session = Session::create(alloc)?;
+//!     let spec = Spec::contiguous(alloc, Fixed::I32_LE, &[4], -7)?;
+//!     session.create_dataset(b"/d", &spec)?;
+//!     let odd = Hyper::new(alloc, &[1], &[2], &[2], &[1])?;
+//!     session.write(b"/d", &odd, &[1, 3])?;
+//!     let view = session.open_view(b"/d", &odd)?;
+//!     session.write(b"/d", &odd, &[5, 6])?;
+//!     session.close_view(view)?;
+//!     let last = session.file().cell(b"/d", &[3])?;
+//!     Ok((session.into_image(), last))
 //! }
+//! ```
+//!
+//! What the view shows before it is closed, and the cells of the array, come value by value:
+//!
+//! ```
+//! for value in session.show(view)?.values() { .. }
+//! for value in session.file().dataset(b"/d")?.values() { .. }
 //! ```
 //!
 //! A [`File`] is made by [`File::create`] or read from bytes by [`File::open`], which names the
@@ -30,6 +39,7 @@ mod edits;
 mod file;
 mod gather;
 mod kept;
+mod open_error;
 mod patch;
 mod session;
 mod touched;
@@ -38,7 +48,7 @@ mod views;
 pub use file::File;
 pub use h5_edit::{
     ArrayRef, AttrRef, Dims, Found, Kind, MAX_DEPTH, MAX_RANK, Piece, Runs, Slab, SlabFault,
-    StoreKind, StoredArray, store_of,
+    StoreKind, StoredArray, Values, store_of,
 };
 pub use h5_model::{
     AttrSpec, Cause, Edit, EditFault, Edited, Fixed, Hyper, Items, Link, LinkTo, ObjectNo,
@@ -46,4 +56,5 @@ pub use h5_model::{
 };
 pub use h5_space::MAXIMUM_IMAGE;
 pub use kept::Kept;
+pub use open_error::OpenError;
 pub use session::{Session, Shown};

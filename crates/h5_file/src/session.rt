@@ -2,18 +2,21 @@
 
 ghost use Rattle.std.specs.Prelude.{◌≡◌, ◌||◌, nat_le, length, Ok, Err, IfOk, MatchResult};
 ghost use Rattle.std.specs.FinMap.{get};
-ghost use Rattle.h5_model.specs.Scripts.Answers.{view_is_lent};
+ghost use Rattle.h5_model.specs.Scripts.Answers.{stored_values, view_is_lent};
 ghost use Rattle.h5_model.specs.Scripts.Sessions.{IsSession};
 ghost use Rattle.h5_model.specs.Views.Shown.{shows};
-ghost use Rattle.h5_edit.specs.Carried.{IsRefused};
-ghost use Rattle.h5_edit.specs.Opened.Sound.{IsSound};
+ghost use Rattle.h5_edit.specs.Opened.Sound.{IsSound, IsWholeFile};
 ghost use Rattle.h5_edit.specs.Repacked.{IsRepackRefused};
-ghost use Rattle.h5_file.specs.Session.{IsSessionEdited, IsSessionRepacked, IsViewClosed, IsViewNotOpen, IsViewOpened, IsViewRefused, session_of, without_views};
+ghost use Rattle.h5_file.specs.Session.{IsSessionRepacked, IsViewClosed, IsViewNotOpen, IsViewOpened, IsViewRefused, session_of, without_views};
+ghost use Rattle.h5_file.specs.State.{created_state};
+
+mod edits;
 
 use crate::file::File;
-use crate::touched::Touched;
-use crate::views::{KeptView, follow_all, place_of, push_view};
-use h5_model::{Edit, EditFault, Edited, Fixed, Hyper, ViewFault, ViewNo};
+use crate::views::{KeptView, place_of, push_view};
+use h5_edit::Values;
+use h5_model::{EditFault, Fixed, Hyper, ViewFault, ViewNo};
+use std::alloc::{AllocError, Global};
 use std::marker::Model;
 
 /// The most views that may be open at a time.
@@ -29,6 +32,15 @@ pub struct Shown<'a> {
     /// Whether these bytes are lent from the image. They are where the array is compact, or contiguous with storage, and
     /// the cells are one run in it. Any other view keeps its bytes beside the image.
     pub lent: bool,
+}
+
+impl<'a> Shown<'a> {
+    /// The values of the selected cells, in row-major order. Each is decoded when it is asked for. Takes no memory.
+    pub fn values(&self) -> Values<'a>
+        ensures { result ≡ stored_values self.now.fixed self.now.bytes.now }
+    {
+        Values::stored(self.fixed, self.bytes)
+    }
 }
 
 /// A file with the views that are open on it. A view goes by the number of an array, not by its path. It shows the
@@ -59,6 +71,19 @@ impl Model for Session {
 }
 
 impl Session {
+    /// A session of a file with an empty root group, without views.
+    ///
+    /// # Errors
+    ///
+    /// Those of [`File::create`].
+    pub fn create(alloc: Global) -> Result<Session, AllocError>
+        ensures created { IfOk result (λ s. s ≡ without_views created_state) }
+        ensures sound { IfOk result (λ s. IsSound s.file) }
+        ensures whole { IfOk result (λ s. IsWholeFile s.file) }
+    {
+        Ok(Session::new(File::create(alloc)?))
+    }
+
     /// A session of this file, without views. Takes no memory.
     pub fn new(file: File) -> Session
         ensures { result ≡ without_views file }
@@ -146,35 +171,6 @@ impl Session {
         };
         let view = &self.views[at];
         view.show(&self.file)
-    }
-
-    /// Carries an edit out. The open views of the array that it writes or resizes follow: in each view that keeps bytes,
-    /// the cells in each chunk that the edit and the view both meet are set to the array's. `refreshed` is how many chunks
-    /// these are, over all views; an array without chunks is one chunk. A view whose cells can be lent now keeps none of
-    /// them any more.
-    ///
-    /// Views take no memory for it, and views of other arrays no time beyond a look at their numbers.
-    ///
-    /// # Errors
-    ///
-    /// Those of [`File::edit`]. A refusal changes nothing.
-    pub fn edit(&mut self, edit: &Edit) -> Result<Edited, EditFault>
-        ensures edited { MatchResult result (IsSessionEdited self.old edit.now self.new) (λ e.
-            IsRefused self.old.file edit.now e × (self.new ≡ self.old)) }
-    {
-        let touched = Touched::of(&self.file, edit);
-        let edited = self.file.edit(edit)?;
-        let Some(touched) = touched else {
-            return Ok(edited);
-        };
-        let Some(number) = edited.object else {
-            return Ok(edited);
-        };
-        let refreshed = follow_all(&self.file, &mut self.views, number, &touched);
-        Ok(Edited {
-            object: edited.object,
-            refreshed,
-        })
     }
 
     /// Writes the image anew, without bytes that nothing uses. What views show stays.

@@ -1,12 +1,13 @@
 //! What an edit touches of an array, and the boxes of its grid that it and a view both meet.
 
-ghost use Rattle.std.specs.Prelude.{◌≡◌, MatchOption};
+ghost use Rattle.std.specs.Prelude.{◌≡◌, ℕ, ℤ, List, MatchOption, []};
 ghost use Rattle.h5_model.specs.Tree.Objects.{Dataset};
+ghost use Rattle.h5_model.specs.declared.edits.Edit.TheVariants.{Resize, Write};
 ghost use Rattle.h5_file.specs.Touched.{IsGridOf, IsTouching, IsUntouching, met_with};
 
 use crate::file::File;
 use h5_edit::{Dims, Slab, array_at};
-use h5_model::Edit;
+use h5_model::{Edit, Hyper};
 use h5_shape::{MetBoxes, lost_boxes, written_boxes};
 use std::alloc::Global;
 
@@ -25,19 +26,9 @@ impl Touched {
         ensures { MatchOption result (IsUntouching file.now.tree file.now.next edit.now)
             (IsTouching file.now.tree edit.now) }
     {
-        // Its arrays are sound.
-        let _image = file.image();
         match edit {
-            Edit::Write { hyper, .. } => {
-                let slab = Slab::new(hyper).ok()?;
-                Some(Touched::Written(slab))
-            }
-            Edit::Resize { path, dims } => {
-                let (_number, array) = array_at(file.alloc, &file.opened, path.as_slice()).ok()?;
-                let before = Dims::new(file.alloc, array.dims().sizes())?;
-                let kept = Dims::new(file.alloc, dims.as_slice())?;
-                Some(Touched::Lost { before, kept })
-            }
+            Edit::Write { hyper, .. } => Touched::written(file, hyper),
+            Edit::Resize { path, dims } => Touched::lost(file, path.as_slice(), dims.as_slice()),
             Edit::CreateGroup { .. }
             | Edit::CreateDataset { .. }
             | Edit::HardLink { .. }
@@ -48,11 +39,43 @@ impl Touched {
         }
     }
 
-    /// The boxes of an array's grid that hold a cell touched and a cell of the selection. It takes no memory.
-    pub(crate) fn boxes<'a>(&'a self, alloc: Global, grid: &'a Dims, slab: &'a Slab) -> MetBoxes<'a>
+    /// The cells that a write selects, or `None` where the lists are no selection.
+    pub(crate) fn written(file: &File, hyper: &Hyper) -> Option<Touched>
+        ensures { (path : List ℕ) (values : List ℤ) → MatchOption result
+            (IsUntouching file.now.tree file.now.next (Write path hyper.now values))
+            (IsTouching file.now.tree (Write path hyper.now values)) }
+    {
+        // Its arrays are sound.
+        let _image = file.image();
+        let slab = Slab::new(hyper).ok()?;
+        Some(Touched::Written(slab))
+    }
+
+    /// The cells that the array at the path may lose where it gets these sizes, or `None` where it can't get them.
+    pub(crate) fn lost(file: &File, path: &[u8], dims: &[u64]) -> Option<Touched>
+        ensures { MatchOption result (IsUntouching file.now.tree file.now.next (Resize path.now dims.now))
+            (IsTouching file.now.tree (Resize path.now dims.now)) }
+    {
+        // Its arrays are sound.
+        let _image = file.image();
+        let (_number, array) = array_at(file.alloc, &file.opened, path).ok()?;
+        let before = Dims::new(file.alloc, array.dims().sizes())?;
+        let kept = Dims::new(file.alloc, dims)?;
+        Some(Touched::Lost { before, kept })
+    }
+
+    /// The boxes of an array's grid that hold a cell touched and a cell of the selection. `None` where the two are so far apart that
+    /// there is none. It takes no memory.
+    pub(crate) fn boxes<'a>(
+        &'a self,
+        alloc: Global,
+        grid: &'a Dims,
+        slab: &'a Slab,
+    ) -> Option<MetBoxes<'a>>
         requires { (d : Dataset) × IsGridOf d self.now grid.now slab.now }
         ensures { (d : Dataset) → IsGridOf d self.now grid.now slab.now
-            → result ≡ met_with d self.now slab.now }
+            → let met = met_with d self.now slab.now in
+            MatchOption result (met ≡ []) (λ boxes. boxes ≡ met) }
     {
         match self {
             Touched::Written(written) => written_boxes(alloc, grid, written, slab),

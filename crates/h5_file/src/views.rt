@@ -187,7 +187,11 @@ fn patch_met(
     if slab.cells() == 0 {
         return 0;
     }
-    kept.patch_boxes(array, slab, grid, touched.boxes(alloc, grid, slab))
+    // Most views of a large array lie far from what a small edit touches.
+    let Some(boxes) = touched.boxes(alloc, grid, slab) else {
+        return 0;
+    };
+    kept.patch_boxes(array, slab, grid, boxes)
 }
 
 /// Where the view of this number is held, found by halving: their numbers rise.

@@ -1,24 +1,26 @@
 //! The lines at the head of `h5_file`'s documentation, run as they stand there.
 
-use h5_file::{AttrSpec, EditFault, File, Fixed, Spec};
+use h5_file::{Fixed, Hyper, Session, Spec};
 use std::alloc::Global;
 use std::test::Fail;
 
-/// The image of a file that has the array `/run/times`, and the array's last cell.
-fn times(alloc: Global) -> Result<(Vec<u8>, i128), EditFault> {
-    let mut file = File::create(alloc)?;
-    file.create_group(b"/run")?;
-    let spec = Spec::contiguous(alloc, Fixed::I32_LE, &[3], -7)?;
-    file.create_dataset(b"/run/times", &spec)?;
-    let unit = AttrSpec::new(alloc, b"unit", Fixed::U8, &[2], &[109, 115])?;
-    file.set_attr(b"/run/times", &unit)?;
-    let last = file.cell(b"/run/times", &[2])?;
-    Ok((file.into_image(), last))
+/// The image of a file with the array `/d`, of which the odd cells were written, and the last of them.
+fn odd_cells(alloc: Global) -> anyhow::Result<(Vec<u8>, i128)> {
+    let mut session = Session::create(alloc)?;
+    let spec = Spec::contiguous(alloc, Fixed::I32_LE, &[4], -7)?;
+    session.create_dataset(b"/d", &spec)?;
+    let odd = Hyper::new(alloc, &[1], &[2], &[2], &[1])?;
+    session.write(b"/d", &odd, &[1, 3])?;
+    let view = session.open_view(b"/d", &odd)?;
+    session.write(b"/d", &odd, &[5, 6])?;
+    session.close_view(view)?;
+    let last = session.file().cell(b"/d", &[3])?;
+    Ok((session.into_image(), last))
 }
 
 #[test]
 fn runs_the_first_lines(rt: HostRuntime) -> Result<(), Fail> {
-    let (image, last) = times(rt.alloc())?;
-    assert!(rt; last == -7 && image.len() > 800);
+    let (image, last) = odd_cells(rt.alloc())?;
+    assert!(rt; last == 6 && image.len() > 800);
     Ok(())
 }

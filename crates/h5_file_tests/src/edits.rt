@@ -21,9 +21,7 @@ fn answers_the_object(rt: HostRuntime) -> Result<(), Fail> {
     assert!(rt; is_of(file.remove_attr(b"/g/d", b"note")?, 2));
     assert!(rt; file.soft_link(b"/nowhere", b"/s")?.object.is_none());
     // Objects have the numbers in which they were made, wherever their headers stand.
-    assert!(rt;
-        file.object_number(b"/a")? == ObjectNo(3) && file.object_number(b"/b")? == ObjectNo(2)
-    );
+    assert!(rt; file.number(b"/a")? == ObjectNo(3) && file.number(b"/b")? == ObjectNo(2));
     Ok(())
 }
 
@@ -45,7 +43,7 @@ fn unlinks_and_repacks(rt: HostRuntime) -> Result<(), Fail> {
     assert!(rt; is_of(file.create_dataset(b"/d", &line(rt.alloc())?)?, 2));
     assert!(rt; file.unlink(b"/z")?.object.is_none());
     file.repack()?;
-    assert!(rt; file.object_number(b"/d")? == ObjectNo(2));
+    assert!(rt; file.number(b"/d")? == ObjectNo(2));
     Ok(())
 }
 

@@ -33,7 +33,7 @@ fn gives_back(alloc: Global, image: Vec<u8>, refusal: OpenFault) -> bool {
     let len = image.len();
     match File::open(alloc, image) {
         Ok(_) => false,
-        Err((fault, bytes)) => fault == refusal && bytes.len() == len,
+        Err(error) => error.fault == refusal && error.bytes.len() == len,
     }
 }
 

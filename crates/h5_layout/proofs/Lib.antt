@@ -33,3 +33,4 @@ pub mod MergedLaws
 pub mod MissingLaws
 pub mod HeldWith
 pub mod LentLaws
+pub mod ValueSteps

@@ -18,4 +18,5 @@ pub mod Standing
 pub mod Stored
 pub mod StoredAt
 pub mod Told
+pub mod Values
 pub use Rattle.h5_msg.specs.Layouts

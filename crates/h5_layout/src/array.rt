@@ -7,7 +7,6 @@ ghost use Rattle.h5_bytes.specs.Bytes.{part};
 ghost use Rattle.h5_model.specs.Format.Fixed.{fits};
 ghost use Rattle.h5_model.specs.Tree.Places.{cells as cells_of, IsInside};
 ghost use Rattle.h5_model.specs.Format.Cells.{value_in as value_at_place};
-ghost use Rattle.h5_model.specs.Scripts.Reading.{cell_at};
 ghost use Rattle.h5_msg.specs.Layouts.{layout_in};
 ghost use Rattle.h5_layout.specs.Described.{array_of, described_dataset};
 ghost use Rattle.h5_layout.specs.Stored.{AreFilled, AreStored, IsArray, IsUnchunked, data_in};
@@ -152,33 +151,6 @@ impl<'a> ArrayRef<'a> {
         &self.layout
     }
 
-    /// The value of a cell of an array that is not chunked, by its index.
-    ///
-    /// That the index is inside the sizes, that the array is not chunked, and that the block of its data, where it has
-    /// one, lies in the image are the caller's conditions.
-    pub fn cell(&self, image: &Image, index: &[u64]) -> i128
-        requires inside { IsInside self.now.sizes index.now }
-        requires stored { IsUnchunked (length image.now.bytes) self.now.layout }
-        ensures { result ≡ cell_at (described_dataset image.now.bytes self.now empty) index.now }
-    {
-        self.value(image, self.dims().place(index))
-    }
-
-    /// The value of a cell of an array that is not chunked, by its place in row-major order.
-    ///
-    /// That there is such a place, that the array is not chunked, and that the block of its data, where it has one,
-    /// lies in the image are the caller's conditions.
-    pub fn value(&self, image: &Image, place: u64) -> i128
-        requires below { place < cells_of self.now.sizes }
-        requires stored { IsUnchunked (length image.now.bytes) self.now.layout }
-        ensures { slice_get (described_dataset image.now.bytes self.now empty).cells place ≡ Some result }
-    {
-        match data_bytes(&self.layout, image) {
-            Some(bytes) => value_in(&self.fixed, bytes, place as usize),
-            None => self.fill,
-        }
-    }
-
     /// The bytes of the cells of an array that is not chunked, one cell behind another, each in as many bytes as the
     /// type has. `None` where no cell is stored; each reads the fill then.
     ///
@@ -234,7 +206,7 @@ pub(crate) fn block_bytes(image: &Image, block: Option<Block>) -> Option<&[u8]>
 }
 
 /// The value at a place of cells that stand one after another.
-fn value_in(fixed: &Fixed, bytes: &[u8], place: usize) -> i128
+pub(crate) fn value_in(fixed: &Fixed, bytes: &[u8], place: usize) -> i128
     requires { place * fixed.now.size + fixed.now.size ≤ length bytes.now }
     ensures { result ≡ value_at_place fixed.now bytes.now place }
 {

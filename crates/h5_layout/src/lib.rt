@@ -21,6 +21,7 @@ mod places;
 mod read;
 mod resized;
 mod stored;
+mod values;
 
 pub use address::{StoredRun, stored_from, write_stored};
 pub use array::ArrayRef;
@@ -32,3 +33,4 @@ pub use new_chunks::{NewChunks, missing_chunks};
 pub use pieces::{Piece, Runs};
 pub use read::{known_array, read_array};
 pub use stored::StoredArray;
+pub use values::Values;

@@ -15,6 +15,7 @@ ghost use Rattle.h5_layout.specs.Lent.{AreInLine, IsLent};
 use crate::array::{ArrayRef, block_bytes};
 use crate::cells::{StoredCells, run_bytes};
 use crate::pieces::{Piece, Runs};
+use crate::values::Values;
 use h5_model::Fixed;
 use h5_msg::{Layout, value_at};
 use h5_shape::{CellRun, Dims, Slab};
@@ -180,6 +181,13 @@ impl<'a> StoredArray<'a> {
             length: self.array.cells(),
         };
         Runs::new(self.cells(), whole, None)
+    }
+
+    /// The values of all cells, in row-major order. Each is decoded when it is asked for. Takes no memory.
+    pub fn values(&self) -> Values<'a>
+        ensures { result ≡ self.now.cells }
+    {
+        Values::new(self.fixed(), self.fill(), self.all())
     }
 
     /// All cells, where they stand.

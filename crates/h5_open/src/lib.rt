@@ -12,5 +12,7 @@ mod steps;
 
 pub use h5_attr::{AttrRef, get, list, new_body, sorted};
 pub use h5_group::{SymbolTable, entries, lookup};
-pub use h5_layout::{ArrayRef, Dims, Layout, MAX_RANK, Piece, Runs, StoredArray, known_array};
+pub use h5_layout::{
+    ArrayRef, Dims, Layout, MAX_RANK, Piece, Runs, StoredArray, Values, known_array,
+};
 pub use opened::{Opened, OpenedContent, OpenedObject, StandingCells};

@@ -2,24 +2,24 @@ use Rattle.std.proofs.Common.{◌≡◌, ◌^◌, ◌≤◌, ◌+◌, false, len
 use Rattle.h5_model.specs.Views.Selection.{selected_cells, selects_none}
 use Rattle.h5_file.specs.Patched.{AreCorners, ArePatched}
 use Rattle.h5_file.specs.Touched.{met_with}
-use Rattle.h5_file.proofs.FollowLaws.{empty_patched, grid_of, met_corners, met_few, some_counted}
+use Rattle.h5_file.proofs.FollowLaws.{empty_patched, grid_of, met_corners, met_few, nothing_patched, some_counted}
 use Rattle.h5_file.proofs.SlabLaws.{none_selected}
 use Rattle.h5_file.proofs.views.patch_met.Goals as goal
-use Rattle.h5_file.proofs.views.patch_met.Goals.{After-boxes}
+use Rattle.h5_file.proofs.views.patch_met.Goals.{In-Some}
 
-some : (c : After-boxes) → selects_none c.args.slab.now ≡ false
+some : (c : In-Some) → selects_none c.args.slab.now ≡ false
 some c = some_counted c.args.slab.now c.cells.result c.cells.ensures c.if-cells-eq0.false
 
-boxes : (c : After-boxes) → c.boxes.result ≡ met_with c.args.array.now c.args.touched.now c.args.slab.now
+boxes : (c : In-Some) → c.in-Some.boxes ≡ met_with c.args.array.now c.args.touched.now c.args.slab.now
 boxes c =
-    c.boxes.ensures c.args.array.now
+    c.in-Some.ensures c.args.array.now
     (grid_of c.args.array.now c.args.touched.now c.args.grid.now c.args.slab.now c.requires.array c.requires.rank (c.requires.apart (some c)))
 
-few : (c : After-boxes) → length c.boxes.result ≤ 2 ^ 40
+few : (c : In-Some) → length c.in-Some.boxes ≤ 2 ^ 40
 few c =
     let r = c.requires.array in
     let less = met_few c.args.array.now r.sound c.args.touched.now r.touch c.args.slab.now r.few in
-    let same : length c.boxes.result ≡ length (met_with c.args.array.now c.args.touched.now c.args.slab.now) = ap length (boxes c) in
+    let same : length c.in-Some.boxes ≡ length (met_with c.args.array.now c.args.touched.now c.args.slab.now) = ap length (boxes c) in
     omega (arith, less, same)
 
 pub returns-then-cells-eq0-clause-met : goal.returns-then-cells-eq0-clause-met
@@ -34,22 +34,30 @@ boxes-requires c =
     let apart = c.requires.apart (some_counted slab c.cells.result c.cells.ensures c.if-cells-eq0.false) in
     (c.args.array.now, grid_of c.args.array.now c.args.touched.now c.args.grid.now slab c.requires.array c.requires.rank apart)
 
+pub returns-in_default-clause-met : goal.returns-in_default-clause-met
+returns-in_default-clause-met c =
+    let r = c.requires.array in
+    let slab = c.args.slab.now in
+    let apart = c.requires.apart (some_counted slab c.cells.result c.cells.ensures c.if-cells-eq0.false) in
+    nothing_patched c.args.array.now r.sound c.args.touched.now r.touch slab c.args.kept.now
+    (c.in_default.ensures c.args.array.now (grid_of c.args.array.now c.args.touched.now c.args.grid.now slab r c.requires.rank apart))
+
 pub patch_boxes-requires-clause-apart : goal.patch_boxes-requires-clause-apart
-patch_boxes-requires-clause-apart c = c.requires.apart (some (goal.at.patch_boxes-requires-clause-apart c).After-boxes)
+patch_boxes-requires-clause-apart c = c.requires.apart (some (goal.at.patch_boxes-requires-clause-apart c).In-Some)
 
 pub patch_boxes-requires-clause-corners : goal.patch_boxes-requires-clause-corners
 patch_boxes-requires-clause-corners c =
-    let b = (goal.at.patch_boxes-requires-clause-corners c).After-boxes in
+    let b = (goal.at.patch_boxes-requires-clause-corners c).In-Some in
     let r = c.requires.array in
     subst (λ (X : Type 0). X) (λ i. AreCorners c.args.slab.now (sym r.grid_is i) (sym (boxes b) i))
     (met_corners c.args.array.now r.sound c.args.touched.now r.touch c.args.slab.now c.requires.rank)
 
 pub patch_boxes-requires-clause-few : goal.patch_boxes-requires-clause-few
-patch_boxes-requires-clause-few c = let b = (goal.at.patch_boxes-requires-clause-few c).After-boxes in omega (arith, few b)
+patch_boxes-requires-clause-few c = let b = (goal.at.patch_boxes-requires-clause-few c).In-Some in omega (arith, few b)
 
 pub returns-clause-met : goal.returns-clause-met
 returns-clause-met c =
-    let b = (goal.at.returns-clause-met c).After-boxes in
+    let b = (goal.at.returns-clause-met c).In-Some in
     let met = boxes b in
     let count : c.patch_boxes.result ≡ length (met_with c.args.array.now c.args.touched.now c.args.slab.now) = c.patch_boxes.ensures.count ∙ ap length met in
     record {
@@ -60,4 +68,4 @@ returns-clause-met c =
     }
 
 pub returns-clause-few : goal.returns-clause-few
-returns-clause-few c = let b = (goal.at.returns-clause-few c).After-boxes in omega (arith, few b, c.patch_boxes.ensures.count)
+returns-clause-few c = let b = (goal.at.returns-clause-few c).In-Some in omega (arith, few b, c.patch_boxes.ensures.count)
