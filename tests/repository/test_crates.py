@@ -9,9 +9,9 @@ TOP = os.path.dirname(os.path.dirname(os.path.dirname(os.path.abspath(__file__))
 CRATES = os.path.join(TOP, "crates")
 
 # A check reads all crates below its own, so its time grows with these three.
-MOST_CRATES = 30
+MOST_CRATES = 31
 LONGEST_CHAIN = 14
-MOST_PATHS = 5_000
+MOST_PATHS = 6_100
 # A longer file of code is better read as two.
 MOST_LINES = 600
 HANDLES = "Handles allowed: none.\n"

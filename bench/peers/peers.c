@@ -1,0 +1,643 @@
+/* Times the same work by libhdf5 and by libh5i, in one process, in turn, and prints the medians with their ratio.
+ *
+ *     bench/peers/run [RUNS [PHASES [PARTS]]]
+ *
+ * RUNS is 5 and PHASES are all, as 'bcd', where they are left out. PARTS divides the counts of the phases a, e, f and g. Both keep every file in memory:
+ * libhdf5 by its core driver, without a file behind it. Its low bound is the earliest, so the files are of the same form. What is read is
+ * compared with what is to be read, by both. */
+#include <hdf5.h>
+
+#include "h5i.h"
+
+#include <stdint.h>
+#include <stdio.h>
+#include <stdlib.h>
+#include <string.h>
+#include <time.h>
+
+enum { MOST_RUNS = 99, SIDE = 4096, CHUNK = 64, STRIDED = 1365 * 818 * 2, CELLS = 1000000, SLAB = 16 };
+
+static int part = 1; /* the counts of slow phases are divided by this */
+static hid_t in_memory;
+
+static void fail(const char *what, long status) {
+    fprintf(stderr, "failed with %ld: %s\n", status, what);
+    exit(1);
+}
+
+static void not_negative(long status, const char *what) {
+    if (status < 0)
+        fail(what, status);
+}
+
+static void is_done(h5i_status status, const char *what) {
+    if (status != LIBH5I_DONE)
+        fail(what, (long)status);
+}
+
+static void is_true(bool test, const char *what) {
+    if (!test)
+        fail(what, 0);
+}
+
+/* A call of libhdf5, and one of libh5i, that has to go well. */
+#define H5(call) not_negative((long)(call), #call)
+#define OURS(call) is_done(call, #call)
+#define TRUE(test) is_true(test, #test)
+
+#define TEXT(text) (const uint8_t *)(text), strlen(text)
+#define LIST(list) list, sizeof(list) / sizeof *(list)
+#define SLAB_OF(start, stride, count, block) LIST(start), LIST(stride), LIST(count), LIST(block)
+
+static const h5i_type int32 = {4, true, false};
+static const uint32_t no_chunks[1];
+
+/* ---- time, and numbers that look like chance (xorshift64) */
+
+static double now(void) {
+    struct timespec at;
+    clock_gettime(CLOCK_MONOTONIC, &at);
+    return (double)at.tv_sec + (double)at.tv_nsec * 1e-9;
+}
+
+static uint64_t seed;
+static void begin_chance(void) { seed = 88172645463325252ull; }
+static uint64_t chance(void) {
+    seed ^= seed << 13;
+    seed ^= seed >> 7;
+    seed ^= seed << 17;
+    return seed;
+}
+
+/* ---- small words over each library */
+
+static hid_t new_file(const char *name) {
+    hid_t file = H5Fcreate(name, H5F_ACC_TRUNC, H5P_DEFAULT, in_memory);
+    H5(file);
+    return file;
+}
+
+static h5i_session new_session(void) {
+    h5i_session session = {0};
+    OURS(h5i_create(&session));
+    return session;
+}
+
+/* An array of int32 with all cells in one block, of one dimension. */
+static void new_array(h5i_session *session, const char *path, uint64_t cells) {
+    const uint64_t dims[] = {cells};
+    const int32_t fill = 0;
+    OURS(h5i_create_array(session, TEXT(path), int32, LIST(dims), LIST(dims), LIBH5I_CONTIGUOUS, no_chunks, 0, (const uint8_t *)&fill,
+                          sizeof fill));
+}
+
+static void write_front(h5i_session *session, const char *path, const int32_t *values, uint64_t cells) {
+    const uint64_t start[] = {0}, one[] = {1}, count[] = {cells};
+    OURS(h5i_write(session, TEXT(path), SLAB_OF(start, one, count, one), int32, (const uint8_t *)values, cells * 4));
+}
+
+static const int32_t ten[10] = {0, 1, 2, 3, 4, 5, 6, 7, 8, 9};
+
+/* ---- a: datasets of 10 cells in one group, each written */
+
+static double a_theirs(void) {
+    hsize_t dims[1] = {10};
+    char name[16];
+    double from = now();
+    hid_t file = new_file("a"), group = H5Gcreate2(file, "g", H5P_DEFAULT, H5P_DEFAULT, H5P_DEFAULT), space = H5Screate_simple(1, dims, NULL);
+    for (int k = 0; k < 10000 / part; k++) {
+        snprintf(name, sizeof name, "d%05d", k);
+        hid_t array = H5Dcreate2(group, name, H5T_STD_I32LE, space, H5P_DEFAULT, H5P_DEFAULT, H5P_DEFAULT);
+        H5(H5Dwrite(array, H5T_NATIVE_INT32, H5S_ALL, H5S_ALL, H5P_DEFAULT, ten));
+        H5(H5Dclose(array));
+    }
+    H5(H5Fflush(file, H5F_SCOPE_GLOBAL));
+    double time = now() - from;
+    H5(H5Sclose(space)), H5(H5Gclose(group)), H5(H5Fclose(file));
+    return time;
+}
+
+static double a_ours(void) {
+    char path[16];
+    double from = now();
+    h5i_session session = new_session();
+    OURS(h5i_create_group(&session, TEXT("/g")));
+    for (int k = 0; k < 10000 / part; k++) {
+        snprintf(path, sizeof path, "/g/d%05d", k);
+        new_array(&session, path, 10);
+        write_front(&session, path, ten, 10);
+    }
+    double time = now() - from;
+    h5i_close(&session);
+    return time;
+}
+
+/* ---- b, c, d: 64 MB in chunks of 64 by 64 */
+
+static int32_t *cells, *room;
+
+static hid_t big_array(hid_t file) {
+    hsize_t dims[2] = {SIDE, SIDE}, chunk[2] = {CHUNK, CHUNK};
+    hid_t space = H5Screate_simple(2, dims, NULL), how = H5Pcreate(H5P_DATASET_CREATE);
+    H5(H5Pset_chunk(how, 2, chunk));
+    hid_t array = H5Dcreate2(file, "d", H5T_STD_I32LE, space, H5P_DEFAULT, how, H5P_DEFAULT);
+    H5(array), H5(H5Pclose(how)), H5(H5Sclose(space));
+    return array;
+}
+
+static void new_big_array(h5i_session *session) {
+    const uint64_t dims[] = {SIDE, SIDE};
+    const uint32_t chunk[] = {CHUNK, CHUNK};
+    const int32_t fill = 0;
+    OURS(h5i_create_array(session, TEXT("/d"), int32, LIST(dims), LIST(dims), LIBH5I_CHUNKED, LIST(chunk), (const uint8_t *)&fill, sizeof fill));
+}
+
+static const uint64_t none2[] = {0, 0}, one2[] = {1, 1}, all2[] = {SIDE, SIDE};
+
+static double write_theirs(hid_t file, hid_t array) {
+    double from = now();
+    H5(H5Dwrite(array, H5T_NATIVE_INT32, H5S_ALL, H5S_ALL, H5P_DEFAULT, cells));
+    H5(H5Fflush(file, H5F_SCOPE_GLOBAL));
+    return now() - from;
+}
+
+static double write_ours(h5i_session *session) {
+    double from = now();
+    OURS(h5i_write(session, TEXT("/d"), SLAB_OF(none2, one2, all2, one2), int32, (const uint8_t *)cells, (size_t)SIDE * SIDE * 4));
+    return now() - from;
+}
+
+static double b_theirs(void) {
+    hid_t file = new_file("b"), array = big_array(file);
+    double time = write_theirs(file, array);
+    H5(H5Dclose(array)), H5(H5Fclose(file));
+    return time;
+}
+
+static double b_ours(void) {
+    h5i_session session = new_session();
+    new_big_array(&session);
+    double time = write_ours(&session);
+    h5i_close(&session);
+    return time;
+}
+
+static double read_theirs(bool strided) {
+    hid_t file = new_file("c"), array = big_array(file);
+    write_theirs(file, array);
+    memset(room, 0, (size_t)SIDE * SIDE * 4);
+    hsize_t start[2] = {1, 2}, stride[2] = {3, 5}, count[2] = {1365, 818}, block[2] = {1, 2}, selected[1] = {STRIDED};
+    double from = now();
+    if (strided) {
+        hid_t space = H5Dget_space(array), memory = H5Screate_simple(1, selected, NULL);
+        H5(H5Sselect_hyperslab(space, H5S_SELECT_SET, start, stride, count, block));
+        H5(H5Dread(array, H5T_NATIVE_INT32, memory, space, H5P_DEFAULT, room));
+        H5(H5Sclose(space)), H5(H5Sclose(memory));
+    } else {
+        H5(H5Dread(array, H5T_NATIVE_INT32, H5S_ALL, H5S_ALL, H5P_DEFAULT, room));
+    }
+    double time = now() - from;
+    H5(H5Dclose(array)), H5(H5Fclose(file));
+    return time;
+}
+
+static double read_ours(bool strided) {
+    h5i_session session = new_session();
+    new_big_array(&session);
+    write_ours(&session);
+    memset(room, 0, (size_t)SIDE * SIDE * 4);
+    const uint64_t start[] = {1, 2}, stride[] = {3, 5}, count[] = {1365, 818}, block[] = {1, 2};
+    double from = now();
+    if (strided)
+        OURS(h5i_read(&session, TEXT("/d"), SLAB_OF(start, stride, count, block), (uint8_t *)room, (size_t)STRIDED * 4));
+    else
+        OURS(h5i_read(&session, TEXT("/d"), SLAB_OF(none2, one2, all2, one2), (uint8_t *)room, (size_t)SIDE * SIDE * 4));
+    double time = now() - from;
+    h5i_close(&session);
+    return time;
+}
+
+static void are_strided(void) { TRUE(room[0] == SIDE + 2 && room[2] == SIDE + 7 && room[STRIDED - 1] == (1 + 3 * 1364) * SIDE + 2 + 5 * 817 + 1); }
+static void are_whole(void) { TRUE(memcmp(room, cells, (size_t)SIDE * SIDE * 4) == 0); }
+
+static double strided_theirs(void) {
+    double time = read_theirs(true);
+    are_strided();
+    return time;
+}
+static double strided_ours(void) {
+    double time = read_ours(true);
+    are_strided();
+    return time;
+}
+static double whole_theirs(void) {
+    double time = read_theirs(false);
+    are_whole();
+    return time;
+}
+static double whole_ours(void) {
+    double time = read_ours(false);
+    are_whole();
+    return time;
+}
+
+static double d_theirs(void) {
+    hid_t file = new_file("d"), array = big_array(file);
+    write_theirs(file, array);
+    hid_t space = H5Dget_space(array), memory = H5Screate_simple(1, (hsize_t[]){1}, NULL);
+    hsize_t at[2], one[2] = {1, 1};
+    begin_chance();
+    double from = now();
+    for (int32_t k = 0; k < 100000; k++) {
+        uint64_t place = chance();
+        at[0] = place % SIDE, at[1] = (place >> 20) % SIDE;
+        H5(H5Sselect_hyperslab(space, H5S_SELECT_SET, at, NULL, one, NULL));
+        H5(H5Dwrite(array, H5T_NATIVE_INT32, memory, space, H5P_DEFAULT, &k));
+    }
+    H5(H5Fflush(file, H5F_SCOPE_GLOBAL));
+    double time = now() - from;
+    H5(H5Sclose(space)), H5(H5Sclose(memory)), H5(H5Dclose(array)), H5(H5Fclose(file));
+    return time;
+}
+
+static double d_ours(void) {
+    h5i_session session = new_session();
+    new_big_array(&session);
+    write_ours(&session);
+    uint64_t at[2];
+    begin_chance();
+    double from = now();
+    for (int32_t k = 0; k < 100000; k++) {
+        uint64_t place = chance();
+        at[0] = place % SIDE, at[1] = (place >> 20) % SIDE;
+        OURS(h5i_write(&session, TEXT("/d"), SLAB_OF(at, one2, one2, one2), int32, (const uint8_t *)&k, 4));
+    }
+    double time = now() - from;
+    h5i_close(&session);
+    return time;
+}
+
+/* ---- e: hard links, and files that are opened and listed */
+
+static int scattered(int k, int count) { return (int)(k * 7919ll % count); }
+
+static double link_theirs(hid_t file, int count) {
+    hid_t space = H5Screate(H5S_SCALAR), group = H5Gcreate2(file, "g", H5P_DEFAULT, H5P_DEFAULT, H5P_DEFAULT);
+    H5(H5Dclose(H5Dcreate2(file, "d", H5T_STD_I32LE, space, H5P_DEFAULT, H5P_DEFAULT, H5P_DEFAULT)));
+    char name[16];
+    double from = now();
+    for (int k = 0; k < count; k++) {
+        snprintf(name, sizeof name, "n%05d", scattered(k, count));
+        H5(H5Lcreate_hard(file, "d", group, name, H5P_DEFAULT, H5P_DEFAULT));
+    }
+    H5(H5Fflush(file, H5F_SCOPE_GLOBAL));
+    double time = now() - from;
+    H5(H5Sclose(space)), H5(H5Gclose(group));
+    return time;
+}
+
+static double link_ours(h5i_session *session, int count) {
+    const int32_t fill = 0;
+    const uint64_t no_size[1] = {0};
+    OURS(h5i_create_array(session, TEXT("/d"), int32, no_size, 0, no_size, 0, LIBH5I_CONTIGUOUS, no_chunks, 0, (const uint8_t *)&fill, 4));
+    OURS(h5i_create_group(session, TEXT("/g")));
+    char path[16];
+    double from = now();
+    for (int k = 0; k < count; k++) {
+        snprintf(path, sizeof path, "/g/n%05d", scattered(k, count));
+        OURS(h5i_hard_link(session, TEXT("/d"), TEXT(path)));
+    }
+    return now() - from;
+}
+
+static double e_theirs(void) {
+    hid_t file = new_file("e");
+    double time = link_theirs(file, 10000 / part);
+    H5(H5Fclose(file));
+    return time;
+}
+
+static double e_ours(void) {
+    h5i_session session = new_session();
+    double time = link_ours(&session, 10000 / part);
+    h5i_close(&session);
+    return time;
+}
+
+/* The image of a file of 10000 links, and of one of 10000 datasets, both made by libhdf5. */
+static uint8_t *images[2];
+static size_t lengths[2];
+
+static void make_images(void) {
+    for (int which = 0; which < 2; which++) {
+        hid_t file = new_file("image");
+        if (which == 0) {
+            link_theirs(file, 10000);
+        } else {
+            hsize_t dims[1] = {10};
+            hid_t space = H5Screate_simple(1, dims, NULL), group = H5Gcreate2(file, "g", H5P_DEFAULT, H5P_DEFAULT, H5P_DEFAULT);
+            char name[16];
+            for (int k = 0; k < 10000; k++) {
+                snprintf(name, sizeof name, "d%05d", k);
+                hid_t array = H5Dcreate2(group, name, H5T_STD_I32LE, space, H5P_DEFAULT, H5P_DEFAULT, H5P_DEFAULT);
+                H5(H5Dwrite(array, H5T_NATIVE_INT32, H5S_ALL, H5S_ALL, H5P_DEFAULT, ten));
+                H5(H5Dclose(array));
+            }
+            H5(H5Sclose(space)), H5(H5Gclose(group));
+            H5(H5Fflush(file, H5F_SCOPE_GLOBAL));
+        }
+        ssize_t length = H5Fget_file_image(file, NULL, 0);
+        H5(length);
+        lengths[which] = (size_t)length;
+        images[which] = malloc(lengths[which]);
+        TRUE(images[which] != NULL);
+        H5(H5Fget_file_image(file, images[which], lengths[which]));
+        H5(H5Fclose(file));
+    }
+}
+
+static herr_t seen(hid_t group, const char *name, const H5L_info_t *info, void *sum) {
+    (void)group, (void)info;
+    *(size_t *)sum += strlen(name);
+    return 0;
+}
+
+static herr_t seen_with_type(hid_t group, const char *name, const H5L_info_t *info, void *sum) {
+    (void)info;
+    hid_t array = H5Dopen2(group, name, H5P_DEFAULT), space = H5Dget_space(array), type = H5Dget_type(array);
+    hsize_t dims[32];
+    *(size_t *)sum += strlen(name) + (size_t)H5Sget_simple_extent_dims(space, dims, NULL) + H5Tget_size(type);
+    H5(H5Tclose(type)), H5(H5Sclose(space)), H5(H5Dclose(array));
+    return 0;
+}
+
+static double list_theirs(int which) {
+    size_t sum = 0;
+    double from = now();
+    hid_t how = H5Pcreate(H5P_FILE_ACCESS);
+    H5(H5Pset_fapl_core(how, 1 << 20, 0));
+    H5(H5Pset_file_image(how, images[which], lengths[which]));
+    hid_t file = H5Fopen("listed", H5F_ACC_RDONLY, how);
+    H5(file);
+    H5(H5Literate_by_name(file, "g", H5_INDEX_NAME, H5_ITER_INC, NULL, which ? seen_with_type : seen, &sum, H5P_DEFAULT));
+    double time = now() - from;
+    TRUE(sum == (which ? 110000 : 60000));
+    H5(H5Fclose(file)), H5(H5Pclose(how));
+    return time;
+}
+
+static double list_ours(int which) {
+    size_t sum = 0;
+    uint64_t place;
+    char path[64];
+    h5i_about about;
+    double from = now();
+    h5i_session session = {0};
+    OURS(h5i_open(&session, images[which], lengths[which], &place));
+    OURS(h5i_list(&session, TEXT("/g")));
+    size_t length = h5i_text_length(&session);
+    char *names = malloc(length);
+    TRUE(names != NULL);
+    OURS(h5i_text(&session, (uint8_t *)names, length));
+    for (char *name = names; name < names + length; name += strlen(name) + 1) {
+        sum += strlen(name);
+        if (which) {
+            snprintf(path, sizeof path, "/g/%s", name);
+            OURS(h5i_stat(&session, TEXT(path), &about));
+            sum += about.rank + about.type.size;
+        }
+    }
+    double time = now() - from;
+    free(names);
+    TRUE(sum == (which ? 110000 : 60000));
+    h5i_close(&session);
+    return time;
+}
+
+static double links_listed_theirs(void) { return list_theirs(0); }
+static double links_listed_ours(void) { return list_ours(0); }
+static double arrays_listed_theirs(void) { return list_theirs(1); }
+static double arrays_listed_ours(void) { return list_ours(1); }
+
+/* ---- f: an array that grows and shrinks */
+
+static hid_t growing_theirs(hid_t file) {
+    hsize_t dims[1] = {100}, most[1] = {H5S_UNLIMITED}, chunk[1] = {10};
+    hid_t space = H5Screate_simple(1, dims, most), how = H5Pcreate(H5P_DATASET_CREATE);
+    H5(H5Pset_chunk(how, 1, chunk));
+    hid_t array = H5Dcreate2(file, "d", H5T_STD_I32LE, space, H5P_DEFAULT, how, H5P_DEFAULT);
+    H5(array), H5(H5Sclose(space)), H5(H5Pclose(how));
+    return array;
+}
+
+static void new_growing(h5i_session *session) {
+    const uint64_t dims[] = {100}, most[] = {LIBH5I_UNLIMITED};
+    const uint32_t chunk[] = {10};
+    const int32_t fill = 0;
+    OURS(h5i_create_array(session, TEXT("/d"), int32, LIST(dims), LIST(most), LIBH5I_CHUNKED, LIST(chunk), (const uint8_t *)&fill, 4));
+}
+
+static void size_theirs(hid_t array, hsize_t cells_now) { H5(H5Dset_extent(array, &cells_now)); }
+static void size_ours(h5i_session *session, uint64_t cells_now) { OURS(h5i_resize(session, TEXT("/d"), &cells_now, 1)); }
+
+static double written_theirs(void) {
+    hid_t file = new_file("f"), array = growing_theirs(file);
+    double from = now();
+    for (int k = 0; k < 2000 / part; k++) {
+        size_theirs(array, 1000);
+        H5(H5Dwrite(array, H5T_NATIVE_INT32, H5S_ALL, H5S_ALL, H5P_DEFAULT, cells));
+        size_theirs(array, 5);
+    }
+    H5(H5Fflush(file, H5F_SCOPE_GLOBAL));
+    double time = now() - from;
+    H5(H5Dclose(array)), H5(H5Fclose(file));
+    return time;
+}
+
+static double written_ours(void) {
+    h5i_session session = new_session();
+    new_growing(&session);
+    double from = now();
+    for (int k = 0; k < 2000 / part; k++) {
+        size_ours(&session, 1000);
+        write_front(&session, "/d", cells, 1000);
+        size_ours(&session, 5);
+    }
+    double time = now() - from;
+    h5i_close(&session);
+    return time;
+}
+
+static double sized_theirs(void) {
+    hid_t file = new_file("f"), array = growing_theirs(file);
+    double from = now();
+    for (int k = 0; k < 20000 / part; k++)
+        size_theirs(array, k % 2 ? 5 : 1000);
+    H5(H5Fflush(file, H5F_SCOPE_GLOBAL));
+    double time = now() - from;
+    H5(H5Dclose(array)), H5(H5Fclose(file));
+    return time;
+}
+
+static double sized_ours(void) {
+    h5i_session session = new_session();
+    new_growing(&session);
+    double from = now();
+    for (int k = 0; k < 20000 / part; k++)
+        size_ours(&session, k % 2 ? 5 : 1000);
+    double time = now() - from;
+    h5i_close(&session);
+    return time;
+}
+
+/* ---- g: every second one of 10000 links, and of 10000 datasets, is unlinked */
+
+static hid_t opened_theirs(int which) {
+    hid_t how = H5Pcreate(H5P_FILE_ACCESS);
+    H5(H5Pset_fapl_core(how, 1 << 20, 0));
+    H5(H5Pset_file_image(how, images[which], lengths[which]));
+    hid_t file = H5Fopen("unlinked", H5F_ACC_RDWR, how);
+    H5(file), H5(H5Pclose(how));
+    return file;
+}
+
+static double unlink_theirs(int which) {
+    hid_t file = opened_theirs(which), group = H5Gopen2(file, "g", H5P_DEFAULT);
+    char name[16];
+    double from = now();
+    for (int k = 0; k < 5000 / part; k++) {
+        snprintf(name, sizeof name, "%c%05d", which ? 'd' : 'n', scattered(k, 5000) * 2);
+        H5(H5Ldelete(group, name, H5P_DEFAULT));
+    }
+    H5(H5Fflush(file, H5F_SCOPE_GLOBAL));
+    double time = now() - from;
+    H5(H5Gclose(group)), H5(H5Fclose(file));
+    return time;
+}
+
+static double unlink_ours(int which) {
+    h5i_session session = {0};
+    uint64_t place;
+    char path[16];
+    OURS(h5i_open(&session, images[which], lengths[which], &place));
+    double from = now();
+    for (int k = 0; k < 5000 / part; k++) {
+        snprintf(path, sizeof path, "/g/%c%05d", which ? 'd' : 'n', scattered(k, 5000) * 2);
+        OURS(h5i_unlink(&session, TEXT(path)));
+    }
+    double time = now() - from;
+    h5i_close(&session);
+    return time;
+}
+
+static double links_gone_theirs(void) { return unlink_theirs(0); }
+static double links_gone_ours(void) { return unlink_ours(0); }
+static double arrays_gone_theirs(void) { return unlink_theirs(1); }
+static double arrays_gone_ours(void) { return unlink_ours(1); }
+
+/* ---- h: a million small reads */
+
+static double h_theirs(void) {
+    hsize_t dims[1] = {CELLS}, size[1] = {SLAB}, at[1];
+    hid_t file = new_file("h"), space = H5Screate_simple(1, dims, NULL), memory = H5Screate_simple(1, size, NULL);
+    hid_t array = H5Dcreate2(file, "d", H5T_STD_I32LE, space, H5P_DEFAULT, H5P_DEFAULT, H5P_DEFAULT);
+    H5(H5Dwrite(array, H5T_NATIVE_INT32, H5S_ALL, H5S_ALL, H5P_DEFAULT, cells));
+    int32_t found[SLAB];
+    begin_chance();
+    double from = now();
+    for (int k = 0; k < 1000000; k++) {
+        at[0] = chance() % (CELLS - SLAB);
+        H5(H5Sselect_hyperslab(space, H5S_SELECT_SET, at, NULL, size, NULL));
+        H5(H5Dread(array, H5T_NATIVE_INT32, memory, space, H5P_DEFAULT, found));
+        TRUE(found[SLAB - 1] == (int32_t)at[0] + SLAB - 1);
+    }
+    double time = now() - from;
+    H5(H5Dclose(array)), H5(H5Sclose(space)), H5(H5Sclose(memory)), H5(H5Fclose(file));
+    return time;
+}
+
+static double h_ours(void) {
+    h5i_session session = new_session();
+    new_array(&session, "/d", CELLS);
+    write_front(&session, "/d", cells, CELLS);
+    int32_t found[SLAB];
+    uint64_t at[1];
+    const uint64_t one[] = {1}, size[] = {SLAB};
+    begin_chance();
+    double from = now();
+    for (int k = 0; k < 1000000; k++) {
+        at[0] = chance() % (CELLS - SLAB);
+        OURS(h5i_read(&session, TEXT("/d"), SLAB_OF(at, one, size, one), (uint8_t *)found, sizeof found));
+        TRUE(found[SLAB - 1] == (int32_t)at[0] + SLAB - 1);
+    }
+    double time = now() - from;
+    h5i_close(&session);
+    return time;
+}
+
+/* ---- the table */
+
+static const struct {
+    char letter;
+    bool is_divided; /* its count is divided by PARTS */
+    const char *name;
+    double (*theirs)(void), (*ours)(void);
+} phases[] = {
+    {'a', true, "10000 datasets created and written", a_theirs, a_ours},
+    {'b', false, "64 MB written, in chunks", b_theirs, b_ours},
+    {'c', false, "2233140 strided cells read", strided_theirs, strided_ours},
+    {'c', false, "64 MB read, in chunks", whole_theirs, whole_ours},
+    {'d', false, "100000 single cells written", d_theirs, d_ours},
+    {'e', true, "10000 hard links made", e_theirs, e_ours},
+    {'e', false, "10000 links opened and listed", links_listed_theirs, links_listed_ours},
+    {'e', false, "10000 datasets listed with types", arrays_listed_theirs, arrays_listed_ours},
+    {'f', true, "2000 times grown, written, shrunk", written_theirs, written_ours},
+    {'f', true, "20000 times resized", sized_theirs, sized_ours},
+    {'g', true, "5000 of 10000 links unlinked", links_gone_theirs, links_gone_ours},
+    {'g', true, "5000 of 10000 datasets unlinked", arrays_gone_theirs, arrays_gone_ours},
+    {'h', false, "1000000 reads of 16 cells", h_theirs, h_ours},
+};
+
+static int by_size(const void *a, const void *b) {
+    double x = *(const double *)a, y = *(const double *)b;
+    return (x > y) - (x < y);
+}
+
+int main(int count, char **words) {
+    int runs = count > 1 ? atoi(words[1]) : 5;
+    const char *wanted = count > 2 ? words[2] : "abcdefgh";
+    part = count > 3 ? atoi(words[3]) : 1;
+    if (runs < 1 || runs > MOST_RUNS || part < 1) {
+        fprintf(stderr, "usage: peers [RUNS [PHASES [PARTS]]]\n");
+        return 2;
+    }
+    in_memory = H5Pcreate(H5P_FILE_ACCESS);
+    H5(H5Pset_fapl_core(in_memory, 1 << 20, 0));
+    cells = malloc((size_t)SIDE * SIDE * 4), room = malloc((size_t)SIDE * SIDE * 4);
+    TRUE(cells != NULL && room != NULL);
+    for (int32_t k = 0; k < SIDE * SIDE; k++)
+        cells[k] = k;
+    make_images();
+
+    unsigned version[3];
+    H5(H5get_libversion(&version[0], &version[1], &version[2]));
+    printf("| Phase | libhdf5 %u.%u.%u | libh5i | libhdf5 / libh5i |\n|---|---|---|---|\n", version[0], version[1], version[2]);
+    for (size_t k = 0; k < sizeof phases / sizeof *phases; k++) {
+        if (strchr(wanted, phases[k].letter) == NULL)
+            continue;
+        double theirs[MOST_RUNS], ours[MOST_RUNS];
+        for (int run = 0; run < runs; run++) {
+            theirs[run] = phases[k].theirs();
+            ours[run] = phases[k].ours();
+        }
+        qsort(theirs, (size_t)runs, sizeof *theirs, by_size), qsort(ours, (size_t)runs, sizeof *ours, by_size);
+        double middle = theirs[runs / 2], own = ours[runs / 2];
+        char less[32] = "";
+        if (phases[k].is_divided && part > 1)
+            snprintf(less, sizeof less, ", one in %d of these", part);
+        printf("| %c: %s%s | %.4f (%.4f to %.4f) | %.4f (%.4f to %.4f) | %.2f |\n", phases[k].letter, phases[k].name, less, middle,
+               theirs[0], theirs[runs - 1], own, ours[0], ours[runs - 1], middle / own);
+        fflush(stdout);
+    }
+    return 0;
+}

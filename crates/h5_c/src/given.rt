@@ -1,0 +1,274 @@
+//! Edits, made of what C gives.
+
+ghost use Rattle.std.specs.Prelude.{◌≡◌, IfOk, Ok, Err, map};
+ghost use Rattle.h5_model.specs.declared.edits.Edit.TheVariants as edits;
+ghost use Rattle.h5_model.specs.Format.Fixed.{fixed_from};
+ghost use Rattle.h5_model.specs.Scripts.Answers.{stored_values};
+ghost use Rattle.h5_c.specs.Given.{IsArrayMadeWith, IsMadeOf, IsMadeWith, IsStoreMade, creating, hyper_of, is_whole, maximum_of, number_of, setting, store_of_number, writing};
+
+use crate::status::{NO_MEMORY, NO_SUCH_TYPE, WRONG_ROOM};
+use h5_file::{AttrSpec, Edit, Fixed, Hyper, Items, Spec, Store};
+use h5_types::decode;
+use std::alloc::{AllocError, Global};
+
+/// The storage of an array's cells, as C names it: in the header of the array.
+pub const COMPACT: u32 = 1;
+
+/// In one block.
+pub const CONTIGUOUS: u32 = 2;
+
+/// In chunks.
+pub const CHUNKED: u32 = 3;
+
+/// Why no edit was made of what C gave.
+#[derive(Clone, Copy, PartialEq, Eq, Debug)]
+pub(crate) enum Unmade {
+    /// Memory was refused.
+    NoMemory,
+    /// The bytes are no whole number of values.
+    WrongRoom,
+    /// There is no such type, or no such form of storage.
+    NoSuchType,
+}
+
+impl Unmade {
+    /// Its number.
+    pub(crate) fn status(self) -> u32
+        ensures { result ≡ number_of self }
+    {
+        match self {
+            Unmade::NoMemory => NO_MEMORY,
+            Unmade::WrongRoom => WRONG_ROOM,
+            Unmade::NoSuchType => NO_SUCH_TYPE,
+        }
+    }
+}
+
+impl From<AllocError> for Unmade {
+    ghost use Rattle.h5_c.specs.declared.given.Unmade.TheVariants.{NoMemory};
+
+    ghost from_gives = { λ _ fault. fault ≡ NoMemory };
+
+    fn from(_error: AllocError) -> Unmade {
+        Unmade::NoMemory
+    }
+}
+
+/// The four lists of a selection.
+#[derive(Clone, Copy)]
+pub(crate) struct Lists<'a> {
+    pub(crate) start: &'a [u64],
+    pub(crate) stride: &'a [u64],
+    pub(crate) count: &'a [u64],
+    pub(crate) block: &'a [u64],
+}
+
+impl Lists<'_> {
+    /// The selection of these lists.
+    pub(crate) fn hyper(&self, alloc: Global) -> Result<Hyper, AllocError>
+        ensures { IfOk result (λ hyper. hyper ≡ hyper_of self.now) }
+    {
+        Hyper::new(alloc, self.start, self.stride, self.count, self.block)
+    }
+}
+
+/// A type, as C names it.
+#[derive(Clone, Copy)]
+#[repr(C)]
+pub struct CType {
+    /// How many bytes a value has: 1, 2, 4 or 8.
+    pub size: u8,
+    /// Whether a value is signed.
+    pub signed: bool,
+    /// Whether the high byte stands first. One byte has no order.
+    pub big: bool,
+}
+
+/// The values that bytes stand for, one behind another.
+fn values_of(alloc: Global, fixed: &Fixed, bytes: &[u8]) -> Result<Vec<i128>, AllocError>
+    ensures { IfOk result (λ values. values.items ≡ stored_values fixed.now bytes.now) }
+{
+    let size = fixed.size();
+    let count = bytes.len() / size;
+    let mut values = Vec::with_capacity(alloc, count)?;
+    for k in 0..count {
+        let at = k * size;
+        values.push(decode(fixed, &bytes[at..at + size]))?;
+    }
+    Ok(values)
+}
+
+pub(crate) fn make_group(alloc: Global, path: &[u8]) -> Result<Edit, Unmade>
+    ensures { IsMadeOf (edits.CreateGroup path.now) result }
+{
+    Ok(Edit::CreateGroup {
+        path: Items::from_slice(alloc, path)?,
+    })
+}
+
+pub(crate) fn make_hard_link(alloc: Global, target: &[u8], path: &[u8]) -> Result<Edit, Unmade>
+    ensures { IsMadeOf (edits.HardLink target.now path.now) result }
+{
+    Ok(Edit::HardLink {
+        target: Items::from_slice(alloc, target)?,
+        path: Items::from_slice(alloc, path)?,
+    })
+}
+
+pub(crate) fn make_soft_link(alloc: Global, text: &[u8], path: &[u8]) -> Result<Edit, Unmade>
+    ensures { IsMadeOf (edits.SoftLink text.now path.now) result }
+{
+    Ok(Edit::SoftLink {
+        text: Items::from_slice(alloc, text)?,
+        path: Items::from_slice(alloc, path)?,
+    })
+}
+
+pub(crate) fn unlink_at(alloc: Global, path: &[u8]) -> Result<Edit, Unmade>
+    ensures { IsMadeOf (edits.Unlink path.now) result }
+{
+    Ok(Edit::Unlink {
+        path: Items::from_slice(alloc, path)?,
+    })
+}
+
+pub(crate) fn remove_attribute(alloc: Global, path: &[u8], name: &[u8]) -> Result<Edit, Unmade>
+    ensures { IsMadeOf (edits.RemoveAttr path.now name.now) result }
+{
+    Ok(Edit::RemoveAttr {
+        path: Items::from_slice(alloc, path)?,
+        name: Items::from_slice(alloc, name)?,
+    })
+}
+
+pub(crate) fn resize_array(alloc: Global, path: &[u8], dims: &[u64]) -> Result<Edit, Unmade>
+    ensures { IsMadeOf (edits.Resize path.now dims.now) result }
+{
+    Ok(Edit::Resize {
+        path: Items::from_slice(alloc, path)?,
+        dims: Items::from_slice(alloc, dims)?,
+    })
+}
+
+/// The type that C names, of which the bytes are a whole number of values.
+fn type_of(of: CType, bytes: &[u8]) -> Result<Fixed, Unmade>
+    ensures { IsMadeWith (fixed_from of.size of.signed of.big) (is_whole bytes.now) (λ t. result ≡ Ok t)
+        (λ u. result ≡ Err u) }
+{
+    let Some(fixed) = Fixed::new(of.size, of.signed, of.big) else {
+        return Err(Unmade::NoSuchType);
+    };
+    if bytes.len() % fixed.size() != 0 {
+        return Err(Unmade::WrongRoom);
+    }
+    Ok(fixed)
+}
+
+pub(crate) fn write_bytes(
+    alloc: Global,
+    path: &[u8],
+    lists: &Lists<'_>,
+    of: CType,
+    bytes: &[u8],
+) -> Result<Edit, Unmade>
+    ensures { IsMadeWith (fixed_from of.size of.signed of.big) (is_whole bytes.now)
+        (λ t. IsMadeOf (writing path.now (hyper_of lists.now) t bytes.now) result)
+        (λ u. result ≡ Err u) }
+{
+    let fixed = type_of(of, bytes)?;
+    Ok(Edit::Write {
+        path: Items::from_slice(alloc, path)?,
+        hyper: lists.hyper(alloc)?,
+        values: Items::new(values_of(alloc, &fixed, bytes)?),
+    })
+}
+
+pub(crate) fn set_attribute(
+    alloc: Global,
+    path: &[u8],
+    name: &[u8],
+    of: CType,
+    dims: &[u64],
+    bytes: &[u8],
+) -> Result<Edit, Unmade>
+    ensures { IsMadeWith (fixed_from of.size of.signed of.big) (is_whole bytes.now)
+        (λ t. IsMadeOf (setting path.now name.now t dims.now bytes.now) result)
+        (λ u. result ≡ Err u) }
+{
+    let fixed = type_of(of, bytes)?;
+    let attr = AttrSpec {
+        name: Items::from_slice(alloc, name)?,
+        fixed,
+        dims: Items::from_slice(alloc, dims)?,
+        values: Items::new(values_of(alloc, &fixed, bytes)?),
+    };
+    Ok(Edit::SetAttr {
+        path: Items::from_slice(alloc, path)?,
+        attr,
+    })
+}
+
+/// A form of storage, as C names it.
+fn storage_named(alloc: Global, storage: u32, chunks: &[u32]) -> Result<Store, Unmade>
+    ensures { IsStoreMade (store_of_number storage chunks.now) result }
+{
+    match storage {
+        COMPACT => Ok(Store::Compact),
+        CONTIGUOUS => Ok(Store::Contiguous),
+        CHUNKED => Ok(Store::Chunked(Items::from_slice(alloc, chunks)?)),
+        _ => Err(Unmade::NoSuchType),
+    }
+}
+
+/// The maxima, as C gives them.
+fn maxima_of(alloc: Global, maxima: &[u64]) -> Result<Items<Option<u64>>, AllocError>
+    ensures { IfOk result (λ list. list ≡ map maximum_of maxima.now) }
+{
+    let mut list = Vec::with_capacity(alloc, maxima.len())?;
+    for maximum in maxima {
+        list.push(if *maximum == u64::MAX {
+            None
+        } else {
+            Some(*maximum)
+        })?;
+    }
+    Ok(Items::new(list))
+}
+
+/// What an array is to be, as C gives it.
+#[derive(Clone, Copy)]
+pub(crate) struct NewArray<'a> {
+    pub(crate) of: CType,
+    pub(crate) dims: &'a [u64],
+    pub(crate) maxima: &'a [u64],
+    pub(crate) storage: u32,
+    pub(crate) chunks: &'a [u32],
+    pub(crate) fill: &'a [u8],
+}
+
+pub(crate) fn make_array(alloc: Global, path: &[u8], new: &NewArray<'_>) -> Result<Edit, Unmade>
+    ensures { IsArrayMadeWith (fixed_from new.now.of.size new.now.of.signed new.now.of.big) new.now.fill.now
+        (store_of_number new.now.storage new.now.chunks.now)
+        (λ t store. IsMadeOf
+        (creating path.now t new.now.dims.now new.now.maxima.now store new.now.fill.now) result)
+        (λ u. result ≡ Err u) }
+{
+    let Some(fixed) = Fixed::new(new.of.size, new.of.signed, new.of.big) else {
+        return Err(Unmade::NoSuchType);
+    };
+    if new.fill.len() != fixed.size() {
+        return Err(Unmade::WrongRoom);
+    }
+    let store = storage_named(alloc, new.storage, new.chunks)?;
+    let spec = Spec {
+        fixed,
+        dims: Items::from_slice(alloc, new.dims)?,
+        maxima: maxima_of(alloc, new.maxima)?,
+        store,
+        fill: decode(&fixed, new.fill),
+    };
+    Ok(Edit::CreateDataset {
+        path: Items::from_slice(alloc, path)?,
+        spec,
+    })
+}
