@@ -86,7 +86,7 @@ class Files(unittest.TestCase):
 
     def test_scripts(self):
         with in_memory() as file:
-            self.assertEqual(file.run("group /g\nunlink /h\n"), "ok 1\nrefused 6 NotFound\n")
+            self.assertEqual(file.run("group /g\nunlink /h\n"), "ok 0\nrefused 6 NotFound\n")
 
 
 class Arrays(unittest.TestCase):

@@ -82,7 +82,7 @@ fn views_follow() -> Result<(), Fault> {
 #[test]
 fn edits_and_scripts() -> Result<(), Fault> {
     let mut session = made()?;
-    assert_eq!(session.run(b"group /x\nunlink /none\n")?, b"ok 3\nrefused 6 NotFound\n");
+    assert_eq!(session.run(b"group /x\nunlink /none\n")?, b"ok 0\nrefused 6 NotFound\n");
     session.remove_attribute("/g", "unit")?;
     assert_eq!(session.attribute_names("/g")?.count(), 0);
     session.create_array("/c", &NewArray::<u8>::compact(&[2]).fill(9))?;
