@@ -11,7 +11,7 @@ mod slab;
 mod spans;
 
 pub use dims::{Dims, MAX_CELLS, MAX_RANK};
-pub use met::{MetBoxes, lost_boxes, written_boxes};
+pub use met::{MetBoxes, lie_apart, lost_boxes, written_boxes};
 pub use parts::{ChunkParts, Span};
 pub use runs::{CellRun, CellRuns};
 pub use single_run::one_run;

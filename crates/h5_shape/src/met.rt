@@ -45,9 +45,22 @@ impl<'a> Model for MetBoxes<'a> {
     ghost invariant = { λ m. AreTested m.test m.grid.now m.parts };
 }
 
+/// Whether a write and a view lie so far apart that no box of the grid of chunks holds a cell of both: in some dimension
+/// one selection ends before the box in which the other one begins. It takes time by the number of dimensions; where it
+/// says `false`, `written_boxes` tells which boxes are met, if any.
+///
+/// That there are as many dimensions of each is the caller's condition.
+pub fn lie_apart(grid: &Dims, written: &Slab, view: &Slab) -> bool
+    requires grid { length grid.now ≡ length written.now }
+    ensures { IsTrue result → (sizes : List ℕ) → length sizes ≡ length written.now
+        → met_firsts sizes grid.now (is_written_at sizes written.now) view.now ≡ [] }
+{
+    let grid = grid.sizes();
+    has_zero(grid) || lie_beside(grid, written.axes(), view.axes())
+}
+
 /// The boxes of the grid of chunks that hold a cell of a write and a cell of a view, for any array that the write is
-/// within. `None`, in time by the number of dimensions, where in some dimension one selection ends before the box in
-/// which the other one begins: then no box is met.
+/// within. `None` where a size of the boxes is 0: then there is none.
 ///
 /// Each box that the write meets is looked at once, in time by the number of dimensions. That there are as many
 /// dimensions of each, and that no selected index of the write passes `u64::MAX`, are the caller's conditions.
@@ -66,9 +79,6 @@ pub fn written_boxes<'a>(
 {
     let grid = grid.sizes();
     if has_zero(grid) {
-        return None;
-    }
-    if lie_beside(grid, written.axes(), view.axes()) {
         return None;
     }
     let test = MetTest::Selects(view.axes());

@@ -1,9 +1,8 @@
 use Rattle.std.proofs.Common.{◌≡◌, ◌∙◌, ap, false, List, ℕ, map, subst, sym, true}
 use Rattle.std.specs.List.{filter, list_any}
 use Rattle.std.specs.Prelude.{◌==◌}
-use Rattle.h5_shape.specs.MetFirsts.{LieBeside, meets_box}
+use Rattle.h5_shape.specs.MetFirsts.{meets_box}
 use Rattle.h5_shape.specs.PartCells.{AreParted, part_corner}
-use Rattle.h5_shape.proofs.BesideLaws.{beside_met}
 use Rattle.h5_shape.proofs.MetLaws.{none_met, some_cells, written_met, zero_cells}
 use Rattle.h5_shape.proofs.met.written_boxes.Goals as goal
 
@@ -11,15 +10,6 @@ pub returns-then-has_zero : goal.returns-then-has_zero
 returns-then-has_zero c sizes wide within =
     let zero : list_any (λ d. d == 0) c.sizes-grid.result.now ≡ true = cc in
     none_met sizes c.args.grid.now _ c.args.view.now (zero_cells c.args.grid.now (ap (list_any (λ d. d == 0)) (sym c.sizes-grid.ensures.numbers) ∙ zero))
-
-pub returns-then-lie_beside : goal.returns-then-lie_beside
-returns-then-lie_beside c sizes wide within =
-    let sized : list_any (λ d. d == 0) c.sizes-grid.result.now ≡ false = cc in
-    let none : list_any (λ d. d == 0) c.args.grid.now ≡ false = ap (list_any (λ d. d == 0)) (sym c.sizes-grid.ensures.numbers) ∙ sized in
-    beside_met sizes c.args.grid.now c.args.written.now c.args.view.now (c.requires.grid ∙ sym wide) (some_cells c.args.grid.now none).0
-    (subst (λ (X : Type 0). X) (λ i. LieBeside (c.sizes-grid.ensures.numbers i) (c.axes.ensures.axes i) (c.axes-2.ensures.axes i)) beside) where
-      beside : LieBeside c.sizes-grid.result.now c.axes.result.now c.axes-2.result.now
-      beside = c.lie_beside.ensures c.if-lie_beside.true
 
 pub returns : goal.returns
 returns c sizes wide within =
@@ -29,6 +19,6 @@ returns c sizes wide within =
     let (parts, parted, firsts) = c.tested_boxes.ensures in
     let sized : list_any (λ d. d == 0) c.sizes-grid.result.now ≡ false = cc in
     let none : list_any (λ d. d == 0) grid ≡ false = ap (list_any (λ d. d == 0)) (sym c.sizes-grid.ensures.numbers) ∙ sized in
-    firsts ∙ (λ i. filter (meets_box (c.axes-3.ensures.axes i) (c.sizes-grid.ensures.numbers i)) (map part_corner parts))
+    firsts ∙ (λ i. filter (meets_box (c.axes.ensures.axes i) (c.sizes-grid.ensures.numbers i)) (map part_corner parts))
     ∙ written_met sizes grid written view parts wide c.requires.grid c.requires.view within (some_cells grid none).0
     (subst (λ (g : List ℕ). AreParted written g parts) c.sizes-grid.ensures.numbers parted)
