@@ -33,7 +33,7 @@ left_least k j = by_test (nat_lt j k) where
   by_test true = (omega arith, omega arith)
   by_test false = (omega arith, omega arith)
 
-drop_past : {X : Type 0} (xs : List X) (n : ℕ) → length xs ≤ n → drop n xs ≡ []
+pub drop_past : {X : Type 0} (xs : List X) (n : ℕ) → length xs ≤ n → drop n xs ≡ []
 drop_past [] zero past = refl
 drop_past [] (suc n) past = refl
 drop_past (x ∷ xs) zero past = absurd (omega (arith, past))

@@ -1,13 +1,13 @@
 -- An insertion along a way leaves the keys in order, and the items are the old ones with the new one at its place.
-use Rattle.std.proofs.Common.{◌≡◌, ◌≢◌, ◌⊎◌, inl, inr, ℕ, suc, ◌+◌, ◌<◌, ◌≤◌, Bool, true, false, List, [], ◌∷◌, ◌++◌, length, take, drop, get_or, refl, sym, ap, ap₂, ◌∙◌, subst, arith, add-one}
+use Rattle.std.proofs.Common.{◌≡◌, ◌≢◌, ◌⊎◌, inl, inr, ℕ, suc, ◌+◌, ◌≤◌, Bool, true, false, List, [], ◌∷◌, ◌++◌, length, take, drop, get_or, refl, sym, ap, ◌∙◌, subst, arith, add-one}
 use Rattle.std.specs.Prelude.{if◌then◌else◌}
 use Rattle.std.specs.List.{AllByRecursion, insert, remove}
 use Rattle.h5_bytes.specs.Bytes.{undefined}
-use Rattle.h5_bytes.proofs.BlockLaws.{all_left, all_right, all_so}
-use Rattle.h5_model.specs.Format.Rows.{Node, Reading, next_row, AreRows, leaves}
+use Rattle.h5_bytes.proofs.BlockLaws.{all_left, all_right}
+use Rattle.h5_model.specs.Format.Rows.{Node, Reading}
 use Rattle.h5_model.specs.Format.Nodes.{Kind, HasTree, entries_in, node_at, node_bytes, reading_of}
 use Rattle.h5_model.proofs.OneTree.{level_is}
-use Rattle.h5_model.proofs.RowLaws.{at_listed, root_level}
+use Rattle.h5_model.proofs.RowLaws.{at_listed}
 use Rattle.h5_laws.specs.Ladders.{Sides, IsOrderly}
 use Rattle.h5_laws.specs.KeyTrees.{KeyTree, items_in, IsSorted}
 use Rattle.h5_laws.specs.KeyEdits.{Grown, One, Two, IsPut, IsHeld, LetIn}
@@ -20,13 +20,11 @@ use Rattle.h5_btree.specs.Insertion.{IsPutAlong, KeepsEntries, Owns}
 use Rattle.h5_btree.specs.Keyed.{AtChild, trees_below, keys_from, IsInOrder, items_of_tree}
 use Rattle.h5_btree.specs.Removal.{EndsInTree}
 use Rattle.h5_btree.specs.declared.way.Step.{Step}
-use Rattle.h5_btree.proofs.ClimbSteps.{undefined_free}
 use Rattle.h5_btree.proofs.NodeLaws.{length-children}
-use Rattle.h5_btree.proofs.RowEdits.{level_here}
 use Rattle.h5_btree.proofs.TreeReadings.{owned_at, owned_of_level}
-use Rattle.h5_btree.proofs.WayRows.{leaves_here, remove_below}
-use Rattle.h5_btree.proofs.KeyedTrees.{IsAlike, StandsAlike, IsOther, IsOffWay, front_apart, back_apart, way_higher, lower_apart, off_way}
+use Rattle.h5_btree.proofs.KeyedTrees.{StandsAlike, IsOffWay}
 use Rattle.h5_btree.proofs.KeyedOwn.{keys_count, keys_own, keys_cut, long_trees, trees_cut}
+use Rattle.h5_btree.proofs.KeyedOff.{off_out, off_steps, off_here, off_stands, off_is}
 use Rattle.h5_btree.proofs.KeyedGrown.{IsWide, wide_behind, wide_before}
 use Rattle.h5_btree.proofs.KeyedClimb.{AreHeld, IsDone, sorted_way, climbs}
 use Rattle.h5_btree.proofs.KeyedHolds.{HasChild, IsTestOf, IsAlways, bushy_row, held_by_test, held_by_items}
@@ -82,59 +80,20 @@ module _ {B X : Type 0} (sides : Sides (List ℕ) X) (orderly : IsOrderly sides)
     abbrev I : (height : ℕ) → KeyTree (List ℕ) B height → List X
     I = items_in (List ℕ) items
 
-    out : IsNoNode Y undefined
-    out = undefined_free s kind owned e.apart e.short
-
-    bottom : AreRows Y (length e.above) (root ∷ []) × (leaves Y (length e.above) (root ∷ []) ≡ next_row Y (e.front ++ p ∷ e.back))
-    bottom = leaves_here Y root p e.above e.front e.back e.leads e.row
+    abbrev out : IsNoNode Y undefined
+    out = off_out s t kind root level way owned list k e others was now same
 
     steps : level ≡ length e.above
-    steps = sym (root_level Y level root e.tree.rows) ∙ root_level Y (length e.above) root bottom.0
-
-    high_low : length e.above + 0 < 16
-    high_low = let l = e.tree.low in let h = steps in omega (arith, l, h)
+    steps = off_steps s t kind root level way owned list k e others was now same
 
     here : Y p ≡ V p
-    here = owned_at V owned p (owned_of_level V owned p (let l = level_here Y 0 p e.front e.back (omega arith) out e.row in omega (arith, l)))
-
-    -- ---- what stands at the other children
-
-    list_is : remove list k ≡ next_row Y e.front ++ (remove (Y p).children i ++ next_row Y e.back)
-    list_is =
-        let all : list ≡ next_row Y (e.front ++ p ∷ e.back) = e.tree.all ∙ ap (λ (l : ℕ). leaves Y l (root ∷ [])) steps ∙ bottom.1 in
-        ap₂ (λ (xs : List ℕ) (n : ℕ). remove xs n) all e.number ∙ remove_below Y e.front e.back p i e.place
-
-    stands : AllByRecursion (StandsAlike Y W was now) (next_row Y e.front ++ ((take i (Y p).children ++ drop (suc i) (Y p).children) ++ next_row Y e.back))
-    stands = subst (AllByRecursion (StandsAlike Y W was now)) list_is same
+    here = off_here s t kind root level way owned list k e others was now same
 
     stands_here : AllByRecursion (StandsAlike Y W was now) (take i (Y p).children ++ drop (suc i) (Y p).children)
-    stands_here = all_left (StandsAlike Y W was now) (take i (Y p).children ++ drop (suc i) (Y p).children) (next_row Y e.back)
-        (all_right (StandsAlike Y W was now) (next_row Y e.front) ((take i (Y p).children ++ drop (suc i) (Y p).children) ++ next_row Y e.back) stands)
-
-    keeps : (n : ℕ) → (Y n).level < 16 → AllByRecursion (λ (st : Step). n ≢ st.node) (e.step ∷ e.above) → IsAlike Y W was now n
-    keeps n lower apart =
-        let listed = owned_of_level V owned n lower in
-        let is = owned_at V owned n listed in
-        let keep = others n listed (subst (AllByRecursion (λ (st : Step). n ≢ st.node)) (sym e.way_is) apart) in
-        (keep.0 ∙ ap (λ (o : Node). o.keys) (sym is), keep.1 ∙ ap (λ (o : Node). o.children) (sym is))
-
-    p_level : (Y p).level ≡ 0
-    p_level = level_here Y 0 p e.front e.back (omega arith) out e.row
-
-    beside : (n : ℕ) → IsOther Y 0 p e.front e.back (omega arith) out e.row n → IsAlike Y W was now n
-    beside n o = keeps n (omega (arith, o.0))
-        (o.1, lower_apart Y out 0 n e.above (omega (arith, o.0)) (way_higher Y out 0 root e.above p e.front e.back high_low e.leads))
+    stands_here = off_stands s t kind root level way owned list k e others was now same
 
     off : IsOffWay Y W was now 0 e.above
-    off = off_way Y W was now out 0 root e.above p e.front e.back high_low e.leads
-        (λ n above lower apart. keeps n lower ((λ at. let q = ap (λ (m : ℕ). (Y m).level) at in let z = p_level in omega (arith, q, z, above)), apart)) (
-          all_so (IsOther Y 0 p e.front e.back (omega arith) out e.row) (IsAlike Y W was now) e.front beside (front_apart Y 0 p e.front e.back (omega arith) out e.row),
-          all_left (StandsAlike Y W was now) (next_row Y e.front) ((take i (Y p).children ++ drop (suc i) (Y p).children) ++ next_row Y e.back) stands,
-        ) (
-          all_so (IsOther Y 0 p e.front e.back (omega arith) out e.row) (IsAlike Y W was now) e.back beside (back_apart Y 0 p e.front e.back (omega arith) out e.row),
-          all_right (StandsAlike Y W was now) (take i (Y p).children ++ drop (suc i) (Y p).children) (next_row Y e.back)
-              (all_right (StandsAlike Y W was now) (next_row Y e.front) ((take i (Y p).children ++ drop (suc i) (Y p).children) ++ next_row Y e.back) stands),
-        )
+    off = off_is s t kind root level way owned list k e others was now same
 
     module _ (sorted : S (suc level) (keys_from Y was level root)) where
       -- ---- the node of level 0

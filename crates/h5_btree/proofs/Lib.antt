@@ -45,4 +45,12 @@ pub mod KeyedTakes
 pub mod KeyedGrown
 pub mod KeyedClimb
 pub mod KeyedHolds
+pub mod KeyedOff
 pub mod KeyedPuts
+pub mod KeyedOrder
+pub mod KeyedFills
+pub mod KeyedEases
+pub mod KeyedRetires
+pub mod KeyedForms
+pub mod KeyedEnds
+pub mod KeyedNames
