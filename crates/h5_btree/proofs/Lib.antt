@@ -54,3 +54,8 @@ pub mod KeyedRetires
 pub mod KeyedForms
 pub mod KeyedEnds
 pub mod KeyedNames
+pub mod RetiredReads
+pub mod RetiredKeys
+pub mod RetiredNodes
+pub mod RetiredSteps
+pub mod RetiredTrees

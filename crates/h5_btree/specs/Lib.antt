@@ -12,3 +12,4 @@ pub mod Insertion
 pub mod Held
 pub mod Widened
 pub mod Keyed
+pub mod Retired

@@ -1,0 +1,166 @@
+//! Keys of a group's tree that give way to others, where the tree stands (File Format Specification 3.0, section
+//! III.A.1).
+
+ghost use Rattle.std.specs.Prelude.{◌≡◌, ℕ, ◌+◌, ◌<◌, ◌≤◌, Bool, List, length, map, slice_index_or, slice_set, suc};
+ghost use Rattle.h5_model.specs.Format.Nodes.{entries_in, node_at, node_bytes};
+ghost use Rattle.h5_space.specs.Moves.{Spends};
+ghost use Rattle.h5_space.specs.Space.{Space};
+ghost use Rattle.h5_btree.specs.Rewritten.{IsRewritten};
+ghost use Rattle.h5_btree.specs.Retired.{AreRetiredBelow, IsKeyBefore, IsKeyRetired, IsLastOf, IsNodeRewritten, IsRetirable, IsRetirableSomewhere, IsRetiring, IsTreeRetired, IsUnder, KeepsRetired, StandsSomewhere, StandsUnder, keys_below};
+
+use crate::edit::set_key;
+use crate::kind::NodeKind;
+use crate::read::node_there;
+use h5_space::Image;
+
+/// Which keys of a group's tree give way, and what stands at the children at its bottom, to whose last keys they do.
+pub trait Retires {
+    /// Whether a key gives way.
+    ghost hit: { Self → List ℕ → Bool };
+
+    /// What stands at the address of a child at the bottom, in these bytes of an image, has its form.
+    ghost stands: { Self → List ℕ → ℕ → Type 0 };
+
+    /// The keys of its items, from left to right.
+    ghost keys_at: { Self → List ℕ → ℕ → List (List ℕ) };
+
+    /// Whether a key gives way.
+    fn is_hit(&self, key: &[u8]) -> bool
+        requires { length key.now ≡ 8 }
+        ensures { result ≡ hit self.now key.now };
+
+    /// The key of the last item at a child at the bottom, if there is one. Takes no memory.
+    fn last_key(&self, image: &Image, child: u64) -> Option<[u8; 8]>
+        requires { stands self.now image.now.bytes child }
+        ensures { IsLastOf (keys_at self.now image.now.bytes child) result };
+}
+
+/// Lets each key of a group's tree that is hit give way: the first key of a node to the lowest key, of zeros, and each
+/// other one to the key of the last item below the child before it, or, where there is none, to the key before it.
+///
+/// So the keys stay in order, and none of them is hit any more. The tree has the same nodes and children. Takes no room
+/// and no memory, and time by its nodes and the keys that give way. That the tree shares no byte with a free block or
+/// with what stands at its children, and that neither the lowest key nor that of an item is hit, are the caller's
+/// conditions.
+pub fn retire<R: Retires>(image: &mut Image, kind: NodeKind, root: u64, how: &R)
+    requires tree { IsRetirableSomewhere (R.hit how.now) (R.stands how.now) (R.keys_at how.now) image.old kind root }
+    ensures retired { (level : ℕ) (owned list : List ℕ)
+        → IsRetirable (R.hit how.now) (R.stands how.now) (R.keys_at how.now) image.old kind root level owned list
+        → IsTreeRetired (R.hit how.now) (R.keys_at how.now) image.old image.new kind root level owned list }
+    ensures spends { Spends image.old image.new 0 0 }
+{
+    let level = node_there(image.bytes(), kind, root).level();
+    retire_below(image, kind, level, root, how);
+}
+
+/// The same below a node of this level, and of the node itself.
+fn retire_below<R: Retires>(image: &mut Image, kind: NodeKind, level: u8, at: u64, how: &R)
+    requires stands { StandsSomewhere (R.hit how.now) (R.stands how.now) (R.keys_at how.now) image.old kind level at }
+    ensures retired { (start : Space) (root height : ℕ) (owned list : List ℕ)
+        → IsRetiring (R.hit how.now) (R.stands how.now) (R.keys_at how.now) start image.old kind root height owned list
+        → IsUnder (node_at start.bytes kind) owned list (suc level) at
+        → IsRetiring (R.hit how.now) (R.stands how.now) (R.keys_at how.now) start image.new kind root height owned list }
+    ensures below { (start : Space) (root height : ℕ) (owned list : List ℕ)
+        → IsRetiring (R.hit how.now) (R.stands how.now) (R.keys_at how.now) start image.old kind root height owned list
+        → IsUnder (node_at start.bytes kind) owned list (suc level) at
+        → AreRetiredBelow (R.hit how.now) (R.keys_at how.now) start image.new kind (suc level) at }
+    ensures kept { (start : Space) (root height : ℕ) (owned list : List ℕ)
+        → IsRetiring (R.hit how.now) (R.stands how.now) (R.keys_at how.now) start image.old kind root height owned list
+        → IsUnder (node_at start.bytes kind) owned list (suc level) at
+        → KeepsRetired (R.hit how.now) (R.keys_at how.now) start image.old image.new kind owned }
+    ensures spends { Spends image.old image.new 0 0 }
+{
+    retire_keys(image, kind, level, at, how);
+    if level > 0 {
+        for i in 0..node_there(image.bytes(), kind, at).len() {
+            let child = node_there(image.bytes(), kind, at).child(i);
+            retire_below(image, kind, level - 1, child, how);
+        }
+    }
+}
+
+/// Lets each key of a node that is hit give way.
+fn retire_keys<R: Retires>(image: &mut Image, kind: NodeKind, level: u8, at: u64, how: &R)
+    requires stands { StandsSomewhere (R.hit how.now) (R.stands how.now) (R.keys_at how.now) image.old kind level at }
+    ensures { IsNodeRewritten (R.hit how.now) (R.keys_at how.now) image.old image.new kind level at }
+{
+    for i in 0..node_there(image.bytes(), kind, at).len() + 1 {
+        retire_key(image, kind, level, at, i, how);
+    }
+}
+
+/// Lets key `i` of a node give way, if it is hit.
+fn retire_key<R: Retires>(image: &mut Image, kind: NodeKind, level: u8, at: u64, i: usize, how: &R)
+    requires width { kind.key_length ≡ 8 }
+    requires under { StandsUnder (R.stands how.now image.old.bytes) image.old.bytes kind (suc level) at }
+    requires place { i ≤ entries_in (node_bytes image.old.bytes kind at) }
+    ensures { (key : List ℕ)
+        × IsKeyRetired (R.hit how.now) (map (keys_below (node_at image.old.bytes kind)
+        (R.keys_at how.now image.old.bytes) level) (node_at image.old.bytes kind at).children)
+        (node_at image.old.bytes kind at).keys i key
+        × IsRewritten image.old image.new kind at (record (node_at image.old.bytes kind at) {
+          keys = slice_set (node_at image.old.bytes kind at).keys i key;
+        }) }
+{
+    let node = node_there(image.bytes(), kind, at);
+    if how.is_hit(node.key(i)) {
+        let key = key_before(image, kind, level, at, i, how);
+        set_key(image, kind, at, i, &key);
+    }
+}
+
+/// The key to which key `i` of a node gives way.
+fn key_before<R: Retires>(
+    image: &Image,
+    kind: NodeKind,
+    level: u8,
+    at: u64,
+    i: usize,
+    how: &R,
+) -> [u8; 8]
+    requires width { kind.key_length ≡ 8 }
+    requires under { StandsUnder (R.stands how.now image.now.bytes) image.now.bytes kind (suc level) at }
+    requires place { i ≤ entries_in (node_bytes image.now.bytes kind at) }
+    ensures before { IsKeyBefore (map (keys_below (node_at image.now.bytes kind)
+        (R.keys_at how.now image.now.bytes) level) (node_at image.now.bytes kind at).children)
+        (node_at image.now.bytes kind at).keys i result }
+{
+    let mut key = [0; 8];
+    if i == 0 {
+        return key;
+    }
+    let node = node_there(image.bytes(), kind, at);
+    if let Some(last) = last_key_below(image, kind, level, node.child(i - 1), how) {
+        return last;
+    }
+    key.copy_from_slice(node.key(i - 1));
+    key
+}
+
+/// The key of the last item that stands so many levels below an address, if there is one: at height 0 that of what
+/// stands there itself.
+fn last_key_below<R: Retires>(
+    image: &Image,
+    kind: NodeKind,
+    height: u8,
+    at: u64,
+    how: &R,
+) -> Option<[u8; 8]>
+    requires under { StandsUnder (R.stands how.now image.now.bytes) image.now.bytes kind height at }
+    ensures { IsLastOf (keys_below (node_at image.now.bytes kind)
+        (R.keys_at how.now image.now.bytes) height at) result }
+{
+    if height == 0 {
+        return how.last_key(image, at);
+    }
+    let node = node_there(image.bytes(), kind, at);
+    let mut i = node.len();
+    while i > 0 {
+        i -= 1;
+        let found = last_key_below(image, kind, height - 1, node.child(i), how);
+        if found.is_some() {
+            return found;
+        }
+    }
+    None
+}
