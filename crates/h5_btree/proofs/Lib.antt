@@ -59,3 +59,4 @@ pub mod RetiredKeys
 pub mod RetiredNodes
 pub mod RetiredSteps
 pub mod RetiredTrees
+pub mod RetiredGroups
