@@ -60,3 +60,4 @@ pub mod RetiredNodes
 pub mod RetiredSteps
 pub mod RetiredTrees
 pub mod RetiredGroups
+pub mod RetiredBeside

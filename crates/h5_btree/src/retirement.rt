@@ -38,10 +38,10 @@ pub trait Retires {
 /// Lets each key of a group's tree that is hit give way: the first key of a node to the lowest key, of zeros, and each
 /// other one to the key of the last item below the child before it, or, where there is none, to the key before it.
 ///
-/// So the keys stay in order, and none of them is hit any more. The tree has the same nodes and children. Takes no room
-/// and no memory, and time by its nodes and the keys that give way. That the tree shares no byte with a free block or
-/// with what stands at its children, and that neither the lowest key nor that of an item is hit, are the caller's
-/// conditions.
+/// So none of the keys is hit any more. The tree has the same nodes and children. Takes no room and no memory, looks at
+/// each key once, and goes down from the node once for each key that gives way. That the tree shares no byte with a free
+/// block, that what stands at its bottom stays where nodes of the tree alone change, and that neither the lowest key
+/// nor that of an item is hit, are the caller's conditions.
 pub fn retire<R: Retires>(image: &mut Image, kind: NodeKind, root: u64, how: &R)
     requires tree { IsRetirableSomewhere (R.hit how.now) (R.stands how.now) (R.keys_at how.now) image.old kind root }
     ensures retired { (level : ℕ) (owned list : List ℕ)
