@@ -182,3 +182,27 @@ module _ (hit : List ℕ → Bool) where
   unhit_same lists (k ∷ keys) (k' ∷ new) none is =
       let here : k' ≡ k = elim is.0 [ inl kept ↦ kept.1 | inr gone ↦ absurd (not_hit hit lists k none.0 gone.0) ] in
       ap₂ (λ (a : List ℕ) (b : List (List ℕ)). a ∷ b) here (same_from k' keys lists new none.1 is.1)
+
+  -- ---- each is the lowest one, or an item's, or was there and stays
+
+  module _ (P : List ℕ → Type 0) where
+    all_from : (before : List ℕ) (keys : List (List ℕ)) (lists : List (List (List ℕ))) (new : List (List ℕ)) → P before → AllByRecursion (AllByRecursion P) lists
+        → AllByRecursion (λ key. hit key ≡ false → P key) keys → AreRetired (λ (key : List ℕ). hit key ≡ true) (λ (key : List ℕ). key) before keys lists new → AllByRecursion P new
+    all_from before [] lists new low named old is = subst (AllByRecursion P) (sym is) tt
+    all_from before (k ∷ keys) [] new low named old is = absurd is
+    all_from before (k ∷ keys) (xs ∷ lists) [] low named old is = absurd is
+    all_from before (k ∷ keys) (xs ∷ lists) (k' ∷ new) low named old is =
+        let here : P k' = elim is.0 [
+          | inl kept ↦ subst P (sym kept.1) (old.0 (by_hit k kept.0))
+          | inr (inl none) ↦ subst P (sym none.2) low
+          | inr (inr some) ↦ subst P (sym some.1.3) (all_right P some.1.1 (some.1.0 ∷ []) (subst (AllByRecursion P) some.1.2 named.0)).0
+        ] in
+        (here, all_from k' keys lists new here named.1 old.1 is.1)
+
+    pub retired_all : (lists : List (List (List ℕ))) (old new : List (List ℕ)) → P lowest_key → AllByRecursion (AllByRecursion P) lists → AllByRecursion (λ key. hit key ≡ false → P key) old
+        → AreKeysRetired hit lists old new → AllByRecursion P new
+    retired_all lists [] new low named each is = subst (AllByRecursion P) (sym is) tt
+    retired_all lists (k ∷ keys) [] low named each is = absurd is
+    retired_all lists (k ∷ keys) (k' ∷ new) low named each is =
+        let here : P k' = elim is.0 [ inl kept ↦ subst P (sym kept.1) (each.0 (by_hit k kept.0)) | inr gone ↦ subst P (sym gone.1) low ] in
+        (here, all_from k' keys lists new here named each.1 is.1)

@@ -16,7 +16,8 @@ use Rattle.h5_btree.proofs.KeyedOrder.{IsBottomOf, own_or_blank}
 use Rattle.h5_btree.proofs.KeyedOwn.{keys_count}
 use Rattle.h5_btree.proofs.KeyedRetires.{IsRetired, tree_retires}
 use Rattle.h5_btree.proofs.KeyedTrees.{row_levels}
-use Rattle.h5_btree.proofs.RetiredNodes.{all_with, flat_same, keyed_tree, map_same}
+use Rattle.h5_btree.proofs.RetiredKeys.{retired_all}
+use Rattle.h5_btree.proofs.RetiredNodes.{all_with, lists_named, flat_same, keyed_tree, map_same}
 use Rattle.h5_btree.proofs.RetiredSteps.{all_two, node_unhit, retiring_keyed}
 use Rattle.h5_btree.proofs.TreeReadings.{owned_at}
 
@@ -190,6 +191,7 @@ module _ (hit : List ℕ → Bool) (stands : List ℕ → ℕ → Type 0) (keys_
   tree_retired = record {
     tree = keyed_tree s t kind owned list r.start.apart (retiring_keyed hit stands keys_at s t kind root level owned list r) root level r.start.tree;
     moves = r.moves;
+    nodes = each;
     keys = tree_retires no_sides no_order (λ (b : List (List ℕ)). b) (λ (b : List (List ℕ)). ⊤) (λ key c. keys_at s.bytes c) (λ k j c. refl) (λ (key : List ℕ). hit key ≡ true)
         (λ (key : List ℕ). key) lowest_key s.bytes t.bytes kind root level owned list r.start.tree (λ (o : Node). map (keys_at s.bytes) o.children)
         (bottom_is s kind root level owned list r.start.tree (keys_at s.bytes))
@@ -197,3 +199,28 @@ module _ (hit : List ℕ → Bool) (stands : List ℕ → ℕ → Type 0) (keys_
     unhit = all_two IsSo (IsNodeRetired hit keys_at s t kind) (λ n. AllByRecursion (λ (key : List ℕ). hit key ≡ false) (node_at t.bytes kind n).keys)
         (λ n so is. node_unhit hit stands keys_at s t kind root level owned list r n so.0 so.1 t is) owned so_all each;
   }
+
+-- WHAT IS SO OF ALL KEYS after it: of the lowest one, of the items' and of those that were there and are not hit
+module _ (hit : List ℕ → Bool) (keys_at : List ℕ → ℕ → List (List ℕ)) (s t : Space) (kind : Kind) (root level : ℕ) (owned list : List ℕ)
+    (was : HasTree s.bytes kind root level owned list) (is : IsTreeRetired hit keys_at s t kind root level owned list) (P : List ℕ → Type 0) where
+  abbrev IsPlaced : ℕ → Type 0
+  IsPlaced n = (h : ℕ) × IsUnder (node_at s.bytes kind) owned list (suc h) n
+
+  abbrev Was : ℕ → Type 0
+  Was n = AllByRecursion (λ key. hit key ≡ false → P key) (node_at s.bytes kind n).keys
+
+  abbrev Now : ℕ → Type 0
+  Now n = AllByRecursion P (node_at t.bytes kind n).keys
+
+  pub keys_then : P lowest_key → AllByRecursion (λ at. AllByRecursion P (keys_at s.bytes at)) list → AllByRecursion Was owned → AllByRecursion Now owned
+  keys_then low named old =
+      all_two (λ n. Was n → Now n) Was Now (λ n so was. so was) owned
+      (all_two IsPlaced (IsNodeRetired hit keys_at s t kind) (λ n. Was n → Now n) one_node owned (nodes_under s kind root level owned list was) is.nodes) old
+    where
+      one_node : (n : ℕ) → IsPlaced n → IsNodeRetired hit keys_at s t kind n → Was n → Now n
+      one_node n so retired old =
+          let V = node_at s.bytes kind in
+          let lists = lists_named P V (keys_at s.bytes) owned list named so.0 n so.1 in
+          subst (AllByRecursion P) (sym (ap (λ (o : Node). o.keys) retired.1))
+          (retired_all hit P (map (keys_below V (keys_at s.bytes) (V n).level) (V n).children) (V n).keys retired.0 low
+          (subst (λ (l : ℕ). AllByRecursion (AllByRecursion P) (map (keys_below V (keys_at s.bytes) l) (V n).children)) (sym so.1.1) lists) old retired.2)

@@ -114,10 +114,12 @@ AreRetiredBelow hit keys_at s t kind (suc height) at =
 abbrev pub KeepsRetired : (List ℕ → Bool) → (List ℕ → ℕ → List (List ℕ)) → Space → Space → Space → Kind → List ℕ → Type 0
 KeepsRetired hit keys_at s t u kind owned = (n : ℕ) → Owns owned n → IsNodeRetired hit keys_at s t kind n → IsNodeRetired hit keys_at s u kind n
 
--- What becomes of the tree: it has the same nodes and children, its keys have given way, and none of them is hit.
+-- What becomes of the tree: it has the same nodes and children, the keys of each node have given way, so those of the tree of keys have,
+-- and none of them is hit.
 pub record IsTreeRetired (hit : List ℕ → Bool) (keys_at : List ℕ → ℕ → List (List ℕ)) (s t : Space) (kind : Kind) (root level : ℕ) (owned list : List ℕ) : Type 0 where
   pub tree : HasTree t.bytes kind root level owned list
   pub moves : Moves s t (tree_blocks kind owned) (tree_blocks kind owned)
+  pub nodes : AllByRecursion (IsNodeRetired hit keys_at s t kind) owned
   pub keys : Retires (λ (key : List ℕ). hit key ≡ true) (λ (key : List ℕ). key) lowest_key (λ (keys : List (List ℕ)). keys) (suc level)
       (keys_from (node_at s.bytes kind) (λ key at. keys_at s.bytes at) level root) (keys_from (node_at t.bytes kind) (λ key at. keys_at s.bytes at) level root)
   pub unhit : AllByRecursion (λ n. AllByRecursion (λ (key : List ℕ). hit key ≡ false) (node_at t.bytes kind n).keys) owned
