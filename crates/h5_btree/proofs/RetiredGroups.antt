@@ -17,7 +17,7 @@ use Rattle.h5_laws.proofs.KeyRemoves.{AreRising, retires_sorted}
 use Rattle.h5_laws.proofs.NameLadders.{name_order}
 use Rattle.h5_space.specs.Space.{Space}
 use Rattle.h5_btree.specs.Keyed.{at_children, keys_from, items_of_tree}
-use Rattle.h5_btree.specs.Retired.{IsTreeRetired, IsUnder, lowest_key}
+use Rattle.h5_btree.specs.Retired.{IsTreeRetired, IsSubtree, lowest_key}
 use Rattle.h5_btree.proofs.KeyedForms.{IsGroupInOrder, names_at_child}
 use Rattle.h5_btree.proofs.KeyedNames.{AreAscending}
 use Rattle.h5_btree.proofs.KeyedOwn.{keys_count}
@@ -138,19 +138,19 @@ module _ (text : List ℕ → List ℕ) where
 
   module _ (V : Reading) (owned list : List ℕ) (count : (n : ℕ) → length (V n).keys ≡ length (V n).children + 1) (names keys : ℕ → Names)
       (same : AllByRecursion (λ c. names c ≡ map text (keys c)) list) where
-    bottom_named : (ks : Names) (cs : List ℕ) → AllByRecursion (IsUnder V owned list 0) cs
+    bottom_named : (ks : Names) (cs : List ℕ) → AllByRecursion (IsSubtree V owned list 0) cs
         → AreAlike (IsNamed 0) (at_children (λ key c. names c) ks cs) (at_children (λ key c. keys c) ks cs)
     bottom_named [] cs all = tt
     bottom_named (k ∷ ks) [] all = tt
     bottom_named (k ∷ ks) (c ∷ cs) all = (at_listed (λ d. names d ≡ map text (keys d)) list c same all.0, bottom_named ks cs all.1)
 
-    each_named : (m : ℕ) (one : (n : ℕ) → IsUnder V owned list (suc m) n → IsNamed (suc m) (keys_from V (λ key c. names c) m n) (keys_from V (λ key c. keys c) m n)) → (cs : List ℕ)
-        → AllByRecursion (IsUnder V owned list (suc m)) cs
+    each_named : (m : ℕ) (one : (n : ℕ) → IsSubtree V owned list (suc m) n → IsNamed (suc m) (keys_from V (λ key c. names c) m n) (keys_from V (λ key c. keys c) m n)) → (cs : List ℕ)
+        → AllByRecursion (IsSubtree V owned list (suc m)) cs
         → AreAlike (IsNamed (suc m)) (map (λ n. keys_from V (λ key c. names c) m n) cs) (map (λ n. keys_from V (λ key c. keys c) m n) cs)
     each_named m one [] all = tt
     each_named m one (c ∷ cs) all = (one c all.0, each_named m one cs all.1)
 
-    tree_named : (m n : ℕ) → IsUnder V owned list (suc m) n → IsNamed (suc m) (keys_from V (λ key c. names c) m n) (keys_from V (λ key c. keys c) m n)
+    tree_named : (m n : ℕ) → IsSubtree V owned list (suc m) n → IsNamed (suc m) (keys_from V (λ key c. names c) m n) (keys_from V (λ key c. keys c) m n)
     tree_named zero n is = (refl, bottom_named (V n).keys (V n).children is.2)
     tree_named (suc m) n is = (refl, each_named m (tree_named m) (V n).children is.2)
 

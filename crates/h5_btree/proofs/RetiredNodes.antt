@@ -12,7 +12,7 @@ use Rattle.h5_space.specs.Whole.{IsApart}
 use Rattle.h5_space.proofs.MovesLaws.{moves_none, moves_then}
 use Rattle.h5_btree.specs.Climb.{KeepsRows}
 use Rattle.h5_btree.specs.Insertion.{Owns}
-use Rattle.h5_btree.specs.Retired.{StandsUnder, IsUnder, keys_below}
+use Rattle.h5_btree.specs.Retired.{StandsUnder, IsSubtree, keys_below}
 use Rattle.h5_btree.specs.Rewritten.{IsRewritten}
 use Rattle.h5_btree.proofs.ClimbSteps.{all_from, at_or, inside_of_apart}
 use Rattle.h5_btree.proofs.NodeLaws.{length-children}
@@ -44,16 +44,16 @@ all_mapped P f (x ∷ xs) all = (all.0, all_mapped P f xs all.1)
 -- ---- what is so of the items at the bottom is so of those below a node
 
 module _ (P : List ℕ → Type 0) (V : Reading) (keys : ℕ → List (List ℕ)) (owned list : List ℕ) (named : AllByRecursion (λ at. AllByRecursion P (keys at)) list) where
-  under_named : (height at : ℕ) → IsUnder V owned list height at → AllByRecursion P (keys_below V keys height at)
+  under_named : (height at : ℕ) → IsSubtree V owned list height at → AllByRecursion P (keys_below V keys height at)
   under_named zero at is = at_listed (λ at'. AllByRecursion P (keys at')) list at named is
   under_named (suc height) at is =
       all_flat P (keys_below V keys height) (V at).children
-      (all_with (IsUnder V owned list height) (λ c. AllByRecursion P (keys_below V keys height c)) (V at).children (under_named height) is.2)
+      (all_with (IsSubtree V owned list height) (λ c. AllByRecursion P (keys_below V keys height c)) (V at).children (under_named height) is.2)
 
-  pub lists_named : (level at : ℕ) → IsUnder V owned list (suc level) at → AllByRecursion (AllByRecursion P) (map (keys_below V keys level) (V at).children)
+  pub lists_named : (level at : ℕ) → IsSubtree V owned list (suc level) at → AllByRecursion (AllByRecursion P) (map (keys_below V keys level) (V at).children)
   lists_named level at is =
       all_mapped (AllByRecursion P) (keys_below V keys level) (V at).children
-      (all_with (IsUnder V owned list level) (λ c. AllByRecursion P (keys_below V keys level c)) (V at).children (under_named level) is.2)
+      (all_with (IsSubtree V owned list level) (λ c. AllByRecursion P (keys_below V keys level c)) (V at).children (under_named level) is.2)
 
 -- ---- keys alone have changed
 
@@ -114,7 +114,7 @@ module _ (s t : Space) (kind : Kind) (owned list : List ℕ) (apart : IsApart (t
   keyed_children n is = ap (λ (o : Node). o.children) (k.nodes n is).1
 
   -- nodes stand there, over what stands
-  pub keyed_under : (stands : ℕ → Type 0) → AllByRecursion stands list → (height at : ℕ) → IsUnder V owned list height at → StandsUnder stands t.bytes kind height at
+  pub keyed_under : (stands : ℕ → Type 0) → AllByRecursion stands list → (height at : ℕ) → IsSubtree V owned list height at → StandsUnder stands t.bytes kind height at
   keyed_under stands all zero at is = at_listed stands list at all is
   keyed_under stands all (suc height) at is = (
     (
@@ -122,23 +122,23 @@ module _ (s t : Space) (kind : Kind) (owned list : List ℕ) (apart : IsApart (t
       at_listed (λ n. IsNode kind (node_bytes t.bytes kind n)) owned at k.formed is.0,
     ),
     subst (AllByRecursion (StandsUnder stands t.bytes kind height)) (sym (keyed_children at is.0))
-        (all_with (IsUnder V owned list height) (StandsUnder stands t.bytes kind height) (V at).children (keyed_under stands all height) is.2),
+        (all_with (IsSubtree V owned list height) (StandsUnder stands t.bytes kind height) (V at).children (keyed_under stands all height) is.2),
   )
 
   -- the items below are the same
   module _ (was now : ℕ → List (List ℕ)) (same : AllByRecursion (λ at. now at ≡ was at) list) where
-    pub keyed_below : (height at : ℕ) → IsUnder V owned list height at → keys_below W now height at ≡ keys_below V was height at
+    pub keyed_below : (height at : ℕ) → IsSubtree V owned list height at → keys_below W now height at ≡ keys_below V was height at
     keyed_below zero at is = at_listed (λ at'. now at' ≡ was at') list at same is
     keyed_below (suc height) at is =
         ap (flat_map (keys_below W now height)) (keyed_children at is.0)
         ∙ flat_same (keys_below W now height) (keys_below V was height) (V at).children
-        (all_with (IsUnder V owned list height) (λ c. keys_below W now height c ≡ keys_below V was height c) (V at).children (keyed_below height) is.2)
+        (all_with (IsSubtree V owned list height) (λ c. keys_below W now height c ≡ keys_below V was height c) (V at).children (keyed_below height) is.2)
 
-    pub keyed_lists : (level at : ℕ) → IsUnder V owned list (suc level) at → map (keys_below W now level) (W at).children ≡ map (keys_below V was level) (V at).children
+    pub keyed_lists : (level at : ℕ) → IsSubtree V owned list (suc level) at → map (keys_below W now level) (W at).children ≡ map (keys_below V was level) (V at).children
     keyed_lists level at is =
         ap (map (keys_below W now level)) (keyed_children at is.0)
         ∙ map_same (keys_below W now level) (keys_below V was level) (V at).children
-        (all_with (IsUnder V owned list level) (λ c. keys_below W now level c ≡ keys_below V was level c) (V at).children (keyed_below level) is.2)
+        (all_with (IsSubtree V owned list level) (λ c. keys_below W now level c ≡ keys_below V was level c) (V at).children (keyed_below level) is.2)
 
   -- it is the same tree
   pub keyed_tree : (root level : ℕ) → HasTree s.bytes kind root level owned list → HasTree t.bytes kind root level owned list

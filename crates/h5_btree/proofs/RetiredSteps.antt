@@ -9,7 +9,7 @@ use Rattle.h5_model.proofs.RowLaws.{all_listed, at_listed}
 use Rattle.h5_space.specs.Space.{Space}
 use Rattle.h5_space.proofs.MovesLaws.{moves_none}
 use Rattle.h5_btree.specs.Insertion.{Owns}
-use Rattle.h5_btree.specs.Retired.{AreKeysRetired, AreRetiredBelow, IsKeyRetired, IsNodeRetired, IsNodeRewritten, IsRetirable, IsRetiring, IsUnder, KeepsRetired, StandsUnder, keys_below}
+use Rattle.h5_btree.specs.Retired.{AreKeysRetired, AreRetiredBelow, IsKeyRetired, IsNodeRetired, IsNodeRewritten, IsRetirable, IsRetiring, IsSubtree, KeepsRetired, StandsUnder, keys_below}
 use Rattle.h5_btree.specs.Rewritten.{IsRewritten}
 use Rattle.h5_btree.proofs.ClimbSteps.{all_from, at_or}
 use Rattle.h5_btree.proofs.RewriteSteps.{rewritten_then}
@@ -55,11 +55,11 @@ module _ (hit : List ℕ → Bool) (stands : List ℕ → ℕ → Type 0) (keys_
     pub retiring_same : AllByRecursion (λ at. keys_at t.bytes at ≡ keys_at s.bytes at) list
     retiring_same = all_with (λ at. stands t.bytes at × (keys_at t.bytes at ≡ keys_at s.bytes at)) (λ at. keys_at t.bytes at ≡ keys_at s.bytes at) list (λ at is. is.1) (r.start.stays t r.moves)
 
-    pub retiring_under : (height at : ℕ) → IsUnder V owned list height at → StandsUnder (stands t.bytes) t.bytes kind height at
+    pub retiring_under : (height at : ℕ) → IsSubtree V owned list height at → StandsUnder (stands t.bytes) t.bytes kind height at
     retiring_under = keyed_under s t kind owned list r.start.apart retiring_keyed (stands t.bytes) retiring_stands
 
     -- no key of a node is hit then
-    pub node_unhit : (n height : ℕ) → IsUnder V owned list (suc height) n → (u : Space) → IsNodeRetired hit keys_at s u kind n → Unhit hit (node_at u.bytes kind n).keys
+    pub node_unhit : (n height : ℕ) → IsSubtree V owned list (suc height) n → (u : Space) → IsNodeRetired hit keys_at s u kind n → Unhit hit (node_at u.bytes kind n).keys
     node_unhit n height under u retired =
         let named = lists_named (λ (key : List ℕ). hit key ≡ false) V (keys_at s.bytes) owned list r.start.named height n under in
         subst (Unhit hit) (sym (ap (λ (o : Node). o.keys) retired.1))
@@ -67,7 +67,7 @@ module _ (hit : List ℕ → Bool) (stands : List ℕ → ℕ → Type 0) (keys_
         (subst (λ (l : ℕ). AllByRecursion (Unhit hit) (map (keys_below V (keys_at s.bytes) l) (V n).children)) (sym under.1) named) retired.2)
 
     -- while the keys of one node give way
-    module _ (u : Space) (m at : ℕ) (under : IsUnder V owned list (suc m) at) (keys : List (List ℕ)) (w : IsRewritten t u kind at (record (node_at t.bytes kind at) { keys = keys })) where
+    module _ (u : Space) (m at : ℕ) (under : IsSubtree V owned list (suc m) at) (keys : List (List ℕ)) (w : IsRewritten t u kind at (record (node_at t.bytes kind at) { keys = keys })) where
       abbrev partly : IsKeyed s u kind owned
       partly = keyed_more s t u kind owned r.start.apart retiring_keyed at under.0 keys w
 
@@ -106,7 +106,7 @@ module _ (hit : List ℕ → Bool) (stands : List ℕ → ℕ → Type 0) (keys_
         pub key_written : IsRewritten t v kind at (record (node_at t.bytes kind at) { keys = slice_set keys n key })
         key_written = rewritten_then t u v kind at _ _ w (subst (λ (o : Node). IsRewritten u v kind at (record o { keys = slice_set o.keys n key })) w.says x)
 
-    module _ (u : Space) (m at : ℕ) (under : IsUnder V owned list (suc m) at) (w : IsNodeRewritten hit keys_at t u kind m at) where
+    module _ (u : Space) (m at : ℕ) (under : IsSubtree V owned list (suc m) at) (w : IsNodeRewritten hit keys_at t u kind m at) where
       abbrev now : List (List ℕ)
       now = w.0
 
@@ -160,12 +160,12 @@ module _ (hit : List ℕ → Bool) (stands : List ℕ → ℕ → Type 0) (keys_
       }
 
   -- what has given way stays so
-  pub below_kept : (s t u : Space) (kind : Kind) (owned list : List ℕ) → KeepsRetired hit keys_at s t u kind owned → (height at : ℕ) → IsUnder (node_at s.bytes kind) owned list height at
+  pub below_kept : (s t u : Space) (kind : Kind) (owned list : List ℕ) → KeepsRetired hit keys_at s t u kind owned → (height at : ℕ) → IsSubtree (node_at s.bytes kind) owned list height at
       → AreRetiredBelow hit keys_at s t kind height at → AreRetiredBelow hit keys_at s u kind height at
   below_kept s t u kind owned list keep zero at under is = tt
   below_kept s t u kind owned list keep (suc height) at under is = (
     keep at under.0 is.0,
-    all_two (IsUnder (node_at s.bytes kind) owned list height) (AreRetiredBelow hit keys_at s t kind height) (AreRetiredBelow hit keys_at s u kind height)
+    all_two (IsSubtree (node_at s.bytes kind) owned list height) (AreRetiredBelow hit keys_at s t kind height) (AreRetiredBelow hit keys_at s u kind height)
         (below_kept s t u kind owned list keep height) (node_at s.bytes kind at).children under.2 is.1,
   )
 
@@ -183,10 +183,10 @@ all_take P [] (suc i) all = tt
 all_take P (x ∷ xs) zero all = tt
 all_take P (x ∷ xs) (suc i) all = (all.0, all_take P xs i all.1)
 
-pub under_got : (V : Reading) (owned list : List ℕ) (level low at i child : ℕ) → level ≡ suc low → IsUnder V owned list (suc level) at → slice_get (V at).children i ≡ Some child
-    → IsUnder V owned list (suc low) child
+pub under_got : (V : Reading) (owned list : List ℕ) (level low at i child : ℕ) → level ≡ suc low → IsSubtree V owned list (suc level) at → slice_get (V at).children i ≡ Some child
+    → IsSubtree V owned list (suc low) child
 under_got V owned list level low at i child more under got =
-    subst (λ (h : ℕ). IsUnder V owned list h child) more (all_got (IsUnder V owned list level) (V at).children i child got under.2)
+    subst (λ (h : ℕ). IsSubtree V owned list h child) more (all_got (IsSubtree V owned list level) (V at).children i child got under.2)
 
 module _ (hit : List ℕ → Bool) (keys_at : List ℕ → ℕ → List (List ℕ)) where
   -- nothing is below the children of a node of level 0
@@ -199,7 +199,7 @@ module _ (hit : List ℕ → Bool) (keys_at : List ℕ → ℕ → List (List �
 
   -- one child more
   pub below_more : (stands : List ℕ → ℕ → Type 0) (s t u : Space) (kind : Kind) (owned list : List ℕ) (level low at i child : ℕ) → level ≡ suc low
-      → IsUnder (node_at s.bytes kind) owned list (suc level) at → slice_get (node_at s.bytes kind at).children i ≡ Some child → KeepsRetired hit keys_at s t u kind owned
+      → IsSubtree (node_at s.bytes kind) owned list (suc level) at → slice_get (node_at s.bytes kind at).children i ≡ Some child → KeepsRetired hit keys_at s t u kind owned
       → AreRetiredBelow hit keys_at s u kind (suc low) child → AllByRecursion (AreRetiredBelow hit keys_at s t kind level) (take i (node_at s.bytes kind at).children)
       → AllByRecursion (AreRetiredBelow hit keys_at s u kind level) (take (i + 1) (node_at s.bytes kind at).children)
   below_more stands s t u kind owned list level low at i child more under got keep new done =
@@ -207,8 +207,8 @@ module _ (hit : List ℕ → Bool) (keys_at : List ℕ → ℕ → List (List �
       let cs = (node_at s.bytes kind at).children in
       subst (AllByRecursion P) (sym (ap (λ (n : ℕ). take n cs) (add-one i) ∙ take_got cs i child got))
       (all_append P (take i cs) (child ∷ [])
-      (all_two (IsUnder (node_at s.bytes kind) owned list level) (AreRetiredBelow hit keys_at s t kind level) P
-      (below_kept hit stands keys_at s t u kind owned list keep level) (take i cs) (all_take (IsUnder (node_at s.bytes kind) owned list level) cs i under.2) done)
+      (all_two (IsSubtree (node_at s.bytes kind) owned list level) (AreRetiredBelow hit keys_at s t kind level) P
+      (below_kept hit stands keys_at s t u kind owned list keep level) (take i cs) (all_take (IsSubtree (node_at s.bytes kind) owned list level) cs i under.2) done)
       (subst (λ (h : ℕ). AreRetiredBelow hit keys_at s u kind h child) (sym more) new, tt))
 
 -- all of them

@@ -11,7 +11,7 @@ use Rattle.h5_laws.specs.Ladders.{Sides, IsOrderly, Bottom, items_under, lists_b
 use Rattle.h5_space.specs.Space.{Space}
 use Rattle.h5_btree.specs.Insertion.{Owns}
 use Rattle.h5_btree.specs.Keyed.{AtChild, at_children}
-use Rattle.h5_btree.specs.Retired.{AreKeysRetired, AreRetiredBelow, IsNodeRetired, IsRetiring, IsTreeRetired, IsUnder, keys_below, lowest_key}
+use Rattle.h5_btree.specs.Retired.{AreKeysRetired, AreRetiredBelow, IsNodeRetired, IsRetiring, IsTreeRetired, IsSubtree, keys_below, lowest_key}
 use Rattle.h5_btree.proofs.KeyedOrder.{IsBottomOf, own_or_blank}
 use Rattle.h5_btree.proofs.KeyedOwn.{keys_count}
 use Rattle.h5_btree.proofs.KeyedRetires.{IsRetired, tree_retires}
@@ -24,21 +24,21 @@ use Rattle.h5_btree.proofs.TreeReadings.{owned_at}
 -- ---- the nodes of a tree, from the root down
 
 module _ (V : Reading) (owned list : List ℕ) (Y : Reading) (own : (n : ℕ) → Owns owned n → Y n ≡ V n) where
-  over : (h : ℕ) (row : List ℕ) → AllByRecursion (λ n. (Y n).level ≡ h) row → AllByRecursion (Owns owned) row → AllByRecursion (IsUnder V owned list h) (next_row Y row)
-      → AllByRecursion (IsUnder V owned list (suc h)) row
+  over : (h : ℕ) (row : List ℕ) → AllByRecursion (λ n. (Y n).level ≡ h) row → AllByRecursion (Owns owned) row → AllByRecursion (IsSubtree V owned list h) (next_row Y row)
+      → AllByRecursion (IsSubtree V owned list (suc h)) row
   over h [] levels owns below = tt
   over h (n ∷ row) levels owns below =
       let is = own n owns.0 in (
         (
           owns.0,
           sym (ap (λ (o : Node). o.level) is) ∙ levels.0,
-          subst (λ (o : Node). AllByRecursion (IsUnder V owned list h) o.children) is (all_left (IsUnder V owned list h) (Y n).children (next_row Y row) below),
+          subst (λ (o : Node). AllByRecursion (IsSubtree V owned list h) o.children) is (all_left (IsSubtree V owned list h) (Y n).children (next_row Y row) below),
         ),
-        over h row levels.1 owns.1 (all_right (IsUnder V owned list h) (Y n).children (next_row Y row) below),
+        over h row levels.1 owns.1 (all_right (IsSubtree V owned list h) (Y n).children (next_row Y row) below),
       )
 
   under_rows : (m : ℕ) (row : List ℕ) → AreRows Y m row → AllByRecursion (Owns owned) (nodes Y m row) → AllByRecursion (Owns list) (leaves Y m row)
-      → AllByRecursion (IsUnder V owned list (suc m)) row
+      → AllByRecursion (IsSubtree V owned list (suc m)) row
   under_rows zero row rows owns stand = over 0 row (row_levels Y 0 undefined row rows) owns stand
   under_rows (suc m) row rows owns stand =
       over (suc m) row (row_levels Y (suc m) undefined row rows.0) (all_left (Owns owned) row (nodes Y m (next_row Y row)) owns)
@@ -46,14 +46,14 @@ module _ (V : Reading) (owned list : List ℕ) (Y : Reading) (own : (n : ℕ) �
 
   -- each of them, at some height
   abbrev IsSomewhere : ℕ → Type 0
-  IsSomewhere n = (h : ℕ) × IsUnder V owned list (suc h) n
+  IsSomewhere n = (h : ℕ) × IsSubtree V owned list (suc h) n
 
   under_nodes : (m : ℕ) (row : List ℕ) → AreRows Y m row → AllByRecursion (Owns owned) (nodes Y m row) → AllByRecursion (Owns list) (leaves Y m row)
       → AllByRecursion IsSomewhere (nodes Y m row)
-  under_nodes zero row rows owns stand = all_with (IsUnder V owned list 1) IsSomewhere row (λ n is. (0, is)) (under_rows zero row rows owns stand)
+  under_nodes zero row rows owns stand = all_with (IsSubtree V owned list 1) IsSomewhere row (λ n is. (0, is)) (under_rows zero row rows owns stand)
   under_nodes (suc m) row rows owns stand =
       all_append IsSomewhere row (nodes Y m (next_row Y row))
-      (all_with (IsUnder V owned list (suc (suc m))) IsSomewhere row (λ n is. (suc m, is)) (under_rows (suc m) row rows owns stand))
+      (all_with (IsSubtree V owned list (suc (suc m))) IsSomewhere row (λ n is. (suc m, is)) (under_rows (suc m) row rows owns stand))
       (under_nodes m (next_row Y row) rows.1 (all_right (Owns owned) row (nodes Y m (next_row Y row)) owns) stand)
 
   -- what is so of each node from the root down is so of all nodes, row by row
@@ -92,11 +92,11 @@ module _ (s : Space) (kind : Kind) (root level : ℕ) (owned list : List ℕ) (h
   stand : AllByRecursion (Owns list) (leaves Y level (root ∷ []))
   stand = subst (AllByRecursion (Owns list)) has.all (all_listed list)
 
-  pub root_under : IsUnder V owned list (suc level) root
+  pub root_under : IsSubtree V owned list (suc level) root
   root_under = (under_rows V owned list Y read level (root ∷ []) has.rows owns stand).0
 
-  nodes_under : AllByRecursion (λ n. (h : ℕ) × IsUnder V owned list (suc h) n) owned
-  nodes_under = subst (AllByRecursion (λ n. (h : ℕ) × IsUnder V owned list (suc h) n)) (sym has.owns)
+  nodes_under : AllByRecursion (λ n. (h : ℕ) × IsSubtree V owned list (suc h) n) owned
+  nodes_under = subst (AllByRecursion (λ n. (h : ℕ) × IsSubtree V owned list (suc h) n)) (sym has.owns)
       (under_nodes V owned list Y read level (root ∷ []) has.rows owns stand)
 
   -- the keys of the items, as the tree of keys has them
@@ -121,19 +121,19 @@ module _ (s : Space) (kind : Kind) (root level : ℕ) (owned list : List ℕ) (h
     flat_all [] = refl
     flat_all (c ∷ cs) = ap (λ (ks : List (List ℕ)). keys c ++ ks) (flat_all cs)
 
-    items_below : (m c : ℕ) → IsUnder V owned list (suc m) c → items_under Y bottom m c ≡ keys_below V keys (suc m) c
+    items_below : (m c : ℕ) → IsSubtree V owned list (suc m) c → items_under Y bottom m c ≡ keys_below V keys (suc m) c
     items_below zero c is = flat_all (Y c).children ∙ ap (λ (o : Node). flat_map keys o.children) (read c is.0)
     items_below (suc m) c is =
         ap (λ (o : Node). flat_map (items_under Y bottom m) o.children) (read c is.0)
         ∙ flat_same (items_under Y bottom m) (keys_below V keys (suc m)) (V c).children
-        (all_with (IsUnder V owned list (suc m)) (λ d. items_under Y bottom m d ≡ keys_below V keys (suc m) d) (V c).children (items_below m) is.2)
+        (all_with (IsSubtree V owned list (suc m)) (λ d. items_under Y bottom m d ≡ keys_below V keys (suc m) d) (V c).children (items_below m) is.2)
 
-    lists_same : (h n : ℕ) → IsUnder V owned list (suc h) n → lists_below Y bottom h (Y n) ≡ map (keys_below V keys h) (V n).children
+    lists_same : (h n : ℕ) → IsSubtree V owned list (suc h) n → lists_below Y bottom h (Y n) ≡ map (keys_below V keys h) (V n).children
     lists_same zero n is = ap (λ (o : Node). map keys o.children) (read n is.0)
     lists_same (suc h) n is =
         ap (λ (o : Node). map (items_under Y bottom h) o.children) (read n is.0)
         ∙ map_same (items_under Y bottom h) (keys_below V keys (suc h)) (V n).children
-        (all_with (IsUnder V owned list (suc h)) (λ d. items_under Y bottom h d ≡ keys_below V keys (suc h) d) (V n).children (items_below h) is.2)
+        (all_with (IsSubtree V owned list (suc h)) (λ d. items_under Y bottom h d ≡ keys_below V keys (suc h) d) (V n).children (items_below h) is.2)
 
 -- Nothing may stand beside a key: keys that give way do so whatever their order is.
 abbrev no_sides : Sides (List ℕ) (List ℕ)
@@ -162,7 +162,7 @@ module _ (hit : List ℕ → Bool) (stands : List ℕ → ℕ → Type 0) (keys_
       (subst (AllByRecursion (Owns owned)) r.start.tree.owns (all_listed owned)) (all, tt))
 
   abbrev IsSo : ℕ → Type 0
-  IsSo n = (h : ℕ) × IsUnder V₀ owned list (suc h) n
+  IsSo n = (h : ℕ) × IsSubtree V₀ owned list (suc h) n
 
   abbrev Retired : ℕ → Type 0
   Retired = IsRetired (λ (b : List (List ℕ)). b) (λ key c. keys_at s.bytes c) (λ k j c. refl) (λ (key : List ℕ). hit key ≡ true) (λ (key : List ℕ). key) lowest_key Y₀ (node_at t.bytes kind)
@@ -204,7 +204,7 @@ module _ (hit : List ℕ → Bool) (stands : List ℕ → ℕ → Type 0) (keys_
 module _ (hit : List ℕ → Bool) (keys_at : List ℕ → ℕ → List (List ℕ)) (s t : Space) (kind : Kind) (root level : ℕ) (owned list : List ℕ)
     (was : HasTree s.bytes kind root level owned list) (is : IsTreeRetired hit keys_at s t kind root level owned list) (P : List ℕ → Type 0) where
   abbrev IsPlaced : ℕ → Type 0
-  IsPlaced n = (h : ℕ) × IsUnder (node_at s.bytes kind) owned list (suc h) n
+  IsPlaced n = (h : ℕ) × IsSubtree (node_at s.bytes kind) owned list (suc h) n
 
   abbrev Was : ℕ → Type 0
   Was n = AllByRecursion (λ key. hit key ≡ false → P key) (node_at s.bytes kind n).keys

@@ -34,10 +34,10 @@ StandsUnder stands image kind (suc height) at =
     IsNodeThere image kind at × AllByRecursion (StandsUnder stands image kind height) (node_at image kind at).children
 
 -- they are those of a tree that owns these nodes, with this list at its bottom
-abbrev pub IsUnder : Reading → List ℕ → List ℕ → ℕ → ℕ → Type 0
-IsUnder V owned list zero at = Owns list at
-IsUnder V owned list (suc height) at =
-    Owns owned at × ((V at).level ≡ height) × AllByRecursion (IsUnder V owned list height) (V at).children
+abbrev pub IsSubtree : Reading → List ℕ → List ℕ → ℕ → ℕ → Type 0
+IsSubtree V owned list zero at = Owns list at
+IsSubtree V owned list (suc height) at =
+    Owns owned at × ((V at).level ≡ height) × AllByRecursion (IsSubtree V owned list height) (V at).children
 
 -- ---- one node
 
@@ -102,7 +102,7 @@ pub record IsRetiring (hit : List ℕ → Bool) (stands : List ℕ → ℕ → T
 abbrev pub StandsSomewhere : (List ℕ → Bool) → (List ℕ → ℕ → Type 0) → (List ℕ → ℕ → List (List ℕ)) → Space → Kind → ℕ → ℕ → Type 0
 StandsSomewhere hit stands keys_at t kind level at =
     (start : Space) × (root : ℕ) × (height : ℕ) × (owned : List ℕ) × (list : List ℕ) × IsRetiring hit stands keys_at start t kind root height owned list
-    × IsUnder (node_at start.bytes kind) owned list (suc level) at
+    × IsSubtree (node_at start.bytes kind) owned list (suc level) at
 
 -- the keys of the node and of all below it have given way
 abbrev pub AreRetiredBelow : (List ℕ → Bool) → (List ℕ → ℕ → List (List ℕ)) → Space → Space → Kind → ℕ → ℕ → Type 0

@@ -43,7 +43,7 @@ pub use node::Node;
 pub use order::{Ordered, check_keys};
 pub use read::{NodeFault, read_node, read_node_at};
 pub use removal::{remove_at, take_from};
-pub use retirement::{Retires, retire};
+pub use retirement::{Hits, retire};
 pub use sought::{Sought, child_for};
 pub use walk::{Leaves, Tree, Trees, bottom_nodes, read_tree, tree_leaves, tree_node};
 pub use way::{Step, Way, find_way, is_full_way};

@@ -6,7 +6,7 @@ ghost use Rattle.h5_model.specs.Format.Nodes.{entries_in, node_at, node_bytes};
 ghost use Rattle.h5_space.specs.Moves.{Spends};
 ghost use Rattle.h5_space.specs.Space.{Space};
 ghost use Rattle.h5_btree.specs.Rewritten.{IsRewritten};
-ghost use Rattle.h5_btree.specs.Retired.{AreRetiredBelow, IsKeyBefore, IsKeyRetired, IsLastOf, IsNodeRewritten, IsRetirable, IsRetirableSomewhere, IsRetiring, IsTreeRetired, IsUnder, KeepsRetired, StandsSomewhere, StandsUnder, keys_below};
+ghost use Rattle.h5_btree.specs.Retired.{AreRetiredBelow, IsKeyBefore, IsKeyRetired, IsLastOf, IsNodeRewritten, IsRetirable, IsRetirableSomewhere, IsRetiring, IsTreeRetired, IsSubtree, KeepsRetired, StandsSomewhere, StandsUnder, keys_below};
 
 use crate::edit::set_key;
 use crate::kind::NodeKind;
@@ -14,7 +14,7 @@ use crate::read::node_there;
 use h5_space::Image;
 
 /// Which keys of a group's tree give way, and what stands at the children at its bottom, to whose last keys they do.
-pub trait Retires {
+pub trait Hits {
     /// Whether a key gives way.
     ghost hit: { Self → List ℕ → Bool };
 
@@ -42,11 +42,14 @@ pub trait Retires {
 /// each key once, and goes down from the node once for each key that gives way. That the tree shares no byte with a free
 /// block, that what stands at its bottom stays where nodes of the tree alone change, and that neither the lowest key
 /// nor that of an item is hit, are the caller's conditions.
-pub fn retire<R: Retires>(image: &mut Image, kind: NodeKind, root: u64, how: &R)
-    requires tree { IsRetirableSomewhere (R.hit how.now) (R.stands how.now) (R.keys_at how.now) image.old kind root }
+pub fn retire<R: Hits>(image: &mut Image, kind: NodeKind, root: u64, how: &R)
+    requires tree { IsRetirableSomewhere (R.hit how.now) (R.stands how.now) (R.keys_at how.now)
+        image.old kind root }
     ensures retired { (level : ℕ) (owned list : List ℕ)
-        → IsRetirable (R.hit how.now) (R.stands how.now) (R.keys_at how.now) image.old kind root level owned list
-        → IsTreeRetired (R.hit how.now) (R.keys_at how.now) image.old image.new kind root level owned list }
+        → IsRetirable (R.hit how.now) (R.stands how.now) (R.keys_at how.now)
+        image.old kind root level owned list
+        → IsTreeRetired (R.hit how.now) (R.keys_at how.now) image.old image.new kind root level
+        owned list }
     ensures spends { Spends image.old image.new 0 0 }
 {
     let level = node_there(image.bytes(), kind, root).level();
@@ -54,19 +57,24 @@ pub fn retire<R: Retires>(image: &mut Image, kind: NodeKind, root: u64, how: &R)
 }
 
 /// The same below a node of this level, and of the node itself.
-fn retire_below<R: Retires>(image: &mut Image, kind: NodeKind, level: u8, at: u64, how: &R)
-    requires stands { StandsSomewhere (R.hit how.now) (R.stands how.now) (R.keys_at how.now) image.old kind level at }
+fn retire_below<R: Hits>(image: &mut Image, kind: NodeKind, level: u8, at: u64, how: &R)
+    requires stands { StandsSomewhere (R.hit how.now) (R.stands how.now) (R.keys_at how.now)
+        image.old kind level at }
     ensures retired { (start : Space) (root height : ℕ) (owned list : List ℕ)
-        → IsRetiring (R.hit how.now) (R.stands how.now) (R.keys_at how.now) start image.old kind root height owned list
-        → IsUnder (node_at start.bytes kind) owned list (suc level) at
-        → IsRetiring (R.hit how.now) (R.stands how.now) (R.keys_at how.now) start image.new kind root height owned list }
+        → IsRetiring (R.hit how.now) (R.stands how.now) (R.keys_at how.now)
+        start image.old kind root height owned list
+        → IsSubtree (node_at start.bytes kind) owned list (suc level) at
+        → IsRetiring (R.hit how.now) (R.stands how.now) (R.keys_at how.now)
+        start image.new kind root height owned list }
     ensures below { (start : Space) (root height : ℕ) (owned list : List ℕ)
-        → IsRetiring (R.hit how.now) (R.stands how.now) (R.keys_at how.now) start image.old kind root height owned list
-        → IsUnder (node_at start.bytes kind) owned list (suc level) at
+        → IsRetiring (R.hit how.now) (R.stands how.now) (R.keys_at how.now)
+        start image.old kind root height owned list
+        → IsSubtree (node_at start.bytes kind) owned list (suc level) at
         → AreRetiredBelow (R.hit how.now) (R.keys_at how.now) start image.new kind (suc level) at }
     ensures kept { (start : Space) (root height : ℕ) (owned list : List ℕ)
-        → IsRetiring (R.hit how.now) (R.stands how.now) (R.keys_at how.now) start image.old kind root height owned list
-        → IsUnder (node_at start.bytes kind) owned list (suc level) at
+        → IsRetiring (R.hit how.now) (R.stands how.now) (R.keys_at how.now)
+        start image.old kind root height owned list
+        → IsSubtree (node_at start.bytes kind) owned list (suc level) at
         → KeepsRetired (R.hit how.now) (R.keys_at how.now) start image.old image.new kind owned }
     ensures spends { Spends image.old image.new 0 0 }
 {
@@ -80,8 +88,9 @@ fn retire_below<R: Retires>(image: &mut Image, kind: NodeKind, level: u8, at: u6
 }
 
 /// Lets each key of a node that is hit give way.
-fn retire_keys<R: Retires>(image: &mut Image, kind: NodeKind, level: u8, at: u64, how: &R)
-    requires stands { StandsSomewhere (R.hit how.now) (R.stands how.now) (R.keys_at how.now) image.old kind level at }
+fn retire_keys<R: Hits>(image: &mut Image, kind: NodeKind, level: u8, at: u64, how: &R)
+    requires stands { StandsSomewhere (R.hit how.now) (R.stands how.now) (R.keys_at how.now)
+        image.old kind level at }
     ensures { IsNodeRewritten (R.hit how.now) (R.keys_at how.now) image.old image.new kind level at }
 {
     for i in 0..node_there(image.bytes(), kind, at).len() + 1 {
@@ -90,7 +99,7 @@ fn retire_keys<R: Retires>(image: &mut Image, kind: NodeKind, level: u8, at: u64
 }
 
 /// Lets key `i` of a node give way, if it is hit.
-fn retire_key<R: Retires>(image: &mut Image, kind: NodeKind, level: u8, at: u64, i: usize, how: &R)
+fn retire_key<R: Hits>(image: &mut Image, kind: NodeKind, level: u8, at: u64, i: usize, how: &R)
     requires width { kind.key_length ≡ 8 }
     requires under { StandsUnder (R.stands how.now image.old.bytes) image.old.bytes kind (suc level) at }
     requires place { i ≤ entries_in (node_bytes image.old.bytes kind at) }
@@ -110,7 +119,7 @@ fn retire_key<R: Retires>(image: &mut Image, kind: NodeKind, level: u8, at: u64,
 }
 
 /// The key to which key `i` of a node gives way.
-fn key_before<R: Retires>(
+fn key_before<R: Hits>(
     image: &Image,
     kind: NodeKind,
     level: u8,
@@ -139,7 +148,7 @@ fn key_before<R: Retires>(
 
 /// The key of the last item that stands so many levels below an address, if there is one: at height 0 that of what
 /// stands there itself.
-fn last_key_below<R: Retires>(
+fn last_key_below<R: Hits>(
     image: &Image,
     kind: NodeKind,
     height: u8,

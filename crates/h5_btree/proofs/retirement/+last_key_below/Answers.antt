@@ -15,7 +15,7 @@ last_key_below-found-requires g t c κs within =
       omega (arith, c.decreases, more),
       (
         within,
-        under_child (g.R.Retires.stands c.args.how.now c.args.image.now.bytes) c.args.image.now.bytes c.args.kind c.args.height (c.args.height - 1) c.args.at (c.loop-i.i - 1) c.child.result more
+        under_child (g.R.Hits.stands c.args.how.now c.args.image.now.bytes) c.args.image.now.bytes c.args.kind c.args.height (c.args.height - 1) c.args.at (c.loop-i.i - 1) c.child.result more
             c.requires.under (subst (λ (n : Node). slice_get n.children (c.loop-i.i - 1) ≡ Some c.child.result) node c.child.ensures),
       ),
     )
@@ -25,7 +25,7 @@ returns-then-is_some g t c =
     let more : c.args.height ≡ suc (c.args.height - 1) = omega (arith, c.if-height-eq0.false) in
     let next : suc (c.loop-i.i - 1) ≡ c.loop-i.i = omega (arith, c.loop-i-test.true) in
     let V = node_at c.args.image.now.bytes c.args.kind in
-    let keys = g.R.Retires.keys_at c.args.how.now c.args.image.now.bytes in
+    let keys = g.R.Hits.keys_at c.args.how.now c.args.image.now.bytes in
     let f = keys_below V keys (c.args.height - 1) in
     let node : c.node_there-node.result ≡ V c.args.at
     = c.node_there-node.ensures ∙ ap (λ (b : List ℕ). node_at b c.args.kind c.args.at) c.bytes.ensures in
@@ -40,7 +40,7 @@ pub loop-i-preserved : goal.loop-i-preserved
 loop-i-preserved g t c =
     let next : suc (c.loop-i.i - 1) ≡ c.loop-i.i = omega (arith, c.loop-i-test.true) in
     let V = node_at c.args.image.now.bytes c.args.kind in
-    let keys = g.R.Retires.keys_at c.args.how.now c.args.image.now.bytes in
+    let keys = g.R.Hits.keys_at c.args.how.now c.args.image.now.bytes in
     let f = keys_below V keys (c.args.height - 1) in
     let rest : flat_map f (drop (suc (c.loop-i.i - 1)) c.node_there-node.result.children) ≡ []
     = ap (λ (i : ℕ). flat_map f (drop i c.node_there-node.result.children)) next ∙ c.loop-i.invariant.none in
@@ -55,7 +55,7 @@ returns g t c =
     let more : c.args.height ≡ suc (c.args.height - 1) = omega (arith, c.if-height-eq0.false) in
     let start : c.loop-i.i ≡ 0 = omega (arith, c.loop-i-test.false) in
     let V = node_at c.args.image.now.bytes c.args.kind in
-    let keys = g.R.Retires.keys_at c.args.how.now c.args.image.now.bytes in
+    let keys = g.R.Hits.keys_at c.args.how.now c.args.image.now.bytes in
     let f = keys_below V keys (c.args.height - 1) in
     let node : c.node_there-node.result ≡ V c.args.at
     = c.node_there-node.ensures ∙ ap (λ (b : List ℕ). node_at b c.args.kind c.args.at) c.bytes.ensures in

@@ -10,7 +10,7 @@ decreases-last_key_below g l = l.height
 abbrev pub invariant-loop-i : goal.invariant-loop-i
 invariant-loop-i g l = record {
   within : l.i ≤ length l.node.children;
-  none : flat_map (keys_below (node_at l.fn.image.bytes l.kind) (g.R.Retires.keys_at l.how l.fn.image.bytes) (l.height - 1)) (drop l.i l.node.children) ≡ [];
+  none : flat_map (keys_below (node_at l.fn.image.bytes l.kind) (g.R.Hits.keys_at l.how l.fn.image.bytes) (l.height - 1)) (drop l.i l.node.children) ≡ [];
 }
 
 abbrev pub decreases-loop-i : goal.decreases-loop-i

@@ -22,7 +22,7 @@ last_key_below-requires g c =
     let node : c.node_there-node.result ≡ node_at c.args.image.now.bytes c.args.kind c.args.at
     = c.node_there-node.ensures ∙ ap (λ (b : List ℕ). node_at b c.args.kind c.args.at) c.bytes.ensures in
     record {
-      under = all_got (StandsUnder (g.R.Retires.stands c.args.how.now c.args.image.now.bytes) c.args.image.now.bytes c.args.kind c.args.level)
+      under = all_got (StandsUnder (g.R.Hits.stands c.args.how.now c.args.image.now.bytes) c.args.image.now.bytes c.args.kind c.args.level)
           (node_at c.args.image.now.bytes c.args.kind c.args.at).children (c.args.i - 1) c.child.result
           (subst (λ (n : Node). slice_get n.children (c.args.i - 1) ≡ Some c.child.result) node c.child.ensures) c.requires.under.1;
     }
@@ -32,7 +32,7 @@ returns-in-Some g c =
     let V = node_at c.args.image.now.bytes c.args.kind in
     let node : c.node_there-node.result ≡ V c.args.at
     = c.node_there-node.ensures ∙ ap (λ (b : List ℕ). node_at b c.args.kind c.args.at) c.bytes.ensures in
-    let f = keys_below V (g.R.Retires.keys_at c.args.how.now c.args.image.now.bytes) c.args.level in
+    let f = keys_below V (g.R.Hits.keys_at c.args.how.now c.args.image.now.bytes) c.args.level in
     record {
       before = before_some f (V c.args.at).children (V c.args.at).keys c.args.i (c.args.i - 1) c.child.result (omega (arith, c.if-i-eq0.false))
           (subst (λ (n : Node). slice_get n.children (c.args.i - 1) ≡ Some c.child.result) node c.child.ensures) c.in-Some.last
@@ -61,7 +61,7 @@ returns g c =
     let V = node_at c.args.image.now.bytes c.args.kind in
     let node : c.node_there-node.result ≡ V c.args.at
     = c.node_there-node.ensures ∙ ap (λ (b : List ℕ). node_at b c.args.kind c.args.at) c.bytes.ensures in
-    let f = keys_below V (g.R.Retires.keys_at c.args.how.now c.args.image.now.bytes) c.args.level in
+    let f = keys_below V (g.R.Hits.keys_at c.args.how.now c.args.image.now.bytes) c.args.level in
     record {
       before = before_none f (V c.args.at).children (V c.args.at).keys c.args.i (c.args.i - 1) c.child.result (omega (arith, c.if-i-eq0.false))
           (subst (λ (n : Node). slice_get n.children (c.args.i - 1) ≡ Some c.child.result) node c.child.ensures) c.copy_from_slice.new.self

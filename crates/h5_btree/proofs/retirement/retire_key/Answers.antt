@@ -33,7 +33,7 @@ returns-then-is_hit g c =
     = c.node_there-node.ensures ∙ ap (λ (b : List ℕ). node_at b c.args.kind c.args.at) c.bytes.ensures in
     let key : get_or (V c.args.at).keys c.args.i [] ≡ c.key.result.now
     = get_or_from_slice_get (V c.args.at).keys c.args.i c.key.result.now [] (subst (λ (n : Node). slice_get n.keys c.args.i ≡ Some c.key.result.now) node c.key.ensures) in
-    (c.key_before-key.result, inr (ap (g.R.Retires.hit c.args.how.now) key ∙ sym c.is_hit.ensures ∙ c.if-is_hit.true, c.key_before-key.ensures.before), c.set_key.ensures)
+    (c.key_before-key.result, inr (ap (g.R.Hits.hit c.args.how.now) key ∙ sym c.is_hit.ensures ∙ c.if-is_hit.true, c.key_before-key.ensures.before), c.set_key.ensures)
 
 pub returns-else-is_hit : goal.returns-else-is_hit
 returns-else-is_hit g c =
@@ -44,7 +44,7 @@ returns-else-is_hit g c =
     = get_or_from_slice_get (V c.args.at).keys c.args.i c.key.result.now [] (subst (λ (n : Node). slice_get n.keys c.args.i ≡ Some c.key.result.now) node c.key.ensures) in
     let count = length-keys c.args.kind (node_bytes c.args.image.now.bytes c.args.kind c.args.at) (V c.args.at) refl in (
       get_or (V c.args.at).keys c.args.i [],
-      inl (ap (g.R.Retires.hit c.args.how.now) key ∙ sym c.is_hit.ensures ∙ c.if-is_hit.false, refl),
+      inl (ap (g.R.Hits.hit c.args.how.now) key ∙ sym c.is_hit.ensures ∙ c.if-is_hit.false, refl),
       subst (λ (ks : List (List ℕ)). IsRewritten c.args.image.now c.args.image.now c.args.kind c.args.at (record (V c.args.at) { keys = ks }))
           (sym (set_same (V c.args.at).keys c.args.i (omega (arith, count, c.requires.place))))
           (rewritten_none c.args.image.now c.args.kind c.args.at c.requires.under.0.1),

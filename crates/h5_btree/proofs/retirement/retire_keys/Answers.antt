@@ -23,17 +23,17 @@ counts image kind at =
 
 pub node_there-requires-clause-inside : goal.node_there-requires-clause-inside
 node_there-requires-clause-inside g c =
-    let is = there (g.R.Retires.hit c.args.how.now) (g.R.Retires.stands c.args.how.now) (g.R.Retires.keys_at c.args.how.now) c.args.image.now c.args.kind c.args.level c.args.at c.requires.stands in
+    let is = there (g.R.Hits.hit c.args.how.now) (g.R.Hits.stands c.args.how.now) (g.R.Hits.keys_at c.args.how.now) c.args.image.now c.args.kind c.args.level c.args.at c.requires.stands in
     rw c.bytes.ensures is.0
 
 pub node_there-requires-clause-form : goal.node_there-requires-clause-form
 node_there-requires-clause-form g c =
-    let is = there (g.R.Retires.hit c.args.how.now) (g.R.Retires.stands c.args.how.now) (g.R.Retires.keys_at c.args.how.now) c.args.image.now c.args.kind c.args.level c.args.at c.requires.stands in
+    let is = there (g.R.Hits.hit c.args.how.now) (g.R.Hits.stands c.args.how.now) (g.R.Hits.keys_at c.args.how.now) c.args.image.now c.args.kind c.args.level c.args.at c.requires.stands in
     rw c.bytes.ensures is.1
 
 pub overflow_add-i-end : goal.overflow_add-i-end
 overflow_add-i-end g c =
-    let is = there (g.R.Retires.hit c.args.how.now) (g.R.Retires.stands c.args.how.now) (g.R.Retires.keys_at c.args.how.now) c.args.image.now c.args.kind c.args.level c.args.at c.requires.stands in
+    let is = there (g.R.Hits.hit c.args.how.now) (g.R.Hits.stands c.args.how.now) (g.R.Hits.keys_at c.args.how.now) c.args.image.now c.args.kind c.args.level c.args.at c.requires.stands in
     let node : c.node_there.result ≡ node_at c.args.image.now.bytes c.args.kind c.args.at
     = c.node_there.ensures ∙ ap (λ (b : List ℕ). node_at b c.args.kind c.args.at) c.bytes.ensures in
     let same = ap (λ (n : Node). length n.children) node in
@@ -48,14 +48,14 @@ overflow_add-i-end g c =
 pub loop-i-init : goal.loop-i-init
 loop-i-init g c =
     let V = node_at c.args.image.now.bytes c.args.kind in
-    let is = there (g.R.Retires.hit c.args.how.now) (g.R.Retires.stands c.args.how.now) (g.R.Retires.keys_at c.args.how.now) c.args.image.now c.args.kind c.args.level c.args.at c.requires.stands in
+    let is = there (g.R.Hits.hit c.args.how.now) (g.R.Hits.stands c.args.how.now) (g.R.Hits.keys_at c.args.how.now) c.args.image.now c.args.kind c.args.level c.args.at c.requires.stands in
     let node : c.node_there.result ≡ V c.args.at
     = c.node_there.ensures ∙ ap (λ (b : List ℕ). node_at b c.args.kind c.args.at) c.bytes.ensures in
     record {
       end = ap (λ (n : ℕ). n + 1) (c.len-i-end.ensures.children ∙ ap (λ (n : Node). length n.children) node);
       written = (
         (V c.args.at).keys,
-        partly_none (g.R.Retires.hit c.args.how.now) (map (keys_below V (g.R.Retires.keys_at c.args.how.now c.args.image.now.bytes) c.args.level) (V c.args.at).children) (V c.args.at).keys,
+        partly_none (g.R.Hits.hit c.args.how.now) (map (keys_below V (g.R.Hits.keys_at c.args.how.now c.args.image.now.bytes) c.args.level) (V c.args.at).children) (V c.args.at).keys,
         rewritten_none c.args.image.now c.args.kind c.args.at is.1,
       );
     }
@@ -64,7 +64,7 @@ pub retire_key-requires-clause-under : goal.retire_key-requires-clause-under
 retire_key-requires-clause-under g c =
     let x = c.requires.stands in
     let w = c.loop-i.invariant.written in
-    partly_under (g.R.Retires.hit c.args.how.now) (g.R.Retires.stands c.args.how.now) (g.R.Retires.keys_at c.args.how.now) x.0 c.args.image.now c.args.kind x.1 x.2 x.3 x.4 x.5
+    partly_under (g.R.Hits.hit c.args.how.now) (g.R.Hits.stands c.args.how.now) (g.R.Hits.keys_at c.args.how.now) x.0 c.args.image.now c.args.kind x.1 x.2 x.3 x.4 x.5
     c.loop-i.image c.args.level c.args.at x.6 w.0 w.2
 
 pub retire_key-requires-clause-place : goal.retire_key-requires-clause-place
@@ -78,9 +78,9 @@ pub loop-i-preserved : goal.loop-i-preserved
 loop-i-preserved g c =
     let x = c.requires.stands in
     let w = c.loop-i.invariant.written in
-    let hit = g.R.Retires.hit c.args.how.now in
-    let stands = g.R.Retires.stands c.args.how.now in
-    let keys_at = g.R.Retires.keys_at c.args.how.now in
+    let hit = g.R.Hits.hit c.args.how.now in
+    let stands = g.R.Hits.stands c.args.how.now in
+    let keys_at = g.R.Hits.keys_at c.args.how.now in
     let e = c.retire_key.ensures in
     let low : c.loop-i.i < length (node_at c.args.image.now.bytes c.args.kind c.args.at).keys
     = let n = counts c.args.image.now.bytes c.args.kind c.args.at in omega (arith, n, c.loop-i.invariant.end, c.loop-i-test.true) in
@@ -97,12 +97,12 @@ pub returns : goal.returns
 returns g c =
     let V = node_at c.args.image.now.bytes c.args.kind in
     let w = c.loop-i.invariant.written in
-    let lists = map (keys_below V (g.R.Retires.keys_at c.args.how.now c.args.image.now.bytes) c.args.level) (V c.args.at).children in
+    let lists = map (keys_below V (g.R.Hits.keys_at c.args.how.now c.args.image.now.bytes) c.args.level) (V c.args.at).children in
     let n = counts c.args.image.now.bytes c.args.kind c.args.at in
     let all : c.loop-i.i ≡ length (V c.args.at).keys = omega (arith, n, c.loop-i.invariant.end, c.loop-i-test.false, c.loop-i.auto.i-end) in
-    let long = length-map (V c.args.at).children (keys_below V (g.R.Retires.keys_at c.args.how.now c.args.image.now.bytes) c.args.level) in (
+    let long = length-map (V c.args.at).children (keys_below V (g.R.Hits.keys_at c.args.how.now c.args.image.now.bytes) c.args.level) in (
       w.0,
-      partly_all (g.R.Retires.hit c.args.how.now) lists (V c.args.at).keys w.0 (omega (arith, n, long))
-          (subst (ArePartly (g.R.Retires.hit c.args.how.now) lists (V c.args.at).keys w.0) all w.1),
+      partly_all (g.R.Hits.hit c.args.how.now) lists (V c.args.at).keys w.0 (omega (arith, n, long))
+          (subst (ArePartly (g.R.Hits.hit c.args.how.now) lists (V c.args.at).keys w.0) all w.1),
       w.2,
     )

@@ -9,7 +9,7 @@ abbrev pub invariant-loop-i : goal.invariant-loop-i
 invariant-loop-i g l = record {
   end : l.i-end ≡ length (node_at l.fn.image.bytes l.kind l.at).children + 1;
   written : (keys : List (List ℕ))
-      × ArePartly (g.R.Retires.hit l.how) (map (keys_below (node_at l.fn.image.bytes l.kind) (g.R.Retires.keys_at l.how l.fn.image.bytes) l.level) (node_at l.fn.image.bytes l.kind l.at).children)
+      × ArePartly (g.R.Hits.hit l.how) (map (keys_below (node_at l.fn.image.bytes l.kind) (g.R.Hits.keys_at l.how l.fn.image.bytes) l.level) (node_at l.fn.image.bytes l.kind l.at).children)
       (node_at l.fn.image.bytes l.kind l.at).keys keys l.i
       × IsRewritten l.fn.image l.image l.kind l.at (record (node_at l.fn.image.bytes l.kind l.at) { keys = keys });
 }
