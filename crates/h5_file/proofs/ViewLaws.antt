@@ -264,7 +264,7 @@ lent_as file views next number at v kept there is = ap (λ (x : KeptView). Some 
 
 -- ---- after an edit
 
-rise_same : (xs ys : List KeptView) (low end : ℕ) → map numbered_view ys ≡ map numbered_view xs → RiseWithin number_of low xs end → RiseWithin number_of low ys end
+pub rise_same : (xs ys : List KeptView) (low end : ℕ) → map numbered_view ys ≡ map numbered_view xs → RiseWithin number_of low xs end → RiseWithin number_of low ys end
 rise_same [] [] low end is rise = rise
 rise_same [] (y ∷ ys) low end is rise = absurd (cc)
 rise_same (x ∷ xs) [] low end is rise = absurd (cc)
