@@ -39,20 +39,18 @@ module _ {X : Type 0} (object number : X → ℕ) where
     by_test false is =
         under_first o w xs false is ∙ sym (append-nil (under o xs)) ∙ ap (λ ns. under o xs ++ ns) (sym (under_first o w [] false is))
   under_insert o [] (suc k) w there above = absurd (omega (arith, there))
-  under_insert o (x ∷ xs) (suc k) w there above = by_test (object x == o) refl where
-    rest : under o (insert xs k w) ≡ under o xs ++ under o (w ∷ [])
-    rest = under_insert o xs k w (omega (arith, there)) (λ i d from low. above (suc i) d (omega (arith, from)) (omega (arith, low)))
-
-    by_test : (b : Bool) → (object x == o) ≡ b → under o (x ∷ insert xs k w) ≡ under o (x ∷ xs) ++ under o (w ∷ [])
-    by_test true is = under_first o x (insert xs k w) true is ∙ ap (λ ns. number x ∷ ns) rest ∙ ap (λ ns. ns ++ under o (w ∷ [])) (sym (under_first o x xs true is))
-    by_test false is = under_first o x (insert xs k w) false is ∙ rest ∙ ap (λ ns. ns ++ under o (w ∷ [])) (sym (under_first o x xs false is))
+  under_insert o (x ∷ xs) (suc k) w there above =
+      by_test (object x == o) refl (under_insert o xs k w (omega (arith, there)) (λ i d from low. above (suc i) d (omega (arith, from)) (omega (arith, low)))) where
+    by_test : (b : Bool) → (object x == o) ≡ b → under o (insert xs k w) ≡ under o xs ++ under o (w ∷ []) → under o (x ∷ insert xs k w) ≡ under o (x ∷ xs) ++ under o (w ∷ [])
+    by_test true is rest = under_first o x (insert xs k w) true is ∙ ap (λ ns. number x ∷ ns) rest ∙ ap (λ ns. ns ++ under o (w ∷ [])) (sym (under_first o x xs true is))
+    by_test false is rest = under_first o x (insert xs k w) false is ∙ rest ∙ ap (λ ns. ns ++ under o (w ∷ [])) (sym (under_first o x xs false is))
 
   pub under_append : (o : ℕ) (xs ys : List X) → under o (xs ++ ys) ≡ under o xs ++ under o ys
   under_append o [] ys = refl
-  under_append o (x ∷ xs) ys = by_test (object x == o) refl where
-    by_test : (b : Bool) → (object x == o) ≡ b → under o (x ∷ (xs ++ ys)) ≡ under o (x ∷ xs) ++ under o ys
-    by_test true is = under_first o x (xs ++ ys) true is ∙ ap (λ ns. number x ∷ ns) (under_append o xs ys) ∙ ap (λ ns. ns ++ under o ys) (sym (under_first o x xs true is))
-    by_test false is = under_first o x (xs ++ ys) false is ∙ under_append o xs ys ∙ ap (λ ns. ns ++ under o ys) (sym (under_first o x xs false is))
+  under_append o (x ∷ xs) ys = by_test (object x == o) refl (under_append o xs ys) where
+    by_test : (b : Bool) → (object x == o) ≡ b → under o (xs ++ ys) ≡ under o xs ++ under o ys → under o (x ∷ (xs ++ ys)) ≡ under o (x ∷ xs) ++ under o ys
+    by_test true is rest = under_first o x (xs ++ ys) true is ∙ ap (λ ns. number x ∷ ns) rest ∙ ap (λ ns. ns ++ under o ys) (sym (under_first o x xs true is))
+    by_test false is rest = under_first o x (xs ++ ys) false is ∙ rest ∙ ap (λ ns. ns ++ under o ys) (sym (under_first o x xs false is))
 
   -- without the items of a number
   abbrev pub others : ℕ → List X → List X
@@ -66,21 +64,18 @@ module _ {X : Type 0} (object number : X → ℕ) where
 
   pub under_others : (o n : ℕ) (xs : List X) → under o (others n xs) ≡ but n (under o xs)
   under_others o n [] = refl
-  under_others o n (x ∷ xs) = by_tests (object x == o) (not (number x == n)) refl refl where
-    rest : under o (others n xs) ≡ but n (under o xs)
-    rest = under_others o n xs
-
-    by_tests : (b c : Bool) → (object x == o) ≡ b → not (number x == n) ≡ c → under o (others n (x ∷ xs)) ≡ but n (under o (x ∷ xs))
-    by_tests true true is kept =
+  under_others o n (x ∷ xs) = by_tests (object x == o) (not (number x == n)) refl refl (under_others o n xs) where
+    by_tests : (b c : Bool) → (object x == o) ≡ b → not (number x == n) ≡ c → under o (others n xs) ≡ but n (under o xs) → under o (others n (x ∷ xs)) ≡ but n (under o (x ∷ xs))
+    by_tests true true is kept rest =
         ap (under o) (kept_first (λ x. not (number x == n)) x xs true kept) ∙ under_first o x (others n xs) true is ∙ ap (λ ns. number x ∷ ns) rest
         ∙ sym (ap (but n) (under_first o x xs true is) ∙ kept_first (λ m. not (m == n)) (number x) (under o xs) true kept)
-    by_tests true false is gone =
+    by_tests true false is gone rest =
         ap (under o) (kept_first (λ x. not (number x == n)) x xs false gone) ∙ rest
         ∙ sym (ap (but n) (under_first o x xs true is) ∙ kept_first (λ m. not (m == n)) (number x) (under o xs) false gone)
-    by_tests false true is kept =
+    by_tests false true is kept rest =
         ap (under o) (kept_first (λ x. not (number x == n)) x xs true kept) ∙ under_first o x (others n xs) false is ∙ rest
         ∙ sym (ap (but n) (under_first o x xs false is))
-    by_tests false false is gone =
+    by_tests false false is gone rest =
         ap (under o) (kept_first (λ x. not (number x == n)) x xs false gone) ∙ rest ∙ sym (ap (but n) (under_first o x xs false is))
 
   -- of items with numbers that rise, the one at a place is the only one of its number
@@ -105,6 +100,11 @@ module _ {X : Type 0} (object number : X → ℕ) where
       let kept : not (number x == n) ≡ true = grind (arith, nat_tests, over) in
       kept_first (λ x. not (number x == n)) x xs true kept ∙ ap (λ ys. x ∷ ys) (removed_others n xs (number x + 1) end k d rise.1 (omega (arith, there)) is)
 
+  none_taken : (n : ℕ) (xs : List X) → xs ≡ [] → take n xs ≡ []
+  none_taken zero [] is = refl
+  none_taken (suc n) [] is = refl
+  none_taken n (x ∷ xs) is = absurd (let never : x ∷ xs ≡ [] = is in cc)
+
   -- the items of an array, found by halving twice
   pub under_range : (o : ℕ) (xs : List X) (from end : ℕ) → from ≤ end
       → ((k : ℕ) (d : X) → k < length xs → k < from → object (get_or xs k d) < o)
@@ -112,27 +112,22 @@ module _ {X : Type 0} (object number : X → ℕ) where
       → ((k : ℕ) (d : X) → k < length xs → k < end → object (get_or xs k d) ≤ o)
       → ((k : ℕ) (d : X) → k < length xs → end ≤ k → o < object (get_or xs k d))
       → map number (take (end - from) (drop from xs)) ≡ under o xs
-  under_range o [] zero end order below from_here to_here above = ap (map number) (none_of end) where
-    none_of : (n : ℕ) → take n [] ≡ [] {X}
-    none_of zero = refl
-    none_of (suc n) = refl
+  under_range o [] zero end order below from_here to_here above = ap (map number) (none_taken (end - 0) [] refl)
   under_range o [] (suc from) zero order below from_here to_here above = absurd (omega (arith, order))
-  under_range o [] (suc from) (suc end) order below from_here to_here above = ap (map number) (none_of (suc end - suc from)) where
-    none_of : (n : ℕ) → take n [] ≡ [] {X}
-    none_of zero = refl
-    none_of (suc n) = refl
+  under_range o [] (suc from) (suc end) order below from_here to_here above = ap (map number) (none_taken (suc end - suc from) [] refl)
   under_range o (x ∷ xs) zero zero order below from_here to_here above = sym (under_none o (x ∷ xs) (λ k d there. above k d there (omega arith)))
   under_range o (x ∷ xs) zero (suc end) order below from_here to_here above =
       let low = from_here 0 x (omega arith) (omega arith) in
       let high = to_here 0 x (omega arith) (omega arith) in
       let is : (object x == o) ≡ true = grind (arith, nat_tests, low, high) in
-      let rest : map number (take (end - 0) xs) ≡ under o xs = under_range o xs zero end (omega arith)
+      let rest : map number (take (end - 0) (drop 0 xs)) ≡ under o xs = under_range o xs zero end (omega arith)
           (λ k d there before. absurd (omega (arith, before)))
           (λ k d there _. from_here (suc k) d (omega (arith, there)) (omega arith))
           (λ k d there before. to_here (suc k) d (omega (arith, there)) (omega (arith, before)))
           (λ k d there behind. above (suc k) d (omega (arith, there)) (omega (arith, behind))) in
-      let count : end - 0 ≡ end = omega arith in
-      ap (λ ns. number x ∷ ns) (ap (λ m. map number (take m xs)) (sym count) ∙ rest) ∙ sym (under_first o x xs true is)
+      let whole : suc end - 0 ≡ suc end = omega arith in
+      let count : end ≡ end - 0 = omega arith in
+      ap (λ m. map number (take m (x ∷ xs))) whole ∙ ap (λ ns. number x ∷ ns) (ap (λ m. map number (take m xs)) count ∙ rest) ∙ sym (under_first o x xs true is)
   under_range o (x ∷ xs) (suc from) zero order below from_here to_here above = absurd (omega (arith, order))
   under_range o (x ∷ xs) (suc from) (suc end) order below from_here to_here above =
       let low = below 0 x (omega arith) (omega arith) in
@@ -163,29 +158,26 @@ fall_order (x ∷ xs) low order (suc i) zero d before there = absurd (omega (ari
 fall_order (x ∷ xs) low order (suc i) (suc j) d before there = fall_order xs x.object order.1 i j d (omega (arith, before)) (omega (arith, there))
 
 fall_from : (xs : List ArrayView) (low less : ℕ) → DoNotFall low xs → less ≤ low → DoNotFall less xs
-fall_from [] low less order under = tt
-fall_from (x ∷ xs) low less order under = (omega (arith, order.0, under), order.1)
+fall_from [] low less order least = tt
+fall_from (x ∷ xs) low less order least = (omega (arith, order.0, least), order.1)
 
 pub fall_filter : (test : ArrayView → Bool) (xs : List ArrayView) (low : ℕ) → DoNotFall low xs → DoNotFall low (filter test xs)
 fall_filter test [] low order = tt
-fall_filter test (x ∷ xs) low order = by_test (test x) where
-  rest : DoNotFall x.object (filter test xs)
-  rest = fall_filter test xs x.object order.1
-
-  by_test : (b : Bool) → DoNotFall low (cond b (x ∷ filter test xs) (filter test xs))
-  by_test true = (order.0, rest)
-  by_test false = fall_from (filter test xs) x.object low rest order.0
+fall_filter test (x ∷ xs) low order = by_test (test x) (fall_filter test xs x.object order.1) where
+  by_test : (b : Bool) → DoNotFall x.object (filter test xs) → DoNotFall low (cond b (x ∷ filter test xs) (filter test xs))
+  by_test true rest = (order.0, rest)
+  by_test false rest = fall_from (filter test xs) x.object low rest order.0
 
 pub fall_insert : (xs : List ArrayView) (low k : ℕ) (w : ArrayView) → DoNotFall low xs → low ≤ w.object → k ≤ length xs
     → ((i : ℕ) (d : ArrayView) → i < length xs → i < k → (get_or xs i d).object ≤ w.object)
     → ((i : ℕ) (d : ArrayView) → k ≤ i → i < length xs → w.object < (get_or xs i d).object)
     → DoNotFall low (insert xs k w)
-fall_insert [] low zero w order under there below above = (under, tt)
-fall_insert [] low (suc k) w order under there below above = absurd (omega (arith, there))
-fall_insert (x ∷ xs) low zero w order under there below above =
+fall_insert [] low zero w order least there below above = (least, tt)
+fall_insert [] low (suc k) w order least there below above = absurd (omega (arith, there))
+fall_insert (x ∷ xs) low zero w order least there below above =
     let over = above 0 x (omega arith) (omega arith) in
-    (under, omega (arith, over), order.1)
-fall_insert (x ∷ xs) low (suc k) w order under there below above =
+    (least, (omega (arith, over), order.1))
+fall_insert (x ∷ xs) low (suc k) w order least there below above =
     (order.0, fall_insert xs x.object k w order.1 (below 0 x (omega arith) (omega arith)) (omega (arith, there))
     (λ i d here before. below (suc i) d (omega (arith, here)) (omega (arith, before)))
     (λ i d from here. above (suc i) d (omega (arith, from)) (omega (arith, here))))

@@ -1,7 +1,7 @@
 -- The views of an array, followed one after the other in the order of their numbers.
 use Rattle.std.proofs.Common.{◌≡◌, ◌≢◌, ℕ, zero, suc, ◌+◌, ◌<◌, ◌≤◌, ◌==◌, Bool, true, false, cond, List, [], ◌∷◌, ◌++◌, map, length, get_or, set, refl, sym, ap, ◌∙◌, subst, arith, inl, inr}
 use Rattle.std.proofs.lemmas.Bool.Decides.{nat_tests}
-use Rattle.std.proofs.lemmas.List.{append-assoc, length-append, map-append}
+use Rattle.std.proofs.lemmas.List.{append_assoc, length-append, map-append}
 use Rattle.std.specs.List.{AllByRecursion, filter}
 use Rattle.h5_laws.specs.Rising.{RiseWithin}
 use Rattle.h5_model.specs.Tree.Objects.{Dataset}
@@ -31,13 +31,13 @@ record HasFirst (o : ℕ) (views : List KeptView) (n : ℕ) (rest : List ℕ) : 
 
 first_of : (o : ℕ) (views : List KeptView) (n : ℕ) (rest : List ℕ) → numbers_on o views ≡ n ∷ rest → HasFirst o views n rest
 first_of o [] n rest is = absurd (let never : [] ≡ n ∷ rest = is in cc)
-first_of o (v ∷ vs) n rest is = by_test (v.object == o) refl where
-  by_test : (b : Bool) → (v.object == o) ≡ b → HasFirst o (v ∷ vs) n rest
-  by_test true same =
+first_of o (v ∷ vs) n rest is = by_test (v.object == o) refl (first_of o vs n rest) where
+  by_test : (b : Bool) → (v.object == o) ≡ b → (numbers_on o vs ≡ n ∷ rest → HasFirst o vs n rest) → HasFirst o (v ∷ vs) n rest
+  by_test true same _ =
       let all : v.number ∷ numbers_on o vs ≡ n ∷ rest = sym (under_first (λ (v : KeptView). v.object) (λ (v : KeptView). v.number) o v vs true same) ∙ is in
       record { before = []; view = v; behind = vs; are = refl; others = tt; own = grind (arith, nat_tests, same); number_is = cc; rest_is = cc }
-  by_test false apart =
-      let more = first_of o vs n rest (sym (under_first (λ (v : KeptView). v.object) (λ (v : KeptView). v.number) o v vs false apart) ∙ is) in
+  by_test false apart others =
+      let more = others (sym (under_first (λ (v : KeptView). v.object) (λ (v : KeptView). v.number) o v vs false apart) ∙ is) in
       let other : v.object ≢ o = λ same. absurd (let never : (v.object == o) ≡ true = grind (arith, nat_tests, same) in let wrong : true ≡ false = sym never ∙ apart in cc) in
       record {
         before = v ∷ more.before;
@@ -52,25 +52,25 @@ first_of o (v ∷ vs) n rest is = by_test (v.object == o) refl where
 
 none_of : (o : ℕ) (views : List KeptView) → numbers_on o views ≡ [] → AllByRecursion (IsOther o) views
 none_of o [] is = tt
-none_of o (v ∷ vs) is = by_test (v.object == o) refl where
-  by_test : (b : Bool) → (v.object == o) ≡ b → AllByRecursion (IsOther o) (v ∷ vs)
-  by_test true same = absurd (let never : v.number ∷ numbers_on o vs ≡ [] = sym (under_first (λ (v : KeptView). v.object) (λ (v : KeptView). v.number) o v vs true same) ∙ is in cc)
-  by_test false apart =
+none_of o (v ∷ vs) is = by_test (v.object == o) refl (none_of o vs) where
+  by_test : (b : Bool) → (v.object == o) ≡ b → (numbers_on o vs ≡ [] → AllByRecursion (IsOther o) vs) → AllByRecursion (IsOther o) (v ∷ vs)
+  by_test true same _ = absurd (let never : v.number ∷ numbers_on o vs ≡ [] = sym (under_first (λ (v : KeptView). v.object) (λ (v : KeptView). v.number) o v vs true same) ∙ is in cc)
+  by_test false apart others =
       let other : v.object ≢ o = λ same. absurd (let never : (v.object == o) ≡ true = grind (arith, nat_tests, same) in let wrong : true ≡ false = sym never ∙ apart in cc) in
-      (other, none_of o vs (sym (under_first (λ (v : KeptView). v.object) (λ (v : KeptView). v.number) o v vs false apart) ∙ is))
+      (other, others (sym (under_first (λ (v : KeptView). v.object) (λ (v : KeptView). v.number) o v vs false apart) ∙ is))
 
 pub few_on : (o : ℕ) (views : List KeptView) → length (numbers_on o views) ≤ length views
 few_on o [] = omega arith
-few_on o (v ∷ vs) = by_test (v.object == o) refl where
-  by_test : (b : Bool) → (v.object == o) ≡ b → length (numbers_on o (v ∷ vs)) ≤ length (v ∷ vs)
-  by_test true is =
+few_on o (v ∷ vs) = by_test (v.object == o) refl (few_on o vs) where
+  by_test : (b : Bool) → (v.object == o) ≡ b → length (numbers_on o vs) ≤ length vs → length (numbers_on o (v ∷ vs)) ≤ length (v ∷ vs)
+  by_test true is less =
       let first : length (numbers_on o (v ∷ vs)) ≡ length (numbers_on o vs) + 1
       = ap length (under_first (λ (v : KeptView). v.object) (λ (v : KeptView). v.number) o v vs true is) ∙ omega arith in
-      omega (arith, first, few_on o vs)
-  by_test false is =
+      omega (arith, first, less)
+  by_test false is less =
       let first : length (numbers_on o (v ∷ vs)) ≡ length (numbers_on o vs)
       = ap length (under_first (λ (v : KeptView). v.object) (λ (v : KeptView). v.number) o v vs false is) in
-      omega (arith, first, few_on o vs)
+      omega (arith, first, less)
 
 all_middle : (P : KeptView → Type 0) (front : List KeptView) (v : KeptView) (back : List KeptView) → AllByRecursion P (front ++ v ∷ back) → P v
 all_middle P [] v back all = all.0
@@ -88,7 +88,7 @@ there_is : (front : List KeptView) (v : KeptView) (back : List KeptView) (low en
     → ((d : KeptView) → get_or (front ++ v ∷ back) at d ≡ v) × ((w : KeptView) → set (front ++ v ∷ back) at w ≡ front ++ w ∷ back)
 there_is [] v back low end zero rise there is = (λ d. refl, λ w. refl)
 there_is [] v back low end (suc at) rise there is =
-    let over = above_low number_of back (v.number + 1) end at v rise.1 (omega (arith, there)) in
+    let over = above_low (λ (v : KeptView). v.object) number_of back (v.number + 1) end at v rise.1 (omega (arith, there)) in
     absurd (omega (arith, over, is v))
 there_is (x ∷ front) v back low end zero rise there is =
     let over = low_middle front v back (x.number + 1) end rise.1 in
@@ -158,7 +158,7 @@ module _ (number : ℕ) (d : Dataset) (touched : Touched) where
 
       -- all views now
       now : then ≡ (to.after ++ first.before) ++ first.view ∷ first.behind
-      now = to.are ∙ ap (λ vs. to.after ++ vs) first.are ∙ sym (append-assoc to.after first.before (first.view ∷ first.behind))
+      now = to.are ∙ ap (λ vs. to.after ++ vs) first.are ∙ sym (append_assoc to.after first.before (first.view ∷ first.behind))
 
       pub next_there : (at : ℕ) × IsViewAt then n at
       next_there =
@@ -179,7 +179,7 @@ module _ (number : ℕ) (d : Dataset) (touched : Touched) where
 
         pub next_ready : AreViewsReady number d views → (x : KeptView) → IsViewReady d (get_or then at x)
         next_ready ready x =
-            let all = subst (AreViewsReady number d) (to.were ∙ ap (λ vs. to.front ++ vs) first.are ∙ sym (append-assoc to.front first.before (first.view ∷ first.behind))) ready in
+            let all = subst (AreViewsReady number d) (to.were ∙ ap (λ vs. to.front ++ vs) first.are ∙ sym (append_assoc to.front first.before (first.view ∷ first.behind))) ready in
             subst (IsViewReady d) (sym (is_view x))
             (all_middle (λ (v : KeptView). v.object ≡ number → IsViewReady d v) (to.front ++ first.before) first.view first.behind all first.own)
 
@@ -198,7 +198,7 @@ module _ (number : ℕ) (d : Dataset) (touched : Touched) where
             after = to.after ++ (first.before ++ w ∷ []);
             rest = first.behind;
             were = to.were ∙ ap (λ vs. to.front ++ vs) first.are ∙ three to.front first.view;
-            are = ap (λ vs. set vs at w) now ∙ found.1 w ∙ append-assoc to.after first.before (w ∷ first.behind) ∙ three to.after w;
+            are = ap (λ vs. set vs at w) now ∙ found.1 w ∙ append_assoc to.after first.before (w ∷ first.behind) ∙ three to.after w;
             followed =
                 let own : AreViewsFollowed number d touched (first.view ∷ []) k (w ∷ []) = (k, 0, omega arith, one, refl) in
                 let both = followed_append first.before 0 first.before (first.view ∷ []) k (w ∷ []) (stays first.before first.others) own in
@@ -209,7 +209,7 @@ module _ (number : ℕ) (d : Dataset) (touched : Touched) where
           } where
             three : (front : List KeptView) (v : KeptView) → front ++ (first.before ++ v ∷ first.behind) ≡ (front ++ (first.before ++ v ∷ [])) ++ first.behind
             three front v =
-                ap (λ vs. front ++ vs) (sym (append-assoc first.before (v ∷ []) first.behind)) ∙ sym (append-assoc front (first.before ++ v ∷ []) first.behind)
+                ap (λ vs. front ++ vs) (sym (append_assoc first.before (v ∷ []) first.behind)) ∙ sym (append_assoc front (first.before ++ v ∷ []) first.behind)
 
 -- ---- what is listed, once they followed
 
@@ -217,7 +217,7 @@ numbers_same : (o : ℕ) (xs ys : List KeptView) → map numbered_view ys ≡ ma
 numbers_same o [] [] is = refl
 numbers_same o [] (y ∷ ys) is = absurd (cc)
 numbers_same o (x ∷ xs) [] is = absurd (cc)
-numbers_same o (x ∷ xs) (y ∷ ys) is = by_test (x.object == o) refl where
+numbers_same o (x ∷ xs) (y ∷ ys) is = by_test (x.object == o) refl (numbers_same o xs ys cc) where
   first : numbered_view y ≡ numbered_view x
   first = cc
 
@@ -227,14 +227,11 @@ numbers_same o (x ∷ xs) (y ∷ ys) is = by_test (x.object == o) refl where
   object_is : y.object ≡ x.object
   object_is = ap (λ e. (e.1).object) first
 
-  rest : numbers_on o ys ≡ numbers_on o xs
-  rest = numbers_same o xs ys cc
-
-  by_test : (b : Bool) → (x.object == o) ≡ b → numbers_on o (y ∷ ys) ≡ numbers_on o (x ∷ xs)
-  by_test true same =
+  by_test : (b : Bool) → (x.object == o) ≡ b → numbers_on o ys ≡ numbers_on o xs → numbers_on o (y ∷ ys) ≡ numbers_on o (x ∷ xs)
+  by_test true same rest =
       under_first (λ (v : KeptView). v.object) (λ (v : KeptView). v.number) o y ys true (ap (λ m. m == o) object_is ∙ same) ∙ (λ i. number_is i ∷ rest i)
       ∙ sym (under_first (λ (v : KeptView). v.object) (λ (v : KeptView). v.number) o x xs true same)
-  by_test false apart =
+  by_test false apart rest =
       under_first (λ (v : KeptView). v.object) (λ (v : KeptView). v.number) o y ys false (ap (λ m. m == o) object_is ∙ apart) ∙ rest
       ∙ sym (under_first (λ (v : KeptView). v.object) (λ (v : KeptView). v.number) o x xs false apart)
 

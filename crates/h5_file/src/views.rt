@@ -187,7 +187,10 @@ fn patch_met(
     ensures met { IsMetPatched array.now touched.now slab.now kept.old result kept.new }
     ensures few { result ≤ 2 ^ 40 }
 {
-    if slab.cells() == 0 || touched.misses(grid, slab) {
+    if slab.cells() == 0 {
+        return 0;
+    }
+    if touched.misses(grid, slab) {
         return 0;
     }
     patch_each(kept, alloc, array, slab, grid, touched)
