@@ -1,5 +1,5 @@
 -- The views of an array, followed one after the other in the order of their numbers.
-use Rattle.std.proofs.Common.{◌≡◌, ◌≢◌, ℕ, zero, suc, ◌+◌, ◌<◌, ◌≤◌, ◌==◌, Bool, true, false, cond, List, [], ◌∷◌, ◌++◌, map, length, get_or, set, refl, sym, ap, ◌∙◌, subst, arith, inl, inr}
+use Rattle.std.proofs.Common.{◌≡◌, ◌≢◌, ℕ, zero, suc, ◌+◌, ◌<◌, ◌≤◌, ◌==◌, Bool, true, false, cond, List, [], ◌∷◌, ◌++◌, map, length, get_or, set, drop, refl, sym, ap, ◌∙◌, subst, arith, inl, inr}
 use Rattle.std.proofs.lemmas.Bool.Decides.{nat_tests}
 use Rattle.std.proofs.lemmas.List.{append_assoc, length-append, map-append}
 use Rattle.std.specs.List.{AllByRecursion, filter}
@@ -237,3 +237,13 @@ numbers_same o (x ∷ xs) (y ∷ ys) is = by_test (x.object == o) refl (numbers_
 
 pub listed_same : (listed : List ArrayView) (xs ys : List KeptView) → AreByArray listed xs → map numbered_view ys ≡ map numbered_view xs → AreByArray listed ys
 listed_same listed xs ys are same = record { ordered = are.ordered; each = λ object. are.each object ∙ sym (numbers_same object xs ys same) }
+
+-- ---- the numbers that are left
+
+pub left_next : (i : ℕ) (own : List ArrayView) (d : ArrayView) → i < length own
+    → map (λ (v : ArrayView). v.number) (drop i own) ≡ (get_or own i d).number ∷ map (λ (v : ArrayView). v.number) (drop (i + 1) own)
+left_next i [] d there = absurd (omega (arith, there))
+left_next zero (x ∷ own) d there = refl
+left_next (suc i) (x ∷ own) d there =
+    let next : suc i + 1 ≡ suc (i + 1) = omega arith in
+    left_next i own d (omega (arith, there)) ∙ ap (λ m. (get_or own i d).number ∷ map (λ (v : ArrayView). v.number) (drop m (x ∷ own))) (sym next)

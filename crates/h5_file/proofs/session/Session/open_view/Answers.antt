@@ -37,7 +37,7 @@ invariant_of-self-2 c =
     let s = c.self.inside in
     let many = c.has_many-is_full.ensures ∙ ap (λ (vs : List KeptView). nat_le 1024 (length vs) || nat_le 4294967295 s.next) c.as_slice.ensures in
     let of = c.in_ok-view.ensures in
-    kept_more s.file s.views s.next c.self.invariant c.in_ok-view.view c.has_many-is_full.result many of.opened.0 c.push.new.views
+    kept_more s.file s.views s.next c.self.invariant c.in_ok-view.view c.has_many-is_full.result many of.opened.0 c.push.new.self
     c.in_ok-push.ensures.ok of.opened.1 of.fit of.shown
 
 pub returns : goal.returns
@@ -45,6 +45,6 @@ returns c =
     let s = c.self.inside in
     let many = c.has_many-is_full.ensures ∙ ap (λ (vs : List KeptView). nat_le 1024 (length vs) || nat_le 4294967295 s.next) c.as_slice.ensures in
     let opened = c.in_ok-view.ensures.opened in
-    subst (λ (v : SessionState). IsViewOpened v c.args.path.now c.args.hyper.now s.next (session_state s.file c.push.new.views (s.next + 1))) c.self.view_is
-    (opened_more s.file s.views s.next c.self.invariant c.in_ok-view.view c.has_many-is_full.result many opened.0 c.push.new.views
+    subst (λ (v : SessionState). IsViewOpened v c.args.path.now c.args.hyper.now s.next (session_state s.file c.push.new.self (s.next + 1))) c.self.view_is
+    (opened_more s.file s.views s.next c.self.invariant c.in_ok-view.view c.has_many-is_full.result many opened.0 c.push.new.self
     c.in_ok-push.ensures.ok opened.1 c.args.path.now c.args.hyper.now opened.2 c.in_ok-view.ensures.first)

@@ -41,5 +41,5 @@ returns c before edit next to0 =
     let to = touching b before edit next to0 in
     let d = array before after views next edit c.args.edited t to n c.in-Some-object.is in
     let at = there before after views next edit c.args.edited t to n c.in-Some-object.is in
-    followed_all before after views next edit c.args.edited t to n c.in-Some-object.is c.follow-refreshed.result c.follow-refreshed.new.views
+    followed_all before after views next edit c.args.edited t to n c.in-Some-object.is c.follow-refreshed.result c.follow-refreshed.new.self
     (c.follow-refreshed.ensures.followed d at) (c.follow-refreshed.ensures.sound d at)
