@@ -1,5 +1,5 @@
 -- Items by the number of an array and their own, of which some are listed, taken out, or found by halving.
-use Rattle.std.proofs.Common.{◌≡◌, ◌≢◌, ℕ, zero, suc, ◌+◌, ◌-◌, ◌<◌, ◌≤◌, ◌==◌, Bool, true, false, cond, not, List, [], ◌∷◌, ◌++◌, map, length, get_or, refl, sym, ap, ◌∙◌, subst, arith, take, drop, leb, ltb}
+use Rattle.std.proofs.Common.{◌≡◌, ℕ, zero, suc, ◌+◌, ◌-◌, ◌<◌, ◌≤◌, ◌==◌, Bool, true, false, cond, not, List, [], ◌∷◌, ◌++◌, map, length, get_or, refl, sym, ap, ◌∙◌, subst, arith, take, drop}
 use Rattle.std.proofs.lemmas.Bool.Decides.{nat_tests}
 use Rattle.std.proofs.lemmas.List.{append-nil}
 use Rattle.std.specs.List.{filter, insert, remove}
@@ -41,9 +41,9 @@ module _ {X : Type 0} (object number : X → ℕ) where
   under_insert o [] (suc k) w there above = absurd (omega (arith, there))
   under_insert o (x ∷ xs) (suc k) w there above =
       by_test (object x == o) refl (under_insert o xs k w (omega (arith, there)) (λ i d from low. above (suc i) d (omega (arith, from)) (omega (arith, low)))) where
-    by_test : (b : Bool) → (object x == o) ≡ b → under o (insert xs k w) ≡ under o xs ++ under o (w ∷ []) → under o (x ∷ insert xs k w) ≡ under o (x ∷ xs) ++ under o (w ∷ [])
-    by_test true is rest = under_first o x (insert xs k w) true is ∙ ap (λ ns. number x ∷ ns) rest ∙ ap (λ ns. ns ++ under o (w ∷ [])) (sym (under_first o x xs true is))
-    by_test false is rest = under_first o x (insert xs k w) false is ∙ rest ∙ ap (λ ns. ns ++ under o (w ∷ [])) (sym (under_first o x xs false is))
+        by_test : (b : Bool) → (object x == o) ≡ b → under o (insert xs k w) ≡ under o xs ++ under o (w ∷ []) → under o (x ∷ insert xs k w) ≡ under o (x ∷ xs) ++ under o (w ∷ [])
+        by_test true is rest = under_first o x (insert xs k w) true is ∙ ap (λ ns. number x ∷ ns) rest ∙ ap (λ ns. ns ++ under o (w ∷ [])) (sym (under_first o x xs true is))
+        by_test false is rest = under_first o x (insert xs k w) false is ∙ rest ∙ ap (λ ns. ns ++ under o (w ∷ [])) (sym (under_first o x xs false is))
 
   pub under_append : (o : ℕ) (xs ys : List X) → under o (xs ++ ys) ≡ under o xs ++ under o ys
   under_append o [] ys = refl
@@ -121,10 +121,10 @@ module _ {X : Type 0} (object number : X → ℕ) where
       let high = to_here 0 x (omega arith) (omega arith) in
       let is : (object x == o) ≡ true = grind (arith, nat_tests, low, high) in
       let rest : map number (take (end - 0) (drop 0 xs)) ≡ under o xs = under_range o xs zero end (omega arith)
-          (λ k d there before. absurd (omega (arith, before)))
-          (λ k d there _. from_here (suc k) d (omega (arith, there)) (omega arith))
-          (λ k d there before. to_here (suc k) d (omega (arith, there)) (omega (arith, before)))
-          (λ k d there behind. above (suc k) d (omega (arith, there)) (omega (arith, behind))) in
+      (λ k d there before. absurd (omega (arith, before)))
+      (λ k d there _. from_here (suc k) d (omega (arith, there)) (omega arith))
+      (λ k d there before. to_here (suc k) d (omega (arith, there)) (omega (arith, before)))
+      (λ k d there behind. above (suc k) d (omega (arith, there)) (omega (arith, behind))) in
       let whole : suc end - 0 ≡ suc end = omega arith in
       let count : end ≡ end - 0 = omega arith in
       ap (λ m. map number (take m (x ∷ xs))) whole ∙ ap (λ ns. number x ∷ ns) (ap (λ m. map number (take m xs)) count ∙ rest) ∙ sym (under_first o x xs true is)
@@ -133,17 +133,14 @@ module _ {X : Type 0} (object number : X → ℕ) where
       let low = below 0 x (omega arith) (omega arith) in
       let is : (object x == o) ≡ false = grind (arith, nat_tests, low) in
       let rest : map number (take (end - from) (drop from xs)) ≡ under o xs = under_range o xs from end (omega (arith, order))
-          (λ k d there before. below (suc k) d (omega (arith, there)) (omega (arith, before)))
-          (λ k d there behind. from_here (suc k) d (omega (arith, there)) (omega (arith, behind)))
-          (λ k d there before. to_here (suc k) d (omega (arith, there)) (omega (arith, before)))
-          (λ k d there behind. above (suc k) d (omega (arith, there)) (omega (arith, behind))) in
+      (λ k d there before. below (suc k) d (omega (arith, there)) (omega (arith, before)))
+      (λ k d there behind. from_here (suc k) d (omega (arith, there)) (omega (arith, behind)))
+      (λ k d there before. to_here (suc k) d (omega (arith, there)) (omega (arith, before)))
+      (λ k d there behind. above (suc k) d (omega (arith, there)) (omega (arith, behind))) in
       let count : suc end - suc from ≡ end - from = omega arith in
       ap (λ m. map number (take m (drop from xs))) count ∙ rest ∙ sym (under_first o x xs false is)
 
 -- ---- the order of arrays
-
-
-
 
 pub fall_above : (xs : List ArrayView) (low k : ℕ) (d : ArrayView) → DoNotFall low xs → k < length xs → low ≤ (get_or xs k d).object
 fall_above [] low k d order there = absurd (omega (arith, there))
@@ -177,15 +174,14 @@ fall_insert [] low (suc k) w order least there below above = absurd (omega (arit
 fall_insert (x ∷ xs) low zero w order least there below above =
     let over = above 0 x (omega arith) (omega arith) in
     (least, (omega (arith, over), order.1))
-fall_insert (x ∷ xs) low (suc k) w order least there below above =
-    (order.0, fall_insert xs x.object k w order.1 (below 0 x (omega arith) (omega arith)) (omega (arith, there))
-    (λ i d here before. below (suc i) d (omega (arith, here)) (omega (arith, before)))
-    (λ i d from here. above (suc i) d (omega (arith, from)) (omega (arith, here))))
+fall_insert (x ∷ xs) low (suc k) w order least there below above = (
+  order.0,
+  fall_insert xs x.object k w order.1 (below 0 x (omega arith) (omega arith)) (omega (arith, there))
+      (λ i d here before. below (suc i) d (omega (arith, here)) (omega (arith, before)))
+      (λ i d from here. above (suc i) d (omega (arith, from)) (omega (arith, here))),
+)
 
 -- ---- the views that are held
-
-
-
 
 -- one more
 pub listed_more : (listed new : List ArrayView) (views : List KeptView) (view : KeptView) (entry : ArrayView) → AreByArray listed views → entry.object ≡ view.object → entry.number ≡ view.number

@@ -1,12 +1,12 @@
 -- The views of an array, followed one after the other in the order of their numbers.
-use Rattle.std.proofs.Common.{◌≡◌, ◌≢◌, ℕ, zero, suc, ◌+◌, ◌<◌, ◌≤◌, ◌==◌, Bool, true, false, cond, List, [], ◌∷◌, ◌++◌, map, length, get_or, set, drop, refl, sym, ap, ◌∙◌, subst, arith, inl, inr}
+use Rattle.std.proofs.Common.{◌≡◌, ◌≢◌, ℕ, zero, suc, ◌+◌, ◌<◌, ◌≤◌, ◌==◌, Bool, true, false, List, [], ◌∷◌, ◌++◌, map, length, get_or, set, drop, refl, sym, ap, ◌∙◌, subst, arith}
 use Rattle.std.proofs.lemmas.Bool.Decides.{nat_tests}
-use Rattle.std.proofs.lemmas.List.{append_assoc, length-append, map-append}
-use Rattle.std.specs.List.{AllByRecursion, filter}
+use Rattle.std.proofs.lemmas.List.{append_assoc, map-append}
+use Rattle.std.specs.List.{AllByRecursion}
 use Rattle.h5_laws.specs.Rising.{RiseWithin}
 use Rattle.h5_model.specs.Tree.Objects.{Dataset}
-use Rattle.h5_file.specs.ByArray.{AreByArray, listed_under, numbers_on}
-use Rattle.h5_file.specs.OpenViews.{AreNumbered, AreViewsFollowed, AreViewsReady, IsKeptAfter, IsOneFollowed, IsViewAt, IsViewFollowed, IsViewReady, numbered_view}
+use Rattle.h5_file.specs.ByArray.{AreByArray, numbers_on}
+use Rattle.h5_file.specs.OpenViews.{AreNumbered, AreViewsFollowed, AreViewsReady, IsKeptAfter, IsViewAt, IsViewFollowed, IsViewReady, numbered_view}
 use Rattle.h5_file.specs.declared.by_array.ArrayView.{ArrayView}
 use Rattle.h5_file.specs.declared.touched.Touched.{Touched}
 use Rattle.h5_file.specs.declared.views.KeptView.{KeptView}

@@ -158,12 +158,7 @@ impl Session {
 
 /// Lets the open views follow an edit that was carried out on the file, of which these cells were touched. The answer then tells how many
 /// boxes were patched.
-fn follow(
-    file: &File,
-    views: &mut OpenViews,
-    edited: Edited,
-    touched: Option<Touched>,
-) -> Edited
+fn follow(file: &File, views: &mut OpenViews, edited: Edited, touched: Option<Touched>) -> Edited
     requires { (before : FileState) × (edit : TheEdit) × (next : ℕ)
         × IsToFollow before file.now views.old next edit touched edited }
     ensures { (before : FileState) (edit : TheEdit) (next : ℕ)

@@ -1,4 +1,4 @@
-use Rattle.std.proofs.Common.{◌≡◌, ◌≤◌, ◌+◌, ◌*◌, ◌^◌, ℕ, List, [], ◌∷◌, drop, get_or, length, map, sym, ap, ◌∙◌, subst, arith}
+use Rattle.std.proofs.Common.{◌≡◌, ◌≤◌, ◌+◌, ◌*◌, ◌^◌, ℕ, List, [], drop, get_or, length, map, sym, ap, ◌∙◌, subst, arith}
 use Rattle.std.proofs.lemmas.List.{drop_all, length-map}
 use Rattle.std.proofs.Math.Nat.{mul-le-mul_right}
 use Rattle.h5_file.specs.ByArray.{numbers_on}
@@ -34,9 +34,11 @@ pub follow_one-count-requires-clause-rise : goal.follow_one-count-requires-claus
 follow_one-count-requires-clause-rise c =
     let own = c.views_on-own.result.now in
     let i = c.loop-view.view-index in
-    let end = c.requires.rise.0 in
-    (end, still_numbered c.args.number.0 c.args.array.now c.args.touched.now c.args.views.now (numbers (drop i own)) c.loop-view.count c.loop-view.views c.loop-view.invariant.followed end
-    c.requires.rise.1)
+    let end = c.requires.rise.0 in (
+      end,
+      still_numbered c.args.number.0 c.args.array.now c.args.touched.now c.args.views.now (numbers (drop i own)) c.loop-view.count c.loop-view.views c.loop-view.invariant.followed end
+          c.requires.rise.1,
+    )
 
 pub follow_one-count-requires-clause-there : goal.follow_one-count-requires-clause-there
 follow_one-count-requires-clause-there c =

@@ -1,6 +1,3 @@
-use Rattle.std.proofs.Common.{◌≡◌, true, false, is_some, sym, ap, ◌∙◌}
-use Rattle.std.specs.FinMap.{contains_key}
-use Rattle.h5_file.specs.OpenViews.{views_of}
 use Rattle.h5_file.proofs.ViewLaws.{found_place}
 use Rattle.h5_file.proofs.views.follow_one.Goals as goal
 

@@ -1,4 +1,4 @@
-use Rattle.std.proofs.Common.{List, Option, Some, ℕ, sym, subst}
+use Rattle.std.proofs.Common.{Option, Some, ℕ, subst}
 use Rattle.h5_model.specs.declared.edits.Edit.{Edit}
 use Rattle.h5_edit.specs.Opened.State.{FileState}
 use Rattle.h5_file.specs.Following.{IsToFollow}
