@@ -31,6 +31,7 @@ class KeptCells(Tried):
         self.assertEqual(patched, cells({(0, 0)}))
         # The third row is written, which meets two boxes of all cells.
         self.assertEqual(met, f"2 {cells({(0, 0), (2, 0), (2, 3)})}")
-        # Of every other cell (rows 0, 2 and 4, columns 0 and 2) it meets one, and of the first row none. A fourth column less takes a cell
-        # of three boxes, and none of the others; a column more takes none.
+        # Of every other cell (rows 0, 2 and 4, columns 0 and 2) it meets one, and of the first row none: the two
+        # lie apart. A fourth column less takes a cell of three boxes, and none of the others; a column more takes none.
+        self.assertEqual(boxes.pop(3), "true false")
         self.assertEqual([line.split() for line in boxes], [["2,0,", "2,3,"], ["2,0,"], [], ["0,3,", "2,3,", "4,3,"], [], []])

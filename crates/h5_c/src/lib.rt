@@ -6,7 +6,6 @@
 
 mod ask;
 mod edit;
-mod gather;
 mod given;
 mod held;
 mod life;

@@ -7,12 +7,11 @@ ghost use Rattle.h5_file.specs.Selected.{IsSlabOf};
 ghost use Rattle.h5_c.specs.Given.{hyper_of, selecting};
 ghost use Rattle.h5_c.specs.Read.{HasRead, HasSelected, IsCopiedFrom};
 
-use crate::gather::gather;
 use crate::given::Lists;
 use crate::held::Held;
 use crate::slot::Slot;
 use crate::status::{DONE, NO_MEMORY, WRONG_ROOM, WRONG_STATE};
-use h5_file::{EditFault, File, Hyper, Slab, StoredArray};
+use h5_file::{EditFault, File, Hyper, Slab, StoredArray, gather};
 use h5_query::slab_within;
 use std::alloc::Global;
 

@@ -19,4 +19,6 @@ pub mod EditedViews
 pub mod SessionEdits
 pub mod UntouchedViews
 pub mod FollowedEdits
+pub mod ByArrayLaws
+pub mod FollowedViews
 mod Walks

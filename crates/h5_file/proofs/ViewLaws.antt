@@ -87,6 +87,14 @@ module _ (views : List KeptView) (end number at : ℕ) (rise : AreNumbered views
   pub patches_left : patches_of (list.remove views at) ≡ remove (patches_of views) number
   patches_left = map_remove number_of held_patches views 0 end at d number rise is.below (is.number_is d)
 
+-- the view of a number is found where it is held
+pub found_place : (views : List KeptView) (end number at : ℕ) → AreNumbered views end → IsViewAt views number at → (r : Option ℕ)
+    → MatchOption r (contains_key (views_of views) number ≡ false) (IsViewAt views number) → IsSome r
+found_place [] end number at rise is r found = absurd (omega (arith, is.below))
+found_place (v ∷ views) end number at rise is None none =
+    absurd (let never : true ≡ false = sym (ap is_some (view_there (v ∷ views) end number at rise is v)) ∙ none in cc)
+found_place (v ∷ views) end number at rise is (Some k) found = refl
+
 -- one view more
 pub views_more : (views : List KeptView) (end : ℕ) (v : KeptView) → AreNumbered views end → end ≡ v.number → views_of (views ++ v ∷ []) ≡ insert (views_of views) v.number (view_of v)
 views_more views end v rise is = map_push number_of view_of views 0 end v rise (omega (arith, is))
@@ -264,7 +272,7 @@ lent_as file views next number at v kept there is = ap (λ (x : KeptView). Some 
 
 -- ---- after an edit
 
-rise_same : (xs ys : List KeptView) (low end : ℕ) → map numbered_view ys ≡ map numbered_view xs → RiseWithin number_of low xs end → RiseWithin number_of low ys end
+pub rise_same : (xs ys : List KeptView) (low end : ℕ) → map numbered_view ys ≡ map numbered_view xs → RiseWithin number_of low xs end → RiseWithin number_of low ys end
 rise_same [] [] low end is rise = rise
 rise_same [] (y ∷ ys) low end is rise = absurd (cc)
 rise_same (x ∷ xs) [] low end is rise = absurd (cc)

@@ -4,6 +4,7 @@ pub mod Anew
 pub mod DatasetAt
 pub mod Session
 pub mod OpenViews
+pub mod ByArray
 pub mod Following
 pub use Rattle.h5_edit.specs.Edited
 pub use Rattle.h5_edit.specs.Carried

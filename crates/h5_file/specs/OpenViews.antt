@@ -1,6 +1,6 @@
 -- The open views of a session as they are held, each with the bytes that it keeps (selections: HDF5 dataspace reference,
 -- H5Sselect_hyperslab).
-use Rattle.std.specs.Prelude.{◌≡◌, ◌≢◌, ℕ, ◌+◌, ◌*◌, ◌<◌, ◌≤◌, true, false, IfSome, Option, Some, None, List, [], ◌∷◌, map, length, slice_index_or}
+use Rattle.std.specs.Prelude.{◌≡◌, ◌≢◌, ℕ, ◌+◌, ◌*◌, ◌<◌, ◌≤◌, true, false, IfSome, Option, Some, None, List, [], ◌∷◌, map, length, slice_index_or, slice_set}
 use Rattle.std.specs.FinMap.{from_entries}
 use Rattle.std.specs.List.{AllByRecursion}
 use Rattle.std.specs.Option.{option_map}
@@ -99,6 +99,15 @@ abbrev pub IsKeptAfter : Dataset → Touched → Slab → Option KeptState → �
 IsKeptAfter d touched slab None count after = (count ≡ 0) × (after ≡ None)
 IsKeptAfter d touched slab (Some before) count None = (count ≡ 0) × (is_lent d slab ≡ true)
 IsKeptAfter d touched slab (Some before) count (Some after) = (is_lent d slab ≡ false) × IsMetPatched d touched slab before count after
+
+-- the view of this number follows its array, and any other stays
+pub record IsOneFollowed (d : Dataset) (touched : Touched) (before : List KeptView) (number count : ℕ) (after : List KeptView) : Type 0 where
+  pub at : ℕ
+  pub there : IsViewAt before number at
+  pub view : KeptView
+  pub same : (v : KeptView) → numbered_view view ≡ numbered_view (slice_index_or before at v)
+  pub kept : (v : KeptView) → IsKeptAfter d touched (slice_index_or before at v).slab (slice_index_or before at v).kept count view.kept
+  pub after_is : after ≡ slice_set before at view
 
 -- a view of the array of this number follows it, and any other stays
 pub record IsViewFollowed (number : ℕ) (d : Dataset) (touched : Touched) (before : KeptView) (count : ℕ) (after : KeptView) : Type 0 where

@@ -11,8 +11,8 @@ ghost use Rattle.h5_file.specs.Patched.{AreCorners, ArePatched, IsPatched};
 
 mod count;
 
-use crate::gather::gather;
 use crate::patch::patch_from;
+use crate::selected::gather;
 use count::Count;
 use h5_edit::{Dims, MAX_RANK, Slab, StoredArray};
 use h5_model::Axis;

@@ -35,12 +35,14 @@
 //! A [`Session`] is a file with open views: each shows the selected cells of an array as the edits leave it.
 #![tactic(auto)]
 
+mod by_array;
 mod edits;
 mod file;
-mod gather;
 mod kept;
 mod open_error;
+mod open_views;
 mod patch;
+mod selected;
 mod session;
 mod touched;
 mod views;
@@ -57,4 +59,5 @@ pub use h5_model::{
 pub use h5_space::MAXIMUM_IMAGE;
 pub use kept::Kept;
 pub use open_error::OpenError;
+pub use selected::gather;
 pub use session::{Session, Shown};

@@ -13,7 +13,8 @@ ghost use Rattle.h5_file.specs.State.{created_state};
 mod edits;
 
 use crate::file::File;
-use crate::views::{KeptView, place_of, push_view};
+use crate::open_views::OpenViews;
+use crate::views::{KeptView, place_of};
 use h5_edit::Values;
 use h5_model::{EditFault, Fixed, Hyper, ViewFault, ViewNo};
 use std::alloc::{AllocError, Global};
@@ -50,8 +51,7 @@ impl<'a> Shown<'a> {
 #[derive(Drop)]
 pub struct Session {
     file: File,
-    /// By their numbers.
-    views: Vec<KeptView>,
+    views: OpenViews,
     /// The number of the next view.
     next: u32,
 }
@@ -65,9 +65,9 @@ impl Model for Session {
 
     ghost use Rattle.h5_file.specs.OpenViews.{AreViewsKept, session_state};
 
-    ghost view = { λ s. session_state s.file s.views.items s.next };
+    ghost view = { λ s. session_state s.file s.views s.next };
 
-    ghost invariant = { λ s. AreViewsKept s.file s.views.items s.next };
+    ghost invariant = { λ s. AreViewsKept s.file s.views s.next };
 }
 
 impl Session {
@@ -88,7 +88,7 @@ impl Session {
     pub fn new(file: File) -> Session
         ensures { result ≡ without_views file }
     {
-        let views = Vec::new(file.alloc);
+        let views = OpenViews::new(file.alloc);
         Session {
             file,
             views,
@@ -129,9 +129,9 @@ impl Session {
             IsViewRefused self.old path.now hyper.now e × (self.new ≡ self.old)) }
     {
         let number = self.next;
-        let is_full = has_many(&self.views, number);
+        let is_full = has_many(self.views.as_slice(), number);
         let view = KeptView::open(&self.file, path, hyper, number, is_full)?;
-        push_view(&mut self.views, view)?;
+        self.views.push(view)?;
         self.next = number + 1;
         Ok(ViewNo(number))
     }
@@ -145,7 +145,7 @@ impl Session {
         ensures { MatchResult result (λ _. IsViewClosed self.old number.0 self.new) (λ e.
             IsViewNotOpen self.old number.0 e × (self.new ≡ self.old)) }
     {
-        let Some(at) = place_of(&self.views, number.0) else {
+        let Some(at) = place_of(self.views.as_slice(), number.0) else {
             return Err(ViewFault::NoSuchView);
         };
         let _closed = self.views.remove(at);
@@ -166,10 +166,11 @@ impl Session {
         ensures lent { IfOk result (λ s.
             s.lent ≡ view_is_lent self.now.file.tree (get self.now.views number.0)) }
     {
-        let Some(at) = place_of(&self.views, number.0) else {
+        let views = self.views.as_slice();
+        let Some(at) = place_of(views, number.0) else {
             return Err(ViewFault::NoSuchView);
         };
-        let view = &self.views[at];
+        let view = &views[at];
         view.show(&self.file)
     }
 

@@ -1,6 +1,6 @@
 //! What an edit touches of an array, and the boxes of its grid that it and a view both meet.
 
-ghost use Rattle.std.specs.Prelude.{◌≡◌, ℕ, ℤ, List, MatchOption, []};
+ghost use Rattle.std.specs.Prelude.{◌≡◌, ℕ, ℤ, IsTrue, List, MatchOption, []};
 ghost use Rattle.h5_model.specs.Tree.Objects.{Dataset};
 ghost use Rattle.h5_model.specs.declared.edits.Edit.TheVariants.{Resize, Write};
 ghost use Rattle.h5_file.specs.Touched.{IsGridOf, IsTouching, IsUntouching, met_with};
@@ -8,7 +8,7 @@ ghost use Rattle.h5_file.specs.Touched.{IsGridOf, IsTouching, IsUntouching, met_
 use crate::file::File;
 use h5_edit::{Dims, Slab, array_at};
 use h5_model::{Edit, Hyper};
-use h5_shape::{MetBoxes, lost_boxes, written_boxes};
+use h5_shape::{MetBoxes, lie_apart, lost_boxes, written_boxes};
 use std::alloc::Global;
 
 /// The cells of an array that an edit touches.
@@ -64,8 +64,21 @@ impl Touched {
         Some(Touched::Lost { before, kept })
     }
 
-    /// The boxes of an array's grid that hold a cell touched and a cell of the selection. `None` where the two are so far apart that
-    /// there is none. It takes no memory.
+    /// Whether a few comparisons tell that no box of an array's grid holds a cell touched and a cell of the selection. Where it says
+    /// `false`, `boxes` tells which do, if any.
+    pub(crate) fn misses(&self, grid: &Dims, slab: &Slab) -> bool
+        requires { (d : Dataset) × IsGridOf d self.now grid.now slab.now }
+        ensures { IsTrue result → (d : Dataset) → IsGridOf d self.now grid.now slab.now
+            → met_with d self.now slab.now ≡ [] }
+    {
+        match self {
+            Touched::Written(written) => lie_apart(grid, written, slab),
+            Touched::Lost { .. } => false,
+        }
+    }
+
+    /// The boxes of an array's grid that hold a cell touched and a cell of the selection. `None` where it is clear at once that there is
+    /// none. It takes no memory.
     pub(crate) fn boxes<'a>(
         &'a self,
         alloc: Global,

@@ -1,6 +1,6 @@
 //! The views that are open on a file, each with the bytes of its selected cells.
 
-ghost use Rattle.std.specs.Prelude.{◌≡◌, ◌^◌, ◌≤◌, ℕ, IfOk, IfErr, IfSome, MatchOption, MatchResult, OnOk, OnErr, Ok, Err, Some, ◌∷◌, ◌++◌, [], false, length};
+ghost use Rattle.std.specs.Prelude.{◌≡◌, ◌^◌, ◌≤◌, ℕ, IfOk, IfErr, IfSome, MatchOption, MatchResult, Ok, Err, Some, false, length, map, slice_index_or};
 ghost use Rattle.std.specs.FinMap.{contains_key};
 ghost use Rattle.std.specs.List.{AllByRecursion, list_any};
 ghost use Rattle.h5_model.specs.Scripts.Answers.{view_is_lent};
@@ -13,9 +13,11 @@ ghost use Rattle.h5_model.specs.Views.Shown.{box_of, is_lent as can_lend, shown_
 ghost use Rattle.h5_edit.specs.Selected.{IsSlabOf};
 ghost use Rattle.h5_shape.specs.InBox.{AreApart};
 ghost use Rattle.h5_file.specs.Session.{IsViewOf, IsViewRefusedBy, patches_at_first};
-ghost use Rattle.h5_file.specs.OpenViews.{AreNumbered, AreViewsFollowed, AreViewsReady, HasKeptLength, IsKeptAfter, IsKeptOf, IsMetPatched, IsViewAt, IsViewFit, IsViewFollowed, IsViewReady, IsViewShown, patches_in, numbered_view, view_of, views_of};
+ghost use Rattle.h5_file.specs.ByArray.{AreByArray};
+ghost use Rattle.h5_file.specs.OpenViews.{AreNumbered, AreViewsFollowed, AreViewsReady, HasKeptLength, IsKeptAfter, IsKeptOf, IsMetPatched, IsOneFollowed, IsViewAt, IsViewFit, IsViewReady, IsViewShown, patches_in, numbered_view, view_of, views_of};
 ghost use Rattle.h5_file.specs.Touched.{HasBoxes, IsArrayLeft, IsTouchOf, sizes_before};
 
+use crate::by_array::{ArrayView, views_on};
 use crate::file::File;
 use crate::kept::Kept;
 use crate::session::Shown;
@@ -168,7 +170,8 @@ fn is_lent(array: &StoredArray<'_>, slab: &Slab) -> bool
     array.lent(slab).is_some()
 }
 
-/// Sets the kept cells in each box that is met to the array's, and says how many boxes these are.
+/// Sets the kept cells in each box that is met to the array's, and says how many boxes these are. Most views of a large array lie far from
+/// what a small edit touches, which a few comparisons tell.
 fn patch_met(
     kept: &mut Kept,
     alloc: Global,
@@ -187,7 +190,28 @@ fn patch_met(
     if slab.cells() == 0 {
         return 0;
     }
-    // Most views of a large array lie far from what a small edit touches.
+    if touched.misses(grid, slab) {
+        return 0;
+    }
+    patch_each(kept, alloc, array, slab, grid, touched)
+}
+
+/// The same, where each box that one of the two meets is looked at.
+fn patch_each(
+    kept: &mut Kept,
+    alloc: Global,
+    array: &StoredArray<'_>,
+    slab: &Slab,
+    grid: &Dims,
+    touched: &Touched,
+) -> u64
+    requires array { IsArrayLeft array.now touched.now grid.now }
+    requires rank { length slab.now ≡ length array.now.sizes }
+    requires apart { AreApart slab.now }
+    requires room { HasKeptLength array.now slab.now (Some kept.old) }
+    ensures met { IsMetPatched array.now touched.now slab.now kept.old result kept.new }
+    ensures few { result ≤ 2 ^ 40 }
+{
     let Some(boxes) = touched.boxes(alloc, grid, slab) else {
         return 0;
     };
@@ -204,13 +228,16 @@ pub(crate) fn place_of(views: &[KeptView], number: u32) -> Option<usize>
 }
 
 /// Lets the views of the array of this number follow it, of which cells were touched, and says how many boxes were patched in all. Any
-/// other view stays.
+/// other view stays, and is not looked at.
 pub(crate) fn follow_all(
     file: &File,
     views: &mut [KeptView],
+    by_array: &[ArrayView],
     number: ObjectNo,
     touched: &Touched,
 ) -> u64
+    requires rise { (end : ℕ) × AreNumbered views.old end }
+    requires listed { AreByArray by_array.now views.old }
     requires fit { AllByRecursion (IsViewFit file.now.tree file.now.next) views.old }
     requires few { length views.old ≤ 1024 }
     requires touch { (d : Dataset) → dataset_of file.now.tree number.0 ≡ Some d
@@ -218,6 +245,7 @@ pub(crate) fn follow_all(
         × (cells_of d.sizes ≤ 2 ^ 40 → cells_of (sizes_before d touched.now) ≤ 2 ^ 40) }
     ensures followed { (d : Dataset) → dataset_of file.now.tree number.0 ≡ Some d
         → AreViewsFollowed number.0 d touched.now views.old result views.new }
+    ensures same { map numbered_view views.new ≡ map numbered_view views.old }
     ensures sound { (d : Dataset) → dataset_of file.now.tree number.0 ≡ Some d
         → IsDataset d × HasBoxes d }
 {
@@ -228,7 +256,7 @@ pub(crate) fn follow_all(
     };
     let chunk = array.chunk(file.alloc);
     let grid = box_sizes(&array, &chunk);
-    follow_each(views, number, file.alloc, &array, grid, touched)
+    follow_each(views, by_array, number, file.alloc, &array, grid, touched)
 }
 
 /// The sizes of a box of the array's grid, where this tells the sizes of its chunks. An array without chunks is one box.
@@ -243,52 +271,48 @@ fn box_sizes<'a>(array: &'a StoredArray<'_>, chunk: &'a Option<Dims>) -> &'a Dim
     }
 }
 
-/// Lets each view follow the array, where it is one of this, and says how many boxes were patched in all.
+/// Lets each view of the array of this number follow it, and says how many boxes were patched in all.
 fn follow_each(
     views: &mut [KeptView],
+    by_array: &[ArrayView],
     number: ObjectNo,
     alloc: Global,
     array: &StoredArray<'_>,
     grid: &Dims,
     touched: &Touched,
 ) -> u64
+    requires rise { (end : ℕ) × AreNumbered views.old end }
+    requires listed { AreByArray by_array.now views.old }
     requires array { IsArrayLeft array.now touched.now grid.now }
     requires fit { AreViewsReady number.0 array.now views.old }
     requires few { length views.old ≤ 1024 }
     ensures { AreViewsFollowed number.0 array.now touched.now views.old result views.new }
 {
+    let own = views_on(by_array, number.0);
     let mut count = 0;
-    for view in views.iter_mut() {
-        count += follow_one(view, number, alloc, array, grid, touched);
+    for view in own {
+        count += follow_one(views, view.number, alloc, array, grid, touched);
     }
     count
 }
 
-/// Lets a view follow the array, where it is one of this.
+/// Lets the view of this number follow its array, and says how many boxes were patched in it.
 fn follow_one(
-    view: &mut KeptView,
-    number: ObjectNo,
+    views: &mut [KeptView],
+    number: u32,
     alloc: Global,
     array: &StoredArray<'_>,
     grid: &Dims,
     touched: &Touched,
 ) -> u64
+    requires rise { (end : ℕ) × AreNumbered views.old end }
+    requires there { (at : ℕ) × IsViewAt views.old number at }
     requires array { IsArrayLeft array.now touched.now grid.now }
-    requires fit { view.old.object ≡ number.0 → IsViewReady array.now view.old }
-    ensures followed { IsViewFollowed number.0 array.now touched.now view.old result view.new }
+    requires fit { (at : ℕ) (d : KeptView) → IsViewAt views.old number at
+        → IsViewReady array.now (slice_index_or views.old at d) }
+    ensures followed { IsOneFollowed array.now touched.now views.old number result views.new }
     ensures few { result ≤ 2 ^ 40 }
 {
-    if view.object != number.0 {
-        return 0;
-    }
-    view.follow(alloc, array, grid, touched)
-}
-
-/// Holds one view more, behind the others.
-pub(crate) fn push_view(views: &mut Vec<KeptView>, view: KeptView) -> Result<(), AllocError>
-    ensures ok { OnOk result (views.new.items ≡ views.old.items ++ view ∷ []) }
-    ensures err { OnErr result (views.new.items ≡ views.old.items) }
-{
-    views.push(view)?;
-    Ok(())
+    let at = place_of(views, number).unwrap();
+    views[at].follow(alloc, array, grid, touched)
 }

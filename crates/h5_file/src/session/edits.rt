@@ -9,9 +9,9 @@ ghost use Rattle.h5_file.specs.Following.{HaveFollowed, IsToFollow};
 ghost use Rattle.h5_file.specs.Session.{IsSessionEdited};
 
 use crate::file::File;
+use crate::open_views::OpenViews;
 use crate::session::Session;
 use crate::touched::Touched;
-use crate::views::{KeptView, follow_all};
 use h5_model::{AttrSpec, Edit, EditFault, Edited, Hyper, Spec};
 
 impl Session {
@@ -20,7 +20,7 @@ impl Session {
     /// these are, over all views; an array without chunks is one chunk. A view whose cells can be lent now keeps none of
     /// them any more.
     ///
-    /// Views take no memory for it, and views of other arrays no time beyond a look at their numbers.
+    /// Views take no memory for it, and views of other arrays no time.
     ///
     /// # Errors
     ///
@@ -158,17 +158,12 @@ impl Session {
 
 /// Lets the open views follow an edit that was carried out on the file, of which these cells were touched. The answer then tells how many
 /// boxes were patched.
-fn follow(
-    file: &File,
-    views: &mut Vec<KeptView>,
-    edited: Edited,
-    touched: Option<Touched>,
-) -> Edited
+fn follow(file: &File, views: &mut OpenViews, edited: Edited, touched: Option<Touched>) -> Edited
     requires { (before : FileState) × (edit : TheEdit) × (next : ℕ)
-        × IsToFollow before file.now views.old.items next edit touched edited }
+        × IsToFollow before file.now views.old next edit touched edited }
     ensures { (before : FileState) (edit : TheEdit) (next : ℕ)
-        → IsToFollow before file.now views.old.items next edit touched edited
-        → HaveFollowed before file.now views.old.items views.new.items next edit result }
+        → IsToFollow before file.now views.old next edit touched edited
+        → HaveFollowed before file.now views.old views.new next edit result }
 {
     let Some(touched) = touched else {
         return edited;
@@ -176,7 +171,7 @@ fn follow(
     let Some(number) = edited.object else {
         return edited;
     };
-    let refreshed = follow_all(file, views, number, &touched);
+    let refreshed = views.follow(file, number, &touched);
     Edited {
         object: edited.object,
         refreshed,

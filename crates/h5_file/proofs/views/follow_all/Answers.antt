@@ -5,8 +5,9 @@ use Rattle.h5_file.specs.OpenViews.{AreViewsFollowed}
 use Rattle.h5_file.specs.Touched.{HasBoxes}
 use Rattle.h5_file.proofs.ArrayFacts.{IsArraySound, array_sound}
 use Rattle.h5_file.proofs.EditedViews.{same_array, views_ready}
+use Rattle.h5_file.proofs.FollowedViews.{followed_same}
 use Rattle.h5_file.proofs.views.follow_all.Goals as goal
-use Rattle.h5_file.proofs.views.follow_all.Goals.{After-box_sizes-grid, In-Some}
+use Rattle.h5_file.proofs.views.follow_all.Goals.{In-Some}
 
 sound : (c : In-Some) → IsArraySound c.in-Some.array
 sound c =
@@ -25,6 +26,9 @@ pub returns-clause-followed : goal.returns-clause-followed
 returns-clause-followed c = λ d there.
     let same : c.in-Some.array ≡ d = same_array (sym c.in-Some.ensures ∙ there) in
     subst (λ (d : Dataset). AreViewsFollowed c.args.number.0 d c.args.touched.now c.args.views.now c.follow_each.result c.follow_each.new.views) same c.follow_each.ensures
+
+pub returns-clause-same : goal.returns-clause-same
+returns-clause-same c = followed_same c.args.number.0 c.in-Some.array c.args.touched.now c.args.views.now c.follow_each.result c.follow_each.new.views c.follow_each.ensures
 
 pub returns-clause-sound : goal.returns-clause-sound
 returns-clause-sound c = λ d there.

@@ -1,44 +1,87 @@
-use Rattle.std.proofs.Common.{◌≡◌, ◌≤◌, ◌+◌, ◌*◌, ◌^◌, get_or, sym, subst, arith}
-use Rattle.std.proofs.lemmas.List.{take_all}
+use Rattle.std.proofs.Common.{◌≡◌, ◌≤◌, ◌+◌, ◌*◌, ◌^◌, ℕ, List, [], drop, get_or, length, map, sym, ap, ◌∙◌, subst, arith}
+use Rattle.std.proofs.lemmas.List.{drop_all, length-map}
 use Rattle.std.proofs.Math.Nat.{mul-le-mul_right}
-use Rattle.h5_file.specs.OpenViews.{AreViewsFollowed, IsViewFollowed, IsViewReady}
+use Rattle.h5_file.specs.ByArray.{numbers_on}
+use Rattle.h5_file.specs.declared.by_array.ArrayView.{ArrayView}
 use Rattle.h5_file.specs.declared.views.KeptView.{KeptView}
-use Rattle.h5_file.proofs.EditedViews.{followed_next, rest_at}
-use Rattle.h5_file.proofs.ViewLaws.{all_at}
+use Rattle.h5_file.proofs.FollowedViews.{AreFollowedTo, all_followed, few_on, left_next, next_followed, next_ready, next_there, none_yet, still_numbered}
 use Rattle.h5_file.proofs.views.follow_each.Goals as goal
-use Rattle.h5_file.proofs.views.follow_each.Goals.{After-follow_one-count}
+use Rattle.h5_file.proofs.views.follow_each.Goals.{After-follow_one-count, After-views_on-own}
+
+abbrev numbers : List ArrayView → List ℕ
+numbers views = map (λ (v : ArrayView). v.number) views
+
+abbrev any : ArrayView
+any = record { object = 0; number = 0 }
+
+listed : (c : After-views_on-own) → numbers c.views_on-own.result.now ≡ numbers_on c.args.number.0 c.args.views.now
+listed c = c.views_on-own.ensures ∙ c.requires.listed.each c.args.number.0
+
+few : (c : After-views_on-own) → length c.views_on-own.result.now ≤ 1024
+few c =
+    let same : length c.views_on-own.result.now ≡ length (numbers_on c.args.number.0 c.args.views.now)
+    = sym (length-map c.views_on-own.result.now (λ (v : ArrayView). v.number)) ∙ ap length (listed c) in
+    let less = few_on c.args.number.0 c.args.views.now in
+    omega (arith, same, less, c.requires.few)
+
+pub loop-view-init : goal.loop-view-init
+loop-view-init c = record {
+  followed = none_yet c.args.number.0 c.args.array.now c.args.touched.now c.args.views.now (numbers c.views_on-own.result.now) (listed c);
+  low = omega arith;
+}
+
+pub follow_one-count-requires-clause-rise : goal.follow_one-count-requires-clause-rise
+follow_one-count-requires-clause-rise c =
+    let own = c.views_on-own.result.now in
+    let i = c.loop-view.view-index in
+    let end = c.requires.rise.0 in (
+      end,
+      still_numbered c.args.number.0 c.args.array.now c.args.touched.now c.args.views.now (numbers (drop i own)) c.loop-view.count c.loop-view.views c.loop-view.invariant.followed end
+          c.requires.rise.1,
+    )
+
+pub follow_one-count-requires-clause-there : goal.follow_one-count-requires-clause-there
+follow_one-count-requires-clause-there c =
+    let own = c.views_on-own.result.now in
+    let i = c.loop-view.view-index in
+    next_there c.args.number.0 c.args.array.now c.args.touched.now c.args.views.now (numbers (drop i own)) c.loop-view.count c.loop-view.views c.loop-view.invariant.followed
+    (get_or own i any).number (numbers (drop (i + 1) own)) (left_next i own any c.loop-view-test.true)
 
 pub follow_one-count-requires-clause-fit : goal.follow_one-count-requires-clause-fit
-follow_one-count-requires-clause-fit c =
+follow_one-count-requires-clause-fit c = λ at x there.
+    let own = c.views_on-own.result.now in
     let i = c.loop-view.view-index in
-    let d = c.args.array.now in
-    let ready = all_at (λ (v : KeptView). v.object ≡ c.args.number.0 → IsViewReady d v) c.args.views.now i c.view-item.result c.requires.fit c.loop-view-test.true in
-    let same : get_or c.loop-view.views i c.view-item.result ≡ get_or c.args.views.now i c.view-item.result = rest_at i c.loop-view.views c.args.views.now c.view-item.result c.loop-view.invariant.rest in
-    subst (λ (v : KeptView). v.object ≡ c.args.number.0 → IsViewReady d v) (sym same) ready
+    next_ready c.args.number.0 c.args.array.now c.args.touched.now c.args.views.now (numbers (drop i own)) c.loop-view.count c.loop-view.views c.loop-view.invariant.followed
+    (get_or own i any).number (numbers (drop (i + 1) own)) (left_next i own any c.loop-view-test.true) c.requires.rise.0 c.requires.rise.1 at there c.requires.fit x
 
-few : (c : After-follow_one-count) → c.loop-view.count + c.follow_one-count.result ≤ (c.loop-view.view-index + 1) * 2 ^ 40
-few c = omega (arith, c.loop-view.invariant.low, c.follow_one-count.ensures.few)
+low : (c : After-follow_one-count) → c.loop-view.count + c.follow_one-count.result ≤ (c.loop-view.view-index + 1) * 2 ^ 40
+low c = omega (arith, c.loop-view.invariant.low, c.follow_one-count.ensures.few)
 
 pub overflow_add-count : goal.overflow_add-count
 overflow_add-count c =
-    let low = few (goal.at.overflow_add-count c).After-follow_one-count in
-    let rows : c.loop-view.view-index + 1 ≤ 1024 = omega (arith, c.loop-view-test.true, c.requires.few) in
+    let sum = low (goal.at.overflow_add-count c).After-follow_one-count in
+    let many = few (goal.at.overflow_add-count c).After-views_on-own in
+    let rows : c.loop-view.view-index + 1 ≤ 1024 = omega (arith, c.loop-view-test.true, many) in
     let all : (c.loop-view.view-index + 1) * 2 ^ 40 ≤ 1024 * 2 ^ 40 = mul-le-mul_right (2 ^ 40) rows in
-    omega (arith, low, all)
+    omega (arith, sum, all)
 
 pub loop-view-preserved : goal.loop-view-preserved
 loop-view-preserved c =
     let b = (goal.at.loop-view-preserved c).After-follow_one-count in
+    let own = c.views_on-own.result.now in
     let i = c.loop-view.view-index in
-    let same = rest_at i c.loop-view.views c.args.views.now c.view-item.result c.loop-view.invariant.rest in
-    let next = followed_next c.args.number.0 c.args.array.now c.args.touched.now c.args.views.now i c.loop-view.views c.loop-view.count c.follow_one-count.result c.follow_one-count.new.view c.view-item.result
-    c.loop-view-test.true c.loop-view.invariant.followed c.loop-view.invariant.rest
-    (subst (λ (v : KeptView). IsViewFollowed c.args.number.0 c.args.array.now c.args.touched.now v c.follow_one-count.result c.follow_one-count.new.view) same c.follow_one-count.ensures.followed) in
-    record { followed = next.0; rest = next.1; low = few b }
+    let more = numbers (drop (i + 1) own) in
+    let f = c.follow_one-count.ensures.followed in
+    record {
+      followed = subst (λ (vs : List KeptView). AreFollowedTo c.args.number.0 c.args.array.now c.args.touched.now c.args.views.now more (c.loop-view.count + c.follow_one-count.result) vs) (sym f.after_is)
+          (next_followed c.args.number.0 c.args.array.now c.args.touched.now c.args.views.now (numbers (drop i own)) c.loop-view.count c.loop-view.views c.loop-view.invariant.followed
+          (get_or own i any).number more (left_next i own any c.loop-view-test.true) c.requires.rise.0 c.requires.rise.1 f.at f.there c.follow_one-count.result f.view f.same f.kept);
+      low = low b;
+    }
 
 pub returns : goal.returns
 returns c =
+    let own = c.views_on-own.result.now in
     let i = c.loop-view.view-index in
-    subst (λ (X : Type 0). X) (λ k. AreViewsFollowed c.args.number.0 c.args.array.now c.args.touched.now
-    (take_all i c.args.views.now (omega (arith, c.loop-view-test.false)) k) c.loop-view.count (take_all i c.loop-view.views (omega (arith, c.loop-view-test.false, c.loop-view.auto.views)) k))
-    c.loop-view.invariant.followed
+    let none : numbers (drop i own) ≡ [] = ap numbers (drop_all i own (omega (arith, c.loop-view-test.false))) in
+    all_followed c.args.number.0 c.args.array.now c.args.touched.now c.args.views.now (numbers (drop i own)) c.loop-view.count c.loop-view.views c.loop-view.invariant.followed none

@@ -1,26 +1,12 @@
-use Rattle.std.proofs.Common.{◌≡◌, ◌^◌, ◌≤◌, ◌+◌, false, length, sym, ap, ◌∙◌, subst, arith}
+use Rattle.std.proofs.Common.{◌≡◌, false, arith}
 use Rattle.h5_model.specs.Views.Selection.{selected_cells, selects_none}
-use Rattle.h5_file.specs.Patched.{AreCorners, ArePatched}
-use Rattle.h5_file.specs.Touched.{met_with}
-use Rattle.h5_file.proofs.FollowLaws.{empty_patched, grid_of, met_corners, met_few, nothing_patched, some_counted}
+use Rattle.h5_file.proofs.FollowLaws.{empty_patched, grid_of, nothing_patched, some_counted}
 use Rattle.h5_file.proofs.SlabLaws.{none_selected}
 use Rattle.h5_file.proofs.views.patch_met.Goals as goal
-use Rattle.h5_file.proofs.views.patch_met.Goals.{In-Some}
+use Rattle.h5_file.proofs.views.patch_met.Goals.{Else-cells-eq0}
 
-some : (c : In-Some) → selects_none c.args.slab.now ≡ false
+some : (c : Else-cells-eq0) → selects_none c.args.slab.now ≡ false
 some c = some_counted c.args.slab.now c.cells.result c.cells.ensures c.if-cells-eq0.false
-
-boxes : (c : In-Some) → c.in-Some.boxes ≡ met_with c.args.array.now c.args.touched.now c.args.slab.now
-boxes c =
-    c.in-Some.ensures c.args.array.now
-    (grid_of c.args.array.now c.args.touched.now c.args.grid.now c.args.slab.now c.requires.array c.requires.rank (c.requires.apart (some c)))
-
-few : (c : In-Some) → length c.in-Some.boxes ≤ 2 ^ 40
-few c =
-    let r = c.requires.array in
-    let less = met_few c.args.array.now r.sound c.args.touched.now r.touch c.args.slab.now r.few in
-    let same : length c.in-Some.boxes ≡ length (met_with c.args.array.now c.args.touched.now c.args.slab.now) = ap length (boxes c) in
-    omega (arith, less, same)
 
 pub returns-then-cells-eq0-clause-met : goal.returns-then-cells-eq0-clause-met
 returns-then-cells-eq0-clause-met c =
@@ -28,44 +14,16 @@ returns-then-cells-eq0-clause-met c =
     let none : selected_cells c.args.slab.now ≡ 0 = omega (arith, c.cells.ensures, c.if-cells-eq0.true) in
     empty_patched c.args.array.now r.sound c.args.touched.now r.touch c.args.slab.now c.args.kept.now (none_selected c.args.slab.now none)
 
-pub boxes-requires : goal.boxes-requires
-boxes-requires c =
-    let slab = c.args.slab.now in
-    let apart = c.requires.apart (some_counted slab c.cells.result c.cells.ensures c.if-cells-eq0.false) in
-    (c.args.array.now, grid_of c.args.array.now c.args.touched.now c.args.grid.now slab c.requires.array c.requires.rank apart)
+pub misses-requires : goal.misses-requires
+misses-requires c =
+    (c.args.array.now, grid_of c.args.array.now c.args.touched.now c.args.grid.now c.args.slab.now c.requires.array c.requires.rank (c.requires.apart (some (goal.at.misses-requires c).Else-cells-eq0)))
 
-pub returns-in_default-clause-met : goal.returns-in_default-clause-met
-returns-in_default-clause-met c =
+pub returns-then-misses-clause-met : goal.returns-then-misses-clause-met
+returns-then-misses-clause-met c =
     let r = c.requires.array in
-    let slab = c.args.slab.now in
-    let apart = c.requires.apart (some_counted slab c.cells.result c.cells.ensures c.if-cells-eq0.false) in
-    nothing_patched c.args.array.now r.sound c.args.touched.now r.touch slab c.args.kept.now
-    (c.in_default.ensures c.args.array.now (grid_of c.args.array.now c.args.touched.now c.args.grid.now slab r c.requires.rank apart))
+    let apart = c.requires.apart (some (goal.at.returns-then-misses-clause-met c).Else-cells-eq0) in
+    nothing_patched c.args.array.now r.sound c.args.touched.now r.touch c.args.slab.now c.args.kept.now
+    (c.misses.ensures c.if-misses.true c.args.array.now (grid_of c.args.array.now c.args.touched.now c.args.grid.now c.args.slab.now r c.requires.rank apart))
 
-pub patch_boxes-requires-clause-apart : goal.patch_boxes-requires-clause-apart
-patch_boxes-requires-clause-apart c = c.requires.apart (some (goal.at.patch_boxes-requires-clause-apart c).In-Some)
-
-pub patch_boxes-requires-clause-corners : goal.patch_boxes-requires-clause-corners
-patch_boxes-requires-clause-corners c =
-    let b = (goal.at.patch_boxes-requires-clause-corners c).In-Some in
-    let r = c.requires.array in
-    subst (λ (X : Type 0). X) (λ i. AreCorners c.args.slab.now (sym r.grid_is i) (sym (boxes b) i))
-    (met_corners c.args.array.now r.sound c.args.touched.now r.touch c.args.slab.now c.requires.rank)
-
-pub patch_boxes-requires-clause-few : goal.patch_boxes-requires-clause-few
-patch_boxes-requires-clause-few c = let b = (goal.at.patch_boxes-requires-clause-few c).In-Some in omega (arith, few b)
-
-pub returns-clause-met : goal.returns-clause-met
-returns-clause-met c =
-    let b = (goal.at.returns-clause-met c).In-Some in
-    let met = boxes b in
-    let count : c.patch_boxes.result ≡ length (met_with c.args.array.now c.args.touched.now c.args.slab.now) = c.patch_boxes.ensures.count ∙ ap length met in
-    record {
-      counted = count;
-      patches = c.patch_boxes.ensures.patches ∙ ap (λ n. c.args.kept.now.patches + n) (sym c.patch_boxes.ensures.count);
-      bytes = subst (λ (X : Type 0). X) (λ i. ArePatched c.args.array.now c.args.slab.now (met i) (c.requires.array.grid_is i) c.args.kept.now.bytes c.patch_boxes.new.self.bytes)
-          c.patch_boxes.ensures.bytes;
-    }
-
-pub returns-clause-few : goal.returns-clause-few
-returns-clause-few c = let b = (goal.at.returns-clause-few c).In-Some in omega (arith, few b, c.patch_boxes.ensures.count)
+pub patch_each-requires-clause-apart : goal.patch_each-requires-clause-apart
+patch_each-requires-clause-apart c = c.requires.apart (some (goal.at.patch_each-requires-clause-apart c).Else-cells-eq0)

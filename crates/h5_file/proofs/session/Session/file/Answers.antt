@@ -7,4 +7,4 @@ use Rattle.h5_file.proofs.session.Session.file.Goals as goal
 pub returns-clause-sound : goal.returns-clause-sound
 returns-clause-sound c =
     let s = c.self.inside in
-    subst (λ (v : SessionState). IsSession (session_of v)) c.self.view_is (session_sound s.file s.views.items s.next c.image-image.ensures.sound c.self.invariant)
+    subst (λ (v : SessionState). IsSession (session_of v)) c.self.view_is (session_sound s.file s.views s.next c.image-image.ensures.sound c.self.invariant)

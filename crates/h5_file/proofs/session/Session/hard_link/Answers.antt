@@ -6,9 +6,9 @@ use Rattle.h5_file.proofs.session.Session.hard_link.Goals as goal
 pub invariant_of-self : goal.invariant_of-self
 invariant_of-self c =
     let s = c.self.inside in
-    kept_behind s.file c.hard_link.new.self (HardLink c.args.target.now c.args.path.now) s.views.items s.next c.self.invariant refl c.hard_link.result c.hard_link.ensures.edited
+    kept_behind s.file c.hard_link.new.self (HardLink c.args.target.now c.args.path.now) s.views s.next c.self.invariant refl c.hard_link.result c.hard_link.ensures.edited
 
 pub returns : goal.returns
 returns c =
     let s = c.self.inside in
-    record { edited = answered_behind s.file c.hard_link.new.self (HardLink c.args.target.now c.args.path.now) s.views.items s.next c.self.invariant refl c.args.self.now c.self.view_is c.hard_link.result c.hard_link.ensures.edited }
+    record { edited = answered_behind s.file c.hard_link.new.self (HardLink c.args.target.now c.args.path.now) s.views s.next c.self.invariant refl c.args.self.now c.self.view_is c.hard_link.result c.hard_link.ensures.edited }

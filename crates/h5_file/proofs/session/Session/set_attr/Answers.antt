@@ -6,9 +6,9 @@ use Rattle.h5_file.proofs.session.Session.set_attr.Goals as goal
 pub invariant_of-self : goal.invariant_of-self
 invariant_of-self c =
     let s = c.self.inside in
-    kept_behind s.file c.set_attr.new.self (SetAttr c.args.path.now c.args.attr.now) s.views.items s.next c.self.invariant refl c.set_attr.result c.set_attr.ensures.edited
+    kept_behind s.file c.set_attr.new.self (SetAttr c.args.path.now c.args.attr.now) s.views s.next c.self.invariant refl c.set_attr.result c.set_attr.ensures.edited
 
 pub returns : goal.returns
 returns c =
     let s = c.self.inside in
-    record { edited = answered_behind s.file c.set_attr.new.self (SetAttr c.args.path.now c.args.attr.now) s.views.items s.next c.self.invariant refl c.args.self.now c.self.view_is c.set_attr.result c.set_attr.ensures.edited }
+    record { edited = answered_behind s.file c.set_attr.new.self (SetAttr c.args.path.now c.args.attr.now) s.views s.next c.self.invariant refl c.args.self.now c.self.view_is c.set_attr.result c.set_attr.ensures.edited }

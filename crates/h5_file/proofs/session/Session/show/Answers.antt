@@ -1,4 +1,4 @@
-use Rattle.std.proofs.Common.{◌≡◌, subst, List, Result, Ok, Err}
+use Rattle.std.proofs.Common.{◌≡◌, ◌∙◌, ap, get_or, subst, List, Result, Ok, Err}
 use Rattle.std.specs.Prelude.{IfOk, MatchResult, Option}
 use Rattle.std.specs.FinMap.{get}
 use Rattle.h5_model.specs.Scripts.Answers.{view_is_lent}
@@ -13,8 +13,9 @@ use Rattle.h5_file.proofs.session.Session.show.Goals as goal
 pub returns-clause-shown : goal.returns-clause-shown
 returns-clause-shown c =
     let s = c.self.inside in
-    let there = subst (λ (vs : List KeptView). IsViewAt vs c.args.number.0 c.in-Some.at) c.deref.ensures.value c.in-Some.ensures in
-    let is = shown_as s.file s.views.items s.next c.args.number.0 c.in-Some.at c.index-view.result.now c.self.invariant there c.index-view.ensures in
+    let there = subst (λ (vs : List KeptView). IsViewAt vs c.args.number.0 c.in-Some.at) c.as_slice-views.ensures c.in-Some.ensures in
+    let found = c.index-views-at.is ∙ ap (λ (vs : List KeptView). get_or vs c.in-Some.at c.index-views-at.result) c.as_slice-views.ensures in
+    let is = shown_as s.file s.views s.next c.args.number.0 c.in-Some.at c.index-views-at.result c.self.invariant there found in
     subst (λ (v : SessionState). MatchResult c.show.result
     (λ r. shows v.file.tree v.views c.args.number.0 ≡ Ok (record { fixed = r.fixed; bytes = r.bytes.now })) (λ e. shows v.file.tree v.views c.args.number.0 ≡ Err e)) c.self.view_is
     (subst (λ (showing : Result Shown ViewFault). MatchResult c.show.result
@@ -23,7 +24,8 @@ returns-clause-shown c =
 pub returns-clause-lent : goal.returns-clause-lent
 returns-clause-lent c =
     let s = c.self.inside in
-    let there = subst (λ (vs : List KeptView). IsViewAt vs c.args.number.0 c.in-Some.at) c.deref.ensures.value c.in-Some.ensures in
-    let is = lent_as s.file s.views.items s.next c.args.number.0 c.in-Some.at c.index-view.result.now c.self.invariant there c.index-view.ensures in
+    let there = subst (λ (vs : List KeptView). IsViewAt vs c.args.number.0 c.in-Some.at) c.as_slice-views.ensures c.in-Some.ensures in
+    let found = c.index-views-at.is ∙ ap (λ (vs : List KeptView). get_or vs c.in-Some.at c.index-views-at.result) c.as_slice-views.ensures in
+    let is = lent_as s.file s.views s.next c.args.number.0 c.in-Some.at c.index-views-at.result c.self.invariant there found in
     subst (λ (v : SessionState). IfOk c.show.result (λ r. r.lent ≡ view_is_lent v.file.tree (get v.views c.args.number.0))) c.self.view_is
     (subst (λ (o : Option View). IfOk c.show.result (λ r. r.lent ≡ view_is_lent s.file.tree o)) is c.show.ensures.lent)

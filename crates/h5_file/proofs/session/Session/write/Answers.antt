@@ -10,7 +10,7 @@ pub follow-requires : goal.follow-requires
 follow-requires c = (c.self.inside.file, Write c.args.path.now c.args.hyper.now c.args.values.now, c.self.inside.next, record { edited = c.in_ok-edited.ensures.edited; kept = c.self.invariant; touch = c.written-touched.ensures c.args.path.now c.args.values.now })
 
 -- the views followed
-followed : (c : After-follow) → HaveFollowed c.self.inside.file c.write.new.self c.self.inside.views.items c.follow.new.views.items c.self.inside.next (Write c.args.path.now c.args.hyper.now c.args.values.now) c.follow.result
+followed : (c : After-follow) → HaveFollowed c.self.inside.file c.write.new.self c.self.inside.views c.follow.new.views c.self.inside.next (Write c.args.path.now c.args.hyper.now c.args.values.now) c.follow.result
 followed c = c.follow.ensures c.self.inside.file (Write c.args.path.now c.args.hyper.now c.args.values.now) c.self.inside.next (record { edited = c.in_ok-edited.ensures.edited; kept = c.self.invariant; touch = c.written-touched.ensures c.args.path.now c.args.values.now })
 
 pub invariant_of-self-2 : goal.invariant_of-self-2
@@ -20,6 +20,6 @@ pub returns : goal.returns
 returns c =
     let s = c.self.inside in
     record {
-      edited = subst (λ (v : SessionState). IsSessionEdited v (Write c.args.path.now c.args.hyper.now c.args.values.now) (session_state c.write.new.self c.follow.new.views.items s.next) c.follow.result) c.self.view_is
+      edited = subst (λ (v : SessionState). IsSessionEdited v (Write c.args.path.now c.args.hyper.now c.args.values.now) (session_state c.write.new.self c.follow.new.views s.next) c.follow.result) c.self.view_is
           (followed (goal.at.returns c).After-follow).edited;
     }

@@ -1,7 +1,7 @@
 use Rattle.std.proofs.Common.{◌≡◌, ◌*◌, ℤ, take, replicate}
 use Rattle.h5_model.specs.Format.Fixed.{Fixed, bytes_of}
 use Rattle.h5_model.specs.Format.Plain.{cells_bytes}
-use Rattle.h5_c.proofs.gather.repeat_cell.Given as goal
+use Rattle.h5_file.proofs.selected.repeat_cell.Given as goal
 
 -- the first cells have these bytes
 abbrev pub invariant-loop-k : goal.invariant-loop-k

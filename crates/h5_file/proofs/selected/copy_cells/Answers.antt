@@ -1,7 +1,7 @@
 use Rattle.std.proofs.Common.{◌≡◌, ℕ, ◌+◌, ◌-◌, ◌++◌, length, take, refl, ap, ◌∙◌, arith}
 use borrow.Rule.Slice.PartMut.{put_mid}
 use Rattle.h5_file.proofs.GatherLaws.{piece_bytes, piece_long, written_behind}
-use Rattle.h5_c.proofs.gather.copy_cells.Goals as goal
+use Rattle.h5_file.proofs.selected.copy_cells.Goals as goal
 
 pub slice_bounds-copy_from_slice-end : goal.slice_bounds-copy_from_slice-end
 slice_bounds-copy_from_slice-end c =

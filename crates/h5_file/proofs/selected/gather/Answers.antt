@@ -2,9 +2,9 @@ use Rattle.std.proofs.Common.{◌≡◌, ◌+◌, ◌*◌, ◌++◌, ℤ, List, 
 use Rattle.std.specs.Int.{w128}
 use Rattle.std.proofs.lemmas.Int.{to_z-of_z}
 use Rattle.h5_model.specs.Format.Plain.{cells_bytes}
-use Rattle.h5_file.specs.Pieces.{piece_values}
+use Rattle.h5_edit.specs.Pieces.{piece_values}
 use Rattle.h5_file.proofs.GatherLaws.{piece_more, place_more}
-use Rattle.h5_c.proofs.gather.gather.Goals as goal
+use Rattle.h5_file.proofs.selected.gather.Goals as goal
 
 pub loop-piece-preserved : goal.loop-piece-preserved
 loop-piece-preserved c =

@@ -1,5 +1,4 @@
-//! The selected cells of an array, gathered into a caller's buffer as the bytes in which they are stored. `h5_file` keeps its own
-//! call of this to itself.
+//! The selected cells of an array, gathered into a caller's bytes as they are stored.
 
 ghost use Rattle.std.specs.Prelude.{◌≡◌, ℕ, ℤ, ◌+◌, ◌*◌, ◌<◌, ◌≤◌, ◌++◌, true, length, replicate, take};
 ghost use Rattle.h5_model.specs.Format.Fixed.{Fixed as FixedType, bytes_of, fits};
@@ -7,16 +6,16 @@ ghost use Rattle.h5_model.specs.Format.Plain.{cells_bytes};
 ghost use Rattle.h5_model.specs.Scripts.Answers.{stored_values};
 ghost use Rattle.h5_model.specs.Views.Selection.{Within};
 ghost use Rattle.h5_model.specs.Views.Shown.{selected_values};
-ghost use Rattle.h5_file.specs.Pieces.{IsPiece, piece_values};
+ghost use Rattle.h5_edit.specs.Pieces.{IsPiece, piece_values};
 
-use h5_file::{Fixed, Piece, Slab, StoredArray};
-use h5_types::encode;
+use h5_edit::{Piece, Slab, StoredArray, encode};
+use h5_model::Fixed;
 
 /// Writes the selected cells of an array, in row-major order and each as the bytes of its type. It takes no memory.
 ///
 /// That the selection is within the array's sizes, of as many dimensions, and that there is room for just its cells, are the caller's
 /// conditions.
-pub(crate) fn gather(array: &StoredArray<'_>, slab: &Slab, room: &mut [u8])
+pub fn gather(array: &StoredArray<'_>, slab: &Slab, room: &mut [u8])
     requires rank { length slab.now ≡ length array.now.sizes }
     requires within { Within array.now.sizes slab.now }
     requires room { length room.old

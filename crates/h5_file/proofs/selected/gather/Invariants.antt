@@ -1,7 +1,7 @@
 use Rattle.std.proofs.Common.{◌≡◌, ◌*◌, ◌++◌, ℤ, List, length, take}
 use Rattle.h5_model.specs.Format.Plain.{cells_bytes}
 use Rattle.h5_model.specs.Views.Shown.{selected_values}
-use Rattle.h5_c.proofs.gather.gather.Given as goal
+use Rattle.h5_file.proofs.selected.gather.Given as goal
 
 -- the first cells are written, and the others are left
 abbrev pub invariant-loop-piece : goal.invariant-loop-piece
