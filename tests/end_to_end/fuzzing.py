@@ -3,7 +3,8 @@
 A case is drawn from its seed and the files that are given. Its image is one of these files as it is, in another layout, or changed in
 a few bytes; where no file is given, it is drawn too. The library opens or refuses it as the reference does. Then lines run on it, and
 each is answered as the reference answers it. An edit goes as a line, or by its own call. The cells of each view that is opened are
-read as well. An edit in place is judged byte by byte. At the end the image opens again, and holds the reference's tree.
+read as well. An edit in place is judged byte by byte. At the end calls ask what stands at paths, and read arrays. The image opens
+again, and holds the reference's tree.
 """
 
 import random
@@ -14,10 +15,10 @@ from .drawn_scripts import ARRAYS, GROUPS, VIEWS, WRITES, LineMaker
 
 # pylint: disable=wrong-import-order
 from h5oracle.foreign import random_superblock, write_foreign  # noqa: E402
-from h5oracle.model import object_at  # noqa: E402
+from h5oracle.model import Hyper, object_at, selected  # noqa: E402
 from h5oracle.plain import write_plain  # noqa: E402
 from h5oracle.script import BadLine, edit_of, hyper_of, unescape  # noqa: E402
-from h5oracle.values import OpenFault, product  # noqa: E402
+from h5oracle.values import OpenFault  # noqa: E402
 from mutate import base_image, mutant  # noqa: E402
 from randscript import MOODS  # noqa: E402
 
@@ -25,6 +26,8 @@ KINDS = [GROUPS, ARRAYS, WRITES, VIEWS, VIEWS, *MOODS.values()]
 MOST_LINES = 40
 # A larger file is taken as it is or changed, but not laid out anew; and its edits in place are judged by their trees alone.
 LARGE = 200000
+# So many paths are asked for at the end, and an array of so many cells is read.
+MOST_PATHS, MOST_CELLS = 12, 4096
 # So much of an answer is shown.
 SHOWN = 200
 
@@ -49,9 +52,10 @@ def drawn_image(seed, rng, images):
     return mutant(image, rng) if rng.random() < 0.5 else image
 
 
-def short(text):
-    """A text as it is shown."""
-    return repr(text) if len(text) <= SHOWN else f"{text[:SHOWN]!r} and {len(text) - SHOWN} bytes more"
+def short(found):
+    """What was found as it is shown."""
+    text = repr(found)
+    return text if len(text) <= SHOWN else f"{text[:SHOWN]} and {len(text) - SHOWN} more"
 
 
 def differ(what, ours, theirs):
@@ -62,6 +66,25 @@ def differ(what, ours, theirs):
 def status_of(answer):
     """The status of an edit by the call of its own, by its answer as a line."""
     return int(answer.split()[1]) if answer.startswith(b"refused ") else 0
+
+
+def asked_of(tree, link):
+    """What stands at a link: its kind; of a soft link the text; of a group the names of its links, each with a zero byte behind it; of an
+    array its form. Of the last two the attributes with their types, sizes and stored bytes.
+    """
+    if link[0] == "soft":
+        return "soft link", link[1]
+    thing = tree.objects[link[1]]
+    attributes = [(name, attr.fixed, attr.dims, b"".join(map(attr.fixed.encode, attr.values))) for name, attr in sorted(thing.attrs.items())]
+    if tree.is_group(link[1]):
+        return "group", b"".join(name + b"\0" for name in sorted(thing.links)), attributes
+    return "array", thing.fixed, thing.dims, thing.maxima, thing.store, thing.chunk and tuple(thing.chunk), thing.fill, attributes
+
+
+def whole(thing):
+    """The selection of all cells of an array."""
+    ones = (1,) * len(thing.dims)
+    return Hyper((0,) * len(thing.dims), ones, thing.dims, ones)
 
 
 class Case:
@@ -131,8 +154,26 @@ class Case:
             return "; ".join(today.wrong_with(before, after, line)) or None
         return None
 
+    def on_calls(self, session):
+        """What is told otherwise of some paths, or read otherwise of the arrays there."""
+        tree = self.maker.session.tree
+        links = list(tree.walk())
+        for names, link in self.rng.sample(links, min(MOST_PATHS, len(links))):
+            path = b"/" + b"/".join(names)
+            found = differ("what is told", session.asked(path), asked_of(tree, link))
+            if not found and link[0] == "object" and not tree.is_group(link[1]) and tree.objects[link[1]].cells() <= MOST_CELLS:
+                thing = tree.objects[link[1]]
+                cells = b"".join(thing.fixed.encode(thing.cell(index)) for index in selected(whole(thing)))
+                found = differ("what is read", session.read(path, whole(thing), len(cells)), (0, cells))
+            if found:
+                return f"at {short(path)} behind all lines: {found}"
+        return None
+
     def at_the_end(self, session, library):
-        """What is wrong with the image behind all lines."""
+        """What is wrong behind all lines."""
+        wrong = self.on_calls(session)
+        if wrong:
+            return wrong
         image = session.image()
         reading, refusal = today.opened(image)
         if refusal:

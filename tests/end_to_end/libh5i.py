@@ -6,8 +6,9 @@ from . import today  # noqa: F401  (makes the reference's modules known)
 
 # pylint: disable=wrong-import-order
 from h5oracle import model  # noqa: E402
-from h5oracle.values import Fixed  # noqa: E402
+from h5oracle.values import Fixed, product  # noqa: E402
 
+GROUP, SOFT_LINK = 1, 3
 STORES = {"compact": 1, "contiguous": 2, "chunked": 3}
 UNLIMITED = (1 << 64) - 1
 # The statuses of bytes that are no file begin behind this one.
@@ -24,6 +25,21 @@ class Type(c.Structure):
     """A type of whole numbers."""
 
     _fields_ = [("size", c.c_uint8), ("is_signed", c.c_bool), ("is_big", c.c_bool)]
+
+
+class About(c.Structure):
+    """What stands at a path, or an attribute."""
+
+    _fields_ = [("kind", c.c_uint32), ("storage", c.c_uint32), ("rank", c.c_uint32), ("type", Type), ("fill", c.c_uint8 * 8),
+                ("dims", c.c_uint64 * 32), ("maxima", c.c_uint64 * 32), ("chunks", c.c_uint64 * 32)]
+
+    def sizes(self, name):
+        """One of its lists."""
+        return tuple(getattr(self, name)[:self.rank])
+
+    def fixed(self):
+        """Its type as the reference has it."""
+        return Fixed(self.type.size, self.type.is_signed, self.type.is_big)
 
 
 def type_of(fixed):
@@ -95,6 +111,38 @@ class Opened:
         """The status of a read of selected cells into so many bytes, and the bytes."""
         room = c.create_string_buffer(length)
         return self.call("read", *given(path), *slab(hyper), room, c.c_size_t(length)), room.raw
+
+    def told(self, name, *words):
+        """The text that a call leaves, or its status."""
+        status = self.call(name, *words)
+        return self.taken("text") if status == 0 else status
+
+    def asked(self, path):
+        """What stands at a path, by each call that asks: in the form of `fuzzing.asked_of`. A status where one is refused."""
+        about = About()
+        status = self.call("stat", *given(path), c.byref(about))
+        if status:
+            return status
+        if about.kind == SOFT_LINK:
+            return "soft link", self.told("link_text", *given(path))
+        attributes = self.told("attributes", *given(path))
+        if isinstance(attributes, bytes):
+            attributes = [self.attribute(path, name) for name in attributes.split(b"\0")[:-1]]
+        if about.kind == GROUP:
+            return "group", self.told("list", *given(path)), attributes
+        store = next(name for name, number in STORES.items() if number == about.storage)
+        maxima = tuple(None if most == UNLIMITED else most for most in about.sizes("maxima"))
+        chunk = about.sizes("chunks") if store == "chunked" else None
+        fixed = about.fixed()
+        return "array", fixed, about.sizes("dims"), maxima, store, chunk, fixed.decode(bytes(about.fill)[:fixed.size]), attributes
+
+    def attribute(self, path, name):
+        """An attribute: its name, type, sizes and stored bytes, or a status."""
+        about = About()
+        status = self.call("attribute", *given(path), *given(name), c.byref(about))
+        room = c.create_string_buffer(product(about.sizes("dims")) * about.type.size)
+        status = status or self.call("attribute_values", *given(path), *given(name), room, c.c_size_t(len(room)))
+        return status or (name, about.fixed(), about.sizes("dims"), room.raw)
 
     def edit(self, edit):
         """The status of an edit by a call of its own, or `None` where no call can be given its values."""

@@ -12,11 +12,11 @@ from . import fuzz_command, fuzzing, today
 from .support import InFolder, empty_image
 
 # pylint: disable=wrong-import-order
-from h5oracle.model import view_refusal  # noqa: E402
+from h5oracle.model import look, names_of, view_refusal  # noqa: E402
 from h5oracle.session import Edited  # noqa: E402
 from mutate import mutant, patch  # noqa: E402
 
-CASES = 24
+CASES = 16
 # Lines of other kinds are edits in place, which the stand-in does not make.
 KINDS = [dict(group=10, soft=5, link=5, unlink=3, dataset=10, resize=5, dump=5, ls=3, note=1)]
 
@@ -39,6 +39,10 @@ class StandIn:
     def status(self, edit, status):
         """What is answered to an edit by its call."""
         return status
+
+    def told(self, found):
+        """What is told of a path."""
+        return found
 
 
 class StandInSession:
@@ -70,6 +74,10 @@ class StandInSession:
         self.session.next_view -= 1
         return 0, b"".join(map(fixed.encode, cells))
 
+    def asked(self, path):
+        """What is told of a path."""
+        return self.library.told(fuzzing.asked_of(self.session.tree, look(self.session.tree, names_of(path))[1]))
+
     def image(self):
         """The bytes of the file."""
         return self.held
@@ -90,6 +98,13 @@ class OtherStatuses(StandIn):
 
     def status(self, edit, status):
         return 0
+
+
+class OtherKinds(StandIn):
+    """It tells each group as a soft link."""
+
+    def told(self, found):
+        return ("soft link", b"x") if found[0] == "group" else found
 
 
 class OtherCauses(StandIn):
@@ -138,6 +153,9 @@ class Fuzz(InFolder):
 
     def test_another_status(self):
         self.assert_told(OtherStatuses(), r"its call: the library has b'0', the reference b'\d+'")
+
+    def test_what_is_told_otherwise(self):
+        self.assert_told(OtherKinds(), r"^at b'/.*' behind all lines: what is told: the library has \('soft link', b'x'\), the reference \('group'")
 
     def test_mutants_of_files(self):
         self.written("a.h5", empty_image())
