@@ -4,7 +4,8 @@
  *
  * RUNS is 5 and PHASES are all, as 'bcd', where they are left out. PARTS divides the counts of the phases a, e, f and g. Both keep every file in memory:
  * libhdf5 by its core driver, without a file behind it. Its low bound is the earliest, so the files are of the same form. What is read is
- * compared with what is to be read, by both. */
+ * compared with what is to be read, by both. The floor of a phase is the time for copying as many bytes as it has to move into fresh
+ * memory, in the same run: those of the cells, or of the image that is opened. */
 #include <hdf5.h>
 
 #include "h5i.h"
@@ -13,6 +14,7 @@
 #include <stdio.h>
 #include <stdlib.h>
 #include <string.h>
+#include <sys/mman.h>
 #include <time.h>
 
 enum { MOST_RUNS = 99, SIDE = 4096, CHUNK = 64, STRIDED = 1365 * 818 * 2, CELLS = 1000000, SLAB = 16 };
@@ -277,6 +279,61 @@ static double d_ours(void) {
     return time;
 }
 
+/* 64 MB opened and read: the image of a file that libhdf5 has written. */
+static uint8_t *big_image;
+static size_t big_length;
+
+static uint8_t *image_of(hid_t file, size_t *length) {
+    ssize_t found = H5Fget_file_image(file, NULL, 0);
+    H5(found);
+    uint8_t *image = malloc((size_t)found);
+    TRUE(image != NULL);
+    H5(H5Fget_file_image(file, image, (size_t)found));
+    *length = (size_t)found;
+    return image;
+}
+
+static void make_big_image(void) {
+    hid_t file = new_file("big"), array = big_array(file);
+    write_theirs(file, array);
+    H5(H5Dclose(array));
+    big_image = image_of(file, &big_length);
+    H5(H5Fclose(file));
+}
+
+static hid_t file_of(uint8_t *image, size_t length, unsigned how_opened) {
+    hid_t how = H5Pcreate(H5P_FILE_ACCESS);
+    H5(H5Pset_fapl_core(how, 1 << 20, 0));
+    H5(H5Pset_file_image(how, image, length));
+    hid_t file = H5Fopen("opened", how_opened, how);
+    H5(file), H5(H5Pclose(how));
+    return file;
+}
+
+static double opened_theirs(void) {
+    memset(room, 0, (size_t)SIDE * SIDE * 4);
+    double from = now();
+    hid_t file = file_of(big_image, big_length, H5F_ACC_RDONLY), array = H5Dopen2(file, "d", H5P_DEFAULT);
+    H5(H5Dread(array, H5T_NATIVE_INT32, H5S_ALL, H5S_ALL, H5P_DEFAULT, room));
+    double time = now() - from;
+    H5(H5Dclose(array)), H5(H5Fclose(file));
+    are_whole();
+    return time;
+}
+
+static double opened_ours(void) {
+    memset(room, 0, (size_t)SIDE * SIDE * 4);
+    h5i_session session = {0};
+    uint64_t place;
+    double from = now();
+    OURS(h5i_open(&session, big_image, big_length, &place));
+    OURS(h5i_read(&session, TEXT("/d"), SLAB_OF(none2, one2, all2, one2), (uint8_t *)room, (size_t)SIDE * SIDE * 4));
+    double time = now() - from;
+    h5i_close(&session);
+    are_whole();
+    return time;
+}
+
 /* ---- e: hard links, and files that are opened and listed */
 
 static int scattered(int k, int count) { return (int)(k * 7919ll % count); }
@@ -346,12 +403,7 @@ static void make_images(void) {
             H5(H5Sclose(space)), H5(H5Gclose(group));
             H5(H5Fflush(file, H5F_SCOPE_GLOBAL));
         }
-        ssize_t length = H5Fget_file_image(file, NULL, 0);
-        H5(length);
-        lengths[which] = (size_t)length;
-        images[which] = malloc(lengths[which]);
-        TRUE(images[which] != NULL);
-        H5(H5Fget_file_image(file, images[which], lengths[which]));
+        images[which] = image_of(file, &lengths[which]);
         H5(H5Fclose(file));
     }
 }
@@ -374,15 +426,11 @@ static herr_t seen_with_type(hid_t group, const char *name, const H5L_info_t *in
 static double list_theirs(int which) {
     size_t sum = 0;
     double from = now();
-    hid_t how = H5Pcreate(H5P_FILE_ACCESS);
-    H5(H5Pset_fapl_core(how, 1 << 20, 0));
-    H5(H5Pset_file_image(how, images[which], lengths[which]));
-    hid_t file = H5Fopen("listed", H5F_ACC_RDONLY, how);
-    H5(file);
+    hid_t file = file_of(images[which], lengths[which], H5F_ACC_RDONLY);
     H5(H5Literate_by_name(file, "g", H5_INDEX_NAME, H5_ITER_INC, NULL, which ? seen_with_type : seen, &sum, H5P_DEFAULT));
     double time = now() - from;
     TRUE(sum == (which ? 110000 : 60000));
-    H5(H5Fclose(file)), H5(H5Pclose(how));
+    H5(H5Fclose(file));
     return time;
 }
 
@@ -492,17 +540,8 @@ static double sized_ours(void) {
 
 /* ---- g: every second one of 10000 links, and of 10000 datasets, is unlinked */
 
-static hid_t opened_theirs(int which) {
-    hid_t how = H5Pcreate(H5P_FILE_ACCESS);
-    H5(H5Pset_fapl_core(how, 1 << 20, 0));
-    H5(H5Pset_file_image(how, images[which], lengths[which]));
-    hid_t file = H5Fopen("unlinked", H5F_ACC_RDWR, how);
-    H5(file), H5(H5Pclose(how));
-    return file;
-}
-
 static double unlink_theirs(int which) {
-    hid_t file = opened_theirs(which), group = H5Gopen2(file, "g", H5P_DEFAULT);
+    hid_t file = file_of(images[which], lengths[which], H5F_ACC_RDWR), group = H5Gopen2(file, "g", H5P_DEFAULT);
     char name[16];
     double from = now();
     for (int k = 0; k < 5000 / part; k++) {
@@ -575,27 +614,81 @@ static double h_ours(void) {
     return time;
 }
 
+/* ---- i: attributes */
+
+static double i_theirs(void) {
+    hid_t file = new_file("i"), group = H5Gcreate2(file, "g", H5P_DEFAULT, H5P_DEFAULT, H5P_DEFAULT), space = H5Screate(H5S_SCALAR);
+    char name[16];
+    double from = now();
+    for (int32_t k = 0; k < 20000; k++) {
+        snprintf(name, sizeof name, "a%d", k % 50);
+        if (k >= 50)
+            H5(H5Adelete(group, name));
+        hid_t attribute = H5Acreate2(group, name, H5T_STD_I32LE, space, H5P_DEFAULT, H5P_DEFAULT);
+        H5(H5Awrite(attribute, H5T_NATIVE_INT32, &k));
+        H5(H5Aclose(attribute));
+    }
+    H5(H5Fflush(file, H5F_SCOPE_GLOBAL));
+    double time = now() - from;
+    H5(H5Sclose(space)), H5(H5Gclose(group)), H5(H5Fclose(file));
+    return time;
+}
+
+static double i_ours(void) {
+    h5i_session session = new_session();
+    OURS(h5i_create_group(&session, TEXT("/g")));
+    const uint64_t no_size[1] = {0};
+    char name[16];
+    double from = now();
+    for (int32_t k = 0; k < 20000; k++) {
+        snprintf(name, sizeof name, "a%d", k % 50);
+        OURS(h5i_set_attribute(&session, TEXT("/g"), TEXT(name), int32, no_size, 0, (const uint8_t *)&k, sizeof k));
+    }
+    double time = now() - from;
+    h5i_close(&session);
+    return time;
+}
+
+/* ---- the floor */
+
+static double copied(const void *bytes, size_t length) {
+    double from = now();
+    void *fresh = mmap(NULL, length, PROT_READ | PROT_WRITE, MAP_PRIVATE | MAP_ANONYMOUS, -1, 0);
+    TRUE(fresh != MAP_FAILED);
+    memcpy(fresh, bytes, length);
+    double time = now() - from;
+    TRUE(memcmp(fresh, bytes, length) == 0);
+    munmap(fresh, length);
+    return time;
+}
+
 /* ---- the table */
+
+enum { BIG = SIDE * SIDE * 4 };
 
 static const struct {
     char letter;
     bool is_divided; /* its count is divided by PARTS */
     const char *name;
     double (*theirs)(void), (*ours)(void);
+    size_t bytes;         /* how many it has to move; none where that says nothing */
+    const size_t *length; /* the same, where it is known later */
 } phases[] = {
-    {'a', true, "10000 datasets created and written", a_theirs, a_ours},
-    {'b', false, "64 MB written, in chunks", b_theirs, b_ours},
-    {'c', false, "2233140 strided cells read", strided_theirs, strided_ours},
-    {'c', false, "64 MB read, in chunks", whole_theirs, whole_ours},
-    {'d', false, "100000 single cells written", d_theirs, d_ours},
-    {'e', true, "10000 hard links made", e_theirs, e_ours},
-    {'e', false, "10000 links opened and listed", links_listed_theirs, links_listed_ours},
-    {'e', false, "10000 datasets listed with types", arrays_listed_theirs, arrays_listed_ours},
-    {'f', true, "2000 times grown, written, shrunk", written_theirs, written_ours},
-    {'f', true, "20000 times resized", sized_theirs, sized_ours},
-    {'g', true, "5000 of 10000 links unlinked", links_gone_theirs, links_gone_ours},
-    {'g', true, "5000 of 10000 datasets unlinked", arrays_gone_theirs, arrays_gone_ours},
-    {'h', false, "1000000 reads of 16 cells", h_theirs, h_ours},
+    {'a', true, "10000 datasets created and written", a_theirs, a_ours, 0, NULL},
+    {'b', false, "64 MB written, in chunks", b_theirs, b_ours, BIG, NULL},
+    {'c', false, "2233140 strided cells read", strided_theirs, strided_ours, STRIDED * 4, NULL},
+    {'c', false, "64 MB read, in chunks", whole_theirs, whole_ours, BIG, NULL},
+    {'c', false, "64 MB opened and read", opened_theirs, opened_ours, BIG, NULL},
+    {'d', false, "100000 single cells written", d_theirs, d_ours, 0, NULL},
+    {'e', true, "10000 hard links made", e_theirs, e_ours, 0, NULL},
+    {'e', false, "10000 links opened and listed", links_listed_theirs, links_listed_ours, 0, &lengths[0]},
+    {'e', false, "10000 datasets listed with types", arrays_listed_theirs, arrays_listed_ours, 0, &lengths[1]},
+    {'f', true, "2000 times grown, written, shrunk", written_theirs, written_ours, 0, NULL},
+    {'f', true, "20000 times resized", sized_theirs, sized_ours, 0, NULL},
+    {'g', true, "5000 of 10000 links unlinked", links_gone_theirs, links_gone_ours, 0, NULL},
+    {'g', true, "5000 of 10000 datasets unlinked", arrays_gone_theirs, arrays_gone_ours, 0, NULL},
+    {'h', false, "1000000 reads of 16 cells", h_theirs, h_ours, 0, NULL},
+    {'i', false, "20000 times an attribute set, of 50", i_theirs, i_ours, 0, NULL},
 };
 
 static int by_size(const void *a, const void *b) {
@@ -605,7 +698,7 @@ static int by_size(const void *a, const void *b) {
 
 int main(int count, char **words) {
     int runs = count > 1 ? atoi(words[1]) : 5;
-    const char *wanted = count > 2 ? words[2] : "abcdefgh";
+    const char *wanted = count > 2 ? words[2] : "abcdefghi";
     part = count > 3 ? atoi(words[3]) : 1;
     if (runs < 1 || runs > MOST_RUNS || part < 1) {
         fprintf(stderr, "usage: peers [RUNS [PHASES [PARTS]]]\n");
@@ -618,25 +711,34 @@ int main(int count, char **words) {
     for (int32_t k = 0; k < SIDE * SIDE; k++)
         cells[k] = k;
     make_images();
+    make_big_image();
 
     unsigned version[3];
     H5(H5get_libversion(&version[0], &version[1], &version[2]));
-    printf("| Phase | libhdf5 %u.%u.%u | libh5i | libhdf5 / libh5i |\n|---|---|---|---|\n", version[0], version[1], version[2]);
+    printf("| Phase | libhdf5 %u.%u.%u | libh5i | libhdf5 / libh5i | floor | libh5i / floor |\n|---|---|---|---|---|---|\n", version[0], version[1],
+           version[2]);
     for (size_t k = 0; k < sizeof phases / sizeof *phases; k++) {
         if (strchr(wanted, phases[k].letter) == NULL)
             continue;
-        double theirs[MOST_RUNS], ours[MOST_RUNS];
+        double theirs[MOST_RUNS], ours[MOST_RUNS], floors[MOST_RUNS] = {0};
         for (int run = 0; run < runs; run++) {
             theirs[run] = phases[k].theirs();
             ours[run] = phases[k].ours();
+            size_t bytes = phases[k].length != NULL ? *phases[k].length : phases[k].bytes;
+            if (bytes > 0)
+                floors[run] = copied(big_image, bytes);
         }
         qsort(theirs, (size_t)runs, sizeof *theirs, by_size), qsort(ours, (size_t)runs, sizeof *ours, by_size);
+        qsort(floors, (size_t)runs, sizeof *floors, by_size);
         double middle = theirs[runs / 2], own = ours[runs / 2];
         char less[32] = "";
         if (phases[k].is_divided && part > 1)
             snprintf(less, sizeof less, ", one in %d of these", part);
-        printf("| %c: %s%s | %.4f (%.4f to %.4f) | %.4f (%.4f to %.4f) | %.2f |\n", phases[k].letter, phases[k].name, less, middle,
-               theirs[0], theirs[runs - 1], own, ours[0], ours[runs - 1], middle / own);
+        char floor[64] = " | ";
+        if (floors[runs / 2] > 0)
+            snprintf(floor, sizeof floor, "%.4f | %.2f", floors[runs / 2], own / floors[runs / 2]);
+        printf("| %c: %s%s | %.4f (%.4f to %.4f) | %.4f (%.4f to %.4f) | %.2f | %s |\n", phases[k].letter, phases[k].name, less, middle,
+               theirs[0], theirs[runs - 1], own, ours[0], ours[runs - 1], middle / own, floor);
         fflush(stdout);
     }
     return 0;

@@ -1,10 +1,12 @@
 """Times the same work by h5py and by the module h5i, in one process, in turn, and prints the medians with their ratio.
 
-    bench/peers/run python [RUNS [PHASES]]
+    bench/peers/run python [RUNS [PHASES [PARTS]]]
 
-RUNS is 5 and PHASES are all, as 'bcd', where they are left out. Both keep every file in memory; what is read is compared."""
+RUNS is 5 and PHASES are all, as 'bcd', where they are left out. PARTS divides the counts of the phases a, e, f and g. Both keep every
+file in memory; what is read is compared. The floor of a phase is the time for copying its cells into fresh memory, in the same run."""
 
 import io
+import mmap
 import statistics
 import sys
 import time
@@ -23,10 +25,7 @@ def theirs():
 
 
 def ours():
-    file = h5i.File.__new__(h5i.File)
-    file._begin(None, "w")
-    h5i._library.check(h5i._library.library.h5i_create(file._session))
-    return file
+    return h5i.File(None, "w")
 
 
 def big(file, is_written=True):
@@ -41,13 +40,40 @@ def places(count, most):
     return np.random.RandomState(1).randint(0, most, (count, 2)).tolist()
 
 
+def image_of(fill):
+    """The image of a file that h5py has made and this fills."""
+    made = io.BytesIO()
+    with h5py.File(made, "w", libver=("earliest", "v108")) as file:
+        fill(file)
+    return made.getvalue()
+
+
+def opened(which, image):
+    """A file of an image."""
+    return h5py.File(io.BytesIO(image), "r+") if which is theirs else h5i.File.frombytes(image)
+
+
+def arrays(file, count=10000):
+    group = file.create_group("g")
+    for number in range(count):
+        group.create_dataset("d%05d" % number, data=np.arange(10, dtype="<i4"))
+    return group
+
+
 # Each phase gives the work before the clock starts, whose answer the work behind it takes.
-def write_whole(file):
+def create(file, parts):
+    def work():
+        assert len(arrays(file, 10000 // parts)) == 10000 // parts
+
+    return work
+
+
+def write_whole(file, _):
     made = big(file, False)
     return lambda: made.__setitem__(Ellipsis, CELLS)
 
 
-def read_whole(file):
+def read_whole(file, _):
     made = big(file)
 
     def work():
@@ -56,7 +82,7 @@ def read_whole(file):
     return work
 
 
-def read_strided(file):
+def read_strided(file, _):
     made = big(file)
 
     def work():
@@ -65,7 +91,7 @@ def read_strided(file):
     return work
 
 
-def write_cells(file):
+def write_cells(file, _):
     made, at = big(file), places(10000, SIDE)
 
     def work():
@@ -75,7 +101,40 @@ def write_cells(file):
     return work
 
 
-def read_small(file):
+def link(file, parts):
+    made, group = file.create_dataset("d", (), "<i4"), file.create_group("g")
+
+    def work():
+        for number in range(10000 // parts):
+            group["n%05d" % (number * 7919 % 10000)] = made
+
+    return work
+
+
+def grow(file, parts):
+    made = file.create_dataset("d", (100,), "<i4", maxshape=(None,), chunks=(10,))
+    values = np.arange(1000, dtype="<i4")
+
+    def work():
+        for _ in range(2000 // parts):
+            made.resize((1000,))
+            made[...] = values
+            made.resize((5,))
+
+    return work
+
+
+def resize(file, parts):
+    made = file.create_dataset("d", (100,), "<i4", maxshape=(None,), chunks=(10,))
+
+    def work():
+        for turn in range(2000 // parts):
+            made.resize((5 if turn % 2 else 1000,))
+
+    return work
+
+
+def read_small(file, _):
     made = file.create_dataset("d", data=np.arange(1000000, dtype="<i4"))
     at = [place for place, _ in places(20000, 1000000 - 16)]
 
@@ -86,17 +145,7 @@ def read_small(file):
     return work
 
 
-def resize(file):
-    made = file.create_dataset("d", (100,), "<i4", maxshape=(None,), chunks=(10,))
-
-    def work():
-        for turn in range(2000):
-            made.resize((5 if turn % 2 else 1000,))
-
-    return work
-
-
-def attributes(file):
+def attributes(file, _):
     group = file.create_group("g")
 
     def work():
@@ -107,58 +156,94 @@ def attributes(file):
     return work
 
 
-def listed(which):
-    made = io.BytesIO()
-    with h5py.File(made, "w", libver=("earliest", "v108")) as file:
-        group = file.create_group("g")
-        for number in range(10000):
-            group.create_dataset("d%05d" % number, data=np.arange(10, dtype="<i4"))
-    image = made.getvalue()
-
+# These begin with an image, which each opens for itself.
+def read_opened(which, image, _):
     def work():
-        with h5py.File(io.BytesIO(image), "r") if which is theirs else h5i.File.frombytes(image) as file:
+        with opened(which, image) as file:
+            assert file["d"][...][-1, -1] == SIDE * SIDE - 1
+
+    return work
+
+
+def listed(which, image, _):
+    def work():
+        with opened(which, image) as file:
             assert sum(thing.shape[0] for thing in file["g"].values()) == 100000
 
     return work
 
 
+def unlink(which, image, parts):
+    file = opened(which, image)
+
+    def work():
+        for number in range(5000 // parts):
+            del file["g/d%05d" % (number * 7919 % 5000 * 2)]
+
+    return work
+
+
+BIG = CELLS.nbytes
+# Its letter, its name, whether PARTS divides its count, the phase, what its image is made by, and how many bytes it has to move.
 PHASES = [
-    ("b", "64 MB written, in chunks", write_whole),
-    ("c", "a fifteenth of its cells read, strided", read_strided),
-    ("c", "64 MB read, in chunks", read_whole),
-    ("d", "10000 single cells written", write_cells),
-    ("e", "10000 datasets opened and listed with their shapes", None),
-    ("f", "2000 times resized", resize),
-    ("h", "20000 reads of 16 cells", read_small),
-    ("i", "2000 times an attribute set", attributes),
+    ("a", "10000 datasets created and written", True, create, None, 0),
+    ("b", "64 MB written, in chunks", False, write_whole, None, BIG),
+    ("c", "a fifteenth of its cells read, strided", False, read_strided, None, CELLS[STRIDED].nbytes),
+    ("c", "64 MB read, in chunks", False, read_whole, None, BIG),
+    ("c", "64 MB opened and read", False, read_opened, big, BIG),
+    ("d", "10000 single cells written", False, write_cells, None, 0),
+    ("e", "10000 hard links made", True, link, None, 0),
+    ("e", "10000 datasets opened and listed with their shapes", False, listed, arrays, 0),
+    ("f", "2000 times grown, written, shrunk", True, grow, None, 0),
+    ("f", "2000 times resized", True, resize, None, 0),
+    ("g", "5000 of 10000 datasets unlinked", True, unlink, arrays, 0),
+    ("h", "20000 reads of 16 cells", False, read_small, None, 0),
+    ("i", "2000 times an attribute set", False, attributes, None, 0),
 ]
 
 
-def timed(library, phase):
-    """How long the work of a phase takes."""
-    file = library()
-    work = phase(file) if phase else listed(library)
+def seconds(work):
+    """How long a work takes."""
     start = time.perf_counter()
     work()
-    spent = time.perf_counter() - start
+    return time.perf_counter() - start
+
+
+def timed(library, phase, image, parts):
+    """How long the work of a phase takes."""
+    if image is not None:
+        return seconds(phase(library, image, parts))
+    file = library()
+    spent = seconds(phase(file, parts))
     file.close()
     return spent
 
 
+def told(times):
+    """The median of times, the least and the greatest."""
+    return f"{statistics.median(times):.4f} ({min(times):.4f} to {max(times):.4f})"
+
+
 def main():
     runs = int(sys.argv[1]) if len(sys.argv) > 1 else 5
-    wanted = sys.argv[2] if len(sys.argv) > 2 else "bcdefhi"
-    print(f"| Phase | h5py {h5py.version.version} | h5i | h5py / h5i |\n|---|---|---|---|")
-    for letter, name, phase in PHASES:
+    wanted = sys.argv[2] if len(sys.argv) > 2 else "abcdefghi"
+    parts = int(sys.argv[3]) if len(sys.argv) > 3 else 1
+    print(f"| Phase | h5py {h5py.version.version} | h5i | h5py / h5i | floor | h5i / floor |\n|---|---|---|---|---|---|")
+    for letter, name, is_divided, phase, fill, size in PHASES:
         if letter not in wanted:
             continue
+        image = image_of(fill) if fill else None
         times = {theirs: [], ours: []}
+        floors = []
         for _ in range(runs):
             for library in (theirs, ours):
-                times[library].append(timed(library, phase))
-        cells = [f"{statistics.median(t):.4f} ({min(t):.4f} to {max(t):.4f})" for t in times.values()]
-        ratio = statistics.median(times[theirs]) / statistics.median(times[ours])
-        print(f"| {letter}: {name} | {cells[0]} | {cells[1]} | {ratio:.2f} |", flush=True)
+                times[library].append(timed(library, phase, image, parts))
+            if size:
+                floors.append(seconds(lambda: np.copyto(np.frombuffer(mmap.mmap(-1, size), np.uint8), CELLS.view(np.uint8).reshape(-1)[:size])))
+        median, floor = {library: statistics.median(spent) for library, spent in times.items()}, statistics.median(floors or [0])
+        less = f", one in {parts} of these" if is_divided and parts > 1 else ""
+        low = f"{floor:.4f} | {median[ours] / floor:.2f}" if size else " | "
+        print(f"| {letter}: {name}{less} | {told(times[theirs])} | {told(times[ours])} | {median[theirs] / median[ours]:.2f} | {low} |", flush=True)
 
 
 if __name__ == "__main__":

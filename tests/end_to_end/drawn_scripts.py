@@ -58,6 +58,8 @@ class LineMaker(Maker):
         self.kinds, self.image = kinds, image
         # The image was written anew, and attributes were set or removed in place since.
         self.anew = self.set = False
+        # The last line was an edit that was made in place.
+        self.is_last_in_place = False
 
     def line(self):
         """The next line, which is also run: the line, its answer, and whether an edit was accepted."""
@@ -67,6 +69,7 @@ class LineMaker(Maker):
         edit = self.accepted_edit(line)
         in_place = isinstance(edit, (SetAttr, RemoveAttr)) or isinstance(edit, Write) and self.is_in_place(edit)
         text, edited = today.answers(self.session, line + b"\n")
+        self.is_last_in_place = edited and in_place
         if edited and not isinstance(edit, Write):
             self.set = in_place
         if edited and not in_place:

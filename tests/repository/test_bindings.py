@@ -87,6 +87,14 @@ class Numbers(unittest.TestCase):
         words = re.search(r"^RULES = \((.*?)\)\.split", text_of("bindings", "python", "h5i", "_library.py"), re.S | re.M)[1]
         self.assertEqual(" ".join(re.findall(r'"(.*?)"', words)).split(), [name for name, _ in rules])
 
+    def test_rust_and_python_name_the_causes(self):
+        causes = re.findall(r"Cause::(\w+) => (\d+),", text_of("crates", "h5_model", "src", "open_fault.rt"))
+        self.assertEqual([int(number) for _, number in causes], list(range(1, len(causes) + 1)))
+        words = re.search(r"^CAUSES = \((.*?)\)\.split", text_of("bindings", "python", "h5i", "_library.py"), re.S | re.M)[1]
+        self.assertEqual(" ".join(re.findall(r'"(.*?)"', words)).split(), [name for name, _ in causes])
+        words = re.search(r"^const CAUSES: .*? = \[(.*?)\];", text_of("bindings", "rust", "src", "fault.rs"), re.S | re.M)[1]
+        self.assertEqual(re.findall(r'"(\w+)"', words), [name for name, _ in causes])
+
 
 if __name__ == "__main__":
     unittest.main()

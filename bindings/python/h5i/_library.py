@@ -8,7 +8,7 @@ from pathlib import Path
 
 import numpy as np
 
-__all__ = ["About", "Refused", "Type", "check", "library", "type_of", "dtype_of"]
+__all__ = ["About", "NotAFile", "Refused", "Type", "check", "library", "type_of", "dtype_of"]
 
 # The refusals of edits, paths and selections by their numbers, from 1 on, and the faults of views, from 201 on.
 RULES = (
@@ -16,6 +16,13 @@ RULES = (
     "GroupNotEmpty BadSpec RankMismatch StrideZero BlocksOverlap OutOfExtent NotChunked AboveMaximum ChunkTooLarge "
     "CompactTooLarge TooManyCells ValueCount ValueRange AttributeTooLarge NoSuchAttribute TooManyLinks TooManyObjects "
     "HeaderFull TreeTooDeep ImageFull NoMemory"
+).split()
+# The causes for which bytes are no file, by their numbers, from 301 on.
+CAUSES = (
+    "NotHdf5 Truncated SuperblockVersion FieldSizes BaseAddress Driver KRange HeaderVersion MessageSize MessageCount "
+    "SharedMessage UnknownMessage Filtered ExternalFiles NewStyleGroup MissingMessage DuplicateMessage DataspaceForm "
+    "DatatypeForm FillForm LayoutForm AttributeForm HeapForm HeapName NodeForm NameOrder KeyOrder Sibling ChunkKey LinkCount "
+    "GroupLinkedTwice Overlap TooDeep TooLarge BadName NoMemory"
 ).split()
 CALLS = {100: "WrongState", 101: "WrongRoom", 102: "NoSuchType", 103: "ScriptTooLong", 104: "NotASoftLink"}
 VIEWS = {201: "NoSuchView", 202: "Gone", 203: "OutsideNow", 204: "TooManyViews"}
@@ -58,6 +65,14 @@ class Refused(ValueError):
 
     def __init__(self, rule: str, what: str) -> None:
         super().__init__(f"{rule}: {what}" if what else rule)
+        self.rule = rule
+
+
+class NotAFile(OSError):
+    """Bytes are no file that the library reads, by the name of the cause (docs/FORMAT.md)."""
+
+    def __init__(self, rule: str, what: str) -> None:
+        super().__init__(f"{rule}: {what}")
         self.rule = rule
 
 
@@ -129,7 +144,7 @@ def check(status: int, what: bytes | str = "") -> None:
             raise NotFound(rule, text)
         raise Refused(rule, text)
     if status > CAUSE:
-        raise OSError(f"cause {status - CAUSE}: {text}")
+        raise NotAFile(CAUSES[status - CAUSE - 1], text)
     rule = CALLS.get(status) or VIEWS.get(status) or f"status {status}"
     if rule == "WrongState":
         raise ValueError("the file is closed")

@@ -43,6 +43,8 @@ class Selection:
                 shape.append(count)
                 self.lists[:3, axis] = (start if count else 0), step, count
             else:
+                if isinstance(part, (bool, np.bool_)) or not hasattr(part, "__index__"):
+                    raise TypeError(f"an index has integers, slices and '...', and not {part!r}")
                 place = operator.index(part)
                 if not -size <= place < size:
                     raise IndexError(f"{place} is outside an axis of {size}")

@@ -6,6 +6,7 @@
 import io
 import os
 import random
+import subprocess
 import sys
 import tempfile
 import unittest
@@ -30,10 +31,7 @@ TYPES = ["i1", "u1", "<i2", ">i2", "<u2", ">u2", "<i4", ">i4", "<u4", ">u4", "<i
 
 def in_memory():
     """A new file without a place."""
-    file = h5i.File.__new__(h5i.File)
-    file._begin(None, "w")
-    h5i._library.check(h5i._library.library.h5i_create(file._session))
-    return file
+    return h5i.File(None, "w")
 
 
 class Files(unittest.TestCase):
@@ -73,8 +71,9 @@ class Files(unittest.TestCase):
             self.assertEqual(list(file), ["g"])
 
     def test_bytes_that_are_no_file_are_refused_with_their_cause_and_place(self):
-        with self.assertRaisesRegex(OSError, "cause 1: at byte 0"):
+        with self.assertRaisesRegex(OSError, "NotHdf5: at byte 0") as caught:
             h5i.File.frombytes(b"nothing")
+        self.assertEqual(caught.exception.rule, "NotHdf5")
 
     def test_a_closed_file_says_so(self):
         file = in_memory()
@@ -87,6 +86,29 @@ class Files(unittest.TestCase):
     def test_scripts(self):
         with in_memory() as file:
             self.assertEqual(file.run("group /g\nunlink /h\n"), "ok 0\nrefused 6 NotFound\n")
+
+
+    def test_a_file_that_nobody_closes_is_written(self):
+        file = h5i.File(self.path, "w")
+        file.create_group("g")
+        del file
+        with h5i.File(self.path) as file:
+            self.assertEqual(list(file), ["g"])
+        path = os.path.join(self.folder.name, "f.h5")
+        lines = f"import h5i\nfile = h5i.File({path!r}, 'w')\nfile['d'] = [1, 2]\nview = file['d'].view[:]"
+        subprocess.run([sys.executable, "-c", lines], check=True, env=os.environ | {"PYTHONPATH": os.pathsep.join(sys.path)})
+        with h5i.File(path) as file:
+            self.assertEqual(file["d"][...].tolist(), [1, 2])
+
+    def test_a_link_of_the_system_stays(self):
+        real = os.path.join(self.folder.name, "real.h5")
+        h5i.File(real, "w").close()
+        os.symlink("real.h5", self.path)
+        with h5i.File(self.path, "r+") as file:
+            file.create_group("g")
+        self.assertTrue(os.path.islink(self.path))
+        with h5i.File(real) as file:
+            self.assertIn("g", file)
 
 
 class Arrays(unittest.TestCase):
@@ -155,8 +177,10 @@ class Arrays(unittest.TestCase):
         room = np.empty((2, 2), "<i4")
         made.read_direct(room, np.s_[::2, 1:3])
         np.testing.assert_array_equal(room, [[1, 2], [9, 10]])
-        for other in (np.empty((2, 3), "<i4"), np.empty((2, 2), ">i4"), np.empty((2, 2), "<i4", order="F")):
-            self.assertRaises(TypeError, made.read_direct, other, np.s_[::2, 1:3])
+        for other in (np.empty((2, 2), ">i8"), np.empty((2, 2), "<i4", order="F")):
+            made.read_direct(other, np.s_[::2, 1:3])
+            np.testing.assert_array_equal(other, room)
+        self.assertRaises(ValueError, made.read_direct, np.empty((2, 3), "<i4"), np.s_[::2, 1:3])
 
     def test_what_is_refused_changes_nothing_and_names_the_rule(self):
         made = self.file.create_dataset("d", data=np.arange(4, dtype="u1"))
@@ -180,6 +204,46 @@ class Arrays(unittest.TestCase):
         self.assertRaises(TypeError, lambda: made.__setitem__(0, 1.5))
         self.assertEqual(self.file.tobytes(), image)
 
+    def test_what_fails_leaves_no_group_behind(self):
+        self.assertRaises(h5i.Refused, self.file.create_dataset, "a/b/d", (3,), "u1", chunks=(0,))
+        self.assertRaises(ValueError, self.file.create_dataset, "a/b/d", data=[1, 2], shape=(3,))
+        self.assertRaises(TypeError, self.file.create_dataset, "a/b/d", (3,), "f4")
+        self.assertEqual(list(self.file), [])
+
+    def test_sizes_that_are_none(self):
+        for words in (dict(shape=-1), dict(shape=(2, -1)), dict(shape=4, chunks=-1), dict(shape=4, chunks=1 << 32), dict(shape=1 << 64)):
+            self.assertRaises(ValueError, self.file.create_dataset, "d", dtype="u1", **words)
+        for words in (dict(chunks=False, maxshape=(None,)), dict(chunks=2, compact=True)):
+            self.assertRaises(ValueError, self.file.create_dataset, "d", 4, "u1", **words)
+        self.assertEqual(list(self.file), [])
+
+    def test_values_of_no_type(self):
+        made = self.file.create_dataset("d", (3,), "u8")
+        for value in (1 << 64, [0, 1, -(1 << 70)]):
+            with self.assertRaises(h5i.Refused) as caught:
+                made[...] = value
+            self.assertEqual(caught.exception.rule, "ValueRange")
+
+    def test_chunks_that_are_not_given(self):
+        cases = [((5000, 5000), None, "i8"), ((0,), (None,), "u1"), ((3, 0), (3, None), "i4"), ((2,) * 20, (None,) * 20, "i8"), ((7,), (9,), "u2")]
+        for shape, limits, kind in cases:
+            made = self.file.create_dataset("c", shape, kind, chunks=True, maxshape=limits)
+            self.assertLessEqual(int(np.prod(made.chunks)) * made.dtype.itemsize, 1 << 16)
+            self.assertTrue(all(part <= most for part, most in zip(made.chunks, made.maxshape) if most), made.chunks)
+            del self.file["c"]
+
+    def test_what_is_printed(self):
+        made = self.file.create_dataset("d", (3, 4), ">i2")
+        self.assertEqual(repr(made), "<h5i dataset '/d' of shape (3, 4), type '>i2'>")
+        self.assertEqual(repr(self.file.create_group("g")), "<h5i group '/g' (0 members)>")
+        self.assertEqual(repr(made.view[0]), "<h5i view of shape (4,), type '>i2'>")
+        del self.file["d"]
+        self.assertEqual(repr(made), "<h5i dataset '/d', which is not there (NotFound)>")
+        group = self.file["g"]
+        self.file.close()
+        self.assertEqual((repr(made), repr(group), repr(self.file)), ("<closed h5i dataset>", "<closed h5i group>", "<closed h5i file>"))
+        self.assertFalse(group)
+
     def test_resizing(self):
         made = self.file.create_dataset("d", data=np.arange(6, dtype="i4").reshape(2, 3), chunks=(2, 2), maxshape=(None, 3))
         made.resize((3, 2))
@@ -202,7 +266,7 @@ class Groups(unittest.TestCase):
         group["d"] = np.arange(3)
         self.file["h"] = group["d"]
         self.file["s"] = h5i.SoftLink("/nowhere")
-        self.assertEqual(self.file.keys(), ["g", "h", "s"])
+        self.assertEqual(list(self.file.keys()), ["g", "h", "s"])
         self.assertEqual(self.file["h"], group["d"])
         self.assertNotEqual(self.file["h"], group)
         self.assertEqual(self.file["s"].path, "/nowhere")
@@ -215,6 +279,15 @@ class Groups(unittest.TestCase):
         self.assertRaises(TypeError, self.file.require_group, "h")
         self.assertEqual(self.file.require_group("g"), group)
 
+    def test_what_stands_in_another_file(self):
+        with in_memory() as other:
+            other["d"] = [1, 2]
+            self.file["d"] = [3]
+            with self.assertRaisesRegex(ValueError, "another file"):
+                self.file["e"] = other["d"]
+            self.file["e"] = other["d"][...]
+        self.assertEqual(self.file["e"][...].tolist(), [1, 2])
+
     def test_names_of_any_bytes(self):
         name = b"a\xff\x01 b"
         self.file.create_group(name)
@@ -224,7 +297,7 @@ class Groups(unittest.TestCase):
     def test_attributes(self):
         made = self.file.create_group("g").attrs
         made["unit"] = [109, 115]
-        made.create("one", 7, "u1")
+        made.create("one", 7, dtype="u1")
         made["none"] = np.zeros((0, 3), "u2")
         self.assertEqual(list(made), ["none", "one", "unit"])
         np.testing.assert_array_equal(made["unit"], [109, 115])
@@ -252,6 +325,17 @@ class Groups(unittest.TestCase):
 class Views(unittest.TestCase):
     """Live views."""
 
+    def test_a_view_ends_with_its_object(self):
+        with in_memory() as file:
+            made = file.create_dataset("d", data=np.arange(6))
+            for turn in range(2000):
+                self.assertEqual(made.view[turn % 6][()], turn % 6)
+            view = made.view[1:3]
+            self.assertEqual((len(view), view.ndim, view.size, [int(n) for n in view]), (2, 1, 2, [1, 2]))
+            self.assertTrue(view)
+        self.assertFalse(view)
+        self.assertEqual(repr(view), "<closed h5i view>")
+
     def test_a_view_follows_its_array(self):
         with in_memory() as file:
             made = file.create_dataset("d", data=np.arange(12, dtype="<i4").reshape(3, 4), chunks=(2, 2), maxshape=(None, 4))
@@ -272,7 +356,8 @@ class Views(unittest.TestCase):
                 view[...]
             self.assertEqual(caught.exception.rule, "Gone")
             view.close()
-            self.assertRaises(h5i.Refused, view.close)
+            view.close()
+            self.assertRaises(h5i.Refused, lambda: view[...])
 
 
 def drawn(chance):

@@ -97,6 +97,11 @@ fn number_of(cell: Type, bytes: &[u8]) -> i128 {
     if is_negative { number - (1 << (8 * bytes.len())) } else { number }
 }
 
+/// The numbers that the bytes of values stand for.
+pub(crate) fn numbers_of(cell: Type, bytes: &[u8]) -> Vec<i128> {
+    bytes.chunks_exact(usize::from(cell.size)).map(|value| number_of(cell, value)).collect()
+}
+
 /// An array to be made, whose cells are values of `T`.
 #[derive(Debug, Clone)]
 pub struct NewArray<T> {

@@ -21,10 +21,19 @@ macro_rules! faults {
                     _ => Fault::NoMemory,
                 }
             }
+
+            /// The name of the rule that is broken, or of the cause for which bytes are no file.
+            pub fn name(&self) -> &'static str {
+                match self {
+                    $(Fault::$name => stringify!($name),)*
+                    Fault::NotAFile { cause, .. } => CAUSES.get((*cause as usize).wrapping_sub(1)).copied().unwrap_or("NotAFile"),
+                }
+            }
         }
 
         impl fmt::Display for Fault {
             fn fmt(&self, f: &mut fmt::Formatter<'_>) -> fmt::Result {
+                write!(f, "{}: ", self.name())?;
                 match self {
                     $(Fault::$name => f.write_str($says),)*
                     Fault::NotAFile { cause, address } => write!(f, "the bytes break rule {cause} at byte {address}"),
@@ -76,6 +85,14 @@ faults! {
 }
 
 impl std::error::Error for Fault {}
+
+/// The causes for which bytes are no file, by their numbers, from 1 on (docs/FORMAT.md).
+const CAUSES: [&str; 36] = [
+    "NotHdf5", "Truncated", "SuperblockVersion", "FieldSizes", "BaseAddress", "Driver", "KRange", "HeaderVersion", "MessageSize", "MessageCount",
+    "SharedMessage", "UnknownMessage", "Filtered", "ExternalFiles", "NewStyleGroup", "MissingMessage", "DuplicateMessage", "DataspaceForm",
+    "DatatypeForm", "FillForm", "LayoutForm", "AttributeForm", "HeapForm", "HeapName", "NodeForm", "NameOrder", "KeyOrder", "Sibling", "ChunkKey",
+    "LinkCount", "GroupLinkedTwice", "Overlap", "TooDeep", "TooLarge", "BadName", "NoMemory",
+];
 
 /// Bytes were refused as a file for want of memory, or for the cause.
 pub(crate) fn of_open(status: u32, address: u64) -> Fault {

@@ -1,9 +1,10 @@
 //! Sessions.
 
-use crate::about::{About, NewArray, Type};
+use crate::about::{numbers_of, About, Array, NewArray, Type};
 use crate::fault::{of_open, Fault};
 use crate::raw::{self, RawAbout, Slot};
 use crate::value::{bytes_of, bytes_of_mut, Value};
+use std::fmt;
 
 /// A file in memory, with the views that are open on it. It stays on its thread.
 pub struct Session(Slot);
@@ -25,6 +26,11 @@ impl Slab {
     /// The cells from `start` on, `count` in each dimension.
     pub fn new(start: &[u64], count: &[u64]) -> Slab {
         Slab { start: start.to_vec(), stride: vec![1; start.len()], count: count.to_vec(), block: vec![1; start.len()] }
+    }
+
+    /// All cells of an array.
+    pub fn all(array: &Array) -> Slab {
+        Slab::new(&vec![0; array.dims.len()], &array.dims)
     }
 
     /// With blocks this far apart.
@@ -55,6 +61,13 @@ pub struct Attribute {
     pub cell: Type,
     pub dims: Vec<u64>,
     pub bytes: Vec<u8>,
+}
+
+impl Attribute {
+    /// Its values as numbers, in row-major order.
+    pub fn numbers(&self) -> Vec<i128> {
+        numbers_of(self.cell, &self.bytes)
+    }
 }
 
 /// Names, in ascending order of their bytes.
@@ -205,6 +218,28 @@ impl Session {
         Ok(room)
     }
 
+    /// Reads all cells of the array at the path as numbers, in row-major order, whatever their type is.
+    pub fn read_numbers(&mut self, path: impl AsRef<[u8]>) -> Result<Vec<i128>, Fault> {
+        let path = path.as_ref();
+        let About::Array(array) = self.about(path)? else {
+            return Err(Fault::NotADataset);
+        };
+        let cells = Slab::all(&array).cells().and_then(|n| n.checked_mul(usize::from(array.cell.size)));
+        let (s, mut room) = (Slab::all(&array), zeros(cells.ok_or(Fault::NoMemory)?)?);
+        done(unsafe {
+            raw::h5i_read(
+                &mut self.0, path.as_ptr(), path.len(), s.start.as_ptr(), s.start.len(), s.stride.as_ptr(), s.stride.len(), s.count.as_ptr(),
+                s.count.len(), s.block.as_ptr(), s.block.len(), room.as_mut_ptr(), room.len(),
+            )
+        })?;
+        Ok(numbers_of(array.cell, &room))
+    }
+
+    /// Whether something stands at the path: a group, an array or a soft link.
+    pub fn contains(&mut self, path: impl AsRef<[u8]>) -> bool {
+        self.about(path).is_ok()
+    }
+
     /// Creates an empty group.
     pub fn create_group(&mut self, path: impl AsRef<[u8]>) -> Result<(), Fault> {
         let path = path.as_ref();
@@ -327,6 +362,12 @@ impl Session {
 /// Whether the bytes of a value are the same in both types.
 fn is_same(a: Type, b: Type) -> bool {
     a.size == b.size && a.is_signed == b.is_signed && (a.size == 1 || a.is_big == b.is_big)
+}
+
+impl fmt::Debug for Session {
+    fn fmt(&self, f: &mut fmt::Formatter<'_>) -> fmt::Result {
+        f.debug_struct("Session").finish_non_exhaustive()
+    }
 }
 
 impl Drop for Session {

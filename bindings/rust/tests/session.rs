@@ -62,6 +62,29 @@ fn reads_and_refuses_by_name() -> Result<(), Fault> {
 }
 
 #[test]
+fn numbers_of_any_type() -> Result<(), Fault> {
+    let mut session = made()?;
+    assert_eq!(session.read_numbers("/h")?, CELLS.map(i128::from));
+    assert_eq!(session.attribute("/g", "unit")?.numbers(), [109, -115]);
+    session.create_array("/u", &NewArray::<u64>::contiguous(&[2, 2]).fill(u64::MAX))?;
+    assert_eq!(session.read_numbers("/u")?, [i128::from(u64::MAX); 4]);
+    assert_eq!(session.read_numbers("/g"), Err(Fault::NotADataset));
+    session.run(b"dataset /b i16be 2 contiguous fill=-2\n")?;
+    assert_eq!(session.read_numbers("/b")?, [-2, -2]);
+    assert!(session.contains("/b") && session.contains("/s") && !session.contains("/none"));
+    Ok(())
+}
+
+#[test]
+fn faults_have_names() {
+    assert_eq!(Fault::NotFound.name(), "NotFound");
+    assert!(Fault::ValueRange.to_string().starts_with("ValueRange: a value"));
+    let fault = Session::open(b"nothing").err().expect("it is no file");
+    assert_eq!((fault.name(), fault.to_string().as_str()), ("NotHdf5", "NotHdf5: the bytes break rule 1 at byte 0"));
+    assert!(format!("{:?}", made()).contains("Session"));
+}
+
+#[test]
 fn views_follow() -> Result<(), Fault> {
     let mut session = made()?;
     let view = session.open_view("/g/d", &Slab::new(&[1, 0], &[2, 2]))?;
