@@ -30,20 +30,10 @@ use Rattle.h5_btree.proofs.KeyedTrees.{IsAlike, StandsAlike, AreAlike, IsOther, 
 use Rattle.h5_btree.proofs.KeyedOwn.{keys_count, keys_own}
 use Rattle.h5_btree.proofs.KeyedGone.{IsStopped, loses, here_same, sinks, rises}
 
-module _ {B X : Type 0} (sides : Sides (List ℕ) X) (orderly : IsOrderly sides) (items : B → List X) (Base : B → Type 0) (none : B) (nothing : items none ≡ []) (is_base : Base none)
-    (x : X) where
-  abbrev Takes : B → B → Type 0
-  Takes b c = (items b ≡ x ∷ []) × (c ≡ none)
-
-  abbrev Empty : B → Type 0
-  Empty c = c ≡ none
-
-  empty_items : (c : B) → Empty c → items c ≡ []
-  empty_items c is = ap items is ∙ nothing
-
-  takes_base : (b c : B) → Base b → Takes b c → Base c × IsTaken x (items b) (items c)
-  takes_base b c base takes = (subst Base (sym takes.1) is_base, record { front = []; back = []; before = takes.0; after = empty_items c takes.1 })
-
+-- Whatever is lost where one thing goes from a tree of keys.
+module _ {B X : Type 0} (sides : Sides (List ℕ) X) (items : B → List X) (Base : B → Type 0) (none : B) (Takes : B → B → Type 0) (Empty : B → Type 0) (Lost : List X → List X → Type 0)
+    (law : (height : ℕ) (old new : KeyTree (List ℕ) B height) → IsSorted sides items Base height old → Removes (List ℕ) Takes Empty height old new
+    → IsSorted sides items Base height new × Lost (items_in (List ℕ) items height old) (items_in (List ℕ) items height new)) where
   abbrev S : (height : ℕ) → KeyTree (List ℕ) B height → Type 0
   S = IsSorted sides items Base
 
@@ -51,7 +41,7 @@ module _ {B X : Type 0} (sides : Sides (List ℕ) X) (orderly : IsOrderly sides)
   I = items_in (List ℕ) items
 
   abbrev IsLeft : (height : ℕ) → KeyTree (List ℕ) B height → (height' : ℕ) → KeyTree (List ℕ) B height' → Type 0
-  IsLeft height t height' new = S height' new × IsTaken x (I height t) (I height' new)
+  IsLeft height t height' new = S height' new × Lost (I height t) (I height' new)
 
   -- a root without children is in order at level 0
   at_level_0 : (height height' : ℕ) (t : KeyTree (List ℕ) B height') (new : KeyTree (List ℕ) B (suc height)) (keys : List (List ℕ)) → new ≡ (keys, []) → IsLeft height' t (suc height) new
@@ -62,7 +52,7 @@ module _ {B X : Type 0} (sides : Sides (List ℕ) X) (orderly : IsOrderly sides)
   module _ (s t : Space) (kind : Kind) (root level : ℕ) (way : List Step) (owned list : List ℕ) (k : ℕ) (e : EndsInTree s kind root level way owned list k)
       (taken : IsTakenAlong s t kind root way (remove list k) owned) (short : length t.bytes < 2 ^ 64)
       (was now : AtChild B) (same : AllByRecursion (λ c. (key : List ℕ) → now key c ≡ was key c) (remove list k))
-      (only : items (was (get_or (node_at s.bytes kind e.step.node).keys e.step.place []) (get_or (node_at s.bytes kind e.step.node).children e.step.place 0)) ≡ x ∷ []) where
+      (takes : Takes (was (get_or (node_at s.bytes kind e.step.node).keys e.step.place []) (get_or (node_at s.bytes kind e.step.node).children e.step.place 0)) none) (empty : Empty none) where
     abbrev V : Reading
     V = node_at s.bytes kind
 
@@ -106,7 +96,7 @@ module _ {B X : Type 0} (sides : Sides (List ℕ) X) (orderly : IsOrderly sides)
         let low = e.tree.low in
         sinks Takes Empty s kind owned root out was taken.0 step taken.2 0 e.step e.above e.front e.back (omega (arith, steps_long, low)) e.leads e.row
         (subst (λ (n : Node). e.step.place < length n.children) (here_same Takes Empty s kind owned root out was 0 e.step.node e.front e.back (omega arith) e.row) e.place)
-        (sym e.way_is ∙ taken.5) taken.6 (none, (only, refl), refl)
+        (sym e.way_is ∙ taken.5) taken.6 (none, takes, empty)
 
     -- ---- the node where it stopped
 
@@ -252,7 +242,7 @@ module _ {B X : Type 0} (sides : Sides (List ℕ) X) (orderly : IsOrderly sides)
 
       sorted_as_high : S (suc level) (keys_from V was level root) → IsLeft (suc level) (keys_from V was level root) (suc taken.3) (keys_from W now taken.3 root)
       sorted_as_high sorted =
-          let left = removes_sorted sides orderly items Base x Takes Empty empty_items takes_base (suc level) (keys_from V was level root) (keys_from Y now level root) sorted removed in
+          let left = law (suc level) (keys_from V was level root) (keys_from Y now level root) sorted removed in
           subst (IsLeft (suc level) (keys_from V was level root) (suc taken.3)) (sym (keys_own t.bytes kind root taken.3 own (remove list k) done.tree now))
           (subst (λ (l : ℕ). IsLeft (suc level) (keys_from V was level root) (suc l) (keys_from Y now l root)) (sym as_high) left)
 
@@ -291,15 +281,40 @@ module _ {B X : Type 0} (sides : Sides (List ℕ) X) (orderly : IsOrderly sides)
 
       sorted_emptied : S (suc level) (keys_from V was level root) → IsLeft (suc level) (keys_from V was level root) (suc taken.3) (keys_from W now taken.3 root)
       sorted_emptied sorted =
-          let left = removes_sorted sides orderly items Base x Takes Empty empty_items takes_base (suc level) (keys_from V was level root) empty_root.0 sorted empty_root.1 in
+          let left = law (suc level) (keys_from V was level root) empty_root.0 sorted empty_root.1 in
           let all = at_level_0 level (suc level) (keys_from V was level root) empty_root.0 (remove (V p).keys i) empty_root.2 left in
           subst (λ (l : ℕ). IsLeft (suc level) (keys_from V was level root) (suc l) (keys_from W now l root)) (sym at_0)
           (subst (IsLeft (suc level) (keys_from V was level root) 1) root_new all)
 
-    -- THE KEYS STAY IN ORDER where a child is taken out along a way, and the items are those of before without the one that stood there.
-    pub taken_sorted : IsInOrder sides items Base s.bytes kind was level root
-        → IsInOrder sides items Base t.bytes kind now taken.3 root × IsTaken x (items_of_tree items s.bytes kind was level root) (items_of_tree items t.bytes kind now taken.3 root)
-    taken_sorted sorted = elim done.stops [
+    -- THE KEYS STAY IN ORDER where a child is taken out along a way, and the items are those of before without what is lost.
+    pub along_sorted : IsInOrder sides items Base s.bytes kind was level root
+        → IsInOrder sides items Base t.bytes kind now taken.3 root × Lost (items_of_tree items s.bytes kind was level root) (items_of_tree items t.bytes kind now taken.3 root)
+    along_sorted sorted = elim done.stops [
       | inl high ↦ sorted_as_high (high.1 ∙ level_is s.bytes kind root level owned list e.tree) sorted
       | inr low ↦ sorted_emptied low.0 low.1 low.2 sorted
     ]
+
+-- An item is lost.
+module _ {B X : Type 0} (sides : Sides (List ℕ) X) (orderly : IsOrderly sides) (items : B → List X) (Base : B → Type 0) (none : B) (nothing : items none ≡ []) (is_base : Base none)
+    (x : X) where
+  abbrev Takes : B → B → Type 0
+  Takes b c = (items b ≡ x ∷ []) × (c ≡ none)
+
+  abbrev Empty : B → Type 0
+  Empty c = c ≡ none
+
+  empty_items : (c : B) → Empty c → items c ≡ []
+  empty_items c is = ap items is ∙ nothing
+
+  takes_base : (b c : B) → Base b → Takes b c → Base c × IsTaken x (items b) (items c)
+  takes_base b c base takes = (subst Base (sym takes.1) is_base, record { front = []; back = []; before = takes.0; after = empty_items c takes.1 })
+
+  module _ (s t : Space) (kind : Kind) (root level : ℕ) (way : List Step) (owned list : List ℕ) (k : ℕ) (e : EndsInTree s kind root level way owned list k)
+      (taken : IsTakenAlong s t kind root way (remove list k) owned) (short : length t.bytes < 2 ^ 64)
+      (was now : AtChild B) (same : AllByRecursion (λ c. (key : List ℕ) → now key c ≡ was key c) (remove list k))
+      (only : items (was (get_or (node_at s.bytes kind e.step.node).keys e.step.place []) (get_or (node_at s.bytes kind e.step.node).children e.step.place 0)) ≡ x ∷ []) where
+    -- THE KEYS STAY IN ORDER where a child is taken out along a way, and the items are those of before without the one that stood there.
+    pub taken_sorted : IsInOrder sides items Base s.bytes kind was level root
+        → IsInOrder sides items Base t.bytes kind now taken.3 root × IsTaken x (items_of_tree items s.bytes kind was level root) (items_of_tree items t.bytes kind now taken.3 root)
+    taken_sorted = along_sorted sides items Base none Takes Empty (IsTaken x) (removes_sorted sides orderly items Base x Takes Empty empty_items takes_base)
+        s t kind root level way owned list k e taken short was now same (only, refl) refl

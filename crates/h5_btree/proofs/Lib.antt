@@ -61,3 +61,6 @@ pub mod RetiredSteps
 pub mod RetiredTrees
 pub mod RetiredGroups
 pub mod RetiredBeside
+pub mod KeyedBare
+pub mod KeyedFrom
+pub mod KeyedKeys
