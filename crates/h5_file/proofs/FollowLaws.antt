@@ -14,7 +14,7 @@ use Rattle.h5_shape.proofs.Members.{In}
 use Rattle.h5_shape.proofs.MetLaws.{met_held, none_met}
 use Rattle.h5_file.specs.OpenViews.{IsMetPatched}
 use Rattle.h5_file.specs.Patched.{AreCorners, KeptState}
-use Rattle.h5_file.specs.Touched.{IsArrayLeft, IsGridOf, IsTouchOf, is_touched_in, met_with, sizes_before}
+use Rattle.h5_file.specs.Touched.{HasGrid, IsArrayLeft, IsGridOf, IsTouchOf, is_touched_in, met_with, sizes_before}
 use Rattle.h5_file.specs.declared.touched.Touched.{Touched}
 use Rattle.h5_file.specs.declared.touched.Touched.TheVariants.{Written, Lost}
 use Rattle.h5_file.proofs.Refreshed.{corners_met, few_met, none_patched}
@@ -86,6 +86,9 @@ module _ (d : Dataset) (sound : IsDataset d) where
       empty_patched k none = nothing_patched k (empty_met (sizes_before d touched) (box_of d) (is_touched_in touched (sizes_before d touched)) slab box_rank none)
 
 -- ---- the grid
+
+pub has_grid : (d : Dataset) (touched : Touched) (grid : List ℕ) → IsArrayLeft d touched grid → HasGrid d touched grid
+has_grid d touched grid left = (left.touch, left.grid_is, ap length left.grid_is ∙ length-box d left.sound)
 
 pub grid_of : (d : Dataset) (touched : Touched) (grid : List ℕ) (slab : Slab) → IsArrayLeft d touched grid → length slab ≡ length d.sizes → AreApart slab → IsGridOf d touched grid slab
 grid_of d touched grid slab left rank apart = record {

@@ -48,6 +48,10 @@ HasBoxes d = is_chunked d.storage ≡ true → 0 < cells (box_of d)
 abbrev pub met_with : Dataset → Touched → Slab → List (List ℕ)
 met_with d touched slab = met_firsts (sizes_before d touched) (box_of d) (is_touched_in touched (sizes_before d touched)) slab
 
+-- the sizes of a box of the array's grid
+abbrev pub HasGrid : Dataset → Touched → List ℕ → Type 0
+HasGrid d touched grid = IsTouchOf d touched × (grid ≡ box_of d) × (length grid ≡ length d.sizes)
+
 -- the sizes of a box of the array's grid, and a selection of it whose indexes are below 2^64
 pub record IsGridOf (d : Dataset) (touched : Touched) (grid : List ℕ) (slab : Slab) : Type 0 where
   pub touch : IsTouchOf d touched

@@ -3,7 +3,7 @@
 ghost use Rattle.std.specs.Prelude.{◌≡◌, ℕ, ℤ, IsTrue, List, MatchOption, []};
 ghost use Rattle.h5_model.specs.Tree.Objects.{Dataset};
 ghost use Rattle.h5_model.specs.declared.edits.Edit.TheVariants.{Resize, Write};
-ghost use Rattle.h5_file.specs.Touched.{IsGridOf, IsTouching, IsUntouching, met_with};
+ghost use Rattle.h5_file.specs.Touched.{HasGrid, IsGridOf, IsTouching, IsUntouching, met_with};
 
 use crate::file::File;
 use h5_edit::{Dims, Slab, array_at};
@@ -67,8 +67,8 @@ impl Touched {
     /// Whether a few comparisons tell that no box of an array's grid holds a cell touched and a cell of the selection. Where it says
     /// `false`, `boxes` tells which do, if any.
     pub(crate) fn misses(&self, grid: &Dims, slab: &Slab) -> bool
-        requires { (d : Dataset) × IsGridOf d self.now grid.now slab.now }
-        ensures { IsTrue result → (d : Dataset) → IsGridOf d self.now grid.now slab.now
+        requires { (d : Dataset) × HasGrid d self.now grid.now }
+        ensures { IsTrue result → (d : Dataset) → HasGrid d self.now grid.now
             → met_with d self.now slab.now ≡ [] }
     {
         match self {

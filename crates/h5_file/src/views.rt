@@ -187,10 +187,10 @@ fn patch_met(
     ensures met { IsMetPatched array.now touched.now slab.now kept.old result kept.new }
     ensures few { result ≤ 2 ^ 40 }
 {
-    if slab.cells() == 0 {
+    if touched.misses(grid, slab) {
         return 0;
     }
-    if touched.misses(grid, slab) {
+    if slab.cells() == 0 {
         return 0;
     }
     patch_each(kept, alloc, array, slab, grid, touched)
@@ -225,6 +225,18 @@ pub(crate) fn place_of(views: &[KeptView], number: u32) -> Option<usize>
         (IsViewAt views.now number) }
 {
     views.binary_search_by_key(&number, |view| view.number).ok()
+}
+
+/// The same, where it is held at a place that is likely, or else by halving.
+fn place_near(views: &[KeptView], place: usize, number: u32) -> Option<usize>
+    requires { (end : ℕ) × AreNumbered views.now end }
+    ensures { MatchOption result (contains_key (views_of views.now) number ≡ false)
+        (IsViewAt views.now number) }
+{
+    if place < views.len() && views[place].number == number {
+        return Some(place);
+    }
+    place_of(views, number)
 }
 
 /// Lets the views of the array of this number follow it, of which cells were touched, and says how many boxes were patched in all. Any
@@ -289,16 +301,30 @@ fn follow_each(
     ensures { AreViewsFollowed number.0 array.now touched.now views.old result views.new }
 {
     let own = views_on(by_array, number.0);
+    // Views of one array are often opened one after another, and then they are held so.
+    let mut place = first_place(views, own);
     let mut count = 0;
     for view in own {
-        count += follow_one(views, view.number, alloc, array, grid, touched);
+        count += follow_one(views, place, view.number, alloc, array, grid, touched);
+        place = place.saturating_add(1);
     }
     count
 }
 
-/// Lets the view of this number follow its array, and says how many boxes were patched in it.
+/// Where the first of these views is held.
+fn first_place(views: &[KeptView], own: &[ArrayView]) -> usize
+    requires { (end : ℕ) × AreNumbered views.now end }
+{
+    match own.first() {
+        Some(view) => place_of(views, view.number).unwrap_or(0),
+        None => 0,
+    }
+}
+
+/// Lets the view of this number follow its array, and says how many boxes were patched in it. It is likely to be held at `place`.
 fn follow_one(
     views: &mut [KeptView],
+    place: usize,
     number: u32,
     alloc: Global,
     array: &StoredArray<'_>,
@@ -313,6 +339,6 @@ fn follow_one(
     ensures followed { IsOneFollowed array.now touched.now views.old number result views.new }
     ensures few { result ≤ 2 ^ 40 }
 {
-    let at = place_of(views, number).unwrap();
+    let at = place_near(views, place, number).unwrap();
     views[at].follow(alloc, array, grid, touched)
 }

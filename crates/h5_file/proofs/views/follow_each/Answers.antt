@@ -26,7 +26,8 @@ few c =
 
 pub loop-view-init : goal.loop-view-init
 loop-view-init c = record {
-  followed = none_yet c.args.number.0 c.args.array.now c.args.touched.now c.args.views.now (numbers c.views_on-own.result.now) (listed c);
+  followed = none_yet c.args.number.0 c.args.array.now c.args.touched.now c.args.views.now (numbers c.views_on-own.result.now)
+      (listed (goal.at.loop-view-init c).After-views_on-own);
   low = omega arith;
 }
 
