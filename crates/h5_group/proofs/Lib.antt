@@ -12,3 +12,44 @@ pub mod NodeLaws
 pub mod TextProofs
 pub mod OrderProofs
 pub mod WriteLaws
+pub mod EditFrames
+pub mod EditSteps
+pub mod Ways
+pub mod HeapLinks
+pub mod HeapMoves
+pub mod LooseTexts
+pub mod TextEdits
+pub mod DropLaws
+pub mod DropCalls
+pub mod NameTests
+pub mod WidenedKeys
+pub mod WidenedGroup
+pub mod MovedNames
+pub mod EntryFrames
+pub mod EntryLinks
+pub mod EntryWays
+pub mod EntryOrder
+pub mod EntrySets
+pub mod EntryKept
+mod SymbolEdits
+mod SymbolHalves
+mod GrownGroup
+mod FirstEntry
+mod SplitFrames
+mod SplitNames
+mod SplitOrder
+mod SplitEntry
+mod SplitCalls
+pub mod PutWays
+pub mod PutSteps
+pub mod PutTexts
+pub mod PutLinks
+pub mod PutDeep
+pub mod PutTold
+pub mod TakeSteps
+pub mod Removed
+pub mod RetiredKeys
+pub mod TreeMoves
+pub mod RetiredGroup
+pub mod EntryKeys
+pub mod Freed

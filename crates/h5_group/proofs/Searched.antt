@@ -43,7 +43,7 @@ entry_there segment es k name found =
 
 -- ---- a name that no entry has
 
-before_itself : (a : List ℕ) → Before a a → ⊥
+pub before_itself : (a : List ℕ) → Before a a → ⊥
 before_itself a less = let never : false ≡ true = rw (tied_itself nat_list_cmp_total a) at less in cc
 
 pub no_place : (names : List (List ℕ)) (name : List ℕ) (k : ℕ) → IsPlace names name k → In name names → ⊥

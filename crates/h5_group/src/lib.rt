@@ -4,6 +4,7 @@
 //! A group is read once, when its image is opened; then its links are looked up and listed where they stand.
 #![tactic(auto)]
 
+mod edit;
 mod group;
 mod link;
 mod list;
@@ -14,6 +15,7 @@ mod search;
 mod texts;
 mod write;
 
+pub use edit::{put_link, remove_link};
 pub use group::read_group;
 pub use h5_msg::{SymbolTable, read_symbol_table};
 pub use h5_space::{MAXIMUM_IMAGE, SUPERBLOCK, Superblock, push_superblock};

@@ -1,0 +1,260 @@
+-- The way to a name in a group's tree: there is one at most, and it stays where its nodes read as before and their keys name the same texts.
+use Rattle.std.proofs.Common.{◌≡◌, ℕ, zero, suc, ◌+◌, ◌-◌, ◌*◌, ◌<◌, ◌≤◌, Bool, true, false, List, [], ◌∷◌, ◌++◌, length, slice_index, slice_index_or, inl, inr, refl, sym, ap, ap₂, ◌∙◌, subst, arith}
+use Rattle.std.specs.Cmp.Lexicographic.{slice_cmp}
+use Rattle.std.specs.List.{AllByRecursion, Contains}
+use Rattle.std.specs.Ordering.{is_lt, nat_cmp}
+use Rattle.std.proofs.lemmas.Bool.{cases_lt}
+use Rattle.h5_bytes.specs.declared.Block.{Block}
+use Rattle.h5_bytes.proofs.BlockLaws.{all_left, all_right, all_so}
+use Rattle.h5_model.specs.Format.Addresses.{SymbolTable}
+use Rattle.h5_model.specs.Format.Superblock.{leaf_k, internal_k}
+use Rattle.h5_model.specs.Format.Heap.{segment_of}
+use Rattle.h5_model.specs.Format.Links.{Before, NotAfter, IsOrdered, key_name, offset_in}
+use Rattle.h5_model.specs.Format.Nodes.{Kind, group_kind, node_at, node_bytes}
+use Rattle.h5_model.specs.Format.Rows.{Node, Reading, nodes}
+use Rattle.h5_model.specs.Format.Symbols.{Target, symbols_at}
+use Rattle.h5_model.proofs.OneTree.{one_level, one_owned, level_is, owned_is}
+use Rattle.h5_model.proofs.RowLaws.{at_listed}
+use Rattle.h5_laws.specs.Ladders.{IsOrderly}
+use Rattle.h5_laws.specs.NameLadders.{key_text, name_sides}
+use Rattle.h5_laws.proofs.NameLadders.{name_order}
+use Rattle.h5_space.specs.Space.{Space}
+use Rattle.h5_btree.specs.Descent.{IsChildFor, IsWayTo}
+use Rattle.h5_btree.specs.Insertion.{IsFullWay}
+use Rattle.h5_btree.specs.declared.way.Step.{Step}
+use Rattle.h5_btree.proofs.NameFound.{name_behind}
+use Rattle.h5_btree.proofs.NodeLaws.{length-keys, length-children}
+use Rattle.h5_btree.proofs.TreeReadings.{Listed}
+use Rattle.h5_btree.proofs.WaySteps.{all_at, all_map, way_owned}
+use Rattle.h5_group.specs.Edited.{IsGroupIn, entries_below, heap_text, node_below}
+use Rattle.h5_group.specs.KeptNodes.{AreNodesKept}
+use Rattle.h5_group.specs.Nodes.Trees.{kind_in}
+use Rattle.h5_group.specs.Told.{symbol_nodes_told}
+use Rattle.h5_group.specs.Ways.{IsWayOf, behind_of}
+use Rattle.h5_group.specs.Links.{IsGroupRead}
+use Rattle.h5_group.proofs.DropCalls.{end_told}
+use Rattle.h5_group.proofs.Standing.{nodes_ordered}
+use Rattle.h5_group.proofs.Ways.{group_read, way_of}
+
+-- ---- one child at most
+
+-- no key of the node is above the next
+abbrev pub IsRisingNode : List ℕ → Node → Type 0
+IsRisingNode segment node = (i : ℕ) → i < length node.children → NotAfter (key_name segment node i) (key_name segment node (i + 1))
+
+module _ (segment name : List ℕ) (node : Node) (rising : IsRisingNode segment node) where
+  orderly : IsOrderly (name_sides (key_text segment))
+  orderly = name_order (key_text segment)
+
+  abbrev key : ℕ → List ℕ
+  key i = slice_index_or node.keys i []
+
+  abbrev IsUpTo : ℕ → ℕ → Type 0
+  IsUpTo i j = NotAfter (key_text segment (key i)) (key_text segment (key j))
+
+  -- a key is not above a later one
+  later : (i d : ℕ) → i + d ≤ length node.children → IsUpTo i (i + d)
+  later i zero low = let same : i ≡ i + 0 = omega arith in subst (IsUpTo i) same (orderly.itself (key i))
+  later i (suc d) low =
+      let next : i + d + 1 ≡ i + suc d = omega arith in
+      subst (IsUpTo i) next
+      (orderly.rises (key i) (key (i + d)) (key (i + d + 1)) (later i d (omega (arith, low))) (rising (i + d) (omega (arith, low))))
+
+  none_before : (i j : ℕ) → i < j → IsChildFor (name_behind segment name) node i → IsChildFor (name_behind segment name) node j → j ≡ i
+  none_before i j less a b =
+      let at_j : Before (key_text segment (key j)) name = b.low (omega (arith, less)) in
+      let there : i + 1 + (j - (i + 1)) ≡ j = omega (arith, less) in
+      let in_it = b.child in
+      let rise : IsUpTo (i + 1) j = subst (IsUpTo (i + 1)) there (later (i + 1) (j - (i + 1)) (omega (arith, less, in_it))) in
+      let yes : name_behind segment name (key (i + 1)) ≡ true = orderly.right (key (i + 1)) (key j) name rise at_j in
+      let no : name_behind segment name (key (i + 1)) ≡ false = a.high (omega (arith, less, in_it)) in
+      let bad : false ≡ true = sym no ∙ yes in absurd (cc)
+
+  pub one_child : (i j : ℕ) → IsChildFor (name_behind segment name) node i → IsChildFor (name_behind segment name) node j → i ≡ j
+  one_child i j a b = elim (cases_lt i j) [
+    | inl less ↦ sym (none_before i j less a b)
+    | inr most ↦ elim (cases_lt j i) [
+      | inl more ↦ none_before j i more b a
+      | inr least ↦ omega (arith, most, least)
+    ]
+  ]
+
+-- ---- one way at most
+
+module _ (V : Reading) (segment name : List ℕ) where
+  abbrev pub IsRisingStep : Step → Type 0
+  IsRisingStep step = IsRisingNode segment (V step.node)
+
+  pub one_way : (level at : ℕ) (way way' : List Step) → IsWayTo V (name_behind segment name) level at way → IsWayTo V (name_behind segment name) level at way'
+      → AllByRecursion IsRisingStep way → way ≡ way'
+  one_way zero at way way' to to' all =
+      let same : to.0 ≡ to'.0 = one_child segment name (V at) (subst (AllByRecursion IsRisingStep) to.2 all).0 to.0 to'.0 to.1 to'.1 in
+      to.2 ∙ ap (λ (n : ℕ). record { node = at; place = n } ∷ []) same ∙ sym to'.2
+  one_way (suc level) at way way' to to' all =
+      let last : List Step = record { node = at; place = to.0 } ∷ [] in
+      let parts : AllByRecursion IsRisingStep (to.1 ++ last) = subst (AllByRecursion IsRisingStep) to.4 all in
+      let same : to.0 ≡ to'.0 = one_child segment name (V at) (all_right IsRisingStep to.1 last parts).0 to.0 to'.0 to.2 to'.2 in
+      let there : IsWayTo V (name_behind segment name) level (slice_index (V at).children to.0) to'.1
+      = subst (λ (n : ℕ). IsWayTo V (name_behind segment name) level (slice_index (V at).children n) to'.1) (sym same) to'.3 in
+      let below : to.1 ≡ to'.1 = one_way level (slice_index (V at).children to.0) to.1 to'.1 to.3 there (all_left IsRisingStep to.1 last parts) in
+      to.4 ∙ ap₂ (λ (xs : List Step) (n : ℕ). xs ++ record { node = at; place = n } ∷ []) below same ∙ sym to'.4
+
+-- ---- a way stays
+
+module _ (V W : Reading) (was now : List ℕ → Bool) where
+  -- what is the same at a step: its node, and what is behind its keys
+  abbrev pub IsSameStep : Step → Type 0
+  IsSameStep step =
+      (W step.node ≡ V step.node) × (length (V step.node).keys ≡ length (V step.node).children + 1) × AllByRecursion (λ key. now key ≡ was key) (V step.node).keys
+
+  child_stays : (node : Node) (i : ℕ) → length node.keys ≡ length node.children + 1 → AllByRecursion (λ key. now key ≡ was key) node.keys → IsChildFor was node i → IsChildFor now node i
+  child_stays node i long all c =
+      let low = c.child in
+      record {
+        child = c.child;
+        low = λ some. all_at (λ key. now key ≡ was key) node.keys i [] (omega (arith, long, low)) all ∙ c.low some;
+        high = λ more. all_at (λ key. now key ≡ was key) node.keys (i + 1) [] (omega (arith, long, low)) all ∙ c.high more;
+      }
+
+  pub way_kept : (level at : ℕ) (way : List Step) → IsWayTo V was level at way → AllByRecursion IsSameStep way → IsWayTo W now level at way
+  way_kept zero at way to all =
+      let same = (subst (AllByRecursion IsSameStep) to.2 all).0 in
+      (to.0, subst (λ (n : Node). IsChildFor now n to.0) (sym same.0) (child_stays (V at) to.0 same.1 same.2 to.1), to.2)
+  way_kept (suc level) at way to all =
+      let last : List Step = record { node = at; place = to.0 } ∷ [] in
+      let parts : AllByRecursion IsSameStep (to.1 ++ last) = subst (AllByRecursion IsSameStep) to.4 all in
+      let same = (all_right IsSameStep to.1 last parts).0 in
+      let there = way_kept level (slice_index (V at).children to.0) to.1 to.3 (all_left IsSameStep to.1 last parts) in (
+        to.0,
+        to.1,
+        subst (λ (n : Node). IsChildFor now n to.0) (sym same.0) (child_stays (V at) to.0 same.1 same.2 to.2),
+        subst (λ (n : Node). IsWayTo W now level (slice_index n.children to.0) to.1) (sym same.0) there,
+        to.4,
+      )
+
+-- ---- a group
+
+module _ (s : Space) (table : SymbolTable) (links : List (List ℕ × Target)) (spare : List ℕ) (blocks : List Block) (g : IsGroupIn s table links spare blocks) (name : List ℕ) where
+  abbrev kind : Kind
+  kind = kind_in s.bytes
+
+  abbrev V : Reading
+  V = node_at s.bytes kind
+
+  abbrev segment : List ℕ
+  segment = segment_of s.bytes table.heap
+
+  read : IsGroupRead s.bytes table
+  read = group_read s table links spare blocks g
+
+  abbrev Rises : ℕ → Type 0
+  Rises n = IsRisingNode segment (V n)
+
+  rising : AllByRecursion Rises (read.linked).owned
+  rising = all_so (λ n. IsOrdered V (symbols_at s.bytes (leaf_k s.bytes)) segment (V n)) Rises (read.linked).owned (λ n o. o.rising) (nodes_ordered s.bytes table read)
+
+  -- there is one way to a name
+  pub way_unique : (way way' : List Step) → IsWayOf s table name way → IsWayOf s table name way' → way ≡ way'
+  way_unique way way' w w' =
+      let has = read.linked in
+      let owned_same : has.owned ≡ w.owned
+      = one_owned s.bytes kind table.tree has.level w.level has.owned w.owned has.symbol_nodes w.symbol_nodes has.tree w.ends.tree in
+      let levels : w'.level ≡ w.level
+      = one_level s.bytes kind table.tree w'.level w.level w'.owned w.owned w'.symbol_nodes w.symbol_nodes w'.ends.tree w.ends.tree in
+      let steps : AllByRecursion (IsRisingStep V segment name) way
+      = all_map (λ (step : Step). Listed w.owned step.node) (IsRisingStep V segment name)
+      (λ step at. at_listed Rises w.owned step.node (subst (AllByRecursion Rises) owned_same rising) at) way
+      (way_owned s kind table.tree w.level way w.owned w.symbol_nodes w.number w.ends) in
+      one_way V segment name w.level table.tree way way' w.sought
+      (subst (λ (l : ℕ). IsWayTo V (name_behind segment name) l table.tree way') levels w'.sought) steps
+
+  abbrev IsKeptNode : Space → ℕ → Type 0
+  IsKeptNode t n = (node_at t.bytes kind n ≡ V n) × AllByRecursion (λ key. heap_text t table (offset_in key) ≡ heap_text s table (offset_in key)) (V n).keys
+
+  first_node : (P : ℕ → Type 0) (level : ℕ) → AllByRecursion P (nodes V level (table.tree ∷ [])) → P table.tree
+  first_node P zero all = all.0
+  first_node P (suc level) all = all.0
+
+  -- ---- where its nodes read as before and their keys name the same texts
+
+  module _ (t : Space) (links' : List (List ℕ × Target)) (spare' : List ℕ) (blocks' : List Block) (h : IsGroupIn t table links' spare' blocks')
+      (internal : internal_k t.bytes ≡ internal_k s.bytes) (kept : AreNodesKept s t table (g.linked).owned) where
+    abbrev W : Reading
+    W = node_at t.bytes (kind_in t.bytes)
+
+    node_there : (n : ℕ) → W n ≡ node_at t.bytes kind n
+    node_there n = ap (λ (k : ℕ). node_at t.bytes (group_kind k) n) internal
+
+    -- the root reads as before
+    pub root_stays : W table.tree ≡ V table.tree
+    root_stays =
+        let has = g.linked in
+        node_there table.tree
+        ∙ (first_node (IsKeptNode t) has.level (subst (AllByRecursion (IsKeptNode t)) (owned_is s.bytes kind table.tree has.level has.owned has.symbol_nodes has.tree) kept)).0
+
+    module _ (way : List Step) (w : IsWayOf s table name way) where
+      owned_is_own : (g.linked).owned ≡ w.owned
+      owned_is_own =
+          let has = g.linked in
+          one_owned s.bytes kind table.tree has.level w.level has.owned w.owned has.symbol_nodes w.symbol_nodes has.tree w.ends.tree
+
+      steps_kept : AllByRecursion (λ (step : Step). IsKeptNode t step.node) way
+      steps_kept =
+          all_map (λ (step : Step). Listed w.owned step.node) (λ (step : Step). IsKeptNode t step.node)
+          (λ step at. at_listed (IsKeptNode t) w.owned step.node (subst (AllByRecursion (IsKeptNode t)) owned_is_own kept) at) way
+          (way_owned s kind table.tree w.level way w.owned w.symbol_nodes w.number w.ends)
+
+      abbrev IsSame : Step → Type 0
+      IsSame = IsSameStep V W (behind_of s table name) (behind_of t table name)
+
+      same_step : (step : Step) → IsKeptNode t step.node → IsSame step
+      same_step step is =
+          let bytes = node_bytes s.bytes kind step.node in
+          let keys = length-keys kind bytes (V step.node) refl in
+          let children = length-children kind bytes (V step.node) refl in (
+            node_there step.node ∙ is.0,
+            omega (arith, keys, children),
+            all_so (λ key. heap_text t table (offset_in key) ≡ heap_text s table (offset_in key)) (λ key. behind_of t table name key ≡ behind_of s table name key) (V step.node).keys
+                (λ key same. ap (λ (text : List ℕ). is_lt (slice_cmp nat_cmp text name)) same) is.1,
+          )
+
+      -- the way is one still
+      pub way_stays : IsWayOf t table name way
+      way_stays =
+          let all = all_map (λ (step : Step). IsKeptNode t step.node) IsSame same_step way steps_kept in
+          let to : IsWayTo W (behind_of t table name) w.level table.tree way
+          = way_kept V W (behind_of s table name) (behind_of t table name) w.level table.tree way w.sought all in
+          let level : w.level ≡ (W table.tree).level
+          = sym (level_is s.bytes kind table.tree w.level w.owned w.symbol_nodes w.ends.tree) ∙ ap (λ (n : Node). n.level) (sym root_stays) in
+          way_of t table links' spare' blocks' h name way (subst (λ (l : ℕ). IsWayTo W (behind_of t table name) l table.tree way) level to)
+
+      -- and where it is full, it was
+      steps_full : (steps : List Step) → AllByRecursion (λ (step : Step). IsKeptNode t step.node) steps → IsFullWay t.bytes (kind_in t.bytes) steps → IsFullWay s.bytes kind steps
+      steps_full [] kept full = tt
+      steps_full (step ∷ steps) kept full = (
+        ap (λ (n : Node). length n.children) (sym (node_there step.node ∙ kept.0.0)) ∙ full.0 ∙ ap (λ (k : ℕ). 2 * k) internal,
+        steps_full steps kept.1 full.1,
+      )
+
+      pub full_before : IsFullWay t.bytes (kind_in t.bytes) way → IsFullWay s.bytes kind way
+      full_before full = steps_full way steps_kept full
+
+      -- with the symbol node at its end as it was
+      module _ (step : Step) (above : List Step) (is : way ≡ step ∷ above) where
+        pub below_stays : node_below t table step ≡ node_below s table step
+        below_stays =
+            let first = (subst (AllByRecursion (λ (st : Step). IsKeptNode t st.node)) is steps_kept).0 in
+            ap (λ (n : Node). slice_index n.children step.place) (node_there step.node ∙ first.0)
+
+        abbrev IsKeptAt : ℕ → Type 0
+        IsKeptAt n = symbols_at t.bytes (leaf_k t.bytes) n ≡ symbols_at s.bytes (leaf_k s.bytes) n
+
+        pub entries_stay : ((n : ℕ) → Contains (symbol_nodes_told s.bytes table) n → IsKeptAt n) → entries_below t table step ≡ entries_below s table step
+        entries_stay same =
+            ap (symbols_at t.bytes (leaf_k t.bytes)) below_stays
+            ∙ same (node_below s table step)
+            (end_told s table links spare blocks g w.level way w.owned w.symbol_nodes w.number w.ends (node_below s table step)
+            (λ other rest also.
+            let both : step ∷ above ≡ other ∷ rest = sym is ∙ also in
+            let one : step ≡ other = cc in
+            ap (node_below s table) one))

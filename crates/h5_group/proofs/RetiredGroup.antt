@@ -1,0 +1,333 @@
+-- A group no key of which names a text that stands on its own: its keys gave way, and all links stay.
+use Rattle.std.proofs.Common.{◌≡◌, ◌≢◌, ◌⊎◌, ℕ, zero, suc, ◌+◌, ◌*◌, ◌^◌, ◌<◌, ◌≤◌, ◌==◌, Bool, true, false, inl, inr, List, [], ◌∷◌, ◌++◌, length, map, refl, sym, ap, ◌∙◌, subst, arith, append-nil}
+use Rattle.std.specs.Bool.{⊤}
+use Rattle.std.specs.List.{AllByRecursion, Contains, flat_map}
+use Rattle.std.proofs.lemmas.Bool.{eqb-false, ne_eqb}
+use Rattle.std.proofs.lemmas.List.{map-append}
+use Rattle.h5_bytes.specs.Blocks.{block, cover, holds, Inside}
+use Rattle.h5_bytes.specs.Bytes.{byte_at, number_at}
+use Rattle.h5_bytes.specs.Numbers.{word}
+use Rattle.h5_bytes.specs.Texts.{text_at}
+use Rattle.h5_bytes.specs.declared.Block.{Block}
+use Rattle.h5_bytes.proofs.BlockLaws.{all_append, all_left, all_right, all_so, cover-append, holds_in}
+use Rattle.h5_bytes.proofs.PartLaws.{length-part}
+use Rattle.h5_model.specs.Format.Addresses.{SymbolTable}
+use Rattle.h5_model.specs.Format.Superblock.{leaf_k}
+use Rattle.h5_model.specs.Format.Heap.{HasNames, KeyNames, heap_blocks, segment_block, segment_of, span_of}
+use Rattle.h5_model.specs.Format.Links.{Ascend, Before, IsOrdered, Symbols, key_offsets, names_in, offset_in}
+use Rattle.h5_model.specs.Format.Nodes.{Kind, node_at, reading_of, tree_blocks}
+use Rattle.h5_model.specs.Format.Rows.{Node, Reading}
+use Rattle.h5_model.specs.Format.Symbols.{Entry, IsSymbolNode, Target, entries_of, link_of, symbol_block, symbols_at, symbols_of, texts_of}
+use Rattle.h5_model.proofs.NumberLaws.{reads_back}
+use Rattle.h5_model.proofs.RowLaws.{all_listed, at_listed, only_here}
+use Rattle.h5_laws.specs.NameLadders.{key_text, name_lists, name_sides}
+use Rattle.h5_laws.proofs.Ascending.{before_trans}
+use Rattle.h5_laws.proofs.Lists.{In, all_in, contains_in, in_all, in_contains, in_flat, in_left, in_map, in_right}
+use Rattle.h5_laws.proofs.NameLadders.{names_under}
+use Rattle.h5_space.specs.Space.{Space}
+use Rattle.h5_space.specs.Whole.{IsApart}
+use Rattle.h5_btree.specs.Keyed.{items_of_tree}
+use Rattle.h5_btree.specs.Retired.{IsRetirable, IsTreeRetired, lowest_key}
+use Rattle.h5_btree.proofs.KeyedForms.{group_in_order, group_ordered, names_at_child, names_bottom}
+use Rattle.h5_btree.proofs.KeyedNames.{AreAscending}
+use Rattle.h5_btree.proofs.KeyedOrder.{items-tree}
+use Rattle.h5_btree.proofs.RetiredBeside.{stays_beside}
+use Rattle.h5_btree.proofs.RetiredGroups.{group_retired}
+use Rattle.h5_btree.proofs.TreeReadings.{Listed, owned_at}
+use Rattle.h5_group.specs.Edited.{HasGroupMoved, IsGroupIn, IsNamedByNoKey}
+use Rattle.h5_group.specs.Nodes.Trees.{kind_in}
+use Rattle.h5_group.specs.Retired.{StandsAt, is_of, entry_keys, name_keys}
+use Rattle.h5_group.proofs.RetiredKeys.{retired_keys}
+use Rattle.h5_group.proofs.TreeMoves.{heap_kept, keys_moved, kind_now}
+use Rattle.h5_group.proofs.Ways.{cover_parts, heap_inside, symbols_inside, trees_apart}
+
+-- ---- texts that stand apart
+
+-- the bytes of a text are of the texts
+held_by : (segment : List ℕ) (xs : List ℕ) (x : ℕ) → In x xs → 1 ≤ cover x (map (span_of segment) xs)
+held_by segment [] x there = absurd there
+held_by segment (y ∷ xs) x (inl e) =
+    let here : holds x y (span_of segment y).len ≡ 1 = subst (λ (z : ℕ). holds z y (span_of segment y).len ≡ 1) e (holds_in y y (span_of segment y).len (omega arith) (omega arith)) in
+    omega (arith, here)
+held_by segment (y ∷ xs) x (inr there) = let rest = held_by segment xs x there in omega (arith, rest)
+
+module _ (segment : List ℕ) (free : List Block) (names texts keys loose : List ℕ) (has : HasNames segment free names texts keys loose) (offset : ℕ) (spared : In offset loose) where
+  spans : (p : ℕ) → cover p (map (span_of segment) (names ++ texts ++ loose))
+      ≡ (cover p (map (span_of segment) names) + cover p (map (span_of segment) texts)) + cover p (map (span_of segment) loose)
+  spans p =
+      ap (cover p) (map-append (span_of segment) (names ++ texts) loose) ∙ cover-append p (map (span_of segment) (names ++ texts)) (map (span_of segment) loose)
+      ∙ ap (λ (n : ℕ). n + cover p (map (span_of segment) loose))
+      (ap (cover p) (map-append (span_of segment) names texts) ∙ cover-append p (map (span_of segment) names) (map (span_of segment) texts))
+
+  -- one on its own is not a name, and not the empty name
+  pub not_named : (n : ℕ) → In n names → n ≢ offset
+  not_named n there same =
+      let name : 1 ≤ cover offset (map (span_of segment) names) = subst (λ (p : ℕ). 1 ≤ cover p (map (span_of segment) names)) same (held_by segment names n there) in
+      let alone = held_by segment loose offset spared in
+      let all = cover-append offset (map (span_of segment) (names ++ texts ++ loose)) free in
+      omega (arith, name, alone, spans offset, all, has.apart offset)
+
+  pub not_empty : 0 ≢ offset
+  not_empty same =
+      let alone : 1 ≤ cover 0 (map (span_of segment) loose) = subst (λ (p : ℕ). 1 ≤ cover p (map (span_of segment) loose)) (sym same) (held_by segment loose offset spared) in
+      let here = holds_in 0 0 8 (omega arith) (omega arith) in
+      let all = cover-append 0 (map (span_of segment) (names ++ texts ++ loose)) free in
+      omega (arith, here, alone, spans 0, all, has.apart 0)
+
+  -- names lie in the segment
+  pub name_low : (n : ℕ) → In n names → n ≤ length segment
+  name_low n there =
+      let low = in_all (λ (b : Block). b.at + b.len ≤ length segment) (span_of segment n) (map (span_of segment) (names ++ texts ++ loose)) has.within
+      (in_map (span_of segment) n (names ++ texts ++ loose) (in_left n (names ++ texts) loose (in_left n names texts there))) in
+      omega (arith, low)
+
+-- ---- keys of eight bytes
+
+offset_is : (n : ℕ) → n < 2 ^ 64 → offset_in (word n) ≡ n
+offset_is n low = ap (λ (bytes : List ℕ). number_at bytes 0 8) (sym (append-nil (word n))) ∙ reads_back 8 n [] (omega (arith, low))
+
+lowest_is : offset_in lowest_key ≡ 0
+unfolding number_at
+lowest_is = refl
+
+begins_empty : (segment : List ℕ) → byte_at segment 0 ≡ 0 → text_at segment 0 ≡ []
+unfolding text_at
+begins_empty [] is = refl
+begins_empty (b ∷ bs) is = rw is refl
+
+-- ---- names that ascend
+
+rise_after : (segment : List ℕ) (e : Entry) (es : List Entry) → Ascend (map (link_of segment) (e ∷ es)) → AllByRecursion (Before (text_at segment e.name)) (map (λ (x : Entry). text_at segment x.name) es)
+rise_after segment e [] rises = tt
+rise_after segment e (f ∷ es) rises = (
+  rises.0,
+  all_so (Before (text_at segment f.name)) (Before (text_at segment e.name)) (map (λ (x : Entry). text_at segment x.name) es)
+      (λ n behind. before_trans (text_at segment e.name) (text_at segment f.name) n rises.0 behind) (rise_after segment f es rises.1),
+)
+
+names_rise : (segment : List ℕ) (es : List Entry) → Ascend (map (link_of segment) es) → AreAscending (map (λ (x : Entry). text_at segment x.name) es)
+names_rise segment [] rises = tt
+names_rise segment (e ∷ []) rises = (tt, tt)
+names_rise segment (e ∷ f ∷ es) rises = (rise_after segment e (f ∷ es) rises, names_rise segment (f ∷ es) rises.1)
+
+-- ---- a group
+
+module _ (s : Space) (table : SymbolTable) (links : List (List ℕ × Target)) (spare : List ℕ) (blocks : List Block) (group : IsGroupIn s table links spare blocks) (offset : ℕ)
+    (spared : Contains spare offset) where
+  abbrev kind : Kind
+  kind = kind_in s.bytes
+
+  abbrev leaf : ℕ
+  leaf = leaf_k s.bytes
+
+  abbrev level : ℕ
+  level = (group.linked).level
+
+  abbrev owned : List ℕ
+  owned = (group.linked).owned
+
+  abbrev symbol_nodes : List ℕ
+  symbol_nodes = (group.linked).symbol_nodes
+
+  abbrev S : Symbols
+  S = symbols_of s.bytes leaf symbol_nodes
+
+  abbrev segment : List ℕ
+  segment = segment_of s.bytes table.heap
+
+  abbrev names : List ℕ
+  names = map (λ (e : Entry). e.name) (flat_map S symbol_nodes)
+
+  abbrev texts : List ℕ
+  texts = texts_of (flat_map S symbol_nodes)
+
+  abbrev loose : List ℕ
+  loose = (group.linked).listed.loose
+
+  abbrev Names : ℕ → Type 0
+  Names = KeyNames (names ++ texts) loose
+
+  abbrev hit : List ℕ → Bool
+  hit = is_of offset
+
+  has : HasNames segment (group.linked).listed.free names texts (key_offsets (reading_of s.bytes kind owned) owned) loose
+  has = (group.linked).listed.spans
+
+  there : In offset loose
+  there = subst (In offset) (sym group.spared) (in_left offset spare group.more (in_contains offset spare spared))
+
+  segment_short : length segment < 2 ^ 63
+  segment_short =
+      let inside = (heap_inside s table links spare blocks group).1.0 in
+      let long = length-part (segment_block s.bytes table.heap).at (segment_block s.bytes table.heap).len s.bytes inside in
+      let short = group.short in
+      omega (arith, inside, long, short)
+
+  -- ---- what is so of the names
+
+  abbrev IsNameOf : Entry → Type 0
+  IsNameOf e = (offset_in (word e.name) ≡ e.name) × (e.name ≢ offset) × Names e.name
+
+  abbrev ListedSo : ℕ → Type 0
+  ListedSo c = AllByRecursion IsNameOf (symbols_at s.bytes leaf c)
+
+  name_so : (c : ℕ) → In c symbol_nodes → (e : Entry) → In e (symbols_at s.bytes leaf c) → IsNameOf e
+  name_so c in_list e in_node =
+      let own : symbols_at s.bytes leaf c ≡ S c = in_all (λ n. symbols_at s.bytes leaf n ≡ S n) c symbol_nodes (only_here [] (symbols_at s.bytes leaf) symbol_nodes) in_list in
+      let listed : In e.name names = in_map (λ (x : Entry). x.name) e (flat_map S symbol_nodes) (in_flat S c e symbol_nodes in_list (subst (In e) own in_node)) in
+      let low = name_low segment (group.linked).listed.free names texts (key_offsets (reading_of s.bytes kind owned) owned) loose has offset there e.name listed in
+      let short = segment_short in (
+        offset_is e.name (omega (arith, low, short)),
+        not_named segment (group.linked).listed.free names texts (key_offsets (reading_of s.bytes kind owned) owned) loose has offset there e.name listed,
+        inr (inl (contains_in e.name (names ++ texts) (in_left e.name names texts listed))),
+      )
+
+  all_names_so : AllByRecursion ListedSo symbol_nodes
+  all_names_so = all_in ListedSo symbol_nodes (λ c in_list. all_in IsNameOf (symbols_at s.bytes leaf c) (name_so c in_list))
+
+  -- ---- the tree's keys may give way
+
+  keys_unhit : (es : List Entry) → AllByRecursion IsNameOf es → AllByRecursion (λ (key : List ℕ). hit key ≡ false) (name_keys es)
+  keys_unhit [] all = tt
+  keys_unhit (e ∷ es) all = (ne_eqb (offset_in (word e.name)) offset (λ same. all.0.1 (sym all.0.0 ∙ same)), keys_unhit es all.1)
+
+  no_entry_hit : AllByRecursion (λ at. AllByRecursion (λ (key : List ℕ). hit key ≡ false) (entry_keys leaf s.bytes at)) symbol_nodes
+  no_entry_hit = all_so ListedSo (λ at. AllByRecursion (λ (key : List ℕ). hit key ≡ false) (entry_keys leaf s.bytes at)) symbol_nodes
+      (λ c all. keys_unhit (symbols_at s.bytes leaf c) all) all_names_so
+
+  nodes_apart : IsApart (tree_blocks kind owned ++ map (symbol_block leaf) symbol_nodes) s.free (length s.bytes)
+  nodes_apart p = omega (
+    arith,
+    group.apart p,
+    cover_parts s table links spare blocks group p,
+    cover-append p (tree_blocks kind owned) (map (symbol_block leaf) symbol_nodes),
+  )
+
+  pub retirable : IsRetirable hit (StandsAt leaf) (entry_keys leaf) s kind table.tree level owned symbol_nodes
+  retirable = record {
+    tree = (group.linked).tree;
+    apart = trees_apart s table links spare blocks group;
+    width = refl;
+    lowest = ne_eqb (offset_in lowest_key) offset
+        (λ same. not_empty segment (group.linked).listed.free names texts (key_offsets (reading_of s.bytes kind owned) owned) loose has offset there (sym lowest_is ∙ same));
+    named = no_entry_hit;
+    stays = stays_beside (8 + 80 * leaf) (IsSymbolNode leaf) (λ (bytes : List ℕ). name_keys (entries_of bytes)) s kind owned symbol_nodes nodes_apart
+        (symbols_inside s table links spare blocks group) (group.linked).formed;
+  }
+
+  -- ---- and have given way
+
+  module _ (t : Space) (is : IsTreeRetired hit (entry_keys leaf) s t kind table.tree level owned symbol_nodes) (short : length t.bytes ≤ length s.bytes) where
+    abbrev V : Reading
+    V = node_at s.bytes kind
+
+    abbrev W : Reading
+    W = node_at t.bytes kind
+
+    abbrev Y : Reading
+    Y = reading_of s.bytes kind owned
+
+    abbrev Z : Reading
+    Z = reading_of t.bytes kind owned
+
+    empty : key_text segment lowest_key ≡ []
+    empty = ap (text_at segment) lowest_is ∙ begins_empty segment has.empty
+
+    texts_of_keys : (es : List Entry) → AllByRecursion IsNameOf es → map (λ (e : Entry). text_at segment e.name) es ≡ map (key_text segment) (name_keys es)
+    texts_of_keys [] all = refl
+    texts_of_keys (e ∷ es) all =
+        ap (λ (n : List ℕ). n ∷ map (λ (x : Entry). text_at segment x.name) es) (ap (text_at segment) (sym all.0.0))
+        ∙ ap (λ (ns : List (List ℕ)). key_text segment (word e.name) ∷ ns) (texts_of_keys es all.1)
+
+    same : AllByRecursion (λ c. names_in S segment (c ∷ []) ≡ map (key_text segment) (entry_keys leaf s.bytes c)) symbol_nodes
+    same = all_in (λ c. names_in S segment (c ∷ []) ≡ map (key_text segment) (entry_keys leaf s.bytes c)) symbol_nodes (λ c in_list.
+        let own : symbols_at s.bytes leaf c ≡ S c = in_all (λ n. symbols_at s.bytes leaf n ≡ S n) c symbol_nodes (only_here [] (symbols_at s.bytes leaf) symbol_nodes) in_list in
+        ap (map (λ (e : Entry). text_at segment e.name)) (append-nil (S c) ∙ sym own)
+        ∙ texts_of_keys (symbols_at s.bytes leaf c) (in_all ListedSo c symbol_nodes all_names_so in_list))
+
+    all_names : items_of_tree (λ (b : List (List ℕ)). b) s.bytes kind (names_at_child S segment) level table.tree ≡ names_in S segment symbol_nodes
+    all_names =
+        items-tree (name_sides (key_text segment)) (λ (b : List (List ℕ)). b) (λ (b : List (List ℕ)). ⊤) (names_at_child S segment) s.bytes kind table.tree level owned symbol_nodes
+        (group.linked).tree (name_lists S segment) (names_bottom s.bytes kind owned S segment)
+        ∙ names_under Y S segment level table.tree ∙ ap (names_in S segment) (sym ((group.linked).tree).all)
+
+    ascend : AreAscending (items_of_tree (λ (b : List (List ℕ)). b) s.bytes kind (names_at_child S segment) level table.tree)
+    ascend = subst AreAscending (sym all_names) (names_rise segment (flat_map S symbol_nodes) (subst Ascend (group.linked).listed.all (group.linked).listed.ascending))
+
+    ordered_now : AllByRecursion (λ at. IsOrdered Z S segment (Z at)) owned
+    ordered_now =
+        group_ordered t.bytes kind table.tree level owned symbol_nodes is.tree S segment
+        (group_retired hit (entry_keys leaf) s t kind table.tree level owned symbol_nodes (group.linked).tree is S segment empty same ascend
+        (group_in_order s.bytes kind table.tree level owned symbol_nodes (group.linked).tree S segment (group.linked).listed.ordered)).0
+
+    -- ---- each key names a text still
+
+    abbrev NamesIn : List ℕ → Type 0
+    NamesIn key = Names (offset_in key)
+
+    abbrev HaveNames : ℕ → Type 0
+    HaveNames n = AllByRecursion NamesIn (V n).keys
+
+    abbrev HaveNamesNow : ℕ → Type 0
+    HaveNamesNow n = AllByRecursion NamesIn (W n).keys
+
+    unmapped : (P : ℕ → Type 0) (keys : List (List ℕ)) → AllByRecursion P (map offset_in keys) → AllByRecursion (λ (key : List ℕ). P (offset_in key)) keys
+    unmapped P [] all = tt
+    unmapped P (k ∷ keys) all = (all.0, unmapped P keys all.1)
+
+    mapped : (P : ℕ → Type 0) (keys : List (List ℕ)) → AllByRecursion (λ (key : List ℕ). P (offset_in key)) keys → AllByRecursion P (map offset_in keys)
+    mapped P [] all = tt
+    mapped P (k ∷ keys) all = (all.0, mapped P keys all.1)
+
+    old_parts : (ns : List ℕ) → AllByRecursion (Listed owned) ns → AllByRecursion Names (key_offsets Y ns) → AllByRecursion HaveNames ns
+    old_parts [] listed all = tt
+    old_parts (n ∷ ns) listed all = (
+      unmapped Names (V n).keys (subst (λ (o : Node). AllByRecursion Names (map offset_in o.keys)) (owned_at V owned n listed.0)
+          (all_left Names (map offset_in (Y n).keys) (key_offsets Y ns) all)),
+      old_parts ns listed.1 (all_right Names (map offset_in (Y n).keys) (key_offsets Y ns) all),
+    )
+
+    entry_names : (es : List Entry) → AllByRecursion IsNameOf es → AllByRecursion NamesIn (name_keys es)
+    entry_names [] all = tt
+    entry_names (e ∷ es) all = (subst Names (sym all.0.0) all.0.2, entry_names es all.1)
+
+    names_now : AllByRecursion HaveNamesNow owned
+    names_now =
+        retired_keys NamesIn (λ (key : List ℕ). hit key ≡ true) lowest_key (inl lowest_is) s t kind table.tree level owned symbol_nodes (group.linked).tree is.tree (entry_keys leaf s.bytes) is.keys
+        (old_parts owned (all_listed owned) has.keyed)
+        (all_so ListedSo (λ c. AllByRecursion NamesIn (entry_keys leaf s.bytes c)) symbol_nodes (λ c all. entry_names (symbols_at s.bytes leaf c) all) all_names_so)
+
+    -- of a fact on the offset in each key
+    joined : (P : ℕ → Type 0) (ns : List ℕ) → AllByRecursion (λ n. AllByRecursion (λ (key : List ℕ). P (offset_in key)) (W n).keys) ns → AllByRecursion P (key_offsets W ns)
+    joined P [] all = tt
+    joined P (n ∷ ns) all = all_append P (map offset_in (W n).keys) (key_offsets W ns) (mapped P (W n).keys all.0) (joined P ns all.1)
+
+    joined_own : (P : ℕ → Type 0) (ns : List ℕ) → AllByRecursion (Listed owned) ns → AllByRecursion (λ n. AllByRecursion (λ (key : List ℕ). P (offset_in key)) (W n).keys) ns
+        → AllByRecursion P (key_offsets Z ns)
+    joined_own P [] listed all = tt
+    joined_own P (n ∷ ns) listed all =
+        all_append P (map offset_in (Z n).keys) (key_offsets Z ns)
+        (subst (λ (o : Node). AllByRecursion P (map offset_in o.keys)) (sym (owned_at W owned n listed.0)) (mapped P (W n).keys all.0)) (joined_own P ns listed.1 all.1)
+
+    keyed_now : AllByRecursion Names (key_offsets Z owned)
+    keyed_now = joined_own Names owned (all_listed owned) names_now
+
+    -- ---- so all links stay, and no key names the text
+
+    moved : (m : HasGroupMoved s t table blocks links spare) × (((m.group).linked).owned ≡ owned)
+    moved = keys_moved s t table links spare blocks group is.moves is.tree ordered_now keyed_now (let low = group.short in omega (arith, low, short))
+
+    others : (keys : List (List ℕ)) → AllByRecursion (λ (key : List ℕ). hit key ≡ false) keys → AllByRecursion (λ (key : List ℕ). offset_in key ≢ offset) keys
+    others keys all = all_so (λ (key : List ℕ). hit key ≡ false) (λ (key : List ℕ). offset_in key ≢ offset) keys (λ key unhit. eqb-false (offset_in key) offset unhit) all
+
+    unnamed : AllByRecursion (λ key. key ≢ offset) (key_offsets W owned)
+    unnamed = joined (λ key. key ≢ offset) owned
+        (all_so (λ n. AllByRecursion (λ (key : List ℕ). hit key ≡ false) (W n).keys) (λ n. AllByRecursion (λ (key : List ℕ). offset_in key ≢ offset) (W n).keys) owned
+        (λ n all. others (W n).keys all) is.unhit)
+
+    pub group_moved : (m : HasGroupMoved s t table blocks links spare) × IsNamedByNoKey t table links spare m.blocks m.group offset
+    group_moved = (
+      moved.0,
+      subst (λ (ns : List ℕ). AllByRecursion (λ key. key ≢ offset) (key_offsets (node_at t.bytes (kind_in t.bytes)) ns)) (sym moved.1)
+          (subst (λ (k : Kind). AllByRecursion (λ key. key ≢ offset) (key_offsets (node_at t.bytes k) owned)) (sym (kind_now s t table links spare blocks group is.moves)) unnamed),
+    )

@@ -1,0 +1,202 @@
+-- The way that is found in a group's tree: it ends there, and the symbol node at its end has the name, if the group has it.
+use Rattle.std.proofs.Common.{◌≡◌, ℕ, zero, suc, ◌+◌, ◌-◌, ◌≤◌, Bool, inl, inr, List, [], ◌∷◌, ◌++◌, length, map, slice_index, refl, sym, ap, ◌∙◌, subst, arith}
+use Rattle.std.specs.Prelude.{Option, Some, None, IfSome}
+use Rattle.std.specs.List.{AllByRecursion, Contains}
+use Rattle.std.proofs.lemmas.Bool.{cases_lt}
+use Rattle.h5_bytes.specs.Blocks.{cover, holds, Inside}
+use Rattle.h5_bytes.specs.declared.Block.{Block}
+use Rattle.h5_bytes.proofs.BlockLaws.{all_append, all_left, all_right, cover-append, holds_in, holds_past}
+use Rattle.h5_model.specs.Format.Addresses.{SymbolTable}
+use Rattle.h5_model.specs.Format.Superblock.{leaf_k, internal_k}
+use Rattle.h5_model.specs.Format.Heap.{heap_blocks, segment_of}
+use Rattle.h5_model.specs.Format.Links.{HasLinks, names_in}
+use Rattle.h5_model.specs.Format.Nodes.{Kind, node_at, tree_blocks}
+use Rattle.h5_model.specs.Format.Rows.{Reading}
+use Rattle.h5_model.specs.Format.Symbols.{Target, symbol_block, symbols_at}
+use Rattle.h5_model.proofs.OneTree.{level_is}
+use Rattle.h5_space.specs.Space.{Space}
+use Rattle.h5_space.specs.Whole.{IsApart}
+use Rattle.h5_btree.specs.Descent.{EndsAt, IsChildFor, IsWayTo}
+use Rattle.h5_btree.specs.Removal.{EndsInTree}
+use Rattle.h5_btree.specs.declared.way.Step.{Step}
+use Rattle.h5_btree.proofs.WayInTree.{way_in_tree}
+use Rattle.h5_group.specs.Edited.{IsGroupIn, node_below}
+use Rattle.h5_group.specs.Links.{IsGroupRead}
+use Rattle.h5_group.specs.Nodes.Trees.{kind_in}
+use Rattle.h5_group.specs.Told.{links_told, symbol_nodes_told}
+use Rattle.h5_group.specs.Ways.{IsWayOf, behind_of}
+use Rattle.h5_group.proofs.ToldLaws.{links_are_told, blocks_are_told}
+use Rattle.h5_group.proofs.Way.{leaf_has}
+
+-- ---- blocks that are apart lie in the image, where none is empty
+
+abbrev pub IsSome : Block → Type 0
+IsSome b = 1 ≤ b.len
+
+block_inside : (b : Block) (end : ℕ) → IsSome b → ((p : ℕ) → holds p b.at b.len ≤ holds p 0 end) → b.at + b.len ≤ end
+block_inside b end some apart =
+    let last = b.at + (b.len - 1) in
+    let here : holds last b.at b.len ≡ 1 = holds_in last b.at b.len (omega arith) (omega (arith, some)) in
+    elim (cases_lt last end) [
+      | inl low ↦ omega (arith, low, some)
+      | inr past ↦ absurd (omega (arith, here, apart last, holds_past last 0 end (omega (arith, past))))
+    ]
+
+pub apart_inside : (used free : List Block) (end : ℕ) → AllByRecursion IsSome used → IsApart used free end → Inside end used
+apart_inside [] free end some apart = tt
+apart_inside (b ∷ used) free end some apart =
+    (block_inside b end some.0 (λ p. omega (arith, apart p)), apart_inside used free end some.1 (λ p. omega (arith, apart p)))
+
+nodes_some : (kind : Kind) (owned : List ℕ) → AllByRecursion IsSome (tree_blocks kind owned)
+nodes_some kind [] = tt
+nodes_some kind (n ∷ owned) = (omega arith, nodes_some kind owned)
+
+symbols_some : (leaf : ℕ) (symbol_nodes : List ℕ) → AllByRecursion IsSome (map (symbol_block leaf) symbol_nodes)
+symbols_some leaf [] = tt
+symbols_some leaf (n ∷ symbol_nodes) = (omega arith, symbols_some leaf symbol_nodes)
+
+-- ---- the steps of a way
+
+module _ (V : Reading) (behind : List ℕ → Bool) where
+  way_first : (level at : ℕ) (way : List Step) → IsWayTo V behind level at way
+      → (step : Step) × (above : List Step) × (way ≡ step ∷ above) × EndsAt V behind level at (V step.node) step.place
+  way_first zero at way to = (record { node = at; place = to.0 }, [], to.2, (refl, to.1))
+  way_first (suc level) at way to =
+      let s : Step = record { node = at; place = to.0 } in
+      let r = way_first level (slice_index (V at).children to.0) to.1 to.3 in
+      (r.0, r.1 ++ s ∷ [], to.4 ∙ ap (λ (xs : List Step). xs ++ s ∷ []) r.2, (to.0, to.2, r.3))
+
+  -- the first one ends the way down
+  pub first_ends : (level at : ℕ) (step : Step) (above : List Step) → IsWayTo V behind level at (step ∷ above) → EndsAt V behind level at (V step.node) step.place
+  first_ends level at step above to =
+      let r = way_first level at (step ∷ above) to in
+      let both : step ∷ above ≡ r.0 ∷ r.1 = r.2 in
+      let first : r.0 ≡ step = cc in
+      subst (λ (s : Step). EndsAt V behind level at (V s.node) s.place) first r.3
+
+  abbrev pub IsChosen : Step → Type 0
+  IsChosen step = IsChildFor behind (V step.node) step.place
+
+  -- each goes on to the child for what is sought
+  pub way_chosen : (level at : ℕ) (way : List Step) → IsWayTo V behind level at way → AllByRecursion IsChosen way
+  way_chosen zero at way to = subst (AllByRecursion IsChosen) (sym to.2) (to.1, tt)
+  way_chosen (suc level) at way to =
+      subst (AllByRecursion IsChosen) (sym to.4)
+      (all_append IsChosen to.1 (record { node = at; place = to.0 } ∷ []) (way_chosen level (slice_index (V at).children to.0) to.1 to.3) (to.2, tt))
+
+-- ---- a group between the steps of an edit
+
+module _ (s : Space) (table : SymbolTable) (links : List (List ℕ × Target)) (spare : List ℕ) (blocks : List Block) (group : IsGroupIn s table links spare blocks) where
+  abbrev kind : Kind
+  kind = kind_in s.bytes
+
+  abbrev V : Reading
+  V = node_at s.bytes kind
+
+  abbrev trees : List Block
+  trees = tree_blocks kind (group.linked).owned
+
+  abbrev symbols : List Block
+  symbols = map (symbol_block (leaf_k s.bytes)) (group.linked).symbol_nodes
+
+  pub cover_parts : (p : ℕ) → cover p blocks ≡ cover p trees + (cover p symbols + cover p (heap_blocks s.bytes table.heap))
+  cover_parts p =
+      let all = ap (cover p) (group.linked).laid in
+      omega (arith, all, cover-append p (trees ++ symbols) (heap_blocks s.bytes table.heap), cover-append p trees symbols)
+
+  pub trees_apart : IsApart trees s.free (length s.bytes)
+  trees_apart p = omega (arith, group.apart p, cover_parts p)
+
+  all_some : AllByRecursion IsSome blocks
+  all_some =
+      let size = (group.linked).listed.heap_form.size in
+      subst (AllByRecursion IsSome) (sym (group.linked).laid)
+      (all_append IsSome (trees ++ symbols) (heap_blocks s.bytes table.heap)
+      (all_append IsSome trees symbols (nodes_some kind (group.linked).owned) (symbols_some (leaf_k s.bytes) (group.linked).symbol_nodes))
+      (omega arith, (omega (arith, size), tt)))
+
+  abbrev IsWithin : Block → Type 0
+  IsWithin b = b.at + b.len ≤ length s.bytes
+
+  -- its blocks lie in the image
+  pub all_inside : Inside (length s.bytes) blocks
+  all_inside = apart_inside blocks s.free (length s.bytes) all_some (λ p. omega (arith, group.apart p))
+
+  parts_inside : Inside (length s.bytes) ((trees ++ symbols) ++ heap_blocks s.bytes table.heap)
+  parts_inside = subst (Inside (length s.bytes)) (group.linked).laid all_inside
+
+  pub heap_inside : Inside (length s.bytes) (heap_blocks s.bytes table.heap)
+  heap_inside = all_right IsWithin (trees ++ symbols) (heap_blocks s.bytes table.heap) parts_inside
+
+  pub symbols_inside : Inside (length s.bytes) symbols
+  symbols_inside = all_right IsWithin trees symbols (all_left IsWithin (trees ++ symbols) (heap_blocks s.bytes table.heap) parts_inside)
+
+  pub trees_inside : Inside (length s.bytes) trees
+  trees_inside = all_left IsWithin trees symbols (all_left IsWithin (trees ++ symbols) (heap_blocks s.bytes table.heap) parts_inside)
+
+  -- it is one that can be read
+  pub group_read : IsGroupRead s.bytes table
+  group_read =
+      let told = links_are_told s.bytes table links blocks group.linked in
+      let blocks_told_are = blocks_are_told s.bytes table links blocks group.linked in
+      record {
+        linked = subst (λ (bs : List Block). HasLinks s.bytes (leaf_k s.bytes) (internal_k s.bytes) table.tree table.heap (links_told s.bytes table) bs) blocks_told_are
+            (subst (λ (ls : List (List ℕ × Target)). HasLinks s.bytes (leaf_k s.bytes) (internal_k s.bytes) table.tree table.heap ls blocks) told group.linked);
+        inside = subst (Inside (length s.bytes)) blocks_told_are all_inside;
+        few = group.few;
+      }
+
+  pub level_there : (V table.tree).level ≡ (group.linked).level
+  level_there = level_is s.bytes kind table.tree (group.linked).level (group.linked).owned (group.linked).symbol_nodes (group.linked).tree
+
+  -- a way that was found
+  module _ (name : List ℕ) (way : List Step) (to : IsWayTo V (behind_of s table name) (V table.tree).level table.tree way) where
+    own_level : IsWayTo V (behind_of s table name) (group.linked).level table.tree way
+    own_level = subst (λ (l : ℕ). IsWayTo V (behind_of s table name) l table.tree way) level_there to
+
+    pub way_leads : (k : ℕ) × EndsInTree s kind table.tree (group.linked).level way (group.linked).owned (group.linked).symbol_nodes k
+    way_leads =
+        way_in_tree s kind table.tree (group.linked).level (group.linked).owned (group.linked).symbol_nodes (behind_of s table name) way (group.linked).tree trees_apart
+        (let low = group.short in omega (arith, low)) own_level
+
+    pub way_of : IsWayOf s table name way
+    way_of = record {
+      level = (group.linked).level;
+      owned = (group.linked).owned;
+      symbol_nodes = (group.linked).symbol_nodes;
+      number = way_leads.0;
+      ends = way_leads.1;
+      sought = own_level;
+    }
+
+    pub way_has : (step : Step) (above : List Step) → way ≡ step ∷ above
+        → Contains (names_in (symbols_at s.bytes (leaf_k s.bytes)) (segment_of s.bytes table.heap) (symbol_nodes_told s.bytes table)) name
+        → Contains (names_in (symbols_at s.bytes (leaf_k s.bytes)) (segment_of s.bytes table.heap) (node_below s table step ∷ [])) name
+    way_has step above is =
+        let ends = first_ends V (behind_of s table name) (V table.tree).level table.tree step above
+        (subst (IsWayTo V (behind_of s table name) (V table.tree).level table.tree) is to) in
+        leaf_has s.bytes table group_read name (node_below s table step) (V step.node, step.place, ends, refl)
+
+-- ---- the same of what a search answers
+
+module _ (s : Space) (table : SymbolTable) (name : List ℕ) where
+  abbrev pub IsFound : List Step → Type 0
+  IsFound = IsWayTo (node_at s.bytes (kind_in s.bytes)) (behind_of s table name) (node_at s.bytes (kind_in s.bytes) table.tree).level table.tree
+
+  pub found_leads : (r : Option (List Step)) → IfSome r IsFound
+      → IfSome r (λ way. (links : List (List ℕ × Target)) (spare : List ℕ) (blocks : List Block) → (g : IsGroupIn s table links spare blocks)
+      → (k : ℕ) × EndsInTree s (kind_in s.bytes) table.tree (g.linked).level way (g.linked).owned (g.linked).symbol_nodes k)
+  found_leads None to = tt
+  found_leads (Some way) to = λ links spare blocks g. way_leads s table links spare blocks g name way to
+
+  module _ (links : List (List ℕ × Target)) (spare : List ℕ) (blocks : List Block) (group : IsGroupIn s table links spare blocks) where
+    pub found_of : (r : Option (List Step)) → IfSome r IsFound → IfSome r (IsWayOf s table name)
+    found_of None to = tt
+    found_of (Some way) to = way_of s table links spare blocks group name way to
+
+    pub found_has : (r : Option (List Step)) → IfSome r IsFound
+        → IfSome r (λ way. (step : Step) (above : List Step) → way ≡ step ∷ above
+        → Contains (names_in (symbols_at s.bytes (leaf_k s.bytes)) (segment_of s.bytes table.heap) (symbol_nodes_told s.bytes table)) name
+        → Contains (names_in (symbols_at s.bytes (leaf_k s.bytes)) (segment_of s.bytes table.heap) (node_below s table step ∷ [])) name)
+    found_has None to = tt
+    found_has (Some way) to = way_has s table links spare blocks group name way to

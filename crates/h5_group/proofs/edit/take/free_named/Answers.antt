@@ -1,0 +1,21 @@
+use Rattle.std.proofs.Common.{◌∷◌}
+use Rattle.h5_group.proofs.EditSteps.{first_spare, moved_then}
+use Rattle.h5_group.proofs.Freed.{released_from}
+use Rattle.h5_group.proofs.edit.take.free_named.Goals as goal
+
+pub free_text-requires : goal.free_text-requires
+free_text-requires c =
+    let (links, spare, blocks, g) = c.requires.group in
+    let r = c.retire_name.ensures.retired links (c.args.offset ∷ spare) blocks g (first_spare c.args.offset spare) in
+    record { group = (links, spare, r.0.blocks, r.0.group, r.1) }
+
+pub returns-clause-freed : goal.returns-clause-freed
+returns-clause-freed c links spare blocks g =
+    let r = c.retire_name.ensures.retired links (c.args.offset ∷ spare) blocks g (first_spare c.args.offset spare) in
+    moved_then c.args.image.now c.retire_name.new.image c.free_text.new.image c.args.table blocks links links (c.args.offset ∷ spare) spare r.0
+    (c.free_text.ensures.freed links spare r.0.blocks r.0.group r.1)
+
+pub returns-clause-released : goal.returns-clause-released
+returns-clause-released c =
+    released_from c.args.image.now.bytes c.retire_name.new.image.bytes c.free_text.new.image.bytes c.args.table.heap c.args.offset c.retire_name.ensures.header c.retire_name.ensures.segment
+    c.free_text.ensures.released

@@ -1,0 +1,163 @@
+//! A link taken out of a group (File Format Specification 3.0, sections III.A.1, III.B and III.D).
+
+ghost use Rattle.std.specs.Prelude.{◌≡◌, ℕ, ◌^◌, ◌≤◌, ◌++◌, Err, IfNone, IfSome, IsOk, List, [], ◌∷◌, OnErr, OnOk, Some, length, slice_get};
+ghost use Rattle.std.specs.List.{Contains};
+ghost use Rattle.h5_bytes.specs.declared.Block.{Block};
+ghost use Rattle.h5_model.specs.Format.Superblock.{internal_k, leaf_k};
+ghost use Rattle.h5_model.specs.Format.Heap.{segment_of, span_of};
+ghost use Rattle.h5_model.specs.Format.Symbols.{Entry, Target, link_of};
+ghost use Rattle.h5_space.specs.Moves.{Moves, Spends};
+ghost use Rattle.h5_heap.specs.Edited.{HasReleased};
+ghost use Rattle.h5_group.specs.Edited.{HasGroupMoved, IsGroupIn, IsLinkPut, IsSomeGroup};
+ghost use Rattle.h5_group.specs.LinkEdits.{IsGroupApart};
+ghost use Rattle.h5_group.specs.Links.{HasNone};
+ghost use Rattle.h5_group.specs.Nodes.Stands.{entries_at};
+ghost use Rattle.h5_group.specs.Removal.{AreReleased, HasNameFreed, HasTextsFreed, IsEntryPlace, offsets_named};
+ghost use Rattle.h5_group.specs.Told.{blocks_told, links_told};
+
+use crate::edit::drop::{drop_symbol_node, node_at_end};
+use crate::edit::entries::take_entry;
+use crate::edit::retire::retire_name;
+use crate::edit::texts::free_text;
+use crate::edit::way::way_to;
+use crate::read::{segment, symbol_node};
+use h5_btree::Way;
+use h5_msg::SymbolTable;
+use h5_snod::{SymbolEntry, SymbolTarget};
+use h5_space::{Image, SpaceFault};
+
+/// How many calls of `give` the removal of a link may need: 15 nodes below the root and a symbol node.
+const CALLS: u64 = 16;
+
+/// Takes the link of this name out of a group. All other links stay.
+///
+/// Its entry goes from the symbol node that is found by one way down the tree; a symbol node that is left without entries goes too, as do the
+/// nodes above that are left without children, but for the root. The name, and the text of a soft link, become free in the heap, and no key
+/// names them any more. The image keeps its length.
+///
+/// These are the caller's conditions: the group was read, on blocks that share no byte with each other, with the superblock or with a free
+/// block; it has a link of this name; and the image has at most 2147483648 bytes.
+///
+/// # Errors
+///
+/// `NoMemory`, but never where there is room for 16 calls already. A refusal changes nothing.
+pub fn remove_link(image: &mut Image, table: SymbolTable, name: &[u8]) -> Result<(), SpaceFault>
+    requires group { IsGroupApart image.old table }
+    requires short { length image.old.bytes ≤ 2 ^ 31 }
+    requires there { (t : Target) × Contains (links_told image.old.bytes table) (name.now, t) }
+    ensures taken { OnOk result ((t : Target) → Contains (links_told image.old.bytes table) (name.now, t)
+        → IsLinkPut (name.now, t) (links_told image.new.bytes table) (links_told image.old.bytes table)) }
+    ensures group { OnOk result (IsGroupApart image.new table) }
+    ensures moves { OnOk result (Moves image.old image.new (blocks_told image.old.bytes table)
+        (blocks_told image.new.bytes table)) }
+    ensures leaf { OnOk result (leaf_k image.new.bytes ≡ leaf_k image.old.bytes) }
+    ensures internal { OnOk result (internal_k image.new.bytes ≡ internal_k image.old.bytes) }
+    ensures freed { OnOk result (HasNameFreed image.old.bytes image.new.bytes table name.now) }
+    ensures spends { OnOk result (Spends image.old image.new 0 16) }
+    ensures cause { OnErr result (result ≡ Err SpaceFault.NoMemory) }
+    ensures err { OnErr result (image.new ≡ image.old) }
+    ensures covered { 16 ≤ image.old.room_blocks → IsOk result }
+{
+    image.reserve(0, CALLS)?;
+    take_link(image, table, name);
+    Ok(())
+}
+
+/// Takes the link of this name out of a group, in room that was reserved. Takes no memory.
+fn take_link(image: &mut Image, table: SymbolTable, name: &[u8])
+    requires group { (links : List (List ℕ × Target)) × (blocks : List Block)
+        × IsGroupIn image.old table links [] blocks }
+    requires blocks { 16 ≤ image.old.room_blocks }
+    ensures taken { (links : List (List ℕ × Target)) (blocks : List Block)
+        → IsGroupIn image.old table links [] blocks
+        → (t : Target) → Contains links (name.now, t)
+        → (links' : List (List ℕ × Target)) × IsLinkPut (name.now, t) links' links
+        × HasGroupMoved image.old image.new table blocks links' [] }
+    ensures freed { (links : List (List ℕ × Target)) (blocks : List Block)
+        → IsGroupIn image.old table links [] blocks
+        → (t : Target) → Contains links (name.now, t)
+        → HasNameFreed image.old.bytes image.new.bytes table name.now }
+    ensures spends { Spends image.old image.new 0 16 }
+{
+    if let Some(place) = place_of(image, table, name) {
+        take_at(image, table, &place);
+    }
+}
+
+/// Where an entry stands: the way to its symbol node, this node's address, and the index of the entry in it.
+#[derive(Drop)]
+struct EntryPlace {
+    way: Way,
+    node: u64,
+    index: usize,
+}
+
+/// Where the entry of this name stands; `None` where the group has no link of it.
+fn place_of(image: &Image, table: SymbolTable, name: &[u8]) -> Option<EntryPlace>
+    requires group { IsSomeGroup image.now table [] }
+    ensures found { IfSome result (IsEntryPlace image.now table name.now) }
+    ensures absent { IfNone result (HasNone image.now.bytes table name.now) }
+{
+    let way = way_to(image, table, name)?;
+    let node = node_at_end(image, table, &way);
+    let index = symbol_node(image, table, node)
+        .find(segment(image, table), name)
+        .ok()?;
+    Some(EntryPlace { way, node, index })
+}
+
+/// Takes the entry at this place out, its symbol node where no other entry is left, and its texts.
+fn take_at(image: &mut Image, table: SymbolTable, place: &EntryPlace)
+    requires group { IsSomeGroup image.old table [] }
+    requires place { (name : List ℕ) × IsEntryPlace image.old table name place.now }
+    requires blocks { 16 ≤ image.old.room_blocks }
+    ensures taken { (e : Entry) → slice_get (entries_at image.old.bytes place.now.node) place.now.index ≡ Some e
+        → (links : List (List ℕ × Target)) (blocks : List Block)
+        → IsGroupIn image.old table links [] blocks
+        → (links' : List (List ℕ × Target))
+        × IsLinkPut (link_of (segment_of image.old.bytes table.heap) e) links' links
+        × HasGroupMoved image.old image.new table blocks links' [] }
+    ensures freed { (e : Entry) → slice_get (entries_at image.old.bytes place.now.node) place.now.index ≡ Some e
+        → HasTextsFreed image.old.bytes image.new.bytes table e }
+    ensures spends { Spends image.old image.new 0 16 }
+{
+    let symbols = symbol_node(image, table, place.node);
+    let entry = symbols.entry(place.index);
+    let is_last = symbols.len() == 1;
+    take_entry(image, table, place.node, place.index / 2);
+    if is_last {
+        drop_symbol_node(image, table, &place.way);
+    }
+    free_texts(image, table, entry);
+}
+
+/// Frees the texts that an entry named.
+fn free_texts(image: &mut Image, table: SymbolTable, entry: SymbolEntry)
+    requires group { (links : List (List ℕ × Target)) × (spare : List ℕ) × (blocks : List Block)
+        × IsGroupIn image.old table links (offsets_named entry ++ spare) blocks }
+    ensures freed { (links : List (List ℕ × Target)) (spare : List ℕ) (blocks : List Block)
+        → IsGroupIn image.old table links (offsets_named entry ++ spare) blocks
+        → HasGroupMoved image.old image.new table blocks links spare }
+    ensures released { AreReleased image.old.bytes image.new.bytes table.heap (offsets_named entry) }
+    ensures spends { Spends image.old image.new 0 0 }
+{
+    free_named(image, table, entry.name);
+    if let SymbolTarget::Text(text) = entry.target {
+        free_named(image, table, u64::from(text));
+    }
+}
+
+/// Frees a text of the heap that no link names, and sets the keys that name it to others.
+fn free_named(image: &mut Image, table: SymbolTable, offset: u64)
+    requires group { (links : List (List ℕ × Target)) × (spare : List ℕ) × (blocks : List Block)
+        × IsGroupIn image.old table links (offset ∷ spare) blocks }
+    ensures freed { (links : List (List ℕ × Target)) (spare : List ℕ) (blocks : List Block)
+        → IsGroupIn image.old table links (offset ∷ spare) blocks
+        → HasGroupMoved image.old image.new table blocks links spare }
+    ensures released { HasReleased image.old.bytes image.new.bytes table.heap offset
+        (span_of (segment_of image.old.bytes table.heap) offset).len }
+    ensures spends { Spends image.old image.new 0 0 }
+{
+    retire_name(image, table, offset);
+    free_text(image, table, offset);
+}
