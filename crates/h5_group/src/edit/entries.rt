@@ -52,7 +52,8 @@ pub(crate) fn take_entry(image: &mut Image, table: SymbolTable, node: u64, k: us
     requires group { (spare : List ℕ) × IsSomeGroup image.old table spare }
     requires node { Contains (symbol_nodes_told image.old.bytes table) node }
     requires place { k < length (symbols_at image.old.bytes (leaf_of image.old.bytes) node) }
-    ensures taken { (e : Entry) → slice_get (symbols_at image.old.bytes (leaf_of image.old.bytes) node) k ≡ Some e
+    ensures taken { (e : Entry)
+        → slice_get (symbols_at image.old.bytes (leaf_of image.old.bytes) node) k ≡ Some e
         → HasEntryTaken image.old image.new table e }
     ensures ways { (way : List Step) (level : ℕ) (owned list : List ℕ) (number : ℕ)
         → EndsInTree image.old (kind_in image.old.bytes) table.tree level way owned list number
@@ -73,7 +74,8 @@ pub(crate) fn child_at(image: &Image, step: Step) -> u64
     requires long { 20 ≤ length image.now.bytes }
     requires few { internal_of image.now.bytes ≤ 32767 }
     requires there { IsNodeAt image.now.bytes OfGroup step.node }
-    requires place { step.place < length (node_at image.now.bytes (kind_in image.now.bytes) step.node).children }
+    requires place { step.place < length (node_at image.now.bytes (kind_in image.now.bytes)
+        step.node).children }
     ensures { slice_get (node_at image.now.bytes (kind_in image.now.bytes) step.node).children step.place
         ≡ Some result }
 {
@@ -84,8 +86,10 @@ pub(crate) fn child_at(image: &Image, step: Step) -> u64
 pub(crate) fn name_place(image: &Image, table: SymbolTable, node: u64, offset: u64) -> usize
     requires group { IsGroupRead image.now.bytes table }
     requires node { Contains (symbol_nodes_told image.now.bytes table) node }
-    requires new_name { HasNone image.now.bytes table (text_at (segment_of image.now.bytes table.heap) offset) }
-    ensures { IsPlace (entry_names (segment_of image.now.bytes table.heap) (symbols_at image.now.bytes (leaf_of image.now.bytes) node))
+    requires new_name { HasNone image.now.bytes table (text_at (segment_of image.now.bytes table.heap)
+        offset) }
+    ensures { IsPlace (entry_names (segment_of image.now.bytes table.heap) (symbols_at image.now.bytes
+        (leaf_of image.now.bytes) node))
         (text_at (segment_of image.now.bytes table.heap) offset) result }
 {
     let segment = segment(image, table);
@@ -101,7 +105,8 @@ fn put_in_node(image: &mut Image, node: u64, k: usize, symbol: NewSymbol)
     requires few { leaf_of image.old.bytes ≤ 32767 }
     requires there { IsSymbolsAt image.old.bytes node }
     requires place { k ≤ length (symbols_at image.old.bytes (leaf_of image.old.bytes) node) }
-    requires room { length (symbols_at image.old.bytes (leaf_of image.old.bytes) node) < 2 * leaf_of image.old.bytes }
+    requires room { length (symbols_at image.old.bytes (leaf_of image.old.bytes) node) < 2 * leaf_of
+        image.old.bytes }
     ensures { HasEntriesAt image.old image.new node
         (insert (symbols_at image.old.bytes (leaf_of image.old.bytes) node) k (entry_from symbol)) }
 {

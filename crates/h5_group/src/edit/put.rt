@@ -80,7 +80,8 @@ pub fn put_link(
     ensures deep { (result ≡ Err InsertFault.TreeTooDeep) ↔ IsFullFor image.old table link.now.name.now }
     ensures full { (result ≡ Err (InsertFault.Space SpaceFault.ImageFull))
         ↔ ((IsFullFor image.old table link.now.name.now → ⊥)
-        × (2 ^ 31 < length image.old.bytes + room_of image.old.bytes table (span (name_and_leads link.now)))) }
+        × (2 ^ 31 < length image.old.bytes
+        + room_of image.old.bytes table (span (name_and_leads link.now)))) }
     ensures err { OnErr result (image.new ≡ image.old) }
     ensures covered { (IsFullFor image.old table link.now.name.now → ⊥)
         → room_of image.old.bytes table (span (name_and_leads link.now)) ≤ image.old.room_bytes
@@ -164,7 +165,8 @@ fn put_in_room(image: &mut Image, table: SymbolTable, link: &Link<'_, ObjectPlac
         → (links' : List (List ℕ × Target))
         × IsLinkPut (target_link (name_and_leads link.now)) links links'
         × HasGroupMoved image.old image.new table blocks links' [] }
-    ensures spends { Spends image.old image.new (room_of image.old.bytes table (span (name_and_leads link.now)))
+    ensures spends { Spends image.old image.new (room_of image.old.bytes table (span (name_and_leads
+        link.now)))
         20 }
 {
     let way = way_to(image, table, link.name);
@@ -180,11 +182,13 @@ fn add_texts(image: &mut Image, table: SymbolTable, link: &Link<'_, ObjectPlace>
     requires group { IsSomeGroup image.old table [] }
     requires named { IsTrue (is_name link.now.name.now) }
     requires plain { IsPlainLead (leads_of link.now.to) }
-    requires bytes { 2 * (segment_block image.old.bytes table.heap).len + span (name_and_leads link.now) + 16
+    requires bytes { 2 * (segment_block image.old.bytes table.heap).len + span (name_and_leads link.now)
+        + 16
         ≤ image.old.room_bytes }
     requires blocks { 2 ≤ image.old.room_blocks }
     requires small { length image.old.bytes
-        + (2 * (segment_block image.old.bytes table.heap).len + span (name_and_leads link.now) + 16) ≤ 2 ^ 31 }
+        + (2 * (segment_block image.old.bytes table.heap).len + span (name_and_leads link.now) + 16)
+        ≤ 2 ^ 31 }
     ensures added { (links : List (List ℕ × Target)) (spare : List ℕ) (blocks : List Block)
         → IsGroupIn image.old table links spare blocks
         → HasGroupMoved image.old image.new table blocks links (offsets_of (entry_from result) ++ spare) }
@@ -192,7 +196,8 @@ fn add_texts(image: &mut Image, table: SymbolTable, link: &Link<'_, ObjectPlace>
         ≡ target_link (name_and_leads link.now) }
     ensures known { IsEntry (entry_from result) }
     ensures nodes { (links : List (List ℕ × Target)) (spare : List ℕ) (blocks : List Block)
-        → (g : IsGroupIn image.old table links spare blocks) → AreNodesKept image.old image.new table (g.linked).owned }
+        → (g : IsGroupIn image.old table links spare blocks)
+        → AreNodesKept image.old image.new table (g.linked).owned }
     ensures entries { (node : ℕ) → Contains (symbol_nodes_told image.old.bytes table) node
         → symbols_at image.new.bytes (leaf_k image.new.bytes) node
         ≡ symbols_at image.old.bytes (leaf_k image.old.bytes) node }
@@ -230,23 +235,28 @@ fn add_soft_texts(image: &mut Image, table: SymbolTable, name: &[u8], text: &[u8
     requires group { IsSomeGroup image.old table [] }
     requires named { IsTrue (is_name name.now) }
     requires plain { has_zero text.now ≡ false }
-    requires bytes { 2 * (segment_block image.old.bytes table.heap).len + (span_of_text name.now + span_of_text text.now) + 16
+    requires bytes { 2 * (segment_block image.old.bytes table.heap).len + (span_of_text name.now
+        + span_of_text text.now) + 16
         ≤ image.old.room_bytes }
     requires blocks { 2 ≤ image.old.room_blocks }
     requires small { length image.old.bytes
-        + (2 * (segment_block image.old.bytes table.heap).len + (span_of_text name.now + span_of_text text.now) + 16) ≤ 2 ^ 31 }
+        + (2 * (segment_block image.old.bytes table.heap).len + (span_of_text name.now
+        + span_of_text text.now) + 16) ≤ 2 ^ 31 }
     ensures added { (links : List (List ℕ × Target)) (spare : List ℕ) (blocks : List Block)
         → IsGroupIn image.old table links spare blocks
         → HasGroupMoved image.old image.new table blocks links (offsets_of (entry_from result) ++ spare) }
-    ensures link { link_of (segment_of image.new.bytes table.heap) (entry_from result) ≡ (name.now, Text text.now) }
+    ensures link { link_of (segment_of image.new.bytes table.heap) (entry_from result)
+        ≡ (name.now, Text text.now) }
     ensures known { IsEntry (entry_from result) }
     ensures nodes { (links : List (List ℕ × Target)) (spare : List ℕ) (blocks : List Block)
-        → (g : IsGroupIn image.old table links spare blocks) → AreNodesKept image.old image.new table (g.linked).owned }
+        → (g : IsGroupIn image.old table links spare blocks)
+        → AreNodesKept image.old image.new table (g.linked).owned }
     ensures entries { (node : ℕ) → Contains (symbol_nodes_told image.old.bytes table) node
         → symbols_at image.new.bytes (leaf_k image.new.bytes) node
         ≡ symbols_at image.old.bytes (leaf_k image.old.bytes) node }
     ensures spends { Spends image.old image.new
-        (2 * (segment_block image.old.bytes table.heap).len + (span_of_text name.now + span_of_text text.now) + 16) 2 }
+        (2 * (segment_block image.old.bytes table.heap).len + (span_of_text name.now
+        + span_of_text text.now) + 16) 2 }
 {
     // The name comes last: so it is the first of the texts that no link names yet, as its entry has them.
     let behind = add_text(image, table, text, text_span(name) as u64);
@@ -265,14 +275,17 @@ fn put_below(image: &mut Image, table: SymbolTable, way: &Way, name: &[u8], symb
     requires low { (step : Step) (above : List Step) → way.now ≡ step ∷ above
         → IsFullWay image.old.bytes (kind_in image.old.bytes) way.now
         → length (entries_below image.old table step) ≡ 2 * leaf_k image.old.bytes → length way.now < 16 }
-    requires bytes { symbol_length (leaf_k image.old.bytes) + (length way.now + 1) * node_length (kind_in image.old.bytes)
+    requires bytes { symbol_length (leaf_k image.old.bytes) + (length way.now
+        + 1) * node_length (kind_in image.old.bytes)
         ≤ image.old.room_bytes }
     requires blocks { length way.now + 2 ≤ image.old.room_blocks }
     requires small { length image.old.bytes
-        + (symbol_length (leaf_k image.old.bytes) + (length way.now + 1) * node_length (kind_in image.old.bytes)) ≤ 2 ^ 31 }
+        + (symbol_length (leaf_k image.old.bytes) + (length way.now
+        + 1) * node_length (kind_in image.old.bytes)) ≤ 2 ^ 31 }
     ensures put { HasEntryPut image.old image.new table (entry_from symbol) }
     ensures spends { Spends image.old image.new
-        (symbol_length (leaf_k image.old.bytes) + (length way.now + 1) * node_length (kind_in image.old.bytes))
+        (symbol_length (leaf_k image.old.bytes) + (length way.now
+        + 1) * node_length (kind_in image.old.bytes))
         (length way.now + 2) }
 {
     widen_for(image, table, way, name, symbol.name);

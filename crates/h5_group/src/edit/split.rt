@@ -105,7 +105,8 @@ fn keys_behind(
         → symbols_at image.now.bytes leaf node ≡ front ++ last ∷ []
         → offset_in (take 8 result) ≡ last.name }
     ensures held { (step : Step) (above : List Step) → way.now ≡ step ∷ above
-        → AreHeldKeys image.now.bytes kind (follows_in (segment_of image.now.bytes table.heap)) step.node above
+        → AreHeldKeys image.now.bytes kind (follows_in (segment_of image.now.bytes table.heap)) step.node
+        above
         (step.place + 1) result }
 {
     let mut keys = [0; KEYS];
@@ -122,7 +123,8 @@ fn last_name(image: &Image, leaf: u16, node: u64) -> u64
     requires inside { node + (8 + 80 * leaf) ≤ length image.now.bytes }
     requires form { IsSymbolNode leaf (symbol_bytes image.now.bytes leaf node) }
     requires some { 1 ≤ length (symbols_at image.now.bytes leaf node) }
-    ensures { (front : List Entry) (last : Entry) → symbols_at image.now.bytes leaf node ≡ front ++ last ∷ []
+    ensures { (front : List Entry) (last : Entry)
+        → symbols_at image.now.bytes leaf node ≡ front ++ last ∷ []
         → result ≡ last.name }
 {
     let bytes = image.part(node, 8 + 80 * u64::from(leaf)).unwrap();

@@ -111,13 +111,15 @@ fn take_at(image: &mut Image, table: SymbolTable, place: &EntryPlace)
     requires group { IsSomeGroup image.old table [] }
     requires place { (name : List ℕ) × IsEntryPlace image.old table name place.now }
     requires blocks { 16 ≤ image.old.room_blocks }
-    ensures taken { (e : Entry) → slice_get (entries_at image.old.bytes place.now.node) place.now.index ≡ Some e
+    ensures taken { (e : Entry)
+        → slice_get (entries_at image.old.bytes place.now.node) place.now.index ≡ Some e
         → (links : List (List ℕ × Target)) (blocks : List Block)
         → IsGroupIn image.old table links [] blocks
         → (links' : List (List ℕ × Target))
         × IsLinkPut (link_of (segment_of image.old.bytes table.heap) e) links' links
         × HasGroupMoved image.old image.new table blocks links' [] }
-    ensures freed { (e : Entry) → slice_get (entries_at image.old.bytes place.now.node) place.now.index ≡ Some e
+    ensures freed { (e : Entry)
+        → slice_get (entries_at image.old.bytes place.now.node) place.now.index ≡ Some e
         → HasTextsFreed image.old.bytes image.new.bytes table e }
     ensures spends { Spends image.old image.new 0 16 }
 {

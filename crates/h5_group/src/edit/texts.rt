@@ -31,7 +31,8 @@ pub(crate) fn add_text(image: &mut Image, table: SymbolTable, text: &[u8], room:
     requires plain { has_zero text.now ≡ false }
     requires low { needed image.old.bytes table.heap (span_of_text text.now) room ≤ 2 ^ 31 }
     requires bytes { needed image.old.bytes table.heap (span_of_text text.now) room ≤ image.old.room_bytes }
-    requires blocks { needed_calls image.old.bytes table.heap (span_of_text text.now) ≤ image.old.room_blocks }
+    requires blocks { needed_calls image.old.bytes table.heap (span_of_text text.now)
+        ≤ image.old.room_blocks }
     requires short { length image.old.bytes
         + needed image.old.bytes table.heap (span_of_text text.now) room < 2 ^ 63 }
     ensures added { (links : List (List ℕ × Target)) (spare : List ℕ) (blocks : List Block)

@@ -37,7 +37,8 @@ pub(crate) struct NameKeys<'a> {
 }
 
 impl Follows for NameKeys<'_> {
-    ghost follows = { λ s key next. is_le (slice_cmp nat_cmp (key_text s.segment.now key) (key_text s.segment.now next)) };
+    ghost follows = { λ s key next. is_le (slice_cmp nat_cmp (key_text s.segment.now key) (key_text
+        s.segment.now next)) };
 
     fn may_follow(&self, key: &[u8], next: &[u8]) -> bool {
         text_from(self.segment, u64_at(key, 0))
@@ -50,8 +51,10 @@ impl Follows for NameKeys<'_> {
 /// symbol node. Takes no memory.
 pub(crate) fn way_to(image: &Image, table: SymbolTable, name: &[u8]) -> Option<Way>
     requires group { (spare : List ℕ) × IsSomeGroup image.now table spare }
-    ensures none { IfNone result ((node_at image.now.bytes (kind_in image.now.bytes) table.tree).children ≡ []) }
-    ensures leads { IfSome result (λ way. (links : List (List ℕ × Target)) (spare : List ℕ) (blocks : List Block)
+    ensures none { IfNone result ((node_at image.now.bytes (kind_in image.now.bytes) table.tree).children
+        ≡ []) }
+    ensures leads { IfSome result (λ way. (links : List (List ℕ
+        × Target)) (spare : List ℕ) (blocks : List Block)
         → (g : IsGroupIn image.now table links spare blocks)
         → (k : ℕ) × EndsInTree image.now (kind_in image.now.bytes) table.tree (g.linked).level way
         (g.linked).owned (g.linked).symbol_nodes k) }
