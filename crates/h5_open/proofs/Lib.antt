@@ -29,6 +29,14 @@ pub mod TouchedBlocks
 pub mod OneRemade
 pub mod SlotEdits
 pub mod ObjectMade
+pub mod LinksPut
+pub mod GroupLinked
+pub mod LinkTree
+pub mod LinkAdded
+pub mod TargetCounted
+pub mod HardLinkAdded
+pub mod LinkSlots
+pub mod LinkCalls
 pub mod StillTold
 pub mod AttributeOpened
 pub mod AttributeEdits

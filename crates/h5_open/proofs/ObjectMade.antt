@@ -20,14 +20,14 @@ use Rattle.h5_open.proofs.SlotEdits.{slots_pushed}
 use Rattle.h5_open.proofs.TouchedBlocks.{touched_moves}
 
 -- a number that is among two
-among_two : (m a n : ℕ) → is_among (m ∷ a ∷ []) n ≡ true → (m ≡ n) ⊎ (a ≡ n)
+pub among_two : (m a n : ℕ) → is_among (m ∷ a ∷ []) n ≡ true → (m ≡ n) ⊎ (a ≡ n)
 among_two m a n mine = go (m == n) refl (a == n) refl mine where
   go : (b : Bool) → (m == n) ≡ b → (c : Bool) → (a == n) ≡ c → (b || (c || false)) ≡ true → (m ≡ n) ⊎ (a ≡ n)
   go true first c second is = inl (grind (arith, nat_tests, first))
   go false first true second is = inr (grind (arith, nat_tests, second))
   go false first false second is = absurd (let never : false ≡ true = is in cc)
 
-not_two : (m a n : ℕ) → is_among (m ∷ a ∷ []) n ≡ false → ((m == n) ≡ false) × ((a == n) ≡ false)
+pub not_two : (m a n : ℕ) → is_among (m ∷ a ∷ []) n ≡ false → ((m == n) ≡ false) × ((a == n) ≡ false)
 not_two m a n out = go (m == n) (a == n) out where
   go : (b c : Bool) → (b || (c || false)) ≡ false → (b ≡ false) × (c ≡ false)
   go true c is = absurd (let never : true ≡ false = is in cc)

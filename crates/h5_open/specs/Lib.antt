@@ -8,6 +8,7 @@ pub mod Renumbered
 pub mod InPlace
 pub mod ChangedInPlace
 pub mod SlotsInPlace
+pub mod LinkAdded
 pub mod Written
 pub mod Attributed
 pub use Rattle.h5_layout.specs.Data

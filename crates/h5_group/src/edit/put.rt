@@ -122,7 +122,7 @@ fn is_full(image: &Image, table: SymbolTable, way: &Way) -> bool
         → IsTrue result ↔ (length (entries_below image.now table step) ≡ 2 * leaf_k image.now.bytes) }
 {
     let node = symbol_node(image, table, node_at_end(image, table, way));
-    node.len() + 1 == 2 * usize::from(leaf_of(image.bytes()))
+    node.len() == 2 * usize::from(leaf_of(image.bytes()))
 }
 
 /// How many bytes a link may take: 17 nodes, a symbol node, and a segment that is twice as long as the old one and 16 bytes more than that with
@@ -135,7 +135,7 @@ fn link_room(image: &Image, table: SymbolTable, link: &Link<'_, ObjectPlace>) ->
     let node = group_kind(image).node_length() as u64;
     let symbols = 8 + 80 * u64::from(leaf_of(image.bytes()));
     let segment = segment_at(image, table.heap()).len() as u64;
-    (17 * node + symbols + segment + 16).saturating_add(texts_length(link))
+    (17 * node + symbols + 2 * segment + 16).saturating_add(texts_length(link))
 }
 
 /// How many bytes the texts of a link take in the heap, or the largest number where they are more.
@@ -221,11 +221,7 @@ fn target_to(place: ObjectPlace) -> NewTarget
     ensures { result ≡ place_target place }
 {
     match place {
-        ObjectPlace::Group { header, tree, heap } => NewTarget::Group {
-            header,
-            tree: heap,
-            heap: tree,
-        },
+        ObjectPlace::Group { header, tree, heap } => NewTarget::Group { header, tree, heap },
         ObjectPlace::Array(header) => NewTarget::Dataset(header),
     }
 }
@@ -263,7 +259,7 @@ fn add_soft_texts(image: &mut Image, table: SymbolTable, name: &[u8], text: &[u8
     let offset = add_text(image, table, name, 0);
     NewSymbol {
         name: offset,
-        target: NewTarget::Text(offset as u32),
+        target: NewTarget::Text(behind as u32),
     }
 }
 

@@ -126,7 +126,7 @@ fn take_at(image: &mut Image, table: SymbolTable, place: &EntryPlace)
     let symbols = symbol_node(image, table, place.node);
     let entry = symbols.entry(place.index);
     let is_last = symbols.len() == 1;
-    take_entry(image, table, place.node, place.index / 2);
+    take_entry(image, table, place.node, place.index);
     if is_last {
         drop_symbol_node(image, table, &place.way);
     }

@@ -1,0 +1,269 @@
+-- An array of an opened image to which one link more leads: its header counts it, and all else of it stays.
+use Rattle.std.proofs.Common.{◌≡◌, ℕ, ◌+◌, ◌≤◌, ◌==◌, true, false, Bool, List, [], ◌∷◌, ◌++◌, length, refl, sym, ap, ◌∙◌, subst, arith, Option, Some, None}
+use Rattle.std.specs.Prelude.{slice_get, ◌||◌}
+use Rattle.std.specs.Ordering.{nat_cmp}
+use Rattle.std.specs.BTreeMap.{BTreeMap}
+use Rattle.std.specs.FinMap.{FinMap}
+use Rattle.std.specs.List.{flat_map}
+use Rattle.std.proofs.lemmas.Bool.Decides.{nat_tests}
+use Rattle.h5_bytes.specs.Blocks.{block, cover, Keeps}
+use Rattle.h5_bytes.specs.declared.Block.{Block}
+use Rattle.h5_bytes.proofs.BlockLaws.{all_so, cover-append, holds_join}
+use Rattle.h5_model.specs.Format.Addresses.{SymbolTable}
+use Rattle.h5_model.specs.Format.Messages.{Message, first_size, prefix_at, reference_count}
+use Rattle.h5_model.specs.Format.Superblock.{end_field}
+use Rattle.h5_model.specs.Format.Symbols.{Header}
+use Rattle.h5_model.specs.Tree.Objects.{Content, Array}
+use Rattle.h5_model.proofs.Frames.{front-same}
+use Rattle.h5_space.specs.Moves.{Moves}
+use Rattle.h5_space.specs.Space.{Space}
+use Rattle.h5_space.specs.Whole.{IsApart}
+use Rattle.h5_space.proofs.MovesLaws.{moves_apart, moves_beside, moves_kept, moves_same, moves_then}
+use Rattle.h5_header.specs.Listed.{messages_in}
+use Rattle.h5_header.specs.Standing.{IsStanding}
+use Rattle.h5_header.proofs.KeptLaws.{header-same, listed-same}
+use Rattle.h5_group.specs.Told.{blocks_told}
+use Rattle.h5_layout.specs.Data.{data_blocks, dataset_told}
+use Rattle.h5_layout.specs.Told.{array_told, layout_told, type_told}
+use Rattle.h5_open.specs.declared.opened.object.OpenedObject.{OpenedObject}
+use Rattle.h5_open.specs.declared.opened.object.OpenedContent.{OpenedContent}
+use Rattle.h5_open.specs.declared.opened.object.OpenedContent.TheVariants as content
+use Rattle.h5_open.specs.ChangedInPlace.{is_among}
+use Rattle.h5_open.specs.Opened.Headers.{object_with}
+use Rattle.h5_open.specs.Opened.Kept.{IsContentKept, IsObjectKept, IsOpened}
+use Rattle.h5_open.specs.Opened.Objects.{content_blocks, content_in, header_of, object_blocks, object_in, objects_of}
+use Rattle.h5_open.specs.SlotsInPlace.{blocks_at, chosen_slots}
+use Rattle.h5_open.proofs.DataLaws.{data_blocks-same, data_inside, data_read-same, dataset_told-same}
+use Rattle.h5_open.proofs.GroupLinked.{IsGroupLinked, both_moves, linked_grown}
+use Rattle.h5_open.proofs.LinkAdded.{blocks_of_slot}
+use Rattle.h5_open.proofs.OpenedLaws.Sounds.{object_of}
+use Rattle.h5_open.proofs.TouchedBlocks.{touched_cover}
+
+-- ---- two objects
+
+chosen_cover : (image : List ℕ) (q : ℕ) (touched : ℕ → Bool) (n : ℕ) (slots : List (Option OpenedObject))
+    → cover q (flat_map (object_blocks image) (chosen_slots touched n slots)) ≤ cover q (flat_map (object_blocks image) (objects_of slots))
+chosen_cover image q touched n [] = omega arith
+chosen_cover image q touched n (None ∷ slots) = chosen_cover image q touched (n + 1) slots
+chosen_cover image q touched n (Some o ∷ slots) = go (touched n) refl (chosen_cover image q touched (n + 1) slots) where
+  go : (b : Bool) → touched n ≡ b → cover q (flat_map (object_blocks image) (chosen_slots touched (n + 1) slots)) ≤ cover q (flat_map (object_blocks image) (objects_of slots))
+      → cover q (flat_map (object_blocks image) (chosen_slots touched n (Some o ∷ slots))) ≤ cover q (flat_map (object_blocks image) (objects_of (Some o ∷ slots)))
+  go true is more = rw is (omega (
+    arith,
+    more,
+    cover-append q (object_blocks image o) (flat_map (object_blocks image) (chosen_slots touched (n + 1) slots)),
+    cover-append q (object_blocks image o) (flat_map (object_blocks image) (objects_of slots)),
+  ))
+  go false is more = rw is (omega (arith, more, cover-append q (object_blocks image o) (flat_map (object_blocks image) (objects_of slots))))
+
+-- the blocks of two objects are among those of all
+pub two_cover : (image : List ℕ) (q : ℕ) (slots : List (Option OpenedObject)) (m n : ℕ) (a b : OpenedObject) → slice_get slots m ≡ Some (Some a) → slice_get slots n ≡ Some (Some b) → (n ≡ m → ⊥)
+    → cover q (object_blocks image a) + cover q (object_blocks image b) ≤ cover q (flat_map (object_blocks image) (objects_of slots))
+two_cover image q slots m n a b at there apart =
+    let other : (n == m) ≡ false = grind (arith, nat_tests, apart) in
+    let out : is_among (n ∷ []) m ≡ false = ap (λ (c : Bool). c || false) other in
+    let all = touched_cover image q (m ∷ n ∷ []) slots (out, (refl, tt)) in
+    let first = ap (cover q) (blocks_of_slot image slots m a at) in
+    let second = ap (cover q) (blocks_of_slot image slots n b there) in
+    omega (
+      arith,
+      all,
+      first,
+      second,
+      chosen_cover image q (is_among (m ∷ n ∷ [])) 0 slots,
+      cover-append q (blocks_at image slots m) (blocks_at image slots n ++ []),
+      cover-append q (blocks_at image slots n) [],
+    )
+
+-- ---- the array
+
+-- A link more is counted in the header of an array, and then the end of file address is written.
+pub record IsTargetCounted (mid set new : Space) (slots : List (Option OpenedObject)) (number : ℕ) (o : OpenedObject) : Type 0 where
+  pub target : slice_get slots number ≡ Some (Some o)
+  pub array : o.content ≡ content.Array
+  pub standing : IsStanding set.bytes o.messages
+  pub messages : messages_in set.bytes o.messages.list ≡ messages_in mid.bytes o.messages.list
+  pub counted : reference_count (prefix_at set.bytes (header_of o)) ≡ reference_count (prefix_at mid.bytes (header_of o)) + 1
+  pub marked : Moves mid set o.messages.blocks o.messages.blocks
+  pub ended : Moves set new (end_field set.bytes ∷ []) (end_field new.bytes ∷ [])
+
+-- what is written is the header and the end of file address
+pub marked_moves : (mid set new : Space) (header : List Block) → Moves mid set header header → Moves set new (end_field set.bytes ∷ []) (end_field new.bytes ∷ [])
+    → Moves mid new (end_field mid.bytes ∷ header) (end_field new.bytes ∷ header)
+marked_moves mid set new header marked ended =
+    let turned : (q : ℕ) → cover q (end_field mid.bytes ∷ header) ≡ cover q (header ++ end_field mid.bytes ∷ []) = λ q. omega (arith, cover-append q header (end_field mid.bytes ∷ [])) in
+    moves_then mid set new (end_field mid.bytes ∷ header) (end_field mid.bytes ∷ header) (end_field new.bytes ∷ header)
+    (moves_same mid set (header ++ end_field mid.bytes ∷ []) (header ++ end_field mid.bytes ∷ []) (end_field mid.bytes ∷ header) (end_field mid.bytes ∷ header) turned turned
+    (moves_beside mid set header header (end_field mid.bytes ∷ []) marked))
+    (moves_beside set new (end_field set.bytes ∷ []) (end_field new.bytes ∷ []) header ended)
+
+module _ (old mid set new : Space) (slots : List (Option OpenedObject)) (numbers : BTreeMap ℕ ℕ) (opened : IsOpened old slots numbers) (parent : ℕ) (p : OpenedObject) (t : SymbolTable)
+    (name : List ℕ) (number : ℕ) (o : OpenedObject) (is : IsGroupLinked old mid new slots parent p t name (Header (header_of o)) o.messages.blocks)
+    (its : IsTargetCounted mid set new slots number o) (apart_from : number ≡ parent → ⊥) where
+  abbrev ms : List Message
+  ms = messages_in old.bytes o.messages.list
+
+  abbrev ms' : List Message
+  ms' = messages_in new.bytes o.messages.list
+
+  abbrev header : List Block
+  header = o.messages.blocks
+
+  abbrev cells : List Block
+  cells = data_blocks old.bytes (type_told ms) (layout_told ms)
+
+  abbrev links : List Block
+  links = blocks_told old.bytes t
+
+  kept : IsObjectKept old.bytes o
+  kept = (object_of old slots numbers opened number o its.target).kept
+
+  kept_array : IsContentKept old.bytes ms content.Array
+  kept_array = subst (IsContentKept old.bytes ms) its.array kept.content
+
+  blocks_before : object_blocks old.bytes o ≡ header ++ cells
+  blocks_before = ap (λ (c : OpenedContent). header ++ content_blocks old.bytes ms c) its.array
+
+  group_before : object_blocks old.bytes p ≡ p.messages.blocks ++ links
+  group_before = ap (λ (c : OpenedContent). p.messages.blocks ++ content_blocks old.bytes (messages_in old.bytes p.messages.list) c) is.kind
+
+  -- ---- what stays
+
+  apart : IsApart (links ++ ((header ++ cells) ++ end_field old.bytes ∷ [])) old.free (length old.bytes)
+  apart q =
+      let two = two_cover old.bytes q slots parent number p o is.group its.target apart_from in
+      let first = ap (cover q) group_before in
+      let second = ap (cover q) blocks_before in
+      omega (
+        arith,
+        opened.apart q,
+        two,
+        first,
+        second,
+        cover-append q p.messages.blocks links,
+        cover-append q links ((header ++ cells) ++ end_field old.bytes ∷ []),
+        cover-append q (header ++ cells) (end_field old.bytes ∷ []),
+        cover-append q header cells,
+        holds_join q 0 40 56,
+        holds_join q 40 8 48,
+      )
+
+  header_mid : Keeps old.bytes mid.bytes header
+  header_mid = moves_kept old mid links (blocks_told mid.bytes t) header is.moves
+      (λ q. omega (
+        arith,
+        apart q,
+        cover-append q links header,
+        cover-append q links ((header ++ cells) ++ end_field old.bytes ∷ []),
+        cover-append q (header ++ cells) (end_field old.bytes ∷ []),
+        cover-append q header cells,
+      ))
+      kept.header.inside
+
+  apart_mid : IsApart (blocks_told mid.bytes t ++ (header ++ end_field mid.bytes ∷ [])) mid.free (length mid.bytes)
+  apart_mid = moves_apart old mid links (blocks_told mid.bytes t) (header ++ end_field mid.bytes ∷ []) is.moves
+      (λ q. omega (
+        arith,
+        apart q,
+        cover-append q links (header ++ end_field mid.bytes ∷ []),
+        cover-append q header (end_field mid.bytes ∷ []),
+        cover-append q links ((header ++ cells) ++ end_field old.bytes ∷ []),
+        cover-append q (header ++ cells) (end_field old.bytes ∷ []),
+        cover-append q header cells,
+      ))
+
+  apart_set : IsApart ((end_field set.bytes ∷ []) ++ header) set.free (length set.bytes)
+  apart_set q =
+      let was : IsApart (header ++ end_field mid.bytes ∷ []) mid.free (length mid.bytes)
+      = λ r. omega (arith, apart_mid r, cover-append r (blocks_told mid.bytes t) (header ++ end_field mid.bytes ∷ [])) in
+      omega (arith, moves_apart mid set header header (end_field set.bytes ∷ []) its.marked was q, cover-append q header (end_field set.bytes ∷ []))
+
+  header_new : Keeps set.bytes new.bytes header
+  header_new = moves_kept set new (end_field set.bytes ∷ []) (end_field new.bytes ∷ []) header its.ended apart_set its.standing.inside
+
+  data_new : Keeps old.bytes new.bytes cells
+  data_new =
+      let rest : List Block = end_field old.bytes ∷ header in
+      moves_kept old new (links ++ rest) (blocks_told mid.bytes t ++ rest) cells (both_moves old mid new slots numbers opened parent p t name (Header (header_of o)) header is)
+      (λ q. omega (
+        arith,
+        apart q,
+        cover-append q (links ++ rest) cells,
+        cover-append q links rest,
+        cover-append q links ((header ++ cells) ++ end_field old.bytes ∷ []),
+        cover-append q (header ++ cells) (end_field old.bytes ∷ []),
+        cover-append q header cells,
+      ))
+      (data_inside old.bytes (type_told ms) (layout_told ms) kept_array.1)
+
+  grown : length old.bytes ≤ length new.bytes
+  grown = linked_grown old mid new slots numbers opened parent p t name (Header (header_of o)) header is
+
+  -- ---- the header
+
+  list_stays : ms' ≡ ms
+  list_stays =
+      listed-same set.bytes new.bytes o.messages its.standing.has its.standing.within header_new
+      ∙ its.messages
+      ∙ listed-same old.bytes mid.bytes o.messages kept.header.has kept.header.within header_mid
+
+  count_mid : reference_count (prefix_at mid.bytes (header_of o)) ≡ reference_count (prefix_at old.bytes (header_of o))
+  count_mid =
+      let laid : Keeps old.bytes mid.bytes (block (header_of o) (16 + first_size (prefix_at old.bytes (header_of o))) ∷ []) = (
+        (subst (Keeps old.bytes mid.bytes) kept.header.has.laid header_mid).0,
+        tt,
+      ) in
+      ap reference_count (front-same old.bytes mid.bytes (header_of o) (16 + first_size (prefix_at old.bytes (header_of o))) 16 (omega arith) laid.0)
+
+  count_set : reference_count (prefix_at new.bytes (header_of o)) ≡ reference_count (prefix_at set.bytes (header_of o))
+  count_set =
+      let laid : Keeps set.bytes new.bytes (block (header_of o) (16 + first_size (prefix_at set.bytes (header_of o))) ∷ []) = (
+        (subst (Keeps set.bytes new.bytes) its.standing.has.laid header_new).0,
+        tt,
+      ) in
+      ap reference_count (front-same set.bytes new.bytes (header_of o) (16 + first_size (prefix_at set.bytes (header_of o))) 16 (omega arith) laid.0)
+
+  -- one link more
+  pub target_counts : reference_count (prefix_at new.bytes (header_of o)) ≡ reference_count (prefix_at old.bytes (header_of o)) + 1
+  target_counts = let mids = count_mid in let sets = count_set in let more = its.counted in omega (arith, mids, sets, more)
+
+  -- ---- the object
+
+  content_now : IsContentKept new.bytes ms' o.content
+  content_now = subst (IsContentKept new.bytes ms') (sym its.array) (subst (λ (l : List Message). IsContentKept new.bytes l content.Array) (sym list_stays)
+      (kept_array.0, data_read-same old.bytes new.bytes grown (type_told ms) (layout_told ms) kept_array.1 data_new))
+
+  set_grown : length set.bytes ≤ length new.bytes
+  set_grown = its.ended.grown
+
+  pub target_kept : IsObjectKept new.bytes o
+  target_kept = record {
+    header = record {
+      has = header-same set.bytes new.bytes o.messages its.standing.has its.standing.within header_new;
+      inside = all_so (λ (b : Block). b.at + b.len ≤ length set.bytes) (λ (b : Block). b.at + b.len ≤ length new.bytes) header (λ b low. omega (arith, low, set_grown)) its.standing.inside;
+      within = all_so (λ m. m.at + m.size ≤ length set.bytes) (λ m. m.at + m.size ≤ length new.bytes) o.messages.list (λ m low. omega (arith, low, set_grown)) its.standing.within;
+      names = rw list_stays kept.header.names;
+      attributes = rw list_stays kept.header.attributes;
+    };
+    known = kept.known;
+    content = content_now;
+  }
+
+  pub target_blocks : object_blocks new.bytes o ≡ object_blocks old.bytes o
+  target_blocks =
+      ap (λ (c : OpenedContent). header ++ content_blocks new.bytes ms' c) its.array
+      ∙ ap (λ (l : List Message). header ++ content_blocks new.bytes l content.Array) list_stays
+      ∙ ap (λ (bs : List Block). header ++ bs) (data_blocks-same old.bytes new.bytes grown (type_told ms) (layout_told ms) kept_array.1 data_new)
+      ∙ sym blocks_before
+
+  pub target_parts : object_blocks old.bytes o ≡ header ++ cells
+  target_parts = blocks_before
+
+  pub target_same : (table : FinMap nat_cmp ℕ) → object_in new.bytes table o ≡ object_in old.bytes table o
+  target_same table =
+      let content_is : content_in new.bytes table ms' o.content ≡ content_in old.bytes table ms o.content
+      = ap (content_in new.bytes table ms') its.array
+      ∙ ap (λ (l : List Message). Array (dataset_told new.bytes (array_told l))) list_stays
+      ∙ ap Array (dataset_told-same old.bytes new.bytes grown (array_told ms) kept_array.1 data_new)
+      ∙ sym (ap (content_in old.bytes table ms) its.array) in
+      ap (λ (c : Content). object_with c ms') content_is ∙ ap (object_with (content_in old.bytes table ms o.content)) list_stays
