@@ -274,7 +274,7 @@ module _ {B X : Type 0} (sides : Sides (List ℕ) X) (items : B → List X) (Bas
         let Z = reading_of t.bytes kind all in
         let finish : TreeKnown (suc height) (keys_from W now height root) → AllByRecursion (λ n. AllByRecursion Knows (Z n).keys) all
         = λ is. subst (AllByRecursion (λ n. AllByRecursion Knows (Z n).keys)) (sym tree.owns)
-            (nodes_known Knows Z now height (root ∷ []) (subst (TreeKnown (suc height)) (keys_own t.bytes kind root height all list' tree now) is, tt)) in
+        (nodes_known Knows Z now height (root ∷ []) (subst (TreeKnown (suc height)) (keys_own t.bytes kind root height all list' tree now) is, tt)) in
         elim (done sorted) [
           | inl one ↦
               finish (subst (λ (h : ℕ). TreeKnown (suc h) (keys_from W now h root)) (sym old_level ∙ sym one.1 ∙ new_level)
