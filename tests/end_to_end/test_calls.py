@@ -1,4 +1,5 @@
-"""Edits and views by calls of the library: what each gives, and the image behind it, are the reference's. And what README.md shows."""
+"""Edits and views by calls of the library: what each gives, and the image behind it, are the reference's. And what README.md and that of
+h5_file show."""
 
 import hashlib
 import os
@@ -50,9 +51,9 @@ def asked(seed, word, kinds):
     return lines + ["image"], wanted + [None if after is None else hashlib.sha256(after).hexdigest()]
 
 
-def shown_lines(heading):
-    """The lines that README.md shows under a heading."""
-    with open(os.path.join(TOP, "README.md"), encoding="utf-8") as file:
+def shown_lines(heading, *folders):
+    """The lines that the README.md of a folder shows under a heading."""
+    with open(os.path.join(TOP, *folders, "README.md"), encoding="utf-8") as file:
         part = file.read().split(f"## {heading}\n")[1].split("\n## ")[0]
     return [line[4:] for line in part.splitlines() if line.startswith("    ")]
 
@@ -73,7 +74,7 @@ class Calls(Tried):
         drawn = [asked(seed, word, kinds) for seed in SEEDS for word, kinds in (("file", EDITS), ("session", CALLS))]
         with open(PROGRAM, encoding="utf-8") as file:
             program = file.read()
-        lines_of_readme = "\n".join(shown_lines("The library"))
+        lines_of_readme = "\n".join(shown_lines("An example", "crates", "h5_file"))
         self.assertIn("fn odd_cells", lines_of_readme)
         self.assertIn(f"\n{lines_of_readme}\n", program)
         given = "readme\n" + "".join(line + "\n" for lines, _ in drawn for line in lines)
