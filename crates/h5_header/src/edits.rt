@@ -22,6 +22,7 @@ impl Messages {
             ≡ messages_in image.old.bytes self.now.list }
         ensures count { reference_count (prefix_at image.new.bytes self.now.header) ≡ links }
         ensures moves { Moves image.old image.new self.now.blocks self.now.blocks }
+        ensures length { length image.new.bytes ≡ length image.old.bytes }
         ensures room { (image.new.room_bytes ≡ image.old.room_bytes)
             × (image.new.room_blocks ≡ image.old.room_blocks) }
     {

@@ -19,7 +19,7 @@ use h5_space::Image;
 use std::marker::Model;
 
 /// The largest sizes of an array, `None` where one is unlimited.
-#[derive(Drop)]
+#[derive(Debug, Drop)]
 pub(crate) enum Maxima<'a> {
     /// As a Dataspace message has them.
     Read(Dataspace<'a>),
@@ -29,7 +29,7 @@ pub(crate) enum Maxima<'a> {
 
 /// An array: its type, sizes, maxima, fill value and layout. Either the messages of its object header describe it,
 /// whose bodies it borrows; or it is to be written.
-#[derive(Drop)]
+#[derive(Debug, Drop)]
 pub struct ArrayRef<'a> {
     pub(crate) fixed: Fixed,
     pub(crate) dims: Dims,

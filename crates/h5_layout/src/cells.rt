@@ -18,7 +18,7 @@ use h5_space::Image;
 use std::marker::Model;
 
 /// Where the cells of an array stand.
-#[derive(Drop)]
+#[derive(Debug, Drop)]
 pub(crate) enum CellData<'a> {
     /// Nowhere: each reads the fill.
     Filled,
@@ -29,7 +29,7 @@ pub(crate) enum CellData<'a> {
 }
 
 /// All cells of an array.
-#[derive(Drop)]
+#[derive(Debug, Drop)]
 pub(crate) struct StoredCells<'a> {
     fixed: Fixed,
     fill: i128,

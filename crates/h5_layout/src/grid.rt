@@ -18,7 +18,7 @@ use std::marker::Model;
 
 /// An array in chunks, and the image in which they stand. It has the sizes of both in itself, so that it can outlive the
 /// array's description.
-#[derive(Drop)]
+#[derive(Debug, Drop)]
 pub(crate) struct ChunkGrid<'a> {
     image: &'a Image,
     root: u64,

@@ -10,7 +10,7 @@ use h5_shape::{CellRun, CellRuns};
 use std::marker::Model;
 
 /// A piece of the cells of an array, as they stand in the image.
-#[derive(Drop)]
+#[derive(Debug, Drop)]
 pub enum Piece<'a> {
     /// The bytes of cells, one behind the other, each in as many bytes as the type has.
     Bytes(&'a [u8]),
@@ -22,7 +22,7 @@ pub enum Piece<'a> {
 }
 
 /// The selected cells of an array in pieces: those that are left, in row-major order. No step takes memory.
-#[derive(Drop)]
+#[derive(Debug, Drop)]
 pub struct Runs<'a> {
     cells: StoredCells<'a>,
     /// What is left of the run under way.

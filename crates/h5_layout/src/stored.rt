@@ -24,7 +24,7 @@ use std::alloc::Global;
 use std::marker::Model;
 
 /// An array with the image in which its cells stand, in any layout.
-#[derive(Drop)]
+#[derive(Debug, Drop)]
 pub struct StoredArray<'a> {
     image: &'a Image,
     array: ArrayRef<'a>,

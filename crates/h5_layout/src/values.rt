@@ -13,7 +13,7 @@ use h5_model::Fixed;
 use std::marker::Model;
 
 /// Cells of a piece.
-#[derive(Clone, Copy)]
+#[derive(Clone, Copy, Debug)]
 struct Part<'a> {
     /// The bytes of the whole piece, or `None` where each cell reads the fill.
     bytes: Option<&'a [u8]>,
@@ -25,7 +25,7 @@ struct Part<'a> {
 
 /// The values of cells, in row-major order: those that are left. Each is decoded when it is asked for. No step takes
 /// memory.
-#[derive(Drop)]
+#[derive(Debug, Drop)]
 pub struct Values<'a> {
     fixed: Fixed,
     fill: i128,

@@ -7,7 +7,7 @@ use crate::list::Items;
 use std::alloc::{AllocError, Global};
 
 /// An attribute to be set.
-#[derive(Drop)]
+#[derive(Debug, Drop)]
 pub struct AttrSpec {
     pub name: Items<u8>,
     pub fixed: Fixed,

@@ -8,7 +8,7 @@ use crate::list::Items;
 use std::alloc::{AllocError, Global};
 
 /// How a dataset's cells are stored.
-#[derive(Drop)]
+#[derive(Debug, Drop)]
 pub enum Store {
     Compact,
     Contiguous,
@@ -16,7 +16,7 @@ pub enum Store {
 }
 
 /// A dataset to be created. A maximum of `None` is unlimited.
-#[derive(Drop)]
+#[derive(Debug, Drop)]
 pub struct Spec {
     pub fixed: Fixed,
     pub dims: Items<u64>,

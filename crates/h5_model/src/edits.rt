@@ -7,7 +7,7 @@ use crate::list::Items;
 use crate::object_no::ObjectNo;
 
 /// A change of the tree.
-#[derive(Drop)]
+#[derive(Debug, Drop)]
 pub enum Edit {
     CreateGroup {
         path: Items<u8>,

@@ -6,7 +6,7 @@ ghost use Rattle.h5_model.specs.Format.Fixed.{fixed_from, IsFixed};
 use std::marker::Model;
 
 /// A fixed-point type: its size in bytes, whether it is signed, and whether the high byte stands first.
-#[derive(Clone, Copy, PartialEq, Eq)]
+#[derive(Clone, Copy, Debug, PartialEq, Eq)]
 pub struct Fixed {
     size: u8,
     signed: bool,

@@ -15,7 +15,7 @@ pub struct Axis {
 }
 
 /// A selection of a grid: in each dimension `count` blocks of `block` cells, `stride` apart, from `start` on.
-#[derive(Drop)]
+#[derive(Debug, Drop)]
 pub struct Hyper {
     pub start: Items<u64>,
     pub stride: Items<u64>,

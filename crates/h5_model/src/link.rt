@@ -1,7 +1,7 @@
 //! Links of groups (File Format Specification 3.0, section III.C).
 
 /// Where a link leads.
-#[derive(Clone, Copy)]
+#[derive(Clone, Copy, Debug)]
 pub enum LinkTo<'a, T> {
     /// To an object, of which this tells: its number, or where it stands.
     Object(T),
@@ -10,7 +10,7 @@ pub enum LinkTo<'a, T> {
 }
 
 /// A link of a group, with what is told of an object to which it leads.
-#[derive(Clone, Copy)]
+#[derive(Clone, Copy, Debug)]
 pub struct Link<'a, T> {
     pub name: &'a [u8],
     pub to: LinkTo<'a, T>,

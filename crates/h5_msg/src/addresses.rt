@@ -19,7 +19,7 @@ pub const SYMBOL_TABLE_LENGTH: usize = 16;
 pub const CONTINUATION_LENGTH: usize = 16;
 
 /// The addresses of a group's B-tree and of its local heap.
-#[derive(Clone, Copy, PartialEq, Eq)]
+#[derive(Clone, Copy, Debug, PartialEq, Eq)]
 pub struct SymbolTable {
     tree: u64,
     heap: u64,

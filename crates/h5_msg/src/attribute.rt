@@ -26,7 +26,7 @@ use std::marker::Model;
 const NAME: usize = 8;
 
 /// What an Attribute message says: a name, a type, sizes and values.
-#[derive(Drop)]
+#[derive(Debug, Drop)]
 pub struct AttributeBody<'a> {
     body: &'a [u8],
     name: &'a [u8],

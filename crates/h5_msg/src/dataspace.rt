@@ -30,7 +30,7 @@ pub fn dataspace_length(rank: usize, has_maxima: bool) -> usize
 }
 
 /// What a Dataspace message says: sizes, and a maximum for each.
-#[derive(Drop)]
+#[derive(Debug, Drop)]
 pub struct Dataspace<'a> {
     body: &'a [u8],
 }

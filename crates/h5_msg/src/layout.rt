@@ -46,7 +46,7 @@ pub fn chunked_length(rank: usize) -> usize
 }
 
 /// Where chunk sizes stand.
-#[derive(Clone, Copy)]
+#[derive(Clone, Copy, Debug)]
 enum SizesIn<'a> {
     /// So many in the body of a Data Layout message.
     Body { body: &'a [u8], rank: usize },
@@ -55,7 +55,7 @@ enum SizesIn<'a> {
 }
 
 /// Chunk sizes in cells, as a Data Layout message has them, or as they were handed over.
-#[derive(Drop)]
+#[derive(Debug, Drop)]
 pub struct ChunkSizes<'a> {
     place: SizesIn<'a>,
 }
@@ -143,7 +143,7 @@ fn size_at(place: SizesIn<'_>, k: usize) -> u32
 }
 
 /// Where a dataset's cells are: in the message, in a block, or in chunks.
-#[derive(Drop)]
+#[derive(Debug, Drop)]
 pub enum Layout<'a> {
     /// The bytes of the cells.
     Compact(&'a [u8]),

@@ -22,3 +22,6 @@ pub use Rattle.h5_open.specs.Pieces
 pub use Rattle.h5_open.specs.GroupTold
 pub use Rattle.h5_open.specs.Attributes
 pub use Rattle.h5_open.specs.Attributed
+pub use Rattle.h5_open.specs.LinkAdded
+pub use Rattle.h5_open.specs.LinkTaken
+pub use Rattle.h5_open.specs.LinkEdits

@@ -10,7 +10,7 @@ use h5_open::{AttrRef, Opened, OpenedContent, StoredArray, sorted};
 use std::alloc::Global;
 
 /// What stands at a path, with what it holds. Attributes ascend by the bytes of their names.
-#[derive(Drop)]
+#[derive(Debug, Drop)]
 pub enum Found<'a> {
     /// A group, with its number and its attributes.
     Group {

@@ -4,7 +4,7 @@ use h5_model::Fixed;
 use h5_open::Dims;
 
 /// How the cells of a dataset are stored. Chunks come with their sizes, in cells.
-#[derive(Drop)]
+#[derive(Debug, Drop)]
 pub enum StoreKind {
     Compact,
     Contiguous,
@@ -12,7 +12,7 @@ pub enum StoreKind {
 }
 
 /// What stands at a path.
-#[derive(Drop)]
+#[derive(Debug, Drop)]
 pub enum Kind<'a> {
     /// A group.
     Group,

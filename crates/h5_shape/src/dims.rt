@@ -14,7 +14,7 @@ pub const MAX_CELLS: u64 = 1 << 40;
 
 /// The sizes of an array, in cells, for at most 32 dimensions. They stand in the value itself, so it takes no memory.
 /// No size makes a scalar, with one cell.
-#[derive(Drop)]
+#[derive(Debug, Drop)]
 pub struct Dims {
     sizes: SmallVec<u64, 32>,
 }

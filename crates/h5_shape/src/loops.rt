@@ -7,7 +7,7 @@ ghost use Rattle.h5_shape.specs.Loops.{ahead, nest_ahead, GoesOn, IsRepeated, Ar
 use h5_model::Axis;
 
 /// A loop over places a step apart, which runs once from each place of the loops around it.
-#[derive(Clone, Copy)]
+#[derive(Clone, Copy, Debug)]
 pub(crate) struct Loop {
     step: u64,
     /// How many places follow the first.
@@ -19,7 +19,7 @@ pub(crate) struct Loop {
 }
 
 /// Nested loops, the innermost first, over places that count from an origin. At each stand so many consecutive cells.
-#[derive(Drop)]
+#[derive(Debug, Drop)]
 pub(crate) struct LoopNest {
     loops: [Loop; 64],
     depth: usize,

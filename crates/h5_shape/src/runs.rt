@@ -16,7 +16,7 @@ pub struct CellRun {
 
 /// The runs of consecutive places of the selected cells: those that are left, in row-major order. Each is as long as
 /// it can be. It takes no memory.
-#[derive(Drop)]
+#[derive(Debug, Drop)]
 pub struct CellRuns {
     nest: LoopNest,
     place: u64,

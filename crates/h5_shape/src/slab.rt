@@ -31,7 +31,7 @@ pub enum SlabFault {
 
 /// A selection, with an axis for each of at most 32 dimensions. Strides are at least 1, and blocks share no cell. The
 /// axes stand in the value itself, so it takes no memory.
-#[derive(Drop)]
+#[derive(Debug, Drop)]
 pub struct Slab {
     axes: [Axis; 32],
     rank: usize,

@@ -2,7 +2,7 @@
 use Rattle.std.proofs.Common.{◌≡◌, ◌≢◌, ℕ, suc, ◌+◌, ◌-◌, ◌<◌, ◌≤◌, ◌⊎◌, inl, inr, false, true≢false, cond, Option, Some, None, List, [], ◌∷◌, unwrap_or, is_some, IsSome, refl, sym, ap, ◌∙◌, arith}
 use Rattle.std.specs.BTreeMap.{BTreeMap, get, insert_entry, is_at, IsOrdered, Updates, UpdatesBy}
 use Rattle.std.specs.Cmp.{nat_cmp_total, eq_by_cmp_equiv}
-use Rattle.std.specs.List.{slice_get}
+use Rattle.std.specs.List.{AllByRecursion, slice_get}
 use Rattle.std.specs.List.Sorted.{IsStrictlySortedBy}
 use Rattle.std.specs.Map.{keys_of, lookup, remove_entry}
 use Rattle.std.specs.Ordering.{nat_cmp, match_ordering, is_eq}
@@ -193,6 +193,13 @@ module _ (held : BTreeMap ℕ ℕ) (end : ℕ) (s : IsIslands held end) (ordered
     | inl low ↦ absurd (true≢false (sym (ap is_some at_j) ∙ ap is_some (none j low)))
     | inr behind ↦ inr behind
   ])
+
+-- each block ends by the end
+pub all_end : (held : BTreeMap ℕ ℕ) (end : ℕ) → IsIslands held end → IsOrdered nat_cmp held → AllByRecursion (λ (e : ℕ × ℕ). e.0 + e.1 ≤ end) held.entries
+all_end held end s ordered = go held.entries (λ i k n is. inside_end held end s k n (btree_map_get_place nat_cmp_total held i k n ordered is)) where
+  go : (es : List (ℕ × ℕ)) → ((i k n : ℕ) → slice_get es i ≡ Some (k, n) → k + n ≤ end) → AllByRecursion (λ (e : ℕ × ℕ). e.0 + e.1 ≤ end) es
+  go [] each = tt
+  go (e ∷ es) each = (each 0 e.0 e.1 refl, go es (λ i k n is. each (suc i) k n is))
 
 -- ---- a block that takes in the one at its end
 

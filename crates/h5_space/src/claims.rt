@@ -1,10 +1,11 @@
-ghost use Rattle.std.specs.Prelude.{◌≡◌, ℕ, ◌+◌, ◌<◌, ◌≤◌, ◌^◌, [], ◌↔◌, OnOk, OnErr, IsOk, Err, IfSome, IfNone, IsSome, Some, None};
+ghost use Rattle.std.specs.Prelude.{◌≡◌, ℕ, ◌+◌, ◌<◌, ◌≤◌, ◌^◌, [], ◌↔◌, OnOk, OnErr, IsOk, Err, IfSome, IfNone, IsSome, Some, None, length};
 ghost use Rattle.std.specs.BTreeMap.{get, IsOrdered};
 ghost use Rattle.std.specs.Ordering.{nat_cmp};
 ghost use Rattle.h5_bytes.specs.Blocks.{holds, cover, Separate};
 ghost use Rattle.h5_space.specs.Claimed.{Shares};
 ghost use Rattle.h5_space.specs.Islands.{IsIslands, blocks_of, length_at};
 
+use crate::image::Image;
 use h5_bytes::Block;
 use std::alloc::Global;
 use std::collections::BTreeMap;
@@ -93,6 +94,33 @@ impl Claims {
         }
         self.held.remove(&past);
         Ok(())
+    }
+
+    /// In how many blocks the claimed bytes stand, where neighbours count as one. Takes no memory.
+    pub fn len(&self) -> u64
+        ensures count { result ≡ length self.now.held }
+        ensures small { result < 2 ^ 63 }
+    {
+        self.held.len() as u64
+    }
+
+    /// Makes all claimed bytes free, joined with free neighbours. Their values stay.
+    ///
+    /// It uses as many blocks of the reserved room as `len` says. That these are there, that all claimed bytes lie in
+    /// the image, and that none of them is free, are the caller's conditions. Takes no memory.
+    pub fn give_all(&self, image: &mut Image)
+        requires inside { self.now.end ≤ length image.old.bytes }
+        requires held { (p : ℕ) → cover p image.old.free + cover p self.now.held ≤ 1 }
+        requires blocks { length self.now.held ≤ image.old.room_blocks }
+        ensures bytes { image.new.bytes ≡ image.old.bytes }
+        ensures given { (p : ℕ)
+            → cover p image.new.free ≡ cover p image.old.free + cover p self.now.held }
+        ensures room_bytes { image.new.room_bytes ≡ image.old.room_bytes }
+        ensures room_blocks { image.new.room_blocks + length self.now.held ≡ image.old.room_blocks }
+    {
+        for (at, len) in self.held.iter() {
+            image.give(*at, *len);
+        }
     }
 }
 

@@ -23,9 +23,11 @@ pub enum SpaceFault {
 /// The bytes of a file, and which of them are free.
 ///
 /// A block is taken and given back within room that was reserved before. So a change of several steps can run out of
-/// memory only before its first step.
+/// memory only before its first step. `Debug` leaves the bytes out.
 #[derive(Drop)]
+#[derive_where(Debug)]
 pub struct Image {
+    #[derive_where(skip)]
     bytes: Vec<u8>,
     free: Vec<Block>,
     room_bytes: u64,

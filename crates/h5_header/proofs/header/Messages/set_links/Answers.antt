@@ -1,7 +1,7 @@
 use Rattle.std.proofs.Common.{◌≡◌, ℕ, ◌+◌, ◌≤◌, List, length, refl, ◌∙◌, ap, arith}
 use Rattle.h5_bytes.specs.Bytes.{part, with_part, with_field, little_bytes}
 use Rattle.h5_bytes.specs.Blocks.{block}
-use Rattle.h5_bytes.proofs.PartLaws.{with_part-with_part}
+use Rattle.h5_bytes.proofs.PartLaws.{length-with_part, with_part-with_part}
 use Rattle.h5_bytes.proofs.FieldLaws.{number_at-with_field}
 use Rattle.h5_model.specs.Format.Messages.{prefix_at, continuations, first_size}
 use Rattle.h5_space.specs.Lending.{with_bytes_at}
@@ -57,3 +57,8 @@ returns-clause-moves c =
     (moves_within c.args.image.now (with_bytes_at c.args.image.now c.header.result c.put_u32.new.bytes) (coded w) (c.args.self.now.header + 4)
     (block c.args.self.now.header (16 + first)) (continuations (messages_in c.args.image.now.bytes c.args.self.now.list))
     (omega arith) (omega (arith, four w)) (omega (arith, inside w)) (written w) refl)
+
+pub returns-clause-length : goal.returns-clause-length
+returns-clause-length c =
+    let w = (goal.at.returns-clause-length c).After-put_u32 in
+    rw (written w) (length-with_part (c.args.self.now.header + 4) (coded w) c.args.image.now.bytes (omega (arith, inside w, four w)))
