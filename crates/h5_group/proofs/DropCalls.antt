@@ -9,7 +9,6 @@ use Rattle.h5_model.specs.Format.Superblock.{leaf_k}
 use Rattle.h5_model.specs.Format.Heap.{segment_of}
 use Rattle.h5_model.specs.Format.Nodes.{Kind, IsNode, node_bytes}
 use Rattle.h5_model.specs.Format.Symbols.{Target, symbols_at}
-use Rattle.h5_model.proofs.OneTree.{one_children, one_level, one_owned}
 use Rattle.h5_model.proofs.RowLaws.{at_listed}
 use Rattle.h5_laws.proofs.Lists.{In, all_in, contains_in}
 use Rattle.h5_space.specs.Space.{Space}
@@ -23,6 +22,7 @@ use Rattle.h5_group.specs.Edited.{HasGroupMoved, IsGroupIn, entries_below, node_
 use Rattle.h5_group.specs.Nodes.Trees.{kind_in}
 use Rattle.h5_group.specs.Told.{symbol_nodes_told}
 use Rattle.h5_group.proofs.DropLaws.{end_listed, node_dropped, node_held, node_inside, segment_same}
+use Rattle.h5_group.proofs.EntryWays.{ends_own}
 use Rattle.h5_group.proofs.ToldLaws.{symbol_nodes_are_told}
 
 -- what stands at a place
@@ -51,11 +51,7 @@ module _ (s : Space) (table : SymbolTable) (links : List (List ℕ × Target)) (
 
   -- the tree is the group's
   pub own_way : EndsInTree s kind table.tree (group.linked).level way (group.linked).owned own_list k
-  own_way =
-      let has = group.linked in
-      subst (λ l. EndsInTree s kind table.tree l way has.owned has.symbol_nodes k) (one_level s.bytes kind table.tree level has.level owned has.owned list has.symbol_nodes e.tree has.tree)
-      (subst (λ (ns : List ℕ). EndsInTree s kind table.tree level way ns has.symbol_nodes k) (one_owned s.bytes kind table.tree level has.level owned has.owned list has.symbol_nodes e.tree has.tree)
-      (subst (λ (ns : List ℕ). EndsInTree s kind table.tree level way owned ns k) (one_children s.bytes kind table.tree level has.level owned has.owned list has.symbol_nodes e.tree has.tree) e))
+  own_way = ends_own s table links spare blocks group level way owned list k e
 
   own_end : (k < length own_list) × (get_or own_list k 0 ≡ node_below s table own_way.step)
   own_end = end_listed s kind table.tree (group.linked).level way (group.linked).owned own_list k own_way

@@ -1,8 +1,8 @@
 -- An edit of some of a group's blocks leaves its other blocks, and what the superblock says.
-use Rattle.std.proofs.Common.{◌≡◌, ℕ, ◌+◌, ◌≤◌, List, [], ◌∷◌, ◌++◌, length, ap, subst, sym, ◌∙◌, arith}
-use Rattle.h5_bytes.specs.Blocks.{block, cover, holds, Inside, Keeps}
+use Rattle.std.proofs.Common.{◌≡◌, ℕ, ◌≤◌, List, ◌∷◌, ◌++◌, length, arith}
+use Rattle.h5_bytes.specs.Blocks.{cover, Inside, Keeps}
 use Rattle.h5_bytes.specs.declared.Block.{Block}
-use Rattle.h5_bytes.proofs.BlockLaws.{cover-append, holds-le}
+use Rattle.h5_bytes.proofs.BlockLaws.{cover-append}
 use Rattle.h5_bytes.proofs.FieldLaws.{number_at-same}
 use Rattle.h5_model.specs.Format.Addresses.{SymbolTable}
 use Rattle.h5_model.specs.Format.Superblock.{leaf_k, internal_k}

@@ -1,18 +1,16 @@
 -- One symbol node of a group is written, and nothing else: the group's other blocks keep their bytes, so its tree, its heap and its other
 -- symbol nodes read as before (File Format Specification 3.0, sections III.A.1, III.B and III.D).
-use Rattle.std.proofs.Common.{◌≡◌, inl, inr, ℕ, ◌+◌, ◌*◌, ◌-◌, ◌≤◌, List, [], ◌∷◌, ◌++◌, map, length, sym, ap, ◌∙◌, subst, arith}
+use Rattle.std.proofs.Common.{◌≡◌, inl, inr, ℕ, ◌+◌, ◌*◌, ◌≤◌, List, [], ◌∷◌, ◌++◌, map, length, sym, ap, ◌∙◌, subst, arith}
 use Rattle.std.proofs.lemmas.List.{map-append}
-use Rattle.std.proofs.lemmas.Bool.{cases_lt}
 use Rattle.std.proofs.lemmas.Grind.{flat_map-append}
 use Rattle.std.specs.List.{AllByRecursion, flat_map}
-use Rattle.h5_bytes.specs.Bytes.{part}
-use Rattle.h5_bytes.specs.Blocks.{block, cover, holds, Inside, IsKept, Keeps}
+use Rattle.h5_bytes.specs.Blocks.{cover, Inside, IsKept, Keeps}
 use Rattle.h5_bytes.specs.declared.Block.{Block}
-use Rattle.h5_bytes.proofs.BlockLaws.{cover-append, holds_in, holds_past, all_append, all_left, all_right}
+use Rattle.h5_bytes.proofs.BlockLaws.{cover-append, all_append, all_left, all_right}
 use Rattle.h5_model.specs.Format.Addresses.{SymbolTable}
 use Rattle.h5_model.specs.Format.Superblock.{leaf_k, internal_k}
-use Rattle.h5_model.specs.Format.Heap.{heap_blocks, heap_header, segment_block, segment_of, segment_place, segment_size}
-use Rattle.h5_model.specs.Format.Nodes.{HasTree, Kind, node_at, node_block, node_length, node_of, reading_of, tree_blocks}
+use Rattle.h5_model.specs.Format.Heap.{heap_blocks, segment_block, segment_of}
+use Rattle.h5_model.specs.Format.Nodes.{HasTree, Kind, node_block, reading_of, tree_blocks}
 use Rattle.h5_model.specs.Format.Symbols.{IsSymbolNode, Target, entries_of, symbol_block, symbol_bytes, symbols_at, symbols_of}
 use Rattle.h5_model.proofs.Frames.{heap-same, reading-same, tree-same}
 use Rattle.h5_model.proofs.RowLaws.{only_here}
@@ -20,10 +18,10 @@ use Rattle.h5_laws.proofs.Entries.{flat-same}
 use Rattle.h5_laws.proofs.Lists.{In}
 use Rattle.h5_space.specs.Space.{Space}
 use Rattle.h5_space.specs.Moves.{Moves}
-use Rattle.h5_space.specs.Whole.{IsApart}
-use Rattle.h5_group.specs.Edited.{IsGroupIn, superblock_block}
+use Rattle.h5_group.specs.Edited.{IsGroupIn}
 use Rattle.h5_group.specs.Nodes.Trees.{kind_in}
-use Rattle.h5_group.proofs.EditFrames.{group_apart, group_moves, internal_kept, leaf_kept, rest_kept, still_long}
+use Rattle.h5_group.proofs.BlockFrames.{fact_kept, inside_held, made_long, read_kept}
+use Rattle.h5_group.proofs.EditFrames.{internal_kept, leaf_kept, rest_kept}
 
 -- ---- lists and blocks
 
@@ -32,34 +30,6 @@ pub cut_in : {X : Type 0} (x : X) (xs : List X) → In x xs → (front : List X)
 cut_in x [] at = absurd at
 cut_in {X} x (y ∷ xs) (inl e) = ([], xs, ap (λ (z : X). z ∷ xs) e)
 cut_in {X} x (y ∷ xs) (inr at) = let rest = cut_in x xs at in (y ∷ rest.0, rest.1, ap (λ (zs : List X). y ∷ zs) rest.2)
-
--- blocks that have bytes and hold none from an end on lie before it
-pub inside_held : (end : ℕ) (bs : List Block) → ((p : ℕ) → cover p bs ≤ holds p 0 end) → AllByRecursion (λ (b : Block). 1 ≤ b.len) bs → Inside end bs
-inside_held end [] held some = tt
-inside_held end (b ∷ bs) held some =
-    let last = b.at + (b.len - 1) in
-    let here : holds last b.at b.len ≡ 1 = holds_in last b.at b.len (omega arith) (omega (arith, some.0)) in
-    let first : b.at + b.len ≤ end = elim (cases_lt last end) [
-      | inl low ↦ omega (arith, low)
-      | inr past ↦ absurd (omega (arith, here, held last, holds_past last 0 end (omega (arith, past))))
-    ] in
-    (first, inside_held end bs (λ p. omega (arith, held p)) some.1)
-
--- of blocks made at addresses
-pub made_long : (f : ℕ → Block) (xs : List ℕ) → ((x : ℕ) → 1 ≤ (f x).len) → AllByRecursion (λ (b : Block). 1 ≤ b.len) (map f xs)
-made_long f [] some = tt
-made_long f (x ∷ xs) some = (some x, made_long f xs some)
-
--- what is read in blocks that were kept
-pub read_kept : {X : Type 0} (f : List ℕ → X) (len : ℕ) (old new : List ℕ) (xs : List ℕ) → Keeps old new (map (λ at. block at len) xs)
-    → AllByRecursion (λ at. f (part at len new) ≡ f (part at len old)) xs
-read_kept f len old new [] kept = tt
-read_kept f len old new (x ∷ xs) kept = (ap f kept.0, read_kept f len old new xs kept.1)
-
-fact_kept : (P : List ℕ → Type 0) (len : ℕ) (old new : List ℕ) (xs : List ℕ) → Keeps old new (map (λ at. block at len) xs)
-    → AllByRecursion (λ at. P (part at len old)) xs → AllByRecursion (λ at. P (part at len new)) xs
-fact_kept P len old new [] kept all = tt
-fact_kept P len old new (x ∷ xs) kept all = (subst P (sym kept.0) all.0, fact_kept P len old new xs kept.1 all.1)
 
 -- ---- the group's symbol node at this place among its symbol nodes
 
@@ -86,7 +56,7 @@ module _ (s t : Space) (table : SymbolTable) (links : List (List ℕ × Target))
   abbrev pub rest : List Block
   rest = (tree_blocks kind owned ++ symbols_rest) ++ heap_blocks s.bytes table.heap
 
-  symbols_parted : (p : ℕ) → cover p (map (symbol_block leaf) symbol_nodes) ≡ cover p written + cover p symbols_rest
+  pub symbols_parted : (p : ℕ) → cover p (map (symbol_block leaf) symbol_nodes) ≡ cover p written + cover p symbols_rest
   symbols_parted p =
       let all : map (symbol_block leaf) symbol_nodes ≡ map (symbol_block leaf) front ++ symbol_block leaf node ∷ map (symbol_block leaf) back
       = ap (map (symbol_block leaf)) cut ∙ map-append (symbol_block leaf) front (node ∷ back) in
@@ -159,14 +129,8 @@ module _ (s t : Space) (table : SymbolTable) (links : List (List ℕ × Target))
     pub heap_kept : Keeps s.bytes t.bytes (heap_blocks s.bytes table.heap)
     heap_kept = all_right (IsKept s.bytes t.bytes) (tree_blocks kind owned ++ symbols_rest) (heap_blocks s.bytes table.heap) kept
 
-    pub header_same : heap_header t.bytes table.heap ≡ heap_header s.bytes table.heap
-    header_same = (heap-same s.bytes t.bytes table.heap heap_kept).0
-
     pub segment_same : segment_of t.bytes table.heap ≡ segment_of s.bytes table.heap
     segment_same = (heap-same s.bytes t.bytes table.heap heap_kept).1
-
-    pub heap_blocks_same : heap_blocks t.bytes table.heap ≡ heap_blocks s.bytes table.heap
-    heap_blocks_same = ap (λ (h : List ℕ). block table.heap 32 ∷ block (segment_place h) (segment_size h) ∷ []) header_same
 
     pub rows_same : reading_of t.bytes kind owned ≡ reading_of s.bytes kind owned
     rows_same = reading-same s.bytes t.bytes kind owned trees_kept
@@ -174,10 +138,7 @@ module _ (s t : Space) (table : SymbolTable) (links : List (List ℕ × Target))
     pub tree_still : HasTree t.bytes kind table.tree (group.linked).level owned symbol_nodes
     tree_still = tree-same s.bytes t.bytes kind owned trees_kept table.tree (group.linked).level symbol_nodes (group.linked).tree
 
-    -- its nodes, and its other symbol nodes, one by one
-    pub nodes_same : AllByRecursion (λ at. node_at t.bytes kind at ≡ node_at s.bytes kind at) owned
-    nodes_same = read_kept (node_of kind) (node_length kind) s.bytes t.bytes owned trees_kept
-
+    -- and its other symbol nodes, one by one
     pub fronts_same : AllByRecursion (λ at. symbols_at t.bytes leaf at ≡ symbols_at s.bytes leaf at) front
     fronts_same = read_kept entries_of (8 + 80 * leaf) s.bytes t.bytes front front_kept
 
@@ -193,15 +154,6 @@ module _ (s t : Space) (table : SymbolTable) (links : List (List ℕ × Target))
         let before = fact_kept (IsSymbolNode leaf) (8 + 80 * leaf) s.bytes t.bytes front front_kept (all_left P front (node ∷ back) all) in
         let behind = fact_kept (IsSymbolNode leaf) (8 + 80 * leaf) s.bytes t.bytes back back_kept (all_right P front (node ∷ back) all).1 in
         subst (AllByRecursion Q) (sym cut) (all_append Q front (node ∷ back) before (here, behind))
-
-    pub apart_still : IsApart (superblock_block ∷ blocks) t.free (length t.bytes)
-    apart_still = group_apart s t table links spare blocks group written written rest moves parted within blocks parted
-
-    pub moves_all : Moves s t blocks blocks
-    moves_all = group_moves s t table links spare blocks group written written rest moves parted within blocks parted
-
-    pub long_still : 96 ≤ length t.bytes
-    long_still = still_long s t table links spare blocks group written written rest moves parted within
 
 -- ---- the entries of a group, cut at one of its symbol nodes
 

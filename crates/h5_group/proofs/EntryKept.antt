@@ -1,8 +1,7 @@
 -- A symbol node of a group is written where it stands: the heap, the tree's nodes and the ways down the tree stay (File Format Specification
--- 3.0, sections III.A.1, III.B and III.D). And what is known of a symbol node at the end of a way.
-use Rattle.std.proofs.Common.{◌≡◌, ◌≢◌, ℕ, zero, suc, List, [], ◌∷◌, ◌++◌, inl, get_or, take, drop, refl, sym, ap, ◌∙◌, subst, Some}
+-- 3.0, sections III.A.1, III.B and III.D).
+use Rattle.std.proofs.Common.{◌≡◌, ◌≢◌, ℕ, List, [], ◌∷◌, ◌++◌, refl, sym, ap, ◌∙◌, subst, Some}
 use Rattle.std.specs.Prelude.{slice_get, slice_index}
-use Rattle.std.proofs.lemmas.Option.{same_Some}
 use Rattle.std.specs.List.{AllByRecursion, Contains}
 use Rattle.h5_bytes.specs.Blocks.{Keeps}
 use Rattle.h5_bytes.specs.Texts.{text_at}
@@ -14,28 +13,20 @@ use Rattle.h5_model.specs.Format.Nodes.{Kind, group_kind, node_at, tree_blocks}
 use Rattle.h5_model.specs.Format.Rows.{Node}
 use Rattle.h5_model.specs.Format.Symbols.{Entry, IsSymbolNode, Target, link_of, symbol_bytes, symbols_at, target_of}
 use Rattle.h5_model.specs.Faults.TreeFaults.{all_entries}
-use Rattle.h5_laws.proofs.Lists.{In, contains_in, from_map, in_all, in_at, in_contains, in_flat, in_map, in_right}
+use Rattle.h5_laws.proofs.Lists.{In, contains_in, from_map, in_all, in_at, in_contains, in_flat, in_map}
 use Rattle.h5_space.specs.Space.{Space}
 use Rattle.h5_btree.specs.Removal.{EndsInTree}
-use Rattle.h5_btree.specs.Walk.Forms.{OfGroup}
-use Rattle.h5_btree.specs.Walk.Stands.{IsNodeAt}
 use Rattle.h5_btree.specs.declared.way.Step.{Step}
-use Rattle.h5_btree.proofs.WaySteps.{IsStep, way_there}
 use Rattle.h5_snod.specs.Names.{entry_names}
 use Rattle.h5_group.specs.Edited.{IsGroupIn, IsNewName, node_below}
 use Rattle.h5_group.specs.Links.{HasNone}
 use Rattle.h5_group.specs.Nodes.Stands.{IsSymbolsAt}
 use Rattle.h5_group.specs.Nodes.Trees.{kind_in}
-use Rattle.h5_group.specs.SymbolEdits.{HasEntriesAt}
+use Rattle.h5_group.specs.SymbolEdits.{IsSymbolsRewritten}
 use Rattle.h5_group.specs.Told.{links_told, symbol_nodes_told}
 use Rattle.h5_group.proofs.EntryFrames.{cut_in, internal_same, leaf_same, node_within, segment_same, trees_kept}
-use Rattle.h5_group.proofs.EntryWays.{below_kept, end_cut, ends_kept, list_same, owned_same}
+use Rattle.h5_group.proofs.EntryWays.{below_kept, ends_kept, owned_same}
 use Rattle.h5_group.proofs.ToldLaws.{links_are_told, symbol_nodes_are_told}
-
-pub got_is : (xs : List ℕ) (k x : ℕ) → slice_get xs k ≡ Some x → x ≡ get_or xs k 0
-got_is [] k x got = absurd (cc)
-got_is (y ∷ ys) zero x got = sym (same_Some y x got)
-got_is (y ∷ ys) (suc k) x got = got_is ys k x got
 
 -- ---- one of a group's symbol nodes
 
@@ -59,12 +50,12 @@ module _ (s : Space) (table : SymbolTable) (links : List (List ℕ × Target)) (
     inside = node_within s s table links spare blocks group node front back cut;
   }
 
-  module _ (t : Space) (entries : List Entry) (set : HasEntriesAt s t node entries) where
+  module _ (t : Space) (entries : List Entry) (set : IsSymbolsRewritten s t (leaf_k s.bytes) node entries) where
     pub heap_set : segment_of t.bytes table.heap ≡ segment_of s.bytes table.heap
     heap_set = segment_same s t table links spare blocks group node front back cut set.moves
 
     pub entries_set : symbols_at t.bytes (leaf_k t.bytes) node ≡ entries
-    entries_set = ap (λ (l : ℕ). symbols_at t.bytes l node) (leaf_same s t table links spare blocks group node front back cut set.moves) ∙ set.entries_are
+    entries_set = ap (λ (l : ℕ). symbols_at t.bytes l node) (leaf_same s t table links spare blocks group node front back cut set.moves) ∙ set.says
 
     kind_set : kind_in t.bytes ≡ kind_in s.bytes
     kind_set = ap group_kind (internal_same s t table links spare blocks group node front back cut set.moves)
@@ -90,22 +81,6 @@ module _ (s : Space) (table : SymbolTable) (links : List (List ℕ × Target)) (
             ap (λ (kind : Kind). slice_index (node_at t.bytes kind step.node).children step.place) kind_set ∙ ap (λ (n : Node). slice_index n.children step.place) same.0,
             go steps same.1,
           )
-
--- ---- at the end of a way
-
-module _ (s : Space) (table : SymbolTable) (links : List (List ℕ × Target)) (spare : List ℕ) (blocks : List Block) (group : IsGroupIn s table links spare blocks)
-    (level : ℕ) (way : List Step) (owned list : List ℕ) (k : ℕ) (e : EndsInTree s (kind_in s.bytes) table.tree level way owned list k) where
-  pub end_told : Contains (symbol_nodes_told s.bytes table) (get_or (node_at s.bytes (kind_in s.bytes) (e.step).node).children (e.step).place 0)
-  end_told =
-      let c = get_or (node_at s.bytes (kind_in s.bytes) (e.step).node).children (e.step).place 0 in
-      let at : In c list = subst (In c) (sym (end_cut s (kind_in s.bytes) table.tree level way owned list k e)) (in_right c (take k list) (c ∷ drop (suc k) list) (inl refl)) in
-      contains_in c (symbol_nodes_told s.bytes table)
-      (subst (In c) (list_same s table links spare blocks group level way owned list k e ∙ symbol_nodes_are_told s.bytes table links blocks group.linked) at)
-
-  pub end_stands : IsNodeAt s.bytes OfGroup (e.step).node
-  end_stands =
-      let all = subst (AllByRecursion (IsStep s (kind_in s.bytes))) e.way_is (way_there s (kind_in s.bytes) table.tree level way owned list k e) in
-      record { formed = all.0.1; inside = all.0.0 }
 
 -- ---- a name that no link has
 

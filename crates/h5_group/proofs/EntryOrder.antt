@@ -3,13 +3,13 @@
 use Rattle.std.proofs.Common.{◌≡◌, ℕ, suc, ◌+◌, ◌≤◌, ◌==◌, true, false, IsTrue, List, [], ◌∷◌, ◌++◌, map, get_or, take, drop, refl, sym, ap, ◌∙◌, subst, arith, if◌then◌else◌, append-nil}
 use Rattle.std.proofs.lemmas.List.{map-append}
 use Rattle.std.specs.Bool.{⊤}
-use Rattle.std.specs.List.{AllByRecursion, flat_map, list_any, remove}
+use Rattle.std.specs.List.{AllByRecursion, list_any, remove}
 use Rattle.h5_bytes.specs.Texts.{text_at}
 use Rattle.h5_bytes.proofs.BlockLaws.{all_right, all_so}
-use Rattle.h5_model.specs.Format.Links.{Ascend, Before, IsBetween, IsOrdered, NotAfter, Symbols, names_in}
+use Rattle.h5_model.specs.Format.Links.{Before, IsBetween, IsOrdered, NotAfter, Symbols, names_in}
 use Rattle.h5_model.specs.Format.Nodes.{Kind, node_at, reading_of}
 use Rattle.h5_model.specs.Format.Rows.{Reading, only}
-use Rattle.h5_model.specs.Format.Symbols.{Entry, link_of}
+use Rattle.h5_model.specs.Format.Symbols.{Entry}
 use Rattle.h5_model.specs.Tree.Paths.{is_name}
 use Rattle.h5_model.proofs.RowLaws.{only_here}
 use Rattle.h5_laws.specs.KeyEdits.{IsPut, LetIn}
@@ -22,9 +22,7 @@ use Rattle.h5_btree.specs.Removal.{EndsInTree}
 use Rattle.h5_btree.specs.declared.way.Step.{Step}
 use Rattle.h5_btree.proofs.KeyedFills.{filled_sorted}
 use Rattle.h5_btree.proofs.KeyedForms.{group_in_order, group_ordered, names_at_child, names_bottom}
-use Rattle.h5_btree.proofs.KeyedNames.{AreAscending, ascending_put}
 use Rattle.h5_btree.proofs.KeyedOrder.{items-tree}
-use Rattle.h5_group.proofs.EntryLinks.{ascend_names, names_ascend, names_of_links}
 use Rattle.h5_group.proofs.EntryWays.{end_cut}
 
 -- one reading and another of a symbol node that both have
@@ -114,14 +112,7 @@ module _ (s : Space) (kind : Kind) (root level : ℕ) (way : List Step) (owned l
     pub put_ordered : AllByRecursion (λ at. IsOrdered Y (only [] g listed) segment (Y at)) owned
     put_ordered = group_ordered s.bytes kind root level owned listed e.tree (only [] g listed) segment filled.0
 
-    all_put : IsPut Before name (names_in (only [] f listed) segment listed) (names_in (only [] g listed) segment listed)
-    all_put = subst (λ (ns : List (List ℕ)). IsPut Before name ns (names_in (only [] g listed) segment listed)) (all_names f)
+    -- AND THE NAME COMES IN AT ITS PLACE
+    pub names_put : IsPut Before name (names_in (only [] f listed) segment listed) (names_in (only [] g listed) segment listed)
+    names_put = subst (λ (ns : List (List ℕ)). IsPut Before name ns (names_in (only [] g listed) segment listed)) (all_names f)
         (subst (IsPut Before name (items_of_tree (λ (b : List (List ℕ)). b) s.bytes kind was level root)) (all_names g) filled.1)
-
-    -- AND THE NAMES ASCEND
-    pub put_ascends : Ascend (map (link_of segment) (flat_map (only [] f listed) listed)) → Ascend (map (link_of segment) (flat_map (only [] g listed) listed))
-    put_ascends rises =
-        let old = subst AreAscending (names_of_links segment (flat_map (only [] f listed) listed)) (ascend_names (map (link_of segment) (flat_map (only [] f listed) listed)) rises) in
-        names_ascend (map (link_of segment) (flat_map (only [] g listed) listed))
-        (subst AreAscending (sym (names_of_links segment (flat_map (only [] g listed) listed)))
-        (ascending_put name (names_in (only [] f listed) segment listed) (names_in (only [] g listed) segment listed) old all_put))

@@ -1,24 +1,21 @@
 -- A symbol node of a group is written with an entry more, or with one less: then its links are those of before with one more, or with one less
 -- (File Format Specification 3.0, sections III.A.1, III.B and III.D).
-use Rattle.std.proofs.Common.{◌≡◌, ℕ, zero, suc, ◌+◌, ◌*◌, ◌^◌, ◌<◌, ◌≤◌, inl, IsTrue, List, [], ◌∷◌, ◌++◌, map, length, get_or, take, drop, refl, sym, ap, ◌∙◌, subst, arith, Some}
+use Rattle.std.proofs.Common.{◌≡◌, ℕ, zero, suc, ◌+◌, ◌^◌, ◌<◌, ◌≤◌, inl, IsTrue, List, [], ◌∷◌, ◌++◌, length, get_or, take, drop, refl, sym, ap, ◌∙◌, subst, arith, Some}
 use Rattle.std.specs.Prelude.{slice_get}
 use Rattle.std.proofs.lemmas.Option.{same_Some}
-use Rattle.std.proofs.lemmas.List.{drop-map, get_or-take, length-drop, length-take, take-append-drop, take-map}
+use Rattle.std.proofs.lemmas.List.{drop-map, length-drop, length-take, take-append-drop, take-map}
 use Rattle.std.specs.List.{AllByRecursion, Contains, flat_map, insert, remove}
-use Rattle.h5_bytes.specs.Bytes.{byte_at, part, with_field, with_part}
-use Rattle.h5_bytes.specs.Blocks.{Inside}
+use Rattle.h5_bytes.specs.Bytes.{part, with_field}
 use Rattle.h5_bytes.specs.Texts.{text_at}
 use Rattle.h5_bytes.specs.declared.Block.{Block}
 use Rattle.h5_bytes.proofs.BlockLaws.{all_append}
 use Rattle.h5_bytes.proofs.FieldLaws.{number_at-with_field}
-use Rattle.h5_bytes.proofs.TableLaws.{length-table}
-use Rattle.h5_bytes.proofs.PartLaws.{length-with_part, part-part, part-with_part_same}
 use Rattle.h5_model.specs.Format.Addresses.{SymbolTable}
-use Rattle.h5_model.specs.Format.Superblock.{internal_k, leaf_k}
-use Rattle.h5_model.specs.Format.Heap.{heap_blocks, segment_block, segment_of, span_of}
-use Rattle.h5_model.specs.Format.Links.{Ascend, Before, HasLinks}
-use Rattle.h5_model.specs.Format.Nodes.{node_at, node_block, tree_blocks}
-use Rattle.h5_model.specs.Format.Symbols.{Entry, IsEntry, IsSymbolNode, Target, entries_of, entry_of, link_of, symbol_block, symbol_bytes, symbols_at, symbols_in, symbols_of, texts_of}
+use Rattle.h5_model.specs.Format.Superblock.{leaf_k}
+use Rattle.h5_model.specs.Format.Heap.{segment_block, segment_of, span_of}
+use Rattle.h5_model.specs.Format.Links.{Before}
+use Rattle.h5_model.specs.Format.Nodes.{node_at}
+use Rattle.h5_model.specs.Format.Symbols.{Entry, IsEntry, Target, link_of, symbols_at, symbols_of, texts_of}
 use Rattle.h5_model.specs.Tree.Paths.{is_name}
 use Rattle.h5_laws.specs.KeyEdits.{LetIn}
 use Rattle.h5_laws.specs.NameLadders.{key_text, name_sides}
@@ -26,71 +23,25 @@ use Rattle.h5_laws.proofs.KeyInstances.{name_let_in}
 use Rattle.h5_laws.proofs.Lists.{In, in_all, in_contains, in_right}
 use Rattle.h5_heap.proofs.RefusedLaws.{empty_text}
 use Rattle.h5_space.specs.Space.{Space}
-use Rattle.h5_space.specs.Lending.{with_bytes_at}
-use Rattle.h5_space.proofs.MovesLaws.{moves_write}
 use Rattle.h5_btree.specs.Removal.{EndsInTree}
 use Rattle.h5_btree.specs.declared.way.Step.{Step}
 use Rattle.h5_snod.specs.Names.{IsPlace, entry_names}
 use Rattle.h5_group.specs.Edited.{HasEntryPut, HasEntryTaken, HasGroupMoved, IsGroupIn, IsLinkPut, IsWayFor, offsets_of}
-use Rattle.h5_group.specs.Links.{IsGroupRead}
 use Rattle.h5_group.specs.Nodes.Trees.{kind_in}
-use Rattle.h5_group.specs.SymbolEdits.{HasEntriesAt}
-use Rattle.h5_group.specs.Told.{links_told, symbol_nodes_told}
-use Rattle.h5_group.proofs.EntryFrames.{backs_same, cut_in, fronts_same, inside_held, made_long}
-use Rattle.h5_group.proofs.EntryLinks.{entry_put, entry_taken, new_entries}
-use Rattle.h5_group.proofs.EntryOrder.{above_empty, put_ascends, put_ordered}
+use Rattle.h5_group.specs.SymbolEdits.{IsSymbolsRewritten}
+use Rattle.h5_group.specs.Told.{symbol_nodes_told}
+use Rattle.h5_group.proofs.EntryFrames.{backs_same, cut_in, fronts_same}
+use Rattle.h5_group.proofs.EntryLinks.{entry_put, entry_taken}
+use Rattle.h5_group.proofs.EntryOrder.{above_empty, names_put, put_ordered}
 use Rattle.h5_group.proofs.EntryWays.{end_cut, ends_own}
 use Rattle.h5_group.proofs.MovedNames.{all_spans, names_of}
-use Rattle.h5_group.proofs.ToldLaws.{blocks_are_told, links_are_told, symbol_nodes_are_told}
+use Rattle.h5_group.proofs.ToldLaws.{symbol_nodes_are_told}
 
--- ---- the bytes of a symbol node are written
-
-byte_front : (bytes : List ℕ) (i n : ℕ) → i < n → byte_at (part 0 n bytes) i ≡ byte_at bytes i
-unfolding part
-byte_front bytes i n low = get_or-take n bytes i 0 low
+-- ---- what a group says of its symbol nodes
 
 part_short : (at len : ℕ) (bytes : List ℕ) → length (part at len bytes) ≤ length bytes
 unfolding part
 part_short at len bytes = omega (arith, length-take len (drop at bytes), length-drop at bytes)
-
--- how many entries there are
-pub entries_counted : (bytes : List ℕ) → length (entries_of bytes) ≡ symbols_in bytes
-entries_counted bytes = length-table (λ i. entry_of (part (8 + 40 * i) 40 bytes)) (λ i. entry_of (part (8 + 40 * i) 40 bytes)) (symbols_in bytes) 0
-
-module _ (s : Space) (node : ℕ) (w : List ℕ) (entries : List Entry) (long : length w ≡ 8 + 80 * leaf_k s.bytes) (inside : node + (8 + 80 * leaf_k s.bytes) ≤ length s.bytes)
-    (was : IsSymbolNode (leaf_k s.bytes) (symbol_bytes s.bytes (leaf_k s.bytes) node)) (entries_are : entries_of w ≡ entries)
-    (head : part 0 6 w ≡ part 0 6 (symbol_bytes s.bytes (leaf_k s.bytes) node)) (few : length entries ≤ 2 * leaf_k s.bytes) where
-  abbrev old : List ℕ
-  old = symbol_bytes s.bytes (leaf_k s.bytes) node
-
-  there : symbol_bytes (with_part node w s.bytes) (leaf_k s.bytes) node ≡ w
-  there = part-with_part_same node (8 + 80 * leaf_k s.bytes) w s.bytes (sym long) (omega (arith, long, inside))
-
-  first_four : part 0 4 w ≡ part 0 4 old
-  first_four = sym (part-part 0 4 0 6 w (omega arith)) ∙ ap (part 0 4) head ∙ part-part 0 4 0 6 old (omega arith)
-
-  version : byte_at w 4 ≡ byte_at old 4
-  version = sym (byte_front w 4 6 (omega arith)) ∙ ap (λ (bs : List ℕ). byte_at bs 4) head ∙ byte_front old 4 6 (omega arith)
-
-  counted : symbols_in w ≡ length entries
-  counted = sym (entries_counted w) ∙ ap (λ (es : List Entry). length es) entries_are
-
-  formed : IsSymbolNode (leaf_k s.bytes) w
-  formed = record { signed = first_four ∙ was.signed; version = version ∙ was.version; roomy = omega (arith, counted, few) }
-
-  pub has_entries : HasEntriesAt s (with_bytes_at s node w) node entries
-  has_entries =
-      let size : length (with_part node w s.bytes) ≡ length s.bytes = length-with_part node w s.bytes (omega (arith, long, inside)) in
-      record {
-        entries_are = ap entries_of there ∙ entries_are;
-        formed = subst (IsSymbolNode (leaf_k s.bytes)) (sym there) formed;
-        moves = moves_write s (with_bytes_at s node w) node (8 + 80 * leaf_k s.bytes) w long inside refl refl;
-        free = refl;
-        size = size;
-        spends = record { grown = omega (arith, size); bytes_left = omega arith; blocks_left = omega arith };
-      }
-
--- ---- what a group says of its symbol nodes
 
 module _ (s : Space) (table : SymbolTable) (links : List (List ℕ × Target)) (spare : List ℕ) (blocks : List Block) (group : IsGroupIn s table links spare blocks) where
   abbrev leaf : ℕ
@@ -98,31 +49,6 @@ module _ (s : Space) (table : SymbolTable) (links : List (List ℕ × Target)) (
 
   abbrev segment : List ℕ
   segment = segment_of s.bytes table.heap
-
-  blocks_inside : Inside (length s.bytes) blocks
-  blocks_inside =
-      let P : Block → Type 0 = λ (b : Block). 1 ≤ b.len in
-      let size : 1 ≤ (segment_block s.bytes table.heap).len = let form = (group.linked).listed.heap_form.size in omega (arith, form) in
-      let trees = tree_blocks (kind_in s.bytes) (group.linked).owned in
-      let symbols = map (symbol_block leaf) (group.linked).symbol_nodes in
-      let all : AllByRecursion P ((trees ++ symbols) ++ heap_blocks s.bytes table.heap)
-      = all_append P (trees ++ symbols) (heap_blocks s.bytes table.heap)
-      (all_append P trees symbols (made_long (node_block (kind_in s.bytes)) (group.linked).owned (λ n. omega arith))
-      (made_long (symbol_block leaf) (group.linked).symbol_nodes (λ n. omega arith)))
-      (omega arith, (size, tt)) in
-      inside_held (length s.bytes) blocks (λ p. omega (arith, group.apart p)) (subst (AllByRecursion P) (sym (group.linked).laid) all)
-
-  -- it can be read
-  pub group_read : IsGroupRead s.bytes table
-  group_read =
-      let links_is = links_are_told s.bytes table links blocks group.linked in
-      let blocks_is = blocks_are_told s.bytes table links blocks group.linked in
-      record {
-        linked = subst (λ (bs : List Block). HasLinks s.bytes leaf (internal_k s.bytes) table.tree table.heap (links_told s.bytes table) bs) blocks_is
-            (subst (λ (ls : List (List ℕ × Target)). HasLinks s.bytes leaf (internal_k s.bytes) table.tree table.heap ls blocks) links_is group.linked);
-        inside = subst (Inside (length s.bytes)) blocks_is blocks_inside;
-        few = group.few;
-      }
 
   -- the offset of a loose text is one in the image
   loose_low : (offset : ℕ) → In offset (group.linked).listed.loose → offset < 256 ^ 8
@@ -153,7 +79,7 @@ module _ (s : Space) (table : SymbolTable) (links : List (List ℕ × Target)) (
 
 -- ---- an entry comes in
 
-module _ (s t : Space) (table : SymbolTable) (node k : ℕ) (e : Entry) (set : HasEntriesAt s t node (insert (symbols_at s.bytes (leaf_k s.bytes) node) k e))
+module _ (s t : Space) (table : SymbolTable) (node k : ℕ) (e : Entry) (set : IsSymbolsRewritten s t (leaf_k s.bytes) node (insert (symbols_at s.bytes (leaf_k s.bytes) node) k e))
     (place : IsPlace (entry_names (segment_of s.bytes table.heap) (symbols_at s.bytes (leaf_k s.bytes) node)) (text_at (segment_of s.bytes table.heap) e.name) k)
     (way : List Step) (w : IsWayFor s table (text_at (segment_of s.bytes table.heap) e.name) way)
     (named : IsTrue (is_name (text_at (segment_of s.bytes table.heap) e.name))) (known : IsEntry e) where
@@ -176,7 +102,7 @@ module _ (s t : Space) (table : SymbolTable) (node k : ℕ) (e : Entry) (set : H
     back = drop (suc w.number) listed
 
     abbrev IsSet : ℕ → Type 0
-    IsSet n = HasEntriesAt s t n (insert (symbols_at s.bytes (leaf_k s.bytes) n) k e)
+    IsSet n = IsSymbolsRewritten s t (leaf_k s.bytes) n (insert (symbols_at s.bytes (leaf_k s.bytes) n) k e)
         × IsPlace (entry_names gone (symbols_at s.bytes (leaf_k s.bytes) n)) (text_at gone e.name) k
 
     here : IsSet end_node
@@ -191,7 +117,7 @@ module _ (s t : Space) (table : SymbolTable) (node k : ℕ) (e : Entry) (set : H
         let xs = take k entries in
         let ys = drop k entries in
         let was : entries ≡ xs ++ ys = sym (take-append-drop k entries) in
-        let now = (here.0).entries_are in
+        let now = (here.0).says in
         let others = all_append (λ n. symbols_at t.bytes l n ≡ symbols_at s.bytes l n) front back
         (fronts_same s t table links (offsets_of e ++ spare) blocks group end_node front back cut moves)
         (backs_same s t table links (offsets_of e ++ spare) blocks group end_node front back cut moves) in
@@ -204,12 +130,10 @@ module _ (s t : Space) (table : SymbolTable) (node k : ℕ) (e : Entry) (set : H
         let high = key_of s table links (offsets_of e ++ spare) blocks group e.name in
         let ordered = put_ordered s (kind_in s.bytes) table.tree (group.linked).level way (group.linked).owned listed w.number own group.some
         (symbols_at s.bytes l) (symbols_at t.bytes l) others gone (text_at gone e.name) low high lets w.between xs ys e refl was now above below (group.linked).listed.ordered in
-        let ascends = put_ascends s (kind_in s.bytes) table.tree (group.linked).level way (group.linked).owned listed w.number own group.some
-        (symbols_at s.bytes l) (symbols_at t.bytes l) others gone (text_at gone e.name) low high lets w.between xs ys e refl was now above below (group.linked).listed.ordered
-        (subst Ascend (group.linked).listed.all (group.linked).listed.ascending) in
-        let all = new_entries s t table links (offsets_of e ++ spare) blocks group end_node front back cut moves (here.0).size (here.0).formed xs (e ∷ ys) now in
-        entry_put s t table links (offsets_of e ++ spare) blocks group end_node front back cut moves (here.0).size (here.0).formed e xs ys spare refl was now known named
-        (subst Ascend (ap (map (link_of gone)) all) ascends) ordered
+        let put = names_put s (kind_in s.bytes) table.tree (group.linked).level way (group.linked).owned listed w.number own group.some
+        (symbols_at s.bytes l) (symbols_at t.bytes l) others gone (text_at gone e.name) low high lets w.between xs ys e refl was now above below (group.linked).listed.ordered in
+        entry_put s t table links (offsets_of e ++ spare) blocks group end_node front back cut moves (here.0).size (here.0).form e xs ys spare refl was now known named
+        put ordered
 
   pub put_all : ((step : Step) (above : List Step) → way ≡ step ∷ above → node ≡ get_or (node_at s.bytes (kind_in s.bytes) step.node).children step.place 0) → HasEntryPut s t table e
   put_all at_end links spare blocks group new_name =
@@ -223,7 +147,7 @@ got_cut [] k x got = absurd (cc)
 got_cut {X} (y ∷ ys) zero x got = ap (λ (z : X). z ∷ ys) (same_Some y x got)
 got_cut {X} (y ∷ ys) (suc k) x got = ap (λ (zs : List X). y ∷ zs) (got_cut ys k x got)
 
-module _ (s t : Space) (table : SymbolTable) (node k : ℕ) (set : HasEntriesAt s t node (remove (symbols_at s.bytes (leaf_k s.bytes) node) k))
+module _ (s t : Space) (table : SymbolTable) (node k : ℕ) (set : IsSymbolsRewritten s t (leaf_k s.bytes) node (remove (symbols_at s.bytes (leaf_k s.bytes) node) k))
     (told : Contains (symbol_nodes_told s.bytes table) node) where
   pub taken_all : (e : Entry) → slice_get (symbols_at s.bytes (leaf_k s.bytes) node) k ≡ Some e → HasEntryTaken s t table e
   taken_all e got links spare blocks group =
@@ -231,5 +155,5 @@ module _ (s t : Space) (table : SymbolTable) (node k : ℕ) (set : HasEntriesAt 
       let listed : In node (group.linked).symbol_nodes
       = subst (In node) (sym (symbol_nodes_are_told s.bytes table links blocks group.linked)) (in_contains node (symbol_nodes_told s.bytes table) told) in
       let cut = cut_in node (group.linked).symbol_nodes listed in
-      entry_taken s t table links spare blocks group node cut.0 cut.1 cut.2 set.moves set.size set.formed e (take k entries) (drop (suc k) entries)
-      (got_cut entries k e got) set.entries_are
+      entry_taken s t table links spare blocks group node cut.0 cut.1 cut.2 set.moves set.size set.form e (take k entries) (drop (suc k) entries)
+      (got_cut entries k e got) set.says

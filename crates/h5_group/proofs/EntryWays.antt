@@ -25,7 +25,7 @@ use Rattle.h5_btree.proofs.WayRows.{leaves_here}
 use Rattle.h5_btree.proofs.WaySteps.{way_owned}
 use Rattle.h5_group.specs.Edited.{IsGroupIn}
 use Rattle.h5_group.specs.Nodes.Trees.{kind_in}
-use Rattle.h5_group.proofs.EntryFrames.{read_kept}
+use Rattle.h5_group.proofs.BlockFrames.{read_kept}
 
 -- ---- the child at the end of a way is one of those at the bottom, by its number
 

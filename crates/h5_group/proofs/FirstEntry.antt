@@ -7,12 +7,12 @@ use Rattle.std.specs.List.{AllByRecursion, Contains, flat_map, list_any}
 use Rattle.h5_bytes.specs.Blocks.{cover, Inside, IsKept, Keeps}
 use Rattle.h5_bytes.specs.Texts.{text_at}
 use Rattle.h5_bytes.specs.declared.Block.{Block}
-use Rattle.h5_bytes.proofs.BlockLaws.{all_append, all_left, cover-append}
+use Rattle.h5_bytes.proofs.BlockLaws.{all_left, cover-append}
 use Rattle.h5_model.specs.Format.Addresses.{SymbolTable}
 use Rattle.h5_model.specs.Format.Superblock.{leaf_k}
-use Rattle.h5_model.specs.Format.Heap.{KeyNames, heap_blocks, segment_block, segment_of}
+use Rattle.h5_model.specs.Format.Heap.{KeyNames, heap_blocks, segment_of}
 use Rattle.h5_model.specs.Format.Links.{Before, IsOrdered, key_offsets, names_in, offset_in}
-use Rattle.h5_model.specs.Format.Nodes.{HasTree, Kind, entries_in, node_at, node_block, node_bytes, reading_of, tree_blocks}
+use Rattle.h5_model.specs.Format.Nodes.{HasTree, Kind, entries_in, node_at, node_bytes, reading_of, tree_blocks}
 use Rattle.h5_model.specs.Format.Rows.{Node, blank, next_row}
 use Rattle.h5_model.specs.Format.Symbols.{Entry, IsEntry, IsSymbolNode, Target, entries_of, link_of, symbol_block, symbol_bytes, symbols_at, symbols_of, texts_of}
 use Rattle.h5_model.specs.Tree.Paths.{is_name}
@@ -35,8 +35,9 @@ use Rattle.h5_group.specs.Edited.{HasGroupMoved, IsGroupIn, IsLinkPut, offsets_o
 use Rattle.h5_group.specs.Nodes.Trees.{group_nodes_blocks, kind_in}
 use Rattle.h5_group.specs.Split.{AreNewSymbols}
 use Rattle.h5_group.proofs.EditFrames.{group_apart, rest_kept}
-use Rattle.h5_group.proofs.EntryFrames.{inside_held}
+use Rattle.h5_group.proofs.BlockFrames.{inside_held}
 use Rattle.h5_group.proofs.GrownGroup.{entry_grown}
+use Rattle.h5_group.proofs.Ways.{all_inside}
 use Rattle.h5_group.proofs.MovedNames.{names_of}
 
 -- ---- a tree without children
@@ -64,11 +65,6 @@ empty_tree image kind root (suc level) owned list has none =
 
 -- ---- a group's blocks are there
 
--- of blocks made at addresses
-placed_long : (f : ℕ → Block) (xs : List ℕ) → ((x : ℕ) → 1 ≤ (f x).len) → AllByRecursion (λ (b : Block). 1 ≤ b.len) (map f xs)
-placed_long f [] some = tt
-placed_long f (x ∷ xs) some = (some x, placed_long f xs some)
-
 module _ (s : Space) (table : SymbolTable) (links : List (List ℕ × Target)) (spare : List ℕ) (blocks : List Block) (group : IsGroupIn s table links spare blocks) where
   abbrev trees : List Block
   trees = tree_blocks (kind_in s.bytes) (group.linked).owned
@@ -76,18 +72,8 @@ module _ (s : Space) (table : SymbolTable) (links : List (List ℕ × Target)) (
   abbrev symbols : List Block
   symbols = map (symbol_block (leaf_k s.bytes)) (group.linked).symbol_nodes
 
-  abbrev IsLong : Block → Type 0
-  IsLong b = 1 ≤ b.len
-
-  pub group_inside : Inside (length s.bytes) blocks
-  group_inside =
-      let size : 1 ≤ (segment_block s.bytes table.heap).len = let form = (group.linked).listed.heap_form.size in omega (arith, form) in
-      let long : AllByRecursion IsLong ((trees ++ symbols) ++ heap_blocks s.bytes table.heap)
-      = all_append IsLong (trees ++ symbols) (heap_blocks s.bytes table.heap)
-      (all_append IsLong trees symbols (placed_long (node_block (kind_in s.bytes)) (group.linked).owned (λ n. omega arith))
-      (placed_long (symbol_block (leaf_k s.bytes)) (group.linked).symbol_nodes (λ n. omega arith)))
-      (omega arith, (size, tt)) in
-      inside_held (length s.bytes) blocks (λ p. omega (arith, group.apart p)) (subst (AllByRecursion IsLong) (sym (group.linked).laid) long)
+  group_inside : Inside (length s.bytes) blocks
+  group_inside = all_inside s table links spare blocks group
 
   -- a new block is taken beside them
   module _ (u : Space) (new : Block) (taken : Moves s u [] (new ∷ [])) where

@@ -1,15 +1,15 @@
 -- A group whose heap alone is edited has its links still.
-use Rattle.std.proofs.Common.{◌≡◌, ◌≢◌, ℕ, ◌+◌, ◌-◌, ◌^◌, ◌<◌, ◌≤◌, List, [], ◌∷◌, ◌++◌, map, length, refl, sym, ◌∙◌, ap, subst, arith}
+use Rattle.std.proofs.Common.{◌≡◌, ◌≢◌, ℕ, ◌+◌, ◌*◌, ◌^◌, ◌<◌, ◌≤◌, List, [], ◌∷◌, ◌++◌, map, length, refl, sym, ◌∙◌, ap, subst, arith}
 use Rattle.std.specs.List.{AllByRecursion, Contains, flat_map}
 use Rattle.h5_bytes.specs.Blocks.{holds, cover, Inside, Keeps}
 use Rattle.h5_bytes.specs.declared.Block.{Block}
-use Rattle.h5_bytes.proofs.BlockLaws.{all_so, cover-append, holds_in, holds-le, held, all_append, all_left, all_right}
+use Rattle.h5_bytes.proofs.BlockLaws.{all_so, cover-append, holds-le, all_append, all_left, all_right}
 use Rattle.h5_model.specs.Format.Addresses.{SymbolTable}
 use Rattle.h5_model.specs.Format.Superblock.{leaf_k, internal_k}
 use Rattle.h5_model.specs.Format.Heap.{HasNames, KeyNames, heap_header, segment_of, heap_blocks}
 use Rattle.h5_model.specs.Format.Rows.{Node, Reading, blank}
-use Rattle.h5_model.specs.Format.Nodes.{Kind, group_kind, node_at, node_of, reading_of, tree_blocks}
-use Rattle.h5_model.specs.Format.Symbols.{Entry, Target, IsSymbolNode, symbol_block, symbol_bytes, symbols_at, symbols_of, entries_of, texts_of}
+use Rattle.h5_model.specs.Format.Nodes.{Kind, group_kind, node_at, node_block, node_length, node_of, reading_of, tree_blocks}
+use Rattle.h5_model.specs.Format.Symbols.{Entry, Target, IsSymbolNode, symbol_block, symbols_at, symbols_of, entries_of, texts_of}
 use Rattle.h5_model.specs.Format.Links.{AreLinks, HasLinks, Symbols, offset_in, key_offsets}
 use Rattle.h5_model.proofs.Frames.{reading-same, tree-same}
 use Rattle.h5_model.proofs.RowLaws.{only-same, only_here}
@@ -25,41 +25,9 @@ use Rattle.h5_group.specs.KeptNodes.{AreNodesKept, keys_told}
 use Rattle.h5_group.specs.Nodes.Trees.{kind_in}
 use Rattle.h5_group.specs.Told.{nodes_told, symbol_nodes_told}
 use Rattle.h5_group.proofs.ToldLaws.{nodes_are_told, symbol_nodes_are_told}
+use Rattle.h5_group.proofs.BlockFrames.{fact_kept, inside_held, made_long, read_kept}
 use Rattle.h5_group.proofs.EditFrames.{rest_kept, leaf_kept, internal_kept, group_apart, group_moves, still_long}
 use Rattle.h5_group.proofs.HeapLinks.{IsTextKept, begin_kept, keys_kept, links_stay, all_map}
-
--- ---- blocks
-
--- blocks with bytes that are apart end where the image does, or before
-apart_inside : (end : ℕ) (bs : List Block) → ((p : ℕ) → cover p bs ≤ holds p 0 end) → AllByRecursion (λ b. 1 ≤ b.len) bs → Inside end bs
-apart_inside end [] apart some = tt
-apart_inside end (b ∷ bs) apart some =
-    let last : ℕ = b.at + b.len - 1 in
-    let here : holds last b.at b.len ≡ 1 = holds_in last b.at b.len (omega (arith, some.0)) (omega (arith, some.0)) in
-    let low = held last 0 end (omega (arith, apart last, here)) in
-    (omega (arith, low.1, some.0), apart_inside end bs (λ p. omega (arith, apart p)) some.1)
-
-nodes_some : (kind : Kind) (owned : List ℕ) → AllByRecursion (λ b. 1 ≤ b.len) (tree_blocks kind owned)
-nodes_some kind [] = tt
-nodes_some kind (n ∷ ns) = (omega arith, nodes_some kind ns)
-
-symbols_some : (leaf : ℕ) (ns : List ℕ) → AllByRecursion (λ b. 1 ≤ b.len) (map (symbol_block leaf) ns)
-symbols_some leaf [] = tt
-symbols_some leaf (n ∷ ns) = (omega arith, symbols_some leaf ns)
-
-symbols_kept : (old new : List ℕ) (leaf : ℕ) (ns : List ℕ) → Keeps old new (map (symbol_block leaf) ns)
-    → AllByRecursion (λ at. symbols_at new leaf at ≡ symbols_at old leaf at) ns
-symbols_kept old new leaf [] kept = tt
-symbols_kept old new leaf (n ∷ ns) kept = (ap entries_of kept.0, symbols_kept old new leaf ns kept.1)
-
-formed_kept : (old new : List ℕ) (leaf : ℕ) (ns : List ℕ) → Keeps old new (map (symbol_block leaf) ns)
-    → AllByRecursion (λ at. IsSymbolNode leaf (symbol_bytes old leaf at)) ns → AllByRecursion (λ at. IsSymbolNode leaf (symbol_bytes new leaf at)) ns
-formed_kept old new leaf [] kept formed = tt
-formed_kept old new leaf (n ∷ ns) kept formed = (subst (IsSymbolNode leaf) (sym kept.0) formed.0, formed_kept old new leaf ns kept.1 formed.1)
-
-nodes_read : (old new : List ℕ) (kind : Kind) (ns : List ℕ) → Keeps old new (tree_blocks kind ns) → AllByRecursion (λ n. node_at new kind n ≡ node_at old kind n) ns
-nodes_read old new kind [] kept = tt
-nodes_read old new kind (n ∷ ns) kept = (ap (node_of kind) kept.0, nodes_read old new kind ns kept.1)
 
 -- the offsets in the keys of a tree's nodes, as they stand
 pub keys_there : (image : List ℕ) (kind : Kind) (ns : List ℕ) → key_offsets (node_at image kind) ns ≡ key_offsets (reading_of image kind ns) ns
@@ -135,11 +103,11 @@ module _ (s : Space) (table : SymbolTable) (links : List (List ℕ × Target)) (
   all_apart p = omega (arith, g.apart p, parted p, cover-append p old_heap node_blocks)
 
   within : Inside (length s.bytes) node_blocks
-  within = apart_inside (length s.bytes) node_blocks (λ p. omega (arith, all_apart p))
-      (all_append (λ (b : Block). 1 ≤ b.len) (tree_blocks kind owned) (map (symbol_block leaf) symbol_nodes) (nodes_some kind owned) (symbols_some leaf symbol_nodes))
+  within = inside_held (length s.bytes) node_blocks (λ p. omega (arith, all_apart p))
+      (all_append (λ (b : Block). 1 ≤ b.len) (tree_blocks kind owned) (map (symbol_block leaf) symbol_nodes) (made_long (node_block kind) owned (λ n. omega arith)) (made_long (symbol_block leaf) symbol_nodes (λ n. omega arith)))
 
   heap_within : Inside (length s.bytes) old_heap
-  heap_within = apart_inside (length s.bytes) old_heap (λ p. omega (arith, all_apart p)) (omega arith, (omega (arith, (g.linked).listed.heap_form.size), tt))
+  heap_within = inside_held (length s.bytes) old_heap (λ p. omega (arith, all_apart p)) (omega arith, (omega (arith, (g.linked).listed.heap_form.size), tt))
 
   pub heap_apart : IsApart old_heap s.free (length s.bytes)
   heap_apart p = omega (arith, all_apart p)
@@ -190,7 +158,7 @@ module _ (s : Space) (table : SymbolTable) (links : List (List ℕ × Target)) (
     tree_same = reading-same s.bytes t.bytes kind owned tree_kept
 
     symbols_same : symbols_of t.bytes leaf symbol_nodes ≡ symbols_of s.bytes leaf symbol_nodes
-    symbols_same = only-same [] (symbols_at s.bytes leaf) (symbols_at t.bytes leaf) symbol_nodes (symbols_kept s.bytes t.bytes leaf symbol_nodes nodes_kept)
+    symbols_same = only-same [] (symbols_at s.bytes leaf) (symbols_at t.bytes leaf) symbol_nodes (read_kept entries_of (8 + 80 * leaf) s.bytes t.bytes symbol_nodes nodes_kept)
 
     -- the symbol nodes have their entries still
     pub entries_stay : (node : ℕ) → Contains (symbol_nodes_told s.bytes table) node → symbols_at t.bytes (leaf_k t.bytes) node ≡ symbols_at s.bytes leaf node
@@ -198,7 +166,7 @@ module _ (s : Space) (table : SymbolTable) (links : List (List ℕ × Target)) (
         let own : In node symbol_nodes
         = subst (In node) (sym (symbol_nodes_are_told s.bytes table links blocks g.linked)) (in_contains node (symbol_nodes_told s.bytes table) there) in
         ap (λ (l : ℕ). symbols_at t.bytes l node) leaf_is
-        ∙ in_all (λ n. symbols_at t.bytes leaf n ≡ symbols_at s.bytes leaf n) node symbol_nodes (symbols_kept s.bytes t.bytes leaf symbol_nodes nodes_kept) own
+        ∙ in_all (λ n. symbols_at t.bytes leaf n ≡ symbols_at s.bytes leaf n) node symbol_nodes (read_kept entries_of (8 + 80 * leaf) s.bytes t.bytes symbol_nodes nodes_kept) own
 
     -- links in these blocks, with these loose texts
     abbrev Linked : ℕ → ℕ → List ℕ → Type 0
@@ -225,7 +193,7 @@ module _ (s : Space) (table : SymbolTable) (links : List (List ℕ × Target)) (
           owned = owned;
           symbol_nodes = symbol_nodes;
           tree = tree-same s.bytes t.bytes kind owned tree_kept table.tree (g.linked).level symbol_nodes (g.linked).tree;
-          formed = formed_kept s.bytes t.bytes leaf symbol_nodes nodes_kept (g.linked).formed;
+          formed = fact_kept (IsSymbolNode leaf) (8 + 80 * leaf) s.bytes t.bytes symbol_nodes nodes_kept (g.linked).formed;
           listed = listed_then.0;
           laid = refl;
         },
@@ -262,7 +230,7 @@ module _ (s : Space) (table : SymbolTable) (links : List (List ℕ × Target)) (
 
       -- the nodes stay, and their keys
       pub nodes_stay : AreNodesKept s t table owned
-      nodes_stay = kept_nodes s t table owned (nodes_read s.bytes t.bytes kind owned tree_kept)
+      nodes_stay = kept_nodes s t table owned (read_kept (node_of kind) (node_length kind) s.bytes t.bytes owned tree_kept)
           (subst (AllByRecursion (IsTextKept segment new_segment)) (sym (keys_there s.bytes kind owned)) keys_stay)
 
       pub told_stay : keys_told t.bytes table ≡ keys_told s.bytes table

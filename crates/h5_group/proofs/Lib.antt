@@ -3,6 +3,7 @@ pub mod Standing
 pub mod Searched
 pub mod Way
 pub mod Gathered
+pub mod SomeLinks
 pub mod HeapSteps
 pub mod Refusals
 pub mod Linked
@@ -12,9 +13,11 @@ pub mod NodeLaws
 pub mod TextProofs
 pub mod OrderProofs
 pub mod WriteLaws
+pub mod BlockFrames
 pub mod EditFrames
 pub mod EditSteps
 pub mod Ways
+pub mod KeyOffsets
 pub mod HeapLinks
 pub mod HeapMoves
 pub mod LooseTexts
@@ -26,6 +29,7 @@ pub mod WidenedKeys
 pub mod WidenedGroup
 pub mod MovedNames
 pub mod EntryFrames
+pub mod LinkLists
 pub mod EntryLinks
 pub mod EntryWays
 pub mod EntryOrder
@@ -45,9 +49,8 @@ pub mod PutSteps
 pub mod PutTexts
 pub mod PutLinks
 pub mod PutDeep
-pub mod PutTold
+pub mod EditTold
 pub mod TakeSteps
-pub mod Removed
 pub mod RetiredKeys
 pub mod TreeMoves
 pub mod RetiredGroup

@@ -1,12 +1,12 @@
 -- A link that comes into a group: its texts, and then its entry at the end of the way that was found before.
-use Rattle.std.proofs.Common.{◌≡◌, ℕ, ◌+◌, ◌*◌, ◌<◌, ◌≤◌, IsTrue, List, [], ◌∷◌, ◌++◌, length, inl, inr, refl, sym, ap, ◌∙◌, subst, arith, mul-le-mul_right}
+use Rattle.std.proofs.Common.{◌≡◌, ℕ, ◌+◌, ◌*◌, ◌<◌, ◌≤◌, IsTrue, List, [], ◌∷◌, ◌++◌, length, inl, inr, sym, ap, ◌∙◌, subst, arith, mul-le-mul_right}
 use Rattle.std.specs.List.{Contains}
 use Rattle.std.proofs.lemmas.Bool.{cases_lt}
 use Rattle.h5_bytes.specs.declared.Block.{Block}
 use Rattle.h5_model.specs.Format.Addresses.{SymbolTable}
 use Rattle.h5_model.specs.Format.Superblock.{leaf_k, internal_k}
 use Rattle.h5_model.specs.Format.Heap.{segment_block, segment_of}
-use Rattle.h5_model.specs.Format.Nodes.{group_kind, node_length}
+use Rattle.h5_model.specs.Format.Nodes.{node_length}
 use Rattle.h5_model.specs.Format.Sizes.{symbol_node}
 use Rattle.h5_model.specs.Format.Symbols.{Entry, IsEntry, Target, link_of, symbols_at}
 use Rattle.h5_model.specs.Tree.Paths.{is_name}
@@ -23,6 +23,7 @@ use Rattle.h5_group.specs.Nodes.Trees.{kind_in}
 use Rattle.h5_group.specs.Told.{symbol_nodes_told}
 use Rattle.h5_group.specs.Ways.{IsWayOf}
 use Rattle.h5_group.proofs.EditSteps.{moved_then}
+use Rattle.h5_group.proofs.PutDeep.{full_of}
 use Rattle.h5_group.proofs.PutWays.{entries_stay, full_before}
 
 -- ---- the entry
@@ -70,19 +71,16 @@ module _ (s t : Space) (table : SymbolTable) (links : List (List ℕ × Target))
     (same : (n : ℕ) → Contains (symbol_nodes_told s.bytes table) n → symbols_at t.bytes (leaf_k t.bytes) n ≡ symbols_at s.bytes (leaf_k s.bytes) n)
     (way : List Step) (w : IsWayOf s table name way) where
   -- has room still, where the tree had it before the texts came in
-  pub low_still : (IsFullFor s table name → ⊥) → (step : Step) (above : List Step) → way ≡ step ∷ above → IsFullWay t.bytes (kind_in t.bytes) way
+  pub low_still : (IsFullFor s.bytes table name → ⊥) → (step : Step) (above : List Step) → way ≡ step ∷ above → IsFullWay t.bytes (kind_in t.bytes) way
       → length (entries_below t table step) ≡ 2 * leaf_k t.bytes → length way < 16
   low_still roomy step above is full entries = elim (cases_lt (length way) 16) [
     | inl low ↦ low
-    | inr past ↦ absurd (roomy (record {
-      step = step;
-      above = above;
-      leads = subst (IsWayOf s table name) is w;
-      high = let few = few_steps s table name way w in omega (arith, few, past, ap length is);
-      nodes = subst (IsFullWay s.bytes (kind_in s.bytes)) is (full_before s table links spare blocks g name t links' spare' blocks' h internal kept way w full);
-      entries = ap length (sym (entries_stay s table links spare blocks g name t links' spare' blocks' h internal kept way w step above is same))
-          ∙ entries ∙ ap (λ (k : ℕ). 2 * k) leaf;
-    }))
+    | inr past ↦
+        let few = few_steps s table name way w in
+        absurd (roomy (full_of s table name links spare blocks g way w step above is (omega (arith, few, past))
+        (full_before s table links spare blocks g name t links' spare' blocks' h internal kept way w full)
+        (ap length (sym (entries_stay s table links spare blocks g name t links' spare' blocks' h internal kept way w step above is same))
+        ∙ entries ∙ ap (λ (k : ℕ). 2 * k) leaf)))
   ]
 
 -- ---- the room

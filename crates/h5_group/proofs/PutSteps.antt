@@ -1,5 +1,5 @@
 -- An entry that comes in at the end of a way: after the keys along it gave way, and after its texts came in.
-use Rattle.std.proofs.Common.{◌≡◌, ◌↔◌, ℕ, ◌+◌, ◌*◌, ◌<◌, ◌≤◌, ◌==◌, if◌then◌else◌, Bool, true, false, IsTrue, List, [], ◌∷◌, ◌++◌, length, inl, inr, refl, sym, ap, ◌∙◌, subst, arith}
+use Rattle.std.proofs.Common.{◌≡◌, ◌↔◌, ℕ, ◌+◌, ◌*◌, ◌<◌, ◌≤◌, ◌==◌, if◌then◌else◌, Bool, true, false, IsTrue, List, [], ◌∷◌, ◌++◌, length, inl, inr, sym, ap, ◌∙◌, subst, arith}
 use Rattle.std.specs.List.{Contains}
 use Rattle.std.proofs.lemmas.Bool.{cases_lt}
 use Rattle.h5_bytes.specs.Bytes.{part}
@@ -7,16 +7,14 @@ use Rattle.h5_bytes.specs.Texts.{text_at}
 use Rattle.h5_bytes.specs.declared.Block.{Block}
 use Rattle.h5_bytes.proofs.TableLaws.{length-table}
 use Rattle.h5_model.specs.Format.Addresses.{SymbolTable}
-use Rattle.h5_model.specs.Format.Superblock.{leaf_k, internal_k}
+use Rattle.h5_model.specs.Format.Superblock.{leaf_k}
 use Rattle.h5_model.specs.Format.Heap.{segment_of}
-use Rattle.h5_model.specs.Format.Nodes.{group_kind, node_length}
-use Rattle.h5_model.specs.Format.Symbols.{Entry, IsEntry, Target, entry_of, link_of, symbol_bytes, symbols_in}
+use Rattle.h5_model.specs.Format.Symbols.{Entry, Target, entry_of, link_of, symbol_bytes, symbols_in}
 use Rattle.h5_model.specs.Tree.Paths.{is_name}
 use Rattle.h5_space.specs.Space.{Space}
-use Rattle.h5_space.specs.Moves.{Spends}
 use Rattle.h5_btree.specs.Removal.{EndsInTree}
 use Rattle.h5_btree.specs.declared.way.Step.{Step}
-use Rattle.h5_group.specs.Edited.{HasEntryPut, HasGroupMoved, IsEntryFor, IsGroupIn, IsLinkPut, IsNewName, entries_below, heap_text, node_below, offsets_of}
+use Rattle.h5_group.specs.Edited.{HasEntryPut, HasGroupMoved, IsEntryFor, IsGroupIn, IsLinkPut, IsNewName, entries_below, node_below, offsets_of}
 use Rattle.h5_group.specs.Nodes.Trees.{kind_in}
 use Rattle.h5_group.proofs.DropCalls.{end_told}
 use Rattle.h5_group.proofs.EditSteps.{first_spare, moved_then}

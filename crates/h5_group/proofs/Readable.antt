@@ -1,6 +1,5 @@
 -- A group whose blocks can all be claimed is refused for want of memory alone.
-use Rattle.std.proofs.Common.{◌≡◌, ℕ, zero, suc, ◌+◌, ◌≤◌, inl, inr, List, [], ◌∷◌, ◌++◌, length, refl, sym, ap, ◌∙◌, subst, arith}
-use Rattle.std.specs.List.{AllByRecursion}
+use Rattle.std.proofs.Common.{◌≡◌, ℕ, zero, suc, ◌+◌, ◌≤◌, inl, inr, List, [], ◌∷◌, ◌++◌, length, refl, ap, ◌∙◌, subst, arith}
 use Rattle.h5_bytes.specs.Blocks.{cover, Inside}
 use Rattle.h5_bytes.specs.declared.Block.{Block}
 use Rattle.h5_bytes.proofs.BlockLaws.{all_left, all_right, cover-append}
@@ -8,13 +7,11 @@ use Rattle.h5_model.specs.Format.Addresses.{SymbolTable}
 use Rattle.h5_model.specs.Format.Heap.{heap_blocks}
 use Rattle.h5_model.specs.Format.Rows.{Reading, next_row, row_below, nodes}
 use Rattle.h5_model.specs.Format.Nodes.{node_at}
-use Rattle.h5_model.specs.Format.Symbols.{IsEntry}
 use Rattle.h5_model.specs.declared.open_fault.Cause.{Cause}
 use Rattle.h5_model.specs.declared.open_fault.Cause.TheVariants.{HeapName, BadName, NameOrder, KeyOrder, NoMemory}
 use Rattle.h5_model.proofs.OneTree.{owned_is, one_owned}
 use Rattle.h5_heap.specs.Refused.{IsHeapReadable}
 use Rattle.h5_laws.proofs.Lists.{In, in_either, in_contains}
-use Rattle.h5_laws.proofs.Entries.{own_entries}
 use Rattle.h5_laws.proofs.GroupExcluded.{name_excluded, bad_name_excluded, heap_name_excluded}
 use Rattle.h5_laws.proofs.OrderExcluded.{key_excluded}
 use Rattle.h5_btree.specs.Walk.Forms.{OfGroup}
@@ -24,7 +21,7 @@ use Rattle.h5_group.specs.Nodes.Trees.{kind_in, group_nodes_blocks}
 use Rattle.h5_group.specs.Texts.Refused.{AreTextsRefused}
 use Rattle.h5_group.specs.Order.Ordered.{IsOrderRefused}
 use Rattle.h5_group.specs.Links.{IsGroupReadable}
-use Rattle.h5_group.proofs.NodeLaws.GroupLaws.{all_formed, all_keyed}
+use Rattle.h5_group.proofs.NodeLaws.GroupLaws.{linked_tree}
 
 -- a node of a tree stands in one of its rows
 in_some_row : (V : Reading) (level : ℕ) (row : List ℕ) (at : ℕ) → In at (nodes V level row)
@@ -63,13 +60,7 @@ module _ (image : List ℕ) (table : SymbolTable) (held : List Block) (readable 
   tree_readable now claimed = record {
     nodes = (readable.has).owned;
     leaves = (readable.has).symbol_nodes;
-    has = record {
-      level = (readable.has).level;
-      tree = (readable.has).tree;
-      formed = all_formed image (readable.has).symbol_nodes (readable.has).formed
-          (subst (AllByRecursion IsEntry) (sym (own_entries image (readable.has).symbol_nodes)) (readable.has).listed.cached);
-      keyed = all_keyed (node_at image (kind_in image)) (row_below (node_at image (kind_in image)) (readable.has).level (table.tree ∷ []));
-    };
+    has = linked_tree image table readable.links readable.blocks readable.has;
     inside = all_left IsInside tree_part heap_part inside;
     separate = λ p. omega (arith, readable.separate p, parts p, claimed p);
   }

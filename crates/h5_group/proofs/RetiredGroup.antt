@@ -1,28 +1,28 @@
 -- A group no key of which names a text that stands on its own: its keys gave way, and all links stay.
-use Rattle.std.proofs.Common.{◌≡◌, ◌≢◌, ◌⊎◌, ℕ, zero, suc, ◌+◌, ◌*◌, ◌^◌, ◌<◌, ◌≤◌, ◌==◌, Bool, true, false, inl, inr, List, [], ◌∷◌, ◌++◌, length, map, refl, sym, ap, ◌∙◌, subst, arith, append-nil}
+use Rattle.std.proofs.Common.{◌≡◌, ◌≢◌, ℕ, ◌+◌, ◌*◌, ◌^◌, ◌<◌, ◌≤◌, Bool, true, false, inl, inr, List, [], ◌∷◌, ◌++◌, length, map, refl, sym, ap, ◌∙◌, subst, arith, append-nil}
 use Rattle.std.specs.Bool.{⊤}
 use Rattle.std.specs.List.{AllByRecursion, Contains, flat_map}
 use Rattle.std.proofs.lemmas.Bool.{eqb-false, ne_eqb}
 use Rattle.std.proofs.lemmas.List.{map-append}
-use Rattle.h5_bytes.specs.Blocks.{block, cover, holds, Inside}
+use Rattle.h5_bytes.specs.Blocks.{cover, holds}
 use Rattle.h5_bytes.specs.Bytes.{byte_at, number_at}
 use Rattle.h5_bytes.specs.Numbers.{word}
 use Rattle.h5_bytes.specs.Texts.{text_at}
 use Rattle.h5_bytes.specs.declared.Block.{Block}
-use Rattle.h5_bytes.proofs.BlockLaws.{all_append, all_left, all_right, all_so, cover-append, holds_in}
+use Rattle.h5_bytes.proofs.BlockLaws.{all_so, cover-append, holds_in}
 use Rattle.h5_bytes.proofs.PartLaws.{length-part}
 use Rattle.h5_model.specs.Format.Addresses.{SymbolTable}
 use Rattle.h5_model.specs.Format.Superblock.{leaf_k}
-use Rattle.h5_model.specs.Format.Heap.{HasNames, KeyNames, heap_blocks, segment_block, segment_of, span_of}
+use Rattle.h5_model.specs.Format.Heap.{HasNames, KeyNames, segment_block, segment_of, span_of}
 use Rattle.h5_model.specs.Format.Links.{Ascend, Before, IsOrdered, Symbols, key_offsets, names_in, offset_in}
 use Rattle.h5_model.specs.Format.Nodes.{Kind, node_at, reading_of, tree_blocks}
-use Rattle.h5_model.specs.Format.Rows.{Node, Reading}
+use Rattle.h5_model.specs.Format.Rows.{Reading}
 use Rattle.h5_model.specs.Format.Symbols.{Entry, IsSymbolNode, Target, entries_of, link_of, symbol_block, symbols_at, symbols_of, texts_of}
 use Rattle.h5_model.proofs.NumberLaws.{reads_back}
-use Rattle.h5_model.proofs.RowLaws.{all_listed, at_listed, only_here}
+use Rattle.h5_model.proofs.RowLaws.{only_here}
 use Rattle.h5_laws.specs.NameLadders.{key_text, name_lists, name_sides}
 use Rattle.h5_laws.proofs.Ascending.{before_trans}
-use Rattle.h5_laws.proofs.Lists.{In, all_in, contains_in, in_all, in_contains, in_flat, in_left, in_map, in_right}
+use Rattle.h5_laws.proofs.Lists.{In, all_in, contains_in, in_all, in_contains, in_flat, in_left, in_map}
 use Rattle.h5_laws.proofs.NameLadders.{names_under}
 use Rattle.h5_space.specs.Space.{Space}
 use Rattle.h5_space.specs.Whole.{IsApart}
@@ -33,12 +33,13 @@ use Rattle.h5_btree.proofs.KeyedNames.{AreAscending}
 use Rattle.h5_btree.proofs.KeyedOrder.{items-tree}
 use Rattle.h5_btree.proofs.RetiredBeside.{stays_beside}
 use Rattle.h5_btree.proofs.RetiredGroups.{group_retired}
-use Rattle.h5_btree.proofs.TreeReadings.{Listed, owned_at}
 use Rattle.h5_group.specs.Edited.{HasGroupMoved, IsGroupIn, IsNamedByNoKey}
 use Rattle.h5_group.specs.Nodes.Trees.{kind_in}
 use Rattle.h5_group.specs.Retired.{StandsAt, is_of, entry_keys, name_keys}
 use Rattle.h5_group.proofs.RetiredKeys.{retired_keys}
-use Rattle.h5_group.proofs.TreeMoves.{heap_kept, keys_moved, kind_now}
+use Rattle.h5_group.proofs.HeapMoves.{keys_there}
+use Rattle.h5_group.proofs.KeyOffsets.{offsets_joined, offsets_parts}
+use Rattle.h5_group.proofs.TreeMoves.{keys_moved, kind_now}
 use Rattle.h5_group.proofs.Ways.{cover_parts, heap_inside, symbols_inside, trees_apart}
 
 -- ---- texts that stand apart
@@ -271,22 +272,6 @@ module _ (s : Space) (table : SymbolTable) (links : List (List ℕ × Target)) (
     abbrev HaveNamesNow : ℕ → Type 0
     HaveNamesNow n = AllByRecursion NamesIn (W n).keys
 
-    unmapped : (P : ℕ → Type 0) (keys : List (List ℕ)) → AllByRecursion P (map offset_in keys) → AllByRecursion (λ (key : List ℕ). P (offset_in key)) keys
-    unmapped P [] all = tt
-    unmapped P (k ∷ keys) all = (all.0, unmapped P keys all.1)
-
-    mapped : (P : ℕ → Type 0) (keys : List (List ℕ)) → AllByRecursion (λ (key : List ℕ). P (offset_in key)) keys → AllByRecursion P (map offset_in keys)
-    mapped P [] all = tt
-    mapped P (k ∷ keys) all = (all.0, mapped P keys all.1)
-
-    old_parts : (ns : List ℕ) → AllByRecursion (Listed owned) ns → AllByRecursion Names (key_offsets Y ns) → AllByRecursion HaveNames ns
-    old_parts [] listed all = tt
-    old_parts (n ∷ ns) listed all = (
-      unmapped Names (V n).keys (subst (λ (o : Node). AllByRecursion Names (map offset_in o.keys)) (owned_at V owned n listed.0)
-          (all_left Names (map offset_in (Y n).keys) (key_offsets Y ns) all)),
-      old_parts ns listed.1 (all_right Names (map offset_in (Y n).keys) (key_offsets Y ns) all),
-    )
-
     entry_names : (es : List Entry) → AllByRecursion IsNameOf es → AllByRecursion NamesIn (name_keys es)
     entry_names [] all = tt
     entry_names (e ∷ es) all = (subst Names (sym all.0.0) all.0.2, entry_names es all.1)
@@ -294,23 +279,11 @@ module _ (s : Space) (table : SymbolTable) (links : List (List ℕ × Target)) (
     names_now : AllByRecursion HaveNamesNow owned
     names_now =
         retired_keys NamesIn (λ (key : List ℕ). hit key ≡ true) lowest_key (inl lowest_is) s t kind table.tree level owned symbol_nodes (group.linked).tree is.tree (entry_keys leaf s.bytes) is.keys
-        (old_parts owned (all_listed owned) has.keyed)
+        (offsets_parts V Names owned (subst (AllByRecursion Names) (sym (keys_there s.bytes kind owned)) has.keyed))
         (all_so ListedSo (λ c. AllByRecursion NamesIn (entry_keys leaf s.bytes c)) symbol_nodes (λ c all. entry_names (symbols_at s.bytes leaf c) all) all_names_so)
 
-    -- of a fact on the offset in each key
-    joined : (P : ℕ → Type 0) (ns : List ℕ) → AllByRecursion (λ n. AllByRecursion (λ (key : List ℕ). P (offset_in key)) (W n).keys) ns → AllByRecursion P (key_offsets W ns)
-    joined P [] all = tt
-    joined P (n ∷ ns) all = all_append P (map offset_in (W n).keys) (key_offsets W ns) (mapped P (W n).keys all.0) (joined P ns all.1)
-
-    joined_own : (P : ℕ → Type 0) (ns : List ℕ) → AllByRecursion (Listed owned) ns → AllByRecursion (λ n. AllByRecursion (λ (key : List ℕ). P (offset_in key)) (W n).keys) ns
-        → AllByRecursion P (key_offsets Z ns)
-    joined_own P [] listed all = tt
-    joined_own P (n ∷ ns) listed all =
-        all_append P (map offset_in (Z n).keys) (key_offsets Z ns)
-        (subst (λ (o : Node). AllByRecursion P (map offset_in o.keys)) (sym (owned_at W owned n listed.0)) (mapped P (W n).keys all.0)) (joined_own P ns listed.1 all.1)
-
     keyed_now : AllByRecursion Names (key_offsets Z owned)
-    keyed_now = joined_own Names owned (all_listed owned) names_now
+    keyed_now = subst (AllByRecursion Names) (keys_there t.bytes kind owned) (offsets_joined W Names owned names_now)
 
     -- ---- so all links stay, and no key names the text
 
@@ -321,7 +294,7 @@ module _ (s : Space) (table : SymbolTable) (links : List (List ℕ × Target)) (
     others keys all = all_so (λ (key : List ℕ). hit key ≡ false) (λ (key : List ℕ). offset_in key ≢ offset) keys (λ key unhit. eqb-false (offset_in key) offset unhit) all
 
     unnamed : AllByRecursion (λ key. key ≢ offset) (key_offsets W owned)
-    unnamed = joined (λ key. key ≢ offset) owned
+    unnamed = offsets_joined W (λ key. key ≢ offset) owned
         (all_so (λ n. AllByRecursion (λ (key : List ℕ). hit key ≡ false) (W n).keys) (λ n. AllByRecursion (λ (key : List ℕ). offset_in key ≢ offset) (W n).keys) owned
         (λ n all. others (W n).keys all) is.unhit)
 

@@ -29,7 +29,8 @@ use Rattle.h5_group.specs.Edited.{IsGroupIn, superblock_block}
 use Rattle.h5_group.specs.Nodes.Trees.{group_nodes_blocks, kind_in}
 use Rattle.h5_group.specs.Split.{AreHalves}
 use Rattle.h5_group.proofs.EditFrames.{group_apart, rest_kept}
-use Rattle.h5_group.proofs.EntryFrames.{entries_cut, inside_held, made_long, parted, read_kept, within}
+use Rattle.h5_group.proofs.BlockFrames.{inside_held, made_long, read_kept}
+use Rattle.h5_group.proofs.EntryFrames.{entries_cut, parted, within}
 
 -- a way ends where it did, where the nodes of its tree keep their bytes
 abbrev pub ends_still : (s u : Space) (kind : Kind) (root level : ℕ) (way : List Step) (owned list : List ℕ) (k : ℕ) → EndsInTree s kind root level way owned list k

@@ -42,7 +42,7 @@ use Rattle.h5_btree.proofs.WaySteps.{all_at}
 use Rattle.h5_group.specs.Edited.{IsGroupIn}
 use Rattle.h5_group.specs.Nodes.Trees.{kind_in}
 use Rattle.h5_group.specs.Split.{AreHalves}
-use Rattle.h5_group.proofs.EntryLinks.{all_taken, ascend_names, link_names, names_of_links}
+use Rattle.h5_group.proofs.LinkLists.{all_taken, ascend_names, link_names, names_of_links}
 use Rattle.h5_group.proofs.EntryWays.{below_kept, end_cut, place_low}
 use Rattle.h5_group.proofs.NameTests.{name_test}
 use Rattle.h5_group.proofs.SplitFrames.{ends_still, left_says, nodes_kept, old_flat, others_same, right_says, tree_apart}

@@ -57,14 +57,14 @@ module _ (image : List ℕ) (table : SymbolTable) (read : IsGroupRead image tabl
   abbrev IsInside : Block → Type 0
   IsInside b = b.at + b.len ≤ length image
 
-  trees : Inside (length image) (tree_blocks (kind_in image) (read.linked).owned ++ map (symbol_block (leaf_k image)) (read.linked).symbol_nodes)
-  trees = all_left IsInside (tree_blocks (kind_in image) (read.linked).owned ++ map (symbol_block (leaf_k image)) (read.linked).symbol_nodes) (heap_blocks image table.heap) laid
+  pub trees_there : Inside (length image) (tree_blocks (kind_in image) (read.linked).owned ++ map (symbol_block (leaf_k image)) (read.linked).symbol_nodes)
+  trees_there = all_left IsInside (tree_blocks (kind_in image) (read.linked).owned ++ map (symbol_block (leaf_k image)) (read.linked).symbol_nodes) (heap_blocks image table.heap) laid
 
   pub heap_there : Inside (length image) (heap_blocks image table.heap)
   heap_there = all_right IsInside (tree_blocks (kind_in image) (read.linked).owned ++ map (symbol_block (leaf_k image)) (read.linked).symbol_nodes) (heap_blocks image table.heap) laid
 
   pub nodes_there : Inside (length image) (tree_blocks (kind_in image) (read.linked).owned)
-  nodes_there = all_left IsInside (tree_blocks (kind_in image) (read.linked).owned) (map (symbol_block (leaf_k image)) (read.linked).symbol_nodes) trees
+  nodes_there = all_left IsInside (tree_blocks (kind_in image) (read.linked).owned) (map (symbol_block (leaf_k image)) (read.linked).symbol_nodes) trees_there
 
   -- the entries of the symbol nodes, as they stand
   pub entries_are : all_entries image (symbol_nodes_told image table) ≡ flat_map (symbols_of image (leaf_k image) (read.linked).symbol_nodes) (read.linked).symbol_nodes
@@ -90,7 +90,7 @@ module _ (image : List ℕ) (table : SymbolTable) (read : IsGroupRead image tabl
     pub node_there : at + (8 + 80 * leaf_k image) ≤ length image
     node_there =
         in_all IsInside (symbol_block (leaf_k image) at) (map (symbol_block (leaf_k image)) (read.linked).symbol_nodes)
-        (all_right IsInside (tree_blocks (kind_in image) (read.linked).owned) (map (symbol_block (leaf_k image)) (read.linked).symbol_nodes) trees)
+        (all_right IsInside (tree_blocks (kind_in image) (read.linked).owned) (map (symbol_block (leaf_k image)) (read.linked).symbol_nodes) trees_there)
         (in_map (symbol_block (leaf_k image)) at (read.linked).symbol_nodes own_listed)
 
     pub node_formed : IsSymbolNode (leaf_k image) (symbol_bytes image (leaf_k image) at)

@@ -1,17 +1,17 @@
--- Symbol nodes that are written where they stand, and what is left of one that is cut in two.
-use Rattle.std.proofs.Common.{◌≡◌, ℕ, ◌+◌, ◌*◌, ◌≤◌, List, length, sym, ap, ◌∙◌, arith}
+-- Symbol nodes that are written where they stand.
+use Rattle.std.proofs.Common.{◌≡◌, ℕ, ◌+◌, ◌*◌, ◌≤◌, List, length, refl, sym, ap, ◌∙◌, arith}
 use Rattle.std.proofs.lemmas.List.{places}
 use Rattle.h5_bytes.specs.Bytes.{byte_at, part, with_part}
 use Rattle.h5_bytes.proofs.PartLaws.{length-with_part, part-part, part-with_part_same}
 use Rattle.h5_bytes.proofs.TableLaws.{length-table}
-use Rattle.h5_model.specs.Format.Symbols.{Entry, IsSymbolNode, entries_of, entry_of, symbol_bytes, symbols_in}
+use Rattle.h5_model.specs.Format.Symbols.{Entry, IsSymbolNode, entries_of, entry_of, symbol_bytes, symbols_at, symbols_in}
 use Rattle.h5_space.specs.Lending.{with_bytes_at}
 use Rattle.h5_space.specs.Space.{Space}
 use Rattle.h5_space.proofs.MovesLaws.{moves_write}
-use Rattle.h5_group.specs.Split.{IsSymbolsRewritten}
+use Rattle.h5_group.specs.SymbolEdits.{IsSymbolsRewritten}
 
 -- how many entries there are
-pub entries_count : (bytes : List ℕ) → length (entries_of bytes) ≡ symbols_in bytes
+entries_count : (bytes : List ℕ) → length (entries_of bytes) ≡ symbols_in bytes
 entries_count bytes =
     let read : ℕ → Entry = λ i. entry_of (part (8 + 40 * i) 40 bytes) in length-table read read (symbols_in bytes) 0
 
@@ -20,7 +20,7 @@ unfolding part
 byte_in_front bytes = grind (arith, places)
 
 -- where the head stays, it is a symbol node still
-pub form_kept : (leaf : ℕ) (old new : List ℕ) → part 0 6 new ≡ part 0 6 old → length (entries_of new) ≤ 2 * leaf → IsSymbolNode leaf old → IsSymbolNode leaf new
+form_kept : (leaf : ℕ) (old new : List ℕ) → part 0 6 new ≡ part 0 6 old → length (entries_of new) ≤ 2 * leaf → IsSymbolNode leaf old → IsSymbolNode leaf new
 form_kept leaf old new front few is = record {
   signed = sym (part-part 0 4 0 6 new (omega arith)) ∙ ap (part 0 4) front ∙ part-part 0 4 0 6 old (omega arith) ∙ is.signed;
   version = sym (byte_in_front new) ∙ ap (λ (b : List ℕ). byte_at b 4) front ∙ byte_in_front old ∙ is.version;
@@ -41,5 +41,30 @@ symbols_rewritten old new leaf at w entries size inside is says form =
       says = ap entries_of there ∙ says;
       form = rw there form;
       moves = moves_write old new at (8 + 80 * leaf) w size inside bytes (ap (λ (s : Space). s.free) is);
+      free = ap (λ (s : Space). s.free) is;
+      size = long;
       spends = record { grown = omega (arith, long); bytes_left = omega (arith, room); blocks_left = omega (arith, calls) };
     }
+
+-- its bytes are lent, and come back with other entries behind the same head
+module _ (s : Space) (leaf at n : ℕ) (is : n ≡ leaf) (inside : at + (8 + 80 * leaf) ≤ length s.bytes) (form : IsSymbolNode leaf (symbol_bytes s.bytes leaf at))
+    (lent : List ℕ) (value : lent ≡ part at (8 + 80 * n) s.bytes) (size : length lent ≡ 8 + 80 * n) where
+  lent_is : lent ≡ symbol_bytes s.bytes leaf at
+  lent_is = value ∙ ap (λ (l : ℕ). part at (8 + 80 * l) s.bytes) is
+
+  pub lent_long : length lent ≡ 8 + 80 * leaf
+  lent_long = size ∙ ap (λ (l : ℕ). 8 + 80 * l) is
+
+  pub lent_count : symbols_in lent ≡ length (symbols_at s.bytes leaf at)
+  lent_count = ap symbols_in lent_is ∙ sym (entries_count (symbol_bytes s.bytes leaf at))
+
+  -- so they have room for all entries
+  pub lent_roomy : symbols_in lent ≤ 2 * leaf
+  lent_roomy = let roomy = form.roomy in omega (arith, roomy, ap symbols_in lent_is)
+
+  pub lent_rewritten : (w : List ℕ) (change : List Entry → List Entry) → length w ≡ length lent → entries_of w ≡ change (entries_of lent) → part 0 6 w ≡ part 0 6 lent
+      → length (change (symbols_at s.bytes leaf at)) ≤ 2 * leaf → IsSymbolsRewritten s (with_bytes_at s at w) leaf at (change (symbols_at s.bytes leaf at))
+  lent_rewritten w change long says head few =
+      let now = says ∙ ap (λ (bytes : List ℕ). change (entries_of bytes)) lent_is in
+      symbols_rewritten s (with_bytes_at s at w) leaf at w (change (symbols_at s.bytes leaf at)) (long ∙ lent_long) inside refl now
+      (form_kept leaf (symbol_bytes s.bytes leaf at) w (head ∙ ap (part 0 6) lent_is) (omega (arith, few, ap (λ (es : List Entry). length es) now)) form)

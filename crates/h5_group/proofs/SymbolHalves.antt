@@ -6,7 +6,6 @@ use Rattle.std.proofs.lemmas.Bool.Decides.{nat_tests}
 use Rattle.h5_bytes.specs.Blocks.{cover, holds}
 use Rattle.h5_bytes.specs.declared.Block.{Block}
 use Rattle.h5_bytes.specs.Bytes.{part}
-use Rattle.h5_bytes.proofs.BlockLaws.{holds_in, held}
 use Rattle.h5_bytes.proofs.PartLaws.{length-part}
 use Rattle.h5_model.specs.Format.Symbols.{Entry, IsSymbolNode, entries_of, symbol_block, symbol_bytes, symbols_at}
 use Rattle.h5_space.specs.Lending.{with_bytes_at}
@@ -16,16 +15,14 @@ use Rattle.h5_space.specs.Whole.{IsApart}
 use Rattle.h5_space.proofs.MovesLaws.{moves_apart, moves_beside, moves_kept, moves_same, moves_take, moves_then, spends_take, spends_then}
 use Rattle.h5_btree.specs.Insertion.{left_count}
 use Rattle.h5_btree.proofs.HalfLists.{left_children_with, right_with, right_without, take_without}
-use Rattle.h5_group.specs.Split.{AreHalves, AreNewSymbols, IsSymbolsRewritten}
+use Rattle.h5_group.specs.Split.{AreHalves, AreNewSymbols}
+use Rattle.h5_group.specs.SymbolEdits.{IsSymbolsRewritten}
+use Rattle.h5_group.proofs.BlockFrames.{inside_held}
 use Rattle.h5_group.proofs.SymbolEdits.{symbols_rewritten}
 
 -- a block that is not empty ends by the end
 pub apart_inside : (b : Block) (more free : List Block) (end : ℕ) → 1 ≤ b.len → IsApart (b ∷ more) free end → b.at + b.len ≤ end
-apart_inside b more free end some apart =
-    let p = b.at + b.len - 1 in
-    let here = holds_in p b.at b.len (omega (arith, some)) (omega (arith, some)) in
-    let low = held p 0 end (let a = apart p in omega (arith, a, here)) in
-    omega (arith, low.1, some)
+apart_inside b more free end some apart = (inside_held end (b ∷ []) (λ p. omega (arith, apart p)) (some, tt)).0
 
 pub apart_swapped : (a b : Block) (free : List Block) (end : ℕ) → IsApart (a ∷ b ∷ []) free end → IsApart (b ∷ a ∷ []) free end
 apart_swapped a b free end apart p = let h = apart p in omega (arith, h)

@@ -2,7 +2,6 @@
 use Rattle.std.proofs.Common.{◌≡◌, ℕ, ◌+◌, ◌*◌, ◌≤◌, ◌<◌, ◌^◌, List, [], ◌∷◌, ◌++◌, length, map, refl, sym, ap, ◌∙◌, subst, arith}
 use Rattle.std.specs.List.{AllByRecursion, flat_map}
 use Rattle.h5_bytes.specs.Blocks.{block, cover, Inside, IsKept, Keeps}
-use Rattle.h5_bytes.specs.Bytes.{part}
 use Rattle.h5_bytes.specs.declared.Block.{Block}
 use Rattle.h5_bytes.proofs.BlockLaws.{all_append, all_left, all_right, cover-append}
 use Rattle.h5_model.specs.Format.Addresses.{SymbolTable}
@@ -19,19 +18,8 @@ use Rattle.h5_space.specs.Space.{Space}
 use Rattle.h5_group.specs.Edited.{HasGroupMoved, IsGroupIn}
 use Rattle.h5_group.specs.Nodes.Trees.{kind_in}
 use Rattle.h5_group.proofs.EditFrames.{group_apart, group_moves, internal_kept, leaf_kept, rest_kept, still_long}
+use Rattle.h5_group.proofs.BlockFrames.{fact_kept, read_kept}
 use Rattle.h5_group.proofs.Ways.{cover_parts, heap_inside, symbols_inside}
-
--- what is read in blocks of one length whose bytes stay, and a fact on their bytes
-module _ (old new : List ℕ) where
-  read_kept : {X : Type 0} (f : List ℕ → X) (len : ℕ) (owned : List ℕ) → Keeps old new (map (λ at. block at len) owned)
-      → AllByRecursion (λ at. f (part at len new) ≡ f (part at len old)) owned
-  read_kept f len [] kept = tt
-  read_kept f len (at ∷ owned) kept = (ap f kept.0, read_kept f len owned kept.1)
-
-  each_kept : (P : List ℕ → Type 0) (len : ℕ) (owned : List ℕ) → Keeps old new (map (λ at. block at len) owned)
-      → AllByRecursion (λ at. P (part at len old)) owned → AllByRecursion (λ at. P (part at len new)) owned
-  each_kept P len [] kept all = tt
-  each_kept P len (at ∷ owned) kept all = (subst P (sym kept.0) all.0, each_kept P len owned kept.1 all.1)
 
 abbrev AreLoose : Reading → Symbols → List ℕ → List ℕ → List ℕ → List ℕ → List (List ℕ × Target) → List ℕ → Type 0
 AreLoose V S header segment owned symbol_nodes links loose = (a : AreLinks V S header segment owned symbol_nodes links) × (a.loose ≡ loose)
@@ -97,8 +85,9 @@ module _ (s t : Space) (table : SymbolTable) (links : List (List ℕ × Target))
   pub heap_kept : (heap_header t.bytes table.heap ≡ heap_header s.bytes table.heap) × (segment_of t.bytes table.heap ≡ segment)
   heap_kept = heap-same s.bytes t.bytes table.heap (all_right (IsKept s.bytes t.bytes) symbols heap kept)
 
-  entries_kept : AllByRecursion (λ at. symbols_at t.bytes (leaf_k s.bytes) at ≡ symbols_at s.bytes (leaf_k s.bytes) at) symbol_nodes
-  entries_kept = read_kept s.bytes t.bytes entries_of (8 + 80 * leaf_k s.bytes) symbol_nodes symbols_kept
+  -- and the symbol nodes their entries
+  pub entries_kept : AllByRecursion (λ at. symbols_at t.bytes (leaf_k s.bytes) at ≡ symbols_at s.bytes (leaf_k s.bytes) at) symbol_nodes
+  entries_kept = read_kept entries_of (8 + 80 * leaf_k s.bytes) s.bytes t.bytes symbol_nodes symbols_kept
 
   symbols_now : symbols_of t.bytes (leaf_k s.bytes) symbol_nodes ≡ S
   symbols_now = only-same [] (symbols_at s.bytes (leaf_k s.bytes)) (symbols_at t.bytes (leaf_k s.bytes)) symbol_nodes entries_kept
@@ -145,7 +134,7 @@ module _ (s t : Space) (table : SymbolTable) (links : List (List ℕ × Target))
         owned = owned;
         symbol_nodes = symbol_nodes;
         tree = tree;
-        formed = each_kept s.bytes t.bytes (IsSymbolNode (leaf_k s.bytes)) (8 + 80 * leaf_k s.bytes) symbol_nodes symbols_kept (group.linked).formed;
+        formed = fact_kept (IsSymbolNode (leaf_k s.bytes)) (8 + 80 * leaf_k s.bytes) s.bytes t.bytes symbol_nodes symbols_kept (group.linked).formed;
         listed = listed_there.0;
         laid = (group.linked).laid ∙ ap (λ (h : List ℕ). (trees ++ symbols) ++ (block table.heap 32 ∷ block (segment_place h) (segment_size h) ∷ [])) (sym heap_kept.0);
       },

@@ -1,16 +1,15 @@
 -- The way that is found in a group's tree: it ends there, and the symbol node at its end has the name, if the group has it.
-use Rattle.std.proofs.Common.{◌≡◌, ℕ, zero, suc, ◌+◌, ◌-◌, ◌≤◌, Bool, inl, inr, List, [], ◌∷◌, ◌++◌, length, map, slice_index, refl, sym, ap, ◌∙◌, subst, arith}
+use Rattle.std.proofs.Common.{◌≡◌, ℕ, zero, suc, ◌+◌, ◌≤◌, Bool, List, [], ◌∷◌, ◌++◌, length, map, slice_index, refl, sym, ap, ◌∙◌, subst, arith}
 use Rattle.std.specs.Prelude.{Option, Some, None, IfSome}
 use Rattle.std.specs.List.{AllByRecursion, Contains}
-use Rattle.std.proofs.lemmas.Bool.{cases_lt}
-use Rattle.h5_bytes.specs.Blocks.{cover, holds, Inside}
+use Rattle.h5_bytes.specs.Blocks.{cover, Inside}
 use Rattle.h5_bytes.specs.declared.Block.{Block}
-use Rattle.h5_bytes.proofs.BlockLaws.{all_append, all_left, all_right, cover-append, holds_in, holds_past}
+use Rattle.h5_bytes.proofs.BlockLaws.{all_append, all_left, all_right, cover-append}
 use Rattle.h5_model.specs.Format.Addresses.{SymbolTable}
 use Rattle.h5_model.specs.Format.Superblock.{leaf_k, internal_k}
 use Rattle.h5_model.specs.Format.Heap.{heap_blocks, segment_of}
 use Rattle.h5_model.specs.Format.Links.{HasLinks, names_in}
-use Rattle.h5_model.specs.Format.Nodes.{Kind, node_at, tree_blocks}
+use Rattle.h5_model.specs.Format.Nodes.{Kind, node_at, node_block, tree_blocks}
 use Rattle.h5_model.specs.Format.Rows.{Reading}
 use Rattle.h5_model.specs.Format.Symbols.{Target, symbol_block, symbols_at}
 use Rattle.h5_model.proofs.OneTree.{level_is}
@@ -25,35 +24,9 @@ use Rattle.h5_group.specs.Links.{IsGroupRead}
 use Rattle.h5_group.specs.Nodes.Trees.{kind_in}
 use Rattle.h5_group.specs.Told.{links_told, symbol_nodes_told}
 use Rattle.h5_group.specs.Ways.{IsWayOf, behind_of}
+use Rattle.h5_group.proofs.BlockFrames.{inside_held, made_long}
 use Rattle.h5_group.proofs.ToldLaws.{links_are_told, blocks_are_told}
 use Rattle.h5_group.proofs.Way.{leaf_has}
-
--- ---- blocks that are apart lie in the image, where none is empty
-
-abbrev pub IsSome : Block → Type 0
-IsSome b = 1 ≤ b.len
-
-block_inside : (b : Block) (end : ℕ) → IsSome b → ((p : ℕ) → holds p b.at b.len ≤ holds p 0 end) → b.at + b.len ≤ end
-block_inside b end some apart =
-    let last = b.at + (b.len - 1) in
-    let here : holds last b.at b.len ≡ 1 = holds_in last b.at b.len (omega arith) (omega (arith, some)) in
-    elim (cases_lt last end) [
-      | inl low ↦ omega (arith, low, some)
-      | inr past ↦ absurd (omega (arith, here, apart last, holds_past last 0 end (omega (arith, past))))
-    ]
-
-pub apart_inside : (used free : List Block) (end : ℕ) → AllByRecursion IsSome used → IsApart used free end → Inside end used
-apart_inside [] free end some apart = tt
-apart_inside (b ∷ used) free end some apart =
-    (block_inside b end some.0 (λ p. omega (arith, apart p)), apart_inside used free end some.1 (λ p. omega (arith, apart p)))
-
-nodes_some : (kind : Kind) (owned : List ℕ) → AllByRecursion IsSome (tree_blocks kind owned)
-nodes_some kind [] = tt
-nodes_some kind (n ∷ owned) = (omega arith, nodes_some kind owned)
-
-symbols_some : (leaf : ℕ) (symbol_nodes : List ℕ) → AllByRecursion IsSome (map (symbol_block leaf) symbol_nodes)
-symbols_some leaf [] = tt
-symbols_some leaf (n ∷ symbol_nodes) = (omega arith, symbols_some leaf symbol_nodes)
 
 -- ---- the steps of a way
 
@@ -107,12 +80,15 @@ module _ (s : Space) (table : SymbolTable) (links : List (List ℕ × Target)) (
   pub trees_apart : IsApart trees s.free (length s.bytes)
   trees_apart p = omega (arith, group.apart p, cover_parts p)
 
+  abbrev IsSome : Block → Type 0
+  IsSome b = 1 ≤ b.len
+
   all_some : AllByRecursion IsSome blocks
   all_some =
       let size = (group.linked).listed.heap_form.size in
       subst (AllByRecursion IsSome) (sym (group.linked).laid)
       (all_append IsSome (trees ++ symbols) (heap_blocks s.bytes table.heap)
-      (all_append IsSome trees symbols (nodes_some kind (group.linked).owned) (symbols_some (leaf_k s.bytes) (group.linked).symbol_nodes))
+      (all_append IsSome trees symbols (made_long (node_block kind) (group.linked).owned (λ n. omega arith)) (made_long (symbol_block (leaf_k s.bytes)) (group.linked).symbol_nodes (λ n. omega arith)))
       (omega arith, (omega (arith, size), tt)))
 
   abbrev IsWithin : Block → Type 0
@@ -120,7 +96,7 @@ module _ (s : Space) (table : SymbolTable) (links : List (List ℕ × Target)) (
 
   -- its blocks lie in the image
   pub all_inside : Inside (length s.bytes) blocks
-  all_inside = apart_inside blocks s.free (length s.bytes) all_some (λ p. omega (arith, group.apart p))
+  all_inside = inside_held (length s.bytes) blocks (λ p. omega (arith, group.apart p)) all_some
 
   parts_inside : Inside (length s.bytes) ((trees ++ symbols) ++ heap_blocks s.bytes table.heap)
   parts_inside = subst (Inside (length s.bytes)) (group.linked).laid all_inside

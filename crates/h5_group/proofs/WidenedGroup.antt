@@ -1,23 +1,21 @@
 -- A group whose tree lets in a name: end keys of the nodes on a way gave way, and all links stay.
-use Rattle.std.proofs.Common.{◌≡◌, ◌≢◌, ℕ, zero, suc, ◌+◌, ◌*◌, ◌≤◌, Bool, true, false, inl, inr, List, [], ◌∷◌, ◌++◌, length, map, slice_index, refl, sym, ap, ◌∙◌, subst, arith}
+use Rattle.std.proofs.Common.{◌≡◌, ◌≢◌, ℕ, zero, suc, ◌*◌, Bool, true, false, inl, inr, List, [], ◌∷◌, ◌++◌, length, map, slice_index, refl, sym, ap, ◌∙◌, subst, arith}
 use Rattle.std.specs.Prelude.{⊤, ◌↔◌, IsTrue, slice_set, if◌then◌else◌}
 use Rattle.std.specs.List.{AllByRecursion, Contains, flat_map}
-use Rattle.h5_bytes.specs.Blocks.{block, cover, Inside, IsKept, Keeps}
-use Rattle.h5_bytes.specs.Bytes.{part}
+use Rattle.h5_bytes.specs.Blocks.{cover}
 use Rattle.h5_bytes.specs.Texts.{text_at}
 use Rattle.h5_bytes.specs.declared.Block.{Block}
-use Rattle.h5_bytes.proofs.BlockLaws.{all_append, all_left, all_right, cover-append}
+use Rattle.h5_bytes.proofs.BlockLaws.{all_so}
 use Rattle.h5_model.specs.Format.Addresses.{SymbolTable}
-use Rattle.h5_model.specs.Format.Superblock.{leaf_k, internal_k}
-use Rattle.h5_model.specs.Format.Heap.{KeyNames, heap_blocks, heap_header, segment_of, segment_place, segment_size}
-use Rattle.h5_model.specs.Format.Links.{AreLinks, HasLinks, IsBetween, IsOrdered, Symbols, key_offsets, offset_in}
-use Rattle.h5_model.specs.Format.Nodes.{Kind, group_kind, node_at, reading_of, tree_blocks}
+use Rattle.h5_model.specs.Format.Superblock.{leaf_k}
+use Rattle.h5_model.specs.Format.Heap.{KeyNames, segment_of}
+use Rattle.h5_model.specs.Format.Links.{IsBetween, IsOrdered, Symbols, key_offsets, offset_in}
+use Rattle.h5_model.specs.Format.Nodes.{Kind, node_at, reading_of, tree_blocks}
 use Rattle.h5_model.specs.Format.Rows.{Node, Reading}
-use Rattle.h5_model.specs.Format.Symbols.{Entry, IsSymbolNode, Target, entries_of, symbol_block, symbols_at, symbols_of, texts_of}
+use Rattle.h5_model.specs.Format.Symbols.{Entry, Target, symbols_at, symbols_of, texts_of}
 use Rattle.h5_model.specs.Tree.Paths.{is_name}
-use Rattle.h5_model.proofs.Frames.{heap-same}
-use Rattle.h5_model.proofs.OneTree.{level_is, one_children, one_level, one_owned}
-use Rattle.h5_model.proofs.RowLaws.{all_listed, at_listed, only-same}
+use Rattle.h5_model.proofs.OneTree.{level_is}
+use Rattle.h5_model.proofs.RowLaws.{all_listed, at_listed}
 use Rattle.h5_laws.specs.NameLadders.{key_text, name_sides}
 use Rattle.h5_laws.proofs.Lists.{In, contains_in, in_all, in_contains, in_left}
 use Rattle.h5_laws.proofs.NameLadders.{name_order}
@@ -33,17 +31,20 @@ use Rattle.h5_btree.proofs.ClimbSteps.{at_or, covers}
 use Rattle.h5_btree.proofs.KeyedEases.{IsEased, eased_sorted}
 use Rattle.h5_btree.proofs.KeyedForms.{group_in_order, group_ordered, names_at_child}
 use Rattle.h5_btree.proofs.KeyedOwn.{keys_count}
-use Rattle.h5_btree.proofs.TreeReadings.{Listed, owned_at}
+use Rattle.h5_btree.proofs.TreeReadings.{Listed}
 use Rattle.h5_btree.proofs.WaySteps.{way_owned}
 use Rattle.h5_group.specs.Edited.{HasGroupMoved, IsGroupIn, IsWayFor, entries_below, heap_text, node_below}
 use Rattle.h5_group.specs.Nodes.Trees.{kind_in}
 use Rattle.h5_group.specs.Ways.{IsWayOf, behind_of}
-use Rattle.h5_group.proofs.EditFrames.{group_apart, group_moves, internal_kept, leaf_kept, rest_kept, still_long}
+use Rattle.h5_group.proofs.BlockFrames.{moves_wider}
+use Rattle.h5_group.proofs.EntryWays.{ends_own}
+use Rattle.h5_group.proofs.HeapMoves.{keys_there}
+use Rattle.h5_group.proofs.KeyOffsets.{offsets_joined, offsets_parts}
 use Rattle.h5_group.proofs.ToldLaws.{symbol_nodes_are_told}
+use Rattle.h5_group.proofs.TreeMoves.{entries_kept, heap_kept, keys_moved, kind_now, leaf_now}
 use Rattle.h5_group.proofs.Way.{leaf_listed}
-use Rattle.h5_group.proofs.Ways.{IsChosen, cover_parts, first_ends, group_read, heap_inside, symbols_inside, way_chosen}
+use Rattle.h5_group.proofs.Ways.{IsChosen, first_ends, group_read, way_chosen}
 use Rattle.h5_group.proofs.WidenedKeys.{between_now, empty_text, gives_way, high_now, keys_now, low_now}
-use Rattle.h5_group.proofs.WriteLaws.NameTrees.{all_mapped, all_unmapped}
 
 -- ---- lists
 
@@ -69,26 +70,6 @@ all_widened P end low high node all at_low at_high =
     (all_set P (if end.first then slice_set node.keys 0 low else node.keys) (length node.children) high first at_high) first
 
 -- ---- blocks
-
--- what is read in blocks of one length whose bytes stay, and a fact on their bytes
-module _ (old new : List ℕ) where
-  read_kept : {X : Type 0} (f : List ℕ → X) (len : ℕ) (owned : List ℕ) → Keeps old new (map (λ at. block at len) owned)
-      → AllByRecursion (λ at. f (part at len new) ≡ f (part at len old)) owned
-  read_kept f len [] kept = tt
-  read_kept f len (at ∷ owned) kept = (ap f kept.0, read_kept f len owned kept.1)
-
-  each_kept : (P : List ℕ → Type 0) (len : ℕ) (owned : List ℕ) → Keeps old new (map (λ at. block at len) owned)
-      → AllByRecursion (λ at. P (part at len old)) owned → AllByRecursion (λ at. P (part at len new)) owned
-  each_kept P len [] kept all = tt
-  each_kept P len (at ∷ owned) kept all = (subst P (sym kept.0) all.0, each_kept P len owned kept.1 all.1)
-
--- with more blocks that are used before and after
-moves_wider : (s t : Space) (a b : List Block) → ((p : ℕ) → cover p b ≡ 0 → cover p a ≡ 0) → Moves s t a a → Moves s t b b
-moves_wider s t a b wider m = record {
-  grown = m.grown;
-  kept = λ p low none free. m.kept p low (wider p none) free;
-  moved = λ p. let is = m.moved p in omega (arith, is);
-}
 
 way_covered : (kind : Kind) (owned : List ℕ) (way : List Step) → AllByRecursion (λ (step : Step). Listed owned step.node) way
     → (p : ℕ) → cover p (tree_blocks kind owned) ≡ 0 → cover p (way_blocks kind way) ≡ 0
@@ -117,13 +98,7 @@ wide_each : (old new : List ℕ) (kind : Kind) (behind : List ℕ → Bool) (low
 wide_each old new kind behind low high [] are = tt
 wide_each old new kind behind low high (step ∷ way) are = (are.0, wide_each old new kind behind low high way are.1)
 
--- ---- links, with the texts that keys alone name
-
-abbrev AreLoose : Reading → Symbols → List ℕ → List ℕ → List ℕ → List ℕ → List (List ℕ × Target) → List ℕ → Type 0
-AreLoose V S header segment owned symbol_nodes links loose = (a : AreLinks V S header segment owned symbol_nodes links) × (a.loose ≡ loose)
-
-abbrev HasLoose : List ℕ → ℕ → ℕ → SymbolTable → List (List ℕ × Target) → List Block → List ℕ → Type 0
-HasLoose image leaf k table links blocks loose = (l : HasLinks image leaf k table.tree table.heap links blocks) × (l.listed.loose ≡ loose)
+-- ---- what is so of the group
 
 -- What is so of a group whose tree lets in a name: all links stay, the name lies between the keys around each child on the way, and the way
 -- leads to the same symbol node and is as full as it was.
@@ -180,15 +155,7 @@ module _ (s t : Space) (table : SymbolTable) (name : List ℕ) (way : List Step)
   -- ---- the way ends in the group's own tree
 
   e : EndsInTree s kind table.tree level way owned symbol_nodes w.number
-  e =
-      let here = (w.ends).tree in
-      let there = (group.linked).tree in
-      subst (λ (l : ℕ). EndsInTree s kind table.tree l way owned symbol_nodes w.number)
-      (one_level s.bytes kind table.tree w.level level w.owned owned w.symbol_nodes symbol_nodes here there)
-      (subst (λ (ns : List ℕ). EndsInTree s kind table.tree w.level way ns symbol_nodes w.number)
-      (one_owned s.bytes kind table.tree w.level level w.owned owned w.symbol_nodes symbol_nodes here there)
-      (subst (λ (ns : List ℕ). EndsInTree s kind table.tree w.level way w.owned ns w.number)
-      (one_children s.bytes kind table.tree w.level level w.owned owned w.symbol_nodes symbol_nodes here there) w.ends))
+  e = ends_own s table links spare blocks group w.level way w.owned w.symbol_nodes w.number w.ends
 
   ends_now : EndsInTree t kind table.tree level way owned symbol_nodes w.number
   ends_now = tree table.tree level w.number owned symbol_nodes e
@@ -250,49 +217,17 @@ module _ (s t : Space) (table : SymbolTable) (name : List ℕ) (way : List Step)
   abbrev trees : List Block
   trees = tree_blocks kind owned
 
-  abbrev symbols : List Block
-  symbols = map (symbol_block (leaf_k s.bytes)) symbol_nodes
-
-  abbrev heap : List Block
-  heap = heap_blocks s.bytes table.heap
-
   moved : Moves s t trees trees
   moved = moves_wider s t (way_blocks kind way) trees (way_covered kind owned way (way_owned s kind table.tree level way owned symbol_nodes w.number e)) wide.moves
 
-  parted : (p : ℕ) → cover p blocks ≡ cover p (trees ++ (symbols ++ heap))
-  parted p =
-      let all = cover_parts s table links spare blocks group p in
-      omega (arith, all, cover-append p trees (symbols ++ heap), cover-append p symbols heap)
+  leaf_same : leaf_k t.bytes ≡ leaf_k s.bytes
+  leaf_same = leaf_now s t table links spare blocks group moved
 
-  within : Inside (length s.bytes) (symbols ++ heap)
-  within = all_append (λ (b : Block). b.at + b.len ≤ length s.bytes) symbols heap (symbols_inside s table links spare blocks group) (heap_inside s table links spare blocks group)
+  kind_same : kind_in t.bytes ≡ kind
+  kind_same = kind_now s t table links spare blocks group moved
 
-  kept : Keeps s.bytes t.bytes (symbols ++ heap)
-  kept = rest_kept s t table links spare blocks group trees trees (symbols ++ heap) moved parted within
-
-  leaf_now : leaf_k t.bytes ≡ leaf_k s.bytes
-  leaf_now = leaf_kept s t table links spare blocks group trees trees (symbols ++ heap) moved parted within
-
-  internal_now : internal_k t.bytes ≡ internal_k s.bytes
-  internal_now = internal_kept s t table links spare blocks group trees trees (symbols ++ heap) moved parted within
-
-  kind_now : kind_in t.bytes ≡ kind
-  kind_now = ap group_kind internal_now
-
-  symbols_kept : Keeps s.bytes t.bytes symbols
-  symbols_kept = all_left (IsKept s.bytes t.bytes) symbols heap kept
-
-  heap_kept : (heap_header t.bytes table.heap ≡ heap_header s.bytes table.heap) × (segment_of t.bytes table.heap ≡ segment)
-  heap_kept = heap-same s.bytes t.bytes table.heap (all_right (IsKept s.bytes t.bytes) symbols heap kept)
-
-  segment_now : segment_of t.bytes table.heap ≡ segment
-  segment_now = heap_kept.1
-
-  entries_kept : AllByRecursion (λ at. symbols_at t.bytes (leaf_k s.bytes) at ≡ symbols_at s.bytes (leaf_k s.bytes) at) symbol_nodes
-  entries_kept = read_kept s.bytes t.bytes entries_of (8 + 80 * leaf_k s.bytes) symbol_nodes symbols_kept
-
-  symbols_now : symbols_of t.bytes (leaf_k s.bytes) symbol_nodes ≡ S
-  symbols_now = only-same [] (symbols_at s.bytes (leaf_k s.bytes)) (symbols_at t.bytes (leaf_k s.bytes)) symbol_nodes entries_kept
+  segment_same : segment_of t.bytes table.heap ≡ segment
+  segment_same = (heap_kept s t table links spare blocks group moved).1
 
   -- ---- each key names a text still
 
@@ -311,14 +246,12 @@ module _ (s t : Space) (table : SymbolTable) (name : List ℕ) (way : List Step)
   loose_has : Contains loose offset
   loose_has = subst (λ (os : List ℕ). Contains os offset) (sym group.spared) (contains_in offset (spare ++ group.more) (in_left offset spare group.more (in_contains offset spare spared)))
 
+  abbrev HaveNamesAt : ℕ → Type 0
+  HaveNamesAt n = HaveNames (V n)
+
   names_old : (n : ℕ) → Listed owned n → HaveNames (V n)
-  names_old n listed = all_unmapped Names offset_in (V n).keys (subst (λ (o : Node). AllByRecursion Names (map offset_in o.keys)) (owned_at V owned n listed)
-      (at_listed (λ at. AllByRecursion Names (map offset_in (Y at).keys)) owned n (all_parts owned (group.linked).listed.spans.keyed) listed))
-    where
-      all_parts : (ns : List ℕ) → AllByRecursion Names (key_offsets Y ns) → AllByRecursion (λ at. AllByRecursion Names (map offset_in (Y at).keys)) ns
-      all_parts [] all = tt
-      all_parts (n ∷ ns) all =
-          (all_left Names (map offset_in (Y n).keys) (key_offsets Y ns) all, all_parts ns (all_right Names (map offset_in (Y n).keys) (key_offsets Y ns) all))
+  names_old n listed =
+      at_listed HaveNamesAt owned n (offsets_parts V Names owned (subst (AllByRecursion Names) (sym (keys_there s.bytes kind owned)) (group.linked).listed.spans.keyed)) listed
 
   names_new : (n : ℕ) → Listed owned n → HaveNames (W n)
   names_new n listed = by_way V t.bytes kind behind low high (λ m. Listed owned m → HaveNames (W m)) way n each
@@ -327,81 +260,15 @@ module _ (s t : Space) (table : SymbolTable) (name : List ℕ) (way : List Step)
       (λ apart there. subst HaveNames (sym (others table.tree level w.number owned symbol_nodes e n there apart)) (names_old n there)) listed
 
   keyed_now : AllByRecursion Names (key_offsets Z owned)
-  keyed_now = joined owned (all_listed owned) where
-    joined : (ns : List ℕ) → AllByRecursion (Listed owned) ns → AllByRecursion Names (key_offsets Z ns)
-    joined [] listed = tt
-    joined (n ∷ ns) listed =
-        all_append Names (map offset_in (Z n).keys) (key_offsets Z ns)
-        (subst (λ (o : Node). AllByRecursion Names (map offset_in o.keys)) (sym (owned_at W owned n listed.0)) (all_mapped Names offset_in (W n).keys (names_new n listed.0)))
-        (joined ns listed.1)
-
-  -- ---- the links
-
-  listed_now : AreLoose Z S (heap_header s.bytes table.heap) segment owned symbol_nodes links loose
-  listed_now =
-      let l = (group.linked).listed in
-      let n = l.spans in (
-        record {
-          cached = l.cached;
-          all = l.all;
-          ascending = l.ascending;
-          named = l.named;
-          ordered = ordered_now;
-          free = l.free;
-          loose = l.loose;
-          heap_form = l.heap_form;
-          spans = record { empty = n.empty; aligned = n.aligned; apart = n.apart; within = n.within; keyed = keyed_now };
-        },
-        refl,
-      )
-
-  listed_there : AreLoose Z (symbols_of t.bytes (leaf_k s.bytes) symbol_nodes) (heap_header t.bytes table.heap) (segment_of t.bytes table.heap) owned symbol_nodes links loose
-  listed_there =
-      subst (λ (h : List ℕ). AreLoose Z (symbols_of t.bytes (leaf_k s.bytes) symbol_nodes) h (segment_of t.bytes table.heap) owned symbol_nodes links loose) (sym heap_kept.0)
-      (subst (λ (g : List ℕ). AreLoose Z (symbols_of t.bytes (leaf_k s.bytes) symbol_nodes) (heap_header s.bytes table.heap) g owned symbol_nodes links loose) (sym heap_kept.1)
-      (subst (λ (f : Symbols). AreLoose Z f (heap_header s.bytes table.heap) segment owned symbol_nodes links loose) (sym symbols_now) listed_now))
-
-  linked_there : HasLoose t.bytes (leaf_k s.bytes) (internal_k s.bytes) table links blocks loose
-  linked_there = (
-    record {
-      level = level;
-      owned = owned;
-      symbol_nodes = symbol_nodes;
-      tree = ends_now.tree;
-      formed = each_kept s.bytes t.bytes (IsSymbolNode (leaf_k s.bytes)) (8 + 80 * leaf_k s.bytes) symbol_nodes symbols_kept (group.linked).formed;
-      listed = listed_there.0;
-      laid = (group.linked).laid ∙ ap (λ (h : List ℕ). (trees ++ symbols) ++ (block table.heap 32 ∷ block (segment_place h) (segment_size h) ∷ [])) (sym heap_kept.0);
-    },
-    listed_there.1,
-  )
-
-  linked_now : HasLoose t.bytes (leaf_k t.bytes) (internal_k t.bytes) table links blocks loose
-  linked_now = subst (λ (k : ℕ). HasLoose t.bytes (leaf_k t.bytes) k table links blocks loose) (sym internal_now)
-      (subst (λ (leaf : ℕ). HasLoose t.bytes leaf (internal_k s.bytes) table links blocks loose) (sym leaf_now) linked_there)
-
-  group_now : IsGroupIn t table links spare blocks
-  group_now = record {
-    linked = linked_now.0;
-    more = group.more;
-    spared = linked_now.1 ∙ group.spared;
-    apart = group_apart s t table links spare blocks group trees trees (symbols ++ heap) moved parted within blocks parted;
-    long = still_long s t table links spare blocks group trees trees (symbols ++ heap) moved parted within;
-    leaf_some = let some = group.leaf_some in omega (arith, some, leaf_now);
-    leaf_few = let few = group.leaf_few in omega (arith, few, leaf_now);
-    some = let some = group.some in omega (arith, some, internal_now);
-    few = let few = group.few in omega (arith, few, internal_now);
-    short = let short = group.short in let grown = wide.spends.grown in omega (arith, short, grown);
-  }
+  keyed_now =
+      subst (AllByRecursion Names) (keys_there t.bytes kind owned)
+      (offsets_joined W Names owned (all_so (Listed owned) (λ n. HaveNames (W n)) owned names_new (all_listed owned)))
 
   -- ALL LINKS STAY
   group_stayed : HasGroupMoved s t table blocks links spare
-  group_stayed = record {
-    blocks = blocks;
-    group = group_now;
-    moves = group_moves s t table links spare blocks group trees trees (symbols ++ heap) moved parted within blocks parted;
-    leaf = leaf_now;
-    internal = internal_now;
-  }
+  group_stayed =
+      (keys_moved s t table links spare blocks group moved ends_now.tree ordered_now keyed_now
+      (let short = group.short in let grown = wide.spends.grown in omega (arith, short, grown))).0
 
   -- ---- the way
 
@@ -418,9 +285,9 @@ module _ (s t : Space) (table : SymbolTable) (name : List ℕ) (way : List Step)
     owned = owned;
     symbol_nodes = symbol_nodes;
     number = w.number;
-    ends = subst (λ (k : Kind). EndsInTree t k table.tree level way owned symbol_nodes w.number) (sym kind_now) ends_now;
-    between = subst (λ (k : Kind). AllByRecursion (λ (step : Step). IsBetween (segment_of t.bytes table.heap) (node_at t.bytes k step.node) step.place name) way) (sym kind_now)
-        (subst (λ (g : List ℕ). AllByRecursion (λ (step : Step). IsBetween g (W step.node) step.place name) way) (sym segment_now)
+    ends = subst (λ (k : Kind). EndsInTree t k table.tree level way owned symbol_nodes w.number) (sym kind_same) ends_now;
+    between = subst (λ (k : Kind). AllByRecursion (λ (step : Step). IsBetween (segment_of t.bytes table.heap) (node_at t.bytes k step.node) step.place name) way) (sym kind_same)
+        (subst (λ (g : List ℕ). AllByRecursion (λ (step : Step). IsBetween g (W step.node) step.place name) way) (sym segment_same)
         (all_both (IsWide V t.bytes kind behind low high) (IsChosen V behind) (λ (step : Step). IsBetween segment (W step.node) step.place name) way between each chosen));
   }
 
@@ -429,7 +296,7 @@ module _ (s t : Space) (table : SymbolTable) (name : List ℕ) (way : List Step)
     below_now : node_below t table step ≡ node_below s table step
     below_now =
         let here = (subst (AllByRecursion (IsWide V t.bytes kind behind low high)) is each).0 in
-        ap (λ (k : Kind). slice_index (node_at t.bytes k step.node).children step.place) kind_now ∙ ap (λ (o : Node). slice_index o.children step.place) here
+        ap (λ (k : Kind). slice_index (node_at t.bytes k step.node).children step.place) kind_same ∙ ap (λ (o : Node). slice_index o.children step.place) here
 
     below_in : In (node_below s table step) symbol_nodes
     below_in =
@@ -442,12 +309,12 @@ module _ (s t : Space) (table : SymbolTable) (name : List ℕ) (way : List Step)
 
     entries_now : entries_below t table step ≡ entries_below s table step
     entries_now =
-        ap (λ (n : ℕ). symbols_at t.bytes (leaf_k t.bytes) n) below_now ∙ ap (λ (leaf : ℕ). symbols_at t.bytes leaf (node_below s table step)) leaf_now
-        ∙ in_all (λ at. symbols_at t.bytes (leaf_k s.bytes) at ≡ symbols_at s.bytes (leaf_k s.bytes) at) (node_below s table step) symbol_nodes entries_kept below_in
+        ap (λ (n : ℕ). symbols_at t.bytes (leaf_k t.bytes) n) below_now ∙ ap (λ (leaf : ℕ). symbols_at t.bytes leaf (node_below s table step)) leaf_same
+        ∙ in_all (λ at. symbols_at t.bytes (leaf_k s.bytes) at ≡ symbols_at s.bytes (leaf_k s.bytes) at) (node_below s table step) symbol_nodes (entries_kept s t table links spare blocks group moved) below_in
 
   -- and is as full as it was
   full_now : IsFullWay t.bytes (kind_in t.bytes) way ↔ IsFullWay s.bytes kind way
-  full_now = subst (λ (k : Kind). IsFullWay t.bytes k way ↔ IsFullWay s.bytes kind way) (sym kind_now) (
+  full_now = subst (λ (k : Kind). IsFullWay t.bytes k way ↔ IsFullWay s.bytes kind way) (sym kind_same) (
     all_both (IsWide V t.bytes kind behind low high) (λ (step : Step). length (W step.node).children ≡ 2 * kind.k) (λ (step : Step). length (V step.node).children ≡ 2 * kind.k) way
         (λ step is full. sym (ap (λ (o : Node). length o.children) is) ∙ full) each,
     all_both (IsWide V t.bytes kind behind low high) (λ (step : Step). length (V step.node).children ≡ 2 * kind.k) (λ (step : Step). length (W step.node).children ≡ 2 * kind.k) way
@@ -459,6 +326,6 @@ module _ (s t : Space) (table : SymbolTable) (name : List ℕ) (way : List Step)
     stayed = group_stayed;
     between = way_now;
     below = λ step above is. (below_now step above is, entries_now step above is);
-    segment = segment_now;
+    segment = segment_same;
     full = full_now;
   }

@@ -1,4 +1,4 @@
--- Symbol nodes that are written where they stand, that are new, and that are cut in two (File Format Specification 3.0, section III.B).
+-- Symbol nodes that are new, and that are cut in two (File Format Specification 3.0, section III.B).
 use Rattle.std.specs.Prelude.{◌≡◌, ℕ, ◌+◌, ◌*◌, Bool, List, [], ◌∷◌, take, drop}
 use Rattle.std.specs.List.{insert}
 use Rattle.std.specs.Cmp.Lexicographic.{slice_cmp}
@@ -8,13 +8,6 @@ use Rattle.h5_laws.specs.NameLadders.{key_text}
 use Rattle.h5_space.specs.Moves.{Moves, Spends}
 use Rattle.h5_space.specs.Space.{Space}
 use Rattle.h5_btree.specs.Insertion.{left_count}
-
--- the symbol node at this address has these entries now; no byte outside of it has changed, no block was taken or given, and no room was used
-pub record IsSymbolsRewritten (old new : Space) (leaf at : ℕ) (entries : List Entry) : Type 0 where
-  pub says : symbols_at new.bytes leaf at ≡ entries
-  pub form : IsSymbolNode leaf (symbol_bytes new.bytes leaf at)
-  pub moves : Moves old new (symbol_block leaf at ∷ []) (symbol_block leaf at ∷ [])
-  pub spends : Spends old new 0 0
 
 -- a new symbol node has these entries
 pub record AreNewSymbols (old new : Space) (leaf at : ℕ) (entries : List Entry) : Type 0 where

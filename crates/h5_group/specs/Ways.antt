@@ -18,8 +18,11 @@ use Rattle.h5_group.specs.Edited.{IsGroupIn}
 use Rattle.h5_group.specs.Nodes.Trees.{kind_in}
 
 -- whether a name stands behind a key of the group's tree
+abbrev pub behind_in : List ℕ → SymbolTable → List ℕ → List ℕ → Bool
+behind_in image table name key = is_lt (slice_cmp nat_cmp (text_at (segment_of image table.heap) (offset_in key)) name)
+
 abbrev pub behind_of : Space → SymbolTable → List ℕ → List ℕ → Bool
-behind_of s table name key = is_lt (slice_cmp nat_cmp (text_at (segment_of s.bytes table.heap) (offset_in key)) name)
+behind_of s table name = behind_in s.bytes table name
 
 -- The way ends in the group's tree, and goes down to where this name stands, or is to stand.
 pub record IsWayOf (s : Space) (table : SymbolTable) (name : List ℕ) (way : List Step) : Type 0 where

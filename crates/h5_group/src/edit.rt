@@ -4,6 +4,7 @@ mod entries;
 mod put;
 mod retire;
 mod split;
+mod symbols;
 mod take;
 mod texts;
 mod way;

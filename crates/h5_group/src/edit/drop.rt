@@ -1,34 +1,18 @@
 //! A symbol node without entries, taken out of a group's tree (File Format Specification 3.0, sections III.A.1 and III.B).
 
 ghost use Rattle.std.specs.Prelude.{◌≡◌, ℕ, ◌≤◌, List, [], ◌∷◌, length};
-ghost use Rattle.std.specs.List.{Contains};
 ghost use Rattle.h5_model.specs.Format.Heap.{segment_of};
 ghost use Rattle.h5_space.specs.Moves.{Spends};
 ghost use Rattle.h5_btree.specs.Removal.{EndsInTree};
 ghost use Rattle.h5_btree.specs.declared.way.Step.{Step};
-ghost use Rattle.h5_group.specs.Edited.{HasGroupStayed, IsSomeGroup, entries_below, node_below};
+ghost use Rattle.h5_group.specs.Edited.{HasGroupStayed, IsSomeGroup, entries_below};
 ghost use Rattle.h5_group.specs.Nodes.Trees.{kind_in};
-ghost use Rattle.h5_group.specs.Told.{symbol_nodes_told};
 
-use crate::nodes::{group_kind, tree_node};
+use crate::edit::way::node_at_end;
+use crate::nodes::group_kind;
 use h5_btree::{Way, take_from};
 use h5_msg::SymbolTable;
 use h5_space::{Image, leaf_k};
-
-/// The address of the symbol node to which a way leads. Takes no memory.
-///
-/// That a group stands at this tree and this heap, and that the way ends in its tree, are the caller's conditions.
-pub(crate) fn node_at_end(image: &Image, table: SymbolTable, way: &Way) -> u64
-    requires group { (spare : List ℕ) × IsSomeGroup image.now table spare }
-    requires way { (level : ℕ) × (owned : List ℕ) × (list : List ℕ) × (k : ℕ)
-        × EndsInTree image.now (kind_in image.now.bytes) table.tree level way.now owned list k }
-    ensures node { (step : Step) (above : List Step) → way.now ≡ step ∷ above
-        → result ≡ node_below image.now table step }
-    ensures one { Contains (symbol_nodes_told image.now.bytes table) result }
-{
-    let step = way.steps()[0];
-    tree_node(image, step.node).child(step.place)
-}
 
 /// Takes the symbol node to which a way leads out of the group's tree, and gives its block back. The links stay. Takes
 /// no memory.

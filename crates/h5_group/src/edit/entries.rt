@@ -1,32 +1,27 @@
 //! Entries of a symbol node, put in and taken out where it stands (File Format Specification 3.0, sections III.B and III.C).
 
 ghost use Rattle.std.specs.Prelude.{◌≡◌, ℕ, ◌*◌, ◌<◌, ◌≤◌, Some, List, [], ◌∷◌, length, slice_get};
-ghost use Rattle.std.specs.List.{Contains, insert, remove};
-ghost use Rattle.h5_bytes.specs.Texts.{text_at};
+ghost use Rattle.std.specs.List.{Contains, remove};
+ghost use Rattle.h5_bytes.specs.declared.Block.{Block};
 ghost use Rattle.h5_model.specs.Format.Heap.{segment_of};
-ghost use Rattle.h5_model.specs.Format.Nodes.{node_at};
-ghost use Rattle.h5_model.specs.Format.Superblock.{leaf_k as leaf_of, internal_k as internal_of};
-ghost use Rattle.h5_model.specs.Format.Symbols.{Entry, symbols_at};
+ghost use Rattle.h5_model.specs.Format.Superblock.{leaf_k as leaf_of};
+ghost use Rattle.h5_model.specs.Format.Symbols.{Entry, Target, symbols_at};
 ghost use Rattle.h5_space.specs.Moves.{Spends};
 ghost use Rattle.h5_btree.specs.Removal.{EndsInTree};
-ghost use Rattle.h5_btree.specs.Walk.Forms.{OfGroup};
-ghost use Rattle.h5_btree.specs.Walk.Stands.{IsNodeAt};
 ghost use Rattle.h5_btree.specs.declared.way.Step.{Step};
 ghost use Rattle.h5_snod.specs.Names.{IsPlace, entry_names};
 ghost use Rattle.h5_snod.specs.Written.{entry_from};
-ghost use Rattle.h5_group.specs.Edited.{HasEntryPut, HasEntryTaken, IsEntryFor, IsSomeGroup, IsWayFor, entries_below, heap_text, node_below};
-ghost use Rattle.h5_group.specs.Links.{HasNone, IsGroupRead};
-ghost use Rattle.h5_group.specs.Nodes.Stands.{IsSymbolsAt};
+ghost use Rattle.h5_group.specs.Edited.{HasEntryPut, HasEntryTaken, IsEntryFor, IsGroupIn, IsNewName, IsSomeGroup, IsWayFor, entries_below, heap_text, node_below};
 ghost use Rattle.h5_group.specs.Nodes.Trees.{kind_in};
-ghost use Rattle.h5_group.specs.SymbolEdits.{HasEntriesAt};
 ghost use Rattle.h5_group.specs.Told.{symbol_nodes_told};
 
-use crate::nodes::tree_node;
+use crate::edit::symbols::{put_in, take_at};
+use crate::edit::way::node_at_end;
 use crate::read::{segment, symbol_node};
-use h5_btree::{Step, Way};
+use h5_btree::Way;
 use h5_bytes::text_from;
 use h5_msg::SymbolTable;
-use h5_snod::{ENTRY, NewSymbol, insert_at, remove_at, write_entry};
+use h5_snod::NewSymbol;
 use h5_space::{Image, leaf_k};
 
 /// Puts an entry into the symbol node to which a way leads, at the place of its name. Takes no room and no memory.
@@ -42,9 +37,10 @@ pub(crate) fn put_entry(image: &mut Image, table: SymbolTable, way: &Way, symbol
     ensures segment { segment_of image.new.bytes table.heap ≡ segment_of image.old.bytes table.heap }
     ensures spends { Spends image.old image.new 0 0 }
 {
-    let node = child_at(image, way.steps()[0]);
+    let node = node_at_end(image, table, way);
     let k = name_place(image, table, node, symbol.name);
-    put_in_node(image, node, k, symbol);
+    let leaf = leaf_k(image.bytes());
+    put_in(image, leaf, node, k, symbol);
 }
 
 /// Takes entry `k` out of one of a group's symbol nodes, which may be left without entries. Takes no room and no memory.
@@ -66,66 +62,23 @@ pub(crate) fn take_entry(image: &mut Image, table: SymbolTable, node: u64, k: us
         ≡ remove (symbols_at image.old.bytes (leaf_of image.old.bytes) node) k }
     ensures spends { Spends image.old image.new 0 0 }
 {
-    take_at(image, node, k);
-}
-
-/// The address of the child from which a way comes.
-pub(crate) fn child_at(image: &Image, step: Step) -> u64
-    requires long { 20 ≤ length image.now.bytes }
-    requires few { internal_of image.now.bytes ≤ 32767 }
-    requires there { IsNodeAt image.now.bytes OfGroup step.node }
-    requires place { step.place < length (node_at image.now.bytes (kind_in image.now.bytes)
-        step.node).children }
-    ensures { slice_get (node_at image.now.bytes (kind_in image.now.bytes) step.node).children step.place
-        ≡ Some result }
-{
-    tree_node(image, step.node).child(step.place)
+    let leaf = leaf_k(image.bytes());
+    take_at(image, leaf, node, k);
 }
 
 /// The place of the name at an offset of the heap, which no link has, among those in one of the symbol nodes.
 pub(crate) fn name_place(image: &Image, table: SymbolTable, node: u64, offset: u64) -> usize
-    requires group { IsGroupRead image.now.bytes table }
     requires node { Contains (symbol_nodes_told image.now.bytes table) node }
-    requires new_name { HasNone image.now.bytes table (text_at (segment_of image.now.bytes table.heap)
-        offset) }
-    ensures { IsPlace (entry_names (segment_of image.now.bytes table.heap) (symbols_at image.now.bytes
-        (leaf_of image.now.bytes) node))
-        (text_at (segment_of image.now.bytes table.heap) offset) result }
+    requires new_name { (links : List (List ℕ × Target)) × (spare : List ℕ) × (blocks : List Block)
+        × IsGroupIn image.now table links spare blocks
+        × IsNewName (heap_text image.now table offset) links }
+    ensures { IsPlace (entry_names (segment_of image.now.bytes table.heap)
+        (symbols_at image.now.bytes (leaf_of image.now.bytes) node))
+        (heap_text image.now table offset) result }
 {
     let segment = segment(image, table);
     let symbols = symbol_node(image, table, node);
     match symbols.find(segment, text_from(segment, offset)) {
         Ok(k) | Err(k) => k,
     }
-}
-
-/// Puts an entry into the symbol node at an address, as entry `k`.
-fn put_in_node(image: &mut Image, node: u64, k: usize, symbol: NewSymbol)
-    requires long { 20 ≤ length image.old.bytes }
-    requires few { leaf_of image.old.bytes ≤ 32767 }
-    requires there { IsSymbolsAt image.old.bytes node }
-    requires place { k ≤ length (symbols_at image.old.bytes (leaf_of image.old.bytes) node) }
-    requires room { length (symbols_at image.old.bytes (leaf_of image.old.bytes) node) < 2 * leaf_of
-        image.old.bytes }
-    ensures { HasEntriesAt image.old image.new node
-        (insert (symbols_at image.old.bytes (leaf_of image.old.bytes) node) k (entry_from symbol)) }
-{
-    let mut entry = [0; ENTRY];
-    write_entry(symbol, &mut entry);
-    let leaf = leaf_k(image.bytes());
-    let bytes = image.part_at_mut(node, 8 + 80 * u64::from(leaf));
-    insert_at(bytes, k, &entry);
-}
-
-/// Takes entry `k` out of the symbol node at an address.
-fn take_at(image: &mut Image, node: u64, k: usize)
-    requires long { 20 ≤ length image.old.bytes }
-    requires there { IsSymbolsAt image.old.bytes node }
-    requires place { k < length (symbols_at image.old.bytes (leaf_of image.old.bytes) node) }
-    ensures { HasEntriesAt image.old image.new node
-        (remove (symbols_at image.old.bytes (leaf_of image.old.bytes) node) k) }
-{
-    let leaf = leaf_k(image.bytes());
-    let bytes = image.part_at_mut(node, 8 + 80 * u64::from(leaf));
-    remove_at(bytes, k);
 }

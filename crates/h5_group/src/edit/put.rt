@@ -25,11 +25,10 @@ ghost use Rattle.h5_group.specs.Nodes.Trees.{kind_in};
 ghost use Rattle.h5_group.specs.Told.{blocks_told, links_told, symbol_nodes_told};
 ghost use Rattle.h5_group.specs.Ways.{IsWayOf};
 
-use crate::edit::drop::node_at_end;
 use crate::edit::entries::put_entry;
 use crate::edit::split::{put_first_entry, split_entry};
 use crate::edit::texts::add_text;
-use crate::edit::way::{way_to, widen_for};
+use crate::edit::way::{node_at_end, way_to, widen_for};
 use crate::nodes::group_kind;
 use crate::read::symbol_node;
 use h5_btree::{InsertFault, Way, is_full_way};
@@ -77,13 +76,14 @@ pub fn put_link(
     ensures internal { OnOk result (internal_k image.new.bytes ≡ internal_k image.old.bytes) }
     ensures spends { OnOk result (Spends image.old image.new
         (room_of image.old.bytes table (span (name_and_leads link.now))) 20) }
-    ensures deep { (result ≡ Err InsertFault.TreeTooDeep) ↔ IsFullFor image.old table link.now.name.now }
+    ensures deep { (result ≡ Err InsertFault.TreeTooDeep)
+        ↔ IsFullFor image.old.bytes table link.now.name.now }
     ensures full { (result ≡ Err (InsertFault.Space SpaceFault.ImageFull))
-        ↔ ((IsFullFor image.old table link.now.name.now → ⊥)
+        ↔ ((IsFullFor image.old.bytes table link.now.name.now → ⊥)
         × (2 ^ 31 < length image.old.bytes
         + room_of image.old.bytes table (span (name_and_leads link.now)))) }
     ensures err { OnErr result (image.new ≡ image.old) }
-    ensures covered { (IsFullFor image.old table link.now.name.now → ⊥)
+    ensures covered { (IsFullFor image.old.bytes table link.now.name.now → ⊥)
         → room_of image.old.bytes table (span (name_and_leads link.now)) ≤ image.old.room_bytes
         → 20 ≤ image.old.room_blocks
         → length image.old.bytes + room_of image.old.bytes table (span (name_and_leads link.now)) ≤ 2 ^ 31
@@ -103,7 +103,7 @@ pub fn put_link(
 /// Whether the root of the group's tree is at level 15, and each node on the way to the name and the symbol node at its end are full.
 fn is_too_deep(image: &Image, table: SymbolTable, name: &[u8]) -> bool
     requires group { IsSomeGroup image.now table [] }
-    ensures { IsTrue result ↔ IsFullFor image.now table name.now }
+    ensures { IsTrue result ↔ IsFullFor image.now.bytes table name.now }
 {
     let Some(way) = way_to(image, table, name) else {
         return false;
@@ -155,7 +155,7 @@ fn put_in_room(image: &mut Image, table: SymbolTable, link: &Link<'_, ObjectPlac
         × IsGroupIn image.old table links [] blocks × IsNewName link.now.name.now links }
     requires named { IsTrue (is_name link.now.name.now) }
     requires plain { IsPlainLead (leads_of link.now.to) }
-    requires deep { IsFullFor image.old table link.now.name.now → ⊥ }
+    requires deep { IsFullFor image.old.bytes table link.now.name.now → ⊥ }
     requires bytes { room_of image.old.bytes table (span (name_and_leads link.now)) ≤ image.old.room_bytes }
     requires blocks { 20 ≤ image.old.room_blocks }
     requires small { length image.old.bytes + room_of image.old.bytes table (span (name_and_leads link.now))

@@ -1,7 +1,6 @@
 //! Entries for which a group needs one symbol node more (File Format Specification 3.0, sections III.A.1 and III.B).
 
 ghost use Rattle.std.specs.Prelude.{◌≡◌, ℕ, ◌+◌, ◌*◌, ◌^◌, ◌<◌, ◌≤◌, List, [], ◌∷◌, ◌++◌, drop, length, take};
-ghost use Rattle.std.specs.List.{insert};
 ghost use Rattle.h5_bytes.specs.Blocks.{Inside};
 ghost use Rattle.h5_model.specs.Format.Heap.{heap_blocks, segment_of};
 ghost use Rattle.h5_model.specs.Format.Links.{offset_in};
@@ -17,18 +16,17 @@ ghost use Rattle.h5_btree.specs.Removal.{EndsSomewhere};
 ghost use Rattle.h5_btree.specs.declared.way.Step.{Step};
 ghost use Rattle.h5_group.specs.Edited.{HasEntryPut, IsEntryFor, IsWayFor, entries_below, heap_text};
 ghost use Rattle.h5_group.specs.Nodes.Trees.{kind_in};
-ghost use Rattle.h5_group.specs.Split.{AreHalves, AreNewSymbols, IsCutInTwo, IsSymbolsRewritten, follows_in};
+ghost use Rattle.h5_group.specs.Split.{AreHalves, AreNewSymbols, IsCutInTwo, follows_in};
 
-use crate::edit::entries::{child_at, name_place};
-use crate::edit::way::NameKeys;
+use crate::edit::entries::name_place;
+use crate::edit::symbols::{drop_entries, keep_entries, put_in};
+use crate::edit::way::{NameKeys, node_at_end};
 use crate::nodes::group_kind;
 use h5_btree::{NodeKind, Way, hold_keys, put_at, put_first};
 use h5_bytes::put_u64;
 use h5_heap::segment_at;
 use h5_msg::SymbolTable;
-use h5_snod::{
-    NewSymbol, drop_front, insert_at, keep_front, known_symbol_node, write_entry, write_symbol_node,
-};
+use h5_snod::{NewSymbol, known_symbol_node, write_symbol_node};
 use h5_space::{Image, leaf_k};
 
 /// Bytes of the keys that come in along a way: 8 for each of its levels, which are 16 at most.
@@ -78,7 +76,7 @@ pub(crate) fn split_entry(image: &mut Image, table: SymbolTable, way: &Way, symb
 {
     let kind = group_kind(image);
     let leaf = leaf_k(image.bytes());
-    let node = child_at(image, way.steps()[0]);
+    let node = node_at_end(image, table, way);
     let place = name_place(image, table, node, symbol.name);
     let new = cut(image, leaf, node, place, symbol);
     let keys = keys_behind(image, table, kind, leaf, way, node);
@@ -202,43 +200,4 @@ fn halve(image: &mut Image, leaf: u16, at: u64, n: usize) -> u64
     drop_entries(image, leaf, new, n);
     keep_entries(image, leaf, at, n);
     new
-}
-
-/// Puts an entry into a symbol node where it stands, before those from index `j` on.
-fn put_in(image: &mut Image, leaf: u16, at: u64, j: usize, symbol: NewSymbol)
-    requires inside { at + (8 + 80 * leaf) ≤ length image.old.bytes }
-    requires form { IsSymbolNode leaf (symbol_bytes image.old.bytes leaf at) }
-    requires place { j ≤ length (symbols_at image.old.bytes leaf at) }
-    requires room { length (symbols_at image.old.bytes leaf at) < 2 * leaf }
-    requires few { leaf ≤ 32767 }
-    ensures { IsSymbolsRewritten image.old image.new leaf at
-        (insert (symbols_at image.old.bytes leaf at) j (entry_from symbol)) }
-{
-    let mut entry = [0; 40];
-    write_entry(symbol, &mut entry);
-    let node = image.part_at_mut(at, 8 + 80 * u64::from(leaf));
-    insert_at(node, j, &entry);
-}
-
-/// Keeps the first `n` entries of a symbol node where it stands.
-fn keep_entries(image: &mut Image, leaf: u16, at: u64, n: usize)
-    requires inside { at + (8 + 80 * leaf) ≤ length image.old.bytes }
-    requires form { IsSymbolNode leaf (symbol_bytes image.old.bytes leaf at) }
-    requires place { n ≤ length (symbols_at image.old.bytes leaf at) }
-    requires few { leaf ≤ 32767 }
-    ensures { IsSymbolsRewritten image.old image.new leaf at (take n (symbols_at image.old.bytes leaf at)) }
-{
-    let node = image.part_at_mut(at, 8 + 80 * u64::from(leaf));
-    keep_front(node, n);
-}
-
-/// Takes the first `n` entries of a symbol node out, where it stands.
-fn drop_entries(image: &mut Image, leaf: u16, at: u64, n: usize)
-    requires inside { at + (8 + 80 * leaf) ≤ length image.old.bytes }
-    requires form { IsSymbolNode leaf (symbol_bytes image.old.bytes leaf at) }
-    requires place { n ≤ length (symbols_at image.old.bytes leaf at) }
-    ensures { IsSymbolsRewritten image.old image.new leaf at (drop n (symbols_at image.old.bytes leaf at)) }
-{
-    let node = image.part_at_mut(at, 8 + 80 * u64::from(leaf));
-    drop_front(node, n);
 }

@@ -15,11 +15,11 @@ ghost use Rattle.h5_group.specs.Nodes.Stands.{entries_at};
 ghost use Rattle.h5_group.specs.Removal.{AreReleased, HasNameFreed, HasTextsFreed, IsEntryPlace, offsets_named};
 ghost use Rattle.h5_group.specs.Told.{blocks_told, links_told};
 
-use crate::edit::drop::{drop_symbol_node, node_at_end};
+use crate::edit::drop::drop_symbol_node;
 use crate::edit::entries::take_entry;
 use crate::edit::retire::retire_name;
 use crate::edit::texts::free_text;
-use crate::edit::way::way_to;
+use crate::edit::way::{node_at_end, way_to};
 use crate::read::{segment, symbol_node};
 use h5_btree::Way;
 use h5_msg::SymbolTable;

@@ -22,7 +22,7 @@ ghost use Rattle.h5_group.specs.Nodes.Trees.{kind_in};
 ghost use Rattle.h5_group.specs.Told.{symbol_nodes_told};
 ghost use Rattle.h5_group.specs.Ways.{HasSpare, IsWayOf, behind_of};
 
-use crate::nodes::group_kind;
+use crate::nodes::{group_kind, tree_node};
 use h5_btree::{Ends, Follows, SoughtName, Way, ends_to_widen, find_way, widen};
 use h5_bytes::{text_from, u64_at};
 use h5_heap::segment_at;
@@ -72,6 +72,21 @@ pub(crate) fn way_to(image: &Image, table: SymbolTable, name: &[u8]) -> Option<W
         name,
     };
     find_way(bytes, table.tree(), &sought).unwrap()
+}
+
+/// The address of the symbol node to which a way leads. Takes no memory.
+///
+/// That a group stands at this tree and this heap, and that the way ends in its tree, are the caller's conditions.
+pub(crate) fn node_at_end(image: &Image, table: SymbolTable, way: &Way) -> u64
+    requires group { (spare : List ℕ) × IsSomeGroup image.now table spare }
+    requires way { (level : ℕ) × (owned : List ℕ) × (list : List ℕ) × (k : ℕ)
+        × EndsInTree image.now (kind_in image.now.bytes) table.tree level way.now owned list k }
+    ensures node { (step : Step) (above : List Step) → way.now ≡ step ∷ above
+        → result ≡ node_below image.now table step }
+    ensures one { Contains (symbol_nodes_told image.now.bytes table) result }
+{
+    let step = way.steps()[0];
+    tree_node(image, step.node).child(step.place)
 }
 
 /// Lets the end keys of the nodes on a way give way, so that a name lies between the keys around each child on it: a

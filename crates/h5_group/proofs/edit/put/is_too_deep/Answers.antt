@@ -1,4 +1,4 @@
-use Rattle.std.proofs.Common.{◌≡◌, ℕ, true, false, List, [], length, sym, ap, ◌∙◌, subst, arith}
+use Rattle.std.proofs.Common.{◌≡◌, true, false, [], length, sym, ap, subst, arith}
 use Rattle.h5_model.specs.Format.Nodes.{Kind}
 use Rattle.h5_btree.specs.Insertion.{IsFullWay}
 use Rattle.h5_group.proofs.PutDeep.{deep_end, deep_long, deep_nodes, deep_of, empty_roomy}
@@ -8,7 +8,7 @@ use Rattle.h5_group.proofs.edit.put.is_too_deep.Goals.{then-steps-eq-MOST_STEPS,
 pub returns-in_default : goal.returns-in_default
 returns-in_default c = (
   λ it_is. let bad : false ≡ true = it_is in absurd (cc),
-  λ f. absurd (empty_roomy c.args.image.now c.args.table c.args.name.now c.in_default.ensures.none f),
+  λ f. absurd (empty_roomy c.args.image.now.bytes c.args.table c.args.name.now c.in_default.ensures.none f),
 )
 
 pub returns-then-is_full_way : goal.returns-then-is_full_way
@@ -21,8 +21,8 @@ returns-then-is_full_way c =
           let it_is : w.is_full_way.result ≡ true = cc in
           let nodes = subst (λ (k : Kind). IsFullWay c.args.image.now.bytes k c.in-Some.way) w.group_kind.ensures (w.is_full_way.ensures.0 it_is) in
           let long : length c.in-Some.way ≡ 16 = omega (arith, w.if-steps-eq-MOST_STEPS.true, ap length c.steps.ensures.steps) in (
-            λ full. deep_of c.args.image.now c.args.table c.args.name.now c.in-Some.way c.in-Some.ensures.sought g.0 [] g.1 g.2 c.is_full.result c.is_full.ensures long nodes full,
-            λ f. deep_end c.args.image.now c.args.table c.args.name.now c.in-Some.way c.in-Some.ensures.sought g.0 [] g.1 g.2 c.is_full.result c.is_full.ensures f,
+            λ full. deep_of c.args.image.now c.args.table c.args.name.now g.0 [] g.1 g.2 c.in-Some.way c.in-Some.ensures.sought c.is_full.result c.is_full.ensures long nodes full,
+            λ f. deep_end c.args.image.now c.args.table c.args.name.now g.0 [] g.1 g.2 c.in-Some.way c.in-Some.ensures.sought c.is_full.result c.is_full.ensures f,
           )
       | else-steps-eq-MOST_STEPS w ↦ absurd (omega (arith, w.if-steps-eq-MOST_STEPS.false))
     ]
@@ -34,11 +34,11 @@ returns-else-is_full_way c =
       λ f.
           elim c.if-steps-eq-MOST_STEPS.branch [
             | then-steps-eq-MOST_STEPS w ↦
-                let nodes = deep_nodes c.args.image.now c.args.table c.args.name.now c.in-Some.way c.in-Some.ensures.sought g.0 [] g.1 g.2 f in
+                let nodes = deep_nodes c.args.image.now c.args.table c.args.name.now g.0 [] g.1 g.2 c.in-Some.way c.in-Some.ensures.sought f in
                 let full = w.is_full_way.ensures.1 (subst (λ (k : Kind). IsFullWay c.args.image.now.bytes k c.in-Some.way) (sym w.group_kind.ensures) nodes) in
                 let is = w.value-is in cc
             | else-steps-eq-MOST_STEPS w ↦
-                let long = deep_long c.args.image.now c.args.table c.args.name.now c.in-Some.way c.in-Some.ensures.sought g.0 [] g.1 g.2 f in
+                let long = deep_long c.args.image.now c.args.table c.args.name.now g.0 [] g.1 g.2 c.in-Some.way c.in-Some.ensures.sought f in
                 absurd (omega (arith, long, w.if-steps-eq-MOST_STEPS.false, ap length c.steps.ensures.steps))
           ],
     )

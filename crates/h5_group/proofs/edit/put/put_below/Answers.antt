@@ -1,9 +1,8 @@
-use Rattle.std.proofs.Common.{◌≡◌, ℕ, List, ◌∷◌, ◌++◌, ◌+◌, ◌*◌, length, sym, ap, ◌∙◌, subst, arith}
+use Rattle.std.proofs.Common.{ℕ, ◌++◌, ◌+◌, ◌*◌, length, sym, ap, ◌∙◌, arith}
 use Rattle.h5_model.specs.Format.Nodes.{group_kind, node_length}
-use Rattle.h5_model.specs.Format.Superblock.{leaf_k}
 use Rattle.h5_space.proofs.MovesLaws.{spends_then, spends_within}
 use Rattle.h5_snod.specs.Written.{entry_from}
-use Rattle.h5_group.specs.Edited.{HasGroupMoved, offsets_of}
+use Rattle.h5_group.specs.Edited.{offsets_of}
 use Rattle.h5_group.proofs.PutSteps.{below_room, entry_for_then, put_after, stays_for}
 use Rattle.h5_group.proofs.edit.put.put_below.Goals as goal
 

@@ -1,6 +1,5 @@
-use Rattle.std.proofs.Common.{◌≡◌, ◌≢◌, ℕ, ◌+◌, ◌*◌, ◌^◌, ◌<◌, ◌≤◌, List, [], ◌∷◌, ◌++◌, length, get_or, take, sym, ap, subst, ◌∙◌, arith, Some}
-use Rattle.std.specs.Prelude.{slice_get, slice_index_or}
-use Rattle.std.specs.List.{AllByRecursion, Contains, insert}
+use Rattle.std.proofs.Common.{◌≡◌, ◌≢◌, ℕ, ◌+◌, ◌*◌, ◌^◌, ◌<◌, ◌≤◌, List, [], ◌∷◌, ◌++◌, length, get_or, take, sym, ap, subst, ◌∙◌, arith, mul-le-mul_right}
+use Rattle.std.specs.List.{AllByRecursion, insert}
 use Rattle.std.proofs.lemmas.List.{length-map}
 use Rattle.h5_bytes.specs.Texts.{text_at}
 use Rattle.h5_model.specs.Format.Superblock.{leaf_k}
@@ -13,140 +12,97 @@ use Rattle.h5_space.specs.Whole.{IsApart}
 use Rattle.h5_btree.specs.Held.{AreHeldKeys}
 use Rattle.h5_btree.specs.Insertion.{IsChildPut, IsFullWay, IsPutAlong, KeepsEntries, Owns}
 use Rattle.h5_btree.specs.Removal.{EndsInTree, EndsSomewhere}
-use Rattle.h5_btree.specs.Walk.Forms.{OfGroup}
-use Rattle.h5_btree.specs.Walk.Stands.{IsNodeAt}
 use Rattle.h5_btree.specs.declared.way.Step.{Step}
+use Rattle.h5_btree.proofs.WaySteps.{way_low}
 use Rattle.h5_snod.specs.Written.{entry_from}
-use Rattle.h5_group.specs.Edited.{heap_text, offsets_of}
+use Rattle.h5_group.specs.Edited.{offsets_of}
 use Rattle.h5_group.specs.Nodes.Trees.{kind_in}
 use Rattle.h5_group.specs.Split.{IsCutInTwo, follows_in}
-use Rattle.h5_group.specs.Told.{symbol_nodes_told}
-use Rattle.h5_group.proofs.EntryKept.{end_stands, end_told, got_is, new_name_none, symbols_stand}
-use Rattle.h5_group.proofs.EntrySets.{group_read}
+use Rattle.h5_group.proofs.EntryKept.{symbols_stand}
 use Rattle.h5_group.proofs.SplitCalls.{ends_behind, full_before, heap_behind, node_apart, segment_behind}
 use Rattle.h5_group.proofs.SplitEntry.{split_all}
 use Rattle.h5_group.proofs.edit.split.split_entry.Goals as goal
-use Rattle.h5_group.proofs.edit.split.split_entry.Goals.{After-steps, After-child_at-node, After-cut-new, After-put_at}
+use Rattle.h5_group.proofs.edit.split.split_entry.Goals.{After-node_at_end-node, After-cut-new, After-put_at}
 
 -- ---- the symbol node at the end of the way
 
-first_is : (c : After-steps) (step : Step) (above : List Step) → c.args.way.now ≡ step ∷ above → slice_index_or c.steps.result.now 0 (record { node = 0; place = 0 }) ≡ step
-first_is c step above is = ap (λ (steps : List Step). slice_index_or steps 0 (record { node = 0; place = 0 })) (c.steps.ensures.steps ∙ is)
-
-at_end : (c : After-child_at-node) (step : Step) (above : List Step) → c.args.way.now ≡ step ∷ above
-    → c.child_at-node.result ≡ get_or (node_at c.args.image.now.bytes (kind_in c.args.image.now.bytes) step.node).children step.place 0
-at_end c step above is =
-    let same : slice_index_or c.steps.result.now 0 (record { node = 0; place = 0 }) ≡ step
-    = ap (λ (steps : List Step). slice_index_or steps 0 (record { node = 0; place = 0 })) (c.steps.ensures.steps ∙ is) in
-    got_is (node_at c.args.image.now.bytes (kind_in c.args.image.now.bytes) step.node).children step.place c.child_at-node.result
-    (subst (λ (st : Step). slice_get (node_at c.args.image.now.bytes (kind_in c.args.image.now.bytes) st.node).children st.place ≡ Some c.child_at-node.result) same c.child_at-node.ensures)
-
-told : (c : After-child_at-node) → Contains (symbol_nodes_told c.args.image.now.bytes c.args.table) c.child_at-node.result
-told c =
-    let e = c.requires.entry in
-    let w = c.requires.way in
-    subst (Contains (symbol_nodes_told c.args.image.now.bytes c.args.table)) (sym (at_end c w.ends.step w.ends.above w.ends.way_is))
-    (end_told c.args.image.now c.args.table e.links (offsets_of (entry_from c.args.symbol) ++ e.spare) e.blocks e.group w.level c.args.way.now w.owned w.symbol_nodes w.number w.ends)
-
-leaf_is : (c : After-child_at-node) → leaf_k c.args.image.now.bytes ≡ c.leaf_k-leaf.result
+leaf_is : (c : After-node_at_end-node) → leaf_k c.args.image.now.bytes ≡ c.leaf_k-leaf.result
 leaf_is c = sym (c.leaf_k-leaf.ensures ∙ ap leaf_k c.bytes.ensures)
 
-full : (c : After-child_at-node) → length (symbols_at c.args.image.now.bytes (leaf_k c.args.image.now.bytes) c.child_at-node.result) ≡ 2 * leaf_k c.args.image.now.bytes
+full : (c : After-node_at_end-node) → length (symbols_at c.args.image.now.bytes (leaf_k c.args.image.now.bytes) c.node_at_end-node.result) ≡ 2 * leaf_k c.args.image.now.bytes
 full c =
     let w = c.requires.way in
     subst (λ (n : ℕ). length (symbols_at c.args.image.now.bytes (leaf_k c.args.image.now.bytes) n) ≡ 2 * leaf_k c.args.image.now.bytes)
-    (sym (at_end c w.ends.step w.ends.above w.ends.way_is)) (c.requires.full w.ends.step w.ends.above w.ends.way_is)
-
-pub child_at-node-requires-clause-there : goal.child_at-node-requires-clause-there
-child_at-node-requires-clause-there c =
-    let e = c.requires.entry in
-    let w = c.requires.way in
-    let s = (goal.at.child_at-node-requires-clause-there c).After-steps in
-    subst (λ (step : Step). IsNodeAt c.args.image.now.bytes OfGroup step.node) (sym (first_is s w.ends.step w.ends.above w.ends.way_is))
-    (end_stands c.args.image.now c.args.table e.links (offsets_of (entry_from c.args.symbol) ++ e.spare) e.blocks e.group w.level c.args.way.now w.owned w.symbol_nodes w.number w.ends)
-
-pub name_place-place-requires-clause-group : goal.name_place-place-requires-clause-group
-name_place-place-requires-clause-group c =
-    let e = c.requires.entry in
-    group_read c.args.image.now c.args.table e.links (offsets_of (entry_from c.args.symbol) ++ e.spare) e.blocks e.group
-
-pub name_place-place-requires-clause-node : goal.name_place-place-requires-clause-node
-name_place-place-requires-clause-node c = told (goal.at.name_place-place-requires-clause-node c).After-child_at-node
-
-pub name_place-place-requires-clause-new_name : goal.name_place-place-requires-clause-new_name
-name_place-place-requires-clause-new_name c =
-    let e = c.requires.entry in
-    new_name_none c.args.image.now c.args.table e.links (offsets_of (entry_from c.args.symbol) ++ e.spare) e.blocks e.group
-    (heap_text c.args.image.now c.args.table c.args.symbol.name) e.new_name
+    (sym (c.node_at_end-node.ensures.node w.ends.step w.ends.above w.ends.way_is)) (c.requires.full w.ends.step w.ends.above w.ends.way_is)
 
 -- ---- the cut
 
 pub cut-new-requires-clause-inside : goal.cut-new-requires-clause-inside
 cut-new-requires-clause-inside c =
     let e = c.requires.entry in
-    let b = (goal.at.cut-new-requires-clause-inside c).After-child_at-node in
-    subst (λ (l : ℕ). c.child_at-node.result + (8 + 80 * l) ≤ length c.args.image.now.bytes) (leaf_is b)
-    (symbols_stand c.args.image.now c.args.table e.links (offsets_of (entry_from c.args.symbol) ++ e.spare) e.blocks e.group c.child_at-node.result (told b)).inside
+    let b = (goal.at.cut-new-requires-clause-inside c).After-node_at_end-node in
+    subst (λ (l : ℕ). c.node_at_end-node.result + (8 + 80 * l) ≤ length c.args.image.now.bytes) (leaf_is b)
+    (symbols_stand c.args.image.now c.args.table e.links (offsets_of (entry_from c.args.symbol) ++ e.spare) e.blocks e.group c.node_at_end-node.result c.node_at_end-node.ensures.one).inside
 
 pub cut-new-requires-clause-form : goal.cut-new-requires-clause-form
 cut-new-requires-clause-form c =
     let e = c.requires.entry in
-    let b = (goal.at.cut-new-requires-clause-form c).After-child_at-node in
-    subst (λ (l : ℕ). IsSymbolNode l (symbol_bytes c.args.image.now.bytes l c.child_at-node.result)) (leaf_is b)
-    (symbols_stand c.args.image.now c.args.table e.links (offsets_of (entry_from c.args.symbol) ++ e.spare) e.blocks e.group c.child_at-node.result (told b)).formed
+    let b = (goal.at.cut-new-requires-clause-form c).After-node_at_end-node in
+    subst (λ (l : ℕ). IsSymbolNode l (symbol_bytes c.args.image.now.bytes l c.node_at_end-node.result)) (leaf_is b)
+    (symbols_stand c.args.image.now c.args.table e.links (offsets_of (entry_from c.args.symbol) ++ e.spare) e.blocks e.group c.node_at_end-node.result c.node_at_end-node.ensures.one).formed
 
 pub cut-new-requires-clause-full : goal.cut-new-requires-clause-full
 cut-new-requires-clause-full c =
-    let b = (goal.at.cut-new-requires-clause-full c).After-child_at-node in
-    subst (λ (l : ℕ). length (symbols_at c.args.image.now.bytes l c.child_at-node.result) ≡ 2 * l) (leaf_is b) (full b)
+    let b = (goal.at.cut-new-requires-clause-full c).After-node_at_end-node in
+    subst (λ (l : ℕ). length (symbols_at c.args.image.now.bytes l c.node_at_end-node.result) ≡ 2 * l) (leaf_is b) (full b)
 
 pub cut-new-requires-clause-apart : goal.cut-new-requires-clause-apart
 cut-new-requires-clause-apart c =
     let e = c.requires.entry in
     let w = c.requires.way in
-    let b = (goal.at.cut-new-requires-clause-apart c).After-child_at-node in
-    subst (λ (l : ℕ). IsApart (symbol_block l c.child_at-node.result ∷ []) c.args.image.now.free (length c.args.image.now.bytes)) (leaf_is b)
+    let b = (goal.at.cut-new-requires-clause-apart c).After-node_at_end-node in
+    subst (λ (l : ℕ). IsApart (symbol_block l c.node_at_end-node.result ∷ []) c.args.image.now.free (length c.args.image.now.bytes)) (leaf_is b)
     (node_apart c.args.image.now c.args.table e.links (offsets_of (entry_from c.args.symbol) ++ e.spare) e.blocks e.group w.level c.args.way.now w.owned w.symbol_nodes w.number w.ends
-    c.child_at-node.result (at_end b))
+    c.node_at_end-node.result c.node_at_end-node.ensures.node)
 
 pub cut-new-requires-clause-place : goal.cut-new-requires-clause-place
 cut-new-requires-clause-place c =
-    let b = (goal.at.cut-new-requires-clause-place c).After-child_at-node in
+    let b = (goal.at.cut-new-requires-clause-place c).After-node_at_end-node in
     let inside = c.name_place-place.ensures.inside in
-    let count = length-map (symbols_at c.args.image.now.bytes (leaf_k c.args.image.now.bytes) c.child_at-node.result)
+    let count = length-map (symbols_at c.args.image.now.bytes (leaf_k c.args.image.now.bytes) c.node_at_end-node.result)
     (λ (o : Entry). text_at (segment_of c.args.image.now.bytes c.args.table.heap) o.name) in
     omega (arith, inside, count, full b, leaf_is b)
 
 -- ---- after the cut
 
-cut_is : (b : After-child_at-node) (c : After-cut-new) → c.leaf_k-leaf.result ≡ leaf_k c.args.image.now.bytes
-    → IsCutInTwo c.args.image.now c.cut-new.new.image (leaf_k c.args.image.now.bytes) c.child_at-node.result c.name_place-place.result (entry_from c.args.symbol) c.cut-new.result
-cut_is b c is = subst (λ (l : ℕ). IsCutInTwo c.args.image.now c.cut-new.new.image l c.child_at-node.result c.name_place-place.result (entry_from c.args.symbol) c.cut-new.result) is c.cut-new.ensures
+cut_is : (b : After-node_at_end-node) (c : After-cut-new) → c.leaf_k-leaf.result ≡ leaf_k c.args.image.now.bytes
+    → IsCutInTwo c.args.image.now c.cut-new.new.image (leaf_k c.args.image.now.bytes) c.node_at_end-node.result c.name_place-place.result (entry_from c.args.symbol) c.cut-new.result
+cut_is b c is = subst (λ (l : ℕ). IsCutInTwo c.args.image.now c.cut-new.new.image l c.node_at_end-node.result c.name_place-place.result (entry_from c.args.symbol) c.cut-new.result) is c.cut-new.ensures
 
 shorter : (c : After-cut-new) → c.leaf_k-leaf.result ≡ leaf_k c.args.image.now.bytes → length c.cut-new.new.image.bytes < 2 ^ 64
 shorter c is = let grown = c.cut-new.ensures.spends.grown in omega (arith, grown, is, c.requires.short)
 
-ends_there : (b : After-child_at-node) (c : After-cut-new) → c.leaf_k-leaf.result ≡ leaf_k c.args.image.now.bytes
+ends_there : (b : After-node_at_end-node) (c : After-cut-new) → c.leaf_k-leaf.result ≡ leaf_k c.args.image.now.bytes
     → ((step : Step) (above : List Step) → c.args.way.now ≡ step ∷ above
-    → c.child_at-node.result ≡ get_or (node_at c.args.image.now.bytes (kind_in c.args.image.now.bytes) step.node).children step.place 0)
+    → c.node_at_end-node.result ≡ get_or (node_at c.args.image.now.bytes (kind_in c.args.image.now.bytes) step.node).children step.place 0)
     → EndsSomewhere c.cut-new.new.image c.group_kind-kind.result c.args.way.now
 ends_there b c is end =
     let e = c.requires.entry in
     let w = c.requires.way in
     subst (λ (k : Kind). EndsSomewhere c.cut-new.new.image k c.args.way.now) (sym c.group_kind-kind.ensures)
     (ends_behind c.args.image.now c.args.table e.links (offsets_of (entry_from c.args.symbol) ++ e.spare) e.blocks e.group w.level c.args.way.now w.owned w.symbol_nodes w.number w.ends
-    c.child_at-node.result end c.cut-new.new.image c.cut-new.result _ _ (cut_is b c is) (shorter c is))
+    c.node_at_end-node.result end c.cut-new.new.image c.cut-new.result _ _ (cut_is b c is) (shorter c is))
 
 pub keys_behind-keys-requires-clause-ends : goal.keys_behind-keys-requires-clause-ends
 keys_behind-keys-requires-clause-ends c =
-    let b = (goal.at.keys_behind-keys-requires-clause-ends c).After-child_at-node in
-    ends_there b c (sym (leaf_is b)) (at_end b)
+    let b = (goal.at.keys_behind-keys-requires-clause-ends c).After-node_at_end-node in
+    ends_there b c (sym (leaf_is b)) c.node_at_end-node.ensures.node
 
 pub keys_behind-keys-requires-clause-inside : goal.keys_behind-keys-requires-clause-inside
 keys_behind-keys-requires-clause-inside c =
     let e = c.requires.entry in
-    let b = (goal.at.keys_behind-keys-requires-clause-inside c).After-child_at-node in
-    let there = (symbols_stand c.args.image.now c.args.table e.links (offsets_of (entry_from c.args.symbol) ++ e.spare) e.blocks e.group c.child_at-node.result (told b)).inside in
+    let b = (goal.at.keys_behind-keys-requires-clause-inside c).After-node_at_end-node in
+    let there = (symbols_stand c.args.image.now c.args.table e.links (offsets_of (entry_from c.args.symbol) ++ e.spare) e.blocks e.group c.node_at_end-node.result c.node_at_end-node.ensures.one).inside in
     let grown = c.cut-new.ensures.moves.grown in
     omega (arith, there, grown, leaf_is b)
 
@@ -154,24 +110,32 @@ pub keys_behind-keys-requires-clause-heap : goal.keys_behind-keys-requires-claus
 keys_behind-keys-requires-clause-heap c =
     let e = c.requires.entry in
     let w = c.requires.way in
-    let b = (goal.at.keys_behind-keys-requires-clause-heap c).After-child_at-node in
+    let b = (goal.at.keys_behind-keys-requires-clause-heap c).After-node_at_end-node in
     heap_behind c.args.image.now c.args.table e.links (offsets_of (entry_from c.args.symbol) ++ e.spare) e.blocks e.group w.level c.args.way.now w.owned w.symbol_nodes w.number w.ends
-    c.child_at-node.result (at_end b) c.cut-new.new.image c.cut-new.result _ _ (cut_is b c (sym (leaf_is b))) (shorter c (sym (leaf_is b)))
+    c.node_at_end-node.result c.node_at_end-node.ensures.node c.cut-new.new.image c.cut-new.result _ _ (cut_is b c (sym (leaf_is b))) (shorter c (sym (leaf_is b)))
 
 pub put_at-requires-clause-ends : goal.put_at-requires-clause-ends
 put_at-requires-clause-ends c =
-    let b = (goal.at.put_at-requires-clause-ends c).After-child_at-node in
+    let b = (goal.at.put_at-requires-clause-ends c).After-node_at_end-node in
     let d = (goal.at.put_at-requires-clause-ends c).After-cut-new in
-    ends_there b d (sym (leaf_is b)) (at_end b)
+    ends_there b d (sym (leaf_is b)) c.node_at_end-node.ensures.node
+
+pub put_at-requires-clause-keys : goal.put_at-requires-clause-keys
+put_at-requires-clause-keys c =
+    let w = c.requires.way in
+    let low = way_low c.args.image.now (kind_in c.args.image.now.bytes) c.args.table.tree w.level c.args.way.now w.owned w.symbol_nodes w.number w.ends in
+    let few : length c.args.way.now ≤ 16 = omega (arith, low, ap length w.ends.way_is) in
+    let eight : c.group_kind-kind.result.key_length ≡ 8 = ap (λ (k : Kind). k.key_length) c.group_kind-kind.ensures in
+    omega (arith, mul-le-mul_right c.group_kind-kind.result.key_length few, eight, c.keys_behind-keys.type_inv)
 
 pub put_at-requires-clause-low : goal.put_at-requires-clause-low
 put_at-requires-clause-low c all =
     let e = c.requires.entry in
     let w = c.requires.way in
-    let b = (goal.at.put_at-requires-clause-low c).After-child_at-node in
+    let b = (goal.at.put_at-requires-clause-low c).After-node_at_end-node in
     let d = (goal.at.put_at-requires-clause-low c).After-cut-new in
     c.requires.low (full_before c.args.image.now c.args.table e.links (offsets_of (entry_from c.args.symbol) ++ e.spare) e.blocks e.group w.level c.args.way.now w.owned w.symbol_nodes w.number w.ends
-    c.child_at-node.result (at_end b) c.cut-new.new.image c.cut-new.result _ _ (cut_is b d (sym (leaf_is b))) (shorter d (sym (leaf_is b)))
+    c.node_at_end-node.result c.node_at_end-node.ensures.node c.cut-new.new.image c.cut-new.result _ _ (cut_is b d (sym (leaf_is b))) (shorter d (sym (leaf_is b)))
     (subst (λ (k : Kind). IsFullWay c.cut-new.new.image.bytes k c.args.way.now) c.group_kind-kind.ensures all))
 
 -- ---- what the call has done, of the group's own kind
@@ -195,7 +159,7 @@ pub returns-clause-put : goal.returns-clause-put
 returns-clause-put c =
     let e = c.requires.entry in
     let w = c.requires.way in
-    let b = (goal.at.returns-clause-put c).After-child_at-node in
+    let b = (goal.at.returns-clause-put c).After-node_at_end-node in
     let d = (goal.at.returns-clause-put c).After-cut-new in
     let s = c.args.image.now in
     let u = c.cut-new.new.image in
@@ -205,7 +169,7 @@ returns-clause-put c =
     let way = c.args.way.now in
     let kind_is = c.group_kind-kind.ensures in
     let segment_is = segment_behind s c.args.table e.links (offsets_of (entry_from c.args.symbol) ++ e.spare) e.blocks e.group w.level way w.owned w.symbol_nodes w.number w.ends
-    c.child_at-node.result (at_end b) u new _ _ (cut_is b d (sym (leaf_is b))) (shorter d (sym (leaf_is b))) in
+    c.node_at_end-node.result c.node_at_end-node.ensures.node u new _ _ (cut_is b d (sym (leaf_is b))) (shorter d (sym (leaf_is b))) in
     let grown = c.cut-new.ensures.spends.grown in
     let more : length t.bytes ≤ length u.bytes + (length way + 1) * node_length (kind_in s.bytes)
     = subst (λ (k : Kind). length t.bytes ≤ length u.bytes + (length way + 1) * node_length k) kind_is c.put_at.ensures.spends.grown in
@@ -214,10 +178,10 @@ returns-clause-put c =
     (subst (λ (g : List ℕ). Helds u t way keys new g c.group_kind-kind.result) segment_is c.keys_behind-keys.ensures.held))
     (subst (Puts u t way keys new) kind_is c.put_at.ensures.put) (subst (Alongs u t way keys new) kind_is c.put_at.ensures.along)
     (subst (Others u t way keys new) kind_is c.put_at.ensures.others)
-    (shorter d (sym (leaf_is b))) (omega (arith, grown, more, leaf_is b, c.requires.short)) e.named e.known c.child_at-node.result (at_end b) (
+    (shorter d (sym (leaf_is b))) (omega (arith, grown, more, leaf_is b, c.requires.short)) e.named e.known c.node_at_end-node.result c.node_at_end-node.ensures.node (
       c.name_place-place.ensures,
       full b,
       cut_is b d (sym (leaf_is b)),
-      subst (λ (l : ℕ). (front : List Entry) (last : Entry) → symbols_at u.bytes l c.child_at-node.result ≡ front ++ last ∷ [] → offset_in (take 8 keys) ≡ last.name)
+      subst (λ (l : ℕ). (front : List Entry) (last : Entry) → symbols_at u.bytes l c.node_at_end-node.result ≡ front ++ last ∷ [] → offset_in (take 8 keys) ≡ last.name)
           (sym (leaf_is b)) c.keys_behind-keys.ensures.first,
     )

@@ -1,9 +1,8 @@
-use Rattle.std.proofs.Common.{◌≡◌, ℕ, ◌<◌, ◌≤◌, List, [], ◌++◌, length, refl, ◌∙◌, ap, subst, sym, arith, rules}
+use Rattle.std.proofs.Common.{◌≡◌, [], ◌++◌, length, ◌∙◌, ap, subst, sym, arith}
 use Rattle.h5_model.specs.Format.Superblock.{leaf_k}
 use Rattle.h5_model.specs.Format.Heap.{segment_of}
-use Rattle.h5_model.specs.Format.Symbols.{Entry, symbols_at}
+use Rattle.h5_model.specs.Format.Symbols.{symbols_at}
 use Rattle.h5_space.specs.Moves.{Spends}
-use Rattle.h5_snod.specs.Entries.{symbol_from}
 use Rattle.h5_group.specs.Edited.{HasGroupStayed, offsets_of}
 use Rattle.h5_group.specs.Nodes.Trees.{kind_in}
 use Rattle.h5_group.specs.Removal.{AreReleased, offsets_named}

@@ -1,4 +1,4 @@
-use Rattle.std.proofs.Common.{◌≡◌, ℕ, List, [], subst}
+use Rattle.std.proofs.Common.{ℕ, List, [], subst}
 use Rattle.std.specs.List.{Contains}
 use Rattle.h5_model.specs.Format.Superblock.{leaf_k}
 use Rattle.h5_model.specs.Format.Heap.{segment_of}

@@ -8,8 +8,8 @@ use Rattle.h5_btree.specs.declared.way.Step.{Step}
 use Rattle.h5_group.specs.Edited.{node_below}
 use Rattle.h5_group.specs.Nodes.Trees.{kind_in}
 use Rattle.h5_group.proofs.DropCalls.{end_stands, end_told, got}
-use Rattle.h5_group.proofs.edit.drop.node_at_end.Goals as goal
-use Rattle.h5_group.proofs.edit.drop.node_at_end.Goals.{After-child}
+use Rattle.h5_group.proofs.edit.way.node_at_end.Goals as goal
+use Rattle.h5_group.proofs.edit.way.node_at_end.Goals.{After-child}
 
 abbrev zero_step : Step
 zero_step = record { node = 0; place = 0 }
