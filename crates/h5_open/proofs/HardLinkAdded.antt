@@ -1,56 +1,36 @@
 -- A hard link to an array that is put into a group of an opened image where the group stands, and counted where the array's header stands,
 -- is an edit in place.
-use Rattle.std.proofs.Common.{◌≡◌, inl, inr, ℕ, ◌+◌, ◌≤◌, ◌==◌, true, false, Bool, List, [], ◌∷◌, ◌++◌, length, refl, sym, ap, ◌∙◌, subst, arith, Option, Some, None}
-use Rattle.std.specs.Prelude.{slice_get, ◌||◌}
-use Rattle.std.specs.Option.{option_flatten}
+use Rattle.std.proofs.Common.{◌≡◌, ℕ, ◌+◌, ◌≤◌, ◌==◌, List, [], ◌∷◌, length, sym, ap, ◌∙◌, subst, arith, Option, Some, None}
+use Rattle.std.specs.Prelude.{slice_get, if◌then◌else◌}
 use Rattle.std.specs.Ordering.{nat_cmp}
 use Rattle.std.specs.BTreeMap.{BTreeMap}
 use Rattle.std.specs.FinMap.{FinMap, insert}
-use Rattle.std.specs.List.{Contains, flat_map}
-use Rattle.std.proofs.lemmas.Bool.Decides.{nat_tests}
 use Rattle.std.proofs.lemmas.Option.{same_Some}
-use Rattle.h5_bytes.specs.Blocks.{cover}
-use Rattle.h5_bytes.specs.declared.Block.{Block}
-use Rattle.h5_bytes.proofs.BlockLaws.{cover-append}
 use Rattle.h5_model.specs.Edits.Applied.{with_links}
 use Rattle.h5_model.specs.Format.Addresses.{SymbolTable}
-use Rattle.h5_model.specs.Format.Superblock.{end_field}
+use Rattle.h5_model.specs.Format.Messages.{prefix_at, reference_count}
 use Rattle.h5_model.specs.Format.Symbols.{Target, Header}
-use Rattle.h5_model.specs.Tree.Objects.{Tree, Object, Link, ToObject, link_in, with_object}
-use Rattle.h5_space.specs.Moves.{Moves}
+use Rattle.h5_model.specs.Tree.Objects.{Tree, Link, ToObject, hard_links, link_in, with_object}
 use Rattle.h5_space.specs.Space.{Space}
-use Rattle.h5_space.proofs.MovesLaws.{moves_beside, moves_same}
-use Rattle.h5_layout.specs.Data.{data_blocks}
-use Rattle.h5_layout.specs.Told.{layout_told, type_told}
-use Rattle.h5_header.specs.Listed.{messages_in}
 use Rattle.h5_laws.specs.Trees.Sound.{IsSoundTree}
-use Rattle.h5_laws.proofs.Lists.{in_contains}
 use Rattle.h5_laws.proofs.SoundLaws.Counts.{adds, leads_itself, unled}
 use Rattle.h5_open.specs.declared.opened.object.OpenedObject.{OpenedObject}
 use Rattle.h5_open.specs.declared.opened.object.OpenedContent.TheVariants as content
 use Rattle.h5_open.specs.ChangedInPlace.{IsChangedInPlace, is_among}
 use Rattle.h5_open.specs.Opened.Kept.{IsOpened}
-use Rattle.h5_open.specs.Opened.Objects.{content_links, header_of, link_to, number_in, object_blocks, object_in, table_of, tree_of}
-use Rattle.h5_open.specs.Opened.Sound.{IsHeaderIn, IsObjectOf}
+use Rattle.h5_open.specs.Opened.Objects.{header_of, link_to, number_in, table_of, tree_of}
+use Rattle.h5_open.specs.Opened.Sound.{IsObjectOf}
 use Rattle.h5_open.specs.Opened.State.{opened_state}
-use Rattle.h5_open.specs.SlotsInPlace.{AreOnce, IsSlotsInPlace, IsTouchedObject, blocks_at}
-use Rattle.h5_open.proofs.GroupLinked.{IsGroupLinked, linked_moves}
-use Rattle.h5_open.proofs.LinkAdded.{blocks_of_slot}
-use Rattle.h5_open.proofs.LinkTree.{count_was, group_touched, linked_counts, linked_others}
-use Rattle.h5_open.proofs.ObjectMade.{among_two, not_two}
+use Rattle.h5_open.specs.SlotsInPlace.{IsSlotsInPlace}
+use Rattle.h5_open.proofs.GroupLinked.{IsGroupLinked, relinked, with_one}
+use Rattle.h5_open.proofs.GroupRelinked.{IsGroupRelinked}
+use Rattle.h5_open.proofs.LinkTree.{linked_counts}
 use Rattle.h5_open.proofs.OpenedLaws.HeaderNumbers.{number_is}
 use Rattle.h5_open.proofs.OpenedLaws.Sounds.{object_of}
-use Rattle.h5_open.proofs.SlotEdits.{slots_stay}
+use Rattle.h5_open.proofs.RelinkedWithTarget.{both_in_place}
+use Rattle.h5_open.proofs.RelinkedTree.{count_was}
 use Rattle.h5_open.proofs.SlotsInPlace.{slots_changed, slots_opened}
-use Rattle.h5_open.proofs.TargetCounted.{IsTargetCounted, target_blocks, target_counts, target_kept, target_parts, target_same}
-use Rattle.h5_open.proofs.ToldObject.{told_object}
-use Rattle.h5_open.proofs.TouchedBlocks.{touched_moves}
-
-differs : (a b : ℕ) → (a == b) ≡ false → b ≡ a → ⊥
-differs a b out same =
-    let here : (a == b) ≡ true = grind (arith, nat_tests, same) in
-    let never : true ≡ false = sym here ∙ out in
-    absurd (cc)
+use Rattle.h5_open.proofs.TargetCounted.{IsTargetCounted, count_mid, recounted}
 
 -- a group is no array
 pub kinds_differ : (slots : List (Option OpenedObject)) (m n : ℕ) (p o : OpenedObject) (t : SymbolTable) → slice_get slots m ≡ Some (Some p) → slice_get slots n ≡ Some (Some o)
@@ -71,12 +51,6 @@ module _ (old mid set new : Space) (slots : List (Option OpenedObject)) (numbers
 
   abbrev target : Target
   target = Header (header_of o)
-
-  abbrev header : List Block
-  header = o.messages.blocks
-
-  abbrev cells : List Block
-  cells = data_blocks old.bytes (type_told (messages_in old.bytes o.messages.list)) (layout_told (messages_in old.bytes o.messages.list))
 
   -- the tree, by the header that the link names
   abbrev named : Tree
@@ -106,97 +80,29 @@ module _ (old mid set new : Space) (slots : List (Option OpenedObject)) (numbers
   one_more : adds number (link_to table target) ≡ 1
   one_more = ap (adds number) link_is ∙ leads_itself number
 
-  -- ---- the two objects
+  abbrev link_is_in : IsGroupRelinked old mid new slots parent p t o.messages.blocks (with_one table name target)
+  link_is_in = relinked old mid new slots numbers opened parent p t name target o.messages.blocks is
 
-  group_now : IsTouchedObject new.bytes table named parent p
-  group_now = group_touched old mid new slots numbers opened parent p t name target header is free (other_link parent (λ e. apart (sym e)))
+  abbrev count : ℕ
+  count = reference_count (prefix_at mid.bytes (header_of o)) + 1
 
-  no_links : (name' : List ℕ) (h : ℕ) → Contains (content_links new.bytes o.content) (name', Header h) → IsHeaderIn table h
-  no_links name' h at =
-      absurd (in_contains (name', Header h) [] (subst (λ (ls : List (List ℕ × Target)). Contains ls (name', Header h)) (ap (content_links new.bytes) its.array) at))
+  counts : (n : ℕ) → (n ≡ number → ⊥) → hard_links named n ≡ hard_links tree n
+  counts n other =
+      let all = linked_counts old mid new slots numbers opened parent p t name target o.messages.blocks is free n in
+      let none = unled n (link_to table target) (other_link n other) in
+      omega (arith, all, none)
 
-  target_now : IsTouchedObject new.bytes table named number o
-  target_now = record {
-    kept = target_kept old mid set new slots numbers opened parent p t name number o is its apart;
-    object = object_in new.bytes table o;
-    there = linked_others old mid new slots numbers opened parent p t name target header is free number apart ∙ of.there
-        ∙ ap (λ (x : Object). Some x) (sym (target_same old mid set new slots numbers opened parent p t name number o is its apart table));
-    blocks = object_blocks new.bytes o;
-    has = told_object new.bytes table o (target_kept old mid set new slots numbers opened parent p t name number o is its apart) no_links;
-    counted =
-        let more = target_counts old mid set new slots numbers opened parent p t name number o is its apart in
-        let was = count_was old slots numbers opened number o its.target in
-        let counts = linked_counts old mid new slots numbers opened parent p t name target header is free number in
-        let one = one_more in
-        omega (arith, more, was, counts, one);
-  }
-
-  -- ---- what moves
-
-  once : AreOnce (parent ∷ number ∷ [])
-  once =
-      let other : (number == parent) ≡ false = let differ = apart in grind (arith, nat_tests, differ) in
-      (ap (λ (b : Bool). b || false) other, (refl, tt))
-
-  all_moves : Moves old new ((end_field old.bytes ∷ (object_blocks old.bytes p ++ header)) ++ cells) ((end_field new.bytes ∷ (object_blocks new.bytes p ++ header)) ++ cells)
-  all_moves = moves_beside old new (end_field old.bytes ∷ (object_blocks old.bytes p ++ header)) (end_field new.bytes ∷ (object_blocks new.bytes p ++ header)) cells
-      (linked_moves old mid new slots numbers opened parent p t name target header is)
-
-  covered : (image : List ℕ) → object_blocks image o ≡ header ++ cells → (q : ℕ)
-      → cover q (end_field image ∷ flat_map (blocks_at image slots) (parent ∷ number ∷ [])) ≡ cover q ((end_field image ∷ (object_blocks image p ++ header)) ++ cells)
-  covered image parts q =
-      let first = ap (cover q) (blocks_of_slot image slots parent p is.group) in
-      let second = ap (cover q) (blocks_of_slot image slots number o its.target ∙ parts) in
-      omega (
-        arith,
-        first,
-        second,
-        cover-append q (blocks_at image slots parent) (blocks_at image slots number ++ []),
-        cover-append q (blocks_at image slots number) [],
-        cover-append q header cells,
-        cover-append q (object_blocks image p) header,
-        cover-append q (end_field image ∷ (object_blocks image p ++ header)) cells,
-      )
-
-  parts_old : object_blocks old.bytes o ≡ header ++ cells
-  parts_old = target_parts old mid set new slots numbers opened parent p t name number o is its apart
-
-  parts_new : object_blocks new.bytes o ≡ header ++ cells
-  parts_new = target_blocks old mid set new slots numbers opened parent p t name number o is its apart ∙ parts_old
-
-  touched_now : (n : ℕ) (x : OpenedObject) → is_among (parent ∷ number ∷ []) n ≡ true → slice_get slots n ≡ Some (Some x) → IsTouchedObject new.bytes table named n x
-  touched_now n x mine at = elim (among_two parent number n mine) [
-    | inl here ↦
-        let one : p ≡ x = same_Some p x (same_Some (Some p) (Some x) (sym is.group ∙ ap (slice_get slots) here ∙ at)) in
-        subst (IsTouchedObject new.bytes table named n) one (subst (λ (k : ℕ). IsTouchedObject new.bytes table named k p) here group_now)
-    | inr here ↦
-        let one : o ≡ x = same_Some o x (same_Some (Some o) (Some x) (sym its.target ∙ ap (slice_get slots) here ∙ at)) in
-        subst (IsTouchedObject new.bytes table named n) one (subst (λ (k : ℕ). IsTouchedObject new.bytes table named k o) here target_now)
-  ]
-
-  full : (n : ℕ) → is_among (parent ∷ number ∷ []) n ≡ true → option_flatten (slice_get slots n) ≡ None → ⊥
-  full n mine none = elim (among_two parent number n mine) [
-    | inl here ↦ (let never : Some p ≡ None = ap option_flatten (sym is.group ∙ ap (slice_get slots) here) ∙ none in cc)
-    | inr here ↦ (let never : Some o ≡ None = ap option_flatten (sym its.target ∙ ap (slice_get slots) here) ∙ none in cc)
-  ]
+  counted : count ≡ hard_links named number + (if number == 0 then 1 else 0)
+  counted =
+      let mids = count_mid old mid set new slots numbers opened parent p t (with_one table name target) number o count link_is_in (recounted mid set new slots number o its) apart in
+      let was = count_was old slots numbers opened number o its.target in
+      let all = linked_counts old mid new slots numbers opened parent p t name target o.messages.blocks is free number in
+      let one = one_more in
+      omega (arith, mids, was, all, one)
 
   hard_in_place : IsSlotsInPlace old new slots slots tree named (is_among (parent ∷ number ∷ []))
-  hard_in_place = record {
-    moves = touched_moves old new slots slots (parent ∷ number ∷ []) once
-        (moves_same old new ((end_field old.bytes ∷ (object_blocks old.bytes p ++ header)) ++ cells) ((end_field new.bytes ∷ (object_blocks new.bytes p ++ header)) ++ cells)
-        (end_field old.bytes ∷ flat_map (blocks_at old.bytes slots) (parent ∷ number ∷ [])) (end_field new.bytes ∷ flat_map (blocks_at new.bytes slots) (parent ∷ number ∷ []))
-        (covered old.bytes parts_old) (covered new.bytes parts_new) all_moves);
-    end = is.end;
-    small = is.small;
-    slots_moved = slots_stay slots (is_among (parent ∷ number ∷ [])) opened.low;
-    same = λ n out. linked_others old mid new slots numbers opened parent p t name target header is free n (differs parent n (not_two parent number n out).0);
-    counts = λ n out some.
-        let all = linked_counts old mid new slots numbers opened parent p t name target header is free n in
-        let none = unled n (link_to table target) (other_link n (differs number n (not_two parent number n out).1)) in
-        omega (arith, all, none);
-    remade = touched_now;
-    gone = λ n mine none. absurd (full n mine none);
-  }
+  hard_in_place = both_in_place old mid set new slots numbers opened parent p t (with_one table name target) number o count link_is_in
+      (recounted mid set new slots number o its) apart counts counted
 
   -- ---- so
 

@@ -7,10 +7,8 @@ use Rattle.std.specs.BTreeMap.{BTreeMap}
 use Rattle.std.specs.FinMap.{get}
 use Rattle.std.proofs.lemmas.List.{length-map}
 use Rattle.std.proofs.lemmas.Option.{slice_get_within}
-use Rattle.h5_bytes.specs.Blocks.{Keeps}
 use Rattle.h5_bytes.specs.declared.Block.{Block}
-use Rattle.h5_bytes.proofs.BlockLaws.{cover-append, holds-inner, holds-le}
-use Rattle.h5_bytes.proofs.FieldLaws.{number_at-same}
+use Rattle.h5_bytes.proofs.BlockLaws.{cover-append, holds-le}
 use Rattle.h5_model.specs.Format.Messages.{Message, prefix_at, reference_count, total_in}
 use Rattle.h5_model.specs.Format.Reads.{HasAttributes}
 use Rattle.h5_model.specs.Format.Superblock.{end_of_file, end_field}
@@ -18,7 +16,6 @@ use Rattle.h5_model.specs.Tree.Objects.{Attributes, Object}
 use Rattle.h5_space.specs.Moves.{Moves}
 use Rattle.h5_space.specs.Space.{Space}
 use Rattle.h5_space.specs.Whole.{IsApart}
-use Rattle.h5_space.proofs.MovesLaws.{moves_kept}
 use Rattle.h5_header.specs.Added.{HasMovable}
 use Rattle.h5_header.specs.Listed.{Listed, message_in, messages_in}
 use Rattle.h5_header.specs.Standing.{IsStanding}
@@ -34,6 +31,7 @@ use Rattle.h5_open.specs.Opened.Objects.{content_blocks, object_blocks, object_i
 use Rattle.h5_open.specs.Opened.State.{opened_state}
 use Rattle.h5_open.proofs.AttributeEdits.{slot_beside, slot_length, slot_there}
 use Rattle.h5_open.proofs.AttributeOpened.{IsHeaderEdited}
+use Rattle.h5_open.proofs.EndKept.{end_kept}
 use Rattle.h5_open.proofs.OneRemade.{one_cover}
 use Rattle.h5_open.proofs.OpenedLaws.Entries.{get_tree}
 use Rattle.h5_open.proofs.OpenedLaws.Sounds.{object_of}
@@ -89,21 +87,9 @@ module _ (image : Space) (slots : List (Option OpenedObject)) (numbers : BTreeMa
 
   -- ---- the end of file address is no part of it
 
-  module _ (new : Space) (after : List Block) (moves : Moves image new p.messages.blocks after) where
-    end_kept : Keeps image.bytes new.bytes (end_field image.bytes ∷ [])
-    end_kept = moves_kept image new p.messages.blocks after (end_field image.bytes ∷ []) moves
-        (λ q. omega (
-          arith,
-          opened.apart q,
-          one_cover q (object_blocks image.bytes) slots number p at,
-          cover-append q p.messages.blocks (content_blocks image.bytes ms p.content),
-          cover-append q p.messages.blocks (end_field image.bytes ∷ []),
-          holds-inner q 40 8 0 96 (omega arith) (omega arith),
-        ))
-        (omega (arith, opened.reads.1.holds.superblock.whole), tt)
-
-    pub end_as_it_was : length new.bytes ≡ length image.bytes → end_of_file new.bytes ≡ length new.bytes
-    end_as_it_was long = number_at-same image.bytes new.bytes 40 8 0 8 end_kept.0 (omega arith) ∙ opened.reads.1.holds.whole ∙ sym long
+  pub end_as_it_was : (new : Space) (after : List Block) → Moves image new p.messages.blocks after → length new.bytes ≡ length image.bytes → end_of_file new.bytes ≡ length new.bytes
+  end_as_it_was new after moves = end_kept image slots numbers opened new p.messages.blocks after moves
+      (λ q. omega (arith, one_cover q (object_blocks image.bytes) slots number p at, cover-append q p.messages.blocks (content_blocks image.bytes ms p.content)))
 
   -- ---- edited
 

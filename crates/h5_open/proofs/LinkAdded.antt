@@ -1,50 +1,23 @@
 -- A soft link that is put into a group of an opened image where the group stands is an edit in place.
-use Rattle.std.proofs.Common.{◌≡◌, ℕ, ◌+◌, ◌≤◌, ◌==◌, true, false, Bool, List, [], ◌∷◌, ◌++◌, length, refl, sym, ap, ◌∙◌, subst, arith, Option, Some, None}
-use Rattle.std.specs.Prelude.{slice_get, ◌||◌}
-use Rattle.std.specs.Option.{option_flatten, option_map_or}
+use Rattle.std.proofs.Common.{◌≡◌, ℕ, ◌+◌, ◌≤◌, List, [], ◌∷◌, length, arith, Option, None}
 use Rattle.std.specs.BTreeMap.{BTreeMap}
 use Rattle.std.specs.FinMap.{insert}
-use Rattle.std.specs.List.{flat_map}
-use Rattle.std.proofs.lemmas.Bool.Decides.{nat_tests}
-use Rattle.std.proofs.lemmas.Option.{same_Some}
-use Rattle.h5_bytes.specs.Blocks.{cover}
-use Rattle.h5_bytes.specs.declared.Block.{Block}
 use Rattle.h5_model.specs.Edits.Applied.{with_links}
 use Rattle.h5_model.specs.Format.Addresses.{SymbolTable}
-use Rattle.h5_model.specs.Format.Superblock.{end_field}
 use Rattle.h5_model.specs.Format.Symbols.{Text}
-use Rattle.h5_model.specs.Tree.Objects.{Tree, Soft, ToObject, link_in, with_object}
+use Rattle.h5_model.specs.Tree.Objects.{Tree, Soft, hard_links, link_in, with_object}
 use Rattle.h5_space.specs.Space.{Space}
-use Rattle.h5_space.proofs.MovesLaws.{moves_same}
 use Rattle.h5_laws.specs.Trees.Sound.{IsSoundTree}
 use Rattle.h5_open.specs.declared.opened.object.OpenedObject.{OpenedObject}
 use Rattle.h5_open.specs.ChangedInPlace.{IsChangedInPlace, is_among}
 use Rattle.h5_open.specs.Opened.Kept.{IsOpened}
-use Rattle.h5_open.specs.Opened.Objects.{object_blocks, table_of, tree_of}
+use Rattle.h5_open.specs.Opened.Objects.{table_of, tree_of}
 use Rattle.h5_open.specs.Opened.State.{opened_state}
-use Rattle.h5_open.specs.SlotsInPlace.{IsSlotsInPlace, IsTouchedObject, blocks_at}
-use Rattle.h5_open.proofs.GroupLinked.{IsGroupLinked, linked_moves}
-use Rattle.h5_open.proofs.LinkTree.{group_touched, linked_counts, linked_others}
-use Rattle.h5_open.proofs.SlotEdits.{slots_stay}
+use Rattle.h5_open.specs.SlotsInPlace.{IsSlotsInPlace}
+use Rattle.h5_open.proofs.GroupLinked.{IsGroupLinked, relinked, with_one}
+use Rattle.h5_open.proofs.LinkTree.{linked_counts}
+use Rattle.h5_open.proofs.RelinkedAlone.{alone_in_place}
 use Rattle.h5_open.proofs.SlotsInPlace.{slots_changed, slots_opened}
-use Rattle.h5_open.proofs.TouchedBlocks.{touched_moves}
-
--- the blocks of the object in a slot
-pub blocks_of_slot : (image : List ℕ) (slots : List (Option OpenedObject)) (n : ℕ) (o : OpenedObject) → slice_get slots n ≡ Some (Some o) → blocks_at image slots n ≡ object_blocks image o
-blocks_of_slot image slots n o at = ap (λ (s : Option (Option OpenedObject)). option_map_or (object_blocks image) (option_flatten s) []) at
-
--- a number that is among one
-among_one : (m n : ℕ) → is_among (m ∷ []) n ≡ true → m ≡ n
-among_one m n mine = go (m == n) refl mine where
-  go : (b : Bool) → (m == n) ≡ b → (b || false) ≡ true → m ≡ n
-  go true here is = grind (arith, nat_tests, here)
-  go false here is = absurd (let never : false ≡ true = is in cc)
-
-not_one : (m n : ℕ) → is_among (m ∷ []) n ≡ false → n ≡ m → ⊥
-not_one m n out same =
-    let here : (m == n) ≡ true = grind (arith, nat_tests, same) in
-    let never : true ≡ false = sym (ap (λ (b : Bool). b || false) here) ∙ out in
-    absurd (cc)
 
 module _ (old mid new : Space) (slots : List (Option OpenedObject)) (numbers : BTreeMap ℕ ℕ) (opened : IsOpened old slots numbers) (parent : ℕ) (p : OpenedObject) (t : SymbolTable)
     (name text : List ℕ) (is : IsGroupLinked old mid new slots parent p t name (Text text) []) (free : link_in (tree_of old.bytes slots) parent name ≡ None) where
@@ -54,31 +27,12 @@ module _ (old mid new : Space) (slots : List (Option OpenedObject)) (numbers : B
   abbrev tree' : Tree
   tree' = with_object tree parent (with_links (λ links. insert links name (Soft text)))
 
-  group_now : IsTouchedObject new.bytes (table_of slots) tree' parent p
-  group_now = group_touched old mid new slots numbers opened parent p t name (Text text) [] is free (λ e. let never : Soft text ≡ ToObject parent = e in cc)
-
-  covered : (image : List ℕ) (q : ℕ) → cover q (end_field image ∷ flat_map (blocks_at image slots) (parent ∷ [])) ≡ cover q (end_field image ∷ (object_blocks image p ++ []))
-  covered image q = ap (λ (bs : List Block). cover q (end_field image ∷ (bs ++ []))) (blocks_of_slot image slots parent p is.group)
+  counts : (n : ℕ) → hard_links tree' n ≡ hard_links tree n
+  counts n = omega (arith, linked_counts old mid new slots numbers opened parent p t name (Text text) [] is free n)
 
   soft_in_place : IsSlotsInPlace old new slots slots tree tree' (is_among (parent ∷ []))
-  soft_in_place = record {
-    moves = touched_moves old new slots slots (parent ∷ []) (refl, tt)
-        (moves_same old new (end_field old.bytes ∷ (object_blocks old.bytes p ++ [])) (end_field new.bytes ∷ (object_blocks new.bytes p ++ []))
-        (end_field old.bytes ∷ flat_map (blocks_at old.bytes slots) (parent ∷ [])) (end_field new.bytes ∷ flat_map (blocks_at new.bytes slots) (parent ∷ []))
-        (covered old.bytes) (covered new.bytes) (linked_moves old mid new slots numbers opened parent p t name (Text text) [] is));
-    end = is.end;
-    small = is.small;
-    slots_moved = slots_stay slots (is_among (parent ∷ [])) opened.low;
-    same = λ n out. linked_others old mid new slots numbers opened parent p t name (Text text) [] is free n (not_one parent n out);
-    counts = λ n out some. omega (arith, linked_counts old mid new slots numbers opened parent p t name (Text text) [] is free n);
-    remade = λ n o mine at.
-        let here : parent ≡ n = among_one parent n mine in
-        let now : p ≡ o = same_Some p o (same_Some (Some p) (Some o) (sym is.group ∙ ap (slice_get slots) here ∙ at)) in
-        subst (IsTouchedObject new.bytes (table_of slots) tree' n) now (subst (λ (k : ℕ). IsTouchedObject new.bytes (table_of slots) tree' k p) here group_now);
-    gone = λ n mine none.
-        let here : parent ≡ n = among_one parent n mine in
-        absurd (let never : Some p ≡ None = ap option_flatten (sym (ap (slice_get slots) (sym here) ∙ is.group)) ∙ none in cc);
-  }
+  soft_in_place = alone_in_place old mid new slots numbers opened parent p t (with_one (table_of slots) name (Text text))
+      (relinked old mid new slots numbers opened parent p t name (Text text) [] is) counts
 
   -- ---- so
 

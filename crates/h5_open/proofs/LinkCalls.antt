@@ -7,25 +7,21 @@ use Rattle.std.specs.Ordering.{nat_cmp}
 use Rattle.std.specs.BTreeMap.{BTreeMap}
 use Rattle.std.specs.FinMap.{FinMap, get, insert}
 use Rattle.std.specs.List.{flat_map}
-use Rattle.h5_bytes.specs.Blocks.{block, cover, Keeps}
-use Rattle.h5_bytes.specs.declared.Block.{Block}
-use Rattle.h5_bytes.proofs.BlockLaws.{all_so, cover-append}
+use Rattle.h5_bytes.specs.Blocks.{block, cover}
+use Rattle.h5_bytes.proofs.BlockLaws.{cover-append}
 use Rattle.h5_model.specs.Edits.Applied.{with_links}
 use Rattle.h5_model.specs.Edits.Refusal.{has_zero}
 use Rattle.h5_model.specs.Format.Addresses.{SymbolTable}
-use Rattle.h5_model.specs.Format.Messages.{first_size, prefix_at, reference_count}
+use Rattle.h5_model.specs.Format.Messages.{prefix_at, reference_count}
 use Rattle.h5_model.specs.Format.Superblock.{AreK, leaf_k, internal_k, end_of_file, end_field}
 use Rattle.h5_model.specs.Format.Symbols.{Target, Header, Text}
 use Rattle.h5_model.specs.Tree.Objects.{Tree, Object, Link, Soft, link_in, with_object}
 use Rattle.h5_model.specs.Tree.Paths.{is_name}
-use Rattle.h5_model.proofs.Frames.{front-same}
 use Rattle.h5_space.specs.Moves.{Moves}
 use Rattle.h5_space.specs.Space.{Space}
 use Rattle.h5_space.specs.Whole.{IsApart}
-use Rattle.h5_space.proofs.MovesLaws.{moves_kept}
 use Rattle.h5_header.specs.Listed.{messages_in}
 use Rattle.h5_header.specs.Standing.{IsStanding}
-use Rattle.h5_header.proofs.KeptLaws.{header-same}
 use Rattle.h5_group.specs.Links.{HasNone, IsGroupRead}
 use Rattle.h5_group.specs.Told.{blocks_told, links_told}
 use Rattle.h5_laws.specs.Trees.Sound.{IsSoundTree}
@@ -33,20 +29,21 @@ use Rattle.h5_laws.proofs.Lists.{in_contains}
 use Rattle.h5_laws.proofs.SoundLaws.Linked.{linked_one_more, one_more}
 use Rattle.h5_laws.proofs.SoundLaws.LinksThere.{GroupAt, link_is}
 use Rattle.h5_open.specs.declared.opened.object.OpenedObject.{OpenedObject}
-use Rattle.h5_open.specs.declared.opened.object.OpenedContent.{OpenedContent}
 use Rattle.h5_open.specs.declared.opened.object.OpenedContent.TheVariants as content
 use Rattle.h5_open.specs.Opened.Kept.{IsContentKept, IsOpened}
-use Rattle.h5_open.specs.Opened.Objects.{content_blocks, content_in, header_of, link_to, links_by, object_blocks, object_in, objects_of, table_of, tree_of}
+use Rattle.h5_open.specs.Opened.Objects.{content_blocks, header_of, link_to, object_blocks, objects_of, table_of, tree_of}
 use Rattle.h5_open.specs.Opened.Sound.{IsObjectOf}
 use Rattle.h5_open.specs.Opened.State.{opened_state}
-use Rattle.h5_open.proofs.HeaderInPlace.{header_standing}
 use Rattle.h5_open.proofs.LinkSlots.{count_few}
 use Rattle.h5_open.proofs.OneRemade.{one_cover}
 use Rattle.h5_open.proofs.OpenedLaws.Entries.{get_link, names_ascend}
 use Rattle.h5_open.proofs.OpenedLaws.Sounds.{object_of}
 use Rattle.h5_open.proofs.GroupLinked.{IsGroupLinked}
 use Rattle.h5_open.proofs.HardLinkAdded.{kinds_differ}
+use Rattle.h5_open.proofs.RelinkedTree.{group_there}
 use Rattle.h5_open.proofs.TargetCounted.{IsTargetCounted, marked_moves, two_cover}
+use Rattle.h5_open.proofs.TargetStands.{still_counted, still_standing}
+use Rattle.h5_open.proofs.TouchedBlocks.{group_blocks}
 
 module _ (old : Space) (slots : List (Option OpenedObject)) (numbers : BTreeMap ℕ ℕ) (opened : IsOpened old slots numbers) (parent : ℕ) (p : OpenedObject) (t : SymbolTable)
     (at : slice_get slots parent ≡ Some (Some p)) (kind : p.content ≡ content.Group t) where
@@ -59,9 +56,6 @@ module _ (old : Space) (slots : List (Option OpenedObject)) (numbers : BTreeMap 
   abbrev of : IsObjectOf (opened_state old slots) parent p
   of = object_of old slots numbers opened parent p at
 
-  blocks_are : object_blocks old.bytes p ≡ p.messages.blocks ++ blocks_told old.bytes t
-  blocks_are = ap (λ (c : OpenedContent). p.messages.blocks ++ content_blocks old.bytes (messages_in old.bytes p.messages.list) c) kind
-
   -- ---- the group
 
   kept_group : IsContentKept old.bytes (messages_in old.bytes p.messages.list) (content.Group t)
@@ -72,7 +66,7 @@ module _ (old : Space) (slots : List (Option OpenedObject)) (numbers : BTreeMap 
 
   pub group_apart : IsApart (block 0 96 ∷ blocks_told old.bytes t) old.free (length old.bytes)
   group_apart q =
-      let same = ap (cover q) blocks_are in
+      let same = ap (cover q) (group_blocks old.bytes p t kind) in
       omega (arith, opened.apart q, one_cover q (object_blocks old.bytes) slots parent p at, same, cover-append q p.messages.blocks (blocks_told old.bytes t))
 
   pub group_long : 96 ≤ length old.bytes
@@ -89,12 +83,7 @@ module _ (old : Space) (slots : List (Option OpenedObject)) (numbers : BTreeMap 
   -- ---- the link
 
   abbrev group_at : GroupAt tree parent
-  group_at = record {
-    object = object_in old.bytes table p;
-    links = links_by table (links_told old.bytes t);
-    stands = of.there;
-    is = ap (content_in old.bytes table (messages_in old.bytes p.messages.list)) kind;
-  }
+  group_at = group_there old slots numbers opened parent p t at kind
 
   module _ (name : List ℕ) (free : link_in tree parent name ≡ None) where
     free_name : get group_at.links name ≡ None
@@ -157,42 +146,14 @@ module _ (old : Space) (slots : List (Option OpenedObject)) (numbers : BTreeMap 
       two : (q : ℕ) → cover q (object_blocks old.bytes p) + cover q (object_blocks old.bytes o) ≤ cover q (flat_map (object_blocks old.bytes) (objects_of slots))
       two q = two_cover old.bytes q slots parent number p o at stands (kinds_differ slots parent number p o t at stands kind array)
 
-      target_stays : Keeps old.bytes mid.bytes o.messages.blocks
-      target_stays = moves_kept old mid (blocks_told old.bytes t) (blocks_told mid.bytes t) o.messages.blocks moves
-          (λ q. let same = ap (cover q) blocks_are in omega (
-            arith,
-            opened.apart q,
-            two q,
-            same,
-            cover-append q p.messages.blocks (blocks_told old.bytes t),
-            cover-append q o.messages.blocks (content_blocks old.bytes (messages_in old.bytes o.messages.list) o.content),
-            cover-append q (blocks_told old.bytes t) o.messages.blocks,
-          ))
-          target_of.kept.header.inside
-
       -- the header of the array still stands
       pub target_standing : IsStanding mid.bytes o.messages
-      target_standing =
-          let was_standing = header_standing old slots numbers opened number o stands in
-          record {
-            has = header-same old.bytes mid.bytes o.messages was_standing.has was_standing.within target_stays;
-            inside = all_so (λ (b : Block). b.at + b.len ≤ length old.bytes) (λ (b : Block). b.at + b.len ≤ length mid.bytes) o.messages.blocks (λ b low. omega (arith, low, moves.grown)) was_standing.inside;
-            within = all_so (λ m. m.at + m.size ≤ length old.bytes) (λ m. m.at + m.size ≤ length mid.bytes) o.messages.list (λ m low. omega (arith, low, moves.grown)) was_standing.within;
-            separate = was_standing.separate;
-          }
-
-      target_prefix : prefix_at mid.bytes (header_of o) ≡ prefix_at old.bytes (header_of o)
-      target_prefix =
-          let laid : Keeps old.bytes mid.bytes (block (header_of o) (16 + first_size (prefix_at old.bytes (header_of o))) ∷ []) = (
-            (subst (Keeps old.bytes mid.bytes) target_of.kept.header.has.laid target_stays).0,
-            tt,
-          ) in
-          front-same old.bytes mid.bytes (header_of o) (16 + first_size (prefix_at old.bytes (header_of o))) 16 (omega arith) laid.0
+      target_standing = still_standing old slots numbers opened parent p t at kind mid moves number o stands array
 
       -- and counts few links
       pub target_few : reference_count (prefix_at mid.bytes (header_of o)) ≤ 65536
       target_few =
-          let same = ap reference_count target_prefix in
+          let same = still_counted old slots numbers opened parent p t at kind mid moves number o stands array in
           let few = count_few old slots numbers opened number o stands in
           omega (arith, same, few)
 

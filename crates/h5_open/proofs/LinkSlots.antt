@@ -16,7 +16,7 @@ use Rattle.h5_open.specs.declared.opened.object.OpenedContent.TheVariants as con
 use Rattle.h5_open.specs.LinkAdded.{IsArraySlot, IsGroupSlot}
 use Rattle.h5_open.specs.Opened.Kept.{IsOpened}
 use Rattle.h5_open.specs.Opened.Objects.{content_in, header_of, object_in, table_of, tree_of}
-use Rattle.h5_open.proofs.LinkTree.{count_was}
+use Rattle.h5_open.proofs.RelinkedTree.{count_was}
 use Rattle.h5_open.proofs.OpenedLaws.Entries.{get_tree}
 use Rattle.h5_open.proofs.OpenedLaws.Sounds.{object_of}
 use Rattle.h5_header.specs.Listed.{messages_in}

@@ -12,7 +12,7 @@ use Rattle.h5_laws.proofs.SoundLaws.Inserted.{names_differ, name_here, name_othe
 use Rattle.h5_open.specs.Opened.Objects.{link_to, links_by}
 use Rattle.h5_open.proofs.OpenedLaws.Entries.{get_link, link_entries, named_links}
 
-untied_name : (b : Bool) (q k : List ℕ) → eq_by_cmp (slice_cmp nat_cmp) q k ≡ b → (q ≡ k → ⊥) → b ≡ false
+pub untied_name : (b : Bool) (q k : List ℕ) → eq_by_cmp (slice_cmp nat_cmp) q k ≡ b → (q ≡ k → ⊥) → b ≡ false
 untied_name true q k h other = absurd (other (names_differ q k ((Equal-is (slice_cmp nat_cmp q k)).0 h)))
 untied_name false q k h other = refl
 

@@ -1,4 +1,4 @@
--- An array of an opened image to which one link more leads: its header counts it, and all else of it stays.
+-- An array of an opened image to which one link more leads, or one less: its header counts them, and all else of it stays.
 use Rattle.std.proofs.Common.{◌≡◌, ℕ, ◌+◌, ◌≤◌, ◌==◌, true, false, Bool, List, [], ◌∷◌, ◌++◌, length, refl, sym, ap, ◌∙◌, subst, arith, Option, Some, None}
 use Rattle.std.specs.Prelude.{slice_get, ◌||◌}
 use Rattle.std.specs.Ordering.{nat_cmp}
@@ -12,8 +12,7 @@ use Rattle.h5_bytes.proofs.BlockLaws.{all_so, cover-append, holds_join}
 use Rattle.h5_model.specs.Format.Addresses.{SymbolTable}
 use Rattle.h5_model.specs.Format.Messages.{Message, first_size, prefix_at, reference_count}
 use Rattle.h5_model.specs.Format.Superblock.{end_field}
-use Rattle.h5_model.specs.Format.Symbols.{Header}
-use Rattle.h5_model.specs.Tree.Objects.{Content, Array}
+use Rattle.h5_model.specs.Tree.Objects.{Content, Array, Links}
 use Rattle.h5_model.proofs.Frames.{front-same}
 use Rattle.h5_space.specs.Moves.{Moves}
 use Rattle.h5_space.specs.Space.{Space}
@@ -34,10 +33,9 @@ use Rattle.h5_open.specs.Opened.Kept.{IsContentKept, IsObjectKept, IsOpened}
 use Rattle.h5_open.specs.Opened.Objects.{content_blocks, content_in, header_of, object_blocks, object_in, objects_of}
 use Rattle.h5_open.specs.SlotsInPlace.{blocks_at, chosen_slots}
 use Rattle.h5_open.proofs.DataLaws.{data_blocks-same, data_inside, data_read-same, dataset_told-same}
-use Rattle.h5_open.proofs.GroupLinked.{IsGroupLinked, both_moves, linked_grown}
-use Rattle.h5_open.proofs.LinkAdded.{blocks_of_slot}
+use Rattle.h5_open.proofs.GroupRelinked.{IsGroupRelinked, both_moves, linked_grown}
 use Rattle.h5_open.proofs.OpenedLaws.Sounds.{object_of}
-use Rattle.h5_open.proofs.TouchedBlocks.{touched_cover}
+use Rattle.h5_open.proofs.TouchedBlocks.{blocks_of_slot, group_blocks, touched_cover}
 
 -- ---- two objects
 
@@ -77,6 +75,16 @@ two_cover image q slots m n a b at there apart =
 
 -- ---- the array
 
+-- The links to an array are counted anew in its header, and then the end of file address is written.
+pub record IsTargetRecounted (mid set new : Space) (slots : List (Option OpenedObject)) (number : ℕ) (o : OpenedObject) (count : ℕ) : Type 0 where
+  pub target : slice_get slots number ≡ Some (Some o)
+  pub array : o.content ≡ content.Array
+  pub standing : IsStanding set.bytes o.messages
+  pub messages : messages_in set.bytes o.messages.list ≡ messages_in mid.bytes o.messages.list
+  pub counted : reference_count (prefix_at set.bytes (header_of o)) ≡ count
+  pub marked : Moves mid set o.messages.blocks o.messages.blocks
+  pub ended : Moves set new (end_field set.bytes ∷ []) (end_field new.bytes ∷ [])
+
 -- A link more is counted in the header of an array, and then the end of file address is written.
 pub record IsTargetCounted (mid set new : Space) (slots : List (Option OpenedObject)) (number : ℕ) (o : OpenedObject) : Type 0 where
   pub target : slice_get slots number ≡ Some (Some o)
@@ -86,6 +94,18 @@ pub record IsTargetCounted (mid set new : Space) (slots : List (Option OpenedObj
   pub counted : reference_count (prefix_at set.bytes (header_of o)) ≡ reference_count (prefix_at mid.bytes (header_of o)) + 1
   pub marked : Moves mid set o.messages.blocks o.messages.blocks
   pub ended : Moves set new (end_field set.bytes ∷ []) (end_field new.bytes ∷ [])
+
+pub recounted : (mid set new : Space) (slots : List (Option OpenedObject)) (number : ℕ) (o : OpenedObject) → IsTargetCounted mid set new slots number o
+    → IsTargetRecounted mid set new slots number o (reference_count (prefix_at mid.bytes (header_of o)) + 1)
+recounted mid set new slots number o is = record {
+  target = is.target;
+  array = is.array;
+  standing = is.standing;
+  messages = is.messages;
+  counted = is.counted;
+  marked = is.marked;
+  ended = is.ended;
+}
 
 -- what is written is the header and the end of file address
 pub marked_moves : (mid set new : Space) (header : List Block) → Moves mid set header header → Moves set new (end_field set.bytes ∷ []) (end_field new.bytes ∷ [])
@@ -98,8 +118,8 @@ marked_moves mid set new header marked ended =
     (moves_beside set new (end_field set.bytes ∷ []) (end_field new.bytes ∷ []) header ended)
 
 module _ (old mid set new : Space) (slots : List (Option OpenedObject)) (numbers : BTreeMap ℕ ℕ) (opened : IsOpened old slots numbers) (parent : ℕ) (p : OpenedObject) (t : SymbolTable)
-    (name : List ℕ) (number : ℕ) (o : OpenedObject) (is : IsGroupLinked old mid new slots parent p t name (Header (header_of o)) o.messages.blocks)
-    (its : IsTargetCounted mid set new slots number o) (apart_from : number ≡ parent → ⊥) where
+    (change : Links → Links) (number : ℕ) (o : OpenedObject) (count : ℕ) (is : IsGroupRelinked old mid new slots parent p t o.messages.blocks change)
+    (its : IsTargetRecounted mid set new slots number o count) (apart_from : number ≡ parent → ⊥) where
   abbrev ms : List Message
   ms = messages_in old.bytes o.messages.list
 
@@ -125,7 +145,7 @@ module _ (old mid set new : Space) (slots : List (Option OpenedObject)) (numbers
   blocks_before = ap (λ (c : OpenedContent). header ++ content_blocks old.bytes ms c) its.array
 
   group_before : object_blocks old.bytes p ≡ p.messages.blocks ++ links
-  group_before = ap (λ (c : OpenedContent). p.messages.blocks ++ content_blocks old.bytes (messages_in old.bytes p.messages.list) c) is.kind
+  group_before = group_blocks old.bytes p t is.kind
 
   -- ---- what stays
 
@@ -184,7 +204,7 @@ module _ (old mid set new : Space) (slots : List (Option OpenedObject)) (numbers
   data_new : Keeps old.bytes new.bytes cells
   data_new =
       let rest : List Block = end_field old.bytes ∷ header in
-      moves_kept old new (links ++ rest) (blocks_told mid.bytes t ++ rest) cells (both_moves old mid new slots numbers opened parent p t name (Header (header_of o)) header is)
+      moves_kept old new (links ++ rest) (blocks_told mid.bytes t ++ rest) cells (both_moves old mid new slots numbers opened parent p t header change is)
       (λ q. omega (
         arith,
         apart q,
@@ -197,7 +217,7 @@ module _ (old mid set new : Space) (slots : List (Option OpenedObject)) (numbers
       (data_inside old.bytes (type_told ms) (layout_told ms) kept_array.1)
 
   grown : length old.bytes ≤ length new.bytes
-  grown = linked_grown old mid new slots numbers opened parent p t name (Header (header_of o)) header is
+  grown = linked_grown old mid new slots numbers opened parent p t header change is
 
   -- ---- the header
 
@@ -207,7 +227,7 @@ module _ (old mid set new : Space) (slots : List (Option OpenedObject)) (numbers
       ∙ its.messages
       ∙ listed-same old.bytes mid.bytes o.messages kept.header.has kept.header.within header_mid
 
-  count_mid : reference_count (prefix_at mid.bytes (header_of o)) ≡ reference_count (prefix_at old.bytes (header_of o))
+  pub count_mid : reference_count (prefix_at mid.bytes (header_of o)) ≡ reference_count (prefix_at old.bytes (header_of o))
   count_mid =
       let laid : Keeps old.bytes mid.bytes (block (header_of o) (16 + first_size (prefix_at old.bytes (header_of o))) ∷ []) = (
         (subst (Keeps old.bytes mid.bytes) kept.header.has.laid header_mid).0,
@@ -223,9 +243,8 @@ module _ (old mid set new : Space) (slots : List (Option OpenedObject)) (numbers
       ) in
       ap reference_count (front-same set.bytes new.bytes (header_of o) (16 + first_size (prefix_at set.bytes (header_of o))) 16 (omega arith) laid.0)
 
-  -- one link more
-  pub target_counts : reference_count (prefix_at new.bytes (header_of o)) ≡ reference_count (prefix_at old.bytes (header_of o)) + 1
-  target_counts = let mids = count_mid in let sets = count_set in let more = its.counted in omega (arith, mids, sets, more)
+  pub target_counts : reference_count (prefix_at new.bytes (header_of o)) ≡ count
+  target_counts = count_set ∙ its.counted
 
   -- ---- the object
 

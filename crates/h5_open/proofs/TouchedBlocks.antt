@@ -1,19 +1,32 @@
 -- The blocks of the objects that are touched, number by number: so an edit says what it moves by a list of numbers.
-use Rattle.std.proofs.Common.{◌≡◌, ℕ, zero, suc, ◌+◌, ◌<◌, Bool, true, false, List, [], ◌∷◌, refl, ap, ◌∙◌, arith, Option, Some, None}
+use Rattle.std.proofs.Common.{◌≡◌, ℕ, zero, suc, ◌+◌, ◌<◌, Bool, true, false, List, [], ◌∷◌, ◌++◌, refl, ap, ◌∙◌, arith, Option, Some, None}
 use Rattle.std.specs.Prelude.{slice_get, ◌==◌, ◌||◌}
 use Rattle.std.specs.Option.{option_flatten, option_map_or}
 use Rattle.std.specs.List.{flat_map}
 use Rattle.std.proofs.lemmas.Bool.Decides.{nat_tests}
 use Rattle.h5_bytes.specs.Blocks.{cover}
 use Rattle.h5_bytes.proofs.BlockLaws.{cover-append}
+use Rattle.h5_model.specs.Format.Addresses.{SymbolTable}
 use Rattle.h5_model.specs.Format.Superblock.{end_field}
 use Rattle.h5_space.specs.Space.{Space}
 use Rattle.h5_space.specs.Moves.{Moves}
 use Rattle.h5_space.proofs.MovesLaws.{moves_same}
+use Rattle.h5_header.specs.Listed.{messages_in}
+use Rattle.h5_group.specs.Told.{blocks_told}
 use Rattle.h5_open.specs.declared.opened.object.OpenedObject.{OpenedObject}
+use Rattle.h5_open.specs.declared.opened.object.OpenedContent.{OpenedContent}
+use Rattle.h5_open.specs.declared.opened.object.OpenedContent.TheVariants as content
 use Rattle.h5_open.specs.ChangedInPlace.{is_among}
-use Rattle.h5_open.specs.Opened.Objects.{object_blocks}
+use Rattle.h5_open.specs.Opened.Objects.{content_blocks, object_blocks}
 use Rattle.h5_open.specs.SlotsInPlace.{AreOnce, blocks_at, chosen_slots, slot_blocks}
+
+-- the blocks of the object in a slot
+pub blocks_of_slot : (image : List ℕ) (slots : List (Option OpenedObject)) (n : ℕ) (o : OpenedObject) → slice_get slots n ≡ Some (Some o) → blocks_at image slots n ≡ object_blocks image o
+blocks_of_slot image slots n o at = ap (λ (s : Option (Option OpenedObject)). option_map_or (object_blocks image) (option_flatten s) []) at
+
+-- the blocks of a group
+pub group_blocks : (image : List ℕ) (p : OpenedObject) (t : SymbolTable) → p.content ≡ content.Group t → object_blocks image p ≡ p.messages.blocks ++ blocks_told image t
+group_blocks image p t kind = ap (λ (c : OpenedContent). p.messages.blocks ++ content_blocks image (messages_in image p.messages.list) c) kind
 
 module _ (image : List ℕ) (q : ℕ) where
   abbrev covered : List OpenedObject → ℕ

@@ -9,6 +9,7 @@ pub mod InPlace
 pub mod ChangedInPlace
 pub mod SlotsInPlace
 pub mod LinkAdded
+pub mod LinkTaken
 pub mod Written
 pub mod Attributed
 pub use Rattle.h5_layout.specs.Data
@@ -20,3 +21,4 @@ pub use Rattle.h5_layout.specs.Layouts
 pub use Rattle.h5_attr.specs.Attributes
 pub use Rattle.h5_group.specs.Links
 pub use Rattle.h5_group.specs.Told as GroupTold
+pub use Rattle.h5_group.specs.LinkEdits

@@ -1,7 +1,10 @@
 //! What is kept of an opened image: its objects, and the table of their numbers (File Format Specification 3.0, section IV.A).
 
-ghost use Rattle.std.specs.Prelude.{◌≡◌, ◌^◌, ◌<◌, [], ◌∷◌, ◌++◌, IfSome, IfNone, IfErr, OnOk};
+ghost use Rattle.std.specs.Prelude.{◌≡◌, ◌^◌, ◌<◌, [], ◌∷◌, ◌++◌, IfSome, IfNone, IfErr, OnOk, Some, None, slice_get, slice_set};
+ghost use Rattle.std.specs.BTreeMap.{Updates};
 ghost use Rattle.std.specs.List.{Contains};
+ghost use Rattle.std.specs.Ordering.{nat_cmp};
+ghost use Rattle.h5_open.specs.declared.opened.object.OpenedObject.{OpenedObject};
 ghost use Rattle.h5_open.specs.Opened.Objects.{headers, objects_of};
 ghost use Rattle.h5_open.specs.Walk.{IsNumbered};
 
@@ -50,4 +53,16 @@ pub(crate) fn push_object(index: &mut Index, object: OpenedObject) -> Result<(),
         return Err(fault(Cause::NoMemory, header));
     };
     Ok(())
+}
+
+/// Takes the object of this number out. Its slot stays empty, and its header has no number any more. Takes no memory.
+pub(crate) fn clear(index: &mut Index, number: u32)
+    requires there { (o : OpenedObject) × (slice_get index.old.objects.items number ≡ Some (Some o)) }
+    ensures slots { index.new.objects.items ≡ slice_set index.old.objects.items number None }
+    ensures numbers { (o : OpenedObject) → slice_get index.old.objects.items number ≡ Some (Some o)
+        → Updates nat_cmp index.old.numbers index.new.numbers o.messages.header None }
+{
+    if let Some(object) = index.objects[number as usize].take() {
+        index.numbers.remove(&object.messages.header());
+    }
 }

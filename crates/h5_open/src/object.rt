@@ -2,7 +2,7 @@
 //! IV.A).
 
 ghost use Rattle.std.specs.Prelude.{◌≡◌, ◌⊎◌, ℕ, ◌+◌, ◌*◌, ◌^◌, ◌≤◌, Some, length, map, IfOk, IfErr, OnOk};
-ghost use Rattle.h5_bytes.specs.Blocks.{Separate};
+ghost use Rattle.h5_bytes.specs.Blocks.{Separate, cover};
 ghost use Rattle.h5_model.specs.Format.Superblock.{IsSuperblock};
 ghost use Rattle.h5_model.specs.Tree.Places.{cells as cells_of};
 ghost use Rattle.h5_space.specs.Claimed.{HasClaimed};
@@ -15,18 +15,19 @@ ghost use Rattle.h5_group.specs.Told.{links_told};
 ghost use Rattle.h5_model.specs.Format.Layout.{InChunks};
 ghost use Rattle.h5_open.specs.Followed.{FollowsData, IsDataFault};
 ghost use Rattle.h5_open.specs.Opened.Kept.{IsObjectKept};
-ghost use Rattle.h5_open.specs.Opened.Objects.{content_links as object_links};
+ghost use Rattle.h5_open.specs.Opened.Objects.{content_links as object_links, object_blocks};
 ghost use Rattle.h5_open.specs.Read.{IsHeaderRead, IsObjectRead, FollowsObject, IsObjectFault, IsContentRead, FollowsContent, IsContentFault, IsDeepAt};
 
 use crate::judge::{judge_array, judge_group, judge_kind};
 use crate::opened::{OpenedContent, OpenedObject};
+use h5_bytes::Block;
 use h5_chunks::{ChunkShape, read_chunks};
 use h5_group::{SymbolTable, entries, links_at, read_group, symbol_nodes};
 use h5_header::{Messages, ObjectKind, claim};
-use h5_layout::{ArrayRef, Dims, Layout};
+use h5_layout::{ArrayRef, Dims, Layout, known_array};
 use h5_model::{Cause, Fixed, Link, OpenFault};
 use h5_space::{Claims, Image, fault};
-use std::alloc::Global;
+use std::alloc::{AllocError, Global};
 
 /// How many links below the root the last objects may stand.
 const LAST: u8 = 64;
@@ -201,6 +202,70 @@ fn claim_chunks(
 {
     let shape = ChunkShape::new(sizes.sizes(), sizes.cells() * fixed.size() as u64);
     read_chunks(alloc, image, claims, &shape, root)
+}
+
+/// The blocks of an object that is kept, as claims of their own: those of its header, and those of its group or of the data of its array.
+///
+/// Its tree is read again for that, which takes memory for the nodes and leaves of this tree, and for the claims.
+///
+/// # Errors
+///
+/// `AllocError` if the blocks cannot all be claimed. Of an object of an opened image that is want of memory alone: its blocks are sound,
+/// and no two of them share a byte. No clause says so.
+pub(crate) fn claims_of(
+    alloc: Global,
+    image: &Image,
+    object: &OpenedObject,
+) -> Result<Claims, AllocError>
+    requires superblock { IsSuperblock image.now.bytes }
+    requires kept { IsObjectKept image.now.bytes object.now }
+    ensures blocks { IfOk result (λ claims. (p : ℕ)
+        → cover p claims.held ≡ cover p (object_blocks image.now.bytes object.now)) }
+    ensures separate { IfOk result (λ claims. Separate claims.held) }
+    ensures end { IfOk result (λ claims. claims.end ≡ length image.now.bytes) }
+{
+    let mut claims = Claims::new(alloc, image.bytes().len() as u64);
+    match claim_object(alloc, image, &mut claims, object) {
+        Ok(()) => Ok(claims),
+        Err(_) => Err(AllocError),
+    }
+}
+
+/// Claims the blocks of an object that is kept, and refuses them as `claim`, `read_group` and `read_chunks` do.
+fn claim_object(
+    alloc: Global,
+    image: &Image,
+    claims: &mut Claims,
+    object: &OpenedObject,
+) -> Result<(), OpenFault>
+    requires superblock { IsSuperblock image.now.bytes }
+    requires kept { IsObjectKept image.now.bytes object.now }
+    requires end { claims.old.end ≡ length image.now.bytes }
+    requires separate { Separate claims.old.held }
+    ensures claimed { OnOk result (HasClaimed claims.old claims.new
+        (object_blocks image.now.bytes object.now)) }
+    ensures end { claims.new.end ≡ claims.old.end }
+{
+    claim_blocks(claims, object.messages.blocks())?;
+    match &object.content {
+        OpenedContent::Group(table) => read_group(alloc, image, claims, *table),
+        OpenedContent::Array => {
+            let array = known_array(alloc, image, &object.messages);
+            claim_data(alloc, image, claims, &array)
+        }
+    }
+}
+
+/// Claims these blocks, and refuses them as `claim` does.
+fn claim_blocks(claims: &mut Claims, blocks: &[Block]) -> Result<(), OpenFault>
+    requires separate { Separate claims.old.held }
+    ensures claimed { OnOk result (HasClaimed claims.old claims.new blocks.now) }
+    ensures end { claims.new.end ≡ claims.old.end }
+{
+    for block in blocks {
+        claim(claims, *block)?;
+    }
+    Ok(())
 }
 
 /// The links of an object; an array has none.

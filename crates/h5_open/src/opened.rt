@@ -2,7 +2,9 @@
 //! IV.A).
 mod attributes;
 mod end;
+mod links;
 mod object;
+mod unlinked;
 mod write;
 
 ghost use Rattle.std.specs.Prelude.{◌≡◌, ◌≤◌, [], IfOk, IfErr, MatchOption, OnErr, OnOk, Some, None, length};
