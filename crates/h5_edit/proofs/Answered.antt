@@ -122,7 +122,7 @@ module _ {f : FileState} (sound : IsSound f) where
             (subst (λ (t : Tree). IsLongAnew f t (selecting_of f edit)) (sym fitting.gives) (length_after, length_with f after (selecting_of f edit) (stored_in new) chunks_after, long))
         refused TooDeep deep =
             let not_low : AreLow leaf internal (tree_after f edit) → ⊥ = λ lies. deep.3 (subst (AreLow leaf internal) fitting.gives lies deep.0 deep.1 deep.2) in
-            by_depth f edit fitting.anew fitting.accepted fitting.roomy (too_deep sound edit fitting.accepted not_low)
+            by_depth f edit fitting.anew fitting.accepted fitting.roomy (too_deep sound edit fitting.anew fitting.accepted not_low)
         refused NoMemory no_memory = by_memory f edit fitting.anew
 
         -- ---- written

@@ -46,7 +46,7 @@ use Rattle.h5_edit.proofs.ArraysThere.{object_there, one_there}
 use Rattle.h5_edit.proofs.FitLaws.ChangedTrees.{each_changed}
 use Rattle.h5_edit.proofs.FitLaws.OpenedTrees.{opened_plain}
 use Rattle.h5_edit.proofs.FitLaws.WrittenArrays.{plain_storage}
-use Rattle.h5_edit.proofs.LowRead.{array_links, edited_low, kept_low, read_low}
+use Rattle.h5_edit.proofs.LowRead.{array_links, kept_low, read_low, written_low}
 use Rattle.h5_edit.proofs.Refusals.{by_length, by_memory}
 use Rattle.h5_edit.proofs.SameLengths as lengths
 use Rattle.h5_edit.proofs.MetStored.{met_stored}
@@ -117,8 +117,7 @@ module _ {f : FileState} (sound : IsSound f) {path : List ℕ} {hyper : Hyper} {
   -- so are those of the tree with the values
   low_written : AreLow leaf internal (tree_after f edit)
   low_written =
-      let superblock = sound.reads.holds.superblock in
-      edited_low leaf internal superblock.leaf_low superblock.internal_low f.tree edit f.next refl (read_low f.image f.table f.tree (sound.placed, sound.reads))
+      written_low leaf internal f.tree path hyper values f.next (read_low f.image f.table f.tree (sound.placed, sound.reads))
 
   module _ (low : AreBytes f.image) where
     can_store : (o : Object) → get f.tree number ≡ Some o → CanStore o.content

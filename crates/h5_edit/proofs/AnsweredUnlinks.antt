@@ -1,147 +1,122 @@
--- What an unlink that no rule refuses is answered, by what was written of the objects that it leaves.
-use Rattle.std.proofs.Common.{◌≡◌, ℕ, ◌<◌, List, length, refl, sym, ap, ◌∙◌, subst, Bool, true, false, cond, Option, Some, None, inl, inr}
-use Rattle.std.specs.Prelude.{◌==◌, IfOk, IfErr, MatchResult, Result, Ok, Err}
-use Rattle.std.specs.Option.{IfSome}
+-- What an unlink that no rule refuses makes of an opened image, by what was changed in place (File Format Specification 3.0, sections III.C
+-- and IV.A.1.a).
+use Rattle.std.proofs.Common.{◌≡◌, ℕ, List, [], ◌∷◌, ◌++◌, refl, sym, ap, ◌∙◌, subst, Bool, true, false, Option, Some, None, arith}
+use Rattle.std.proofs.lemmas.Bool.Decides.{nat_tests}
+use Rattle.std.specs.FinMap.{get, len, empty_of_len}
+use Rattle.std.specs.List.{flat_map}
+use Rattle.std.specs.Option.{option_and_then, option_map, option_map_or}
+use Rattle.std.specs.Prelude.{◌==◌, ◌||◌, nat_lt}
 use Rattle.h5_laws.specs.Trees.Sound.{IsSoundTree}
-use Rattle.h5_laws.specs.Trees.Unlinked.{goes_with, without_link, without_object}
 use Rattle.h5_laws.proofs.SoundLaws.Applied.{sound_applied}
-use Rattle.h5_laws.proofs.SoundLaws.LinksThere.{group_stands, holds_links}
 use Rattle.h5_laws.proofs.SoundLaws.Read.{reads_sound}
-use Rattle.h5_laws.proofs.SoundLaws.Removed.{unlinked_leaves}
+use Rattle.h5_laws.proofs.SoundLaws.Removed.{unlinked_leaves, unlinked_there}
 use Rattle.h5_model.specs.Edits.Applied.{applied}
-use Rattle.h5_model.specs.Format.PlainLength.{plain_length}
-use Rattle.h5_model.specs.Format.Superblock.{leaf_k, internal_k}
-use Rattle.h5_model.specs.Tree.Objects.{Tree, Link, ToObject, Soft, hard_links, link_in}
+use Rattle.h5_model.specs.Edits.Touched.{touched_by}
+use Rattle.h5_model.specs.Tree.Objects.{Tree, Link, Links, ToObject, Soft, named_by, within_names}
+use Rattle.h5_model.specs.Tree.Paths.{Here, object_there}
 use Rattle.h5_model.specs.declared.edits.Edit.{Edit}
 use Rattle.h5_model.specs.declared.edits.Edit.TheVariants.{Unlink}
-use Rattle.h5_model.specs.declared.edit_fault.EditFault.{EditFault}
+use Rattle.h5_model.specs.declared.edits.Edited.{Edited}
+use Rattle.h5_model.specs.declared.object_no.ObjectNo.{ObjectNo}
+use Rattle.h5_query.specs.ChangedInPlace.{IsChangedInPlace, is_among}
+use Rattle.h5_query.specs.LinkAdded.{ends_of}
+use Rattle.h5_query.specs.LinkTaken.{IsBare, MayGo, tree_without}
 use Rattle.h5_query.specs.Opened.Sound.{IsSound}
 use Rattle.h5_query.specs.Opened.State.{FileState}
-use Rattle.h5_query.specs.Renumbered.Headers.{table_with}
+use Rattle.h5_query.proofs.ChangedThen.{changed_wider}
 use Rattle.h5_query.proofs.OpenedLaws.Indexed.{next_free}
-use Rattle.h5_repack.specs.Bodies.Laws.{IsPlainReading}
-use Rattle.h5_repack.specs.Image.Plain.{ArePlain, AreLow}
-use Rattle.h5_repack.specs.Image.Written.{counts_of}
-use Rattle.h5_repack.specs.Objects.Objects.{AreObjects, stored_in}
-use Rattle.h5_repack.specs.Written.{IsTreeToWrite, IsWritten, IsUnwritten}
-use Rattle.h5_repack.specs.declared.objects.object.NewObject.{NewObject}
-use Rattle.h5_repack.specs.declared.write.Written.{Written}
-use Rattle.h5_repack.specs.declared.write.WriteFault.{WriteFault}
-use Rattle.h5_repack.specs.declared.write.WriteFault.TheVariants.{TooLong, TooDeep, NoMemory}
-use Rattle.h5_edit.specs.Answers.{answer_to, fault_of_write}
-use Rattle.h5_edit.specs.Carried.{IsLongAnew, IsRefused, IsShortAnew, tree_after}
-use Rattle.h5_edit.specs.Fits.Laws.{AreBytes}
-use Rattle.h5_edit.specs.Made.{IsEditMade}
-use Rattle.h5_edit.specs.Refusals.Removed.{IsRemoval, IsUnlinkFault}
-use Rattle.h5_edit.specs.StoredChunks.{AreStoredAfter}
+use Rattle.h5_edit.specs.Carried.{tree_after}
+use Rattle.h5_edit.specs.Edited.{IsEdited}
+use Rattle.h5_edit.specs.Refusals.Removed.{IsRemoval, has_links_at}
 use Rattle.h5_edit.specs.declared.rules.unlink.Removal.{Removal}
-use Rattle.h5_edit.proofs.Answered.{k_there, read_as, short}
-use Rattle.h5_edit.proofs.FitLaws.EditedTrees.{edited_plain}
-use Rattle.h5_edit.proofs.TooDeep.{too_deep}
-use Rattle.h5_edit.proofs.Refusals.{by_depth, by_length, by_memory, by_rule}
-use Rattle.h5_edit.proofs.RuleLaws.Removals.{link_beside}
-use Rattle.h5_edit.proofs.StoredLaws.{length_with}
 
-module _ {f : FileState} (sound : IsSound f) (path : List ℕ) where
+-- what has no links, as the rule has it
+bare_is : (tree : Tree) (link : Link) → has_links_at tree link ≡ false → IsBare tree link
+bare_is tree (Soft text) none = tt
+bare_is tree (ToObject n) none = λ links there.
+    let test : nat_lt 0 (len links) ≡ false = sym (ap (λ (o : Option Links). option_map_or (λ (ls : Links). nat_lt 0 (len ls)) o false) there) ∙ none in
+    empty_of_len links (grind (arith, nat_tests, test))
+
+-- ---- the objects that are touched
+
+-- an object, and all below it
+below_of : (tree : Tree) (number : ℕ) → flat_map (within_names tree 64) (number ∷ []) ≡ number ∷ (flat_map (within_names tree 63) (named_by tree number) ++ [])
+unfolding within_names
+below_of tree number = refl
+
+abbrev touched_at : Tree → ℕ → Link → List ℕ
+touched_at tree parent link = parent ∷ flat_map (within_names tree 64) (option_map_or (λ (number : ℕ). number ∷ []) (object_there (Here link)) [])
+
+either_more : (a b c : Bool) → (a || (b || false)) ≡ true → (a || (b || c)) ≡ true
+either_more true b c is = refl
+either_more false true c is = refl
+either_more false false c is = absurd (cc)
+
+ends_touched : (tree : Tree) (parent : ℕ) (link : Link) (q : ℕ) → is_among (ends_of parent link) q ≡ true → is_among (touched_at tree parent link) q ≡ true
+ends_touched tree parent (Soft text) q is = is
+ends_touched tree parent (ToObject number) q is =
+    let below : List ℕ = flat_map (within_names tree 63) (named_by tree number) ++ [] in
+    ap (λ (ns : List ℕ). is_among (parent ∷ ns) q) (below_of tree number) ∙ either_more (parent == q) (number == q) (is_among below q) is
+
+-- ---- the tree that is left, and what was changed
+
+module _ {f : FileState} (sound : IsSound f) (path : List ℕ) (r : Removal) (is : IsRemoval f.tree f.next path r) where
   abbrev edit : Edit
   edit = Unlink path
 
-  abbrev leaf : ℕ
-  leaf = leaf_k f.image
+  abbrev parent : ℕ
+  parent = r.parent
 
-  abbrev internal : ℕ
-  internal = internal_k f.image
+  abbrev after : Tree
+  after = tree_without f.tree parent r.name.now is.link
 
   sound_tree : IsSoundTree f.tree
   sound_tree = reads_sound f.image f.table f.tree (sound.placed, sound.reads)
 
-  -- a rule refuses it, or memory is short
-  pub not_checked : (e : EditFault) → IsUnlinkFault f.tree f.next path e → IsRefused f edit e
-  not_checked e h = elim h [
-    | inl memory ↦ subst (IsRefused f edit) (sym memory) (by_memory f edit refl)
-    | inr rule ↦ by_rule f edit e rule
-  ]
+  gives : tree_after f edit ≡ after
+  unfolding applied
+  gives = unlinked_leaves f.tree f.next path parent r.name.now is.link is.allowed is.parent is.stands sound_tree
 
-  module _ (r : Removal) (is : IsRemoval f.tree f.next path r) where
-    abbrev after : Tree
-    after = without_object (without_link f.tree r.parent r.name.now) r.gone
+  pub may_go : MayGo f.tree parent r.name.now r.object
+  may_go = record {
+    link = is.link;
+    stands = let there = unlinked_there f.tree f.next path parent r.name.now is.link is.allowed is.parent is.stands in
+        ap (option_and_then (λ (links : Links). get links r.name.now)) there.1 ∙ there.2;
+    leads = is.leads;
+    bare = bare_is f.tree is.link is.bare;
+    good = subst IsSoundTree gives (sound_applied f.tree f.next f.next edit sound_tree (next_free f sound) is.allowed);
+  }
 
-    leads : link_in f.tree r.parent r.name.now ≡ Some is.link
-    leads = link_beside f.tree path r.parent r.name.now is.link is.parent is.stands
+  touched_is : touched_by f.tree edit ≡ touched_at f.tree parent is.link
+  unfolding touched_by
+  touched_is = λ i.
+      option_map_or (λ (p : ℕ × List ℕ). p.0 ∷ []) (is.parent i) []
+      ++ flat_map (within_names f.tree 64) (option_map_or (λ (number : ℕ). number ∷ []) (object_there (is.stands i)) [])
 
-    -- the group, and the object that goes, are there
-    pub parent_low : r.parent < f.next
-    parent_low = sound.numbers.given r.parent (group_stands f.tree r.parent (holds_links f.tree r.parent r.name.now is.link leads))
-
-    pub gone_low : IfSome r.gone (λ n. n < f.next)
-    gone_low = subst (λ (o : Option ℕ). IfSome o (λ n. n < f.next)) (sym is.gone) (by_link is.link leads) where
-      by_link : (l : Link) → link_in f.tree r.parent r.name.now ≡ Some l → IfSome (goes_with f.tree l) (λ n. n < f.next)
-      by_link (Soft text) to = tt
-      by_link (ToObject n) to = by_test (hard_links f.tree n == 1) where
-        by_test : (b : Bool) → IfSome (cond b (Some n) None) (λ m. m < f.next)
-        by_test true = sound.numbers.given n (sound_tree.linked r.parent n r.name.now to)
-        by_test false = tt
-
-    pub gives : tree_after f edit ≡ after
-    unfolding applied
-    gives =
-        unlinked_leaves f.tree f.next path r.parent r.name.now is.link is.allowed is.parent is.stands sound_tree
-        ∙ ap (without_object (without_link f.tree r.parent r.name.now)) (sym is.gone)
-
-    sound_after : IsSoundTree after
-    sound_after = subst IsSoundTree gives (sound_applied f.tree f.next f.next edit sound_tree (next_free f sound) is.allowed)
-
-    module _ (low : AreBytes f.image) where
-      plain_after : ArePlain after
-      plain_after = subst ArePlain gives (edited_plain f edit low sound refl tt is.allowed refl)
-
-      module _ (new : List (Option NewObject)) (are : AreObjects new after) (stored : AreStoredAfter f after None (stored_in new)) where
-        pub left_to_write : IsTreeToWrite new after
-        left_to_write = record { objects_are = are; sound = sound_after; plain = plain_after }
-
-        abbrev length_after : ℕ
-        length_after = plain_length leaf internal 32 (counts_of (stored_in new)) after
-
-        refused : (fault : WriteFault) → IsUnwritten leaf internal (stored_in new) after fault → IsRefused f edit (fault_of_write fault)
-        refused TooLong long = by_length f edit refl is.allowed refl (subst (λ (t : Tree). IsLongAnew f t None) (sym gives) (length_after, length_with f after None (stored_in new) stored, long))
-        refused TooDeep deep =
-            let not_low : AreLow leaf internal (tree_after f edit) → ⊥ = λ lies. deep.3 (subst (AreLow leaf internal) gives lies deep.0 deep.1 deep.2) in
-            by_depth f edit refl is.allowed refl (too_deep sound edit is.allowed not_low)
-        refused NoMemory no_memory = by_memory f edit refl
-
-        made : (w : Written) → IsWritten leaf internal (stored_in new) after w → length w.headers.items ≡ length new → length new ≡ f.next
-            → IsEditMade f edit (record { image = w.image; headers = w.headers; object = None })
-        made w written numbered counted = record {
-          accepted = record {
-            accepted = is.allowed;
-            given = λ _. (
-              true,
-              refl,
-              (
-                refl,
-                subst (λ (t : Tree). IsShortAnew f t None) (sym gives)
-                    (length_after, length_with f after None (stored_in new) stored, short leaf internal (stored_in new) after (k_there sound) sound_after plain_after w written),
-                subst (AreLow leaf internal) (sym gives) written.low,
-              ),
-            );
-          };
-          way = refl;
-          anew = record {
-            reads = subst (λ (t : Tree). IsPlainReading w.image.items leaf internal (table_with w.headers.items) t) (sym gives)
-                (read_as leaf internal (stored_in new) after (k_there sound) sound_after plain_after w written);
-            numbered = numbered ∙ counted;
-            few = sound.numbers.low;
-          };
-          object = refl;
-        }
-
-        pub unlink_answered : (l i : ℕ) → l ≡ leaf → i ≡ internal → length new ≡ f.next → (result : Result Written WriteFault)
-            → IfOk result (λ w. (t : Tree) → IsTreeToWrite new t → IsWritten l i (stored_in new) t w) → IfOk result (λ w. length w.headers.items ≡ length new)
-            → IfErr result (λ fault. (t : Tree) → IsTreeToWrite new t → IsUnwritten l i (stored_in new) t fault)
-            → MatchResult (answer_to result None) (IsEditMade f edit) (IsRefused f edit)
-        unlink_answered l i same same' counted (Ok w) written numbered not_written =
-            made w (subst (λ n. IsWritten n internal (stored_in new) after w) same (subst (λ n. IsWritten l n (stored_in new) after w) same' (written after left_to_write)))
-            numbered counted
-        unlink_answered l i same same' counted (Err fault) written numbered not_written =
-            refused fault
-            (subst (λ n. IsUnwritten n internal (stored_in new) after fault) same (subst (λ n. IsUnwritten l n (stored_in new) after fault) same' (not_written after left_to_write)))
+  pub unlink_made : (now : FileState) (e : Edited)
+      → ((gone : MayGo f.tree parent r.name.now r.object)
+      → IsChangedInPlace f now (tree_without f.tree parent r.name.now gone.link) f.next (ends_of parent gone.link) 0)
+      → option_map (λ (o : ObjectNo). o.0) e.object ≡ None → e.refreshed ≡ 0 → IsEdited f edit now e
+  unfolding may_go
+  unlink_made now e changed named refreshed =
+      let made = changed may_go in
+      let wider : IsChangedInPlace f now after f.next (touched_at f.tree parent is.link) 0
+      = changed_wider f now after f.next (ends_of parent is.link) (touched_at f.tree parent is.link) 0 0 (ends_touched f.tree parent is.link) (omega arith) made in
+      record {
+        accepted = record { accepted = is.allowed; given = λ accepted. (false, refl, tt) };
+        state = (λ i. record { tree = made.state.0 i; next = made.state.1 i }) ∙ ap (λ (t : Tree). record { tree = t; next = f.next }) (sym gives);
+        sound = made.sound;
+        whole = made.whole;
+        leaf = made.leaf;
+        internal = made.internal;
+        object = named;
+        refreshed = refreshed;
+        anew = false;
+        way = refl;
+        made = (
+          0,
+          refl,
+          subst (λ (ns : List ℕ). IsChangedInPlace f now (tree_after f edit) f.next ns 0) (sym touched_is)
+              (subst (λ (t : Tree). IsChangedInPlace f now t f.next (touched_at f.tree parent is.link) 0) (sym gives) wider),
+        );
+      }

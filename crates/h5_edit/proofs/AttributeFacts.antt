@@ -6,7 +6,7 @@ use Rattle.std.specs.Option.{option_and_then, option_map, option_map_or}
 use Rattle.std.specs.FinMap.{contains_key, get, insert, remove}
 use Rattle.std.specs.Prelude.{◌↔◌, IsSome, IsTrue, not, IsFalse, Result, Ok, Err}
 use Rattle.h5_bytes.specs.Texts.{pad8}
-use Rattle.h5_model.specs.Edits.Applied.{applied, attribute_from, state_after, with_attributes}
+use Rattle.h5_model.specs.Edits.Applied.{applied, attribute_from, with_attributes}
 use Rattle.h5_model.specs.Edits.Bounds.{attribute_bound, bound_of}
 use Rattle.h5_model.specs.Edits.ImageAnswers.{Facts}
 use Rattle.h5_model.specs.Edits.Refusal.{has_no_attribute, refusal_of, rules_of}
@@ -28,10 +28,9 @@ use Rattle.h5_header.specs.declared.add.AddFault.TheVariants as add
 use Rattle.h5_query.specs.Attributed.{IsAttributeThere, has_full_header}
 use Rattle.h5_query.specs.ChangedInPlace.{IsChangedInPlace}
 use Rattle.h5_query.specs.Opened.Sound.{IsSound}
-use Rattle.h5_query.specs.Opened.State.{FileState, state_of}
-use Rattle.h5_edit.specs.Carried.{AreFacts, IsGivenInPlace, IsRefused, is_total_full, tree_after, total_at}
-use Rattle.h5_edit.specs.Edited.{IsEdited, growth_of}
-use Rattle.h5_edit.specs.Made.{IsAccepted}
+use Rattle.h5_query.specs.Opened.State.{FileState}
+use Rattle.h5_edit.specs.Carried.{AreHeaderFacts, IsGivenInPlace, IsRefused, is_total_full, tree_after, total_at}
+use Rattle.h5_edit.specs.Edited.{IsEdited}
 use Rattle.h5_edit.specs.Refusals.Allowed.{IsAt}
 use Rattle.h5_edit.proofs.Fitting.{stands}
 
@@ -47,10 +46,10 @@ module _ (f : FileState) (path : List ℕ) where
     splits_top = λ _. false;
   }
 
-  are_facts : AreFacts f path facts_of
+  are_facts : AreHeaderFacts f path facts_of
   are_facts = record { long = refl; total = refl; leaf = refl; internal = refl; chunk = refl }
 
-  pub facts_at : (facts : Facts) × AreFacts f path facts
+  pub facts_at : (facts : Facts) × AreHeaderFacts f path facts
   facts_at = (facts_of, are_facts)
 
   -- whether the header of the object at the path is full
@@ -182,9 +181,12 @@ module _ (f : FileState) (path : List ℕ) (number : ℕ) (now : FileState) (e :
       refreshed = refreshed;
       anew = false;
       way = refl;
-      made = subst (λ (ns : List ℕ). IsChangedInPlace f now (tree_after f (SetAttr path attr)) f.next ns (attribute_bound attr)) (sym touched_set)
-          (subst (λ (t : Tree). IsChangedInPlace f now t f.next (number ∷ []) (attribute_bound attr)) tree_set
-          (subst (λ (n : ℕ). IsChangedInPlace f now (with_change with_it) f.next (number ∷ []) n) long is));
+      made = (
+        bytes,
+        long,
+        subst (λ (ns : List ℕ). IsChangedInPlace f now (tree_after f (SetAttr path attr)) f.next ns bytes) (sym touched_set)
+            (subst (λ (t : Tree). IsChangedInPlace f now t f.next (number ∷ []) bytes) tree_set is),
+      );
     }
 
   module _ (name : List ℕ) (at : IsAt f.tree f.next path (RemoveAttr path name) number) where
@@ -212,6 +214,10 @@ module _ (f : FileState) (path : List ℕ) (number : ℕ) (now : FileState) (e :
       refreshed = refreshed;
       anew = false;
       way = refl;
-      made = subst (λ (ns : List ℕ). IsChangedInPlace f now (tree_after f (RemoveAttr path name)) f.next ns 0) (sym touched_removed)
-          (subst (λ (t : Tree). IsChangedInPlace f now t f.next (number ∷ []) 0) tree_removed is);
+      made = (
+        0,
+        refl,
+        subst (λ (ns : List ℕ). IsChangedInPlace f now (tree_after f (RemoveAttr path name)) f.next ns 0) (sym touched_removed)
+            (subst (λ (t : Tree). IsChangedInPlace f now t f.next (number ∷ []) 0) tree_removed is),
+      );
     }

@@ -11,4 +11,3 @@ pub mod ObjectLaws
 pub mod ChangeLaws
 pub mod StoredSlots
 pub mod MetLaws
-pub mod SlotLaws

@@ -1,35 +1,33 @@
 -- Edits that no rule refuses, as changes of the tree of an opened image.
-use Rattle.std.proofs.Common.{◌≡◌, inl, ℕ, ◌+◌, ◌<◌, ◌≤◌, List, length, refl, sym, ap, ◌∙◌, subst, Bool, true, false, Option, Some, None, nat_lt, arith}
-use Rattle.std.proofs.lemmas.Bool.Decides.{nat_tests}
+use Rattle.std.proofs.Common.{◌≡◌, inl, ℕ, ◌+◌, List, length, refl, sym, ap, ◌∙◌, subst, Bool, true, false, Option, Some, None, nat_lt, arith}
 use Rattle.std.proofs.lemmas.List.{length-map}
 use Rattle.std.proofs.lemmas.Option.{same_Some}
 use Rattle.std.specs.Prelude.{◌&&◌, IsSome, MatchOption}
 use Rattle.std.specs.Borrow.{Bor}
-use Rattle.std.specs.FinMap.{get, insert, remove, empty}
+use Rattle.std.specs.FinMap.{get, insert, empty}
 use Rattle.std.specs.Option.{option_and_then, option_map_or}
-use Rattle.h5_edit.specs.Changed.Change.{with_link, changed}
+use Rattle.h5_edit.specs.Changed.Change.{changed}
 use Rattle.h5_edit.specs.declared.change.change.Change.TheVariants.{Link as Linked, Resize as Sized}
 use Rattle.h5_edit.specs.declared.change.change.Target.TheVariants as target
 use Rattle.h5_header.specs.Listed.{message_in, messages_in}
-use Rattle.h5_model.specs.Edits.Applied.{applied, linked, new_object, new_dataset, with_links, with_attributes, with_dataset, attribute_from, resized}
-use Rattle.h5_model.specs.Format.Fixed.{IsFixed}
+use Rattle.h5_model.specs.Edits.Applied.{applied, linked, new_object, new_dataset, with_links, with_dataset, resized}
 use Rattle.h5_model.specs.Format.Messages.{prefix_at, total_in}
 use Rattle.h5_model.specs.Tree.Paths.{object_at}
 use Rattle.h5_model.specs.Edits.Refusal.{new_path}
-use Rattle.h5_model.specs.Tree.Objects.{Tree, Object, Links, Link, Group, Array, ToObject, Soft, dataset_of, links_of, with_object}
+use Rattle.h5_model.specs.Tree.Objects.{Tree, Object, Links, Link, Group, Array, ToObject, dataset_of, links_of, with_object}
 use Rattle.h5_edit.proofs.FitLaws.ResizedArrays.{accepted_sizes}
-use Rattle.h5_model.specs.declared.attribute.AttrSpec.{AttrSpec}
 use Rattle.h5_model.specs.declared.dataset.Spec.{Spec}
 use Rattle.h5_model.specs.declared.edits.Edit.{Edit}
-use Rattle.h5_model.specs.declared.edits.Edit.TheVariants.{CreateGroup, CreateDataset, HardLink, SoftLink, SetAttr, RemoveAttr, Resize}
+use Rattle.h5_model.specs.declared.edits.Edit.TheVariants.{CreateGroup, CreateDataset, Resize}
 use Rattle.h5_model.specs.declared.object_no.ObjectNo.{ObjectNo}
 use Rattle.h5_laws.proofs.Lists.{In}
-use Rattle.h5_edit.specs.Refusals.Allowed.{IsAt, IsPlaceAllowed, IsLinkPlaced, IsResizeAt}
+use Rattle.h5_edit.specs.Refusals.Allowed.{IsPlaceAllowed, IsResizeAt}
 use Rattle.h5_edit.specs.declared.rules.place.NewPlace.{NewPlace}
 use Rattle.h5_laws.proofs.SoundLaws.Applied.{object_stands}
 use Rattle.h5_laws.proofs.SoundLaws.LinksThere.{links_are}
 use Rattle.h5_laws.proofs.SoundLaws.NewPaths.{new_is_free}
 use Rattle.h5_laws.proofs.SoundLaws.Read.{reads_sound}
+use Rattle.h5_query.specs.LinkAdded.{with_link}
 use Rattle.h5_query.specs.Opened.Sound.{IsSound, IsObjectOf}
 use Rattle.h5_query.specs.Opened.State.{FileState}
 use Rattle.h5_query.specs.OpenedObjectType.{OpenedObject}
@@ -49,11 +47,11 @@ module _ (f : FileState) where
   -- ---- new links
 
   module _ {path : List ℕ} {edit : Edit} {place : NewPlace} (placed : IsPlaceAllowed tree next path edit place) where
-    linked_at : (link : Link) → linked tree path link ≡ with_link tree place.parent place.name.now link
+    pub linked_at : (link : Link) → linked tree path link ≡ with_link tree place.parent place.name.now link
     linked_at link = ap (λ o. option_map_or (λ (p : ℕ × List ℕ). with_object tree p.0 (with_links (λ links. insert links p.1 link))) o tree) placed.parent
 
     -- the group has no such link yet
-    link_free : In path (new_path edit) → (links : Links) × (links_of tree place.parent ≡ Some links) × (get links place.name.now ≡ None)
+    pub link_free : In path (new_path edit) → (links : Links) × (links_of tree place.parent ≡ Some links) × (get links place.name.now ≡ None)
     link_free new =
         let f = new_is_free tree next edit path new placed.allowed in
         let same : (f.parent, f.name) ≡ (place.parent, place.name.now) = same_Some (f.parent, f.name) (place.parent, place.name.now) (sym f.found ∙ placed.parent) in
@@ -90,36 +88,6 @@ module _ (f : FileState) where
     there = link_free placed (inl refl);
     counted = refl;
     named = ap (λ n. Some n) numbered;
-  }
-
-  pub hard_link_fits : {path old : List ℕ} {number : ℕ} {place : NewPlace} → IsLinkPlaced tree next old path (HardLink old path) (number, place)
-      → IsFitting f (HardLink old path) (Linked place.parent place.name (target.Object number)) (Some (record { 0 = number }))
-  unfolding applied changed
-  hard_link_fits {path = path} {number = number} placed = record {
-    typed = tt;
-    anew = refl;
-    met = refl;
-    accepted = (placed.1).allowed;
-    roomy = refl;
-    gives = ap (λ o. option_map_or (λ number. linked tree path (ToObject number)) o tree) placed.0 ∙ linked_at placed.1 (ToObject number);
-    there = link_free placed.1 (inl refl);
-    counted = omega arith;
-    named = sym placed.0;
-  }
-
-  pub soft_link_fits : {path : List ℕ} {place : NewPlace} (text : Bor (List ℕ)) → IsPlaceAllowed tree next path (SoftLink text.now path) place
-      → IsFitting f (SoftLink text.now path) (Linked place.parent place.name (target.Text text)) None
-  unfolding applied changed
-  soft_link_fits text placed = record {
-    typed = tt;
-    anew = refl;
-    met = refl;
-    accepted = placed.allowed;
-    roomy = refl;
-    gives = linked_at placed (Soft text.now);
-    there = link_free placed (inl refl);
-    counted = omega arith;
-    named = refl;
   }
 
   -- ---- objects at a path

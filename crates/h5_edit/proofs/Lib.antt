@@ -31,4 +31,5 @@ pub mod SelectedRuns
 pub mod AnsweredStores
 pub mod OpenedAnew
 pub mod AttributeFacts
+pub mod LinkFacts
 pub mod TooDeep

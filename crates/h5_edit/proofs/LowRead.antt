@@ -1,28 +1,26 @@
--- The tree of every group that was read has at most 16 levels, and stays as low where no link comes with an edit (File Format Specification
--- 3.0, sections III.A.1 and III.B).
-use Rattle.std.proofs.Common.{◌≡◌, ℕ, ◌+◌, ◌*◌, ◌-◌, ◌≤◌, Bool, cond, List, [], ◌∷◌, map, length, refl, sym, ap, ◌∙◌, subst, Option, Some, None, inl, inr, true, false, arith}
+-- The tree of every group that was read has at most 16 levels, and stays as low where cells are written or an array gets other sizes (File
+-- Format Specification 3.0, sections III.A.1 and III.B).
+use Rattle.std.proofs.Common.{◌≡◌, ℕ, ℤ, ◌+◌, ◌*◌, ◌-◌, ◌≤◌, List, [], ◌∷◌, map, length, refl, sym, ap, ◌∙◌, subst, Option, Some, None, inl, inr, arith}
 use Rattle.std.proofs.lemmas.List.{length-map}
 use Rattle.std.proofs.lemmas.List.FromFn.{length-map-range_with_len}
 use Rattle.std.proofs.lemmas.Slice.Zip.{AllZip-long}
 use Rattle.std.specs.List.{AllByRecursion, flat_map}
 use Rattle.std.specs.Option.{option_and_then, option_map_or}
 use Rattle.std.specs.Ordering.{nat_cmp}
-use Rattle.std.specs.FinMap.{FinMap, get, insert, remove, contains_key, entries, len, len-entries, len-remove}
-use Rattle.std.specs.Cmp.Lexicographic.{nat_list_cmp_total}
-use Rattle.std.proofs.lemmas.Option.{same_Some}
+use Rattle.std.specs.FinMap.{FinMap, get, insert, entries, len, len-entries}
 use Rattle.h5_bytes.specs.Bytes.{part}
 use Rattle.h5_bytes.specs.declared.Block.{Block}
-use Rattle.h5_model.specs.Edits.Applied.{with_dataset, with_links, with_object_at, unlinked, applied, resized, written}
+use Rattle.h5_model.specs.Edits.Applied.{with_dataset, with_object_at, applied, resized, written}
 use Rattle.h5_model.specs.Format.Links.{HasLinks}
 use Rattle.h5_model.specs.Format.PlainLength.{rows_of}
 use Rattle.h5_model.specs.Format.Reads.{Placed, IsPlaced, HasObject, IsSame, Reads, ReadsAs}
 use Rattle.h5_model.specs.Format.Superblock.{leaf_k, internal_k}
 use Rattle.h5_model.specs.Format.Symbols.{Target, IsSymbolNode, entries_of, entry_of, link_of, symbol_bytes, symbols_at, symbols_in, symbols_of}
-use Rattle.h5_model.specs.Tree.Objects.{Tree, Object, Content, Group, Array, Dataset, Links, links_in, links_of, only_reached, with_object}
+use Rattle.h5_model.specs.Tree.Objects.{Tree, Object, Content, Group, Array, Dataset, Links, links_in, links_of, with_object}
 use Rattle.h5_model.specs.Tree.Paths.{object_at}
 use Rattle.h5_model.specs.Views.Selection.{axes_of}
-use Rattle.h5_model.specs.declared.edits.Edit.{Edit}
-use Rattle.h5_model.specs.declared.edits.Edit.TheVariants.{CreateGroup, CreateDataset, HardLink, SoftLink, Unlink, SetAttr, RemoveAttr, Write, Resize}
+use Rattle.h5_model.specs.declared.edits.Edit.TheVariants.{Write, Resize}
+use Rattle.h5_model.specs.declared.hyperslab.Hyper.{Hyper}
 use Rattle.h5_btree.specs.Writing.Written.{root_level}
 use Rattle.h5_laws.proofs.Lists.{In, in_all, from_map}
 use Rattle.h5_laws.proofs.Maps.{entry_of_get}
@@ -30,8 +28,7 @@ use Rattle.h5_laws.proofs.Objects.{content_cases}
 use Rattle.h5_laws.proofs.SoundLaws.Inserted.{same_number_or_other, number_here, number_other}
 use Rattle.h5_laws.proofs.SoundLaws.LinksThere.{group_of}
 use Rattle.h5_repack.specs.Image.Plain.{AreLow, IsLow}
-use Rattle.h5_edit.proofs.FitLaws.ChangedTrees.{each_unlinked}
-use Rattle.h5_edit.proofs.Levels.{flat_few, only_few, rows_fit, root_level-mono, level_read}
+use Rattle.h5_edit.proofs.Levels.{flat_few, only_few, rows_fit, level_read}
 
 -- ---- links that were read
 
@@ -84,15 +81,7 @@ group_low image table tree placed reads number links is =
 pub read_low : (image : List ℕ) (table : FinMap nat_cmp ℕ) (tree : Tree) → Reads image table tree → AreLow (leaf_k image) (internal_k image) tree
 read_low image table tree (placed, reads) = group_low image table tree placed reads
 
--- ---- edits that add no link
-
--- the others add one to a group
-abbrev pub adds_link : Edit → Bool
-adds_link (CreateGroup path) = true
-adds_link (CreateDataset path spec) = true
-adds_link (HardLink target path) = true
-adds_link (SoftLink text path) = true
-adds_link _ = false
+-- ---- objects that are put, and arrays that are changed
 
 module _ (leaf internal : ℕ) where
   abbrev links_at : Option Object → Option Links
@@ -122,46 +111,18 @@ module _ (leaf internal : ℕ) where
     at_path None = low
     at_path (Some number) = at_number number (get tree number) refl
 
-  -- a link less
-  module _ (some : 1 ≤ leaf) (some_internal : 1 ≤ internal) where
-    abbrev IsLowGroup : ℕ → Object → Type 0
-    IsLowGroup number o = (links : Links) → links_in o.content ≡ Some links → IsLow leaf internal links
-
-    low_group : (name : List ℕ) (number : ℕ) (o : Object) → IsLowGroup number o → IsLowGroup number (with_links (λ links. remove links name) o)
-    low_group name number o low links is = go o.content low is where
-      fewer : (own : Links) → len (remove own name) ≤ len own
-      fewer own = by_test (contains_key own name) (len-remove nat_list_cmp_total own name) where
-        by_test : (b : Bool) → len (remove own name) ≡ cond b (len own - 1) (len own) → len (remove own name) ≤ len own
-        by_test true e = omega (arith, e)
-        by_test false e = omega (arith, e)
-
-      go : (c : Content) → ((own : Links) → links_in c ≡ Some own → IsLow leaf internal own) → links_in (with_links (λ ls. remove ls name) (record o { content = c })).content ≡ Some links
-          → IsLow leaf internal links
-      go (Group own) each here =
-          let same : remove own name ≡ links = same_Some (remove own name) links here in
-          let mono = root_level-mono leaf internal (len own) (len (remove own name)) some some_internal (fewer own) in
-          subst (IsLow leaf internal) same (let high = each own refl in omega (arith, mono, high))
-      go (Array d) each here = absurd (let never : None ≡ Some links = here in cc)
-
-    unlinked_low : (tree : Tree) (path : List ℕ) → AreLow leaf internal tree → AreLow leaf internal (only_reached (unlinked tree path))
-    unlinked_low tree path low number links is =
-        go (get (only_reached (unlinked tree path)) number) refl is where
-          go : (found : Option Object) → get (only_reached (unlinked tree path)) number ≡ found → links_at found ≡ Some links → IsLow leaf internal links
-          go None there none = absurd (let never : None ≡ Some links = none in cc)
-          go (Some o) there e = each_unlinked IsLowGroup low_group tree path (λ n p stands ls here. low n ls (ap links_at stands ∙ here)) number o there links e
-
   -- an array that is changed
   pub array_links : (change : Dataset → Dataset) (o : Object) (c : Content) → links_in (with_dataset change (record o { content = c })).content ≡ links_in c
   array_links change o (Group links) = refl
   array_links change o (Array d) = refl
 
-  pub edited_low : 1 ≤ leaf → 1 ≤ internal → (tree : Tree) (edit : Edit) (next : ℕ) → adds_link edit ≡ false → AreLow leaf internal tree
-      → AreLow leaf internal (applied tree edit next)
+  -- by cells that are written, and by other sizes
+  pub written_low : (tree : Tree) (path : List ℕ) (hyper : Hyper) (values : List ℤ) (next : ℕ) → AreLow leaf internal tree
+      → AreLow leaf internal (applied tree (Write path hyper values) next)
   unfolding applied
-  edited_low some some_internal tree (Unlink path) next none low = unlinked_low some some_internal tree path low
-  edited_low some some_internal tree (SetAttr path attr) next none low = kept_low tree path _ (λ o. refl) low
-  edited_low some some_internal tree (RemoveAttr path name) next none low = kept_low tree path _ (λ o. refl) low
-  edited_low some some_internal tree (Resize path dims) next none low = kept_low tree path (with_dataset (resized dims)) (λ o. array_links (resized dims) o o.content) low
-  edited_low some some_internal tree (Write path hyper values) next none low =
+  written_low tree path hyper values next low =
       kept_low tree path (with_dataset (written (axes_of hyper) values)) (λ o. array_links (written (axes_of hyper) values) o o.content) low
-  edited_low some some_internal tree _ next none low = cc
+
+  pub sized_low : (tree : Tree) (path dims : List ℕ) (next : ℕ) → AreLow leaf internal tree → AreLow leaf internal (applied tree (Resize path dims) next)
+  unfolding applied
+  sized_low tree path dims next low = kept_low tree path (with_dataset (resized dims)) (λ o. array_links (resized dims) o o.content) low

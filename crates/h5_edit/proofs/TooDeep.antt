@@ -1,6 +1,6 @@
 -- Where a group's tree is too deep after an edit, it is that of the group which takes the edit's new link (File Format Specification 3.0,
 -- section III.A.1).
-use Rattle.std.proofs.Common.{◌≡◌, ℕ, ◌+◌, ◌*◌, ◌<◌, ◌≤◌, Bool, cond, List, [], ◌∷◌, refl, sym, ap, ◌∙◌, subst, Option, Some, None, inl, inr, true, false, arith}
+use Rattle.std.proofs.Common.{◌≡◌, ℕ, ◌+◌, ◌*◌, ◌≤◌, Bool, cond, List, [], ◌∷◌, refl, sym, ap, ◌∙◌, subst, Option, Some, None, inl, inr, true, false, arith}
 use Rattle.std.proofs.lemmas.Bool.{cases_lt}
 use Rattle.std.specs.Option.{option_map_or}
 use Rattle.std.specs.FinMap.{get, insert, empty, contains_key, len, len-insert, len-empty}
@@ -11,8 +11,8 @@ use Rattle.h5_model.specs.Edits.Applied.{applied, linked, new_object, new_datase
 use Rattle.h5_model.specs.Edits.Refusal.{new_path, refusal_of}
 use Rattle.h5_model.specs.Format.PlainLength.{rows_of}
 use Rattle.h5_model.specs.Format.Superblock.{leaf_k, internal_k}
-use Rattle.h5_model.specs.Tree.Objects.{Tree, Object, Content, Group, Array, Dataset, Link, Links, ToObject, Soft, links_in, links_of}
-use Rattle.h5_model.specs.Tree.Paths.{object_at, parent_at}
+use Rattle.h5_model.specs.Tree.Objects.{Tree, Object, Content, Group, Array, Dataset, Link, Links, ToObject, links_in}
+use Rattle.h5_model.specs.Tree.Paths.{parent_at}
 use Rattle.h5_model.specs.declared.edits.Edit.{Edit}
 use Rattle.h5_model.specs.declared.edits.Edit.TheVariants.{CreateGroup, CreateDataset, HardLink, SoftLink, Unlink, SetAttr, RemoveAttr, Write, Resize}
 use Rattle.h5_btree.specs.Writing.Written.{root_level}
@@ -22,9 +22,9 @@ use Rattle.h5_laws.proofs.SoundLaws.NewPaths.{IsFree, new_is_free}
 use Rattle.h5_query.specs.Opened.Sound.{IsSound}
 use Rattle.h5_query.specs.Opened.State.{FileState}
 use Rattle.h5_repack.specs.Image.Plain.{AreLow, IsLow}
-use Rattle.h5_edit.specs.Carried.{IsParentTooDeep, tree_after}
+use Rattle.h5_edit.specs.Carried.{IsMadeAnew, IsParentTooDeep, tree_after}
 use Rattle.h5_edit.proofs.Levels.{root_level-mono}
-use Rattle.h5_edit.proofs.LowRead.{adds_link, changed_low, edited_low, read_low}
+use Rattle.h5_edit.proofs.LowRead.{changed_low, read_low, sized_low, written_low}
 
 -- ---- a link more in a group
 
@@ -103,52 +103,38 @@ module _ {f : FileState} (sound : IsSound f) where
   abbrev internal_there : 1 ≤ internal_k f.image
   internal_there = sound.reads.holds.superblock.internal_low
 
-  -- without a new link all stay low
-  no_link : (edit : Edit) → adds_link edit ≡ false → (AreLow (leaf_k f.image) (internal_k f.image) (tree_after f edit) → ⊥) → IsParentTooDeep f edit
-  no_link edit none deep =
-      absurd (deep (edited_low (leaf_k f.image) (internal_k f.image) leaf_there internal_there f.tree edit f.next none
-      (read_low f.image f.table f.tree (sound.placed, sound.reads))))
+  abbrev tree_read : AreLow (leaf_k f.image) (internal_k f.image) f.tree
+  tree_read = read_low f.image f.table f.tree (sound.placed, sound.reads)
 
   -- the links of a group, with one more
   module _ (path : List ℕ) (at : IsFree f.tree path) (fits : root_level (internal_k f.image) (rows_of (2 * leaf_k f.image) (len at.group.links + 1)) ≤ 15) where
-    abbrev tree_low : AreLow (leaf_k f.image) (internal_k f.image) f.tree
-    tree_low = read_low f.image f.table f.tree (sound.placed, sound.reads)
-
     with_low : (link : Link) → AreLow (leaf_k f.image) (internal_k f.image) (linked f.tree path link)
-    with_low = linked_low (leaf_k f.image) (internal_k f.image) leaf_there internal_there f.tree path at.parent at.name at.found at.group fits tree_low
+    with_low = linked_low (leaf_k f.image) (internal_k f.image) leaf_there internal_there f.tree path at.parent at.name at.found at.group fits tree_read
 
     group_low : (links : Links) → links_in (new_object (Group empty)).content ≡ Some links → IsLow (leaf_k f.image) (internal_k f.image) links
-    group_low = no_links (leaf_k f.image) (internal_k f.image) leaf_there internal_there f.tree path at.parent at.name at.found at.group fits tree_low
+    group_low = no_links (leaf_k f.image) (internal_k f.image) leaf_there internal_there f.tree path at.parent at.name at.found at.group fits tree_read
 
     array_low : (d : Dataset) (links : Links) → links_in (new_object (Array d)).content ≡ Some links → IsLow (leaf_k f.image) (internal_k f.image) links
     array_low d links is = absurd (let never : None ≡ Some links = is in cc)
 
-    also_linked : (found : Option ℕ) → AreLow (leaf_k f.image) (internal_k f.image) (option_map_or (λ n. linked f.tree path (ToObject n)) found f.tree)
-    also_linked None = tree_low
-    also_linked (Some n) = with_low (ToObject n)
-
   -- the group is that of the edit's path
-  pub too_deep : (edit : Edit) → refusal_of f.tree f.next edit ≡ None → (AreLow (leaf_k f.image) (internal_k f.image) (tree_after f edit) → ⊥) → IsParentTooDeep f edit
+  pub too_deep : (edit : Edit) → IsMadeAnew f edit true → refusal_of f.tree f.next edit ≡ None
+      → (AreLow (leaf_k f.image) (internal_k f.image) (tree_after f edit) → ⊥) → IsParentTooDeep f edit
   unfolding applied
-  too_deep (CreateGroup path) accepted deep =
+  too_deep (CreateGroup path) anew accepted deep =
       parent_deep sound (CreateGroup path) accepted deep path refl (inl refl) (λ fits.
       let at = new_is_free f.tree f.next (CreateGroup path) path (inl refl) accepted in
       changed_low (leaf_k f.image) (internal_k f.image) (linked f.tree path (ToObject f.next)) f.next (new_object (Group empty)) (group_low path at fits)
       (with_low path at fits (ToObject f.next)))
-  too_deep (CreateDataset path spec) accepted deep =
+  too_deep (CreateDataset path spec) anew accepted deep =
       parent_deep sound (CreateDataset path spec) accepted deep path refl (inl refl) (λ fits.
       let at = new_is_free f.tree f.next (CreateDataset path spec) path (inl refl) accepted in
       changed_low (leaf_k f.image) (internal_k f.image) (linked f.tree path (ToObject f.next)) f.next (new_object (Array (new_dataset spec)))
       (array_low path at fits (new_dataset spec)) (with_low path at fits (ToObject f.next)))
-  too_deep (HardLink target path) accepted deep =
-      parent_deep sound (HardLink target path) accepted deep path refl (inl refl) (λ fits.
-      let at = new_is_free f.tree f.next (HardLink target path) path (inl refl) accepted in
-      also_linked path at fits (object_at f.tree target))
-  too_deep (SoftLink text path) accepted deep =
-      parent_deep sound (SoftLink text path) accepted deep path refl (inl refl) (λ fits.
-      with_low path (new_is_free f.tree f.next (SoftLink text path) path (inl refl) accepted) fits (Soft text))
-  too_deep (Unlink path) accepted deep = no_link (Unlink path) refl deep
-  too_deep (SetAttr path attr) accepted deep = no_link (SetAttr path attr) refl deep
-  too_deep (RemoveAttr path name) accepted deep = no_link (RemoveAttr path name) refl deep
-  too_deep (Write path hyper values) accepted deep = no_link (Write path hyper values) refl deep
-  too_deep (Resize path dims) accepted deep = no_link (Resize path dims) refl deep
+  too_deep (Write path hyper values) anew accepted deep = absurd (deep (written_low (leaf_k f.image) (internal_k f.image) f.tree path hyper values f.next tree_read))
+  too_deep (Resize path dims) anew accepted deep = absurd (deep (sized_low (leaf_k f.image) (internal_k f.image) f.tree path dims f.next tree_read))
+  too_deep (HardLink target path) anew accepted deep = absurd (let never : true ≡ false = anew in cc)
+  too_deep (SoftLink text path) anew accepted deep = absurd (let never : true ≡ false = anew in cc)
+  too_deep (Unlink path) anew accepted deep = absurd (let never : true ≡ false = anew in cc)
+  too_deep (SetAttr path attr) anew accepted deep = absurd (let never : true ≡ false = anew in cc)
+  too_deep (RemoveAttr path name) anew accepted deep = absurd (let never : true ≡ false = anew in cc)

@@ -221,8 +221,12 @@ module _ (f : FileState) (sound : IsSound f) (path : List ℕ) (hyper : Hyper) (
     refreshed = refreshed;
     anew = false;
     way = (number, a, at.object, there, none);
-    made = subst (λ (ns : List ℕ). IsChangedInPlace f now (tree_after f wrote) f.next ns 0) (sym write_touches)
-        (subst (λ (t : Tree). IsChangedInPlace f now t f.next (number ∷ []) 0) (tree_in_place f path hyper values number at.object a there d array none) (is.in_place sound));
+    made = (
+      0,
+      refl,
+      subst (λ (ns : List ℕ). IsChangedInPlace f now (tree_after f wrote) f.next ns 0) (sym write_touches)
+          (subst (λ (t : Tree). IsChangedInPlace f now t f.next (number ∷ []) 0) (tree_in_place f path hyper values number at.object a there d array none) (is.in_place sound)),
+    );
   }
 
   module _ (m : Missing) (missed : IsMissing f.image a (axes_of hyper) m) (lacks : lacks_cells f.image a (axes_of hyper) ≡ true) where

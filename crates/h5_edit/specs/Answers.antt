@@ -1,8 +1,11 @@
 -- What an edit is answered that no rule refuses, by what was written.
 use Rattle.std.specs.Prelude.{Option, Result, Ok, Err}
+use Rattle.h5_btree.specs.declared.insertion.InsertFault.{InsertFault}
+use Rattle.h5_btree.specs.declared.insertion.InsertFault.TheVariants as insertion
 use Rattle.h5_model.specs.declared.edit_fault.EditFault.{EditFault}
 use Rattle.h5_model.specs.declared.edit_fault.EditFault.TheVariants as fault
 use Rattle.h5_model.specs.declared.object_no.ObjectNo.{ObjectNo}
+use Rattle.h5_space.specs.declared.image.SpaceFault.TheVariants as space
 use Rattle.h5_repack.specs.declared.write.Written.{Written}
 use Rattle.h5_repack.specs.declared.write.WriteFault.{WriteFault}
 use Rattle.h5_repack.specs.declared.write.WriteFault.TheVariants.{TooLong, TooDeep, NoMemory}
@@ -12,6 +15,12 @@ abbrev pub fault_of_write : WriteFault → EditFault
 fault_of_write TooLong = fault.ImageFull
 fault_of_write TooDeep = fault.TreeTooDeep
 fault_of_write NoMemory = fault.NoMemory
+
+-- what a link is answered that could not be put
+abbrev pub insert_fault : InsertFault → EditFault
+insert_fault insertion.TreeTooDeep = fault.TreeTooDeep
+insert_fault (insertion.Space space.ImageFull) = fault.ImageFull
+insert_fault (insertion.Space space.NoMemory) = fault.NoMemory
 
 abbrev pub answer_to : Result Written WriteFault → Option ObjectNo → Result Made EditFault
 answer_to (Ok w) object = Ok (record { image = w.image; headers = w.headers; object = object })

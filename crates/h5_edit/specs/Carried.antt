@@ -1,10 +1,12 @@
 -- Which edits write the image anew, what image and memory decide of an edit beside the rules of the tree, and when it is refused.
-use Rattle.std.specs.Prelude.{◌≡◌, ℕ, ◌^◌, ◌+◌, ◌*◌, ◌≤◌, ◌<◌, ◌&&◌, Bool, true, false, nat_lt, Option, Some, None, List, [], ◌∷◌, length}
+use Rattle.std.specs.Prelude.{◌≡◌, ◌↔◌, ℕ, ◌^◌, ◌+◌, ◌*◌, ◌≤◌, ◌<◌, ◌&&◌, Bool, true, false, nat_lt, IsTrue, IsFalse, Option, Some, None, List, [], ◌∷◌, length}
 use Rattle.std.specs.FinMap.{get, len}
 use Rattle.std.specs.Option.{option_map_or, option_and_then}
 use Rattle.h5_btree.specs.Writing.Written.{root_level}
 use Rattle.h5_model.specs.Edits.Applied.{applied}
 use Rattle.h5_model.specs.Edits.ImageAnswers.{Facts, IsGiven, chosen}
+use Rattle.h5_model.specs.Format.Addresses.{SymbolTable}
+use Rattle.h5_model.specs.Format.Heap.{segment_block}
 use Rattle.h5_model.specs.Format.Messages.{prefix_at, total_in}
 use Rattle.h5_model.specs.Format.PlainLength.{rows_of}
 use Rattle.h5_model.specs.Tree.Paths.{object_at, parent_at}
@@ -12,9 +14,11 @@ use Rattle.h5_model.specs.Edits.Refusal.{new_path, refusal_of}
 use Rattle.h5_model.specs.Format.Superblock.{leaf_k, internal_k, chunk_k}
 use Rattle.h5_model.specs.Tree.Objects.{Tree, Links, links_of}
 use Rattle.h5_model.specs.declared.edits.Edit.{Edit}
-use Rattle.h5_model.specs.declared.edits.Edit.TheVariants.{SetAttr, RemoveAttr, Write, Resize}
+use Rattle.h5_model.specs.declared.edits.Edit.TheVariants.{CreateGroup, CreateDataset, HardLink, SoftLink, SetAttr, RemoveAttr, Write, Resize}
 use Rattle.h5_model.specs.declared.edit_fault.EditFault.{EditFault}
 use Rattle.h5_model.specs.declared.edit_fault.EditFault.TheVariants as fault
+use Rattle.h5_query.specs.LinkAdded.{IsGroupOf}
+use Rattle.h5_query.specs.LinkEdits.{IsFullFor}
 use Rattle.h5_query.specs.Opened.State.{FileState}
 use Rattle.h5_repack.specs.Image.Plain.{AreLow}
 use Rattle.h5_edit.specs.ExtentMaxima.{LacksMaxima}
@@ -23,12 +27,13 @@ use Rattle.h5_edit.specs.StoredChunks.{HasLengthAnew, Selecting, selecting_of}
 
 -- ---- which edits write the image anew
 
--- each but an edit of attributes and a write of cells that are stored: these are made in place
+-- those that make an object or give an array other sizes, and a write of cells that are not all stored; each other edit is made in place
 abbrev pub IsMadeAnew : FileState → Edit → Bool → Type 0
+IsMadeAnew f (CreateGroup path) anew = anew ≡ true
+IsMadeAnew f (CreateDataset path spec) anew = anew ≡ true
+IsMadeAnew f (Resize path dims) anew = anew ≡ true
 IsMadeAnew f (Write path hyper values) anew = LacksStorage f path hyper anew
-IsMadeAnew f (SetAttr path attr) anew = anew ≡ false
-IsMadeAnew f (RemoveAttr path name) anew = anew ≡ false
-IsMadeAnew f edit anew = anew ≡ true
+IsMadeAnew f edit anew = anew ≡ false
 
 -- ---- what the image and memory decide, beside the rules of the tree
 
@@ -82,22 +87,50 @@ IsGivenAnew f edit (Some fault.NoMemory) = Unit {0}
 IsGivenAnew f edit _ = ⊥
 
 -- the facts of an edit of attributes are those of the image and of the header of the object at its path
-pub record AreFacts (f : FileState) (path : List ℕ) (facts : Facts) : Type 0 where
+pub record AreHeaderFacts (f : FileState) (path : List ℕ) (facts : Facts) : Type 0 where
   pub long : facts.length ≡ length f.image
   pub total : facts.total ≡ total_at f path
   pub leaf : (facts.room).leaf_k ≡ leaf_k f.image
   pub internal : (facts.room).internal_k ≡ internal_k f.image
   pub chunk : (facts.room).chunk_k ≡ chunk_k f.image
 
--- they decide: HeaderFull by the total, and then ImageFull by the length and what the edit may add to it
-abbrev pub IsGivenByFacts : FileState → List ℕ → Edit → Option EditFault → Type 0
-IsGivenByFacts f path edit given = (facts : Facts) × AreFacts f path facts × IsGiven facts f.tree edit given
+-- The facts of an edit that puts a link at a path are those of the image, and of the heap and the tree of the group that takes the link:
+-- whether the tree has no room for a link of this name.
+pub record AreGroupFacts (f : FileState) (path : List ℕ) (facts : Facts) : Type 0 where
+  pub parent : ℕ
+  pub name : List ℕ
+  pub at : parent_at f.tree path ≡ Some (parent, name)
+  pub table : SymbolTable
+  pub group : IsGroupOf f parent table
+  pub long : facts.length ≡ length f.image
+  pub leaf : (facts.room).leaf_k ≡ leaf_k f.image
+  pub internal : (facts.room).internal_k ≡ internal_k f.image
+  pub chunk : (facts.room).chunk_k ≡ chunk_k f.image
+  pub heap : (facts.room).heap ≡ (segment_block f.image table.heap).len
+  pub top : IsTrue (facts.splits_top 0) ↔ IsFullFor f.image table name
 
--- In place an edit of attributes is given by facts. Cells that are stored are refused for want of memory alone: the image keeps its length,
--- and no message is added.
+-- Of attributes they decide: HeaderFull by the total, and then ImageFull by the length and what the edit may add to it.
+abbrev pub IsGivenByHeader : FileState → List ℕ → Edit → Option EditFault → Type 0
+IsGivenByHeader f path edit given = (facts : Facts) × AreHeaderFacts f path facts × IsGiven facts f.tree edit given
+
+-- TreeTooDeep comes before ImageFull, wherever it holds
+abbrev pub IsDeepFirst : Facts → Option EditFault → Type 0
+IsDeepFirst facts None = IsFalse (facts.splits_top 0)
+IsDeepFirst facts (Some fault.ImageFull) = IsFalse (facts.splits_top 0)
+IsDeepFirst facts _ = Unit {0}
+
+-- Of a link: TreeTooDeep by the tree, and then ImageFull by the length and what the edit may add to it. Memory may be short at any time.
+abbrev pub IsGivenByGroup : FileState → List ℕ → Edit → Option EditFault → Type 0
+IsGivenByGroup f path edit (Some fault.NoMemory) = Unit {0}
+IsGivenByGroup f path edit given = (facts : Facts) × AreGroupFacts f path facts × IsGiven facts f.tree edit given × IsDeepFirst facts given
+
+-- In place, edits of attributes and new links are given by facts. An unlink, and a write of cells that are stored, are refused for want of
+-- memory alone: the image keeps its length, and no message is added.
 abbrev pub IsGivenInPlace : FileState → Edit → Option EditFault → Type 0
-IsGivenInPlace f (SetAttr path attr) given = IsGivenByFacts f path (SetAttr path attr) given
-IsGivenInPlace f (RemoveAttr path name) given = IsGivenByFacts f path (RemoveAttr path name) given
+IsGivenInPlace f (SetAttr path attr) given = IsGivenByHeader f path (SetAttr path attr) given
+IsGivenInPlace f (RemoveAttr path name) given = IsGivenByHeader f path (RemoveAttr path name) given
+IsGivenInPlace f (HardLink target path) given = IsGivenByGroup f path (HardLink target path) given
+IsGivenInPlace f (SoftLink text path) given = IsGivenByGroup f path (SoftLink text path) given
 IsGivenInPlace f edit None = Unit {0}
 IsGivenInPlace f edit (Some fault.NoMemory) = Unit {0}
 IsGivenInPlace f edit _ = ⊥

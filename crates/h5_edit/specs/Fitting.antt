@@ -10,21 +10,13 @@ use Rattle.h5_query.specs.Opened.State.{FileState, state_of}
 use Rattle.h5_edit.specs.Changed.Change.{IsChange, changed}
 use Rattle.h5_edit.specs.declared.change.change.Change.{Change}
 use Rattle.h5_edit.specs.declared.change.change.Change.TheVariants.{Link as Linked, Resize as Sized, Store as Stores}
-use Rattle.h5_edit.specs.declared.change.change.Target.{Target}
-use Rattle.h5_edit.specs.declared.change.change.Target.TheVariants as target
 use Rattle.h5_edit.specs.Carried.{tree_after, IsMadeAnew, IsTotalFull}
 use Rattle.h5_edit.specs.Changed.Missing.{IsMetIn}
 use Rattle.h5_edit.specs.StoredChunks.{selecting_of}
 
 -- how many objects a change makes
-abbrev pub made_by : Target → ℕ
-made_by target.Group = 1
-made_by (target.Array spec) = 1
-made_by (target.Object number) = 0
-made_by (target.Text text) = 0
-
 abbrev pub made_in : Change → ℕ
-made_in (Linked parent name target) = made_by target
+made_in (Linked parent name target) = 1
 made_in (Sized object dims) = 0
 made_in (Stores object missing) = 0
 

@@ -4,7 +4,6 @@ mod attributes;
 mod cells;
 mod change;
 mod edit;
-mod left;
 mod links;
 mod missing;
 mod objects;
@@ -12,7 +11,6 @@ mod parts;
 mod resized;
 
 pub use change::{Change, Target};
-pub(crate) use left::left_objects;
 pub use missing::Missing;
 pub(crate) use missing::missing_of;
 pub(crate) use objects::{changed_objects, opened_objects};

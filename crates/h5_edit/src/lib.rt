@@ -1,8 +1,8 @@
-//! Edits of an opened image: why one is refused, in the order of the refusals' numbers, and the image that an
-//! accepted one gives (File Format Specification 3.0, sections III.C and IV.A).
+//! Edits of an opened image: why one is refused, in the order of the refusals' numbers, and what an accepted one makes of it (File Format
+//! Specification 3.0, sections III.C and IV.A).
 //!
-//! Each call writes the whole image anew, however small the edit is. Only `write` of cells that are stored changes
-//! the image where they stand. Where both `TreeTooDeep` and `ImageFull` hold, either is answered.
+//! Links, attributes and cells that are stored are edited where they stand. A new object, other sizes of an array and a write of cells
+//! that are not all stored write the whole image anew. Where both `TreeTooDeep` and `ImageFull` hold of a new object, either is answered.
 #![tactic(auto)]
 
 mod anew;

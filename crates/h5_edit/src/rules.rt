@@ -1,6 +1,6 @@
 //! Why an edit of an opened image is refused by its tree, in the order of the refusals' numbers, and where an edit takes place that is
 //! not refused (links, cells and attributes: File Format Specification 3.0, sections III.C, IV.A.2.i and IV.A.2.m). Nothing here takes
-//! memory but the check of an unlink.
+//! memory.
 mod array;
 mod attribute;
 mod limits;

@@ -1,5 +1,5 @@
-//! Edits of a file. Attributes are set and removed, and cells that are stored are written, where they stand; each other edit writes the
-//! image anew.
+//! Edits of a file. Links are put and taken, attributes are set and removed, and cells that are stored are written, where they stand; each
+//! other edit writes the image anew.
 
 ghost use Rattle.std.specs.Prelude.{◌≡◌, ℕ, IfOk, OnErr, MatchResult};
 ghost use Rattle.h5_model.specs.declared.edits.Edit.{Edit as TheEdit};
@@ -108,10 +108,13 @@ impl File {
 
     /// Gives the array at `target` a second name, `path`.
     ///
+    /// The link is put into its group where that stands, and the array's header counts it. No other object changes, and no
+    /// header moves. The image grows by no more than 17 nodes of the group's tree, a symbol node, and a segment twice as
+    /// long as the group's and 16 bytes more than that with the name.
+    ///
     /// # Errors
     ///
-    /// The first of these that holds; they come in the order of their numbers. Where both `TreeTooDeep` and
-    /// `ImageFull` hold, either is answered. A refusal changes nothing.
+    /// The first of these that holds; they come in the order of their numbers. A refusal changes nothing.
     ///
     /// - `BadPath`: the bytes of one of the paths are no path.
     /// - `PathTooDeep`: a path has more than 64 names.
@@ -123,23 +126,25 @@ impl File {
     /// - `NameTooLong`: the last name of `path` has more than 1023 bytes.
     /// - `GroupLink`: a group stands at `target`.
     /// - `TooManyLinks`: 65535 hard links lead to the array already.
-    /// - `TreeTooDeep`: the B-tree of the group that gets the link would have more than 16 levels.
-    /// - `ImageFull`: the image would have more than 2147483648 bytes.
-    /// - `NoMemory`: memory is refused. It may come in place of any other.
+    /// - `TreeTooDeep`: the root of the B-tree of the group that gets the link is at level 15, and all on the way to the
+    ///   name is full.
+    /// - `ImageFull`: the image, and the bytes that a link may add, are more than 2147483648 bytes.
+    /// - `NoMemory`: memory is refused.
     pub fn hard_link(&mut self, target: &[u8], path: &[u8]) -> Result<Edited, EditFault>
         ensures edited { MatchResult result (IsEdited self.old (HardLink target.now path.now) self.new)
             (λ e. IsRefused self.old (HardLink target.now path.now) e × (self.new ≡ self.old)) }
     {
-        let made = hard_link(self.alloc, &self.opened, target, path)?;
-        self.take(made)
+        hard_link(&mut self.opened, target, path)
     }
 
     /// Makes a soft link at the path, with this text. A soft link is never followed.
     ///
+    /// The link is put into its group where that stands. No other object changes, and no header moves. The image grows as
+    /// for a hard link, with the text beside the name.
+    ///
     /// # Errors
     ///
-    /// The first of these that holds; they come in the order of their numbers. Where both `TreeTooDeep` and
-    /// `ImageFull` hold, either is answered. A refusal changes nothing.
+    /// The first of these that holds; they come in the order of their numbers. A refusal changes nothing.
     ///
     /// - `BadPath`: the bytes are no path; or the text is empty, or has a zero byte.
     /// - `PathTooDeep`: the path has more than 64 names.
@@ -148,19 +153,22 @@ impl File {
     /// - `NotAGroup`: a name before the last one leads to no group.
     /// - `AlreadyThere`: the group has a link of the last name already.
     /// - `NameTooLong`: the last name, or the text, has more than 1023 bytes.
-    /// - `TreeTooDeep`: the B-tree of the group that gets the link would have more than 16 levels.
-    /// - `ImageFull`: the image would have more than 2147483648 bytes.
-    /// - `NoMemory`: memory is refused. It may come in place of any other.
+    /// - `TreeTooDeep`: the root of the B-tree of the group that gets the link is at level 15, and all on the way to the
+    ///   name is full.
+    /// - `ImageFull`: the image, and the bytes that a link may add, are more than 2147483648 bytes.
+    /// - `NoMemory`: memory is refused.
     pub fn soft_link(&mut self, text: &[u8], path: &[u8]) -> Result<Edited, EditFault>
         ensures edited { MatchResult result (IsEdited self.old (SoftLink text.now path.now) self.new)
             (λ e. IsRefused self.old (SoftLink text.now path.now) e × (self.new ≡ self.old)) }
     {
-        let made = soft_link(self.alloc, &self.opened, text, path)?;
-        self.take(made)
+        soft_link(&mut self.opened, text, path)
     }
 
-    /// Takes the link at the path away. If it was the last hard link to its object, the object goes too, and its
-    /// number is not used again. All other objects keep their numbers.
+    /// Takes the link at the path away. If it was the last hard link to its object, the object goes too: its blocks are
+    /// given back, and its number is not used again. All other objects keep their numbers.
+    ///
+    /// The link is taken out of its group where that stands. No other object changes, no header moves, and the image keeps
+    /// its length.
     ///
     /// # Errors
     ///
@@ -173,14 +181,12 @@ impl File {
     /// - `NotAGroup`: a name before the last one leads to no group.
     /// - `NotFound`: the last name is missing.
     /// - `GroupNotEmpty`: a group with links stands there.
-    /// - `ImageFull`: the image would have more than 2147483648 bytes.
-    /// - `NoMemory`: memory is refused. It may come in place of any other.
+    /// - `NoMemory`: memory is refused.
     pub fn unlink(&mut self, path: &[u8]) -> Result<Edited, EditFault>
         ensures edited { MatchResult result (IsEdited self.old (Unlink path.now) self.new)
             (λ e. IsRefused self.old (Unlink path.now) e × (self.new ≡ self.old)) }
     {
-        let made = unlink(self.alloc, &self.opened, path)?;
-        self.take(made)
+        unlink(self.alloc, &mut self.opened, path)
     }
 
     /// Sets an attribute of the object at the path: adds it, or puts it in place of the attribute with the same name.

@@ -33,10 +33,13 @@ use std::marker::Model;
 /// A file: the bytes of its image, and what is kept of the objects in it.
 ///
 /// Contracts see the bytes, the free blocks, the address of each object's header, the next object number, and the
-/// tree that the bytes read as.
+/// tree that the bytes read as. `Debug` leaves all of it out.
 #[derive(Drop)]
+#[derive_where(Debug)]
 pub struct File {
+    #[derive_where(skip)]
     pub(crate) opened: Opened,
+    #[derive_where(skip)]
     pub(crate) alloc: Global,
 }
 

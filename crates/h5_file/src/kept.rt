@@ -22,8 +22,11 @@ use std::marker::Model;
 
 /// The bytes of the selected cells of an array, in row-major order. Only [`Kept::patch`] changes them.
 #[derive(Drop)]
+#[derive_where(Debug)]
 pub struct Kept {
+    #[derive_where(skip)]
     bytes: Vec<u8>,
+    #[derive_where(skip)]
     patches: Count,
 }
 

@@ -24,7 +24,7 @@ use std::marker::Model;
 const MAX_VIEWS: usize = 1024;
 
 /// What a view shows.
-#[derive(Clone, Copy)]
+#[derive(Clone, Copy, Debug)]
 pub struct Shown<'a> {
     /// The type of the cells.
     pub fixed: Fixed,
@@ -47,10 +47,12 @@ impl<'a> Shown<'a> {
 /// A file with the views that are open on it. A view goes by the number of an array, not by its path. It shows the
 /// selected cells of the array as it is now, after any edits.
 ///
-/// Contracts see the file, the open views by their numbers, and the number that the next view takes.
+/// Contracts see the file, the open views by their numbers, and the number that the next view takes. `Debug` leaves the views out.
 #[derive(Drop)]
+#[derive_where(Debug)]
 pub struct Session {
     file: File,
+    #[derive_where(skip)]
     views: OpenViews,
     /// The number of the next view.
     next: u32,

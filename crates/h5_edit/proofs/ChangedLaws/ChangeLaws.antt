@@ -7,33 +7,31 @@ use Rattle.std.specs.Option.{IfSome, option_and_then, option_flatten, option_map
 use Rattle.std.specs.List.{AllByRecursion, AllZip}
 use Rattle.std.specs.Ordering.{nat_cmp}
 use Rattle.std.specs.Cmp.{nat_cmp_total, unsigned_tied}
-use Rattle.std.specs.Cmp.Lexicographic.{slice_cmp, nat_list_cmp_total}
+use Rattle.std.specs.Cmp.Lexicographic.{slice_cmp}
 use Rattle.std.specs.declared.cmp.Ordering.TheVariants.{Less, Equal, Greater}
-use Rattle.std.specs.FinMap.{get, insert, remove, empty, entries, put, get-insert, entries-insert, nat_cmp-IsAntisymmetric, slice_cmp-IsAntisymmetric}
+use Rattle.std.specs.FinMap.{get, insert, put, get-insert, nat_cmp-IsAntisymmetric, slice_cmp-IsAntisymmetric}
 use Rattle.std.specs.FinMap.Entries.{by_order}
 use Rattle.std.proofs.lemmas.Bool.{cases_lt}
 use Rattle.std.proofs.lemmas.Bool.Decides.{nat_tests}
 use Rattle.std.proofs.lemmas.Option.{same_Some, slice_get_past}
 use Rattle.std.proofs.lemmas.Slice.Zip.{AllZip-long}
 use Rattle.h5_repack.specs.Image.Plain.{IsPlain, ArePlain}
-use Rattle.h5_model.specs.Edits.Applied.{attribute_from, with_attributes, with_dataset, with_links, new_object, new_dataset, resized}
-use Rattle.h5_model.specs.Tree.Objects.{Tree, Object, Content, Dataset, Link, Links, Group, Array, dataset_in, with_object, links_in}
-use Rattle.h5_model.specs.declared.attribute.AttrSpec.{AttrSpec}
-use Rattle.h5_repack.specs.Bodies.Sound.{IsPlainAttribute}
+use Rattle.h5_model.specs.Edits.Applied.{with_dataset, with_links, new_object, resized}
+use Rattle.h5_model.specs.Tree.Objects.{Tree, Object, Content, Dataset, Link, Links, Group, Array, ToObject, dataset_in, with_object, links_in}
+use Rattle.h5_query.specs.LinkAdded.{with_link}
 use Rattle.h5_model.specs.Tree.Links.{tree_target}
 use Rattle.h5_repack.specs.Objects.Objects.{AreObjects, IsNewObject, SlotsHold}
 use Rattle.h5_repack.specs.declared.objects.object.NewObject.{NewObject}
-use Rattle.h5_edit.specs.Changed.Change.{IsPlainChange, changed, with_link, with_target}
-use Rattle.h5_edit.specs.Changed.Edited.{IsEditOf, IsEditable, IsFresh, edit_at, edited, edited_by, new_link, new_objects, new_target}
+use Rattle.h5_edit.specs.Changed.Change.{IsPlainChange, changed}
+use Rattle.h5_edit.specs.Changed.Edited.{IsEditOf, IsEditable, IsFresh, edit_at, edited, edited_by, new_content, new_objects}
 use Rattle.h5_edit.specs.Changed.Sizes.{CanHave, CanStore, IsLacking, IsResizable, stored_all}
 use Rattle.h5_edit.specs.declared.change.change.Change.{Change}
 use Rattle.h5_edit.specs.declared.change.change.Change.TheVariants.{Link as Linked, Resize as Sized, Store as Stores}
 use Rattle.h5_edit.specs.declared.change.change.Target.{Target}
-use Rattle.h5_edit.specs.declared.change.change.Target.TheVariants as target
 use Rattle.h5_edit.specs.declared.change.edit.ObjectEdit.{ObjectEdit}
 use Rattle.h5_edit.specs.declared.change.edit.ObjectEdit.TheVariants as edit
-use Rattle.h5_edit.specs.Fitting.{made_by, made_in}
-use Rattle.h5_edit.proofs.ChangedLaws.NumberedLaws.{at_place, at_places, at_places-append, filled_slots, found_one_more, get_changed, length-at_places, numbered_more, numbered_with, with_new, zip_append, zip_filled, insert_there}
+use Rattle.h5_edit.specs.Fitting.{made_in}
+use Rattle.h5_edit.proofs.ChangedLaws.NumberedLaws.{at_place, at_places, at_places-append, filled_slots, found_one_more, length-at_places, numbered_more, numbered_with, with_new, zip_append, zip_filled, insert_there}
 
 -- ---- the changed tree
 
@@ -48,19 +46,12 @@ sized_same tree place object n m p q = λ i. with_object tree (sym p i) (with_da
 stored_same : (tree : Tree) (place object : ℕ) → place ≡ object → with_object tree object (with_dataset stored_all) ≡ with_object tree place (with_dataset stored_all)
 stored_same tree place object p = λ i. with_object tree (sym p i) (with_dataset stored_all)
 
-target_is : (tree : Tree) (parent number : ℕ) (name : List ℕ) (t : Target) → with_target tree parent name t number ≡ with_new (with_link tree parent name (new_link t number)) number (new_target t)
-target_is tree parent number name target.Group = refl
-target_is tree parent number name (target.Array spec) = refl
-target_is tree parent number name (target.Object other) = refl
-target_is tree parent number name (target.Text text) = refl
-
 -- a change is an edit of one object, and new objects
 pub changed_is : (tree : Tree) (change : Change) (number place : ℕ) (e : ObjectEdit) → IsEditOf change number place e
     → changed tree change number ≡ with_new (with_object tree place (edited e)) number (new_objects change)
 unfolding changed
 changed_is tree (Linked parent name t) number place (edit.Link l) (p, q, r) =
-    target_is tree parent number name.now t
-    ∙ ap (λ x. with_new x number (new_target t)) (linked_same tree place parent l.name.now name.now (tree_target l.to) (new_link t number) p q r)
+    ap (λ (x : Tree). insert x number (new_object (new_content t))) (linked_same tree place parent l.name.now name.now (tree_target l.to) (ToObject number) p q r)
 changed_is tree (Linked parent name t) number place (edit.Resize n) is = absurd is
 changed_is tree (Linked parent name t) number place (edit.Store m) is = absurd is
 changed_is tree (Sized object dims) number place (edit.Link l) is = absurd is
@@ -76,16 +67,9 @@ changed_is tree (Stores object missing) number place (edit.Store m) (p, q) = sto
 abbrev AreNumbered : Tree → List (Option Object) → Type 0
 AreNumbered tree slots = (k : ℕ) → get tree k ≡ option_flatten (slice_get slots k)
 
-more_numbered : (tree : Tree) (slots : List (Option Object)) → AreNumbered tree slots → (number : ℕ) (t : Target) → number ≡ length slots
-    → AreNumbered (with_new tree number (new_target t)) (slots ++ filled_slots (new_target t))
-more_numbered tree slots numbered number target.Group is k = numbered_more tree slots numbered number (new_object (Group empty)) is k
-more_numbered tree slots numbered number (target.Array spec) is k = numbered_more tree slots numbered number (new_object (Array (new_dataset spec.now))) is k
-more_numbered tree slots numbered number (target.Object other) is k = numbered k ∙ sym (ap (λ (xs : List (Option Object)). option_flatten (slice_get xs k)) (append-nil slots))
-more_numbered tree slots numbered number (target.Text text) is k = numbered k ∙ sym (ap (λ (xs : List (Option Object)). option_flatten (slice_get xs k)) (append-nil slots))
-
 new_numbered : (change : Change) (tree : Tree) (slots : List (Option Object)) → AreNumbered tree slots → (number : ℕ) → number ≡ length slots
     → AreNumbered (with_new tree number (new_objects change)) (slots ++ filled_slots (new_objects change))
-new_numbered (Linked parent name t) tree slots numbered number is k = more_numbered tree slots numbered number t is k
+new_numbered (Linked parent name t) tree slots numbered number is k = numbered_more tree slots numbered number (new_object (new_content t)) is k
 new_numbered (Sized object dims) tree slots numbered number is k = numbered k ∙ sym (ap (λ (xs : List (Option Object)). option_flatten (slice_get xs k)) (append-nil slots))
 new_numbered (Stores object missing) tree slots numbered number is k = numbered k ∙ sym (ap (λ (xs : List (Option Object)). option_flatten (slice_get xs k)) (append-nil slots))
 
@@ -140,20 +124,14 @@ module _ (tree : Tree) (number : ℕ) where
       let same : (number == number) ≡ true = grind (arith, nat_tests) in
       get-insert nat_cmp_total t number o number ∙ ap (λ b. cond b (Some o) (get t number)) (unsigned_tied number number ∙ same)
 
-  new_plain_target : (parent : ℕ) (name : List ℕ) (t : Target) → ArePlain (with_target tree parent name t number) → AllByRecursion IsPlain (new_target t)
-  new_plain_target parent name target.Group plain = (plain number (new_object (Group empty)) (newest _ (new_object (Group empty))), tt)
-  new_plain_target parent name (target.Array spec) plain =
-      (plain number (new_object (Array (new_dataset spec.now))) (newest _ (new_object (Array (new_dataset spec.now)))), tt)
-  new_plain_target parent name (target.Object other) plain = tt
-  new_plain_target parent name (target.Text text) plain = tt
-
-  plain_linked : (parent : ℕ) (name : Bor (List ℕ)) (t : Target) → ArePlain (changed tree (Linked parent name t) number) → AllByRecursion IsPlain (new_target t)
+  plain_linked : (parent : ℕ) (name : Bor (List ℕ)) (t : Target) → ArePlain (changed tree (Linked parent name t) number) → IsPlain (new_object (new_content t))
   unfolding changed
-  plain_linked parent name t plain = new_plain_target parent name.now t plain
+  plain_linked parent name t plain =
+      plain number (new_object (new_content t)) (newest (with_link tree parent name.now (ToObject number)) (new_object (new_content t)))
 
   -- what the change adds can be written
   pub new_plain : (change : Change) (plain : IsPlainChange tree number change) → AllByRecursion IsPlain (new_objects change)
-  new_plain (Linked parent name t) plain = plain_linked parent name t plain.changed_plain
+  new_plain (Linked parent name t) plain = (plain_linked parent name t plain.changed_plain, tt)
   new_plain (Sized object dims) plain = tt
   new_plain (Stores object missing) plain = tt
 
@@ -246,14 +224,8 @@ unedited tree place = by_found (get tree place) refl where
   by_found None is = refl
   by_found (Some o) is = insert_there tree place o is
 
-made_counted : (t : Target) → length (new_target t) ≡ made_by t
-made_counted target.Group = refl
-made_counted (target.Array spec) = refl
-made_counted (target.Object other) = refl
-made_counted (target.Text text) = refl
-
 new_counted : (change : Change) → length (new_objects change) ≡ made_in change
-new_counted (Linked parent name t) = made_counted t
+new_counted (Linked parent name t) = refl
 new_counted (Sized object dims) = refl
 new_counted (Stores object missing) = refl
 

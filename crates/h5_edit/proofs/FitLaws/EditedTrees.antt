@@ -1,7 +1,7 @@
 -- The plain layout can hold each object of the tree that an accepted edit of an opened image gives (File Format Specification 3.0,
 -- sections III and IV.A).
-use Rattle.std.proofs.Common.{◌≡◌, ℕ, ◌+◌, ◌≤◌, List, length, true, false, Option, Some, sym, ap, ◌∙◌, subst, arith}
-use Rattle.std.specs.FinMap.{get, insert, remove, empty}
+use Rattle.std.proofs.Common.{◌≡◌, ℕ, ◌+◌, ◌≤◌, List, length, true, false, Some, sym, ap, ◌∙◌, subst, arith}
+use Rattle.std.specs.FinMap.{get, empty}
 use Rattle.std.specs.Option.{option_and_then}
 use Rattle.std.proofs.lemmas.Option.{same_Some}
 use Rattle.h5_model.specs.Edits.Applied.{applied, linked, with_dataset, with_links, new_object, new_dataset, resized, written}
@@ -9,15 +9,14 @@ use Rattle.h5_model.specs.Tree.Paths.{dataset_at, object_at}
 use Rattle.h5_model.specs.Tree.Sound.{AreOf}
 use Rattle.h5_model.specs.Views.Selection.{axes_of}
 use Rattle.h5_model.proofs.RefusalLaws.{accepted_write}
-use Rattle.h5_model.specs.Tree.Objects.{Object, Content, Group, Array, Dataset, Links, ToObject, Soft, dataset_in, dataset_of}
+use Rattle.h5_model.specs.Tree.Objects.{Object, Content, Group, Array, Dataset, Links, ToObject, dataset_in, dataset_of}
 use Rattle.h5_model.specs.declared.edits.Edit.TheVariants.{CreateGroup, CreateDataset, HardLink, SoftLink, Unlink, SetAttr, RemoveAttr, Write, Resize}
-use Rattle.h5_repack.specs.Image.Plain.{IsPlain, IsPlainContent, ArePlain}
+use Rattle.h5_repack.specs.Image.Plain.{IsPlain, IsPlainContent}
 use Rattle.h5_repack.specs.Bodies.Bodies.{others_of}
 use Rattle.h5_repack.specs.Bodies.Sound.{IsPlainArray}
-use Rattle.h5_query.specs.Opened.Sound.{IsSound}
 use Rattle.h5_query.specs.Opened.State.{FileState}
-use Rattle.h5_edit.specs.Fits.Laws.{AreBytes, EditedPlain}
-use Rattle.h5_edit.proofs.FitLaws.ChangedTrees.{each_put, each_at, each_linked, each_linked_to, each_unlinked}
+use Rattle.h5_edit.specs.Fits.Laws.{EditedPlain}
+use Rattle.h5_edit.proofs.FitLaws.ChangedTrees.{each_put, each_at, each_linked}
 use Rattle.h5_edit.proofs.FitLaws.NewArrays.{plain_new_array, accepted_spec}
 use Rattle.h5_edit.proofs.FitLaws.ResizedArrays.{accepted_sizes, plain_sized}
 use Rattle.h5_edit.proofs.FitLaws.WrittenArrays.{plain_cells, values_are}
@@ -72,10 +71,9 @@ edited_plain f (CreateDataset path spec) low sound anew typed accepted roomy =
     each_put (λ n. IsPlain) (linked f.tree path (ToObject f.next)) f.next (new_object (Array (new_dataset spec)))
     (each_linked (λ n. IsPlain) plain_linked f.tree path (ToObject f.next) (opened_plain f low sound))
     (new_array (new_dataset spec) (λ n few. plain_new_array spec formed n typed.0 typed.1 few))
-edited_plain f (HardLink target path) low sound anew typed accepted roomy = each_linked_to (λ n. IsPlain) plain_linked f.tree target path (opened_plain f low sound)
-edited_plain f (SoftLink text path) low sound anew typed accepted roomy = each_linked (λ n. IsPlain) plain_linked f.tree path (Soft text) (opened_plain f low sound)
-edited_plain f (Unlink path) low sound anew typed accepted roomy =
-    each_unlinked (λ n. IsPlain) (λ name number o plain. plain_links (λ links. remove links name) o plain) f.tree path (opened_plain f low sound)
+edited_plain f (HardLink target path) low sound anew typed accepted roomy = absurd (let never : true ≡ false = anew in cc)
+edited_plain f (SoftLink text path) low sound anew typed accepted roomy = absurd (let never : true ≡ false = anew in cc)
+edited_plain f (Unlink path) low sound anew typed accepted roomy = absurd (let never : true ≡ false = anew in cc)
 edited_plain f (SetAttr path attr) low sound anew typed accepted roomy = absurd (let never : true ≡ false = anew in cc)
 edited_plain f (RemoveAttr path name) low sound anew typed accepted roomy = absurd (let never : true ≡ false = anew in cc)
 edited_plain f (Write path hyper values) low sound anew typed accepted roomy =

@@ -1,36 +1,28 @@
 -- Why an unlink is refused, or that it is not, by what stands at its path.
-use Rattle.std.proofs.Common.{◌≡◌, ℕ, ◌+◌, ◌≤◌, List, [], ◌∷◌, length, refl, sym, ap, ◌∙◌, Bool, true, false, cond, Option, Some, None, arith}
-use Rattle.std.specs.Prelude.{◌||◌, ◌==◌, is_none, is_some, nat_lt, if◌then◌else◌}
-use Rattle.std.specs.FinMap.{get, len, len-entries}
+use Rattle.std.proofs.Common.{◌≡◌, ℕ, List, [], ◌∷◌, length, refl, sym, ap, ◌∙◌, Bool, true, false, cond, Option, Some, None}
+use Rattle.std.specs.Prelude.{◌||◌, ◌==◌, is_none, nat_lt}
+use Rattle.std.specs.FinMap.{len, len-entries}
 use Rattle.std.specs.Option.{option_map_or, option_and_then}
-use Rattle.std.proofs.lemmas.Bool.Decides.{nat_tests}
 use Rattle.std.proofs.lemmas.List.{length-map}
 use Rattle.h5_model.specs.Format.Addresses.{SymbolTable}
-use Rattle.h5_model.specs.Format.Messages.{prefix_at, reference_count}
 use Rattle.h5_model.specs.Format.Symbols.{Target}
-use Rattle.h5_model.specs.Tree.Objects.{Tree, Links, Link, ToObject, Soft, links_of, link_in, hard_links}
-use Rattle.h5_model.specs.Tree.Paths.{Located, Here, Missing, NoParent, NoGroup, NoPath, names_of, locate, located, object_there, parent_from, parent_at}
+use Rattle.h5_model.specs.Tree.Objects.{Tree, Links, Link, ToObject, Soft, links_of, object_of}
+use Rattle.h5_model.specs.Tree.Paths.{Located, Here, Missing, NoParent, NoGroup, NoPath, names_of, located, object_there, parent_at}
 use Rattle.h5_model.specs.Edits.Refusal.{refusal_of, first_holding, is_deep, is_root, has_no_parent, has_no_group, is_missing, unlinks_full}
 use Rattle.h5_model.specs.declared.edits.Edit.TheVariants.{Unlink}
 use Rattle.h5_model.specs.declared.edit_fault.EditFault.{EditFault}
 use Rattle.h5_model.specs.declared.edit_fault.EditFault.TheVariants as fault
-use Rattle.h5_model.proofs.PathLaws.{locate-beside}
-use Rattle.h5_laws.specs.Trees.Unlinked.{goes_with}
-use Rattle.h5_laws.specs.Trees.Sound.{IsSoundTree}
-use Rattle.h5_laws.proofs.SoundLaws.Counts.{link_counts}
-use Rattle.h5_laws.proofs.SoundLaws.Read.{reads_sound}
 use Rattle.h5_query.specs.GroupTold.{links_told}
 use Rattle.h5_query.specs.OpenedObjectType.{OpenedObject}
 use Rattle.h5_query.specs.OpenedContentType.TheVariants as content
 use Rattle.h5_query.specs.Opened.Objects.{link_to, links_by}
-use Rattle.h5_query.specs.Opened.Sound.{IsSound, IsObjectOf}
+use Rattle.h5_query.specs.Opened.Sound.{IsObjectOf}
 use Rattle.h5_query.specs.Opened.State.{FileState}
 use Rattle.h5_query.specs.Place.{IsNoSpot, group_rules}
 use Rattle.h5_query.proofs.Indexed.{array_no_group, group_links, group_read}
 use Rattle.h5_query.proofs.OpenedLaws.Entries.{group_entries}
 use Rattle.h5_edit.specs.Refusals.Removed.{IsRemoval, has_links_at}
 use Rattle.h5_edit.specs.declared.rules.unlink.Removal.{Removal}
-use Rattle.h5_edit.proofs.RuleLaws.Counts.{links_counted}
 use Rattle.h5_edit.proofs.RuleLaws.NewPaths.{at_root, below_root}
 
 -- ---- the rules
@@ -121,75 +113,26 @@ module _ (tree : Tree) (next : ℕ) (path : List ℕ) where
         pub full_refused : has_links_at tree link ≡ true → refusal_of tree next (Unlink path) ≡ Some fault.GroupNotEmpty
         full_refused is = by_full true is
 
-        pub removed : (r : Removal) → r.parent ≡ parent → r.name.now ≡ name → has_links_at tree link ≡ false → r.gone ≡ goes_with tree link → IsRemoval tree next path r
-        removed r number named none gone = record {
+        pub removed : (r : Removal) → r.parent ≡ parent → r.name.now ≡ name → has_links_at tree link ≡ false → r.object ≡ object_of link → IsRemoval tree next path r
+        removed r number named none leads = record {
           allowed = by_full false none;
           parent = there ∙ (λ i. Some (sym number i, sym named i));
           link = link;
           stands = here;
-          gone = gone;
+          bare = none;
+          leads = leads;
         }
 
--- ---- what goes with a link
+-- ---- what the link leads to
 
--- a link at a path stands in the group before its last name
-pub link_beside : (tree : Tree) (path : List ℕ) (parent : ℕ) (name : List ℕ) (link : Link) → parent_at tree path ≡ Some (parent, name) → located tree path ≡ Here link
-    → link_in tree parent name ≡ Some link
-link_beside tree path parent name link found here = by_names (names_of path) found here where
-  by_link : (links : Links) (o : Option Link) → option_map_or (λ l. Here l) o Missing ≡ Here link → o ≡ Some link
-  by_link links None is = absurd (let never : Missing ≡ Here link = is in cc)
-  by_link links (Some l) is = let same : l ≡ link = cc in ap (λ (x : Link). Some x) same
+-- whether the object has links is told by what was opened of it
+module _ (f : FileState) (number : ℕ) (o : OpenedObject) (of : IsObjectOf f number o) where
+  pub group_full : (g : SymbolTable) → o.content ≡ content.Group g → (some : Bool) → some ≡ nat_lt 0 (length (links_told f.image g)) → has_links_at f.tree (ToObject number) ≡ some
+  group_full g is some told =
+      let counted : len (links_by f.table (links_told f.image g)) ≡ length (links_told f.image g)
+      = len-entries (links_by f.table (links_told f.image g)) ∙ ap length (group_entries f.image f.table g (group_read f number o of g is))
+      ∙ length-map (links_told f.image g) (λ (l : List ℕ × Target). (l.0, link_to f.table l.1)) in
+      ap (λ (x : Option Links). option_map_or (λ (links : Links). nat_lt 0 (len links)) x false) (group_links f number o of g is) ∙ ap (nat_lt 0) counted ∙ sym told
 
-  by_group : (o : Option Links) → option_map_or (λ links. option_map_or (λ l. Here l) (get links name) Missing) o NoGroup ≡ Here link
-      → option_and_then (λ links. get links name) o ≡ Some link
-  by_group None is = absurd (let never : NoGroup ≡ Here link = is in cc)
-  by_group (Some links) is = by_link links (get links name) is
-
-  by_names : (o : Option (List (List ℕ))) → option_and_then (parent_from tree (ToObject 0)) o ≡ Some (parent, name)
-      → option_map_or (λ names. locate tree (ToObject 0) names) o NoPath ≡ Here link → link_in tree parent name ≡ Some link
-  by_names None none is = absurd (let never : None ≡ Some (parent, name) = none in cc)
-  by_names (Some names) from is = by_group (links_of tree parent) (sym (locate-beside tree (ToObject 0) names (parent, name) from) ∙ is)
-
-module _ (f : FileState) (sound : IsSound f) (parent : ℕ) (name : List ℕ) where
-  sound_tree : IsSoundTree f.tree
-  sound_tree = reads_sound f.image f.table f.tree (sound.placed, sound.reads)
-
-  module _ (number : ℕ) (o : OpenedObject) (of : IsObjectOf f number o) (leads : link_in f.tree parent name ≡ Some (ToObject number)) where
-    -- a group has one hard link
-    module _ (g : SymbolTable) (is : o.content ≡ content.Group g) where
-      one_link : hard_links f.tree number ≡ 1
-      one_link =
-          let least = link_counts f.tree number parent name leads in
-          let once = sound_tree.once number (ap (λ (x : Option Links). is_some x) (group_links f number o of g is)) in
-          go (number == 0) least once where
-            go : (b : Bool) → 1 ≤ hard_links f.tree number → hard_links f.tree number + (if b then 1 else 0) ≡ 1 → hard_links f.tree number ≡ 1
-            go true least once = absurd (omega (arith, least, once))
-            go false least once = omega (arith, once)
-
-      pub group_goes : Some number ≡ goes_with f.tree (ToObject number)
-      group_goes = let one : (hard_links f.tree number == 1) ≡ true = (let is_one = one_link in grind (arith, nat_tests)) in sym (ap (λ (b : Bool). cond b (Some number) None) one)
-
-      pub group_full : has_links_at f.tree (ToObject number) ≡ nat_lt 0 (length (links_told f.image g))
-      group_full =
-          let counted : len (links_by f.table (links_told f.image g)) ≡ length (links_told f.image g)
-          = len-entries (links_by f.table (links_told f.image g)) ∙ ap length (group_entries f.image f.table g (group_read f number o of g is))
-          ∙ length-map (links_told f.image g) (λ (l : List ℕ × Target). (l.0, link_to f.table l.1)) in
-          ap (λ (x : Option Links). option_map_or (λ (links : Links). nat_lt 0 (len links)) x false) (group_links f number o of g is) ∙ ap (nat_lt 0) counted
-
-    module _ (is : o.content ≡ content.Array) where
-      pub array_bare : has_links_at f.tree (ToObject number) ≡ false
-      array_bare = ap (λ (x : Option Links). option_map_or (λ (links : Links). nat_lt 0 (len links)) x false) (array_no_group f number o of is)
-
-      module _ (count : ℕ) (counts : count ≡ reference_count (prefix_at f.image o.messages.header)) where
-        pub array_goes : count ≡ 1 → Some number ≡ goes_with f.tree (ToObject number)
-        array_goes one =
-            let all = links_counted f number o of sound is in
-            let test : (hard_links f.tree number == 1) ≡ true = grind (arith, nat_tests) in
-            sym (ap (λ (b : Bool). cond b (Some number) None) test)
-
-        pub array_stays : (count ≡ 1 → ⊥) → None ≡ goes_with f.tree (ToObject number)
-        array_stays more =
-            let all = links_counted f number o of sound is in
-            let other : hard_links f.tree number ≡ 1 → ⊥ = λ one. more (omega (arith, one, all, counts)) in
-            let test : (hard_links f.tree number == 1) ≡ false = grind (arith, nat_tests, other) in
-            sym (ap (λ (b : Bool). cond b (Some number) None) test)
+  pub array_bare : o.content ≡ content.Array → has_links_at f.tree (ToObject number) ≡ false
+  array_bare is = ap (λ (x : Option Links). option_map_or (λ (links : Links). nat_lt 0 (len links)) x false) (array_no_group f number o of is)

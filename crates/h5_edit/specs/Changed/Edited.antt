@@ -1,12 +1,11 @@
 -- What a change makes of one object of a tree, and which objects it adds.
 use Rattle.std.specs.Prelude.{◌≡◌, ℕ, ◌==◌, if◌then◌else◌, Option, Some, None, List, [], ◌∷◌}
-use Rattle.std.specs.FinMap.{get, insert, remove, empty}
-use Rattle.h5_model.specs.Edits.Applied.{attribute_from, with_attributes, with_dataset, with_links, new_object, new_dataset, resized}
-use Rattle.h5_model.specs.Tree.Objects.{Object, Content, Link, Links, ToObject, Soft, Group, Array}
+use Rattle.std.specs.FinMap.{get, insert, empty}
+use Rattle.h5_model.specs.Edits.Applied.{with_dataset, with_links, new_object, new_dataset, resized}
+use Rattle.h5_model.specs.Tree.Objects.{Object, Content, Links, ToObject, Group, Array}
 use Rattle.h5_model.specs.Tree.Links.{tree_target}
 use Rattle.h5_model.specs.declared.object_no.ObjectNo.{ObjectNo}
 use Rattle.h5_model.specs.declared.link.Link.{Link as LinkOf}
-use Rattle.h5_repack.specs.Bodies.Sound.{IsPlainAttribute}
 use Rattle.h5_edit.specs.Changed.Sizes.{CanHave, CanStore, stored_all}
 use Rattle.h5_edit.specs.declared.change.change.Change.{Change}
 use Rattle.h5_edit.specs.declared.change.change.Change.TheVariants.{Link as Linked, Resize as Sized, Store as Stores}
@@ -59,28 +58,20 @@ IsEditable o (edit.Store missing) = CanStore o.content
 
 -- ---- changes
 
--- where a new link leads; a new object takes this number
-abbrev pub new_link : Target → ℕ → Link
-new_link target.Group number = ToObject number
-new_link (target.Array spec) number = ToObject number
-new_link (target.Object other) number = ToObject other
-new_link (target.Text text) number = Soft text.now
-
--- the change edits the object of this number so
+-- the change edits the object of this number so; a new object takes the first number
 abbrev pub IsEditOf : Change → ℕ → ℕ → ObjectEdit → Type 0
-IsEditOf (Linked parent name target) number place (edit.Link l) = (place ≡ parent) × (l.name.now ≡ name.now) × (tree_target l.to ≡ new_link target number)
+IsEditOf (Linked parent name target) number place (edit.Link l) = (place ≡ parent) × (l.name.now ≡ name.now) × (tree_target l.to ≡ ToObject number)
 IsEditOf (Sized object dims) number place (edit.Resize other) = (place ≡ object) × (other.now ≡ dims.now)
 IsEditOf (Stores object missing) number place (edit.Store other) = (place ≡ object) × (other.now ≡ missing.now)
 IsEditOf _ _ _ _ = ⊥
 
--- the objects that it adds
-abbrev pub new_target : Target → List Object
-new_target target.Group = new_object (Group empty) ∷ []
-new_target (target.Array spec) = new_object (Array (new_dataset spec.now)) ∷ []
-new_target (target.Object other) = []
-new_target (target.Text text) = []
+-- what the new object is to which a new link leads
+abbrev pub new_content : Target → Content
+new_content target.Group = Group empty
+new_content (target.Array spec) = Array (new_dataset spec.now)
 
+-- the objects that it adds
 abbrev pub new_objects : Change → List Object
-new_objects (Linked parent name target) = new_target target
+new_objects (Linked parent name target) = new_object (new_content target) ∷ []
 new_objects (Sized object dims) = []
 new_objects (Stores object missing) = []

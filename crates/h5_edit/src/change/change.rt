@@ -3,23 +3,19 @@
 use crate::change::missing::Missing;
 use h5_model::Spec;
 
-/// Where a new link leads.
+/// The new object to which a new link leads.
 #[derive(Clone, Copy)]
 pub enum Target<'a> {
-    /// To a new group.
+    /// A group without links.
     Group,
-    /// To a new array, each cell the fill.
+    /// An array, each cell the fill.
     Array(&'a Spec),
-    /// To the object of this number.
-    Object(u32),
-    /// To a soft link's text.
-    Text(&'a [u8]),
 }
 
 /// A change of an opened image.
 #[derive(Clone, Copy)]
 pub enum Change<'a> {
-    /// The group of this number has a link of this name more.
+    /// The group of this number has a link of this name more, to a new object.
     Link {
         parent: u32,
         name: &'a [u8],

@@ -1,11 +1,10 @@
 //! What a change makes of one object.
 
 ghost use Rattle.std.specs.Prelude.{◌≡◌};
-ghost use Rattle.h5_model.specs.Tree.Links.{tree_target};
-ghost use Rattle.h5_edit.specs.Changed.Edited.{IsEditOf, new_link};
+ghost use Rattle.h5_edit.specs.Changed.Edited.{IsEditOf};
 ghost use Rattle.h5_edit.specs.Changed.Edited as edited;
 
-use crate::change::change::{Change, Target};
+use crate::change::change::Change;
 use crate::change::missing::Missing;
 use h5_model::{Link, LinkTo, ObjectNo};
 
@@ -25,27 +24,12 @@ pub(crate) fn edit_of<'a>(change: &Change<'a>, next: u32) -> (u32, ObjectEdit<'a
     ensures { IsEditOf change.now next result.0 result.1 }
 {
     match *change {
-        Change::Link {
-            parent,
-            name,
-            target,
-        } => {
-            let to = link_target(target, next);
+        Change::Link { parent, name, .. } => {
+            let to = LinkTo::Object(ObjectNo(next));
             (parent, ObjectEdit::Link(Link { name, to }))
         }
         Change::Resize { object, dims } => (object, ObjectEdit::Resize(dims)),
         Change::Store { object, missing } => (object, ObjectEdit::Store(missing)),
-    }
-}
-
-/// Where a new link leads; a new object takes the number `next`.
-fn link_target(target: Target<'_>, next: u32) -> LinkTo<'_, ObjectNo>
-    ensures { tree_target result ≡ new_link target.entry next }
-{
-    match target {
-        Target::Group | Target::Array(_) => LinkTo::Object(ObjectNo(next)),
-        Target::Object(number) => LinkTo::Object(ObjectNo(number)),
-        Target::Text(text) => LinkTo::Soft(text),
     }
 }
 

@@ -158,7 +158,6 @@ fn new_object<'a>(alloc: Global, change: &Change<'a>) -> Option<NewObject<'a>>
     let content = match *target {
         Target::Group => NewContent::Group(Vec::new(alloc)),
         Target::Array(spec) => array_from(alloc, spec),
-        Target::Object(_) | Target::Text(_) => return None,
     };
     Some(NewObject {
         content,

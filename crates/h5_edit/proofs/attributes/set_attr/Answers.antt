@@ -1,4 +1,4 @@
-use Rattle.std.proofs.Common.{◌≡◌, ℕ, ◌+◌, ◌<◌, ◌≤◌, ◌^◌, ◌∙◌, sym, ap, refl, length, false, arith}
+use Rattle.std.proofs.Common.{◌+◌, ◌∙◌, ap, refl, length, false, arith}
 use Rattle.std.proofs.lemmas.Result.{err_from_is_err_and}
 use Rattle.h5_model.specs.Edits.Applied.{attribute_from}
 use Rattle.h5_model.specs.declared.edits.Edit.TheVariants.{SetAttr}

@@ -1,16 +1,44 @@
+use Rattle.std.proofs.Common.{inl, refl, sym}
+use Rattle.h5_model.specs.Tree.Objects.{Soft}
 use Rattle.h5_model.specs.declared.edits.Edit.TheVariants.{SoftLink}
 use Rattle.h5_edit.proofs.RuleLaws.Exits.{passed_on}
-use Rattle.h5_edit.proofs.Fitting.{soft_link_fits}
+use Rattle.h5_edit.proofs.LinkFacts.{free_asked, group_asked, link_made, link_refused, soft_edit, sound_asked, table_there}
 use Rattle.h5_edit.proofs.Refusals.{by_rule}
 use Rattle.h5_edit.proofs.links.soft_link.Goals as goal
 
-pub returns-in_err-place-clause-edited : goal.returns-in_err-place-clause-edited
-returns-in_err-place-clause-edited c =
+pub returns-in_err-place : goal.returns-in_err-place
+returns-in_err-place c =
     passed_on _ _ c.from_residual.result _ c.from_residual.ensures.1
-    (by_rule c.args.opened.now (SoftLink c.args.text.now c.args.path.now) _ c.in_err-place.ensures)
+    (by_rule c.args.opened.now (SoftLink c.args.text.now c.args.path.now) _ c.in_err-place.ensures, refl)
 
-pub carry_out-requires : goal.carry_out-requires
-carry_out-requires c = (SoftLink c.args.text.now c.args.path.now, rw c.link_at-change.ensures (soft_link_fits c.args.opened.now c.args.text c.in_ok-place.ensures))
+pub add_link-requires-clause-group : goal.add_link-requires-clause-group
+add_link-requires-clause-group c = group_asked c.args.opened.now c.next-next.ensures.sound c.in_ok-place.ensures (inl refl)
 
-pub returns-clause-edited : goal.returns-clause-edited
-returns-clause-edited c = c.carry_out.ensures (SoftLink c.args.text.now c.args.path.now) (rw c.link_at-change.ensures (soft_link_fits c.args.opened.now c.args.text c.in_ok-place.ensures))
+pub add_link-requires-clause-free : goal.add_link-requires-clause-free
+add_link-requires-clause-free c = free_asked c.args.opened.now c.next-next.ensures.sound c.in_ok-place.ensures (inl refl)
+
+pub add_link-requires-clause-good : goal.add_link-requires-clause-good
+add_link-requires-clause-good c =
+    sound_asked c.args.opened.now c.next-next.ensures.sound c.in_ok-place.ensures (inl refl) (Soft c.args.text.now) (soft_edit c.args.opened.now c.in_ok-place.ensures).tree
+
+pub returns-in-Ok : goal.returns-in-Ok
+returns-in-Ok c =
+    let f = c.args.opened.now in
+    let placed = c.in_ok-place.ensures in
+    let table = table_there f c.next-next.ensures.sound placed (inl refl) in
+    let says = c.add_link.ensures in
+    link_made f c.args.path.now _ _ (Soft c.args.text.now) (SoftLink c.args.text.now c.args.path.now) (soft_edit f placed) table.0 table.1 placed.allowed
+    c.add_link.result (says.deep table.0 table.1) (says.full table.0 table.1) _ c.in-Ok.is c.add_link.new.self _ refl refl
+    ((rw c.in-Ok.is at says.changed) table.0 table.1)
+
+pub returns-in-Err : goal.returns-in-Err
+returns-in-Err c =
+    let f = c.args.opened.now in
+    let placed = c.in_ok-place.ensures in
+    let table = table_there f c.next-next.ensures.sound placed (inl refl) in
+    let says = c.add_link.ensures in (
+      rw c.fault_of.ensures
+          (link_refused f c.args.path.now _ _ (Soft c.args.text.now) (SoftLink c.args.text.now c.args.path.now) (soft_edit f placed) table.0 table.1 placed.allowed
+          c.add_link.result (says.deep table.0 table.1) (says.full table.0 table.1) c.in-Err.fault c.in-Err.is),
+      rw c.in-Err.is at says.refused,
+    )
