@@ -6,13 +6,16 @@ from dataclasses import dataclass
 from functools import partial
 
 from . import today
+from .drawn_groups import LETTERS, link_text
 from .drawn_images import linked_image
 from .stored_cells import with_cells
 from .support import InFolder, empty_image, h5i
 
 # pylint: disable=wrong-import-order
-from h5oracle.model import Dataset, Flat, RemoveAttr, Resize, SetAttr, Tree, Write, new_boxes, object_at, refusal, same_tree  # noqa: E402
-from h5oracle.script import BadLine, edit_of  # noqa: E402
+from h5oracle.model import (  # noqa: E402
+    Dataset, Flat, HardLink, RemoveAttr, Resize, SetAttr, SoftLink, Tree, Unlink, Write, new_boxes, object_at, refusal, same_tree,
+)
+from h5oracle.script import BadLine, edit_of, escape, path_text  # noqa: E402
 from h5oracle.values import TYPES, product  # noqa: E402
 from randscript import Maker  # noqa: E402
 
@@ -21,12 +24,16 @@ GROUPS = dict(group=16, many=24, line=12, link=14, soft=12, attr=8, unattr=3, du
 # And where arrays of every form are made beside them, and all is repacked at times.
 ARRAYS = dict(dataset=30, group=8, many=12, link=10, soft=6, attr=10, unattr=4, dump=12, root=2, ls=1, repack=3, bad=6, note=1, write=1, unlink=1,
               resize=1, view=1)
+# Where links are made and taken, mostly in place, and now and then something is made for which the image is written anew.
+LINKS = dict(near=40, link=14, soft=10, unlink=30, many=2, group=2, line=2, attr=5, unattr=3, bad=3, write=3)
 # Where cells are written, and arrays resized.
 WRITES = dict(dataset=14, write=40, resize=14, dump=14, unlink=3, link=5, soft=2, group=4, attr=4, unattr=2, root=1, ls=1, repack=2, bad=5, note=1)
 # And where views are open meanwhile.
 VIEWS = WRITES | dict(view=16, show=30, close=4, dump=5)
 # A chunk of more bytes, which the program takes, would be written again by each edit behind the write that stores it.
 LARGE_CHUNK, LARGEST_CHUNK = 1 << 16, 1 << 30
+# Edits that are made where things stand, whatever the image holds.
+IN_PLACE = (HardLink, SoftLink, Unlink, SetAttr, RemoveAttr)
 # Where nothing else is done, so that most writes are made in a file as others have laid it out.
 CELLS = dict(write=6, dump=1, view=2, show=2)
 
@@ -39,8 +46,8 @@ class Drawn:
     script: bytes
     answers: bytes
     tree: Tree
-    # The file behind it: the plain image where one was written anew, else the old one but for cells; None where attributes were edited
-    # in place since.
+    # The file behind it: the plain image where one was written anew, else the old one but for cells; None where attributes or links were
+    # edited in place since.
     after: bytes | None
     anew: bool
     edits: int
@@ -56,7 +63,7 @@ class LineMaker(Maker):
     def __init__(self, rng, image, kinds):
         super().__init__(rng, today.session_of(image))
         self.kinds, self.image = kinds, image
-        # The image was written anew, and attributes were set or removed in place since.
+        # The image was written anew, and attributes or links were edited in place since.
         self.anew = self.set = False
         # The last line was an edit that was made in place.
         self.is_last_in_place = False
@@ -65,9 +72,12 @@ class LineMaker(Maker):
         """The next line, which is also run: the line, its answer, and whether an edit was accepted."""
         kind = self.rng.choices(list(self.kinds), list(self.kinds.values()))[0]
         line = getattr(self, "make_" + kind)()
-        line = line.encode("ascii") if isinstance(line, str) else line
+        return self.run(line.encode("ascii") if isinstance(line, str) else line)
+
+    def run(self, line):
+        """Runs a line: the line, its answer, and whether an edit was accepted."""
         edit = self.accepted_edit(line)
-        in_place = isinstance(edit, (SetAttr, RemoveAttr)) or isinstance(edit, Write) and self.is_in_place(edit)
+        in_place = isinstance(edit, IN_PLACE) or isinstance(edit, Write) and self.is_in_place(edit)
         text, edited = today.answers(self.session, line + b"\n")
         self.is_last_in_place = edited and in_place
         if edited and not isinstance(edit, Write):
@@ -80,7 +90,7 @@ class LineMaker(Maker):
         return line, (text, edited)
 
     def after(self):
-        """The image behind the lines so far, where an edit was accepted, and `None` where attributes were edited in place."""
+        """The image behind the lines so far, where an edit was accepted, and `None` where attributes or links were edited in place."""
         if self.set:
             return None
         return self.session.image() if self.anew else with_cells(self.image, self.session.tree)
@@ -118,6 +128,23 @@ class LineMaker(Maker):
             if sizes[0].isdecimal() and LARGE_CHUNK < 8 * product(map(int, sizes.split(","))) <= 8 * LARGEST_CHUNK:
                 continue
             return line
+
+    def make_near(self):
+        """A link whose name is near another of its group, to an array or to a text that stands among the names."""
+        group = self.group_path()
+        names = self.session.tree.objects[object_at(self.session.tree, b"/" + b"/".join(group))].links
+        near = self.pick(sorted(names), b"") if self.odd(0.6) else b""
+        path = path_text(group + (near + bytes([self.pick(LETTERS)]),))
+        target = self.pick(self.links(self.is_dataset))
+        if target and self.odd(0.4):
+            return f"link {path_text(target[0])} {path}"
+        return f"soft {escape(link_text(self.rng))} {path}"
+
+    def unlink_all(self):
+        """Runs lines that take all links away, in any order in which no group has links when it goes: what `run` gives of each."""
+        tree = self.session.tree
+        while bare := self.links(lambda link: link[0] == "soft" or not tree.is_group(link[1]) or not tree.objects[link[1]].links):
+            yield self.run(f"unlink {path_text(self.pick(bare)[0])}".encode("ascii"))
 
     def make_root(self):
         """dump of the root"""

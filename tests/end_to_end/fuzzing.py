@@ -11,7 +11,7 @@ import random
 
 from . import today
 from .drawn_images import linked_image, small_image
-from .drawn_scripts import ARRAYS, GROUPS, VIEWS, WRITES, LineMaker
+from .drawn_scripts import ARRAYS, GROUPS, LINKS, VIEWS, WRITES, LineMaker
 
 # pylint: disable=wrong-import-order
 from h5oracle.foreign import random_superblock, write_foreign  # noqa: E402
@@ -22,14 +22,14 @@ from h5oracle.values import OpenFault  # noqa: E402
 from mutate import base_image, mutant  # noqa: E402
 from randscript import MOODS  # noqa: E402
 
-KINDS = [GROUPS, ARRAYS, WRITES, VIEWS, VIEWS, *MOODS.values()]
+KINDS = [GROUPS, LINKS, LINKS, ARRAYS, WRITES, VIEWS, VIEWS, *MOODS.values()]
 MOST_LINES = 40
 # A larger file is taken as it is or changed, but not laid out anew; and its edits in place are judged by their trees alone.
 LARGE = 200000
 # So many paths are asked for at the end, and an array of so many cells is read.
 MOST_PATHS, MOST_CELLS = 12, 4096
-# So much of an answer is shown.
-SHOWN = 200
+# So much of an answer is shown, and so much is told of what is wrong with an edit in place.
+SHOWN, TOLD = 200, 3
 
 
 def relaid(image, rng):
@@ -109,15 +109,16 @@ class Case:
             session.close()
 
     def on_lines(self, session):
-        """What is answered otherwise to a line. The case ends without a word where the reference cannot tell what has to be answered."""
+        """What is answered otherwise to a line. The case ends without a word at another answer than the reference's where that is in doubt."""
         self.maker = LineMaker(self.rng, self.image, self.rng.choice(KINDS))
         for _ in range(self.rng.randrange(MOST_LINES)):
             before, doubts = session.image(), len(self.maker.session.doubts)
             line, (wanted, edited) = self.maker.line()
             self.lines.append(line)
-            if len(self.maker.session.doubts) > doubts:
+            found = self.on_line(session, line, wanted)
+            if found and len(self.maker.session.doubts) > doubts:
                 return None
-            found = self.on_line(session, line, wanted) or self.on_bytes(before, session, line, edited)
+            found = found or self.on_bytes(before, session, line, edited)
             if found:
                 return f"line {len(self.lines)}, {short(line)}: {found}"
         return None
@@ -151,7 +152,8 @@ class Case:
         if not edited:
             return None if after == before else "it has changed the image"
         if self.maker.is_last_in_place and len(before) <= LARGE:
-            return "; ".join(today.wrong_with(before, after, line)) or None
+            wrong = today.wrong_with(before, after, line)
+            return "; ".join(wrong[:TOLD] + [f"{len(wrong) - TOLD} more"] * (len(wrong) > TOLD)) or None
         return None
 
     def on_calls(self, session):

@@ -18,7 +18,7 @@ from mutate import mutant, patch  # noqa: E402
 
 CASES = 16
 # Lines of other kinds are edits in place, which the stand-in does not make.
-KINDS = [dict(group=10, soft=5, link=5, unlink=3, dataset=10, resize=5, dump=5, ls=3, note=1)]
+KINDS = [dict(group=10, dataset=10, resize=5, dump=5, ls=3, note=1)]
 
 
 class StandIn:
@@ -127,23 +127,24 @@ class Broken(StandIn):
 class Fuzz(InFolder):
     """The command."""
 
-    def fuzz(self, library, *words):
+    def fuzz(self, library, *words, kinds=KINDS):
         """The status and the lines of a run."""
         text = io.StringIO()
-        with contextlib.redirect_stdout(text), contextlib.redirect_stderr(text), mock.patch.object(fuzzing, "KINDS", KINDS):
+        with contextlib.redirect_stdout(text), contextlib.redirect_stderr(text), mock.patch.object(fuzzing, "KINDS", kinds):
             status = fuzz_command.main(list(words), library)
         return status, text.getvalue().splitlines()
 
     def test_a_library_that_does_as_the_reference(self):
         self.assertEqual(self.fuzz(StandIn(), "--count", str(CASES)), (0, [f"{CASES} cases, 0 differences"]))
 
-    def assert_told(self, library, pattern, *words):
+    def assert_told(self, library, pattern, *words, **options):
         """Differences are told, each with its seed, which gives it again."""
-        status, lines = self.fuzz(library, "--count", str(CASES), *words)
+        status, lines = self.fuzz(library, "--count", str(CASES), *words, **options)
         told = [re.match(r"seed (\d+)(?: \(.*\))?: (.*)", line) for line in lines[:-1]]
         self.assertEqual((status, lines[-1]), (1, f"{CASES} cases, {len(told)} differences"))
         self.assertTrue(told and all(one and re.search(pattern, one[2]) for one in told), lines)
-        self.assertEqual(self.fuzz(library, "--seed", told[0][1], "--count", "1", *words), (1, [told[0][0], "1 cases, 1 differences"]))
+        again = self.fuzz(library, "--seed", told[0][1], "--count", "1", *words, **options)
+        self.assertEqual(again, (1, [told[0][0], "1 cases, 1 differences"]))
         return [one[1] for one in told]
 
     def test_another_answer(self):
@@ -153,6 +154,11 @@ class Fuzz(InFolder):
 
     def test_another_status(self):
         self.assert_told(OtherStatuses(), r"its call: the library has b'0', the reference b'\d+'")
+
+    def test_links_for_which_the_image_is_written_anew(self):
+        for word in ("soft", "unlink"):
+            with self.subTest(word=word):
+                self.assert_told(StandIn(), rf"^line \d+, b.{word} .*: .*( changed| moved|image grew by )", kinds=[{word: 1}])
 
     def test_what_is_told_otherwise(self):
         self.assert_told(OtherKinds(), r"^at b'/.*' behind all lines: what is told: the library has \('soft link', b'x'\), the reference \('group'")

@@ -46,14 +46,14 @@ class Groups(InFolder):
         names = "efghijkl"
         script = ARRAY + "".join(f"link /d /{name}\n" for name in names).encode()
         self.assert_run(path, script, b"ok 0\n" * 9)
-        image = self.read(path)
-        self.assertEqual(len(image), 1580)
         lines = ["/ group"] + [f"/{name} dataset i32le {{3}}" for name in "d" + names]
         self.assertEqual(h5i("ls", path), (0, today.printed(lines), b""))
         self.assertEqual(len(lines), 10)
-        reading = open_image(image)
+        reading = open_image(self.read(path))
         self.assertEqual(reading.tree.counts[1], 9)
         self.assertEqual(sum(kind == "symbol node" for _, _, kind in reading.blocks), 2)
+        self.assert_run(path, b"repack\n", b"ok 0\n")
+        self.assertEqual(len(self.read(path)), 1580)
 
     def test_two_groups(self):
         path = self.new()
@@ -68,10 +68,10 @@ class Groups(InFolder):
         reading = open_image(image)
         group = next(n for n, thing in reading.tree.objects.items() if n and reading.tree.is_group(n))
         self.assertEqual(len(reading.tree.objects[group].links), 300)
-        # The root has one symbol node of its own.
-        self.assertEqual(sum(kind == "symbol node" for _, _, kind in reading.blocks), 1 + 38)
+        # A symbol node has 8 entries at most, and one that was split 4 at least; a node has 32 of them at most. The root has its own.
+        self.assertIn(sum(kind == "symbol node" for _, _, kind in reading.blocks) - 1, range(38, 76))
         nodes = [at for at, _, kind in reading.blocks if image[at:at + 4] == b"TREE"]
-        self.assertEqual(sorted(image[at + 5] for at in nodes), [0, 0, 0, 1])
+        self.assertEqual(max(image[at + 5] for at in nodes), 1)
         lines = ["/ group", "/d dataset u8 {1}", "/g group"] + [f"/g/n{k:03} dataset u8 {{1}}" for k in range(300)]
         self.assertEqual(h5i("ls", path), (0, today.printed(lines), b""))
 

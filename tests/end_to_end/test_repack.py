@@ -96,7 +96,7 @@ class Worked(Repacked):
         path = self.new()
         self.assertEqual(h5i("run", path, script=b"repack\nrepack\n"), (0, b"ok 0\nok 0\n", b""))
         self.assertEqual(self.read(path), empty_image())
-        self.assertEqual(h5i("run", path, script=NINE_LINKS), (0, b"ok 0\n" * 9, b""))
+        self.assertEqual(h5i("run", path, script=NINE_LINKS + b"repack\n"), (0, b"ok 0\n" * 10, b""))
         image = self.read(path)
         self.assertEqual(len(image), 1580)
         self.assertEqual(h5i("run", path, script=b"repack\nls\n")[:2], (0, b"ok 0\n" + today.listing(open_image(image).tree)))

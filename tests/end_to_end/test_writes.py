@@ -314,20 +314,6 @@ class Lists(Transcripts):
         self.accepted(["write /l 0 1 1 1 4"], path)
         self.assertEqual(h5i("dump", path, "/e"), (0, b"/e dataset i32le {3} contiguous fill 0\n4 -1 2147483647\n", b""))
 
-    def test_300_links_taken_away(self):
-        names = [f"n{k:03}" for k in range(300)]
-        path = self.accepted(["group /g", "dataset /d u8 1 compact", *(f"link /d /g/{name}" for name in names)])
-        rest, script, answers = set(names), [], []
-        for k in [k for pair in zip(range(149, -1, -1), range(150, 300)) for k in pair]:
-            rest.remove(names[k])
-            script += [f"unlink /g/{names[k]}", "ls"]
-            answers += ["ok 0", "/ group", "/d dataset u8 {1}", "/g group", *(f"/g/{name} dataset u8 {{1}}" for name in sorted(rest))]
-        self.assertEqual(h5i("run", path, script=today.printed(script)), (0, today.printed(answers), b""))
-        reading = open_image(self.read(path))
-        group = next(n for n, thing in reading.tree.objects.items() if n and reading.tree.is_group(n))
-        self.assertEqual((reading.facts[group]["level"], reading.tree.objects[group].links), (0, {}))
-        self.assertEqual([reading.tree.counts[n] for n in reading.tree.objects if not reading.tree.is_group(n)], [1])
-
     def test_soft_links(self):
         self.assert_transcript(self.new(), """
             > soft /nowhere /s

@@ -1,0 +1,95 @@
+"""A script in one session of the program, with the image behind each line; and the judgement of each, of edits in place byte by byte."""
+
+import re
+from dataclasses import dataclass
+
+from . import today
+from .support import h5i
+
+FREE = re.compile(b"\1+")
+
+
+def image_behind(path, image, script):
+    """The output of a script that runs on an image in a file of this path, and the image behind it."""
+    with open(path, "wb") as file:
+        file.write(image)
+    _, output, errors = h5i("run", path, script=script)
+    if errors:
+        raise AssertionError(errors)
+    with open(path, "rb") as file:
+        return output, file.read()
+
+
+@dataclass
+class Step:
+    """A line and its answer, and the images before it and behind it."""
+
+    line: bytes
+    answer: bytes
+    before: bytes
+    after: bytes
+
+
+def steps(path, image, lines):
+    """Each line of a script that runs on an image. A session's free blocks are in no file, so all lines before it run again with each."""
+    said, before = b"", image
+    for count, line in enumerate(lines, 1):
+        output, after = image_behind(path, image, b"".join(each + b"\n" for each in lines[:count]))
+        if not output.startswith(said):
+            raise AssertionError(f"line {count}: other answers than before")
+        yield Step(line, output[len(said):], before, after)
+        said, before = output, after
+
+
+class GivenBack:
+    """Bytes that a session has given back, and has not taken again."""
+
+    def __init__(self):
+        self.free = bytearray()
+
+    def is_written_anew(self):
+        """The image was written anew, and has no free byte."""
+        self.free = bytearray()
+
+    def edited(self, old, new):
+        """What is wrong with where the blocks of an edit in place stand: at the end, where a free block is as long."""
+        free = self.free.ljust(new.superblock.end, b"\0")
+        # A block without bytes, as a Continuation may name, may stand where another begins.
+        held = {at: (length, kind) for at, length, kind in new.blocks if length > 0}
+        for at, (length, _) in held.items():
+            free[at:at + length] = bytes(length)
+        # These were free before, and still are.
+        longest = max((len(run) for run in FREE.findall(free)), default=0)
+        wrong = [f"{kind} of {length} bytes stands at the end, and {longest} bytes are free" for at, (length, kind) in held.items()
+                 if at >= old.superblock.end and length <= longest]
+        for at, length, _ in old.blocks:
+            free[at:at + length] = b"\1" * length
+        for at, (length, _) in held.items():
+            free[at:at + length] = bytes(length)
+        self.free = free
+        return wrong
+
+
+class Judge:
+    """What is wrong with the steps of a session."""
+
+    def __init__(self, image):
+        self.reading, refused = today.opened(image)
+        if refused:
+            raise AssertionError(refused)
+        self.given_back = GivenBack()
+
+    def wrong_with(self, step, edited, in_place, tree):
+        """What is wrong with a step. It was to be an edit or none, in place or anew, and to leave this tree."""
+        if not edited:
+            return [] if step.before == step.after else ["what is no edit has changed the image"]
+        old, (self.reading, refused) = self.reading, today.opened(step.after)
+        if refused:
+            return [refused]
+        wrong = today.wrong_with(step.before, step.after, step.line) if in_place else []
+        unlike = today.same_tree(self.reading.tree, tree)
+        if in_place:
+            wrong += self.given_back.edited(old, self.reading)
+        else:
+            self.given_back.is_written_anew()
+        return wrong + [unlike] * (unlike is not None)
