@@ -6,61 +6,18 @@
  * libhdf5 by its core driver, without a file behind it. Its low bound is the earliest, so the files are of the same form. What is read is
  * compared with what is to be read, by both. The floor of a phase is the time for copying as many bytes as it has to move into fresh
  * memory, in the same run: those of the cells, or of the image that is opened. */
-#include <hdf5.h>
+#include "both.h"
 
-#include "h5i.h"
-
-#include <stdint.h>
-#include <stdio.h>
-#include <stdlib.h>
-#include <string.h>
 #include <sys/mman.h>
-#include <time.h>
 
-enum { MOST_RUNS = 99, SIDE = 4096, CHUNK = 64, STRIDED = 1365 * 818 * 2, CELLS = 1000000, SLAB = 16 };
+enum { SIDE = 4096, CHUNK = 64, STRIDED = 1365 * 818 * 2, CELLS = 1000000, SLAB = 16 };
 
 static int part = 1; /* the counts of slow phases are divided by this */
-static hid_t in_memory;
-
-static void fail(const char *what, long status) {
-    fprintf(stderr, "failed with %ld: %s\n", status, what);
-    exit(1);
-}
-
-static void not_negative(long status, const char *what) {
-    if (status < 0)
-        fail(what, status);
-}
-
-static void is_done(h5i_status status, const char *what) {
-    if (status != LIBH5I_DONE)
-        fail(what, (long)status);
-}
-
-static void is_true(bool test, const char *what) {
-    if (!test)
-        fail(what, 0);
-}
-
-/* A call of libhdf5, and one of libh5i, that has to go well. */
-#define H5(call) not_negative((long)(call), #call)
-#define OURS(call) is_done(call, #call)
-#define TRUE(test) is_true(test, #test)
-
-#define TEXT(text) (const uint8_t *)(text), strlen(text)
-#define LIST(list) list, sizeof(list) / sizeof *(list)
-#define SLAB_OF(start, stride, count, block) LIST(start), LIST(stride), LIST(count), LIST(block)
 
 static const h5i_type int32 = {4, true, false};
 static const uint32_t no_chunks[1];
 
-/* ---- time, and numbers that look like chance (xorshift64) */
-
-static double now(void) {
-    struct timespec at;
-    clock_gettime(CLOCK_MONOTONIC, &at);
-    return (double)at.tv_sec + (double)at.tv_nsec * 1e-9;
-}
+/* ---- numbers that look like chance (xorshift64) */
 
 static uint64_t seed;
 static void begin_chance(void) { seed = 88172645463325252ull; }
@@ -71,19 +28,7 @@ static uint64_t chance(void) {
     return seed;
 }
 
-/* ---- small words over each library */
-
-static hid_t new_file(const char *name) {
-    hid_t file = H5Fcreate(name, H5F_ACC_TRUNC, H5P_DEFAULT, in_memory);
-    H5(file);
-    return file;
-}
-
-static h5i_session new_session(void) {
-    h5i_session session = {0};
-    OURS(h5i_create(&session));
-    return session;
-}
+/* ---- small words over libh5i */
 
 /* An array of int32 with all cells in one block, of one dimension. */
 static void new_array(h5i_session *session, const char *path, uint64_t cells) {
@@ -691,11 +636,6 @@ static const struct {
     {'i', false, "20000 times an attribute set, of 50", i_theirs, i_ours, 0, NULL},
 };
 
-static int by_size(const void *a, const void *b) {
-    double x = *(const double *)a, y = *(const double *)b;
-    return (x > y) - (x < y);
-}
-
 int main(int count, char **words) {
     int runs = count > 1 ? atoi(words[1]) : 5;
     const char *wanted = count > 2 ? words[2] : "abcdefghi";
@@ -704,8 +644,7 @@ int main(int count, char **words) {
         fprintf(stderr, "usage: peers [RUNS [PHASES [PARTS]]]\n");
         return 2;
     }
-    in_memory = H5Pcreate(H5P_FILE_ACCESS);
-    H5(H5Pset_fapl_core(in_memory, 1 << 20, 0));
+    begin_libraries();
     cells = malloc((size_t)SIDE * SIDE * 4), room = malloc((size_t)SIDE * SIDE * 4);
     TRUE(cells != NULL && room != NULL);
     for (int32_t k = 0; k < SIDE * SIDE; k++)
@@ -713,10 +652,8 @@ int main(int count, char **words) {
     make_images();
     make_big_image();
 
-    unsigned version[3];
-    H5(H5get_libversion(&version[0], &version[1], &version[2]));
-    printf("| Phase | libhdf5 %u.%u.%u | libh5i | libhdf5 / libh5i | floor | libh5i / floor |\n|---|---|---|---|---|---|\n", version[0], version[1],
-           version[2]);
+    print_head();
+    printf(" floor | libh5i / floor |\n|---|---|---|---|---|---|\n");
     for (size_t k = 0; k < sizeof phases / sizeof *phases; k++) {
         if (strchr(wanted, phases[k].letter) == NULL)
             continue;
@@ -728,17 +665,15 @@ int main(int count, char **words) {
             if (bytes > 0)
                 floors[run] = copied(big_image, bytes);
         }
-        qsort(theirs, (size_t)runs, sizeof *theirs, by_size), qsort(ours, (size_t)runs, sizeof *ours, by_size);
-        qsort(floors, (size_t)runs, sizeof *floors, by_size);
-        double middle = theirs[runs / 2], own = ours[runs / 2];
-        char less[32] = "";
-        if (phases[k].is_divided && part > 1)
-            snprintf(less, sizeof less, ", one in %d of these", part);
-        char floor[64] = " | ";
-        if (floors[runs / 2] > 0)
-            snprintf(floor, sizeof floor, "%.4f | %.2f", floors[runs / 2], own / floors[runs / 2]);
-        printf("| %c: %s%s | %.4f (%.4f to %.4f) | %.4f (%.4f to %.4f) | %.2f | %s |\n", phases[k].letter, phases[k].name, less, middle,
-               theirs[0], theirs[runs - 1], own, ours[0], ours[runs - 1], middle / own, floor);
+        char name[96];
+        snprintf(name, sizeof name, phases[k].is_divided && part > 1 ? "%c: %s, one in %d of these" : "%c: %s", phases[k].letter,
+                 phases[k].name, part);
+        print_times(name, theirs, ours, runs);
+        double floor = middle_of(floors, runs);
+        if (floor > 0)
+            printf(" %.4f | %.2f |\n", floor, middle_of(ours, runs) / floor);
+        else
+            printf(" | |\n");
         fflush(stdout);
     }
     return 0;
