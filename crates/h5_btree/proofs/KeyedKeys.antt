@@ -1,7 +1,7 @@
 -- The keys of a tree after an insertion: each is one of before, or one that came in. So what is so of these is so of all of them.
-use Rattle.std.proofs.Common.{◌≡◌, ◌≢◌, ◌⊎◌, inl, inr, ℕ, zero, suc, ◌+◌, ◌≤◌, List, [], ◌∷◌, ◌++◌, length, map, take, drop, get_or, refl, sym, ap, ◌∙◌, subst, arith, add-one, Bool}
+use Rattle.std.proofs.Common.{◌≡◌, ◌≢◌, inl, inr, ℕ, zero, suc, ◌+◌, ◌≤◌, List, [], ◌∷◌, ◌++◌, length, map, take, drop, get_or, sym, ap, ◌∙◌, subst, arith, add-one, Bool}
 use Rattle.std.specs.Bool.{⊤}
-use Rattle.std.specs.List.{AllByRecursion, flat_map, insert, remove}
+use Rattle.std.specs.List.{AllByRecursion, insert, remove}
 use Rattle.h5_bytes.specs.Bytes.{undefined}
 use Rattle.h5_bytes.proofs.BlockLaws.{all_append, all_left, all_right, all_so}
 use Rattle.h5_model.specs.Format.Rows.{Node, Reading, next_row, nodes}
@@ -14,7 +14,7 @@ use Rattle.h5_space.specs.Space.{Space}
 use Rattle.h5_btree.specs.Climb.{IsNoNode}
 use Rattle.h5_btree.specs.Held.{AreHeldKeys}
 use Rattle.h5_btree.specs.Insertion.{IsPutAlong, KeepsEntries, Owns}
-use Rattle.h5_btree.specs.Keyed.{AtChild, at_children, trees_below, keys_from, IsInOrder}
+use Rattle.h5_btree.specs.Keyed.{AtChild, at_children, keys_from, IsInOrder}
 use Rattle.h5_btree.specs.Removal.{EndsInTree}
 use Rattle.h5_btree.specs.declared.way.Step.{Step}
 use Rattle.h5_btree.proofs.KeyedTrees.{StandsAlike, IsOffWay}

@@ -1,7 +1,8 @@
 -- The keys of one node, which give way one after another.
 use Rattle.std.proofs.Common.{◌≡◌, ◌≢◌, ◌⊎◌, inl, inr, ℕ, zero, suc, ◌<◌, ◌≤◌, Bool, true, false, List, [], ◌∷◌, length, get_or, refl, sym, ap, ap₂, ◌∙◌, subst, arith}
 use Rattle.std.specs.Prelude.{slice_set}
-use Rattle.std.specs.List.{AllByRecursion}
+use Rattle.std.specs.List.{AllByRecursion, list_any}
+use Rattle.std.proofs.lemmas.List.Folds.{list_any_at}
 use Rattle.h5_bytes.proofs.BlockLaws.{all_right}
 use Rattle.h5_laws.specs.KeyEdits.{AreRetired}
 use Rattle.h5_btree.specs.Retired.{AreKeysRetired, IsKeyBefore, IsKeyRetired, lowest_key}
@@ -182,6 +183,13 @@ module _ (hit : List ℕ → Bool) where
   unhit_same lists (k ∷ keys) (k' ∷ new) none is =
       let here : k' ≡ k = elim is.0 [ inl kept ↦ kept.1 | inr gone ↦ absurd (not_hit hit lists k none.0 gone.0) ] in
       ap₂ (λ (a : List ℕ) (b : List (List ℕ)). a ∷ b) here (same_from k' keys lists new none.1 is.1)
+
+  unhit_at : (keys : List (List ℕ)) (j : ℕ) → list_any hit keys ≡ false → j < length keys → hit (get_or keys j []) ≡ false
+  unhit_at keys j none low = by_hit (get_or keys j []) (λ is. let both : false ≡ true = sym none ∙ list_any_at hit keys j [] low is in absurd (cc))
+
+  pub none_retired : (lists : List (List (List ℕ))) (keys : List (List ℕ)) → length keys ≡ suc (length lists) → list_any hit keys ≡ false → AreKeysRetired hit lists keys keys
+  none_retired lists keys long none =
+      partly_all lists keys keys long (record { long = refl; done = λ j low. inl (unhit_at keys j none low, refl); rest = λ j more. refl })
 
   -- ---- each is the lowest one, or an item's, or was there and stays
 

@@ -2,9 +2,11 @@
 //! III.A.1).
 
 ghost use Rattle.std.specs.Prelude.{◌≡◌, ℕ, ◌+◌, ◌<◌, ◌≤◌, Bool, List, length, map, slice_index_or, slice_set, suc};
+ghost use Rattle.std.specs.List.{list_any};
 ghost use Rattle.h5_model.specs.Format.Nodes.{entries_in, node_at, node_bytes};
 ghost use Rattle.h5_space.specs.Moves.{Spends};
 ghost use Rattle.h5_space.specs.Space.{Space};
+ghost use Rattle.h5_btree.specs.Held.{IsNodeThere};
 ghost use Rattle.h5_btree.specs.Rewritten.{IsRewritten};
 ghost use Rattle.h5_btree.specs.Retired.{AreRetiredBelow, IsKeyBefore, IsKeyRetired, IsLastOf, IsNodeRewritten, IsRetirable, IsRetirableSomewhere, IsRetiring, IsTreeRetired, IsSubtree, KeepsRetired, StandsSomewhere, StandsUnder, keys_below};
 
@@ -39,9 +41,9 @@ pub trait Hits {
 /// other one to the key of the last item below the child before it, or, where there is none, to the key before it.
 ///
 /// So none of the keys is hit any more. The tree has the same nodes and children. Takes no room and no memory, looks at
-/// each key once, and goes down from the node once for each key that gives way. That the tree shares no byte with a free
-/// block, that what stands at its bottom stays where nodes of the tree alone change, and that neither the lowest key
-/// nor that of an item is hit, are the caller's conditions.
+/// each key once, and once more where one of its node gives way, and goes down from the node once for each key that
+/// does. That the tree shares no byte with a free block, that what stands at its bottom stays where nodes of the tree
+/// alone change, and that neither the lowest key nor that of an item is hit, are the caller's conditions.
 pub fn retire<R: Hits>(image: &mut Image, kind: NodeKind, root: u64, how: &R)
     requires tree { IsRetirableSomewhere (R.hit how.now) (R.stands how.now) (R.keys_at how.now)
         image.old kind root }
@@ -53,35 +55,35 @@ pub fn retire<R: Hits>(image: &mut Image, kind: NodeKind, root: u64, how: &R)
     ensures spends { Spends image.old image.new 0 0 }
 {
     let level = node_there(image.bytes(), kind, root).level();
-    retire_below(image, kind, level, root, how);
+    retire_below(image, &kind, level, root, how);
 }
 
 /// The same below a node of this level, and of the node itself.
-fn retire_below<R: Hits>(image: &mut Image, kind: NodeKind, level: u8, at: u64, how: &R)
+fn retire_below<R: Hits>(image: &mut Image, kind: &NodeKind, level: u8, at: u64, how: &R)
     requires stands { StandsSomewhere (R.hit how.now) (R.stands how.now) (R.keys_at how.now)
-        image.old kind level at }
+        image.old kind.now level at }
     ensures retired { (start : Space) (root height : ℕ) (owned list : List ℕ)
         → IsRetiring (R.hit how.now) (R.stands how.now) (R.keys_at how.now)
-        start image.old kind root height owned list
-        → IsSubtree (node_at start.bytes kind) owned list (suc level) at
+        start image.old kind.now root height owned list
+        → IsSubtree (node_at start.bytes kind.now) owned list (suc level) at
         → IsRetiring (R.hit how.now) (R.stands how.now) (R.keys_at how.now)
-        start image.new kind root height owned list }
+        start image.new kind.now root height owned list }
     ensures below { (start : Space) (root height : ℕ) (owned list : List ℕ)
         → IsRetiring (R.hit how.now) (R.stands how.now) (R.keys_at how.now)
-        start image.old kind root height owned list
-        → IsSubtree (node_at start.bytes kind) owned list (suc level) at
-        → AreRetiredBelow (R.hit how.now) (R.keys_at how.now) start image.new kind (suc level) at }
+        start image.old kind.now root height owned list
+        → IsSubtree (node_at start.bytes kind.now) owned list (suc level) at
+        → AreRetiredBelow (R.hit how.now) (R.keys_at how.now) start image.new kind.now (suc level) at }
     ensures kept { (start : Space) (root height : ℕ) (owned list : List ℕ)
         → IsRetiring (R.hit how.now) (R.stands how.now) (R.keys_at how.now)
-        start image.old kind root height owned list
-        → IsSubtree (node_at start.bytes kind) owned list (suc level) at
-        → KeepsRetired (R.hit how.now) (R.keys_at how.now) start image.old image.new kind owned }
+        start image.old kind.now root height owned list
+        → IsSubtree (node_at start.bytes kind.now) owned list (suc level) at
+        → KeepsRetired (R.hit how.now) (R.keys_at how.now) start image.old image.new kind.now owned }
     ensures spends { Spends image.old image.new 0 0 }
 {
-    retire_keys(image, kind, level, at, how);
+    retire_keys(image, *kind, level, at, how);
     if level > 0 {
-        for i in 0..node_there(image.bytes(), kind, at).len() {
-            let child = node_there(image.bytes(), kind, at).child(i);
+        for i in 0..node_there(image.bytes(), *kind, at).len() {
+            let child = node_there(image.bytes(), *kind, at).child(i);
             retire_below(image, kind, level - 1, child, how);
         }
     }
@@ -93,9 +95,26 @@ fn retire_keys<R: Hits>(image: &mut Image, kind: NodeKind, level: u8, at: u64, h
         image.old kind level at }
     ensures { IsNodeRewritten (R.hit how.now) (R.keys_at how.now) image.old image.new kind level at }
 {
-    for i in 0..node_there(image.bytes(), kind, at).len() + 1 {
-        retire_key(image, kind, level, at, i, how);
+    if has_hit(image.bytes(), kind, at, how) {
+        for i in 0..node_there(image.bytes(), kind, at).len() + 1 {
+            retire_key(image, kind, level, at, i, how);
+        }
     }
+}
+
+/// Whether a key of a node is hit. Few nodes have such a key, so that the keys of most are looked at here alone. There is
+/// no way out at the first hit, since a branch for each key would take longer than the look at all.
+fn has_hit<R: Hits>(image: &[u8], kind: NodeKind, at: u64, how: &R) -> bool
+    requires node { IsNodeThere image.now kind at }
+    requires width { kind.key_length ≡ 8 }
+    ensures { result ≡ list_any (R.hit how.now) (node_at image.now kind at).keys }
+{
+    let node = node_there(image, kind, at);
+    let mut hit = false;
+    for i in 0..node.len() + 1 {
+        hit |= how.is_hit(node.key(i));
+    }
+    hit
 }
 
 /// Lets key `i` of a node give way, if it is hit.

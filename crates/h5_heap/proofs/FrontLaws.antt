@@ -9,8 +9,7 @@ use Rattle.h5_bytes.proofs.BlockLaws.{holds-inner, all_so}
 use Rattle.h5_model.specs.Format.Heap.{IsFree}
 use Rattle.h5_heap.specs.Chain.{free_from, HasChain, ListsAt, Relists, Ascends, put_behind}
 use Rattle.h5_heap.specs.Inserted.{IsFront, rest_of}
-use Rattle.h5_heap.specs.Sought.{is_sought}
-use Rattle.h5_heap.specs.declared.chain.Sought.TheVariants.{AtLeast}
+use Rattle.h5_heap.specs.Sought.{is_enough}
 use Rattle.h5_heap.proofs.ChainLaws.{IsFound, found_free, free_block_at}
 use Rattle.h5_heap.proofs.RelistLaws.{relists_then}
 use Rattle.h5_heap.proofs.OrderLaws.{IsSplitAt, split_at, lists_stands, ascends_less, ascends_changed, ascends_past}
@@ -22,11 +21,11 @@ pub rest_one : (len : ℕ) (b : Block) → 16 ≤ b.len - len → rest_of len b 
 rest_one len b long = let e : nat_lt (b.len - len) 16 ≡ false = grind (arith, nat_tests, long) in rw e refl
 
 -- the block was taken out of the list, to which the one at a place led
-module _ (s t : List ℕ) (first g len : ℕ) (b : Block) (c : HasChain s first) (found : find (is_sought (AtLeast len)) (free_from s first) ≡ Some b)
+module _ (s t : List ℕ) (first g len : ℕ) (b : Block) (c : HasChain s first) (found : find (is_enough len) (free_from s first) ≡ Some b)
     (place : Option ℕ) (out : Relists s t first g (free_block_at s b.at ∷ []) [])
     (listed : free_from s first ≡ put_behind place (free_block_at s b.at) (free_from t g)) (still : IfSome place (λ p. ListsAt t g p)) where
-  pub front_found : IsFound (is_sought (AtLeast len)) s (free_from s first) b
-  front_found = found_free (is_sought (AtLeast len)) s first b c found
+  pub front_found : IsFound (is_enough len) s (free_from s first) b
+  front_found = found_free (is_enough len) s first b c found
 
   pub enough : len ≤ b.len
   enough = grind (arith, nat_tests, front_found.passes)

@@ -16,8 +16,7 @@ use Rattle.h5_model.specs.Format.Sizes.{text_span}
 use Rattle.h5_space.proofs.MovesLaws.{byte-with_part}
 use Rattle.h5_heap.specs.Chain.{free_from, IsChain, HasChain, Relists, Ascends, IsPutIn}
 use Rattle.h5_heap.specs.Inserted.{InsertsText, IsFront, rest_of, grown_length}
-use Rattle.h5_heap.specs.Sought.{is_sought}
-use Rattle.h5_heap.specs.declared.chain.Sought.TheVariants.{AtLeast}
+use Rattle.h5_heap.specs.Sought.{is_enough}
 use Rattle.h5_heap.proofs.ChainLaws.{IsFound, found_free, free_from_is, has_chain}
 use Rattle.h5_heap.proofs.EditedLaws.{byte_at-part}
 use Rattle.h5_heap.proofs.FrontLaws.{rest_none, rest_one}
@@ -69,11 +68,11 @@ module _ (t : List ℕ) (g : ℕ) (c : HasChain t g) (text : List ℕ) (at : ℕ
 
 -- in the first bytes of a free block
 module _ (s t : List ℕ) (first g : ℕ) (text : List ℕ) (b : Block) (c : HasChain s first)
-    (found : find (is_sought (AtLeast (text_span text))) (free_from s first) ≡ Some b)
+    (found : find (is_enough (text_span text)) (free_from s first) ≡ Some b)
     (taken : Relists s t first g (b ∷ []) (rest_of (text_span text) b)) (front : IsFront (free_from s first) (free_from t g) b.at (text_span text))
     (ascending : Ascends (free_from s first) → Ascends (free_from t g)) where
-  free : IsFound (is_sought (AtLeast (text_span text))) s (free_from s first) b
-  free = found_free (is_sought (AtLeast (text_span text))) s first b c found
+  free : IsFound (is_enough (text_span text)) s (free_from s first) b
+  free = found_free (is_enough (text_span text)) s first b c found
 
   enough : text_span text ≤ b.len
   enough = grind (arith, nat_tests, free.passes)
@@ -121,7 +120,7 @@ module _ (s t : List ℕ) (first g : ℕ) (text : List ℕ) (b : Block) (c : Has
         arith,
         ap (cover p) front.before,
         cover-append p front.front (front.whole ∷ front.back),
-        ap (λ (x : Block). holds p x.at x.len) (same_some (find (is_sought (AtLeast (text_span text))) (free_from s first)) front.whole b front.first found),
+        ap (λ (x : Block). holds p x.at x.len) (same_some (find (is_enough (text_span text)) (free_from s first)) front.whole b front.first found),
       )
 
 -- behind the old bytes
@@ -173,7 +172,7 @@ module _ (l : List ℕ) (size first : ℕ) (low : size ≤ length l) (c : HasCha
   ]
 
   -- the text stands behind them, and what is behind it is free
-  module _ (text : List ℕ) (m : List ℕ) (g : ℕ) (none : find (is_sought (AtLeast (text_span text))) (free_from (part 0 size l) first) ≡ None)
+  module _ (text : List ℕ) (m : List ℕ) (g : ℕ) (none : find (is_enough (text_span text)) (free_from (part 0 size l) first) ≡ None)
       (fits : pad8 size + text_span text + 16 ≤ length l)
       (given : Relists l m first g [] (block (pad8 size + text_span text) (length l - (pad8 size + text_span text)) ∷ []))
       (put : IsPutIn (block (pad8 size + text_span text) (length l - (pad8 size + text_span text))) (free_from l first) (free_from m g))

@@ -2,6 +2,7 @@ pub mod FreeLaws
 pub mod ChainLaws
 pub mod RelistLaws
 pub mod OrderLaws
+pub mod AroundLaws
 pub mod FrontLaws
 pub mod ReleaseLaws
 pub mod EditedLaws

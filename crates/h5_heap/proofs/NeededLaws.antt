@@ -9,8 +9,7 @@ use Rattle.h5_model.specs.Format.Heap.{segment_block, segment_of}
 use Rattle.h5_model.specs.Format.Sizes.{text_span}
 use Rattle.h5_heap.specs.Edited.{IsStandingHeap, free_blocks}
 use Rattle.h5_heap.specs.Inserted.{IsFront, IsBehind, HasInserted, grown_length, needed, needed_calls}
-use Rattle.h5_heap.specs.Sought.{is_sought}
-use Rattle.h5_heap.specs.declared.chain.Sought.TheVariants.{AtLeast}
+use Rattle.h5_heap.specs.Sought.{is_enough}
 use Rattle.h5_heap.proofs.EditedLaws.{segment_long}
 
 abbrev none_or : Option Block → ℕ → ℕ
@@ -44,10 +43,10 @@ needed_once old new heap text room at len s has fits = go has.inserted.placed wh
   size_is = segment_long old heap s.inside
 
   test : Block → Bool
-  test = is_sought (AtLeast len)
+  test = is_enough len
 
   found : Option Block
-  found = find (is_sought (AtLeast (text_span text))) (free_blocks old heap)
+  found = find (is_enough (text_span text)) (free_blocks old heap)
 
   go : (IsFront (free_blocks old heap) (free_blocks new heap) at (text_span text) × (length (segment_of new heap) ≡ length (segment_of old heap)))
       ⊎ IsBehind (free_blocks old heap) (free_blocks new heap) (length (segment_of old heap)) (length (segment_of new heap)) at (text_span text) room

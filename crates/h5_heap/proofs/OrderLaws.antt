@@ -10,9 +10,9 @@ use Rattle.h5_bytes.specs.declared.Block.{Block}
 use Rattle.h5_bytes.proofs.BlockLaws.{cover-append, holds_in, all_left, all_right, all_append, all_so}
 use Rattle.h5_model.specs.Format.Heap.{FreeFrom, IsFree}
 use Rattle.h5_heap.specs.Chain.{free_from, HasChain, Stands, ListsAt, Ascends, IsPutIn, put_behind, IsGreatestBelow}
-use Rattle.h5_heap.specs.Sought.{is_sought}
-use Rattle.h5_heap.specs.declared.chain.Sought.TheVariants.{BeginsAt, EndsAt}
+use Rattle.h5_heap.specs.Sought.{begins_at, ends_at}
 use Rattle.h5_heap.specs.Released.{others, stop_of}
+use Rattle.h5_heap.proofs.ChainLaws.{free_block_at}
 use Rattle.h5_heap.proofs.RelistLaws.{behind}
 
 -- ---- a block that comes in
@@ -23,7 +23,7 @@ is_at c place is = grind (arith, nat_tests, is)
 not_at : (c : Block) (place : ℕ) → c.at ≢ place → (c.at == place) ≡ false
 not_at c place other = grind (arith, nat_tests, other)
 
-begins_there : (c : Block) → IsFree c → holds c.at c.at c.len ≡ 1
+pub begins_there : (c : Block) → IsFree c → holds c.at c.at c.len ≡ 1
 begins_there c free = holds_in c.at c.at c.len (omega arith) (omega (arith, free.room))
 
 -- behind the block that begins at the place
@@ -66,7 +66,7 @@ put_in place bs b there =
     let s = split_at place bs there in
     record { front = s.front; back = s.back; before = s.split; after = s.put b }
 
-stands_middle : (front back : List Block) (y : Block) → Stands y.at (front ++ y ∷ back)
+pub stands_middle : (front back : List Block) (y : Block) → Stands y.at (front ++ y ∷ back)
 stands_middle [] back y = inl refl
 stands_middle (x ∷ xs) back y = inr (stands_middle xs back y)
 
@@ -74,17 +74,41 @@ pub lists_stands : (segment : List ℕ) (first : ℕ) (place : Option ℕ) → I
 lists_stands segment first None at = tt
 lists_stands segment first (Some p) at = subst (Stands p) (sym at.split) (stands_middle at.front at.back (block p (number_at segment (p + 8) 8)))
 
--- the list has the block that stands between others
+-- a block that stands between others is the one at its offset
+pub between_is : (segment : List ℕ) (first : ℕ) (front back : List Block) (y : Block) → HasChain segment first
+    → free_from segment first ≡ front ++ y ∷ back → y ≡ free_block_at segment y.at
+between_is segment first front back y c is =
+    let on = behind segment first front (y ∷ back) (subst (FreeFrom segment first) is c.listed) in
+    ap (block y.at) (on.1.1 ∙ ap (λ (n : ℕ). number_at segment (n + 8) 8) (sym on.1.0))
+
+-- the list has it
 pub lists_at : (segment : List ℕ) (first : ℕ) (front back : List Block) (y : Block) → HasChain segment first
     → free_from segment first ≡ front ++ y ∷ back → ListsAt segment first y.at
-lists_at segment first front back y c is =
-    let on = behind segment first front (y ∷ back) (subst (FreeFrom segment first) is c.listed) in
-    let len : y.len ≡ number_at segment (y.at + 8) 8 = on.1.1 ∙ ap (λ (n : ℕ). number_at segment (n + 8) 8) (sym on.1.0) in
-    record {
-      front = front;
-      back = back;
-      split = is ∙ ap (λ (b : Block). front ++ b ∷ back) (ap (block y.at) len);
-    }
+lists_at segment first front back y c is = record {
+  front = front;
+  back = back;
+  split = is ∙ ap (λ (b : Block). front ++ b ∷ back) (between_is segment first front back y c is);
+}
+
+pub stands_lists : (segment : List ℕ) (first : ℕ) (place : Option ℕ) → HasChain segment first → IfSome place (λ p. Stands p (free_from segment first))
+    → IfSome place (λ p. ListsAt segment first p)
+stands_lists segment first None c there = tt
+stands_lists segment first (Some p) c there =
+    let s = stands_split p (free_from segment first) there in
+    subst (ListsAt segment first) s.4 (lists_at segment first s.0 s.1 s.2 c s.3)
+  where
+    stands_split : (q : ℕ) (bs : List Block) → Stands q bs → (front : List Block) × (back : List Block) × (y : Block) × (bs ≡ front ++ y ∷ back) × (y.at ≡ q)
+    stands_split q [] none = absurd none
+    stands_split q (b ∷ bs) (inl here) = ([], bs, b, refl, here)
+    stands_split q (b ∷ bs) (inr later) =
+        let m = stands_split q bs later in
+        (b ∷ m.0, m.1, m.2, ap (λ (cs : List Block). b ∷ cs) m.3, m.4)
+
+-- the list from which it was taken has it
+pub put_back : (segment : List ℕ) (first : ℕ) (place : Option ℕ) (b : Block) (free : List Block) → free ≡ put_behind place b (free_from segment first)
+    → IfSome place (λ p. ListsAt segment first p) → IsPutIn b (free_from segment first) free
+put_back segment first place b free is still =
+    subst (IsPutIn b (free_from segment first)) (sym is) (put_in place (free_from segment first) b (lists_stands segment first place still))
 
 -- ---- blocks that are left
 
@@ -99,13 +123,15 @@ filter_none test (b ∷ bs) none = go (test b) none (filter_none test bs) where
 
 -- each block that is looked for holds one byte
 module _ (test : Block → Bool) (p : ℕ) (holding : (c : Block) → IsFree c → test c ≡ true → holds p c.at c.len ≡ 1) where
-  filter_far : (bs : List Block) → AllByRecursion IsFree bs → cover p bs ≡ 0 → filter (λ b. not (test b)) bs ≡ bs
-  filter_far [] each far = refl
-  filter_far (b ∷ bs) each far = go (test b) refl (filter_far bs each.1 (omega (arith, far))) where
-    go : (r : Bool) → test b ≡ r → filter (λ c. not (test c)) bs ≡ bs
-        → cond (not r) (b ∷ filter (λ c. not (test c)) bs) (filter (λ c. not (test c)) bs) ≡ b ∷ bs
+  pub find_far : (bs : List Block) → AllByRecursion IsFree bs → cover p bs ≡ 0 → find test bs ≡ None
+  find_far [] each far = refl
+  find_far (b ∷ bs) each far = go (test b) refl (find_far bs each.1 (omega (arith, far))) where
+    go : (r : Bool) → test b ≡ r → find test bs ≡ None → cond r (Some b) (find test bs) ≡ None
     go true is later = absurd (omega (arith, far, holding b each.0 is))
-    go false is later = ap (λ (cs : List Block). b ∷ cs) later
+    go false is later = later
+
+  filter_far : (bs : List Block) → AllByRecursion IsFree bs → cover p bs ≡ 0 → filter (λ b. not (test b)) bs ≡ bs
+  filter_far bs each far = filter_none test bs (find_far bs each far)
 
   -- the one that is looked for is left out
   pub filter_one : (front back : List Block) (b : Block) → test b ≡ true → AllByRecursion IsFree (front ++ b ∷ back) → Separate (front ++ b ∷ back)
@@ -144,7 +170,7 @@ find_left test p stays (b ∷ bs) = go (test b) (p b) refl refl (find_left test 
 
 -- ---- ascending lists
 
-all_filter : (P : Block → Type 0) (p : Block → Bool) (bs : List Block) → AllByRecursion P bs → AllByRecursion P (filter p bs)
+pub all_filter : (P : Block → Type 0) (p : Block → Bool) (bs : List Block) → AllByRecursion P bs → AllByRecursion P (filter p bs)
 all_filter P p [] all = tt
 all_filter P p (b ∷ bs) all = go (p b) (all_filter P p bs all.1) where
   go : (r : Bool) → AllByRecursion P (filter p bs) → AllByRecursion P (cond r (b ∷ filter p bs) (filter p bs))
@@ -242,12 +268,12 @@ ascends_past (x ∷ xs) back b each apart up = ascends_past xs back b each.1 (λ
 
 -- ---- the free blocks beside a place
 
-ends_hold : (at : ℕ) (c : Block) → IsFree c → is_sought (EndsAt at) c ≡ true → holds (at - 1) c.at c.len ≡ 1
+pub ends_hold : (at : ℕ) (c : Block) → IsFree c → ends_at at c ≡ true → holds (at - 1) c.at c.len ≡ 1
 ends_hold at c free is =
     let ends : c.at + c.len ≡ at = grind (arith, nat_tests, is) in
     holds_in (at - 1) c.at c.len (omega (arith, ends, free.room)) (omega (arith, ends, free.room))
 
-begins_hold : (end : ℕ) (c : Block) → IsFree c → is_sought (BeginsAt end) c ≡ true → holds end c.at c.len ≡ 1
+pub begins_hold : (end : ℕ) (c : Block) → IsFree c → begins_at end c ≡ true → holds end c.at c.len ≡ 1
 begins_hold end c free is =
     let begins : c.at ≡ end = grind (arith, nat_tests, is) in
     holds_in end c.at c.len (omega (arith, begins)) (omega (arith, begins, free.room))
@@ -259,23 +285,23 @@ left_out test p free rest b holding each apart is put =
     ∙ filter_one test p holding put.front put.back b is (subst (AllByRecursion IsFree) put.after each) (subst Separate put.after apart))
 
 -- the block that ends at a place, or begins at it, is out of the list: all others are left
-pub ends_out : (free rest : List Block) (b : Block) (at : ℕ) → AllByRecursion IsFree free → Separate free → is_sought (EndsAt at) b ≡ true
-    → IsPutIn b rest free → rest ≡ filter (λ c. not (is_sought (EndsAt at) c)) free
-ends_out free rest b at each apart is put = left_out (is_sought (EndsAt at)) (at - 1) free rest b (ends_hold at) each apart is put
+pub ends_out : (free rest : List Block) (b : Block) (at : ℕ) → AllByRecursion IsFree free → Separate free → ends_at at b ≡ true
+    → IsPutIn b rest free → rest ≡ filter (λ c. not (ends_at at c)) free
+ends_out free rest b at each apart is put = left_out (ends_at at) (at - 1) free rest b (ends_hold at) each apart is put
 
-pub begins_out : (free rest : List Block) (b : Block) (end : ℕ) → AllByRecursion IsFree free → Separate free → is_sought (BeginsAt end) b ≡ true
-    → IsPutIn b rest free → rest ≡ filter (λ c. not (is_sought (BeginsAt end) c)) free
-begins_out free rest b end each apart is put = left_out (is_sought (BeginsAt end)) end free rest b (begins_hold end) each apart is put
+pub begins_out : (free rest : List Block) (b : Block) (end : ℕ) → AllByRecursion IsFree free → Separate free → begins_at end b ≡ true
+    → IsPutIn b rest free → rest ≡ filter (λ c. not (begins_at end c)) free
+begins_out free rest b end each apart is put = left_out (begins_at end) end free rest b (begins_hold end) each apart is put
 
 -- both are out
 module _ (free : List Block) (at end : ℕ) (filled : at < end) where
   abbrev left : List Block
-  left = filter (λ b. not (is_sought (EndsAt at) b)) free
+  left = filter (λ b. not (ends_at at b)) free
 
-  pub others_left : filter (λ b. not (is_sought (BeginsAt end) b)) left ≡ others free at end
-  others_left = filter_both (λ b. not (is_sought (EndsAt at) b)) (λ b. not (is_sought (BeginsAt end) b)) free
+  pub others_left : filter (λ b. not (begins_at end b)) left ≡ others free at end
+  others_left = filter_both (λ b. not (ends_at at b)) (λ b. not (begins_at end b)) free
 
-  stays : (b : Block) → is_sought (BeginsAt end) b ≡ true → not (is_sought (EndsAt at) b) ≡ true
+  stays : (b : Block) → begins_at end b ≡ true → not (ends_at at b) ≡ true
   stays b is =
       let begins : b.at ≡ end = grind (arith, nat_tests, is) in
       let no : (b.at + b.len == at) ≡ false = not_same (b.at + b.len) at (omega (arith, begins, filled)) in
@@ -284,8 +310,11 @@ module _ (free : List Block) (at end : ℕ) (filled : at < end) where
       not_same : (m n : ℕ) → m ≢ n → (m == n) ≡ false
       not_same m n other = grind (arith, nat_tests, other)
 
+  pub begins_left : find (begins_at end) left ≡ find (begins_at end) free
+  begins_left = find_left (begins_at end) (λ b. not (ends_at at b)) stays free
+
   pub stop_left : stop_of left end ≡ stop_of free end
-  stop_left = ap (λ (o : Option Block). option_map_or (λ b. b.at + b.len) o end) (find_left (is_sought (BeginsAt end)) (λ b. not (is_sought (EndsAt at) b)) stays free)
+  stop_left = ap (λ (o : Option Block). option_map_or (λ b. b.at + b.len) o end) begins_left
 
 -- ---- the greatest offset below a place
 

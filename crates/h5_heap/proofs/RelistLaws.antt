@@ -292,9 +292,6 @@ relists_first segment first going c =
 
 -- ---- one edit after another
 
-pub relists_none : (s : List ℕ) (f : ℕ) → HasChain s f → Relists s s f f [] []
-relists_none s f c = record { chain = c; covered = λ p. refl; kept = λ p free given. refl; size = refl }
-
 pub relists_nothing : (s : List ℕ) (f at : ℕ) → HasChain s f → Relists s s f f (block at 0 ∷ []) []
 relists_nothing s f at c = record { chain = c; covered = λ p. omega (arith, holds_none p at); kept = λ p free given. refl; size = refl }
 

@@ -36,12 +36,6 @@ pub record ListsAt (segment : List ℕ) (first place : ℕ) : Type 0 where
   pub back : List Block
   pub split : free_from segment first ≡ front ++ block place (number_at segment (place + 8) 8) ∷ back
 
--- the list has a block at the first offset, and behind it one at the second
-pub record LeadsTo (segment : List ℕ) (first place at : ℕ) : Type 0 where
-  pub front : List Block
-  pub back : List Block
-  pub split : free_from segment first ≡ front ++ block place (number_at segment (place + 8) 8) ∷ block at (number_at segment (at + 8) 8) ∷ back
-
 -- The list was edited: the bytes of the first blocks are free no more, and those of the second are free now. Bytes that were in no
 -- free block, and are not made free, have their values still.
 pub record Relists (old new : List ℕ) (first first' : ℕ) (taken given : List Block) : Type 0 where
@@ -75,7 +69,15 @@ abbrev pub IsGreatestBelow : List Block → ℕ → Option ℕ → Type 0
 IsGreatestBelow free at None = AllByRecursion (λ b. at ≤ b.at) free
 IsGreatestBelow free at (Some place) = (place < at) × AllByRecursion (λ b. (b.at ≤ place) ⊎ (at ≤ b.at)) free
 
--- where the list leads to the block at an offset: behind the block at this place, or from its beginning on
-abbrev pub IsLedFrom : List ℕ → ℕ → ℕ → Option ℕ → Type 0
-IsLedFrom segment first at None = first ≡ at
-IsLedFrom segment first at (Some place) = LeadsTo segment first place at
+-- where the last of these blocks begins, if there is one
+abbrev pub last_place : List Block → Option ℕ
+last_place [] = None
+last_place (b ∷ []) = Some b.at
+last_place (b ∷ c ∷ cs) = last_place (c ∷ cs)
+
+-- the list has this block, behind the one at the place or before all
+pub record ComesBehind (free : List Block) (place : Option ℕ) (b : Block) : Type 0 where
+  pub front : List Block
+  pub back : List Block
+  pub split : free ≡ front ++ b ∷ back
+  pub before : last_place front ≡ place

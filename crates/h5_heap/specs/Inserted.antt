@@ -11,8 +11,7 @@ use Rattle.h5_model.specs.Format.Plain.{padded_text}
 use Rattle.h5_model.specs.Format.Sizes.{text_span}
 use Rattle.h5_heap.specs.Chain.{HasChain, free_from, Ascends, IsPutIn}
 use Rattle.h5_heap.specs.Edited.{IsStandingHeap, first_free, free_blocks}
-use Rattle.h5_heap.specs.Sought.{is_sought}
-use Rattle.h5_heap.specs.declared.chain.Sought.TheVariants.{AtLeast}
+use Rattle.h5_heap.specs.Sought.{is_enough}
 
 -- what stays free of a block behind its first len bytes: nothing, where it is too little for a free block
 abbrev pub rest_of : ℕ → Block → List Block
@@ -23,7 +22,7 @@ pub record IsFront (free free' : List Block) (at len : ℕ) : Type 0 where
   pub whole : Block
   pub front : List Block
   pub back : List Block
-  pub first : find (is_sought (AtLeast len)) free ≡ Some whole
+  pub first : find (is_enough len) free ≡ Some whole
   pub begins : whole.at ≡ at
   pub before : free ≡ front ++ whole ∷ back
   pub after : free' ≡ front ++ (rest_of len whole ++ back)
@@ -34,7 +33,7 @@ grown_length size len room = 2 * size + len + room + 16
 
 -- no free block is long enough; the len bytes are behind the old ones, and all behind them are one free block more
 pub record IsBehind (free free' : List Block) (size size' at len room : ℕ) : Type 0 where
-  pub none : find (is_sought (AtLeast len)) free ≡ None
+  pub none : find (is_enough len) free ≡ None
   pub long : size' ≡ grown_length size len room
   pub begins : at ≡ pad8 size
   pub rest : IsPutIn (block (at + len) (size' - (at + len))) free free'
@@ -63,8 +62,8 @@ pub record HasInserted (old new : List ℕ) (heap : ℕ) (text : List ℕ) (room
 -- how many bytes more the image lends to a text of len bytes: a segment, where no free block is as long
 abbrev pub needed : List ℕ → ℕ → ℕ → ℕ → ℕ
 needed image heap len room =
-    option_map_or (λ (b : Block). 0) (find (is_sought (AtLeast len)) (free_blocks image heap)) (grown_length (segment_block image heap).len len room)
+    option_map_or (λ (b : Block). 0) (find (is_enough len) (free_blocks image heap)) (grown_length (segment_block image heap).len len room)
 
 -- and in how many calls: the longer one is taken, and the old one given back
 abbrev pub needed_calls : List ℕ → ℕ → ℕ → ℕ
-needed_calls image heap len = option_map_or (λ (b : Block). 0) (find (is_sought (AtLeast len)) (free_blocks image heap)) 2
+needed_calls image heap len = option_map_or (λ (b : Block). 0) (find (is_enough len) (free_blocks image heap)) 2

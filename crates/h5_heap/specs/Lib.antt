@@ -5,6 +5,7 @@ pub mod Spans
 pub mod Writing
 pub mod Chain
 pub mod Sought
+pub mod Around
 pub mod Released
 pub mod Edited
 pub mod Inserted

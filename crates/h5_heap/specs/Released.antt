@@ -6,31 +6,30 @@ use Rattle.h5_bytes.specs.Bytes.{byte_at}
 use Rattle.h5_bytes.specs.Blocks.{block, holds, cover}
 use Rattle.h5_bytes.specs.declared.Block.{Block}
 use Rattle.h5_heap.specs.Chain.{HasChain, free_from, Ascends, IsPutIn}
-use Rattle.h5_heap.specs.Sought.{is_sought}
-use Rattle.h5_heap.specs.declared.chain.Sought.TheVariants.{BeginsAt, EndsAt}
+use Rattle.h5_heap.specs.Sought.{begins_at, ends_at}
 
 -- a free block from the second place on ends before the first, or there is none
 pub record IsJoinedLeft (free : List Block) (at begin : ℕ) : Type 0 where
   pub aligned : begin % 8 ≡ 0
-  pub joined : (begin + 16 ≤ at) ⊎ ((begin ≡ at) × (find (is_sought (EndsAt at)) free ≡ None))
+  pub joined : (begin + 16 ≤ at) ⊎ ((begin ≡ at) × (find (ends_at at) free ≡ None))
 
 -- a free block from the first place on ends at the second, or there is none
 pub record IsJoinedRight (free : List Block) (end stop size : ℕ) : Type 0 where
   pub within : stop ≤ size
-  pub joined : (end + 16 ≤ stop) ⊎ ((stop ≡ end) × (find (is_sought (BeginsAt end)) free ≡ None))
+  pub joined : (end + 16 ≤ stop) ⊎ ((stop ≡ end) × (find (begins_at end) free ≡ None))
 
 -- these bytes are in no free block and touch none, and there are too few for one
 pub record IsLeftBeside (free : List Block) (at len : ℕ) : Type 0 where
   pub short : len < 16
-  pub before : find (is_sought (EndsAt at)) free ≡ None
-  pub behind : find (is_sought (BeginsAt (at + len))) free ≡ None
+  pub before : find (ends_at at) free ≡ None
+  pub behind : find (begins_at (at + len)) free ≡ None
 
 -- where the free bytes begin that end at this place, and where those end that begin at it: at the place itself, where there are none
 abbrev pub begin_of : List Block → ℕ → ℕ
-begin_of free at = option_map_or (λ b. b.at) (find (is_sought (EndsAt at)) free) at
+begin_of free at = option_map_or (λ b. b.at) (find (ends_at at) free) at
 
 abbrev pub stop_of : List Block → ℕ → ℕ
-stop_of free end = option_map_or (λ b. b.at + b.len) (find (is_sought (BeginsAt end)) free) end
+stop_of free end = option_map_or (λ b. b.at + b.len) (find (begins_at end) free) end
 
 -- these bytes and the free ones beside them, as one block
 abbrev pub joined : List Block → ℕ → ℕ → Block
@@ -38,7 +37,7 @@ joined free at end = block (begin_of free at) (stop_of free end - begin_of free 
 
 -- the free blocks that do not end where these bytes begin, and do not begin where they end
 abbrev pub others : List Block → ℕ → ℕ → List Block
-others free at end = filter (λ b. not (is_sought (EndsAt at) b) && not (is_sought (BeginsAt end) b)) free
+others free at end = filter (λ b. not (ends_at at b) && not (begins_at end b)) free
 
 -- In place of the free blocks beside these bytes the list has one block of all; or it is as before, where they are too few for one.
 abbrev pub IsJoined : List Block → List Block → ℕ → ℕ → Type 0

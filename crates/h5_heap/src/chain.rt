@@ -1,49 +1,25 @@
 //! The list of free blocks in a segment, followed without memory (File Format Specification 3.0, section III.D).
 
-ghost use Rattle.std.specs.Prelude.{◌≡◌, ◌-◌, ◌%◌, ℕ, ◌+◌, ◌≤◌, ◌^◌, ◌<◌, ◌≢◌, [], ◌∷◌, Some, not, max, IfSome, length};
-ghost use Rattle.std.specs.Option.{option_map_or};
+ghost use Rattle.std.specs.Prelude.{◌≡◌, ◌-◌, ◌%◌, ℕ, ◌+◌, ◌≤◌, ◌^◌, ◌<◌, ◌≢◌, [], ◌∷◌, Some, not, IfSome, length};
 ghost use Rattle.std.specs.List.{find, filter};
 ghost use Rattle.h5_bytes.specs.Bytes.{number_at, with_field};
 ghost use Rattle.h5_bytes.specs.Blocks.{block, holds, cover};
 ghost use Rattle.h5_model.specs.Format.Heap.{IsFree};
-ghost use Rattle.h5_heap.specs.Chain.{HasChain, ListsAt, Stands, LeadsTo, IsLedFrom, Relists, free_from};
-ghost use Rattle.h5_heap.specs.Chain.{Ascends, IsPutIn, IsGreatestBelow, put_behind};
-ghost use Rattle.h5_heap.specs.Sought.{is_sought};
+ghost use Rattle.h5_heap.specs.Chain.{HasChain, ListsAt, Stands, ComesBehind, Relists, free_from};
+ghost use Rattle.h5_heap.specs.Chain.{Ascends, put_behind};
+ghost use Rattle.h5_heap.specs.Sought.{is_enough, begins_at, ends_at};
+ghost use Rattle.h5_heap.specs.Around.{IsNeighbour};
 ghost use Rattle.h5_heap.specs.Released.{IsJoinedLeft, IsJoinedRight, Releases, begin_of, stop_of};
 ghost use Rattle.h5_heap.specs.Inserted.{IsFront, rest_of};
-ghost use Rattle.h5_heap.specs.declared.chain.Sought.TheVariants.{AtLeast, BeginsAt, EndsAt};
 
+use crate::around::{Neighbour, look_around};
 use crate::free_list::{END, LEAST_FREE};
 use h5_bytes::{Block, put_u64, u64_at};
 
-/// Which free block is looked for.
-#[derive(Clone, Copy)]
-pub enum Sought {
-    /// One with so many bytes or more.
-    AtLeast(u64),
-    /// The one that begins at this offset.
-    BeginsAt(u64),
-    /// The one that ends before this offset.
-    EndsAt(u64),
-}
-
-impl Sought {
-    /// Whether `block`, which ends in a segment, is such a block.
-    fn is(self, block: Block) -> bool
-        ensures { result ≡ is_sought self block }
-    {
-        match self {
-            Sought::AtLeast(len) => len <= block.len,
-            Sought::BeginsAt(at) => at == block.at,
-            Sought::EndsAt(end) => block.at <= end && end - block.at == block.len,
-        }
-    }
-}
-
-/// The first free block of the list from `first` on that is looked for.
-pub(crate) fn find_free(segment: &[u8], first: u64, sought: Sought) -> Option<Block>
+/// The first free block of the list from `first` on that has `len` bytes or more.
+pub(crate) fn find_free(segment: &[u8], first: u64, len: u64) -> Option<Block>
     requires { HasChain segment.now first }
-    ensures { result ≡ find (is_sought sought) (free_from segment.now first) }
+    ensures { result ≡ find (is_enough len) (free_from segment.now first) }
 {
     let mut next = first;
     while next != END {
@@ -51,7 +27,7 @@ pub(crate) fn find_free(segment: &[u8], first: u64, sought: Sought) -> Option<Bl
             at: next,
             len: u64_at(segment, next as usize + 8),
         };
-        if sought.is(block) {
+        if len <= block.len {
             return Some(block);
         }
         next = u64_at(segment, next as usize);
@@ -59,26 +35,12 @@ pub(crate) fn find_free(segment: &[u8], first: u64, sought: Sought) -> Option<Bl
     None
 }
 
-/// Takes the free block at `at` out of the list from `first` on, and gives the offset from which the list
-/// goes on then. That such a block is there is the caller's condition.
-pub(crate) fn unlink(segment: &mut [u8], first: u64, at: u64) -> u64
-    requires chain { HasChain segment.old first }
-    requires there { Stands at (free_from segment.old first) }
-    ensures relists { Relists segment.old segment.new first result
-        (block at (number_at segment.old (at + 8) 8) ∷ []) [] }
-    ensures listed { IsPutIn (block at (number_at segment.old (at + 8) 8))
-        (free_from segment.new result) (free_from segment.old first) }
-{
-    let place = led_from(segment, first, at);
-    unlink_behind(segment, first, place, at)
-}
-
 /// Takes the free block at `at` out of the list from `first` on, to which the one at `place` leads, or the
 /// list's beginning, and gives the offset from which the list goes on then.
 fn unlink_behind(segment: &mut [u8], first: u64, place: Option<u64>, at: u64) -> u64
     requires chain { HasChain segment.old first }
-    requires there { Stands at (free_from segment.old first) }
-    requires led { IsLedFrom segment.old first at place }
+    requires led { ComesBehind (free_from segment.old first) place
+        (block at (number_at segment.old (at + 8) 8)) }
     ensures relists { Relists segment.old segment.new first result
         (block at (number_at segment.old (at + 8) 8) ∷ []) [] }
     ensures listed { free_from segment.old first
@@ -99,7 +61,8 @@ fn unlink_behind(segment: &mut [u8], first: u64, place: Option<u64>, at: u64) ->
 fn led_from(segment: &[u8], first: u64, at: u64) -> Option<u64>
     requires chain { HasChain segment.now first }
     requires there { Stands at (free_from segment.now first) }
-    ensures { IsLedFrom segment.now first at result }
+    ensures { ComesBehind (free_from segment.now first) result
+        (block at (number_at segment.now (at + 8) 8)) }
 {
     if first == at {
         return None;
@@ -112,7 +75,8 @@ fn place_before(segment: &[u8], first: u64, at: u64) -> u64
     requires chain { HasChain segment.now first }
     requires later { first ≢ at }
     requires there { Stands at (free_from segment.now first) }
-    ensures { LeadsTo segment.now first result at }
+    ensures { ComesBehind (free_from segment.now first) (Some result)
+        (block at (number_at segment.now (at + 8) 8)) }
 {
     let mut place = first;
     let mut next = u64_at(segment, first as usize);
@@ -123,28 +87,11 @@ fn place_before(segment: &[u8], first: u64, at: u64) -> u64
     place
 }
 
-/// Puts a block into the list from `first` on, behind the one with the greatest offset below it, and gives
-/// the offset from which the list goes on then.
-///
-/// That the block has a free block's form, lies in the segment and shares no byte with the free ones is the
-/// caller's condition.
-pub(crate) fn link(segment: &mut [u8], first: u64, block: Block) -> u64
-    requires chain { HasChain segment.old first }
-    requires free { IsFree block }
-    requires inside { block.at + block.len ≤ length segment.old }
-    requires apart { (p : ℕ) → cover p (free_from segment.old first) + holds p block.at block.len ≤ 1 }
-    ensures relists { Relists segment.old segment.new first result [] (block ∷ []) }
-    ensures listed { IsPutIn block (free_from segment.old first) (free_from segment.new result) }
-    ensures ascending { Ascends (free_from segment.old first) → Ascends (free_from segment.new result) }
-{
-    let place = greatest_below(segment, first, block.at);
-    link_behind(segment, first, place, block)
-}
-
 /// Puts a block into the list from `first` on, behind the one at `place` or before all, and gives the offset
 /// from which the list goes on then.
 ///
-/// That there is such a place, and of the block what `link` asks for, are the caller's conditions.
+/// That there is such a place, and that the block has a free block's form, lies in the segment and shares no
+/// byte with the free ones, are the caller's conditions.
 fn link_behind(segment: &mut [u8], first: u64, place: Option<u64>, block: Block) -> u64
     requires chain { HasChain segment.old first }
     requires place { IfSome place (λ p. ListsAt segment.old first p) }
@@ -179,71 +126,52 @@ fn put_block(segment: &mut [u8], block: Block, next: u64)
     put_u64(segment, block.at as usize + 8, block.len);
 }
 
-/// The greatest offset below `at` of a block of the list from `first` on.
-fn greatest_below(segment: &[u8], first: u64, at: u64) -> Option<u64>
-    requires { HasChain segment.now first }
-    ensures listed { IfSome result (λ place. ListsAt segment.now first place) }
-    ensures greatest { IsGreatestBelow (free_from segment.now first) at result }
-{
-    let mut greatest = None;
-    let mut next = first;
-    while next != END {
-        if next < at {
-            greatest = Some(greater_of(greatest, next));
-        }
-        next = u64_at(segment, next as usize);
-    }
-    greatest
-}
-
-/// The greater of an offset and the greatest so far.
-fn greater_of(greatest: Option<u64>, next: u64) -> u64
-    ensures { result ≡ option_map_or (λ place. max place next) greatest next }
-{
-    match greatest {
-        Some(place) => place.max(next),
-        None => next,
-    }
-}
-
-/// Takes the free block that ends before `at` out of the list from `first` on, and gives the offset from
-/// which the list goes on then, and where the free bytes before `at` begin.
-fn join_left(segment: &mut [u8], first: u64, at: u64) -> (u64, u64)
+/// Takes `left`, the free block that ends before `at`, if there is one, out of the list from `first` on, and
+/// gives the offset from which the list goes on then, and where the free bytes before `at` begin.
+fn join_left(segment: &mut [u8], first: u64, at: u64, left: Option<Neighbour>) -> (u64, u64)
     requires chain { HasChain segment.old first }
+    requires left { IsNeighbour (ends_at at) (free_from segment.old first) left }
     requires aligned { at % 8 ≡ 0 }
     ensures relists { Relists segment.old segment.new first result.0
         (block result.1 (at - result.1) ∷ []) [] }
     ensures joined { IsJoinedLeft (free_from segment.old first) at result.1 }
     ensures begin { result.1 ≡ begin_of (free_from segment.old first) at }
     ensures rest { free_from segment.new result.0
-        ≡ filter (λ b. not (is_sought (EndsAt at) b)) (free_from segment.old first) }
+        ≡ filter (λ b. not (ends_at at b)) (free_from segment.old first) }
     ensures same { result.1 ≡ at → (segment.new ≡ segment.old) × (result.0 ≡ first) }
 {
-    match find_free(segment, first, Sought::EndsAt(at)) {
-        Some(block) => (unlink(segment, first, block.at), block.at),
+    match left {
+        Some(left) => (
+            unlink_behind(segment, first, left.place, left.block.at),
+            left.block.at,
+        ),
         None => (first, at),
     }
 }
 
-/// Takes the free block that begins at `end` out of the list from `first` on, and gives the offset from which
-/// the list goes on then, and where the free bytes from `end` on end.
-fn join_right(segment: &mut [u8], first: u64, end: u64) -> (u64, u64)
+/// Takes `right`, the free block that begins at `end`, if there is one, out of the list from `first` on, and
+/// gives the offset from which the list goes on then, and where the free bytes from `end` on end.
+fn join_right(segment: &mut [u8], first: u64, end: u64, right: Option<Neighbour>) -> (u64, u64)
     requires chain { HasChain segment.old first }
+    requires right { IsNeighbour (begins_at end) (free_from segment.old first) right }
     requires inside { end ≤ length segment.old }
     ensures relists { Relists segment.old segment.new first result.0 (block end (result.1 - end) ∷ []) [] }
     ensures joined { IsJoinedRight (free_from segment.old first) end result.1 (length segment.old) }
     ensures stop { result.1 ≡ stop_of (free_from segment.old first) end }
     ensures rest { free_from segment.new result.0
-        ≡ filter (λ b. not (is_sought (BeginsAt end) b)) (free_from segment.old first) }
+        ≡ filter (λ b. not (begins_at end b)) (free_from segment.old first) }
 {
-    match find_free(segment, first, Sought::BeginsAt(end)) {
-        Some(block) => (unlink(segment, first, block.at), block.at + block.len),
+    match right {
+        Some(right) => (
+            unlink_behind(segment, first, right.place, right.block.at),
+            right.block.at + right.block.len,
+        ),
         None => (first, end),
     }
 }
 
 /// Makes the bytes from `at` to `end` free, joined with their free neighbours, and gives the offset from
-/// which the list goes on then. Eight bytes without a neighbour stay unused.
+/// which the list goes on then. Eight bytes without a neighbour stay unused. The list is followed once.
 ///
 /// That they begin at a multiple of 8, lie in the segment and share none with the free blocks is the
 /// caller's condition.
@@ -255,13 +183,14 @@ pub(crate) fn release(segment: &mut [u8], first: u64, at: u64, end: u64) -> u64
     requires apart { (p : ℕ) → cover p (free_from segment.old first) + holds p at (end - at) ≤ 1 }
     ensures { Releases segment.old segment.new first result at (end - at) }
 {
-    let (first, begin) = join_left(segment, first, at);
-    let (first, stop) = join_right(segment, first, end);
+    let around = look_around(segment, first, at, end);
+    let (first, begin) = join_left(segment, first, at, around.left);
+    let (first, stop) = join_right(segment, first, end, around.right);
     let len = stop - begin;
     if len < LEAST_FREE {
         return first;
     }
-    link(segment, first, Block { at: begin, len })
+    link_behind(segment, first, around.below, Block { at: begin, len })
 }
 
 /// Takes the first `len` bytes of a free block, the first of the list from `first` on that is long enough,
@@ -269,7 +198,7 @@ pub(crate) fn release(segment: &mut [u8], first: u64, at: u64, end: u64) -> u64
 /// in the list, where it is enough for a free block.
 pub(crate) fn take_front(segment: &mut [u8], first: u64, block: Block, len: u64) -> u64
     requires chain { HasChain segment.old first }
-    requires found { find (is_sought (AtLeast len)) (free_from segment.old first) ≡ Some block }
+    requires found { find (is_enough len) (free_from segment.old first) ≡ Some block }
     requires aligned { len % 8 ≡ 0 }
     ensures relists { Relists segment.old segment.new first result (block ∷ []) (rest_of len block) }
     ensures front { IsFront (free_from segment.old first) (free_from segment.new result) block.at len }

@@ -4,6 +4,7 @@
 //! Offsets are places in a segment, and all places and sizes are in bytes.
 #![tactic(auto)]
 
+mod around;
 mod chain;
 mod edit;
 mod free_list;

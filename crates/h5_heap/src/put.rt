@@ -12,10 +12,9 @@ ghost use Rattle.h5_space.specs.Moves.{Moves, Spends};
 ghost use Rattle.h5_heap.specs.Chain.{HasChain, free_from};
 ghost use Rattle.h5_heap.specs.Edited.{IsStandingHeap, free_blocks};
 ghost use Rattle.h5_heap.specs.Inserted.{InsertsText, HasInserted, grown_length, needed, needed_calls};
-ghost use Rattle.h5_heap.specs.Sought.{is_sought};
-ghost use Rattle.h5_heap.specs.declared.chain.Sought.TheVariants.{AtLeast};
+ghost use Rattle.h5_heap.specs.Sought.{is_enough};
 
-use crate::chain::{Sought, find_free, link, take_front};
+use crate::chain::{find_free, release, take_front};
 use crate::edit::segment_and_list;
 use crate::header::{HEADER, segment_at};
 use crate::write::text_span;
@@ -66,7 +65,7 @@ pub fn text_room(image: &Image, heap: u64, text: &[u8], room: u64) -> Option<u64
 {
     let (segment, first) = segment_and_list(image, heap);
     let span = text_span(text) as u64;
-    match find_free(segment_at(image, heap), first, Sought::AtLeast(span)) {
+    match find_free(segment_at(image, heap), first, span) {
         Some(_) => Some(0),
         None => longer(segment.len, span, room),
     }
@@ -109,7 +108,7 @@ pub fn insert_in_room(image: &mut Image, heap: u64, text: &[u8], room: u64) -> u
 {
     let (_, first) = segment_and_list(image, heap);
     let span = text_span(text) as u64;
-    match find_free(segment_at(image, heap), first, Sought::AtLeast(span)) {
+    match find_free(segment_at(image, heap), first, span) {
         Some(block) => {
             fill_free(image, heap, block, text);
             block.at
@@ -121,7 +120,7 @@ pub fn insert_in_room(image: &mut Image, heap: u64, text: &[u8], room: u64) -> u
 /// Puts a text at the beginning of a free block of the heap, the first that is long enough.
 fn fill_free(image: &mut Image, heap: u64, block: Block, text: &[u8])
     requires standing { IsStandingHeap image.old.bytes heap }
-    requires found { find (is_sought (AtLeast (span_of_text text.now))) (free_blocks image.old.bytes heap)
+    requires found { find (is_enough (span_of_text text.now)) (free_blocks image.old.bytes heap)
         ≡ Some block }
     ensures inserted { (room : ℕ)
         → HasInserted image.old.bytes image.new.bytes heap text.now room block.at }
@@ -138,7 +137,7 @@ fn fill_free(image: &mut Image, heap: u64, block: Block, text: &[u8])
 fn grow(image: &mut Image, heap: u64, text: &[u8], room: u64) -> u64
     requires standing { IsStandingHeap image.old.bytes heap }
     requires apart { IsApart (heap_blocks image.old.bytes heap) image.old.free (length image.old.bytes) }
-    requires none { find (is_sought (AtLeast (span_of_text text.now))) (free_blocks image.old.bytes heap)
+    requires none { find (is_enough (span_of_text text.now)) (free_blocks image.old.bytes heap)
         ≡ None }
     requires low { grown_length (segment_block image.old.bytes heap).len (span_of_text text.now) room
         ≤ 2 ^ 31 }
@@ -188,7 +187,7 @@ fn put_segment(header: &mut [u8], at: u64, len: u64, first: u64)
 /// and gives the offset from which the list goes on then.
 fn put_in_front(segment: &mut [u8], first: u64, block: Block, text: &[u8]) -> u64
     requires chain { HasChain segment.old first }
-    requires found { find (is_sought (AtLeast (span_of_text text.now))) (free_from segment.old first)
+    requires found { find (is_enough (span_of_text text.now)) (free_from segment.old first)
         ≡ Some block }
     ensures inserted { (room : ℕ) → InsertsText segment.old segment.new first result text.now room block.at }
     ensures long { length segment.new ≡ length segment.old }
@@ -203,7 +202,7 @@ fn put_in_front(segment: &mut [u8], first: u64, block: Block, text: &[u8]) -> u6
 fn put_behind(segment: &mut [u8], size: u64, first: u64, text: &[u8]) -> u64
     requires size { size ≤ length segment.old }
     requires chain { HasChain (part 0 size segment.old) first }
-    requires none { find (is_sought (AtLeast (span_of_text text.now)))
+    requires none { find (is_enough (span_of_text text.now))
         (free_from (part 0 size segment.old) first) ≡ None }
     requires room { pad8 size + span_of_text text.now + 16 ≤ length segment.old }
     ensures inserted { (room : ℕ) → length segment.old ≡ grown_length size (span_of_text text.now) room
@@ -212,11 +211,8 @@ fn put_behind(segment: &mut [u8], size: u64, first: u64, text: &[u8]) -> u64
 {
     let at = padded(size);
     let end = at + text_span(text) as u64;
-    let rest = Block {
-        at: end,
-        len: segment.len() as u64 - end,
-    };
-    let first = link(segment, first, rest);
+    let stop = segment.len() as u64;
+    let first = release(segment, first, end, stop);
     put_text(segment, at, text);
     first
 }

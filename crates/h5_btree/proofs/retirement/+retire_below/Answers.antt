@@ -24,8 +24,8 @@ node_there-requires-clause-inside g t c =
     let hit = g.R.Hits.hit c.args.how.now in
     let stands = g.R.Hits.stands c.args.how.now in
     let keys_at = g.R.Hits.keys_at c.args.how.now in
-    let r = retiring_more hit stands keys_at x.0 c.args.image.now c.args.kind x.1 x.2 x.3 x.4 x.5 c.retire_keys.new.image c.args.level c.args.at x.6 c.retire_keys.ensures in
-    rw c.bytes.ensures (there hit stands keys_at x.0 c.retire_keys.new.image c.args.kind x.1 x.2 x.3 x.4 r c.args.level c.args.at x.6).0
+    let r = retiring_more hit stands keys_at x.0 c.args.image.now c.args.kind.now x.1 x.2 x.3 x.4 x.5 c.retire_keys.new.image c.args.level c.args.at x.6 c.retire_keys.ensures in
+    rw c.bytes.ensures (there hit stands keys_at x.0 c.retire_keys.new.image c.args.kind.now x.1 x.2 x.3 x.4 r c.args.level c.args.at x.6).0
 
 pub loop-i-init : goal.loop-i-init
 loop-i-init g t c =
@@ -33,7 +33,7 @@ loop-i-init g t c =
     let stands = g.R.Hits.stands c.args.how.now in
     let keys_at = g.R.Hits.keys_at c.args.how.now in
     let w = c.retire_keys.ensures in
-    let kind = c.args.kind in
+    let kind = c.args.kind.now in
     let node : c.node_there.result ≡ node_at c.retire_keys.new.image.bytes kind c.args.at
     = c.node_there.ensures ∙ ap (λ (b : List ℕ). node_at b kind c.args.at) c.bytes.ensures in
     record {
@@ -55,7 +55,7 @@ node_there-requires-in-loop-i-clause-inside g t c =
     let stands = g.R.Hits.stands c.args.how.now in
     let keys_at = g.R.Hits.keys_at c.args.how.now in
     let r = c.loop-i.invariant.retired x.0 x.1 x.2 x.3 x.4 x.5 x.6 in
-    rw c.bytes-in-loop-i.ensures (there hit stands keys_at x.0 c.loop-i.image c.args.kind x.1 x.2 x.3 x.4 r c.args.level c.args.at x.6).0
+    rw c.bytes-in-loop-i.ensures (there hit stands keys_at x.0 c.loop-i.image c.args.kind.now x.1 x.2 x.3 x.4 r c.args.level c.args.at x.6).0
 
 pub node_there-requires-in-loop-i-clause-form : goal.node_there-requires-in-loop-i-clause-form
 node_there-requires-in-loop-i-clause-form g t c =
@@ -64,7 +64,7 @@ node_there-requires-in-loop-i-clause-form g t c =
     let stands = g.R.Hits.stands c.args.how.now in
     let keys_at = g.R.Hits.keys_at c.args.how.now in
     let r = c.loop-i.invariant.retired x.0 x.1 x.2 x.3 x.4 x.5 x.6 in
-    rw c.bytes-in-loop-i.ensures (there hit stands keys_at x.0 c.loop-i.image c.args.kind x.1 x.2 x.3 x.4 r c.args.level c.args.at x.6).1
+    rw c.bytes-in-loop-i.ensures (there hit stands keys_at x.0 c.loop-i.image c.args.kind.now x.1 x.2 x.3 x.4 r c.args.level c.args.at x.6).1
 
 pub child-child-requires : goal.child-child-requires
 child-child-requires g t c =
@@ -74,10 +74,10 @@ child-child-requires g t c =
     let keys_at = g.R.Hits.keys_at c.args.how.now in
     let r = c.loop-i.invariant.retired x.0 x.1 x.2 x.3 x.4 x.5 x.6 in
     let end = c.loop-i.invariant.end x.0 x.1 x.2 x.3 x.4 x.5 x.6 in
-    let node : c.node_there-in-loop-i.result ≡ node_at c.loop-i.image.bytes c.args.kind c.args.at
-    = c.node_there-in-loop-i.ensures ∙ ap (λ (b : List ℕ). node_at b c.args.kind c.args.at) c.bytes-in-loop-i.ensures in
+    let node : c.node_there-in-loop-i.result ≡ node_at c.loop-i.image.bytes c.args.kind.now c.args.at
+    = c.node_there-in-loop-i.ensures ∙ ap (λ (b : List ℕ). node_at b c.args.kind.now c.args.at) c.bytes-in-loop-i.ensures in
     let same = ap (λ (n : Node). length n.children) node in
-    let still = ap (λ (cs : List ℕ). length cs) (children hit stands keys_at x.0 c.loop-i.image c.args.kind x.1 x.2 x.3 x.4 r c.args.level c.args.at x.6) in
+    let still = ap (λ (cs : List ℕ). length cs) (children hit stands keys_at x.0 c.loop-i.image c.args.kind.now x.1 x.2 x.3 x.4 r c.args.level c.args.at x.6) in
     omega (arith, same, still, end, c.loop-i-test.true)
 
 pub retire_below-requires : goal.retire_below-requires
@@ -86,7 +86,7 @@ retire_below-requires g t c κs within =
     let hit = g.R.Hits.hit c.args.how.now in
     let stands = g.R.Hits.stands c.args.how.now in
     let keys_at = g.R.Hits.keys_at c.args.how.now in
-    let kind = c.args.kind in
+    let kind = c.args.kind.now in
     let r = c.loop-i.invariant.retired x.0 x.1 x.2 x.3 x.4 x.5 x.6 in
     let more : c.args.level ≡ suc (c.args.level - 1) = omega (arith, c.if-level-gt0.true) in
     let node : c.node_there-in-loop-i.result ≡ node_at c.loop-i.image.bytes kind c.args.at
@@ -114,7 +114,7 @@ loop-i-preserved g t c =
     let hit = g.R.Hits.hit c.args.how.now in
     let stands = g.R.Hits.stands c.args.how.now in
     let keys_at = g.R.Hits.keys_at c.args.how.now in
-    let kind = c.args.kind in
+    let kind = c.args.kind.now in
     let inv = c.loop-i.invariant in
     let e = c.retire_below.ensures in
     let child = c.child-child.result in
@@ -151,27 +151,27 @@ pub returns-after-loop-i-clause-below : goal.returns-after-loop-i-clause-below
 returns-after-loop-i-clause-below g t c = λ start root height owned list r under.
     let inv = c.loop-i.invariant in
     let end = inv.end start root height owned list r under in
-    let all : c.loop-i.i ≡ length (node_at start.bytes c.args.kind c.args.at).children = omega (arith, end, c.loop-i-test.false, c.loop-i.auto.i-end) in (
+    let all : c.loop-i.i ≡ length (node_at start.bytes c.args.kind.now c.args.at).children = omega (arith, end, c.loop-i-test.false, c.loop-i.auto.i-end) in (
       inv.here start root height owned list r under,
       subst
-          (AllByRecursion (AreRetiredBelow (g.R.Hits.hit c.args.how.now) (g.R.Hits.keys_at c.args.how.now) start c.loop-i.image c.args.kind c.args.level))
-          (take_all (node_at start.bytes c.args.kind c.args.at).children c.loop-i.i all) (inv.below start root height owned list r under),
+          (AllByRecursion (AreRetiredBelow (g.R.Hits.hit c.args.how.now) (g.R.Hits.keys_at c.args.how.now) start c.loop-i.image c.args.kind.now c.args.level))
+          (take_all (node_at start.bytes c.args.kind.now c.args.at).children c.loop-i.i all) (inv.below start root height owned list r under),
     )
 
 pub returns-else-level-gt0-clause-retired : goal.returns-else-level-gt0-clause-retired
 returns-else-level-gt0-clause-retired g t c = λ start root height owned list r under.
-    retiring_more (g.R.Hits.hit c.args.how.now) (g.R.Hits.stands c.args.how.now) (g.R.Hits.keys_at c.args.how.now) start c.args.image.now c.args.kind root height owned list r
+    retiring_more (g.R.Hits.hit c.args.how.now) (g.R.Hits.stands c.args.how.now) (g.R.Hits.keys_at c.args.how.now) start c.args.image.now c.args.kind.now root height owned list r
     c.retire_keys.new.image c.args.level c.args.at under c.retire_keys.ensures
 
 pub returns-else-level-gt0-clause-below : goal.returns-else-level-gt0-clause-below
 returns-else-level-gt0-clause-below g t c = λ start root height owned list r under. (
-  here (g.R.Hits.hit c.args.how.now) (g.R.Hits.stands c.args.how.now) (g.R.Hits.keys_at c.args.how.now) start c.args.image.now c.args.kind root height owned list r
+  here (g.R.Hits.hit c.args.how.now) (g.R.Hits.stands c.args.how.now) (g.R.Hits.keys_at c.args.how.now) start c.args.image.now c.args.kind.now root height owned list r
       c.retire_keys.new.image c.args.level c.args.at under c.retire_keys.ensures,
-  none_below (g.R.Hits.hit c.args.how.now) (g.R.Hits.keys_at c.args.how.now) start c.retire_keys.new.image c.args.kind c.args.level
-      (node_at start.bytes c.args.kind c.args.at).children (omega (arith, c.if-level-gt0.false)),
+  none_below (g.R.Hits.hit c.args.how.now) (g.R.Hits.keys_at c.args.how.now) start c.retire_keys.new.image c.args.kind.now c.args.level
+      (node_at start.bytes c.args.kind.now c.args.at).children (omega (arith, c.if-level-gt0.false)),
 )
 
 pub returns-else-level-gt0-clause-kept : goal.returns-else-level-gt0-clause-kept
 returns-else-level-gt0-clause-kept g t c = λ start root height owned list r under.
-    kept (g.R.Hits.hit c.args.how.now) (g.R.Hits.stands c.args.how.now) (g.R.Hits.keys_at c.args.how.now) start c.args.image.now c.args.kind root height owned list r
+    kept (g.R.Hits.hit c.args.how.now) (g.R.Hits.stands c.args.how.now) (g.R.Hits.keys_at c.args.how.now) start c.args.image.now c.args.kind.now root height owned list r
     c.retire_keys.new.image c.args.level c.args.at under c.retire_keys.ensures

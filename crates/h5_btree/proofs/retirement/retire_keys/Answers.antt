@@ -1,4 +1,5 @@
-use Rattle.std.proofs.Common.{◌≡◌, ℕ, suc, ◌+◌, ◌<◌, List, length, map, refl, ap, ◌∙◌, subst, arith, Bool}
+use Rattle.std.proofs.Common.{◌≡◌, ℕ, suc, ◌+◌, ◌<◌, List, length, map, refl, sym, ap, ◌∙◌, subst, arith, Bool, false}
+use Rattle.std.specs.List.{list_any}
 use Rattle.std.proofs.lemmas.List.{length-map}
 use Rattle.h5_model.specs.Format.Rows.{Node}
 use Rattle.h5_model.specs.Format.Nodes.{Kind, node_at, node_bytes}
@@ -6,7 +7,7 @@ use Rattle.h5_space.specs.Space.{Space}
 use Rattle.h5_btree.specs.Held.{IsNodeThere}
 use Rattle.h5_btree.specs.Retired.{StandsSomewhere, keys_below}
 use Rattle.h5_btree.proofs.NodeLaws.{capacity_low, length-children, length-keys}
-use Rattle.h5_btree.proofs.RetiredKeys.{ArePartly, partly_all, partly_none}
+use Rattle.h5_btree.proofs.RetiredKeys.{ArePartly, none_retired, partly_all, partly_none}
 use Rattle.h5_btree.proofs.RetiredSteps.{key_more, key_written, partly_under, retiring_under}
 use Rattle.h5_btree.proofs.WideningLaws.{rewritten_none}
 use Rattle.h5_btree.proofs.retirement.retire_keys.Goals as goal
@@ -21,26 +22,32 @@ counts image kind at =
     let b = length-children kind (node_bytes image kind at) (node_at image kind at) refl in
     omega (arith, a, b)
 
+pub has_hit-requires : goal.has_hit-requires
+has_hit-requires g c =
+    let x = c.requires.stands in
+    let is = there (g.R.Hits.hit c.args.how.now) (g.R.Hits.stands c.args.how.now) (g.R.Hits.keys_at c.args.how.now) c.args.image.now c.args.kind c.args.level c.args.at x in
+    record { node = rw c.bytes.ensures is; width = x.5.start.width }
+
 pub node_there-requires-clause-inside : goal.node_there-requires-clause-inside
 node_there-requires-clause-inside g c =
     let is = there (g.R.Hits.hit c.args.how.now) (g.R.Hits.stands c.args.how.now) (g.R.Hits.keys_at c.args.how.now) c.args.image.now c.args.kind c.args.level c.args.at c.requires.stands in
-    rw c.bytes.ensures is.0
+    rw c.bytes-then-has_hit.ensures is.0
 
 pub node_there-requires-clause-form : goal.node_there-requires-clause-form
 node_there-requires-clause-form g c =
     let is = there (g.R.Hits.hit c.args.how.now) (g.R.Hits.stands c.args.how.now) (g.R.Hits.keys_at c.args.how.now) c.args.image.now c.args.kind c.args.level c.args.at c.requires.stands in
-    rw c.bytes.ensures is.1
+    rw c.bytes-then-has_hit.ensures is.1
 
 pub overflow_add-i-end : goal.overflow_add-i-end
 overflow_add-i-end g c =
     let is = there (g.R.Hits.hit c.args.how.now) (g.R.Hits.stands c.args.how.now) (g.R.Hits.keys_at c.args.how.now) c.args.image.now c.args.kind c.args.level c.args.at c.requires.stands in
     let node : c.node_there.result ≡ node_at c.args.image.now.bytes c.args.kind c.args.at
-    = c.node_there.ensures ∙ ap (λ (b : List ℕ). node_at b c.args.kind c.args.at) c.bytes.ensures in
+    = c.node_there.ensures ∙ ap (λ (b : List ℕ). node_at b c.args.kind c.args.at) c.bytes-then-has_hit.ensures in
     let same = ap (λ (n : Node). length n.children) node in
     let count = length-children c.args.kind (node_bytes c.args.image.now.bytes c.args.kind c.args.at) (node_at c.args.image.now.bytes c.args.kind c.args.at) refl in
     let cap = capacity_low c.args.kind in
-    let long = ap (λ (b : List ℕ). length b) c.bytes.ensures in
-    let short = c.bytes.type_inv.1 in
+    let long = ap (λ (b : List ℕ). length b) c.bytes-then-has_hit.ensures in
+    let short = c.bytes-then-has_hit.type_inv.1 in
     let roomy = is.1.roomy in
     let inside = is.0 in
     omega (arith, same, count, cap, long, short, roomy, inside, c.len-i-end.ensures.children)
@@ -50,7 +57,7 @@ loop-i-init g c =
     let V = node_at c.args.image.now.bytes c.args.kind in
     let is = there (g.R.Hits.hit c.args.how.now) (g.R.Hits.stands c.args.how.now) (g.R.Hits.keys_at c.args.how.now) c.args.image.now c.args.kind c.args.level c.args.at c.requires.stands in
     let node : c.node_there.result ≡ V c.args.at
-    = c.node_there.ensures ∙ ap (λ (b : List ℕ). node_at b c.args.kind c.args.at) c.bytes.ensures in
+    = c.node_there.ensures ∙ ap (λ (b : List ℕ). node_at b c.args.kind c.args.at) c.bytes-then-has_hit.ensures in
     record {
       end = ap (λ (n : ℕ). n + 1) (c.len-i-end.ensures.children ∙ ap (λ (n : Node). length n.children) node);
       written = (
@@ -93,8 +100,8 @@ loop-i-preserved g c =
       );
     }
 
-pub returns : goal.returns
-returns g c =
+pub returns-after-loop-i : goal.returns-after-loop-i
+returns-after-loop-i g c =
     let V = node_at c.args.image.now.bytes c.args.kind in
     let w = c.loop-i.invariant.written in
     let lists = map (keys_below V (g.R.Hits.keys_at c.args.how.now c.args.image.now.bytes) c.args.level) (V c.args.at).children in
@@ -105,4 +112,21 @@ returns g c =
       partly_all (g.R.Hits.hit c.args.how.now) lists (V c.args.at).keys w.0 (omega (arith, n, long))
           (subst (ArePartly (g.R.Hits.hit c.args.how.now) lists (V c.args.at).keys w.0) all w.1),
       w.2,
+    )
+
+pub returns-else-has_hit : goal.returns-else-has_hit
+returns-else-has_hit g c =
+    let V = node_at c.args.image.now.bytes c.args.kind in
+    let hit = g.R.Hits.hit c.args.how.now in
+    let stands = g.R.Hits.stands c.args.how.now in
+    let keys_at = g.R.Hits.keys_at c.args.how.now in
+    let lists = map (keys_below V (keys_at c.args.image.now.bytes) c.args.level) (V c.args.at).children in
+    let is = there hit stands keys_at c.args.image.now c.args.kind c.args.level c.args.at c.requires.stands in
+    let n = counts c.args.image.now.bytes c.args.kind c.args.at in
+    let long = length-map (V c.args.at).children (keys_below V (keys_at c.args.image.now.bytes) c.args.level) in
+    let none : list_any hit (V c.args.at).keys ≡ false
+    = ap (λ (b : List ℕ). list_any hit (node_at b c.args.kind c.args.at).keys) (sym c.bytes.ensures) ∙ sym c.has_hit.ensures ∙ c.if-has_hit.false in (
+      (V c.args.at).keys,
+      none_retired hit lists (V c.args.at).keys (omega (arith, n, long)) none,
+      rewritten_none c.args.image.now c.args.kind c.args.at is.1,
     )

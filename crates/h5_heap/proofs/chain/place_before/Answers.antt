@@ -3,6 +3,7 @@ use Rattle.h5_bytes.specs.Bytes.{number_at}
 use Rattle.h5_bytes.specs.declared.Block.{Block}
 use Rattle.h5_heap.specs.Chain.{HasChain, free_from}
 use Rattle.h5_heap.proofs.ChainLaws.{step_at, fewer_at, stands_on, front_more, free_block_at}
+use Rattle.h5_heap.proofs.AroundLaws.{last_new}
 use Rattle.h5_heap.proofs.chain.place_before.Goals as goal
 
 pub u64_at-next-requires : goal.u64_at-next-requires
@@ -64,7 +65,9 @@ returns c =
     let two : free_from segment (number_at segment c.loop-next.place 8) ≡ free_block_at segment c.args.at ∷ free_from segment (number_at segment (number_at segment c.loop-next.place 8) 8)
     = t.split ∙ ap (λ (m : ℕ). free_block_at segment m ∷ free_from segment (number_at segment (number_at segment c.loop-next.place 8) 8)) at in
     record {
-      front = i.4.0;
+      front = i.4.0 ++ free_block_at segment c.loop-next.place ∷ [];
       back = free_from segment (number_at segment (number_at segment c.loop-next.place 8) 8);
-      split = i.4.1 ∙ ap (λ (bs : List Block). i.4.0 ++ bs) (s.split ∙ ap (λ (bs : List Block). free_block_at segment c.loop-next.place ∷ bs) two);
+      split = front_more segment c.args.first c.loop-next.place i.4.0 i.1 i.0 i.4.1
+          ∙ ap (λ (bs : List Block). (i.4.0 ++ free_block_at segment c.loop-next.place ∷ []) ++ bs) two;
+      before = last_new i.4.0 (free_block_at segment c.loop-next.place);
     }

@@ -1,6 +1,5 @@
 use Rattle.std.proofs.Common.{◌≤◌, arith}
-use Rattle.h5_heap.specs.Sought.{is_sought}
-use Rattle.h5_heap.specs.declared.chain.Sought.TheVariants.{AtLeast}
+use Rattle.h5_heap.specs.Sought.{is_enough}
 use Rattle.h5_heap.proofs.ChainLaws.{IsFound, found_free}
 use Rattle.h5_heap.specs.Chain.{free_from}
 use Rattle.std.proofs.lemmas.Bool.Decides.{nat_tests}
@@ -8,17 +7,14 @@ use Rattle.h5_heap.proofs.FrontLaws.{rest_apart, rest_form, short_relists, short
 use Rattle.h5_heap.proofs.chain.take_front.Goals as goal
 use Rattle.h5_heap.proofs.chain.take_front.Goals.{Start}
 
-found : (c : Start) → IsFound (is_sought (AtLeast c.args.len)) c.args.segment.now (free_from c.args.segment.now c.args.first) c.args.block
-found c = found_free (is_sought (AtLeast c.args.len)) c.args.segment.now c.args.first c.args.block c.requires.chain c.requires.found
+found : (c : Start) → IsFound (is_enough c.args.len) c.args.segment.now (free_from c.args.segment.now c.args.first) c.args.block
+found c = found_free (is_enough c.args.len) c.args.segment.now c.args.first c.args.block c.requires.chain c.requires.found
 
 enough : (c : Start) → c.args.len ≤ c.args.block.len
 enough c = grind (arith, nat_tests, (found c).passes)
 
 pub led_from-place-requires-clause-there : goal.led_from-place-requires-clause-there
 led_from-place-requires-clause-there c = (found (goal.at.led_from-place-requires-clause-there c).Start).stands
-
-pub unlink_behind-first-requires-clause-there : goal.unlink_behind-first-requires-clause-there
-unlink_behind-first-requires-clause-there c = (found (goal.at.unlink_behind-first-requires-clause-there c).Start).stands
 
 pub overflow_add-rest : goal.overflow_add-rest
 overflow_add-rest c =

@@ -2,18 +2,21 @@ use Rattle.std.proofs.Common.{◌≡◌, ℕ, List, ◌∷◌, ◌++◌, Option,
 use Rattle.std.specs.Option.{IfSome}
 use Rattle.h5_bytes.specs.Bytes.{with_field}
 use Rattle.h5_bytes.specs.declared.Block.{Block}
-use Rattle.h5_heap.specs.Chain.{IsChain, LeadsTo, ListsAt, put_behind}
+use Rattle.h5_heap.specs.Chain.{IsChain, ListsAt, put_behind}
 use Rattle.h5_heap.proofs.ChainLaws.{stands_on, room_at, step_at, free_block_at, free_from_is, has_chain}
 use Rattle.h5_heap.proofs.RelistLaws.{room_of, relists_unlinked, relists_first, unlinked}
 use Rattle.h5_heap.proofs.OrderLaws.{put_behind_is, lists_at}
+use Rattle.h5_heap.proofs.AroundLaws.{LeadsTo, led_behind, led_first, led_stands}
 use Rattle.h5_heap.proofs.chain.unlink_behind.Goals as goal
 use Rattle.h5_heap.proofs.chain.unlink_behind.Goals.{In-Some}
 
 pub u64_at-next-requires : goal.u64_at-next-requires
-u64_at-next-requires c = omega (arith, room_at c.args.segment.now c.args.first c.args.at c.requires.chain c.requires.there)
+u64_at-next-requires c =
+    let there = led_stands _ c.args.place (free_block_at c.args.segment.now c.args.at) c.requires.led in
+    omega (arith, room_at c.args.segment.now c.args.first c.args.at c.requires.chain there)
 
-led : (c : In-Some) → LeadsTo c.args.segment.now c.args.first c.in-Some.place c.args.at
-led c = rw c.in-Some.is at c.requires.led
+led : (c : In-Some) → LeadsTo c.args.segment.now c.args.first c.in-Some.place (free_block_at c.args.segment.now c.args.at)
+led c = led_behind c.args.segment.now c.args.first c.in-Some.place (free_block_at c.args.segment.now c.args.at) c.requires.chain (rw c.in-Some.is at c.requires.led)
 
 told : (c : In-Some) → IsChain c.args.segment.now c.args.first
     ((led c).front ++ free_block_at c.args.segment.now c.in-Some.place ∷ free_block_at c.args.segment.now c.args.at ∷ (led c).back)
@@ -44,8 +47,9 @@ returns-in-Some c =
 pub returns-in-None : goal.returns-in-None
 returns-in-None c =
     let s = c.args.segment.now in
-    let same : c.args.first ≡ c.args.at = rw c.in-None.is at c.requires.led in
-    let going = (stands_on s c.args.first c.args.at c.requires.chain c.requires.there).0 in
+    let b = free_block_at s c.args.at in
+    let same : c.args.first ≡ c.args.at = led_first s c.args.first b c.requires.chain (rw c.in-None.is at c.requires.led) in
+    let going = (stands_on s c.args.first c.args.at c.requires.chain (led_stands _ c.args.place b c.requires.led)).0 in
     rw (c.u64_at-next.ensures, ← same, c.in-None.is) (record {
       relists = relists_first s c.args.first going c.requires.chain;
       listed = (step_at s c.args.first going c.requires.chain).split;

@@ -11,8 +11,7 @@ use Rattle.h5_space.specs.Moves.{Moves, Spends}
 use Rattle.h5_heap.specs.Chain.{HasChain, free_from}
 use Rattle.h5_heap.specs.Edited.{first_free}
 use Rattle.h5_heap.specs.Inserted.{InsertsText, HasInserted, grown_length}
-use Rattle.h5_heap.specs.Sought.{is_sought}
-use Rattle.h5_heap.specs.declared.chain.Sought.TheVariants.{AtLeast}
+use Rattle.h5_heap.specs.Sought.{is_enough}
 use Rattle.h5_heap.proofs.EditedLaws.{standing_chain}
 use Rattle.h5_heap.proofs.GrowLaws as laws
 use Rattle.h5_heap.proofs.put.grow.Goals as goal
@@ -62,7 +61,7 @@ put_behind-first-requires-clause-none c =
     let k = taken (goal.at.put_behind-first-requires-clause-none c).After-take-at in
     let begins = laws.copied_begins _ _ _ _ _ k c.segment_and_list-first.result.0 c.segment_and_list-first.ensures.segment c.copy.new.self c.copy.ensures
     c.part_at_mut.result.now c.part_at_mut.ensures.value in
-    ap₂ (λ (bs : List ℕ) (n : ℕ). find (is_sought (AtLeast (text_span c.args.text.now))) (free_from bs n)) begins c.segment_and_list-first.ensures.first ∙ c.requires.none
+    ap₂ (λ (bs : List ℕ) (n : ℕ). find (is_enough (text_span c.args.text.now)) (free_from bs n)) begins c.segment_and_list-first.ensures.first ∙ c.requires.none
 
 w_long : (c : After-put_behind-first) → length c.put_behind-first.new.segment ≡ 2 * c.segment_and_list-first.result.0.len + c.text_span.result + c.args.room + 16
 w_long c = c.put_behind-first.ensures.long ∙ c.part_at_mut.ensures.size
