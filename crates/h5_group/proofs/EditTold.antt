@@ -9,7 +9,7 @@ use Rattle.h5_space.specs.Space.{Space}
 use Rattle.h5_space.specs.Moves.{Moves}
 use Rattle.h5_space.specs.Whole.{IsApart}
 use Rattle.h5_btree.proofs.WaySteps.{moves_roomy, roomy}
-use Rattle.h5_group.specs.Edited.{HasGroupMoved, IsGroupIn, IsNewName, superblock_block}
+use Rattle.h5_group.specs.Edited.{HasGroupMoved, IsGroupIn, IsNewName, IsSomeGroup, superblock_block}
 use Rattle.h5_group.specs.LinkEdits.{IsGroupApart}
 use Rattle.h5_group.specs.Links.{HasNone}
 use Rattle.h5_group.specs.Told.{blocks_told, links_told}
@@ -44,6 +44,9 @@ group_roomy s bytes blocks table group short = record {
 pub group_told : (s : Space) (table : SymbolTable) → IsGroupApart s table → length s.bytes ≤ 2 ^ 31
     → IsGroupIn s table (links_told s.bytes table) [] (blocks_told s.bytes table)
 group_told s table group short = group_roomy s s.room_bytes s.room_blocks table group short
+
+pub some_told : (s : Space) (table : SymbolTable) → IsGroupApart s table → length s.bytes ≤ 2 ^ 31 → IsSomeGroup s table []
+some_told s table group short = (links_told s.bytes table, blocks_told s.bytes table, group_told s table group short)
 
 pub told_new : (image : List ℕ) (table : SymbolTable) (name : List ℕ) → HasNone image table name → IsNewName name (links_told image table)
 told_new image table name none =

@@ -50,6 +50,7 @@ pub mod PutTexts
 pub mod PutLinks
 pub mod PutDeep
 pub mod EditTold
+pub mod RoomKept
 pub mod TakeSteps
 pub mod RetiredKeys
 pub mod TreeMoves

@@ -1,5 +1,5 @@
 -- The way to a name in a group's tree: there is one at most, and it stays where its nodes read as before and their keys name the same texts.
-use Rattle.std.proofs.Common.{◌≡◌, ℕ, zero, suc, ◌+◌, ◌-◌, ◌*◌, ◌<◌, ◌≤◌, Bool, true, false, List, [], ◌∷◌, ◌++◌, length, slice_index, slice_index_or, inl, inr, refl, sym, ap, ap₂, ◌∙◌, subst, arith}
+use Rattle.std.proofs.Common.{◌≡◌, ℕ, zero, suc, ◌+◌, ◌-◌, ◌<◌, ◌≤◌, Bool, true, false, List, [], ◌∷◌, ◌++◌, length, slice_index, slice_index_or, inl, inr, refl, sym, ap, ap₂, ◌∙◌, subst, arith}
 use Rattle.std.specs.Cmp.Lexicographic.{slice_cmp}
 use Rattle.std.specs.List.{AllByRecursion, Contains}
 use Rattle.std.specs.Ordering.{is_lt, nat_cmp}
@@ -132,6 +132,12 @@ module _ (V W : Reading) (was now : List ℕ → Bool) where
         to.4,
       )
 
+-- a way that is full was full, where its nodes read as they did
+pub full_kept : (old new : List ℕ) (kind : Kind) (way : List Step) → AllByRecursion (λ (step : Step). node_at new kind step.node ≡ node_at old kind step.node) way
+    → IsFullWay new kind way → IsFullWay old kind way
+full_kept old new kind [] same full = tt
+full_kept old new kind (step ∷ way) same full = (ap (λ (n : Node). length n.children) (sym same.0) ∙ full.0, full_kept old new kind way same.1 full.1)
+
 -- ---- a group
 
 module _ (s : Space) (table : SymbolTable) (links : List (List ℕ × Target)) (spare : List ℕ) (blocks : List Block) (g : IsGroupIn s table links spare blocks) (name : List ℕ) where
@@ -229,15 +235,11 @@ module _ (s : Space) (table : SymbolTable) (links : List (List ℕ × Target)) (
           way_of t table links' spare' blocks' h name way (subst (λ (l : ℕ). IsWayTo W (behind_of t table name) l table.tree way) level to)
 
       -- and where it is full, it was
-      steps_full : (steps : List Step) → AllByRecursion (λ (step : Step). IsKeptNode t step.node) steps → IsFullWay t.bytes (kind_in t.bytes) steps → IsFullWay s.bytes kind steps
-      steps_full [] kept full = tt
-      steps_full (step ∷ steps) kept full = (
-        ap (λ (n : Node). length n.children) (sym (node_there step.node ∙ kept.0.0)) ∙ full.0 ∙ ap (λ (k : ℕ). 2 * k) internal,
-        steps_full steps kept.1 full.1,
-      )
-
       pub full_before : IsFullWay t.bytes (kind_in t.bytes) way → IsFullWay s.bytes kind way
-      full_before full = steps_full way steps_kept full
+      full_before full =
+          full_kept s.bytes t.bytes kind way
+          (all_map (λ (step : Step). IsKeptNode t step.node) (λ (step : Step). node_at t.bytes kind step.node ≡ V step.node) (λ step is. is.0) way steps_kept)
+          (subst (λ (k : ℕ). IsFullWay t.bytes (group_kind k) way) internal full)
 
       -- with the symbol node at its end as it was
       module _ (step : Step) (above : List Step) (is : way ≡ step ∷ above) where

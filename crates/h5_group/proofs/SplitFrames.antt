@@ -4,7 +4,7 @@ use Rattle.std.proofs.Common.{◌≡◌, ℕ, ◌+◌, ◌*◌, ◌^◌, ◌<◌
 use Rattle.std.proofs.lemmas.List.{append_assoc, map-append}
 use Rattle.std.proofs.lemmas.Grind.{flat_map-append}
 use Rattle.std.specs.List.{AllByRecursion, flat_map}
-use Rattle.h5_bytes.specs.Bytes.{part, undefined}
+use Rattle.h5_bytes.specs.Bytes.{undefined}
 use Rattle.h5_bytes.specs.Blocks.{block, cover, Inside, IsKept, Keeps}
 use Rattle.h5_bytes.specs.declared.Block.{Block}
 use Rattle.h5_bytes.proofs.BlockLaws.{cover-append, all_append, all_left, all_right}
@@ -29,7 +29,7 @@ use Rattle.h5_group.specs.Edited.{IsGroupIn, superblock_block}
 use Rattle.h5_group.specs.Nodes.Trees.{group_nodes_blocks, kind_in}
 use Rattle.h5_group.specs.Split.{AreHalves}
 use Rattle.h5_group.proofs.EditFrames.{group_apart, rest_kept}
-use Rattle.h5_group.proofs.BlockFrames.{inside_held, made_long, read_kept}
+use Rattle.h5_group.proofs.BlockFrames.{fact_kept, inside_held, made_long, read_kept}
 use Rattle.h5_group.proofs.EntryFrames.{entries_cut, parted, within}
 
 -- a way ends where it did, where the nodes of its tree keep their bytes
@@ -52,12 +52,6 @@ ends_still s u kind root level way owned list k e kept apart short =
       place = subst (λ (v : Reading). (e.step).place < length (v (e.step).node).children) (sym rows) e.place;
       number = subst (λ (v : Reading). k ≡ length (next_row v e.front) + (e.step).place) (sym rows) e.number;
     }
-
--- what is so of bytes is so of them in blocks that were kept
-facts_kept : (P : List ℕ → Type 0) (len : ℕ) (old new : List ℕ) (xs : List ℕ) → Keeps old new (map (λ at. block at len) xs)
-    → AllByRecursion (λ at. P (part at len old)) xs → AllByRecursion (λ at. P (part at len new)) xs
-facts_kept P len old new [] kept all = tt
-facts_kept P len old new (x ∷ xs) kept all = (subst P (sym kept.0) all.0, facts_kept P len old new xs kept.1 all.1)
 
 module _ (s u : Space) (table : SymbolTable) (links : List (List ℕ × Target)) (spare : List ℕ) (blocks : List Block)
     (group : IsGroupIn s table links spare blocks) (node new : ℕ) (front back : List ℕ) (cut : (group.linked).symbol_nodes ≡ front ++ node ∷ back)
@@ -207,11 +201,11 @@ module _ (s u : Space) (table : SymbolTable) (links : List (List ℕ × Target))
         let Q : ℕ → Type 0 = λ at. IsSymbolNode l (symbol_bytes t.bytes l at) in
         let old = subst (AllByRecursion P) cut (group.linked).formed in
         all_append Q front (node ∷ new ∷ back)
-        (facts_kept (IsSymbolNode l) (8 + 80 * l) s.bytes t.bytes front front_stays (all_left P front (node ∷ back) old)) (
+        (fact_kept (IsSymbolNode l) (8 + 80 * l) s.bytes t.bytes front front_stays (all_left P front (node ∷ back) old)) (
           subst (IsSymbolNode l) (sym rest_then.0) halves.left_form,
           (
             subst (IsSymbolNode l) (sym rest_then.1.0) halves.right_form,
-            facts_kept (IsSymbolNode l) (8 + 80 * l) s.bytes t.bytes back back_stays (all_right P front (node ∷ back) old).1,
+            fact_kept (IsSymbolNode l) (8 + 80 * l) s.bytes t.bytes back back_stays (all_right P front (node ∷ back) old).1,
           ),
         )
 

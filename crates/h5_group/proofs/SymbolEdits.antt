@@ -46,25 +46,36 @@ symbols_rewritten old new leaf at w entries size inside is says form =
       spends = record { grown = omega (arith, long); bytes_left = omega (arith, room); blocks_left = omega (arith, calls) };
     }
 
--- its bytes are lent, and come back with other entries behind the same head
-module _ (s : Space) (leaf at n : ℕ) (is : n ≡ leaf) (inside : at + (8 + 80 * leaf) ≤ length s.bytes) (form : IsSymbolNode leaf (symbol_bytes s.bytes leaf at))
-    (lent : List ℕ) (value : lent ≡ part at (8 + 80 * n) s.bytes) (size : length lent ≡ 8 + 80 * n) where
-  lent_is : lent ≡ symbol_bytes s.bytes leaf at
-  lent_is = value ∙ ap (λ (l : ℕ). part at (8 + 80 * l) s.bytes) is
+-- The bytes of a symbol node that stands in the image, as they are lent.
+pub record IsLent (s : Space) (leaf at : ℕ) (lent : List ℕ) : Type 0 where
+  pub inside : at + (8 + 80 * leaf) ≤ length s.bytes
+  pub form : IsSymbolNode leaf (symbol_bytes s.bytes leaf at)
+  pub is : lent ≡ symbol_bytes s.bytes leaf at
+  pub long : length lent ≡ 8 + 80 * leaf
+  -- how many entries there are, for all of which they have room
+  pub count : symbols_in lent ≡ length (symbols_at s.bytes leaf at)
+  pub roomy : symbols_in lent ≤ 2 * leaf
 
-  pub lent_long : length lent ≡ 8 + 80 * leaf
-  lent_long = size ∙ ap (λ (l : ℕ). 8 + 80 * l) is
+pub is_lent : (s : Space) (leaf at n : ℕ) → n ≡ leaf → at + (8 + 80 * leaf) ≤ length s.bytes → IsSymbolNode leaf (symbol_bytes s.bytes leaf at)
+    → (lent : List ℕ) → lent ≡ part at (8 + 80 * n) s.bytes → length lent ≡ 8 + 80 * n → IsLent s leaf at lent
+is_lent s leaf at n same inside form lent value size =
+    let is : lent ≡ symbol_bytes s.bytes leaf at = value ∙ ap (λ (l : ℕ). part at (8 + 80 * l) s.bytes) same in
+    let count = ap symbols_in is in
+    let roomy = form.roomy in
+    record {
+      inside = inside;
+      form = form;
+      is = is;
+      long = size ∙ ap (λ (l : ℕ). 8 + 80 * l) same;
+      count = count ∙ sym (entries_count (symbol_bytes s.bytes leaf at));
+      roomy = omega (arith, roomy, count);
+    }
 
-  pub lent_count : symbols_in lent ≡ length (symbols_at s.bytes leaf at)
-  lent_count = ap symbols_in lent_is ∙ sym (entries_count (symbol_bytes s.bytes leaf at))
-
-  -- so they have room for all entries
-  pub lent_roomy : symbols_in lent ≤ 2 * leaf
-  lent_roomy = let roomy = form.roomy in omega (arith, roomy, ap symbols_in lent_is)
-
-  pub lent_rewritten : (w : List ℕ) (change : List Entry → List Entry) → length w ≡ length lent → entries_of w ≡ change (entries_of lent) → part 0 6 w ≡ part 0 6 lent
-      → length (change (symbols_at s.bytes leaf at)) ≤ 2 * leaf → IsSymbolsRewritten s (with_bytes_at s at w) leaf at (change (symbols_at s.bytes leaf at))
-  lent_rewritten w change long says head few =
-      let now = says ∙ ap (λ (bytes : List ℕ). change (entries_of bytes)) lent_is in
-      symbols_rewritten s (with_bytes_at s at w) leaf at w (change (symbols_at s.bytes leaf at)) (long ∙ lent_long) inside refl now
-      (form_kept leaf (symbol_bytes s.bytes leaf at) w (head ∙ ap (part 0 6) lent_is) (omega (arith, few, ap (λ (es : List Entry). length es) now)) form)
+-- they come back with other entries behind the same head
+pub lent_rewritten : (s : Space) (leaf at : ℕ) (lent : List ℕ) → IsLent s leaf at lent → (w : List ℕ) (change : List Entry → List Entry) → length w ≡ length lent
+    → entries_of w ≡ change (entries_of lent) → part 0 6 w ≡ part 0 6 lent → length (change (symbols_at s.bytes leaf at)) ≤ 2 * leaf
+    → IsSymbolsRewritten s (with_bytes_at s at w) leaf at (change (symbols_at s.bytes leaf at))
+lent_rewritten s leaf at lent l w change long says head few =
+    let now = says ∙ ap (λ (bytes : List ℕ). change (entries_of bytes)) l.is in
+    symbols_rewritten s (with_bytes_at s at w) leaf at w (change (symbols_at s.bytes leaf at)) (long ∙ l.long) l.inside refl now
+    (form_kept leaf (symbol_bytes s.bytes leaf at) w (head ∙ ap (part 0 6) l.is) (omega (arith, few, ap (λ (es : List Entry). length es) now)) l.form)

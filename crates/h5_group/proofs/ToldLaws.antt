@@ -38,6 +38,10 @@ module _ (image : List ℕ) (t : SymbolTable) (links : List (List ℕ × Target)
   blocks_are_told = has.laid
       ∙ ap₂ (λ (ns ss : List ℕ). group_nodes_blocks image ns ss ++ heap_blocks image t.heap) nodes_are_told symbol_nodes_are_told
 
+  pub told_linked : HasLinks image (leaf_k image) (internal_k image) t.tree t.heap (links_told image t) (blocks_told image t)
+  told_linked = subst (λ (bs : List Block). HasLinks image (leaf_k image) (internal_k image) t.tree t.heap (links_told image t) bs) blocks_are_told
+      (subst (λ (ls : List (List ℕ × Target)). HasLinks image (leaf_k image) (internal_k image) t.tree t.heap ls blocks) links_are_told has)
+
 -- a group stays where its blocks' bytes stay
 module _ (old new : List ℕ) (leaf : leaf_k new ≡ leaf_k old) (internal : internal_k new ≡ internal_k old) (t : SymbolTable)
     (has : HasLinks old (leaf_k old) (internal_k old) t.tree t.heap (links_told old t) (blocks_told old t)) (kept : Keeps old new (blocks_told old t)) where
@@ -51,5 +55,4 @@ module _ (old new : List ℕ) (leaf : leaf_k new ≡ leaf_k old) (internal : int
   blocks_told-same = sym (blocks_are_told new t (links_told old t) (blocks_told old t) stays)
 
   pub told-same : HasLinks new (leaf_k new) (internal_k new) t.tree t.heap (links_told new t) (blocks_told new t)
-  told-same = subst (λ (bs : List Block). HasLinks new (leaf_k new) (internal_k new) t.tree t.heap (links_told new t) bs) (sym blocks_told-same)
-      (subst (λ (ls : List (List ℕ × Target)). HasLinks new (leaf_k new) (internal_k new) t.tree t.heap ls (blocks_told old t)) (sym links_told-same) stays)
+  told-same = told_linked new t (links_told old t) (blocks_told old t) stays

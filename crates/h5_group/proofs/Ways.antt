@@ -6,9 +6,9 @@ use Rattle.h5_bytes.specs.Blocks.{cover, Inside}
 use Rattle.h5_bytes.specs.declared.Block.{Block}
 use Rattle.h5_bytes.proofs.BlockLaws.{all_append, all_left, all_right, cover-append}
 use Rattle.h5_model.specs.Format.Addresses.{SymbolTable}
-use Rattle.h5_model.specs.Format.Superblock.{leaf_k, internal_k}
+use Rattle.h5_model.specs.Format.Superblock.{leaf_k}
 use Rattle.h5_model.specs.Format.Heap.{heap_blocks, segment_of}
-use Rattle.h5_model.specs.Format.Links.{HasLinks, names_in}
+use Rattle.h5_model.specs.Format.Links.{names_in}
 use Rattle.h5_model.specs.Format.Nodes.{Kind, node_at, node_block, tree_blocks}
 use Rattle.h5_model.specs.Format.Rows.{Reading}
 use Rattle.h5_model.specs.Format.Symbols.{Target, symbol_block, symbols_at}
@@ -22,10 +22,10 @@ use Rattle.h5_btree.proofs.WayInTree.{way_in_tree}
 use Rattle.h5_group.specs.Edited.{IsGroupIn, node_below}
 use Rattle.h5_group.specs.Links.{IsGroupRead}
 use Rattle.h5_group.specs.Nodes.Trees.{kind_in}
-use Rattle.h5_group.specs.Told.{links_told, symbol_nodes_told}
+use Rattle.h5_group.specs.Told.{symbol_nodes_told}
 use Rattle.h5_group.specs.Ways.{IsWayOf, behind_of}
 use Rattle.h5_group.proofs.BlockFrames.{inside_held, made_long}
-use Rattle.h5_group.proofs.ToldLaws.{links_are_told, blocks_are_told}
+use Rattle.h5_group.proofs.ToldLaws.{blocks_are_told, told_linked}
 use Rattle.h5_group.proofs.Way.{leaf_has}
 
 -- ---- the steps of a way
@@ -112,15 +112,11 @@ module _ (s : Space) (table : SymbolTable) (links : List (List ℕ × Target)) (
 
   -- it is one that can be read
   pub group_read : IsGroupRead s.bytes table
-  group_read =
-      let told = links_are_told s.bytes table links blocks group.linked in
-      let blocks_told_are = blocks_are_told s.bytes table links blocks group.linked in
-      record {
-        linked = subst (λ (bs : List Block). HasLinks s.bytes (leaf_k s.bytes) (internal_k s.bytes) table.tree table.heap (links_told s.bytes table) bs) blocks_told_are
-            (subst (λ (ls : List (List ℕ × Target)). HasLinks s.bytes (leaf_k s.bytes) (internal_k s.bytes) table.tree table.heap ls blocks) told group.linked);
-        inside = subst (Inside (length s.bytes)) blocks_told_are all_inside;
-        few = group.few;
-      }
+  group_read = record {
+    linked = told_linked s.bytes table links blocks group.linked;
+    inside = subst (Inside (length s.bytes)) (blocks_are_told s.bytes table links blocks group.linked) all_inside;
+    few = group.few;
+  }
 
   pub level_there : (V table.tree).level ≡ (group.linked).level
   level_there = level_is s.bytes kind table.tree (group.linked).level (group.linked).owned (group.linked).symbol_nodes (group.linked).tree

@@ -6,5 +6,6 @@ pub mod Order
 pub mod Steps
 pub mod Lengths
 pub mod GroupReads
+pub mod BareGroup
 pub mod Counts
 pub mod Pushing

@@ -9,5 +9,5 @@ mod take;
 mod texts;
 mod way;
 
-pub use put::put_link;
+pub use put::{is_too_deep, put_link, put_reserved, reserve_link};
 pub use take::remove_link;

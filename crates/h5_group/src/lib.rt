@@ -15,7 +15,7 @@ mod search;
 mod texts;
 mod write;
 
-pub use edit::{put_link, remove_link};
+pub use edit::{is_too_deep, put_link, put_reserved, remove_link, reserve_link};
 pub use group::read_group;
 pub use h5_btree::InsertFault;
 pub use h5_msg::{SymbolTable, read_symbol_table};

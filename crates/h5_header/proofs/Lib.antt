@@ -35,3 +35,4 @@ pub mod ReadableLaws
 pub mod KindLaws
 pub mod FoundLaws
 pub mod WalkLaws
+pub mod LaidLaws

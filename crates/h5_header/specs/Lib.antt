@@ -1,4 +1,5 @@
 pub mod Heads
+pub mod Laid
 pub mod Listed
 pub mod Standing
 pub mod Room

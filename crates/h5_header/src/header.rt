@@ -45,6 +45,18 @@ impl Model for Messages {
 }
 
 impl Messages {
+    /// What is kept of a header with these messages in these blocks, with room for no message more. Takes no memory.
+    pub(crate) fn of(header: u64, list: Vec<Message>, blocks: Vec<Block>) -> Messages
+        ensures { result ≡ record { header = header; list = list.items; blocks = blocks.items; room = 0 } }
+    {
+        Messages {
+            header,
+            list,
+            blocks,
+            room: 0,
+        }
+    }
+
     /// The address of the header. Takes no memory.
     pub fn header(&self) -> u64
         ensures { result ≡ self.now.header }
@@ -225,10 +237,5 @@ pub(crate) fn read_header(
         }
         next += 1;
     }
-    Ok(Messages {
-        header,
-        list,
-        blocks,
-        room: 0,
-    })
+    Ok(Messages::of(header, list, blocks))
 }

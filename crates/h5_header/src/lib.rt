@@ -12,6 +12,7 @@ mod edits;
 mod find;
 mod header;
 mod kinds;
+mod laid;
 mod message;
 mod put;
 mod read;

@@ -16,7 +16,7 @@ use h5_model::message_type::{
 };
 
 /// Bytes of a message before its body.
-const HEAD: u64 = 8;
+pub(crate) const HEAD: u64 = 8;
 
 /// Bytes of a Continuation's body: an address and a length.
 const BLOCK_NAME: u16 = 16;

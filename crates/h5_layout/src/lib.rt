@@ -23,7 +23,7 @@ mod resized;
 mod stored;
 mod values;
 
-pub use address::{StoredRun, stored_from, write_stored};
+pub use address::{StoredRun, fill_stored, stored_from, write_stored};
 pub use array::ArrayRef;
 pub use compact::compact_place;
 pub use h5_msg::{ChunkSizes, Layout};

@@ -195,7 +195,7 @@ module _ (image : List ℕ) (leaf internal at : ℕ) (links : List (List ℕ × 
 
     -- ---- the tree and the heap
 
-    plain_tree : HasPlainNodes image (group_kind internal) word 0 at children
+    pub plain_tree : HasPlainNodes image (group_kind internal) word 0 at children
     plain_tree = tree_reads ℕ image (group_kind internal) word 0 at children (plain.k).internal_low (plain.k).internal_high refl (lasts_fit internal children) low_places
         (level_low leaf internal at links plain.k plain.low) (subst (λ n. at + n < 2 ^ 63) (sym tree_size_is) limits.tree_end) tree_there.0
 
@@ -266,7 +266,7 @@ module _ (image : List ℕ) (leaf internal at : ℕ) (links : List (List ℕ × 
     heap_run : Run heap_at (heap_blocks image heap_at) nodes_at
     heap_run = subst (λ bs. Run heap_at bs nodes_at) (sym plain_heap.blocks) (refl, (refl, refl))
 
-    whole_run : Run at (tree_part ++ (heap_blocks image heap_at ++ nodes_part)) (at + links_length leaf internal links)
+    pub whole_run : Run at (tree_part ++ (heap_blocks image heap_at ++ nodes_part)) (at + links_length leaf internal links)
     whole_run = run_append at heap_at (at + links_length leaf internal links) tree_part (heap_blocks image heap_at ++ nodes_part)
         (subst (Run at tree_part) heap_place_is plain_tree.run)
         (run_append heap_at nodes_at (at + links_length leaf internal links) (heap_blocks image heap_at) nodes_part heap_run

@@ -1,6 +1,6 @@
 //! A link put into a group (File Format Specification 3.0, sections III.A.1, III.B and III.D).
 
-ghost use Rattle.std.specs.Prelude.{◌≡◌, ◌↔◌, ℕ, ◌+◌, ◌*◌, ◌^◌, ◌<◌, ◌≤◌, ◌++◌, Err, IsOk, IsTrue, List, [], ◌∷◌, OnErr, OnOk, false, length, min, ◌-◌};
+ghost use Rattle.std.specs.Prelude.{◌≡◌, ◌↔◌, ℕ, ◌+◌, ◌*◌, ◌^◌, ◌<◌, ◌≤◌, ◌++◌, Err, IsOk, IsTrue, List, [], ◌∷◌, OnErr, OnOk, false, length, max, min, ◌-◌};
 ghost use Rattle.std.specs.List.{Contains};
 ghost use Rattle.h5_bytes.specs.declared.Block.{Block};
 ghost use Rattle.h5_model.specs.Edits.Refusal.{has_zero};
@@ -89,20 +89,91 @@ pub fn put_link(
         → length image.old.bytes + room_of image.old.bytes table (span (name_and_leads link.now)) ≤ 2 ^ 31
         → IsOk result }
 {
-    if is_too_deep(image, table, link.name) {
-        return Err(InsertFault::TreeTooDeep);
-    }
-    let reserved = image.reserve(link_room(image, table, link), CALLS);
-    if let Err(fault) = reserved {
-        return Err(InsertFault::Space(fault));
-    }
-    put_in_room(image, table, link);
+    reserve_link(image, table, link, 0, 0)?;
+    put_reserved(image, table, link);
     Ok(())
 }
 
-/// Whether the root of the group's tree is at level 15, and each node on the way to the name and the symbol node at its end are full.
-fn is_too_deep(image: &Image, table: SymbolTable, name: &[u8]) -> bool
-    requires group { IsSomeGroup image.now table [] }
+/// Makes room for a link in a group, and for so many bytes beside it, which so many calls of `take` and `give` are for.
+///
+/// That the group was read, as `put_link` asks it, and that the image has at most 2147483648 bytes, are the caller's conditions.
+///
+/// # Errors
+///
+/// Those of `put_link`, where the bytes beside the link count as the link's. A refusal changes nothing.
+pub fn reserve_link(
+    image: &mut Image,
+    table: SymbolTable,
+    link: &Link<'_, ObjectPlace>,
+    bytes: u64,
+    calls: u64,
+) -> Result<(), InsertFault>
+    requires group { IsGroupApart image.old table }
+    requires short { length image.old.bytes ≤ 2 ^ 31 }
+    requires few { calls ≤ 2 ^ 31 }
+    ensures room { OnOk result (image.new ≡ record image.old {
+      room_bytes = max image.old.room_bytes
+          (room_of image.old.bytes table (span (name_and_leads link.now)) + bytes);
+      room_blocks = max image.old.room_blocks (20 + calls);
+    }) }
+    ensures deep { (result ≡ Err InsertFault.TreeTooDeep)
+        ↔ IsFullFor image.old.bytes table link.now.name.now }
+    ensures full { (result ≡ Err (InsertFault.Space SpaceFault.ImageFull))
+        ↔ ((IsFullFor image.old.bytes table link.now.name.now → ⊥)
+        × (2 ^ 31 < length image.old.bytes
+        + (room_of image.old.bytes table (span (name_and_leads link.now)) + bytes))) }
+    ensures err { OnErr result (image.new ≡ image.old) }
+    ensures covered { (IsFullFor image.old.bytes table link.now.name.now → ⊥)
+        → room_of image.old.bytes table (span (name_and_leads link.now)) + bytes ≤ image.old.room_bytes
+        → 20 + calls ≤ image.old.room_blocks
+        → length image.old.bytes + (room_of image.old.bytes table (span (name_and_leads link.now)) + bytes)
+        ≤ 2 ^ 31
+        → IsOk result }
+{
+    if is_too_deep(image, table, link.name) {
+        return Err(InsertFault::TreeTooDeep);
+    }
+    let room = link_room(image, table, link).saturating_add(bytes);
+    let reserved = image.reserve(room, CALLS + calls);
+    if let Err(fault) = reserved {
+        return Err(InsertFault::Space(fault));
+    }
+    Ok(())
+}
+
+/// Puts a link into a group, in room that `reserve_link` has made. Takes no memory.
+///
+/// The conditions are those of `put_link`; besides, the tree has room for the name, and the image has the room that a link may take.
+pub fn put_reserved(image: &mut Image, table: SymbolTable, link: &Link<'_, ObjectPlace>)
+    requires group { IsGroupApart image.old table }
+    requires new_name { HasNone image.old.bytes table link.now.name.now }
+    requires named { IsTrue (is_name link.now.name.now) }
+    requires plain { IsPlainLead (leads_of link.now.to) }
+    requires roomy { IsFullFor image.old.bytes table link.now.name.now → ⊥ }
+    requires bytes { room_of image.old.bytes table (span (name_and_leads link.now)) ≤ image.old.room_bytes }
+    requires calls { 20 ≤ image.old.room_blocks }
+    requires short { length image.old.bytes + room_of image.old.bytes table (span (name_and_leads link.now))
+        ≤ 2 ^ 31 }
+    ensures put { IsLinkPut (target_link (name_and_leads link.now))
+        (links_told image.old.bytes table) (links_told image.new.bytes table) }
+    ensures group { IsGroupApart image.new table }
+    ensures moves { Moves image.old image.new (blocks_told image.old.bytes table)
+        (blocks_told image.new.bytes table) }
+    ensures leaf { leaf_k image.new.bytes ≡ leaf_k image.old.bytes }
+    ensures internal { internal_k image.new.bytes ≡ internal_k image.old.bytes }
+    ensures spends { Spends image.old image.new
+        (room_of image.old.bytes table (span (name_and_leads link.now))) 20 }
+{
+    put_in_room(image, table, link);
+}
+
+/// Whether a link of this name would make the group's tree too deep: the root is at level 15, and each node on the way to the name and the
+/// symbol node at its end are full. Takes no memory.
+///
+/// That the group was read, as `put_link` asks it, and that the image has at most 2147483648 bytes, are the caller's conditions.
+pub fn is_too_deep(image: &Image, table: SymbolTable, name: &[u8]) -> bool
+    requires group { IsGroupApart image.now table }
+    requires short { length image.now.bytes ≤ 2 ^ 31 }
     ensures { IsTrue result ↔ IsFullFor image.now.bytes table name.now }
 {
     let Some(way) = way_to(image, table, name) else {

@@ -1,9 +1,16 @@
 use Rattle.std.proofs.Common.{◌≡◌, true, false, [], length, sym, ap, subst, arith}
 use Rattle.h5_model.specs.Format.Nodes.{Kind}
 use Rattle.h5_btree.specs.Insertion.{IsFullWay}
+use Rattle.h5_group.proofs.EditTold.{some_told}
 use Rattle.h5_group.proofs.PutDeep.{deep_end, deep_long, deep_nodes, deep_of, empty_roomy}
 use Rattle.h5_group.proofs.edit.put.is_too_deep.Goals as goal
 use Rattle.h5_group.proofs.edit.put.is_too_deep.Goals.{then-steps-eq-MOST_STEPS, else-steps-eq-MOST_STEPS}
+
+pub way_to-requires : goal.way_to-requires
+way_to-requires c = record { group = ([], some_told c.args.image.now c.args.table c.requires.group c.requires.short) }
+
+pub is_full-requires-clause-group : goal.is_full-requires-clause-group
+is_full-requires-clause-group c = ([], some_told c.args.image.now c.args.table c.requires.group c.requires.short)
 
 pub returns-in_default : goal.returns-in_default
 returns-in_default c = (
@@ -13,7 +20,7 @@ returns-in_default c = (
 
 pub returns-then-is_full_way : goal.returns-then-is_full_way
 returns-then-is_full_way c =
-    let g = c.requires.group in
+    let g = some_told c.args.image.now c.args.table c.requires.group c.requires.short in
     elim c.if-steps-eq-MOST_STEPS.branch [
       | then-steps-eq-MOST_STEPS w ↦
           let is = w.value-is in
@@ -29,7 +36,7 @@ returns-then-is_full_way c =
 
 pub returns-else-is_full_way : goal.returns-else-is_full_way
 returns-else-is_full_way c =
-    let g = c.requires.group in (
+    let g = some_told c.args.image.now c.args.table c.requires.group c.requires.short in (
       λ it_is. let so = c.if-is_full_way.false in let all = it_is in let bad : false ≡ true = cc in absurd (cc),
       λ f.
           elim c.if-steps-eq-MOST_STEPS.branch [
