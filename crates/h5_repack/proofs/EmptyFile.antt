@@ -9,12 +9,11 @@ use Rattle.std.specs.Cmp.{nat_cmp_total, unsigned_tied}
 use Rattle.std.specs.Cmp.Lexicographic.{slice_cmp}
 use Rattle.std.specs.declared.alloc.Global.{Global}
 use Rattle.std.specs.FinMap.{FinMap, get, entries, empty, len-empty, entries-insert, get-insert, get-empty, put}
-use Rattle.std.specs.List.{AllByRecursion}
 use Rattle.h5_model.specs.Format.Empty.{empty_file, root_table, root_tree, root_object}
 use Rattle.h5_model.specs.Format.Bodies.{pair_bytes}
 use Rattle.h5_model.specs.Format.Plain.{superblock_bytes, header_bytes}
 use Rattle.h5_model.specs.Format.Superblock.{AreK}
-use Rattle.h5_model.specs.Tree.Objects.{Object, Group, Array, Link, ToObject, Soft, Attribute, follow, hard_links, links_of, link_in}
+use Rattle.h5_model.specs.Tree.Objects.{Object, Group, Array, Link, ToObject, Soft, follow, hard_links, links_of, link_in}
 use Rattle.h5_model.proofs.MapSteps.{entries-empty}
 use Rattle.h5_laws.specs.Trees.Sound.{IsSoundTree}
 use Rattle.h5_laws.proofs.Lists.{In, in_contains, contains_in}
@@ -26,8 +25,7 @@ use Rattle.h5_repack.specs.Bodies.Laws.{IsPlainReading}
 use Rattle.h5_repack.specs.Image.Plain.{ArePlain, AreLow, AreStoredIn, IsLow, IsPlain, IsPlainTree}
 use Rattle.h5_repack.specs.Image.Written.{IsOrder, StoredIn, counts_of, content_place, header_in, group_heap_place, image_end, plain_image, table_of, written_link, written_links}
 use Rattle.h5_repack.specs.Blocks.Written.{AreOthers}
-use Rattle.h5_repack.specs.Bodies.Bodies.{attribute_message, others_of}
-use Rattle.h5_repack.specs.Bodies.Sound.{IsPlainAttribute, IsPlainObject}
+use Rattle.h5_repack.specs.Bodies.Bodies.{others_of}
 use Rattle.h5_model.specs.Tree.Links.{tree_link}
 use Rattle.h5_repack.specs.Objects.Objects.{IsNewContent}
 use Rattle.h5_repack.specs.declared.objects.object.NewContent.{NewContent}
@@ -38,6 +36,7 @@ use Rattle.h5_model.specs.declared.link.Link.{Link as LinkOf}
 use Rattle.h5_repack.specs.Written.{IsTreeToWrite, IsUnwritten, IsWritten}
 use Rattle.h5_repack.specs.declared.write.Written.{Written}
 use Rattle.h5_repack.specs.declared.write.WriteFault.TheVariants.{TooLong, TooDeep}
+use Rattle.h5_repack.proofs.BareGroup.{bare_plain, no_attributes, no_others}
 use Rattle.h5_repack.proofs.ImageLaws.ImageLength.{image_length}
 use Rattle.h5_repack.proofs.ImageLaws.Orders.{got_in_order, order-total}
 use Rattle.h5_repack.proofs.ImageLaws.PlainImages.{plain_reads}
@@ -95,16 +94,8 @@ root_sound = record {
 
 -- ---- it can be written
 
-no_attributes : entries root_object.attributes ≡ []
-no_attributes = entries-empty {X = Attribute} (slice_cmp nat_cmp)
-
-no_others : others_of root_object ≡ []
-no_others = ap (map attribute_message) no_attributes
-
 root_plain : ArePlain root_tree
-root_plain zero o is = subst IsPlain (root_is o is) (record { others = own; content = rw no_others (omega arith) }) where
-  own : IsPlainObject root_object
-  own = record { kept = tt; attributes = subst (AllByRecursion IsPlainAttribute) (sym no_attributes) tt }
+root_plain zero o is = subst IsPlain (root_is o is) bare_plain
 root_plain (suc n) o is = absurd (let none : None ≡ Some o = sym (get-root_tree_other n) ∙ is in cc)
 
 no_depth : IsLow 4 16 empty

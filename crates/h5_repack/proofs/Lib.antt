@@ -10,5 +10,7 @@ pub mod BodyLaws
 pub mod ChunkLaws
 pub mod ObjectLaws
 pub mod ImageLaws
+pub mod BareGroup
 pub mod EmptyFile
 pub mod WrittenStored
+pub use Rattle.h5_group.proofs.WriteLaws.BareGroup as BareGroupRead

@@ -12,6 +12,6 @@ mod space;
 
 pub use crate::blocks::cells::{Cells, cells_address, data_length, push_data};
 pub use crate::blocks::header::{
-    array_header_length, group_header_length, push_array_header, push_group_header,
+    GROUP_HEADER, array_header_length, group_header_length, push_array_header, push_group_header,
 };
 pub use crate::blocks::others::Others;

@@ -22,7 +22,7 @@ use h5_model::{Link, ObjectNo};
 use std::alloc::{AllocError, Global};
 
 /// A group's header, and behind it, at the place `at`, its links.
-fn push_group(
+pub(crate) fn push_group(
     alloc: Global,
     out: &mut Vec<u8>,
     layout: &Layout<'_>,

@@ -1,13 +1,13 @@
 -- The links of a group as they are written are plain links: their names ascend, and they lead where the tree says.
-use Rattle.std.proofs.Common.{◌≡◌, ℕ, ◌+◌, ◌*◌, ◌^◌, ◌≤◌, ◌<◌, ◌==◌, ◌||◌, List, [], ◌∷◌, map, length, refl, sym, ap, ◌∙◌, subst, arith, inl, inr, Bool, true, false, Option, Some, None}
+use Rattle.std.proofs.Common.{◌≡◌, ℕ, ◌+◌, ◌*◌, ◌^◌, ◌≤◌, ◌<◌, List, [], ◌∷◌, map, length, refl, sym, ap, ◌∙◌, subst, arith, inl, inr, true, false, Option, Some, None}
 use Rattle.std.proofs.lemmas.List.{length-map}
 use Rattle.std.proofs.lemmas.Simd.{map-map}
-use Rattle.std.specs.Prelude.{T, is_some, not, ◌&&◌, slice_index}
+use Rattle.std.specs.Prelude.{T, is_some}
 use Rattle.std.specs.Ordering.{nat_cmp, is_lt}
 use Rattle.std.specs.Cmp.Lexicographic.{slice_cmp, nat_list_cmp_total}
 use Rattle.std.specs.FinMap.{FinMap, get, entries, len, len-entries, is_sorted, entries_sorted}
 use Rattle.std.specs.FinMap.Entries.{below_all}
-use Rattle.std.specs.List.{AllByRecursion, AllZip, list_any}
+use Rattle.std.specs.List.{AllByRecursion, AllZip}
 use Rattle.std.specs.Option.{option_map_or, option_and_then}
 use Rattle.h5_model.specs.Format.Links.{Before, Ascend}
 use Rattle.h5_model.specs.Tree.Paths.{is_name}
@@ -27,6 +27,7 @@ use Rattle.h5_model.specs.Format.Superblock.{AreK}
 use Rattle.h5_laws.specs.Trees.Sound.{IsSoundTree}
 use Rattle.h5_group.specs.Writing.Laws.{ArePlainLinks, IsLinkWritten, LinksLength, GroupLength}
 use Rattle.h5_group.specs.Writing.Written.{links_bytes}
+use Rattle.h5_group.proofs.PutTexts.{no_zero}
 use Rattle.h5_repack.specs.Image.Written.{object_length, header_in, leads_to_object, content_place, group_heap_place, written_link, written_links}
 use Rattle.h5_repack.proofs.ImageLaws.BareLinks.{bare, length-bare}
 
@@ -41,25 +42,6 @@ zip_made R f [] each = tt
 zip_made R f (x ∷ xs) each = (each x (inl refl), zip_made R f xs (λ y at. each y (inr at)))
 
 -- ---- names
-
--- a name has no zero byte
-neither : (a b c : Bool) → ((a || b) || c) ≡ false → (a ≡ false) × (c ≡ false)
-neither true b c h = absurd (cc)
-neither false true c h = absurd (cc)
-neither false false c h = (refl, h)
-
-no_zero_in : (name : List ℕ) → list_any (λ c. c == 0 || c == 47) name ≡ false → has_zero name ≡ false
-no_zero_in [] h = refl
-no_zero_in (c ∷ name) h = let parts = neither (c == 0) (c == 47) (list_any (λ d. d == 0 || d == 47) name) h in rw (parts.0) (no_zero_in name parts.1)
-
-third_false : (a b c : Bool) → (a && b && not c) ≡ true → c ≡ false
-third_false true true false h = refl
-third_false true true true h = absurd (cc)
-third_false true false c h = absurd (cc)
-third_false false b c h = absurd (cc)
-
-pub no_zero : (name : List ℕ) → is_name name ≡ true → has_zero name ≡ false
-no_zero name h = no_zero_in name (third_false (not (length name == 0)) (not (length name == 1 && slice_index name 0 == 46)) (list_any (λ c. c == 0 || c == 47) name) h)
 
 -- names in order ascend, whatever stands beside them
 ascend_made : (f : List ℕ × Link → List ℕ × Target) → ((e : List ℕ × Link) → (f e).0 ≡ e.0) → (es : List (List ℕ × Link)) → T (is_sorted (slice_cmp nat_cmp) es) → Ascend (map f es)

@@ -30,6 +30,9 @@ use h5_msg::{
 };
 use std::alloc::AllocError;
 
+/// Bytes of the header of a group that has no other messages: its prefix, and the message with the addresses of its tree and heap.
+pub const GROUP_HEADER: u64 = 40;
+
 /// The prefix of a header: its count of messages, its reference count and the bytes of its messages.
 fn push_prefix(
     out: &mut Vec<u8>,
@@ -139,7 +142,7 @@ pub fn group_header_length(others: &Others) -> u64
     ensures few { result ≤ 2 ^ 33 }
     ensures holds { length others.now.bytes ≤ result }
 {
-    40 + others.bytes().len() as u64
+    GROUP_HEADER + others.bytes().len() as u64
 }
 
 /// Appends the header of a group: a Symbol Table message with the addresses of its B-tree and heap, and these other
