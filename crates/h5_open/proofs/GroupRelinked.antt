@@ -1,40 +1,27 @@
 -- A group of an opened image whose links were changed where it stands: what is kept of it stands in the image, and its object is as it was
 -- but for its links.
-use Rattle.std.proofs.Common.{◌≡◌, ℕ, ◌+◌, ◌≤◌, ◌^◌, List, [], ◌∷◌, ◌++◌, length, sym, ap, ◌∙◌, subst, arith, Option, Some}
+use Rattle.std.proofs.Common.{◌≡◌, ℕ, ◌+◌, ◌≤◌, ◌^◌, List, [], ◌∷◌, ◌++◌, length, Option, Some}
 use Rattle.std.specs.Prelude.{slice_get}
-use Rattle.std.specs.Ordering.{nat_cmp}
 use Rattle.std.specs.BTreeMap.{BTreeMap}
-use Rattle.std.specs.FinMap.{FinMap}
 use Rattle.std.specs.List.{Contains, flat_map}
-use Rattle.h5_bytes.specs.Blocks.{block, cover, Inside, Keeps}
+use Rattle.h5_bytes.specs.Blocks.{cover}
 use Rattle.h5_bytes.specs.declared.Block.{Block}
-use Rattle.h5_bytes.proofs.BlockLaws.{all_so, cover-append, holds_join}
-use Rattle.h5_bytes.proofs.FieldLaws.{number_at-same}
 use Rattle.h5_model.specs.Edits.Applied.{with_links}
 use Rattle.h5_model.specs.Format.Addresses.{SymbolTable}
-use Rattle.h5_model.specs.Format.Messages.{Message, first_size, prefix_at, reference_count}
+use Rattle.h5_model.specs.Format.Messages.{prefix_at, reference_count}
 use Rattle.h5_model.specs.Format.Superblock.{leaf_k, internal_k, end_of_file, end_field}
-use Rattle.h5_model.specs.Format.Symbols.{Target, Header}
-use Rattle.h5_model.specs.Tree.Objects.{Group, Links}
-use Rattle.h5_model.proofs.Frames.{front-same}
+use Rattle.h5_model.specs.Format.Symbols.{Header}
+use Rattle.h5_model.specs.Tree.Objects.{Links}
 use Rattle.h5_space.specs.Moves.{Moves}
 use Rattle.h5_space.specs.Space.{Space}
-use Rattle.h5_space.specs.Whole.{IsApart}
-use Rattle.h5_space.proofs.MovesLaws.{moves_apart, moves_beside, moves_kept, moves_same, moves_then}
-use Rattle.h5_header.specs.Listed.{messages_in}
-use Rattle.h5_header.proofs.KeptLaws.{header-same, listed-same}
 use Rattle.h5_group.specs.Links.{IsGroupRead}
 use Rattle.h5_group.specs.Told.{blocks_told, links_told}
-use Rattle.h5_group.proofs.ToldLaws.{blocks_told-same, links_told-same, told-same}
 use Rattle.h5_open.specs.declared.opened.object.OpenedObject.{OpenedObject}
-use Rattle.h5_open.specs.declared.opened.object.OpenedContent.{OpenedContent}
 use Rattle.h5_open.specs.declared.opened.object.OpenedContent.TheVariants as content
-use Rattle.h5_open.specs.Opened.Kept.{IsContentKept, IsObjectKept, IsOpened}
-use Rattle.h5_open.specs.Opened.Objects.{content_blocks, content_in, content_links, header_of, links_by, object_blocks, object_in, objects_of, table_of}
-use Rattle.h5_open.specs.Opened.Headers.{object_with}
+use Rattle.h5_open.specs.Opened.Kept.{IsObjectKept, IsOpened}
+use Rattle.h5_open.specs.Opened.Objects.{content_links, header_of, links_by, object_blocks, object_in, objects_of, table_of}
 use Rattle.h5_open.specs.Opened.Sound.{IsHeaderIn}
-use Rattle.h5_open.proofs.OpenedLaws.Sounds.{object_of}
-use Rattle.h5_open.proofs.TouchedBlocks.{group_blocks}
+use Rattle.h5_open.proofs.GroupWritten.{IsGroupWritten, written_both, written_count, written_grown, written_kept, written_led, written_moves, written_object}
 
 -- The links of a group were changed, then the bytes of these other blocks were written, and the end of file address.
 pub record IsGroupRelinked (old mid new : Space) (slots : List (Option OpenedObject)) (parent : ℕ) (p : OpenedObject) (t : SymbolTable) (written : List Block)
@@ -54,168 +41,41 @@ pub record IsGroupRelinked (old mid new : Space) (slots : List (Option OpenedObj
 
 module _ (old mid new : Space) (slots : List (Option OpenedObject)) (numbers : BTreeMap ℕ ℕ) (opened : IsOpened old slots numbers) (parent : ℕ) (p : OpenedObject) (t : SymbolTable)
     (written : List Block) (change : Links → Links) (is : IsGroupRelinked old mid new slots parent p t written change) where
-  abbrev ms : List Message
-  ms = messages_in old.bytes p.messages.list
-
-  abbrev ms' : List Message
-  ms' = messages_in new.bytes p.messages.list
-
-  abbrev own : List Block
-  own = p.messages.blocks
-
-  abbrev table : FinMap nat_cmp ℕ
-  table = table_of slots
-
-  kept : IsObjectKept old.bytes p
-  kept = (object_of old slots numbers opened parent p is.group).kept
-
-  kept_group : IsContentKept old.bytes ms (content.Group t)
-  kept_group = subst (IsContentKept old.bytes ms) is.kind kept.content
-
-  blocks_before : object_blocks old.bytes p ≡ own ++ blocks_told old.bytes t
-  blocks_before = group_blocks old.bytes p t is.kind
-
-  -- ---- what moves, and what stays beside it
+  -- no block was taken beside
+  abbrev pub relinked_written : IsGroupWritten old mid new slots parent p t [] written
+  relinked_written = record {
+    group = is.group;
+    kind = is.kind;
+    read = is.read;
+    leaf = is.leaf;
+    internal = is.internal;
+    moves = is.moves;
+    later = is.later;
+    beside = is.beside;
+  }
 
   abbrev pub rest : List Block
   rest = end_field old.bytes ∷ written
 
-  first : Moves old mid (blocks_told old.bytes t ++ rest) (blocks_told mid.bytes t ++ rest)
-  first = moves_beside old mid (blocks_told old.bytes t) (blocks_told mid.bytes t) rest is.moves
-
-  turned : (q : ℕ) → cover q (blocks_told mid.bytes t ++ rest) ≡ cover q (rest ++ blocks_told mid.bytes t)
-  turned q = omega (arith, cover-append q (blocks_told mid.bytes t) rest, cover-append q rest (blocks_told mid.bytes t))
-
-  second : Moves mid new (blocks_told mid.bytes t ++ rest) (blocks_told mid.bytes t ++ rest)
-  second = moves_same mid new (rest ++ blocks_told mid.bytes t) (rest ++ blocks_told mid.bytes t) (blocks_told mid.bytes t ++ rest) (blocks_told mid.bytes t ++ rest) turned turned
-      (moves_beside mid new rest rest (blocks_told mid.bytes t) is.later)
-
   pub both_moves : Moves old new (blocks_told old.bytes t ++ rest) (blocks_told mid.bytes t ++ rest)
-  both_moves = moves_then old mid new (blocks_told old.bytes t ++ rest) (blocks_told mid.bytes t ++ rest) (blocks_told mid.bytes t ++ rest) first second
+  both_moves = written_both old mid new slots numbers opened parent p t [] written relinked_written
 
   pub linked_grown : length old.bytes ≤ length new.bytes
-  linked_grown = both_moves.grown
-
-  covers : (q : ℕ) → cover q (object_blocks old.bytes p) ≡ cover q own + cover q (blocks_told old.bytes t)
-  covers q = let same = ap (cover q) blocks_before in omega (arith, same, cover-append q own (blocks_told old.bytes t))
-
-  apart : IsApart ((blocks_told old.bytes t ++ rest) ++ (block 0 40 ∷ own)) old.free (length old.bytes)
-  apart q = omega (
-    arith,
-    opened.apart q,
-    is.beside q,
-    covers q,
-    cover-append q (blocks_told old.bytes t ++ rest) (block 0 40 ∷ own),
-    cover-append q (blocks_told old.bytes t) rest,
-    holds_join q 0 40 56,
-    holds_join q 40 8 48,
-  )
-
-  stays : Keeps old.bytes new.bytes (block 0 40 ∷ own)
-  stays = moves_kept old new (blocks_told old.bytes t ++ rest) (blocks_told mid.bytes t ++ rest) (block 0 40 ∷ own) both_moves apart
-      (omega (arith, opened.reads.1.holds.superblock.whole), kept.header.inside)
-
-  pub linked_leaf : leaf_k new.bytes ≡ leaf_k old.bytes
-  linked_leaf = number_at-same old.bytes new.bytes 0 40 16 2 stays.0 (omega arith)
-
-  pub linked_internal : internal_k new.bytes ≡ internal_k old.bytes
-  linked_internal = number_at-same old.bytes new.bytes 0 40 18 2 stays.0 (omega arith)
-
-  apart_mid : IsApart (rest ++ blocks_told mid.bytes t) mid.free (length mid.bytes)
-  apart_mid q =
-      let was : IsApart (blocks_told old.bytes t ++ rest) old.free (length old.bytes)
-      = λ r. omega (arith, apart r, cover-append r (blocks_told old.bytes t ++ rest) (block 0 40 ∷ own)) in
-      omega (arith, moves_apart old mid (blocks_told old.bytes t) (blocks_told mid.bytes t) rest is.moves was q, turned q)
-
-  tree_stays : Keeps mid.bytes new.bytes (blocks_told mid.bytes t)
-  tree_stays = moves_kept mid new rest rest (blocks_told mid.bytes t) is.later apart_mid is.read.inside
-
-  -- ---- the group
-
-  leaf_later : leaf_k new.bytes ≡ leaf_k mid.bytes
-  leaf_later = linked_leaf ∙ sym is.leaf
-
-  internal_later : internal_k new.bytes ≡ internal_k mid.bytes
-  internal_later = linked_internal ∙ sym is.internal
-
-  blocks_later : blocks_told new.bytes t ≡ blocks_told mid.bytes t
-  blocks_later = blocks_told-same mid.bytes new.bytes leaf_later internal_later t is.read.linked tree_stays
-
-  links_later : links_told new.bytes t ≡ links_told mid.bytes t
-  links_later = links_told-same mid.bytes new.bytes leaf_later internal_later t is.read.linked tree_stays
-
-  read_later : IsGroupRead new.bytes t
-  read_later = record {
-    linked = told-same mid.bytes new.bytes leaf_later internal_later t is.read.linked tree_stays;
-    inside = subst (Inside (length new.bytes)) (sym blocks_later)
-        (all_so (λ (b : Block). b.at + b.len ≤ length mid.bytes) (λ (b : Block). b.at + b.len ≤ length new.bytes) (blocks_told mid.bytes t) (λ b low. omega (arith, low, second.grown)) is.read.inside);
-    few = rw internal_later is.read.few;
-  }
-
-  -- ---- the header
-
-  list_stays : ms' ≡ ms
-  list_stays = listed-same old.bytes new.bytes p.messages kept.header.has kept.header.within stays.1
+  linked_grown = written_grown old mid new slots numbers opened parent p t [] written relinked_written
 
   pub count_stays : reference_count (prefix_at new.bytes (header_of p)) ≡ reference_count (prefix_at old.bytes (header_of p))
-  count_stays =
-      let laid : Keeps old.bytes new.bytes (block (header_of p) (16 + first_size (prefix_at old.bytes (header_of p))) ∷ []) = (
-        (subst (Keeps old.bytes new.bytes) kept.header.has.laid stays.1).0,
-        tt,
-      ) in
-      ap reference_count (front-same old.bytes new.bytes (header_of p) (16 + first_size (prefix_at old.bytes (header_of p))) 16 (omega arith) laid.0)
-
-  -- ---- the object
-
-  kept_content : IsContentKept new.bytes ms' p.content
-  kept_content = subst (IsContentKept new.bytes ms') (sym is.kind)
-      (subst (λ (l : List Message). IsContentKept new.bytes l (content.Group t)) (sym list_stays) (kept_group.0, kept_group.1, read_later))
+  count_stays = written_count old mid new slots numbers opened parent p t [] written relinked_written
 
   pub linked_kept : IsObjectKept new.bytes p
-  linked_kept = record {
-    header = record {
-      has = header-same old.bytes new.bytes p.messages kept.header.has kept.header.within stays.1;
-      inside = all_so (λ (b : Block). b.at + b.len ≤ length old.bytes) (λ (b : Block). b.at + b.len ≤ length new.bytes) own (λ b low. omega (arith, low, linked_grown)) kept.header.inside;
-      within = all_so (λ m. m.at + m.size ≤ length old.bytes) (λ m. m.at + m.size ≤ length new.bytes) p.messages.list (λ m low. omega (arith, low, linked_grown)) kept.header.within;
-      names = rw list_stays kept.header.names;
-      attributes = rw list_stays kept.header.attributes;
-    };
-    known = kept.known;
-    content = kept_content;
-  }
-
-  pub linked_blocks : object_blocks new.bytes p ≡ own ++ blocks_told mid.bytes t
-  linked_blocks = ap (λ (c : OpenedContent). own ++ content_blocks new.bytes ms' c) is.kind ∙ ap (λ (bs : List Block). own ++ bs) blocks_later
+  linked_kept = written_kept old mid new slots numbers opened parent p t [] written relinked_written
 
   -- with the blocks beside it
   pub linked_moves : Moves old new (end_field old.bytes ∷ (object_blocks old.bytes p ++ written)) (end_field new.bytes ∷ (object_blocks new.bytes p ++ written))
-  linked_moves = moves_same old new ((blocks_told old.bytes t ++ rest) ++ own) ((blocks_told mid.bytes t ++ rest) ++ own)
-      (end_field old.bytes ∷ (object_blocks old.bytes p ++ written)) (end_field new.bytes ∷ (object_blocks new.bytes p ++ written))
-      (λ q. omega (arith, covers q, cover-append q (object_blocks old.bytes p) written, cover-append q (blocks_told old.bytes t ++ rest) own, cover-append q (blocks_told old.bytes t) rest))
-      (λ q. let are = ap (cover q) linked_blocks in omega (
-        arith,
-        are,
-        cover-append q own (blocks_told mid.bytes t),
-        cover-append q (object_blocks new.bytes p) written,
-        cover-append q (blocks_told mid.bytes t ++ rest) own,
-        cover-append q (blocks_told mid.bytes t) rest,
-      ))
-      (moves_beside old new (blocks_told old.bytes t ++ rest) (blocks_told mid.bytes t ++ rest) own both_moves)
+  linked_moves = written_moves old mid new slots numbers opened parent p t [] written relinked_written
 
   -- each of its links leads to a header of the table, or to a text
-  pub linked_led : (name : List ℕ) (h : ℕ) → Contains (content_links new.bytes p.content) (name, Header h) → IsHeaderIn table h
-  linked_led name h at =
-      is.led name h (subst (λ (ls : List (List ℕ × Target)). Contains ls (name, Header h)) (ap (content_links new.bytes) is.kind ∙ links_later) at)
+  pub linked_led : (name : List ℕ) (h : ℕ) → Contains (content_links new.bytes p.content) (name, Header h) → IsHeaderIn (table_of slots) h
+  linked_led = written_led old mid new slots numbers opened parent p t [] written relinked_written (table_of slots) is.led
 
-  -- ---- its links
-
-  links_now : links_by table (links_told new.bytes t) ≡ change (links_by table (links_told old.bytes t))
-  links_now = ap (links_by table) links_later ∙ is.links
-
-  pub linked_object : object_in new.bytes table p ≡ with_links change (object_in old.bytes table p)
-  linked_object = go p.content is.kind where
-    go : (c : OpenedContent) → c ≡ content.Group t → object_in new.bytes table (record p { content = c }) ≡ with_links change (object_in old.bytes table (record p { content = c }))
-    go c kind =
-        let here : object_in new.bytes table (record p { content = content.Group t }) ≡ with_links change (object_in old.bytes table (record p { content = content.Group t }))
-        = ap (λ (l : List Message). object_with (content_in new.bytes table l (content.Group t)) l) list_stays ∙ ap (λ (ls : Links). object_with (Group ls) ms) links_now in
-        subst (λ (d : OpenedContent). object_in new.bytes table (record p { content = d }) ≡ with_links change (object_in old.bytes table (record p { content = d }))) (sym kind) here
+  pub linked_object : object_in new.bytes (table_of slots) p ≡ with_links change (object_in old.bytes (table_of slots) p)
+  linked_object = written_object old mid new slots numbers opened parent p t [] written relinked_written (table_of slots) (table_of slots) change is.links

@@ -123,7 +123,8 @@ module _ (slots : List (Option OpenedObject)) (numbers : BTreeMap ℕ ℕ) (inde
   each q true same = at_slot (length slots) o q (place_next slots (Some o) []) (same_of (header_of o) q same)
   each q false other = at_old q (other_of (header_of o) q other) (lookup nat_cmp numbers q) (index q)
 
-  index_push : (numbers' : BTreeMap ℕ ℕ) → ((q : ℕ) → lookup nat_cmp numbers' q ≡ cond (is_at (nat_cmp (header_of o)) q) (Some (length slots)) (lookup nat_cmp numbers q))
+  -- the numbers with that of its header in addition
+  pub index_push : (numbers' : BTreeMap ℕ ℕ) → ((q : ℕ) → lookup nat_cmp numbers' q ≡ cond (is_at (nat_cmp (header_of o)) q) (Some (length slots)) (lookup nat_cmp numbers q))
       → IsIndex (table_of after) numbers'
   index_push numbers' updates q = subst (IsAt q) (sym (updates q)) (each q (is_at (nat_cmp (header_of o)) q) refl)
 

@@ -22,6 +22,7 @@ use Rattle.h5_space.specs.Space.{Space}
 use Rattle.h5_space.specs.Whole.{IsApart}
 use Rattle.h5_header.specs.Listed.{messages_in}
 use Rattle.h5_header.specs.Standing.{IsStanding}
+use Rattle.h5_group.specs.LinkEdits.{IsGroupApart}
 use Rattle.h5_group.specs.Links.{HasNone, IsGroupRead}
 use Rattle.h5_group.specs.Told.{blocks_told, links_told}
 use Rattle.h5_laws.specs.Trees.Sound.{IsSoundTree}
@@ -76,6 +77,10 @@ module _ (old : Space) (slots : List (Option OpenedObject)) (numbers : BTreeMap 
   group_k =
       let s = opened.reads.1.holds.superblock in
       record { leaf_low = s.leaf_low; leaf_high = s.leaf_high; internal_low = s.internal_low; internal_high = s.internal_high }
+
+  -- it stands apart from free blocks
+  pub group_stood : IsGroupApart old t
+  group_stood = record { read = group_read; apart = group_apart; long = group_long; k = group_k }
 
   pub image_short : length old.bytes ≤ 2 ^ 31
   image_short = omega (arith, opened.reads.1.holds.whole, opened.reads.1.holds.superblock.small)

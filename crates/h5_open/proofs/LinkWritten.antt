@@ -1,6 +1,6 @@
 -- A link that is put into a group of an opened image, then counted in the header of an array to which it leads, and then the end of file
 -- address written: what is known before, and what the image is then.
-use Rattle.std.proofs.Common.{◌≡◌, ◌↔◌, ℕ, ◌+◌, ◌<◌, ◌≤◌, ◌^◌, true, List, [], ◌∷◌, ◌++◌, length, refl, sym, ap, ◌∙◌, subst, arith, Option, Some, None, IsSome}
+use Rattle.std.proofs.Common.{◌≡◌, ◌↔◌, ℕ, ◌+◌, ◌<◌, ◌≤◌, ◌^◌, true, List, [], ◌∷◌, ◌++◌, length, refl, sym, ap, ◌∙◌, subst, arith, Option, Some, None, IsSome, Ok, Err}
 use Rattle.std.specs.BTreeMap.{BTreeMap}
 use Rattle.std.proofs.lemmas.Option.{same_Some}
 use Rattle.h5_model.specs.declared.link.Link.{Link}
@@ -32,11 +32,11 @@ use Rattle.h5_open.specs.LinkAdded.{IsArraySlot, IsGroupOf, IsGroupSlot, IsLeadO
 use Rattle.h5_open.specs.Opened.Kept.{IsOpened}
 use Rattle.h5_open.specs.Opened.Objects.{header_of, tree_of}
 use Rattle.h5_open.specs.Opened.State.{FileState, opened_state}
-use Rattle.h5_open.proofs.GroupTable.{one_table, table_of_slot}
+use Rattle.h5_open.proofs.GroupOf.{group_found, group_here, one_here, told_of}
 use Rattle.h5_open.proofs.HardLinkAdded.{hard_changed, hard_opened}
 use Rattle.h5_open.proofs.LinkAdded.{soft_changed, soft_opened}
-use Rattle.h5_open.proofs.LinkCalls.{group_apart, group_k, group_long, group_read, hard_put, name_is_new, name_is_one, soft_put, target_few, target_standing, text_is_plain}
-use Rattle.h5_open.proofs.LinkSlots.{array_slot, group_slot}
+use Rattle.h5_open.proofs.LinkCalls.{hard_put, name_is_new, name_is_one, soft_put, target_few, target_standing, text_is_plain}
+use Rattle.h5_open.proofs.LinkSlots.{array_slot}
 use Rattle.h5_open.proofs.TargetCounted.{IsTargetCounted}
 
 -- one link more is counted in the header of an array
@@ -66,6 +66,9 @@ span_by : (slots : List (Option OpenedObject)) (name : List ℕ) (to : LinkTo Ob
 span_by slots name (to.Object number) lead is = ap (λ (l : Leads). texts_span (name, l)) is.2
 span_by slots name (to.Soft text) lead is = ap (λ (l : Leads). texts_span (name, l)) is
 
+pub no_fault : {A E : Type 0} (a : A) (e : E) → Ok a ≡ Err e → ⊥
+no_fault a e is = absurd (cc)
+
 -- what is left of the room, where neither refusal holds
 pub fits_by : (Deep Full Filled : Type 0) (k : ℕ) → (Deep → ⊥) → (Full → ⊥) → Deep ↔ Filled → Full ↔ ((Filled → ⊥) × (2 ^ 31 < k)) → k ≤ 2 ^ 31
 fits_by Deep Full Filled k no_deep no_full deep full =
@@ -88,7 +91,7 @@ module _ (old : Space) (slots : List (Option OpenedObject)) (numbers : BTreeMap 
   good_here = subst (λ (g : FileState). IsSoundTree (with_link g.tree parent name (tree_target link.to))) (sym view) good
 
   pub group_there : (t : SymbolTable) × IsGroupSlot slots parent t
-  group_there = group_slot old.bytes slots parent (subst (λ (g : FileState). IsSome (links_of g.tree parent)) (sym view) group)
+  group_there = group_found old slots numbers opened f view parent group
 
   pub target_there : IsTargetSlot slots link.to
   target_there = target_slot old.bytes slots link.to (subst (λ (g : FileState). IsLinkTarget g.tree (tree_target link.to)) (sym view) target)
@@ -98,12 +101,7 @@ module _ (old : Space) (slots : List (Option OpenedObject)) (numbers : BTreeMap 
     p = slot.0
 
     pub group_stands : IsGroupApart old t
-    group_stands = record {
-      read = group_read old slots numbers opened parent p t slot.1 slot.2;
-      apart = group_apart old slots numbers opened parent p t slot.1 slot.2;
-      long = group_long old slots numbers opened parent p t slot.1 slot.2;
-      k = group_k old slots numbers opened parent p t slot.1 slot.2;
-    }
+    group_stands = group_here old slots numbers opened f view parent t slot
 
     pub name_new : HasNone old.bytes t name
     name_new = name_is_new old slots numbers opened parent p t slot.1 slot.2 name free_here
@@ -119,13 +117,8 @@ module _ (old : Space) (slots : List (Option OpenedObject)) (numbers : BTreeMap 
     pub lead_plain : (lead : Leads) → IsLeadOf slots link.to lead → IsPlainLead lead
     lead_plain = plain_by link.to good_here
 
-    -- a table of the group is this one
-    pub table_is : (u : SymbolTable) → IsGroupOf f parent u → t ≡ u
-    table_is u is = one_table state parent t u (table_of_slot old slots numbers opened parent t slot) (subst (λ (g : FileState). IsGroupOf g parent u) (sym view) is)
-
     pub deep_told : (Deep : Type 0) → Deep ↔ IsFullFor old.bytes t name → (u : SymbolTable) → IsGroupOf f parent u → Deep ↔ IsFullFor f.image u name
-    deep_told Deep told u is =
-        subst (λ (v : SymbolTable). Deep ↔ IsFullFor f.image v name) (table_is u is) (subst (λ (g : FileState). Deep ↔ IsFullFor g.image t name) view told)
+    deep_told Deep told = told_of old slots numbers opened f view parent t slot (λ (image : List ℕ) (u : SymbolTable). Deep ↔ IsFullFor image u name) told
 
     module _ (lead : Leads) (leads : IsLeadOf slots link.to lead) where
       pub span_is : texts_span (name, lead) ≡ link_span (name, tree_target link.to)
@@ -133,10 +126,10 @@ module _ (old : Space) (slots : List (Option OpenedObject)) (numbers : BTreeMap 
 
       pub full_told : (Full : Type 0) → Full ↔ ((IsFullFor old.bytes t name → ⊥) × (2 ^ 31 < length old.bytes + link_room old.bytes t (texts_span (name, lead))))
           → (u : SymbolTable) → IsGroupOf f parent u → Full ↔ ((IsFullFor f.image u name → ⊥) × (2 ^ 31 < length f.image + link_room f.image u (link_span (name, tree_target link.to))))
-      full_told Full told u is =
-          subst (λ (v : SymbolTable). Full ↔ ((IsFullFor f.image v name → ⊥) × (2 ^ 31 < length f.image + link_room f.image v (link_span (name, tree_target link.to))))) (table_is u is)
-          (subst (λ (g : FileState). Full ↔ ((IsFullFor g.image t name → ⊥) × (2 ^ 31 < length g.image + link_room g.image t (link_span (name, tree_target link.to))))) view
-          (subst (λ (n : ℕ). Full ↔ ((IsFullFor old.bytes t name → ⊥) × (2 ^ 31 < length old.bytes + link_room old.bytes t n))) span_is told))
+      full_told Full told =
+          told_of old slots numbers opened f view parent t slot
+          (λ (image : List ℕ) (u : SymbolTable). Full ↔ ((IsFullFor image u name → ⊥) × (2 ^ 31 < length image + link_room image u (link_span (name, tree_target link.to)))))
+          (subst (λ (n : ℕ). Full ↔ ((IsFullFor old.bytes t name → ⊥) × (2 ^ 31 < length old.bytes + link_room old.bytes t n))) span_is told)
 
       -- ---- when it is put
 
@@ -214,6 +207,6 @@ module _ (old : Space) (slots : List (Option OpenedObject)) (numbers : BTreeMap 
               (link_room f.image u (link_span (name, tree_target link.to)))
           added_changed u is =
               subst (λ (v : SymbolTable). IsChangedInPlace f (opened_state new slots) (with_link f.tree parent name (tree_target link.to)) f.next (ends_of parent (tree_target link.to))
-              (link_room f.image v (link_span (name, tree_target link.to)))) (table_is u is)
+              (link_room f.image v (link_span (name, tree_target link.to)))) (one_here old slots numbers opened f view parent t slot u is)
               (subst (λ (g : FileState). IsChangedInPlace g (opened_state new slots) (with_link g.tree parent name (tree_target link.to)) g.next (ends_of parent (tree_target link.to))
               (link_room g.image t (link_span (name, tree_target link.to)))) view (done.1 (link_room old.bytes t (link_span (name, tree_target link.to))) roomy))

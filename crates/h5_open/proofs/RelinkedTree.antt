@@ -1,15 +1,17 @@
 -- The tree of an opened image in which the links of one group were changed, and that group in it.
-use Rattle.std.proofs.Common.{◌≡◌, ℕ, ◌+◌, ◌==◌, List, sym, ap, ◌∙◌, arith, Option, Some}
+use Rattle.std.proofs.Common.{◌≡◌, ℕ, ◌+◌, ◌==◌, List, [], sym, ap, ◌∙◌, arith, Option, Some}
 use Rattle.std.specs.Prelude.{slice_get, if◌then◌else◌}
 use Rattle.std.specs.Option.{option_map_or}
 use Rattle.std.specs.Ordering.{nat_cmp}
 use Rattle.std.specs.BTreeMap.{BTreeMap}
 use Rattle.std.specs.FinMap.{FinMap, get, insert}
+use Rattle.std.specs.List.{Contains}
 use Rattle.h5_bytes.specs.declared.Block.{Block}
 use Rattle.h5_model.specs.Edits.Applied.{with_links}
 use Rattle.h5_model.specs.Format.Addresses.{SymbolTable}
 use Rattle.h5_model.specs.Format.Messages.{prefix_at, reference_count}
 use Rattle.h5_model.specs.Format.Reads.{IsCounted}
+use Rattle.h5_model.specs.Format.Symbols.{Header}
 use Rattle.h5_model.specs.Tree.Objects.{Tree, Object, Links, hard_links, with_object}
 use Rattle.h5_space.specs.Space.{Space}
 use Rattle.h5_header.specs.Listed.{messages_in}
@@ -22,10 +24,11 @@ use Rattle.h5_open.specs.declared.opened.object.OpenedObject.{OpenedObject}
 use Rattle.h5_open.specs.declared.opened.object.OpenedContent.TheVariants as content
 use Rattle.h5_open.specs.Opened.Kept.{IsOpened}
 use Rattle.h5_open.specs.Opened.Objects.{content_in, header_of, links_by, object_blocks, object_in, table_of, tree_of}
-use Rattle.h5_open.specs.Opened.Sound.{IsObjectOf}
+use Rattle.h5_open.specs.Opened.Sound.{IsHeaderIn, IsObjectOf}
 use Rattle.h5_open.specs.Opened.State.{opened_state}
 use Rattle.h5_open.specs.SlotsInPlace.{IsTouchedObject}
-use Rattle.h5_open.proofs.GroupRelinked.{IsGroupRelinked, count_stays, linked_kept, linked_led, linked_object}
+use Rattle.h5_open.proofs.GroupRelinked.{IsGroupRelinked, linked_object, relinked_written}
+use Rattle.h5_open.proofs.GroupWritten.{IsGroupWritten, written_count, written_kept, written_led}
 use Rattle.h5_open.proofs.OpenedLaws.Sounds.{object_of}
 use Rattle.h5_open.proofs.ToldObject.{told_object}
 
@@ -49,6 +52,24 @@ module _ (old : Space) (slots : List (Option OpenedObject)) (numbers : BTreeMap 
     links = links_by (table_of slots) (links_told old.bytes t);
     stands = (object_of old slots numbers opened parent p at).there;
     is = ap (content_in old.bytes (table_of slots) (messages_in old.bytes p.messages.list)) kind;
+  }
+
+-- The group in a tree, by a table: it stands as the tree has it, and its header counts as many links as did lead to it.
+module _ (old mid new : Space) (slots : List (Option OpenedObject)) (numbers : BTreeMap ℕ ℕ) (opened : IsOpened old slots numbers) (parent : ℕ) (p : OpenedObject) (t : SymbolTable)
+    (taken written : List Block) (is : IsGroupWritten old mid new slots parent p t taken written) (table' : FinMap nat_cmp ℕ) (tree' : Tree) where
+  pub written_touched : ((name : List ℕ) (h : ℕ) → Contains (links_told mid.bytes t) (name, Header h) → IsHeaderIn table' h) → get tree' parent ≡ Some (object_in new.bytes table' p)
+      → hard_links tree' parent ≡ hard_links (tree_of old.bytes slots) parent → IsTouchedObject new.bytes table' tree' parent p
+  written_touched led there same = record {
+    kept = written_kept old mid new slots numbers opened parent p t taken written is;
+    object = object_in new.bytes table' p;
+    there = there;
+    blocks = object_blocks new.bytes p;
+    has = told_object new.bytes table' p (written_kept old mid new slots numbers opened parent p t taken written is)
+        (written_led old mid new slots numbers opened parent p t taken written is table' led);
+    counted =
+        let stays = written_count old mid new slots numbers opened parent p t taken written is in
+        let was = count_was old slots numbers opened parent p is.group in
+        omega (arith, stays, was, same);
   }
 
 module _ (old mid new : Space) (slots : List (Option OpenedObject)) (numbers : BTreeMap ℕ ℕ) (opened : IsOpened old slots numbers) (parent : ℕ) (p : OpenedObject) (t : SymbolTable)
@@ -81,15 +102,5 @@ module _ (old mid new : Space) (slots : List (Option OpenedObject)) (numbers : B
 
   -- where as many links lead to the group as did, its header counts them
   pub group_touched : hard_links tree' parent ≡ hard_links tree parent → IsTouchedObject new.bytes table tree' parent p
-  group_touched same = record {
-    kept = linked_kept old mid new slots numbers opened parent p t written change is;
-    object = object_in new.bytes table p;
-    there = relinked_here;
-    blocks = object_blocks new.bytes p;
-    has = told_object new.bytes table p (linked_kept old mid new slots numbers opened parent p t written change is)
-        (linked_led old mid new slots numbers opened parent p t written change is);
-    counted =
-        let stays = count_stays old mid new slots numbers opened parent p t written change is in
-        let was = count_was old slots numbers opened parent p is.group in
-        omega (arith, stays, was, same);
-  }
+  group_touched same = written_touched old mid new slots numbers opened parent p t [] written (relinked_written old mid new slots numbers opened parent p t written change is)
+      table tree' is.led relinked_here same

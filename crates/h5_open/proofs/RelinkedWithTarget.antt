@@ -39,7 +39,8 @@ use Rattle.h5_open.proofs.TargetCounted.{IsTargetRecounted, target_blocks, targe
 use Rattle.h5_open.proofs.ToldObject.{told_object}
 use Rattle.h5_open.proofs.TouchedBlocks.{blocks_of_slot, touched_moves}
 
-differs : (a b : ℕ) → (a == b) ≡ false → b ≡ a → ⊥
+-- numbers that a test tells apart
+pub differs : (a b : ℕ) → (a == b) ≡ false → b ≡ a → ⊥
 differs a b out same =
     let here : (a == b) ≡ true = grind (arith, nat_tests, same) in
     let never : true ≡ false = sym here ∙ out in

@@ -47,7 +47,8 @@ pushed_before [] s n low = absurd (omega (arith, low))
 pushed_before (x ∷ slots) s zero low = refl
 pushed_before (x ∷ slots) s (suc n) low = pushed_before slots s n (omega (arith, low))
 
-pushed_past : (slots : List (Option OpenedObject)) (s : Option OpenedObject) (n : ℕ) → (n ≡ length slots → ⊥) → slice_get (slots ++ s ∷ []) n ≡ slice_get slots n
+-- where one comes behind, each other is as it was
+pub pushed_past : (slots : List (Option OpenedObject)) (s : Option OpenedObject) (n : ℕ) → (n ≡ length slots → ⊥) → slice_get (slots ++ s ∷ []) n ≡ slice_get slots n
 pushed_past [] s zero other = absurd (other refl)
 pushed_past [] s (suc n) other = refl
 pushed_past (x ∷ slots) s zero other = refl

@@ -96,7 +96,8 @@ said_types : (p : ℕ → Bool) (image : List ℕ) (list : List Placed) → AllB
 said_types p image [] all = tt
 said_types p image (x ∷ list) all = (all.0, said_types p image list all.1)
 
-types_said : (p : ℕ → Bool) (image : List ℕ) (list : List Placed) → AllByRecursion (λ (m : Message). IsTrue (p m.kind)) (messages_in image list) → AllByRecursion (λ (x : Placed). IsTrue (p x.kind)) list
+-- and the other way
+pub types_said : (p : ℕ → Bool) (image : List ℕ) (list : List Placed) → AllByRecursion (λ (m : Message). IsTrue (p m.kind)) (messages_in image list) → AllByRecursion (λ (x : Placed). IsTrue (p x.kind)) list
 types_said p image [] all = tt
 types_said p image (x ∷ list) all = (all.0, types_said p image list all.1)
 

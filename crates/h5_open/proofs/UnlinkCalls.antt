@@ -39,7 +39,7 @@ use Rattle.h5_open.specs.Opened.State.{FileState, opened_state}
 use Rattle.h5_open.proofs.GroupUnlinked.{bare_apart, told_link}
 use Rattle.h5_open.proofs.HardLinkTaken.{hard_taken_changed, hard_taken_opened}
 use Rattle.h5_open.proofs.HeaderInPlace.{slot_in_tree}
-use Rattle.h5_open.proofs.LinkCalls.{group_apart, group_k, group_long, group_read, image_short}
+use Rattle.h5_open.proofs.LinkCalls.{group_stood, image_short}
 use Rattle.h5_open.proofs.LinkSlots.{group_slot}
 use Rattle.h5_open.proofs.ObjectGone.{IsObjectGone, last_taken_changed, last_taken_opened}
 use Rattle.h5_open.proofs.OpenedLaws.LentSlots.{slot_lent}
@@ -94,12 +94,7 @@ module _ (image : Space) (slots : List (Option OpenedObject)) (numbers : BTreeMa
   module _ (t : SymbolTable) (slot : IsGroupSlot slots parent t) where
     -- the link can be taken out of the group
     pub unlink_group : IsGroupApart image t
-    unlink_group = record {
-      read = group_read image slots numbers opened parent slot.0 t slot.1 slot.2;
-      apart = group_apart image slots numbers opened parent slot.0 t slot.1 slot.2;
-      long = group_long image slots numbers opened parent slot.0 t slot.1 slot.2;
-      k = group_k image slots numbers opened parent slot.0 t slot.1 slot.2;
-    }
+    unlink_group = group_stood image slots numbers opened parent slot.0 t slot.1 slot.2
 
     pub unlink_short : length image.bytes ≤ 2 ^ 31
     unlink_short = image_short image slots numbers opened parent slot.0 t slot.1 slot.2

@@ -10,6 +10,7 @@ pub mod ChangedInPlace
 pub mod SlotsInPlace
 pub mod LinkAdded
 pub mod LinkTaken
+pub mod ObjectAdded
 pub mod Written
 pub mod Attributed
 pub use Rattle.h5_layout.specs.Data

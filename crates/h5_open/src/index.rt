@@ -1,6 +1,6 @@
 //! What is kept of an opened image: its objects, and the table of their numbers (File Format Specification 3.0, section IV.A).
 
-ghost use Rattle.std.specs.Prelude.{◌≡◌, ◌^◌, ◌<◌, [], ◌∷◌, ◌++◌, IfSome, IfNone, IfErr, OnOk, Some, None, slice_get, slice_set};
+ghost use Rattle.std.specs.Prelude.{◌≡◌, ◌^◌, ◌<◌, [], ◌∷◌, ◌++◌, IfSome, IfNone, IfErr, OnErr, OnOk, Some, None, length, slice_get, slice_set};
 ghost use Rattle.std.specs.BTreeMap.{Updates};
 ghost use Rattle.std.specs.List.{Contains};
 ghost use Rattle.std.specs.Ordering.{nat_cmp};
@@ -11,6 +11,7 @@ ghost use Rattle.h5_open.specs.Walk.{IsNumbered};
 use crate::opened::OpenedObject;
 use h5_model::{Cause, OpenFault};
 use h5_space::fault;
+use std::alloc::AllocError;
 use std::collections::BTreeMap;
 
 /// The objects that were read, by their numbers, and the number at each header.
@@ -32,7 +33,7 @@ pub(crate) fn object_at(index: &Index, header: u64) -> Option<&OpenedObject>
     index.objects[number as usize].as_ref()
 }
 
-/// Gives the object the next number. Refused is want of memory alone.
+/// Gives the object that was read the next number. Refused is want of memory alone.
 ///
 /// That the header is another than those before, and lies below 2 GiB, are the caller's conditions.
 pub(crate) fn push_object(index: &mut Index, object: OpenedObject) -> Result<(), OpenFault>
@@ -45,13 +46,32 @@ pub(crate) fn push_object(index: &mut Index, object: OpenedObject) -> Result<(),
     ensures refused { IfErr result (λ fault. fault.cause ≡ Cause.NoMemory) }
 {
     let header = object.messages.header();
+    let Ok(()) = keep(index, object) else {
+        return Err(fault(Cause::NoMemory, header));
+    };
+    Ok(())
+}
+
+/// Gives the object the next number, and its slot. That there is a number left is the caller's condition.
+///
+/// # Errors
+///
+/// `AllocError` if memory is refused. Then nothing changes.
+pub(crate) fn keep(index: &mut Index, object: OpenedObject) -> Result<(), AllocError>
+    requires few { length index.old.objects.items < 4294967295 }
+    ensures slots { OnOk result (index.new.objects.items ≡ index.old.objects.items ++ Some object ∷ []) }
+    ensures numbers { OnOk result (Updates nat_cmp index.old.numbers index.new.numbers
+        object.messages.header (Some (length index.old.objects.items))) }
+    ensures same_slots { OnErr result (index.new.objects.items ≡ index.old.objects.items) }
+    ensures same_numbers { OnErr result (index.new.numbers.entries ≡ index.old.numbers.entries) }
+{
     let number = index.objects.len() as u32;
-    let Ok(_) = index.numbers.insert(header, number) else {
-        return Err(fault(Cause::NoMemory, header));
+    index.objects.reserve(1)?;
+    let Ok(_) = index.numbers.insert(object.messages.header(), number) else {
+        return Err(AllocError);
     };
-    let Ok(()) = index.objects.push(Some(object)) else {
-        return Err(fault(Cause::NoMemory, header));
-    };
+    // There is room for it.
+    let _ = index.objects.push(Some(object));
     Ok(())
 }
 

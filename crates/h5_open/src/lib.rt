@@ -15,4 +15,4 @@ pub use h5_group::{SymbolTable, entries, has_links, lookup};
 pub use h5_layout::{
     ArrayRef, Dims, Layout, MAX_RANK, Piece, Runs, StoredArray, Values, known_array,
 };
-pub use opened::{Opened, OpenedContent, OpenedObject, StandingCells};
+pub use opened::{ContentBytes, ObjectBytes, Opened, OpenedContent, OpenedObject, StandingCells};

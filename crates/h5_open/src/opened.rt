@@ -1,5 +1,6 @@
 //! An opened image as one value: its bytes, and the tree that they read as (File Format Specification 3.0, sections II.A, III and
 //! IV.A).
+mod added;
 mod attributes;
 mod end;
 mod links;
@@ -19,6 +20,7 @@ ghost use Rattle.h5_open.specs.Renumbered.Headers.{IsReadAt, table_with};
 use crate::index::Index;
 use crate::numbers::renumber;
 use crate::steps::walk;
+pub use added::{ContentBytes, ObjectBytes};
 use h5_model::{Cause, OpenFault};
 use h5_space::Image;
 pub use object::{OpenedContent, OpenedObject};

@@ -25,3 +25,6 @@ pub use Rattle.h5_open.specs.Attributed
 pub use Rattle.h5_open.specs.LinkAdded
 pub use Rattle.h5_open.specs.LinkTaken
 pub use Rattle.h5_open.specs.LinkEdits
+pub use Rattle.h5_open.specs.ObjectAdded
+pub use Rattle.h5_open.specs.declared.opened.added.ContentBytes as ContentBytesType
+pub use Rattle.h5_open.specs.declared.opened.added.ObjectBytes as ObjectBytesType

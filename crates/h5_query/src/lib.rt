@@ -21,9 +21,9 @@ pub use cells::one_cell;
 pub use found::{Found, found_at};
 pub use group::{links_of, tree_links};
 pub use h5_open::{
-    ArrayRef, AttrRef, Dims, Layout, MAX_RANK, Opened, OpenedContent, OpenedObject, Piece, Runs,
-    StandingCells, StoredArray, SymbolTable, Values, entries, get, has_links, known_array,
-    new_body, sorted,
+    ArrayRef, AttrRef, ContentBytes, Dims, Layout, MAX_RANK, ObjectBytes, Opened, OpenedContent,
+    OpenedObject, Piece, Runs, StandingCells, StoredArray, SymbolTable, Values, entries, get,
+    has_links, known_array, new_body, sorted,
 };
 pub use h5_shape::{Slab, SlabFault};
 pub use kind::{Kind, StoreKind};

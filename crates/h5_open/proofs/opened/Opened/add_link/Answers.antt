@@ -1,11 +1,10 @@
-use Rattle.std.proofs.Common.{◌≡◌, ℕ, ◌+◌, ◌≤◌, ◌^◌, ◌∙◌, List, Option, Some, Ok, Err, length, sym, ap, subst, arith}
+use Rattle.std.proofs.Common.{◌≡◌, ℕ, ◌+◌, ◌≤◌, ◌^◌, ◌∙◌, List, Option, Some, length, sym, ap, subst, arith}
 use Rattle.std.specs.Prelude.{slice_get}
 use Rattle.std.proofs.lemmas.Option.{same_Some, slice_get_within}
 use Rattle.std.proofs.lemmas.Result.{err_from_is_err_and}
 use Rattle.h5_model.specs.declared.link.LinkTo.{LinkTo}
 use Rattle.h5_model.specs.declared.link.LinkTo.TheVariants as to
 use Rattle.h5_model.specs.declared.object_no.ObjectNo.{ObjectNo}
-use Rattle.h5_model.specs.Format.Addresses.{SymbolTable}
 use Rattle.h5_model.specs.Format.PlainLength.{link_span}
 use Rattle.h5_model.specs.Tree.Links.{tree_link, tree_target}
 use Rattle.h5_space.specs.Space.{Space}
@@ -16,19 +15,17 @@ use Rattle.h5_open.specs.declared.index.Index.{Index}
 use Rattle.h5_open.specs.declared.opened.Opened.TheInside.{Inside}
 use Rattle.h5_open.specs.declared.opened.object.OpenedObject.{OpenedObject}
 use Rattle.h5_open.specs.ChangedInPlace.{IsChangedInPlace}
-use Rattle.h5_open.specs.LinkAdded.{IsArraySlot, IsGroupSlot, IsLeadOf, IsTargetSlot, ends_of, with_link}
+use Rattle.h5_open.specs.LinkAdded.{IsArraySlot, IsLeadOf, IsTargetSlot, ends_of, with_link}
 use Rattle.h5_open.specs.Opened.Kept.{IsOpened}
 use Rattle.h5_open.specs.Opened.State.{opened_state}
-use Rattle.h5_open.proofs.LinkWritten.{IsCountedAt, IsHeaderCounted, added_changed, added_opened, array_few, array_standing, deep_told, fits_by, full_told, group_stands, group_there, lead_plain, name_new, name_one, target_there}
+use Rattle.h5_open.proofs.GroupOf.{group_lent}
+use Rattle.h5_open.proofs.LinkWritten.{IsCountedAt, IsHeaderCounted, added_changed, added_opened, array_few, array_standing, deep_told, fits_by, full_told, group_stands, group_there, lead_plain, name_new, name_one, no_fault, target_there}
 use Rattle.h5_open.proofs.OpenedLaws.LentSlots.{lent_some, slot_lent, slot_read}
 use Rattle.h5_open.proofs.OpenedLaws.Sounds.{sound}
 use Rattle.h5_open.proofs.opened.Opened.add_link.Goals as goal
 use Rattle.h5_open.proofs.opened.Opened.add_link.Goals.{After-write_end, in-Object, in_default}
 
 -- the slots that were lent
-slot_there : (slots items : List (Option OpenedObject)) (parent : ℕ) (t : SymbolTable) → items ≡ slots → IsGroupSlot items parent t → IsGroupSlot slots parent t
-slot_there slots items parent t same = subst (λ (xs : List (Option OpenedObject)). IsGroupSlot xs parent t) same
-
 lead_there : (slots items : List (Option OpenedObject)) (target : LinkTo ObjectNo) (lead : Leads) → items ≡ slots → IsLeadOf items target lead → IsLeadOf slots target lead
 lead_there slots items target lead same = subst (λ (xs : List (Option OpenedObject)). IsLeadOf xs target lead) same
 
@@ -41,14 +38,11 @@ array_lent slots n there o at =
     let one : there.0 ≡ o = same_Some there.0 o (same_Some (Some there.0) (Some o) (sym there.1.0 ∙ at)) in
     subst (IsArraySlot slots n) one there.1
 
-no_fault : {A E : Type 0} (a : A) (e : E) → Ok a ≡ Err e → ⊥
-no_fault a e is = absurd (cc)
-
 pub group_table-table-requires : goal.group_table-table-requires
 group_table-table-requires c =
     let there = group_there c.self.inside.image c.self.inside.index.objects.items c.self.inside.index.numbers c.self.invariant c.args.self.now c.self.view_is c.args.parent c.args.link.now
     c.requires.group c.requires.free c.requires.target c.requires.good in
-    record { there = (there.0, slot_there c.deref.result.now c.self.inside.index.objects.items c.args.parent there.0 (sym c.deref.ensures.value) there.1) }
+    record { there = (there.0, group_lent c.self.inside.index.objects.items c.deref.result.now c.args.parent there.0 (sym c.deref.ensures.value) there.1) }
 
 pub place_of-to-requires : goal.place_of-to-requires
 place_of-to-requires c =
@@ -60,25 +54,25 @@ pub put_link-requires-clause-group : goal.put_link-requires-clause-group
 put_link-requires-clause-group c =
     group_stands c.self.inside.image c.self.inside.index.objects.items c.self.inside.index.numbers c.self.invariant c.args.self.now c.self.view_is c.args.parent c.args.link.now
     c.requires.group c.requires.free c.requires.target c.requires.good
-    c.group_table-table.result (slot_there c.self.inside.index.objects.items c.deref.result.now c.args.parent c.group_table-table.result c.deref.ensures.value c.group_table-table.ensures.table)
+    c.group_table-table.result (group_lent c.deref.result.now c.self.inside.index.objects.items c.args.parent c.group_table-table.result c.deref.ensures.value c.group_table-table.ensures.table)
 
 pub put_link-requires-clause-new_name : goal.put_link-requires-clause-new_name
 put_link-requires-clause-new_name c =
     name_new c.self.inside.image c.self.inside.index.objects.items c.self.inside.index.numbers c.self.invariant c.args.self.now c.self.view_is c.args.parent c.args.link.now
     c.requires.group c.requires.free c.requires.target c.requires.good
-    c.group_table-table.result (slot_there c.self.inside.index.objects.items c.deref.result.now c.args.parent c.group_table-table.result c.deref.ensures.value c.group_table-table.ensures.table)
+    c.group_table-table.result (group_lent c.deref.result.now c.self.inside.index.objects.items c.args.parent c.group_table-table.result c.deref.ensures.value c.group_table-table.ensures.table)
 
 pub put_link-requires-clause-named : goal.put_link-requires-clause-named
 put_link-requires-clause-named c =
     name_one c.self.inside.image c.self.inside.index.objects.items c.self.inside.index.numbers c.self.invariant c.args.self.now c.self.view_is c.args.parent c.args.link.now
     c.requires.group c.requires.free c.requires.target c.requires.good
-    c.group_table-table.result (slot_there c.self.inside.index.objects.items c.deref.result.now c.args.parent c.group_table-table.result c.deref.ensures.value c.group_table-table.ensures.table)
+    c.group_table-table.result (group_lent c.deref.result.now c.self.inside.index.objects.items c.args.parent c.group_table-table.result c.deref.ensures.value c.group_table-table.ensures.table)
 
 pub put_link-requires-clause-plain : goal.put_link-requires-clause-plain
 put_link-requires-clause-plain c =
     lead_plain c.self.inside.image c.self.inside.index.objects.items c.self.inside.index.numbers c.self.invariant c.args.self.now c.self.view_is c.args.parent c.args.link.now
     c.requires.group c.requires.free c.requires.target c.requires.good
-    c.group_table-table.result (slot_there c.self.inside.index.objects.items c.deref.result.now c.args.parent c.group_table-table.result c.deref.ensures.value c.group_table-table.ensures.table)
+    c.group_table-table.result (group_lent c.deref.result.now c.self.inside.index.objects.items c.args.parent c.group_table-table.result c.deref.ensures.value c.group_table-table.ensures.table)
     (leads_of c.place_of-to.result) (lead_there c.self.inside.index.objects.items c.deref-2.result.now c.args.link.now.to (leads_of c.place_of-to.result) c.deref-2.ensures.value c.place_of-to.ensures.place)
 
 -- ---- refused
@@ -99,7 +93,7 @@ returns-in_err-put_link-clause-deep c table is =
     let answered = err_from_is_err_and c.from_residual.result c.from_residual.ensures.1 in
     rw (answered.1, answered.2) (deep_told c.self.inside.image c.self.inside.index.objects.items c.self.inside.index.numbers c.self.invariant c.args.self.now c.self.view_is c.args.parent c.args.link.now
     c.requires.group c.requires.free c.requires.target c.requires.good
-    c.group_table-table.result (slot_there c.self.inside.index.objects.items c.deref.result.now c.args.parent c.group_table-table.result c.deref.ensures.value c.group_table-table.ensures.table)
+    c.group_table-table.result (group_lent c.deref.result.now c.self.inside.index.objects.items c.args.parent c.group_table-table.result c.deref.ensures.value c.group_table-table.ensures.table)
     _ c.in_err-put_link.ensures.deep table is)
 
 pub returns-in_err-put_link-clause-full : goal.returns-in_err-put_link-clause-full
@@ -107,7 +101,7 @@ returns-in_err-put_link-clause-full c table is =
     let answered = err_from_is_err_and c.from_residual.result c.from_residual.ensures.1 in
     rw (answered.1, answered.2) (full_told c.self.inside.image c.self.inside.index.objects.items c.self.inside.index.numbers c.self.invariant c.args.self.now c.self.view_is c.args.parent c.args.link.now
     c.requires.group c.requires.free c.requires.target c.requires.good
-    c.group_table-table.result (slot_there c.self.inside.index.objects.items c.deref.result.now c.args.parent c.group_table-table.result c.deref.ensures.value c.group_table-table.ensures.table)
+    c.group_table-table.result (group_lent c.deref.result.now c.self.inside.index.objects.items c.args.parent c.group_table-table.result c.deref.ensures.value c.group_table-table.ensures.table)
     (leads_of c.place_of-to.result) (lead_there c.self.inside.index.objects.items c.deref-2.result.now c.args.link.now.to (leads_of c.place_of-to.result) c.deref-2.ensures.value c.place_of-to.ensures.place)
     _ c.in_err-put_link.ensures.full table is)
 
@@ -139,7 +133,7 @@ count_link-requires-clause-standing c =
     let e = c.in_ok-put_link.ensures in
     array_standing c.self.inside.image c.self.inside.index.objects.items c.self.inside.index.numbers c.self.invariant c.args.self.now c.self.view_is c.args.parent c.args.link.now
     c.requires.group c.requires.free c.requires.target c.requires.good
-    c.group_table-table.result (slot_there c.self.inside.index.objects.items c.deref.result.now c.args.parent c.group_table-table.result c.deref.ensures.value c.group_table-table.ensures.table)
+    c.group_table-table.result (group_lent c.deref.result.now c.self.inside.index.objects.items c.args.parent c.group_table-table.result c.deref.ensures.value c.group_table-table.ensures.table)
     (leads_of c.place_of-to.result) (lead_there c.self.inside.index.objects.items c.deref-2.result.now c.args.link.now.to (leads_of c.place_of-to.result) c.deref-2.ensures.value c.place_of-to.ensures.place)
     c.put_link.new.image e.put e.group e.moves e.leaf e.internal number.0 c.unwrap-target.result.now (array_lent slots number.0 there c.unwrap-target.result.now at)
 
@@ -153,7 +147,7 @@ count_link-requires-clause-few c =
     let e = c.in_ok-put_link.ensures in
     array_few c.self.inside.image c.self.inside.index.objects.items c.self.inside.index.numbers c.self.invariant c.args.self.now c.self.view_is c.args.parent c.args.link.now
     c.requires.group c.requires.free c.requires.target c.requires.good
-    c.group_table-table.result (slot_there c.self.inside.index.objects.items c.deref.result.now c.args.parent c.group_table-table.result c.deref.ensures.value c.group_table-table.ensures.table)
+    c.group_table-table.result (group_lent c.deref.result.now c.self.inside.index.objects.items c.args.parent c.group_table-table.result c.deref.ensures.value c.group_table-table.ensures.table)
     (leads_of c.place_of-to.result) (lead_there c.self.inside.index.objects.items c.deref-2.result.now c.args.link.now.to (leads_of c.place_of-to.result) c.deref-2.ensures.value c.place_of-to.ensures.place)
     c.put_link.new.image e.put e.group e.moves e.leaf e.internal number.0 c.unwrap-target.result.now (array_lent slots number.0 there c.unwrap-target.result.now at)
 
@@ -218,7 +212,7 @@ opened_now c =
     let t = c.write_end.ensures in
     added_opened c.self.inside.image c.self.inside.index.objects.items c.self.inside.index.numbers c.self.invariant c.args.self.now c.self.view_is c.args.parent c.args.link.now
     c.requires.group c.requires.free c.requires.target c.requires.good
-    c.group_table-table.result (slot_there c.self.inside.index.objects.items c.deref.result.now c.args.parent c.group_table-table.result c.deref.ensures.value c.group_table-table.ensures.table)
+    c.group_table-table.result (group_lent c.deref.result.now c.self.inside.index.objects.items c.args.parent c.group_table-table.result c.deref.ensures.value c.group_table-table.ensures.table)
     (leads_of c.place_of-to.result) (lead_there c.self.inside.index.objects.items c.deref-2.result.now c.args.link.now.to (leads_of c.place_of-to.result) c.deref-2.ensures.value c.place_of-to.ensures.place)
     c.put_link.new.image e.put e.group e.moves e.leaf e.internal c.match-link.self-inside.image c.write_end.new.image 20 e.spends (fits c) (counted c) t.moves t.end t.length
 
@@ -234,7 +228,7 @@ returns-clause-changed c table is =
     let t = c.write_end.ensures in
     let changed = added_changed c.self.inside.image c.self.inside.index.objects.items c.self.inside.index.numbers c.self.invariant c.args.self.now c.self.view_is c.args.parent c.args.link.now
     c.requires.group c.requires.free c.requires.target c.requires.good
-    c.group_table-table.result (slot_there c.self.inside.index.objects.items c.deref.result.now c.args.parent c.group_table-table.result c.deref.ensures.value c.group_table-table.ensures.table)
+    c.group_table-table.result (group_lent c.deref.result.now c.self.inside.index.objects.items c.args.parent c.group_table-table.result c.deref.ensures.value c.group_table-table.ensures.table)
     (leads_of c.place_of-to.result) (lead_there c.self.inside.index.objects.items c.deref-2.result.now c.args.link.now.to (leads_of c.place_of-to.result) c.deref-2.ensures.value c.place_of-to.ensures.place)
     c.put_link.new.image e.put e.group e.moves e.leaf e.internal c.match-link.self-inside.image c.write_end.new.image 20 e.spends (fits c) (counted c) t.moves t.end t.length table is in
     subst (λ (i : Index). IsChangedInPlace c.args.self.now (opened_state c.write_end.new.image i.objects.items)
@@ -248,12 +242,12 @@ returns-clause-sound c = sound c.write_end.new.image c.match-link.self-inside.in
 pub returns-clause-deep : goal.returns-clause-deep
 returns-clause-deep c = deep_told c.self.inside.image c.self.inside.index.objects.items c.self.inside.index.numbers c.self.invariant c.args.self.now c.self.view_is c.args.parent c.args.link.now
     c.requires.group c.requires.free c.requires.target c.requires.good
-    c.group_table-table.result (slot_there c.self.inside.index.objects.items c.deref.result.now c.args.parent c.group_table-table.result c.deref.ensures.value c.group_table-table.ensures.table)
+    c.group_table-table.result (group_lent c.deref.result.now c.self.inside.index.objects.items c.args.parent c.group_table-table.result c.deref.ensures.value c.group_table-table.ensures.table)
     _ c.in_ok-put_link.ensures.deep
 
 pub returns-clause-full : goal.returns-clause-full
 returns-clause-full c = full_told c.self.inside.image c.self.inside.index.objects.items c.self.inside.index.numbers c.self.invariant c.args.self.now c.self.view_is c.args.parent c.args.link.now
     c.requires.group c.requires.free c.requires.target c.requires.good
-    c.group_table-table.result (slot_there c.self.inside.index.objects.items c.deref.result.now c.args.parent c.group_table-table.result c.deref.ensures.value c.group_table-table.ensures.table)
+    c.group_table-table.result (group_lent c.deref.result.now c.self.inside.index.objects.items c.args.parent c.group_table-table.result c.deref.ensures.value c.group_table-table.ensures.table)
     (leads_of c.place_of-to.result) (lead_there c.self.inside.index.objects.items c.deref-2.result.now c.args.link.now.to (leads_of c.place_of-to.result) c.deref-2.ensures.value c.place_of-to.ensures.place)
     _ c.in_ok-put_link.ensures.full

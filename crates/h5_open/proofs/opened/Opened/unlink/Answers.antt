@@ -1,23 +1,17 @@
-use Rattle.std.proofs.Common.{◌≡◌, ◌<◌, ◌∙◌, ℕ, List, Option, Result, Some, sym, subst, arith, true, false}
+use Rattle.std.proofs.Common.{◌≡◌, ◌<◌, ◌∙◌, Result, Some, sym, subst, arith, true, false}
 use Rattle.std.specs.Prelude.{OnErr, OnOk, Ok, Err}
 use Rattle.std.proofs.lemmas.Option.{slice_get_within}
-use Rattle.h5_model.specs.Format.Addresses.{SymbolTable}
 use Rattle.h5_model.specs.Format.Messages.{prefix_at, reference_count}
 use Rattle.h5_space.specs.Space.{Space}
-use Rattle.h5_open.specs.declared.opened.object.OpenedObject.{OpenedObject}
-use Rattle.h5_open.specs.LinkAdded.{IsGroupSlot}
 use Rattle.h5_open.specs.Opened.Kept.{IsOpened}
 use Rattle.h5_open.specs.Opened.Objects.{header_of}
 use Rattle.h5_open.specs.Opened.Sound.{IsSound}
 use Rattle.h5_open.specs.Opened.State.{opened_state}
+use Rattle.h5_open.proofs.GroupOf.{group_lent}
 use Rattle.h5_open.proofs.OpenedLaws.LentSlots.{lent_some, slot_read}
 use Rattle.h5_open.proofs.OpenedLaws.Sounds.{object_of, sound}
 use Rattle.h5_open.proofs.UnlinkCalls as calls
 use Rattle.h5_open.proofs.opened.Opened.unlink.Goals as goal
-
--- the slot of the group
-table_slot : (lent slots : List (Option OpenedObject)) (parent : ℕ) (t : SymbolTable) → lent ≡ slots → IsGroupSlot lent parent t → IsGroupSlot slots parent t
-table_slot lent slots parent t same at = subst (λ (s : List (Option OpenedObject)). IsGroupSlot s parent t) same at
 
 by_result : {V E A B C : Type 0} (r : Result V E) → OnOk r A → OnErr r B → (A → C) → (B → C) → C
 by_result (Ok v) ok err first second = first ok
@@ -31,17 +25,17 @@ pub group_table-table-requires : goal.group_table-table-requires
 group_table-table-requires c =
     let there = calls.parent_slot c.self.inside.image c.self.inside.index.objects.items c.self.inside.index.numbers c.self.invariant c.args.self.now c.self.view_is
     c.args.parent c.args.name.now c.args.object c.requires.there in
-    record { there = (there.0, table_slot c.self.inside.index.objects.items c.deref.result.now c.args.parent there.0 (sym c.deref.ensures.value) there.1) }
+    record { there = (there.0, group_lent c.self.inside.index.objects.items c.deref.result.now c.args.parent there.0 (sym c.deref.ensures.value) there.1) }
 
 pub take_link-requires-clause-group : goal.take_link-requires-clause-group
 take_link-requires-clause-group c =
     calls.unlink_group c.self.inside.image c.self.inside.index.objects.items c.self.inside.index.numbers c.self.invariant c.args.self.now c.self.view_is
-    c.args.parent c.args.name.now c.args.object c.requires.there c.group_table-table.result (table_slot c.deref.result.now c.self.inside.index.objects.items c.args.parent c.group_table-table.result c.deref.ensures.value c.group_table-table.ensures.table)
+    c.args.parent c.args.name.now c.args.object c.requires.there c.group_table-table.result (group_lent c.deref.result.now c.self.inside.index.objects.items c.args.parent c.group_table-table.result c.deref.ensures.value c.group_table-table.ensures.table)
 
 pub take_link-requires-clause-there : goal.take_link-requires-clause-there
 take_link-requires-clause-there c =
     calls.unlink_there c.self.inside.image c.self.inside.index.objects.items c.self.inside.index.numbers c.self.invariant c.args.self.now c.self.view_is
-    c.args.parent c.args.name.now c.args.object c.requires.there c.group_table-table.result (table_slot c.deref.result.now c.self.inside.index.objects.items c.args.parent c.group_table-table.result c.deref.ensures.value c.group_table-table.ensures.table)
+    c.args.parent c.args.name.now c.args.object c.requires.there c.group_table-table.result (group_lent c.deref.result.now c.self.inside.index.objects.items c.args.parent c.group_table-table.result c.deref.ensures.value c.group_table-table.ensures.table)
 
 -- ---- a soft link
 
@@ -49,20 +43,20 @@ pub invariant_of-self : goal.invariant_of-self
 invariant_of-self c =
     by_result c.take_link.result c.take_link.ensures.taken c.take_link.ensures.refused
     (λ taken. (calls.soft_gone c.self.inside.image c.self.inside.index.objects.items c.self.inside.index.numbers c.self.invariant c.args.self.now c.self.view_is
-    c.args.parent c.args.name.now c.args.object c.requires.there c.group_table-table.result (table_slot c.deref.result.now c.self.inside.index.objects.items c.args.parent c.group_table-table.result c.deref.ensures.value c.group_table-table.ensures.table) c.take_link.new.image c.in_default.is taken).0)
+    c.args.parent c.args.name.now c.args.object c.requires.there c.group_table-table.result (group_lent c.deref.result.now c.self.inside.index.objects.items c.args.parent c.group_table-table.result c.deref.ensures.value c.group_table-table.ensures.table) c.take_link.new.image c.in_default.is taken).0)
     (λ same. subst (λ (i : Space). IsOpened i c.self.inside.index.objects.items c.self.inside.index.numbers) (sym same) c.self.invariant)
 
 pub returns-in_default-clause-changed : goal.returns-in_default-clause-changed
 returns-in_default-clause-changed c =
     by_ok c.take_link.result c.take_link.ensures.taken
     (λ taken. (calls.soft_gone c.self.inside.image c.self.inside.index.objects.items c.self.inside.index.numbers c.self.invariant c.args.self.now c.self.view_is
-    c.args.parent c.args.name.now c.args.object c.requires.there c.group_table-table.result (table_slot c.deref.result.now c.self.inside.index.objects.items c.args.parent c.group_table-table.result c.deref.ensures.value c.group_table-table.ensures.table) c.take_link.new.image c.in_default.is taken).1)
+    c.args.parent c.args.name.now c.args.object c.requires.there c.group_table-table.result (group_lent c.deref.result.now c.self.inside.index.objects.items c.args.parent c.group_table-table.result c.deref.ensures.value c.group_table-table.ensures.table) c.take_link.new.image c.in_default.is taken).1)
 
 pub returns-in_default-clause-sound : goal.returns-in_default-clause-sound
 returns-in_default-clause-sound c =
     let opened = by_result c.take_link.result c.take_link.ensures.taken c.take_link.ensures.refused
     (λ taken. (calls.soft_gone c.self.inside.image c.self.inside.index.objects.items c.self.inside.index.numbers c.self.invariant c.args.self.now c.self.view_is
-    c.args.parent c.args.name.now c.args.object c.requires.there c.group_table-table.result (table_slot c.deref.result.now c.self.inside.index.objects.items c.args.parent c.group_table-table.result c.deref.ensures.value c.group_table-table.ensures.table) c.take_link.new.image c.in_default.is taken).0)
+    c.args.parent c.args.name.now c.args.object c.requires.there c.group_table-table.result (group_lent c.deref.result.now c.self.inside.index.objects.items c.args.parent c.group_table-table.result c.deref.ensures.value c.group_table-table.ensures.table) c.take_link.new.image c.in_default.is taken).0)
     (λ same. subst (λ (i : Space). IsOpened i c.self.inside.index.objects.items c.self.inside.index.numbers) (sym same) c.self.invariant) in
     sound c.take_link.new.image c.self.inside.index.objects.items c.self.inside.index.numbers opened
 
@@ -94,13 +88,13 @@ pub take_link-requires-then-has_other_links-clause-group :
     goal.take_link-requires-then-has_other_links-clause-group
 take_link-requires-then-has_other_links-clause-group c =
     calls.unlink_group c.self.inside.image c.self.inside.index.objects.items c.self.inside.index.numbers c.self.invariant c.args.self.now c.self.view_is
-    c.args.parent c.args.name.now c.args.object c.requires.there c.group_table-table.result (table_slot c.deref.result.now c.self.inside.index.objects.items c.args.parent c.group_table-table.result c.deref.ensures.value c.group_table-table.ensures.table)
+    c.args.parent c.args.name.now c.args.object c.requires.there c.group_table-table.result (group_lent c.deref.result.now c.self.inside.index.objects.items c.args.parent c.group_table-table.result c.deref.ensures.value c.group_table-table.ensures.table)
 
 pub take_link-requires-then-has_other_links-clause-there :
     goal.take_link-requires-then-has_other_links-clause-there
 take_link-requires-then-has_other_links-clause-there c =
     calls.unlink_there c.self.inside.image c.self.inside.index.objects.items c.self.inside.index.numbers c.self.invariant c.args.self.now c.self.view_is
-    c.args.parent c.args.name.now c.args.object c.requires.there c.group_table-table.result (table_slot c.deref.result.now c.self.inside.index.objects.items c.args.parent c.group_table-table.result c.deref.ensures.value c.group_table-table.ensures.table)
+    c.args.parent c.args.name.now c.args.object c.requires.there c.group_table-table.result (group_lent c.deref.result.now c.self.inside.index.objects.items c.args.parent c.group_table-table.result c.deref.ensures.value c.group_table-table.ensures.table)
 
 pub returns-in_err-take_link-clause-sound : goal.returns-in_err-take_link-clause-sound
 returns-in_err-take_link-clause-sound c =
@@ -114,7 +108,7 @@ count_less-requires-clause-standing c =
     c.index.result.now c.index.ensures c.as_ref.result c.as_ref.ensures.value c.unwrap-target.result c.unwrap-target.ensures in
     let many : 1 < reference_count (prefix_at c.self.inside.image.bytes (header_of c.unwrap-target.result.now)) = c.has_other_links.ensures.0 c.if-has_other_links.true in
     calls.less_standing c.self.inside.image c.self.inside.index.objects.items c.self.inside.index.numbers c.self.invariant c.args.self.now c.self.view_is
-    c.args.parent c.args.name.now c.args.object c.requires.there c.in-Some.number c.in-Some.is c.unwrap-target.result.now at c.group_table-table.result (table_slot c.deref.result.now c.self.inside.index.objects.items c.args.parent c.group_table-table.result c.deref.ensures.value c.group_table-table.ensures.table) c.take_link-then-has_other_links.new.image c.in_ok-take_link.ensures.taken many
+    c.args.parent c.args.name.now c.args.object c.requires.there c.in-Some.number c.in-Some.is c.unwrap-target.result.now at c.group_table-table.result (group_lent c.deref.result.now c.self.inside.index.objects.items c.args.parent c.group_table-table.result c.deref.ensures.value c.group_table-table.ensures.table) c.take_link-then-has_other_links.new.image c.in_ok-take_link.ensures.taken many
 
 pub count_less-requires-clause-some : goal.count_less-requires-clause-some
 count_less-requires-clause-some c =
@@ -123,7 +117,7 @@ count_less-requires-clause-some c =
     c.index.result.now c.index.ensures c.as_ref.result c.as_ref.ensures.value c.unwrap-target.result c.unwrap-target.ensures in
     let many : 1 < reference_count (prefix_at c.self.inside.image.bytes (header_of c.unwrap-target.result.now)) = c.has_other_links.ensures.0 c.if-has_other_links.true in
     calls.less_some c.self.inside.image c.self.inside.index.objects.items c.self.inside.index.numbers c.self.invariant c.args.self.now c.self.view_is
-    c.args.parent c.args.name.now c.args.object c.requires.there c.in-Some.number c.in-Some.is c.unwrap-target.result.now at c.group_table-table.result (table_slot c.deref.result.now c.self.inside.index.objects.items c.args.parent c.group_table-table.result c.deref.ensures.value c.group_table-table.ensures.table) c.take_link-then-has_other_links.new.image c.in_ok-take_link.ensures.taken many
+    c.args.parent c.args.name.now c.args.object c.requires.there c.in-Some.number c.in-Some.is c.unwrap-target.result.now at c.group_table-table.result (group_lent c.deref.result.now c.self.inside.index.objects.items c.args.parent c.group_table-table.result c.deref.ensures.value c.group_table-table.ensures.table) c.take_link-then-has_other_links.new.image c.in_ok-take_link.ensures.taken many
 
 pub invariant_of-self-then-has_other_links : goal.invariant_of-self-then-has_other_links
 invariant_of-self-then-has_other_links c =
@@ -132,7 +126,7 @@ invariant_of-self-then-has_other_links c =
     c.index.result.now c.index.ensures c.as_ref.result c.as_ref.ensures.value c.unwrap-target.result c.unwrap-target.ensures in
     let many : 1 < reference_count (prefix_at c.self.inside.image.bytes (header_of c.unwrap-target.result.now)) = c.has_other_links.ensures.0 c.if-has_other_links.true in
     (calls.hard_gone c.self.inside.image c.self.inside.index.objects.items c.self.inside.index.numbers c.self.invariant c.args.self.now c.self.view_is
-    c.args.parent c.args.name.now c.args.object c.requires.there c.in-Some.number c.in-Some.is c.unwrap-target.result.now at c.group_table-table.result (table_slot c.deref.result.now c.self.inside.index.objects.items c.args.parent c.group_table-table.result c.deref.ensures.value c.group_table-table.ensures.table) c.take_link-then-has_other_links.new.image c.in_ok-take_link.ensures.taken many
+    c.args.parent c.args.name.now c.args.object c.requires.there c.in-Some.number c.in-Some.is c.unwrap-target.result.now at c.group_table-table.result (group_lent c.deref.result.now c.self.inside.index.objects.items c.args.parent c.group_table-table.result c.deref.ensures.value c.group_table-table.ensures.table) c.take_link-then-has_other_links.new.image c.in_ok-take_link.ensures.taken many
     c.count_less.new.image c.count_less.ensures.standing c.count_less.ensures.messages c.count_less.ensures.count c.count_less.ensures.moves c.count_less.ensures.length).0
 
 pub returns-then-has_other_links-clause-changed : goal.returns-then-has_other_links-clause-changed
@@ -142,7 +136,7 @@ returns-then-has_other_links-clause-changed c =
     c.index.result.now c.index.ensures c.as_ref.result c.as_ref.ensures.value c.unwrap-target.result c.unwrap-target.ensures in
     let many : 1 < reference_count (prefix_at c.self.inside.image.bytes (header_of c.unwrap-target.result.now)) = c.has_other_links.ensures.0 c.if-has_other_links.true in
     (calls.hard_gone c.self.inside.image c.self.inside.index.objects.items c.self.inside.index.numbers c.self.invariant c.args.self.now c.self.view_is
-    c.args.parent c.args.name.now c.args.object c.requires.there c.in-Some.number c.in-Some.is c.unwrap-target.result.now at c.group_table-table.result (table_slot c.deref.result.now c.self.inside.index.objects.items c.args.parent c.group_table-table.result c.deref.ensures.value c.group_table-table.ensures.table) c.take_link-then-has_other_links.new.image c.in_ok-take_link.ensures.taken many
+    c.args.parent c.args.name.now c.args.object c.requires.there c.in-Some.number c.in-Some.is c.unwrap-target.result.now at c.group_table-table.result (group_lent c.deref.result.now c.self.inside.index.objects.items c.args.parent c.group_table-table.result c.deref.ensures.value c.group_table-table.ensures.table) c.take_link-then-has_other_links.new.image c.in_ok-take_link.ensures.taken many
     c.count_less.new.image c.count_less.ensures.standing c.count_less.ensures.messages c.count_less.ensures.count c.count_less.ensures.moves c.count_less.ensures.length).1
 
 pub returns-then-has_other_links-clause-sound : goal.returns-then-has_other_links-clause-sound
@@ -152,7 +146,7 @@ returns-then-has_other_links-clause-sound c =
     c.index.result.now c.index.ensures c.as_ref.result c.as_ref.ensures.value c.unwrap-target.result c.unwrap-target.ensures in
     let many : 1 < reference_count (prefix_at c.self.inside.image.bytes (header_of c.unwrap-target.result.now)) = c.has_other_links.ensures.0 c.if-has_other_links.true in
     let opened = (calls.hard_gone c.self.inside.image c.self.inside.index.objects.items c.self.inside.index.numbers c.self.invariant c.args.self.now c.self.view_is
-    c.args.parent c.args.name.now c.args.object c.requires.there c.in-Some.number c.in-Some.is c.unwrap-target.result.now at c.group_table-table.result (table_slot c.deref.result.now c.self.inside.index.objects.items c.args.parent c.group_table-table.result c.deref.ensures.value c.group_table-table.ensures.table) c.take_link-then-has_other_links.new.image c.in_ok-take_link.ensures.taken many
+    c.args.parent c.args.name.now c.args.object c.requires.there c.in-Some.number c.in-Some.is c.unwrap-target.result.now at c.group_table-table.result (group_lent c.deref.result.now c.self.inside.index.objects.items c.args.parent c.group_table-table.result c.deref.ensures.value c.group_table-table.ensures.table) c.take_link-then-has_other_links.new.image c.in_ok-take_link.ensures.taken many
     c.count_less.new.image c.count_less.ensures.standing c.count_less.ensures.messages c.count_less.ensures.count c.count_less.ensures.moves c.count_less.ensures.length).0 in
     sound c.count_less.new.image c.self.inside.index.objects.items c.self.inside.index.numbers opened
 
@@ -172,12 +166,12 @@ returns-in_err-blocks-clause-sound c =
 pub take_link-requires-2-clause-group : goal.take_link-requires-2-clause-group
 take_link-requires-2-clause-group c =
     calls.unlink_group c.self.inside.image c.self.inside.index.objects.items c.self.inside.index.numbers c.self.invariant c.args.self.now c.self.view_is
-    c.args.parent c.args.name.now c.args.object c.requires.there c.group_table-table.result (table_slot c.deref.result.now c.self.inside.index.objects.items c.args.parent c.group_table-table.result c.deref.ensures.value c.group_table-table.ensures.table)
+    c.args.parent c.args.name.now c.args.object c.requires.there c.group_table-table.result (group_lent c.deref.result.now c.self.inside.index.objects.items c.args.parent c.group_table-table.result c.deref.ensures.value c.group_table-table.ensures.table)
 
 pub take_link-requires-2-clause-there : goal.take_link-requires-2-clause-there
 take_link-requires-2-clause-there c =
     calls.unlink_there c.self.inside.image c.self.inside.index.objects.items c.self.inside.index.numbers c.self.invariant c.args.self.now c.self.view_is
-    c.args.parent c.args.name.now c.args.object c.requires.there c.group_table-table.result (table_slot c.deref.result.now c.self.inside.index.objects.items c.args.parent c.group_table-table.result c.deref.ensures.value c.group_table-table.ensures.table)
+    c.args.parent c.args.name.now c.args.object c.requires.there c.group_table-table.result (group_lent c.deref.result.now c.self.inside.index.objects.items c.args.parent c.group_table-table.result c.deref.ensures.value c.group_table-table.ensures.table)
 
 pub returns-in_err-take_link-2-clause-sound : goal.returns-in_err-take_link-2-clause-sound
 returns-in_err-take_link-2-clause-sound c =
@@ -193,7 +187,7 @@ give_all-requires-clause-held c =
       arith,
       c.in_ok-blocks.ensures.blocks q,
       calls.not_free c.self.inside.image c.self.inside.index.objects.items c.self.inside.index.numbers c.self.invariant c.args.self.now c.self.view_is
-          c.args.parent c.args.name.now c.args.object c.requires.there c.in-Some.number c.in-Some.is c.unwrap-target.result.now at c.group_table-table.result (table_slot c.deref.result.now c.self.inside.index.objects.items c.args.parent c.group_table-table.result c.deref.ensures.value c.group_table-table.ensures.table) c.take_link-2.new.image c.in_ok-take_link-2.ensures.taken q,
+          c.args.parent c.args.name.now c.args.object c.requires.there c.in-Some.number c.in-Some.is c.unwrap-target.result.now at c.group_table-table.result (group_lent c.deref.result.now c.self.inside.index.objects.items c.args.parent c.group_table-table.result c.deref.ensures.value c.group_table-table.ensures.table) c.take_link-2.new.image c.in_ok-take_link-2.ensures.taken q,
     )
 
 pub clear-requires : goal.clear-requires
@@ -210,7 +204,7 @@ invariant_of-self-2 c =
     c.index.result.now c.index.ensures c.as_ref.result c.as_ref.ensures.value c.unwrap-target.result c.unwrap-target.ensures in
     let few : 1 < reference_count (prefix_at c.self.inside.image.bytes (header_of c.unwrap-target.result.now)) → ⊥ = λ many. (let never : false ≡ true = sym c.if-has_other_links.false ∙ c.has_other_links.ensures.1 many in absurd (cc)) in
     (calls.last_gone c.self.inside.image c.self.inside.index.objects.items c.self.inside.index.numbers c.self.invariant c.args.self.now c.self.view_is
-    c.args.parent c.args.name.now c.args.object c.requires.there c.in-Some.number c.in-Some.is c.unwrap-target.result.now at c.group_table-table.result (table_slot c.deref.result.now c.self.inside.index.objects.items c.args.parent c.group_table-table.result c.deref.ensures.value c.group_table-table.ensures.table) c.take_link-2.new.image c.in_ok-take_link-2.ensures.taken few
+    c.args.parent c.args.name.now c.args.object c.requires.there c.in-Some.number c.in-Some.is c.unwrap-target.result.now at c.group_table-table.result (group_lent c.deref.result.now c.self.inside.index.objects.items c.args.parent c.group_table-table.result c.deref.ensures.value c.group_table-table.ensures.table) c.take_link-2.new.image c.in_ok-take_link-2.ensures.taken few
     c.give_all.new.image c.clear.new.index.objects.items c.clear.new.index.numbers (record {
       target = at;
       bytes = c.give_all.ensures.bytes;
@@ -226,7 +220,7 @@ returns-clause-changed c =
     c.index.result.now c.index.ensures c.as_ref.result c.as_ref.ensures.value c.unwrap-target.result c.unwrap-target.ensures in
     let few : 1 < reference_count (prefix_at c.self.inside.image.bytes (header_of c.unwrap-target.result.now)) → ⊥ = λ many. (let never : false ≡ true = sym c.if-has_other_links.false ∙ c.has_other_links.ensures.1 many in absurd (cc)) in
     (calls.last_gone c.self.inside.image c.self.inside.index.objects.items c.self.inside.index.numbers c.self.invariant c.args.self.now c.self.view_is
-    c.args.parent c.args.name.now c.args.object c.requires.there c.in-Some.number c.in-Some.is c.unwrap-target.result.now at c.group_table-table.result (table_slot c.deref.result.now c.self.inside.index.objects.items c.args.parent c.group_table-table.result c.deref.ensures.value c.group_table-table.ensures.table) c.take_link-2.new.image c.in_ok-take_link-2.ensures.taken few
+    c.args.parent c.args.name.now c.args.object c.requires.there c.in-Some.number c.in-Some.is c.unwrap-target.result.now at c.group_table-table.result (group_lent c.deref.result.now c.self.inside.index.objects.items c.args.parent c.group_table-table.result c.deref.ensures.value c.group_table-table.ensures.table) c.take_link-2.new.image c.in_ok-take_link-2.ensures.taken few
     c.give_all.new.image c.clear.new.index.objects.items c.clear.new.index.numbers (record {
       target = at;
       bytes = c.give_all.ensures.bytes;
@@ -242,7 +236,7 @@ returns-clause-sound c =
     c.index.result.now c.index.ensures c.as_ref.result c.as_ref.ensures.value c.unwrap-target.result c.unwrap-target.ensures in
     let few : 1 < reference_count (prefix_at c.self.inside.image.bytes (header_of c.unwrap-target.result.now)) → ⊥ = λ many. (let never : false ≡ true = sym c.if-has_other_links.false ∙ c.has_other_links.ensures.1 many in absurd (cc)) in
     let opened = (calls.last_gone c.self.inside.image c.self.inside.index.objects.items c.self.inside.index.numbers c.self.invariant c.args.self.now c.self.view_is
-    c.args.parent c.args.name.now c.args.object c.requires.there c.in-Some.number c.in-Some.is c.unwrap-target.result.now at c.group_table-table.result (table_slot c.deref.result.now c.self.inside.index.objects.items c.args.parent c.group_table-table.result c.deref.ensures.value c.group_table-table.ensures.table) c.take_link-2.new.image c.in_ok-take_link-2.ensures.taken few
+    c.args.parent c.args.name.now c.args.object c.requires.there c.in-Some.number c.in-Some.is c.unwrap-target.result.now at c.group_table-table.result (group_lent c.deref.result.now c.self.inside.index.objects.items c.args.parent c.group_table-table.result c.deref.ensures.value c.group_table-table.ensures.table) c.take_link-2.new.image c.in_ok-take_link-2.ensures.taken few
     c.give_all.new.image c.clear.new.index.objects.items c.clear.new.index.numbers (record {
       target = at;
       bytes = c.give_all.ensures.bytes;
