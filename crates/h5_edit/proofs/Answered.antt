@@ -1,10 +1,10 @@
 -- What an edit that is carried, and a repack, is answered by what was written of the tree.
-use Rattle.std.proofs.Common.{◌≡◌, ℕ, ◌+◌, ◌^◌, ◌≤◌, List, length, refl, sym, ap, ◌∙◌, subst, true, Option, None, arith}
+use Rattle.std.proofs.Common.{◌≡◌, ℕ, ◌+◌, ◌^◌, ◌≤◌, List, length, refl, sym, ap, ◌∙◌, subst, true, Option, Some, None, arith}
 use Rattle.std.specs.Prelude.{IfOk, IfErr, MatchResult, Result, Ok, Err}
 use Rattle.std.specs.Ordering.{nat_cmp}
 use Rattle.std.specs.FinMap.{FinMap}
-use Rattle.h5_edit.specs.Changed.Change.{IsPlainChange, changed}
-use Rattle.h5_edit.specs.declared.change.change.Change.{Change}
+use Rattle.h5_edit.specs.Changed.Edited.{edited}
+use Rattle.h5_edit.specs.declared.change.edit.ObjectEdit.{ObjectEdit}
 use Rattle.h5_edit.specs.Fits.Laws.{AreBytes}
 use Rattle.h5_edit.proofs.FitLaws.EditedTrees.{edited_plain}
 use Rattle.h5_edit.proofs.FitLaws.OpenedTrees.{opened_plain}
@@ -14,16 +14,16 @@ use Rattle.h5_repack.specs.Image.Written as image
 use Rattle.h5_repack.proofs.ImageLaws.ImageLength.{image_length}
 use Rattle.h5_model.specs.Format.PlainLength.{plain_length}
 use Rattle.h5_model.specs.Format.Superblock.{leaf_k, internal_k, AreK}
-use Rattle.h5_model.specs.Tree.Objects.{Tree}
+use Rattle.h5_model.specs.Tree.Objects.{Tree, with_object}
+use Rattle.h5_model.proofs.RefusalLaws.{IsState-accepted}
 use Rattle.h5_model.specs.declared.edits.Edit.{Edit}
-use Rattle.h5_model.specs.declared.object_no.ObjectNo.{ObjectNo}
 use Rattle.h5_query.specs.Renumbered.Headers.{table_with}
 use Rattle.h5_repack.specs.Bodies.Laws.{IsPlainReading}
 use Rattle.h5_laws.specs.Trees.Sound.{IsSoundTree}
 use Rattle.h5_laws.proofs.SoundLaws.Applied.{sound_applied}
 use Rattle.h5_laws.proofs.SoundLaws.Read.{reads_sound}
 use Rattle.h5_query.specs.Opened.Sound.{IsSound}
-use Rattle.h5_query.specs.Opened.State.{FileState}
+use Rattle.h5_query.specs.Opened.State.{FileState, state_of}
 use Rattle.h5_query.proofs.OpenedLaws.Indexed.{next_free}
 use Rattle.h5_repack.specs.Objects.Objects.{AreObjects, stored_in}
 use Rattle.h5_repack.specs.declared.objects.object.NewObject.{NewObject}
@@ -33,16 +33,14 @@ use Rattle.h5_repack.specs.declared.write.WriteFault.{WriteFault}
 use Rattle.h5_repack.specs.declared.write.WriteFault.TheVariants.{TooLong, TooDeep, NoMemory}
 use Rattle.h5_edit.specs.Answers.{answer_to, fault_of_write}
 use Rattle.h5_edit.specs.Carried.{IsLongAnew, IsRefused, IsShortAnew, tree_after}
-use Rattle.h5_edit.specs.Fitting.{IsFitting, made_in}
+use Rattle.h5_edit.specs.Fitting.{IsFitting}
 use Rattle.h5_edit.specs.Made.{IsEditMade}
 use Rattle.h5_edit.specs.Repacked.{IsRepackMade, IsRepackRefused}
-use Rattle.h5_edit.specs.StoredChunks.{AreStoredAfter, selecting_of}
-use Rattle.h5_edit.proofs.Changes.{few_after}
+use Rattle.h5_edit.specs.StoredChunks.{AreStoredAfter, Selecting, selecting_of}
 use Rattle.h5_repack.proofs.ImageLaws.PlainImages.{plain_reads, plain_ends}
-use Rattle.h5_edit.proofs.LowRead.{read_low}
+use Rattle.h5_edit.proofs.LowRead.{anew_low, read_low}
 use Rattle.h5_edit.proofs.Numbered.{standing_map}
-use Rattle.h5_edit.proofs.TooDeep.{too_deep}
-use Rattle.h5_edit.proofs.Refusals.{by_memory, by_length, by_depth}
+use Rattle.h5_edit.proofs.Refusals.{by_memory, by_length}
 use Rattle.h5_edit.proofs.StoredLaws.{length_with}
 
 -- ---- one tree, written
@@ -93,26 +91,26 @@ module _ {f : FileState} (sound : IsSound f) where
 
   -- ---- edits
 
-  module _ {edit : Edit} {change : Change} {object : Option ObjectNo} (fitting : IsFitting f edit change object) where
+  module _ {edit : Edit} {number : ℕ} {e : ObjectEdit} (fitting : IsFitting f edit number e) where
     abbrev after : Tree
-    after = changed f.tree change f.next
+    after = with_object f.tree number (edited e)
 
     sound_change : IsSoundTree after
     sound_change = subst IsSoundTree fitting.gives (sound_applied f.tree f.next f.next edit sound_there (next_free f sound) fitting.accepted)
 
     module _ (low : AreBytes f.image) where
       plain_after : ArePlain after
-      plain_after = subst ArePlain fitting.gives (edited_plain f edit low sound fitting.anew fitting.typed fitting.accepted fitting.roomy)
+      plain_after = subst ArePlain fitting.gives (edited_plain f edit low sound fitting.anew fitting.accepted fitting.roomy)
 
-      pub plain_change : IsPlainChange f.tree f.next change
-      plain_change = record { there = fitting.there; plain = opened_plain f low sound; changed_plain = plain_after }
-
-      module _ (new : List (Option NewObject)) (are : AreObjects new after) (chunks_after : AreStoredAfter f after (selecting_of f edit) (stored_in new)) where
+      module _ (new : List (Option NewObject)) (are : AreObjects new after) (chunks_none : AreStoredAfter f after None (stored_in new)) where
         pub tree_to_write : IsTreeToWrite new after
         tree_to_write = record { objects_are = are; sound = sound_change; plain = plain_after }
 
         abbrev length_after : ℕ
         length_after = plain_length leaf internal 32 (counts_of (stored_in new)) after
+
+        chunks_after : AreStoredAfter f after (selecting_of f edit) (stored_in new)
+        chunks_after = subst (λ (met : Selecting). AreStoredAfter f after met (stored_in new)) (sym fitting.unselected) chunks_none
 
         -- ---- not written
 
@@ -120,15 +118,13 @@ module _ {f : FileState} (sound : IsSound f) where
         refused TooLong long =
             by_length f edit fitting.anew fitting.accepted fitting.roomy
             (subst (λ (t : Tree). IsLongAnew f t (selecting_of f edit)) (sym fitting.gives) (length_after, length_with f after (selecting_of f edit) (stored_in new) chunks_after, long))
-        refused TooDeep deep =
-            let not_low : AreLow leaf internal (tree_after f edit) → ⊥ = λ lies. deep.3 (subst (AreLow leaf internal) fitting.gives lies deep.0 deep.1 deep.2) in
-            by_depth f edit fitting.anew fitting.accepted fitting.roomy (too_deep sound edit fitting.anew fitting.accepted not_low)
+        refused TooDeep deep = absurd (deep.3 (subst (AreLow leaf internal) fitting.gives (anew_low f sound edit fitting.anew) deep.0 deep.1 deep.2))
         refused NoMemory no_memory = by_memory f edit fitting.anew
 
         -- ---- written
 
-        made : (w : Written) → IsWritten leaf internal (stored_in new) after w → length w.headers.items ≡ length new → length new ≡ f.next + made_in change
-            → IsEditMade f edit (record { image = w.image; headers = w.headers; object = object })
+        made : (w : Written) → IsWritten leaf internal (stored_in new) after w → length w.headers.items ≡ length new → length new ≡ f.next
+            → IsEditMade f edit (record { image = w.image; headers = w.headers; object = Some (record { 0 = number }) })
         made w is numbered counted = record {
           accepted = record {
             accepted = fitting.accepted;
@@ -139,7 +135,6 @@ module _ {f : FileState} (sound : IsSound f) where
                 fitting.roomy,
                 subst (λ (t : Tree). IsShortAnew f t (selecting_of f edit)) (sym fitting.gives)
                     (length_after, length_with f after (selecting_of f edit) (stored_in new) chunks_after, short leaf internal (stored_in new) after k_there sound_change plain_after w is),
-                subst (AreLow leaf internal) (sym fitting.gives) is.low,
               ),
             );
           };
@@ -148,15 +143,15 @@ module _ {f : FileState} (sound : IsSound f) where
             reads = subst (λ (t : Tree). IsPlainReading w.image.items leaf internal (table_with w.headers.items) t) (sym fitting.gives)
                 (read_as leaf internal (stored_in new) after k_there sound_change plain_after w is);
             numbered = numbered ∙ counted ∙ fitting.counted;
-            few = few_after f sound edit change object fitting;
+            few = (IsState-accepted (state_of f) edit sound.numbers fitting.accepted).low;
           };
           object = fitting.named;
         }
 
-        pub answered : (l i : ℕ) → l ≡ leaf → i ≡ internal → length new ≡ f.next + made_in change → (r : Result Written WriteFault)
+        pub answered : (l i : ℕ) → l ≡ leaf → i ≡ internal → length new ≡ f.next → (r : Result Written WriteFault)
             → IfOk r (λ w. (t : Tree) → IsTreeToWrite new t → IsWritten l i (stored_in new) t w) → IfOk r (λ w. length w.headers.items ≡ length new)
             → IfErr r (λ fault. (t : Tree) → IsTreeToWrite new t → IsUnwritten l i (stored_in new) t fault)
-            → MatchResult (answer_to r object) (IsEditMade f edit) (IsRefused f edit)
+            → MatchResult (answer_to r (Some (record { 0 = number }))) (IsEditMade f edit) (IsRefused f edit)
         answered l i same same' counted (Ok w) written numbered not_written =
             made w (subst (λ n. IsWritten n internal (stored_in new) after w) same (subst (λ n. IsWritten l n (stored_in new) after w) same' (written after tree_to_write)))
             numbered counted

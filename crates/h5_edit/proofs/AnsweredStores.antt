@@ -33,20 +33,20 @@ use Rattle.h5_repack.specs.declared.write.WriteFault.TheVariants.{TooLong, TooDe
 use Rattle.h5_repack.proofs.WrittenStored.{written_stored}
 use Rattle.h5_edit.specs.Answers.{answer_to, fault_of_write}
 use Rattle.h5_edit.specs.Carried.{IsMadeAnew, IsRefused, tree_after}
-use Rattle.h5_edit.specs.Changed.Change.{IsPlainChange, changed}
-use Rattle.h5_edit.specs.Changed.Missing.{IsMetIn, IsMissing}
+use Rattle.h5_edit.specs.Changed.Edited.{IsEditable}
+use Rattle.h5_edit.specs.Changed.Missing.{IsMetAt, IsMissing}
 use Rattle.h5_edit.specs.Changed.Sizes.{CanStore, IsLacking, stored_all}
 use Rattle.h5_edit.specs.Fits.Laws.{AreBytes}
 use Rattle.h5_edit.specs.Stored.{IsStorageMade, IsStoring, tree_stored}
 use Rattle.h5_edit.specs.StoredChunks.{AreStoredAfter, HasLengthAnew, Selecting, selecting_of}
-use Rattle.h5_edit.specs.declared.change.change.Change.TheVariants.{Store as Stores}
+use Rattle.h5_edit.specs.declared.change.edit.ObjectEdit.TheVariants as edits
 use Rattle.h5_edit.specs.declared.change.missing.Missing.{Missing}
 use Rattle.h5_edit.proofs.Answered.{k_there, read_as, short}
 use Rattle.h5_edit.proofs.ArraysThere.{object_there, one_there}
 use Rattle.h5_edit.proofs.FitLaws.ChangedTrees.{each_changed}
 use Rattle.h5_edit.proofs.FitLaws.OpenedTrees.{opened_plain}
 use Rattle.h5_edit.proofs.FitLaws.WrittenArrays.{plain_storage}
-use Rattle.h5_edit.proofs.LowRead.{array_links, kept_low, read_low, written_low}
+use Rattle.h5_edit.proofs.LowRead.{array_links, kept_low, read_low}
 use Rattle.h5_edit.proofs.Refusals.{by_length, by_memory}
 use Rattle.h5_edit.proofs.SameLengths as lengths
 use Rattle.h5_edit.proofs.MetStored.{met_stored}
@@ -86,21 +86,18 @@ module _ {f : FileState} (sound : IsSound f) {path : List ℕ} {hyper : Hyper} {
   abbrev there : (o : Object) × (get f.tree number ≡ Some o) × (dataset_in o.content ≡ Some d)
   there = object_there f number d array
 
-  -- the change
+  -- the edit of it
   pub met_is : selecting_of f edit ≡ Some (number, slab)
   met_is = ap (option_map (λ (n : ℕ). (n, slab))) st.object
 
-  pub stores : IsMetIn f (Stores number m) (Some (number, slab))
-  stores = (refl, λ a at. subst (λ (x : Described). IsMissing f.image x slab m.now) (one_there f number st.array a st.there at) st.missing)
+  pub stores : IsMetAt f number (Some (edits.Store m)) (Some slab)
+  stores a at = subst (λ (x : Described). IsMissing f.image x slab m.now) (one_there f number st.array a st.there at) st.missing
 
   is_anew : IsMadeAnew f edit true
   is_anew = (number, st.array, st.object, st.there, st.lacking)
 
   pub no_memory : IsRefused f edit fault.NoMemory
   no_memory = by_memory f edit is_anew
-
-  pub few_stored : f.next + 0 ≤ 4294967295
-  few_stored = let low = sound.numbers.low in omega (arith, low)
 
   sound_after : IsSoundTree after
   sound_after =
@@ -114,30 +111,18 @@ module _ {f : FileState} (sound : IsSound f) {path : List ℕ} {hyper : Hyper} {
       (kept_low leaf internal f.tree path (with_dataset stored_all) (λ o. array_links leaf internal stored_all o o.content)
       (read_low f.image f.table f.tree (sound.placed, sound.reads)))
 
-  -- so are those of the tree with the values
-  low_written : AreLow leaf internal (tree_after f edit)
-  low_written =
-      written_low leaf internal f.tree path hyper values f.next (read_low f.image f.table f.tree (sound.placed, sound.reads))
+  -- it can be made
+  pub can_store : (o : Object) → get f.tree number ≡ Some o → IsEditable o (edits.Store m)
+  can_store o at = by_content o.content (sym (ap (option_and_then (λ (x : Object). dataset_in x.content)) at) ∙ array) where
+    by_content : (c : Content) → dataset_in c ≡ Some d → CanStore c
+    by_content (Group links) is = absurd (let never : None ≡ Some d = is in cc)
+    by_content (Array e) is = subst (λ (x : Dataset). IsLacking x.storage) (sym (same_Some e d is)) lacking
 
   module _ (low : AreBytes f.image) where
-    can_store : (o : Object) → get f.tree number ≡ Some o → CanStore o.content
-    can_store o at = by_content o.content (sym (ap (option_and_then (λ (x : Object). dataset_in x.content)) at) ∙ array) where
-      by_content : (c : Content) → dataset_in c ≡ Some d → CanStore c
-      by_content (Group links) is = absurd (let never : None ≡ Some d = is in cc)
-      by_content (Array e) is = subst (λ (x : Dataset). IsLacking x.storage) (sym (same_Some e d is)) lacking
-
     plain_after : ArePlain after
     plain_after =
         let each = opened_plain f low sound in
         each_changed (λ n. IsPlain) f.tree number (with_dataset stored_all) each (λ o at. plain_storage o (each number o at) (can_store o at))
-
-    pub plain_change : IsPlainChange f.tree f.next (Stores number m)
-    unfolding changed
-    plain_change = record { there = (d, array, lacking); plain = opened_plain f low sound; changed_plain = plain_after }
-
-    pub change_gives : changed f.tree (Stores number m) f.next ≡ after
-    unfolding changed
-    change_gives = refl
 
     module _ (new : List (Option NewObject)) (are : AreObjects new after) (chunks_after : AreStoredAfter f after (Some (number, slab)) (stored_in new)) where
       pub stored_to_write : IsTreeToWrite new after
@@ -178,7 +163,7 @@ module _ {f : FileState} (sound : IsSound f) {path : List ℕ} {hyper : Hyper} {
               given = λ _. (
                 true,
                 is_anew,
-                (refl, (length_after, has_length, short leaf internal (stored_in new) after (k_there sound) sound_after plain_after w is), low_written),
+                (refl, (length_after, has_length, short leaf internal (stored_in new) after (k_there sound) sound_after plain_after w is)),
               );
             };
             anew = record { reads = read; numbered = numbered ∙ counted; few = sound.numbers.low };

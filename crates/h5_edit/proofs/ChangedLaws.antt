@@ -1,5 +1,4 @@
 pub mod PushedLaws
-pub mod MergedLaws
 pub mod RestLaws
 pub mod OthersLaws
 pub mod CellLaws
@@ -7,7 +6,6 @@ pub mod ResizedLaws
 pub mod StoredArrays
 pub mod LinkLaws
 pub mod NumberedLaws
-pub mod ObjectLaws
 pub mod ChangeLaws
 pub mod StoredSlots
 pub mod MetLaws

@@ -1,4 +1,4 @@
--- Edits that no rule refuses, as changes of the tree of an opened image.
+-- Edits that no rule refuses, as what they make of the tree of an opened image.
 use Rattle.std.proofs.Common.{◌≡◌, inl, ℕ, ◌+◌, List, length, refl, sym, ap, ◌∙◌, subst, Bool, true, false, Option, Some, None, nat_lt, arith}
 use Rattle.std.proofs.lemmas.List.{length-map}
 use Rattle.std.proofs.lemmas.Option.{same_Some}
@@ -6,15 +6,14 @@ use Rattle.std.specs.Prelude.{◌&&◌, IsSome, MatchOption}
 use Rattle.std.specs.Borrow.{Bor}
 use Rattle.std.specs.FinMap.{get, insert, empty}
 use Rattle.std.specs.Option.{option_and_then, option_map_or}
-use Rattle.h5_edit.specs.Changed.Change.{changed}
-use Rattle.h5_edit.specs.declared.change.change.Change.TheVariants.{Link as Linked, Resize as Sized}
-use Rattle.h5_edit.specs.declared.change.change.Target.TheVariants as target
+use Rattle.h5_edit.specs.Changed.Sizes.{CanHave, IsResizable}
+use Rattle.h5_edit.specs.declared.change.edit.ObjectEdit.TheVariants as edits
 use Rattle.h5_header.specs.Listed.{message_in, messages_in}
 use Rattle.h5_model.specs.Edits.Applied.{applied, linked, new_object, new_dataset, with_links, with_dataset, resized}
 use Rattle.h5_model.specs.Format.Messages.{prefix_at, total_in}
 use Rattle.h5_model.specs.Tree.Paths.{object_at}
 use Rattle.h5_model.specs.Edits.Refusal.{new_path}
-use Rattle.h5_model.specs.Tree.Objects.{Tree, Object, Links, Link, Group, Array, ToObject, dataset_of, links_of, with_object}
+use Rattle.h5_model.specs.Tree.Objects.{Tree, Object, Content, Dataset, Links, Link, Group, Array, dataset_in, dataset_of, links_of, with_object}
 use Rattle.h5_edit.proofs.FitLaws.ResizedArrays.{accepted_sizes}
 use Rattle.h5_model.specs.declared.dataset.Spec.{Spec}
 use Rattle.h5_model.specs.declared.edits.Edit.{Edit}
@@ -34,7 +33,6 @@ use Rattle.h5_query.specs.OpenedObjectType.{OpenedObject}
 use Rattle.h5_query.proofs.OpenedLaws.Indexed.{header_there}
 use Rattle.h5_edit.specs.Carried.{total_at, is_total_full, IsTotalFull}
 use Rattle.h5_edit.specs.ExtentMaxima.{LacksMaxima, lacks_maxima}
-use Rattle.h5_edit.specs.Fits.Laws.{IsTyped}
 use Rattle.h5_edit.specs.Fitting.{IsFitting}
 
 module _ (f : FileState) where
@@ -58,37 +56,6 @@ module _ (f : FileState) where
         let parent : f.parent ≡ place.parent = ap (λ (p : ℕ × List ℕ). p.0) same in
         let name : f.name ≡ place.name.now = ap (λ (p : ℕ × List ℕ). p.1) same in
         (f.group.links, ap (links_of tree) (sym parent) ∙ links_are tree f.parent f.group, ap (get f.group.links) (sym name) ∙ f.free)
-
-  pub create_group_fits : {path : List ℕ} {place : NewPlace} {object : ObjectNo} → IsPlaceAllowed tree next path (CreateGroup path) place → object.0 ≡ next
-      → IsFitting f (CreateGroup path) (Linked place.parent place.name target.Group) (Some object)
-  unfolding applied changed
-  create_group_fits placed numbered = record {
-    typed = tt;
-    anew = refl;
-    met = refl;
-    accepted = placed.allowed;
-    roomy = refl;
-    gives = ap (λ t. insert t next (new_object (Group empty))) (linked_at placed (ToObject next));
-    there = link_free placed (inl refl);
-    counted = refl;
-    named = ap (λ n. Some n) numbered;
-  }
-
-  pub create_dataset_fits : {path : List ℕ} {place : NewPlace} {object : ObjectNo} (spec : Bor Spec) → IsTyped (CreateDataset path spec.now)
-      → IsPlaceAllowed tree next path (CreateDataset path spec.now) place → object.0 ≡ next
-      → IsFitting f (CreateDataset path spec.now) (Linked place.parent place.name (target.Array spec)) (Some object)
-  unfolding applied changed
-  create_dataset_fits spec typed placed numbered = record {
-    typed = typed;
-    anew = refl;
-    met = refl;
-    accepted = placed.allowed;
-    roomy = refl;
-    gives = ap (λ t. insert t next (new_object (Array (new_dataset spec.now)))) (linked_at placed (ToObject next));
-    there = link_free placed (inl refl);
-    counted = refl;
-    named = ap (λ n. Some n) numbered;
-  }
 
   -- ---- objects at a path
 
@@ -134,20 +101,25 @@ module _ (f : FileState) where
 
   -- ---- sizes
 
+  sized_content : (c : Content) (d : Dataset) (sizes : List ℕ) → dataset_in c ≡ Some d → IsResizable sizes d → CanHave sizes c
+  sized_content (Group links) d sizes is can = absurd (let never : None ≡ Some d = is in cc)
+  sized_content (Array e) d sizes is can = subst (IsResizable sizes) (sym (same_Some e d is)) can
+
   pub resize_fits : {path : List ℕ} {number : ℕ} (dims : Bor (List ℕ)) (o : OpenedObject) → IsResizeAt tree next path dims.now number → IsObjectOf f number o
       → (lacks_maxima (messages_in f.image o.messages.list) && nat_lt 65535 (length o.messages.list + 2)) ≡ false
-      → IsFitting f (Resize path dims.now) (Sized number dims) (Some (record { 0 = number }))
-  unfolding applied changed
+      → IsFitting f (Resize path dims.now) number (edits.Resize dims)
+  unfolding applied
   resize_fits {path = path} {number = number} dims o at of roomy =
-      let there : dataset_of tree number ≡ Some at.1 = sym (ap (option_and_then (dataset_of tree)) at.0.object) ∙ at.2 in
+      let array : dataset_of tree number ≡ Some at.1 = sym (ap (option_and_then (dataset_of tree)) at.0.object) ∙ at.2 in
+      let can = (accepted_sizes tree next path dims.now at.1 at.0.allowed at.2).resizable in
       record {
-        typed = tt;
         anew = refl;
-        met = refl;
         accepted = at.0.allowed;
         roomy = sizes_total path number o at.0.object of false roomy dims.now;
         gives = ap (λ o. option_map_or (λ n. with_object tree n (with_dataset (resized dims.now))) o tree) at.0.object;
-        there = (at.1, there, (accepted_sizes tree next path dims.now at.1 at.0.allowed at.2).resizable);
-        counted = omega arith;
+        there = λ x stands. sized_content x.content at.1 dims.now (sym (ap (option_and_then (λ (y : Object). dataset_in y.content)) stands) ∙ array) can;
+        met = λ a there. refl;
+        unselected = refl;
+        counted = refl;
         named = sym at.0.object;
       }

@@ -12,7 +12,7 @@ use Rattle.h5_model.specs.Format.Nodes.{group_kind, node_at, node_bytes, node_of
 use Rattle.h5_model.specs.Format.PlainLength.{rows_of}
 use Rattle.h5_model.proofs.RowLaws.{at_listed}
 use Rattle.h5_btree.specs.Writing.Written.{level_over, root_level}
-use Rattle.h5_btree.proofs.WriteLaws.Counts.{rows_bounds, is_over, level_one, level_more, root_level_is}
+use Rattle.h5_btree.proofs.WriteLaws.Counts.{rows_bounds, level_one, level_more, root_level_is}
 
 -- lists of at most so many
 pub flat_few : {X Y : Type 0} (f : X → List Y) (most : ℕ) → ((x : X) → length (f x) ≤ most) → (xs : List X) → length (flat_map f xs) ≤ length xs * most
@@ -54,28 +54,6 @@ level_few m (suc level) levels n some deep few = elim (cases_lt m n) [
       let rest = level_few m level (levels - 1) (rows_of m n) some (omega arith) (rows_fit m n (most_under m level) some few) in
       omega (arith, over, rest)
 ]
-
--- over fewer children no tree is higher
-level_over-mono : (levels m n fewer : ℕ) → 1 ≤ m → fewer ≤ n → level_over levels m fewer ≤ level_over levels m n
-level_over-mono zero m n fewer some low = omega arith
-level_over-mono (suc levels) m n fewer some low = elim (cases_lt m fewer) [
-  | inr one ↦ omega (arith, level_one (suc levels) m fewer one)
-  | inl more ↦
-      let own = ap (λ (b : Bool). if b then 0 else 1 + level_over levels m (rows_of m fewer)) (is_over fewer m more) in
-      let all = ap (λ (b : Bool). if b then 0 else 1 + level_over levels m (rows_of m n)) (is_over n m (omega (arith, more, low))) in
-      let room = (rows_bounds m n some).0 in
-      let below = level_over-mono levels m (rows_of m n) (rows_of m fewer) some (rows_fit m fewer (rows_of m n) some (omega (arith, low, room))) in
-      omega (arith, own, all, below)
-]
-
-pub root_level-mono : (leaf k n fewer : ℕ) → 1 ≤ leaf → 1 ≤ k → fewer ≤ n → root_level k (rows_of (2 * leaf) fewer) ≤ root_level k (rows_of (2 * leaf) n)
-root_level-mono leaf k n fewer some some_k low =
-    let room = (rows_bounds (2 * leaf) n (omega arith)).0 in
-    let rows = rows_fit (2 * leaf) fewer (rows_of (2 * leaf) n) (omega arith) (omega (arith, low, room)) in
-    let own = root_level_is k (rows_of (2 * leaf) fewer) in
-    let all = root_level_is k (rows_of (2 * leaf) n) in
-    let mono = level_over-mono 64 (2 * k) (rows_of (2 * leaf) n) (rows_of (2 * leaf) fewer) (omega arith) rows in
-    omega (arith, own, all, mono)
 
 -- ---- one tree
 

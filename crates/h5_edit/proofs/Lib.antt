@@ -1,6 +1,4 @@
 pub mod Numbered
-pub mod Changes
-pub mod Low
 pub mod Levels
 pub mod LowRead
 pub mod Refusals
@@ -32,4 +30,9 @@ pub mod AnsweredStores
 pub mod OpenedAnew
 pub mod AttributeFacts
 pub mod LinkFacts
-pub mod TooDeep
+pub mod NewObjects
+pub mod ObjectsMade
+pub mod GroupsMade
+pub mod ArraysMade
+pub mod GroupToMake
+pub mod ArrayToMake

@@ -1,27 +1,27 @@
--- Links made in place: what decides whether they are refused, and what they make of an opened image (File Format Specification 3.0, sections
--- III.A.1 and III.C).
-use Rattle.std.proofs.Common.{◌≡◌, ℕ, Bool, ◌+◌, ◌<◌, ◌^◌, ◌&&◌, List, [], ◌∷◌, ◌++◌, length, refl, sym, ap, ap₂, ◌∙◌, subst, true, false, Option, Some, None, nat_lt, inl, inr, arith}
+-- Links made in place, and objects that are made with one: what decides whether they are refused, and what they make of an opened image
+-- (File Format Specification 3.0, sections III.A.1 and III.C).
+use Rattle.std.proofs.Common.{◌≡◌, ℕ, Bool, ◌+◌, ◌*◌, ◌<◌, ◌^◌, ◌&&◌, List, [], ◌∷◌, ◌++◌, length, refl, sym, ap, ap₂, ◌∙◌, subst, true, false, Option, Some, None, nat_lt, inl, inr, arith}
 use Rattle.std.proofs.lemmas.Bool.Decides.{nat_tests}
-use Rattle.std.specs.Prelude.{◌↔◌, IsSome, IsTrue, is_some, Result, Ok, Err}
+use Rattle.std.specs.Prelude.{◌↔◌, IsSome, IsTrue, MatchResult, OnErr, OnOk, is_some, Result, Ok, Err}
 use Rattle.std.specs.Option.{option_and_then, option_map, option_map_or}
-use Rattle.std.specs.FinMap.{get}
+use Rattle.std.specs.FinMap.{get, insert, empty}
 use Rattle.h5_btree.specs.declared.insertion.InsertFault.{InsertFault}
 use Rattle.h5_btree.specs.declared.insertion.InsertFault.TheVariants as insertion
-use Rattle.h5_model.specs.Edits.Applied.{applied, linked, state_after, named_object}
-use Rattle.h5_model.specs.Edits.Bounds.{Room, bound_of, link_bound, name_span}
+use Rattle.h5_model.specs.Edits.Applied.{applied, linked, new_dataset, new_object, state_after, named_object}
+use Rattle.h5_model.specs.Edits.Bounds.{Room, bound_of, contiguous_data, link_bound, name_span, new_header}
 use Rattle.h5_model.specs.Edits.ImageAnswers.{Facts, is_header_full, is_image_full, must_add, new_entries}
 use Rattle.h5_model.specs.Edits.Refusal.{new_path, refusal_of, rules_of}
 use Rattle.h5_model.proofs.RefusalLaws.{none_holds}
 use Rattle.h5_model.specs.Edits.Touched.{touched_by}
-use Rattle.h5_model.specs.Format.PlainLength.{link_span}
 use Rattle.h5_model.specs.Format.Addresses.{SymbolTable}
 use Rattle.h5_model.specs.Format.Heap.{segment_block}
-use Rattle.h5_model.specs.Format.Sizes.{text_span}
+use Rattle.h5_model.specs.Format.Sizes.{group_node, symbol_node, text_span}
 use Rattle.h5_model.specs.Format.Superblock.{leaf_k, internal_k, chunk_k}
 use Rattle.h5_model.specs.Tree.Objects.{Tree, Object, Content, Group, Array, Link, Links, ToObject, Soft, dataset_in, dataset_of, link_in, links_in, links_of}
 use Rattle.h5_model.specs.Tree.Paths.{last_of, names_of, parent_at, parent_from}
+use Rattle.h5_model.specs.declared.dataset.Spec.{Spec}
 use Rattle.h5_model.specs.declared.edits.Edit.{Edit}
-use Rattle.h5_model.specs.declared.edits.Edit.TheVariants.{HardLink, SoftLink}
+use Rattle.h5_model.specs.declared.edits.Edit.TheVariants.{CreateGroup, CreateDataset, HardLink, SoftLink}
 use Rattle.h5_model.specs.declared.edits.Edited.{Edited}
 use Rattle.h5_model.specs.declared.edit_fault.EditFault.{EditFault}
 use Rattle.h5_model.specs.declared.edit_fault.EditFault.TheVariants as fault
@@ -34,15 +34,16 @@ use Rattle.h5_laws.proofs.SoundLaws.Applied.{object_stands, sound_applied}
 use Rattle.h5_laws.proofs.SoundLaws.LinksThere.{GroupAt, group_of}
 use Rattle.h5_laws.proofs.SoundLaws.Read.{placed_at, reads_sound}
 use Rattle.h5_query.specs.ChangedInPlace.{IsChangedInPlace}
-use Rattle.h5_query.specs.LinkAdded.{IsGroupOf, ends_of, with_link}
+use Rattle.h5_query.specs.LinkAdded.{IsGroupOf, with_link}
 use Rattle.h5_query.specs.LinkEdits.{IsFullFor, link_room}
+use Rattle.h5_query.specs.ObjectAdded.{tree_with}
 use Rattle.h5_query.specs.Opened.Sound.{IsSound}
 use Rattle.h5_query.specs.Opened.State.{FileState, state_of}
 use Rattle.h5_query.proofs.OpenedLaws.Indexed.{next_free}
 use Rattle.h5_query.proofs.PathLaws.{last-parent}
-use Rattle.h5_edit.specs.Answers.{insert_fault}
+use Rattle.h5_edit.specs.Answers.{added_answer, insert_fault}
 use Rattle.h5_edit.specs.Carried.{AreGroupFacts, IsGivenByGroup, IsGivenInPlace, IsMadeAnew, IsRefused, tree_after}
-use Rattle.h5_edit.specs.Edited.{IsEdited, IsGrowth}
+use Rattle.h5_edit.specs.Edited.{IsEdited, IsGrowth, made_numbers}
 use Rattle.h5_edit.specs.Refusals.Allowed.{IsLinkPlaced, IsPlaceAllowed}
 use Rattle.h5_edit.specs.declared.rules.place.NewPlace.{NewPlace}
 use Rattle.h5_edit.proofs.Fitting.{link_free, linked_at}
@@ -78,57 +79,109 @@ span_is tree path parent name at = go (names_of path) at where
   go None none = absurd (let never : None ≡ Some (parent, name) = none in cc)
   go (Some names) from = ap text_span (last-parent tree (ToObject 0) names parent name from)
 
--- ---- an edit that puts a link into a group, and makes no object
+-- ---- an edit that puts a link into a group: what it takes at most, which tree and number it leaves, and which objects it touches
 
-pub record IsLinkEdit (f : FileState) (path : List ℕ) (parent : ℕ) (name : List ℕ) (link : Link) (edit : Edit) : Type 0 where
+pub record IsLinkEdit (f : FileState) (path : List ℕ) (parent : ℕ) (name : List ℕ) (edit : Edit) (table : SymbolTable) (room : ℕ) (after : Tree) (next : ℕ) (touched : List ℕ) : Type 0 where
   pub at : parent_at f.tree path ≡ Some (parent, name)
-  pub bound : (r : Room) → bound_of r f.tree edit ≡ link_bound r (link_span (name, link))
+  pub bound : (r : Room) → r.leaf_k ≡ leaf_k f.image → r.internal_k ≡ internal_k f.image → r.heap ≡ (segment_block f.image table.heap).len → bound_of r f.tree edit ≡ room
   pub light : (r : Room) → must_add r edit ≡ false
   pub one : (r : Room) → new_entries r f.tree edit ≡ 1
   pub way : IsMadeAnew f edit false
   pub given : (given : Option EditFault) → IsGivenByGroup f path edit given → IsGivenInPlace f edit given
   pub growth : (facts : Facts) → AreGroupFacts f path facts → IsGrowth f edit (bound_of facts.room f.tree edit)
-  pub tree : with_link f.tree parent name link ≡ tree_after f edit
-  pub next : f.next ≡ (state_after (state_of f) edit).next
-  pub touched : touched_by f.tree edit ≡ ends_of parent link
+  pub tree : after ≡ tree_after f edit
+  pub counted : next ≡ (state_after (state_of f) edit).next
+  pub touches : made_numbers f edit ++ touched_by f.tree edit ≡ touched
+
+-- what a link may add, by the K values and the segment
+linked_room : (r : Room) (image : List ℕ) (table : SymbolTable) (occupied : ℕ) → r.leaf_k ≡ leaf_k image → r.internal_k ≡ internal_k image
+    → r.heap ≡ (segment_block image table.heap).len → link_bound r occupied ≡ link_room image table occupied
+linked_room r image table occupied leaf internal heap = λ i. 17 * group_node (internal i) + symbol_node (leaf i) + 2 * heap i + occupied + 16
 
 module _ (f : FileState) where
-  pub hard_edit : {target path : List ℕ} {number : ℕ} {place : NewPlace} → IsLinkPlaced f.tree f.next target path (HardLink target path) (number, place)
-      → IsLinkEdit f path place.parent place.name.now (ToObject number) (HardLink target path)
+  pub hard_edit : {target path : List ℕ} {number : ℕ} {place : NewPlace} → IsLinkPlaced f.tree f.next target path (HardLink target path) (number, place) → (table : SymbolTable)
+      → IsLinkEdit f path place.parent place.name.now (HardLink target path) table (link_room f.image table (text_span place.name.now))
+      (with_link f.tree place.parent place.name.now (ToObject number)) f.next (place.parent ∷ number ∷ [])
   unfolding applied bound_of touched_by
-  hard_edit {target} {path} {number} {place} (leads, placed) = record {
+  hard_edit {target} {path} {number} {place} (leads, placed) table = record {
     at = placed.parent;
-    bound = λ r. ap (link_bound r) (span_is f.tree path place.parent place.name.now placed.parent);
+    bound = λ r leaf internal heap. ap (link_bound r) (span_is f.tree path place.parent place.name.now placed.parent)
+        ∙ linked_room r f.image table (text_span place.name.now) leaf internal heap;
     light = λ r. refl;
     one = λ r. refl;
     way = refl;
     given = λ given so. so;
     growth = λ facts are. (facts, are, refl);
     tree = sym (ap (λ (o : Option ℕ). option_map_or (λ n. linked f.tree path (ToObject n)) o f.tree) leads ∙ linked_at f placed (ToObject number));
-    next = refl;
-    touched = ap₂ (λ (p : Option (ℕ × List ℕ)) (o : Option ℕ). option_map_or (λ q. q.0 ∷ []) p [] ++ option_map_or (λ n. n ∷ []) o []) placed.parent leads;
+    counted = refl;
+    touches = ap₂ (λ (p : Option (ℕ × List ℕ)) (o : Option ℕ). option_map_or (λ q. q.0 ∷ []) p [] ++ option_map_or (λ n. n ∷ []) o []) placed.parent leads;
   }
 
-  pub soft_edit : {text path : List ℕ} {place : NewPlace} → IsPlaceAllowed f.tree f.next path (SoftLink text path) place
-      → IsLinkEdit f path place.parent place.name.now (Soft text) (SoftLink text path)
+  pub soft_edit : {text path : List ℕ} {place : NewPlace} → IsPlaceAllowed f.tree f.next path (SoftLink text path) place → (table : SymbolTable)
+      → IsLinkEdit f path place.parent place.name.now (SoftLink text path) table (link_room f.image table (text_span place.name.now + text_span text))
+      (with_link f.tree place.parent place.name.now (Soft text)) f.next (place.parent ∷ [])
   unfolding applied bound_of touched_by
-  soft_edit {text} {path} {place} placed = record {
+  soft_edit {text} {path} {place} placed table = record {
     at = placed.parent;
-    bound = λ r. ap (λ (n : ℕ). link_bound r (n + text_span text)) (span_is f.tree path place.parent place.name.now placed.parent);
+    bound = λ r leaf internal heap. ap (λ (n : ℕ). link_bound r (n + text_span text)) (span_is f.tree path place.parent place.name.now placed.parent)
+        ∙ linked_room r f.image table (text_span place.name.now + text_span text) leaf internal heap;
     light = λ r. refl;
     one = λ r. refl;
     way = refl;
     given = λ given so. so;
     growth = λ facts are. (facts, are, refl);
     tree = sym (linked_at f placed (Soft text));
-    next = refl;
-    touched = ap (λ (p : Option (ℕ × List ℕ)). option_map_or (λ q. q.0 ∷ []) p []) placed.parent;
+    counted = refl;
+    touches = ap (λ (p : Option (ℕ × List ℕ)). option_map_or (λ q. q.0 ∷ []) p []) placed.parent;
   }
+
+  -- what a new object of so many bytes has, with what its link may take
+  module _ {path : List ℕ} {place : NewPlace} (table : SymbolTable) (bytes : ℕ) where
+    pub group_edit : IsPlaceAllowed f.tree f.next path (CreateGroup path) place → bytes ≡ group_node (internal_k f.image) + 160
+        → IsLinkEdit f path place.parent place.name.now (CreateGroup path) table (link_room f.image table (text_span place.name.now) + bytes)
+        (tree_with f.tree place.parent place.name.now f.next (new_object (Group empty))) (f.next + 1) (f.next ∷ place.parent ∷ [])
+    unfolding applied bound_of touched_by
+    group_edit placed long = record {
+      at = placed.parent;
+      bound = λ r leaf internal heap.
+          let named = span_is f.tree path place.parent place.name.now placed.parent in
+          let linked = linked_room r f.image table (text_span place.name.now) leaf internal heap in
+          let node = ap group_node internal in
+          omega (arith, named, linked, node, long);
+      light = λ r. refl;
+      one = λ r. refl;
+      way = refl;
+      given = λ given so. so;
+      growth = λ facts are. (facts, are, refl);
+      tree = ap (λ (t : Tree). insert t f.next (new_object (Group empty))) (sym (linked_at f placed (ToObject f.next)));
+      counted = refl;
+      touches = ap (λ (p : Option (ℕ × List ℕ)). f.next ∷ option_map_or (λ q. q.0 ∷ []) p []) placed.parent;
+    }
+
+    pub array_edit : {spec : Spec} → IsPlaceAllowed f.tree f.next path (CreateDataset path spec) place → bytes ≡ new_header spec + contiguous_data spec
+        → IsLinkEdit f path place.parent place.name.now (CreateDataset path spec) table (link_room f.image table (text_span place.name.now) + bytes)
+        (tree_with f.tree place.parent place.name.now f.next (new_object (Array (new_dataset spec)))) (f.next + 1) (f.next ∷ place.parent ∷ [])
+    unfolding applied bound_of touched_by
+    array_edit {spec} placed long = record {
+      at = placed.parent;
+      bound = λ r leaf internal heap.
+          let named = span_is f.tree path place.parent place.name.now placed.parent in
+          let linked = linked_room r f.image table (text_span place.name.now) leaf internal heap in
+          omega (arith, named, linked, long);
+      light = λ r. refl;
+      one = λ r. refl;
+      way = refl;
+      given = λ given so. so;
+      growth = λ facts are. (facts, are, refl);
+      tree = ap (λ (t : Tree). insert t f.next (new_object (Array (new_dataset spec)))) (sym (linked_at f placed (ToObject f.next)));
+      counted = refl;
+      touches = ap (λ (p : Option (ℕ × List ℕ)). f.next ∷ option_map_or (λ q. q.0 ∷ []) p []) placed.parent;
+    }
 
 -- ---- what decides
 
-module _ (f : FileState) (path : List ℕ) (parent : ℕ) (name : List ℕ) (link : Link) (edit : Edit) (is : IsLinkEdit f path parent name link edit) (table : SymbolTable)
-    (group : IsGroupOf f parent table) where
+module _ (f : FileState) (path : List ℕ) (parent : ℕ) (name : List ℕ) (edit : Edit) (table : SymbolTable) (room : ℕ) (after : Tree) (next : ℕ) (touched : List ℕ)
+    (is : IsLinkEdit f path parent name edit table room after next touched) (group : IsGroupOf f parent table) where
   -- what the image says, where the tree of the group has room or not
   abbrev facts_of : Bool → Facts
   facts_of full = record {
@@ -160,11 +213,8 @@ module _ (f : FileState) (path : List ℕ) (parent : ℕ) (name : List ℕ) (lin
     top = top;
   }
 
-  abbrev room : ℕ
-  room = link_room f.image table (link_span (name, link))
-
   bound_is : (full : Bool) → bound_of (facts_of full).room f.tree edit ≡ room
-  bound_is full = is.bound (facts_of full).room
+  bound_is full = is.bound (facts_of full).room refl refl refl
 
   no_header : (full : Bool) → is_header_full (facts_of full) edit ≡ false
   no_header full = ap (λ (b : Bool). b && nat_lt 65535 2) (is.light (facts_of full).room)
@@ -228,10 +278,10 @@ module _ (f : FileState) (path : List ℕ) (parent : ℕ) (name : List ℕ) (lin
     -- ---- what is made
 
     module _ (u : Unit {0}) (ok : r ≡ Ok u) (now : FileState) (e : Edited) (named : option_map (λ (o : ObjectNo). o.0) e.object ≡ named_object f.tree edit f.next) (refreshed : e.refreshed ≡ 0) where
-      pub link_made : IsChangedInPlace f now (with_link f.tree parent name link) f.next (ends_of parent link) room → IsEdited f edit now e
+      pub link_made : IsChangedInPlace f now after next touched room → IsEdited f edit now e
       link_made changed = record {
         accepted = record { accepted = accepted; given = λ _. (false, is.way, link_given u ok) };
-        state = (λ i. record { tree = changed.state.0 i; next = changed.state.1 i }) ∙ (λ i. record { tree = is.tree i; next = is.next i });
+        state = (λ i. record { tree = changed.state.0 i; next = changed.state.1 i }) ∙ (λ i. record { tree = is.tree i; next = is.counted i });
         sound = changed.sound;
         whole = changed.whole;
         leaf = changed.leaf;
@@ -243,12 +293,27 @@ module _ (f : FileState) (path : List ℕ) (parent : ℕ) (name : List ℕ) (lin
         made = (
           bound_of (facts_of false).room f.tree edit,
           is.growth (facts_of false) (has_room (fits_ok u ok)),
-          subst (λ (n : ℕ). IsChangedInPlace f now (tree_after f edit) (state_after (state_of f) edit).next (touched_by f.tree edit) n) (sym (bound_is false))
-              (subst (λ (ns : List ℕ). IsChangedInPlace f now (tree_after f edit) (state_after (state_of f) edit).next ns room) (sym is.touched)
-              (subst (λ (n : ℕ). IsChangedInPlace f now (tree_after f edit) n (ends_of parent link) room) is.next
-              (subst (λ (t : Tree). IsChangedInPlace f now t f.next (ends_of parent link) room) is.tree changed))),
+          subst (λ (n : ℕ). IsChangedInPlace f now (tree_after f edit) (state_after (state_of f) edit).next (made_numbers f edit ++ touched_by f.tree edit) n) (sym (bound_is false))
+              (subst (λ (ns : List ℕ). IsChangedInPlace f now (tree_after f edit) (state_after (state_of f) edit).next ns room) (sym is.touches)
+              (subst (λ (n : ℕ). IsChangedInPlace f now (tree_after f edit) n touched room) is.counted
+              (subst (λ (t : Tree). IsChangedInPlace f now t next touched room) is.tree changed))),
         );
       }
+
+  -- of an object that is made: what it is answered
+  module _ (accepted : refusal_of f.tree f.next edit ≡ None) (number : ℕ) (named : Some number ≡ named_object f.tree edit f.next) (now : FileState) where
+    pub object_answered : (r : Result (Unit {0}) InsertFault) → (r ≡ Err insertion.TreeTooDeep) ↔ IsFullFor f.image table name
+        → (r ≡ Err (insertion.Space space.ImageFull)) ↔ ((IsFullFor f.image table name → ⊥) × (2 ^ 31 < length f.image + room))
+        → (Changed : Type 0) → OnOk r Changed → (Changed → IsChangedInPlace f now after next touched room) → OnErr r (now ≡ f)
+        → MatchResult (added_answer r number) (IsEdited f edit now) (λ e. IsRefused f edit e × (now ≡ f))
+    object_answered (Ok u) deep full Changed changed in_place same = link_made accepted (Ok u) deep full u refl now _ named refl (in_place changed)
+    object_answered (Err fault) deep full Changed changed in_place same = (link_refused accepted (Err fault) deep full fault refl, same)
+
+  -- an object whose own bytes, with those of the image, are too many
+  pub object_full : refusal_of f.tree f.next edit ≡ None → (fault : InsertFault) → (fault ≡ insertion.TreeTooDeep) ↔ IsFullFor f.image table name
+      → (fault ≡ insertion.Space space.ImageFull) ↔ (IsFullFor f.image table name → ⊥) → 2 ^ 31 < length f.image + room → IsRefused f edit (insert_fault fault)
+  object_full accepted fault deep full long = link_refused accepted (Err fault) (λ so. deep.0 (cc), λ filled. ap Err (deep.1 filled))
+      (λ so. (full.0 (cc), long), λ fits. ap Err (full.1 fits.0)) fault refl
 
 -- ---- what the call asks for
 
@@ -291,6 +356,6 @@ module _ (f : FileState) (sound : IsSound f) {path : List ℕ} {edit : Edit} {pl
   pub table_there : (table : SymbolTable) × IsGroupOf f place.parent table
   table_there = group_there f sound place.parent parent_there
 
-  pub sound_asked : (link : Link) → with_link f.tree place.parent place.name.now link ≡ tree_after f edit → IsSoundTree (with_link f.tree place.parent place.name.now link)
-  sound_asked link is =
+  pub sound_asked : (after : Tree) → after ≡ tree_after f edit → IsSoundTree after
+  sound_asked after is =
       subst IsSoundTree (sym is) (sound_applied f.tree f.next f.next edit (reads_sound f.image f.table f.tree (sound.placed, sound.reads)) (next_free f sound) placed.allowed)

@@ -1,6 +1,6 @@
 -- The tree of every group that was read has at most 16 levels, and stays as low where cells are written or an array gets other sizes (File
 -- Format Specification 3.0, sections III.A.1 and III.B).
-use Rattle.std.proofs.Common.{◌≡◌, ℕ, ℤ, ◌+◌, ◌*◌, ◌-◌, ◌≤◌, List, [], ◌∷◌, map, length, refl, sym, ap, ◌∙◌, subst, Option, Some, None, inl, inr, arith}
+use Rattle.std.proofs.Common.{◌≡◌, ℕ, ℤ, ◌+◌, ◌*◌, ◌-◌, ◌≤◌, List, [], ◌∷◌, map, length, refl, sym, ap, ◌∙◌, subst, true, false, Option, Some, None, inl, inr, arith}
 use Rattle.std.proofs.lemmas.List.{length-map}
 use Rattle.std.proofs.lemmas.List.FromFn.{length-map-range_with_len}
 use Rattle.std.proofs.lemmas.Slice.Zip.{AllZip-long}
@@ -19,7 +19,8 @@ use Rattle.h5_model.specs.Format.Symbols.{Target, IsSymbolNode, entries_of, entr
 use Rattle.h5_model.specs.Tree.Objects.{Tree, Object, Content, Group, Array, Dataset, Links, links_in, links_of, with_object}
 use Rattle.h5_model.specs.Tree.Paths.{object_at}
 use Rattle.h5_model.specs.Views.Selection.{axes_of}
-use Rattle.h5_model.specs.declared.edits.Edit.TheVariants.{Write, Resize}
+use Rattle.h5_model.specs.declared.edits.Edit.{Edit}
+use Rattle.h5_model.specs.declared.edits.Edit.TheVariants.{CreateGroup, CreateDataset, HardLink, SoftLink, Unlink, SetAttr, RemoveAttr, Write, Resize}
 use Rattle.h5_model.specs.declared.hyperslab.Hyper.{Hyper}
 use Rattle.h5_btree.specs.Writing.Written.{root_level}
 use Rattle.h5_laws.proofs.Lists.{In, in_all, from_map}
@@ -27,7 +28,10 @@ use Rattle.h5_laws.proofs.Maps.{entry_of_get}
 use Rattle.h5_laws.proofs.Objects.{content_cases}
 use Rattle.h5_laws.proofs.SoundLaws.Inserted.{same_number_or_other, number_here, number_other}
 use Rattle.h5_laws.proofs.SoundLaws.LinksThere.{group_of}
+use Rattle.h5_query.specs.Opened.Sound.{IsSound}
+use Rattle.h5_query.specs.Opened.State.{FileState}
 use Rattle.h5_repack.specs.Image.Plain.{AreLow, IsLow}
+use Rattle.h5_edit.specs.Carried.{IsMadeAnew, tree_after}
 use Rattle.h5_edit.proofs.Levels.{flat_few, only_few, rows_fit, level_read}
 
 -- ---- links that were read
@@ -126,3 +130,17 @@ module _ (leaf internal : ℕ) where
   pub sized_low : (tree : Tree) (path dims : List ℕ) (next : ℕ) → AreLow leaf internal tree → AreLow leaf internal (applied tree (Resize path dims) next)
   unfolding applied
   sized_low tree path dims next low = kept_low tree path (with_dataset (resized dims)) (λ o. array_links (resized dims) o o.content) low
+
+-- so of an edit that is written anew
+pub anew_low : (f : FileState) → IsSound f → (edit : Edit) → IsMadeAnew f edit true → AreLow (leaf_k f.image) (internal_k f.image) (tree_after f edit)
+anew_low f sound edit anew = by_edit edit anew (read_low f.image f.table f.tree (sound.placed, sound.reads)) where
+  by_edit : (edit : Edit) → IsMadeAnew f edit true → AreLow (leaf_k f.image) (internal_k f.image) f.tree → AreLow (leaf_k f.image) (internal_k f.image) (tree_after f edit)
+  by_edit (Write path hyper values) anew low = written_low (leaf_k f.image) (internal_k f.image) f.tree path hyper values f.next low
+  by_edit (Resize path dims) anew low = sized_low (leaf_k f.image) (internal_k f.image) f.tree path dims f.next low
+  by_edit (CreateGroup path) anew low = absurd (let never : true ≡ false = anew in cc)
+  by_edit (CreateDataset path spec) anew low = absurd (let never : true ≡ false = anew in cc)
+  by_edit (HardLink target path) anew low = absurd (let never : true ≡ false = anew in cc)
+  by_edit (SoftLink text path) anew low = absurd (let never : true ≡ false = anew in cc)
+  by_edit (Unlink path) anew low = absurd (let never : true ≡ false = anew in cc)
+  by_edit (SetAttr path attr) anew low = absurd (let never : true ≡ false = anew in cc)
+  by_edit (RemoveAttr path name) anew low = absurd (let never : true ≡ false = anew in cc)

@@ -8,7 +8,7 @@ use Rattle.h5_model.specs.declared.hyperslab.Hyper.{Hyper}
 use Rattle.h5_model.specs.declared.edit_fault.EditFault.{EditFault}
 use Rattle.h5_model.specs.declared.edit_fault.EditFault.TheVariants as fault
 use Rattle.h5_query.specs.Opened.State.{FileState}
-use Rattle.h5_edit.specs.Carried.{tree_after, GivenAs, IsGivenFor, IsGivenInPlace, IsLongAnew, IsMadeAnew, IsParentTooDeep, IsRefused, IsTotalFull}
+use Rattle.h5_edit.specs.Carried.{tree_after, GivenAs, IsGivenFor, IsGivenInPlace, IsLongAnew, IsMadeAnew, IsRefused, IsTotalFull}
 use Rattle.h5_edit.specs.Made.{IsAccepted}
 use Rattle.h5_edit.specs.StoredChunks.{selecting_of}
 use Rattle.h5_edit.proofs.AttributeFacts.{facts_at}
@@ -68,9 +68,6 @@ module _ (f : FileState) (edit : Edit) where
 
     pub by_length : refusal_of f.tree f.next edit ≡ None → IsTotalFull f edit false → IsLongAnew f (tree_after f edit) (selecting_of f edit) → IsRefused f edit fault.ImageFull
     by_length h room long = record { given = Some fault.ImageFull; allowed = λ _. (true, anew, (room, long)); answer = rw h refl }
-
-    pub by_depth : refusal_of f.tree f.next edit ≡ None → IsTotalFull f edit false → IsParentTooDeep f edit → IsRefused f edit fault.TreeTooDeep
-    by_depth h room deep = record { given = Some fault.TreeTooDeep; allowed = λ _. (true, anew, (room, deep)); answer = rw h refl }
 
 -- ---- in place
 

@@ -1,24 +1,21 @@
--- Which chunks are stored in an image that is written anew: they are there for each opened image, and each edit but a write.
+-- Which chunks are stored in an image that is written anew: they are there for each opened image, and where an array gets other sizes.
 use Rattle.std.proofs.Common.{◌≡◌, ℕ, List, [], Option, Some, None, refl, sym, ap, ◌∙◌, subst}
 use Rattle.std.proofs.lemmas.Option.{same_Some}
 use Rattle.std.specs.Prelude.{option_and_then}
 use Rattle.std.specs.FinMap.{get}
 use Rattle.h5_layout.specs.HeldChunks.{held_chunks}
 use Rattle.h5_layout.specs.StoredAt.{HasStoredChunks}
-use Rattle.h5_model.specs.Edits.Applied.{new_dataset}
 use Rattle.h5_model.specs.Format.PlainLength.{plain_length}
 use Rattle.h5_model.specs.Format.Reads.{HasContent}
 use Rattle.h5_model.specs.Format.Superblock.{leaf_k, internal_k}
 use Rattle.h5_model.specs.Tree.Objects.{Tree, Object, Content, Group, Array, Dataset, dataset_in, dataset_of}
-use Rattle.h5_model.specs.declared.edits.Edit.{Edit}
-use Rattle.h5_laws.proofs.Objects.{object_at, in_tree}
+use Rattle.h5_model.specs.declared.edits.Edit.TheVariants.{Resize}
 use Rattle.h5_query.specs.Opened.Sound.{IsSound}
 use Rattle.h5_query.specs.Opened.State.{FileState}
-use Rattle.h5_query.proofs.OpenedLaws.Indexed.{next_free}
 use Rattle.h5_repack.specs.Image.Written.{StoredIn, counts_of}
 use Rattle.h5_edit.specs.Carried.{tree_after}
 use Rattle.h5_edit.specs.StoredChunks.{HasLengthAnew, AreStoredAfter, AreStoredAt, AreStoredOf, Selecting, selecting_of}
-use Rattle.h5_edit.proofs.CarriedLaws.{ArraysHold, edited_arrays}
+use Rattle.h5_edit.proofs.CarriedLaws.{ArraysHold, resized_arrays}
 use Rattle.h5_edit.proofs.FitLaws.OpenedTrees.{IsRead, object_read}
 
 -- the dataset of a number, by the object's content
@@ -26,16 +23,6 @@ pub dataset_is : (tree : Tree) (number : ℕ) (o : Object) (c : Content) → get
 dataset_is tree number o c there is = ap (option_and_then (λ (x : Object). dataset_in x.content)) there ∙ ap dataset_in is
 
 module _ (f : FileState) (sound : IsSound f) where
-  -- no header has the next number
-  pub no_next_header : get f.table f.next ≡ None
-  no_next_header = go (get f.table f.next) refl where
-    go : (found : Option ℕ) → get f.table f.next ≡ found → found ≡ None
-    go None is = refl
-    go (Some header) is =
-        let x = object_at f.image f.table f.tree sound.placed sound.reads.holds f.next header is in
-        let stands = in_tree f.image f.table f.tree sound.placed sound.reads.holds x.0 x.1 in
-        absurd (let never : None ≡ Some x.0.object = sym (next_free f sound) ∙ ap (get f.tree) (sym x.2) ∙ stands in cc)
-
   -- ---- what can be stored of an array, by its number
 
   -- whatever sizes it has
@@ -67,9 +54,6 @@ module _ (f : FileState) (sound : IsSound f) where
         let r = object_read f sound number o there in
         read_stored number o there r o.content d (sym (dataset_is f.tree number o o.content there refl) ∙ array) r.has.content
 
-  new_stored : (d : Dataset) → CanStore f.next d
-  new_stored d sizes = ([], λ chunk. subst (λ (found : Option ℕ). AreStoredOf f.image sizes chunk None found []) (sym no_next_header) refl)
-
   -- ---- of a tree
 
   module _ (tree : Tree) (all : ArraysHold CanStore tree) where
@@ -92,13 +76,11 @@ pub length_with : (f : FileState) (tree : Tree) (met : Selecting) (stored : Stor
     → HasLengthAnew f tree met (plain_length (leaf_k f.image) (internal_k f.image) 32 (counts_of stored) tree)
 length_with f tree met stored are = record { stored = stored; chunks = are; counted = refl }
 
--- of a write what is stored anew is what was written
-pub length_after : (f : FileState) → IsSound f → (edit : Edit) → selecting_of f edit ≡ None → (bytes : ℕ) × HasLengthAnew f (tree_after f edit) (selecting_of f edit) bytes
-length_after f sound edit none =
-    let all = edited_arrays (CanStore f sound) f.next (λ spec. new_stored f sound (new_dataset spec)) (λ dims number d can. can) (λ slab values number d can. can) f.tree edit
-    (opened_stored f sound) in
-    let there = stored_there f sound (tree_after f edit) all in (
-      plain_length (leaf_k f.image) (internal_k f.image) 32 (counts_of there.0) (tree_after f edit),
-      subst (λ (met : Selecting). HasLengthAnew f (tree_after f edit) met (plain_length (leaf_k f.image) (internal_k f.image) 32 (counts_of there.0) (tree_after f edit))) (sym none)
-          (length_with f (tree_after f edit) None there.0 there.1),
+-- so of a resize
+pub length_after : (f : FileState) → IsSound f → (path dims : List ℕ) → (bytes : ℕ) × HasLengthAnew f (tree_after f (Resize path dims)) (selecting_of f (Resize path dims)) bytes
+length_after f sound path dims =
+    let all = resized_arrays (CanStore f sound) (λ sizes number d can. can) f.tree path dims f.next (opened_stored f sound) in
+    let there = stored_there f sound (tree_after f (Resize path dims)) all in (
+      plain_length (leaf_k f.image) (internal_k f.image) 32 (counts_of there.0) (tree_after f (Resize path dims)),
+      length_with f (tree_after f (Resize path dims)) None there.0 there.1,
     )

@@ -1,9 +1,10 @@
 -- What an edit is answered that no rule refuses, by what was written.
-use Rattle.std.specs.Prelude.{Option, Result, Ok, Err}
+use Rattle.std.specs.Prelude.{ℕ, Option, Some, Result, Ok, Err}
 use Rattle.h5_btree.specs.declared.insertion.InsertFault.{InsertFault}
 use Rattle.h5_btree.specs.declared.insertion.InsertFault.TheVariants as insertion
 use Rattle.h5_model.specs.declared.edit_fault.EditFault.{EditFault}
 use Rattle.h5_model.specs.declared.edit_fault.EditFault.TheVariants as fault
+use Rattle.h5_model.specs.declared.edits.Edited.{Edited}
 use Rattle.h5_model.specs.declared.object_no.ObjectNo.{ObjectNo}
 use Rattle.h5_space.specs.declared.image.SpaceFault.TheVariants as space
 use Rattle.h5_repack.specs.declared.write.Written.{Written}
@@ -21,6 +22,11 @@ abbrev pub insert_fault : InsertFault → EditFault
 insert_fault insertion.TreeTooDeep = fault.TreeTooDeep
 insert_fault (insertion.Space space.ImageFull) = fault.ImageFull
 insert_fault (insertion.Space space.NoMemory) = fault.NoMemory
+
+-- what a new object of this number is answered, by what came of putting it
+abbrev pub added_answer : Result (Unit {0}) InsertFault → ℕ → Result Edited EditFault
+added_answer (Ok u) number = Ok (record { object = Some (record { 0 = number }); refreshed = 0 })
+added_answer (Err f) number = Err (insert_fault f)
 
 abbrev pub answer_to : Result Written WriteFault → Option ObjectNo → Result Made EditFault
 answer_to (Ok w) object = Ok (record { image = w.image; headers = w.headers; object = object })

@@ -27,10 +27,8 @@ use Rattle.h5_edit.specs.StoredChunks.{HasLengthAnew, Selecting, selecting_of}
 
 -- ---- which edits write the image anew
 
--- those that make an object or give an array other sizes, and a write of cells that are not all stored; each other edit is made in place
+-- those that give an array other sizes, and a write of cells that are not all stored; each other edit is made in place
 abbrev pub IsMadeAnew : FileState → Edit → Bool → Type 0
-IsMadeAnew f (CreateGroup path) anew = anew ≡ true
-IsMadeAnew f (CreateDataset path spec) anew = anew ≡ true
 IsMadeAnew f (Resize path dims) anew = anew ≡ true
 IsMadeAnew f (Write path hyper values) anew = LacksStorage f path hyper anew
 IsMadeAnew f edit anew = anew ≡ false
@@ -63,25 +61,11 @@ IsLongAnew f tree met = (bytes : ℕ) × HasLengthAnew f tree met bytes × (2 ^ 
 abbrev pub tree_after : FileState → Edit → Tree
 tree_after f edit = applied f.tree edit f.next
 
--- The group that takes the edit's new link has a tree of more than 16 levels with it.
-pub record IsParentTooDeep (f : FileState) (edit : Edit) : Type 0 where
-  pub path : List ℕ
-  pub adds : new_path edit ≡ path ∷ []
-  pub parent : ℕ
-  pub name : List ℕ
-  pub at : parent_at f.tree path ≡ Some (parent, name)
-  pub links : Links
-  pub are : links_of f.tree parent ≡ Some links
-  pub deep : 15 < root_level (internal_k f.image) (rows_of (2 * leaf_k f.image) (len links + 1))
-
--- Anew, HeaderFull comes first. Then ImageFull goes by the image of the tree that the edit gives, and TreeTooDeep by the tree of the group
--- that takes the edit's new link: either may be answered where both hold. No tree of chunks is too deep in an image that is not too long.
--- Memory may be short at any time.
+-- Anew, HeaderFull comes first. Then ImageFull goes by the image of the tree that the edit gives. No tree of chunks is too deep in an image
+-- that is not too long. Memory may be short at any time.
 abbrev pub IsGivenAnew : FileState → Edit → Option EditFault → Type 0
-IsGivenAnew f edit None =
-    IsTotalFull f edit false × IsShortAnew f (tree_after f edit) (selecting_of f edit) × AreLow (leaf_k f.image) (internal_k f.image) (tree_after f edit)
+IsGivenAnew f edit None = IsTotalFull f edit false × IsShortAnew f (tree_after f edit) (selecting_of f edit)
 IsGivenAnew f edit (Some fault.HeaderFull) = IsTotalFull f edit true
-IsGivenAnew f edit (Some fault.TreeTooDeep) = IsTotalFull f edit false × IsParentTooDeep f edit
 IsGivenAnew f edit (Some fault.ImageFull) = IsTotalFull f edit false × IsLongAnew f (tree_after f edit) (selecting_of f edit)
 IsGivenAnew f edit (Some fault.NoMemory) = Unit {0}
 IsGivenAnew f edit _ = ⊥
@@ -119,18 +103,21 @@ IsDeepFirst facts None = IsFalse (facts.splits_top 0)
 IsDeepFirst facts (Some fault.ImageFull) = IsFalse (facts.splits_top 0)
 IsDeepFirst facts _ = Unit {0}
 
--- Of a link: TreeTooDeep by the tree, and then ImageFull by the length and what the edit may add to it. Memory may be short at any time.
+-- Of a link, and of an object that is made with one: TreeTooDeep by the tree, and then ImageFull by the length and what the edit may add
+-- to it. Memory may be short at any time.
 abbrev pub IsGivenByGroup : FileState → List ℕ → Edit → Option EditFault → Type 0
 IsGivenByGroup f path edit (Some fault.NoMemory) = Unit {0}
 IsGivenByGroup f path edit given = (facts : Facts) × AreGroupFacts f path facts × IsGiven facts f.tree edit given × IsDeepFirst facts given
 
--- In place, edits of attributes and new links are given by facts. An unlink, and a write of cells that are stored, are refused for want of
--- memory alone: the image keeps its length, and no message is added.
+-- In place, edits of attributes, new links and new objects are given by facts. An unlink, and a write of cells that are stored, are
+-- refused for want of memory alone: the image keeps its length, and no message is added.
 abbrev pub IsGivenInPlace : FileState → Edit → Option EditFault → Type 0
 IsGivenInPlace f (SetAttr path attr) given = IsGivenByHeader f path (SetAttr path attr) given
 IsGivenInPlace f (RemoveAttr path name) given = IsGivenByHeader f path (RemoveAttr path name) given
 IsGivenInPlace f (HardLink target path) given = IsGivenByGroup f path (HardLink target path) given
 IsGivenInPlace f (SoftLink text path) given = IsGivenByGroup f path (SoftLink text path) given
+IsGivenInPlace f (CreateGroup path) given = IsGivenByGroup f path (CreateGroup path) given
+IsGivenInPlace f (CreateDataset path spec) given = IsGivenByGroup f path (CreateDataset path spec) given
 IsGivenInPlace f edit None = Unit {0}
 IsGivenInPlace f edit (Some fault.NoMemory) = Unit {0}
 IsGivenInPlace f edit _ = ⊥

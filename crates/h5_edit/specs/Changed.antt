@@ -1,5 +1,4 @@
 pub mod Sizes
-pub mod Change
 pub mod Edited
 pub mod Appended
 pub mod Cells

@@ -1,4 +1,4 @@
-//! An opened image with a change, written anew.
+//! An opened image with an edit of one object, written anew.
 
 ghost use Rattle.std.specs.Prelude.{◌≡◌, ◌<◌, ℕ, MatchResult, slice_index};
 ghost use Rattle.h5_model.specs.Format.Superblock.{IsSuperblock, leaf_k, internal_k};
@@ -7,7 +7,7 @@ ghost use Rattle.h5_edit.specs.Carried.{IsRefused};
 ghost use Rattle.h5_edit.specs.Fitting.{IsFitting};
 ghost use Rattle.h5_edit.specs.Made.{IsEditMade};
 
-use crate::change::{Change, changed_objects};
+use crate::change::{ObjectEdit, opened_objects};
 use crate::made::{Made, answer};
 use h5_model::{EditFault, ObjectNo};
 use h5_query::Opened;
@@ -22,26 +22,26 @@ pub(crate) struct K {
     pub(crate) internal: u16,
 }
 
-/// Carries an edit out that is this change, and that makes or names this object: no rule refuses it, and no header is full.
+/// Carries an edit out that is this edit of the object of this number: no rule refuses it, and no header is full.
 ///
-/// `TreeTooDeep` where the tree of a group would have more than 16 levels, `ImageFull` where the image would pass 2147483648 bytes,
-/// `NoMemory` where memory is refused.
+/// `ImageFull` where the image would pass 2147483648 bytes, `NoMemory` where memory is refused.
 pub(crate) fn carry_out(
     alloc: Global,
     opened: &Opened,
-    change: &Change<'_>,
-    object: Option<ObjectNo>,
+    number: u32,
+    change: ObjectEdit<'_>,
 ) -> Result<Made, EditFault>
-    requires { (edit : Edit) × IsFitting opened.now edit change.now object }
+    requires { (edit : Edit) × IsFitting opened.now edit number change }
     ensures { let f = opened.now in
-        (edit : Edit) → IsFitting f edit change.now object
+        (edit : Edit) → IsFitting f edit number change.entry
         → MatchResult result (IsEditMade f edit) (IsRefused f edit) }
 {
     let k = k_of(opened.image());
-    let Ok(objects) = changed_objects(alloc, opened, change) else {
+    let Ok(objects) = opened_objects(alloc, opened, number, Some(change)) else {
         return Err(EditFault::NoMemory);
     };
-    answer(write_tree(alloc, k.leaf, k.internal, &objects), object)
+    let written = write_tree(alloc, k.leaf, k.internal, &objects);
+    answer(written, Some(ObjectNo(number)))
 }
 
 /// The K values of an image that begins with a superblock. The image itself tells that its bytes are below 256.

@@ -1,8 +1,7 @@
-//! The objects of an opened image, as they are or with one change, as they are handed to the writer (File Format Specification 3.0, sections III.C and
-//! IV.A).
+//! The objects of an opened image, as they are or with an edit of one, as they are handed to the writer (File Format Specification 3.0,
+//! sections III.C and IV.A).
 mod attributes;
 mod cells;
-mod change;
 mod edit;
 mod links;
 mod missing;
@@ -10,7 +9,7 @@ mod objects;
 mod parts;
 mod resized;
 
-pub use change::{Change, Target};
+pub(crate) use edit::ObjectEdit;
 pub use missing::Missing;
 pub(crate) use missing::missing_of;
-pub(crate) use objects::{changed_objects, opened_objects};
+pub(crate) use objects::opened_objects;

@@ -1,13 +1,14 @@
 //! Edits of an opened image: why one is refused, in the order of the refusals' numbers, and what an accepted one makes of it (File Format
 //! Specification 3.0, sections III.C and IV.A).
 //!
-//! Links, attributes and cells that are stored are edited where they stand. A new object, other sizes of an array and a write of cells
-//! that are not all stored write the whole image anew. Where both `TreeTooDeep` and `ImageFull` hold of a new object, either is answered.
+//! New objects, links, attributes and cells that are stored are edited where they stand. Other sizes of an array and a write of cells that
+//! are not all stored write the whole image anew.
 #![tactic(auto)]
 
 mod anew;
 mod attributes;
 mod change;
+mod created;
 mod links;
 mod made;
 mod opening;
@@ -19,6 +20,7 @@ mod unlinked;
 mod written;
 
 pub use attributes::{remove_attr, set_attr};
+pub use created::{create_dataset, create_group};
 pub use h5_query::{
     ArrayRef, AttrRef, Dims, Found, Kind, MAX_DEPTH, MAX_RANK, Opened, Piece, Runs, Slab,
     SlabFault, StoreKind, StoredArray, Values, array_at, array_of, attributes_at, found_at,
@@ -27,7 +29,7 @@ pub use h5_query::{
 };
 pub use h5_repack::empty_image;
 pub use h5_types::encode;
-pub use links::{create_dataset, create_group, hard_link, soft_link};
+pub use links::{hard_link, soft_link};
 pub use made::Made;
 pub use opening::{open_made, open_written};
 pub use repacked::repack;

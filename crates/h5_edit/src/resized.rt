@@ -11,12 +11,12 @@ ghost use Rattle.h5_edit.specs.ExtentMaxima as extent;
 ghost use Rattle.h5_edit.specs.Made.{IsEditMade};
 
 use crate::anew::carry_out;
-use crate::change::Change;
+use crate::change::ObjectEdit;
 use crate::made::Made;
 use crate::rules::{MAX_MESSAGES, check_resize};
 use h5_header::{Messages, find_body};
+use h5_model::EditFault;
 use h5_model::message_type::DATASPACE;
-use h5_model::{EditFault, ObjectNo};
 use h5_query::Opened;
 use h5_space::Image;
 use std::alloc::Global;
@@ -60,11 +60,7 @@ pub fn resize(alloc: Global, opened: &Opened, path: &[u8], dims: &[u64]) -> Resu
     if is_header_full(opened.image(), &object.messages) {
         return Err(EditFault::HeaderFull);
     }
-    let change = Change::Resize {
-        object: number,
-        dims,
-    };
-    carry_out(alloc, opened, &change, Some(ObjectNo(number)))
+    carry_out(alloc, opened, number, ObjectEdit::Resize(dims))
 }
 
 /// Whether the header needs a message for maxima, as its Dataspace message has none, and has no place for it and a Continuation.

@@ -7,7 +7,7 @@ ghost use Rattle.h5_edit.specs.Carried.{IsRefused};
 ghost use Rattle.h5_edit.specs.Stored.{IsStorageMade, IsStoredAnew, IsStoring};
 
 use crate::anew::k_of;
-use crate::change::{Change, Missing, changed_objects};
+use crate::change::{Missing, ObjectEdit, opened_objects};
 use crate::made::{Made, answer};
 use crate::opening::open_made;
 use h5_model::EditFault;
@@ -53,11 +53,8 @@ fn storage_made(
         (IsRefused f (Write path hyper values)) }
 {
     let k = k_of(opened.image());
-    let change = Change::Store {
-        object: number,
-        missing,
-    };
-    let Ok(objects) = changed_objects(alloc, opened, &change) else {
+    let edit = Some(ObjectEdit::Store(missing));
+    let Ok(objects) = opened_objects(alloc, opened, number, edit) else {
         return Err(EditFault::NoMemory);
     };
     answer(write_tree(alloc, k.leaf, k.internal, &objects), None)

@@ -1,5 +1,5 @@
-//! Edits of a file. Links are put and taken, attributes are set and removed, and cells that are stored are written, where they stand; each
-//! other edit writes the image anew.
+//! Edits of a file. Objects and links are made and taken away, attributes are set and removed, and cells that are stored are written, where
+//! they stand. Other sizes of an array, and a write of cells that are not all stored, write the image anew.
 
 ghost use Rattle.std.specs.Prelude.{◌≡◌, ℕ, IfOk, OnErr, MatchResult};
 ghost use Rattle.h5_model.specs.declared.edits.Edit.{Edit as TheEdit};
@@ -49,10 +49,13 @@ impl File {
 
     /// Creates an empty group at the path.
     ///
+    /// Its header, tree and heap come into one block, and the link into its group where that stands. No other object changes,
+    /// and no header moves. The image grows by no more than these, 17 nodes of that group's tree, a symbol node, and a segment
+    /// twice as long as its and 16 bytes more than that with the name.
+    ///
     /// # Errors
     ///
-    /// The first of these that holds; they come in the order of their numbers. Where both `TreeTooDeep` and
-    /// `ImageFull` hold, either is answered. A refusal changes nothing.
+    /// The first of these that holds; they come in the order of their numbers. A refusal changes nothing.
     ///
     /// - `BadPath`: the bytes are no path.
     /// - `PathTooDeep`: the path has more than 64 names.
@@ -62,23 +65,26 @@ impl File {
     /// - `AlreadyThere`: the group has a link of the last name already.
     /// - `NameTooLong`: the last name has more than 1023 bytes.
     /// - `TooManyObjects`: no object number is left.
-    /// - `TreeTooDeep`: the B-tree of the group that gets the link would have more than 16 levels.
-    /// - `ImageFull`: the image would have more than 2147483648 bytes.
-    /// - `NoMemory`: memory is refused. It may come in place of any other.
+    /// - `TreeTooDeep`: the root of the B-tree of the group that gets the link is at level 15, and all on the way to the
+    ///   name is full.
+    /// - `ImageFull`: the image, and the bytes that the group and its link may add, are more than 2147483648 bytes.
+    /// - `NoMemory`: memory is refused.
     pub fn create_group(&mut self, path: &[u8]) -> Result<Edited, EditFault>
         ensures edited { MatchResult result (IsEdited self.old (CreateGroup path.now) self.new)
             (λ e. IsRefused self.old (CreateGroup path.now) e × (self.new ≡ self.old)) }
     {
-        let made = create_group(self.alloc, &self.opened, path)?;
-        self.take(made)
+        create_group(self.alloc, &mut self.opened, path)
     }
 
     /// Creates an array at the path. Each of its cells has the value of the fill.
     ///
+    /// Its header, and its cells where they are contiguous, come into one block, and the link into its group where that
+    /// stands. No other object changes, and no header moves. The image grows by no more than these, 17 nodes of that group's
+    /// tree, a symbol node, and a segment twice as long as its and 16 bytes more than that with the name.
+    ///
     /// # Errors
     ///
-    /// The first of these that holds; they come in the order of their numbers. Where both `TreeTooDeep` and
-    /// `ImageFull` hold, either is answered. A refusal changes nothing.
+    /// The first of these that holds; they come in the order of their numbers. A refusal changes nothing.
     ///
     /// - `BadPath`: the bytes are no path.
     /// - `PathTooDeep`: the path has more than 64 names.
@@ -95,15 +101,15 @@ impl File {
     /// - `TooManyCells`: the product of the sizes, with sizes of 0 left out, is above 2^40.
     /// - `ValueRange`: the fill is not a value of the type.
     /// - `TooManyObjects`: no object number is left.
-    /// - `TreeTooDeep`: the B-tree of the group that gets the link would have more than 16 levels.
-    /// - `ImageFull`: the image would have more than 2147483648 bytes.
+    /// - `TreeTooDeep`: the root of the B-tree of the group that gets the link is at level 15, and all on the way to the
+    ///   name is full.
+    /// - `ImageFull`: the image, and the bytes that the array and its link may add, are more than 2147483648 bytes.
     /// - `NoMemory`: memory is refused. It may come in place of any other.
     pub fn create_dataset(&mut self, path: &[u8], spec: &Spec) -> Result<Edited, EditFault>
         ensures edited { MatchResult result (IsEdited self.old (CreateDataset path.now spec.now) self.new)
             (λ e. IsRefused self.old (CreateDataset path.now spec.now) e × (self.new ≡ self.old)) }
     {
-        let made = create_dataset(self.alloc, &self.opened, path, spec)?;
-        self.take(made)
+        create_dataset(self.alloc, &mut self.opened, path, spec)
     }
 
     /// Gives the array at `target` a second name, `path`.

@@ -76,11 +76,6 @@ insert_there tree number o there = same_map nat_cmp_total nat_cmp-IsAntisymmetri
   | inr other ↦ number_other tree number o n other
 ])
 
--- with these objects behind the others
-abbrev pub with_new : Tree → ℕ → List Object → Tree
-with_new tree number [] = tree
-with_new tree number (o ∷ os) = insert (with_new tree number os) number o
-
 pub get_changed : (tree : Tree) (place : ℕ) (change : Object → Object) (o : Object) → get tree place ≡ Some o → get (with_object tree place change) place ≡ Some (change o)
 get_changed tree place change o is =
     let same : (place == place) ≡ true = grind (arith, nat_tests) in
@@ -125,30 +120,3 @@ module _ (tree : Tree) (slots : List (Option Object)) (numbered : (k : ℕ) → 
   numbered_with k =
       get-with_object tree place change k ∙ ap (option_map (at_place k place change)) (numbered k)
       ∙ sym (found_at_places 0 place change slots k ∙ ap (λ m. option_map (at_place m place change) (option_flatten (slice_get slots k))) (omega arith))
-
--- the object of another number is the same
-pub get-with_new : (tree : Tree) (number : ℕ) (os : List Object) (k : ℕ) → (k == number) ≡ false → get (with_new tree number os) k ≡ get tree k
-get-with_new tree number [] k other = refl
-get-with_new tree number (o ∷ os) k other =
-    get-insert nat_cmp_total (with_new tree number os) number o k
-    ∙ ap (λ b. cond b (Some o) (get (with_new tree number os) k)) (unsigned_tied k number ∙ other) ∙ get-with_new tree number os k other
-
--- one more object behind the others
-pub numbered_more : (tree : Tree) (slots : List (Option Object)) (numbered : (k : ℕ) → get tree k ≡ option_flatten (slice_get slots k)) (number : ℕ) (o : Object) → number ≡ length slots
-    → (k : ℕ) → get (insert tree number o) k ≡ option_flatten (slice_get (slots ++ Some o ∷ []) k)
-numbered_more tree slots numbered number o is k =
-    get-insert nat_cmp_total tree number o k
-    ∙ ap (λ b. cond b (Some o) (get tree k)) (unsigned_tied k number ∙ ap (λ n. k == n) is)
-    ∙ ap (cond (k == length slots) (Some o)) (numbered k)
-    ∙ sym (found_one_more slots (Some o) k)
-
--- ---- slots that are filled
-
-abbrev pub filled_slots : {X : Type 0} → List X → List (Option X)
-filled_slots xs = map (λ x. Some x) xs
-
-pub zip_filled : {A B : Type 0} (R : A → B → Type 0) (xs : List A) (ys : List B) → AllZip R xs ys → AllZip (SlotsHold R) (filled_slots xs) (filled_slots ys)
-zip_filled R [] [] each = tt
-zip_filled R [] (y ∷ ys) each = absurd each
-zip_filled R (x ∷ xs) [] each = absurd each
-zip_filled R (x ∷ xs) (y ∷ ys) each = (each.0, zip_filled R xs ys each.1)

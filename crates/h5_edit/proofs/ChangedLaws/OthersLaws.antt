@@ -32,7 +32,6 @@ module _ (o after : OthersBytes) (ms : List Message) (list : NamedAttributes) (n
 -- an edit changes nothing of it
 pub others_same : (e : Option ObjectEdit) (o : Object) → others_of (edited_by e o) ≡ others_of o
 others_same None o = refl
-others_same (Some (edit.Link l)) o = refl
 others_same (Some (edit.Resize dims)) o = refl
 others_same (Some (edit.Store missing)) o = refl
 

@@ -41,8 +41,7 @@ use Rattle.h5_edit.specs.Changed.Sizes.{array_after, stored_all}
 use Rattle.h5_edit.specs.declared.change.edit.ObjectEdit.{ObjectEdit}
 use Rattle.h5_edit.specs.declared.change.edit.ObjectEdit.TheVariants as edit
 use Rattle.h5_edit.proofs.ChangedLaws.ChangeLaws.{slot_at}
-use Rattle.h5_edit.proofs.ChangedLaws.NumberedLaws.{at_place, filled_slots, found_one_more, get-with_new, get-with_object, get_changed, with_new}
-use Rattle.h5_edit.proofs.StoredLaws.{no_next_header}
+use Rattle.h5_edit.proofs.ChangedLaws.NumberedLaws.{at_place, found_one_more, get-with_object, get_changed}
 
 -- the stored chunks of a slot more
 stored_one_more : (slots : List (Option NewObject)) (slot : Option NewObject) (k : ℕ) (b : Bool) → (k == length slots) ≡ b
@@ -54,10 +53,6 @@ stored_one_more slots slot k b is = ap slot_chunks (found_one_more slots slot k 
 
 -- ---- what an edit makes of the content of an object
 
-links_content : (change : Links → Links) (o : Object) (c : Content) (d : Dataset) → c ≡ Array d → (with_links change (record o { content = c })).content ≡ Array d
-links_content change o (Group links) d is = absurd (cc)
-links_content change o (Array e) d is = is
-
 array_content : (change : Dataset → Dataset) (o : Object) (c : Content) (d : Dataset) → c ≡ Array d → (with_dataset change (record o { content = c })).content ≡ Array (change d)
 array_content change o (Group links) d is = absurd (cc)
 array_content change o (Array e) d is = let same : e ≡ d = cc in ap (λ (x : Dataset). Array (change x)) same
@@ -65,13 +60,8 @@ array_content change o (Array e) d is = let same : e ≡ d = cc in ap (λ (x : D
 -- of an array
 pub content_after : (e : Option ObjectEdit) (o : Object) (d : Dataset) → o.content ≡ Array d → (edited_by e o).content ≡ Array (array_after e d)
 content_after None o d is = is
-content_after (Some (edit.Link l)) o d is = links_content (λ links. insert links l.name.now (tree_target l.to)) o o.content d is
 content_after (Some (edit.Resize dims)) o d is = array_content (resized dims.now) o o.content d is
 content_after (Some (edit.Store missing)) o d is = array_content stored_all o o.content d is
-
-group_linked : (change : Links → Links) (o : Object) (c : Content) (links : Links) (d : Dataset) → c ≡ Group links → (with_links change (record o { content = c })).content ≡ Array d → ⊥
-group_linked change o (Group ls) links d is array = cc
-group_linked change o (Array e) links d is array = cc
 
 group_changed : (change : Dataset → Dataset) (o : Object) (c : Content) (links : Links) (d : Dataset) → c ≡ Group links → (with_dataset change (record o { content = c })).content ≡ Array d → ⊥
 group_changed change o (Group ls) links d is array = cc
@@ -84,7 +74,6 @@ group_array (Array e) links d is array = cc
 -- a group is no array
 group_after : (e : Option ObjectEdit) (o : Object) (links : Links) (d : Dataset) → o.content ≡ Group links → (edited_by e o).content ≡ Array d → ⊥
 group_after None o links d is array = group_array o.content links d is array
-group_after (Some (edit.Link l)) o links d is array = group_linked (λ ls. insert ls l.name.now (tree_target l.to)) o o.content links d is array
 group_after (Some (edit.Resize dims)) o links d is array = group_changed (resized dims.now) o o.content links d is array
 group_after (Some (edit.Store missing)) o links d is array = group_changed stored_all o o.content links d is array
 
@@ -97,10 +86,6 @@ module _ (f : FileState) where
   same_at : (one other : Tree) (met : Option Slab) (number : ℕ) (offsets : List (List ℕ)) → get one number ≡ get other number → AreStoredAt f one met number offsets
       → AreStoredAt f other met number offsets
   same_at one other met number offsets same are d array = are d (ap (option_and_then (λ (x : Object). dataset_in x.content)) same ∙ array)
-
-  -- where no header has it
-  headerless : (tree : Tree) (met : Option Slab) (number : ℕ) (offsets : List (List ℕ)) → get f.table number ≡ None → offsets ≡ [] → AreStoredAt f tree met number offsets
-  headerless tree met number offsets none is d array chunk chunked = subst (λ (found : Option ℕ). AreStoredOf f.image d.sizes chunk met found offsets) (sym none) is
 
   -- ---- of an object of the image
 
@@ -225,33 +210,3 @@ module _ (f : FileState) where
     past_all : (found : Option Object) → get f.tree k ≡ found → f.next ≤ k → AreStoredAt f (with_object f.tree place change) (selected_in met k) k (stored_in slots k)
     past_all None is past = none_at (with_object f.tree place change) (selected_in met k) k (stored_in slots k) (none_mapped place k change is)
     past_all (Some o) is past = absurd (omega (arith, past, given k (rw is refl)))
-
-  -- ---- a new object behind them, of which no chunk is stored
-
-  module _ (sound : IsSound f) (slots all : List (Option NewObject)) (more : Option NewObject) (long : length slots ≡ f.next) (none : slot_chunks more ≡ [])
-      (longer : all ≡ slots ++ filled_slots (option_to_list more)) where
-    same_below : (x : Option NewObject) → more ≡ x → (k : ℕ) → (k == length slots) ≡ false → stored_in all k ≡ stored_in slots k
-    same_below None is k other =
-        ap (λ list. stored_in list k) (longer ∙ ap (λ (x : Option NewObject). slots ++ filled_slots (option_to_list x)) is ∙ append-nil slots)
-    same_below (Some x) is k other =
-        ap (λ list. stored_in list k) (longer ∙ ap (λ (y : Option NewObject). slots ++ filled_slots (option_to_list y)) is) ∙ stored_one_more slots (Some x) k false other
-
-    none_behind : (x : Option NewObject) → more ≡ x → stored_in all f.next ≡ []
-    none_behind None is =
-        ap (λ list. stored_in list f.next) (longer ∙ ap (λ (x : Option NewObject). slots ++ filled_slots (option_to_list x)) is ∙ append-nil slots)
-        ∙ ap (λ found. slot_chunks (option_flatten found)) (slice_get_past slots f.next (omega (arith, long)))
-    none_behind (Some x) is =
-        let last : (f.next == length slots) ≡ true = grind (arith, nat_tests, long) in
-        ap (λ list. stored_in list f.next) (longer ∙ ap (λ (y : Option NewObject). slots ++ filled_slots (option_to_list y)) is)
-        ∙ stored_one_more slots (Some x) f.next true last ∙ ap slot_chunks (sym is) ∙ none
-
-    pub stored_still : (tree : Tree) (os : List Object) (met : Selecting) → AreStoredAfter f tree met (stored_in slots) → AreStoredAfter f (with_new tree f.next os) met (stored_in all)
-    stored_still tree os met so k = by_test (k == f.next) refl where
-      by_test : (b : Bool) → (k == f.next) ≡ b → AreStoredAt f (with_new tree f.next os) (selected_in met k) k (stored_in all k)
-      by_test true last =
-          let here : k ≡ f.next = grind (arith, nat_tests, last) in
-          headerless (with_new tree f.next os) (selected_in met k) k (stored_in all k) (ap (get f.table) here ∙ no_next_header f sound) (ap (stored_in all) here ∙ none_behind more refl)
-      by_test false other =
-          let apart : (k == length slots) ≡ false = ap (λ n. k == n) long ∙ other in
-          subst (AreStoredAt f (with_new tree f.next os) (selected_in met k) k) (sym (same_below more refl k apart))
-          (same_at tree (with_new tree f.next os) (selected_in met k) k (stored_in slots k) (sym (get-with_new tree f.next os k other)) (so k))

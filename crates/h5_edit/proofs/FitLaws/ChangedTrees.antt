@@ -1,4 +1,4 @@
--- Trees of which one object is put, changed, or linked: what holds of each object and its number before holds of each behind (File Format
+-- Trees of which one object is put or changed: what holds of each object and its number before holds of each behind (File Format
 -- Specification 3.0, sections III and IV.A).
 use Rattle.std.proofs.Common.{◌≡◌, inl, inr, ℕ, List, Bool, true, false, cond, Option, Some, None, refl, sym, ap, ◌∙◌, subst}
 use Rattle.std.specs.FinMap.{get, insert, remove, retain_keys, get-retain_keys, nat_cmp-IsAntisymmetric}
@@ -38,36 +38,3 @@ module _ (Holds : ℕ → Object → Type 0) where
     go : (found : Option ℕ) → object_at tree path ≡ found → EachHolds (option_map_or (λ number. with_object tree number change) found tree)
     go None at = each
     go (Some number) at = each_changed tree number change each (λ o there. this number o at there)
-
-  -- ---- a link more
-
-  module _ (kept : (change : Links → Links) (number : ℕ) (o : Object) → Holds number o → Holds number (with_links change o)) where
-    pub each_linked : (tree : Tree) (path : List ℕ) (link : Link) → EachHolds tree → EachHolds (linked tree path link)
-    each_linked tree path link each = go (parent_at tree path) where
-      go : (found : Option (ℕ × List ℕ)) → EachHolds (option_map_or (λ p. with_object tree p.0 (with_links (λ links. insert links p.1 link))) found tree)
-      go None = each
-      go (Some p) = each_changed tree p.0 (with_links (λ links. insert links p.1 link)) each (λ o there. kept (λ links. insert links p.1 link) p.0 o (each p.0 o there))
-
-    pub each_linked_to : (tree : Tree) (target path : List ℕ) → EachHolds tree → EachHolds (linked_to tree target path)
-    each_linked_to tree target path each = go (object_at tree target) where
-      go : (found : Option ℕ) → EachHolds (option_map_or (λ number. linked tree path (ToObject number)) found tree)
-      go None = each
-      go (Some number) = each_linked tree path (ToObject number) each
-
-  -- ---- a link less
-
-  each_kept : (tree : Tree) (keep : ℕ → Bool) → ((q x : ℕ) → nat_cmp q x ≡ Equal → keep x ≡ keep q) → EachHolds tree → EachHolds (retain_keys tree keep)
-  each_kept tree keep alike each number o at = go (keep number) (sym (get-retain_keys tree keep number (alike number)) ∙ at) where
-    go : (b : Bool) → cond b (get tree number) None ≡ Some o → Holds number o
-    go true there = each number o there
-    go false never = absurd (let none : None ≡ Some o = never in cc)
-
-  module _ (less : (name : List ℕ) (number : ℕ) (o : Object) → Holds number o → Holds number (with_links (λ links. remove links name) o)) where
-    -- and what no path reaches any more is left out
-    pub each_unlinked : (tree : Tree) (path : List ℕ) → EachHolds tree → EachHolds (only_reached (unlinked tree path))
-    each_unlinked tree path each =
-        each_kept (unlinked tree path) (is_reached (unlinked tree path)) (λ q x tied. ap (is_reached (unlinked tree path)) (sym (nat_cmp-IsAntisymmetric q x tied)))
-        (go (parent_at tree path)) where
-          go : (found : Option (ℕ × List ℕ)) → EachHolds (option_map_or (λ p. with_object tree p.0 (with_links (λ links. remove links p.1))) found tree)
-          go None = each
-          go (Some p) = each_changed tree p.0 (with_links (λ links. remove links p.1)) each (λ o there. less p.1 p.0 o (each p.0 o there))

@@ -8,8 +8,8 @@ use Rattle.std.proofs.lemmas.Slice.Zip.{AllZip-long}
 use Rattle.h5_model.specs.Format.Fixed.{Fixed, IsFixed, fits}
 use Rattle.h5_model.specs.Tree.Places.{cells, extent_cells}
 use Rattle.h5_model.specs.Tree.Sound.{AreOf}
-use Rattle.h5_model.specs.Tree.Objects.{Tree, Contiguous, Chunked}
-use Rattle.h5_model.specs.Edits.Applied.{new_dataset, new_storage}
+use Rattle.h5_model.specs.Tree.Objects.{Tree, Array, Dataset, Contiguous, Chunked}
+use Rattle.h5_model.specs.Edits.Applied.{new_dataset, new_object, new_storage}
 use Rattle.h5_model.specs.Edits.Refusal.{refusal_of, rules_of, are_maxima, is_store, are_chunk_sizes, is_chunk_size, chunk_is_large, compact_is_large}
 use Rattle.h5_model.specs.declared.dataset.Spec.{Spec}
 use Rattle.h5_model.specs.declared.dataset.Store.{Store}
@@ -17,8 +17,11 @@ use Rattle.h5_model.specs.declared.dataset.Store.TheVariants as store
 use Rattle.h5_model.specs.declared.edits.Edit.TheVariants.{CreateDataset}
 use Rattle.h5_model.proofs.RefusalLaws.{none_holds, true_of}
 use Rattle.h5_model.proofs.WithinLaws.{both, neither}
+use Rattle.h5_repack.specs.Bodies.Bodies.{others_of}
+use Rattle.h5_repack.specs.Image.Plain.{IsPlain}
 use Rattle.h5_repack.specs.Bodies.Sound.{IsBound, IsPlainArray, IsPlainStorage}
 use Rattle.h5_edit.specs.Changed.Cells.{HasChunkSizes}
+use Rattle.h5_edit.proofs.FitLaws.PlainObjects.{plain_new, no_others}
 
 -- a store that goes with the sizes and maxima, and a fill value of the type
 pub record IsSoundSpec (spec : Spec) : Type 0 where
@@ -32,7 +35,7 @@ pub record IsSoundSpec (spec : Spec) : Type 0 where
 
 -- ---- chunk sizes
 
-maxima_long : (sizes : List ℕ) (maxima : List (Option ℕ)) → are_maxima sizes maxima ≡ true → length maxima ≡ length sizes
+pub maxima_long : (sizes : List ℕ) (maxima : List (Option ℕ)) → are_maxima sizes maxima ≡ true → length maxima ≡ length sizes
 maxima_long [] [] h = refl
 maxima_long [] (m ∷ ms) h = absurd (cc)
 maxima_long (d ∷ ds) [] h = absurd (cc)
@@ -145,3 +148,13 @@ module _ (tree : Tree) (next : ℕ) (path : List ℕ) (spec : Spec) (accepted : 
         few = grind (arith, nat_tests, few);
         of_type = true_of _ limits.1.1.1.1.0;
       }
+
+-- and the object with it
+pub plain_new_object : (spec : Spec) → IsSoundSpec spec → IsFixed spec.fixed → AllZip IsBound spec.dims spec.maxima → IsPlain (new_object (Array (new_dataset spec)))
+plain_new_object spec is fixed bounds =
+    let d : Dataset = new_dataset spec in
+    let none : length (others_of (new_object (Array d))) ≡ 0 = ap length (no_others (Array d)) in
+    record {
+      others = plain_new (Array d);
+      content = (plain_new_array spec is (length (others_of (new_object (Array d)))) fixed bounds (omega (arith, none)), omega (arith, none));
+    }

@@ -36,12 +36,6 @@ NamedAttributes = List (List ℕ × Attribute)
 abbrev pub attribute_messages : NamedAttributes → List (ℕ × List ℕ)
 attribute_messages es = map attribute_message es
 
--- Where a name has its place among ascending ones: so many stand before it, and from another place on they stand behind it.
-pub record IsPlaceOf {X : Type 0} (name : List ℕ) (es : List (List ℕ × X)) (before behind : ℕ) : Type 0 where
-  pub rising : before ≤ behind
-  pub within : behind ≤ length es
-  pub placed : (a : X) → put (slice_cmp nat_cmp) name a es ≡ take before es ++ (name, a) ∷ drop behind es
-
 -- Of these messages some were appended, and the rest are to come.
 pub record IsPushing (old now : OthersBytes) (rest all : List (ℕ × List ℕ)) : Type 0 where
   pub pushed : List (ℕ × List ℕ)

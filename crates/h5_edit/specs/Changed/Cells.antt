@@ -1,4 +1,4 @@
--- The cells of arrays that are handed to the writer: those that an image has, and those of new arrays (File Format Specification 3.0,
+-- The cells of arrays that are to be written: those that an image has, and those of new arrays (File Format Specification 3.0,
 -- sections IV.A.2.d and IV.A.2.i).
 use Rattle.std.specs.Prelude.{◌≡◌, ℕ, ◌≤◌, ◌==◌, Option, None, false, List, length}
 use Rattle.std.specs.FinMap.{empty}
@@ -7,6 +7,7 @@ use Rattle.h5_layout.specs.HeldChunks.{held_cells}
 use Rattle.h5_model.specs.Format.Layout.{Layout, InMessage, InBlock, InChunks}
 use Rattle.h5_model.specs.Format.Messages.{Message}
 use Rattle.h5_model.specs.Tree.Objects.{Dataset, Chunked}
+use Rattle.h5_model.specs.Tree.Places.{cells}
 use Rattle.h5_model.specs.declared.dataset.Store.{Store}
 use Rattle.h5_model.specs.declared.dataset.Store.TheVariants as store
 use Rattle.h5_query.specs.Data.{stored_chunks}
@@ -54,3 +55,11 @@ IsNewLayout store.Compact (InMessage bytes) = length bytes ≡ 65524
 IsNewLayout store.Contiguous (InBlock b) = b ≡ None
 IsNewLayout (store.Chunked chunk) (InChunks sizes root) = (sizes ≡ chunk) × (root ≡ None)
 IsNewLayout _ _ = ⊥
+
+-- how many cells of it stand in a block of their own: those of a contiguous array
+abbrev pub new_count : Described → ℕ
+new_count a = by_layout a.layout where
+  by_layout : Layout → ℕ
+  by_layout (InMessage bytes) = 0
+  by_layout (InBlock b) = cells a.sizes
+  by_layout (InChunks sizes root) = 0

@@ -1,4 +1,4 @@
--- Storage that is missing of an array, and the changes that make it (File Format Specification 3.0, sections III.A.1 and IV.A.2.i).
+-- Storage that is missing of an array, and the edits that make it (File Format Specification 3.0, sections III.A.1 and IV.A.2.i).
 use Rattle.std.specs.Prelude.{◌≡◌, ℕ, true, false, Option, Some, None, List}
 use Rattle.h5_layout.specs.Described.{Described}
 use Rattle.h5_layout.specs.NewChunks.{AreMissing}
@@ -7,9 +7,6 @@ use Rattle.h5_model.specs.Views.Selection.{Slab}
 use Rattle.h5_query.specs.Opened.State.{FileState}
 use Rattle.h5_query.specs.Written.{IsArrayThere}
 use Rattle.h5_edit.specs.LacksStorage.{lacks_cells}
-use Rattle.h5_edit.specs.StoredChunks.{Selecting}
-use Rattle.h5_edit.specs.declared.change.change.Change.{Change}
-use Rattle.h5_edit.specs.declared.change.change.Change.TheVariants.{Store as Stores}
 use Rattle.h5_edit.specs.declared.change.edit.ObjectEdit.{ObjectEdit}
 use Rattle.h5_edit.specs.declared.change.edit.ObjectEdit.TheVariants as edit
 use Rattle.h5_edit.specs.declared.change.missing.Missing.{Missing}
@@ -30,7 +27,7 @@ abbrev pub IsFound : List ℕ → Described → Slab → Option Missing → Type
 IsFound image a slab None = lacks_cells image a slab ≡ false
 IsFound image a slab (Some missing) = (lacks_cells image a slab ≡ true) × IsMissing image a slab missing
 
--- ---- what changes make of it
+-- ---- what edits make of it
 
 -- an edit of the array makes what is missing for this selection; one that makes no storage is for none
 abbrev pub IsMetBy : List ℕ → Described → Option ObjectEdit → Option Slab → Type 0
@@ -41,10 +38,3 @@ IsMetBy image a _ met = met ≡ None
 -- so of the array of this number, if one has it
 abbrev pub IsMetAt : FileState → ℕ → Option ObjectEdit → Option Slab → Type 0
 IsMetAt f number e met = (a : Described) → IsArrayThere f number a → IsMetBy f.image a e met
-
--- and of a change
-abbrev pub IsMetIn : FileState → Change → Selecting → Type 0
-IsMetIn f (Stores object missing) (Some (number, slab)) =
-    (number ≡ object) × ((a : Described) → IsArrayThere f object a → IsMissing f.image a slab missing.now)
-IsMetIn f (Stores object missing) None = ⊥
-IsMetIn f _ met = met ≡ None

@@ -41,11 +41,9 @@ stored_all d = record d { storage = stored_storage d.sizes d.storage }
 -- the array with an edit of its object
 abbrev pub array_after : Option ObjectEdit → Dataset → Dataset
 array_after (Some (edit.Resize dims)) d = resized dims.now d
-array_after (Some (edit.Link l)) d = d
 array_after (Some (edit.Store missing)) d = stored_all d
 array_after None d = d
 
 abbrev pub IsArrayEdit : Dataset → ObjectEdit → Type 0
 IsArrayEdit d (edit.Resize dims) = IsResizable dims.now d
 IsArrayEdit d (edit.Store missing) = IsLacking d.storage
-IsArrayEdit d _ = Unit {0}

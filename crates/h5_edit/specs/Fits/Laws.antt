@@ -1,13 +1,9 @@
 -- Which trees the plain layout can hold: those of opened images, and those that accepted edits give.
 use Rattle.std.specs.Prelude.{true, ◌≡◌, ℕ, ◌<◌, false, None, List, slice_index}
-use Rattle.std.specs.List.{AllZip}
-use Rattle.h5_model.specs.Format.Fixed.{IsFixed}
 use Rattle.h5_model.specs.Edits.Refusal.{refusal_of}
 use Rattle.h5_model.specs.declared.edits.Edit.{Edit}
-use Rattle.h5_model.specs.declared.edits.Edit.TheVariants.{CreateDataset}
 use Rattle.h5_query.specs.Opened.Sound.{IsSound}
 use Rattle.h5_query.specs.Opened.State.{FileState}
-use Rattle.h5_repack.specs.Bodies.Sound.{IsBound}
 use Rattle.h5_repack.specs.Image.Plain.{ArePlain}
 use Rattle.h5_edit.specs.Carried.{IsMadeAnew, tree_after, IsTotalFull}
 
@@ -22,11 +18,6 @@ OpenedPlain = (f : FileState) → AreBytes f.image → IsSound f → ArePlain f.
 
 -- ---- edits
 
--- a new array has a fixed-point type; its maxima are not below its sizes, and can be told from none
-abbrev pub IsTyped : Edit → Type 0
-IsTyped (CreateDataset path spec) = IsFixed spec.fixed × AllZip IsBound spec.dims spec.maxima
-IsTyped _ = Unit {0}
-
 abbrev pub EditedPlain : Type 0
-EditedPlain = (f : FileState) (edit : Edit) → AreBytes f.image → IsSound f → IsMadeAnew f edit true → IsTyped edit
+EditedPlain = (f : FileState) (edit : Edit) → AreBytes f.image → IsSound f → IsMadeAnew f edit true
     → refusal_of f.tree f.next edit ≡ None → IsTotalFull f edit false → ArePlain (tree_after f edit)

@@ -1,29 +1,21 @@
-//! Arrays to be written: those of an opened image, and new ones (File Format Specification 3.0, sections IV.A.2.d and IV.A.2.i).
+//! Arrays of an opened image, as they are to be written (File Format Specification 3.0, sections IV.A.2.d and IV.A.2.i).
 
-ghost use Rattle.std.specs.Prelude.{◌≡◌, ℕ, [], None, IfOk};
+ghost use Rattle.std.specs.Prelude.{◌≡◌, None, IfOk};
 ghost use Rattle.h5_header.specs.Listed.{messages_in};
-ghost use Rattle.h5_model.specs.Edits.Applied.{new_dataset};
 ghost use Rattle.h5_model.specs.Tree.Objects.{Array};
-ghost use Rattle.h5_layout.specs.Layouts.{layout_in};
 ghost use Rattle.h5_query.specs.Data.{AreDataRead};
 ghost use Rattle.h5_query.specs.Kept.{IsArrayKept, array_dataset};
-ghost use Rattle.h5_repack.specs.Bodies.Sound.{IsPlainArray};
-ghost use Rattle.h5_repack.specs.Objects.Objects.{IsNewContent, content_chunks};
+ghost use Rattle.h5_repack.specs.Objects.Objects.{IsNewContent};
 ghost use Rattle.h5_repack.specs.declared.blocks.cells.Cells.TheVariants.{Stored};
-ghost use Rattle.h5_edit.specs.Changed.Cells.{AreCellsKept, AreChunksKept, HasChunkSizes, IsNewLayout};
+ghost use Rattle.h5_edit.specs.Changed.Cells.{AreCellsKept, AreChunksKept};
 ghost use Rattle.h5_edit.specs.Fits.Laws.{AreBytes};
 
 use h5_header::Messages;
-use h5_layout::{ChunkSizes, HeldChunks};
-use h5_model::{Spec, Store};
-use h5_query::{ArrayRef, Dims, Layout, known_array};
+use h5_layout::HeldChunks;
+use h5_query::{ArrayRef, Layout, known_array};
 use h5_repack::{Cells, NewContent};
 use h5_space::Image;
 use std::alloc::{AllocError, Global};
-
-/// As many bytes as the cells of a compact array may have. The layout of one names bytes of its cells, and a new array has none that it
-/// could name: each cell is the fill, and the writer makes their bytes itself.
-static ROOM: [u8; 65524] = [0; 65524];
 
 /// The array that the messages of a header of the image describe, with its cells or its chunks as they are stored.
 ///
@@ -68,35 +60,4 @@ fn stored_cells(bytes: &[u8]) -> Cells<'_>
     ensures low { AreBytes bytes.now }
 {
     Cells::Stored(bytes)
-}
-
-/// A new array, each cell the fill. No chunk of it is stored.
-pub(crate) fn array_from<'a>(alloc: Global, spec: &'a Spec) -> NewContent<'a>
-    requires { (others : ℕ) × IsPlainArray (new_dataset spec.now) others }
-    ensures array { IsNewContent result (Array (new_dataset spec.now)) }
-    ensures chunks { content_chunks result ≡ [] }
-{
-    let dims = Dims::new(alloc, spec.dims.as_slice()).unwrap();
-    let maxima = spec.maxima.as_slice();
-    let layout = layout_from(&spec.store);
-    let array = ArrayRef::new(spec.fixed, dims, maxima, spec.fill, layout);
-    NewContent::Array {
-        array,
-        cells: Cells::Filled,
-    }
-}
-
-/// A layout of cells that are to be stored so, none of which stands anywhere yet.
-fn layout_from(store: &Store) -> Layout<'_>
-    requires { HasChunkSizes store.now }
-    ensures { IsNewLayout store.now (layout_in result) }
-{
-    match store {
-        Store::Compact => Layout::Compact(&ROOM),
-        Store::Contiguous => Layout::Contiguous(None),
-        Store::Chunked(chunk) => Layout::Chunked {
-            sizes: ChunkSizes::new(chunk.as_slice()),
-            tree: None,
-        },
-    }
 }

@@ -48,7 +48,7 @@ pub(crate) fn array_in<'a>(
     match edit {
         Some(ObjectEdit::Store(missing)) => stored_array(alloc, image, messages, missing),
         Some(ObjectEdit::Resize(dims)) => resized_array(alloc, image, messages, dims),
-        None | Some(ObjectEdit::Link(_)) => kept_array(alloc, image, messages),
+        None => kept_array(alloc, image, messages),
     }
 }
 

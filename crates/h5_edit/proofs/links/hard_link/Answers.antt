@@ -1,5 +1,4 @@
 use Rattle.std.proofs.Common.{inl, refl, sym}
-use Rattle.h5_model.specs.Tree.Objects.{ToObject}
 use Rattle.h5_model.specs.declared.edits.Edit.TheVariants.{HardLink}
 use Rattle.h5_edit.proofs.RuleLaws.Exits.{passed_on}
 use Rattle.h5_edit.proofs.LinkFacts.{array_target, free_asked, group_asked, hard_edit, link_made, link_refused, sound_asked, table_there}
@@ -22,7 +21,7 @@ add_link-requires-clause-target c = array_target c.args.opened.now c.next-next.e
 
 pub add_link-requires-clause-good : goal.add_link-requires-clause-good
 add_link-requires-clause-good c =
-    sound_asked c.args.opened.now c.next-next.ensures.sound c.in_ok-number.ensures.1 (inl refl) (ToObject c.in_ok-number.number) (hard_edit c.args.opened.now c.in_ok-number.ensures).tree
+    sound_asked c.args.opened.now c.next-next.ensures.sound c.in_ok-number.ensures.1 (inl refl) _ (hard_edit c.args.opened.now c.in_ok-number.ensures (table_there c.args.opened.now c.next-next.ensures.sound c.in_ok-number.ensures.1 (inl refl)).0).tree
 
 pub returns-in-Ok : goal.returns-in-Ok
 returns-in-Ok c =
@@ -30,7 +29,7 @@ returns-in-Ok c =
     let placed = c.in_ok-number.ensures in
     let table = table_there f c.next-next.ensures.sound placed.1 (inl refl) in
     let says = c.add_link.ensures in
-    link_made f c.args.path.now _ _ _ (HardLink c.args.target.now c.args.path.now) (hard_edit f placed) table.0 table.1 placed.1.allowed
+    link_made f c.args.path.now _ _ (HardLink c.args.target.now c.args.path.now) table.0 _ _ _ _ (hard_edit f placed table.0) table.1 placed.1.allowed
     c.add_link.result (says.deep table.0 table.1) (says.full table.0 table.1) _ c.in-Ok.is c.add_link.new.self _ (sym placed.0) refl
     ((rw c.in-Ok.is at says.changed) table.0 table.1)
 
@@ -40,8 +39,8 @@ returns-in-Err c =
     let placed = c.in_ok-number.ensures in
     let table = table_there f c.next-next.ensures.sound placed.1 (inl refl) in
     let says = c.add_link.ensures in (
-      rw c.fault_of.ensures
-          (link_refused f c.args.path.now _ _ _ (HardLink c.args.target.now c.args.path.now) (hard_edit f placed) table.0 table.1 placed.1.allowed
+      rw c.link_fault.ensures
+          (link_refused f c.args.path.now _ _ (HardLink c.args.target.now c.args.path.now) table.0 _ _ _ _ (hard_edit f placed table.0) table.1 placed.1.allowed
           c.add_link.result (says.deep table.0 table.1) (says.full table.0 table.1) c.in-Err.fault c.in-Err.is),
       rw c.in-Err.is at says.refused,
     )

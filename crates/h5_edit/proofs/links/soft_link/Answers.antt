@@ -1,5 +1,4 @@
 use Rattle.std.proofs.Common.{inl, refl, sym}
-use Rattle.h5_model.specs.Tree.Objects.{Soft}
 use Rattle.h5_model.specs.declared.edits.Edit.TheVariants.{SoftLink}
 use Rattle.h5_edit.proofs.RuleLaws.Exits.{passed_on}
 use Rattle.h5_edit.proofs.LinkFacts.{free_asked, group_asked, link_made, link_refused, soft_edit, sound_asked, table_there}
@@ -19,7 +18,7 @@ add_link-requires-clause-free c = free_asked c.args.opened.now c.next-next.ensur
 
 pub add_link-requires-clause-good : goal.add_link-requires-clause-good
 add_link-requires-clause-good c =
-    sound_asked c.args.opened.now c.next-next.ensures.sound c.in_ok-place.ensures (inl refl) (Soft c.args.text.now) (soft_edit c.args.opened.now c.in_ok-place.ensures).tree
+    sound_asked c.args.opened.now c.next-next.ensures.sound c.in_ok-place.ensures (inl refl) _ (soft_edit c.args.opened.now c.in_ok-place.ensures (table_there c.args.opened.now c.next-next.ensures.sound c.in_ok-place.ensures (inl refl)).0).tree
 
 pub returns-in-Ok : goal.returns-in-Ok
 returns-in-Ok c =
@@ -27,7 +26,7 @@ returns-in-Ok c =
     let placed = c.in_ok-place.ensures in
     let table = table_there f c.next-next.ensures.sound placed (inl refl) in
     let says = c.add_link.ensures in
-    link_made f c.args.path.now _ _ (Soft c.args.text.now) (SoftLink c.args.text.now c.args.path.now) (soft_edit f placed) table.0 table.1 placed.allowed
+    link_made f c.args.path.now _ _ (SoftLink c.args.text.now c.args.path.now) table.0 _ _ _ _ (soft_edit f placed table.0) table.1 placed.allowed
     c.add_link.result (says.deep table.0 table.1) (says.full table.0 table.1) _ c.in-Ok.is c.add_link.new.self _ refl refl
     ((rw c.in-Ok.is at says.changed) table.0 table.1)
 
@@ -37,8 +36,8 @@ returns-in-Err c =
     let placed = c.in_ok-place.ensures in
     let table = table_there f c.next-next.ensures.sound placed (inl refl) in
     let says = c.add_link.ensures in (
-      rw c.fault_of.ensures
-          (link_refused f c.args.path.now _ _ (Soft c.args.text.now) (SoftLink c.args.text.now c.args.path.now) (soft_edit f placed) table.0 table.1 placed.allowed
+      rw c.link_fault.ensures
+          (link_refused f c.args.path.now _ _ (SoftLink c.args.text.now c.args.path.now) table.0 _ _ _ _ (soft_edit f placed table.0) table.1 placed.allowed
           c.add_link.result (says.deep table.0 table.1) (says.full table.0 table.1) c.in-Err.fault c.in-Err.is),
       rw c.in-Err.is at says.refused,
     )
