@@ -13,7 +13,7 @@ from .support import InFolder, empty_image, h5i
 
 # pylint: disable=wrong-import-order
 from h5oracle.model import (  # noqa: E402
-    Dataset, Flat, HardLink, RemoveAttr, Resize, SetAttr, SoftLink, Tree, Unlink, Write, new_boxes, object_at, refusal, same_tree,
+    CreateDataset, CreateGroup, Dataset, Flat, HardLink, RemoveAttr, Resize, SetAttr, SoftLink, Tree, Unlink, Write, new_boxes, object_at, refusal, same_tree,
 )
 from h5oracle.script import BadLine, edit_of, escape, path_text  # noqa: E402
 from h5oracle.values import TYPES, product  # noqa: E402
@@ -24,8 +24,8 @@ GROUPS = dict(group=16, many=24, line=12, link=14, soft=12, attr=8, unattr=3, du
 # And where arrays of every form are made beside them, and all is repacked at times.
 ARRAYS = dict(dataset=30, group=8, many=12, link=10, soft=6, attr=10, unattr=4, dump=12, root=2, ls=1, repack=3, bad=6, note=1, write=1, unlink=1,
               resize=1, view=1)
-# Where links are made and taken, mostly in place, and now and then something is made for which the image is written anew.
-LINKS = dict(near=40, link=14, soft=10, unlink=30, many=2, group=2, line=2, attr=5, unattr=3, bad=3, write=3)
+# Where objects and links are made and taken, and now and then cells are written for which the image is written anew.
+LINKS = dict(near=40, link=14, soft=10, unlink=30, many=8, group=8, line=5, dataset=5, attr=5, unattr=3, bad=3, write=3)
 # Where cells are written, and arrays resized.
 WRITES = dict(dataset=14, write=40, resize=14, dump=14, unlink=3, link=5, soft=2, group=4, attr=4, unattr=2, root=1, ls=1, repack=2, bad=5, note=1)
 # And where views are open meanwhile.
@@ -33,7 +33,7 @@ VIEWS = WRITES | dict(view=16, show=30, close=4, dump=5)
 # A chunk of more bytes, which the program takes, would be written again by each edit behind the write that stores it.
 LARGE_CHUNK, LARGEST_CHUNK = 1 << 16, 1 << 30
 # Edits that are made where things stand, whatever the image holds.
-IN_PLACE = (HardLink, SoftLink, Unlink, SetAttr, RemoveAttr)
+IN_PLACE = (CreateGroup, CreateDataset, HardLink, SoftLink, Unlink, SetAttr, RemoveAttr)
 # Where nothing else is done, so that most writes are made in a file as others have laid it out.
 CELLS = dict(write=6, dump=1, view=2, show=2)
 
@@ -46,8 +46,8 @@ class Drawn:
     script: bytes
     answers: bytes
     tree: Tree
-    # The file behind it: the plain image where one was written anew, else the old one but for cells; None where attributes or links were
-    # edited in place since.
+    # The file behind it: the plain image where one was written anew, else the old one but for cells; None where objects,
+    # attributes or links were made or taken in place since.
     after: bytes | None
     anew: bool
     edits: int
@@ -63,7 +63,7 @@ class LineMaker(Maker):
     def __init__(self, rng, image, kinds):
         super().__init__(rng, today.session_of(image))
         self.kinds, self.image = kinds, image
-        # The image was written anew, and attributes or links were edited in place since.
+        # The image was written anew, and objects, attributes or links were made or taken in place since.
         self.anew = self.set = False
         # The last line was an edit that was made in place.
         self.is_last_in_place = False
@@ -90,7 +90,9 @@ class LineMaker(Maker):
         return line, (text, edited)
 
     def after(self):
-        """The image behind the lines so far, where an edit was accepted, and `None` where attributes or links were edited in place."""
+        """The image behind the lines so far, where an edit was accepted, and `None` where objects, attributes or links were
+        made or taken in place.
+        """
         if self.set:
             return None
         return self.session.image() if self.anew else with_cells(self.image, self.session.tree)

@@ -41,6 +41,21 @@ def steps(path, image, lines):
         said, before = output, after
 
 
+def blocks_of(old, new):
+    """The blocks of an image as an edit has taken them, by their addresses: those of a new object that follow each other are one."""
+    # A block without bytes, as a Continuation may name, may stand where another begins.
+    blocks = sorted((block, owner) for block, owner in zip(new.blocks, new.owners) if block[1] > 0)
+    headers = {at for at, _, kind in old.blocks if kind == "header"}
+    made = {owner for (at, _, kind), owner in blocks if kind == "header" and at not in headers}
+    held, last = {}, None
+    for (at, length, kind), owner in blocks:
+        if last and owner in made and last[1] == owner and last[0] + held[last[0]][0] == at:
+            held[last[0]] = (held[last[0]][0] + length, "a new object")
+            continue
+        held[at], last = (length, kind), (at, owner)
+    return held
+
+
 class GivenBack:
     """Bytes that a session has given back, and has not taken again."""
 
@@ -54,8 +69,7 @@ class GivenBack:
     def edited(self, old, new):
         """What is wrong with where the blocks of an edit in place stand: at the end, where a free block is as long."""
         free = self.free.ljust(new.superblock.end, b"\0")
-        # A block without bytes, as a Continuation may name, may stand where another begins.
-        held = {at: (length, kind) for at, length, kind in new.blocks if length > 0}
+        held = blocks_of(old, new)
         for at, (length, _) in held.items():
             free[at:at + length] = bytes(length)
         # These were free before, and still are.

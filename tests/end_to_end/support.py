@@ -52,7 +52,7 @@ def h5i(*words, **options):
     return run_command(PROGRAM, *words, **options)
 
 
-# The reference as the program is: all lines of scripts are taken, attributes and links are edited in place and other edits never refused
+# The reference as the program is: all lines of scripts are taken, objects, attributes and links are edited in place and other edits never refused
 # for what they would need there, views are lent or patched, and the later forms are not read.
 STAGE = "9+11"
 
@@ -103,9 +103,9 @@ class InFolder(unittest.TestCase):
         return path
 
     def with_array(self, line="/d i32le 3 contiguous fill=-7", name="e.h5"):
-        """The path of a file with an array, made by the words behind `dataset`."""
+        """The path of a repacked file with an array, made by the words behind `dataset`."""
         path = self.new(name)
-        self.assertEqual(h5i("run", path, script=f"dataset {line}\n".encode()), (0, b"ok 0\n", b""))
+        self.assertEqual(h5i("run", path, script=f"dataset {line}\nrepack\n".encode()), (0, b"ok 0\n" * 2, b""))
         return path
 
     def stamp(self, path):

@@ -251,6 +251,7 @@ class Written(InFolder):
             with self.subTest(made=made):
                 self.assertEqual(h5i("run", path, script=edits + b"dump /c\ndump /d\nno line\n"),
                                  (1, answers + b"/c " + head + b"/d " + head + b"bad line\n", b""))
+                self.assertEqual(h5i("run", path, script=b"repack\n"), (0, b"ok 0\n", b""))
                 self.assertEqual(self.read(path), self.read(other))
 
     def test_trees_of_several_levels(self):
@@ -288,7 +289,7 @@ class Made(InFolder):
     """Arrays that lines of scripts make."""
 
     def assert_made(self, lines, texts):
-        """The lines are accepted, the dumps print these texts, and the file is the reference's."""
+        """The lines are accepted, the dumps print these texts, and the file is the reference's once it is repacked."""
         path, other = self.new(), self.path("other.h5")
         script = "".join(f"{line}\n" for line in lines)
         answers = "ok 0\n" * len(lines)
@@ -296,8 +297,9 @@ class Made(InFolder):
         self.assertEqual(h5i("run", path, script=(script + dumps).encode()), (0, (answers + "".join(texts)).encode(), b""))
         self.assertEqual(reference("new", other)[0], 0)
         self.assertEqual(reference("run", other, script=script.encode()), (0, answers.encode(), b""))
-        self.assertEqual(self.read(path), self.read(other))
         self.assertEqual(reference("check", path)[:2], (0, b"ok\n"))
+        self.assertEqual(h5i("run", path, script=b"repack\n"), (0, b"ok 0\n", b""))
+        self.assertEqual(self.read(path), self.read(other))
         return path
 
     def test_each_form_alone(self):
@@ -318,7 +320,7 @@ class Made(InFolder):
                      "dataset /q i8 1 compact fill=127"):
             with self.subTest(line=line):
                 path, other = self.new(), self.path("other.h5")
-                self.assertEqual(h5i("run", path, script=line.encode()), (0, b"ok 0\n", b""))
+                self.assertEqual(h5i("run", path, script=line.encode() + b"\nrepack\n"), (0, b"ok 0\nok 0\n", b""))
                 self.assertEqual(reference("new", other)[0], 0)
                 self.assertEqual(reference("run", other, script=line.encode()), (0, b"ok 0\n", b""))
                 self.assertEqual(self.read(path), self.read(other))

@@ -65,7 +65,7 @@ class Arrays(InFolder):
         self.assertEqual((status, errors), (0, b""))
         self.assertEqual([json.loads(line) for line in output.splitlines()], wanted)
 
-    def test_bytes_are_those_of_the_reference(self):
+    def test_repacked_bytes_are_those_of_the_reference(self):
         for k, name in enumerate(TYPES):
             line = f"/{'n' * (k + 1)} {name} {k} contiguous fill={k}"
             with self.subTest(line=line):

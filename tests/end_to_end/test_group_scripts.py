@@ -5,10 +5,12 @@ import json
 import os
 import random
 from concurrent.futures import ProcessPoolExecutor
+from itertools import pairwise
 
 from . import today
 from .drawn_scripts import GROUPS, LineMaker
 from .support import InFolder, empty_image, h5i, library, reference
+from .test_attributes_in_place import NIL, kinds
 
 
 GROUP_SEEDS = range(200)
@@ -67,6 +69,11 @@ def links_of(tree):
     return sorted(below(0, ""))
 
 
+def has_neighbouring_nils(image):
+    """Whether a NIL message of the root's header stands right behind another one."""
+    return (NIL, NIL) in pairwise(kinds(image))
+
+
 def script_of_groups(seed):
     """A script that makes groups, arrays and links, what the reference answers to it, and its file: how many edits it accepts."""
     maker = LineMaker(random.Random(f"groups {seed}"), empty_image(), GROUPS)
@@ -109,6 +116,13 @@ class Library(InFolder):
         self.assertEqual(h5i("run", path, script=b"group /after\nsoft x /made\\x20by/s\n")[:2], (0, b"ok 0\nok 0\n"))
         self.assertEqual(reference("check", path)[:2], (0, b"ok\n"))
 
+    def repacked_for_the_library(self, path):
+        """The library joins NIL messages that are neighbours, and leaves the total of messages in the header's prefix as it was, so that the
+        header is no longer as the format says. A file with such messages is repacked.
+        """
+        if has_neighbouring_nils(self.read(path)):
+            self.assertEqual(h5i("run", path, script=b"repack\n"), (0, b"ok 0\n", b""))
+
     def assert_listed_and_edited(self, made):
         """The files of some scripts: made, listed and edited by the library, and edited again."""
         paths = []
@@ -120,6 +134,8 @@ class Library(InFolder):
         for (seed, (_, _, tree, _)), line in zip(made, output.splitlines(), strict=True):
             with self.subTest(seed=seed):
                 self.assertEqual(json.loads(line), links_of(tree))
+        for path in paths:
+            self.repacked_for_the_library(path)
         self.assertEqual(library(CHANGE, *paths), (0, b"", b""))
         for path in paths:
             with self.subTest(path=path):

@@ -1,7 +1,7 @@
 """The reference implementation, held to what the program carries today.
 
 Which images are opened, what is listed and dumped of them, and what is answered to scripts is the reference's own answer, at the
-stage at which attributes and links are edited in place, views are lent or patched, and the later forms are not read.
+stage at which objects, attributes and links are edited in place, views are lent or patched, and the later forms are not read.
 """
 
 import os
@@ -22,7 +22,7 @@ STAGE = Stage.read(support.STAGE)
 # How lines begin that count as refused.
 REFUSED = (b"bad line", b"refused ", b"fault ")
 # How lines begin that edit where things stand, and so does a write of cells that are stored.
-IN_PLACE = (b"attr ", b"unattr ", b"link ", b"soft ", b"unlink ")
+IN_PLACE = (b"group ", b"dataset ", b"attr ", b"unattr ", b"link ", b"soft ", b"unlink ")
 
 
 def opened(data):
@@ -65,8 +65,8 @@ def answers(session, script):
 
 
 def plain_after(image, script):
-    """The plain image behind a script that edits this one, or `None` where the file may have another layout: attributes and links are
-    edited where they stand, and so are cells that are stored.
+    """The plain image behind a script that edits this one, or `None` where the file may have another layout: objects, attributes and links
+    are made and taken where they stand, and so are cells written that are stored.
     """
     session = session_of(image)
     plain = image == session.image()
