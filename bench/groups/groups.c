@@ -1,4 +1,4 @@
-/* Times links that are made and taken away by libhdf5 and by libh5i, in one process, in turn, and prints the medians with their ratio, and
+/* Times links and arrays that are made and taken away by libhdf5 and by libh5i, in one process, in turn, and prints the medians with their ratio, and
  * how many bytes each file has grown.
  *
  *     bench/groups/run [RUNS [PARTS]]
@@ -44,6 +44,26 @@ static void text_ours(h5i_session *session, uint32_t number) { OURS(h5i_soft_lin
 static void take_theirs(hid_t file, uint32_t number) { H5(H5Ldelete(file, path_of(number), H5P_DEFAULT)); }
 static void take_ours(h5i_session *session, uint32_t number) { OURS(h5i_unlink(session, TEXT(path_of(number)))); }
 
+/* An array of ten cells, stored at once. */
+static void array_theirs(hid_t file, uint32_t number) {
+    static hid_t space, how;
+    if (space == 0) {
+        hsize_t dims[1] = {10};
+        space = H5Screate_simple(1, dims, NULL), how = H5Pcreate(H5P_DATASET_CREATE);
+        H5(H5Pset_alloc_time(how, H5D_ALLOC_TIME_EARLY));
+    }
+    hid_t array = H5Dcreate2(file, path_of(number), H5T_STD_I32LE, space, H5P_DEFAULT, how, H5P_DEFAULT);
+    H5(array), H5(H5Dclose(array));
+}
+
+static void array_ours(h5i_session *session, uint32_t number) {
+    const h5i_type i32 = {4, true, false};
+    static const uint32_t no_chunks[1];
+    const uint64_t dims[] = {10};
+    const int32_t fill = 0;
+    OURS(h5i_create_array(session, TEXT(path_of(number)), i32, LIST(dims), LIST(dims), LIBH5I_CONTIGUOUS, no_chunks, 0, (const uint8_t *)&fill, 4));
+}
+
 static void is_there_theirs(hid_t file, uint32_t number) { TRUE(H5Lexists(file, path_of(number), H5P_DEFAULT) > 0); }
 static void is_there_ours(h5i_session *session, uint32_t number) {
     h5i_about about;
@@ -66,7 +86,7 @@ static hid_t file_theirs(hsize_t bytes) {
 static h5i_session session_ours(uint64_t bytes) {
     h5i_session session = new_session();
     const h5i_type u8 = {1, false, false};
-    const uint32_t no_chunks[1];
+    static const uint32_t no_chunks[1];
     const uint8_t fill = 0;
     for (int k = 0; k < 2; k++) {
         const uint64_t dims[] = {k == 0 ? bytes : 1};
@@ -75,14 +95,17 @@ static h5i_session session_ours(uint64_t bytes) {
     return session;
 }
 
-/* ---- links that are made, and every second of them taken away */
+/* ---- links or arrays that are made, and every second of them taken away */
 
-static run_of made_theirs(uint32_t count) {
+typedef void (*step_theirs)(hid_t, uint32_t);
+typedef void (*step_ours)(h5i_session *, uint32_t);
+
+static run_of making_theirs(step_theirs make, uint32_t count) {
     hid_t file = file_theirs(1);
     long long before = bytes_theirs(file);
     double from = now();
     for (uint32_t k = 0; k < count; k++)
-        put_theirs(file, k);
+        make(file, k);
     H5(H5Fflush(file, H5F_SCOPE_GLOBAL));
     double time = now() - from;
     run_of run = {time, bytes_theirs(file) - before};
@@ -90,22 +113,22 @@ static run_of made_theirs(uint32_t count) {
     return run;
 }
 
-static run_of made_ours(uint32_t count) {
+static run_of making_ours(step_ours make, uint32_t count) {
     h5i_session session = session_ours(1);
     long long before = bytes_ours(&session);
     double from = now();
     for (uint32_t k = 0; k < count; k++)
-        put_ours(&session, k);
+        make(&session, k);
     double time = now() - from;
     run_of run = {time, bytes_ours(&session) - before};
     h5i_close(&session);
     return run;
 }
 
-static run_of taken_theirs(uint32_t count) {
+static run_of taking_theirs(step_theirs make, uint32_t count) {
     hid_t file = file_theirs(1);
     for (uint32_t k = 0; k < count; k++)
-        put_theirs(file, k);
+        make(file, k);
     long long before = bytes_theirs(file);
     double from = now();
     for (uint32_t k = 0; k < count; k += 2)
@@ -118,10 +141,10 @@ static run_of taken_theirs(uint32_t count) {
     return run;
 }
 
-static run_of taken_ours(uint32_t count) {
+static run_of taking_ours(step_ours make, uint32_t count) {
     h5i_session session = session_ours(1);
     for (uint32_t k = 0; k < count; k++)
-        put_ours(&session, k);
+        make(&session, k);
     long long before = bytes_ours(&session);
     double from = now();
     for (uint32_t k = 0; k < count; k += 2)
@@ -132,6 +155,15 @@ static run_of taken_ours(uint32_t count) {
     h5i_close(&session);
     return run;
 }
+
+static run_of made_theirs(uint32_t count) { return making_theirs(put_theirs, count); }
+static run_of made_ours(uint32_t count) { return making_ours(put_ours, count); }
+static run_of taken_theirs(uint32_t count) { return taking_theirs(put_theirs, count); }
+static run_of taken_ours(uint32_t count) { return taking_ours(put_ours, count); }
+static run_of arrays_made_theirs(uint32_t count) { return making_theirs(array_theirs, count); }
+static run_of arrays_made_ours(uint32_t count) { return making_ours(array_ours, count); }
+static run_of arrays_taken_theirs(uint32_t count) { return taking_theirs(array_theirs, count); }
+static run_of arrays_taken_ours(uint32_t count) { return taking_ours(array_ours, count); }
 
 /* ---- a million insertions and removals of names, while a group keeps its size */
 
@@ -212,6 +244,8 @@ static const struct {
     {"100000 hard links made", made_theirs, made_ours, 100000, true},
     {"every second of 10000 hard links taken away", taken_theirs, taken_ours, 10000, true},
     {"every second of 100000 hard links taken away", taken_theirs, taken_ours, 100000, true},
+    {"10000 arrays made", arrays_made_theirs, arrays_made_ours, 10000, true},
+    {"every second of 10000 arrays taken away", arrays_taken_theirs, arrays_taken_ours, 10000, true},
     {"1000000 soft links made and taken away, in a group of 100", rounds_theirs, rounds_ours, 100, false},
     {"the same in a group of 1000", rounds_theirs, rounds_ours, 1000, false},
     {"the same in a group of 10000", rounds_theirs, rounds_ours, 10000, true},
