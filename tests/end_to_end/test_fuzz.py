@@ -18,7 +18,7 @@ from mutate import mutant, patch  # noqa: E402
 
 CASES = 16
 # Lines of other kinds are edits in place, which the stand-in does not make.
-KINDS = [dict(group=10, dataset=10, resize=5, dump=5, ls=3, note=1)]
+KINDS = [dict(resize=12, dump=8, root=2, ls=3, repack=3, note=1)]
 
 
 class StandIn:
@@ -155,8 +155,8 @@ class Fuzz(InFolder):
     def test_another_status(self):
         self.assert_told(OtherStatuses(), r"its call: the library has b'0', the reference b'\d+'")
 
-    def test_links_for_which_the_image_is_written_anew(self):
-        for word in ("soft", "unlink"):
+    def test_objects_and_links_for_which_the_image_is_written_anew(self):
+        for word in ("group", "dataset", "soft", "unlink"):
             with self.subTest(word=word):
                 self.assert_told(StandIn(), rf"^line \d+, b.{word} .*: .*( changed| moved|image grew by )", kinds=[{word: 1}])
 

@@ -38,12 +38,13 @@ class Types(Transcripts):
             /d dataset i32le {3} contiguous fill 0
             1 -1 2147483647
             """)
+        self.assertEqual(h5i("run", path, script=b"repack\n"), (0, b"ok 0\n", b""))
         image = self.read(path)
         self.assertEqual(len(image), 1260)
         self.assertEqual(image[-12:].hex(), "01000000ffffffffffffff7f")
 
     def test_the_order_of_bytes(self):
-        path = self.accepted(["dataset /u u16be 2 contiguous", "write /u 0 1 2 1 65535,258"])
+        path = self.accepted(["dataset /u u16be 2 contiguous", "write /u 0 1 2 1 65535,258", "repack"])
         self.assertEqual(self.read(path)[-4:].hex(), "ffff0102")
         self.assertEqual(h5i("dump", path, "/u"), (0, b"/u dataset u16be {2} contiguous fill 0\n65535 258\n", b""))
 
@@ -61,7 +62,7 @@ class Types(Transcripts):
             """)
 
     def test_a_scalar(self):
-        path = self.accepted(["dataset /s i64be - contiguous", "write /s - - - - -9223372036854775808"])
+        path = self.accepted(["dataset /s i64be - contiguous", "write /s - - - - -9223372036854775808", "repack"])
         self.assertEqual(self.read(path)[-8:].hex(), "8000000000000000")
         self.assertEqual(h5i("dump", path, "/s"), (0, b"/s dataset i64be {} contiguous fill 0\n-9223372036854775808\n", b""))
 
